@@ -1,0 +1,3 @@
+pub mod BowlerLemmas
+pub mod Overs
+pub mod Wickets

@@ -1,0 +1,10 @@
+pub mod Sums
+pub mod History
+pub mod Runs
+pub mod Ends
+pub mod Players
+pub mod Over
+pub mod Refusals
+pub mod Laws
+pub mod Standing
+pub mod Crease

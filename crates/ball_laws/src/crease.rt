@@ -1,0 +1,165 @@
+//! The ends, the overs and the players of an innings.
+
+ghost use Rattle.std.specs.Prelude.{◌≡◌, ◌≤◌, ◌<◌, []};
+ghost use Rattle.notation.specs.declared.entry.Plain.{Plain};
+ghost use Rattle.ball_laws.specs.Players.{wickets_down as wickets_of};
+ghost use Rattle.ball_laws.specs.Over.{IsInBounds, counted};
+ghost use Rattle.ball_laws.specs.Laws.{State, start};
+ghost use Rattle.ball_laws.specs.History.{History, IsInRange, open_over, wickets_in};
+ghost use Rattle.ball_laws.specs.Crease.{standing_of, StandsFor, Answers, answered};
+
+use crate::ends::{Ends, dismissed, ends_after, ends_left};
+use crate::over::{Bowlers, OverNow, has_bowled, no_bowlers, no_over, with_ball};
+use crate::players::{
+    PlayerState, Players, after_dismissal, players_left, state_of, wickets_down, with_state,
+};
+use crate::refusals::{BallRefusal, ball_refusal, come_refusal, leave_refusal};
+use notation::{Ball, Leave, Player};
+use std::marker::Model;
+
+/// The state of an open innings between two entries.
+#[derive(Clone, Copy, Debug, PartialEq, Eq)]
+pub struct Crease {
+    ends: Ends,
+    over: OverNow,
+    last_bowlers: Bowlers,
+    players: Players,
+}
+
+impl Model for Crease {
+    ghost use Rattle.ball_laws.specs.Standing.{Standing};
+    ghost use Rattle.ball_laws.specs.Over.{IsInBounds};
+
+    ghost Value = { Standing };
+
+    ghost view = { λ c. record { ends = c.ends; over = c.over; last_bowlers = c.last_bowlers; players = c.players } };
+
+    ghost invariant = { λ c. IsInBounds c.over };
+
+    ghost inverse = { λ v. record { ends = v.ends; over = v.over; last_bowlers = v.last_bowlers; players = v.players } };
+}
+
+impl Crease {
+    /// The crease as an innings begins.
+    pub fn empty() -> Crease
+        ensures state { result ≡ standing_of start }
+        ensures stands { StandsFor result [] }
+    {
+        Crease {
+            ends: Ends {
+                striker: None,
+                other: None,
+            },
+            over: no_over(),
+            last_bowlers: no_bowlers(),
+            players: [PlayerState::NotIn; 11],
+        }
+    }
+
+    /// Who is at each end.
+    pub fn ends(&self) -> Ends
+        ensures { result ≡ self.now.ends }
+    {
+        self.ends
+    }
+
+    /// The counts of the open over.
+    pub fn over_now(&self) -> OverNow
+        ensures value { result ≡ self.now.over }
+        ensures counted { (h : History) → StandsFor self.now h → result ≡ counted (open_over h) }
+        ensures bounds { IsInBounds result }
+    {
+        self.over
+    }
+
+    /// How many wickets are down.
+    pub fn wickets(&self) -> usize
+        ensures value { result ≡ wickets_of self.now.players }
+        ensures counted { (h : History) → IsInRange h → StandsFor self.now h → result ≡ wickets_in h }
+        ensures bound { result ≤ 11 }
+    {
+        wickets_down(&self.players)
+    }
+
+    /// The umpires set the batters at each other's ends.
+    pub fn swap(&self) -> Result<Crease, BallRefusal>
+        ensures step { (s : State) → self.now ≡ standing_of s → result ≡ answered s Plain.Swap }
+        ensures stands { (h : History) → StandsFor self.now h → Answers result h Plain.Swap }
+    {
+        if self.ends.has_vacancy() {
+            return Err(BallRefusal::NoBatter);
+        }
+        Ok(Crease {
+            ends: self.ends.exchanged(),
+            over: self.over,
+            last_bowlers: self.last_bowlers,
+            players: self.players,
+        })
+    }
+
+    /// The player comes in.
+    pub fn come_in(&self, player: Player) -> Result<Crease, BallRefusal>
+        ensures step { (s : State) → self.now ≡ standing_of s → result ≡ answered s (Plain.Come player) }
+        ensures stands { (h : History) → StandsFor self.now h → Answers result h (Plain.Come player) }
+    {
+        if let Some(why) = come_refusal(self.ends, state_of(&self.players, player)) {
+            return Err(why);
+        }
+        Ok(Crease {
+            ends: self.ends.come_to(player),
+            over: self.over,
+            last_bowlers: self.last_bowlers,
+            players: with_state(self.players, player, PlayerState::Batting),
+        })
+    }
+
+    /// The umpire calls over.
+    pub fn call_over(&self) -> Result<Crease, BallRefusal>
+        ensures step { (s : State) → self.now ≡ standing_of s → result ≡ answered s Plain.Over }
+        ensures stands { (h : History) → StandsFor self.now h → Answers result h Plain.Over }
+    {
+        if self.over.counting == 0 {
+            return Err(BallRefusal::NoBall);
+        }
+        Ok(Crease {
+            ends: self.ends.exchanged(),
+            over: no_over(),
+            last_bowlers: self.over.bowlers,
+            players: self.players,
+        })
+    }
+
+    /// The player leaves between deliveries.
+    pub fn go(&self, how: Leave, player: Player) -> Result<Crease, BallRefusal>
+        requires { wickets_of self.now.players < 10 }
+        ensures step { (s : State) → self.now ≡ standing_of s → result ≡ answered s (Plain.Gone how player) }
+        ensures stands { (h : History) → StandsFor self.now h → Answers result h (Plain.Gone how player) }
+    {
+        if let Some(why) = leave_refusal(how, self.ends, state_of(&self.players, player), player) {
+            return Err(why);
+        }
+        Ok(Crease {
+            ends: ends_left(how, player, self.ends),
+            over: self.over,
+            last_bowlers: self.last_bowlers,
+            players: players_left(how, player, self.players),
+        })
+    }
+
+    /// The delivery is played.
+    pub fn play(&self, ball: &Ball) -> Result<Crease, BallRefusal>
+        ensures step { (s : State) → self.now ≡ standing_of s → result ≡ answered s (Plain.Ball ball.now) }
+        ensures stands { (h : History) → StandsFor self.now h → Answers result h (Plain.Ball ball.now) }
+    {
+        let bowled_last = has_bowled(&self.last_bowlers, ball.bowler);
+        if let Some(why) = ball_refusal(self.ends, bowled_last, self.over.deliveries, ball) {
+            return Err(why);
+        }
+        Ok(Crease {
+            ends: ends_after(self.ends, ball),
+            over: with_ball(self.over, ball),
+            last_bowlers: self.last_bowlers,
+            players: after_dismissal(self.players, dismissed(ball.out, self.ends)),
+        })
+    }
+}

@@ -1,0 +1,117 @@
+//! The open over.
+
+ghost use Rattle.std.specs.Prelude.{◌≡◌, ◌+◌, ◌*◌, ◌<◌, ◌≤◌, false, List, [], ◌∷◌, length};
+ghost use Rattle.notation.specs.declared.entry.Ball.{Ball};
+ghost use Rattle.ball_laws.specs.Over as laws;
+
+use crate::runs::runs_of;
+use notation::{Ball, Kind, Player};
+
+/// For each player, by number, whether he bowled a delivery of an over.
+pub type Flags = [bool; 11];
+
+/// The bowlers of an over.
+#[derive(Clone, Copy, Debug, PartialEq, Eq)]
+pub struct Bowlers {
+    /// By number, whether the player bowled a delivery.
+    pub flags: Flags,
+    /// Who bowled all the deliveries, if one player did.
+    pub only: Option<Player>,
+}
+
+/// What is counted of the open over.
+#[derive(Clone, Copy, Debug, PartialEq, Eq)]
+pub struct OverNow {
+    pub deliveries: u8,
+    pub counting: u8,
+    pub bowlers: Bowlers,
+    pub debit: u32,
+}
+
+/// Whether a delivery counts in the over.
+pub fn counts(ball: &Ball) -> bool
+    ensures { result ≡ laws.counts ball.now }
+{
+    !ball.dead && !matches!(ball.kind, Kind::Wide | Kind::Nb | Kind::NbBye | Kind::NbLeg)
+}
+
+/// Whether the player bowled a delivery of the over with these bowlers.
+pub fn has_bowled(bowlers: &Bowlers, player: Player) -> bool
+    ensures { (over : List Ball) → bowlers.now ≡ laws.bowlers_of over → result ≡ laws.bowled_in player over }
+{
+    bowlers.flags[usize::from(player.number() - 1)]
+}
+
+/// An over that nobody bowled in.
+pub fn no_bowlers() -> Bowlers
+    ensures { result ≡ laws.bowlers_of [] }
+{
+    Bowlers {
+        flags: [false; 11],
+        only: None,
+    }
+}
+
+/// An over without a delivery.
+pub fn no_over() -> OverNow
+    ensures { result ≡ laws.counted [] }
+{
+    OverNow {
+        deliveries: 0,
+        counting: 0,
+        bowlers: no_bowlers(),
+        debit: 0,
+    }
+}
+
+fn with_flag(mut flags: Flags, ball: &Ball) -> Flags
+    ensures { (over : List Ball) → flags ≡ laws.flags_of over → result ≡ laws.flags_of (ball.now ∷ over) }
+{
+    flags[usize::from(ball.bowler.number() - 1)] = true;
+    flags
+}
+
+fn only_with(only: Option<Player>, deliveries: u8, ball: &Ball) -> Option<Player>
+    ensures { (over : List Ball) → only ≡ laws.only_bowler over → deliveries ≡ length over
+        → result ≡ laws.only_bowler (ball.now ∷ over) }
+{
+    if deliveries == 0 {
+        return Some(ball.bowler);
+    }
+    match only {
+        None => None,
+        Some(bowler) => {
+            if bowler.number() == ball.bowler.number() {
+                only
+            } else {
+                None
+            }
+        }
+    }
+}
+
+fn with_bowler(bowlers: Bowlers, deliveries: u8, ball: &Ball) -> Bowlers
+    ensures { (over : List Ball) → bowlers ≡ laws.bowlers_of over → deliveries ≡ length over
+        → result ≡ laws.bowlers_of (ball.now ∷ over) }
+{
+    Bowlers {
+        flags: with_flag(bowlers.flags, ball),
+        only: only_with(bowlers.only, deliveries, ball),
+    }
+}
+
+/// The over with one more delivery.
+pub fn with_ball(over: OverNow, ball: &Ball) -> OverNow
+    requires room { over.deliveries < 60 }
+    requires counted { over.counting ≤ over.deliveries }
+    requires debited { over.debit ≤ 260 * over.deliveries }
+    ensures bounds { laws.IsInBounds result }
+    ensures value { (balls : List Ball) → over ≡ laws.counted balls → result ≡ laws.counted (ball.now ∷ balls) }
+{
+    OverNow {
+        deliveries: over.deliveries + 1,
+        counting: over.counting + u8::from(counts(ball)),
+        bowlers: with_bowler(over.bowlers, over.deliveries, ball),
+        debit: over.debit + runs_of(ball).debit,
+    }
+}
