@@ -1,3 +1,4 @@
 pub mod BowlerLemmas
 pub mod Overs
+pub mod BatterLemmas
 pub mod Wickets

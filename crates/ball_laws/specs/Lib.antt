@@ -3,7 +3,9 @@ pub mod History
 pub mod Runs
 pub mod Ends
 pub mod Players
+pub mod Batters
 pub mod Over
+pub mod BallRefusal
 pub mod Refusals
 pub mod Laws
 pub mod Standing

@@ -1,11 +1,12 @@
 //! The ends, the overs and the players of an innings.
 
-ghost use Rattle.std.specs.Prelude.{◌≡◌, ◌≤◌, ◌<◌, []};
+ghost use Rattle.std.specs.Prelude.{◌≡◌, ◌≤◌, ◌<◌, [], false, OnOk};
 ghost use Rattle.notation.specs.declared.entry.Plain.{Plain};
 ghost use Rattle.ball_laws.specs.Players.{wickets_down as wickets_of};
-ghost use Rattle.ball_laws.specs.Over.{IsInBounds, counted};
+ghost use Rattle.ball_laws.specs.Over.{IsInBounds, bowled_in, counted};
 ghost use Rattle.ball_laws.specs.Laws.{State, start};
-ghost use Rattle.ball_laws.specs.History.{History, IsInRange, open_over, wickets_in};
+ghost use Rattle.ball_laws.specs.Batters.{HoldBatters};
+ghost use Rattle.ball_laws.specs.History.{History, IsInRange, last_called_over, open_over, wickets_in};
 ghost use Rattle.ball_laws.specs.Crease.{standing_of, StandsFor, Answers, answered};
 
 use crate::ends::{Ends, dismissed, ends_after, ends_left};
@@ -58,7 +59,9 @@ impl Crease {
 
     /// Who is at each end.
     pub fn ends(&self) -> Ends
-        ensures { result ≡ self.now.ends }
+        ensures value { result ≡ self.now.ends }
+        ensures batters { (h : History) → IsInRange h → StandsFor self.now h
+            → HoldBatters result self.now.players }
     {
         self.ends
     }
@@ -150,6 +153,8 @@ impl Crease {
     pub fn play(&self, ball: &Ball) -> Result<Crease, BallRefusal>
         ensures step { (s : State) → self.now ≡ standing_of s → result ≡ answered s (Plain.Ball ball.now) }
         ensures stands { (h : History) → StandsFor self.now h → Answers result h (Plain.Ball ball.now) }
+        ensures bowlers { (h : History) → StandsFor self.now h
+            → OnOk result (bowled_in ball.now.bowler (last_called_over h) ≡ false) }
     {
         let bowled_last = has_bowled(&self.last_bowlers, ball.bowler);
         if let Some(why) = ball_refusal(self.ends, bowled_last, self.over.deliveries, ball) {
