@@ -17,4 +17,3 @@ tests_at f (suc (suc (suc (suc (suc (suc (suc (suc (suc zero))))))))) low high =
 tests_at f (suc (suc (suc (suc (suc (suc (suc (suc (suc (suc zero)))))))))) low high = refl
 tests_at f (suc (suc (suc (suc (suc (suc (suc (suc (suc (suc (suc zero))))))))))) low high = refl
 tests_at f (suc (suc (suc (suc (suc (suc (suc (suc (suc (suc (suc (suc n)))))))))))) low high = absurd (omega arith)
-

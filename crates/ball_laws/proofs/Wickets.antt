@@ -144,7 +144,6 @@ step-sound s (plain.TheVariants.Penalty _ _ _) moves sound none = record { sound
 step-sound s plain.TheVariants.Close moves sound none = record { sound = sound; wickets = refl }
 step-sound s plain.TheVariants.Void moves sound none = record { sound = sound; wickets = refl }
 
-
 wickets_in-more : (x : Plain) (h : History) → wickets_in (x ∷ h) ≡ wickets_with x (wickets_in h)
 wickets_in-more (plain.TheVariants.Innings _) h = refl
 wickets_in-more (plain.TheVariants.Come _) h = refl

@@ -14,8 +14,8 @@ use Rattle.ball_laws.specs.Ends.{both_vacant, has_vacancy, exchanged, come_to, d
 use Rattle.ball_laws.specs.Players.{nobody_in, state_of, with_state, after_dismissal, players_left}
 use Rattle.ball_laws.specs.Refusals.{first_of_table, ball_refusal, come_refusal, leave_refusal}
 
--- who is at each end, each player's state, and the deliveries of the open over and of the one called
--- last, each the newest first: no runs and no totals
+-- who is at each end, each player's state, and the deliveries of the open over and of the one
+-- called last, each the newest first: no runs and no totals
 pub record State : Type 0 where
   pub ends : Ends
   pub players : List PlayerState
@@ -56,7 +56,8 @@ abbrev pub state_after : History → State
 state_after [] = start
 state_after (x ∷ h) = after (state_after h) x
 
--- each item of the history had no refusal at its turn: only then has it ends, overs and players' states
+-- each item of the history had no refusal at its turn: only then has it ends, overs and players'
+-- states
 abbrev pub IsPlayed : History → Type 0
 IsPlayed [] = Unit {0}
 IsPlayed (x ∷ h) = IsPlayed h × (refusal (state_after h) x ≡ None)

@@ -1,5 +1,5 @@
--- Why an item is refused: for each kind of item a table of refusals in their order, of which the first
--- whose test holds is the answer.
+-- Why an item is refused: for each kind of item a table of refusals in their order, of which the
+-- first whose test holds is the answer.
 use Rattle.std.specs.Prelude.{ℕ, Bool, true, false, not, ◌&&◌, ◌||◌, nat_le, nat_lt, List, [], ◌∷◌, Option, Some, None, is_some, if◌then◌else◌}
 use Rattle.notation.specs.declared.entry.Ball.{Ball}
 use Rattle.notation.specs.declared.entry.Out.{Out}
@@ -71,8 +71,8 @@ is_six_not_struck b = is_six b.bound && not (is_struck b.kind)
 abbrev pub is_crossed_not_here : Ball → Bool
 is_crossed_not_here b = is_out_and (λ o. o.crossed && not (is_running o.how)) b.out
 
--- why a delivery is refused, by the ends, whether its bowler bowled in the over called last, and how many
--- deliveries this over has
+-- why a delivery is refused, by the ends, whether its bowler bowled in the over called last, and
+-- how many deliveries this over has
 abbrev pub ball_refusal : Ends → Bool → ℕ → Ball → Option BallRefusal
 ball_refusal ends bowled_last deliveries b = first_of_table (
     (NoBatter, has_vacancy ends)

@@ -63,8 +63,8 @@ numbers_at ends = (number_at ends.striker, number_at ends.other)
 abbrev pub counts_of : List Ball → ℕ × ℕ × ℕ
 counts_of over = (length over, counting over, debit over)
 
--- no item is refused, and then these players are at the ends, the open over has these counts, and so many
--- wickets are down
+-- no item is refused, and then these players are at the ends, the open over has these counts, and
+-- so many wickets are down
 pub record Leaves (items : List Plain) (ends : ℕ × ℕ) (over : ℕ × ℕ × ℕ) (wickets : ℕ) : Type 0 where
   pub played : IsPlayed (entered items)
   pub at_ends : numbers_at (state_after (entered items)).ends ≡ ends
@@ -120,8 +120,7 @@ pub record WorkedDismissals : Type 0 where
   pub stumped_off_wide_four : OneAnswers (with_bound Four (with_out Stumped Striker 0 (ball 7 Wide 0))) refused.BoundaryAndOut
   pub other_lbw : OneAnswers (with_out Lbw Other 0 (ball 7 Bat 0)) refused.WrongBatter
   pub bowled_crossed : OneAnswers (with_crossed_out Bowled Striker 0 (ball 7 Bat 0)) refused.CrossedNotHere
-
--- where several rows of the table hold, the first is answered
+  -- where several rows of the table hold, the first is answered
   pub caught_run_and_crossed : OneAnswers (with_crossed_out Caught Striker 5 (ball 7 Bat 1)) refused.RunsWithOut
 
 -- five deliveries and a call of over

@@ -1,4 +1,4 @@
-//! The ends, the overs and the players of an innings.
+//! The ends, the overs and the players of an innings, from one item to the next.
 
 ghost use Rattle.std.specs.Prelude.{◌≡◌, ◌≤◌, ◌<◌, [], false, OnOk};
 ghost use Rattle.notation.specs.declared.entry.Plain.{Plain};
@@ -18,7 +18,13 @@ use crate::refusals::{BallRefusal, ball_refusal, come_refusal, leave_refusal};
 use notation::{Ball, Leave, Player};
 use std::marker::Model;
 
-/// The state of an open innings between two entries.
+/// An innings between two items: who is at each end, what is counted of the open over, who bowled
+/// in the over called last, and how each player stands. It keeps no runs. Both ends are vacant as
+/// an innings begins and where none is open.
+///
+/// A crease stands for a history when no item of that history was refused and it has its ends,
+/// counts and players. Each call below answers the crease that stands for the history with the item
+/// added, or the first refusal of the item's table; the crease itself stays.
 #[derive(Clone, Copy, Debug, PartialEq, Eq)]
 pub struct Crease {
     ends: Ends,
@@ -33,15 +39,25 @@ impl Model for Crease {
 
     ghost Value = { Standing };
 
-    ghost view = { λ c. record { ends = c.ends; over = c.over; last_bowlers = c.last_bowlers; players = c.players } };
+    ghost view = { λ c. record {
+      ends = c.ends;
+      over = c.over;
+      last_bowlers = c.last_bowlers;
+      players = c.players;
+    } };
 
     ghost invariant = { λ c. IsInBounds c.over };
 
-    ghost inverse = { λ v. record { ends = v.ends; over = v.over; last_bowlers = v.last_bowlers; players = v.players } };
+    ghost inverse = { λ v. record {
+      ends = v.ends;
+      over = v.over;
+      last_bowlers = v.last_bowlers;
+      players = v.players;
+    } };
 }
 
 impl Crease {
-    /// The crease as an innings begins.
+    /// The crease as an innings begins, and where none is open.
     pub fn empty() -> Crease
         ensures state { result ≡ standing_of start }
         ensures stands { StandsFor result [] }
@@ -57,7 +73,7 @@ impl Crease {
         }
     }
 
-    /// Who is at each end.
+    /// Who is at each end. A player is at one end at most, and whoever is at an end is batting.
     pub fn ends(&self) -> Ends
         ensures value { result ≡ self.now.ends }
         ensures batters { (h : History) → IsInRange h → StandsFor self.now h
@@ -66,7 +82,7 @@ impl Crease {
         self.ends
     }
 
-    /// The counts of the open over.
+    /// What is counted of the open over.
     pub fn over_now(&self) -> OverNow
         ensures value { result ≡ self.now.over }
         ensures counted { (h : History) → StandsFor self.now h → result ≡ counted (open_over h) }
@@ -75,16 +91,18 @@ impl Crease {
         self.over
     }
 
-    /// How many wickets are down.
+    /// How many wickets are down, 0 to 11: the players who are out, timed out among them.
     pub fn wickets(&self) -> usize
         ensures value { result ≡ wickets_of self.now.players }
-        ensures counted { (h : History) → IsInRange h → StandsFor self.now h → result ≡ wickets_in h }
+        ensures counted { (h : History) → IsInRange h → StandsFor self.now h
+            → result ≡ wickets_in h }
         ensures bound { result ≤ 11 }
     {
         wickets_down(&self.players)
     }
 
-    /// The umpires set the batters at each other's ends.
+    /// The umpires set the two batters at each other's ends. Refused with `NoBatter` where an end
+    /// is vacant.
     pub fn swap(&self) -> Result<Crease, BallRefusal>
         ensures step { (s : State) → self.now ≡ standing_of s → result ≡ answered s Plain.Swap }
         ensures stands { (h : History) → StandsFor self.now h → Answers result h Plain.Swap }
@@ -94,29 +112,32 @@ impl Crease {
         }
         Ok(Crease {
             ends: self.ends.exchanged(),
-            over: self.over,
-            last_bowlers: self.last_bowlers,
-            players: self.players,
+            ..*self
         })
     }
 
-    /// The player comes in.
+    /// The player comes in, at the striker's end if that is vacant, else at the other (Law 25).
+    /// Refused with `NoVacancy` where a batter is at each end, then with `NotAvailable` where the
+    /// player has come in before, unless he retired hurt and a wicket fell or another batter
+    /// retired since.
     pub fn come_in(&self, player: Player) -> Result<Crease, BallRefusal>
-        ensures step { (s : State) → self.now ≡ standing_of s → result ≡ answered s (Plain.Come player) }
-        ensures stands { (h : History) → StandsFor self.now h → Answers result h (Plain.Come player) }
+        ensures step { (s : State) → self.now ≡ standing_of s
+            → result ≡ answered s (Plain.Come player) }
+        ensures stands { (h : History) → StandsFor self.now h
+            → Answers result h (Plain.Come player) }
     {
         if let Some(why) = come_refusal(self.ends, state_of(&self.players, player)) {
             return Err(why);
         }
         Ok(Crease {
             ends: self.ends.come_to(player),
-            over: self.over,
-            last_bowlers: self.last_bowlers,
             players: with_state(self.players, player, PlayerState::Batting),
+            ..*self
         })
     }
 
-    /// The umpire calls over.
+    /// The umpire calls over, after any number of deliveries that count: the ends are exchanged,
+    /// vacant or not (Law 17). Refused with `NoBall` where no delivery of the over counts.
     pub fn call_over(&self) -> Result<Crease, BallRefusal>
         ensures step { (s : State) → self.now ≡ standing_of s → result ≡ answered s Plain.Over }
         ensures stands { (h : History) → StandsFor self.now h → Answers result h Plain.Over }
@@ -132,27 +153,41 @@ impl Crease {
         })
     }
 
-    /// The player leaves between deliveries.
+    /// The player leaves between deliveries, while fewer than ten wickets are down. All but who is
+    /// retired hurt are out.
+    ///
+    /// - Timed out is a player who could come in, while an end is vacant, which stays vacant
+    ///   (Law 40): refused as `come_in`.
+    /// - Retired is a batter at either end, which becomes vacant (Law 25): `NotIn` for another.
+    /// - Run out is the batter at the bowler's end, with both batters in (Law 38): `NoBatter` where
+    ///   an end is vacant, `WrongBatter` for the striker, `NotIn` for another.
     pub fn go(&self, how: Leave, player: Player) -> Result<Crease, BallRefusal>
         requires { wickets_of self.now.players < 10 }
-        ensures step { (s : State) → self.now ≡ standing_of s → result ≡ answered s (Plain.Gone how player) }
-        ensures stands { (h : History) → StandsFor self.now h → Answers result h (Plain.Gone how player) }
+        ensures step { (s : State) → self.now ≡ standing_of s
+            → result ≡ answered s (Plain.Gone how player) }
+        ensures stands { (h : History) → StandsFor self.now h
+            → Answers result h (Plain.Gone how player) }
     {
         if let Some(why) = leave_refusal(how, self.ends, state_of(&self.players, player), player) {
             return Err(why);
         }
         Ok(Crease {
             ends: ends_left(how, player, self.ends),
-            over: self.over,
-            last_bowlers: self.last_bowlers,
             players: players_left(how, player, self.players),
+            ..*self
         })
     }
 
-    /// The delivery is played.
+    /// The delivery is bowled and played. Refused with the first that holds of `NoBatter`,
+    /// `BowlerTwoOvers`, `NotOutSoHere`, `WrongBatter`, `RunsWithOut`, `BoundaryAndOut`,
+    /// `SixNotStruck`, `CrossedNotHere` and `OverLong`; `BallRefusal` says when each does.
     pub fn play(&self, ball: &Ball) -> Result<Crease, BallRefusal>
-        ensures step { (s : State) → self.now ≡ standing_of s → result ≡ answered s (Plain.Ball ball.now) }
-        ensures stands { (h : History) → StandsFor self.now h → Answers result h (Plain.Ball ball.now) }
+        ensures step { (s : State) → self.now ≡ standing_of s
+            → result ≡ answered s (Plain.Ball ball.now) }
+        ensures stands { (h : History) → StandsFor self.now h
+            → Answers result h (Plain.Ball ball.now) }
+
+        // Nobody who bowled in the over called last bowls in the next one of the innings.
         ensures bowlers { (h : History) → StandsFor self.now h
             → OnOk result (bowled_in ball.now.bowler (last_called_over h) ≡ false) }
     {
@@ -163,8 +198,8 @@ impl Crease {
         Ok(Crease {
             ends: ends_after(self.ends, ball),
             over: with_ball(self.over, ball),
-            last_bowlers: self.last_bowlers,
             players: after_dismissal(self.players, dismissed(ball.out, self.ends)),
+            ..*self
         })
     }
 }

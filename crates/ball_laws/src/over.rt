@@ -7,28 +7,33 @@ ghost use Rattle.ball_laws.specs.Over as laws;
 use crate::runs::runs_of;
 use notation::{Ball, Kind, Player};
 
-/// For each player, by number, whether he bowled a delivery of an over.
+/// For each player of a side, from number 1 on, whether he bowled a delivery of an over.
 pub type Flags = [bool; 11];
 
 /// The bowlers of an over.
 #[derive(Clone, Copy, Debug, PartialEq, Eq)]
 pub struct Bowlers {
-    /// By number, whether the player bowled a delivery.
+    /// For each player, from number 1 on, whether he bowled a delivery.
     pub flags: Flags,
     /// Who bowled all the deliveries, if one player did.
     pub only: Option<Player>,
 }
 
-/// What is counted of the open over.
+/// What is counted of the open over: of the deliveries since it began.
 #[derive(Clone, Copy, Debug, PartialEq, Eq)]
 pub struct OverNow {
+    /// How many deliveries were bowled, 0 to 60.
     pub deliveries: u8,
+    /// How many of them count: all but Wides, No balls and those ruled dead (Law 17).
     pub counting: u8,
+    /// Who bowled them.
     pub bowlers: Bowlers,
+    /// How many runs are debited to the bowlers, 0 to 15,600.
     pub debit: u32,
 }
 
-/// Whether a delivery counts in the over.
+/// Whether a delivery counts in the over: it is no Wide, no No ball, and was not ruled dead (Law
+/// 17).
 pub fn counts(ball: &Ball) -> bool
     ensures { result ≡ laws.counts ball.now }
 {
@@ -37,7 +42,8 @@ pub fn counts(ball: &Ball) -> bool
 
 /// Whether the player bowled a delivery of the over with these bowlers.
 pub fn has_bowled(bowlers: &Bowlers, player: Player) -> bool
-    ensures { (over : List Ball) → bowlers.now ≡ laws.bowlers_of over → result ≡ laws.bowled_in player over }
+    ensures { (over : List Ball) → bowlers.now ≡ laws.bowlers_of over
+        → result ≡ laws.bowled_in player over }
 {
     bowlers.flags[usize::from(player.number() - 1)]
 }
@@ -64,13 +70,16 @@ pub fn no_over() -> OverNow
     }
 }
 
+/// The flags with one more delivery.
 fn with_flag(mut flags: Flags, ball: &Ball) -> Flags
-    ensures { (over : List Ball) → flags ≡ laws.flags_of over → result ≡ laws.flags_of (ball.now ∷ over) }
+    ensures { (over : List Ball) → flags ≡ laws.flags_of over
+        → result ≡ laws.flags_of (ball.now ∷ over) }
 {
     flags[usize::from(ball.bowler.number() - 1)] = true;
     flags
 }
 
+/// The only bowler with one more delivery, after so many.
 fn only_with(only: Option<Player>, deliveries: u8, ball: &Ball) -> Option<Player>
     ensures { (over : List Ball) → only ≡ laws.only_bowler over → deliveries ≡ length over
         → result ≡ laws.only_bowler (ball.now ∷ over) }
@@ -90,6 +99,7 @@ fn only_with(only: Option<Player>, deliveries: u8, ball: &Ball) -> Option<Player
     }
 }
 
+/// The bowlers with one more delivery, after so many.
 fn with_bowler(bowlers: Bowlers, deliveries: u8, ball: &Ball) -> Bowlers
     ensures { (over : List Ball) → bowlers ≡ laws.bowlers_of over → deliveries ≡ length over
         → result ≡ laws.bowlers_of (ball.now ∷ over) }
@@ -106,7 +116,8 @@ pub fn with_ball(over: OverNow, ball: &Ball) -> OverNow
     requires counted { over.counting ≤ over.deliveries }
     requires debited { over.debit ≤ 260 * over.deliveries }
     ensures bounds { laws.IsInBounds result }
-    ensures value { (balls : List Ball) → over ≡ laws.counted balls → result ≡ laws.counted (ball.now ∷ balls) }
+    ensures value { (balls : List Ball) → over ≡ laws.counted balls
+        → result ≡ laws.counted (ball.now ∷ balls) }
 {
     OverNow {
         deliveries: over.deliveries + 1,

@@ -11,11 +11,12 @@ use notation::{Ball, Bound, Kind, Leave, Out, Player, Who};
 use std::error::Error;
 use std::fmt;
 
-/// Why the ends, the overs or the players do not allow an item of an innings. Where several reasons hold, the
-/// first of the item's own table is answered, and the crease stays as it was.
+/// Why the ends, the overs or the players do not allow an item of an innings. Where several reasons
+/// hold, the first of the item's own table is answered, and the crease stays as it was.
 #[derive(Clone, Copy, Debug, PartialEq, Eq)]
 pub enum BallRefusal {
-    /// An end is vacant: both batters are to be in for a delivery, a swap and a run out by the bowler (Law 38).
+    /// An end is vacant: both batters are to be in for a delivery, a swap and a run out by the
+    /// bowler (Law 38).
     NoBatter,
     /// The bowler bowled in the over called last (Law 17).
     BowlerTwoOvers,
@@ -37,7 +38,8 @@ pub enum BallRefusal {
     NoBall,
     /// A batter is at each end (Laws 25 and 40).
     NoVacancy,
-    /// The player is batting, is out, or retired hurt with no wicket and no other's retirement since (Law 25).
+    /// The player is batting, is out, or retired hurt with no wicket and no other's retirement
+    /// since (Law 25).
     NotAvailable,
     /// The player is not batting, or for a run out not at the other end.
     NotIn,
@@ -139,7 +141,8 @@ fn is_crossed_not_here(ball: &Ball) -> bool
     }
 }
 
-/// Why a delivery is refused.
+/// Why a delivery is refused. The order of the tests is that of the table: a catch with a run and
+/// `crossed`, say, is refused for the run, and a six with a dismissal for the dismissal.
 pub fn ball_refusal(
     ends: Ends,
     bowled_last: bool,
@@ -172,7 +175,7 @@ pub fn ball_refusal(
     }
 }
 
-/// Why the player cannot come in, or be timed out.
+/// Why a player in this state cannot come in, or be timed out.
 pub fn come_refusal(ends: Ends, state: PlayerState) -> Option<BallRefusal>
     ensures { result ≡ laws.come_refusal ends state }
 {
@@ -185,7 +188,7 @@ pub fn come_refusal(ends: Ends, state: PlayerState) -> Option<BallRefusal>
     }
 }
 
-/// Why the player cannot leave.
+/// Why the player, who is in this state, cannot leave between deliveries.
 pub fn leave_refusal(
     how: Leave,
     ends: Ends,
