@@ -9,7 +9,12 @@ use Rattle.ball_laws.specs.Standing.{Standing}
 
 -- what a crease keeps of a state
 abbrev pub standing_of : State → Standing
-standing_of s = record { ends = s.ends; over = counted s.this_over; last_bowlers = bowlers_of s.last_over; players = s.players }
+standing_of s = record {
+  ends = s.ends;
+  over = counted s.this_over;
+  last_bowlers = bowlers_of s.last_over;
+  players = s.players;
+}
 
 -- no item of the history was refused, and the crease has its state and its counts
 pub record StandsFor (crease : Standing) (h : History) : Type 0 where

@@ -28,7 +28,8 @@ start = record { ends = both_vacant; players = nobody_in; this_over = []; last_o
 
 -- why an item is refused: the first row of its table that holds
 abbrev pub refusal : State → Plain → Option BallRefusal
-refusal s (plains.Ball b) = ball_refusal s.ends (bowled_in b.bowler s.last_over) (length s.this_over) b
+refusal s (plains.Ball b) =
+    ball_refusal s.ends (bowled_in b.bowler s.last_over) (length s.this_over) b
 refusal s (plains.Come n) = come_refusal s.ends (state_of n s.players)
 refusal s (plains.Gone how n) = leave_refusal how s.ends (state_of n s.players) n
 refusal s plains.Over = first_of_table ((NoBall, nat_eq (counting s.this_over) 0) ∷ [])
@@ -43,8 +44,14 @@ after s (plains.Ball b) = record {
   this_over = b ∷ s.this_over;
   last_over = s.last_over;
 }
-after s (plains.Come n) = record s { ends = come_to n s.ends; players = with_state n Batting s.players }
-after s (plains.Gone how n) = record s { ends = ends_left how n s.ends; players = players_left how n s.players }
+after s (plains.Come n) = record s {
+  ends = come_to n s.ends;
+  players = with_state n Batting s.players;
+}
+after s (plains.Gone how n) = record s {
+  ends = ends_left how n s.ends;
+  players = players_left how n s.players;
+}
 after s plains.Over = record s { ends = exchanged s.ends; this_over = []; last_over = s.this_over }
 after s plains.Swap = record s { ends = exchanged s.ends }
 after s (plains.Innings _) = start

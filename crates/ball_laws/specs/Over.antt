@@ -18,7 +18,7 @@ is_wide_or_no_ball NbBye = true
 is_wide_or_no_ball NbLeg = true
 is_wide_or_no_ball _ = false
 
--- a delivery counts unless it is a Wide, a No ball or ruled dead
+-- a delivery counts unless it is a Wide, a No ball or ruled dead (Law 17)
 abbrev pub counts : Ball → Bool
 counts b = not b.dead && not (is_wide_or_no_ball b.kind)
 
@@ -55,7 +55,12 @@ bowlers_of over = record { flags = flags_of over; only = only_bowler over }
 
 -- what is counted of the over
 abbrev pub counted : List Ball → OverNow
-counted over = record { deliveries = length over; counting = counting over; bowlers = bowlers_of over; debit = debit over }
+counted over = record {
+  deliveries = length over;
+  counting = counting over;
+  bowlers = bowlers_of over;
+  debit = debit over;
+}
 
 -- the counts of an over that is not too long
 pub record IsInBounds (over : OverNow) : Type 0 where

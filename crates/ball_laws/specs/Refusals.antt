@@ -59,7 +59,8 @@ is_wrong_batter b = is_out_and (λ o. not (is_running o.how) && not (is_striker 
 
 -- one of the six ways that are the striker's, and runs
 abbrev pub has_runs_with_out : Ball → Bool
-has_runs_with_out b = is_out_and (λ o. not (is_running o.how) && (nat_lt 0 b.ran || nat_lt 0 b.short)) b.out
+has_runs_with_out b =
+    is_out_and (λ o. not (is_running o.how) && (nat_lt 0 b.ran || nat_lt 0 b.short)) b.out
 
 abbrev pub is_boundary_and_out : Ball → Bool
 is_boundary_and_out b = is_some b.out && is_boundary b.bound
