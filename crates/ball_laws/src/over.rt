@@ -87,16 +87,7 @@ fn only_with(only: Option<Player>, deliveries: u8, ball: &Ball) -> Option<Player
     if deliveries == 0 {
         return Some(ball.bowler);
     }
-    match only {
-        None => None,
-        Some(bowler) => {
-            if bowler.number() == ball.bowler.number() {
-                only
-            } else {
-                None
-            }
-        }
-    }
+    only.filter(|bowler| *bowler == ball.bowler)
 }
 
 /// The bowlers with one more delivery, after so many.
