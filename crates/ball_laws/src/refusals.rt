@@ -96,28 +96,19 @@ impl Error for BallRefusal {}
 fn is_out_not_so_here(ball: &Ball) -> bool
     ensures { result ≡ laws.is_out_not_so_here ball.now }
 {
-    match ball.out {
-        Some(out) => !may_be_out(ball.kind, out.how),
-        None => false,
-    }
+    ball.out.is_some_and(|out| !may_be_out(ball.kind, out.how))
 }
 
 fn is_wrong_batter(ball: &Ball) -> bool
     ensures { result ≡ laws.is_wrong_batter ball.now }
 {
-    match ball.out {
-        Some(out) => !is_running(out.how) && matches!(out.who, Who::Other),
-        None => false,
-    }
+    ball.out.is_some_and(|out| !is_running(out.how) && matches!(out.who, Who::Other))
 }
 
 fn has_runs_with_out(ball: &Ball) -> bool
     ensures { result ≡ laws.has_runs_with_out ball.now }
 {
-    match ball.out {
-        Some(out) => !is_running(out.how) && (ball.ran > 0 || ball.short > 0),
-        None => false,
-    }
+    ball.out.is_some_and(|out| !is_running(out.how) && (ball.ran > 0 || ball.short > 0))
 }
 
 fn is_boundary_and_out(ball: &Ball) -> bool
@@ -135,10 +126,8 @@ fn is_six_not_struck(ball: &Ball) -> bool
 fn is_crossed_not_here(ball: &Ball) -> bool
     ensures { result ≡ laws.is_crossed_not_here ball.now }
 {
-    match ball.out {
-        Some(out) => out.crossed && !is_running(out.how),
-        None => false,
-    }
+    ball.out
+        .is_some_and(|out| out.crossed && !is_running(out.how))
 }
 
 /// Why a delivery is refused. The order of the tests is that of the table: a catch with a run and
