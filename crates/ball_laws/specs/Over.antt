@@ -4,6 +4,8 @@ use Rattle.std.specs.List.{list_any, list_all}
 use Rattle.notation.specs.declared.entry.Ball.{Ball}
 use Rattle.notation.specs.declared.entry.Kind.{Kind}
 use Rattle.notation.specs.declared.entry.Kind.TheVariants.{Wide, Nb, NbBye, NbLeg}
+use Rattle.ball_laws.specs.declared.over.TheConstants.{MOST_DELIVERIES}
+use Rattle.ball_laws.specs.declared.runs.TheConstants.{MOST_RUNS}
 use Rattle.ball_laws.specs.declared.over.OverNow.{OverNow}
 use Rattle.ball_laws.specs.declared.over.Bowlers.{Bowlers}
 use Rattle.ball_laws.specs.Sums.{tally, count_of}
@@ -64,6 +66,6 @@ counted over = record {
 
 -- the counts of an over that is not too long
 pub record IsInBounds (over : OverNow) : Type 0 where
-  pub deliveries : over.deliveries ≤ 60
+  pub deliveries : over.deliveries ≤ MOST_DELIVERIES
   pub counting : over.counting ≤ over.deliveries
-  pub debit : over.debit ≤ 260 * over.deliveries
+  pub debit : over.debit ≤ MOST_RUNS * over.deliveries

@@ -11,6 +11,7 @@ use Rattle.notation.specs.declared.entry.Who.{Who}
 use Rattle.notation.specs.declared.entry.Who.TheVariants.{Striker, Other}
 use Rattle.notation.specs.declared.entry.Leave.{Leave}
 use Rattle.notation.specs.declared.entry.Leave as leave
+use Rattle.ball_laws.specs.declared.over.TheConstants.{MOST_DELIVERIES}
 use Rattle.ball_laws.specs.declared.ends.Ends.{Ends}
 use Rattle.ball_laws.specs.declared.players.PlayerState.{PlayerState}
 use Rattle.ball_laws.specs.declared.refusals.BallRefusal.{BallRefusal}
@@ -84,7 +85,7 @@ ball_refusal ends bowled_last deliveries b = first_of_table (
     ∷ (BoundaryAndOut, is_boundary_and_out b)
     ∷ (SixNotStruck, is_six_not_struck b)
     ∷ (CrossedNotHere, is_crossed_not_here b)
-    ∷ (OverLong, nat_le 60 deliveries)
+    ∷ (OverLong, nat_le MOST_DELIVERIES deliveries)
     ∷ [])
 
 -- why a player in this state cannot come in, or be timed out (Laws 25, 40)

@@ -4,8 +4,11 @@ ghost use Rattle.std.specs.Prelude.{◌≡◌, ◌+◌, ◌*◌, ◌<◌, ◌≤
 ghost use Rattle.notation.specs.declared.entry.Ball.{Ball};
 ghost use Rattle.ball_laws.specs.Over as laws;
 
-use crate::runs::runs_of;
+use crate::runs::{MOST_RUNS, runs_of};
 use notation::{Ball, Kind, Player};
+
+/// The most deliveries that an over has.
+pub const MOST_DELIVERIES: u8 = 60;
 
 /// For each player of a side, from number 1 on, whether he bowled a delivery of an over.
 pub type Flags = [bool; 11];
@@ -103,9 +106,9 @@ fn with_bowler(bowlers: Bowlers, deliveries: u8, ball: &Ball) -> Bowlers
 
 /// The over with one more delivery.
 pub fn with_ball(over: OverNow, ball: &Ball) -> OverNow
-    requires room { over.deliveries < 60 }
+    requires room { over.deliveries < MOST_DELIVERIES }
     requires counted { over.counting ≤ over.deliveries }
-    requires debited { over.debit ≤ 260 * over.deliveries }
+    requires debited { over.debit ≤ MOST_RUNS * over.deliveries }
     ensures bounds { laws.IsInBounds result }
     ensures value { (balls : List Ball) → over ≡ laws.counted balls
         → result ≡ laws.counted (ball.now ∷ balls) }

@@ -5,6 +5,7 @@ ghost use Rattle.ball_laws.specs.BallRefusal.{name_of, number_of};
 ghost use Rattle.ball_laws.specs.Refusals as laws;
 
 use crate::ends::{Ends, holds, is_running};
+use crate::over::MOST_DELIVERIES;
 use crate::players::{PlayerState, can_come_in, state_of};
 use crate::runs::may_be_out;
 use notation::{Ball, Bound, Kind, Leave, Out, Player, Who};
@@ -139,7 +140,7 @@ pub fn ball_refusal(
     ball: &Ball,
 ) -> Option<BallRefusal>
     ensures value { result ≡ laws.ball_refusal ends bowled_last deliveries ball.now }
-    ensures room { IsNone result → deliveries < 60 }
+    ensures room { IsNone result → deliveries < MOST_DELIVERIES }
 {
     if ends.has_vacancy() {
         Some(BallRefusal::NoBatter)
@@ -157,7 +158,7 @@ pub fn ball_refusal(
         Some(BallRefusal::SixNotStruck)
     } else if is_crossed_not_here(ball) {
         Some(BallRefusal::CrossedNotHere)
-    } else if deliveries >= 60 {
+    } else if deliveries >= MOST_DELIVERIES {
         Some(BallRefusal::OverLong)
     } else {
         None
