@@ -1,21 +1,14 @@
--- After a history whose numbers are in range the batters are in order, and the players out are as many as the
--- wickets of the open innings.
-use Rattle.std.proofs.Common.{◌≡◌, ◌≢◌, ℕ, ◌+◌, ◌-◌, Bool, true, false, not, ◌||◌, cond, nat_eq, List, [], ◌∷◌, ◌++◌, map, length, refl, ap, ◌∙◌, sym, subst, arith, get_or-set_other, get_or-set_same, zero-add}
-use Rattle.std.specs.Prelude.{Option, Some, None, is_some, option_map, fold, count_by, if◌then◌else◌}
-use Rattle.std.proofs.lemmas.Bool.{eqb-true}
-use Rattle.std.proofs.lemmas.List.{length-set}
-use Rattle.std.proofs.lemmas.List.Sums.{sum_by-set, sum_by-append}
-use Rattle.std.proofs.Math.ListN.{get_or-map, length-map}
-use Rattle.notation.specs.declared.entry.Who.{Who}
-use Rattle.notation.specs.declared.entry.Who.TheVariants.{Striker, Other}
+-- After a history whose numbers are in range the batters are in order, and the players out are as
+-- many as the wickets of the open innings.
+use Rattle.std.proofs.Common.{◌≡◌, ℕ, ◌+◌, Bool, true, false, not, ◌||◌, List, [], ◌∷◌, length, refl, ap, ◌∙◌, sym, subst, arith}
+use Rattle.std.specs.Prelude.{Option, Some, None, is_some, if◌then◌else◌}
 use Rattle.ball_laws.specs.declared.ends.Ends.{Ends}
 use Rattle.ball_laws.specs.declared.players.PlayerState.{PlayerState}
-use Rattle.ball_laws.specs.declared.players.PlayerState.TheVariants.{NotIn, Batting, Out, Hurt}
-use Rattle.ball_laws.specs.Ends.{has_vacancy, exchanged, batter_at, holds, without, come_to, vacated, dismissed, ends_after, change, change_at_out, one_if}
-use Rattle.ball_laws.specs.Players.{state_of, with_state, can_come_in, is_out, may_return, after_wicket, after_dismissal, wickets_down}
+use Rattle.ball_laws.specs.declared.players.PlayerState.TheVariants.{NotIn, Out, Hurt}
+use Rattle.ball_laws.specs.Ends.{has_vacancy, exchanged, batter_at, holds, dismissed, ends_after, change, change_at_out}
+use Rattle.ball_laws.specs.Players.{state_of, can_come_in, after_dismissal, wickets_down}
 use Rattle.notation.specs.Written.{IsPlayer, IsPlain}
-use Rattle.ball_laws.specs.Sums.{count_of}
-use Rattle.ball_laws.specs.History.{History, IsInRange, is_wicket, open_innings, wickets_in}
+use Rattle.ball_laws.specs.History.{History, IsInRange, is_wicket, wickets_in}
 use Rattle.ball_laws.specs.Refusals.{ball_refusal, come_refusal, leave_refusal}
 use Rattle.ball_laws.specs.Laws.{State, start, state_after, refusal, after, IsPlayed}
 use Rattle.ball_laws.specs.Over.{bowled_in}
@@ -27,7 +20,7 @@ use Rattle.notation.specs.declared.entry.Leave.{Leave}
 use Rattle.notation.specs.declared.entry.Leave as leave
 use Rattle.notation.specs.declared.entry.Ball.{Ball}
 use Rattle.notation.specs.declared.entry.Out as dismissal
-use Rattle.ball_laws.specs.Batters.{HoldsBatter, AreApart, HoldBatters}
+use Rattle.ball_laws.specs.Batters.{HoldBatters}
 use Rattle.ball_laws.specs.Standing.{Standing}
 use Rattle.ball_laws.specs.Crease.{StandsFor}
 use Rattle.ball_laws.proofs.BatterLemmas.{Sound, SoundAt, wickets_down-left, sound-exchanged, sound-dismissed, wickets_down-dismissed, one_if_out-can, sound-come, wickets_down-come, sound-timed_out, sound-left, wickets_down-gone}
@@ -125,7 +118,8 @@ gone-step leave.TheVariants.RetiredHurt n s is sound none =
       wickets = add-zero (wickets_down-gone n s.ends.striker s.ends.other (Hurt false) s.players sound either);
     }
 
--- an entry that is not refused keeps the ends sound, and puts one more player out where it is a wicket
+-- an entry that is not refused keeps the ends sound, and puts one more player out where it is a
+-- wicket
 pub step-sound : (s : State) (x : Plain) → IsPlain x → SoundAt s.ends s.players → refusal s x ≡ None → Step s x
 step-sound s (plain.TheVariants.Ball b) moves sound none =
     let p = ball-sound b b.out s.ends s.players sound (ball-row s.ends (bowled_in b.bowler s.last_over) (length s.this_over) b none) in record { sound = p.0; wickets = p.1 }

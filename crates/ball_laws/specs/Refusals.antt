@@ -15,7 +15,7 @@ use Rattle.ball_laws.specs.declared.over.TheConstants.{MOST_DELIVERIES}
 use Rattle.ball_laws.specs.declared.ends.Ends.{Ends}
 use Rattle.ball_laws.specs.declared.players.PlayerState.{PlayerState}
 use Rattle.ball_laws.specs.declared.refusals.BallRefusal.{BallRefusal}
-use Rattle.ball_laws.specs.declared.refusals.BallRefusal.TheVariants.{NoBatter, BowlerTwoOvers, NotOutSoHere, WrongBatter, RunsWithOut, BoundaryAndOut, SixNotStruck, CrossedNotHere, OverLong, NoBall, NoVacancy, NotAvailable, NotIn}
+use Rattle.ball_laws.specs.declared.refusals.BallRefusal.TheVariants.{NoBatter, BowlerTwoOvers, NotOutSoHere, WrongBatter, RunsWithOut, BoundaryAndOut, SixNotStruck, CrossedNotHere, OverLong, NoVacancy, NotAvailable, NotIn}
 use Rattle.ball_laws.specs.Runs.{allows}
 use Rattle.ball_laws.specs.Ends.{has_vacancy, holds, is_running}
 use Rattle.ball_laws.specs.Players.{can_come_in}

@@ -4,7 +4,8 @@ use Rattle.ball_laws.specs.History.{last_called_over}
 use Rattle.ball_laws.proofs.Overs.{last_over-state_after}
 use Rattle.ball_laws.proofs.crease.Crease.play.Goals as goal
 
--- the last over of the state is that of the history, and the bowler's row of the table does not hold
+-- the last over of the state is that of the history, and the bowler's row of the table does not
+-- hold
 pub returns-clause-bowlers : goal.returns-clause-bowlers
 returns-clause-bowlers c = λ h stands.
     let kept : c.self.inside.last_bowlers ≡ bowlers_of (last_called_over h) =
