@@ -1,0 +1,19 @@
+//! Rounds of votes for each place of a book, with no meaning of an entry.
+//!
+//! A position is a place of the book and a round of voting on it. Each of the two desks votes once at a position.
+//! Equal votes settle the place, and the next place opens at round 0; different votes open the next round.
+#![tactic(auto)]
+
+mod messages;
+mod position;
+mod reader;
+mod same;
+mod seat;
+
+pub use messages::{Ask, Asker, DeskId, Message, Vote};
+pub use position::{PLACES, Position, ROUNDS};
+pub use reader::Reader;
+pub use seat::{Heard, Seat, Settled};
+
+#[cfg(test)]
+mod tests;

@@ -1,0 +1,58 @@
+//! What stations say to each other.
+
+ghost use Rattle.std.specs.Prelude.{◌≡◌};
+ghost use Rattle.agree_core.specs.Positions.{position_of};
+
+use crate::position::Position;
+use notation::Entry;
+
+/// One of the two desks.
+#[derive(Clone, Copy, Debug, PartialEq, Eq)]
+pub enum DeskId {
+    A,
+    B,
+}
+
+/// A desk's vote: what it wrote for a place, in a round of that place. `place` is below 8,192, `round` below 256.
+#[derive(Clone, Copy, Debug, PartialEq, Eq)]
+pub struct Vote {
+    pub desk: DeskId,
+    pub place: u32,
+    pub round: u32,
+    pub entry: Entry,
+}
+
+impl Vote {
+    /// The position that it is for.
+    pub fn position(&self) -> Position
+        ensures { result ≡ position_of self.now }
+    {
+        Position {
+            place: self.place,
+            round: self.round,
+        }
+    }
+}
+
+/// Who asks for votes. A board asks, and never votes.
+#[derive(Clone, Copy, Debug, PartialEq, Eq)]
+pub enum Asker {
+    A,
+    B,
+    Board,
+}
+
+/// A station asks the desks for their votes of its position.
+#[derive(Clone, Copy, Debug, PartialEq, Eq)]
+pub struct Ask {
+    pub from: Asker,
+    pub place: u32,
+    pub round: u32,
+}
+
+/// All that is ever sent.
+#[derive(Clone, Copy, Debug, PartialEq, Eq)]
+pub enum Message {
+    Vote(Vote),
+    Ask(Ask),
+}
