@@ -7,7 +7,6 @@
 mod messages;
 mod position;
 mod reader;
-mod same;
 mod seat;
 
 pub use messages::{Ask, Asker, DeskId, Message, Vote};

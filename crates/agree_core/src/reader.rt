@@ -6,7 +6,6 @@ ghost use Rattle.agree_core.specs.Readers.{Listens, noted_of, noting, other, rea
 
 use crate::messages::{DeskId, Vote};
 use crate::position::Position;
-use crate::same::same;
 use crate::seat::Heard;
 use notation::Entry;
 use std::marker::Model;
@@ -67,7 +66,7 @@ impl Reader {
         };
         match own {
             Some(first) => {
-                if same(vote.entry, first) {
+                if vote.entry.is_same(&first) {
                     Heard::Again
                 } else {
                     Heard::TwoVotes
@@ -82,7 +81,7 @@ impl Reader {
                     Heard::Noted
                 }
                 Some(theirs) => {
-                    let agreed = same(vote.entry, theirs);
+                    let agreed = vote.entry.is_same(&theirs);
                     *self = Reader::at(self.position.next(agreed));
                     if agreed { Heard::Agreed } else { Heard::Differ }
                 }

@@ -6,7 +6,6 @@ ghost use Rattle.agree_core.specs.Seats.{Casts, Hears, IsForNow, casting, noting
 
 use crate::messages::{DeskId, Vote};
 use crate::position::Position;
-use crate::same::same;
 use notation::Entry;
 use std::marker::Model;
 
@@ -104,7 +103,7 @@ impl Seat {
                 Settled::Pending
             }
             Some(theirs) => {
-                let agreed = same(entry, theirs);
+                let agreed = entry.is_same(&theirs);
                 *self = Seat::waiting(self.desk, self.position.next(agreed));
                 if agreed {
                     Settled::Agreed
@@ -141,7 +140,7 @@ impl Seat {
         }
         match self.theirs {
             Some(theirs) => {
-                if same(vote.entry, theirs) {
+                if vote.entry.is_same(&theirs) {
                     Heard::Again
                 } else {
                     Heard::TwoVotes
@@ -153,7 +152,7 @@ impl Seat {
                     Heard::Noted
                 }
                 Some(mine) => {
-                    let agreed = same(vote.entry, mine);
+                    let agreed = vote.entry.is_same(&mine);
                     *self = Seat::waiting(self.desk, self.position.next(agreed));
                     if agreed { Heard::Agreed } else { Heard::Differ }
                 }
