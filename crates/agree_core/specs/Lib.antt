@@ -1,3 +1,11 @@
 pub mod Positions
 pub mod Seats
 pub mod Readers
+pub mod Ballots
+pub mod Agreed
+pub mod Books
+pub mod Laws
+pub mod FileView
+pub mod Desks
+pub mod Openings
+pub mod Boards

@@ -4,11 +4,13 @@
 //! Equal votes settle the place, and the next place opens at round 0; different votes open the next round.
 #![tactic(auto)]
 
+mod laws;
 mod messages;
 mod position;
 mod reader;
 mod seat;
 
+pub use laws::{agreed_list_grows, files_show_the_agreed_list, settled_once, votes_follow};
 pub use messages::{Ask, Asker, DeskId, Message, Vote};
 pub use position::{PLACES, Position, ROUNDS};
 pub use reader::Reader;

@@ -1,0 +1,45 @@
+-- How a desk begins: on a new file, or on the file that it left.
+use Rattle.std.specs.Prelude.{◌≡◌, ◌⊎◌, ℕ, false, List, []}
+use Rattle.agree_core.specs.declared.messages.DeskId.{DeskId}
+use Rattle.agree_core.specs.Ballots.{Ballot}
+use Rattle.agree_core.specs.Books.{Rules, AllTaken, FirstRefused, book_of, seat_of, voted_list}
+use Rattle.agree_core.specs.Desks.{DeskState}
+use Rattle.agree_core.specs.FileView.{FileView, Holds, Stays, Synced}
+
+-- the desk whose file has these votes
+abbrev pub opened : {Disk : Type 0} → DeskId → Disk → List Ballot → DeskState Disk
+opened d disk votes =
+    record { seat = seat_of d votes; book = book_of votes; failed = false; votes = votes; disk = disk }
+
+-- a desk that was just created, on a file without votes
+abbrev pub Creates : {Disk : Type 0} → FileView Disk → DeskId → DeskState Disk → Type 0
+Creates view d k = (k ≡ opened d k.disk []) × Holds view k.disk []
+
+-- why a desk can't be opened
+pub data OpenRefusal : Type 0 where
+  Unsound : OpenRefusal
+  BadVotes : ℕ → OpenRefusal
+  NoMemory : OpenRefusal
+  DeviceFailed : OpenRefusal
+
+-- what comes of opening a file: a desk, or a refusal that leaves the disk
+pub data Opening (Disk : Type 0) : Type 0 where
+  Opened : DeskState Disk → Opening Disk
+  NotOpened : OpenRefusal → Disk → Opening Disk
+
+-- as it was, or with all that is read synced
+abbrev pub MaySync : {Disk : Type 0} → FileView Disk → Disk → Disk → Type 0
+MaySync view old new = Stays view old new ⊎ Synced view old new
+
+-- a file is opened: the votes that are found are the desk's, and the list of each place's last vote has to be
+-- one that the book's rules take
+abbrev pub Opens : {Disk Why : Type 0} → FileView Disk → Rules Why → DeskId → Disk → Opening Disk → Type 0
+Opens view rules d disk (Opened k) =
+    AllTaken rules [] (voted_list (view.reads disk)) × Holds view k.disk (view.reads disk)
+    × (k ≡ opened d k.disk (view.reads disk))
+Opens view rules d disk (NotOpened Unsound left) =
+    (view.Sound disk → ⊥) × Synced view disk left
+Opens view rules d disk (NotOpened (BadVotes place) left) =
+    FirstRefused rules [] (voted_list (view.reads disk)) place × Holds view left (view.reads disk)
+Opens view rules d disk (NotOpened NoMemory left) = MaySync view disk left
+Opens view rules d disk (NotOpened DeviceFailed left) = MaySync view disk left

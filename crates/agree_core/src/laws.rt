@@ -1,0 +1,42 @@
+//! What votes settle, whatever is sent and heard. These functions do nothing: each stands for the law that it ensures.
+
+ghost use Rattle.std.specs.Prelude.{List, ◌∷◌, length, ◌≡◌};
+ghost use Rattle.notation.specs.declared.entry.Entry.{Entry};
+ghost use Rattle.agree_core.specs.Agreed.{BeginsWith, IsAgreedList};
+ghost use Rattle.agree_core.specs.Ballots.{AllJustified, Ballot, IsSequence, Justified, Votes, VotesGrow};
+ghost use Rattle.agree_core.specs.Books.{IsAgreedByFiles, book_of};
+ghost use Rattle.agree_core.specs.Laws.{EqualVotesSettle, FilesSettled, OneBook, OneVoteEach};
+ghost use Rattle.agree_core.specs.Laws.{PlacesSettled, RoundsDiffer, SettledOnce};
+
+/// Where each vote follows the one before it, a desk votes once at a position, a vote of the next round tells that
+/// both desks differed in this one, and a vote of the next place tells that this one is settled.
+pub fn votes_follow()
+    ensures once { (v : Votes) → AllJustified v → OneVoteEach v }
+    ensures rounds { (v : Votes) → AllJustified v → RoundsDiffer v }
+    ensures places { (v : Votes) → AllJustified v → PlacesSettled v }
+    ensures sequence { (theirs votes : List Ballot) → Justified theirs votes → IsSequence votes }
+{}
+
+/// A place is settled at one entry, in one round, which is the least with equal votes of both desks.
+pub fn settled_once()
+    ensures once { (v : Votes) → AllJustified v → SettledOnce v }
+    ensures least { (v : Votes) → AllJustified v → EqualVotesSettle v }
+{}
+
+/// The agreed list of more votes begins with that of fewer; and of two books of settled entries one begins with the
+/// other, whichever of the votes each has.
+pub fn agreed_list_grows()
+    ensures grows { (v w : Votes) (xs ys : List Entry) → VotesGrow v w → AllJustified w
+        → IsAgreedList v xs → IsAgreedList w ys → BeginsWith ys xs }
+    ensures one_book { (w : Votes) → AllJustified w → OneBook w }
+{}
+
+/// A desk's file shows a book of settled entries, as long as the place of its last vote; and both files show the
+/// agreed list.
+pub fn files_show_the_agreed_list()
+    ensures settled { (v : Votes) → AllJustified v → FilesSettled v }
+    ensures long { (theirs bs : List Ballot) (b : Ballot) → Justified theirs (b ∷ bs)
+        → length (book_of (b ∷ bs)) ≡ b.at.place }
+    ensures agreed { (v : Votes) (xs : List Entry) → AllJustified v
+        → IsAgreedByFiles v.a v.b xs → IsAgreedList v xs }
+{}
