@@ -1,12 +1,12 @@
 -- How a desk begins: on a new file, or on the file that it left.
-use Rattle.std.specs.Prelude.{◌≡◌, ◌⊎◌, ℕ, false, List, []}
+use Rattle.std.specs.Prelude.{◌≡◌, ℕ, false, Some, None, List, []}
 use Rattle.agree_core.specs.declared.messages.DeskId.{DeskId}
 use Rattle.agree_core.specs.Ballots.{Ballot}
 use Rattle.agree_core.specs.Books.{Rules, AllTaken, FirstRefused, book_of, seat_of, voted_list}
 use Rattle.agree_core.specs.Desks.{DeskState}
-use Rattle.agree_core.specs.FileView.{FileView, Holds, Stays, Synced}
+use Rattle.agree_core.specs.FileView.{FileView, Holds, MaySync, Synced}
 
--- the desk whose file has these votes
+-- the desk whose file has these votes: at the position of the last one, with that one cast
 abbrev pub opened : {Disk : Type 0} → DeskId → Disk → List Ballot → DeskState Disk
 opened d disk votes =
     record { seat = seat_of d votes; book = book_of votes; failed = false; votes = votes; disk = disk }
@@ -27,19 +27,16 @@ pub data Opening (Disk : Type 0) : Type 0 where
   Opened : DeskState Disk → Opening Disk
   NotOpened : OpenRefusal → Disk → Opening Disk
 
--- as it was, or with all that is read synced
-abbrev pub MaySync : {Disk : Type 0} → FileView Disk → Disk → Disk → Type 0
-MaySync view old new = Stays view old new ⊎ Synced view old new
-
--- a file is opened: the votes that are found are the desk's, and the list of each place's last vote has to be
--- one that the book's rules take
+-- a file is synced and opened: the votes that are found are the desk's, and the list of each place's last vote has
+-- to be one that the book's rules take
 abbrev pub Opens : {Disk Why : Type 0} → FileView Disk → Rules Why → DeskId → Disk → Opening Disk → Type 0
 Opens view rules d disk (Opened k) =
-    AllTaken rules [] (voted_list (view.reads disk)) × Holds view k.disk (view.reads disk)
-    × (k ≡ opened d k.disk (view.reads disk))
+    (view.reads disk ≡ Some k.votes) × AllTaken rules [] (voted_list k.votes)
+    × Holds view k.disk k.votes × (k ≡ opened d k.disk k.votes)
 Opens view rules d disk (NotOpened Unsound left) =
-    (view.Sound disk → ⊥) × Synced view disk left
+    (view.reads disk ≡ None) × Synced view disk left
 Opens view rules d disk (NotOpened (BadVotes place) left) =
-    FirstRefused rules [] (voted_list (view.reads disk)) place × Holds view left (view.reads disk)
+    (votes : List Ballot) × (view.reads disk ≡ Some votes)
+    × FirstRefused rules [] (voted_list votes) place × Holds view left votes
 Opens view rules d disk (NotOpened NoMemory left) = MaySync view disk left
 Opens view rules d disk (NotOpened DeviceFailed left) = MaySync view disk left
