@@ -1,3 +1,4 @@
 pub mod Order
 pub mod Settling
 pub mod FileBooks
+pub mod WorkedVotes

@@ -5,6 +5,7 @@ pub mod Ballots
 pub mod Agreed
 pub mod Books
 pub mod Laws
+pub mod Rows
 pub mod FileView
 pub mod Desks
 pub mod Openings

@@ -1,12 +1,13 @@
 //! What votes settle, whatever is sent and heard. These functions do nothing: each stands for the law that it ensures.
 
-ghost use Rattle.std.specs.Prelude.{List, ◌∷◌, length, ◌≡◌};
+ghost use Rattle.std.specs.Prelude.{◌≡◌, ◌≢◌, ℕ, List, ◌∷◌, length};
 ghost use Rattle.notation.specs.declared.entry.Entry.{Entry};
 ghost use Rattle.agree_core.specs.Agreed.{BeginsWith, IsAgreedList};
 ghost use Rattle.agree_core.specs.Ballots.{AllJustified, Ballot, IsSequence, Justified, Votes, VotesGrow};
-ghost use Rattle.agree_core.specs.Books.{IsAgreedByFiles, book_of};
+ghost use Rattle.agree_core.specs.Books.{IsAgreedByFiles, Rules, book_of};
 ghost use Rattle.agree_core.specs.Laws.{EqualVotesSettle, FilesSettled, OneBook, OneVoteEach};
 ghost use Rattle.agree_core.specs.Laws.{PlacesSettled, RoundsDiffer, SettledOnce};
+ghost use Rattle.agree_core.specs.Rows.{FileOfSecondRound, LeastRound, RefusedInTurn, SecondRound};
 
 /// Where each vote follows the one before it, a desk votes once at a position, a vote of the next round tells that
 /// both desks differed in this one, and a vote of the next place tells that this one is settled.
@@ -40,3 +41,12 @@ pub fn files_show_the_agreed_list()
     ensures agreed { (v : Votes) (xs : List Entry) → AllJustified v
         → IsAgreedByFiles v.a v.b xs → IsAgreedList v xs }
 {}
+
+// Worked votes: a round that differs and one that agrees, what a file shows of them, and the least of two rounds.
+fn worked_votes()
+    ensures second_round { (p q r four six : Entry) → four ≢ six → SecondRound p q r four six }
+    ensures file { (p q r four six : Entry) → FileOfSecondRound p q r four six }
+    ensures least { (e f : Entry) → LeastRound e f }
+    ensures refused { (rules : Rules ℕ) (e f : Entry) → RefusedInTurn rules e f }
+{
+}

@@ -73,13 +73,8 @@ impl Seat {
         ensures { result ≡ resumed vote }
     {
         Seat {
-            desk: vote.desk,
-            position: Position {
-                place: vote.place,
-                round: vote.round,
-            },
             mine: Some(vote.entry),
-            theirs: None,
+            ..Seat::waiting(vote.desk, vote.position())
         }
     }
 
