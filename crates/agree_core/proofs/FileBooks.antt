@@ -5,12 +5,12 @@ use Rattle.notation.specs.declared.entry.Entry.{Entry}
 use Rattle.agree_core.specs.declared.messages.DeskId.{DeskId}
 use Rattle.agree_core.specs.declared.messages.DeskId.TheVariants.{A, B}
 use Rattle.agree_core.specs.declared.position.Position.{Position}
-use Rattle.agree_core.specs.Positions.{Before, next_place, next_round}
+use Rattle.agree_core.specs.Positions.{Before, first, next_place, next_round}
 use Rattle.agree_core.specs.Agreed.{AllSettled, Unsettled, IsAgreedList}
-use Rattle.agree_core.specs.Ballots.{Ballot, Votes, AllJustified, Justified, In, Within, ballot_at}
+use Rattle.agree_core.specs.Ballots.{Ballot, AllVotes, AllJustified, Justified, In, IsSequence, Within, ballot_at}
 use Rattle.agree_core.specs.Books.{book_of, closing, IsAgreedByFiles, voted_list}
 use Rattle.agree_core.specs.Laws.{FilesSettled}
-use Rattle.agree_core.proofs.Order.{NextRound, NextPlace, earlier, place_of}
+use Rattle.agree_core.proofs.Order.{NextRound, NextPlace, earlier, in_sequence, place_of}
 use Rattle.agree_core.proofs.Settling.{Both, equal_votes_settle, none_later}
 
 -- for each of these entries, in turn from this place on, both have a vote in one round
@@ -26,11 +26,11 @@ all_both_push : (own theirs : List Ballot) (place : ℕ) (es : List Entry) (e : 
 all_both_push own theirs place [] e next q s t = let r : next ≡ place = omega arith in (subst (λ (p : ℕ). (round : ℕ) × Both own theirs p round e) r t, tt)
 all_both_push own theirs place (x ∷ xs) e next q s t = let r : next ≡ place + 1 + length xs = omega arith in (s.0, all_both_push own theirs (place + 1) xs e next r s.1 t)
 
-settled_by_a : (v : Votes) → AllJustified v → (place : ℕ) (es : List Entry) → AllBoth v.a v.b place es → AllSettled v place es
+settled_by_a : (v : AllVotes) → AllJustified v → (place : ℕ) (es : List Entry) → AllBoth v.a v.b place es → AllSettled v place es
 settled_by_a v j place [] s = tt
 settled_by_a v j place (e ∷ es) s = ((s.0.0, equal_votes_settle v j place s.0.0 e s.0.1), settled_by_a v j (place + 1) es s.1)
 
-settled_by_b : (v : Votes) → AllJustified v → (place : ℕ) (es : List Entry) → AllBoth v.b v.a place es → AllSettled v place es
+settled_by_b : (v : AllVotes) → AllJustified v → (place : ℕ) (es : List Entry) → AllBoth v.b v.a place es → AllSettled v place es
 settled_by_b v j place [] s = tt
 settled_by_b v j place (e ∷ es) s = ((s.0.0, equal_votes_settle v j place s.0.0 e (s.0.1.1, s.0.1.0)), settled_by_b v j (place + 1) es s.1)
 
@@ -48,31 +48,39 @@ book_kept b c rest book e h = ap (λ (t : Bool). closing t (book_of (c ∷ rest)
 pub book_closed : (b c : Ballot) (rest : List Ballot) (book : List Entry) → b.at.place ≡ c.at.place + 1 → book_of (c ∷ rest) ≡ book → book_of (b ∷ c ∷ rest) ≡ book ++ c.entry ∷ []
 book_closed b c rest book e h = ap (λ (t : Bool). closing t (book_of (c ∷ rest)) c.entry) (later_place b.at.place c.at.place e) ∙ ap (λ (o : List Entry). o ++ c.entry ∷ []) h
 
--- the book that a file shows has the entries on which both voted, and is as long as the place of the last vote
-pub book_agreed : (theirs : List Ballot) (b : Ballot) (bs : List Ballot) → Justified theirs (b ∷ bs) → AllBoth (b ∷ bs) theirs 0 (book_of (b ∷ bs)) × (length (book_of (b ∷ bs)) ≡ b.at.place)
-book_agreed theirs b [] j = (tt, sym (ap (λ (p : Position). p.place) j.1))
-book_agreed theirs b (c ∷ rest) j =
-    let before = book_agreed theirs c rest j.2 in
-    let more = all_both_grow (c ∷ rest) (b ∷ c ∷ rest) theirs (λ x i. inr i) 0 (book_of (c ∷ rest)) before.0 in
+-- it is as long as the place of the last vote
+pub book_long : (b : Ballot) (bs : List Ballot) → IsSequence (b ∷ bs) → length (book_of (b ∷ bs)) ≡ b.at.place
+book_long b [] s = sym (place_of b.at first s.1)
+book_long b (c ∷ rest) s =
     ⊎_elim
-    (λ (n : NextRound theirs c b).
-    let same = place_of b.at (next_round c.at) n.0 in
-    let book = book_kept b c rest (book_of (c ∷ rest)) same refl in
-    (subst (AllBoth (b ∷ c ∷ rest) theirs 0) (sym book) more, ap length book ∙ before.1 ∙ sym same))
+    (λ (n : b.at ≡ next_round c.at).
+        let same = place_of b.at (next_round c.at) n in
+        ap length (book_kept b c rest (book_of (c ∷ rest)) same refl) ∙ book_long c rest s.2 ∙ sym same)
+    (λ (n : b.at ≡ next_place c.at).
+        let next = place_of b.at (next_place c.at) n in
+        let before = book_long c rest s.2 in
+        let long : length (book_of (c ∷ rest) ++ c.entry ∷ []) ≡ b.at.place = omega (arith, length-append (book_of (c ∷ rest)) (c.entry ∷ [])) in
+        ap length (book_closed b c rest (book_of (c ∷ rest)) next refl) ∙ long)
+    s.1
+
+-- the book that a file shows has the entries on which both voted
+pub book_agreed : (theirs : List Ballot) (b : Ballot) (bs : List Ballot) → Justified theirs (b ∷ bs) → AllBoth (b ∷ bs) theirs 0 (book_of (b ∷ bs))
+book_agreed theirs b [] j = tt
+book_agreed theirs b (c ∷ rest) j =
+    let before = all_both_grow (c ∷ rest) (b ∷ c ∷ rest) theirs (λ x i. inr i) 0 (book_of (c ∷ rest)) (book_agreed theirs c rest j.2) in
+    ⊎_elim
+    (λ (n : NextRound theirs c b). subst (AllBoth (b ∷ c ∷ rest) theirs 0) (sym (book_kept b c rest (book_of (c ∷ rest)) (place_of b.at (next_round c.at) n.0) refl)) before)
     (λ (n : NextPlace theirs c b).
-    let next = place_of b.at (next_place c.at) n.0 in
-    let book = book_closed b c rest (book_of (c ∷ rest)) next refl in
-    let size : c.at.place ≡ 0 + length (book_of (c ∷ rest)) = let l = before.1 in omega arith in
-    let long : length (book_of (c ∷ rest) ++ c.entry ∷ []) ≡ b.at.place = let l = before.1 in omega (arith, length-append (book_of (c ∷ rest)) (c.entry ∷ [])) in
-    let both = all_both_push (b ∷ c ∷ rest) theirs 0 (book_of (c ∷ rest)) c.entry c.at.place size more (c.at.round, (inr (inl refl), n.1)) in
-    (subst (AllBoth (b ∷ c ∷ rest) theirs 0) (sym book) both, ap length book ∙ long))
+        let size : c.at.place ≡ 0 + length (book_of (c ∷ rest)) = let l = book_long c rest (in_sequence theirs (c ∷ rest) j.2) in omega arith in
+        let both = all_both_push (b ∷ c ∷ rest) theirs 0 (book_of (c ∷ rest)) c.entry c.at.place size before (c.at.round, (inr (inl refl), n.1)) in
+        subst (AllBoth (b ∷ c ∷ rest) theirs 0) (sym (book_closed b c rest (book_of (c ∷ rest)) (place_of b.at (next_place c.at) n.0) refl)) both)
     j.1
 
 all_both_book : (theirs bs : List Ballot) → Justified theirs bs → AllBoth bs theirs 0 (book_of bs)
 all_both_book theirs [] j = tt
-all_both_book theirs (b ∷ bs) j = (book_agreed theirs b bs j).0
+all_both_book theirs (b ∷ bs) j = book_agreed theirs b bs j
 
-pub files_settled : (v : Votes) → AllJustified v → FilesSettled v
+pub files_settled : (v : AllVotes) → AllJustified v → FilesSettled v
 files_settled v j A = settled_by_a v j 0 (book_of v.a) (all_both_book v.b v.a j.0)
 files_settled v j B = settled_by_b v j 0 (book_of v.b) (all_both_book v.a v.b j.1)
 
@@ -100,21 +108,22 @@ both_by_files : (own theirs : List Ballot) → Justified theirs own → Justifie
 both_by_files [] theirs j jt xs h = rw h (tt, λ r e s. s.0)
 both_by_files (b ∷ bs) theirs j jt xs (inl h) =
     let k = book_agreed theirs b bs j in
-    let size : b.at.place ≡ 0 + length (book_of (b ∷ bs)) = let l = k.1 in omega arith in
-    let long : length (book_of (b ∷ bs) ++ b.entry ∷ []) ≡ b.at.place + 1 = let l = k.1 in omega (arith, length-append (book_of (b ∷ bs)) (b.entry ∷ [])) in
+    let l = book_long b bs (in_sequence theirs (b ∷ bs) j) in
+    let size : b.at.place ≡ 0 + length (book_of (b ∷ bs)) = omega arith in
+    let long : length (book_of (b ∷ bs) ++ b.entry ∷ []) ≡ b.at.place + 1 = omega (arith, length-append (book_of (b ∷ bs)) (b.entry ∷ [])) in
     subst (λ (ys : List Entry). AllBoth (b ∷ bs) theirs 0 ys × ((r : ℕ) (e : Entry) → Both (b ∷ bs) theirs (length ys) r e → ⊥)) (sym h.1) (
-      all_both_push (b ∷ bs) theirs 0 (book_of (b ∷ bs)) b.entry b.at.place size k.0 (b.at.round, (inl refl, h.0)),
+      all_both_push (b ∷ bs) theirs 0 (book_of (b ∷ bs)) b.entry b.at.place size k (b.at.round, (inl refl, h.0)),
       λ r e s. none_ahead theirs b bs j r e (subst (λ (p : ℕ). In (ballot_at p r e) (b ∷ bs)) long s.0),
     )
 both_by_files (b ∷ bs) theirs j jt xs (inr h) =
-    let k = book_agreed theirs b bs j in
+    let l = book_long b bs (in_sequence theirs (b ∷ bs) j) in
     subst (λ (ys : List Entry). AllBoth (b ∷ bs) theirs 0 ys × ((r : ℕ) (e : Entry) → Both (b ∷ bs) theirs (length ys) r e → ⊥)) (sym h.1) (
-      k.0,
-      λ r e s. h.0 (last_settled theirs b bs j jt r e (subst (λ (p : ℕ). Both (b ∷ bs) theirs p r e) k.1 s)),
+      book_agreed theirs b bs j,
+      λ r e s. h.0 (last_settled theirs b bs j jt r e (subst (λ (p : ℕ). Both (b ∷ bs) theirs p r e) l s)),
     )
 
 -- so the agreed list is read from the two files
-pub agreed_by_files : (v : Votes) → AllJustified v → (xs : List Entry) → IsAgreedByFiles v.a v.b xs → IsAgreedList v xs
+pub agreed_by_files : (v : AllVotes) → AllJustified v → (xs : List Entry) → IsAgreedByFiles v.a v.b xs → IsAgreedList v xs
 agreed_by_files v j xs h =
     let k = both_by_files v.a v.b j.0 j.1 xs h in
     (settled_by_a v j 0 xs k.0, k.1)

@@ -4,7 +4,7 @@ use Rattle.notation.specs.declared.entry.Entry.{Entry}
 use Rattle.agree_core.specs.declared.messages.DeskId.{DeskId}
 use Rattle.agree_core.specs.declared.messages.DeskId.TheVariants.{A, B}
 use Rattle.agree_core.specs.Agreed.{EqualVotes, SettledIn, SettledAt, AllSettled, Unsettled, IsAgreedList, BeginsWith}
-use Rattle.agree_core.specs.Ballots.{Ballot, Votes, AllJustified, Justified, In, VotesGrow, ballot_at, votes_of}
+use Rattle.agree_core.specs.Ballots.{Ballot, AllVotes, AllJustified, Justified, In, VotesGrow, ballot_at, votes_of}
 use Rattle.agree_core.specs.Laws.{SettledOnce, EqualVotesSettle, OneBook, OneVoteEach, RoundsDiffer, PlacesSettled}
 use Rattle.agree_core.proofs.Order.{compare, differed, one_vote, place_closed}
 
@@ -30,22 +30,22 @@ both_once own theirs jo jt place r s e f h k =
     (λ (q : s < r). absurd (none_later own theirs jo jt place s r f e k h.0 q)))
     (compare r s)
 
-pub settled_once : (v : Votes) → AllJustified v → SettledOnce v
+pub settled_once : (v : AllVotes) → AllJustified v → SettledOnce v
 settled_once v j place r s e f h k = both_once v.a v.b j.0 j.1 place r s e f h k
 
 -- so the round is the least
-pub equal_votes_settle : (v : Votes) → AllJustified v → EqualVotesSettle v
+pub equal_votes_settle : (v : AllVotes) → AllJustified v → EqualVotesSettle v
 equal_votes_settle v j place round e h = (h, λ r f less k. let same = settled_once v j place r round f e k h in omega arith)
 
-pub one_vote_each : (v : Votes) → AllJustified v → OneVoteEach v
+pub one_vote_each : (v : AllVotes) → AllJustified v → OneVoteEach v
 one_vote_each v j A b c = one_vote v.b v.a j.0 b c
 one_vote_each v j B b c = one_vote v.a v.b j.1 b c
 
-pub rounds_differ : (v : Votes) → AllJustified v → RoundsDiffer v
+pub rounds_differ : (v : AllVotes) → AllJustified v → RoundsDiffer v
 rounds_differ v j A place round g i = differed v.b v.a j.0 (ballot_at place (round + 1) g) i place round refl (omega arith)
 rounds_differ v j B place round g i = differed v.a v.b j.1 (ballot_at place (round + 1) g) i place round refl (omega arith)
 
-pub places_settled : (v : Votes) → AllJustified v → PlacesSettled v
+pub places_settled : (v : AllVotes) → AllJustified v → PlacesSettled v
 places_settled v j A place g i =
     let h = place_closed v.b v.a j.0 place g i in
     (h.1, (h.0, equal_votes_settle v j place h.0 h.1 (h.2, h.3)))
@@ -53,21 +53,21 @@ places_settled v j B place g i =
     let h = place_closed v.a v.b j.1 place g i in
     (h.1, (h.0, equal_votes_settle v j place h.0 h.1 (h.3, h.2)))
 
-pub equal_votes_grow : (v w : Votes) → VotesGrow v w → (place round : ℕ) (e : Entry) → EqualVotes v place round e → EqualVotes w place round e
+pub equal_votes_grow : (v w : AllVotes) → VotesGrow v w → (place round : ℕ) (e : Entry) → EqualVotes v place round e → EqualVotes w place round e
 equal_votes_grow v w g place round e h = (g.0 (ballot_at place round e) h.0, g.1 (ballot_at place round e) h.1)
 
 -- a place that is settled by some of the votes is settled by all, at the same entry
-pub settled_grows : (v w : Votes) → VotesGrow v w → AllJustified w → (place : ℕ) (e : Entry) → SettledAt v place e → SettledAt w place e
+pub settled_grows : (v w : AllVotes) → VotesGrow v w → AllJustified w → (place : ℕ) (e : Entry) → SettledAt v place e → SettledAt w place e
 settled_grows v w g j place e s = (s.0, equal_votes_settle w j place s.0 e (equal_votes_grow v w g place s.0 e s.1.0))
 
-pub all_settled_grow : (v w : Votes) → VotesGrow v w → AllJustified w → (place : ℕ) (es : List Entry) → AllSettled v place es → AllSettled w place es
+pub all_settled_grow : (v w : AllVotes) → VotesGrow v w → AllJustified w → (place : ℕ) (es : List Entry) → AllSettled v place es → AllSettled w place es
 all_settled_grow v w g j place [] s = tt
 all_settled_grow v w g j place (e ∷ es) s = (settled_grows v w g j place e s.0, all_settled_grow v w g j (place + 1) es s.1)
 
-one_entry : (w : Votes) → AllJustified w → (place : ℕ) (e f : Entry) → SettledAt w place e → SettledAt w place f → e ≡ f
+one_entry : (w : AllVotes) → AllJustified w → (place : ℕ) (e f : Entry) → SettledAt w place e → SettledAt w place f → e ≡ f
 one_entry w j place e f s t = (settled_once w j place s.0 t.0 e f s.1.0 t.1.0).1
 
-one_of : (w : Votes) → AllJustified w → (place : ℕ) (xs ys : List Entry) → AllSettled w place xs → AllSettled w place ys → BeginsWith ys xs ⊎ BeginsWith xs ys
+one_of : (w : AllVotes) → AllJustified w → (place : ℕ) (xs ys : List Entry) → AllSettled w place xs → AllSettled w place ys → BeginsWith ys xs ⊎ BeginsWith xs ys
 one_of w j place [] ys s t = inl (ys, refl)
 one_of w j place (x ∷ xs) [] s t = inr (x ∷ xs, refl)
 one_of w j place (x ∷ xs) (y ∷ ys) s t =
@@ -77,10 +77,10 @@ one_of w j place (x ∷ xs) (y ∷ ys) s t =
     (λ (p : BeginsWith xs ys). let q : y ∷ ys ++ p.0 ≡ x ∷ xs = λ i. sym e i ∷ p.1 i in inr (p.0, q))
     (one_of w j (place + 1) xs ys s.1 t.1)
 
-pub one_book : (w : Votes) → AllJustified w → OneBook w
+pub one_book : (w : AllVotes) → AllJustified w → OneBook w
 one_book w j u v xs ys g h s t = one_of w j 0 xs ys (all_settled_grow u w g j 0 xs s) (all_settled_grow v w h j 0 ys t)
 
-begins_from : (w : Votes) → AllJustified w → (place next : ℕ) (xs ys : List Entry) → AllSettled w place xs → AllSettled w place ys → next ≡ place + length ys → Unsettled w next → BeginsWith ys xs
+begins_from : (w : AllVotes) → AllJustified w → (place next : ℕ) (xs ys : List Entry) → AllSettled w place xs → AllSettled w place ys → next ≡ place + length ys → Unsettled w next → BeginsWith ys xs
 begins_from w j place next [] ys s t n u = (ys, refl)
 begins_from w j place next (x ∷ xs) [] s t n u = let same : next ≡ place = omega arith in absurd (u s.0.0 x (subst (λ (p : ℕ). EqualVotes w p s.0.0 x) (sym same) s.0.1.0))
 begins_from w j place next (x ∷ xs) (y ∷ ys) s t n u =
@@ -91,7 +91,7 @@ begins_from w j place next (x ∷ xs) (y ∷ ys) s t n u =
     (p.0, q)
 
 -- the agreed list begins with any list of entries that some of the votes settle
-pub agreed_begins : (v w : Votes) → VotesGrow v w → AllJustified w → (xs ys : List Entry) → AllSettled v 0 xs → IsAgreedList w ys → BeginsWith ys xs
+pub agreed_begins : (v w : AllVotes) → VotesGrow v w → AllJustified w → (xs ys : List Entry) → AllSettled v 0 xs → IsAgreedList w ys → BeginsWith ys xs
 agreed_begins v w g j xs ys s a =
     let n : length ys ≡ 0 + length ys = omega arith in
     begins_from w j 0 (length ys) xs ys (all_settled_grow v w g j 0 xs s) a.0 n a.1

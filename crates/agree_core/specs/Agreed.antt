@@ -1,33 +1,33 @@
 -- What the votes of both desks settle.
 use Rattle.std.specs.Prelude.{◌≡◌, ◌<◌, ◌+◌, ℕ, List, [], ◌∷◌, ◌++◌, length}
 use Rattle.notation.specs.declared.entry.Entry.{Entry}
-use Rattle.agree_core.specs.Ballots.{Votes, ballot_at, In}
+use Rattle.agree_core.specs.Ballots.{AllVotes, ballot_at, In}
 
 -- both desks voted for this entry at this place in this round
-abbrev pub EqualVotes : Votes → ℕ → ℕ → Entry → Type 0
+abbrev pub EqualVotes : AllVotes → ℕ → ℕ → Entry → Type 0
 EqualVotes v place round e = In (ballot_at place round e) v.a × In (ballot_at place round e) v.b
 
 -- it is the least round of the place with equal votes of both desks
-abbrev pub SettledIn : Votes → ℕ → ℕ → Entry → Type 0
+abbrev pub SettledIn : AllVotes → ℕ → ℕ → Entry → Type 0
 SettledIn v place round e =
     EqualVotes v place round e
     × ((r : ℕ) (f : Entry) → r < round → EqualVotes v place r f → ⊥)
 
 -- the place is settled, at this entry
-abbrev pub SettledAt : Votes → ℕ → Entry → Type 0
+abbrev pub SettledAt : AllVotes → ℕ → Entry → Type 0
 SettledAt v place e = (round : ℕ) × SettledIn v place round e
 
 -- no round of the place has equal votes of both desks
-abbrev pub Unsettled : Votes → ℕ → Type 0
+abbrev pub Unsettled : AllVotes → ℕ → Type 0
 Unsettled v place = (round : ℕ) (e : Entry) → EqualVotes v place round e → ⊥
 
 -- each place from this one on is settled at the next of these entries
-abbrev pub AllSettled : Votes → ℕ → List Entry → Type 0
+abbrev pub AllSettled : AllVotes → ℕ → List Entry → Type 0
 AllSettled v place [] = Unit {0}
 AllSettled v place (e ∷ es) = SettledAt v place e × AllSettled v (place + 1) es
 
 -- the entries of the places below the first that isn't settled
-abbrev pub IsAgreedList : Votes → List Entry → Type 0
+abbrev pub IsAgreedList : AllVotes → List Entry → Type 0
 IsAgreedList v xs = AllSettled v 0 xs × Unsettled v (length xs)
 
 abbrev pub BeginsWith : List Entry → List Entry → Type 0

@@ -57,16 +57,16 @@ Justified theirs [] = Unit {0}
 Justified theirs (b ∷ bs) = InRange b.at × Follows theirs b bs × Justified theirs bs
 
 -- all that both desks voted
-pub record Votes : Type 0 where
+pub record AllVotes : Type 0 where
   pub a : List Ballot
   pub b : List Ballot
 
-abbrev pub votes_of : Votes → DeskId → List Ballot
+abbrev pub votes_of : AllVotes → DeskId → List Ballot
 votes_of v A = v.a
 votes_of v B = v.b
 
 -- each vote of either desk follows the one before it
-abbrev pub AllJustified : Votes → Type 0
+abbrev pub AllJustified : AllVotes → Type 0
 AllJustified v = Justified v.b v.a × Justified v.a v.b
 
 -- each of these is one of those
@@ -74,5 +74,5 @@ abbrev pub Within : List Ballot → List Ballot → Type 0
 Within xs ys = (b : Ballot) → In b xs → In b ys
 
 -- nothing has left the votes
-abbrev pub VotesGrow : Votes → Votes → Type 0
+abbrev pub VotesGrow : AllVotes → AllVotes → Type 0
 VotesGrow old new = Within old.a new.a × Within old.b new.b

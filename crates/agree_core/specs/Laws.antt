@@ -1,46 +1,56 @@
 -- What holds of all votes, where each follows the one before it.
-use Rattle.std.specs.Prelude.{◌≡◌, ◌≢◌, ◌+◌, ◌⊎◌, ℕ, List}
+use Rattle.std.specs.Prelude.{◌≡◌, ◌≢◌, ◌+◌, ◌≤◌, ◌⊎◌, ℕ, Some, List, slice_get}
 use Rattle.notation.specs.declared.entry.Entry.{Entry}
 use Rattle.agree_core.specs.declared.messages.DeskId.{DeskId}
 use Rattle.agree_core.specs.Agreed.{EqualVotes, SettledIn, SettledAt, AllSettled, BeginsWith}
-use Rattle.agree_core.specs.Ballots.{Votes, Ballot, In, VotesGrow, ballot_at, votes_of}
-use Rattle.agree_core.specs.Books.{book_of}
+use Rattle.agree_core.specs.Ballots.{AllVotes, Ballot, In, VotesGrow, ballot_at, votes_of}
+use Rattle.agree_core.specs.Books.{book_of, voted_list}
 use Rattle.agree_core.specs.Readers.{other}
 
 -- a desk has one vote at a position
-abbrev pub OneVoteEach : Votes → Type 0
+abbrev pub OneVoteEach : AllVotes → Type 0
 OneVoteEach v =
     (d : DeskId) (b c : Ballot) → In b (votes_of v d) → In c (votes_of v d) → b.at ≡ c.at → b ≡ c
 
 -- a vote of the next round tells that both desks voted in this one, and differed
-abbrev pub RoundsDiffer : Votes → Type 0
+abbrev pub RoundsDiffer : AllVotes → Type 0
 RoundsDiffer v =
     (d : DeskId) (place round : ℕ) (g : Entry) → In (ballot_at place (round + 1) g) (votes_of v d)
     → (e : Entry) × (f : Entry) × In (ballot_at place round e) (votes_of v d)
     × In (ballot_at place round f) (votes_of v (other d)) × (e ≢ f)
 
 -- a vote of the next place tells that this one is settled
-abbrev pub PlacesSettled : Votes → Type 0
+abbrev pub PlacesSettled : AllVotes → Type 0
 PlacesSettled v =
     (d : DeskId) (place : ℕ) (g : Entry) → In (ballot_at (place + 1) 0 g) (votes_of v d)
     → (e : Entry) × SettledAt v place e
 
 -- a place has equal votes in one round only, and so for one entry
-abbrev pub SettledOnce : Votes → Type 0
+abbrev pub SettledOnce : AllVotes → Type 0
 SettledOnce v =
     (place r s : ℕ) (e f : Entry) → EqualVotes v place r e → EqualVotes v place s f → (r ≡ s) × (e ≡ f)
 
 -- equal votes settle their place
-abbrev pub EqualVotesSettle : Votes → Type 0
+abbrev pub EqualVotesSettle : AllVotes → Type 0
 EqualVotesSettle v =
     (place round : ℕ) (e : Entry) → EqualVotes v place round e → SettledIn v place round e
 
 -- of two lists of settled entries, each by some of these votes, one begins with the other
-abbrev pub OneBook : Votes → Type 0
+abbrev pub OneBook : AllVotes → Type 0
 OneBook w =
-    (u v : Votes) (xs ys : List Entry) → VotesGrow u w → VotesGrow v w → AllSettled u 0 xs → AllSettled v 0 ys
+    (u v : AllVotes) (xs ys : List Entry) → VotesGrow u w → VotesGrow v w → AllSettled u 0 xs → AllSettled v 0 ys
     → BeginsWith ys xs ⊎ BeginsWith xs ys
 
 -- the book that a desk's file shows is settled
-abbrev pub FilesSettled : Votes → Type 0
+abbrev pub FilesSettled : AllVotes → Type 0
 FilesSettled v = (d : DeskId) → AllSettled v 0 (book_of (votes_of v d))
+
+-- of this desk's votes for its place it is the last
+abbrev pub IsLastOfPlace : List Ballot → Ballot → Type 0
+IsLastOfPlace votes b =
+    In b votes × ((c : Ballot) → In c votes → c.at.place ≡ b.at.place → c.at.round ≤ b.at.round)
+
+-- at each place that a desk voted for, the list by its votes has the last of them
+abbrev pub ListsLastVotes : List Ballot → Type 0
+ListsLastVotes votes =
+    (b : Ballot) → IsLastOfPlace votes b → slice_get (voted_list votes) b.at.place ≡ Some b.entry

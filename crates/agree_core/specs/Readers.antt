@@ -1,5 +1,5 @@
 -- A board's view of the current round, and what a vote makes of it.
-use Rattle.std.specs.Prelude.{◌≡◌, ◌≢◌, Option, Some, None}
+use Rattle.std.specs.Prelude.{◌≡◌, ◌≢◌, ◌⊎◌, Option, Some, None}
 use Rattle.notation.specs.declared.entry.Entry.{Entry}
 use Rattle.agree_core.specs.declared.messages.DeskId.{DeskId}
 use Rattle.agree_core.specs.declared.messages.DeskId.TheVariants.{A, B}
@@ -52,3 +52,7 @@ Listens r v Heard.Differ t =
     (position_of v ≡ r.position) × (noted_of r v.desk ≡ None)
     × ((e : Entry) × (noted_of r (other v.desk) ≡ Some e) × (v.entry ≢ e))
     × (t ≡ reading (next_round r.position))
+
+-- it hasn't both votes of its position
+abbrev pub ReaderWaits : ReaderState → Type 0
+ReaderWaits r = (r.a ≡ None) ⊎ (r.b ≡ None)

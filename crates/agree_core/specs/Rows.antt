@@ -3,7 +3,7 @@ use Rattle.std.specs.Prelude.{◌≡◌, ◌≢◌, Some, None, List, [], ◌∷
 use Rattle.notation.specs.declared.entry.Entry.{Entry}
 use Rattle.agree_core.specs.declared.messages.DeskId.TheVariants.{A}
 use Rattle.agree_core.specs.Agreed.{IsAgreedList, SettledIn}
-use Rattle.agree_core.specs.Ballots.{AllJustified, Ballot, Votes, ballot_at}
+use Rattle.agree_core.specs.Ballots.{AllJustified, Ballot, AllVotes, ballot_at}
 use Rattle.agree_core.specs.Books.{Rules, FirstRefused, book_of, seat_of, voted_list}
 
 -- three places on which the desks agreed at once
@@ -11,12 +11,12 @@ abbrev pub three : Entry → Entry → Entry → List Ballot
 three p q r = ballot_at 2 0 r ∷ ballot_at 1 0 q ∷ ballot_at 0 0 p ∷ []
 
 -- then A votes for a four and B for a six
-abbrev pub differing : Entry → Entry → Entry → Entry → Entry → Votes
+abbrev pub differing : Entry → Entry → Entry → Entry → Entry → AllVotes
 differing p q r four six =
     record { a = ballot_at 3 0 four ∷ three p q r; b = ballot_at 3 0 six ∷ three p q r }
 
 -- and in the next round both for the six
-abbrev pub agreeing : Entry → Entry → Entry → Entry → Entry → Votes
+abbrev pub agreeing : Entry → Entry → Entry → Entry → Entry → AllVotes
 agreeing p q r four six =
     record {
       a = ballot_at 3 1 six ∷ ballot_at 3 0 four ∷ three p q r;
@@ -39,7 +39,7 @@ FileOfSecondRound p q r four six =
        ≡ record { desk = A; position = record { place = 3; round = 1 }; mine = Some six; theirs = None })
 
 -- of votes that no desks cast in turn: equal votes in two rounds settle the place in the first
-abbrev pub twice : Entry → Entry → Votes
+abbrev pub twice : Entry → Entry → AllVotes
 twice e f =
     record { a = ballot_at 0 1 f ∷ ballot_at 0 0 e ∷ []; b = ballot_at 0 1 f ∷ ballot_at 0 0 e ∷ [] }
 

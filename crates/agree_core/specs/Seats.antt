@@ -1,5 +1,5 @@
 -- A desk's part in the current round, and what a vote makes of it.
-use Rattle.std.specs.Prelude.{◌≡◌, ◌≢◌, Option, Some, None}
+use Rattle.std.specs.Prelude.{◌≡◌, ◌≢◌, ◌⊎◌, Option, Some, None}
 use Rattle.notation.specs.declared.entry.Entry.{Entry}
 use Rattle.agree_core.specs.declared.messages.DeskId.{DeskId}
 use Rattle.agree_core.specs.declared.messages.Vote.{Vote}
@@ -59,3 +59,7 @@ Hears s v Heard.Agreed t =
 Hears s v Heard.Differ t =
     IsForNow s v × (s.theirs ≡ None) × ((e : Entry) × (s.mine ≡ Some e) × (v.entry ≢ e))
     × (t ≡ waiting s.desk (next_round s.position))
+
+-- it hasn't both votes of its position
+abbrev pub SeatWaits : SeatState → Type 0
+SeatWaits s = (s.mine ≡ None) ⊎ (s.theirs ≡ None)

@@ -2,45 +2,62 @@
 
 ghost use Rattle.std.specs.Prelude.{◌≡◌, ◌≢◌, ℕ, List, ◌∷◌, length};
 ghost use Rattle.notation.specs.declared.entry.Entry.{Entry};
+ghost use Rattle.agree_core.specs.declared.messages.Vote.{Vote};
+ghost use Rattle.agree_core.specs.declared.seat.Heard.{Heard};
+ghost use Rattle.agree_core.specs.declared.seat.Settled.{Settled};
 ghost use Rattle.agree_core.specs.Agreed.{BeginsWith, IsAgreedList};
-ghost use Rattle.agree_core.specs.Ballots.{AllJustified, Ballot, IsSequence, Justified, Votes, VotesGrow};
+ghost use Rattle.agree_core.specs.Ballots.{AllJustified, Ballot, IsSequence, Justified, AllVotes, VotesGrow};
 ghost use Rattle.agree_core.specs.Books.{IsAgreedByFiles, Rules, book_of};
-ghost use Rattle.agree_core.specs.Laws.{EqualVotesSettle, FilesSettled, OneBook, OneVoteEach};
+ghost use Rattle.agree_core.specs.Laws.{EqualVotesSettle, FilesSettled, ListsLastVotes, OneBook, OneVoteEach};
 ghost use Rattle.agree_core.specs.Laws.{PlacesSettled, RoundsDiffer, SettledOnce};
+ghost use Rattle.agree_core.specs.Readers.{Listens, ReaderState, ReaderWaits};
+ghost use Rattle.agree_core.specs.Seats.{Casts, Hears, SeatState, SeatWaits};
 ghost use Rattle.agree_core.specs.Rows.{FileOfSecondRound, LeastRound, RefusedInTurn, SecondRound};
 
 /// Where each vote follows the one before it, a desk votes once at a position, a vote of the next round tells that
 /// both desks differed in this one, and a vote of the next place tells that this one is settled.
 pub fn votes_follow()
-    ensures once { (v : Votes) → AllJustified v → OneVoteEach v }
-    ensures rounds { (v : Votes) → AllJustified v → RoundsDiffer v }
-    ensures places { (v : Votes) → AllJustified v → PlacesSettled v }
+    ensures once { (v : AllVotes) → AllJustified v → OneVoteEach v }
+    ensures rounds { (v : AllVotes) → AllJustified v → RoundsDiffer v }
+    ensures places { (v : AllVotes) → AllJustified v → PlacesSettled v }
     ensures sequence { (theirs votes : List Ballot) → Justified theirs votes → IsSequence votes }
 {}
 
 /// A place is settled at one entry, in one round, which is the least with equal votes of both desks.
 pub fn settled_once()
-    ensures once { (v : Votes) → AllJustified v → SettledOnce v }
-    ensures least { (v : Votes) → AllJustified v → EqualVotesSettle v }
+    ensures once { (v : AllVotes) → AllJustified v → SettledOnce v }
+    ensures least { (v : AllVotes) → AllJustified v → EqualVotesSettle v }
 {}
 
 /// The agreed list of more votes begins with that of fewer; and of two books of settled entries one begins with the
 /// other, whichever of the votes each has.
 pub fn agreed_list_grows()
-    ensures grows { (v w : Votes) (xs ys : List Entry) → VotesGrow v w → AllJustified w
+    ensures grows { (v w : AllVotes) (xs ys : List Entry) → VotesGrow v w → AllJustified w
         → IsAgreedList v xs → IsAgreedList w ys → BeginsWith ys xs }
-    ensures one_book { (w : Votes) → AllJustified w → OneBook w }
+    ensures one_book { (w : AllVotes) → AllJustified w → OneBook w }
 {}
 
-/// A desk's file shows a book of settled entries, as long as the place of its last vote; and both files show the
-/// agreed list.
+/// A desk's file shows a book of settled entries, as long as the place of its last vote, with the last vote of each
+/// place; and both files show the agreed list.
 pub fn files_show_the_agreed_list()
-    ensures settled { (v : Votes) → AllJustified v → FilesSettled v }
-    ensures long { (theirs bs : List Ballot) (b : Ballot) → Justified theirs (b ∷ bs)
+    ensures settled { (v : AllVotes) → AllJustified v → FilesSettled v }
+    ensures long { (bs : List Ballot) (b : Ballot) → IsSequence (b ∷ bs)
         → length (book_of (b ∷ bs)) ≡ b.at.place }
-    ensures agreed { (v : Votes) (xs : List Entry) → AllJustified v
+    ensures last { (votes : List Ballot) → IsSequence votes → ListsLastVotes votes }
+    ensures agreed { (v : AllVotes) (xs : List Entry) → AllJustified v
         → IsAgreedByFiles v.a v.b xs → IsAgreedList v xs }
 {}
+
+/// No seat and no reader keeps both votes of its position: the call that brings the second one ends the round.
+pub fn no_round_waits()
+    ensures casts { (s t : SeatState) (e : Entry) (settled : Settled) → Casts s e settled t
+        → SeatWaits t }
+    ensures hears { (s t : SeatState) (v : Vote) (heard : Heard) → SeatWaits s → Hears s v heard t
+        → SeatWaits t }
+    ensures listens { (r t : ReaderState) (v : Vote) (heard : Heard) → ReaderWaits r
+        → Listens r v heard t → ReaderWaits t }
+{
+}
 
 // Worked votes: a round that differs and one that agrees, what a file shows of them, and the least of two rounds.
 fn worked_votes()

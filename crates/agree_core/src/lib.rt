@@ -10,7 +10,9 @@ mod position;
 mod reader;
 mod seat;
 
-pub use laws::{agreed_list_grows, files_show_the_agreed_list, settled_once, votes_follow};
+pub use laws::{
+    agreed_list_grows, files_show_the_agreed_list, no_round_waits, settled_once, votes_follow,
+};
 pub use messages::{Ask, Asker, DeskId, Message, Vote};
 pub use position::{PLACES, Position, ROUNDS};
 pub use reader::Reader;
