@@ -1,12 +1,12 @@
 -- A desk's file shows a book of settled entries, and two files show the agreed list.
-use Rattle.std.proofs.Common.{◌≡◌, ◌⊎◌, ℕ, ◌+◌, ◌<◌, Bool, true, false, nat_eq, List, [], ◌∷◌, ◌++◌, length, refl, sym, ap, ◌∙◌, subst, inl, inr, arith, ⊎_elim, length-append}
+use Rattle.std.proofs.Common.{◌≡◌, ◌⊎◌, ℕ, ◌+◌, ◌<◌, Bool, true, false, nat_eq, List, [], ◌∷◌, ◌++◌, length, refl, sym, ap, ◌∙◌, subst, inl, inr, arith, ⊎_elim, append_assoc, append-nil, length-append}
 use Rattle.std.proofs.lemmas.Bool.Decides.{nat_tests}
 use Rattle.notation.specs.declared.entry.Entry.{Entry}
 use Rattle.agree_core.specs.declared.messages.DeskId.{DeskId}
 use Rattle.agree_core.specs.declared.messages.DeskId.TheVariants.{A, B}
 use Rattle.agree_core.specs.declared.position.Position.{Position}
 use Rattle.agree_core.specs.Positions.{Before, first, next_place, next_round}
-use Rattle.agree_core.specs.Agreed.{AllSettled, Unsettled, IsAgreedList}
+use Rattle.agree_core.specs.Agreed.{AllSettled, BeginsWith, Unsettled, IsAgreedList}
 use Rattle.agree_core.specs.Ballots.{Ballot, AllVotes, AllJustified, Justified, In, IsSequence, Within, ballot_at}
 use Rattle.agree_core.specs.Books.{book_of, closing, IsAgreedByFiles, voted_list}
 use Rattle.agree_core.specs.Laws.{FilesSettled}
@@ -47,6 +47,18 @@ book_kept b c rest book e h = ap (λ (t : Bool). closing t (book_of (c ∷ rest)
 -- a vote of the next place closes the place before it
 pub book_closed : (b c : Ballot) (rest : List Ballot) (book : List Entry) → b.at.place ≡ c.at.place + 1 → book_of (c ∷ rest) ≡ book → book_of (b ∷ c ∷ rest) ≡ book ++ c.entry ∷ []
 book_closed b c rest book e h = ap (λ (t : Bool). closing t (book_of (c ∷ rest)) c.entry) (later_place b.at.place c.at.place e) ∙ ap (λ (o : List Entry). o ++ c.entry ∷ []) h
+
+-- votes that are cast later only add to it
+pub book_begins : (later votes : List Ballot) → BeginsWith (book_of (later ++ votes)) (book_of votes)
+book_begins [] votes = ([], simp append-nil)
+book_begins (b ∷ later) votes = one_more b (later ++ votes) (book_of votes) (book_begins later votes)
+  where
+    added : (same : Bool) (whole front : List Entry) (e : Entry) → BeginsWith whole front → BeginsWith (closing same whole e) front
+    added true whole front e h = h
+    added false whole front e h = (h.0 ++ e ∷ [], sym (append_assoc front h.0 (e ∷ [])) ∙ ap (λ (o : List Entry). o ++ e ∷ []) h.1)
+    one_more : (b : Ballot) (votes : List Ballot) (front : List Entry) → BeginsWith (book_of votes) front → BeginsWith (book_of (b ∷ votes)) front
+    one_more b [] front h = h
+    one_more b (c ∷ rest) front h = added (nat_eq b.at.place c.at.place) (book_of (c ∷ rest)) front c.entry h
 
 -- it is as long as the place of the last vote
 pub book_long : (b : Ballot) (bs : List Ballot) → IsSequence (b ∷ bs) → length (book_of (b ∷ bs)) ≡ b.at.place

@@ -4,3 +4,4 @@ pub mod FileBooks
 pub mod WorkedVotes
 pub mod LastVotes
 pub mod Waiting
+pub mod Taken

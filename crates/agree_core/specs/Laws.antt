@@ -1,10 +1,10 @@
 -- What holds of all votes, where each follows the one before it.
-use Rattle.std.specs.Prelude.{◌≡◌, ◌≢◌, ◌+◌, ◌≤◌, ◌⊎◌, ℕ, Some, List, slice_get}
+use Rattle.std.specs.Prelude.{◌≡◌, ◌≢◌, ◌+◌, ◌≤◌, ◌⊎◌, ℕ, Some, List, [], slice_get}
 use Rattle.notation.specs.declared.entry.Entry.{Entry}
 use Rattle.agree_core.specs.declared.messages.DeskId.{DeskId}
 use Rattle.agree_core.specs.Agreed.{EqualVotes, SettledIn, SettledAt, AllSettled, BeginsWith}
 use Rattle.agree_core.specs.Ballots.{AllVotes, Ballot, In, VotesGrow, ballot_at, votes_of}
-use Rattle.agree_core.specs.Books.{book_of, voted_list}
+use Rattle.agree_core.specs.Books.{AllTaken, FirstRefused, Rules, book_of, voted_list}
 use Rattle.agree_core.specs.Readers.{other}
 
 -- a desk has one vote at a position
@@ -54,3 +54,10 @@ IsLastOfPlace votes b =
 abbrev pub ListsLastVotes : List Ballot → Type 0
 ListsLastVotes votes =
     (b : Ballot) → IsLastOfPlace votes b → slice_get (voted_list votes) b.at.place ≡ Some b.entry
+
+-- by these rules the list is taken whole, or refused first at one place
+abbrev pub TakenOrRefused : {Why : Type 0} → Rules Why → List Entry → Type 0
+TakenOrRefused rules xs =
+    (AllTaken rules [] xs ⊎ ((place : ℕ) × FirstRefused rules [] xs place))
+    × ((place : ℕ) → AllTaken rules [] xs → FirstRefused rules [] xs place → ⊥)
+    × ((p q : ℕ) → FirstRefused rules [] xs p → FirstRefused rules [] xs q → p ≡ q)

@@ -9,7 +9,7 @@ ghost use Rattle.agree_core.specs.Agreed.{BeginsWith, IsAgreedList};
 ghost use Rattle.agree_core.specs.Ballots.{AllJustified, Ballot, IsSequence, Justified, AllVotes, VotesGrow};
 ghost use Rattle.agree_core.specs.Books.{IsAgreedByFiles, Rules, book_of};
 ghost use Rattle.agree_core.specs.Laws.{EqualVotesSettle, FilesSettled, ListsLastVotes, OneBook, OneVoteEach};
-ghost use Rattle.agree_core.specs.Laws.{PlacesSettled, RoundsDiffer, SettledOnce};
+ghost use Rattle.agree_core.specs.Laws.{PlacesSettled, RoundsDiffer, SettledOnce, TakenOrRefused};
 ghost use Rattle.agree_core.specs.Readers.{Listens, ReaderState, ReaderWaits};
 ghost use Rattle.agree_core.specs.Seats.{Casts, Hears, SeatState, SeatWaits};
 ghost use Rattle.agree_core.specs.Rows.{FileOfSecondRound, LeastRound, RefusedInTurn, SecondRound};
@@ -56,6 +56,13 @@ pub fn no_round_waits()
         → SeatWaits t }
     ensures listens { (r t : ReaderState) (v : Vote) (heard : Heard) → ReaderWaits r
         → Listens r v heard t → ReaderWaits t }
+{
+}
+
+/// A list of entries is taken whole by a book's rules, or refused first at one place, whatever the rules and their
+/// causes `W`.
+pub fn taken_or_refused<W>()
+    ensures { (rules : Rules W) (xs : List Entry) → TakenOrRefused rules xs }
 {
 }
 

@@ -11,7 +11,8 @@ mod reader;
 mod seat;
 
 pub use laws::{
-    agreed_list_grows, files_show_the_agreed_list, no_round_waits, settled_once, votes_follow,
+    agreed_list_grows, files_show_the_agreed_list, no_round_waits, settled_once, taken_or_refused,
+    votes_follow,
 };
 pub use messages::{Ask, Asker, DeskId, Message, Vote};
 pub use position::{PLACES, Position, ROUNDS};
