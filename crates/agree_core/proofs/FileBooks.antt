@@ -1,14 +1,12 @@
 -- A desk's file shows a book of settled entries, and two files show the agreed list.
-use Rattle.std.proofs.Common.{◌≡◌, ◌⊎◌, ℕ, ◌+◌, ◌<◌, Bool, true, false, nat_eq, List, [], ◌∷◌, ◌++◌, length, refl, sym, ap, ◌∙◌, subst, inl, inr, arith, ⊎_elim, append_assoc, append-nil, length-append}
+use Rattle.std.proofs.Common.{◌≡◌, ℕ, ◌+◌, ◌<◌, Bool, true, false, nat_eq, List, [], ◌∷◌, ◌++◌, length, refl, sym, ap, ◌∙◌, subst, inl, inr, arith, ⊎_elim, append_assoc, append-nil, length-append}
 use Rattle.std.proofs.lemmas.Bool.Decides.{nat_tests}
 use Rattle.notation.specs.declared.entry.Entry.{Entry}
-use Rattle.agree_core.specs.declared.messages.DeskId.{DeskId}
 use Rattle.agree_core.specs.declared.messages.DeskId.TheVariants.{A, B}
-use Rattle.agree_core.specs.declared.position.Position.{Position}
 use Rattle.agree_core.specs.Positions.{Before, first, next_place, next_round}
-use Rattle.agree_core.specs.Agreed.{AllSettled, BeginsWith, Unsettled, IsAgreedList}
+use Rattle.agree_core.specs.Agreed.{AllSettled, BeginsWith, IsAgreedList}
 use Rattle.agree_core.specs.Ballots.{Ballot, AllVotes, AllJustified, Justified, In, IsSequence, Within, ballot_at}
-use Rattle.agree_core.specs.Books.{book_of, closing, IsAgreedByFiles, voted_list}
+use Rattle.agree_core.specs.Books.{book_of, closing, IsAgreedByFiles}
 use Rattle.agree_core.specs.Laws.{FilesSettled}
 use Rattle.agree_core.proofs.Order.{NextRound, NextPlace, earlier, in_sequence, place_of}
 use Rattle.agree_core.proofs.Settling.{Both, equal_votes_settle, none_later}
@@ -56,6 +54,7 @@ book_begins (b ∷ later) votes = one_more b (later ++ votes) (book_of votes) (b
     added : (same : Bool) (whole front : List Entry) (e : Entry) → BeginsWith whole front → BeginsWith (closing same whole e) front
     added true whole front e h = h
     added false whole front e h = (h.0 ++ e ∷ [], sym (append_assoc front h.0 (e ∷ [])) ∙ ap (λ (o : List Entry). o ++ e ∷ []) h.1)
+
     one_more : (b : Ballot) (votes : List Ballot) (front : List Entry) → BeginsWith (book_of votes) front → BeginsWith (book_of (b ∷ votes)) front
     one_more b [] front h = h
     one_more b (c ∷ rest) front h = added (nat_eq b.at.place c.at.place) (book_of (c ∷ rest)) front c.entry h
@@ -66,13 +65,13 @@ book_long b [] s = sym (place_of b.at first s.1)
 book_long b (c ∷ rest) s =
     ⊎_elim
     (λ (n : b.at ≡ next_round c.at).
-        let same = place_of b.at (next_round c.at) n in
-        ap length (book_kept b c rest (book_of (c ∷ rest)) same refl) ∙ book_long c rest s.2 ∙ sym same)
+    let same = place_of b.at (next_round c.at) n in
+    ap length (book_kept b c rest (book_of (c ∷ rest)) same refl) ∙ book_long c rest s.2 ∙ sym same)
     (λ (n : b.at ≡ next_place c.at).
-        let next = place_of b.at (next_place c.at) n in
-        let before = book_long c rest s.2 in
-        let long : length (book_of (c ∷ rest) ++ c.entry ∷ []) ≡ b.at.place = omega (arith, length-append (book_of (c ∷ rest)) (c.entry ∷ [])) in
-        ap length (book_closed b c rest (book_of (c ∷ rest)) next refl) ∙ long)
+    let next = place_of b.at (next_place c.at) n in
+    let before = book_long c rest s.2 in
+    let long : length (book_of (c ∷ rest) ++ c.entry ∷ []) ≡ b.at.place = omega (arith, length-append (book_of (c ∷ rest)) (c.entry ∷ [])) in
+    ap length (book_closed b c rest (book_of (c ∷ rest)) next refl) ∙ long)
     s.1
 
 -- the book that a file shows has the entries on which both voted
@@ -83,9 +82,9 @@ book_agreed theirs b (c ∷ rest) j =
     ⊎_elim
     (λ (n : NextRound theirs c b). subst (AllBoth (b ∷ c ∷ rest) theirs 0) (sym (book_kept b c rest (book_of (c ∷ rest)) (place_of b.at (next_round c.at) n.0) refl)) before)
     (λ (n : NextPlace theirs c b).
-        let size : c.at.place ≡ 0 + length (book_of (c ∷ rest)) = let l = book_long c rest (in_sequence theirs (c ∷ rest) j.2) in omega arith in
-        let both = all_both_push (b ∷ c ∷ rest) theirs 0 (book_of (c ∷ rest)) c.entry c.at.place size before (c.at.round, (inr (inl refl), n.1)) in
-        subst (AllBoth (b ∷ c ∷ rest) theirs 0) (sym (book_closed b c rest (book_of (c ∷ rest)) (place_of b.at (next_place c.at) n.0) refl)) both)
+    let size : c.at.place ≡ 0 + length (book_of (c ∷ rest)) = let l = book_long c rest (in_sequence theirs (c ∷ rest) j.2) in omega arith in
+    let both = all_both_push (b ∷ c ∷ rest) theirs 0 (book_of (c ∷ rest)) c.entry c.at.place size before (c.at.round, (inr (inl refl), n.1)) in
+    subst (AllBoth (b ∷ c ∷ rest) theirs 0) (sym (book_closed b c rest (book_of (c ∷ rest)) (place_of b.at (next_place c.at) n.0) refl)) both)
     j.1
 
 all_both_book : (theirs bs : List Ballot) → Justified theirs bs → AllBoth bs theirs 0 (book_of bs)

@@ -1,10 +1,10 @@
 -- The list by a desk's votes has the last vote of each place.
-use Rattle.std.proofs.Common.{◌≡◌, ◌⊎◌, ℕ, ◌+◌, ◌<◌, ◌≤◌, Some, List, [], ◌∷◌, ◌++◌, length, get_or, slice_get, refl, sym, ap, ◌∙◌, subst, inl, inr, arith, ⊎_elim, length-append}
+use Rattle.std.proofs.Common.{◌≡◌, ◌⊎◌, ℕ, ◌+◌, ◌<◌, ◌≤◌, Some, List, [], ◌∷◌, length, get_or, refl, sym, ap, ◌∙◌, inl, inr, arith, ⊎_elim, length-append}
 use Rattle.std.proofs.lemmas.List.{get_or_push}
 use Rattle.std.proofs.lemmas.Option.{slice_get-get_or}
 use Rattle.std.proofs.Math.ListN.{get_or-append}
 use Rattle.notation.specs.declared.entry.Entry.{Entry}
-use Rattle.agree_core.specs.Positions.{first, next_place, next_round}
+use Rattle.agree_core.specs.Positions.{next_place, next_round}
 use Rattle.agree_core.specs.Ballots.{Ballot, In, IsSequence}
 use Rattle.agree_core.specs.Books.{book_of, voted_list}
 use Rattle.agree_core.specs.Laws.{IsLastOfPlace, ListsLastVotes}
@@ -18,18 +18,18 @@ not_past b [] s c (inr i) = absurd i
 not_past b (a ∷ rest) s c (inr i) =
     ⊎_elim
     (λ (n : b.at ≡ next_round a.at).
-        let p = place_of b.at (next_round a.at) n in
-        let r = round_of b.at (next_round a.at) n in
-        ⊎_elim
-        (λ (h : c.at.place < a.at.place). inl (omega arith))
-        (λ (h : (c.at.place ≡ a.at.place) × (c.at.round ≤ a.at.round)). inr (h.0 ∙ sym p, omega arith))
-        (not_past a rest s.2 c i))
+    let p = place_of b.at (next_round a.at) n in
+    let r = round_of b.at (next_round a.at) n in
+    ⊎_elim
+    (λ (h : c.at.place < a.at.place). inl (omega arith))
+    (λ (h : (c.at.place ≡ a.at.place) × (c.at.round ≤ a.at.round)). inr (h.0 ∙ sym p, omega arith))
+    (not_past a rest s.2 c i))
     (λ (n : b.at ≡ next_place a.at).
-        let p = place_of b.at (next_place a.at) n in
-        ⊎_elim
-        (λ (h : c.at.place < a.at.place). inl (omega arith))
-        (λ (h : (c.at.place ≡ a.at.place) × (c.at.round ≤ a.at.round)). inl (omega arith))
-        (not_past a rest s.2 c i))
+    let p = place_of b.at (next_place a.at) n in
+    ⊎_elim
+    (λ (h : c.at.place < a.at.place). inl (omega arith))
+    (λ (h : (c.at.place ≡ a.at.place) × (c.at.round ≤ a.at.round)). inl (omega arith))
+    (not_past a rest s.2 c i))
     s.1
 
 voted_long : (b : Ballot) (bs : List Ballot) → IsSequence (b ∷ bs) → length (voted_list (b ∷ bs)) ≡ b.at.place + 1
@@ -46,20 +46,20 @@ last_listed b (a ∷ rest) s c (inr i, last) d =
     let before : get_or (voted_list (a ∷ rest)) c.at.place d ≡ c.entry = last_listed a rest s.2 c (i, λ x k. last x (inr k)) d in
     ⊎_elim
     (λ (n : b.at ≡ next_round a.at).
-        let p = place_of b.at (next_round a.at) n in
-        let r = round_of b.at (next_round a.at) n in
-        let less : c.at.place < a.at.place =
-            ⊎_elim
-            (λ (h : c.at.place < a.at.place). h)
-            (λ (h : (c.at.place ≡ a.at.place) × (c.at.round ≤ a.at.round)). absurd (let k = last b (inl refl) (p ∙ sym h.0) in omega arith))
-            (not_past a rest s.2 c i)
-        in
-        let here : c.at.place < b.at.place = omega arith in
-        in_book b (a ∷ rest) s c.at.place d here ∙ ap (λ (o : List Entry). get_or o c.at.place d) (book_kept b a rest (book_of (a ∷ rest)) p refl) ∙ sym (in_book a rest s.2 c.at.place d less) ∙ before)
+    let p = place_of b.at (next_round a.at) n in
+    let r = round_of b.at (next_round a.at) n in
+    let less : c.at.place < a.at.place =
+    ⊎_elim
+    (λ (h : c.at.place < a.at.place). h)
+    (λ (h : (c.at.place ≡ a.at.place) × (c.at.round ≤ a.at.round)). absurd (let k = last b (inl refl) (p ∙ sym h.0) in omega arith))
+    (not_past a rest s.2 c i)
+    in
+    let here : c.at.place < b.at.place = omega arith in
+    in_book b (a ∷ rest) s c.at.place d here ∙ ap (λ (o : List Entry). get_or o c.at.place d) (book_kept b a rest (book_of (a ∷ rest)) p refl) ∙ sym (in_book a rest s.2 c.at.place d less) ∙ before)
     (λ (n : b.at ≡ next_place a.at).
-        let p = place_of b.at (next_place a.at) n in
-        let here : c.at.place < b.at.place = ⊎_elim (λ (h : c.at.place < a.at.place). omega arith) (λ (h : (c.at.place ≡ a.at.place) × (c.at.round ≤ a.at.round)). omega arith) (not_past a rest s.2 c i) in
-        in_book b (a ∷ rest) s c.at.place d here ∙ ap (λ (o : List Entry). get_or o c.at.place d) (book_closed b a rest (book_of (a ∷ rest)) p refl) ∙ before)
+    let p = place_of b.at (next_place a.at) n in
+    let here : c.at.place < b.at.place = ⊎_elim (λ (h : c.at.place < a.at.place). omega arith) (λ (h : (c.at.place ≡ a.at.place) × (c.at.round ≤ a.at.round)). omega arith) (not_past a rest s.2 c i) in
+    in_book b (a ∷ rest) s c.at.place d here ∙ ap (λ (o : List Entry). get_or o c.at.place d) (book_closed b a rest (book_of (a ∷ rest)) p refl) ∙ before)
     s.1
 
 pub lists_last_votes : (votes : List Ballot) → IsSequence votes → ListsLastVotes votes

@@ -1,10 +1,9 @@
 -- A place is settled once, so settled entries make one list.
 use Rattle.std.proofs.Common.{◌≡◌, ◌⊎◌, ℕ, ◌+◌, ◌<◌, List, [], ◌∷◌, ◌++◌, length, refl, sym, ap, ◌∙◌, subst, inl, inr, arith, ⊎_elim}
 use Rattle.notation.specs.declared.entry.Entry.{Entry}
-use Rattle.agree_core.specs.declared.messages.DeskId.{DeskId}
 use Rattle.agree_core.specs.declared.messages.DeskId.TheVariants.{A, B}
-use Rattle.agree_core.specs.Agreed.{EqualVotes, SettledIn, SettledAt, AllSettled, Unsettled, IsAgreedList, BeginsWith}
-use Rattle.agree_core.specs.Ballots.{Ballot, AllVotes, AllJustified, Justified, In, VotesGrow, ballot_at, votes_of}
+use Rattle.agree_core.specs.Agreed.{EqualVotes, SettledAt, AllSettled, Unsettled, IsAgreedList, BeginsWith}
+use Rattle.agree_core.specs.Ballots.{Ballot, AllVotes, AllJustified, Justified, In, VotesGrow, ballot_at}
 use Rattle.agree_core.specs.Laws.{SettledOnce, EqualVotesSettle, OneBook, OneVoteEach, RoundsDiffer, PlacesSettled}
 use Rattle.agree_core.proofs.Order.{compare, differed, one_vote, place_closed}
 

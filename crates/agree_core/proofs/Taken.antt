@@ -1,5 +1,5 @@
 -- A list of entries is taken whole, or has one first place at which it is refused.
-use Rattle.std.proofs.Common.{◌≡◌, ◌≢◌, ◌⊎◌, ℕ, ◌+◌, Option, Some, None, List, [], ◌∷◌, ◌++◌, length, refl, sym, ap, ◌∙◌, subst, inl, inr, arith, ⊎_elim, append-nil, append_assoc, length-append}
+use Rattle.std.proofs.Common.{◌≡◌, ◌≢◌, ◌⊎◌, ℕ, Option, Some, None, List, [], ◌∷◌, ◌++◌, length, refl, sym, ap, ◌∙◌, subst, inl, inr, ⊎_elim, append-nil, append_assoc}
 use Rattle.notation.specs.declared.entry.Entry.{Entry}
 use Rattle.agree_core.specs.Books.{Rules, AllTaken, FirstRefused}
 
@@ -12,10 +12,10 @@ taken_or_refused rules book [] = inl tt
 taken_or_refused rules book (e ∷ es) =
     ⊎_elim
     (λ (n : rules book e ≡ None).
-        ⊎_elim
-        (λ (t : AllTaken rules (book ++ e ∷ []) es). inl (n, t))
-        (λ (r : (place : ℕ) × FirstRefused rules (book ++ e ∷ []) es place). inr (r.0, inr (n, r.1)))
-        (taken_or_refused rules (book ++ e ∷ []) es))
+    ⊎_elim
+    (λ (t : AllTaken rules (book ++ e ∷ []) es). inl (n, t))
+    (λ (r : (place : ℕ) × FirstRefused rules (book ++ e ∷ []) es place). inr (r.0, inr (n, r.1)))
+    (taken_or_refused rules (book ++ e ∷ []) es))
     (λ (s : rules book e ≢ None). inr (length book, inl (s, refl)))
     (is_none (rules book e))
 
@@ -37,8 +37,6 @@ taken_push rules book [] e t n = (rw append-nil at n, tt)
 taken_push rules book (x ∷ xs) e t n = (t.0, taken_push rules (book ++ x ∷ []) xs e t.1 (rw append_assoc n))
 
 -- an entry that may not come next, whatever stands behind it
-pub refused_next : {Why : Type 0} (rules : Rules Why) (book xs : List Entry) (e : Entry) (rest : List Entry) → AllTaken rules book xs → rules (book ++ xs) e ≢ None → FirstRefused rules book (xs ++ e ∷ rest) (length book + length xs)
-refused_next rules book [] e rest t n = inl (rw append-nil at n, omega arith)
-refused_next rules book (x ∷ xs) e rest t n =
-    let place : length (book ++ x ∷ []) + length xs ≡ length book + length (x ∷ xs) = omega (arith, length-append book (x ∷ [])) in
-    inr (t.0, subst (FirstRefused rules (book ++ x ∷ []) (xs ++ e ∷ rest)) place (refused_next rules (book ++ x ∷ []) xs e rest t.1 (rw append_assoc n)))
+pub refused_next : {Why : Type 0} (rules : Rules Why) (book xs : List Entry) (e : Entry) (rest : List Entry) → AllTaken rules book xs → rules (book ++ xs) e ≢ None → FirstRefused rules book (xs ++ e ∷ rest) (length (book ++ xs))
+refused_next rules book [] e rest t n = inl (rw append-nil at n, ap length (append-nil book))
+refused_next rules book (x ∷ xs) e rest t n = inr (t.0, subst (FirstRefused rules (book ++ x ∷ []) (xs ++ e ∷ rest)) (ap length (append_assoc book (x ∷ []) xs)) (refused_next rules (book ++ x ∷ []) xs e rest t.1 (rw append_assoc n)))

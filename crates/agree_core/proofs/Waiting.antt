@@ -1,5 +1,5 @@
 -- No seat and no reader keeps both votes of its position.
-use Rattle.std.proofs.Common.{◌≡◌, ◌⊎◌, None, Option, ap, inl, inr, refl, subst, sym}
+use Rattle.std.proofs.Common.{◌≡◌, None, inl, inr, refl}
 use Rattle.notation.specs.declared.entry.Entry.{Entry}
 use Rattle.agree_core.specs.declared.messages.DeskId.{DeskId}
 use Rattle.agree_core.specs.declared.messages.DeskId.TheVariants.{A, B}

@@ -1,5 +1,5 @@
 -- The worked votes follow one another, and settle what they should.
-use Rattle.std.proofs.Common.{◌≡◌, ◌≢◌, ◌⊎◌, ℕ, ◌<◌, List, [], ◌∷◌, refl, sym, ap, inl, inr, arith}
+use Rattle.std.proofs.Common.{◌≢◌, ℕ, ◌<◌, List, [], ◌∷◌, refl, sym, ap, inl, inr, arith}
 use Rattle.notation.specs.declared.entry.Entry.{Entry}
 use Rattle.agree_core.specs.Positions.{InRange}
 use Rattle.agree_core.specs.Agreed.{EqualVotes}
@@ -20,12 +20,11 @@ one_round p q r last other =
     (in_range 3 0 (omega arith) (omega arith), inr (refl, inr (inl refl)), three_justified p q r (ballot_at 3 0 other ∷ three p q r) (inr (inr (inl refl))) (inr (inr (inr (inl refl)))))
 
 two_rounds : (p q r mine other last : Entry) → mine ≢ other → Justified (ballot_at 3 1 last ∷ ballot_at 3 0 other ∷ three p q r) (ballot_at 3 1 last ∷ ballot_at 3 0 mine ∷ three p q r)
-two_rounds p q r mine other last h =
-    (
-      in_range 3 1 (omega arith) (omega arith),
-      inl (refl, (other, inr (inl refl), h)),
-      (in_range 3 0 (omega arith) (omega arith), inr (refl, inr (inr (inl refl))), three_justified p q r (ballot_at 3 1 last ∷ ballot_at 3 0 other ∷ three p q r) (inr (inr (inr (inl refl)))) (inr (inr (inr (inr (inl refl))))))
-    )
+two_rounds p q r mine other last h = (
+  in_range 3 1 (omega arith) (omega arith),
+  inl (refl, (other, inr (inl refl), h)),
+  (in_range 3 0 (omega arith) (omega arith), inr (refl, inr (inr (inl refl))), three_justified p q r (ballot_at 3 1 last ∷ ballot_at 3 0 other ∷ three p q r) (inr (inr (inr (inl refl)))) (inr (inr (inr (inr (inl refl)))))),
+)
 
 elsewhere : (p q r four six : Entry) → four ≢ six → In (ballot_at 3 0 four) (ballot_at 3 0 six ∷ three p q r) → ⊥
 elsewhere p q r four six h (inl e) = h (ap (λ (b : Ballot). b.entry) e)
@@ -37,12 +36,11 @@ elsewhere p q r four six h (inr (inr (inr (inr e)))) = e
 pub second_round : (p q r four six : Entry) → four ≢ six → SecondRound p q r four six
 second_round p q r four six h =
     let one : AllJustified (differing p q r four six) = (one_round p q r four six, one_round p q r six four) in
-    let two : AllJustified (agreeing p q r four six) = (two_rounds p q r four six six h, two_rounds p q r six four six (λ e. h (sym e))) in
-    (
+    let two : AllJustified (agreeing p q r four six) = (two_rounds p q r four six six h, two_rounds p q r six four six (λ e. h (sym e))) in (
       one,
       two,
       agreed_by_files (differing p q r four six) one (p ∷ q ∷ r ∷ []) (inr (elsewhere p q r four six h, refl)),
-      agreed_by_files (agreeing p q r four six) two (p ∷ q ∷ r ∷ six ∷ []) (inl (inl refl, refl))
+      agreed_by_files (agreeing p q r four six) two (p ∷ q ∷ r ∷ six ∷ []) (inl (inl refl, refl)),
     )
 
 pub file_of_second_round : (p q r four six : Entry) → FileOfSecondRound p q r four six

@@ -23,7 +23,8 @@ pub data BoardAnswer : Type 0 where
 
 -- a board is given this message, answers and goes on as the second board; equal votes of both desks for an entry
 -- that the book's rules refuse aren't taken, and an ask isn't for it
-abbrev pub BoardReceives : {Why : Type 0} → Rules Why → BoardState → Message → BoardAnswer → BoardState → Type 0
+abbrev pub BoardReceives :
+    {Why : Type 0} → Rules Why → BoardState → Message → BoardAnswer → BoardState → Type 0
 BoardReceives rules k (Message.Vote v) (Told h) l =
     Listens k.reader v h l.reader × (h ≡ Heard.Agreed → rules k.book v.entry ≡ None)
     × (l.book ≡ book_heard h k.book v.entry)

@@ -81,7 +81,8 @@ abbrev pub MayPen : {Disk Why : Type 0} → Rules Why → DeskState Disk → Ent
 MayPen rules k e = MayCast k × HasRoom k × (rules k.book e ≡ None)
 
 -- the first cause that stands against this entry
-abbrev pub RefusesPen : {Disk Why : Type 0} → Rules Why → DeskState Disk → Entry → PenRefusal Why → Type 0
+abbrev pub RefusesPen :
+    {Disk Why : Type 0} → Rules Why → DeskState Disk → Entry → PenRefusal Why → Type 0
 RefusesPen rules k e Failed = k.failed ≡ true
 RefusesPen rules k e Waiting = (k.failed ≡ false) × (k.seat.mine ≢ None)
 RefusesPen rules k e PlacesFull = MayCast k × (PLACES ≤ k.seat.position.place)
@@ -95,13 +96,16 @@ abbrev pub next_ballot : {Disk : Type 0} → DeskState Disk → Entry → Ballot
 next_ballot k e = record { at = k.seat.position; entry = e }
 
 -- the vote is cast and stored: the file has it, in what is read and in every image
-abbrev pub CastsAndStores : {Disk : Type 0} → FileView Disk → DeskState Disk → Entry → Settled → DeskState Disk → Type 0
+abbrev pub CastsAndStores :
+    {Disk : Type 0} → FileView Disk → DeskState Disk → Entry → Settled → DeskState Disk → Type 0
 CastsAndStores view k e settled l =
     Casts k.seat e settled l.seat × (l.book ≡ book_after settled k.book e) × (l.failed ≡ false)
     × (l.votes ≡ next_ballot k e ∷ k.votes) × Holds view l.disk (next_ballot k e ∷ k.votes)
 
 -- a desk is told to pen this entry: it answers, goes on as the second desk, and hands out these messages
-abbrev pub Pens : {Disk Why : Type 0} → FileView Disk → Rules Why → DeskState Disk → Entry → PenAnswer Why → DeskState Disk → List Message → Type 0
+abbrev pub Pens :
+    {Disk Why : Type 0} → FileView Disk → Rules Why
+    → DeskState Disk → Entry → PenAnswer Why → DeskState Disk → List Message → Type 0
 Pens view rules k e (Penned settled) l out =
     MayPen rules k e × CastsAndStores view k e settled l
     × (out ≡ Message.Vote (vote_of k.seat.desk (next_ballot k e)) ∷ [])
@@ -124,7 +128,9 @@ Replies k q out =
     ⊎ (((e : Entry) → In (ballot_at q.place q.round e) k.votes → ⊥) × (out ≡ []))
 
 -- a desk is given this message: it answers, goes on as the second desk, and hands out these messages
-abbrev pub Receives : {Disk : Type 0} → FileView Disk → DeskState Disk → Message → ReceiveAnswer → DeskState Disk → List Message → Type 0
+abbrev pub Receives :
+    {Disk : Type 0} → FileView Disk
+    → DeskState Disk → Message → ReceiveAnswer → DeskState Disk → List Message → Type 0
 Receives view k m ReceiveAnswer.Failed l out = (k.failed ≡ true) × Unchanged view k l × (out ≡ [])
 Receives view k (Message.Vote v) (Told h) l out =
     (k.failed ≡ false) × Hears k.seat v h l.seat × Stays view k.disk l.disk

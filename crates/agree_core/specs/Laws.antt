@@ -38,8 +38,8 @@ EqualVotesSettle v =
 -- of two lists of settled entries, each by some of these votes, one begins with the other
 abbrev pub OneBook : AllVotes → Type 0
 OneBook w =
-    (u v : AllVotes) (xs ys : List Entry) → VotesGrow u w → VotesGrow v w → AllSettled u 0 xs → AllSettled v 0 ys
-    → BeginsWith ys xs ⊎ BeginsWith xs ys
+    (u v : AllVotes) (xs ys : List Entry) → VotesGrow u w → VotesGrow v w
+    → AllSettled u 0 xs → AllSettled v 0 ys → BeginsWith ys xs ⊎ BeginsWith xs ys
 
 -- the book that a desk's file shows is settled
 abbrev pub FilesSettled : AllVotes → Type 0

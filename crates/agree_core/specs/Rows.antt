@@ -36,7 +36,7 @@ FileOfSecondRound p q r four six =
     (book_of (agreeing p q r four six).a ≡ p ∷ q ∷ r ∷ [])
     × (voted_list (agreeing p q r four six).a ≡ p ∷ q ∷ r ∷ six ∷ [])
     × (seat_of A (agreeing p q r four six).a
-       ≡ record { desk = A; position = record { place = 3; round = 1 }; mine = Some six; theirs = None })
+    ≡ record { desk = A; position = record { place = 3; round = 1 }; mine = Some six; theirs = None })
 
 -- of votes that no desks cast in turn: equal votes in two rounds settle the place in the first
 abbrev pub twice : Entry → Entry → AllVotes

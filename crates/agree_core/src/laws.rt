@@ -1,13 +1,15 @@
-//! What votes settle, whatever is sent and heard. These functions do nothing: each stands for the law that it ensures.
+//! What votes settle, whatever is sent and heard.
+//!
+//! These functions do nothing: each stands for the laws that it ensures.
 
-ghost use Rattle.std.specs.Prelude.{◌≡◌, ◌≢◌, ℕ, List, ◌∷◌, length};
+ghost use Rattle.std.specs.Prelude.{◌≡◌, ◌≢◌, ℕ, None, List, [], ◌∷◌, ◌++◌, length};
 ghost use Rattle.notation.specs.declared.entry.Entry.{Entry};
 ghost use Rattle.agree_core.specs.declared.messages.Vote.{Vote};
 ghost use Rattle.agree_core.specs.declared.seat.Heard.{Heard};
 ghost use Rattle.agree_core.specs.declared.seat.Settled.{Settled};
 ghost use Rattle.agree_core.specs.Agreed.{BeginsWith, IsAgreedList};
 ghost use Rattle.agree_core.specs.Ballots.{AllJustified, Ballot, IsSequence, Justified, AllVotes, VotesGrow};
-ghost use Rattle.agree_core.specs.Books.{IsAgreedByFiles, Rules, book_of};
+ghost use Rattle.agree_core.specs.Books.{AllTaken, FirstRefused, IsAgreedByFiles, Rules, book_of};
 ghost use Rattle.agree_core.specs.Laws.{EqualVotesSettle, FilesSettled, ListsLastVotes, OneBook, OneVoteEach};
 ghost use Rattle.agree_core.specs.Laws.{PlacesSettled, RoundsDiffer, SettledOnce, TakenOrRefused};
 ghost use Rattle.agree_core.specs.Readers.{Listens, ReaderState, ReaderWaits};
@@ -38,12 +40,14 @@ pub fn agreed_list_grows()
 {}
 
 /// A desk's file shows a book of settled entries, as long as the place of its last vote, with the last vote of each
-/// place; and both files show the agreed list.
+/// place; votes that are cast later only add to that book; and both files show the agreed list.
 pub fn files_show_the_agreed_list()
     ensures settled { (v : AllVotes) → AllJustified v → FilesSettled v }
     ensures long { (bs : List Ballot) (b : Ballot) → IsSequence (b ∷ bs)
         → length (book_of (b ∷ bs)) ≡ b.at.place }
     ensures last { (votes : List Ballot) → IsSequence votes → ListsLastVotes votes }
+    ensures begins { (later votes : List Ballot)
+        → BeginsWith (book_of (later ++ votes)) (book_of votes) }
     ensures agreed { (v : AllVotes) (xs : List Entry) → AllJustified v
         → IsAgreedByFiles v.a v.b xs → IsAgreedList v xs }
 {}
@@ -56,15 +60,17 @@ pub fn no_round_waits()
         → SeatWaits t }
     ensures listens { (r t : ReaderState) (v : Vote) (heard : Heard) → ReaderWaits r
         → Listens r v heard t → ReaderWaits t }
-{
-}
+{}
 
 /// A list of entries is taken whole by a book's rules, or refused first at one place, whatever the rules and their
-/// causes `W`.
+/// causes `W`; and one entry more is taken or refused by what stands before it.
 pub fn taken_or_refused<W>()
-    ensures { (rules : Rules W) (xs : List Entry) → TakenOrRefused rules xs }
-{
-}
+    ensures one { (rules : Rules W) (xs : List Entry) → TakenOrRefused rules xs }
+    ensures taken { (rules : Rules W) (xs : List Entry) (e : Entry) → AllTaken rules [] xs
+        → rules xs e ≡ None → AllTaken rules [] (xs ++ e ∷ []) }
+    ensures refused { (rules : Rules W) (xs rest : List Entry) (e : Entry) → AllTaken rules [] xs
+        → rules xs e ≢ None → FirstRefused rules [] (xs ++ e ∷ rest) (length xs) }
+{}
 
 // Worked votes: a round that differs and one that agrees, what a file shows of them, and the least of two rounds.
 fn worked_votes()
@@ -72,5 +78,4 @@ fn worked_votes()
     ensures file { (p q r four six : Entry) → FileOfSecondRound p q r four six }
     ensures least { (e f : Entry) → LeastRound e f }
     ensures refused { (rules : Rules ℕ) (e f : Entry) → RefusedInTurn rules e f }
-{
-}
+{}
