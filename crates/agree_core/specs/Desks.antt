@@ -30,8 +30,8 @@ abbrev pub Unchanged : {Disk : Type 0} → FileView Disk → DeskState Disk → 
 Unchanged view k l = Stays view k.disk l.disk × (l ≡ record k { disk = l.disk })
 
 -- a device call failed: the desk has failed, and all but its disk stays
-abbrev pub HasFailed : {Disk : Type 0} → DeskState Disk → DeskState Disk → Type 0
-HasFailed k l = l ≡ record k { failed = true; disk = l.disk }
+abbrev pub Fails : {Disk : Type 0} → DeskState Disk → DeskState Disk → Type 0
+Fails k l = l ≡ record k { failed = true; disk = l.disk }
 
 -- the book once a round has ended so
 abbrev pub book_after : Settled → List Entry → Entry → List Entry
@@ -112,7 +112,7 @@ Pens view rules k e (Penned settled) l out =
 Pens view rules k e (Refused why) l out = RefusesPen rules k e why × Unchanged view k l × (out ≡ [])
 Pens view rules k e NoMemory l out = MayPen rules k e × Unchanged view k l × (out ≡ [])
 Pens view rules k e DeviceFailed l out =
-    MayPen rules k e × MayHold view l.disk k.votes (next_ballot k e) × HasFailed k l × (out ≡ [])
+    MayPen rules k e × MayHold view l.disk k.votes (next_ballot k e) × Fails k l × (out ≡ [])
 
 pub data ReceiveAnswer : Type 0 where
   Failed : ReceiveAnswer
@@ -142,7 +142,7 @@ Receives view k (Message.Ask q) (Told h) l out = ⊥
 Receives view k (Message.Ask q) Asked l out =
     (k.failed ≡ false) × Unchanged view k l × Replies k q out
 Receives view k (Message.Ask q) ReceiveAnswer.DeviceFailed l out =
-    (k.failed ≡ false) × Stays view k.disk l.disk × HasFailed k l × (out ≡ [])
+    (k.failed ≡ false) × Stays view k.disk l.disk × Fails k l × (out ≡ [])
 
 -- its own vote of this position, where cast
 abbrev pub own_vote : DeskId → Position → Option Entry → List Message
