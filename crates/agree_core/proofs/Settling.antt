@@ -1,5 +1,5 @@
 -- A place is settled once, so settled entries make one list.
-use Rattle.std.proofs.Common.{◌≡◌, ◌⊎◌, ℕ, ◌+◌, ◌<◌, List, [], ◌∷◌, ◌++◌, length, refl, sym, ap, ◌∙◌, subst, inl, inr, arith, ⊎_elim}
+use Rattle.std.proofs.Common.{◌≡◌, ◌⊎◌, ℕ, ◌+◌, ◌<◌, List, [], ◌∷◌, ◌++◌, length, refl, sym, ap, ◌∙◌, subst, inl, inr, arith, ⊎_elim, append-nil, length-append}
 use Rattle.notation.specs.declared.entry.Entry.{Entry}
 use Rattle.agree_core.specs.declared.messages.DeskId.TheVariants.{A, B}
 use Rattle.agree_core.specs.Agreed.{EqualVotes, SettledAt, AllSettled, Unsettled, IsAgreedList, BeginsWith}
@@ -94,3 +94,14 @@ pub agreed_begins : (v w : AllVotes) → VotesGrow v w → AllJustified w → (x
 agreed_begins v w g j xs ys s a =
     let n : length ys ≡ 0 + length ys = omega arith in
     begins_from w j 0 (length ys) xs ys (all_settled_grow v w g j 0 xs s) a.0 n a.1
+
+same_list : (xs ys : List Entry) → BeginsWith ys xs → BeginsWith xs ys → xs ≡ ys
+same_list xs ys ([], h) k = sym (append-nil xs) ∙ h
+same_list xs ys (e ∷ rest, h) k = absurd (longer (ap length h) (ap length k.1))
+  where
+    longer : length (xs ++ e ∷ rest) ≡ length ys → length (ys ++ k.0) ≡ length xs → ⊥
+    longer p q = omega (arith, length-append xs (e ∷ rest), length-append ys k.0)
+
+-- there is one agreed list
+pub agreed_once : (v : AllVotes) → AllJustified v → (xs ys : List Entry) → IsAgreedList v xs → IsAgreedList v ys → xs ≡ ys
+agreed_once v j xs ys s t = same_list xs ys (agreed_begins v v (λ b i. i, λ b i. i) j xs ys s.0 t) (agreed_begins v v (λ b i. i, λ b i. i) j ys xs t.0 s)

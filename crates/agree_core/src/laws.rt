@@ -31,11 +31,13 @@ pub fn settled_once()
     ensures least { (v : AllVotes) → AllJustified v → EqualVotesSettle v }
 {}
 
-/// The agreed list of more votes begins with that of fewer; and of two books of settled entries one begins with the
-/// other, whichever of the votes each has.
+/// There is one agreed list, and that of more votes begins with that of fewer; and of two books of settled entries
+/// one begins with the other, whichever of the votes each has.
 pub fn agreed_list_grows()
     ensures grows { (v w : AllVotes) (xs ys : List Entry) → VotesGrow v w → AllJustified w
         → IsAgreedList v xs → IsAgreedList w ys → BeginsWith ys xs }
+    ensures one { (v : AllVotes) (xs ys : List Entry) → AllJustified v
+        → IsAgreedList v xs → IsAgreedList v ys → xs ≡ ys }
     ensures one_book { (w : AllVotes) → AllJustified w → OneBook w }
 {}
 
