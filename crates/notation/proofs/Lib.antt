@@ -1,0 +1,10 @@
+pub mod Numbers
+pub mod Same
+pub mod Splits
+pub mod Found
+pub mod Again
+pub mod Lines
+pub mod Texts
+pub mod Joined
+pub mod Decoded
+pub mod Faults
