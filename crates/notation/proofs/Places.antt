@@ -1,5 +1,5 @@
 -- Where the first fault of a line stands.
-use Rattle.std.proofs.Common.{◌≡◌, ℕ, ◌≤◌, ◌<◌, ◌^◌, List, [], ◌∷◌, ◌++◌, map, Bool, true, false, cond, Option, Some, None, Ok, Err, Result, refl, ap, sym, ◌∙◌, codes, decimal, lit<, lit≤, append-nil, append_assoc, arith, length, nat_lt}
+use Rattle.std.proofs.Common.{◌≡◌, ℕ, ◌≤◌, ◌<◌, ◌^◌, List, [], ◌∷◌, ◌++◌, map, Bool, true, false, cond, Option, Some, None, Ok, Err, Result, refl, ap, sym, ◌∙◌, codes, decimal, lit<, lit≤, append_assoc, arith, length, nat_lt}
 use Rattle.std.specs.List.{list_any}
 use Rattle.std.specs.Str.{bytes_eq}
 use Rattle.std.proofs.lemmas.Slice.Eq.{bytes_eq-Decides}
@@ -12,7 +12,7 @@ use Rattle.notation.proofs.Found.{all_found}
 use Rattle.notation.proofs.Again.{all_again}
 use Rattle.notation.proofs.Faults.{fault_of, all_fault}
 use Rattle.notation.specs.Written.{Token, tokens, entry_words, IsEntry, is_spaced, is_number, kind_text, how_text, who_text, leave_text, cause_text, all_kinds, all_hows, all_whos, all_leaves, all_causes}
-use Rattle.notation.specs.Fault.{Place, AreWords, Begin, GoesWrong, StandsRight, sides, first_words, ends, number, word, maybe, choice, one_of, after_dead, after_bound, after_short, after_ran, delivery, plain_line, entry_line, first_fault}
+use Rattle.notation.specs.Fault.{Place, SpellsEntry, BeginsEntry, GoesWrong, Explains, sides, first_words, ends, number, word, maybe, choice, one_of, after_dead, after_bound, after_short, after_ran, delivery, plain_line, entry_line, first_fault}
 
 -- the tokens before the fault, the one that it stands at, and those after it
 record Split (p : Place) (f : LineFault) (before : Option LineFault) (ts : List Token) : Type 0 where
@@ -72,9 +72,11 @@ number_good low high next w g = record { some = some; says = says }
   where
     some : (m : List Token) × (number low high next m ≡ None)
     some = (w.0 ∷ g.some.0, rw w.1 g.some.1)
+
     go : (t : Token) (ts : List Token) (f : LineFault) (b : Bool) → is_number low high t ≡ b → cond b (next ts) (Some BadNumber) ≡ Some f → Stands (number low high next) f (t ∷ ts)
     go t ts f true e h = step (number low high next) next t ts f (λ m. rw e refl) (g.says ts f h)
     go t ts f false e h = let k : BadNumber ≡ f = cc in rw (← k) (here (number low high next) t ts BadNumber (Some Missing) some refl (λ m. rw e refl))
+
     says : (ts : List Token) (f : LineFault) → number low high next ts ≡ Some f → Stands (number low high next) f ts
     says [] f h = let k : Missing ≡ f = cc in rw (← k) some
     says (t ∷ ts) f h = go t ts f (is_number low high t) refl h
@@ -84,9 +86,11 @@ word_good words next w g = record { some = some; says = says }
   where
     some : (m : List Token) × (word words next m ≡ None)
     some = (w.0 ∷ g.some.0, rw w.1 g.some.1)
+
     go : (t : Token) (ts : List Token) (f : LineFault) (b : Bool) → list_any (bytes_eq t) words ≡ b → cond b (next ts) (Some UnknownWord) ≡ Some f → Stands (word words next) f (t ∷ ts)
     go t ts f true e h = step (word words next) next t ts f (λ m. rw e refl) (g.says ts f h)
     go t ts f false e h = let k : UnknownWord ≡ f = cc in rw (← k) (here (word words next) t ts UnknownWord (Some Missing) some refl (λ m. rw e refl))
+
     says : (ts : List Token) (f : LineFault) → word words next ts ≡ Some f → Stands (word words next) f ts
     says [] f h = let k : Missing ≡ f = cc in rw (← k) some
     says (t ∷ ts) f h = go t ts f (list_any (bytes_eq t) words) refl h
@@ -135,9 +139,11 @@ maybe_good w there absent g a = record { some = some; says = says }
   where
     some : (m : List Token) × (maybe w there absent m ≡ None)
     some = (w ∷ g.some.0, rw ((bytes_eq-Decides w w).1 refl) g.some.1)
+
     go : (t : Token) (ts : List Token) (f : LineFault) (b : Bool) → bytes_eq t w ≡ b → cond b (there ts) (absent (t ∷ ts)) ≡ Some f → Stands (maybe w there absent) f (t ∷ ts)
     go t ts f true e h = step (maybe w there absent) there t ts f (λ m. rw e refl) (g.says ts f h)
     go t ts f false e h = over (maybe w there absent) absent t ts f some refl (λ m. rw e refl) (a.says (t ∷ ts) f h)
+
     says : (ts : List Token) (f : LineFault) → maybe w there absent ts ≡ Some f → Stands (maybe w there absent) f ts
     says [] f h = over_nothing (maybe w there absent) absent f some (a.says [] f h)
     says (t ∷ ts) f h = go t ts f (bytes_eq t w) refl h
@@ -223,16 +229,35 @@ penalty_good =
 first_words_good : AllGood first_words
 first_words_good = (
   word_good sides ends (codes "home", refl) ends_good,
-  (player_good,
-  (delivery_good,
-  (word_good (map leave_text all_leaves) (number 1 11 ends) (codes "runout", refl) player_good,
-  (ends_good,
-  (penalty_good,
-  (ends_good,
-  (word_good (map cause_text all_causes) ends (codes "overs", refl) ends_good,
-  (ends_good,
-  (ends_good,
-  tt))))))))))
+  (
+    player_good,
+    (
+      delivery_good,
+      (
+        word_good (map leave_text all_leaves) (number 1 11 ends) (codes "runout", refl) player_good,
+        (
+          ends_good,
+          (
+            penalty_good,
+            (
+              ends_good,
+              (
+                word_good (map cause_text all_causes) ends (codes "overs", refl) ends_good,
+                (
+                  ends_good,
+                  (
+                    ends_good,
+                    tt,
+                  ),
+                ),
+              ),
+            ),
+          ),
+        ),
+      ),
+    ),
+  ),
+)
 
 plain_good : Good plain_line
 plain_good = one_of_good first_words (codes "over" ∷ [], refl) first_words_good
@@ -240,20 +265,20 @@ plain_good = one_of_good first_words (codes "over" ∷ [], refl) first_words_goo
 entry_good : Good entry_line
 entry_good = maybe_good (codes "fix") (number 0 8191 plain_line) plain_line (in_range 0 8191 plain_line (lit≤ tt) (lit< tt) plain_good) plain_good
 
-whole_entry : (ts : List Token) (r : Result Entry LineFault) → r ≡ all_of ts → fault_of r ≡ None → AreWords ts
+whole_entry : (ts : List Token) (r : Result Entry LineFault) → r ≡ all_of ts → fault_of r ≡ None → SpellsEntry ts
 whole_entry ts (Ok e) same h = let f = all_found ts e (sym same) in (e, f.0, sym f.1)
 whole_entry ts (Err f) same h = absurd (cc)
 
-entry_of_words : (ts : List Token) → entry_line ts ≡ None → AreWords ts
+entry_of_words : (ts : List Token) → entry_line ts ≡ None → SpellsEntry ts
 entry_of_words ts h = whole_entry ts (all_of ts) refl (sym (all_fault ts) ∙ h)
 
 words_of_entry : (e : Entry) → IsEntry e → entry_line (entry_words e) ≡ None
 words_of_entry e h = all_fault (entry_words e) ∙ ap fault_of (all_again e h)
 
-begin : (ts more : List Token) → entry_line (ts ++ more) ≡ None → Begin ts
+begin : (ts more : List Token) → entry_line (ts ++ more) ≡ None → BeginsEntry ts
 begin ts more h = let w = entry_of_words (ts ++ more) h in (w.0, w.1, (more, w.2))
 
-refused : (ts : List Token) (f : LineFault) → entry_line ts ≡ Some f → AreWords ts → ⊥
+refused : (ts : List Token) (f : LineFault) → entry_line ts ≡ Some f → SpellsEntry ts → ⊥
 refused ts f h w = let none : entry_line ts ≡ None = rw (← w.2) (words_of_entry w.0 w.1) in cc
 
 wrong : (ts : List Token) (f : LineFault) (b : Option LineFault) (s : Split entry_line f b ts) → GoesWrong ts s.front
@@ -265,7 +290,7 @@ wrong ts f b s = record {
   stops = λ w. refused (s.front ++ (s.token ∷ w.2.0)) f (s.stops w.2.0) (w.0, w.1, w.2.1 ∙ append_assoc s.front (s.token ∷ []) w.2.0);
 }
 
-told : (ts : List Token) (f : LineFault) → entry_line ts ≡ Some f → Stands entry_line f ts → StandsRight f ts
+told : (ts : List Token) (f : LineFault) → entry_line ts ≡ Some f → Stands entry_line f ts → Explains f ts
 told ts Missing h s = (begin ts s.0 s.1, refused ts Missing h)
 told ts UnknownWord h s = (s.front, wrong ts UnknownWord (Some Missing) s, refused s.front Missing s.ends_there)
 told ts BadNumber h s = (s.front, wrong ts BadNumber (Some Missing) s, refused s.front Missing s.ends_there)
@@ -273,12 +298,12 @@ told ts Extra h s = (s.front, wrong ts Extra None s, entry_of_words s.front s.en
 told ts TooLong h s = tt
 told ts Spaces h s = tt
 
-placed : (long spaced : Bool) (ts : List Token) (f : LineFault) → cond long (Some TooLong) (cond spaced (entry_line ts) (Some Spaces)) ≡ Some f → StandsRight f ts
+placed : (long spaced : Bool) (ts : List Token) (f : LineFault) → cond long (Some TooLong) (cond spaced (entry_line ts) (Some Spaces)) ≡ Some f → Explains f ts
 placed true spaced ts f h = let e : TooLong ≡ f = cc in rw (← e) tt
 placed false true ts f h = told ts f h (entry_good.says ts f h)
 placed false false ts f h = let e : Spaces ≡ f = cc in rw (← e) tt
 
 -- The first fault of a line stands where no entry's words go on.
-pub fault_stands : (line : List ℕ) (f : LineFault) → first_fault line ≡ Some f → StandsRight f (tokens line)
+pub fault_stands : (line : List ℕ) (f : LineFault) → first_fault line ≡ Some f → Explains f (tokens line)
 unfolding first_fault
 fault_stands line f h = placed (nat_lt 96 (length line)) (is_spaced line) (tokens line) f h
