@@ -173,8 +173,8 @@ pub enum Plain {
     Gone(Leave, Player),
     /// The umpire calls over.
     Over,
-    /// Five penalty runs to the side (Law 41). The numbers name the Law, 1 to 42, and its clause, 0 to
-    /// 99.
+    /// Five penalty runs to the side (Law 41). The numbers name the Law, 1 to 42, and its clause,
+    /// 0 to 99.
     Penalty(Side, u8, u8),
     /// The umpires set the two batters at each other's ends.
     Swap,
