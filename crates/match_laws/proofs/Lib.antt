@@ -1,0 +1,8 @@
+mod WorkedMatches
+pub mod Counts
+pub mod AwardLemmas
+pub mod TableLemmas
+pub mod ScoreLemmas
+pub mod LegalLemmas
+pub mod Bounds
+pub mod KeptLemmas

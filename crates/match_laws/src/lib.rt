@@ -1,0 +1,16 @@
+//! A match under the Laws of Cricket: its innings, figures, refusals and result.
+#![tactic(auto)]
+
+mod outcome;
+mod refusals;
+mod result;
+mod rows;
+mod score;
+mod sides;
+mod standing;
+
+pub use outcome::Outcome;
+pub use refusals::LawRefusal;
+pub use rows::{BattingRow, BowlingRow, Fall, Fate};
+pub use score::{Extras, InningsScore};
+pub use sides::SideRecord;
