@@ -3,6 +3,8 @@ use Rattle.std.proofs.Common.{◌≡◌, ℕ, zero, suc, ◌+◌, ◌-◌, ◌*�
 use Rattle.std.proofs.lemmas.Bool.{eq-eqb, ne_eqb, leb-false}
 use Rattle.std.proofs.lemmas.Bool.Decides.{eqb_tells, leb_tells}
 use Rattle.std.specs.Prelude.{◌==◌, ◌&&◌, ◌||◌, not, nat_le, is_none, is_some, if◌then◌else◌, option_map}
+use Rattle.notation.specs.declared.entry.Ball.{Ball}
+use Rattle.notation.specs.declared.entry.Leave.{Leave}
 use Rattle.notation.specs.declared.entry.Side.{Side}
 use Rattle.notation.specs.declared.entry.Side.TheVariants.{Home, Away}
 use Rattle.notation.specs.declared.entry.Plain.{Plain}
@@ -14,11 +16,12 @@ use Rattle.ball_laws.specs.Laws.{state_after, IsPlayed, refusal as ball_refusal}
 use Rattle.ball_laws.specs.Sums.{count_of}
 use Rattle.match_laws.specs.declared.refusals.LawRefusal.{LawRefusal}
 use Rattle.match_laws.specs.declared.refusals.LawRefusal.TheVariants.{Ball as OfBall, NotInPlay, WrongSide, InningsOpen, MatchWon, MatchClosed, EndNotSo, TooMany}
-use Rattle.match_laws.specs.History.{or_else, side_eq, begun, is_open, last_side, begun_by, begins, latest_of, is_closed, entries, is_void, annotated, stands_in}
+use Rattle.match_laws.specs.History.{is_at, or_else, side_eq, begun, is_open, last_side, begun_by, begins, latest_of, is_closed, entries, is_void, annotated, stands_in}
 use Rattle.match_laws.specs.Figures.{wickets}
 use Rattle.match_laws.specs.Result.{is_decided, current}
-use Rattle.match_laws.specs.Refusals.{first_row, own_rows, rows_of, refusal, IsLegal, is_wrong_side, is_taken_when_won, is_out_of_play, is_all_out}
+use Rattle.match_laws.specs.Refusals.{first_row, own_rows, rows_of, refusal, IsLegal, is_wrong_side, play_rows, is_taken_when_won, is_out_of_play, is_all_out}
 use Rattle.match_laws.proofs.Counts.{and-false_right}
+use Rattle.match_laws.proofs.AwardLemmas.{latest_of-below}
 use Rattle.match_laws.proofs.ScoreLemmas.{wickets-none}
 
 -- ---- tables
@@ -201,7 +204,7 @@ open_begun (End cause ∷ h) e = cc
 open_begun (Close ∷ h) e = open_begun h e
 open_begun (Void ∷ h) e = open_begun h e
 
-current-open : (h : History) → is_open h ≡ true → begun h ≡ current h + 1
+pub current-open : (h : History) → is_open h ≡ true → begun h ≡ current h + 1
 current-open h e = let low = open_begun h e in omega arith
 
 one_more : (x : Plain) (h : History) (j : ℕ) → begun h ≡ j + 1 → (is_wicket x && (begun h == j + 1)) ≡ is_wicket x
@@ -228,3 +231,36 @@ wickets-open (Swap ∷ h) e = wickets-open h e
 wickets-open (End cause ∷ h) e = cc
 wickets-open (Close ∷ h) e = wickets-open h e
 wickets-open (Void ∷ h) e = wickets-open h e
+
+-- ---- an innings is open where its batters and bowlers are not refused
+
+play_open : (h : History) → first_row (play_rows h) ≡ None → is_open h ≡ true
+play_open h own = not-false (is_open h) (or-left (not (is_open h)) (is_all_out h) (row_test NotInPlay (is_out_of_play h) [] own))
+
+pub come_open : (n : ℕ) (h : History) (p : ℕ) → refusal n h (Come p) ≡ None → is_open h ≡ true
+come_open n h p e = play_open h (taken n h (Come p) refl e).own
+
+pub ball_open : (n : ℕ) (h : History) (b : Ball) → refusal n h (Bowl b) ≡ None → is_open h ≡ true
+ball_open n h b e = play_open h (taken n h (Bowl b) refl e).own
+
+pub gone_open : (n : ℕ) (h : History) (way : Leave) (p : ℕ) → refusal n h (Gone way p) ≡ None → is_open h ≡ true
+gone_open n h way p e = play_open h (taken n h (Gone way p) refl e).own
+
+pub over_open : (n : ℕ) (h : History) → refusal n h Over ≡ None → is_open h ≡ true
+over_open n h e = not-false (is_open h) (row_test NotInPlay (not (is_open h)) [] (taken n h Over refl e).own)
+
+-- the innings that a side began last has begun
+pub latest_of-begun : (h : History) (s : Side) (k : ℕ) → latest_of h s ≡ Some k → k < begun h
+latest_of-begun h s k e = by_test (leb_tells (begun h) k)
+  where
+    by_test : ((leb (begun h) k ≡ true) × (begun h ≤ k)) ⊎ ((leb (begun h) k ≡ false) × (k < begun h)) → k < begun h
+    by_test (inl t) =
+        let never : is_at (latest_of h s) k ≡ false = latest_of-below h s k t.1 in
+        let here : (k == k) ≡ false = rw e at never in
+        let there : (k == k) ≡ true = eq-eqb k k refl in
+        absurd (cc)
+    by_test (inr t) = t.1
+
+pub entries-more : (h : History) (x : Plain) → is_void x ≡ false → entries (x ∷ h) ≡ entries h + 1
+unfolding entries
+entries-more h x v = rw v refl

@@ -6,3 +6,5 @@ pub mod ScoreLemmas
 pub mod LegalLemmas
 pub mod Bounds
 pub mod KeptLemmas
+pub mod SideLemmas
+pub mod ScoreTables

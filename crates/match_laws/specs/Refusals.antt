@@ -51,18 +51,25 @@ is_wrong_side n h side =
 abbrev pub is_out_of_play : History → Bool
 is_out_of_play h = not (is_open h) || is_all_out h
 
+-- the batters and bowlers do nothing out of play
+abbrev pub play_rows : History → List (LawRefusal × Bool)
+play_rows h = (laws.TheVariants.NotInPlay, is_out_of_play h) ∷ []
+
+-- penalty runs wait for the end of an innings with ten down, while the match is undecided
+abbrev pub award_rows : ℕ → History → List (LawRefusal × Bool)
+award_rows n h = (laws.TheVariants.NotInPlay, is_open h && is_all_out h && not (is_decided n h)) ∷ []
+
 -- the rows of the entry itself
 abbrev pub own_rows : ℕ → History → Plain → List (LawRefusal × Bool)
 own_rows n h (plain.TheVariants.Innings side) =
     (laws.TheVariants.InningsOpen, is_open h) ∷ (laws.TheVariants.WrongSide, is_wrong_side n h side) ∷ []
-own_rows n h (plain.TheVariants.Penalty side law part) =
-    (laws.TheVariants.NotInPlay, is_open h && is_all_out h && not (is_decided n h)) ∷ []
+own_rows n h (plain.TheVariants.Penalty side law part) = award_rows n h
 own_rows n h (plain.TheVariants.End why) =
     (laws.TheVariants.NotInPlay, not (is_open h)) ∷ (laws.TheVariants.EndNotSo, not (is_so why h)) ∷ []
 own_rows n h plain.TheVariants.Over = (laws.TheVariants.NotInPlay, not (is_open h)) ∷ []
 own_rows n h plain.TheVariants.Close = []
 own_rows n h plain.TheVariants.Void = []
-own_rows n h x = (laws.TheVariants.NotInPlay, is_out_of_play h) ∷ []
+own_rows n h x = play_rows h
 
 -- taken in a decided match too
 abbrev pub is_taken_when_won : Plain → Bool

@@ -1,14 +1,18 @@
 -- Which histories a match stands for.
-use Rattle.std.specs.Prelude.{◌≡◌, ℕ, ◌≤◌, Option, None, Some, List, [], ◌∷◌, Result, Ok, Err}
+use Rattle.std.specs.Prelude.{◌≡◌, ℕ, ◌≤◌, ◌<◌, Option, None, Some, List, [], ◌∷◌, Result, Ok, Err}
 use Rattle.notation.specs.declared.entry.Side.TheVariants.{Home, Away}
 use Rattle.notation.specs.declared.entry.Plain.{Plain}
+use Rattle.notation.specs.declared.entry.Plain as plain
 use Rattle.notation.specs.Written.{IsPlain}
 use Rattle.ball_laws.specs.History.{History, IsInRange}
+use Rattle.ball_laws.specs.Standing.{Standing as Crease}
+use Rattle.ball_laws.specs.Players.{wickets_down}
 use Rattle.ball_laws.specs.Laws.{state_after}
 use Rattle.ball_laws.specs.Crease.{standing_of}
 use Rattle.match_laws.specs.declared.refusals.LawRefusal.{LawRefusal}
 use Rattle.match_laws.specs.History.{begun, last_side, is_open, is_closed, entries}
 use Rattle.match_laws.specs.Refusals.{refusal, IsLegal}
+use Rattle.match_laws.specs.declared.score.InningsScore.{InningsScore}
 use Rattle.match_laws.specs.declared.standing.Standing.{Standing}
 use Rattle.match_laws.specs.Parts.{table, score_of, side_record}
 
@@ -28,6 +32,18 @@ pub record StandsFor (m : Standing) (n : ℕ) (h : History) : Type 0 where
   pub crease : m.crease ≡ standing_of (state_after h)
   pub scores : m.scores ≡ table (score_of h) 4
 
+-- fewer than ten wickets are down at the crease
+abbrev pub HasRoom : Standing → Type 0
+HasRoom m = wickets_down (m.crease).players < 10
+
+-- a player leaves only with fewer than ten down
+abbrev pub MayGoFrom : Crease → Plain → Type 0
+MayGoFrom c (plain.TheVariants.Gone way p) = wickets_down c.players < 10
+MayGoFrom c _ = Unit {0}
+
+abbrev pub MayGo : Standing → Plain → Type 0
+MayGo m x = MayGoFrom m.crease x
+
 -- some history has this standing
 pub record IsKept (m : Standing) : Type 0 where
   pub innings_a_side : ℕ
@@ -42,10 +58,16 @@ pub record CanTake (m : Standing) (x : Plain) : Type 0 where
   pub in_range : IsPlain x
   pub taken : refusal innings_a_side history x ≡ None
 
--- the standing is that of the history with the entry added, where it was that of the history and took the entry
-abbrev pub Takes : Standing → Plain → Standing → Type 0
-Takes m x next =
-    (n : ℕ) → (h : History) → StandsFor m n h → IsPlain x → refusal n h x ≡ None → StandsFor next n (x ∷ h)
+-- the scores are those of the history with the entry added, which the history takes
+abbrev pub ScoresTake : Standing → Plain → List InningsScore → Type 0
+ScoresTake m x scores =
+    (n : ℕ) → (h : History) → StandsFor m n h → refusal n h x ≡ None → scores ≡ table (score_of (x ∷ h)) 4
+
+-- so is the standing, with this crease
+abbrev pub Takes : Standing → Plain → Crease → Standing → Type 0
+Takes m x crease next =
+    (n : ℕ) → (h : History) → StandsFor m n h → IsPlain x → refusal n h x ≡ None
+    → crease ≡ standing_of (state_after (x ∷ h)) → StandsFor next n (x ∷ h)
 
 -- what a step answers: a match that stands for the history with the entry added, or the refusal of the entry
 abbrev pub IsStep : Result Standing LawRefusal → ℕ → History → Plain → Type 0

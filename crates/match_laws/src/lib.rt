@@ -5,9 +5,11 @@ mod outcome;
 mod refusals;
 mod result;
 mod rows;
+mod rulings;
 mod score;
 mod sides;
 mod standing;
+mod taking;
 
 pub use outcome::Outcome;
 pub use refusals::LawRefusal;
