@@ -8,3 +8,4 @@ pub mod Bounds
 pub mod KeptLemmas
 pub mod SideLemmas
 pub mod ScoreTables
+pub mod StepLemmas

@@ -44,6 +44,10 @@ MayGoFrom c _ = Unit {0}
 abbrev pub MayGo : Standing → Plain → Type 0
 MayGo m x = MayGoFrom m.crease x
 
+-- how many innings have begun
+abbrev pub begun_in : Standing → ℕ
+begun_in m = m.begun
+
 -- some history has this standing
 pub record IsKept (m : Standing) : Type 0 where
   pub innings_a_side : ℕ

@@ -1,6 +1,7 @@
 //! A match under the Laws of Cricket: its innings, figures, refusals and result.
 #![tactic(auto)]
 
+mod game;
 mod outcome;
 mod refusals;
 mod result;
@@ -11,8 +12,9 @@ mod sides;
 mod standing;
 mod taking;
 
+pub use game::{Match, start, step};
 pub use outcome::Outcome;
 pub use refusals::LawRefusal;
 pub use rows::{BattingRow, BowlingRow, Fall, Fate};
-pub use score::{Extras, InningsScore};
-pub use sides::SideRecord;
+pub use score::Extras;
+
