@@ -5,3 +5,4 @@ pub mod Refusals
 pub mod Parts
 pub mod Stands
 pub mod Added
+pub mod LawRefusal

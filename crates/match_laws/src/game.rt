@@ -110,3 +110,108 @@ pub fn step(game: &Match, item: &Plain) -> Result<Match, LawRefusal>
         Err(why) => Err(why),
     }
 }
+
+/// The score of an innings that has begun.
+fn score(standing: &Standing, innings: usize) -> InningsScore
+    requires kept { ∥ IsKept standing.now ∥₁ }
+    requires begun { innings < standing.now.begun }
+    ensures { (n : ℕ) → (h : History) → StandsFor standing.now n h → result ≡ score_of h innings }
+{
+    standing.scores[innings]
+}
+
+impl Match {
+    /// How many innings have begun.
+    pub fn begun(&self) -> usize
+        ensures value { (n : ℕ) → (h : History) → StandsFor self.now n h → result ≡ history.begun h }
+        ensures innings { result ≡ begun_in self.now }
+    {
+        self.standing.begun
+    }
+
+    /// Whether an innings is open: the one that began last.
+    pub fn is_open(&self) -> bool
+        ensures { (n : ℕ) → (h : History) → StandsFor self.now n h → result ≡ history.is_open h }
+    {
+        self.standing.playing
+    }
+
+    /// Who is at each end; both are vacant where no innings is open.
+    pub fn ends(&self) -> Ends
+        ensures { (n : ℕ) → (h : History) → StandsFor self.now n h → result ≡ (state_after h).ends }
+    {
+        self.standing.crease.ends()
+    }
+
+    /// The side that bats in the innings.
+    pub fn side(&self, innings: usize) -> Side
+        requires { innings < begun_in self.now }
+        ensures { (n : ℕ) → (h : History) → StandsFor self.now n h → result ≡ history.side_of h innings }
+    {
+        score(&self.standing, innings).side
+    }
+
+    /// The total of the innings, extras and penalty runs included (Law 18).
+    pub fn total(&self, innings: usize) -> u32
+        requires { innings < begun_in self.now }
+        ensures { (n : ℕ) → (h : History) → StandsFor self.now n h → result ≡ figures.total h innings }
+    {
+        score(&self.standing, innings).total
+    }
+
+    /// How many wickets fell in the innings: all who left for good, but not who is retired hurt.
+    pub fn wickets(&self, innings: usize) -> u32
+        requires { innings < begun_in self.now }
+        ensures { (n : ℕ) → (h : History) → StandsFor self.now n h → result ≡ figures.wickets h innings }
+    {
+        score(&self.standing, innings).wickets
+    }
+
+    /// The called overs of the innings, and its counting deliveries since the last call (Law 17).
+    pub fn overs(&self, innings: usize) -> (u32, u32)
+        requires { innings < begun_in self.now }
+        ensures called { (n : ℕ) → (h : History) → StandsFor self.now n h → result.0 ≡ figures.overs h innings }
+        ensures since { (n : ℕ) → (h : History) → StandsFor self.now n h → result.1 ≡ figures.balls h innings }
+    {
+        let score = score(&self.standing, innings);
+        (score.overs, score.balls)
+    }
+
+    /// How many called overs of the innings have another number of counting deliveries than six.
+    pub fn odd_overs(&self, innings: usize) -> u32
+        requires { innings < begun_in self.now }
+        ensures { (n : ℕ) → (h : History) → StandsFor self.now n h → result ≡ figures.odd_overs h innings }
+    {
+        score(&self.standing, innings).odd_overs
+    }
+
+    /// The extras of the innings (Laws 21 to 23 and 41).
+    pub fn extras(&self, innings: usize) -> Extras
+        requires { innings < begun_in self.now }
+        ensures { (n : ℕ) → (h : History) → StandsFor self.now n h → result ≡ extras_of h innings }
+    {
+        score(&self.standing, innings).extras
+    }
+
+    /// The total of the side, over all its innings.
+    pub fn side_total(&self, side: Side) -> u32
+        ensures { (n : ℕ) → (h : History) → StandsFor self.now n h → result ≡ laws.side_total h side }
+    {
+        result::side_total(&self.standing, side)
+    }
+
+    /// What the side that bats needs in all in the open innings to win, where it is the side's last and the other side
+    /// is finished.
+    pub fn target(&self) -> Option<u32>
+        ensures { (n : ℕ) → (h : History) → StandsFor self.now n h → result ≡ laws.target n h }
+    {
+        result::target(&self.standing)
+    }
+
+    /// How the match stands (Law 16).
+    pub fn result(&self) -> Outcome
+        ensures { (n : ℕ) → (h : History) → StandsFor self.now n h → result ≡ laws.outcome n h }
+    {
+        result::outcome(&self.standing)
+    }
+}
