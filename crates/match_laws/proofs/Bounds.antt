@@ -190,7 +190,7 @@ score-small h j r few =
       overs = omega (arith, o, few);
       balls = omega (arith, s, c, few);
       odd_overs = omega (arith, o, d, few);
-      extras = record { byes = omega (arith, b, few); legs = omega (arith, l, few); wides = omega (arith, w, few); noballs = omega (arith, n, few); penalty = omega (arith, p, few) }
+      extras = record { byes = omega (arith, b, few); legs = omega (arith, l, few); wides = omega (arith, w, few); noballs = omega (arith, n, few); penalty = omega (arith, p, few) };
     }
 
 pub record-small : (h : History) (side : Side) → entries h ≤ 8192 → IsSmallRecord (side_record h side)

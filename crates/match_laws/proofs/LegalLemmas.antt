@@ -81,7 +81,7 @@ taken-rows n h x e =
       room = leb-false 8192 (entries h) few;
       going = going;
       own = row_rest MatchWon won own rest';
-      ball = map_none (ball_refusal (state_after h) x) (or_second (first_row (rows_of n h x)) (option_map OfBall (ball_refusal (state_after h) x)) e)
+      ball = map_none (ball_refusal (state_after h) x) (or_second (first_row (rows_of n h x)) (option_map OfBall (ball_refusal (state_after h) x)) e);
     }
 
 pub taken : (n : ℕ) (h : History) (x : Plain) → is_void x ≡ false → refusal n h x ≡ None → Taken n h x

@@ -51,7 +51,7 @@ scores-over h o lt =
 pub scores-award : (h : History) (s : Side) (x y k : ℕ) → latest_of h s ≡ Some k → k < 4 → set (table (score_of h) 4) k (score_with_penalty (score_of h k)) ≡ table (score_of (Penalty s x y ∷ h)) 4
 scores-award h s x y k at lt =
     rw (score-penalty h s x y k (rw at (eq-eqb k k refl)))
-       (set-table (score_of h) (score_of (Penalty s x y ∷ h)) 4 k lt (λ j lt' ne. score-penalty_elsewhere h s x y j (rw at (ne_eqb k j (λ same. ne (sym same))))))
+    (set-table (score_of h) (score_of (Penalty s x y ∷ h)) 4 k lt (λ j lt' ne. score-penalty_elsewhere h s x y j (rw at (ne_eqb k j (λ same. ne (sym same))))))
 
 pub scores-award_none : (h : History) (s : Side) (x y : ℕ) → latest_of h s ≡ None → table (score_of h) 4 ≡ table (score_of (Penalty s x y ∷ h)) 4
 scores-award_none h s x y none = table_same (score_of h) (score_of (Penalty s x y ∷ h)) 4 (λ j lt. score-penalty_elsewhere h s x y j (rw none refl))
@@ -59,7 +59,7 @@ scores-award_none h s x y none = table_same (score_of h) (score_of (Penalty s x 
 pub scores-begun : (h : History) (s : Side) → begun h < 4 → set (table (score_of h) 4) (begun h) (score_begun s (pending_runs h s)) ≡ table (score_of (Innings s ∷ h)) 4
 scores-begun h s lt =
     rw (score-begun h s)
-       (set-table (score_of h) (score_of (Innings s ∷ h)) 4 (begun h) lt (λ j lt' ne. score-begun_elsewhere h s j (ne_eqb (begun h) j (λ same. ne (sym same)))))
+    (set-table (score_of h) (score_of (Innings s ∷ h)) 4 (begun h) lt (λ j lt' ne. score-begun_elsewhere h s j (ne_eqb (begun h) j (λ same. ne (sym same)))))
 
 -- entries that leave every score
 pub scores-stay : (h : History) (x : Plain)

@@ -57,20 +57,20 @@ void-entries h = refl
 
 pub stands-void : (m : Standing) (n : ℕ) (h : History) → StandsFor m n h → StandsFor m n (Void ∷ h)
 stands-void m n h s = record {
-    one_or_two = s.one_or_two;
-    legal = (s.legal, refusal-void n h);
-    in_range = (s.in_range, tt);
-    innings_a_side = s.innings_a_side;
-    taken = s.taken ∙ void-entries h;
-    closed = s.closed;
-    playing = s.playing;
-    last = s.last;
-    begun = s.begun;
-    home = s.home ∙ void-record h _;
-    away = s.away ∙ void-record h _;
-    crease = s.crease;
-    scores = s.scores ∙ table_same (score_of h) (score_of (Void ∷ h)) 4 (λ j lt. score-void h j)
-  }
+  one_or_two = s.one_or_two;
+  legal = (s.legal, refusal-void n h);
+  in_range = (s.in_range, tt);
+  innings_a_side = s.innings_a_side;
+  taken = s.taken ∙ void-entries h;
+  closed = s.closed;
+  playing = s.playing;
+  last = s.last;
+  begun = s.begun;
+  home = s.home ∙ void-record h _;
+  away = s.away ∙ void-record h _;
+  crease = s.crease;
+  scores = s.scores ∙ table_same (score_of h) (score_of (Void ∷ h)) 4 (λ j lt. score-void h j);
+}
 
 pub is_void-is : (x : Plain) → is_void x ≡ true → x ≡ Void
 is_void-is (Innings s) e = cc

@@ -13,25 +13,25 @@ use Rattle.match_laws.specs.Figures.{runs_of, byes_of, legs_of, wides_of, noball
 
 abbrev pub extras_with_ball : Extras → Ball → Extras
 extras_with_ball e b = record {
-    byes = e.byes + byes_of b;
-    legs = e.legs + legs_of b;
-    wides = e.wides + wides_of b;
-    noballs = e.noballs + noballs_of b;
-    penalty = e.penalty
-  }
+  byes = e.byes + byes_of b;
+  legs = e.legs + legs_of b;
+  wides = e.wides + wides_of b;
+  noballs = e.noballs + noballs_of b;
+  penalty = e.penalty;
+}
 
 -- a delivery
 abbrev pub score_with_ball : InningsScore → Ball → InningsScore
 score_with_ball s b = record {
-    side = s.side;
-    total = s.total + runs_of b;
-    wickets = s.wickets + one_if (is_some b.out);
-    has_come = s.has_come;
-    overs = s.overs;
-    balls = s.balls + one_if (counts b);
-    odd_overs = s.odd_overs;
-    extras = extras_with_ball s.extras b
-  }
+  side = s.side;
+  total = s.total + runs_of b;
+  wickets = s.wickets + one_if (is_some b.out);
+  has_come = s.has_come;
+  overs = s.overs;
+  balls = s.balls + one_if (counts b);
+  odd_overs = s.odd_overs;
+  extras = extras_with_ball s.extras b;
+}
 
 -- a batter comes in
 abbrev pub score_with_come : InningsScore → InningsScore
@@ -49,36 +49,36 @@ score_with_gone s way = record s { wickets = s.wickets + one_if (is_lasting way)
 -- over is called
 abbrev pub score_with_over : InningsScore → InningsScore
 score_with_over s = record s {
-    overs = s.overs + 1;
-    balls = 0;
-    odd_overs = s.odd_overs + one_if (not (s.balls == 6))
-  }
+  overs = s.overs + 1;
+  balls = 0;
+  odd_overs = s.odd_overs + one_if (not (s.balls == 6));
+}
 
 -- an award of penalty runs
 abbrev pub score_with_penalty : InningsScore → InningsScore
 score_with_penalty s = record {
-    side = s.side;
-    total = s.total + 5;
-    wickets = s.wickets;
-    has_come = s.has_come;
-    overs = s.overs;
-    balls = s.balls;
-    odd_overs = s.odd_overs;
-    extras = record (s.extras) { penalty = (s.extras).penalty + 5 }
-  }
+  side = s.side;
+  total = s.total + 5;
+  wickets = s.wickets;
+  has_come = s.has_come;
+  overs = s.overs;
+  balls = s.balls;
+  odd_overs = s.odd_overs;
+  extras = record (s.extras) { penalty = (s.extras).penalty + 5 };
+}
 
 -- an innings of the side begins, with its penalty runs that are in no total
 abbrev pub score_begun : Side → ℕ → InningsScore
 score_begun side pending = record {
-    side = side;
-    total = pending;
-    wickets = 0;
-    has_come = false;
-    overs = 0;
-    balls = 0;
-    odd_overs = 0;
-    extras = record { byes = 0; legs = 0; wides = 0; noballs = 0; penalty = pending }
-  }
+  side = side;
+  total = pending;
+  wickets = 0;
+  has_come = false;
+  overs = 0;
+  balls = 0;
+  odd_overs = 0;
+  extras = record { byes = 0; legs = 0; wides = 0; noballs = 0; penalty = pending };
+}
 
 -- each number has room for one entry more
 pub record IsSmallExtras (e : Extras) : Type 0 where

@@ -164,10 +164,11 @@ out_fate i p n b (Some o) =
 -- what an entry of the innings makes of the player
 abbrev pub fate_by : ℕ → ℕ → Note → Option Fate
 fate_by i p n = elim (n.item) [
-    plain.TheVariants.Come q ↦ (if stands_in i n && (q == p) then Some fates.NotOut else None)
+  | plain.TheVariants.Come q ↦ (if stands_in i n && (q == p) then Some fates.NotOut else None)
   | plain.TheVariants.Gone way q ↦ (if stands_in i n && (q == p) then Some (left_fate way) else None)
   | plain.TheVariants.Ball b ↦ out_fate i p n b b.out
-  | _ ↦ None ]
+  | _ ↦ None
+]
 
 abbrev pub newest : {X : Type 0} → List X → Option X
 newest [] = None
@@ -186,9 +187,10 @@ named_once (p ∷ ps) =
 -- who comes in, or is timed out
 abbrev pub comer : ℕ → Note → Option ℕ
 comer i n = elim (n.item) [
-    plain.TheVariants.Come p ↦ (if stands_in i n then Some p else None)
+  | plain.TheVariants.Come p ↦ (if stands_in i n then Some p else None)
   | plain.TheVariants.Gone leave.TheVariants.TimedOut p ↦ (if stands_in i n then Some p else None)
-  | _ ↦ None ]
+  | _ ↦ None
+]
 
 unfoldable pub batting_order : History → ℕ → List ℕ
 batting_order h i = named_once (filter_map (comer i) (annotated h))
@@ -196,10 +198,11 @@ batting_order h i = named_once (filter_map (comer i) (annotated h))
 -- the player whose wicket an entry of the innings is
 abbrev pub fallen : ℕ → Note → Option ℕ
 fallen i n = elim (n.item) [
-    plain.TheVariants.Ball b ↦ (if stands_in i n then dismissed b.out n.ends else None)
+  | plain.TheVariants.Ball b ↦ (if stands_in i n then dismissed b.out n.ends else None)
   | plain.TheVariants.Gone leave.TheVariants.RetiredHurt p ↦ None
   | plain.TheVariants.Gone way p ↦ (if stands_in i n then Some p else None)
-  | _ ↦ None ]
+  | _ ↦ None
+]
 
 -- a fall of this player's wicket at the total, after the others
 abbrev pub with_fall : List Fall → Option ℕ → ℕ → List Fall

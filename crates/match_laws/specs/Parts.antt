@@ -27,48 +27,47 @@ from_front (suc n) (x ∷ xs) = Some x ∷ from_front n xs
 -- the extras of innings i
 abbrev pub extras_of : History → ℕ → Extras
 extras_of h i = record {
-    byes = byes h i;
-    legs = legs h i;
-    wides = wides h i;
-    noballs = noballs h i;
-    penalty = penalty_runs h i
-  }
+  byes = byes h i;
+  legs = legs h i;
+  wides = wides h i;
+  noballs = noballs h i;
+  penalty = penalty_runs h i;
+}
 
 -- the score of innings i
 abbrev pub score_of : History → ℕ → InningsScore
 score_of h i = record {
-    side = side_of h i;
-    total = total h i;
-    wickets = wickets h i;
-    has_come = has_come h i;
-    overs = overs h i;
-    balls = balls h i;
-    odd_overs = odd_overs h i;
-    extras = extras_of h i
-  }
+  side = side_of h i;
+  total = total h i;
+  wickets = wickets h i;
+  has_come = has_come h i;
+  overs = overs h i;
+  balls = balls h i;
+  odd_overs = odd_overs h i;
+  extras = extras_of h i;
+}
 
 -- a batter's row in innings i, and a bowler's
 abbrev pub batting_row_of : History → ℕ → ℕ → BattingRow
 batting_row_of h i p = record {
-    runs = batter_runs h i p;
-    faced = faced h i p;
-    fours = fours h i p;
-    sixes = sixes h i p;
-    fate = fate h i p
-  }
+  runs = batter_runs h i p;
+  faced = faced h i p;
+  fours = fours h i p;
+  sixes = sixes h i p;
+  fate = fate h i p;
+}
 
 abbrev pub bowling_row_of : History → ℕ → ℕ → BowlingRow
 bowling_row_of h i p = record {
-    overs = bowler_overs h i p;
-    balls = bowler_balls h i p;
-    maidens = maidens h i p;
-    runs = bowler_runs h i p;
-    wickets = bowler_wickets h i p;
-    wides = bowler_wides h i p;
-    noballs = bowler_noballs h i p
-  }
+  overs = bowler_overs h i p;
+  balls = bowler_balls h i p;
+  maidens = maidens h i p;
+  runs = bowler_runs h i p;
+  wickets = bowler_wickets h i p;
+  wides = bowler_wides h i p;
+  noballs = bowler_noballs h i p;
+}
 
 -- a side: how many innings it has begun, which of them last, and its penalty runs that are in no total
 abbrev pub side_record : History → Side → SideRecord
 side_record h side = record { begun = begun_by h side; latest = latest_of h side; pending = pending_runs h side }
-

@@ -44,6 +44,10 @@ MayGoFrom c _ = Unit {0}
 abbrev pub MayGo : Standing → Plain → Type 0
 MayGo m x = MayGoFrom m.crease x
 
+-- a fact of each history that the match stands for, with n innings a side
+abbrev pub ForEachHistory : Standing → (ℕ → History → Type 0) → Type 0
+ForEachHistory m P = (n : ℕ) → (h : History) → StandsFor m n h → P n h
+
 -- how many innings have begun
 abbrev pub begun_in : Standing → ℕ
 begun_in m = m.begun
@@ -64,14 +68,12 @@ pub record CanTake (m : Standing) (x : Plain) : Type 0 where
 
 -- the scores are those of the history with the entry added, which the history takes
 abbrev pub ScoresTake : Standing → Plain → List InningsScore → Type 0
-ScoresTake m x scores =
-    (n : ℕ) → (h : History) → StandsFor m n h → refusal n h x ≡ None → scores ≡ table (score_of (x ∷ h)) 4
+ScoresTake m x scores = ForEachHistory m (λ n h. refusal n h x ≡ None → scores ≡ table (score_of (x ∷ h)) 4)
 
 -- so is the standing, with this crease
 abbrev pub Takes : Standing → Plain → Crease → Standing → Type 0
-Takes m x crease next =
-    (n : ℕ) → (h : History) → StandsFor m n h → IsPlain x → refusal n h x ≡ None
-    → crease ≡ standing_of (state_after (x ∷ h)) → StandsFor next n (x ∷ h)
+Takes m x crease next = ForEachHistory m (λ n h.
+    IsPlain x → refusal n h x ≡ None → crease ≡ standing_of (state_after (x ∷ h)) → StandsFor next n (x ∷ h))
 
 -- what a step answers: a match that stands for the history with the entry added, or the refusal of the entry
 abbrev pub IsStep : Result Standing LawRefusal → ℕ → History → Plain → Type 0

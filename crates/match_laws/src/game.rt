@@ -8,11 +8,7 @@ ghost use Rattle.match_laws.specs.History as history;
 ghost use Rattle.match_laws.specs.Figures as figures;
 ghost use Rattle.match_laws.specs.Result as laws;
 ghost use Rattle.match_laws.specs.Parts.{score_of, extras_of};
-ghost use Rattle.match_laws.specs.Stands.{IsKept, IsStep, StandsFor, begun_in};
-
-use ball_laws::{Crease, Ends};
-use notation::{Plain, Side};
-use std::marker::Model;
+ghost use Rattle.match_laws.specs.Stands.{ForEachHistory, IsKept, IsStep, StandsFor, begun_in};
 
 use crate::outcome::Outcome;
 use crate::refusals::LawRefusal;
@@ -22,6 +18,9 @@ use crate::score::{Extras, InningsScore};
 use crate::sides::SideRecord;
 use crate::standing::Standing;
 use crate::taking::{crease_after, with_item};
+use ball_laws::{Crease, Ends};
+use notation::{Plain, Side};
+use std::marker::Model;
 
 /// A match: what it keeps of the entries that it has taken. It is `Copy`, of fixed tables, and holds no list.
 /// Innings are numbered from 0, in the order in which they begin.
@@ -32,7 +31,7 @@ pub struct Match {
 
 impl Model for Match {
     ghost use Rattle.match_laws.specs.declared.standing.Standing.{Standing};
-    ghost use Rattle.match_laws.specs.Stands.{IsKept};
+    ghost use Rattle.match_laws.specs.Stands.{ForEachHistory, IsKept, StandsFor};
 
     ghost Value = { Standing };
 
@@ -85,7 +84,7 @@ fn is_void(item: &Plain) -> bool
 fn standing_after(standing: &Standing, item: &Plain) -> Result<Standing, LawRefusal>
     requires kept { ∥ IsKept standing.now ∥₁ }
     requires in_range { IsPlain item.now }
-    ensures { (n : ℕ) → (h : History) → StandsFor standing.now n h → IsStep result n h item.now }
+    ensures { ForEachHistory standing.now (λ n h. IsStep result n h item.now) }
 {
     if is_void(item) {
         return Ok(*standing);
@@ -103,7 +102,7 @@ fn standing_after(standing: &Standing, item: &Plain) -> Result<Standing, LawRefu
 /// match, of the innings and of the crease, in this order. `void` is always taken, and adds nothing.
 pub fn step(game: &Match, item: &Plain) -> Result<Match, LawRefusal>
     requires { IsPlain item.now }
-    ensures { (n : ℕ) → (h : History) → StandsFor game.now n h → IsStep result n h item.now }
+    ensures { ForEachHistory game.now (λ n h. IsStep result n h item.now) }
 {
     match standing_after(&game.standing, item) {
         Ok(standing) => Ok(Match { standing }),
@@ -115,7 +114,7 @@ pub fn step(game: &Match, item: &Plain) -> Result<Match, LawRefusal>
 fn score(standing: &Standing, innings: usize) -> InningsScore
     requires kept { ∥ IsKept standing.now ∥₁ }
     requires begun { innings < standing.now.begun }
-    ensures { (n : ℕ) → (h : History) → StandsFor standing.now n h → result ≡ score_of h innings }
+    ensures { ForEachHistory standing.now (λ n h. result ≡ score_of h innings) }
 {
     standing.scores[innings]
 }
@@ -123,7 +122,7 @@ fn score(standing: &Standing, innings: usize) -> InningsScore
 impl Match {
     /// How many innings have begun.
     pub fn begun(&self) -> usize
-        ensures value { (n : ℕ) → (h : History) → StandsFor self.now n h → result ≡ history.begun h }
+        ensures value { ForEachHistory self.now (λ n h. result ≡ history.begun h) }
         ensures innings { result ≡ begun_in self.now }
     {
         self.standing.begun
@@ -131,14 +130,14 @@ impl Match {
 
     /// Whether an innings is open: the one that began last.
     pub fn is_open(&self) -> bool
-        ensures { (n : ℕ) → (h : History) → StandsFor self.now n h → result ≡ history.is_open h }
+        ensures { ForEachHistory self.now (λ n h. result ≡ history.is_open h) }
     {
         self.standing.playing
     }
 
     /// Who is at each end; both are vacant where no innings is open.
     pub fn ends(&self) -> Ends
-        ensures { (n : ℕ) → (h : History) → StandsFor self.now n h → result ≡ (state_after h).ends }
+        ensures { ForEachHistory self.now (λ n h. result ≡ (state_after h).ends) }
     {
         self.standing.crease.ends()
     }
@@ -146,7 +145,7 @@ impl Match {
     /// The side that bats in the innings.
     pub fn side(&self, innings: usize) -> Side
         requires { innings < begun_in self.now }
-        ensures { (n : ℕ) → (h : History) → StandsFor self.now n h → result ≡ history.side_of h innings }
+        ensures { ForEachHistory self.now (λ n h. result ≡ history.side_of h innings) }
     {
         score(&self.standing, innings).side
     }
@@ -154,7 +153,7 @@ impl Match {
     /// The total of the innings, extras and penalty runs included (Law 18).
     pub fn total(&self, innings: usize) -> u32
         requires { innings < begun_in self.now }
-        ensures { (n : ℕ) → (h : History) → StandsFor self.now n h → result ≡ figures.total h innings }
+        ensures { ForEachHistory self.now (λ n h. result ≡ figures.total h innings) }
     {
         score(&self.standing, innings).total
     }
@@ -162,7 +161,7 @@ impl Match {
     /// How many wickets fell in the innings: all who left for good, but not who is retired hurt.
     pub fn wickets(&self, innings: usize) -> u32
         requires { innings < begun_in self.now }
-        ensures { (n : ℕ) → (h : History) → StandsFor self.now n h → result ≡ figures.wickets h innings }
+        ensures { ForEachHistory self.now (λ n h. result ≡ figures.wickets h innings) }
     {
         score(&self.standing, innings).wickets
     }
@@ -170,8 +169,8 @@ impl Match {
     /// The called overs of the innings, and its counting deliveries since the last call (Law 17).
     pub fn overs(&self, innings: usize) -> (u32, u32)
         requires { innings < begun_in self.now }
-        ensures called { (n : ℕ) → (h : History) → StandsFor self.now n h → result.0 ≡ figures.overs h innings }
-        ensures since { (n : ℕ) → (h : History) → StandsFor self.now n h → result.1 ≡ figures.balls h innings }
+        ensures called { ForEachHistory self.now (λ n h. result.0 ≡ figures.overs h innings) }
+        ensures since { ForEachHistory self.now (λ n h. result.1 ≡ figures.balls h innings) }
     {
         let score = score(&self.standing, innings);
         (score.overs, score.balls)
@@ -180,7 +179,7 @@ impl Match {
     /// How many called overs of the innings have another number of counting deliveries than six.
     pub fn odd_overs(&self, innings: usize) -> u32
         requires { innings < begun_in self.now }
-        ensures { (n : ℕ) → (h : History) → StandsFor self.now n h → result ≡ figures.odd_overs h innings }
+        ensures { ForEachHistory self.now (λ n h. result ≡ figures.odd_overs h innings) }
     {
         score(&self.standing, innings).odd_overs
     }
@@ -188,14 +187,14 @@ impl Match {
     /// The extras of the innings (Laws 21 to 23 and 41).
     pub fn extras(&self, innings: usize) -> Extras
         requires { innings < begun_in self.now }
-        ensures { (n : ℕ) → (h : History) → StandsFor self.now n h → result ≡ extras_of h innings }
+        ensures { ForEachHistory self.now (λ n h. result ≡ extras_of h innings) }
     {
         score(&self.standing, innings).extras
     }
 
     /// The total of the side, over all its innings.
     pub fn side_total(&self, side: Side) -> u32
-        ensures { (n : ℕ) → (h : History) → StandsFor self.now n h → result ≡ laws.side_total h side }
+        ensures { ForEachHistory self.now (λ n h. result ≡ laws.side_total h side) }
     {
         result::side_total(&self.standing, side)
     }
@@ -203,14 +202,14 @@ impl Match {
     /// What the side that bats needs in all in the open innings to win, where it is the side's last and the other side
     /// is finished.
     pub fn target(&self) -> Option<u32>
-        ensures { (n : ℕ) → (h : History) → StandsFor self.now n h → result ≡ laws.target n h }
+        ensures { ForEachHistory self.now (λ n h. result ≡ laws.target n h) }
     {
         result::target(&self.standing)
     }
 
     /// How the match stands (Law 16).
     pub fn result(&self) -> Outcome
-        ensures { (n : ℕ) → (h : History) → StandsFor self.now n h → result ≡ laws.outcome n h }
+        ensures { ForEachHistory self.now (λ n h. result ≡ laws.outcome n h) }
     {
         result::outcome(&self.standing)
     }

@@ -17,4 +17,3 @@ pub use outcome::Outcome;
 pub use refusals::LawRefusal;
 pub use rows::{BattingRow, BowlingRow, Fall, Fate};
 pub use score::Extras;
-

@@ -5,18 +5,17 @@ ghost use Rattle.ball_laws.specs.History.{History};
 ghost use Rattle.match_laws.specs.History as history;
 ghost use Rattle.match_laws.specs.Result as laws;
 ghost use Rattle.match_laws.specs.Parts.{score_of, side_record};
-ghost use Rattle.match_laws.specs.Stands.{IsKept, StandsFor};
-
-use notation::Side;
+ghost use Rattle.match_laws.specs.Stands.{ForEachHistory, IsKept};
 
 use crate::outcome::Outcome;
 use crate::score::{InningsScore, one_if};
 use crate::sides::{SideRecord, is_same, opponent};
 use crate::standing::Standing;
+use notation::Side;
 
 /// What the match keeps of the side.
 pub fn record_of(standing: &Standing, side: Side) -> SideRecord
-    ensures { (n : ℕ) → (h : History) → StandsFor standing.now n h → result ≡ side_record h side }
+    ensures { ForEachHistory standing.now (λ n h. result ≡ side_record h side) }
 {
     match side {
         Side::Home => standing.home,
@@ -26,8 +25,7 @@ pub fn record_of(standing: &Standing, side: Side) -> SideRecord
 
 /// Whether the innings that began last is the side's.
 fn was_last(standing: &Standing, side: Side) -> bool
-    ensures { (n : ℕ) → (h : History) → StandsFor standing.now n h
-        → result ≡ history.is_side (history.last_side h) side }
+    ensures { ForEachHistory standing.now (λ n h. result ≡ history.is_side (history.last_side h) side) }
 {
     match standing.last {
         None => false,
@@ -37,28 +35,30 @@ fn was_last(standing: &Standing, side: Side) -> bool
 
 /// Whether the side bats in the open innings.
 fn is_batting(standing: &Standing, side: Side) -> bool
-    ensures { (n : ℕ) → (h : History) → StandsFor standing.now n h → result ≡ history.is_batting h side }
+    ensures { ForEachHistory standing.now (λ n h. result ≡ history.is_batting h side) }
 {
     standing.playing && was_last(standing, side)
 }
 
 /// How many innings the side has completed.
 pub fn completed_by(standing: &Standing, side: Side) -> u32
-    ensures { (n : ℕ) → (h : History) → StandsFor standing.now n h → result ≡ history.completed_by h side }
+    ensures { ForEachHistory standing.now (λ n h. result ≡ history.completed_by h side) }
 {
-    record_of(standing, side).begun.saturating_sub(one_if(is_batting(standing, side)))
+    record_of(standing, side)
+        .begun
+        .saturating_sub(one_if(is_batting(standing, side)))
 }
 
 /// Whether the side has completed all its innings.
 fn is_finished(standing: &Standing, side: Side) -> bool
-    ensures { (n : ℕ) → (h : History) → StandsFor standing.now n h → result ≡ laws.is_finished n h side }
+    ensures { ForEachHistory standing.now (λ n h. result ≡ laws.is_finished n h side) }
 {
     completed_by(standing, side) == standing.innings_a_side
 }
 
 /// Whether the side bats in its last innings with the other finished.
 fn is_chasing(standing: &Standing, side: Side) -> bool
-    ensures { (n : ℕ) → (h : History) → StandsFor standing.now n h → result ≡ laws.is_chasing n h side }
+    ensures { ForEachHistory standing.now (λ n h. result ≡ laws.is_chasing n h side) }
 {
     is_batting(standing, side)
         && record_of(standing, side).begun == standing.innings_a_side
@@ -68,7 +68,7 @@ fn is_chasing(standing: &Standing, side: Side) -> bool
 /// The innings that began last.
 pub fn current(standing: &Standing) -> usize
     requires { ∥ IsKept standing.now ∥₁ }
-    ensures value { (n : ℕ) → (h : History) → StandsFor standing.now n h → result ≡ laws.current h }
+    ensures value { ForEachHistory standing.now (λ n h. result ≡ laws.current h) }
     ensures bound { result < 4 }
 {
     standing.begun.saturating_sub(1)
@@ -77,8 +77,7 @@ pub fn current(standing: &Standing) -> usize
 /// The score of the innings that began last.
 pub fn current_score(standing: &Standing) -> InningsScore
     requires { ∥ IsKept standing.now ∥₁ }
-    ensures { (n : ℕ) → (h : History) → StandsFor standing.now n h
-        → result ≡ score_of h (laws.current h) }
+    ensures { ForEachHistory standing.now (λ n h. result ≡ score_of h (laws.current h)) }
 {
     standing.scores[current(standing)]
 }
@@ -98,7 +97,7 @@ fn share(score: &InningsScore, side: Side) -> u32
 /// The total of the side.
 pub fn side_total(standing: &Standing, side: Side) -> u32
     requires { ∥ IsKept standing.now ∥₁ }
-    ensures value { (n : ℕ) → (h : History) → StandsFor standing.now n h → result ≡ laws.side_total h side }
+    ensures value { ForEachHistory standing.now (λ n h. result ≡ laws.side_total h side) }
     ensures bound { result < 2 ^ 31 }
 {
     let [first, second, third, fourth] = standing.scores;
@@ -107,14 +106,14 @@ pub fn side_total(standing: &Standing, side: Side) -> u32
 
 fn leads(standing: &Standing, side: Side) -> bool
     requires { ∥ IsKept standing.now ∥₁ }
-    ensures { (n : ℕ) → (h : History) → StandsFor standing.now n h → result ≡ laws.leads h side }
+    ensures { ForEachHistory standing.now (λ n h. result ≡ laws.leads h side) }
 {
     side_total(standing, opponent(side)) < side_total(standing, side)
 }
 
 fn has_won(standing: &Standing, side: Side) -> bool
     requires { ∥ IsKept standing.now ∥₁ }
-    ensures { (n : ℕ) → (h : History) → StandsFor standing.now n h → result ≡ laws.has_won n h side }
+    ensures { ForEachHistory standing.now (λ n h. result ≡ laws.has_won n h side) }
 {
     leads(standing, side)
         && (!standing.playing && is_finished(standing, opponent(side))
@@ -125,7 +124,7 @@ fn has_won(standing: &Standing, side: Side) -> bool
 #[tactic(auto, unfolding(crate::specs::Result::is_decided))]
 pub fn is_decided(standing: &Standing) -> bool
     requires { ∥ IsKept standing.now ∥₁ }
-    ensures { (n : ℕ) → (h : History) → StandsFor standing.now n h → result ≡ laws.is_decided n h }
+    ensures { ForEachHistory standing.now (λ n h. result ≡ laws.is_decided n h) }
 {
     has_won(standing, Side::Home) || has_won(standing, Side::Away)
 }
@@ -133,7 +132,7 @@ pub fn is_decided(standing: &Standing) -> bool
 /// By how many runs the side leads.
 fn lead(standing: &Standing, side: Side) -> u32
     requires { ∥ IsKept standing.now ∥₁ }
-    ensures { (n : ℕ) → (h : History) → StandsFor standing.now n h → result ≡ laws.lead h side }
+    ensures { ForEachHistory standing.now (λ n h. result ≡ laws.lead h side) }
 {
     side_total(standing, side).saturating_sub(side_total(standing, opponent(side)))
 }
@@ -141,7 +140,7 @@ fn lead(standing: &Standing, side: Side) -> u32
 /// How the side's win is worded.
 fn won_by(standing: &Standing, side: Side) -> Outcome
     requires { ∥ IsKept standing.now ∥₁ }
-    ensures { (n : ℕ) → (h : History) → StandsFor standing.now n h → result ≡ laws.won_by n h side }
+    ensures { ForEachHistory standing.now (λ n h. result ≡ laws.won_by n h side) }
 {
     if standing.playing {
         Outcome::Wickets(side, 10u32.saturating_sub(current_score(standing).wickets))
@@ -158,7 +157,7 @@ fn won_by(standing: &Standing, side: Side) -> Outcome
 #[tactic(auto, unfolding(crate::specs::Result::outcome))]
 pub fn outcome(standing: &Standing) -> Outcome
     requires { ∥ IsKept standing.now ∥₁ }
-    ensures { (n : ℕ) → (h : History) → StandsFor standing.now n h → result ≡ laws.outcome n h }
+    ensures { ForEachHistory standing.now (λ n h. result ≡ laws.outcome n h) }
 {
     if has_won(standing, Side::Home) {
         won_by(standing, Side::Home)
@@ -176,7 +175,7 @@ pub fn outcome(standing: &Standing) -> Outcome
 /// The runs that the side needs to win in its last innings.
 fn needed(standing: &Standing, side: Side) -> u32
     requires { ∥ IsKept standing.now ∥₁ }
-    ensures { (n : ℕ) → (h : History) → StandsFor standing.now n h → result ≡ laws.needed h side }
+    ensures { ForEachHistory standing.now (λ n h. result ≡ laws.needed h side) }
 {
     let earlier = side_total(standing, side).saturating_sub(current_score(standing).total);
     (side_total(standing, opponent(side)) + 1).saturating_sub(earlier)
@@ -186,7 +185,7 @@ fn needed(standing: &Standing, side: Side) -> u32
 #[tactic(auto, unfolding(crate::specs::Result::target))]
 pub fn target(standing: &Standing) -> Option<u32>
     requires { ∥ IsKept standing.now ∥₁ }
-    ensures { (n : ℕ) → (h : History) → StandsFor standing.now n h → result ≡ laws.target n h }
+    ensures { ForEachHistory standing.now (λ n h. result ≡ laws.target n h) }
 {
     if is_chasing(standing, Side::Home) {
         Some(needed(standing, Side::Home))

@@ -5,19 +5,17 @@ ghost use Rattle.notation.specs.declared.entry.Plain.{Plain as APlain};
 ghost use Rattle.ball_laws.specs.History.{History};
 ghost use Rattle.match_laws.specs.History.{is_open};
 ghost use Rattle.match_laws.specs.Refusals as laws;
-ghost use Rattle.match_laws.specs.Stands.{IsKept, StandsFor, MayGo, HasRoom};
-
-use notation::{Cause, Plain, Side};
+ghost use Rattle.match_laws.specs.Stands.{ForEachHistory, HasRoom, IsKept, MayGo};
 
 use crate::refusals::LawRefusal;
 use crate::result::{completed_by, current_score, is_decided, record_of};
 use crate::sides::opponent;
 use crate::standing::Standing;
+use notation::{Cause, Plain, Side};
 
 /// Whether ten wickets are down in the open innings.
 fn is_all_out(standing: &Standing) -> bool
-    ensures value { (n : ℕ) → (h : History) → StandsFor standing.now n h → is_open h ≡ true
-        → result ≡ laws.is_all_out h }
+    ensures value { ForEachHistory standing.now (λ n h. is_open h ≡ true → result ≡ laws.is_all_out h) }
     ensures room { result ≡ false → HasRoom standing.now }
 {
     standing.crease.wickets() >= 10
@@ -26,7 +24,7 @@ fn is_all_out(standing: &Standing) -> bool
 /// Whether an over was called, with no delivery since.
 fn is_between_overs(standing: &Standing) -> bool
     requires { ∥ IsKept standing.now ∥₁ }
-    ensures { (n : ℕ) → (h : History) → StandsFor standing.now n h → result ≡ laws.is_between_overs h }
+    ensures { ForEachHistory standing.now (λ n h. result ≡ laws.is_between_overs h) }
 {
     0 < current_score(standing).overs && standing.crease.over_now().deliveries == 0
 }
@@ -34,7 +32,7 @@ fn is_between_overs(standing: &Standing) -> bool
 /// Whether nobody has come in, and no wicket has fallen.
 fn is_untouched(standing: &Standing) -> bool
     requires { ∥ IsKept standing.now ∥₁ }
-    ensures { (n : ℕ) → (h : History) → StandsFor standing.now n h → result ≡ laws.is_untouched h }
+    ensures { ForEachHistory standing.now (λ n h. result ≡ laws.is_untouched h) }
 {
     let score = current_score(standing);
     !score.has_come && score.wickets == 0
@@ -43,8 +41,7 @@ fn is_untouched(standing: &Standing) -> bool
 /// Whether the cause of an end holds in the open innings.
 fn is_so(standing: &Standing, cause: Cause) -> bool
     requires { ∥ IsKept standing.now ∥₁ }
-    ensures { (n : ℕ) → (h : History) → StandsFor standing.now n h → is_open h ≡ true
-        → result ≡ laws.is_so cause h }
+    ensures { ForEachHistory standing.now (λ n h. is_open h ≡ true → result ≡ laws.is_so cause h) }
 {
     match cause {
         Cause::AllOut => is_all_out(standing),
@@ -57,11 +54,10 @@ fn is_so(standing: &Standing, cause: Cause) -> bool
 
 /// Whether the side has begun all its innings, or the other side's first isn't completed.
 fn is_wrong_side(standing: &Standing, side: Side) -> bool
-    ensures { (n : ℕ) → (h : History) → StandsFor standing.now n h → result ≡ laws.is_wrong_side n h side }
+    ensures { ForEachHistory standing.now (λ n h. result ≡ laws.is_wrong_side n h side) }
 {
     let begun = record_of(standing, side).begun;
-    begun == standing.innings_a_side
-        || begun == 1 && completed_by(standing, opponent(side)) == 0
+    begun == standing.innings_a_side || begun == 1 && completed_by(standing, opponent(side)) == 0
 }
 
 /// Whether the entry is taken in a decided match too.
@@ -77,8 +73,7 @@ fn is_taken_when_won(item: &Plain) -> bool
 /// The first row of the entry's own table that holds.
 fn own_refusal(standing: &Standing, item: &Plain) -> Option<LawRefusal>
     requires { ∥ IsKept standing.now ∥₁ }
-    ensures value { (n : ℕ) → (h : History) → StandsFor standing.now n h
-        → result ≡ laws.first_row (laws.own_rows n h item.now) }
+    ensures value { ForEachHistory standing.now (λ n h. result ≡ laws.first_row (laws.own_rows n h item.now)) }
     ensures room { IsNone result → MayGo standing.now item.now }
 {
     match item {
@@ -92,8 +87,7 @@ fn own_refusal(standing: &Standing, item: &Plain) -> Option<LawRefusal>
 }
 
 fn begin_refusal(standing: &Standing, side: Side) -> Option<LawRefusal>
-    ensures { (n : ℕ) → (h : History) → StandsFor standing.now n h
-        → result ≡ laws.first_row (laws.own_rows n h (APlain.Innings side)) }
+    ensures { ForEachHistory standing.now (λ n h. result ≡ laws.first_row (laws.own_rows n h (APlain.Innings side))) }
 {
     if standing.playing {
         Some(LawRefusal::InningsOpen)
@@ -107,8 +101,7 @@ fn begin_refusal(standing: &Standing, side: Side) -> Option<LawRefusal>
 /// Penalty runs are refused only with ten down in an open innings of an undecided match.
 fn award_refusal(standing: &Standing) -> Option<LawRefusal>
     requires { ∥ IsKept standing.now ∥₁ }
-    ensures { (n : ℕ) → (h : History) → StandsFor standing.now n h
-        → result ≡ laws.first_row (laws.award_rows n h) }
+    ensures { ForEachHistory standing.now (λ n h. result ≡ laws.first_row (laws.award_rows n h)) }
 {
     if standing.playing && is_all_out(standing) && !is_decided(standing) {
         Some(LawRefusal::NotInPlay)
@@ -119,8 +112,7 @@ fn award_refusal(standing: &Standing) -> Option<LawRefusal>
 
 fn end_refusal(standing: &Standing, cause: Cause) -> Option<LawRefusal>
     requires { ∥ IsKept standing.now ∥₁ }
-    ensures { (n : ℕ) → (h : History) → StandsFor standing.now n h
-        → result ≡ laws.first_row (laws.own_rows n h (APlain.End cause)) }
+    ensures { ForEachHistory standing.now (λ n h. result ≡ laws.first_row (laws.own_rows n h (APlain.End cause))) }
 {
     if !standing.playing {
         Some(LawRefusal::NotInPlay)
@@ -132,8 +124,7 @@ fn end_refusal(standing: &Standing, cause: Cause) -> Option<LawRefusal>
 }
 
 fn over_refusal(standing: &Standing) -> Option<LawRefusal>
-    ensures { (n : ℕ) → (h : History) → StandsFor standing.now n h
-        → result ≡ laws.first_row (laws.own_rows n h APlain.Over) }
+    ensures { ForEachHistory standing.now (λ n h. result ≡ laws.first_row (laws.own_rows n h APlain.Over)) }
 {
     if standing.playing {
         None
@@ -144,8 +135,7 @@ fn over_refusal(standing: &Standing) -> Option<LawRefusal>
 
 /// Why the batters and bowlers of an innings may do nothing.
 fn play_refusal(standing: &Standing) -> Option<LawRefusal>
-    ensures value { (n : ℕ) → (h : History) → StandsFor standing.now n h
-        → result ≡ laws.first_row (laws.play_rows h) }
+    ensures value { ForEachHistory standing.now (λ n h. result ≡ laws.first_row (laws.play_rows h)) }
     ensures room { IsNone result → HasRoom standing.now }
 {
     if !standing.playing || is_all_out(standing) {
@@ -158,8 +148,7 @@ fn play_refusal(standing: &Standing) -> Option<LawRefusal>
 /// Why the match refuses the entry, whatever the crease says of it.
 pub fn match_refusal(standing: &Standing, item: &Plain) -> Option<LawRefusal>
     requires { ∥ IsKept standing.now ∥₁ }
-    ensures value { (n : ℕ) → (h : History) → StandsFor standing.now n h
-        → result ≡ laws.first_row (laws.rows_of n h item.now) }
+    ensures value { ForEachHistory standing.now (λ n h. result ≡ laws.first_row (laws.rows_of n h item.now)) }
     ensures room { IsNone result → MayGo standing.now item.now }
 {
     if standing.taken >= 8192 {

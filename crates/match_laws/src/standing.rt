@@ -1,10 +1,9 @@
 //! What a match keeps of the entries that it has taken.
 
-use ball_laws::Crease;
-use notation::Side;
-
 use crate::score::InningsScore;
 use crate::sides::SideRecord;
+use ball_laws::Crease;
+use notation::Side;
 
 /// The standing of a match.
 #[derive(Clone, Copy, Debug, PartialEq, Eq)]

@@ -10,15 +10,14 @@ ghost use Rattle.match_laws.specs.History as history;
 ghost use Rattle.match_laws.specs.History.{is_void};
 ghost use Rattle.match_laws.specs.Refusals.{refusal};
 ghost use Rattle.match_laws.specs.Parts.{side_record};
-ghost use Rattle.match_laws.specs.Stands.{CanTake, IsKept, MayGoFrom, ScoresTake, StandsFor, Takes};
-
-use ball_laws::{BallRefusal, Crease};
-use notation::{Ball, Leave, Plain, Player, Side};
+ghost use Rattle.match_laws.specs.Stands.{CanTake, ForEachHistory, IsKept, MayGoFrom, ScoresTake, StandsFor, Takes};
 
 use crate::result::{current, current_score, record_of};
 use crate::score::InningsScore;
 use crate::sides::{SideRecord, is_same};
 use crate::standing::Standing;
+use ball_laws::{BallRefusal, Crease};
+use notation::{Ball, Leave, Plain, Player, Side};
 
 /// The crease after the entry, or its refusal.
 pub fn crease_after(crease: &Crease, item: &Plain) -> Result<Crease, BallRefusal>
@@ -85,8 +84,7 @@ fn closed_after(closed: bool, item: &Plain) -> bool
 /// What the match keeps of the side, after the entry.
 fn side_after(standing: &Standing, side: Side, item: &Plain) -> SideRecord
     requires { ∥ IsKept standing.now ∥₁ }
-    ensures { (n : ℕ) → (h : History) → StandsFor standing.now n h
-        → result ≡ side_record (item.now ∷ h) side }
+    ensures { ForEachHistory standing.now (λ n h. result ≡ side_record (item.now ∷ h) side) }
 {
     let record = record_of(standing, side);
     match item {
@@ -130,28 +128,44 @@ fn scores_with_come(standing: &Standing, player: Player) -> [InningsScore; 4]
     requires { ∥ IsKept standing.now ∥₁ }
     ensures { ScoresTake standing.now (APlain.Come player) result }
 {
-    replaced(standing, current(standing), current_score(standing).with_come())
+    replaced(
+        standing,
+        current(standing),
+        current_score(standing).with_come(),
+    )
 }
 
 fn scores_with_ball(standing: &Standing, ball: &Ball) -> [InningsScore; 4]
     requires { ∥ IsKept standing.now ∥₁ }
     ensures { ScoresTake standing.now (APlain.Ball ball.now) result }
 {
-    replaced(standing, current(standing), current_score(standing).with_ball(ball))
+    replaced(
+        standing,
+        current(standing),
+        current_score(standing).with_ball(ball),
+    )
 }
 
 fn scores_with_gone(standing: &Standing, way: Leave, player: Player) -> [InningsScore; 4]
     requires { ∥ IsKept standing.now ∥₁ }
     ensures { ScoresTake standing.now (APlain.Gone way player) result }
 {
-    replaced(standing, current(standing), current_score(standing).with_gone(way))
+    replaced(
+        standing,
+        current(standing),
+        current_score(standing).with_gone(way),
+    )
 }
 
 fn scores_with_over(standing: &Standing) -> [InningsScore; 4]
     requires { ∥ IsKept standing.now ∥₁ }
     ensures { ScoresTake standing.now APlain.Over result }
 {
-    replaced(standing, current(standing), current_score(standing).with_over())
+    replaced(
+        standing,
+        current(standing),
+        current_score(standing).with_over(),
+    )
 }
 
 /// Penalty runs count in the innings that their side began last, if there is one.

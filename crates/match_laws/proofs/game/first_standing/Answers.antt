@@ -8,17 +8,17 @@ use Rattle.match_laws.proofs.game.first_standing.Goals as goal
 pub returns : goal.returns
 unfolding entries begun_by pending_runs total wickets has_come overs balls odd_overs byes legs wides noballs penalty_runs table
 returns c = record {
-    one_or_two = c.requires;
-    legal = tt;
-    in_range = tt;
-    innings_a_side = refl;
-    taken = refl;
-    closed = refl;
-    playing = refl;
-    last = refl;
-    begun = refl;
-    home = c.new.ensures Home;
-    away = c.new-2.ensures Away;
-    crease = c.empty.ensures.state;
-    scores = rw c.begun.ensures refl
-  }
+  one_or_two = c.requires;
+  legal = tt;
+  in_range = tt;
+  innings_a_side = refl;
+  taken = refl;
+  closed = refl;
+  playing = refl;
+  last = refl;
+  begun = refl;
+  home = c.new.ensures Home;
+  away = c.new-2.ensures Away;
+  crease = c.empty.ensures.state;
+  scores = rw c.begun.ensures refl;
+}

@@ -24,8 +24,8 @@ with_item-requires-clause-taken c =
       stands = w.stands;
       in_range = c.requires.in_range;
       taken = not_refused w.innings_a_side w.history c.args.item.now written
-        (sym (c.match_refusal.ensures.value w.innings_a_side w.history w.stands) ∙ none_left _ c.in_default.not-Some)
-        ((c.in-Ok.ensures w.history (record { played = is_played w.innings_a_side w.history (w.stands).legal; kept = (w.stands).crease })).played.1)
+          (sym (c.match_refusal.ensures.value w.innings_a_side w.history w.stands) ∙ none_left _ c.in_default.not-Some)
+          ((c.in-Ok.ensures w.history (record { played = is_played w.innings_a_side w.history (w.stands).legal; kept = (w.stands).crease })).played.1);
     })
 
 pub returns-in-Ok : goal.returns-in-Ok
@@ -39,5 +39,5 @@ pub returns-in-Err : goal.returns-in-Err
 returns-in-Err c n h s =
     let written = sym c.is_void.ensures ∙ c.if-is_void.false in
     refused_by_crease n h c.args.item.now c.in-Err.why written
-      (sym (c.match_refusal.ensures.value n h s) ∙ none_left _ c.in_default.not-Some)
-      (c.in-Err.ensures h (record { played = is_played n h s.legal; kept = s.crease }))
+    (sym (c.match_refusal.ensures.value n h s) ∙ none_left _ c.in_default.not-Some)
+    (c.in-Err.ensures h (record { played = is_played n h s.legal; kept = s.crease }))

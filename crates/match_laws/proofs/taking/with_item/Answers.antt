@@ -16,17 +16,17 @@ begun_after-requires c =
 
 pub returns : goal.returns
 returns c n h s plain none crease = record {
-    one_or_two = s.one_or_two;
-    legal = (s.legal, none);
-    in_range = (s.in_range, plain);
-    innings_a_side = s.innings_a_side;
-    taken = ap (λ k. k + 1) s.taken ∙ sym (entries-more h c.args.item.now c.requires.written);
-    closed = c.closed_after.ensures h s.closed;
-    playing = c.playing_after.ensures h s.playing;
-    last = c.last_after.ensures h s.last;
-    begun = c.begun_after.ensures h s.begun;
-    home = c.side_after.ensures n h s;
-    away = c.side_after-2.ensures n h s;
-    crease = crease;
-    scores = c.scores_after.ensures n h s none
-  }
+  one_or_two = s.one_or_two;
+  legal = (s.legal, none);
+  in_range = (s.in_range, plain);
+  innings_a_side = s.innings_a_side;
+  taken = ap (λ k. k + 1) s.taken ∙ sym (entries-more h c.args.item.now c.requires.written);
+  closed = c.closed_after.ensures h s.closed;
+  playing = c.playing_after.ensures h s.playing;
+  last = c.last_after.ensures h s.last;
+  begun = c.begun_after.ensures h s.begun;
+  home = c.side_after.ensures n h s;
+  away = c.side_after-2.ensures n h s;
+  crease = crease;
+  scores = c.scores_after.ensures n h s none;
+}
