@@ -1,4 +1,3 @@
-mod WorkedMatches
 pub mod Counts
 pub mod AwardLemmas
 pub mod TableLemmas

@@ -6,3 +6,4 @@ pub mod Parts
 pub mod Stands
 pub mod Added
 pub mod LawRefusal
+pub mod Worked

@@ -11,6 +11,7 @@ mod score;
 mod sides;
 mod standing;
 mod taking;
+mod worked;
 
 pub use game::{Match, start, step};
 pub use outcome::Outcome;
