@@ -22,7 +22,8 @@ use ball_laws::{Crease, Ends};
 use notation::{Plain, Side};
 use std::marker::Model;
 
-/// A match: what it keeps of the entries that it has taken. It is `Copy`, of fixed tables, and holds no list.
+/// A match: what it keeps of the entries that it has taken. It is `Copy`, of fixed tables, and
+/// holds no list.
 /// Innings are numbered from 0, in the order in which they begin.
 #[derive(Clone, Copy, Debug, PartialEq, Eq)]
 pub struct Match {
@@ -98,8 +99,10 @@ fn standing_after(standing: &Standing, item: &Plain) -> Result<Standing, LawRefu
     }
 }
 
-/// The match with an entry more, or why the entry is refused: the first refusal of its table, which is that of the
-/// match, of the innings and of the crease, in this order. `void` is always taken, and adds nothing.
+/// The match with an entry more, or why the entry is refused: the first refusal of its table,
+/// which is that of the
+/// match, of the innings and of the crease, in this order. `void` is always taken, and adds
+/// nothing.
 pub fn step(game: &Match, item: &Plain) -> Result<Match, LawRefusal>
     requires { IsPlain item.now }
     ensures { ForEachHistory game.now (λ n h. IsStep result n h item.now) }
@@ -199,7 +202,8 @@ impl Match {
         result::side_total(&self.standing, side)
     }
 
-    /// What the side that bats needs in all in the open innings to win, where it is the side's last and the other side
+    /// What the side that bats needs in all in the open innings to win, where it is the side's
+    /// last and the other side
     /// is finished.
     pub fn target(&self) -> Option<u32>
         ensures { ForEachHistory self.now (λ n h. result ≡ laws.target n h) }

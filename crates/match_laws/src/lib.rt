@@ -18,3 +18,6 @@ pub use outcome::Outcome;
 pub use refusals::LawRefusal;
 pub use rows::{BattingRow, BowlingRow, Fall, Fate};
 pub use score::Extras;
+
+#[cfg(test)]
+mod tests;

@@ -7,7 +7,8 @@ use ball_laws::BallRefusal;
 use std::error::Error;
 use std::fmt;
 
-/// Why an entry is refused. Where several reasons hold, the first of the entry's table is answered, and the match
+/// Why an entry is refused. Where several reasons hold, the first of the entry's table is
+/// answered, and the match
 /// stays as it was.
 #[derive(Clone, Copy, Debug, PartialEq, Eq)]
 pub enum LawRefusal {
@@ -15,7 +16,8 @@ pub enum LawRefusal {
     Ball(BallRefusal),
     /// 20: no innings is open, or ten wickets are down.
     NotInPlay,
-    /// 21: the side has begun all its innings, or would begin its second before the other completed its first.
+    /// 21: the side has begun all its innings, or would begin its second before the other
+    /// completed its first.
     WrongSide,
     /// 22: an innings is open.
     InningsOpen,

@@ -25,7 +25,8 @@ pub fn record_of(standing: &Standing, side: Side) -> SideRecord
 
 /// Whether the innings that began last is the side's.
 fn was_last(standing: &Standing, side: Side) -> bool
-    ensures { ForEachHistory standing.now (λ n h. result ≡ history.is_side (history.last_side h) side) }
+    ensures { ForEachHistory standing.now (λ n h.
+        result ≡ history.is_side (history.last_side h) side) }
 {
     match standing.last {
         None => false,

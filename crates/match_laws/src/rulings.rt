@@ -15,7 +15,8 @@ use notation::{Cause, Plain, Side};
 
 /// Whether ten wickets are down in the open innings.
 fn is_all_out(standing: &Standing) -> bool
-    ensures value { ForEachHistory standing.now (λ n h. is_open h ≡ true → result ≡ laws.is_all_out h) }
+    ensures value { ForEachHistory standing.now (λ n h.
+        is_open h ≡ true → result ≡ laws.is_all_out h) }
     ensures room { result ≡ false → HasRoom standing.now }
 {
     standing.crease.wickets() >= 10
@@ -73,7 +74,8 @@ fn is_taken_when_won(item: &Plain) -> bool
 /// The first row of the entry's own table that holds.
 fn own_refusal(standing: &Standing, item: &Plain) -> Option<LawRefusal>
     requires { ∥ IsKept standing.now ∥₁ }
-    ensures value { ForEachHistory standing.now (λ n h. result ≡ laws.first_row (laws.own_rows n h item.now)) }
+    ensures value { ForEachHistory standing.now (λ n h.
+        result ≡ laws.first_row (laws.own_rows n h item.now)) }
     ensures room { IsNone result → MayGo standing.now item.now }
 {
     match item {
@@ -87,7 +89,8 @@ fn own_refusal(standing: &Standing, item: &Plain) -> Option<LawRefusal>
 }
 
 fn begin_refusal(standing: &Standing, side: Side) -> Option<LawRefusal>
-    ensures { ForEachHistory standing.now (λ n h. result ≡ laws.first_row (laws.own_rows n h (APlain.Innings side))) }
+    ensures { ForEachHistory standing.now (λ n h.
+        result ≡ laws.first_row (laws.own_rows n h (APlain.Innings side))) }
 {
     if standing.playing {
         Some(LawRefusal::InningsOpen)
@@ -112,7 +115,8 @@ fn award_refusal(standing: &Standing) -> Option<LawRefusal>
 
 fn end_refusal(standing: &Standing, cause: Cause) -> Option<LawRefusal>
     requires { ∥ IsKept standing.now ∥₁ }
-    ensures { ForEachHistory standing.now (λ n h. result ≡ laws.first_row (laws.own_rows n h (APlain.End cause))) }
+    ensures { ForEachHistory standing.now (λ n h.
+        result ≡ laws.first_row (laws.own_rows n h (APlain.End cause))) }
 {
     if !standing.playing {
         Some(LawRefusal::NotInPlay)
@@ -124,7 +128,8 @@ fn end_refusal(standing: &Standing, cause: Cause) -> Option<LawRefusal>
 }
 
 fn over_refusal(standing: &Standing) -> Option<LawRefusal>
-    ensures { ForEachHistory standing.now (λ n h. result ≡ laws.first_row (laws.own_rows n h APlain.Over)) }
+    ensures { ForEachHistory standing.now (λ n h.
+        result ≡ laws.first_row (laws.own_rows n h APlain.Over)) }
 {
     if standing.playing {
         None
@@ -135,7 +140,8 @@ fn over_refusal(standing: &Standing) -> Option<LawRefusal>
 
 /// Why the batters and bowlers of an innings may do nothing.
 fn play_refusal(standing: &Standing) -> Option<LawRefusal>
-    ensures value { ForEachHistory standing.now (λ n h. result ≡ laws.first_row (laws.play_rows h)) }
+    ensures value { ForEachHistory standing.now (λ n h.
+        result ≡ laws.first_row (laws.play_rows h)) }
     ensures room { IsNone result → HasRoom standing.now }
 {
     if !standing.playing || is_all_out(standing) {
@@ -148,7 +154,8 @@ fn play_refusal(standing: &Standing) -> Option<LawRefusal>
 /// Why the match refuses the entry, whatever the crease says of it.
 pub fn match_refusal(standing: &Standing, item: &Plain) -> Option<LawRefusal>
     requires { ∥ IsKept standing.now ∥₁ }
-    ensures value { ForEachHistory standing.now (λ n h. result ≡ laws.first_row (laws.rows_of n h item.now)) }
+    ensures value { ForEachHistory standing.now (λ n h.
+        result ≡ laws.first_row (laws.rows_of n h item.now)) }
     ensures room { IsNone result → MayGo standing.now item.now }
 {
     if standing.taken >= 8192 {
