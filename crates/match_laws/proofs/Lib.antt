@@ -8,3 +8,12 @@ pub mod KeptLemmas
 pub mod SideLemmas
 pub mod ScoreTables
 pub mod StepLemmas
+pub mod BattingRows
+pub mod BattingOrders
+pub mod BattingItems
+pub mod BattingElsewhere
+pub mod BowlingRows
+pub mod BowlingItems
+pub mod PlayerTables
+pub mod BattingBounds
+pub mod BowlingBounds

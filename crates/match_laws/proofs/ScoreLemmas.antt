@@ -289,3 +289,7 @@ score-void h j = refl
 pub score-end : (h : History) (cause : Cause) (j : ℕ) → score_of h j ≡ score_of (End cause ∷ h) j
 unfolding total wickets has_come overs balls odd_overs byes legs wides noballs penalty_runs
 score-end h cause j = refl
+
+pub total-gone : (h : History) (way : Leave) (p j : ℕ) → total h j ≡ total (Gone way p ∷ h) j
+unfolding total penalty_runs
+total-gone h way p j = refl

@@ -16,6 +16,10 @@ use Rattle.match_laws.specs.Refusals.{first_row, rows_of, refusal}
 use Rattle.match_laws.specs.Parts.{table, score_of, side_record}
 use Rattle.match_laws.specs.Stands.{StandsFor}
 use Rattle.match_laws.proofs.ScoreLemmas.{score-void}
+use Rattle.match_laws.specs.BattingTables.{batting_table_of}
+use Rattle.match_laws.specs.BowlingTables.{bowling_table_of}
+use Rattle.match_laws.proofs.BattingElsewhere.{batting_table-kept}
+use Rattle.match_laws.proofs.BowlingItems.{bowling_table-kept}
 use Rattle.match_laws.proofs.TableLemmas.{table_same}
 
 pub refusal-rows : (n : ℕ) (h : History) (x : Plain) → is_void x ≡ false → refusal n h x ≡ or_else (first_row (rows_of n h x)) (option_map OfBall (ball_refusal (state_after h) x))
@@ -70,6 +74,8 @@ stands-void m n h s = record {
   away = s.away ∙ void-record h _;
   crease = s.crease;
   scores = s.scores ∙ table_same (score_of h) (score_of (Void ∷ h)) 4 (λ j lt. score-void h j);
+  batting = s.batting ∙ table_same (batting_table_of h) (batting_table_of (Void ∷ h)) 4 (λ j lt. batting_table-kept h Void j refl);
+  bowling = s.bowling ∙ table_same (bowling_table_of h) (bowling_table_of (Void ∷ h)) 4 (λ j lt. bowling_table-kept h Void j refl);
 }
 
 pub is_void-is : (x : Plain) → is_void x ≡ true → x ≡ Void

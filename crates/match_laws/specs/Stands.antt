@@ -13,7 +13,11 @@ use Rattle.match_laws.specs.declared.refusals.LawRefusal.{LawRefusal}
 use Rattle.match_laws.specs.History.{begun, last_side, is_open, is_closed, entries}
 use Rattle.match_laws.specs.Refusals.{refusal, IsLegal}
 use Rattle.match_laws.specs.declared.score.InningsScore.{InningsScore}
+use Rattle.match_laws.specs.declared.batting.BattingTable.{BattingTable}
+use Rattle.match_laws.specs.declared.bowling.BowlingTable.{BowlingTable}
 use Rattle.match_laws.specs.declared.standing.Standing.{Standing}
+use Rattle.match_laws.specs.BattingTables.{batting_table_of}
+use Rattle.match_laws.specs.BowlingTables.{bowling_table_of}
 use Rattle.match_laws.specs.Parts.{table, score_of, side_record}
 
 -- the match has the standing of the history, which is legal, with n innings a side
@@ -31,6 +35,8 @@ pub record StandsFor (m : Standing) (n : ℕ) (h : History) : Type 0 where
   pub away : m.away ≡ side_record h Away
   pub crease : m.crease ≡ standing_of (state_after h)
   pub scores : m.scores ≡ table (score_of h) 4
+  pub batting : m.batting ≡ table (batting_table_of h) 4
+  pub bowling : m.bowling ≡ table (bowling_table_of h) 4
 
 -- fewer than ten wickets are down at the crease
 abbrev pub HasRoom : Standing → Type 0
@@ -69,6 +75,13 @@ pub record CanTake (m : Standing) (x : Plain) : Type 0 where
 -- the scores are those of the history with the entry added, which the history takes
 abbrev pub ScoresTake : Standing → Plain → List InningsScore → Type 0
 ScoresTake m x scores = ForEachHistory m (λ n h. refusal n h x ≡ None → scores ≡ table (score_of (x ∷ h)) 4)
+
+-- so are the batting tables, and the bowling tables
+abbrev pub BattingTakes : Standing → Plain → List BattingTable → Type 0
+BattingTakes m x tables = ForEachHistory m (λ n h. refusal n h x ≡ None → tables ≡ table (batting_table_of (x ∷ h)) 4)
+
+abbrev pub BowlingTakes : Standing → Plain → List BowlingTable → Type 0
+BowlingTakes m x tables = ForEachHistory m (λ n h. refusal n h x ≡ None → tables ≡ table (bowling_table_of (x ∷ h)) 4)
 
 -- so is the standing, with this crease
 abbrev pub Takes : Standing → Plain → Crease → Standing → Type 0

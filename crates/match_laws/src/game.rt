@@ -7,19 +7,24 @@ ghost use Rattle.ball_laws.specs.Laws.{state_after};
 ghost use Rattle.match_laws.specs.History as history;
 ghost use Rattle.match_laws.specs.Figures as figures;
 ghost use Rattle.match_laws.specs.Result as laws;
-ghost use Rattle.match_laws.specs.Parts.{score_of, extras_of};
+ghost use Rattle.match_laws.specs.BattingTables.{batting_table_of};
+ghost use Rattle.match_laws.specs.BowlingTables.{bowling_table_of};
+ghost use Rattle.match_laws.specs.Parts.{batting_row_of, bowling_row_of, from_front, score_of, extras_of};
 ghost use Rattle.match_laws.specs.Stands.{ForEachHistory, IsKept, IsStep, StandsFor, begun_in};
 
+use crate::batting::BattingTable;
+use crate::bowling::BowlingTable;
 use crate::outcome::Outcome;
 use crate::refusals::LawRefusal;
 use crate::result;
 use crate::rulings::match_refusal;
+use crate::rows::{BattingRow, BowlingRow, Fall};
 use crate::score::{Extras, InningsScore};
 use crate::sides::SideRecord;
 use crate::standing::Standing;
 use crate::taking::{crease_after, with_item};
 use ball_laws::{Crease, Ends};
-use notation::{Plain, Side};
+use notation::{Plain, Player, Side};
 use std::marker::Model;
 
 /// A match: what it keeps of the entries that it has taken. It is `Copy`, of fixed tables, and
@@ -59,6 +64,8 @@ fn first_standing(innings_a_side: u32) -> Standing
         away: SideRecord::new(),
         crease: Crease::empty(),
         scores: [InningsScore::begun(Side::Home, 0); 4],
+        batting: [BattingTable::empty(); 4],
+        bowling: [BowlingTable::empty(); 4],
     }
 }
 
@@ -120,6 +127,24 @@ fn score(standing: &Standing, innings: usize) -> InningsScore
     ensures { ForEachHistory standing.now (λ n h. result ≡ score_of h innings) }
 {
     standing.scores[innings]
+}
+
+/// The batting table of an innings that has begun.
+fn batting(standing: &Standing, innings: usize) -> BattingTable
+    requires kept { ∥ IsKept standing.now ∥₁ }
+    requires begun { innings < standing.now.begun }
+    ensures { ForEachHistory standing.now (λ n h. result ≡ batting_table_of h innings) }
+{
+    standing.batting[innings]
+}
+
+/// The bowling table of an innings that has begun.
+fn bowling(standing: &Standing, innings: usize) -> BowlingTable
+    requires kept { ∥ IsKept standing.now ∥₁ }
+    requires begun { innings < standing.now.begun }
+    ensures { ForEachHistory standing.now (λ n h. result ≡ bowling_table_of h innings) }
+{
+    standing.bowling[innings]
 }
 
 impl Match {
@@ -216,5 +241,50 @@ impl Match {
         ensures { ForEachHistory self.now (λ n h. result ≡ laws.outcome n h) }
     {
         result::outcome(&self.standing)
+    }
+
+    /// The player's figures as a batter in the innings.
+    pub fn batting_row(&self, innings: usize, player: Player) -> BattingRow
+        requires { innings < begun_in self.now }
+        ensures { ForEachHistory self.now (λ n h. result ≡ batting_row_of h innings player) }
+    {
+        let table = batting(&self.standing, innings);
+        table.rows[usize::from(player.number() - 1)]
+    }
+
+    /// The player's figures as a bowler in the innings; a bowler is of the side that fields.
+    pub fn bowling_row(&self, innings: usize, bowler: Player) -> BowlingRow
+        requires { innings < begun_in self.now }
+        ensures { ForEachHistory self.now (λ n h. result ≡ bowling_row_of h innings bowler) }
+    {
+        let table = bowling(&self.standing, innings);
+        table.rows[usize::from(bowler.number() - 1)]
+    }
+
+    /// Who came in or was timed out in the innings, in the order of first doing so, filled from the front.
+    pub fn batting_order(&self, innings: usize) -> [Option<Player>; 11]
+        requires { innings < begun_in self.now }
+        ensures { ForEachHistory self.now (λ n h.
+            result ≡ from_front 11 (figures.batting_order h innings)) }
+    {
+        batting(&self.standing, innings).order
+    }
+
+    /// Who bowled in the innings, in the order of the first delivery, filled from the front.
+    pub fn bowling_order(&self, innings: usize) -> [Option<Player>; 11]
+        requires { innings < begun_in self.now }
+        ensures { ForEachHistory self.now (λ n h.
+            result ≡ from_front 11 (figures.bowling_order h innings)) }
+    {
+        bowling(&self.standing, innings).order
+    }
+
+    /// The falls of wickets in the innings, in order, filled from the front.
+    pub fn falls(&self, innings: usize) -> [Option<Fall>; 10]
+        requires { innings < begun_in self.now }
+        ensures { ForEachHistory self.now (λ n h.
+            result ≡ from_front 10 (figures.falls h innings)) }
+    {
+        batting(&self.standing, innings).falls
     }
 }

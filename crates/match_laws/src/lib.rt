@@ -1,6 +1,8 @@
 //! A match under the Laws of Cricket: its innings, figures, refusals and result.
 #![tactic(auto)]
 
+mod batting;
+mod bowling;
 mod game;
 mod outcome;
 mod refusals;
@@ -10,6 +12,7 @@ mod rulings;
 mod score;
 mod sides;
 mod standing;
+mod tables;
 mod taking;
 mod worked;
 

@@ -16,6 +16,7 @@ use crate::result::{current, current_score, record_of};
 use crate::score::InningsScore;
 use crate::sides::{SideRecord, is_same};
 use crate::standing::Standing;
+use crate::tables::{batting_after, bowling_after};
 use ball_laws::{BallRefusal, Crease};
 use notation::{Ball, Leave, Plain, Player, Side};
 
@@ -214,5 +215,7 @@ pub fn with_item(standing: &Standing, item: &Plain, crease: Crease) -> Standing
         away: side_after(standing, Side::Away, item),
         crease,
         scores: scores_after(standing, item),
+        batting: batting_after(standing, item),
+        bowling: bowling_after(standing, item),
     }
 }

@@ -29,4 +29,6 @@ returns c n h s plain none crease = record {
   away = c.side_after-2.ensures n h s;
   crease = crease;
   scores = c.scores_after.ensures n h s none;
+  batting = c.batting_after.ensures n h s none;
+  bowling = c.bowling_after.ensures n h s none;
 }
