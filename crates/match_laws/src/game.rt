@@ -1,6 +1,6 @@
 //! A match, entry by entry.
 
-ghost use Rattle.std.specs.Prelude.{◌≡◌, ℕ, ◌≤◌, ◌<◌, []};
+ghost use Rattle.std.specs.Prelude.{◌≡◌, ℕ, ◌≤◌, ◌<◌, [], length};
 ghost use Rattle.notation.specs.Written.{IsPlain};
 ghost use Rattle.ball_laws.specs.History.{History};
 ghost use Rattle.ball_laws.specs.Laws.{state_after};
@@ -189,7 +189,8 @@ impl Match {
     /// How many wickets fell in the innings: all who left for good, but not who is retired hurt.
     pub fn wickets(&self, innings: usize) -> u32
         requires { innings < begun_in self.now }
-        ensures { ForEachHistory self.now (λ n h. result ≡ figures.wickets h innings) }
+        ensures at_most_ten { ForEachHistory self.now (λ n h. result ≤ 10) }
+        ensures value { ForEachHistory self.now (λ n h. result ≡ figures.wickets h innings) }
     {
         score(&self.standing, innings).wickets
     }
@@ -264,8 +265,10 @@ impl Match {
     /// Who came in or was timed out in the innings, in the order of first doing so, filled from the front.
     pub fn batting_order(&self, innings: usize) -> [Option<Player>; 11]
         requires { innings < begun_in self.now }
-        ensures { ForEachHistory self.now (λ n h.
+        ensures filled { ForEachHistory self.now (λ n h.
             result ≡ from_front 11 (figures.batting_order h innings)) }
+        // None is cut off.
+        ensures all { ForEachHistory self.now (λ n h. length (figures.batting_order h innings) ≤ 11) }
     {
         batting(&self.standing, innings).order
     }
@@ -273,8 +276,10 @@ impl Match {
     /// Who bowled in the innings, in the order of the first delivery, filled from the front.
     pub fn bowling_order(&self, innings: usize) -> [Option<Player>; 11]
         requires { innings < begun_in self.now }
-        ensures { ForEachHistory self.now (λ n h.
+        ensures filled { ForEachHistory self.now (λ n h.
             result ≡ from_front 11 (figures.bowling_order h innings)) }
+        // None is cut off.
+        ensures all { ForEachHistory self.now (λ n h. length (figures.bowling_order h innings) ≤ 11) }
     {
         bowling(&self.standing, innings).order
     }
@@ -282,8 +287,10 @@ impl Match {
     /// The falls of wickets in the innings, in order, filled from the front.
     pub fn falls(&self, innings: usize) -> [Option<Fall>; 10]
         requires { innings < begun_in self.now }
-        ensures { ForEachHistory self.now (λ n h.
+        ensures filled { ForEachHistory self.now (λ n h.
             result ≡ from_front 10 (figures.falls h innings)) }
+        // None is cut off.
+        ensures all { ForEachHistory self.now (λ n h. length (figures.falls h innings) ≤ 10) }
     {
         batting(&self.standing, innings).falls
     }
