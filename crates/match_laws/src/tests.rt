@@ -1,7 +1,7 @@
 //! Worked matches, run.
 
-use crate::{Extras, LawRefusal, Match, Outcome, start, step};
-use notation::{Entry, Side, read_line};
+use crate::{BattingRow, BowlingRow, Extras, Fate, LawRefusal, Match, Outcome, start, step};
+use notation::{Entry, Leave, Player, Side, read_line};
 use std::process::Abort;
 
 /// The answer to an entry line.
@@ -55,6 +55,33 @@ fn overs(rt: &impl Abort, game: &Match, innings: usize) -> (u32, u32, u32) {
 fn extras(rt: &impl Abort, game: &Match, innings: usize) -> Extras {
     assert!(rt; innings < game.begun());
     game.extras(innings)
+}
+
+fn batting_row(rt: &impl Abort, game: &Match, innings: usize, number: u8) -> BattingRow {
+    assert!(rt; innings < game.begun());
+    game.batting_row(innings, Player::new(number).expect(rt, "a player"))
+}
+
+fn bowling_row(rt: &impl Abort, game: &Match, innings: usize, number: u8) -> BowlingRow {
+    assert!(rt; innings < game.begun());
+    game.bowling_row(innings, Player::new(number).expect(rt, "a player"))
+}
+
+/// Runs, balls faced, fours and sixes of a batter in the first innings.
+fn batted(rt: &impl Abort, game: &Match, number: u8) -> (u32, u32, u32, u32) {
+    let row = batting_row(rt, game, 0, number);
+    (row.runs, row.faced, row.fours, row.sixes)
+}
+
+/// Overs, balls, maidens, runs and wickets of a bowler in the first innings.
+fn bowled(rt: &impl Abort, game: &Match, number: u8) -> (u32, u32, u32, u32, u32) {
+    let row = bowling_row(rt, game, 0, number);
+    (row.overs, row.balls, row.maidens, row.runs, row.wickets)
+}
+
+/// The number in a place of an order, 0 where it is empty.
+fn number(place: Option<Player>) -> u8 {
+    place.map_or(0, |p| p.number())
 }
 
 /// The numbers at the two ends, 0 for a vacant one.
@@ -259,4 +286,69 @@ fn refusals_by_name(rt: HostRuntime) {
         format!(in alloc; "{why}").expect(&rt, "memory").as_str(),
         "NoVacancy"
     );
+}
+
+#[test]
+fn batters_figures(rt: HostRuntime) {
+    let game = opened(&rt, 2);
+    let wide = after(&rt, game, &["ball 7 wide 0 four"]);
+    assert_eq!(rt; batted(&rt, &wide, 1), (0, 0, 0, 0));
+    let leg = after(&rt, game, &["ball 7 nbleg 2"]);
+    assert_eq!(rt; batted(&rt, &leg, 1), (0, 1, 0, 0));
+    let overthrow = after(&rt, game, &["ball 7 bat 2 overthrow"]);
+    assert_eq!(rt; batted(&rt, &overthrow, 1), (6, 1, 0, 0));
+    let five = after(&rt, game, &["ball 7 bat 5 four"]);
+    assert_eq!(rt; batted(&rt, &five, 1), (5, 1, 1, 0));
+    let lines = &["ball 7 bat 1", "ball 7 bat 0", "ball 7 bat 1", "ball 7 bat 0 four"];
+    let both = after(&rt, game, lines);
+    assert_eq!(rt; batted(&rt, &both, 1), (5, 2, 1, 0));
+    assert_eq!(rt; batted(&rt, &both, 2), (1, 2, 0, 0));
+    let six = after(&rt, game, &["ball 7 nb 0 six"]);
+    assert_eq!(rt; batted(&rt, &six, 1), (6, 1, 0, 1));
+    assert_eq!(rt; batting_row(&rt, &six, 0, 1).fate, Some(Fate::NotOut));
+    assert_eq!(rt; batting_row(&rt, &six, 0, 3).fate, None);
+}
+
+#[test]
+fn bowlers_figures(rt: HostRuntime) {
+    let (seven, eight) = ("ball 7 bat 0", "ball 8 bat 0");
+    let game = opened(&rt, 2);
+    let caught = after(&rt, game, &["ball 7 bat 0 out caught striker 5", "in 3"]);
+    assert_eq!(rt; bowled(&rt, &caught, 7), (0, 1, 0, 0, 1));
+    let run_out = after(&rt, game, &["ball 7 bat 1 out runout striker 4 crossed", "in 3"]);
+    assert_eq!(rt; bowled(&rt, &run_out, 7), (0, 1, 0, 1, 0));
+    assert_eq!(rt; batted(&rt, &run_out, 1), (1, 1, 0, 0));
+    let short = after(&rt, game, &[seven, seven, seven, seven, seven, "over"]);
+    assert_eq!(rt; bowled(&rt, &short, 7), (1, 0, 1, 0, 0));
+    let shared = after(&rt, game, &[seven, seven, seven, eight, eight, eight, "over"]);
+    assert_eq!(rt; overs(&rt, &shared, 0), (1, 0, 0));
+    assert_eq!(rt; bowled(&rt, &shared, 7), (0, 3, 0, 0, 0));
+    assert_eq!(rt; bowled(&rt, &shared, 8), (0, 3, 0, 0, 0));
+    let wide = after(&rt, game, &["ball 7 wide 0 four"]);
+    assert_eq!(rt; bowling_row(&rt, &wide, 0, 7).wides, 5);
+    assert_eq!(rt; bowled(&rt, &wide, 7), (0, 0, 0, 5, 0));
+    let leg = after(&rt, game, &["ball 7 nbleg 2"]);
+    assert_eq!(rt; bowling_row(&rt, &leg, 0, 7).noballs, 1);
+    assert_eq!(rt; bowled(&rt, &leg, 7), (0, 0, 0, 1, 0));
+}
+
+#[test]
+fn orders_fates_and_falls(rt: HostRuntime) {
+    let game = after(&rt, opened(&rt, 2), &["gone retiredhurt 1", "in 3"]);
+    assert_eq!(rt; batting_row(&rt, &game, 0, 1).fate, Some(Fate::Hurt));
+    let game = after(&rt, game, &["ball 7 bat 2", "ball 7 bat 0 out bowled striker 0", "in 1"]);
+    let game = after(&rt, game, &["gone runout 2", "gone timedout 4"]);
+    assert!(rt; 0 < game.begun());
+    let [first, second, third, fourth, fifth, ..] = game.batting_order(0);
+    assert_eq!(rt; (number(first), number(second), number(third)), (1, 2, 3));
+    assert_eq!(rt; (number(fourth), number(fifth)), (4, 0));
+    let [first, second, ..] = game.bowling_order(0);
+    assert_eq!(rt; (number(first), number(second)), (7, 0));
+    assert_eq!(rt; batting_row(&rt, &game, 0, 2).fate, Some(Fate::Left(Leave::RunOut)));
+    assert_eq!(rt; batting_row(&rt, &game, 0, 4).fate, Some(Fate::Left(Leave::TimedOut)));
+    let [first, second, third, fourth, ..] = game.falls(0);
+    assert_eq!(rt; first.map_or((0, 0), |f| (f.player.number(), f.total)), (3, 2));
+    assert_eq!(rt; second.map_or((0, 0), |f| (f.player.number(), f.total)), (2, 2));
+    assert_eq!(rt; third.map_or((0, 0), |f| (f.player.number(), f.total)), (4, 2));
+    assert_eq!(rt; fourth.is_none(), true);
 }
