@@ -1,26 +1,24 @@
 -- What a legal history has.
-use Rattle.std.proofs.Common.{◌≡◌, ℕ, zero, suc, ◌+◌, ◌-◌, ◌*◌, ◌<◌, ◌≤◌, Bool, true, false, Some, None, Option, List, [], ◌∷◌, length, refl, sym, ◌∙◌, ap, subst, arith, leb, eqb, inl, inr, ◌⊎◌}
-use Rattle.std.proofs.lemmas.Bool.{eq-eqb, ne_eqb, leb-false}
-use Rattle.std.proofs.lemmas.Bool.Decides.{eqb_tells, leb_tells}
-use Rattle.std.specs.Prelude.{◌==◌, ◌&&◌, ◌||◌, not, nat_le, is_none, is_some, if◌then◌else◌, option_map}
+use Rattle.std.proofs.Common.{◌≡◌, ℕ, ◌+◌, ◌-◌, ◌<◌, ◌≤◌, Bool, true, false, Some, None, Option, List, [], ◌∷◌, refl, sym, arith, leb, inl, inr, ◌⊎◌}
+use Rattle.std.proofs.lemmas.Bool.{eq-eqb, leb-false}
+use Rattle.std.proofs.lemmas.Bool.Decides.{leb_tells}
+use Rattle.std.specs.Prelude.{◌==◌, ◌&&◌, ◌||◌, not, nat_le, if◌then◌else◌, option_map}
 use Rattle.notation.specs.declared.entry.Ball.{Ball}
 use Rattle.notation.specs.declared.entry.Leave.{Leave}
 use Rattle.notation.specs.declared.entry.Side.{Side}
 use Rattle.notation.specs.declared.entry.Side.TheVariants.{Home, Away}
 use Rattle.notation.specs.declared.entry.Plain.{Plain}
 use Rattle.notation.specs.declared.entry.Plain.TheVariants.{Innings, Come, Ball as Bowl, Gone, Over, Penalty, Swap, End, Close, Void}
-use Rattle.notation.specs.Written.{IsPlain}
 use Rattle.ball_laws.specs.declared.refusals.BallRefusal.{BallRefusal}
-use Rattle.ball_laws.specs.History.{History, IsInRange, is_wicket, open_innings, wickets_in}
+use Rattle.ball_laws.specs.History.{History, is_wicket, wickets_in}
 use Rattle.ball_laws.specs.Laws.{state_after, IsPlayed, refusal as ball_refusal}
 use Rattle.ball_laws.specs.Sums.{count_of}
 use Rattle.match_laws.specs.declared.refusals.LawRefusal.{LawRefusal}
-use Rattle.match_laws.specs.declared.refusals.LawRefusal.TheVariants.{Ball as OfBall, NotInPlay, WrongSide, InningsOpen, MatchWon, MatchClosed, EndNotSo, TooMany}
-use Rattle.match_laws.specs.History.{is_at, or_else, side_eq, begun, is_open, last_side, begun_by, begins, latest_of, is_closed, entries, is_void, annotated, stands_in}
+use Rattle.match_laws.specs.declared.refusals.LawRefusal.TheVariants.{Ball as OfBall, NotInPlay, WrongSide, InningsOpen, MatchWon, MatchClosed, TooMany}
+use Rattle.match_laws.specs.History.{is_at, or_else, side_eq, begun, is_open, begun_by, begins, latest_of, is_closed, entries, is_void}
 use Rattle.match_laws.specs.Figures.{wickets}
 use Rattle.match_laws.specs.Result.{is_decided, current}
 use Rattle.match_laws.specs.Refusals.{first_row, own_rows, rows_of, refusal, IsLegal, is_wrong_side, play_rows, is_taken_when_won, is_out_of_play, is_all_out}
-use Rattle.match_laws.proofs.Counts.{and-false_right}
 use Rattle.match_laws.proofs.AwardLemmas.{latest_of-below}
 use Rattle.match_laws.proofs.ScoreLemmas.{wickets-none}
 

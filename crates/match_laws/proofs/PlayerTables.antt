@@ -1,11 +1,10 @@
 -- The batting and bowling tables of all innings after one more entry.
-use Rattle.std.proofs.Common.{◌≡◌, ℕ, ◌+◌, ◌-◌, ◌<◌, ◌≤◌, Bool, true, false, List, [], ◌∷◌, length, get_or, refl, sym, ◌∙◌, ap, arith}
+use Rattle.std.proofs.Common.{◌≡◌, ℕ, ◌+◌, ◌-◌, ◌<◌, ◌≤◌, true, false, List, [], ◌∷◌, length, get_or, refl, ◌∙◌, ap, arith}
 use Rattle.std.proofs.Math.ListN.{set}
 use Rattle.std.proofs.Math.Logic.{∥∥₁_elim, ∥∥₁_map}
 use Rattle.std.proofs.Math.Bridge.{le_prop}
-use Rattle.std.specs.Prelude.{◌==◌, All}
+use Rattle.std.specs.Prelude.{All}
 use Rattle.notation.specs.declared.entry.Ball.{Ball}
-use Rattle.notation.specs.declared.entry.Side.{Side}
 use Rattle.notation.specs.declared.entry.Leave.{Leave}
 use Rattle.notation.specs.declared.entry.Plain.{Plain}
 use Rattle.notation.specs.declared.entry.Plain.TheVariants.{Innings, Come, Ball as Bowl, Gone, Over, Penalty, Swap, End, Close, Void}
@@ -13,7 +12,7 @@ use Rattle.ball_laws.specs.History.{History}
 use Rattle.match_laws.specs.declared.standing.Standing.{Standing}
 use Rattle.match_laws.specs.declared.batting.BattingTable.{BattingTable}
 use Rattle.match_laws.specs.declared.bowling.BowlingTable.{BowlingTable}
-use Rattle.match_laws.specs.History.{begun, is_open}
+use Rattle.match_laws.specs.History.{is_open}
 use Rattle.match_laws.specs.Result.{current}
 use Rattle.match_laws.specs.Parts.{table}
 use Rattle.match_laws.specs.BattingTables.{batting_table_of, is_of_batting, IsSmallBattingRow, player_rows}

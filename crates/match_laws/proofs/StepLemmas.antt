@@ -1,5 +1,5 @@
 -- What a step answers.
-use Rattle.std.proofs.Common.{◌≡◌, ℕ, true, false, Some, None, Option, ◌∷◌, refl, sym, ◌∙◌, ap}
+use Rattle.std.proofs.Common.{◌≡◌, ℕ, true, false, Some, None, Option, ◌∷◌, refl, ◌∙◌, ap}
 use Rattle.std.specs.Prelude.{option_map}
 use Rattle.notation.specs.declared.entry.Side.{Side}
 use Rattle.notation.specs.declared.entry.Plain.{Plain}
@@ -13,7 +13,7 @@ use Rattle.match_laws.specs.declared.standing.Standing.{Standing}
 use Rattle.match_laws.specs.History.{or_else, is_void, begun_by, entries}
 use Rattle.match_laws.specs.Figures.{pending_runs}
 use Rattle.match_laws.specs.Refusals.{first_row, rows_of, refusal}
-use Rattle.match_laws.specs.Parts.{table, score_of, side_record}
+use Rattle.match_laws.specs.Parts.{score_of, side_record}
 use Rattle.match_laws.specs.Stands.{StandsFor}
 use Rattle.match_laws.proofs.ScoreLemmas.{score-void}
 use Rattle.match_laws.specs.BattingTables.{batting_table_of}

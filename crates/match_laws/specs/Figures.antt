@@ -1,5 +1,5 @@
 -- The figures of innings i: each is a sum, a count or a filter over the annotated entries (Laws 18 to 23 and 41).
-use Rattle.std.specs.Prelude.{ℕ, zero, suc, ◌+◌, ◌*◌, Bool, true, false, not, ◌&&◌, ◌==◌, if◌then◌else◌, Some, None, is_some, is_none, Option, List, [], ◌∷◌, ◌++◌, length, filter_map}
+use Rattle.std.specs.Prelude.{ℕ, ◌+◌, ◌*◌, Bool, true, false, not, ◌&&◌, ◌==◌, if◌then◌else◌, Some, None, is_none, Option, List, [], ◌∷◌, ◌++◌, length, filter_map}
 use Rattle.std.specs.List.{list_any, list_all}
 use Rattle.notation.specs.declared.entry.Ball.{Ball}
 use Rattle.notation.specs.declared.entry.Kind.{Kind}
@@ -20,7 +20,7 @@ use Rattle.ball_laws.specs.Ends.{dismissed}
 use Rattle.match_laws.specs.declared.rows.Fate.{Fate}
 use Rattle.match_laws.specs.declared.rows.Fate.TheVariants as fates
 use Rattle.match_laws.specs.declared.rows.Fall.{Fall}
-use Rattle.match_laws.specs.History.{is_at, or_else, one_if, side_eq, begun, latest_of, first_of, Note, annotated, note_of, stands_in, Delivery, deliveries, is_of, Award, awards, since_call, innings_overs}
+use Rattle.match_laws.specs.History.{is_at, or_else, one_if, side_eq, first_of, Note, annotated, note_of, stands_in, Delivery, deliveries, is_of, Award, awards, since_call, innings_overs}
 
 -- ---- penalty runs (Law 41)
 

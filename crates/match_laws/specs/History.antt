@@ -1,6 +1,6 @@
 -- What a history of entries says by itself: a list of plain entries, the newest first, so that `x ∷ h` is h with x
 -- added. Innings are numbered from 0, in the order in which they begin.
-use Rattle.std.specs.Prelude.{ℕ, ◌+◌, ◌-◌, Bool, true, false, not, ◌&&◌, ◌==◌, if◌then◌else◌, Some, None, is_some, Option, List, [], ◌∷◌, filter_map}
+use Rattle.std.specs.Prelude.{ℕ, ◌+◌, ◌-◌, Bool, true, false, not, ◌&&◌, ◌==◌, if◌then◌else◌, Some, None, Option, List, [], ◌∷◌, filter_map}
 use Rattle.notation.specs.declared.entry.Ball.{Ball}
 use Rattle.notation.specs.declared.entry.Side.{Side}
 use Rattle.notation.specs.declared.entry.Side.TheVariants.{Home, Away}

@@ -1,5 +1,5 @@
 -- Why an entry is refused after a history: the first row that holds. n is the innings a side.
-use Rattle.std.specs.Prelude.{◌≡◌, ℕ, ◌-◌, Bool, true, false, not, ◌&&◌, ◌||◌, ◌==◌, nat_lt, nat_le, if◌then◌else◌, Some, None, Option, option_map, List, [], ◌∷◌, length}
+use Rattle.std.specs.Prelude.{◌≡◌, ℕ, Bool, true, false, not, ◌&&◌, ◌||◌, ◌==◌, nat_lt, nat_le, if◌then◌else◌, Some, None, Option, option_map, List, [], ◌∷◌, length}
 use Rattle.notation.specs.declared.entry.Side.{Side}
 use Rattle.notation.specs.declared.entry.Cause.{Cause}
 use Rattle.notation.specs.declared.entry.Cause as cause
@@ -10,7 +10,7 @@ use Rattle.ball_laws.specs.Laws.{state_after, refusal as ball_refusal}
 use Rattle.ball_laws.specs.Ends.{has_vacancy}
 use Rattle.match_laws.specs.declared.refusals.LawRefusal.{LawRefusal}
 use Rattle.match_laws.specs.declared.refusals.LawRefusal as laws
-use Rattle.match_laws.specs.History.{or_else, begun, is_open, begun_by, completed_by, opponent, is_closed, entries}
+use Rattle.match_laws.specs.History.{or_else, is_open, begun_by, completed_by, opponent, is_closed, entries}
 use Rattle.match_laws.specs.Figures.{wickets, overs, has_come}
 use Rattle.match_laws.specs.Result.{current, is_decided}
 

@@ -1,5 +1,5 @@
 -- Which histories a match stands for.
-use Rattle.std.specs.Prelude.{◌≡◌, ℕ, ◌≤◌, ◌<◌, Option, None, Some, List, [], ◌∷◌, Result, Ok, Err}
+use Rattle.std.specs.Prelude.{◌≡◌, ℕ, ◌≤◌, ◌<◌, None, Some, List, ◌∷◌, Result, Ok, Err}
 use Rattle.notation.specs.declared.entry.Side.TheVariants.{Home, Away}
 use Rattle.notation.specs.declared.entry.Plain.{Plain}
 use Rattle.notation.specs.declared.entry.Plain as plain

@@ -1,5 +1,5 @@
 -- Worked matches: what the definitions give for a few entries, computed.
-use Rattle.std.specs.Prelude.{◌≡◌, ℕ, zero, suc, Bool, true, false, ◌&&◌, is_none, Some, None, Option, List, [], ◌∷◌, ◌++◌, length}
+use Rattle.std.specs.Prelude.{◌≡◌, ℕ, zero, suc, Bool, true, false, ◌&&◌, is_none, Some, None, Option, List, [], ◌∷◌, ◌++◌}
 use Rattle.notation.specs.declared.entry.Ball.{Ball}
 use Rattle.notation.specs.declared.entry.Side.TheVariants.{Home, Away}
 use Rattle.notation.specs.declared.entry.Kind.{Kind}
@@ -13,17 +13,16 @@ use Rattle.notation.specs.declared.entry.Who.TheVariants.{Striker, Other}
 use Rattle.notation.specs.declared.entry.Leave.TheVariants.{TimedOut, RetiredOut, RetiredHurt, RunOut as RunBetween}
 use Rattle.notation.specs.declared.entry.Cause.TheVariants.{AllOut, NoBatter as Lacking, Declared, Forfeited}
 use Rattle.notation.specs.declared.entry.Plain.{Plain}
-use Rattle.notation.specs.declared.entry.Plain.TheVariants.{Innings, Come, Ball as Bowl, Gone, Over, Penalty, Swap, End, Close, Void}
-use Rattle.ball_laws.specs.declared.refusals.BallRefusal.TheVariants.{NoBatter, BowlerTwoOvers, NotOutSoHere, WrongBatter, RunsWithOut, BoundaryAndOut, SixNotStruck, CrossedNotHere, OverLong, NoBall, NoVacancy, NotAvailable, NotIn}
+use Rattle.notation.specs.declared.entry.Plain.TheVariants.{Innings, Come, Ball as Bowl, Gone, Over, Penalty, Swap, End, Close}
+use Rattle.ball_laws.specs.declared.refusals.BallRefusal.TheVariants.{BowlerTwoOvers, NotOutSoHere, WrongBatter, RunsWithOut, BoundaryAndOut, SixNotStruck, CrossedNotHere, OverLong, NoBall, NoVacancy, NotAvailable, NotIn}
 use Rattle.ball_laws.specs.History.{History}
 use Rattle.ball_laws.specs.Laws.{state_after}
 use Rattle.match_laws.specs.declared.refusals.LawRefusal.{LawRefusal}
 use Rattle.match_laws.specs.declared.refusals.LawRefusal.TheVariants.{Ball as OfBall, NotInPlay, WrongSide, InningsOpen, MatchWon, MatchClosed, EndNotSo}
 use Rattle.match_laws.specs.declared.outcome.Outcome.TheVariants.{Undecided, Draw, Tie, Runs, Wickets, InningsAnd, PenaltyRuns}
-use Rattle.match_laws.specs.declared.rows.Fate.TheVariants.{NotOut, Hurt, Left}
-use Rattle.match_laws.specs.History.{begun_by, entries}
-use Rattle.match_laws.specs.Figures.{penalty_runs, pending_runs, byes, legs, wides, noballs, total, wickets, has_come, falls, overs, balls, odd_overs, batter_runs, faced, fours, sixes, fate, bowler_overs, bowler_balls, maidens, bowler_runs, bowler_wickets, bowler_wides, bowler_noballs, batting_order, bowling_order}
-use Rattle.match_laws.specs.Result.{outcome, target, side_total, is_decided}
+use Rattle.match_laws.specs.declared.rows.Fate.TheVariants.{NotOut, Left}
+use Rattle.match_laws.specs.Figures.{pending_runs, byes, legs, wides, noballs, total, wickets, falls, overs, balls, odd_overs, batter_runs, faced, fours, fate, bowler_overs, bowler_balls, maidens, bowler_runs, bowler_wickets, batting_order, bowling_order}
+use Rattle.match_laws.specs.Result.{outcome, target, side_total}
 use Rattle.match_laws.specs.Refusals.{refusal}
 
 -- the items in order, as a history

@@ -7,19 +7,14 @@ ghost use Rattle.match_laws.specs.BattingTables.{IsSmallBattingRow, batting_tabl
 ghost use Rattle.match_laws.specs.BowlingTables.{IsSmallBowlingRow, bowling_table_of};
 ghost use Rattle.match_laws.specs.Stands.{BattingTakes, BowlingTakes, ForEachHistory, IsKept};
 
-use notation::{Ball, Leave, Plain, Player};
-
 use crate::batting::BattingTable;
 use crate::bowling::BowlingTable;
 use crate::result::{current, current_score};
 use crate::standing::Standing;
+use notation::{Ball, Leave, Plain, Player};
 
 /// The batting tables with one of them replaced.
-fn batting_replaced(
-    standing: &Standing,
-    number: usize,
-    table: BattingTable,
-) -> [BattingTable; 4]
+fn batting_replaced(standing: &Standing, number: usize, table: BattingTable) -> [BattingTable; 4]
     requires { number < 4 }
     ensures { result ≡ slice_set standing.now.batting number table }
 {
@@ -81,11 +76,7 @@ pub fn batting_after(standing: &Standing, item: &Plain) -> [BattingTable; 4]
 }
 
 /// The bowling tables with one of them replaced.
-fn bowling_replaced(
-    standing: &Standing,
-    number: usize,
-    table: BowlingTable,
-) -> [BowlingTable; 4]
+fn bowling_replaced(standing: &Standing, number: usize, table: BowlingTable) -> [BowlingTable; 4]
     requires { number < 4 }
     ensures { result ≡ slice_set standing.now.bowling number table }
 {

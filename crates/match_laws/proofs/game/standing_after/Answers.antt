@@ -1,7 +1,5 @@
-use Rattle.std.proofs.Common.{◌≡◌, ◌∙◌, ◌∷◌, sym, ap, None, false}
+use Rattle.std.proofs.Common.{◌∙◌, sym}
 use Rattle.std.proofs.Math.Logic.{∥∥₁_map}
-use Rattle.ball_laws.specs.Crease.{StandsFor as CreaseStandsFor}
-use Rattle.match_laws.specs.History.{is_void}
 use Rattle.match_laws.proofs.LegalLemmas.{is_played}
 use Rattle.match_laws.proofs.StepLemmas.{refused_by_match, refused_by_crease, not_refused, refusal-void, stands-void, is_void-is, none_left}
 use Rattle.match_laws.proofs.game.standing_after.Goals as goal

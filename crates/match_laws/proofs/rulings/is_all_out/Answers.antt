@@ -1,6 +1,5 @@
-use Rattle.std.proofs.Common.{◌≡◌, ℕ, ◌∙◌, sym, ap, leb}
+use Rattle.std.proofs.Common.{◌∙◌, sym, ap}
 use Rattle.std.specs.Prelude.{nat_le}
-use Rattle.ball_laws.specs.History.{wickets_in}
 use Rattle.match_laws.proofs.LegalLemmas.{is_played, wickets-open}
 use Rattle.match_laws.proofs.rulings.is_all_out.Goals as goal
 

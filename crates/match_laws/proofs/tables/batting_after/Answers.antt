@@ -1,4 +1,4 @@
-use Rattle.std.proofs.Common.{◌≡◌, ◌∙◌}
+use Rattle.std.proofs.Common.{◌∙◌}
 use Rattle.match_laws.proofs.PlayerTables.{batting-stays}
 use Rattle.match_laws.proofs.tables.batting_after.Goals as goal
 

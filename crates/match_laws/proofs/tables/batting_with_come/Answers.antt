@@ -1,4 +1,4 @@
-use Rattle.std.proofs.Common.{◌≡◌, ◌<◌}
+use Rattle.std.proofs.Common.{◌<◌}
 use Rattle.match_laws.specs.Result.{current as current_of}
 use Rattle.match_laws.proofs.LegalLemmas.{come_open, current-open}
 use Rattle.match_laws.proofs.PlayerTables.{batting_here}

@@ -1,4 +1,4 @@
-use Rattle.std.proofs.Common.{◌≡◌, ◌<◌, ◌∙◌, ap}
+use Rattle.std.proofs.Common.{◌<◌, ◌∙◌, ap}
 use Rattle.match_laws.specs.Result.{current as current_of}
 use Rattle.match_laws.proofs.LegalLemmas.{gone_open, current-open}
 use Rattle.match_laws.proofs.ScoreLemmas.{total-gone}

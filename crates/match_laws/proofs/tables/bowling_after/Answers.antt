@@ -1,4 +1,4 @@
-use Rattle.std.proofs.Common.{◌≡◌, ◌∙◌}
+use Rattle.std.proofs.Common.{◌∙◌}
 use Rattle.match_laws.proofs.PlayerTables.{bowling-stays}
 use Rattle.match_laws.proofs.tables.bowling_after.Goals as goal
 

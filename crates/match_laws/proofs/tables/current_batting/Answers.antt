@@ -1,4 +1,4 @@
-use Rattle.std.proofs.Common.{◌≡◌, ◌∙◌, ap}
+use Rattle.std.proofs.Common.{◌∙◌, ap}
 use Rattle.match_laws.specs.BattingTables.{batting_table_of}
 use Rattle.match_laws.proofs.PlayerTables.{batting_at, small_batting_at}
 use Rattle.match_laws.proofs.tables.current_batting.Goals as goal

@@ -1,4 +1,4 @@
-use Rattle.std.proofs.Common.{◌≡◌, ◌∙◌, ap}
+use Rattle.std.proofs.Common.{◌∙◌, ap}
 use Rattle.match_laws.specs.BowlingTables.{bowling_table_of}
 use Rattle.match_laws.proofs.PlayerTables.{bowling_at, small_bowling_at}
 use Rattle.match_laws.proofs.tables.current_bowling.Goals as goal

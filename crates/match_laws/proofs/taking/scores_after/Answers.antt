@@ -1,4 +1,4 @@
-use Rattle.std.proofs.Common.{◌≡◌, ◌∙◌}
+use Rattle.std.proofs.Common.{◌∙◌}
 use Rattle.match_laws.proofs.ScoreTables.{scores-stay}
 use Rattle.match_laws.proofs.taking.scores_after.Goals as goal
 

@@ -1,4 +1,4 @@
-use Rattle.std.proofs.Common.{◌≡◌, ◌*◌, ◌<◌, ◌∙◌, sym, ap, arith, Some}
+use Rattle.std.proofs.Common.{◌∙◌, sym, ap, arith}
 use Rattle.match_laws.proofs.KeptLemmas.{kept_score, kept_latest, score_at}
 use Rattle.match_laws.proofs.ScoreTables.{scores-award, scores-award_none}
 use Rattle.match_laws.proofs.taking.scores_with_award.Goals as goal

@@ -1,5 +1,3 @@
-use Rattle.std.proofs.Common.{◌≡◌, ◌<◌, ap, arith}
-use Rattle.match_laws.specs.History.{begun as begun_of}
 use Rattle.match_laws.proofs.LegalLemmas.{begun_room}
 use Rattle.match_laws.proofs.KeptLemmas.{room_begun}
 use Rattle.match_laws.proofs.ScoreTables.{scores-begun}

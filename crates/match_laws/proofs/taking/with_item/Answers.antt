@@ -1,5 +1,4 @@
-use Rattle.std.proofs.Common.{◌≡◌, ◌+◌, ◌<◌, ◌∙◌, sym, ap, arith}
-use Rattle.match_laws.specs.History.{entries}
+use Rattle.std.proofs.Common.{◌+◌, ◌∙◌, sym, ap, arith}
 use Rattle.match_laws.proofs.KeptLemmas.{kept_begun, room_taken}
 use Rattle.match_laws.proofs.LegalLemmas.{entries-more}
 use Rattle.match_laws.proofs.taking.with_item.Goals as goal
