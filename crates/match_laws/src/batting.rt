@@ -219,7 +219,8 @@ impl BattingTable {
     fn with_faced(&self, striker: Option<Player>, ball: &Ball) -> BattingTable
         requires { All IsSmallBattingRow self.now.rows }
         ensures rows { (f : ℕ → ARow) → self.now.rows ≡ player_rows f
-            → result.rows ≡ player_rows (λ p. changed_at striker (laws.row_with_ball ball.now) p (f p)) }
+            → result.rows ≡ player_rows (λ p.
+            changed_at striker (laws.row_with_ball ball.now) p (f p)) }
         ensures order { result.order ≡ self.now.order }
         ensures falls { result.falls ≡ self.now.falls }
     {

@@ -74,7 +74,8 @@ fn row_with_over(row: BowlingRow, over: &OverNow) -> BowlingRow
 fn bowl(rows: &mut Rows, ball: &Ball)
     requires { All IsSmallBowlingRow rows.old }
     ensures { (f : ℕ → ARow) → rows.old ≡ player_rows f
-        → rows.new ≡ player_rows (λ p. changed_at (Some ball.now.bowler) (laws.row_with_ball ball.now) p (f p)) }
+        → rows.new ≡ player_rows (λ p.
+        changed_at (Some ball.now.bowler) (laws.row_with_ball ball.now) p (f p)) }
 {
     let place = usize::from(ball.bowler.number() - 1);
     rows[place] = row_with_ball(rows[place], ball);

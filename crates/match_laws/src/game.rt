@@ -27,8 +27,8 @@ use ball_laws::{Crease, Ends};
 use notation::{Plain, Player, Side};
 use std::marker::Model;
 
-/// A match: what it keeps of the entries that it has taken. It is `Copy`, of fixed tables, and
-/// holds no list.
+/// A match: what it keeps of the entries that it has taken, in fixed tables; it holds no list.
+/// The match of a history of entries is the one that stands for it (Laws 13 and 16).
 /// Innings are numbered from 0, in the order in which they begin.
 #[derive(Clone, Copy, Debug, PartialEq, Eq)]
 pub struct Match {
@@ -37,7 +37,7 @@ pub struct Match {
 
 impl Model for Match {
     ghost use Rattle.match_laws.specs.declared.standing.Standing.{Standing};
-    ghost use Rattle.match_laws.specs.Stands.{ForEachHistory, IsKept, StandsFor};
+    ghost use Rattle.match_laws.specs.Stands.{IsKept};
 
     ghost Value = { Standing };
 
@@ -106,10 +106,9 @@ fn standing_after(standing: &Standing, item: &Plain) -> Result<Standing, LawRefu
     }
 }
 
-/// The match with an entry more, or why the entry is refused: the first refusal of its table,
-/// which is that of the
-/// match, of the innings and of the crease, in this order. `void` is always taken, and adds
-/// nothing.
+/// The match with an entry more, or why the entry is refused: the first refusal of the match,
+/// the innings and the crease, in this order; `game` stays as it is. `void` is always taken, and
+/// adds nothing. The numbers of the entry are in their ranges.
 pub fn step(game: &Match, item: &Plain) -> Result<Match, LawRefusal>
     requires { IsPlain item.now }
     ensures { ForEachHistory game.now (λ n h. IsStep result n h item.now) }
@@ -262,13 +261,15 @@ impl Match {
         table.rows[usize::from(bowler.number() - 1)]
     }
 
-    /// Who came in or was timed out in the innings, in the order of first doing so, filled from the front.
+    /// Who came in or was timed out in the innings, in the order of first doing so, filled from
+    /// the front.
     pub fn batting_order(&self, innings: usize) -> [Option<Player>; 11]
         requires { innings < begun_in self.now }
         ensures filled { ForEachHistory self.now (λ n h.
             result ≡ from_front 11 (figures.batting_order h innings)) }
         // None is cut off.
-        ensures all { ForEachHistory self.now (λ n h. length (figures.batting_order h innings) ≤ 11) }
+        ensures all { ForEachHistory self.now (λ n h.
+            length (figures.batting_order h innings) ≤ 11) }
     {
         batting(&self.standing, innings).order
     }
@@ -279,7 +280,8 @@ impl Match {
         ensures filled { ForEachHistory self.now (λ n h.
             result ≡ from_front 11 (figures.bowling_order h innings)) }
         // None is cut off.
-        ensures all { ForEachHistory self.now (λ n h. length (figures.bowling_order h innings) ≤ 11) }
+        ensures all { ForEachHistory self.now (λ n h.
+            length (figures.bowling_order h innings) ≤ 11) }
     {
         bowling(&self.standing, innings).order
     }

@@ -26,7 +26,8 @@ fn batting_replaced(standing: &Standing, number: usize, table: BattingTable) -> 
 /// The batting table of the innings that began last.
 fn current_batting(standing: &Standing) -> BattingTable
     requires { ∥ IsKept standing.now ∥₁ }
-    ensures value { ForEachHistory standing.now (λ n h. result ≡ batting_table_of h (laws.current h)) }
+    ensures value { ForEachHistory standing.now (λ n h.
+        result ≡ batting_table_of h (laws.current h)) }
     ensures small { All IsSmallBattingRow result.rows }
 {
     standing.batting[current(standing)]
@@ -88,7 +89,8 @@ fn bowling_replaced(standing: &Standing, number: usize, table: BowlingTable) -> 
 /// The bowling table of the innings that began last.
 fn current_bowling(standing: &Standing) -> BowlingTable
     requires { ∥ IsKept standing.now ∥₁ }
-    ensures value { ForEachHistory standing.now (λ n h. result ≡ bowling_table_of h (laws.current h)) }
+    ensures value { ForEachHistory standing.now (λ n h.
+        result ≡ bowling_table_of h (laws.current h)) }
     ensures small { All IsSmallBowlingRow result.rows }
 {
     standing.bowling[current(standing)]

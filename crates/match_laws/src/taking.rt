@@ -172,7 +172,8 @@ fn scores_with_over(standing: &Standing) -> [InningsScore; 4]
 /// Penalty runs count in the innings that their side began last, if there is one.
 fn scores_with_award(standing: &Standing, side: Side) -> [InningsScore; 4]
     requires { ∥ IsKept standing.now ∥₁ }
-    ensures { (law : ℕ) → (part : ℕ) → ScoresTake standing.now (APlain.Penalty side law part) result }
+    ensures { (law : ℕ) → (part : ℕ)
+        → ScoresTake standing.now (APlain.Penalty side law part) result }
 {
     match record_of(standing, side).latest {
         Some(number) => replaced(standing, number, standing.scores[number].with_penalty()),
