@@ -63,10 +63,13 @@ fn run(rt: &HostRuntime) -> Status {
     }
 }
 
-/// Whether the command line has a word.
+/// Whether the command line has a word after the program's name.
 fn has_words(rt: &HostRuntime) -> bool {
     match env::args(rt) {
-        Ok(mut words) => words.next().is_some(),
+        Ok(mut words) => {
+            let _program = words.next();
+            words.next().is_some()
+        }
         Err(_) => true,
     }
 }

@@ -10,11 +10,18 @@ use std::io::{self, Read, Write};
 #[derive(Clone, Copy, Debug, PartialEq, Eq)]
 pub struct StreamFailed;
 
+/// Whether a call on a stream failed.
+#[derive(Clone, Copy, Debug, PartialEq, Eq)]
+enum Health {
+    Sound,
+    Failed,
+}
+
 /// A reader or a writer, and whether a read or a write of it failed.
 #[derive(Drop)]
 pub struct Watched<S> {
     pub(crate) stream: S,
-    failed: bool,
+    health: Health,
 }
 
 impl<S> Watched<S> {
@@ -27,7 +34,7 @@ impl<S> Watched<S> {
     {
         Watched {
             stream,
-            failed: false,
+            health: Health::Sound,
         }
     }
 
@@ -35,7 +42,7 @@ impl<S> Watched<S> {
     pub fn has_failed(&self) -> bool
         ensures { result ≡ has_failed self.now }
     {
-        self.failed
+        matches!(self.health, Health::Failed)
     }
 }
 
@@ -51,7 +58,7 @@ impl<R: Read> Watched<R> {
         match self.stream.read(buffer) {
             Ok(count) => Ok(count),
             Err(_) => {
-                self.failed = true;
+                self.health = Health::Failed;
                 Err(StreamFailed)
             }
         }
@@ -70,7 +77,7 @@ impl<W: Write> Watched<W> {
         match answer {
             Ok(()) => Ok(()),
             Err(_) => {
-                self.failed = true;
+                self.health = Health::Failed;
                 Err(StreamFailed)
             }
         }
