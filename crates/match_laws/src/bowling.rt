@@ -15,8 +15,8 @@ ghost use Rattle.match_laws.specs.BowlingTables.{IsSmallBowlingRow, bowling_tabl
 
 use crate::batting::{Order, add_name};
 use crate::rows::BowlingRow;
-use crate::score::{counts, one_if};
-use ball_laws::{OverNow, credit, runs_of};
+use crate::score::one_if;
+use ball_laws::{OverNow, counts, credit, runs_of};
 use notation::{Ball, Out, Player};
 
 /// The rows of a side's bowlers, in the order of their numbers.
