@@ -37,12 +37,13 @@ impl Table {
         })
     }
 
-    /// Takes one line, which both seats agree, or says why it isn't taken: its fault, then that the book is full,
-    /// then what the book refuses.
+    /// Takes one line, which both seats agree, or says why it isn't taken: its fault, then that the book is
+    /// full, then what the book refuses.
     pub fn take(&mut self, line: &[u8]) -> Result<(), Rejected>
         requires { IsInStep self.old }
         ensures in_step { IsInStep self.new }
-        ensures book { agreed_in self.new ≡ with_taken (answer_to (agreed_in self.old) line.now) (agreed_in self.old) }
+        ensures book { agreed_in self.new ≡
+            with_taken (answer_to (agreed_in self.old) line.now) (agreed_in self.old) }
         ensures told { IsToldOf result (answer_to (agreed_in self.old) line.now) }
     {
         let entry = match read_line(line) {
