@@ -21,8 +21,8 @@ pub data BoardAnswer : Type 0 where
   Asked : BoardAnswer
   BadVotes : ℕ → BoardAnswer
 
--- a board is given this message, answers and goes on as the second board; equal votes of both desks for an entry
--- that the book's rules refuse aren't taken, and an ask isn't for it
+-- a board is given this message, answers and goes on as the second board; equal votes of both desks for
+-- an entry that the book's rules refuse aren't taken, and an ask isn't for it
 abbrev pub BoardReceives :
     {Why : Type 0} → Rules Why → BoardState → Message → BoardAnswer → BoardState → Type 0
 BoardReceives rules k (Message.Vote v) (Told h) l =

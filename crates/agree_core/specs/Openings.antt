@@ -27,8 +27,8 @@ pub data Opening (Disk : Type 0) : Type 0 where
   Opened : DeskState Disk → Opening Disk
   NotOpened : OpenRefusal → Disk → Opening Disk
 
--- a file is synced and opened: the votes that are found are the desk's, and the list of each place's last vote has
--- to be one that the book's rules take
+-- a file is synced and opened: the votes that are found are the desk's, and the list of each place's
+-- last vote has to be one that the book's rules take
 abbrev pub Opens : {Disk Why : Type 0} → FileView Disk → Rules Why → DeskId → Disk → Opening Disk → Type 0
 Opens view rules d disk (Opened k) =
     (view.reads disk ≡ Some k.votes) × AllTaken rules [] (voted_list k.votes)

@@ -16,8 +16,9 @@ ghost use Rattle.agree_core.specs.Readers.{Listens, ReaderState, ReaderWaits};
 ghost use Rattle.agree_core.specs.Seats.{Casts, Hears, SeatState, SeatWaits};
 ghost use Rattle.agree_core.specs.Rows.{FileOfSecondRound, LeastRound, RefusedInTurn, SecondRound};
 
-/// Where each vote follows the one before it, a desk votes once at a position, a vote of the next round tells that
-/// both desks differed in this one, and a vote of the next place tells that this one is settled.
+/// Where each vote follows the one before it, a desk votes once at a position, a vote of the next round
+/// tells that both desks differed in this one, and a vote of the next place tells that this one is
+/// settled.
 pub fn votes_follow()
     ensures once { (v : AllVotes) → AllJustified v → OneVoteEach v }
     ensures rounds { (v : AllVotes) → AllJustified v → RoundsDiffer v }
@@ -31,8 +32,8 @@ pub fn settled_once()
     ensures least { (v : AllVotes) → AllJustified v → EqualVotesSettle v }
 {}
 
-/// There is one agreed list, and that of more votes begins with that of fewer; and of two books of settled entries
-/// one begins with the other, whichever of the votes each has.
+/// There is one agreed list, and that of more votes begins with that of fewer; and of two books of
+/// settled entries one begins with the other, whichever of the votes each has.
 pub fn agreed_list_grows()
     ensures grows { (v w : AllVotes) (xs ys : List Entry) → VotesGrow v w → AllJustified w
         → IsAgreedList v xs → IsAgreedList w ys → BeginsWith ys xs }
@@ -41,8 +42,9 @@ pub fn agreed_list_grows()
     ensures one_book { (w : AllVotes) → AllJustified w → OneBook w }
 {}
 
-/// A desk's file shows a book of settled entries, as long as the place of its last vote, with the last vote of each
-/// place; votes that are cast later only add to that book; and both files show the agreed list.
+/// A desk's file shows a book of settled entries, as long as the place of its last vote, with the last
+/// vote of each place; votes that are cast later only add to that book; and both files show the agreed
+/// list.
 pub fn files_show_the_agreed_list()
     ensures settled { (v : AllVotes) → AllJustified v → FilesSettled v }
     ensures long { (bs : List Ballot) (b : Ballot) → IsSequence (b ∷ bs)
@@ -64,8 +66,8 @@ pub fn no_round_waits()
         → Listens r v heard t → ReaderWaits t }
 {}
 
-/// A list of entries is taken whole by a book's rules, or refused first at one place, whatever the rules and their
-/// causes `W`; and one entry more is taken or refused by what stands before it.
+/// A list of entries is taken whole by a book's rules, or refused first at one place, whatever the
+/// rules and their causes `W`; and one entry more is taken or refused by what stands before it.
 pub fn taken_or_refused<W>()
     ensures one { (rules : Rules W) (xs : List Entry) → TakenOrRefused rules xs }
     ensures taken { (rules : Rules W) (xs : List Entry) (e : Entry) → AllTaken rules [] xs
@@ -74,7 +76,8 @@ pub fn taken_or_refused<W>()
         → rules xs e ≢ None → FirstRefused rules [] (xs ++ e ∷ rest) (length xs) }
 {}
 
-// Worked votes: a round that differs and one that agrees, what a file shows of them, and the least of two rounds.
+// Worked votes: a round that differs and one that agrees, what a file shows of them, and the least of
+// two rounds.
 fn worked_votes()
     ensures second_round { (p q r four six : Entry) → four ≢ six → SecondRound p q r four six }
     ensures file { (p q r four six : Entry) → FileOfSecondRound p q r four six }

@@ -1,7 +1,8 @@
 //! Rounds of votes for each place of a book, with no meaning of an entry.
 //!
-//! A position is a place of the book and a round of voting on it. Each of the two desks votes once at a position.
-//! Equal votes settle the place, and the next place opens at round 0; different votes open the next round.
+//! A position is a place of the book and a round of voting on it. Each of the two desks votes once at a
+//! position. Equal votes settle the place, and the next place opens at round 0; different votes open
+//! the next round.
 #![tactic(auto)]
 
 mod laws;

@@ -13,7 +13,8 @@ pub enum DeskId {
     B,
 }
 
-/// A desk's vote: what it wrote for a place, in a round of that place. `place` is below 8,192, `round` below 256.
+/// A desk's vote: what it wrote for a place, in a round of that place. `place` is below 8,192, `round`
+/// below 256.
 #[derive(Clone, Copy, Debug, PartialEq, Eq)]
 pub struct Vote {
     pub desk: DeskId,

@@ -20,7 +20,8 @@ impl Position {
     /// Round 0 of place 0.
     pub const FIRST: Position = Position { place: 0, round: 0 };
 
-    /// Whether all places or all rounds of this place are used up. Nothing is voted or asked at such a position.
+    /// Whether all places or all rounds of this place are used up. Nothing is voted or asked at such a
+    /// position.
     pub fn is_full(self) -> bool
         ensures { IsTrue result ↔ IsFull self }
     {

@@ -85,7 +85,8 @@ fn a_seat_answers_in_order(rt: HostRuntime) {
     assert_eq!(rt; (seat.mine(), seat.theirs()), (None, None));
 }
 
-// A seat that is resumed knows its own vote and none of the other desk's, and a vote of the next round isn't for it.
+// A seat that is resumed knows its own vote and none of the other desk's, and a vote of the next round
+// isn't for it.
 #[test]
 fn a_resumed_seat_waits(rt: HostRuntime) {
     let mut seat = Seat::resume(vote(DeskId::B, 3, 1, F));

@@ -78,15 +78,18 @@ ScoresTake m x scores = ForEachHistory m (λ n h. refusal n h x ≡ None → sco
 
 -- so are the batting tables, and the bowling tables
 abbrev pub BattingTakes : Standing → Plain → List BattingTable → Type 0
-BattingTakes m x tables = ForEachHistory m (λ n h. refusal n h x ≡ None → tables ≡ table (batting_table_of (x ∷ h)) 4)
+BattingTakes m x tables =
+    ForEachHistory m (λ n h. refusal n h x ≡ None → tables ≡ table (batting_table_of (x ∷ h)) 4)
 
 abbrev pub BowlingTakes : Standing → Plain → List BowlingTable → Type 0
-BowlingTakes m x tables = ForEachHistory m (λ n h. refusal n h x ≡ None → tables ≡ table (bowling_table_of (x ∷ h)) 4)
+BowlingTakes m x tables =
+    ForEachHistory m (λ n h. refusal n h x ≡ None → tables ≡ table (bowling_table_of (x ∷ h)) 4)
 
 -- so is the standing, with this crease
 abbrev pub Takes : Standing → Plain → Crease → Standing → Type 0
 Takes m x crease next = ForEachHistory m (λ n h.
-    IsPlain x → refusal n h x ≡ None → crease ≡ standing_of (state_after (x ∷ h)) → StandsFor next n (x ∷ h))
+    IsPlain x → refusal n h x ≡ None → crease ≡ standing_of (state_after (x ∷ h))
+    → StandsFor next n (x ∷ h))
 
 -- what a step answers: a match that stands for the history with the entry added, or the refusal of the entry
 abbrev pub IsStep : Result Standing LawRefusal → ℕ → History → Plain → Type 0
