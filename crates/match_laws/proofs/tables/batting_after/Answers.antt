@@ -1,7 +1,0 @@
-use Rattle.std.proofs.Common.{◌∙◌}
-use Rattle.match_laws.proofs.PlayerTables.{batting-stays}
-use Rattle.match_laws.proofs.tables.batting_after.Goals as goal
-
-pub returns-in_default : goal.returns-in_default
-returns-in_default c n h s e =
-    s.batting ∙ batting-stays h c.args.item.now c.in_default.not-Come c.in_default.not-Ball c.in_default.not-Gone
