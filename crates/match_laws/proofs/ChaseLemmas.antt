@@ -9,7 +9,8 @@ use Rattle.notation.specs.declared.entry.Plain.TheVariants.{Innings, Come, Ball 
 use Rattle.ball_laws.specs.History.{History}
 use Rattle.match_laws.specs.declared.outcome.Outcome.{Outcome}
 use Rattle.match_laws.specs.declared.outcome.Outcome.TheVariants.{Undecided, Draw, Tie, Runs, Wickets, InningsAnd, PenaltyRuns}
-use Rattle.match_laws.specs.History.{begun, side_eq, side_of, is_side, last_side, is_open, is_closed, is_batting, begun_by, completed_by, one_if, opponent}
+use Rattle.match_laws.specs.History.{begun, side_eq, side_of, is_side, last_side, is_open, is_closed, is_batting, begun_by, completed_by, opponent}
+use Rattle.ball_laws.specs.Sums.{one_if}
 use Rattle.match_laws.specs.Figures.{total, wickets}
 use Rattle.match_laws.specs.Result.{share, side_total, current, is_finished, is_chasing, leads, lead, has_won, won_by, needed, outcome, target}
 use Rattle.match_laws.specs.Refusals.{IsLegal}
