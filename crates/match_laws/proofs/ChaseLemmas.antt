@@ -192,12 +192,14 @@ won_chasing false o f c going e = absurd (cc)
 bats_last : (n : ℕ) (h : History) (side : Side) → is_chasing n h side ≡ true → (is_open h ≡ true) × BatsLast n h side
 bats_last n h side e =
     let both = and-left (is_batting h side && (begun_by h side == n)) (is_finished n h (opponent side)) e in
-    let batting = and-left (is_batting h side) (begun_by h side == n) both in
-    (and-left (is_open h) (is_side (last_side h) side) batting, record {
-      began_last = and-both (is_open h) (is_side (last_side h) side) batting;
-      no_more = eqb-true (begun_by h side) n (and-both (is_batting h side) (begun_by h side == n) both);
-      after_other = and-both (is_batting h side && (begun_by h side == n)) (is_finished n h (opponent side)) e;
-    })
+    let batting = and-left (is_batting h side) (begun_by h side == n) both in (
+      and-left (is_open h) (is_side (last_side h) side) batting,
+      record {
+        began_last = and-both (is_open h) (is_side (last_side h) side) batting;
+        no_more = eqb-true (begun_by h side) n (and-both (is_batting h side) (begun_by h side == n) both);
+        after_other = and-both (is_batting h side && (begun_by h side == n)) (is_finished n h (opponent side)) e;
+      },
+    )
 
 same_runs : (a b : ℕ) → Some a ≡ Some b → a ≡ b
 same_runs a b e = cc
