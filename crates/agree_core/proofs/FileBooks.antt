@@ -4,17 +4,13 @@ use Rattle.std.proofs.lemmas.Bool.Decides.{nat_tests}
 use Rattle.notation.specs.declared.entry.Entry.{Entry}
 use Rattle.agree_core.specs.declared.messages.DeskId.TheVariants.{A, B}
 use Rattle.agree_core.specs.Positions.{Before, first, next_place, next_round}
+pub use Rattle.agree_core.specs.Agreed.{AllBoth}
 use Rattle.agree_core.specs.Agreed.{AllSettled, BeginsWith, IsAgreedList}
 use Rattle.agree_core.specs.Ballots.{Ballot, AllVotes, AllJustified, Justified, In, IsSequence, Within, ballot_at}
 use Rattle.agree_core.specs.Books.{book_of, closing, IsAgreedByFiles}
 use Rattle.agree_core.specs.Laws.{FilesSettled}
 use Rattle.agree_core.proofs.Order.{NextRound, NextPlace, earlier, in_sequence, place_of}
 use Rattle.agree_core.proofs.Settling.{Both, equal_votes_settle, none_later}
-
--- for each of these entries, in turn from this place on, both have a vote in one round
-abbrev pub AllBoth : List Ballot → List Ballot → ℕ → List Entry → Type 0
-AllBoth own theirs place [] = Unit {0}
-AllBoth own theirs place (e ∷ es) = ((round : ℕ) × Both own theirs place round e) × AllBoth own theirs (place + 1) es
 
 all_both_grow : (own own' theirs : List Ballot) → Within own own' → (place : ℕ) (es : List Entry) → AllBoth own theirs place es → AllBoth own' theirs place es
 all_both_grow own own' theirs g place [] s = tt

@@ -5,3 +5,8 @@ pub mod WorkedVotes
 pub mod LastVotes
 pub mod Waiting
 pub mod Taken
+pub mod Both
+pub mod Desks
+pub mod Boards
+pub mod PenCauses
+pub mod WorkedSteps

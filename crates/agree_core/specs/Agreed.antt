@@ -1,11 +1,18 @@
 -- What the votes of both desks settle.
 use Rattle.std.specs.Prelude.{◌≡◌, ◌<◌, ◌+◌, ℕ, List, [], ◌∷◌, ◌++◌, length}
 use Rattle.notation.specs.declared.entry.Entry.{Entry}
-use Rattle.agree_core.specs.Ballots.{AllVotes, ballot_at, In}
+use Rattle.agree_core.specs.Ballots.{AllVotes, Ballot, ballot_at, In}
 
 -- both desks voted for this entry at this place in this round
 abbrev pub EqualVotes : AllVotes → ℕ → ℕ → Entry → Type 0
 EqualVotes v place round e = In (ballot_at place round e) v.a × In (ballot_at place round e) v.b
+
+-- for each of these entries, in turn from this place on, both have a vote in one round
+abbrev pub AllBoth : List Ballot → List Ballot → ℕ → List Entry → Type 0
+AllBoth own theirs place [] = Unit {0}
+AllBoth own theirs place (e ∷ es) =
+    ((round : ℕ) × EqualVotes (record { a = own; b = theirs }) place round e)
+    × AllBoth own theirs (place + 1) es
 
 -- it is the least round of the place with equal votes of both desks
 abbrev pub SettledIn : AllVotes → ℕ → ℕ → Entry → Type 0

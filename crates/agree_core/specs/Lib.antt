@@ -1,3 +1,5 @@
+-- All of these hold what is claimed: positions, votes and what they settle, the calls of seats, readers, desks and
+-- boards, what they keep (Keeping), and worked rows of them (Rows, WorkedSteps). None serves private functions only.
 pub mod Positions
 pub mod Seats
 pub mod Readers
@@ -10,3 +12,5 @@ pub mod FileView
 pub mod Desks
 pub mod Openings
 pub mod Boards
+pub mod Keeping
+pub mod WorkedSteps

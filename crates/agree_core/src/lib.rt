@@ -10,6 +10,7 @@ mod messages;
 mod position;
 mod reader;
 mod seat;
+mod step_laws;
 
 pub use laws::{
     agreed_list_grows, files_show_the_agreed_list, no_round_waits, settled_once, taken_or_refused,
@@ -19,6 +20,10 @@ pub use messages::{Ask, Asker, DeskId, Message, Vote};
 pub use position::{PLACES, Position, ROUNDS};
 pub use reader::Reader;
 pub use seat::{Heard, Seat, Settled};
+pub use step_laws::{
+    ShowsVotes, a_pen_is_allowed_or_refused, boards_are_those_of_the_votes,
+    desks_are_those_of_their_votes,
+};
 
 #[cfg(test)]
 mod tests;

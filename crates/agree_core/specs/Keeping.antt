@@ -1,0 +1,93 @@
+-- What every call of a desk and of a board keeps: seat, reader and book are those of the votes.
+use Rattle.std.specs.Prelude.{◌≡◌, ◌≢◌, ◌⊎◌, false, Option, Some, None, List, [], ◌∷◌, length}
+use Rattle.notation.specs.declared.entry.Entry.{Entry}
+use Rattle.agree_core.specs.declared.messages.DeskId.{DeskId}
+use Rattle.agree_core.specs.declared.messages.Message.{Message}
+use Rattle.agree_core.specs.declared.position.Position.{Position}
+use Rattle.agree_core.specs.Agreed.{AllBoth}
+use Rattle.agree_core.specs.Ballots.{AllVotes, Ballot, Follows, In, Justified, Within, ballot_of, votes_of}
+use Rattle.agree_core.specs.Boards.{BoardState}
+use Rattle.agree_core.specs.Books.{book_of}
+use Rattle.agree_core.specs.Desks.{DeskState}
+use Rattle.agree_core.specs.FileView.{FileView, Holds}
+use Rattle.agree_core.specs.Readers.{ReaderWaits, noted_of}
+use Rattle.agree_core.specs.Seats.{SeatState, SeatWaits}
+
+-- each of these is so
+abbrev pub Each : {X : Type 0} → (X → Type 0) → List X → Type 0
+Each P [] = Unit {0}
+Each P (x ∷ xs) = P x × Each P xs
+
+-- these votes, or these and one that may follow
+abbrev pub OneMore : List Ballot → List Ballot → List Ballot → Type 0
+OneMore theirs votes these =
+    (these ≡ votes) ⊎ ((b : Ballot) × (these ≡ b ∷ votes) × Justified theirs (b ∷ votes))
+
+abbrev pub ShowsMore : List Ballot → List Ballot → Option (List Ballot) → Type 0
+ShowsMore theirs votes shown =
+    (these : List Ballot) × (shown ≡ Some these) × OneMore theirs votes these
+
+-- a desk's own vote of this position is its last one, or any vote of it may follow its last;
+-- and its book is what its file shows, with that vote
+abbrev pub MineFine : List Ballot → List Ballot → List Entry → Position → Option Entry → Type 0
+MineFine theirs own book at None =
+    (e : Entry) → Follows theirs (record { at = at; entry = e }) own
+    × (book_of (record { at = at; entry = e } ∷ own) ≡ book)
+MineFine theirs own book at (Some e) =
+    (rest : List Ballot) × (own ≡ record { at = at; entry = e } ∷ rest) × (book_of own ≡ book)
+
+-- a vote that is noted for this position is one of these
+abbrev pub NotedFine : List Ballot → Position → Option Entry → Type 0
+NotedFine votes at None = Unit {0}
+NotedFine votes at (Some e) = In (record { at = at; entry = e }) votes
+
+-- a desk's seat and book are those of both desks' votes
+pub record SeatFine (d : DeskId) (own theirs : List Ballot) (seat : SeatState) (book : List Entry) : Type 0 where
+  pub desk : seat.desk ≡ d
+  pub justified : Justified theirs own
+  pub both : AllBoth own theirs 0 book
+  pub long : length book ≡ seat.position.place
+  pub mine : MineFine theirs own book seat.position seat.mine
+  pub noted : NotedFine theirs seat.position seat.theirs
+  pub waits : SeatWaits seat
+
+-- a message of this desk that is a vote tells one that it has
+abbrev pub OwnMessage : DeskId → List Ballot → Message → Type 0
+OwnMessage d own (Message.Vote v) = (v.desk ≡ d) × In (ballot_of v) own
+OwnMessage d own (Message.Ask q) = Unit {0}
+
+-- a vote that comes from the other desk is one that it has
+abbrev pub TheirMessage : DeskId → List Ballot → Message → Type 0
+TheirMessage d theirs (Message.Vote v) = v.desk ≢ d → In (ballot_of v) theirs
+TheirMessage d theirs (Message.Ask q) = Unit {0}
+
+module _ {Disk : Type 0} (view : FileView Disk) (d : DeskId) (theirs : List Ballot) where
+  -- what is read and every image show the votes, or these and one that may follow
+  abbrev pub DiskFine : List Ballot → Disk → Type 0
+  DiskFine votes disk =
+      ShowsMore theirs votes (view.reads disk)
+      × ((shown : Option (List Ballot)) → view.Image disk shown → ShowsMore theirs votes shown)
+
+  -- seat, book and disk are those of the votes, and until the desk has failed the file has just them
+  pub record DeskFine (k : DeskState Disk) : Type 0 where
+    pub seat : SeatFine d k.votes theirs k.seat k.book
+    pub disk : DiskFine k.votes k.disk
+    pub safe : k.failed ≡ false → Holds view k.disk k.votes
+
+  -- it stays so, keeps its votes, and hands out no vote but its own
+  pub record DeskKept (k l : DeskState Disk) (out : List Message) : Type 0 where
+    pub fine : DeskFine l
+    pub grows : Within k.votes l.votes
+    pub told : Each (OwnMessage d l.votes) out
+
+-- a message that is a vote tells one that its desk has
+abbrev pub MessageFine : AllVotes → Message → Type 0
+MessageFine v (Message.Vote w) = In (ballot_of w) (votes_of v w.desk)
+MessageFine v (Message.Ask q) = Unit {0}
+
+-- a board's reader and book are those of both desks' votes
+pub record BoardFine (v : AllVotes) (k : BoardState) : Type 0 where
+  pub both : AllBoth v.a v.b 0 k.book
+  pub long : length k.book ≡ k.reader.position.place
+  pub noted : (d : DeskId) → NotedFine (votes_of v d) k.reader.position (noted_of k.reader d)
+  pub waits : ReaderWaits k.reader
