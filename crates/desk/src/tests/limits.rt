@@ -1,9 +1,10 @@
 //! Desks at their limits, and a long match.
+ghost use Rattle.notation.specs.Written.{IsEntry};
 
 use super::*;
 
 /// Desk A votes for an entry, and hears desk B's vote for this one.
-fn settle<V: Version>(rt: &impl Abort, a: &mut Station<V>, mine: Entry, theirs: Entry) -> Heard
+fn settle(rt: &impl Abort, a: &mut Station, mine: Entry, theirs: Entry) -> Heard
     requires mine { IsEntry mine }
 {
     let at = a.position();
@@ -32,22 +33,24 @@ fn rounds_that_differ(rt: HostRuntime) {
     let mut a = reopened(&rt, rt.alloc(), a, DeskId::A, None);
     assert_eq!(rt; standing(&a), (0, (0, 255), 256));
     assert_eq!(rt; number(&rt, &mut a, "void"), Some(61));
+    let_go(a);
 }
 
 // A book of 8,192 places takes no more, and nothing is sent.
 #[test]
 fn all_places(rt: HostRuntime) {
-    let mut a: Desk<Slots<MemDisk>, Book> = desk_within(&rt, rt.alloc(), DeskId::A, 1_048_641);
+    let mut a: Station = desk_within(&rt, rt.alloc(), DeskId::A, 1_048_641);
     for _ in 0..8192 {
         assert!(rt; settle(&rt, &mut a, VOID, VOID) == Heard::Agreed);
     }
     assert_eq!(rt; standing(&a), (8192, (8192, 0), 8192));
     assert_eq!(rt; number(&rt, &mut a, "void"), Some(62));
     assert_eq!(rt; a.tick().len(), 0);
+    let_go(a);
 }
 
 /// Three rounds of a place differ, and the fourth agrees.
-fn four_rounds<V: Version>(rt: &impl Abort, a: &mut Station<V>) {
+fn four_rounds(rt: &impl Abort, a: &mut Station) {
     for _ in 0..3 {
         assert!(rt; settle(rt, a, VOID, SWAP) == Heard::Differ);
     }
@@ -57,16 +60,17 @@ fn four_rounds<V: Version>(rt: &impl Abort, a: &mut Station<V>) {
 // A file of 16,384 votes takes no more, with places and rounds left.
 #[test]
 fn all_slots(rt: HostRuntime) {
-    let mut a: Desk<OldSlots<MemDisk>, Book> = desk_within(&rt, rt.alloc(), DeskId::A, 524_321);
+    let mut a: Station = desk_within(&rt, rt.alloc(), DeskId::A, 1_048_641);
     for _ in 0..4096 {
         four_rounds(&rt, &mut a);
     }
     assert_eq!(rt; standing(&a), (4096, (4096, 0), 16_384));
     assert_eq!(rt; number(&rt, &mut a, "void"), Some(44));
+    let_go(a);
 }
 
 /// Both desks pen an entry, and their votes are lost. Desk B sends its vote again and asks for desk A's.
-fn fetched<V: Version>(rt: &impl Abort, a: &mut Station<V>, b: &mut Station<V>, line: &str) {
+fn fetched(rt: &impl Abort, a: &mut Station, b: &mut Station, line: &str) {
     let at = b.position();
     assert!(rt; at.place < 8192 && at.round < 256);
     let from_a = pen(rt, a, line);
@@ -101,4 +105,6 @@ fn two_hundred_entries(rt: HostRuntime) {
     assert_eq!(rt; standing(&a), (200, (200, 0), 200));
     assert_eq!(rt; standing(&b), (200, (200, 0), 200));
     assert_eq!(rt; ends(a.shown()), (2, 1));
+    let_go(a);
+    let_go(b);
 }

@@ -77,4 +77,5 @@ fn random_bytes(rt: HostRuntime) {
                 )
         );
     }
+    let_go(a);
 }
