@@ -2,23 +2,30 @@
 use super::*;
 use std::io::{self, Error, ErrorKind};
 
-/// Takes this many writes, and fails the next.
+/// Takes this many writes and flushes, and fails the next.
 #[derive(Drop)]
 struct Failing {
     calls: usize,
 }
 
-impl Write for Failing {
-    fn write(&mut self, buffer: &[u8]) -> io::Result<usize> {
+impl Failing {
+    fn call(&mut self) -> io::Result<()> {
         if self.calls == 0 {
             return Err(Error::from(ErrorKind::Other));
         }
         self.calls -= 1;
+        Ok(())
+    }
+}
+
+impl Write for Failing {
+    fn write(&mut self, buffer: &[u8]) -> io::Result<usize> {
+        self.call()?;
         Ok(buffer.len())
     }
 
     fn flush(&mut self) -> io::Result<()> {
-        Ok(())
+        self.call()
     }
 }
 
@@ -73,13 +80,13 @@ fn writes_that_fail(rt: HostRuntime) {
     }
 }
 
-// A flush hands on, and what a writer took before is told after it failed, too.
+// A flush reaches the writer, and what failed is told from then on.
 #[test]
-fn a_writer_that_has_failed(rt: HostRuntime) {
-    let mut out = Watched::new(Failing { calls: 1 });
+fn a_flush_that_fails(rt: HostRuntime) {
+    let mut out = Watched::new(Failing { calls: 2 });
     assert!(rt; write!(out, "a").is_ok());
-    assert!(rt; !out.has_failed());
-    assert!(rt; write!(out, "b").is_err());
     assert!(rt; out.flush().is_ok());
+    assert!(rt; !out.has_failed());
+    assert!(rt; out.flush().is_err());
     assert!(rt; out.has_failed());
 }
