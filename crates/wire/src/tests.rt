@@ -128,7 +128,10 @@ fn names_each_fault(rt: HostRuntime) -> Result<(), Fail> {
         let mut bytes = VOTE;
         bytes[index] = value;
         assert_eq!(rt; message_of(7, &bytes), Err(fault));
-        assert_eq!(rt; format!(in rt.alloc(); "{} {fault}", fault.number())?.as_str(), shown);
+        assert_eq!(rt;
+            format!(in rt.alloc(); "{} {fault}", fault.number())?.as_str(),
+            shown
+        );
     }
     Ok(())
 }
@@ -162,7 +165,11 @@ fn damaged(chance: u64) -> [u8; 48] {
     for _ in 0..3 {
         let index = (left % 48) as usize;
         let value = (left / 48 % 256) as u8;
-        bytes[index] = if left / 16_384 % 2 == 0 { value % 4 } else { value };
+        bytes[index] = if left / 16_384 % 2 == 0 {
+            value % 4
+        } else {
+            value
+        };
         left /= 65_536;
     }
     bytes
