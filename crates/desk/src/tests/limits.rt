@@ -1,24 +1,5 @@
 //! Desks at their limits, and a long match.
-ghost use Rattle.notation.specs.Written.{IsEntry};
-
 use super::*;
-
-/// Desk A votes for an entry, and hears desk B's vote for this one.
-fn settle(rt: &impl Abort, a: &mut Station, mine: Entry, theirs: Entry) -> Heard
-    requires mine { IsEntry mine }
-{
-    let at = a.position();
-    assert!(rt; at.place < 8192 && at.round < 256);
-    match a.pen(&mine) {
-        Ok(penned) => assert!(rt; penned.settled == Settled::Pending),
-        Err(refusal) => panic!(rt; "{at:?}: {refusal}"),
-    }
-    give(rt, a, &vote(DeskId::B, at.place, at.round, theirs))
-}
-
-const VOID: Entry = Entry::Write(Plain::Void);
-
-const SWAP: Entry = Entry::Write(Plain::Swap);
 
 // All rounds of a place differ: it takes no further vote, and nothing is sent.
 #[test]
@@ -75,14 +56,7 @@ fn fetched(rt: &impl Abort, a: &mut Station, b: &mut Station, line: &str) {
     assert!(rt; at.place < 8192 && at.round < 256);
     let from_a = pen(rt, a, line);
     let from_b = pen(rt, b, line);
-    let asked = bytes_of(
-        7,
-        &Message::Ask(Ask {
-            from: Asker::B,
-            place: at.place,
-            round: at.round,
-        }),
-    );
+    let asked = ask_at(Asker::B, at.place, at.round);
     let sent = b.tick();
     assert!(rt; sent.len() == 2);
     assert!(rt; (sent[0].bytes, sent[1].bytes) == (from_b.send, asked));
