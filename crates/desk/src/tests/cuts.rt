@@ -189,21 +189,31 @@ fn failed_creations(rt: &impl Abort, alloc: Global, stops: bool, power: Option<C
     20
 }
 
-/// How many device calls of `open` fail, one at a time, on a file of two votes, which stay.
-fn failed_openings(rt: &impl Abort, alloc: Global, stops: bool, power: Option<Choice>) -> u32 {
+/// A file with two votes, the second one pending.
+fn file_of_two(rt: &impl Abort, alloc: Global) -> MemDisk {
     let mut a = begun(rt, alloc);
     pen(rt, &mut a, "in 1");
-    let mut disk = file_of(a);
+    file_of(a)
+}
+
+/// What a failed `open` has left: the file of two votes.
+fn left_by_open(rt: &impl Abort, alloc: Global, disk: MemDisk) {
+    let a: Station = made(rt, open(rt, alloc, disk, DeskId::A));
+    assert!(rt; standing(&a) == (1, (1, 0), 2));
+    let_go(a);
+}
+
+/// How many device calls of `open` fail, one at a time.
+fn failed_openings(rt: &impl Abort, alloc: Global, stops: bool, power: Option<Choice>) -> u32 {
     for n in 1..40 {
+        let mut disk = file_of_two(rt, alloc);
         cut_disk_at(&mut disk, n, stops);
-        let (is_open, mut left) = made_at(rt, open(rt, alloc, disk, DeskId::A));
+        let (is_open, mut disk) = made_at(rt, open(rt, alloc, disk, DeskId::A));
         if is_open {
             return n - 1;
         }
-        end(&mut left, power);
-        let a: Station = made(rt, open(rt, alloc, left, DeskId::A));
-        assert!(rt; standing(&a) == (1, (1, 0), 2));
-        disk = file_of(a);
+        end(&mut disk, power);
+        left_by_open(rt, alloc, disk);
     }
     40
 }
