@@ -1,0 +1,10 @@
+pub mod Both
+pub mod Desks
+pub mod Boards
+pub mod Keeping
+pub mod Shown
+pub mod Passing
+pub mod Sound
+pub mod Second
+pub mod Whole
+pub mod Scores

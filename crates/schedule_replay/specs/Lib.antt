@@ -1,0 +1,7 @@
+pub mod Worlds
+pub mod Steps
+pub mod Runs
+pub mod Headline
+pub mod Refusals
+pub mod Match
+pub mod Replays
