@@ -4,4 +4,5 @@ pub mod Runs
 pub mod Headline
 pub mod Refusals
 pub mod Match
+pub mod WorldDesks
 pub mod Replays

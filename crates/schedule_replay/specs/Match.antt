@@ -3,9 +3,8 @@ use Rattle.std.specs.Prelude.{◌≡◌, ℕ, Bool, true, false, List, map, All,
 use Rattle.corrections.specs.declared.refusal.Refusal.{Refusal}
 use Rattle.corrections.specs.Refusal.{book_refusal}
 use Rattle.entry_log.specs.declared.mem_disk.MemDisk.{MemDisk}
-use Rattle.entry_log.specs.Format.{contents}
+use Rattle.entry_log.specs.Format.{Format, contents, room}
 use Rattle.entry_log.specs.MemDisk.{file_of, images_of}
-use Rattle.entry_log.specs.Slots.{Contents}
 use Rattle.entry_log.specs.Version1.{version_1}
 use Rattle.entry_log.specs.Version2.{version_2}
 use Rattle.entry_log.specs.declared.refusal.Refusal.TheVariants as files
@@ -15,7 +14,7 @@ use Rattle.schedule_replay.specs.declared.version.FileVersion.{FileVersion}
 use Rattle.schedule_replay.specs.declared.version.FileVersion.TheVariants.{Old, New}
 use Rattle.agree_core.specs.declared.messages.Message.{Message}
 use Rattle.agree_core.specs.Desks as desks
-use Rattle.agree_core.specs.Desks.{PenAnswer}
+use Rattle.agree_core.specs.Desks.{PenAnswer, most_votes}
 use Rattle.agree_core.specs.Openings.{OpenRefusal}
 use Rattle.vote_store.specs.View.{file_view}
 use Rattle.wire.specs.declared.datagram.Datagram.{Datagram}
@@ -32,15 +31,18 @@ use Rattle.schedule_replay.specs.declared.seen.Seen.TheVariants as seens
 use Rattle.schedule_replay.specs.Worlds.{Setting}
 use Rattle.schedule_replay.specs.Steps.{Answer}
 
--- what the records of a file of this version are
-abbrev pub contents_of : FileVersion → Contents
-contents_of Old = contents version_1
-contents_of New = contents version_2
+abbrev pub format_of : FileVersion → Format
+format_of Old = version_1
+format_of New = version_2
+
+-- how long the largest file of this version is
+abbrev pub most_bytes : FileVersion → ℕ
+most_bytes version = room (format_of version) most_votes
 
 -- the match of this number, with so many innings a side, on disks in memory
 abbrev pub match_of : ℕ → ℕ → Setting MemDisk Refusal
 match_of game innings =
-    record { view = λ d version. file_view (contents_of version) file_of images_of d game; rules = book_refusal innings }
+    record { view = λ d version. file_view (contents (format_of version)) file_of images_of d game; rules = book_refusal innings }
 
 -- what a pen answers
 abbrev pub told_to_pen : PenAnswer Refusal → Answer Refusal

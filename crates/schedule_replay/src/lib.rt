@@ -6,6 +6,7 @@ mod fault;
 mod laws;
 mod seen;
 mod version;
+mod world_desk;
 
 pub use event::{Event, Station};
 pub use fault::Fault;

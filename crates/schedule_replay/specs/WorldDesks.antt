@@ -1,0 +1,91 @@
+-- A desk of the world, with a file of either version on a disk in memory.
+use Rattle.std.specs.Prelude.{◌≡◌, ◌≤◌, ◌+◌, ℕ, List, length, Option, Some, None, Result, Ok, Err}
+use Rattle.notation.specs.declared.entry.Entry.{Entry}
+use Rattle.corrections.specs.Book.{Contents}
+use Rattle.corrections.specs.declared.book.Book.{Book}
+use Rattle.corrections.specs.declared.refusal.Refusal.{Refusal}
+use Rattle.entry_log.specs.Format.{room}
+use Rattle.entry_log.specs.MemDisk.{cap_of, faults_of}
+use Rattle.entry_log.specs.declared.mem_disk.MemDisk.{MemDisk}
+use Rattle.agree_core.specs.declared.messages.DeskId.{DeskId}
+use Rattle.agree_core.specs.Books.{Rules}
+use Rattle.agree_core.specs.Desks.{DeskState}
+use Rattle.agree_core.specs.FileView.{FileView}
+use Rattle.agree_core.specs.Openings.{NotOpened, Opened, Opening}
+use Rattle.vote_store.specs.Blame.{BlamesDisk}
+use Rattle.desk.specs.Answers.{open_cause}
+use Rattle.desk.specs.Desk as desk
+use Rattle.desk.specs.declared.refusal.OpenRefusal.{OpenRefusal}
+use Rattle.schedule_replay.specs.declared.version.FileVersion.{FileVersion}
+use Rattle.schedule_replay.specs.declared.version.FileVersion.TheVariants as versions
+use Rattle.schedule_replay.specs.declared.world_desk.WorldDesk.{WorldDesk}
+use Rattle.schedule_replay.specs.declared.world_desk.WorldDesk.TheVariants.{Old, New}
+use Rattle.schedule_replay.specs.Match.{format_of, match_of}
+use Rattle.schedule_replay.specs.Worlds.{Setting}
+
+abbrev pub version_of : WorldDesk → FileVersion
+version_of (Old k) = versions.Old
+version_of (New k) = versions.New
+
+abbrev pub name_of : WorldDesk → DeskId
+name_of (Old k) = desk.desk_of k
+name_of (New k) = desk.desk_of k
+
+-- the number of its match
+abbrev pub game_of : WorldDesk → ℕ
+game_of (Old k) = desk.game_of k
+game_of (New k) = desk.game_of k
+
+abbrev pub book_of : WorldDesk → Contents
+book_of (Old k) = desk.book_of k
+book_of (New k) = desk.book_of k
+
+-- the innings a side of its book
+abbrev pub innings_of : WorldDesk → ℕ
+innings_of k = (λ (b : Contents). b.innings_a_side) (book_of k)
+
+abbrev pub disk_of : WorldDesk → MemDisk
+disk_of (Old k) = desk.disk_of k
+disk_of (New k) = desk.disk_of k
+
+-- the desk as the definitions of its calls see it
+abbrev pub state_of : WorldDesk → DeskState MemDisk
+state_of (Old k) = desk.state_of k
+state_of (New k) = desk.state_of k
+
+-- what its disk shows of its file
+abbrev pub view_of : WorldDesk → FileView MemDisk
+view_of k = (λ (s : Setting MemDisk Refusal). s.view (name_of k) (version_of k)) (match_of (game_of k) (innings_of k))
+
+-- the rules of its book
+abbrev pub rules_of : WorldDesk → Rules Refusal
+rules_of k = (λ (s : Setting MemDisk Refusal). s.rules) (match_of (game_of k) (innings_of k))
+
+-- it is this desk's, in this match, with a file of this version
+pub record IsOf (name : DeskId) (version : FileVersion) (game innings : ℕ) (k : WorldDesk) : Type 0 where
+  pub same_name : name_of k ≡ name
+  pub same_version : version_of k ≡ version
+  pub same_game : game_of k ≡ game
+  pub same_innings : innings_of k ≡ innings
+
+-- it is the same desk's, on a disk of the same cap
+pub record SameOwner (old new : WorldDesk) : Type 0 where
+  pub name : name_of new ≡ name_of old
+  pub version : version_of new ≡ version_of old
+  pub same_game : game_of new ≡ game_of old
+  pub innings : innings_of new ≡ innings_of old
+  pub cap : cap_of (disk_of new) ≡ cap_of (disk_of old)
+
+-- of its file there is room for one vote more
+abbrev pub HasRoom : WorldDesk → Type 0
+HasRoom k = room (format_of (version_of k)) (length ((λ (s : DeskState MemDisk). s.votes) (state_of k)) + 1) ≤ cap_of (disk_of k)
+
+-- what comes of opening a file
+abbrev pub opening : Result WorldDesk (OpenRefusal × MemDisk) → Opening MemDisk
+opening (Ok k) = Opened (state_of k)
+opening (Err refused) = NotOpened (open_cause refused.0) refused.1
+
+-- the disk, in the desk or handed back
+abbrev pub disk_left : Result WorldDesk (OpenRefusal × MemDisk) → MemDisk
+disk_left (Ok k) = disk_of k
+disk_left (Err refused) = refused.1
