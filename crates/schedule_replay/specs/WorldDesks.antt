@@ -12,7 +12,7 @@ use Rattle.agree_core.specs.Books.{Rules}
 use Rattle.agree_core.specs.Desks.{DeskState}
 use Rattle.agree_core.specs.FileView.{FileView}
 use Rattle.agree_core.specs.Openings.{NotOpened, Opened, Opening}
-use Rattle.vote_store.specs.Blame.{BlamesDisk}
+use Rattle.entry_log.specs.Blame.{BlamesDisk}
 use Rattle.desk.specs.Answers.{open_cause}
 use Rattle.desk.specs.Desk as desk
 use Rattle.desk.specs.declared.refusal.OpenRefusal.{OpenRefusal}
