@@ -1,5 +1,5 @@
 -- What every call of a desk keeps, over any disk.
-use Rattle.std.proofs.Common.{◌≡◌, ◌≢◌, ◌⊎◌, ℕ, ◌+◌, Bool, true, false, true≢false, Option, Some, None, List, [], ◌∷◌, ◌++◌, length, refl, sym, ap, ◌∙◌, subst, inl, inr, arith, ⊎_elim, length-append}
+use Rattle.std.proofs.Common.{◌≡◌, ◌≢◌, ◌⊎◌, ℕ, ◌+◌, true, false, true≢false, Option, Some, None, List, [], ◌∷◌, ◌++◌, length, refl, sym, ap, ◌∙◌, subst, inl, inr, arith, ⊎_elim, length-append}
 use Rattle.notation.specs.declared.entry.Entry.{Entry}
 use Rattle.agree_core.specs.declared.messages.DeskId.{DeskId}
 use Rattle.agree_core.specs.declared.messages.Message.{Message}
@@ -9,14 +9,13 @@ use Rattle.agree_core.specs.declared.seat.Heard.{Heard}
 use Rattle.agree_core.specs.declared.seat.Settled.{Settled}
 use Rattle.agree_core.specs.Ballots.{Ballot, Follows, In, Justified, Within, ballot_of}
 use Rattle.agree_core.specs.Books.{Rules, book_of}
-use Rattle.agree_core.specs.Desks.{DeskState, Fails, PenAnswer, PenRefusal, Pens, ReceiveAnswer, Receives, Ticks, Unchanged, ask_other, asker, book_after, book_heard, next_ballot, own_vote}
+use Rattle.agree_core.specs.Desks.{DeskState, Fails, PenAnswer, Pens, ReceiveAnswer, Receives, Ticks, Unchanged, ask_other, asker, book_after, book_heard, next_ballot, own_vote}
 use Rattle.agree_core.specs.FileView.{FileView, Holds, MayHold, MaySync, Stays, Synced}
-use Rattle.agree_core.specs.Openings.{Creates, OpenRefusal, Opening, Opens, opened}
-use Rattle.agree_core.specs.Positions.{InRange, IsFull, first, next_place, next_round, position_of}
+use Rattle.agree_core.specs.Openings.{opened}
+use Rattle.agree_core.specs.Positions.{InRange, next_place, next_round, position_of}
 use Rattle.agree_core.specs.Seats.{Casts, Hears, SeatState, SeatWaits}
 use Rattle.agree_core.proofs.FileBooks.{AllBoth, book_closed, book_kept, book_long}
-use Rattle.agree_core.proofs.Order.{in_sequence, justified_grows}
-use Rattle.agree_core.proofs.Waiting.{casts_wait, hears_wait}
+use Rattle.agree_core.proofs.Order.{in_sequence}
 use Rattle.schedule_replay.proofs.Both.{both_grow, both_push, book_both, more, same}
 
 abbrev pub Each : {X : Type 0} (P : X → Type 0) → List X → Type 0
@@ -284,7 +283,7 @@ module _ {Disk : Type 0} (view : FileView Disk) (d : DeskId) (theirs : List Ball
       let votes : l.votes ≡ k.votes = ap (λ (x : DeskState Disk). x.votes) p.1.1 in
       ⊎_elim
       (λ (r : (e : Entry) × In (record { at = record { place = q.place; round = q.round }; entry = e }) k.votes × (out ≡ _)).
-          rw r.2 (record { fine = u.fine; grows = u.grows; told = ((s.desk, subst (In _) (sym votes) r.1), tt) }))
+      rw r.2 (record { fine = u.fine; grows = u.grows; told = ((s.desk, subst (In _) (sym votes) r.1), tt) }))
       (λ r. rw r.1 u)
       p.2
   receives_keep k l (Message.Ask q) ReceiveAnswer.DeviceFailed out f t p = rw p.3 (fails k l (stays_fine k.votes k.disk l.disk p.1 f.disk) f p.2)

@@ -1,17 +1,16 @@
 -- What every event of a run keeps, over any disk.
-use Rattle.std.proofs.Common.{◌≡◌, ◌≢◌, ◌⊎◌, ℕ, zero, suc, ◌+◌, Bool, true, false, Option, Some, None, List, [], ◌∷◌, ◌++◌, length, refl, sym, ap, ◌∙◌, subst, inl, inr}
+use Rattle.std.proofs.Common.{◌≡◌, ◌≢◌, ℕ, Option, Some, None, List, [], ◌∷◌, ◌++◌, refl, sym, ap, ◌∙◌, subst, inl, inr}
 use Rattle.std.specs.Prelude.{slice_get}
 use Rattle.notation.specs.declared.entry.Entry.{Entry}
 use Rattle.agree_core.specs.declared.messages.DeskId.{DeskId}
 use Rattle.agree_core.specs.declared.messages.DeskId.TheVariants.{A, B}
 use Rattle.agree_core.specs.declared.messages.Message.{Message}
-use Rattle.agree_core.specs.declared.messages.Vote.{Vote}
 use Rattle.agree_core.specs.Ballots.{AllJustified, AllVotes, Ballot, In, Justified, VotesGrow, Within, ballot_of}
 use Rattle.agree_core.specs.Ballots as ballots
-use Rattle.agree_core.specs.Boards.{BoardAnswer, BoardReceives, BoardState, BoardTicks, fresh_board}
-use Rattle.agree_core.specs.Desks.{DeskState, PenAnswer, Pens, ReceiveAnswer, Receives, Ticks}
-use Rattle.agree_core.specs.FileView.{FileView, Holds, MaySync, Stays}
-use Rattle.agree_core.specs.Openings.{Creates, OpenRefusal, Opening, Opens, opened}
+use Rattle.agree_core.specs.Boards.{BoardState}
+use Rattle.agree_core.specs.Desks.{DeskState, PenAnswer, ReceiveAnswer}
+use Rattle.agree_core.specs.FileView.{MaySync, Stays}
+use Rattle.agree_core.specs.Openings.{OpenRefusal, Opening, Opens}
 use Rattle.agree_core.specs.Readers.{other}
 use Rattle.agree_core.proofs.Order.{justified_grows}
 use Rattle.schedule_replay.specs.declared.event.Event.{Event}
@@ -22,12 +21,12 @@ use Rattle.schedule_replay.specs.declared.fault.Fault.TheVariants.{Fail, Stop}
 use Rattle.schedule_replay.specs.declared.fault.Fault.{Fault}
 use Rattle.schedule_replay.specs.declared.version.FileVersion.{FileVersion}
 use Rattle.schedule_replay.specs.declared.version.FileVersion.TheVariants.{Old, New}
-use Rattle.schedule_replay.specs.Worlds.{Process, Running, Down, Setting, Site, World, board_at, disk_of, fresh_boards, site, votes_in, votes_of, with_board, with_disk, with_site}
-use Rattle.schedule_replay.specs.Steps.{AfterOpen, AfterPen, AfterReceive, Answer, AtBoard, AtDesk, Breaks, BreaksBy, Ends, FallsDue, LosesPower, Migrates, MigratesAt, Migration, AfterMigration, ToNew, NotSound, Failed, StaysDownBy, Step, StepAt, station_of}
+use Rattle.schedule_replay.specs.Worlds.{Process, Running, Down, Setting, Site, World, disk_of, site, votes_in, votes_of, with_disk, with_site}
+use Rattle.schedule_replay.specs.Steps.{AfterOpen, AfterPen, AfterReceive, Answer, AtBoard, AtDesk, Breaks, FallsDue, LosesPower, Migrates, MigratesAt, Migration, AfterMigration, ToNew, NotSound, Failed, StaysDownBy, Step, StepAt, station_of}
 use Rattle.schedule_replay.specs.Runs.{Begins, BeginsAt, Moment, Run, last_of}
 use Rattle.schedule_replay.proofs.Both.{both_grow, same}
-use Rattle.schedule_replay.proofs.Desks.{DeskFine, DeskKept, DiskFine, Each, MineFine, OneMore, OwnMessage, SeatFine, ShowsMore, TheirMessage, held, may_sync_fine, more_justified, more_within, on_disk, opened_fine, opens_fine, pens_keep, receives_keep, stays_fine, synced_fine, ticks_keep}
-use Rattle.schedule_replay.proofs.Boards.{BoardFine, MessageFine, board_asks, board_fine_at, board_grows, board_receives_keeps, board_set, each_append, each_other, fresh_boards_fine, fresh_fine, item_at, message_grows, noted_grows}
+use Rattle.schedule_replay.proofs.Desks.{DeskFine, DeskKept, DiskFine, Each, MineFine, OneMore, OwnMessage, ShowsMore, TheirMessage, held, may_sync_fine, more_justified, more_within, on_disk, opened_fine, opens_fine, pens_keep, receives_keep, stays_fine, synced_fine, ticks_keep}
+use Rattle.schedule_replay.proofs.BoardKeeping.{BoardFine, MessageFine, board_asks, board_fine_at, board_grows, board_receives_keeps, board_set, each_append, each_other, fresh_boards_fine, fresh_fine, item_at, message_grows, noted_grows}
 
 module _ {Disk Why : Type 0} (s : Setting Disk Why) where
   abbrev pub ProcessFine : FileVersion → DeskId → List Ballot → Process Disk → Type 0
@@ -167,7 +166,7 @@ module _ {Disk Why : Type 0} (s : Setting Disk Why) where
       after_receive d theirs x p.0 p.1 p.3 answer y out p.4 (receives_keep (s.view d x.version) d theirs p.0 p.1 p.2 p.3 out (running x.version d theirs x.process p.0 p.4 f) (t n p.2 p.5) p.6) p.7
   at_desk_keeps sent d theirs (events.Tick u) x answer y out t f p =
       subst (λ (z : Site Disk). KeptAt d theirs x.process z out) (sym p.4)
-          (subst (λ (z : Process Disk). SiteKept x.version d theirs x.process z out) (sym p.1) (gone_on x.version d theirs x.process p.0 p.0 out p.1 (ticks_keep (s.view d x.version) d theirs p.0 out (running x.version d theirs x.process p.0 p.1 f) p.2)))
+      (subst (λ (z : Process Disk). SiteKept x.version d theirs x.process z out) (sym p.1) (gone_on x.version d theirs x.process p.0 p.0 out p.1 (ticks_keep (s.view d x.version) d theirs p.0 out (running x.version d theirs x.process p.0 p.1 f) p.2)))
   at_desk_keeps sent d theirs (events.Kill c) x answer y out t f p =
       let h = p.2 in
       rw p.4 (down_at d theirs x y h.0 None f (stays_fine (s.view d x.version) d theirs (votes_of x.process) (disk_of x.process) h.0 h.1 (process_disk x.version d theirs x.process f)) h.2)
@@ -248,28 +247,26 @@ module _ {Disk Why : Type 0} (s : Setting Disk Why) where
   site_changed w A y out f k =
       let v = votes_in w in
       let new : AllVotes = record { a = votes_of y.process; b = v.b } in
-      let g : VotesGrow v new = (k.grows, same v.b) in
-      (
+      let g : VotesGrow v new = (k.grows, same v.b) in (
         record {
           on_a = k.fine;
           on_b = process_grows w.b.version B v.a new.a k.grows w.b.process f.on_b;
           on_boards = each_other (BoardFine v) (BoardFine new) (board_grows v new g) w.boards f.on_boards;
           on_sent = rest_grows v new g w.sent out f.on_sent (each_other (OwnMessage A new.a) (MessageFine new) (own_message new A) out k.told);
         },
-        g
+        g,
       )
   site_changed w B y out f k =
       let v = votes_in w in
       let new : AllVotes = record { a = v.a; b = votes_of y.process } in
-      let g : VotesGrow v new = (same v.a, k.grows) in
-      (
+      let g : VotesGrow v new = (same v.a, k.grows) in (
         record {
           on_a = process_grows w.a.version A v.b new.b k.grows w.a.process f.on_a;
           on_b = k.fine;
           on_boards = each_other (BoardFine v) (BoardFine new) (board_grows v new g) w.boards f.on_boards;
           on_sent = rest_grows v new g w.sent out f.on_sent (each_other (OwnMessage B new.b) (MessageFine new) (own_message new B) out k.told);
         },
-        g
+        g,
       )
 
   at_board_keeps : (sent : List Message) (v : AllVotes) (event : Event) (k l : BoardState) (answer : Answer Why) (out : List Message) → Each (MessageFine v) sent → BoardFine v k → AtBoard s sent event k answer l out → BoardFine v l × Each (MessageFine v) out
@@ -301,7 +298,7 @@ module _ {Disk Why : Type 0} (s : Setting Disk Why) where
           on_boards = board_set v w.boards n p.1 h.0 f.on_boards;
           on_sent = each_append (MessageFine v) w.sent p.2 f.on_sent h.1;
         },
-        (same v.a, same v.b)
+        (same v.a, same v.b),
       )
 
   pub step_keeps : (w : World Disk) (event : Event) (answer : Answer Why) (new : World Disk) → Fine w → Step s w event answer new → Fine new × Grows w new

@@ -1,6 +1,6 @@
 pub mod Both
 pub mod Desks
-pub mod Boards
+pub mod BoardKeeping
 pub mod Keeping
 pub mod Shown
 pub mod Passing
@@ -8,3 +8,11 @@ pub mod Sound
 pub mod Second
 pub mod Whole
 pub mod Scores
+pub mod SiteLemmas
+pub mod PenLemmas
+pub mod EventLemmas
+pub mod OpenLemmas
+pub mod MigrateLemmas
+pub mod GiveLemmas
+pub mod TakeLemmas
+pub mod WorldLemmas

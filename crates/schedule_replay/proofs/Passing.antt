@@ -1,18 +1,16 @@
 -- What each pen keeps of a desk's votes holds of its votes, of what is read and of every image.
-use Rattle.std.proofs.Common.{◌≡◌, ◌≢◌, ◌⊎◌, ℕ, ◌+◌, Option, Some, None, List, [], ◌∷◌, ◌++◌, refl, sym, ap, ◌∙◌, subst, inl, inr, ⊎_elim}
+use Rattle.std.proofs.Common.{◌≡◌, ◌⊎◌, ℕ, Option, Some, List, [], ◌∷◌, refl, sym, ap, ◌∙◌, subst, inl, inr}
 use Rattle.notation.specs.declared.entry.Entry.{Entry}
 use Rattle.agree_core.specs.declared.messages.DeskId.{DeskId}
 use Rattle.agree_core.specs.declared.messages.DeskId.TheVariants.{A, B}
 use Rattle.agree_core.specs.declared.messages.Message.{Message}
 use Rattle.agree_core.specs.Ballots.{Ballot, In}
 use Rattle.agree_core.specs.Ballots as ballots
-use Rattle.agree_core.specs.Books.{Rules}
 use Rattle.agree_core.specs.Desks.{DeskState, Fails, MayPen, PenAnswer, Pens, ReceiveAnswer, Receives, Unchanged, next_ballot}
 use Rattle.agree_core.specs.FileView.{FileView, Holds, MayHold, MaySync, Stays, Synced}
-use Rattle.agree_core.specs.Openings.{Creates, OpenRefusal, Opening, Opens}
+use Rattle.agree_core.specs.Openings.{OpenRefusal, Opening, Opens}
 use Rattle.schedule_replay.specs.declared.event.Event.{Event}
 use Rattle.schedule_replay.specs.declared.event.Event.TheVariants as events
-use Rattle.schedule_replay.specs.declared.event.Station.{Station}
 use Rattle.schedule_replay.specs.declared.event.Station.TheVariants as stations
 use Rattle.schedule_replay.specs.declared.fault.Fault.TheVariants.{Fail, Stop}
 use Rattle.schedule_replay.specs.declared.fault.Fault.{Fault}
@@ -127,8 +125,8 @@ module _ {Disk Why : Type 0} (s : Setting Disk Why) where
       subst (SiteHolds Q view) (sym p.1) (subst (λ (v : FileVersion). HeldBy Q (view v) votes left) (sym q) (may_sync Q (view Old) votes old left m.1 h))
   after_migration Q view x votes old (Failed left) answer y q h m p =
       stays_down Q view x p.0 votes left answer y
-          (subst (λ (v : FileVersion). HeldBy Q (view v) votes left) (sym q) (may_sync Q (view Old) votes old left m h))
-          (subst (λ (v : FileVersion). StaysDownBy (view v) x p.0 votes left answer y) (sym q) p.2)
+      (subst (λ (v : FileVersion). HeldBy Q (view v) votes left) (sym q) (may_sync Q (view Old) votes old left m h))
+      (subst (λ (v : FileVersion). StaysDownBy (view v) x p.0 votes left answer y) (sym q) p.2)
 
   migrates_at : (Q : List Ballot → Type 0) (view : FileVersion → FileView Disk) (x : Site Disk) (version : FileVersion) (votes : List Ballot) (old : Disk) (answer : Answer Why) (y : Site Disk) → x.version ≡ version → SiteHolds Q view x → HeldBy Q (view version) votes old → MigratesAt view x version votes old answer y → SiteHolds Q view y
   migrates_at Q view x Old votes old answer y q h g p = after_migration Q view x votes old p.0 answer y q g p.1 p.2
@@ -196,8 +194,8 @@ module _ {Disk Why : Type 0} (s : Setting Disk Why) where
   pub step_holds : (Q : DeskId → List Ballot → Type 0) (w : World Disk) (event : Event) (answer : Answer Why) (new : World Disk) → PensKeep Q w event → BothHold Q w → Step s w event answer new → BothHold Q new
   step_holds Q w (events.Pen d e) answer new f h p =
       by_desk Q w (events.Pen d e) d answer new
-          (λ c k g q i m v. f d k g (ap (events.Pen d) (pen_entry d c e g q)) i m v)
-          h p.0 p.1 p.2 p.3
+      (λ c k g q i m v. f d k g (ap (events.Pen d) (pen_entry d c e g q)) i m v)
+      h p.0 p.1 p.2 p.3
   step_holds Q w (events.Give n (stations.Desk d)) answer new f h p = by_desk Q w (events.Give n (stations.Desk d)) d answer new (no_pen (Q d) _ (site w d) (λ c e q. (cc))) h p.0 p.1 p.2 p.3
   step_holds Q w (events.Tick (stations.Desk d)) answer new f h p = by_desk Q w (events.Tick (stations.Desk d)) d answer new (no_pen (Q d) _ (site w d) (λ c e q. (cc))) h p.0 p.1 p.2 p.3
   step_holds Q w (events.Kill d) answer new f h p = by_desk Q w (events.Kill d) d answer new (no_pen (Q d) _ (site w d) (λ c e q. (cc))) h p.0 p.1 p.2 p.3

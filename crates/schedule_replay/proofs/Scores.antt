@@ -1,19 +1,17 @@
 -- Books of one length have one score.
-use Rattle.std.proofs.Common.{◌≡◌, ◌⊎◌, ℕ, List, length, sym, ◌∙◌, subst, ⊎_elim}
+use Rattle.std.proofs.Common.{◌≡◌, ℕ, List, length, sym, ◌∙◌, subst, ⊎_elim}
 use Rattle.notation.specs.declared.entry.Entry.{Entry}
 use Rattle.ball_laws.specs.History.{History}
 use Rattle.match_laws.specs.declared.standing.Standing.{Standing}
 use Rattle.match_laws.specs.Stands.{StandsFor}
 use Rattle.corrections.specs.CleanList.{history_of}
-use Rattle.corrections.specs.Legal.{IsScoreOf}
 use Rattle.entry_log.specs.declared.mem_disk.MemDisk.{MemDisk}
 use Rattle.agree_core.specs.Agreed.{BeginsWith}
 use Rattle.agree_core.proofs.Settling.{one_book}
-use Rattle.schedule_replay.specs.declared.event.Station.{Station}
 use Rattle.schedule_replay.specs.declared.version.FileVersion.{FileVersion}
 use Rattle.schedule_replay.specs.Worlds.{World, votes_in}
 use Rattle.schedule_replay.specs.Match.{match_of}
-use Rattle.schedule_replay.specs.Runs.{AtSomeMoment, Begins, Run, last_of}
+use Rattle.schedule_replay.specs.Runs.{Begins, Run, last_of}
 use Rattle.schedule_replay.specs.Replays.{MatchRun, OneScore, ShowsScore}
 use Rattle.schedule_replay.proofs.Keeping.{all_justified, begins_fine, run_keeps}
 use Rattle.schedule_replay.proofs.Shown.{moment, shown_settled}
@@ -47,9 +45,9 @@ one_score game innings version boards w ms begins run t u n score other p q =
     let ys = y.3.0 in
     let size : length xs ≡ length ys = sym x.3.2 ∙ y.3.2 in
     let equal : xs ≡ ys = ⊎_elim
-        (λ (b : BeginsWith ys xs). same_length xs ys b size)
-        (λ (b : BeginsWith xs ys). sym (same_length ys xs b (sym size)))
-        (one_book (votes_in (last_of w ms)) j (votes_in x.0) (votes_in y.0) xs ys x.2 y.2 (shown_settled s x.0 t xs x.1 x.3.1) (shown_settled s y.0 u ys y.1 y.3.1)) in
+    (λ (b : BeginsWith ys xs). same_length xs ys b size)
+    (λ (b : BeginsWith xs ys). sym (same_length ys xs b (sym size)))
+    (one_book (votes_in (last_of w ms)) j (votes_in x.0) (votes_in y.0) xs ys x.2 y.2 (shown_settled s x.0 t xs x.1 x.3.1) (shown_settled s y.0 u ys y.1 y.3.1)) in
     let a = x.3.3 in
     let b = y.3.3 in
     one_standing score other innings (history_of ys) (subst (λ (o : List Entry). StandsFor score innings (history_of o)) equal a.score) b.score

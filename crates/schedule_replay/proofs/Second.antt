@@ -1,5 +1,5 @@
 -- The call that brings the second of two equal votes takes their entry.
-use Rattle.std.proofs.Common.{◌≡◌, ◌≢◌, ◌⊎◌, ℕ, zero, suc, ◌+◌, true, false, true≢false, Option, Some, None, List, [], ◌∷◌, ◌++◌, refl, sym, ap, ◌∙◌, subst, inl, inr}
+use Rattle.std.proofs.Common.{◌≡◌, ◌≢◌, ◌⊎◌, ℕ, zero, suc, false, true≢false, Option, Some, None, List, [], ◌∷◌, ◌++◌, refl, sym, ap, ◌∙◌, subst, inl, inr}
 use Rattle.std.specs.Prelude.{slice_get, slice_set}
 use Rattle.notation.specs.declared.entry.Entry.{Entry}
 use Rattle.agree_core.specs.declared.messages.DeskId.{DeskId}
@@ -14,18 +14,18 @@ use Rattle.agree_core.specs.Boards.{BoardAnswer, BoardReceives, BoardState}
 use Rattle.agree_core.specs.Desks.{DeskState, PenAnswer, Pens, ReceiveAnswer, Receives, book_after, book_heard}
 use Rattle.agree_core.specs.Positions.{position_of}
 use Rattle.agree_core.specs.Readers.{Listens, ReaderState, ReaderWaits, noted_of, other}
-use Rattle.agree_core.specs.Seats.{Casts, Hears, SeatState, SeatWaits}
+use Rattle.agree_core.specs.Seats.{Casts, Hears, SeatState}
 use Rattle.agree_core.proofs.Order.{not_before}
 use Rattle.schedule_replay.specs.declared.event.Event.{Event}
 use Rattle.schedule_replay.specs.declared.event.Event.TheVariants as events
 use Rattle.schedule_replay.specs.declared.event.Station.{Station}
 use Rattle.schedule_replay.specs.declared.event.Station.TheVariants as stations
 use Rattle.schedule_replay.specs.declared.fault.Fault.TheVariants.{Fail, Stop}
-use Rattle.schedule_replay.specs.Worlds.{Process, Running, Down, Setting, Site, World, board_at, site, with_board, votes_in, with_site}
-use Rattle.schedule_replay.specs.Steps.{AfterPen, AfterReceive, Answer, AtBoard, AtDesk, Breaks, Step, StepAt, board_told}
-use Rattle.schedule_replay.specs.Runs.{Begins, Moment, Run, Shows, last_of, process_shows}
+use Rattle.schedule_replay.specs.Worlds.{Process, Running, Setting, Site, World, board_at, site, with_board, votes_in, with_site}
+use Rattle.schedule_replay.specs.Steps.{AfterPen, AfterReceive, Answer, Breaks, Step, board_told}
+use Rattle.schedule_replay.specs.Runs.{Moment, Run, Shows, last_of, process_shows}
 use Rattle.schedule_replay.specs.Headline.{AtEachEvent, Brings, HasNoted, IsTaken, TakesSecond, noted_at_desk}
-use Rattle.schedule_replay.proofs.Boards.{BoardFine, board_fine_at}
+use Rattle.schedule_replay.proofs.BoardKeeping.{board_fine_at}
 use Rattle.schedule_replay.proofs.Keeping.{Fine, run_keeps, running, site_fine}
 
 -- the other vote isn't there
@@ -195,7 +195,7 @@ module _ {Disk Why : Type 0} (s : Setting Disk Why) where
       board_given w number c n book b answer new f h sent (subst (λ (z : Event). Step s w z answer new) e p) i
   second_taken w event answer new t book b c f h (inr (here, e)) p i =
       subst (λ (z : Station). Shows new z (book ++ b.entry ∷ [])) (sym here)
-          (desk_penned w c book b answer new (subst (λ (z : Station). HasNoted w z book b c) here h) (subst (λ (z : Event). Step s w z answer new) e p) i)
+      (desk_penned w c book b answer new (subst (λ (z : Station). HasNoted w z book b c) here h) (subst (λ (z : Event). Step s w z answer new) e p) i)
 
   pub takes_second : (w : World Disk) (ms : List (Moment Disk Why)) → Fine s w → Run s w ms → AtEachEvent w ms TakesSecond
   takes_second w [] f r = tt

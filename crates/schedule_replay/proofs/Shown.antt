@@ -1,6 +1,5 @@
 -- What stations show in a run is one book, of entries that both desks voted for.
-use Rattle.std.proofs.Common.{◌≡◌, ◌≢◌, ◌⊎◌, ℕ, zero, suc, ◌+◌, Option, Some, None, List, [], ◌∷◌, ◌++◌, length, refl, sym, ap, ◌∙◌, subst, inl, inr, arith}
-use Rattle.std.specs.Prelude.{slice_get}
+use Rattle.std.proofs.Common.{◌≡◌, ℕ, ◌+◌, Option, Some, List, [], ◌∷◌, refl, subst, inl, inr, arith}
 use Rattle.notation.specs.declared.entry.Entry.{Entry}
 use Rattle.agree_core.specs.declared.messages.DeskId.{DeskId}
 use Rattle.agree_core.specs.declared.messages.DeskId.TheVariants.{A, B}
@@ -10,19 +9,19 @@ use Rattle.agree_core.specs.Ballots.{AllVotes, Ballot, In, VotesGrow, Within}
 use Rattle.agree_core.specs.Ballots as ballots
 use Rattle.agree_core.specs.Boards.{BoardState}
 use Rattle.agree_core.specs.Desks.{DeskState}
-use Rattle.agree_core.specs.Readers.{noted_of, other, ReaderWaits}
+use Rattle.agree_core.specs.Readers.{other, ReaderWaits}
 use Rattle.agree_core.specs.Seats.{SeatWaits}
 use Rattle.agree_core.proofs.FileBooks.{AllBoth}
 use Rattle.agree_core.proofs.Settling.{agreed_begins, one_book, one_vote_each, places_settled, rounds_differ}
 use Rattle.schedule_replay.specs.declared.event.Station.{Station}
 use Rattle.schedule_replay.specs.declared.event.Station.TheVariants as stations
 use Rattle.schedule_replay.specs.declared.version.FileVersion.{FileVersion}
-use Rattle.schedule_replay.specs.Worlds.{Process, Running, Down, Setting, Site, World, board_at, disk_of, site, votes_in, votes_of}
+use Rattle.schedule_replay.specs.Worlds.{Process, Running, Down, Setting, World, board_at, disk_of, site, votes_in, votes_of}
 use Rattle.schedule_replay.specs.Runs.{AtEachMoment, AtSomeMoment, Moment, Run, Shows, last_of, process_shows}
-use Rattle.schedule_replay.specs.Headline.{ByBoth, HasNoted, KeptSafe, NoneWaits, OneBook, StandsFast, WithinAgreed, noted_at_desk}
-use Rattle.schedule_replay.proofs.Both.{both_at, both_grow, both_settled, both_turned, same}
-use Rattle.schedule_replay.proofs.Desks.{DeskFine, Each, SeatFine, ShowsMore, more_within}
-use Rattle.schedule_replay.proofs.Boards.{BoardFine, MessageFine, board_fine_at, item_at}
+use Rattle.schedule_replay.specs.Headline.{ByBoth, KeptSafe, NoneWaits, OneBook, StandsFast, WithinAgreed, noted_at_desk}
+use Rattle.schedule_replay.proofs.Both.{both_at, both_settled, both_turned, same}
+use Rattle.schedule_replay.proofs.Desks.{ShowsMore, more_within}
+use Rattle.schedule_replay.proofs.BoardKeeping.{MessageFine, board_fine_at, item_at}
 use Rattle.schedule_replay.proofs.Keeping.{Fine, Grows, ProcessFine, all_justified, process_disk, run_keeps, running, site_fine, step_keeps}
 
 module _ {Disk Why : Type 0} (s : Setting Disk Why) where
@@ -70,7 +69,7 @@ module _ {Disk Why : Type 0} (s : Setting Disk Why) where
       let x = moment w ms (λ v. Shows v t xs) f r p in
       let y = moment w ms (λ v. Shows v u ys) f r q in
       one_book (votes_in (last_of w ms)) (all_justified s (last_of w ms) (run_keeps s w ms f r)) (votes_in x.0) (votes_in y.0) xs ys x.2 y.2
-          (shown_settled x.0 t xs x.1 x.3) (shown_settled y.0 u ys y.1 y.3)
+      (shown_settled x.0 t xs x.1 x.3) (shown_settled y.0 u ys y.1 y.3)
 
   pub within_agreed : (w : World Disk) (ms : List (Moment Disk Why)) → Fine s w → Run s w ms → WithinAgreed w ms
   within_agreed w ms f r t xs agreed p g =

@@ -1,5 +1,5 @@
 -- No event of a run meets two votes of one desk, votes that are no book or a file that isn't sound.
-use Rattle.std.proofs.Common.{◌≡◌, ◌≢◌, ◌⊎◌, ℕ, ◌+◌, Bool, true, false, Option, Some, None, List, [], ◌∷◌, ◌++◌, length, refl, sym, ap, ◌∙◌, subst, inl, inr, arith, ⊎_elim, append-nil, append_assoc}
+use Rattle.std.proofs.Common.{◌≡◌, ◌≢◌, ℕ, Bool, true, false, Option, Some, None, List, [], ◌∷◌, ◌++◌, length, refl, sym, ap, ◌∙◌, subst, inl, inr, arith, ⊎_elim, append-nil, append_assoc}
 use Rattle.std.specs.Prelude.{nat_eq}
 use Rattle.notation.specs.declared.entry.Entry.{Entry}
 use Rattle.agree_core.specs.declared.messages.DeskId.{DeskId}
@@ -7,12 +7,12 @@ use Rattle.agree_core.specs.declared.messages.DeskId.TheVariants.{A, B}
 use Rattle.agree_core.specs.declared.messages.Message.{Message}
 use Rattle.agree_core.specs.declared.messages.Vote.{Vote}
 use Rattle.agree_core.specs.declared.seat.Heard.{Heard}
-use Rattle.agree_core.specs.Agreed.{AllSettled, BeginsWith}
+use Rattle.agree_core.specs.Agreed.{BeginsWith}
 use Rattle.agree_core.specs.Ballots.{AllJustified, AllVotes, Ballot, In, Justified, Within, ballot_of}
 use Rattle.agree_core.specs.Ballots as ballots
-use Rattle.agree_core.specs.Boards.{BoardAnswer, BoardReceives, BoardState, BoardTicks}
-use Rattle.agree_core.specs.Books.{AllTaken, FirstRefused, Rules, book_of, closing, voted_list}
-use Rattle.agree_core.specs.Desks.{DeskState, MayPen, PenAnswer, Pens, ReceiveAnswer, Receives, next_ballot}
+use Rattle.agree_core.specs.Boards.{BoardAnswer, BoardReceives, BoardState}
+use Rattle.agree_core.specs.Books.{AllTaken, Rules, book_of, closing, voted_list}
+use Rattle.agree_core.specs.Desks.{DeskState, PenAnswer, ReceiveAnswer, Receives, next_ballot}
 use Rattle.agree_core.specs.FileView.{FileView}
 use Rattle.agree_core.specs.Openings.{OpenRefusal, Opening, Opens}
 use Rattle.agree_core.specs.Positions.{position_of}
@@ -30,14 +30,14 @@ use Rattle.schedule_replay.specs.declared.fault.Fault.TheVariants.{Fail, Stop}
 use Rattle.schedule_replay.specs.declared.fault.Fault.{Fault}
 use Rattle.schedule_replay.specs.declared.version.FileVersion.{FileVersion}
 use Rattle.schedule_replay.specs.declared.version.FileVersion.TheVariants.{Old, New}
-use Rattle.schedule_replay.specs.Worlds.{Process, Running, Down, Setting, Site, World, board_at, disk_of, site, votes_in, votes_of}
-use Rattle.schedule_replay.specs.Steps.{AfterOpen, AfterPen, AfterReceive, Answer, AtBoard, AtDesk, AfterMigration, Breaks, Failed, Migrates, MigratesAt, Migration, NotSound, StaysDownBy, Step, ToNew, StepAt, board_told, station_of}
+use Rattle.schedule_replay.specs.Worlds.{Process, Down, Setting, Site, World, disk_of, site, votes_in, votes_of}
+use Rattle.schedule_replay.specs.Steps.{AfterOpen, AfterPen, AfterReceive, Answer, AtBoard, AtDesk, AfterMigration, Breaks, Failed, Migrates, MigratesAt, Migration, NotSound, StaysDownBy, ToNew, StepAt, board_told, station_of}
 use Rattle.schedule_replay.specs.Runs.{Begins, Moment, Run, last_of}
 use Rattle.schedule_replay.specs.Headline.{AtEachEvent, IsSound}
 use Rattle.schedule_replay.proofs.Both.{both_grow, both_settled, both_turned, more, same}
-use Rattle.schedule_replay.proofs.Desks.{DeskFine, Each, MineFine, NotedFine, SeatFine, ShowsMore, TheirMessage}
-use Rattle.schedule_replay.proofs.Boards.{BoardFine, MessageFine, board_fine_at, item_at}
-use Rattle.schedule_replay.proofs.Keeping.{Fine, ProcessFine, all_justified, begins_fine, process_disk, process_justified, run_keeps, running, site_fine, their_message}
+use Rattle.schedule_replay.proofs.Desks.{MineFine, NotedFine, SeatFine}
+use Rattle.schedule_replay.proofs.BoardKeeping.{BoardFine, MessageFine, board_fine_at, item_at}
+use Rattle.schedule_replay.proofs.Keeping.{Fine, ProcessFine, all_justified, begins_fine, run_keeps, running, site_fine, their_message}
 use Rattle.schedule_replay.proofs.Passing.{BothHold, HeldBy, PensKeep, begins_hold, step_holds}
 
 -- the list after each vote was one that the rules take
@@ -112,7 +112,7 @@ module _ {Disk Why : Type 0} (s : Setting Disk Why) where
   lawful_run version n w [] e r = begins_hold s (λ d. Lawful s.rules) (λ d. tt) version n w e
   lawful_run version n w (m ∷ ms) e r =
       step_holds s (λ d. Lawful s.rules) (last_of w ms) m.event m.answer m.after
-          (lawful_pens (last_of w ms) m.event (run_keeps s w ms (begins_fine s version n w e) r.0)) (lawful_run version n w ms e r.0) r.1
+      (lawful_pens (last_of w ms) m.event (run_keeps s w ms (begins_fine s version n w e) r.0)) (lawful_run version n w ms e r.0) r.1
 
   lawful_votes : (w : World Disk) (d : DeskId) → BothHold s (λ d. Lawful s.rules) w → Lawful s.rules (ballots.votes_of (votes_in w) d)
   lawful_votes w A l = let h = l A in h.of_votes
@@ -128,9 +128,9 @@ module _ {Disk Why : Type 0} (s : Setting Disk Why) where
       let size : length g.0 ≡ length k.book = g.2 ∙ ap (λ p. p.place) h.0 ∙ sym b.long in
       let grow : ballots.VotesGrow (votes_in w) (votes_in w) = (same (votes_in w).a, same (votes_in w).b) in
       let equal : g.0 ≡ k.book = ⊎_elim
-          (λ (p : BeginsWith k.book g.0). same_length g.0 k.book p size)
-          (λ (p : BeginsWith g.0 k.book). sym (same_length k.book g.0 p (sym size)))
-          (one_book (votes_in w) j (votes_in w) (votes_in w) g.0 k.book grow grow here there) in
+      (λ (p : BeginsWith k.book g.0). same_length g.0 k.book p size)
+      (λ (p : BeginsWith g.0 k.book). sym (same_length k.book g.0 p (sym size)))
+      (one_book (votes_in w) j (votes_in w) (votes_in w) g.0 k.book grow grow here there) in
       subst (λ (o : List Entry). s.rules o v.entry ≡ None) equal g.3
     where
       turned : (w : World Disk) (d : DeskId) (book : List Entry) → AllBoth (ballots.votes_of (votes_in w) d) (ballots.votes_of (votes_in w) (other d)) 0 book → AllBoth (votes_in w).a (votes_in w).b 0 book
@@ -211,11 +211,11 @@ module _ {Disk Why : Type 0} (s : Setting Disk Why) where
   desk_sound w d (events.StopAt c n) answer y out f l p = sound_as answer Answer.Done p.1 tt
   desk_sound w d (events.Open c) answer y out f l p =
       open_sound d (ballots.votes_of (votes_in w) (other d)) (site w d) p.0 p.1 p.2 answer y
-          (subst (ProcessFine s (site w d).version d (ballots.votes_of (votes_in w) (other d))) p.3 (site_fine s w d f))
-          (subst (λ (z : Process Disk). HeldBy s (Lawful s.rules) (s.view d (site w d).version) (votes_of z) (disk_of z)) p.3 (l d)) p.4 p.5
+      (subst (ProcessFine s (site w d).version d (ballots.votes_of (votes_in w) (other d))) p.3 (site_fine s w d f))
+      (subst (λ (z : Process Disk). HeldBy s (Lawful s.rules) (s.view d (site w d).version) (votes_of z) (disk_of z)) p.3 (l d)) p.4 p.5
   desk_sound w d (events.Migrate c) answer y out f l p =
       migrates_sound d (ballots.votes_of (votes_in w) (other d)) (site w d) (site w d).version p.0 p.1 answer y
-          (subst (ProcessFine s (site w d).version d (ballots.votes_of (votes_in w) (other d))) p.2 (site_fine s w d f)) p.3
+      (subst (ProcessFine s (site w d).version d (ballots.votes_of (votes_in w) (other d))) p.2 (site_fine s w d f)) p.3
   desk_sound w d (events.Wipe n) answer y out f l p = absurd p
 
   board_told_sound : (w : World Disk) (k l : BoardState) (m : Message) (told : BoardAnswer) → Fine s w → BothHold s (λ d. Lawful s.rules) w → BoardFine (votes_in w) k → MessageFine (votes_in w) m → BoardReceives s.rules k m told l → IsSound {Why = Why} (board_told told)

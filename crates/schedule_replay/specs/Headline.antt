@@ -1,27 +1,25 @@
 -- What holds in every run.
-use Rattle.std.specs.Prelude.{◌≡◌, ◌≢◌, ◌⊎◌, ◌+◌, ℕ, false, Option, Some, None, List, [], ◌∷◌, ◌++◌, slice_get}
+use Rattle.std.specs.Prelude.{◌≡◌, ◌≢◌, ◌⊎◌, ℕ, false, Option, Some, List, [], ◌∷◌, ◌++◌, slice_get}
 use Rattle.notation.specs.declared.entry.Entry.{Entry}
 use Rattle.agree_core.specs.declared.messages.DeskId.{DeskId}
 use Rattle.agree_core.specs.declared.messages.DeskId.TheVariants.{A, B}
 use Rattle.agree_core.specs.declared.messages.Message.{Message}
 use Rattle.agree_core.specs.declared.messages.Vote.{Vote}
 use Rattle.agree_core.specs.declared.seat.Heard.{Heard}
-use Rattle.agree_core.specs.declared.seat.Settled.{Settled}
 use Rattle.agree_core.specs.Agreed.{BeginsWith, EqualVotes, IsAgreedList}
 use Rattle.agree_core.specs.Ballots as ballots
 use Rattle.agree_core.specs.Ballots.{AllVotes, Ballot, In, Within, ballot_of, vote_of}
 use Rattle.agree_core.specs.Boards.{BoardState}
 use Rattle.agree_core.specs.Desks.{DeskState}
 use Rattle.agree_core.specs.Laws.{OneVoteEach, PlacesSettled, RoundsDiffer}
-use Rattle.agree_core.specs.Positions.{position_of}
 use Rattle.agree_core.specs.Readers.{noted_of, other}
 use Rattle.schedule_replay.specs.declared.event.Event.{Event}
 use Rattle.schedule_replay.specs.declared.event.Event.TheVariants as events
 use Rattle.schedule_replay.specs.declared.event.Station.{Station}
 use Rattle.schedule_replay.specs.declared.event.Station.TheVariants as stations
 use Rattle.schedule_replay.specs.Worlds.{Running, Setting, World, board_at, disk_of, site, votes_in}
-use Rattle.schedule_replay.specs.Steps.{Answer, Told, Unsound, NoBook, BadVotes, Step}
-use Rattle.schedule_replay.specs.Runs.{AtEachMoment, AtSomeMoment, Moment, Run, Shows, WasPenned, last_of}
+use Rattle.schedule_replay.specs.Steps.{Answer}
+use Rattle.schedule_replay.specs.Runs.{AtEachMoment, AtSomeMoment, Moment, Shows, WasPenned, last_of}
 
 -- the desk runs and hasn't failed
 abbrev pub IsRunning : {Disk : Type 0} → World Disk → DeskId → DeskState Disk → Type 0

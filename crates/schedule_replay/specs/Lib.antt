@@ -1,3 +1,5 @@
+-- What is claimed: Headline, over the runs of Runs, Steps and Worlds; Refusals, Match, CodeWorlds and Replays.
+-- WorldDesks and Sites serve private functions only.
 pub mod Worlds
 pub mod Steps
 pub mod Runs
@@ -5,4 +7,6 @@ pub mod Headline
 pub mod Refusals
 pub mod Match
 pub mod WorldDesks
+pub mod Sites
+pub mod CodeWorlds
 pub mod Replays

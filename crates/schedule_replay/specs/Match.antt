@@ -1,5 +1,5 @@
 -- The setting of a match, and what its answers and its bytes are in the definitions of a run.
-use Rattle.std.specs.Prelude.{◌≡◌, ℕ, Bool, true, false, List, map, All, is_some, Option, Some, None, Result, Ok, Err}
+use Rattle.std.specs.Prelude.{◌≡◌, ℕ, Bool, true, false, List, map, All, is_some, Option, Some, None, Err}
 use Rattle.corrections.specs.declared.refusal.Refusal.{Refusal}
 use Rattle.corrections.specs.Refusal.{book_refusal}
 use Rattle.entry_log.specs.declared.mem_disk.MemDisk.{MemDisk}
@@ -13,7 +13,6 @@ use Rattle.vote_store.specs.declared.refusal.Refusal.TheVariants as votes
 use Rattle.schedule_replay.specs.declared.version.FileVersion.{FileVersion}
 use Rattle.schedule_replay.specs.declared.version.FileVersion.TheVariants.{Old, New}
 use Rattle.agree_core.specs.declared.messages.Message.{Message}
-use Rattle.agree_core.specs.Desks as desks
 use Rattle.agree_core.specs.Desks.{PenAnswer, most_votes}
 use Rattle.agree_core.specs.Openings.{OpenRefusal}
 use Rattle.vote_store.specs.View.{file_view}
@@ -103,3 +102,12 @@ given_seen whats.Failed reply = seens.Failed
 abbrev pub is_fault : What → Bool
 is_fault whats.Device = true
 is_fault _ = false
+
+-- why a votes file isn't found: memory was wanted, or its disk failed
+abbrev pub wants_memory : VotesRefusal → Bool
+wants_memory votes.NoMemory = true
+wants_memory _ = false
+
+abbrev pub is_failing : VotesRefusal → Bool
+is_failing (votes.File files.Device) = true
+is_failing _ = false

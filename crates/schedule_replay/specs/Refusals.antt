@@ -1,8 +1,9 @@
 -- Why a world doesn't take an event.
-use Rattle.std.specs.Prelude.{◌≡◌, ◌≤◌, ◌<◌, ℕ, Bool, true, false, nat_le, nat_lt, ◌&&◌, Option, Some, None, List, [], ◌∷◌, length}
+use Rattle.std.specs.Prelude.{◌≡◌, ◌⊎◌, ◌≤◌, ℕ, zero, suc, Bool, true, false, nat_le, nat_lt, ◌&&◌, Option, Some, None, List, [], ◌∷◌, length}
+use Rattle.std.proofs.Math.Bool.{not}
+use Rattle.std.specs.Option.{is_none}
 use Rattle.notation.specs.Written.{IsEntry}
 use Rattle.agree_core.specs.declared.messages.DeskId.{DeskId}
-use Rattle.agree_core.specs.Boards.{BoardState}
 use Rattle.agree_core.specs.FileView.{MaySync}
 use Rattle.schedule_replay.specs.declared.event.Event.{Event}
 use Rattle.schedule_replay.specs.declared.event.Event.TheVariants as events
@@ -21,65 +22,73 @@ IsEvent (events.FailAt d n) = 1 ≤ n
 IsEvent (events.StopAt d n) = 1 ≤ n
 IsEvent _ = Unit {0}
 
-abbrev pub is_none : Option BoardState → Bool
-is_none None = true
-is_none (Some k) = false
-
--- there is no such board
-abbrev pub no_station : List BoardState → Station → Bool
-no_station boards (stations.Desk d) = false
-no_station boards (stations.Board n) = is_none (board_at boards n)
-
 abbrev pub is_down : {Disk : Type 0} → Process Disk → Bool
 is_down (worlds.Running k) = false
 is_down (worlds.Down votes disk) = true
+
+abbrev pub is_desk : Station → Bool
+is_desk (stations.Desk d) = true
+is_desk (stations.Board n) = false
+
+-- of so many boards, numbered from 1, there is none of this number
+abbrev pub no_board : ℕ → ℕ → Bool
+no_board boards zero = true
+no_board boards (suc n) = nat_le boards n
+
+-- there is no such board
+abbrev pub no_station : {Disk : Type 0} → World Disk → Station → Bool
+no_station w (stations.Desk d) = false
+no_station w (stations.Board n) = is_none (board_at w.boards n)
 
 abbrev pub down_at : {Disk : Type 0} → World Disk → Station → Bool
 down_at w (stations.Desk d) = is_down (site w d).process
 down_at w (stations.Board n) = false
 
--- the event asks for a running desk, and that desk is down
-abbrev pub finds_it_down : {Disk : Type 0} → World Disk → Event → Bool
-finds_it_down w (events.Pen d e) = is_down (site w d).process
-finds_it_down w (events.Tick t) = down_at w t
-finds_it_down w (events.Give n t) = down_at w t
-finds_it_down w (events.Kill d) = is_down (site w d).process
-finds_it_down w _ = false
+-- the event asks that the desk runs
+abbrev pub asks_up : Event → Bool
+asks_up (events.Pen d e) = true
+asks_up (events.Tick t) = true
+asks_up (events.Give n t) = true
+asks_up (events.Kill d) = true
+asks_up _ = false
 
-abbrev pub not : Bool → Bool
-not true = false
-not false = true
+-- the event asks that the desk is down
+abbrev pub asks_down : Event → Bool
+asks_down (events.Open d) = true
+asks_down (events.Migrate d) = true
+asks_down _ = false
 
-abbrev pub finds_it_up : {Disk : Type 0} → World Disk → Event → Bool
-finds_it_up w (events.Open d) = not (is_down (site w d).process)
-finds_it_up w (events.Migrate d) = not (is_down (site w d).process)
-finds_it_up w _ = false
-
--- no message of this number was handed out
-abbrev pub no_message : {Disk : Type 0} → World Disk → Event → Bool
-no_message w (events.Give n t) = nat_le (length w.sent) n
-no_message w _ = false
+-- no message of this number was handed out, so many being
+abbrev pub no_message : ℕ → Event → Bool
+no_message sent (events.Give n t) = nat_le sent n
+no_message sent _ = false
 
 -- how many messages leave room for what one event hands out
 abbrev pub most_sent : ℕ
 most_sent = 65534
 
-abbrev pub finds_it_full : {Disk : Type 0} → World Disk → Event → Bool
-finds_it_full w (events.Pen d e) = nat_lt most_sent (length w.sent)
-finds_it_full w (events.Tick t) = nat_lt most_sent (length w.sent)
-finds_it_full w (events.Give n t) = nat_lt most_sent (length w.sent)
-finds_it_full w _ = false
+-- the event may hand out messages
+abbrev pub may_send : Event → Bool
+may_send (events.Pen d e) = true
+may_send (events.Tick t) = true
+may_send (events.Give n t) = true
+may_send _ = false
 
 abbrev pub first_row : List (WorldRefusal × Bool) → Option WorldRefusal
 first_row [] = None
 first_row ((why, true) ∷ rows) = Some why
 first_row ((why, false) ∷ rows) = first_row rows
 
+-- the first cause against an event, by whether its station is missing or down, and how many messages were sent
+abbrev pub first_cause : Bool → Bool → ℕ → Event → Option WorldRefusal
+first_cause missing down sent event =
+    first_row ((NoStation, missing) ∷ (Down, asks_up event && down) ∷ (Up, asks_down event && not down)
+    ∷ (NoMessage, no_message sent event) ∷ (WorldFull, may_send event && nat_lt most_sent sent) ∷ [])
+
 -- the first cause against an event, but for want of memory
 abbrev pub refusal_of : {Disk : Type 0} → World Disk → Event → Option WorldRefusal
 refusal_of w event =
-    first_row ((NoStation, no_station w.boards (station_of event)) ∷ (Down, finds_it_down w event)
-    ∷ (Up, finds_it_up w event) ∷ (NoMessage, no_message w event) ∷ (WorldFull, finds_it_full w event) ∷ [])
+    first_cause (no_station w (station_of event)) (down_at w (station_of event)) (length w.sent) event
 
 -- the disk of this desk may be synced, and all else stays
 abbrev pub MaySyncAt : {Disk Why : Type 0} → Setting Disk Why → World Disk → DeskId → World Disk → Type 0
@@ -95,8 +104,10 @@ LeftByWant s w (events.Open d) v = MaySyncAt s w d v
 LeftByWant s w (events.Migrate d) v = MaySyncAt s w d v
 LeftByWant s w _ v = v ≡ w
 
--- the world doesn't take this event, for this cause, and goes on so
+-- the world doesn't take this event, and goes on so: it stays, where a cause stands against the event; where
+-- none does, memory was wanted
 abbrev pub RefusesEvent :
     {Disk Why : Type 0} → Setting Disk Why → World Disk → Event → WorldRefusal → World Disk → Type 0
-RefusesEvent s w event NoMemory v = (refusal_of w event ≡ None) × LeftByWant s w event v
-RefusesEvent s w event why v = (refusal_of w event ≡ Some why) × (v ≡ w)
+RefusesEvent s w event why v =
+    ((refusal_of w event ≡ Some why) × (v ≡ w))
+    ⊎ ((refusal_of w event ≡ None) × (why ≡ NoMemory) × LeftByWant s w event v)

@@ -1,5 +1,5 @@
 -- What a replay reports.
-use Rattle.std.specs.Prelude.{◌≡◌, ◌↔◌, ◌+◌, ◌⊎◌, ℕ, Option, Some, List, map, length, take, slice_get, Contains, Result, Ok, Err}
+use Rattle.std.specs.Prelude.{◌≡◌, ◌↔◌, ◌+◌, ◌⊎◌, ℕ, Some, List, map, length, take, slice_get, Contains}
 use Rattle.notation.specs.declared.entry.Entry.{Entry}
 use Rattle.match_laws.specs.declared.standing.Standing.{Standing}
 use Rattle.corrections.specs.Legal.{IsScoreOf}
@@ -14,7 +14,6 @@ use Rattle.schedule_replay.specs.declared.seen.WorldRefusal.{WorldRefusal}
 use Rattle.schedule_replay.specs.declared.seen.WorldRefusal.TheVariants.{NoMemory}
 use Rattle.schedule_replay.specs.declared.version.FileVersion.{FileVersion}
 use Rattle.schedule_replay.specs.Worlds.{World, votes_in}
-use Rattle.schedule_replay.specs.Steps.{Answer}
 use Rattle.schedule_replay.specs.Runs.{AtEachMoment, AtSomeMoment, Begins, Moment, Run, Shows, answers_of, events_of, last_of}
 use Rattle.schedule_replay.specs.Headline.{AtEachEvent, Headline, IsSound, StandsFast}
 use Rattle.schedule_replay.specs.Refusals.{RefusesEvent}

@@ -1,5 +1,5 @@
 -- Runs of a world, the newest event first, and what stations show in them.
-use Rattle.std.specs.Prelude.{◌≡◌, ◌⊎◌, ◌+◌, ℕ, false, Option, Some, None, List, [], ◌∷◌, ◌++◌, length}
+use Rattle.std.specs.Prelude.{◌≡◌, ◌⊎◌, ℕ, Some, None, List, [], ◌∷◌, ◌++◌}
 use Rattle.notation.specs.declared.entry.Entry.{Entry}
 use Rattle.agree_core.specs.declared.messages.DeskId.{DeskId}
 use Rattle.agree_core.specs.declared.messages.DeskId.TheVariants.{A, B}

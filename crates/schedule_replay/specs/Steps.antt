@@ -17,7 +17,7 @@ use Rattle.schedule_replay.specs.declared.fault.Fault.TheVariants.{Fail, Stop}
 use Rattle.schedule_replay.specs.declared.fault.Fault.{Fault}
 use Rattle.schedule_replay.specs.declared.version.FileVersion.{FileVersion}
 use Rattle.schedule_replay.specs.declared.version.FileVersion.TheVariants.{Old, New}
-use Rattle.schedule_replay.specs.Worlds.{Process, Running, Down, Setting, Site, World, board_at, disk_of, site, votes_of, with_board, with_disk, with_site}
+use Rattle.schedule_replay.specs.Worlds.{Running, Down, Setting, Site, World, board_at, disk_of, site, votes_of, with_board, with_disk, with_site}
 
 -- what an event is answered
 pub data Answer (Why : Type 0) : Type 0 where

@@ -1,18 +1,15 @@
 -- A desk of the world, with a file of either version on a disk in memory.
-use Rattle.std.specs.Prelude.{◌≡◌, ◌≤◌, ◌+◌, ℕ, List, length, Option, Some, None, Result, Ok, Err}
-use Rattle.notation.specs.declared.entry.Entry.{Entry}
+use Rattle.std.specs.Prelude.{◌≡◌, ◌≤◌, ◌+◌, ℕ, length, Result, Ok, Err}
 use Rattle.corrections.specs.Book.{Contents}
-use Rattle.corrections.specs.declared.book.Book.{Book}
 use Rattle.corrections.specs.declared.refusal.Refusal.{Refusal}
 use Rattle.entry_log.specs.Format.{room}
-use Rattle.entry_log.specs.MemDisk.{cap_of, faults_of}
+use Rattle.entry_log.specs.MemDisk.{cap_of}
 use Rattle.entry_log.specs.declared.mem_disk.MemDisk.{MemDisk}
 use Rattle.agree_core.specs.declared.messages.DeskId.{DeskId}
 use Rattle.agree_core.specs.Books.{Rules}
 use Rattle.agree_core.specs.Desks.{DeskState}
 use Rattle.agree_core.specs.FileView.{FileView}
 use Rattle.agree_core.specs.Openings.{NotOpened, Opened, Opening}
-use Rattle.entry_log.specs.Blame.{BlamesDisk}
 use Rattle.desk.specs.Answers.{open_cause}
 use Rattle.desk.specs.Desk as desk
 use Rattle.desk.specs.declared.refusal.OpenRefusal.{OpenRefusal}
@@ -44,14 +41,13 @@ book_of (New k) = desk.book_of k
 abbrev pub innings_of : WorldDesk → ℕ
 innings_of k = (λ (b : Contents). b.innings_a_side) (book_of k)
 
-abbrev pub disk_of : WorldDesk → MemDisk
-disk_of (Old k) = desk.disk_of k
-disk_of (New k) = desk.disk_of k
-
 -- the desk as the definitions of its calls see it
 abbrev pub state_of : WorldDesk → DeskState MemDisk
 state_of (Old k) = desk.state_of k
 state_of (New k) = desk.state_of k
+
+abbrev pub disk_of : WorldDesk → MemDisk
+disk_of k = (λ (s : DeskState MemDisk). s.disk) (state_of k)
 
 -- what its disk shows of its file
 abbrev pub view_of : WorldDesk → FileView MemDisk

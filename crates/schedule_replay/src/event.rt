@@ -35,3 +35,25 @@ pub enum Event {
     /// The desk's file of version 1 is written anew as version 2.
     Migrate(DeskId),
 }
+
+impl Event {
+    ghost use Rattle.std.specs.Prelude.{◌≡◌};
+    ghost use Rattle.schedule_replay.specs.Steps.{station_of};
+
+    /// The station that it is for.
+    pub fn station(&self) -> Station
+        ensures { result ≡ station_of self.now }
+    {
+        match *self {
+            Event::Tick(station) | Event::Give(_, station) => station,
+            Event::Wipe(board) => Station::Board(board),
+            Event::Pen(desk, _)
+            | Event::Kill(desk)
+            | Event::Power(desk, _)
+            | Event::FailAt(desk, _)
+            | Event::StopAt(desk, _)
+            | Event::Open(desk)
+            | Event::Migrate(desk) => Station::Desk(desk),
+        }
+    }
+}

@@ -1,11 +1,14 @@
 //! Two desks, boards and all that they have sent, run by a schedule of events.
 #![tactic(auto)]
 
+mod admission;
 mod event;
 mod fault;
 mod laws;
 mod seen;
+mod site;
 mod version;
+mod world;
 mod world_desk;
 
 pub use event::{Event, Station};
@@ -13,3 +16,4 @@ pub use fault::Fault;
 pub use laws::every_run_is_sound;
 pub use seen::{Cause, Seen, WorldRefusal};
 pub use version::FileVersion;
+pub use world::World;

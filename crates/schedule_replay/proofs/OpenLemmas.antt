@@ -1,0 +1,241 @@
+-- Opening the file of a site whose desk is down is a step of the definitions there.
+use Rattle.std.proofs.Common.{◌≡◌, ◌≢◌, ℕ, Bool, true, false, Option, Some, None, List, [], length, refl, sym, ap, ◌∙◌, subst, inl, Result, Ok, Err}
+use Rattle.std.specs.Option.{is_none, is_some}
+use Rattle.std.specs.Bool.{⊤}
+use Rattle.std.specs.Prelude.{IfOk, IsErrOf, OnErr}
+use Rattle.corrections.specs.declared.refusal.Refusal.{Refusal}
+use Rattle.entry_log.specs.Blame.{BlamesDisk}
+use Rattle.entry_log.specs.Disk.{Faults, Never, Once}
+use Rattle.entry_log.specs.MemDisk.{cap_of, faults_of}
+use Rattle.entry_log.specs.declared.mem_disk.MemDisk.{MemDisk}
+use Rattle.entry_log.specs.declared.mem_disk.plan.Plan.TheVariants.{Calm}
+use Rattle.entry_log.specs.declared.refusal.Refusal.TheVariants as files
+use Rattle.agree_core.specs.Ballots.{Ballot}
+use Rattle.agree_core.specs.Books.{Rules}
+use Rattle.agree_core.specs.Desks.{DeskState}
+use Rattle.agree_core.specs.FileView.{FileView, MaySync}
+use Rattle.agree_core.specs.Openings.{NotOpened, Opened, Opening, Opens}
+use Rattle.agree_core.specs.Openings as openings
+use Rattle.vote_store.specs.declared.refusal.Refusal.{Refusal as VotesRefusal}
+use Rattle.vote_store.specs.declared.refusal.Refusal.TheVariants as votes
+use Rattle.wire.specs.declared.datagram.Datagram.{Datagram}
+use Rattle.desk.specs.Answers.{device, open_cause}
+use Rattle.desk.specs.declared.refusal.OpenRefusal.{OpenRefusal}
+use Rattle.desk.specs.declared.refusal.OpenRefusal.TheVariants.{BadVotes, Votes}
+use Rattle.schedule_replay.specs.declared.event.Event.TheVariants as events
+use Rattle.schedule_replay.specs.declared.fault.Fault.{Fault}
+use Rattle.schedule_replay.specs.declared.fault.Fault.TheVariants.{Fail, Stop}
+use Rattle.schedule_replay.specs.declared.seen.Cause.{Cause}
+use Rattle.schedule_replay.specs.declared.seen.Cause.TheVariants as causes
+use Rattle.schedule_replay.specs.declared.seen.Seen.{Seen}
+use Rattle.schedule_replay.specs.declared.seen.Seen.TheVariants as seens
+use Rattle.schedule_replay.specs.declared.seen.WorldRefusal.{WorldRefusal}
+use Rattle.schedule_replay.specs.declared.seen.WorldRefusal.TheVariants as refuses
+use Rattle.schedule_replay.specs.declared.site.Site.{Site}
+use Rattle.schedule_replay.specs.declared.version.FileVersion.{FileVersion}
+use Rattle.schedule_replay.specs.declared.world_desk.WorldDesk.{WorldDesk}
+use Rattle.schedule_replay.specs.Worlds as worlds
+use Rattle.schedule_replay.specs.Worlds.{Process, Running, Down}
+use Rattle.schedule_replay.specs.Steps.{Answer, StaysDown}
+use Rattle.schedule_replay.specs.Match.{answer_of, is_failing, match_of, wants_memory}
+use Rattle.schedule_replay.specs.Sites.{BreaksDown, IsDue, IsProcess, IsSite, IsWorldDisk, NotFoundBy, SameMatch, SiteSteps, SyncsSite}
+use Rattle.schedule_replay.specs.WorldDesks.{IsOf, disk_of, state_of}
+use Rattle.schedule_replay.proofs.SiteLemmas.{HasDisk, broken_same, down_is, no_bytes, put_down_is, sets_plan_stays}
+
+-- a site whose desk is down
+pub record IsDown (site : Site) (disk : MemDisk) (x : worlds.Site MemDisk) : Type 0 where
+  pub votes : List Ballot
+  pub many : length votes ≡ site.votes
+  pub process : x.process ≡ Down votes disk
+  pub on_disk : IsWorldDisk site.version site.due disk
+
+pub down_at : (site : Site) (disk : MemDisk) (x : worlds.Site MemDisk) → site.desk ≡ None → site.disk ≡ Some disk → IsSite site x → IsDown site disk x
+down_at site disk x down there h =
+    let p : IsProcess site None (Some disk) x.process = subst (λ (o : Option MemDisk). IsProcess site None o x.process) there (subst (λ (o : Option WorldDesk). IsProcess site o site.disk x.process) down h.process) in
+    let votes = p.1 in
+    record { votes = votes.0; many = votes.1; process = votes.2; on_disk = p.0 }
+
+-- it stays down on this disk
+pub stays_down : (site : Site) (disk left : MemDisk) (due : Option Fault) (x : worlds.Site MemDisk) → site.desk ≡ None → IsSite site x → (d : IsDown site disk x) → cap_of left ≡ cap_of disk → IsDue due (faults_of left).due → IsSite (record site { disk = Some left; due = due }) (record x { process = Down d.votes left; due = due })
+stays_down site disk left due x down h d cap faults =
+    let on = d.on_disk in
+    let on_left : IsWorldDisk site.version due left = record { cap = cap ∙ on.cap; faults = faults } in
+    record { version = h.version; process = down_is (record site { disk = Some left; due = due }) left d.votes down refl (sym d.many) on_left; due = refl }
+
+-- a device call has failed at a desk that is down, by the fault that was due
+pub broken_down : (old new : Site) (disk left : MemDisk) (x : worlds.Site MemDisk) (v : FileVersion) (cause : Cause) (seen : Seen) (due : Option Fault) → old.due ≡ due → old.desk ≡ None → IsSite old x → (d : IsDown old disk x) → cap_of left ≡ cap_of disk → ((faults_of disk).due ≡ Never → ⊥) → ((faults_of disk).due ≡ Once → (faults_of left).due ≡ Never) → answer_of (seens.Refused cause) ≡ Some Answer.DeviceFailed → BreaksDown due cause (record old { disk = Some left }) seen new → (y : worlds.Site MemDisk) × (answer : Answer Refusal) × (answer_of seen ≡ Some answer) × StaysDown ((match_of old.game old.innings_a_side).view old.name v) x d.votes left answer y × IsSite new y
+broken_down old new disk left x v cause seen None q down h d cap calm spent told b =
+    let on = d.on_disk in
+    absurd (calm (subst (λ (z : Option Fault). IsDue z (faults_of disk).due) q on.faults))
+broken_down old new disk left x v cause seen (Some Fail) q down h d cap calm spent told b =
+    let on = d.on_disk in
+    let once : (faults_of disk).due ≡ Once = subst (λ (z : Option Fault). IsDue z (faults_of disk).due) q on.faults in
+    let y : worlds.Site MemDisk = record x { process = Down d.votes left; due = None } in
+    let is : IsSite new y = subst (λ (z : Site). IsSite z y) (sym b.1) (stays_down old disk left None x down h d cap (spent once)) in
+    (y, Answer.DeviceFailed, ap answer_of b.0 ∙ told, (Fail, h.due ∙ q, (refl, refl)), is)
+broken_down old new disk left x v cause seen (Some Stop) q down h d cap calm spent told b =
+    let on = d.on_disk in
+    let put = b.1 in
+    let p : Process MemDisk = Down d.votes left in
+    let site : Site = record old { disk = Some left; due = None } in
+    let has : HasDisk site p = record {
+      disk = ap (λ (o : Option WorldDesk). Rattle.schedule_replay.specs.Sites.disk_at o (Some left)) down;
+      votes = ap (λ (o : Option WorldDesk). Rattle.schedule_replay.specs.Sites.votes_at o old.votes) down ∙ sym d.many;
+      cap = cap ∙ on.cap;
+    } in
+    let lowered = put_down_is site new p has refl put in
+    let y : worlds.Site MemDisk = record x { process = Down d.votes lowered.0; due = None } in
+    let is : IsSite new y = record { version = h.version ∙ sym put.version; process = lowered.3; due = sym put.due } in
+    (y, Answer.Stopped, ap answer_of b.0, (Stop, h.due ∙ q, (lowered.0, refl, sets_plan_stays old.name v old.game Calm left lowered.0 lowered.2, refl)), is)
+
+-- what comes of opening or migrating: a step of the definitions, or the want of memory
+abbrev pub Outcome : (List Datagram → Site → Seen → Site → Type 0) → Site → Result Seen WorldRefusal → Site → Type 0
+Outcome Steps old result new =
+    IfOk result (λ seen. (sent : List Datagram) → Steps sent old seen new)
+    × OnErr result ((result ≡ Err refuses.NoMemory) × SyncsSite old new)
+
+abbrev pub OpenSteps : List Datagram → Site → Seen → Site → Type 0
+OpenSteps sent old seen new = SiteSteps (events.Open old.name) old sent seen new sent
+
+pub seen_is : (Steps : List Datagram → Site → Seen → Site → Type 0) (old new : Site) (result : Result Seen WorldRefusal) (seen : Seen) → result ≡ Ok seen → ((sent : List Datagram) → Steps sent old seen new) → Outcome Steps old result new
+seen_is Steps old new result seen e h = subst (λ (z : Result Seen WorldRefusal). Outcome Steps old z new) (sym e) (h, tt)
+
+pub memory_is : (Steps : List Datagram → Site → Seen → Site → Type 0) (old new : Site) (result : Result Seen WorldRefusal) → result ≡ Err refuses.NoMemory → SyncsSite old new → Outcome Steps old result new
+memory_is Steps old new result e h = subst (λ (z : Result Seen WorldRefusal). Outcome Steps old z new) (sym e) (tt, (refl, h))
+
+abbrev pub ViewAt : Site → FileVersion → FileView MemDisk
+ViewAt site version = (λ (s : worlds.Setting MemDisk Refusal). s.view site.name version) (match_of site.game site.innings_a_side)
+
+abbrev pub RulesAt : Site → Rules Refusal
+RulesAt site = (λ (s : worlds.Setting MemDisk Refusal). s.rules) (match_of site.game site.innings_a_side)
+
+-- the desk is opened
+pub opened : (old : Site) (l : WorldDesk) (disk : MemDisk) (left : Option MemDisk) (n : ℕ) (sent : List Datagram) → left ≡ None → old.desk ≡ None → old.disk ≡ Some disk → Opens (ViewAt old old.version) (RulesAt old) old.name disk (Opened (state_of l)) → IsOf old.name old.version old.game old.innings_a_side l → cap_of (disk_of l) ≡ cap_of disk → faults_of (disk_of l) ≡ faults_of disk → n ≡ length ((λ (s : DeskState MemDisk). s.book) (state_of l)) → SiteSteps (events.Open old.name) old sent (seens.Opened n) (record old { desk = Some l; disk = left }) sent
+opened old l disk left n sent none down there opens own cap faults many x messages h b =
+    let d = down_at old disk x down there h in
+    let on = d.on_disk in
+    let now = subst (λ (v : FileVersion). Opens (ViewAt old v) (RulesAt old) old.name disk (Opened (state_of l))) (sym h.version) opens in
+    let y : worlds.Site MemDisk = record x { process = Running (state_of l) } in
+    let is : IsSite (record old { desk = Some l; disk = left }) y = record {
+      version = h.version;
+      process = (
+        record {
+          owner = record { same_name = own.same_name; same_version = own.same_version; same_game = own.same_game; same_innings = own.same_innings };
+          on_disk = record { cap = cap ∙ on.cap; faults = subst (λ (z : Faults). IsDue old.due z.due) (sym faults) on.faults };
+        },
+        none,
+        refl,
+      );
+      due = h.due;
+    } in
+    (y, [], Answer.Opened n, refl, (d.votes, disk, Opened (state_of l), d.process, now, (ap (λ (m : ℕ). Answer.Opened m) many, refl), refl), is, no_bytes old.game sent messages b)
+
+-- a site that stays
+pub stays_so : (old : Site) → SyncsSite old old
+stays_so old x h =
+    let y : worlds.Site MemDisk = record x { process = worlds.with_disk x.process (worlds.disk_of x.process) } in
+    (worlds.disk_of x.process, inl (refl, λ image. (λ i. i, λ i. i)), subst (IsSite old) (ap (λ (p : Process MemDisk). record x { process = p }) (sym (same_disk x.process))) h)
+  where
+    same_disk : (p : Process MemDisk) → worlds.with_disk p (worlds.disk_of p) ≡ p
+    same_disk (Running k) = refl
+    same_disk (Down votes disk) = refl
+
+-- it isn't, and its disk may have been synced
+pub syncs : (old new : Site) (disk left : MemDisk) → old.desk ≡ None → old.disk ≡ Some disk → MaySync (ViewAt old old.version) disk left → cap_of left ≡ cap_of disk → faults_of left ≡ faults_of disk → new ≡ record old { disk = Some left } → SyncsSite old new
+syncs old new disk left down there may cap faults e x h =
+    let d = down_at old disk x down there h in
+    let on = d.on_disk in
+    let stays = stays_down old disk left old.due x down h d cap (subst (λ (z : Faults). IsDue old.due z.due) (sym faults) on.faults) in
+    let same : worlds.with_disk x.process left ≡ Down d.votes left = ap (λ (z : Process MemDisk). worlds.with_disk z left) d.process in
+    let y : worlds.Site MemDisk = record x { process = worlds.with_disk x.process left } in
+    let q : record x { process = Down d.votes left } ≡ y = ap (λ (z : Process MemDisk). record x { process = z }) (sym same) in
+    let is : IsSite (record old { disk = Some left }) (record x { process = Down d.votes left }) = record { version = h.version; process = stays.process; due = h.due } in
+    let now = subst (λ (v : FileVersion). MaySync (ViewAt old v) disk left) (sym h.version) may in (
+      left,
+      subst (λ (z : Process MemDisk). MaySync (ViewAt old x.version) (worlds.disk_of z) left) (sym d.process) now,
+      subst (λ (z : Site). IsSite z y) (sym e) (subst (IsSite (record old { disk = Some left })) q is),
+    )
+
+-- because of what is in the file
+not_sound : (old new : Site) (disk left : MemDisk) (why : OpenRefusal) (told : openings.OpenRefusal) (answer : Answer Refusal) (result : Result Seen WorldRefusal) → old.desk ≡ None → old.disk ≡ Some disk → Opens (ViewAt old old.version) (RulesAt old) old.name disk (NotOpened told left) → ((x : worlds.Site MemDisk) (votes : List Ballot) → Rattle.schedule_replay.specs.Steps.AfterOpen (ViewAt old x.version) x votes (NotOpened told left) answer (record x { process = Down votes left })) → cap_of left ≡ cap_of disk → faults_of left ≡ faults_of disk → answer_of (seens.Refused (causes.Open why)) ≡ Some answer → (result ≡ Ok (seens.Refused (causes.Open why))) × (new ≡ record old { disk = Some left }) → Outcome OpenSteps old result new
+not_sound old new disk left why told answer result down there opens after cap faults says (r, e) = seen_is OpenSteps old new result (seens.Refused (causes.Open why)) r steps
+  where
+    steps : (sent : List Datagram) → OpenSteps sent old (seens.Refused (causes.Open why)) new
+    steps sent x messages h b =
+        let d = down_at old disk x down there h in
+        let on = d.on_disk in
+        let stays = stays_down old disk left old.due x down h d cap (subst (λ (z : Faults). IsDue old.due z.due) (sym faults) on.faults) in
+        let y : worlds.Site MemDisk = record x { process = Down d.votes left } in
+        let is : IsSite new y = subst (λ (z : Site). IsSite z y) (sym e) (record { version = h.version; process = stays.process; due = h.due }) in
+        let now = subst (λ (v : FileVersion). Opens (ViewAt old v) (RulesAt old) old.name disk (NotOpened told left)) (sym h.version) opens in
+        (y, [], answer, says, (d.votes, disk, NotOpened told left, d.process, now, after x d.votes, refl), is, no_bytes old.game sent messages b)
+
+abbrev pub OpenBlame : MemDisk → OpenRefusal → MemDisk → Type 0
+OpenBlame disk why left = BlamesDisk {T = WorldDesk} device ⊤ (Err why) (faults_of disk) (faults_of left)
+
+failing : (old new : Site) (disk left : MemDisk) (result : Result Seen WorldRefusal) → old.desk ≡ None → old.disk ≡ Some disk → MaySync (ViewAt old old.version) disk left → cap_of left ≡ cap_of disk → OpenBlame disk device left → (seen : Seen) × (result ≡ Ok seen) × BreaksDown old.due (causes.Open device) (record old { disk = Some left }) seen new → Outcome OpenSteps old result new
+failing old new disk left result down there may cap blame (seen, r, broke) = seen_is OpenSteps old new result seen r steps
+  where
+    steps : (sent : List Datagram) → OpenSteps sent old seen new
+    steps sent x messages h b =
+        let d = down_at old disk x down there h in
+        let broken = broken_down old new disk left x x.version (causes.Open device) seen old.due refl down h d cap (λ n. blame.calm n tt refl) (λ o. blame.spent o tt refl) refl broke in
+        let now = subst (λ (v : FileVersion). MaySync (ViewAt old v) disk left) (sym h.version) may in
+        (broken.0, [], broken.1, broken.2, (d.votes, disk, NotOpened openings.OpenRefusal.DeviceFailed left, d.process, now, broken.3, refl), broken.4, no_bytes old.game sent messages b)
+
+not_device : (why : OpenRefusal) → why ≢ device → IsErrOf {T = WorldDesk} (Err why) device → ⊥
+not_device why n q = n (cc)
+
+-- the votes file refused
+pub not_found : (old new : Site) (disk left : MemDisk) (why : VotesRefusal) (result : Result Seen WorldRefusal) → old.desk ≡ None → old.disk ≡ Some disk → Opens (ViewAt old old.version) (RulesAt old) old.name disk (NotOpened (open_cause (Votes why)) left) → cap_of left ≡ cap_of disk → OpenBlame disk (Votes why) left → NotFoundBy (wants_memory why) (is_failing why) (causes.Open (Votes why)) (record old { disk = Some left }) result new → Outcome OpenSteps old result new
+not_found old new disk left votes.NoMemory result down there o cap blame n =
+    memory_is OpenSteps old new result n.0 (syncs old new disk left down there o cap (blame.same (not_device (Votes votes.NoMemory) (λ q. (cc)))) n.1)
+not_found old new disk left (votes.File files.Device) result down there o cap blame n = failing old new disk left result down there o cap blame n
+not_found old new disk left (votes.File (files.Damaged slot)) result down there o cap blame n =
+    not_sound old new disk left (Votes (votes.File (files.Damaged slot))) openings.OpenRefusal.Unsound Answer.Unsound result down there o (λ x v. (refl, refl)) cap (blame.same (not_device _ (λ q. (cc)))) refl n
+not_found old new disk left (votes.File files.NotThisMatch) result down there o cap blame n =
+    not_sound old new disk left (Votes (votes.File files.NotThisMatch)) openings.OpenRefusal.Unsound Answer.Unsound result down there o (λ x v. (refl, refl)) cap (blame.same (not_device _ (λ q. (cc)))) refl n
+not_found old new disk left (votes.File files.Version) result down there o cap blame n =
+    not_sound old new disk left (Votes (votes.File files.Version)) openings.OpenRefusal.Unsound Answer.Unsound result down there o (λ x v. (refl, refl)) cap (blame.same (not_device _ (λ q. (cc)))) refl n
+not_found old new disk left (votes.File files.SlotsFull) result down there o cap blame n =
+    not_sound old new disk left (Votes (votes.File files.SlotsFull)) openings.OpenRefusal.Unsound Answer.Unsound result down there o (λ x v. (refl, refl)) cap (blame.same (not_device _ (λ q. (cc)))) refl n
+not_found old new disk left (votes.File files.NotEmpty) result down there o cap blame n =
+    not_sound old new disk left (Votes (votes.File files.NotEmpty)) openings.OpenRefusal.Unsound Answer.Unsound result down there o (λ x v. (refl, refl)) cap (blame.same (not_device _ (λ q. (cc)))) refl n
+not_found old new disk left (votes.File files.Unfinished) result down there o cap blame n =
+    not_sound old new disk left (Votes (votes.File files.Unfinished)) openings.OpenRefusal.Unsound Answer.Unsound result down there o (λ x v. (refl, refl)) cap (blame.same (not_device _ (λ q. (cc)))) refl n
+not_found old new disk left (votes.File files.Failed) result down there o cap blame n =
+    not_sound old new disk left (Votes (votes.File files.Failed)) openings.OpenRefusal.Unsound Answer.Unsound result down there o (λ x v. (refl, refl)) cap (blame.same (not_device _ (λ q. (cc)))) refl n
+not_found old new disk left (votes.NotASequence slot) result down there o cap blame n =
+    not_sound old new disk left (Votes (votes.NotASequence slot)) openings.OpenRefusal.Unsound Answer.Unsound result down there o (λ x v. (refl, refl)) cap (blame.same (not_device _ (λ q. (cc)))) refl n
+
+-- the votes are no book
+pub bad_votes : (old new : Site) (disk left : MemDisk) (place : ℕ) (result : Result Seen WorldRefusal) → old.desk ≡ None → old.disk ≡ Some disk → Opens (ViewAt old old.version) (RulesAt old) old.name disk (NotOpened (open_cause (BadVotes place)) left) → cap_of left ≡ cap_of disk → OpenBlame disk (BadVotes place) left → result ≡ Ok (seens.Refused (causes.Open (BadVotes place))) → new ≡ record old { disk = Some left } → Outcome OpenSteps old result new
+bad_votes old new disk left place result down there o cap blame r e =
+    not_sound old new disk left (BadVotes place) (openings.OpenRefusal.BadVotes place) Answer.NoBook result down there o (λ x v. (refl, refl)) cap (blame.same (not_device (BadVotes place) (λ q. (cc)))) refl (r, e)
+
+-- the site after that is of the same match
+pub not_found_same : (memory fails : Bool) (cause : Cause) (old new : Site) (result : Result Seen WorldRefusal) → NotFoundBy memory fails cause old result new → SameMatch old new
+not_found_same true fails cause old new result n = subst (SameMatch old) (sym n.1) (record { name = refl; same_game = refl; innings = refl })
+not_found_same false true cause old new result n = broken_same old.due cause old new n.0 n.2
+not_found_same false false cause old new result n = subst (SameMatch old) (sym n.1) (record { name = refl; same_game = refl; innings = refl })
+
+-- the same of a refusal that is told so
+pub not_found_as : (old new : Site) (disk left : MemDisk) (why : OpenRefusal) (fault : VotesRefusal) (result : Result Seen WorldRefusal) → why ≡ Votes fault → old.desk ≡ None → old.disk ≡ Some disk → Opens (ViewAt old old.version) (RulesAt old) old.name disk (NotOpened (open_cause why) left) → cap_of left ≡ cap_of disk → OpenBlame disk why left → NotFoundBy (wants_memory fault) (is_failing fault) (causes.Open (Votes fault)) (record old { disk = Some left }) result new → Outcome OpenSteps old result new
+not_found_as old new disk left why fault result e down there o cap blame n =
+    not_found old new disk left fault result down there
+    (subst (λ (w : OpenRefusal). Opens (ViewAt old old.version) (RulesAt old) old.name disk (NotOpened (open_cause w) left)) e o) cap
+    (subst (λ (w : OpenRefusal). OpenBlame disk w left) e blame)
+    n
+
+pub bad_votes_as : (old : Site) (disk left : MemDisk) (why : OpenRefusal) (place : ℕ) → why ≡ BadVotes place → old.desk ≡ None → old.disk ≡ Some disk → Opens (ViewAt old old.version) (RulesAt old) old.name disk (NotOpened (open_cause why) left) → cap_of left ≡ cap_of disk → OpenBlame disk why left → (sent : List Datagram) → SiteSteps (events.Open old.name) old sent (seens.Refused (causes.Open why)) (record old { disk = Some left }) sent
+bad_votes_as old disk left why place e down there o cap blame =
+    subst (λ (w : OpenRefusal). (sent : List Datagram) → SiteSteps (events.Open old.name) old sent (seens.Refused (causes.Open w)) (record old { disk = Some left }) sent) (sym e)
+    (bad_votes old (record old { disk = Some left }) disk left place (Ok (seens.Refused (causes.Open (BadVotes place)))) down there
+    (subst (λ (w : OpenRefusal). Opens (ViewAt old old.version) (RulesAt old) old.name disk (NotOpened (open_cause w) left)) e o) cap
+    (subst (λ (w : OpenRefusal). OpenBlame disk w left) e blame) refl refl).0
+
+-- a whole site whose desk is down has a disk
+pub some_disk : (desk : Option WorldDesk) (disk : Option MemDisk) → is_some disk ≡ is_none desk → desk ≡ None → (d : MemDisk) × (disk ≡ Some d)
+some_disk (Some k) disk w e = absurd (cc)
+some_disk None (Some d) w e = (d, refl)
+some_disk None None w e = absurd (cc)

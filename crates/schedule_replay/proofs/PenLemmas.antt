@@ -1,0 +1,97 @@
+-- A pen at a site's desk is a step of the definitions there.
+use Rattle.std.proofs.Common.{◌≡◌, ◌≢◌, ℕ, ◌+◌, ◌≤◌, ◌<◌, Bool, true, false, Option, Some, None, List, [], ◌∷◌, ◌++◌, length, map, refl, sym, ap, ◌∙◌, subst, Result, Ok, Err}
+use Rattle.std.specs.Prelude.{IsErrOf}
+use Rattle.notation.specs.declared.entry.Entry.{Entry}
+use Rattle.corrections.specs.declared.refusal.Refusal.{Refusal}
+use Rattle.entry_log.specs.MemDisk.{cap_of, faults_of}
+use Rattle.entry_log.specs.declared.mem_disk.MemDisk.{MemDisk}
+use Rattle.agree_core.specs.Desks.{DeskState, PenAnswer, Pens}
+use Rattle.agree_core.specs.FileView.{FileView}
+use Rattle.entry_log.specs.Blame.{BlamesDisk}
+use Rattle.wire.specs.declared.datagram.Datagram.{Datagram}
+use Rattle.wire.specs.Layout.{written}
+use Rattle.wire.specs.Sent.{AreSent}
+use Rattle.desk.specs.declared.desk.Penned.{Penned}
+use Rattle.desk.specs.declared.refusal.Refusal.{Refusal as DeskRefusal}
+use Rattle.desk.specs.declared.refusal.Refusal.TheVariants as refusals
+use Rattle.desk.specs.Answers.{pen_answer, sent}
+use Rattle.schedule_replay.specs.declared.event.Event.TheVariants as events
+use Rattle.schedule_replay.specs.declared.seen.Cause.TheVariants as causes
+use Rattle.schedule_replay.specs.declared.seen.Seen.{Seen}
+use Rattle.schedule_replay.specs.declared.seen.Seen.TheVariants as seens
+use Rattle.schedule_replay.specs.declared.site.Site.{Site}
+use Rattle.schedule_replay.specs.declared.world_desk.WorldDesk.{WorldDesk}
+use Rattle.schedule_replay.specs.Worlds as worlds
+use Rattle.schedule_replay.specs.Worlds.{Running}
+use Rattle.schedule_replay.specs.Steps.{AfterPen}
+use Rattle.schedule_replay.specs.Match.{AreBytesOf, answer_of, is_device, match_of, told_to_pen}
+use Rattle.schedule_replay.specs.Sites.{AfterRefusal, RefusedBy, SameMatch, SiteSteps}
+use Rattle.schedule_replay.specs.WorldDesks.{HasRoom, SameOwner, disk_of, game_of, rules_of, state_of, view_of}
+use Rattle.schedule_replay.proofs.SiteLemmas.{broken_same, broken_site, has_room, more_bytes, no_bytes, of_match, running_is, runs_on, votes_of}
+
+abbrev pub PenSteps : WorldDesk → Entry → Result Penned DeskRefusal → WorldDesk → Type 0
+PenSteps k e told l =
+    AreSent (game_of k) (sent told) (λ out. Pens (view_of k) (rules_of k) (state_of k) e (pen_answer told) (state_of l) out)
+
+abbrev pub PenBlame : WorldDesk → Result Penned DeskRefusal → WorldDesk → Type 0
+PenBlame k told l = BlamesDisk refusals.Device (HasRoom k) told (faults_of (disk_of k)) (faults_of (disk_of l))
+
+-- after a pen that didn't fail at the device
+after_pen : (view : FileView MemDisk) (x : worlds.Site MemDisk) (told : PenAnswer Refusal) (l : DeskState MemDisk) → told ≢ PenAnswer.DeviceFailed → AfterPen view x told l (told_to_pen told) (record x { process = Running l })
+after_pen view x (PenAnswer.Penned settled) l n = (refl, refl)
+after_pen view x (PenAnswer.Refused why) l n = (refl, refl)
+after_pen view x PenAnswer.DeviceFailed l n = absurd (n refl)
+
+-- the desk of a site has penned, or refused to
+pub pen_runs_on : (old : Site) (k l : WorldDesk) (e : Entry) (told : Result Penned DeskRefusal) (seen : Seen) (before after : List Datagram) → old.desk ≡ Some k → PenSteps k e told l → SameOwner k l → faults_of (disk_of l) ≡ faults_of (disk_of k) → pen_answer told ≢ PenAnswer.DeviceFailed → answer_of seen ≡ Some (told_to_pen (pen_answer told)) → map (λ (d : Datagram). d.bytes) after ≡ map (λ (d : Datagram). d.bytes) before ++ sent told → SiteSteps (events.Pen old.name e) old before seen (record old { desk = Some l }) after
+pen_runs_on old k l e told seen before after here step owner faults n a bytes x messages h b =
+    let r = running_is old k x here h in
+    let own = r.owner in
+    let s = match_of old.game old.innings_a_side in
+    let pens = of_match old.name x.version old.game old.innings_a_side k own (λ view rules. Pens view rules (state_of k) e (pen_answer told) (state_of l) step.0) step.3 in
+    let said : sent told ≡ map (written old.game) step.0 = subst (λ (g : ℕ). sent told ≡ map (written g) step.0) own.same_game step.2 in (
+      record x { process = Running (state_of l) },
+      step.0,
+      told_to_pen (pen_answer told),
+      a,
+      (state_of k, state_of l, pen_answer told, r.process, pens, after_pen (s.view old.name x.version) x (pen_answer told) (state_of l) n),
+      runs_on old k l x here h owner faults,
+      more_bytes old.game before after messages step.0 (sent told) b step.1 said bytes,
+    )
+
+-- a device call of the desk failed as it penned
+pen_breaks : (old new : Site) (k l : WorldDesk) (e : Entry) (seen : Seen) (before : List Datagram) → old.desk ≡ Some k → PenSteps k e (Err refusals.Device) l → SameOwner k l → PenBlame k (Err refusals.Device) l → AfterRefusal refusals.Device (record old { desk = Some l }) seen new → SiteSteps (events.Pen old.name e) old before seen new before
+pen_breaks old new k l e seen before here step owner blame broke x messages h b =
+    let r = running_is old k x here h in
+    let own = r.owner in
+    let disk = r.on_disk in
+    let s = match_of old.game old.innings_a_side in
+    let pens = of_match old.name x.version old.game old.innings_a_side k own (λ view rules. Pens view rules (state_of k) e PenAnswer.DeviceFailed (state_of l) step.0) step.3 in
+    let cap : cap_of (disk_of k) ≡ _ = disk.cap ∙ ap Rattle.schedule_replay.specs.Match.most_bytes (sym (own.same_version ∙ h.version)) in
+    let within : HasRoom k = has_room (Rattle.schedule_replay.specs.WorldDesks.version_of k) (length (votes_of k)) (cap_of (disk_of k)) pens.0.1.1 cap in
+    let broken = broken_site old new k l x (causes.Desk refusals.Device) seen old.due refl here h owner (λ n. blame.calm n within refl) (λ o. blame.spent o within refl) refl broke in
+    let bytes : AreBytesOf old.game before (messages ++ step.0) = rw pens.3 (no_bytes old.game before messages b) in
+    (broken.0, step.0, broken.1, broken.2, (state_of k, state_of l, PenAnswer.DeviceFailed, r.process, pens, broken.3), broken.4, bytes)
+
+device_is : (why : DeskRefusal) → IsErrOf {T = Penned} (Err why) refusals.Device → why ≡ refusals.Device
+device_is why q = cc
+
+refused : (old new : Site) (k l : WorldDesk) (e : Entry) (why : DeskRefusal) (seen : Seen) (before : List Datagram) → old.desk ≡ Some k → PenSteps k e (Err why) l → SameOwner k l → PenBlame k (Err why) l → why ≢ refusals.Device → pen_answer (Err why) ≢ PenAnswer.DeviceFailed → (seen ≡ seens.Refused (causes.Desk why)) × (new ≡ record old { desk = Some l }) → SiteSteps (events.Pen old.name e) old before seen new before
+refused old new k l e why seen before here step owner blame calm other (r, n) =
+    let steps = pen_runs_on old k l e (Err why) (seens.Refused (causes.Desk why)) before before here step owner (blame.same (λ q. calm (device_is why q))) other refl (sym (Rattle.std.proofs.Common.append-nil (map (λ (d : Datagram). d.bytes) before))) in
+    subst (λ (z : Seen). SiteSteps (events.Pen old.name e) old before z new before) (sym r)
+    (subst (λ (z : Site). SiteSteps (events.Pen old.name e) old before (seens.Refused (causes.Desk why)) z before) (sym n) steps)
+
+pub pen_refused : (old new : Site) (k l : WorldDesk) (e : Entry) (why : DeskRefusal) (seen : Seen) (before : List Datagram) → old.desk ≡ Some k → PenSteps k e (Err why) l → SameOwner k l → PenBlame k (Err why) l → AfterRefusal why (record old { desk = Some l }) seen new → SiteSteps (events.Pen old.name e) old before seen new before
+pen_refused old new k l e refusals.Device seen before here step owner blame a = pen_breaks old new k l e seen before here step owner blame a
+pen_refused old new k l e refusals.Failed seen before here step owner blame a = refused old new k l e refusals.Failed seen before here step owner blame (λ q. (cc)) (λ q. (cc)) a
+pen_refused old new k l e refusals.Waiting seen before here step owner blame a = refused old new k l e refusals.Waiting seen before here step owner blame (λ q. (cc)) (λ q. (cc)) a
+pen_refused old new k l e refusals.PlacesFull seen before here step owner blame a = refused old new k l e refusals.PlacesFull seen before here step owner blame (λ q. (cc)) (λ q. (cc)) a
+pen_refused old new k l e refusals.RoundsFull seen before here step owner blame a = refused old new k l e refusals.RoundsFull seen before here step owner blame (λ q. (cc)) (λ q. (cc)) a
+pen_refused old new k l e refusals.SlotsFull seen before here step owner blame a = refused old new k l e refusals.SlotsFull seen before here step owner blame (λ q. (cc)) (λ q. (cc)) a
+pen_refused old new k l e (refusals.Book cause) seen before here step owner blame a = refused old new k l e (refusals.Book cause) seen before here step owner blame (λ q. (cc)) (λ q. (cc)) a
+
+-- the site after a refusal is of the same match
+pub refused_same : (device : Bool) (why : DeskRefusal) (old new : Site) (seen : Seen) → RefusedBy device why old seen new → SameMatch old new
+refused_same true why old new seen q = broken_same old.due (causes.Desk why) old new seen q
+refused_same false why old new seen q = subst (SameMatch old) (sym q.1) (record { name = refl; same_game = refl; innings = refl })

@@ -1,0 +1,214 @@
+-- A site and its desk, as the definitions of a run see them.
+use Rattle.std.proofs.Common.{◌≡◌, ℕ, ◌+◌, ◌≤◌, ◌<◌, Option, Some, None, List, [], ◌∷◌, ◌++◌, length, map, refl, sym, ap, ◌∙◌, subst, arith, append-nil}
+use Rattle.std.proofs.lemmas.List.Elements.{All-append}
+use Rattle.std.specs.Prelude.{All, IsSome}
+use Rattle.corrections.specs.declared.refusal.Refusal.{Refusal}
+use Rattle.entry_log.specs.Disk.{Faults, IsImage, Never, Once}
+use Rattle.entry_log.specs.Format.{contents, room}
+use Rattle.entry_log.specs.MemDisk.{SetsPlan, cap_of, faults_of, file_of, images_of, plan_of}
+use Rattle.entry_log.specs.Plan.{due_of}
+use Rattle.entry_log.specs.declared.mem_disk.MemDisk.{MemDisk}
+use Rattle.entry_log.specs.declared.mem_disk.plan.Plan.{Plan}
+use Rattle.entry_log.specs.declared.mem_disk.plan.Plan.TheVariants.{Calm}
+use Rattle.agree_core.specs.declared.messages.DeskId.{DeskId}
+use Rattle.agree_core.specs.declared.messages.Message.{Message}
+use Rattle.agree_core.specs.Ballots.{Ballot}
+use Rattle.agree_core.specs.Books.{Rules}
+use Rattle.agree_core.specs.Desks.{DeskState, most_votes}
+use Rattle.agree_core.specs.FileView.{FileView, Stays}
+use Rattle.agree_core.specs.Openings.{Opening, Opens}
+use Rattle.vote_store.specs.View.{file_view, votes_shown}
+use Rattle.wire.specs.declared.datagram.Datagram.{Datagram}
+use Rattle.wire.specs.Layout.{IsMessage, written}
+use Rattle.schedule_replay.specs.declared.fault.Fault.{Fault}
+use Rattle.schedule_replay.specs.declared.fault.Fault.TheVariants.{Fail, Stop}
+use Rattle.schedule_replay.specs.declared.seen.Cause.{Cause}
+use Rattle.schedule_replay.specs.declared.seen.Seen.{Seen}
+use Rattle.schedule_replay.specs.declared.seen.Seen.TheVariants as seens
+use Rattle.schedule_replay.specs.declared.site.Site.{Site}
+use Rattle.schedule_replay.specs.declared.version.FileVersion.{FileVersion}
+use Rattle.schedule_replay.specs.declared.version.FileVersion.TheVariants as versions
+use Rattle.schedule_replay.specs.declared.world_desk.WorldDesk.{WorldDesk}
+use Rattle.schedule_replay.specs.Worlds as worlds
+use Rattle.schedule_replay.specs.Worlds.{Process, Running, Down}
+use Rattle.schedule_replay.specs.Steps.{Answer, Breaks}
+use Rattle.schedule_replay.specs.Match.{AreBytesOf, answer_of, format_of, match_of, most_bytes}
+use Rattle.schedule_replay.specs.Sites.{BreaksDown, IsDue, IsProcess, IsSite, IsWorldDisk, PutsDown, SameMatch, disk_at, votes_at}
+use Rattle.schedule_replay.specs.WorldDesks.{IsOf, SameOwner, disk_of, game_of, innings_of, rules_of, state_of, version_of, view_of}
+
+abbrev pub votes_of : WorldDesk → List Ballot
+votes_of k = (λ (s : DeskState MemDisk). s.votes) (state_of k)
+
+-- what is said of its own view and rules is said of the match's
+pub of_match : (name : DeskId) (version : FileVersion) (game innings : ℕ) (k : WorldDesk) → IsOf name version game innings k → (P : FileView MemDisk → Rules Refusal → Type 0) → P (view_of k) (rules_of k) → P ((match_of game innings).view name version) (match_of game innings).rules
+of_match name version game innings k o P p =
+    let at = λ (d : DeskId) (v : FileVersion) (g n : ℕ). P ((match_of g n).view d v) (match_of g n).rules in
+    let q = subst (λ (d : DeskId). P ((match_of (game_of k) (innings_of k)).view d (version_of k)) (rules_of k)) o.same_name p in
+    let r = subst (λ (v : FileVersion). P ((match_of (game_of k) (innings_of k)).view name v) (rules_of k)) o.same_version q in
+    let t = subst (λ (g : ℕ). P ((match_of g (innings_of k)).view name version) (match_of g (innings_of k)).rules) o.same_game r in
+    subst (λ (n : ℕ). P ((match_of game n).view name version) (match_of game n).rules) o.same_innings t
+
+-- the same desk after a call
+pub still_of : (name : DeskId) (version : FileVersion) (game innings : ℕ) (k l : WorldDesk) → IsOf name version game innings k → SameOwner k l → IsOf name version game innings l
+still_of name version game innings k l own o = record { same_name = o.name ∙ own.same_name; same_version = o.version ∙ own.same_version; same_game = o.same_game ∙ own.same_game; same_innings = o.innings ∙ own.same_innings }
+
+-- a site whose desk runs
+pub record Runs (site : Site) (k : WorldDesk) (x : worlds.Site MemDisk) : Type 0 where
+  pub owner : IsOf site.name x.version site.game site.innings_a_side k
+  pub on_disk : IsWorldDisk site.version site.due (disk_of k)
+  pub no_disk : site.disk ≡ None
+  pub process : x.process ≡ Running (state_of k)
+
+pub running_is : (site : Site) (k : WorldDesk) (x : worlds.Site MemDisk) → site.desk ≡ Some k → IsSite site x → Runs site k x
+running_is site k x here h =
+    let p : IsProcess site (Some k) site.disk x.process = subst (λ (o : Option WorldDesk). IsProcess site o site.disk x.process) here h.process in
+    let own = p.0.owner in
+    record {
+      owner = record { same_name = own.same_name; same_version = own.same_version ∙ sym h.version; same_game = own.same_game; same_innings = own.same_innings };
+      on_disk = p.0.on_disk;
+      no_disk = p.1;
+      process = p.2;
+    }
+
+-- the site with its desk after a call, whatever is due now
+pub runs_again : (site : Site) (k l : WorldDesk) (due : Option Fault) (x : worlds.Site MemDisk) → site.desk ≡ Some k → IsSite site x → SameOwner k l → IsDue due (faults_of (disk_of l)).due → IsSite (record site { desk = Some l; due = due }) (record x { process = Running (state_of l); due = due })
+runs_again site k l due x here h o f =
+    let r = running_is site k x here h in
+    let own = still_of site.name x.version site.game site.innings_a_side k l r.owner o in
+    let disk = r.on_disk in
+    record {
+      version = h.version;
+      process = (
+        record {
+          owner = record { same_name = own.same_name; same_version = own.same_version ∙ h.version; same_game = own.same_game; same_innings = own.same_innings };
+          on_disk = record { cap = o.cap ∙ disk.cap; faults = f };
+        },
+        r.no_disk,
+        refl,
+      );
+      due = refl;
+    }
+
+-- after a call that didn't fail at its device
+pub runs_on : (site : Site) (k l : WorldDesk) (x : worlds.Site MemDisk) → site.desk ≡ Some k → IsSite site x → SameOwner k l → faults_of (disk_of l) ≡ faults_of (disk_of k) → IsSite (record site { desk = Some l }) (record x { process = Running (state_of l) })
+runs_on site k l x here h o f =
+    let r = running_is site k x here h in
+    let disk = r.on_disk in
+    let again = runs_again site k l site.due x here h o (subst (λ (z : Faults). IsDue site.due z.due) (sym f) disk.faults) in
+    record { version = again.version; process = again.process; due = h.due }
+
+-- messages and those that were handed out after them
+pub more_bytes : (game : ℕ) (old new : List Datagram) (messages out : List Message) (bytes : List (List ℕ)) → AreBytesOf game old messages → All IsMessage out → bytes ≡ map (written game) out → map (λ (d : Datagram). d.bytes) new ≡ map (λ (d : Datagram). d.bytes) old ++ bytes → AreBytesOf game new (messages ++ out)
+more_bytes game old new messages out bytes b all e n =
+    (All-append IsMessage messages out b.0 all, n ∙ (λ i. b.1 i ++ e i) ∙ sym (map_append messages out))
+  where
+    map_append : (xs ys : List Message) → map (written game) (xs ++ ys) ≡ map (written game) xs ++ map (written game) ys
+    map_append [] ys = refl
+    map_append (x ∷ xs) ys = ap (λ (z : List (List ℕ)). written game x ∷ z) (map_append xs ys)
+
+pub no_bytes : (game : ℕ) (sent : List Datagram) (messages : List Message) → AreBytesOf game sent messages → AreBytesOf game sent (messages ++ [])
+no_bytes game sent messages b = rw append-nil b
+
+-- one datagram more
+pub pushed : (old new : List Datagram) (d : Datagram) → new ≡ old ++ d ∷ [] → map (λ (d : Datagram). d.bytes) new ≡ map (λ (d : Datagram). d.bytes) old ++ d.bytes ∷ []
+pushed old new d e = ap (map (λ (d : Datagram). d.bytes)) e ∙ spread old
+  where
+    spread : (xs : List Datagram) → map (λ (d : Datagram). d.bytes) (xs ++ d ∷ []) ≡ map (λ (d : Datagram). d.bytes) xs ++ d.bytes ∷ []
+    spread [] = refl
+    spread (x ∷ xs) = ap (λ (z : List (List ℕ)). x.bytes ∷ z) (spread xs)
+
+-- a disk that shows the same, with other calls to fail
+pub sets_plan_stays : (name : DeskId) (version : FileVersion) (game : ℕ) (plan : Plan) (old new : MemDisk) → SetsPlan plan old new → Stays (file_view (contents (format_of version)) file_of images_of name game) old new
+sets_plan_stays name version game plan old new h = (
+  ap (λ (file : List ℕ). votes_shown (contents (format_of version)) name game file) h.file,
+  λ image. ((λ i. (i.0, subst (λ z. IsImage z i.0) h.images i.1, i.2)), (λ i. (i.0, subst (λ z. IsImage z i.0) (sym h.images) i.1, i.2))),
+)
+
+calm_plan : (disk : MemDisk) → plan_of disk ≡ Calm → (faults_of disk).due ≡ Never
+calm_plan disk e = ap due_of e
+
+-- a site whose desk is down
+pub down_is : (site : Site) (disk : MemDisk) (votes : List Ballot) → site.desk ≡ None → site.disk ≡ Some disk → site.votes ≡ length votes → IsWorldDisk site.version site.due disk → IsProcess site site.desk site.disk (Down votes disk)
+down_is site disk votes d l v on =
+    subst (λ (o : Option WorldDesk). IsProcess site o site.disk (Down votes disk)) (sym d)
+    (subst (λ (o : Option MemDisk). IsProcess site None o (Down votes disk)) (sym l) (on, (votes, sym v, refl)))
+
+-- the disk and the votes of a site, whether its desk runs or is down
+pub record HasDisk (site : Site) (p : Process MemDisk) : Type 0 where
+  pub disk : disk_at site.desk site.disk ≡ Some (worlds.disk_of p)
+  pub votes : votes_at site.desk site.votes ≡ length (worlds.votes_of p)
+  pub cap : cap_of (worlds.disk_of p) ≡ most_bytes site.version
+
+pub has_disk : (site : Site) (desk : Option WorldDesk) (disk : Option MemDisk) (p : Process MemDisk) → site.desk ≡ desk → site.disk ≡ disk → IsProcess site desk disk p → HasDisk site p
+has_disk site (Some k) disk p d l (own, none, is) =
+    let on = own.on_disk in
+    record {
+      disk = ap (λ (o : Option WorldDesk). disk_at o site.disk) d ∙ ap (λ (q : Process MemDisk). Some (worlds.disk_of q)) (sym is);
+      votes = ap (λ (o : Option WorldDesk). votes_at o site.votes) d ∙ ap (λ (q : Process MemDisk). length (worlds.votes_of q)) (sym is);
+      cap = ap (λ (q : Process MemDisk). cap_of (worlds.disk_of q)) is ∙ on.cap;
+    }
+has_disk site None (Some disk) p d l (on, (votes, n, is)) =
+    record {
+      disk = (λ i. disk_at (d i) (l i)) ∙ ap (λ (q : Process MemDisk). Some (worlds.disk_of q)) (sym is);
+      votes = ap (λ (o : Option WorldDesk). votes_at o site.votes) d ∙ sym n ∙ ap (λ (q : Process MemDisk). length (worlds.votes_of q)) (sym is);
+      cap = ap (λ (q : Process MemDisk). cap_of (worlds.disk_of q)) is ∙ on.cap;
+    }
+has_disk site None None p d l h = absurd h
+
+same_some : (a b : MemDisk) → Some a ≡ Some b → b ≡ a
+same_some a b e = cc
+
+-- a desk that is put down keeps its votes and its disk
+pub put_down_is : (old new : Site) (p : Process MemDisk) → HasDisk old p → old.due ≡ None → PutsDown old new → (after : MemDisk) × (new.disk ≡ Some after) × SetsPlan Calm (worlds.disk_of p) after × IsProcess new new.desk new.disk (Down (worlds.votes_of p) after)
+put_down_is old new p h due put =
+    let d = put.disk in
+    let there : d.0 ≡ worlds.disk_of p = same_some (worlds.disk_of p) d.0 (sym h.disk ∙ d.2) in
+    let plan = subst (λ (z : MemDisk). SetsPlan Calm z d.1) there d.4 in
+    let none : new.due ≡ None = put.due ∙ due in
+    let never : (faults_of d.1).due ≡ Never = calm_plan d.1 plan.plan in
+    let faults : IsDue new.due (faults_of d.1).due = subst (λ (o : Option Fault). IsDue o (faults_of d.1).due) (sym none) never in
+    let on : IsWorldDisk new.version new.due d.1 = record { cap = plan.cap ∙ h.cap ∙ ap most_bytes (sym put.version); faults = faults } in
+    (d.1, d.3, plan, down_is new d.1 (worlds.votes_of p) put.desk d.3 (put.counted ∙ h.votes) on)
+
+-- the site's desk has failed, or is down, by the fault that was due
+pub broken_site : (old new : Site) (k l : WorldDesk) (x : worlds.Site MemDisk) (cause : Cause) (seen : Seen) (due : Option Fault) → old.due ≡ due → old.desk ≡ Some k → IsSite old x → SameOwner k l → ((faults_of (disk_of k)).due ≡ Never → ⊥) → ((faults_of (disk_of k)).due ≡ Once → (faults_of (disk_of l)).due ≡ Never) → answer_of (seens.Refused cause) ≡ Some Answer.DeviceFailed → BreaksDown due cause (record old { desk = Some l }) seen new → (y : worlds.Site MemDisk) × (answer : Answer Refusal) × (answer_of seen ≡ Some answer) × Breaks ((match_of old.game old.innings_a_side).view old.name x.version) x (state_of l) answer y × IsSite new y
+broken_site old new k l x cause seen None d here h o calm spent told q =
+    let r = running_is old k x here h in
+    let disk = r.on_disk in
+    absurd (calm (subst (λ (z : Option Fault). IsDue z (faults_of (disk_of k)).due) d disk.faults))
+broken_site old new k l x cause seen (Some Fail) d here h o calm spent told q =
+    let r = running_is old k x here h in
+    let disk = r.on_disk in
+    let once : (faults_of (disk_of k)).due ≡ Once = subst (λ (z : Option Fault). IsDue z (faults_of (disk_of k)).due) d disk.faults in
+    let y : worlds.Site MemDisk = record x { process = Running (state_of l); due = None } in
+    let is : IsSite new y = subst (λ (z : Site). IsSite z y) (sym q.1) (runs_again old k l None x here h o (spent once)) in
+    (y, Answer.DeviceFailed, ap answer_of q.0 ∙ told, (Fail, h.due ∙ d, (refl, refl)), is)
+broken_site old new k l x cause seen (Some Stop) d here h o calm spent told q =
+    let r = running_is old k x here h in
+    let disk = r.on_disk in
+    let put = q.1 in
+    let p : Process MemDisk = Running (state_of l) in
+    let has : HasDisk (record old { desk = Some l; due = None }) p = record { disk = refl; votes = refl; cap = o.cap ∙ disk.cap } in
+    let down = put_down_is (record old { desk = Some l; due = None }) new p has refl put in
+    let y : worlds.Site MemDisk = record x { process = Down (votes_of l) down.0; due = None } in
+    let is : IsSite new y = record { version = h.version ∙ sym put.version; process = down.3; due = sym put.due } in
+    (y, Answer.Stopped, ap answer_of q.0, (Stop, h.due ∙ d, (down.0, refl, sets_plan_stays old.name x.version old.game Calm (disk_of l) down.0 down.2, refl)), is)
+
+-- the site after that is of the same match
+pub broken_same : (due : Option Fault) (cause : Cause) (old new : Site) (seen : Seen) → BreaksDown due cause old seen new → SameMatch old new
+broken_same None cause old new seen q = subst (SameMatch old) (sym q.1) (record { name = refl; same_game = refl; innings = refl })
+broken_same (Some Fail) cause old new seen q = subst (SameMatch old) (sym q.1) (record { name = refl; same_game = refl; innings = refl })
+broken_same (Some Stop) cause old new seen q = let put = q.1 in let same = put.same in record { name = same.name; same_game = same.same_game; innings = same.innings }
+
+-- the file has room for one vote more
+pub has_room : (version : FileVersion) (n cap : ℕ) → n < most_votes → cap ≡ most_bytes version → room (format_of version) (n + 1) ≤ cap
+has_room versions.Old n cap h e = let e' : cap ≡ 524321 = e in omega arith
+has_room versions.New n cap h e = let e' : cap ≡ 1048641 = e in omega arith
+
+pub some_is : (o : Option WorldDesk) → IsSome o → (k : WorldDesk) × (o ≡ Some k)
+some_is (Some k) h = (k, refl)
+some_is None h = absurd (cc)
+
+-- a file is opened by the match's rules
+pub opens_as : {m n : ℕ} (game : ℕ) (name : DeskId) (version : FileVersion) (disk : MemDisk) (opening : Opening MemDisk) → m ≡ n → Opens ((match_of game m).view name version) (match_of game m).rules name disk opening → Opens ((match_of game n).view name version) (match_of game n).rules name disk opening
+opens_as game name version disk opening e h = subst (λ (n : ℕ). Opens ((match_of game n).view name version) (match_of game n).rules name disk opening) e h

@@ -1,0 +1,183 @@
+-- What happens at a site is a step of the world.
+use Rattle.std.proofs.Common.{◌≡◌, ℕ, suc, false, Option, Some, None, List, [], ◌∷◌, ◌++◌, length, map, refl, sym, ap, ◌∙◌, subst, inl, inr, Result, Ok, Err, append-nil}
+use Rattle.std.specs.Prelude.{All, IfErr, IfOk}
+use Rattle.std.specs.Option.{is_none}
+use Rattle.corrections.specs.declared.refusal.Refusal.{Refusal}
+use Rattle.entry_log.specs.declared.mem_disk.MemDisk.{MemDisk}
+use Rattle.agree_core.specs.declared.messages.DeskId.{DeskId}
+use Rattle.agree_core.specs.declared.messages.DeskId.TheVariants.{A, B}
+use Rattle.agree_core.specs.declared.messages.Message.{Message}
+use Rattle.agree_core.specs.FileView.{MaySync}
+use Rattle.agree_core.specs.Readers.{other}
+use Rattle.wire.specs.declared.datagram.Datagram.{Datagram}
+use Rattle.wire.specs.Layout.{written}
+use Rattle.schedule_replay.specs.declared.event.Event.{Event}
+use Rattle.schedule_replay.specs.declared.event.Event.TheVariants as events
+use Rattle.schedule_replay.specs.declared.event.Station.{Station}
+use Rattle.schedule_replay.specs.declared.event.Station.TheVariants as stations
+use Rattle.schedule_replay.specs.declared.seen.Seen.{Seen}
+use Rattle.schedule_replay.specs.declared.seen.WorldRefusal.{WorldRefusal}
+use Rattle.schedule_replay.specs.declared.site.Site.{Site}
+use Rattle.schedule_replay.specs.declared.world.World.{World}
+use Rattle.schedule_replay.specs.declared.world_desk.WorldDesk.{WorldDesk}
+use Rattle.schedule_replay.specs.Worlds as worlds
+use Rattle.schedule_replay.specs.Worlds.{Process}
+use Rattle.schedule_replay.specs.Steps.{Answer, AtDesk, StepAt, station_of}
+use Rattle.schedule_replay.specs.Refusals.{LeftByWant, RefusesEvent, down_at, first_cause, is_down, no_station, refusal_of}
+use Rattle.schedule_replay.specs.Match.{AreBytesOf, answer_of, match_of}
+use Rattle.schedule_replay.specs.Sites.{IsProcess, IsSite, SiteLeft, SiteSteps, SiteTakes, SyncsSite, site_cause}
+use Rattle.schedule_replay.specs.Sites as sites
+use Rattle.schedule_replay.specs.CodeWorlds.{IsBoardOf, IsSiteOf, IsWorld, RefusesTo, StepsTo, board_state, code_site}
+
+down_is : (site : Site) (desk : Option WorldDesk) (disk : Option MemDisk) (p : Process MemDisk) → IsProcess site desk disk p → is_down p ≡ is_none desk
+down_is site (Some k) disk p h = ap is_down h.2
+down_is site None (Some disk) p h = ap is_down h.1.2
+down_is site None None p h = absurd h
+
+map_length : {X Y : Type 0} (f : X → Y) (xs : List X) → length (map f xs) ≡ length xs
+map_length f [] = refl
+map_length f (x ∷ xs) = ap (λ (n : ℕ). suc n) (map_length f xs)
+
+-- as many messages as datagrams
+pub sent_length : (game : ℕ) (sent : List Datagram) (messages : List Message) → AreBytesOf game sent messages → length messages ≡ length sent
+sent_length game sent messages b = sym (map_length (written game) messages) ∙ sym (ap length b.1) ∙ map_length (λ (d : Datagram). d.bytes) sent
+
+-- what is so at a site of the match by its own names is so by the match's
+at_site : (name : DeskId) (game innings : ℕ) (site : Site) → IsSiteOf name game innings site → (P : DeskId → ℕ → ℕ → Type 0) → P site.name site.game site.innings_a_side → P name game innings
+at_site name game innings site h P p =
+    let q = subst (λ (d : DeskId). P d site.game site.innings_a_side) h.same_name p in
+    let r = subst (λ (n : ℕ). P name n site.innings_a_side) h.same_game q in
+    subst (λ (n : ℕ). P name game n) h.same_innings r
+
+-- the world has this site in the place of that desk's
+pub record Changes (d : DeskId) (old new : World) (site : Site) : Type 0 where
+  pub here : code_site new d ≡ site
+  pub there : code_site new (other d) ≡ code_site old (other d)
+  pub same_game : new.game ≡ old.game
+  pub same_innings : new.innings_a_side ≡ old.innings_a_side
+  pub boards : new.boards.items ≡ old.boards.items
+  pub same : sites.SameMatch (code_site old d) site
+
+site_there : (d c : DeskId) (old new : World) (w : worlds.World MemDisk) (y : worlds.Site MemDisk) (out : List Message) → code_site new (other d) ≡ code_site old (other d) → IsSite (code_site new d) y → ((e : DeskId) → IsSite (code_site old e) (worlds.site w e)) → IsSite (code_site new c) (worlds.site (worlds.with_site w d y out) c)
+site_there A A old new w y out q i h = i
+site_there A B old new w y out q i h = subst (λ (z : Site). IsSite z w.b) (sym q) (h B)
+site_there B A old new w y out q i h = subst (λ (z : Site). IsSite z w.a) (sym q) (h A)
+site_there B B old new w y out q i h = i
+
+name_there : (d c : DeskId) (old new : World) (game innings : ℕ) → code_site new (other d) ≡ code_site old (other d) → IsSiteOf d game innings (code_site new d) → ((e : DeskId) → IsSiteOf e game innings (code_site old e)) → IsSiteOf c game innings (code_site new c)
+name_there A A old new game innings q i h = i
+name_there A B old new game innings q i h = subst (IsSiteOf B game innings) (sym q) (h B)
+name_there B A old new game innings q i h = subst (IsSiteOf A game innings) (sym q) (h A)
+name_there B B old new game innings q i h = i
+
+with_site_boards : (w : worlds.World MemDisk) (d : DeskId) (y : worlds.Site MemDisk) (out : List Message) → (λ (v : worlds.World MemDisk). v.boards) (worlds.with_site w d y out) ≡ w.boards
+with_site_boards w A y out = refl
+with_site_boards w B y out = refl
+
+with_site_sent : (w : worlds.World MemDisk) (d : DeskId) (y : worlds.Site MemDisk) (out : List Message) → (λ (v : worlds.World MemDisk). v.sent) (worlds.with_site w d y out) ≡ w.sent ++ out
+with_site_sent w A y out = refl
+with_site_sent w B y out = refl
+
+-- the world after one of its sites has changed
+put : (d : DeskId) (old new : World) (site : Site) (w : worlds.World MemDisk) (y : worlds.Site MemDisk) (out : List Message) → Changes d old new site → IsWorld old w → IsSite site y → AreBytesOf old.game new.sent.items (w.sent ++ out) → IsWorld new (worlds.with_site w d y out)
+put d old new site w y out c h i b =
+    let named : IsSiteOf d new.game new.innings_a_side (code_site new d) =
+    let n = h.named d in
+    let s = c.same in
+    subst (IsSiteOf d new.game new.innings_a_side) (sym c.here) (record { same_name = s.name ∙ n.same_name; same_game = s.same_game ∙ n.same_game ∙ sym c.same_game; same_innings = s.innings ∙ n.same_innings ∙ sym c.same_innings }) in
+    let others : (e : DeskId) → IsSiteOf e new.game new.innings_a_side (code_site old e) = λ e. let n = h.named e in record { same_name = n.same_name; same_game = n.same_game ∙ sym c.same_game; same_innings = n.same_innings ∙ sym c.same_innings } in
+    let here : IsSite (code_site new d) y = subst (λ (z : Site). IsSite z y) (sym c.here) i in
+    let boards_game : All (IsBoardOf new.game new.innings_a_side) new.boards.items =
+    subst (λ (n : ℕ). All (IsBoardOf n new.innings_a_side) new.boards.items) (sym c.same_game)
+    (subst (λ (n : ℕ). All (IsBoardOf old.game n) new.boards.items) (sym c.same_innings) (subst (All (IsBoardOf old.game old.innings_a_side)) (sym c.boards) h.boards_are)) in
+    record {
+      sites = λ e. site_there d e old new w y out c.there here h.sites;
+      named = λ e. name_there d e old new new.game new.innings_a_side c.there named others;
+      boards_are = boards_game;
+      board_states = with_site_boards w d y out ∙ h.board_states ∙ ap (map board_state) (sym c.boards);
+      bytes = subst (λ (n : ℕ). AreBytesOf n new.sent.items ((λ (v : worlds.World MemDisk). v.sent) (worlds.with_site w d y out))) (sym c.same_game) (subst (AreBytesOf old.game new.sent.items) (sym (with_site_sent w d y out)) b);
+    }
+
+unmoved : (d : DeskId) (w : worlds.World MemDisk) → worlds.with_site w d (worlds.site w d) [] ≡ w
+unmoved A w = λ i. record { a = w.a; b = w.b; boards = w.boards; sent = append-nil w.sent i }
+unmoved B w = λ i. record { a = w.a; b = w.b; boards = w.boards; sent = append-nil w.sent i }
+
+no_bytes : (d : DeskId) (old new : World) (w : worlds.World MemDisk) → new.sent.items ≡ old.sent.items → IsWorld old w → AreBytesOf old.game new.sent.items (w.sent ++ [])
+no_bytes d old new w e h = rw (append-nil, e) h.bytes
+
+-- the world stays
+stays : (d : DeskId) (old new : World) (site : Site) (w : worlds.World MemDisk) → Changes d old new site → site ≡ code_site old d → new.sent.items ≡ old.sent.items → IsWorld old w → IsWorld new w
+stays d old new site w c e items h =
+    subst (IsWorld new) (unmoved d w) (put d old new site w (worlds.site w d) [] c h (subst (λ (z : Site). IsSite z (worlds.site w d)) (sym e) (h.sites d)) (no_bytes d old new w items h))
+
+-- the first cause at the site is that of the world
+cause_is : (d : DeskId) (old : World) (w : worlds.World MemDisk) (event : Event) → station_of event ≡ stations.Desk d → IsWorld old w → refusal_of w event ≡ site_cause (code_site old d) old.sent.items event
+cause_is d old w event e h =
+    let site = code_site old d in
+    let i = h.sites d in
+    let down : is_down (worlds.site w d).process ≡ is_none site.desk = down_is site site.desk site.disk (worlds.site w d).process i.process in
+    let many = sent_length old.game old.sent.items w.sent h.bytes in
+    (λ j. first_cause (no_station w (e j)) (down_at w (e j)) (length w.sent) event) ∙ (λ j. first_cause false (down j) (many j) event)
+
+-- all that a step at a site gives, by the match's names
+abbrev SiteGives : worlds.Site MemDisk → List Message → Event → Seen → Site → List Datagram → DeskId → ℕ → ℕ → Type 0
+SiteGives x messages event seen new after name game innings =
+    (y : worlds.Site MemDisk) × (out : List Message) × (answer : Answer Refusal) × (answer_of seen ≡ Some answer)
+    × AtDesk (match_of game innings) messages name event x answer y out × IsSite new y × AreBytesOf game after (messages ++ out)
+
+-- an event that a site has taken
+pub desk_steps : (d : DeskId) (old new : World) (site : Site) (event : Event) (seen : Seen) → station_of event ≡ stations.Desk d → Changes d old new site → SiteTakes event (code_site old d) old.sent.items (Ok seen) site new.sent.items → StepsTo event old seen new
+desk_steps d old new site event seen e c takes w h =
+    let names = h.named d in
+    let here = code_site old d in
+    let own : AreBytesOf here.game old.sent.items w.sent = subst (λ (n : ℕ). AreBytesOf n old.sent.items w.sent) (sym names.same_game) h.bytes in
+    let given = at_site d old.game old.innings_a_side here names (λ n g i. SiteGives (worlds.site w d) w.sent event seen site new.sent.items n g i) (takes.1 (worlds.site w d) w.sent (h.sites d) own) in
+    let after : worlds.World MemDisk = worlds.with_site w d given.0 given.1 in
+    let step : StepAt (match_of old.game old.innings_a_side) w event (station_of event) given.2 after =
+    subst (λ (t : Station). StepAt (match_of old.game old.innings_a_side) w event t given.2 after) (sym e) (given.0, given.1, given.4, refl) in
+    (cause_is d old w event e h ∙ takes.0, (given.2, after, given.3, step, put d old new site w given.0 given.1 c h given.5 given.6))
+
+desk_eq : (c d : DeskId) → stations.Desk c ≡ stations.Desk d → d ≡ c
+desk_eq c d q = cc
+
+-- the disk of a site may have been synced
+synced : (d c : DeskId) (old new : World) (site : Site) (w : worlds.World MemDisk) → c ≡ d → Changes d old new site → SyncsSite (code_site old d) site → new.sent.items ≡ old.sent.items → IsWorld old w → (v : worlds.World MemDisk) × Rattle.schedule_replay.specs.Refusals.MaySyncAt (match_of old.game old.innings_a_side) w c v × IsWorld new v
+synced d c old new site w q change syncs items h =
+    let names = h.named d in
+    let here = code_site old d in
+    let k = syncs (worlds.site w d) (h.sites d) in
+    let x : worlds.Site MemDisk = worlds.site w d in
+    let may = at_site d old.game old.innings_a_side here names (λ n g i. MaySync ((match_of g i).view n x.version) (worlds.disk_of x.process) k.0) k.1 in
+    let y : worlds.Site MemDisk = record x { process = worlds.with_disk x.process k.0 } in (
+      worlds.with_site w d y [],
+      subst (λ (e : DeskId). Rattle.schedule_replay.specs.Refusals.MaySyncAt (match_of old.game old.innings_a_side) w e (worlds.with_site w d y [])) (sym q) (k.0, may, refl),
+      put d old new site w y [] change h k.2 (no_bytes d old new w items h),
+    )
+
+-- what the want of memory leaves
+left : (d : DeskId) (old new : World) (site : Site) (event : Event) (w : worlds.World MemDisk) → station_of event ≡ stations.Desk d → Changes d old new site → SiteLeft event (code_site old d) site → new.sent.items ≡ old.sent.items → IsWorld old w → (v : worlds.World MemDisk) × LeftByWant (match_of old.game old.innings_a_side) w event v × IsWorld new v
+left d old new site (events.Open c) w e change l items h = synced d c old new site w (sym (desk_eq c d e)) change l items h
+left d old new site (events.Migrate c) w e change l items h = synced d c old new site w (sym (desk_eq c d e)) change l items h
+left d old new site (events.Pen c n) w e change l items h = (w, refl, stays d old new site w change l items h)
+left d old new site (events.Tick t) w e change l items h = (w, refl, stays d old new site w change l items h)
+left d old new site (events.Give n t) w e change l items h = (w, refl, stays d old new site w change l items h)
+left d old new site (events.Kill c) w e change l items h = (w, refl, stays d old new site w change l items h)
+left d old new site (events.Power c choice) w e change l items h = (w, refl, stays d old new site w change l items h)
+left d old new site (events.FailAt c n) w e change l items h = (w, refl, stays d old new site w change l items h)
+left d old new site (events.StopAt c n) w e change l items h = (w, refl, stays d old new site w change l items h)
+left d old new site (events.Wipe n) w e change l items h = (w, refl, stays d old new site w change l items h)
+
+-- an event that a site hasn't taken
+pub desk_refuses : (d : DeskId) (old new : World) (site : Site) (event : Event) (why : WorldRefusal) → station_of event ≡ stations.Desk d → Changes d old new site → SiteTakes event (code_site old d) old.sent.items (Err why) site new.sent.items → RefusesTo event old why new
+desk_refuses d old new site event why e c (items, inl (cause, same)) w h = (w, inl (cause_is d old w event e h ∙ cause, refl), stays d old new site w c same items h)
+desk_refuses d old new site event why e c (items, inr (none, want, l)) w h =
+    let k = left d old new site event w e c l items h in
+    (k.0, inr (cause_is d old w event e h ∙ none, want, k.1), k.2)
+
+pub at_desk_ok : (d : DeskId) (old new : World) (site : Site) (event : Event) (result : Result Seen WorldRefusal) → station_of event ≡ stations.Desk d → Changes d old new site → SiteTakes event (code_site old d) old.sent.items result site new.sent.items → IfOk result (λ seen. StepsTo event old seen new)
+at_desk_ok d old new site event (Ok seen) e c t = desk_steps d old new site event seen e c t
+at_desk_ok d old new site event (Err why) e c t = tt
+
+pub at_desk_err : (d : DeskId) (old new : World) (site : Site) (event : Event) (result : Result Seen WorldRefusal) → station_of event ≡ stations.Desk d → Changes d old new site → SiteTakes event (code_site old d) old.sent.items result site new.sent.items → IfErr result (λ why. RefusesTo event old why new)
+at_desk_err d old new site event (Ok seen) e c t = tt
+at_desk_err d old new site event (Err why) e c t = desk_refuses d old new site event why e c t

@@ -1,0 +1,20 @@
+use Rattle.std.proofs.Common.{refl, sym, ◌∙◌, Ok}
+use Rattle.schedule_replay.specs.Match.{is_device}
+use Rattle.schedule_replay.specs.declared.seen.Seen.TheVariants as seens
+use Rattle.schedule_replay.proofs.PenLemmas.{pen_refused, pen_runs_on, refused_same}
+use Rattle.schedule_replay.proofs.SiteLemmas.{pushed}
+use Rattle.schedule_replay.proofs.site.Site.pen.Goals as goal
+
+pub returns-in-Ok-clause-step : goal.returns-in-Ok-clause-step
+returns-in-Ok-clause-step c =
+    pen_runs_on c.args.self.now c.unwrap-desk.result c.pen-penned.new.self c.args.entry.now (Ok c.in-Ok.penned) (seens.Penned c.in-Ok.penned.settled)
+    c.args.sent.now.items c.push.new.self.items (sym c.take.ensures.value ∙ c.unwrap-desk.ensures)
+    c.in-Ok.ensures.step c.in-Ok.ensures.owner (c.in-Ok.ensures.blame.same (λ e. (cc))) (λ e. (cc)) refl (pushed c.args.sent.now.items c.push.new.self.items _ (rw c.unwrap.ensures at c.push.ensures.items))
+
+pub returns-in-Err-clause-step : goal.returns-in-Err-clause-step
+returns-in-Err-clause-step c =
+    pen_refused c.args.self.now c.refuse.new.self c.unwrap-desk.result c.pen-penned.new.self c.args.entry.now c.in-Err.why c.refuse.result c.args.sent.now.items
+    (sym c.take.ensures.value ∙ c.unwrap-desk.ensures) c.in-Err.ensures.step c.in-Err.ensures.owner c.in-Err.ensures.blame c.refuse.ensures.refused
+
+pub returns-in-Err-clause-same : goal.returns-in-Err-clause-same
+returns-in-Err-clause-same c = let s = refused_same (is_device c.in-Err.why) c.in-Err.why _ c.refuse.new.self c.refuse.result c.refuse.ensures.refused in record { name = s.name; same_game = s.same_game; innings = s.innings }

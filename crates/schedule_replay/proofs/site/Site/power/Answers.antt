@@ -1,0 +1,8 @@
+use Rattle.std.proofs.Common.{refl}
+use Rattle.schedule_replay.proofs.EventLemmas.{powers}
+use Rattle.schedule_replay.proofs.site.Site.power.Goals as goal
+
+pub returns-in-Some-clause-step : goal.returns-in-Some-clause-step
+returns-in-Some-clause-step c = λ sent.
+    let e = c.power.ensures in
+    powers c.args.self.now c.put_down.new.self _ c.args.choice c.in-Some.disk c.power.new.self sent c.put_down.ensures.down c.in-Some.is (record { image = e.image; images = e.images; cap = e.cap; plan = e.plan }) refl

@@ -1,0 +1,58 @@
+use Rattle.std.proofs.Common.{sym, refl, ◌∙◌, ℕ, subst, []}
+use Rattle.entry_log.specs.MemDisk.{IsFresh}
+use Rattle.schedule_replay.specs.declared.seen.Cause.TheVariants as causes
+use Rattle.schedule_replay.specs.Match.{is_failing, wants_memory}
+use Rattle.schedule_replay.proofs.MigrateLemmas.{IsMoved, IsReturned, migrated, not_migrated, refused_for}
+use Rattle.schedule_replay.proofs.OpenLemmas.{not_found_same, stays_so}
+use Rattle.schedule_replay.proofs.site.Site.renew.Goals as goal
+
+pub returns-in_default-clause-refused : goal.returns-in_default-clause-refused
+returns-in_default-clause-refused c = (refl, stays_so c.args.self.now)
+
+pub returns-in-Ok-migrate-clause-step : goal.returns-in-Ok-migrate-clause-step
+returns-in-Ok-migrate-clause-step c = λ sent.
+    let fresh = subst (λ (n : ℕ). IsFresh [] n c.in-Ok.new) c.most_bytes.ensures c.in-Ok.ensures in
+    let same = c.in-Ok-migrate.ensures.blame.same (λ q. (cc)) in
+    migrated c.args.self.now c.unwrap-old.result c.move_fault.new.self c.in-Ok.new c.move_fault.new.other c.in-Ok-migrate.migrated.new c.in-Ok-migrate.migrated.votes sent c.requires.version c.requires.down
+    (sym c.take.ensures.value ∙ c.unwrap-old.ensures) (record { fresh_is = fresh; here = c.move_fault.ensures.here; there = c.move_fault.ensures.there })
+    c.in-Ok-migrate.ensures.found c.in-Ok-migrate.ensures.holds c.in-Ok-migrate.ensures.new_cap same.1
+
+pub returns-in-Err-clause-step : goal.returns-in-Err-clause-step
+returns-in-Err-clause-step c =
+    let fresh = subst (λ (n : ℕ). IsFresh [] n c.in-Ok.new) c.most_bytes.ensures c.in-Ok.ensures in
+    let moved : IsMoved c.args.self.now c.unwrap-old.result c.move_fault.new.self c.in-Ok.new c.move_fault.new.other = record { fresh_is = fresh; here = c.move_fault.ensures.here; there = c.move_fault.ensures.there } in
+    let e = c.in-Err.ensures in
+    let back : IsReturned c.args.self.now c.unwrap-old.result c.move_fault.new.self c.move_fault.new.other c.in-Err.old c.in-Err.new c.move_fault-in-Err.new.other c.in-Err.why =
+    record { seen = e.old_seen; images = e.old_images; cap = e.old_cap; blame = e.blame; back = c.move_fault-in-Err.ensures.there } in
+    (not_migrated c.args.self.now c.not_found.new.self c.unwrap-old.result c.move_fault.new.self c.in-Ok.new c.move_fault.new.other c.in-Err.old c.in-Err.new c.move_fault-in-Err.new.other c.in-Err.why c.not_found.result c.requires.version c.requires.down (sym c.take.ensures.value ∙ c.unwrap-old.ensures) moved back (refused_for c.args.self.now c.unwrap-old.result c.move_fault.new.self c.in-Ok.new c.move_fault.new.other c.in-Err.why moved e.not_empty e.refused) c.not_found.ensures.refused).0
+
+pub returns-in-Err-clause-refused : goal.returns-in-Err-clause-refused
+returns-in-Err-clause-refused c =
+    let fresh = subst (λ (n : ℕ). IsFresh [] n c.in-Ok.new) c.most_bytes.ensures c.in-Ok.ensures in
+    let moved : IsMoved c.args.self.now c.unwrap-old.result c.move_fault.new.self c.in-Ok.new c.move_fault.new.other = record { fresh_is = fresh; here = c.move_fault.ensures.here; there = c.move_fault.ensures.there } in
+    let e = c.in-Err.ensures in
+    let back : IsReturned c.args.self.now c.unwrap-old.result c.move_fault.new.self c.move_fault.new.other c.in-Err.old c.in-Err.new c.move_fault-in-Err.new.other c.in-Err.why =
+    record { seen = e.old_seen; images = e.old_images; cap = e.old_cap; blame = e.blame; back = c.move_fault-in-Err.ensures.there } in
+    (not_migrated c.args.self.now c.not_found.new.self c.unwrap-old.result c.move_fault.new.self c.in-Ok.new c.move_fault.new.other c.in-Err.old c.in-Err.new c.move_fault-in-Err.new.other c.in-Err.why c.not_found.result c.requires.version c.requires.down (sym c.take.ensures.value ∙ c.unwrap-old.ensures) moved back (refused_for c.args.self.now c.unwrap-old.result c.move_fault.new.self c.in-Ok.new c.move_fault.new.other c.in-Err.why moved e.not_empty e.refused) c.not_found.ensures.refused).1
+
+pub returns-in-Err-clause-same : goal.returns-in-Err-clause-same
+returns-in-Err-clause-same c =
+    let s = not_found_same (wants_memory c.in-Err.why) (is_failing c.in-Err.why) (causes.Migrate c.in-Err.why) _ c.not_found.new.self c.not_found.result c.not_found.ensures.refused in
+    record { name = s.name; same_game = s.same_game; innings = s.innings }
+
+pub invariant_of-new : goal.invariant_of-new
+invariant_of-new c =
+    let disk = c.move_fault-in-Err.new.self in
+    record {
+      bytes_fit = disk.bytes_fit;
+      synced_fits = disk.synced_fits;
+      front_fits = disk.front_fits;
+      within = disk.within;
+      synced_within = disk.synced_within;
+      front_within = disk.front_within;
+      clean_within = disk.clean_within;
+      clean_front = disk.clean_front;
+      clean_synced = disk.clean_synced;
+      image = disk.image;
+      synced_image = disk.synced_image;
+    }

@@ -1,0 +1,94 @@
+-- A world as the definitions of a run see it.
+use Rattle.std.specs.Prelude.{◌≡◌, ℕ, map, All, Some, None, Result, Ok, Err}
+use Rattle.corrections.specs.Book.{Contents}
+use Rattle.corrections.specs.declared.book.Book.{Book}
+use Rattle.corrections.specs.contracts.book.BookBookOf.TheImpl as book_impl
+use Rattle.corrections.specs.declared.refusal.Refusal.{Refusal}
+use Rattle.entry_log.specs.declared.mem_disk.MemDisk.{MemDisk}
+use Rattle.agree_core.specs.declared.messages.DeskId.{DeskId}
+use Rattle.agree_core.specs.declared.messages.DeskId.TheVariants.{A, B}
+use Rattle.agree_core.specs.Boards.{BoardState}
+use Rattle.board.specs.declared.board.Board.{Board}
+use Rattle.board.specs.Board as board
+use Rattle.board.specs.declared.refusal.BoardRefusal.{BoardRefusal}
+use Rattle.wire.specs.declared.what.What.{What}
+use Rattle.schedule_replay.specs.declared.event.Event.{Event}
+use Rattle.schedule_replay.specs.declared.seen.Seen.{Seen}
+use Rattle.schedule_replay.specs.declared.seen.Seen.TheVariants as seens
+use Rattle.schedule_replay.specs.declared.seen.WorldRefusal.{WorldRefusal}
+use Rattle.schedule_replay.specs.declared.site.Site.{Site}
+use Rattle.schedule_replay.specs.declared.version.FileVersion.{FileVersion}
+use Rattle.schedule_replay.specs.declared.world.World.{World}
+use Rattle.schedule_replay.specs.Worlds as worlds
+use Rattle.schedule_replay.specs.Steps.{Answer, Step}
+use Rattle.schedule_replay.specs.Runs.{Begins}
+use Rattle.schedule_replay.specs.Refusals.{RefusesEvent, refusal_of}
+use Rattle.schedule_replay.specs.Match.{AreBytesOf, answer_of, given_seen, match_of}
+use Rattle.schedule_replay.specs.Sites.{IsSite}
+
+abbrev pub code_site : World → DeskId → Site
+code_site code A = code.a
+code_site code B = code.b
+
+-- a board of the match
+abbrev pub MatchBoard : Type 0
+MatchBoard = Board Book book_impl.ghosts
+
+abbrev pub board_state : MatchBoard → BoardState
+board_state k = board.state_of (λ (b : Contents). b.entries) k
+
+-- the number of its match, and the innings a side of its book
+abbrev pub board_game : MatchBoard → ℕ
+board_game k = board.game_of k
+
+abbrev pub board_innings : MatchBoard → ℕ
+board_innings k = (λ (b : Contents). b.innings_a_side) (board.book_of k)
+
+-- what is seen of a board's answer
+abbrev pub board_seen : Result What BoardRefusal → Seen
+board_seen (Ok what) = given_seen what None
+board_seen (Err why) = seens.BadVotes
+
+pub record IsBoardOf (game innings : ℕ) (k : MatchBoard) : Type 0 where
+  pub same_game : board_game k ≡ game
+  pub same_innings : board_innings k ≡ innings
+
+-- the site is that of this desk in the match
+pub record IsSiteOf (name : DeskId) (game innings : ℕ) (site : Site) : Type 0 where
+  pub same_name : site.name ≡ name
+  pub same_game : site.game ≡ game
+  pub same_innings : site.innings_a_side ≡ innings
+
+-- what the definitions of a run see of a world
+pub record IsWorld (code : World) (w : worlds.World MemDisk) : Type 0 where
+  pub sites : (d : DeskId) → IsSite (code_site code d) (worlds.site w d)
+  pub named : (d : DeskId) → IsSiteOf d code.game code.innings_a_side (code_site code d)
+  pub boards_are : All (IsBoardOf code.game code.innings_a_side) code.boards.items
+  pub board_states : w.boards ≡ map board_state code.boards.items
+  pub bytes : AreBytesOf code.game code.sent.items w.sent
+
+-- it is a world of the same match
+pub record SameMatch (old new : World) : Type 0 where
+  pub same_game : new.game ≡ old.game
+  pub same_innings : new.innings_a_side ≡ old.innings_a_side
+
+-- at the start of a match
+abbrev pub BeginsWorld : ℕ → ℕ → FileVersion → ℕ → World → Type 0
+BeginsWorld game innings version boards world =
+    (world.game ≡ game) × (world.innings_a_side ≡ innings)
+    × ((w : worlds.World MemDisk) × IsWorld world w × Begins (match_of game innings) version boards w)
+
+-- the event is taken: it is a step of the definitions, and this is what is seen of its answer
+abbrev pub StepsTo : Event → World → Seen → World → Type 0
+StepsTo event old seen new =
+    (w : worlds.World MemDisk) → IsWorld old w
+    → (refusal_of w event ≡ None)
+    × ((answer : Answer Refusal) × (after : worlds.World MemDisk) × (answer_of seen ≡ Some answer)
+    × Step (match_of old.game old.innings_a_side) w event answer after × IsWorld new after)
+
+-- the event isn't taken
+abbrev pub RefusesTo : Event → World → WorldRefusal → World → Type 0
+RefusesTo event old why new =
+    (w : worlds.World MemDisk) → IsWorld old w
+    → (v : worlds.World MemDisk) × RefusesEvent (match_of old.game old.innings_a_side) w event why v
+    × IsWorld new v
