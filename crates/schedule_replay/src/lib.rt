@@ -7,6 +7,8 @@ mod fault;
 mod laws;
 mod seen;
 mod site;
+#[cfg(test)]
+mod tests;
 mod version;
 mod world;
 mod world_desk;

@@ -1,0 +1,3 @@
+//! Stations together, byte by byte.
+
+mod stations;
