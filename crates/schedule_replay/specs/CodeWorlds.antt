@@ -1,8 +1,8 @@
 -- A world as the definitions of a run see it.
 use Rattle.std.specs.Prelude.{◌≡◌, ℕ, map, All, Some, None, Result, Ok, Err}
 use Rattle.corrections.specs.Book.{Contents}
-use Rattle.corrections.specs.declared.book.Book.{Book}
-use Rattle.corrections.specs.contracts.book.BookBookOf.TheImpl as book_impl
+use Rattle.corrections.specs.declared.checked_book.CheckedBook.{CheckedBook}
+use Rattle.corrections.specs.contracts.checked_book.CheckedBookBookOf.TheImpl as book_impl
 use Rattle.corrections.specs.declared.refusal.Refusal.{Refusal}
 use Rattle.entry_log.specs.declared.mem_disk.MemDisk.{MemDisk}
 use Rattle.agree_core.specs.declared.messages.DeskId.{DeskId}
@@ -32,7 +32,7 @@ code_site code B = code.b
 
 -- a board of the match
 abbrev pub MatchBoard : Type 0
-MatchBoard = Board Book book_impl.ghosts
+MatchBoard = Board CheckedBook book_impl.ghosts
 
 abbrev pub board_state : MatchBoard → BoardState
 board_state k = board.state_of (λ (b : Contents). b.entries) k

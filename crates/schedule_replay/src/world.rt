@@ -11,7 +11,7 @@ use crate::seen::{Seen, WorldRefusal};
 use crate::site::Site;
 use agree_core::DeskId;
 use board::Board;
-use corrections::Book;
+use corrections::CheckedBook;
 use std::alloc::Global;
 use wire::Datagram;
 
@@ -23,7 +23,7 @@ pub struct World {
     innings_a_side: u32,
     a: Site,
     b: Site,
-    boards: Vec<Board<Book>>,
+    boards: Vec<Board<CheckedBook>>,
     sent: Vec<Datagram>,
     ghost innings: { (1 ≤ innings_a_side) × (innings_a_side ≤ 2) },
     ghost a_whole: { IsWhole a },
