@@ -45,7 +45,7 @@ received_as whats.Asked = Some ReceiveAnswer.Asked
 received_as whats.Device = Some ReceiveAnswer.DeviceFailed
 received_as whats.Failed = Some ReceiveAnswer.Failed
 
-not_both : (m : Message) (fault : WireFault) → Ok m ≡ Err fault → ⊥
+pub not_both : (m : Message) (fault : WireFault) → Ok m ≡ Err fault → ⊥
 not_both m fault e = cc
 
 pub takes_as : {Disk : Type 0} (view : FileView Disk) (game : ℕ) (k l : DeskState Disk) (bytes : List ℕ) (what : What) (out : List Message) (m : Message) → Says game bytes m → Takes view game k bytes what l out → (received : ReceiveAnswer) × (received_as what ≡ Some received) × Receives view k m received l out
@@ -78,7 +78,7 @@ message_at f (m ∷ ms) zero bytes e = (m, refl, some_is (f m) bytes e)
 message_at f (m ∷ ms) (suc n) bytes e = message_at f ms n bytes e
 
 -- a message of messages that are in range
-message_in : (messages : List Message) (n : ℕ) (m : Message) → All IsMessage messages → slice_get messages n ≡ Some m → IsMessage m
+pub message_in : (messages : List Message) (n : ℕ) (m : Message) → All IsMessage messages → slice_get messages n ≡ Some m → IsMessage m
 message_in messages n m all e = subst IsMessage (get_or_from_slice_get messages n m m e) (All-get_or IsMessage messages n m (slice_get_within messages n m e) all)
 
 abbrev pub GiveSteps : WorldDesk → List ℕ → Received → WorldDesk → Type 0
@@ -105,7 +105,7 @@ not_failed whats.Asked received e n q = cc
 not_failed whats.Device received e n q = n refl
 not_failed whats.Failed received e n q = cc
 
-datagram_at : (sent : List Datagram) (n : ℕ) (d : Datagram) → slice_get sent n ≡ Some d → slice_get (map (λ (x : Datagram). x.bytes) sent) n ≡ Some d.bytes
+pub datagram_at : (sent : List Datagram) (n : ℕ) (d : Datagram) → slice_get sent n ≡ Some d → slice_get (map (λ (x : Datagram). x.bytes) sent) n ≡ Some d.bytes
 datagram_at sent n d e = slice_get-map (λ (x : Datagram). x.bytes) sent n ∙ ap (option_map (λ (x : Datagram). x.bytes)) e
 
 -- what was given is one of the messages, and how the desk took it

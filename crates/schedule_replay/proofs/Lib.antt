@@ -16,3 +16,4 @@ pub mod MigrateLemmas
 pub mod GiveLemmas
 pub mod TakeLemmas
 pub mod WorldLemmas
+pub mod BoardLemmas

@@ -1,5 +1,5 @@
 -- What is claimed: Headline, over the runs of Runs, Steps and Worlds; Refusals, Match, CodeWorlds and Replays.
--- WorldDesks and Sites serve private functions only.
+-- WorldDesks, Sites and WorldBoards serve private functions only.
 pub mod Worlds
 pub mod Steps
 pub mod Runs
@@ -9,4 +9,5 @@ pub mod Match
 pub mod WorldDesks
 pub mod Sites
 pub mod CodeWorlds
+pub mod WorldBoards
 pub mod Replays

@@ -2,6 +2,7 @@
 #![tactic(auto)]
 
 mod admission;
+mod boards;
 mod event;
 mod fault;
 mod laws;

@@ -5,14 +5,18 @@ ghost use Rattle.schedule_replay.specs.Refusals.{IsEvent};
 ghost use Rattle.schedule_replay.specs.Sites.{IsWhole};
 ghost use Rattle.schedule_replay.specs.Steps.{station_of};
 ghost use Rattle.schedule_replay.specs.declared.event.Station.TheVariants as stations;
+ghost use Rattle.schedule_replay.specs.declared.version.FileVersion.TheVariants as versions;
 
-use crate::event::Event;
+use crate::admission::admit;
+use crate::boards::{empty_boards, give_board, no_board, tick_board, wipe_board};
+use crate::event::{Event, Station};
 use crate::seen::{Seen, WorldRefusal};
 use crate::site::Site;
+use crate::version::FileVersion;
 use agree_core::DeskId;
 use board::Board;
 use corrections::CheckedBook;
-use std::alloc::Global;
+use std::alloc::{AllocError, Global};
 use wire::Datagram;
 
 /// Two desks with a file each, boards, and all that they have sent.
@@ -31,7 +35,74 @@ pub struct World {
 }
 
 impl World {
-    ghost use Rattle.schedule_replay.specs.CodeWorlds.{RefusesTo, SameMatch, StepsTo};
+    ghost use Rattle.schedule_replay.specs.CodeWorlds.{BeginsWorld, RefusesTo, SameMatch, StepsTo};
+
+    /// Two desks that were just created, each on a disk of its own with a file of version 2, and so many boards.
+    pub fn new(
+        alloc: Global,
+        game: u64,
+        innings_a_side: u32,
+        boards: u8,
+    ) -> Result<World, AllocError>
+        requires innings { (1 ≤ innings_a_side) × (innings_a_side ≤ 2) }
+        requires boards { boards ≤ 4 }
+        ensures begins { IfOk result (BeginsWorld game innings_a_side versions.New boards) }
+    {
+        World::begin(alloc, FileVersion::New, game, innings_a_side, boards)
+    }
+
+    /// The same with files of version 1.
+    pub fn old(
+        alloc: Global,
+        game: u64,
+        innings_a_side: u32,
+        boards: u8,
+    ) -> Result<World, AllocError>
+        requires innings { (1 ≤ innings_a_side) × (innings_a_side ≤ 2) }
+        requires boards { boards ≤ 4 }
+        ensures begins { IfOk result (BeginsWorld game innings_a_side versions.Old boards) }
+    {
+        World::begin(alloc, FileVersion::Old, game, innings_a_side, boards)
+    }
+
+    /// Two desks that were just created on files of this version, and so many boards.
+    fn begin(
+        alloc: Global,
+        version: FileVersion,
+        game: u64,
+        innings_a_side: u32,
+        boards: u8,
+    ) -> Result<World, AllocError>
+        requires { (1 ≤ innings_a_side) × (innings_a_side ≤ 2) }
+        ensures { IfOk result (BeginsWorld game innings_a_side version boards) }
+    {
+        let a = Site::new(alloc, version, DeskId::A, game, innings_a_side)?;
+        let b = Site::new(alloc, version, DeskId::B, game, innings_a_side)?;
+        let boards = empty_boards(alloc, game, innings_a_side, boards)?;
+        Ok(World {
+            alloc,
+            game,
+            innings_a_side,
+            a,
+            b,
+            boards,
+            sent: Vec::new(alloc),
+        })
+    }
+
+    /// One event. The world refuses it, in this order, `NoStation`, `Down`, `Up`, `NoMessage`, `WorldFull`,
+    /// `NoMemory`, and stays as it was; what a station refuses is seen.
+    pub fn step(&mut self, event: &Event) -> Result<Seen, WorldRefusal>
+        requires event { IsEvent event.now }
+        ensures step { IfOk result (λ seen. StepsTo event.now self.old seen self.new) }
+        ensures refused { IfErr result (λ why. RefusesTo event.now self.old why self.new) }
+        ensures same { SameMatch self.old self.new }
+    {
+        match event.station() {
+            Station::Desk(desk) => self.at_desk(desk, event),
+            Station::Board(number) => self.at_board(number, event),
+        }
+    }
 
     /// An event at a desk.
     fn at_desk(&mut self, desk: DeskId, event: &Event) -> Result<Seen, WorldRefusal>
@@ -44,6 +115,28 @@ impl World {
         match desk {
             DeskId::A => self.a.take(&mut self.sent, event),
             DeskId::B => self.b.take(&mut self.sent, event),
+        }
+    }
+
+    /// An event at a board.
+    fn at_board(&mut self, number: u8, event: &Event) -> Result<Seen, WorldRefusal>
+        requires event { IsEvent event.now }
+        requires here { station_of event.now ≡ stations.Board number }
+        ensures step { IfOk result (λ seen. StepsTo event.now self.old seen self.new) }
+        ensures refused { IfErr result (λ why. RefusesTo event.now self.old why self.new) }
+        ensures same { SameMatch self.old self.new }
+    {
+        let missing = no_board(self.boards.len(), number);
+        match admit(event, missing, false, &mut self.sent) {
+            Ok(()) => {}
+            Err(why) => return Err(why),
+        }
+        let board = &mut self.boards[number as usize - 1];
+        match *event {
+            Event::Give(message, _) => Ok(give_board(board, &self.sent, message as usize)),
+            Event::Tick(_) => Ok(tick_board(board, &mut self.sent)),
+            Event::Wipe(_) => wipe_board(board, self.alloc, self.game, self.innings_a_side),
+            _ => unreachable!(),
         }
     }
 }

@@ -1,0 +1,269 @@
+-- An event at a board is a step of the definitions there, and a step of the world.
+use Rattle.std.proofs.Common.{◌≡◌, ◌⊎◌, ℕ, zero, suc, ◌+◌, ◌-◌, ◌<◌, Bool, true, false, Option, Some, None, List, [], ◌∷◌, ◌++◌, length, map, refl, sym, ap, ◌∙◌, subst, inl, inr, Result, Ok, Err, add-one, arith}
+use Rattle.std.specs.Prelude.{All, IfErr, IfOk, OnOk, get_or, nat_le, option_map, slice_get, slice_set}
+use Rattle.std.specs.Option.{is_none}
+use Rattle.std.proofs.Math.Dec.{leb-zero, leb-suc-zero, leb-suc-suc}
+use Rattle.std.proofs.lemmas.List.{length-map, map-append, map-set, set-get_or}
+use Rattle.std.proofs.lemmas.Bool.{leb-false}
+use Rattle.std.proofs.lemmas.List.Elements.{All-get_or, All-nil, All-push, All-set}
+use Rattle.std.proofs.lemmas.Option.{get_or_from_slice_get, slice_get-get_or, slice_get-map, slice_get_within}
+use Rattle.corrections.specs.declared.refusal.Refusal.{Refusal}
+use Rattle.entry_log.specs.declared.mem_disk.MemDisk.{MemDisk}
+use Rattle.agree_core.specs.declared.messages.DeskId.{DeskId}
+use Rattle.agree_core.specs.declared.messages.DeskId.TheVariants.{A, B}
+use Rattle.agree_core.specs.declared.messages.Message.{Message}
+use Rattle.agree_core.specs.Boards.{BoardAnswer, BoardReceives, BoardState, BoardTicks, fresh_board}
+use Rattle.agree_core.specs.Books.{Rules}
+use Rattle.board.specs.declared.refusal.BoardRefusal.{BoardRefusal}
+use Rattle.board.specs.declared.refusal.BoardRefusal.TheVariants as refusals
+use Rattle.board.specs.Takes.{Takes}
+use Rattle.wire.specs.declared.datagram.Datagram.{Datagram}
+use Rattle.wire.specs.declared.what.What.{What}
+use Rattle.wire.specs.declared.what.What.TheVariants as whats
+use Rattle.wire.specs.Layout.{IsMessage, Says, written}
+use Rattle.wire.specs.Sent.{AreSent}
+use Rattle.wire.proofs.FaultLemmas.{reads_once}
+use Rattle.wire.proofs.MessageLemmas.{says_once}
+use Rattle.schedule_replay.specs.declared.event.Event.{Event}
+use Rattle.schedule_replay.specs.declared.event.Event.TheVariants as events
+use Rattle.schedule_replay.specs.declared.event.Station.{Station}
+use Rattle.schedule_replay.specs.declared.event.Station.TheVariants as stations
+use Rattle.schedule_replay.specs.declared.seen.Seen.{Seen}
+use Rattle.schedule_replay.specs.declared.seen.Seen.TheVariants as seens
+use Rattle.schedule_replay.specs.declared.seen.WorldRefusal.{WorldRefusal}
+use Rattle.schedule_replay.specs.declared.seen.WorldRefusal.TheVariants as refuses
+use Rattle.schedule_replay.specs.declared.site.Site.{Site}
+use Rattle.schedule_replay.specs.declared.version.FileVersion.{FileVersion}
+use Rattle.schedule_replay.specs.declared.world_desk.WorldDesk.{WorldDesk}
+use Rattle.schedule_replay.specs.declared.world.World.{World}
+use Rattle.schedule_replay.specs.Worlds as worlds
+use Rattle.schedule_replay.specs.Worlds.{board_at, fresh_boards, with_board}
+use Rattle.schedule_replay.specs.Steps.{Answer, AtBoard, StepAt, board_told, station_of}
+use Rattle.schedule_replay.specs.Refusals.{LeftByWant, down_at, first_cause, no_board, no_station, refusal_of}
+use Rattle.schedule_replay.specs.Match.{AreBytesOf, answer_of, match_of}
+use Rattle.schedule_replay.specs.Runs.{Begins, BeginsAt}
+use Rattle.schedule_replay.specs.Sites.{BeginsSite, IsProcess, IsSite}
+use Rattle.schedule_replay.specs.WorldDesks.{state_of}
+use Rattle.schedule_replay.specs.CodeWorlds.{IsBoardOf, IsSiteOf, IsWorld, MatchBoard, RefusesTo, StepsTo, board_game, board_innings, board_seen, board_state, code_site}
+use Rattle.schedule_replay.specs.WorldBoards.{AreFresh, BoardSteps, SameBoard}
+use Rattle.schedule_replay.proofs.GiveLemmas.{datagram_at, message_at, message_in, not_both}
+use Rattle.schedule_replay.proofs.SiteLemmas.{more_bytes, no_bytes}
+use Rattle.schedule_replay.proofs.WorldLemmas.{sent_length}
+
+-- what a board receives of bytes that say a message
+takes_as : (rules : Rules Refusal) (game : ℕ) (k l : BoardState) (bytes : List ℕ) (answer : Result What BoardRefusal) (m : Message) → Says game bytes m → Takes rules game k bytes answer l → (received : BoardAnswer) × (answer_of (board_seen answer) ≡ Some (board_told received)) × BoardReceives rules k m received l
+takes_as rules game k l bytes (Ok (whats.Bad fault)) m s t = absurd (not_both m fault (reads_once game bytes (Ok m) (Err fault) s t.0))
+takes_as rules game k l bytes (Ok (whats.Heard h)) m s t = (BoardAnswer.Told h, refl, subst (λ (x : Message). BoardReceives rules k x (BoardAnswer.Told h) l) (says_once game bytes t.0 m t.1 s) t.2)
+takes_as rules game k l bytes (Ok whats.Asked) m s t = (BoardAnswer.Asked, refl, subst (λ (x : Message). BoardReceives rules k x BoardAnswer.Asked l) (says_once game bytes t.0 m t.1 s) t.2)
+takes_as rules game k l bytes (Ok whats.Device) m s t = absurd t
+takes_as rules game k l bytes (Ok whats.Failed) m s t = absurd t
+takes_as rules game k l bytes (Err (refusals.BadVotes place)) m s t = (BoardAnswer.BadVotes place, refl, subst (λ (x : Message). BoardReceives rules k x (BoardAnswer.BadVotes place) l) (says_once game bytes t.0 m t.1 s) t.2)
+
+-- the board is given a message that was sent
+pub board_gives : (k l : MatchBoard) (n : ℕ) (t : Station) (d : Datagram) (answer : Result What BoardRefusal) (sent : List Datagram) → slice_get sent n ≡ Some d → Takes (match_of (board_game k) (board_innings k)).rules (board_game k) (board_state k) d.bytes answer (board_state l) → BoardSteps (events.Give n t) k sent (board_seen answer) l sent
+board_gives k l n t d answer sent there takes messages b =
+    let found = message_at (written (board_game k)) messages n d.bytes (ap (λ (z : List (List ℕ)). slice_get z n) (sym b.1) ∙ datagram_at sent n d there) in
+    let taken = takes_as (match_of (board_game k) (board_innings k)).rules (board_game k) (board_state k) (board_state l) d.bytes answer found.0 (message_in messages n found.0 b.0 found.1, found.2) takes in
+    ([], board_told taken.0, taken.1, (found.0, taken.0, found.1, taken.2, refl, refl), no_bytes (board_game k) sent messages b)
+
+-- what a tick hands out
+pub board_ticks : (k : MatchBoard) (t : Station) (n : ℕ) (out before after : List Datagram) → AreSent (board_game k) (map (λ (d : Datagram). d.bytes) out) (BoardTicks (board_state k)) → n ≡ length out → after ≡ before ++ out → BoardSteps (events.Tick t) k before (seens.Ticked n) k after
+board_ticks k t n out before after sent long added messages b =
+    let said : map (λ (d : Datagram). d.bytes) out ≡ map (written (board_game k)) sent.0 = sent.2 in
+    let many : n ≡ length sent.0 = long ∙ sym (length-map out (λ (d : Datagram). d.bytes)) ∙ ap length said ∙ length-map sent.0 (written (board_game k)) in (
+      sent.0,
+      Answer.Ticked n,
+      refl,
+      (sent.3, ap (λ (m : ℕ). Answer.Ticked m) many, refl),
+      more_bytes (board_game k) before after messages sent.0 (map (λ (d : Datagram). d.bytes) out) b sent.1 said (ap (map (λ (d : Datagram). d.bytes)) added ∙ map-append (λ (d : Datagram). d.bytes) before out),
+    )
+
+-- the board begins empty
+pub board_empties : (k l : MatchBoard) (n : ℕ) (sent : List Datagram) → board_state l ≡ fresh_board → BoardSteps (events.Wipe n) k sent seens.Done l sent
+board_empties k l n sent fresh messages b = ([], Answer.Done, refl, (fresh, refl, refl), no_bytes (board_game k) sent messages b)
+
+-- the world has this board in the place of that number
+pub record PutsBoard (n : ℕ) (old new : World) (l : MatchBoard) : Type 0 where
+  pub there : new.boards.items ≡ slice_set old.boards.items (n - 1) l
+  pub a : new.a ≡ old.a
+  pub b : new.b ≡ old.b
+  pub same_game : new.game ≡ old.game
+  pub same_innings : new.innings_a_side ≡ old.innings_a_side
+
+-- the board of this number is there, and no cause stands against the event
+pub record IsThere (n : ℕ) (old : World) (event : Event) (k : MatchBoard) : Type 0 where
+  pub number : n ≡ suc (n - 1)
+  pub here : slice_get old.boards.items (n - 1) ≡ Some k
+  pub none : first_cause (no_board (length old.boards.items) n) false (length old.sent.items) event ≡ None
+
+site_stays : (old new : World) (d : DeskId) → new.a ≡ old.a → new.b ≡ old.b → code_site new d ≡ code_site old d
+site_stays old new A a b = a
+site_stays old new B a b = b
+
+none_there : (xs : List MatchBoard) (n : ℕ) → is_none (slice_get (map board_state xs) n) ≡ nat_le (length xs) n
+none_there [] n = sym (leb-zero n)
+none_there (x ∷ xs) zero = sym (leb-suc-zero (length xs))
+none_there (x ∷ xs) (suc n) = none_there xs n ∙ sym (leb-suc-suc (length xs) n)
+
+no_station_is : (old : World) (w : worlds.World MemDisk) (n : ℕ) → IsWorld old w → no_station w (stations.Board n) ≡ no_board (length old.boards.items) n
+no_station_is old w zero h = refl
+no_station_is old w (suc n) h = ap (λ (bs : List BoardState). is_none (slice_get bs n)) h.board_states ∙ none_there old.boards.items n
+
+-- the first cause against an event at a board
+cause_is : (n : ℕ) (old : World) (w : worlds.World MemDisk) (event : Event) → station_of event ≡ stations.Board n → IsWorld old w → refusal_of w event ≡ first_cause (no_board (length old.boards.items) n) false (length old.sent.items) event
+cause_is n old w event e h =
+    let missing = no_station_is old w n h in
+    let many = sent_length old.game old.sent.items w.sent h.bytes in
+    (λ j. first_cause (no_station w (e j)) (down_at w (e j)) (length w.sent) event) ∙ (λ j. first_cause (missing j) false (many j) event)
+
+not_missing : (missing : Bool) (sent : ℕ) (event : Event) → first_cause missing false sent event ≡ None → missing ≡ false
+not_missing true sent event e = absurd (cc)
+not_missing false sent event e = refl
+
+in_range : (boards n : ℕ) → no_board boards n ≡ false → (n ≡ suc (n - 1)) × (n - 1 < boards)
+in_range boards zero e = absurd (cc)
+in_range boards (suc n) e = let less = leb-false boards n e in (omega arith, omega (arith, less))
+
+-- where no cause stands there is the board of this number
+pub is_there : (n : ℕ) (old : World) (event : Event) (k : MatchBoard) (missing : Bool) → missing ≡ no_board (length old.boards.items) n → first_cause missing false (length old.sent.items) event ≡ None → k ≡ get_or old.boards.items (n - 1) k → IsThere n old event k
+is_there n old event k missing m none e =
+    let range = in_range (length old.boards.items) n (sym m ∙ not_missing missing (length old.sent.items) event none) in
+    record {
+      number = range.0;
+      here = slice_get-get_or old.boards.items (n - 1) k range.1 ∙ ap Some (sym e);
+      none = subst (λ (b : Bool). first_cause b false (length old.sent.items) event ≡ None) m none;
+    }
+
+board_of : (n : ℕ) (old : World) (event : Event) (k : MatchBoard) (w : worlds.World MemDisk) → IsThere n old event k → IsWorld old w → IsBoardOf old.game old.innings_a_side k
+board_of n old event k w t h = subst (IsBoardOf old.game old.innings_a_side) (get_or_from_slice_get old.boards.items (n - 1) k k t.here) (All-get_or (IsBoardOf old.game old.innings_a_side) old.boards.items (n - 1) k (slice_get_within old.boards.items (n - 1) k t.here) h.boards_are)
+
+-- the world after one of its boards has changed
+put : (n : ℕ) (old new : World) (l : MatchBoard) (w : worlds.World MemDisk) (out : List Message) → PutsBoard n old new l → IsBoardOf old.game old.innings_a_side l → IsWorld old w → AreBytesOf old.game new.sent.items (w.sent ++ out) → IsWorld new (record w { boards = with_board w.boards (suc (n - 1)) (board_state l); sent = w.sent ++ out })
+put n old new l w out c owner h b =
+    let boards : All (IsBoardOf old.game old.innings_a_side) new.boards.items = subst (All (IsBoardOf old.game old.innings_a_side)) (sym c.there) (All-set (IsBoardOf old.game old.innings_a_side) old.boards.items (n - 1) l owner h.boards_are) in
+    record {
+      sites = λ d. subst (λ (z : Site). IsSite z (worlds.site w d)) (sym (site_stays old new d c.a c.b)) (h.sites d);
+      named = λ d. subst (λ (z : Site). IsSiteOf d new.game new.innings_a_side z) (sym (site_stays old new d c.a c.b)) (rw (c.same_game, c.same_innings) (h.named d));
+      boards_are = rw (c.same_game, c.same_innings) boards;
+      board_states = ap (λ (bs : List BoardState). slice_set bs (n - 1) (board_state l)) h.board_states ∙ sym (map-set board_state old.boards.items (n - 1) l) ∙ ap (map board_state) (sym c.there);
+      bytes = subst (λ (g : ℕ). AreBytesOf g new.sent.items (w.sent ++ out)) (sym c.same_game) b;
+    }
+
+-- what a board's step gives, by the match's names
+abbrev BoardGives : Event → MatchBoard → List Message → Seen → MatchBoard → List Datagram → ℕ → ℕ → Type 0
+BoardGives event k messages seen l after game innings =
+    (out : List Message) × (answer : Answer Refusal) × (answer_of seen ≡ Some answer)
+    × AtBoard (match_of game innings) messages event (board_state k) answer (board_state l) out
+    × AreBytesOf game after (messages ++ out)
+
+-- an event that a board has taken
+pub board_steps : (n : ℕ) (old new : World) (k l : MatchBoard) (event same : Event) (seen : Seen) (before after : List Datagram) → station_of event ≡ stations.Board n → IsThere n old event k → PutsBoard n old new l → (IsBoardOf old.game old.innings_a_side k → IsBoardOf old.game old.innings_a_side l) → event ≡ same → before ≡ old.sent.items → after ≡ new.sent.items → BoardSteps same k before seen l after → StepsTo event old seen new
+board_steps n old new k l event same seen before after e t c owner q b a steps w h =
+    let of = board_of n old event k w t h in
+    let own : AreBytesOf (board_game k) before w.sent = subst (λ (g : ℕ). AreBytesOf g before w.sent) (sym of.same_game) (subst (λ (z : List Datagram). AreBytesOf old.game z w.sent) (sym b) h.bytes) in
+    let p = subst (λ (g : ℕ). BoardGives same k w.sent seen l after g (board_innings k)) of.same_game (steps w.sent own) in
+    let r = subst (λ (i : ℕ). BoardGives same k w.sent seen l after old.game i) of.same_innings p in
+    let given = subst (λ (v : Event). BoardGives v k w.sent seen l after old.game old.innings_a_side) (sym q) r in
+    let world : worlds.World MemDisk = record w { boards = with_board w.boards (suc (n - 1)) (board_state l); sent = w.sent ++ given.0 } in
+    let there : board_at w.boards (suc (n - 1)) ≡ Some (board_state k) = ap (λ (bs : List BoardState). slice_get bs (n - 1)) h.board_states ∙ slice_get-map board_state old.boards.items (n - 1) ∙ ap (option_map board_state) t.here in
+    let step : StepAt (match_of old.game old.innings_a_side) w event (station_of event) given.1 world =
+    subst (λ (u : Station). StepAt (match_of old.game old.innings_a_side) w event u given.1 world) (sym (e ∙ ap stations.Board t.number)) (board_state k, board_state l, given.0, there, given.3, refl) in
+    (cause_is n old w event e h ∙ t.none, (given.1, world, given.2, step, put n old new l w given.0 c (owner of) h (subst (λ (z : List Datagram). AreBytesOf old.game z (w.sent ++ given.0)) a given.4)))
+
+pub same_owner : (game innings : ℕ) (k l : MatchBoard) → SameBoard k l → IsBoardOf game innings k → IsBoardOf game innings l
+same_owner game innings k l s of = record { same_game = s.same_game ∙ of.same_game; same_innings = s.same_innings ∙ of.same_innings }
+
+-- the messages have room for more, and all else is as it was
+pub record StaysSo (old new : World) : Type 0 where
+  pub a : new.a ≡ old.a
+  pub b : new.b ≡ old.b
+  pub boards : new.boards.items ≡ old.boards.items
+  pub sent : new.sent.items ≡ old.sent.items
+  pub same_game : new.game ≡ old.game
+  pub same_innings : new.innings_a_side ≡ old.innings_a_side
+
+stays : (old new : World) (w : worlds.World MemDisk) → StaysSo old new → IsWorld old w → IsWorld new w
+stays old new w s h = record {
+  sites = λ d. subst (λ (z : Site). IsSite z (worlds.site w d)) (sym (site_stays old new d s.a s.b)) (h.sites d);
+  named = λ d. subst (λ (z : Site). IsSiteOf d new.game new.innings_a_side z) (sym (site_stays old new d s.a s.b)) (rw (s.same_game, s.same_innings) (h.named d));
+  boards_are = rw (s.same_game, s.same_innings, s.boards) h.boards_are;
+  board_states = h.board_states ∙ ap (map board_state) (sym s.boards);
+  bytes = rw (s.same_game, s.sent) h.bytes;
+}
+
+-- an event that a board hasn't taken
+pub board_refuses : (n : ℕ) (old new : World) (event : Event) (why : WorldRefusal) → station_of event ≡ stations.Board n → StaysSo old new → (first_cause (no_board (length old.boards.items) n) false (length old.sent.items) event ≡ Some why) ⊎ ((first_cause (no_board (length old.boards.items) n) false (length old.sent.items) event ≡ None) × (why ≡ refuses.NoMemory)) → RefusesTo event old why new
+board_refuses n old new event why e s (inl cause) w h = (w, inl (cause_is n old w event e h ∙ cause, refl), stays old new w s h)
+board_refuses n old new event why e s (inr (none, want)) w h = (w, inr (cause_is n old w event e h ∙ none, want, left n event e w), stays old new w s h)
+  where
+    left : (n : ℕ) (event : Event) → station_of event ≡ stations.Board n → (w : worlds.World MemDisk) → LeftByWant (match_of old.game old.innings_a_side) w event w
+    left n (events.Open d) e w = absurd (cc)
+    left n (events.Migrate d) e w = absurd (cc)
+    left n (events.Pen d m) e w = refl
+    left n (events.Tick t) e w = refl
+    left n (events.Give m t) e w = refl
+    left n (events.Kill d) e w = refl
+    left n (events.Power d choice) e w = refl
+    left n (events.FailAt d m) e w = refl
+    left n (events.StopAt d m) e w = refl
+    left n (events.Wipe m) e w = refl
+
+-- the board begins empty, or is as it was where memory is wanted
+pub wipes : (n m : ℕ) (old new : World) (k l : MatchBoard) (event : Event) (result : Result Seen WorldRefusal) → station_of event ≡ stations.Board n → IsThere n old event k → PutsBoard n old new l → event ≡ events.Wipe m → new.sent.items ≡ old.sent.items → IfOk result (λ seen. (n : ℕ) (sent : List Datagram) → BoardSteps (events.Wipe n) k sent seen l sent) → OnOk result (IsBoardOf old.game old.innings_a_side l) → IfOk result (λ seen. StepsTo event old seen new)
+wipes n m old new k l event (Ok seen) e t c q items steps owner = board_steps n old new k l event (events.Wipe m) seen old.sent.items old.sent.items e t c (λ of. owner) q refl (sym items) (steps m old.sent.items)
+wipes n m old new k l event (Err why) e t c q items steps owner = tt
+
+pub not_wiped : (n : ℕ) (old new : World) (k l : MatchBoard) (event : Event) (result : Result Seen WorldRefusal) → station_of event ≡ stations.Board n → IsThere n old event k → PutsBoard n old new l → new.sent.items ≡ old.sent.items → IfErr result (λ why. (why ≡ refuses.NoMemory) × (l ≡ k)) → IfErr result (λ why. RefusesTo event old why new)
+not_wiped n old new k l event (Ok seen) e t c items refused = tt
+not_wiped n old new k l event (Err why) e t c items (want, same) =
+    let boards : new.boards.items ≡ old.boards.items = c.there ∙ ap (slice_set old.boards.items (n - 1)) (same ∙ sym (get_or_from_slice_get old.boards.items (n - 1) k k t.here)) ∙ set-get_or old.boards.items (n - 1) k in
+    board_refuses n old new event why e (record { a = c.a; b = c.b; boards = boards; sent = items; same_game = c.same_game; same_innings = c.same_innings }) (inr (t.none, want))
+
+-- a desk that was just created
+site_begins : (version : FileVersion) (name : DeskId) (game innings : ℕ) (site : Site) → BeginsSite version name game innings site → (x : worlds.Site MemDisk) × IsSite site x × BeginsAt (match_of game innings) version name x
+site_begins version name game innings site h =
+    let k = h.desk in (
+      record { version = version; process = worlds.Running (state_of k.0); due = None },
+      record {
+        version = sym h.same_version;
+        process = subst (λ (o : Option WorldDesk). IsProcess site o site.disk (worlds.Running (state_of k.0))) (sym k.1) (k.2, h.down, refl);
+        due = sym h.due;
+      },
+      (state_of k.0, refl, k.3),
+    )
+
+-- the world at the start of its match
+pub begins : (world : World) (version : FileVersion) (boards : ℕ) → BeginsSite version A world.game world.innings_a_side world.a → BeginsSite version B world.game world.innings_a_side world.b → AreFresh world.game world.innings_a_side boards world.boards.items → world.sent.items ≡ [] → (w : worlds.World MemDisk) × IsWorld world w × Begins (match_of world.game world.innings_a_side) version boards w
+begins world version boards a b fresh sent =
+    let x = site_begins version A world.game world.innings_a_side world.a a in
+    let y = site_begins version B world.game world.innings_a_side world.b b in
+    let w : worlds.World MemDisk = record { a = x.0; b = y.0; boards = fresh_boards boards; sent = [] } in (
+      w,
+      record {
+        sites = sites w x.1 y.1;
+        named = named;
+        boards_are = fresh.of_match;
+        board_states = sym fresh.states;
+        bytes = (All-nil IsMessage, ap (map (λ (d : Datagram). d.bytes)) sent);
+      },
+      record { a = x.2; b = y.2; boards_are_fresh = refl; nothing_sent = refl },
+    )
+  where
+    sites : (w : worlds.World MemDisk) → IsSite world.a w.a → IsSite world.b w.b → (d : DeskId) → IsSite (code_site world d) (worlds.site w d)
+    sites w i j A = i
+    sites w i j B = j
+
+    named : (d : DeskId) → IsSiteOf d world.game world.innings_a_side (code_site world d)
+    named A = record { same_name = a.same_name; same_game = a.same_game; same_innings = a.same_innings }
+    named B = record { same_name = b.same_name; same_game = b.same_game; same_innings = b.same_innings }
+
+-- one board more
+pub one_more : (game innings n : ℕ) (boards : List MatchBoard) (k : MatchBoard) → AreFresh game innings n boards → board_state k ≡ fresh_board → IsBoardOf game innings k → AreFresh game innings (n + 1) (boards ++ k ∷ [])
+one_more game innings n boards k h fresh of = record {
+  states = map-append board_state boards (k ∷ []) ∙ (λ i. h.states i ++ fresh i ∷ []) ∙ last n ∙ ap fresh_boards (sym (add-one n));
+  of_match = All-push (IsBoardOf game innings) boards k h.of_match of;
+}
+  where
+    last : (n : ℕ) → fresh_boards n ++ fresh_board ∷ [] ≡ fresh_boards (suc n)
+    last zero = refl
+    last (suc n) = ap (λ (bs : List BoardState). fresh_board ∷ bs) (last n)
