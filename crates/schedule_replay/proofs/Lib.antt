@@ -17,3 +17,4 @@ pub mod GiveLemmas
 pub mod TakeLemmas
 pub mod WorldLemmas
 pub mod BoardLemmas
+pub mod LendingLemmas

@@ -1,5 +1,5 @@
--- What is claimed: Headline, over the runs of Runs, Steps and Worlds; Refusals, Match, CodeWorlds and Replays.
--- WorldDesks, Sites and WorldBoards serve private functions only.
+-- What is claimed: Headline, over the runs of Runs, Steps and Worlds; Refusals, Match, CodeWorlds,
+-- WorldDesks and Lending, and Replays. Sites and WorldBoards serve private functions only.
 pub mod Worlds
 pub mod Steps
 pub mod Runs
@@ -10,4 +10,5 @@ pub mod WorldDesks
 pub mod Sites
 pub mod CodeWorlds
 pub mod WorldBoards
+pub mod Lending
 pub mod Replays

@@ -2,6 +2,7 @@
 #![tactic(auto)]
 
 mod admission;
+mod any_desk;
 mod boards;
 mod event;
 mod fault;
@@ -14,6 +15,7 @@ mod version;
 mod world;
 mod world_desk;
 
+pub use any_desk::AnyDesk;
 pub use event::{Event, Station};
 pub use fault::Fault;
 pub use laws::every_run_is_sound;

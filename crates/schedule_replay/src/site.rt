@@ -12,6 +12,7 @@ ghost use Rattle.schedule_replay.specs.declared.event.Event.TheVariants as event
 ghost use Rattle.schedule_replay.specs.declared.version.FileVersion.TheVariants as versions;
 
 use crate::admission::admit;
+use crate::any_desk::AnyDesk;
 use crate::event::Event;
 use crate::fault::Fault;
 use crate::seen::{Cause, Seen, WorldRefusal};
@@ -94,6 +95,8 @@ fn hand_out(sent: &mut Vec<Datagram>, reply: Option<[u8; 48]>)
 }
 
 impl Site {
+    ghost use Rattle.std.specs.Prelude.{option_map};
+    ghost use Rattle.schedule_replay.specs.Lending.{lent_desk};
     ghost use Rattle.schedule_replay.specs.Sites.{AfterRefusal, BeginsSite, BreaksDown, IsWhole, NotFoundBy, PutsDown, SameMatch, SiteSteps, SiteTakes, SyncsSite};
 
     /// A desk that is just created, on a file of this version.
@@ -119,6 +122,16 @@ impl Site {
             votes: 0,
             due: None,
         })
+    }
+
+    /// The desk that runs, to be read.
+    pub fn lend(&self) -> Option<AnyDesk<'_>>
+        ensures { option_map lent_desk result ≡ self.now.desk }
+    {
+        match &self.desk {
+            Some(desk) => Some(desk.lend()),
+            None => None,
+        }
     }
 
     /// An event at this desk.

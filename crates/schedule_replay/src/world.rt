@@ -8,6 +8,7 @@ ghost use Rattle.schedule_replay.specs.declared.event.Station.TheVariants as sta
 ghost use Rattle.schedule_replay.specs.declared.version.FileVersion.TheVariants as versions;
 
 use crate::admission::admit;
+use crate::any_desk::AnyDesk;
 use crate::boards::{empty_boards, give_board, no_board, tick_board, wipe_board};
 use crate::event::{Event, Station};
 use crate::seen::{Seen, WorldRefusal};
@@ -35,6 +36,7 @@ pub struct World {
 }
 
 impl World {
+    ghost use Rattle.schedule_replay.specs.Lending.{LendsStations};
     ghost use Rattle.schedule_replay.specs.CodeWorlds.{BeginsWorld, RefusesTo, SameMatch, StepsTo};
 
     /// Two desks that were just created, each on a disk of its own with a file of version 2, and so many boards.
@@ -102,6 +104,19 @@ impl World {
             Station::Desk(desk) => self.at_desk(desk, event),
             Station::Board(number) => self.at_board(number, event),
         }
+    }
+
+    /// Desk A and desk B, where they run, and the boards, to be read.
+    pub fn stations(
+        &self,
+    ) -> (
+        Option<AnyDesk<'_>>,
+        Option<AnyDesk<'_>>,
+        &[Board<CheckedBook>],
+    )
+        ensures { LendsStations self.now result.0 result.1 result.2.now }
+    {
+        (self.a.lend(), self.b.lend(), self.boards.as_slice())
     }
 
     /// An event at a desk.

@@ -1,0 +1,40 @@
+-- The stations that a world lends.
+use Rattle.std.specs.Prelude.{◌≡◌, ℕ, List, map, All, IfSome, option_map, Option, Some, None}
+use Rattle.entry_log.specs.declared.mem_disk.MemDisk.{MemDisk}
+use Rattle.agree_core.specs.Desks.{DeskState}
+use Rattle.schedule_replay.specs.declared.any_desk.AnyDesk.{AnyDesk}
+use Rattle.schedule_replay.specs.declared.any_desk.AnyDesk.TheVariants as lent
+use Rattle.schedule_replay.specs.declared.world.World.{World}
+use Rattle.schedule_replay.specs.declared.world_desk.WorldDesk.{WorldDesk}
+use Rattle.schedule_replay.specs.declared.world_desk.WorldDesk.TheVariants as desks
+use Rattle.schedule_replay.specs.Worlds as worlds
+use Rattle.schedule_replay.specs.Worlds.{Process, Running, Down}
+use Rattle.schedule_replay.specs.WorldDesks.{innings_of, state_of}
+use Rattle.schedule_replay.specs.CodeWorlds.{IsBoardOf, IsWorld, MatchBoard, board_state}
+
+-- the desk itself
+abbrev pub lent_desk : AnyDesk → WorldDesk
+lent_desk (lent.Old k) = desks.Old k.now
+lent_desk (lent.New k) = desks.New k.now
+
+-- the desk that runs, where one does
+abbrev pub running_of : Process MemDisk → Option (DeskState MemDisk)
+running_of (Running k) = Some k
+running_of (Down votes disk) = None
+
+-- the desk that runs is lent, and none of one that is down; its book is of the match
+pub record LendsDesk (innings : ℕ) (process : Process MemDisk) (k : Option AnyDesk) : Type 0 where
+  pub state : option_map (λ d. state_of (lent_desk d)) k ≡ running_of process
+  pub of_match : IfSome k (λ d. innings_of (lent_desk d) ≡ innings)
+
+-- the desks that run and the boards of a world of the definitions
+pub record Lends
+    (world : World) (w : worlds.World MemDisk) (a b : Option AnyDesk) (boards : List MatchBoard) : Type 0 where
+  pub desk_a : LendsDesk world.innings_a_side w.a.process a
+  pub desk_b : LendsDesk world.innings_a_side w.b.process b
+  pub states : map board_state boards ≡ w.boards
+  pub of_match : All (IsBoardOf world.game world.innings_a_side) boards
+
+-- those of each that the definitions of a run see of this world
+abbrev pub LendsStations : World → Option AnyDesk → Option AnyDesk → List MatchBoard → Type 0
+LendsStations world a b boards = (w : worlds.World MemDisk) → IsWorld world w → Lends world w a b boards

@@ -1,0 +1,42 @@
+//! A desk that a world lends.
+
+ghost use Rattle.std.specs.Prelude.{◌≡◌};
+ghost use Rattle.corrections.specs.Legal.{IsScoreOf};
+ghost use Rattle.schedule_replay.specs.WorldDesks.{book_of, innings_of, state_of};
+
+use corrections::CheckedBook;
+use desk::Desk;
+use entry_log::{MemDisk, OldSlots, Slots};
+use match_laws::Match;
+
+/// A running desk of a world, with a file of version 1 or 2.
+#[derive(Clone, Copy)]
+pub enum AnyDesk<'a> {
+    Old(&'a Desk<OldSlots<MemDisk>, CheckedBook>),
+    New(&'a Desk<Slots<MemDisk>, CheckedBook>),
+}
+
+impl<'a> AnyDesk<'a> {
+    ghost use Rattle.schedule_replay.specs.Lending.{lent_desk};
+
+    /// Its book: the entries that are agreed.
+    pub fn book(self) -> &'a CheckedBook
+        ensures { result.now ≡ book_of (lent_desk self.entry) }
+    {
+        match self {
+            AnyDesk::Old(desk) => desk.book(),
+            AnyDesk::New(desk) => desk.book(),
+        }
+    }
+
+    /// The score of its book: the Laws' score of the book's clean list.
+    pub fn shown(self) -> &'a Match
+        ensures { IsScoreOf result.now (innings_of (lent_desk self.entry))
+            (state_of (lent_desk self.entry)).book }
+    {
+        match self {
+            AnyDesk::Old(desk) => desk.shown(),
+            AnyDesk::New(desk) => desk.shown(),
+        }
+    }
+}
