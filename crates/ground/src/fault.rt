@@ -1,0 +1,135 @@
+//! Why a run ends before its end, and the line that standard error has of it.
+
+ghost use Rattle.std.specs.Prelude.{◌≡◌, OnOk};
+ghost use Rattle.cards.specs.Watched.{Prints, TellsFailure};
+ghost use Rattle.ground.specs.Fault as texts;
+
+use cards::{SheetFault, Watched, WriteFailed};
+use std::io::Write;
+use thiserror::Error;
+
+/// Why a run ends before its end.
+#[derive(Clone, Copy, Debug, PartialEq, Eq, Error)]
+pub enum RunFault {
+    /// Memory was refused.
+    #[error("no memory")]
+    NoMemory,
+    /// A read failed or was interrupted, or the input is longer than 16,777,216 bytes.
+    #[error("cannot read")]
+    Read,
+    /// A write failed.
+    #[error("cannot write")]
+    Write,
+    /// The disk of a votes file failed.
+    #[error("cannot write")]
+    Device,
+    /// The sheet is refused.
+    #[error("sheet: {0}")]
+    Sheet(SheetFault),
+    /// A votes file is refused.
+    #[error("votes: {0}")]
+    Votes(vote_store::Refusal),
+}
+
+impl RunFault {
+    /// Whether a sheet or a votes file is refused for what it holds, and no memory, stream or disk is to blame.
+    pub fn is_refusal(self) -> bool
+        ensures { result ≡ texts.is_refusal self }
+    {
+        match self {
+            RunFault::Sheet(SheetFault::NoMemory) => false,
+            RunFault::Votes(vote_store::Refusal::NoMemory) => false,
+            RunFault::Votes(vote_store::Refusal::File(entry_log::Refusal::Device)) => false,
+            RunFault::Sheet(_) | RunFault::Votes(_) => true,
+            _ => false,
+        }
+    }
+}
+
+impl From<SheetFault> for RunFault {
+    ghost use Rattle.ground.specs.Fault.{of_sheet};
+
+    ghost from_gives = { λ why fault. fault ≡ of_sheet why };
+
+    fn from(why: SheetFault) -> Self {
+        match why {
+            SheetFault::NoMemory => RunFault::NoMemory,
+            _ => RunFault::Sheet(why),
+        }
+    }
+}
+
+impl From<vote_store::Refusal> for RunFault {
+    ghost use Rattle.ground.specs.Fault.{of_votes};
+
+    ghost from_gives = { λ why fault. fault ≡ of_votes why };
+
+    fn from(why: vote_store::Refusal) -> Self {
+        match why {
+            vote_store::Refusal::NoMemory => RunFault::NoMemory,
+            vote_store::Refusal::File(entry_log::Refusal::Device) => RunFault::Device,
+            _ => RunFault::Votes(why),
+        }
+    }
+}
+
+/// The name of a sheet's fault.
+pub fn sheet_name(why: SheetFault) -> &'static str
+    ensures { result.now ≡ texts.sheet_name why }
+{
+    match why {
+        SheetFault::NoMemory => "NoMemory",
+        SheetFault::NotToml => "NotToml",
+        SheetFault::MissingKey => "MissingKey",
+        SheetFault::WrongKind => "WrongKind",
+        SheetFault::BadText => "BadText",
+        SheetFault::BadNumber => "BadNumber",
+        SheetFault::NotEleven => "NotEleven",
+    }
+}
+
+fn print_sheet_fault<W: Write>(out: &mut Watched<W>, why: SheetFault) -> Result<(), WriteFailed>
+    ensures text { OnOk result (Prints W.contents out.old out.new (texts.sheet_line why)) }
+    ensures failed { TellsFailure result out.old out.new }
+{
+    let name = sheet_name(why);
+    match why.number() {
+        Some(number) => writeln!(out, "sheet: {number} {name}"),
+        None => writeln!(out, "no memory"),
+    }
+}
+
+fn print_votes_fault<W: Write>(
+    out: &mut Watched<W>,
+    why: vote_store::Refusal,
+) -> Result<(), WriteFailed>
+    ensures text { OnOk result (Prints W.contents out.old out.new (texts.votes_line why)) }
+    ensures failed { TellsFailure result out.old out.new }
+{
+    if let vote_store::Refusal::File(entry_log::Refusal::Device) = why {
+        return writeln!(out, "cannot write");
+    }
+    match why.number() {
+        Some(number) => writeln!(out, "votes: {number} {why}"),
+        None => writeln!(out, "no memory"),
+    }
+}
+
+/// Prints the line that standard error has of a fault. `path` is the file that was at work, `-` for standard
+/// input.
+pub fn print_fault<W: Write>(
+    out: &mut Watched<W>,
+    path: &str,
+    fault: RunFault,
+) -> Result<(), WriteFailed>
+    ensures text { OnOk result (Prints W.contents out.old out.new (texts.fault_line path.now fault)) }
+    ensures failed { TellsFailure result out.old out.new }
+{
+    match fault {
+        RunFault::NoMemory => writeln!(out, "no memory"),
+        RunFault::Read => writeln!(out, "cannot read {path}"),
+        RunFault::Write | RunFault::Device => writeln!(out, "cannot write"),
+        RunFault::Sheet(why) => print_sheet_fault(out, why),
+        RunFault::Votes(why) => print_votes_fault(out, why),
+    }
+}
