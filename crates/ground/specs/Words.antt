@@ -1,0 +1,27 @@
+-- What the words on the command line ask for, and what is told where they ask for nothing.
+use Rattle.std.specs.Prelude.{ℕ, ◌≤◌, ⊤, List, codes}
+use Rattle.ground.specs.declared.status.Status.{Status}
+use Rattle.ground.specs.declared.status.Status.TheVariants as statuses
+use Rattle.ground.specs.declared.words.Task.{Task}
+use Rattle.ground.specs.declared.words.Task.TheVariants.{Check, Replay}
+use Rattle.ground.specs.declared.words.WordsFault.{WordsFault}
+use Rattle.ground.specs.declared.words.WordsFault.TheVariants.{NotUnderstood, NoMemory}
+
+-- what no words ask for: `check` in a match of two innings a side
+abbrev pub plain_task : Task
+plain_task = Check 2
+
+-- the numbers of a task are in their ranges: 1 or 2 innings a side, at most 4 boards
+abbrev pub IsTask : Task → Type 0
+IsTask (Check innings) = (1 ≤ innings) × (innings ≤ 2)
+IsTask (Replay sheet schedule boards is_old) = boards ≤ 4
+IsTask task = ⊤
+
+abbrev pub words_status : WordsFault → Status
+words_status NotUnderstood = statuses.Words
+words_status NoMemory = statuses.Failed
+
+-- the line that standard error has
+abbrev pub words_line : WordsFault → List ℕ
+words_line NotUnderstood = codes "words not understood\n"
+words_line NoMemory = codes "no memory\n"
