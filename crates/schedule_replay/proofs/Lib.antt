@@ -1,3 +1,8 @@
+pub mod Cuts
+pub mod ScheduleCuts
+pub mod EventTexts
+pub mod LineTexts
+pub mod ScheduleTexts
 pub mod Both
 pub mod Desks
 pub mod BoardKeeping

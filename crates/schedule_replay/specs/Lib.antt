@@ -1,5 +1,6 @@
 -- What is claimed: Headline, over the runs of Runs, Steps and Worlds; Refusals, Match, CodeWorlds,
 -- WorldDesks and Lending, and Replays. Sites and WorldBoards serve private functions only.
+-- Of texts: Lines, ScheduleLines, ScheduleFault and SeenWords; ScheduleReading serves private functions only.
 pub mod Worlds
 pub mod Steps
 pub mod Runs
@@ -12,3 +13,8 @@ pub mod CodeWorlds
 pub mod WorldBoards
 pub mod Lending
 pub mod Replays
+pub mod Lines
+pub mod ScheduleFault
+pub mod ScheduleLines
+pub mod ScheduleReading
+pub mod SeenWords

@@ -1,0 +1,54 @@
+//! The lines of a text.
+
+ghost use Rattle.std.specs.Prelude.{◌≡◌, ℕ, List, [], ◌∷◌, MatchOption};
+ghost use Rattle.schedule_replay.specs.Lines.{lines_of};
+
+use std::marker::Model;
+
+/// The lines that are left of an input: what stands between newlines, without an empty line at the end.
+#[derive(Drop)]
+pub struct Lines<'a> {
+    rest: &'a [u8],
+}
+
+impl<'a> Model for Lines<'a> {
+    ghost use Rattle.std.specs.Prelude.{List, ℕ};
+    ghost use Rattle.schedule_replay.specs.Lines.{lines_of};
+
+    ghost Value = { List (List ℕ) };
+
+    ghost view = { λ l. lines_of l.rest.now };
+}
+
+impl<'a> Lines<'a> {
+    /// The lines of an input.
+    pub fn new(input: &'a [u8]) -> Lines<'a>
+        ensures { result ≡ lines_of input.entry.now }
+    {
+        Lines { rest: input }
+    }
+
+    /// The next line, if there is one.
+    pub fn next(&mut self) -> Option<&'a [u8]>
+        ensures { MatchOption result
+            ((self.old ≡ []) × (self.new ≡ []))
+            (λ line. self.old ≡ line.now ∷ self.new) }
+    {
+        let rest = self.rest;
+        if rest.is_empty() {
+            return None;
+        }
+        match rest.iter().position(|b| *b == b'\n') {
+            Some(at) => {
+                let (line, more) = rest.split_at(at);
+                let (_, after) = more.split_at(1);
+                self.rest = after;
+                Some(line)
+            }
+            None => {
+                self.rest = &[];
+                Some(rest)
+            }
+        }
+    }
+}
