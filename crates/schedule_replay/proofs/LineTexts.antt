@@ -1,19 +1,16 @@
 -- What a line of a schedule says, for each event and for each fault.
-use Rattle.std.proofs.Common.{◌≡◌, ◌≢◌, ℕ, List, [], ◌∷◌, ◌++◌, length, take, drop, Bool, true, false, cond, Option, Some, None, Result, Ok, Err, ◌⊎◌, inl, inr, refl, sym, ap, ◌∙◌, codes}
-use Rattle.std.specs.List.{join_with_byte}
+use Rattle.std.proofs.Common.{◌≡◌, ℕ, List, ◌++◌, length, take, drop, Option, Some, None, Result, Ok, Err, inl, inr, refl, sym, ap, ◌∙◌, codes}
 use Rattle.std.proofs.lemmas.List.{take-append-drop}
 use Rattle.std.specs.Str.{bytes_eq}
 use Rattle.notation.specs.declared.entry.Entry.{Entry}
 use Rattle.notation.specs.declared.fault.LineFault.{LineFault}
-use Rattle.notation.specs.Fault.{first_fault}
 use Rattle.notation.specs.Reading.{line_answer}
-use Rattle.notation.specs.Written.{text_of, IsEntry}
+use Rattle.notation.specs.Written.{text_of}
 use Rattle.notation.proofs.Faults.{fault_of, line_fault}
 use Rattle.notation.proofs.Found.{chosen, same}
 use Rattle.notation.proofs.Texts.{line_again, line_found}
 use Rattle.agree_core.specs.declared.messages.DeskId.{DeskId}
 use Rattle.agree_core.specs.declared.messages.DeskId.TheVariants.{A, B}
-use Rattle.entry_log.specs.declared.mem_disk.choice.Choice.{Choice}
 use Rattle.entry_log.specs.declared.mem_disk.choice.Choice.TheVariants as choices
 use Rattle.schedule_replay.specs.declared.event.Event.{Event}
 use Rattle.schedule_replay.specs.declared.event.Event.TheVariants as events

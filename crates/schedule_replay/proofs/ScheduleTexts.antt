@@ -1,17 +1,13 @@
 -- The lines of a schedule, one after another.
-use Rattle.std.proofs.Common.{◌≡◌, ◌≢◌, ◌+◌, ◌≤◌, ℕ, List, [], ◌∷◌, ◌++◌, length, map, Option, Some, None, Result, Ok, Err, ◌⊎◌, inl, inr, refl, sym, ap, ◌∙◌, arith, append_assoc, append-nil}
-use Rattle.std.specs.Prelude.{All, MatchResult, IfErr}
-use Rattle.std.proofs.lemmas.List.{map-append}
-use Rattle.std.proofs.lemmas.List.Elements.{All-head, All-nil, All-push, All-tail, All-weaker}
+use Rattle.std.proofs.Common.{◌≡◌, ◌+◌, ℕ, List, [], ◌∷◌, ◌++◌, length, map, Ok, Err, refl, ap, ◌∙◌}
+use Rattle.std.specs.Prelude.{All}
+use Rattle.std.proofs.lemmas.List.Elements.{All-head, All-tail}
 use Rattle.schedule_replay.specs.declared.event.Event.{Event}
-use Rattle.schedule_replay.specs.declared.event.Event.TheVariants as events
 use Rattle.schedule_replay.specs.declared.schedule_fault.ScheduleFault.{ScheduleFault}
 use Rattle.schedule_replay.specs.declared.schedule_fault.ScheduleFault.TheVariants.{NoMemory, BadEvent, BadEntry}
-use Rattle.schedule_replay.specs.Lines.{lines_of}
-use Rattle.schedule_replay.specs.Refusals.{IsEvent}
-use Rattle.schedule_replay.specs.ScheduleLines.{event_text, HasFault, IsFirstAtFault, IsScheduleOf, IsWrittenEvent}
+use Rattle.schedule_replay.specs.ScheduleLines.{event_text, HasFault, IsWrittenEvent}
 use Rattle.schedule_replay.specs.ScheduleReading.{line_says}
-use Rattle.schedule_replay.proofs.LineTexts.{IsWrong, says_again, says_wrong}
+use Rattle.schedule_replay.proofs.LineTexts.{IsWrong, says_again}
 
 -- a line says one event
 same_event : (e f : Event) → IsWrittenEvent e → IsWrittenEvent f → event_text e ≡ event_text f → e ≡ f
