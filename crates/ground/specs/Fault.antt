@@ -8,7 +8,8 @@ use Rattle.vote_store.specs.declared.refusal.Refusal.{Refusal}
 use Rattle.vote_store.specs.declared.refusal.Refusal.TheVariants as votes
 use Rattle.entry_log.specs.declared.refusal.Refusal.TheVariants as files
 use Rattle.ground.specs.declared.fault.RunFault.{RunFault}
-use Rattle.ground.specs.declared.fault.RunFault.TheVariants.{NoMemory, Read, Write, Device, Sheet, Votes}
+use Rattle.ground.specs.declared.fault.RunFault.TheVariants.{NoMemory, Read, Write, Device, Sheet, Votes, BadVotes, Line, NotAgreed}
+use Rattle.ground.specs.Rejected.{rejection_line}
 
 -- the fault of a run over a sheet that is refused: want of memory is its own
 abbrev pub of_sheet : SheetFault → RunFault
@@ -21,13 +22,15 @@ of_votes votes.NoMemory = NoMemory
 of_votes (votes.File files.Device) = Device
 of_votes why = Votes why
 
--- whether a sheet or a votes file is refused for what it holds, and no memory, stream or disk is to blame
+-- whether a sheet, a votes file or a line is refused for what it holds, and no memory, stream or disk is to blame
 abbrev pub is_refusal : RunFault → Bool
 is_refusal (Sheet sheets.NoMemory) = false
 is_refusal (Sheet why) = true
 is_refusal (Votes votes.NoMemory) = false
 is_refusal (Votes (votes.File files.Device)) = false
 is_refusal (Votes why) = true
+is_refusal (BadVotes place) = true
+is_refusal (Line number why) = true
 is_refusal fault = false
 
 -- the name of a sheet's fault
@@ -65,3 +68,6 @@ fault_line path Write = codes "cannot write\n"
 fault_line path Device = codes "cannot write\n"
 fault_line path (Sheet why) = sheet_line why
 fault_line path (Votes why) = votes_line why
+fault_line path (BadVotes place) = codes "votes: 64 BadVotes\n"
+fault_line path (Line number why) = rejection_line number why
+fault_line path (NotAgreed place) = codes "place " ++ decimal place ++ codes " not agreed in 50 turns\n"

@@ -4,6 +4,7 @@ ghost use Rattle.std.specs.Prelude.{◌≡◌, OnOk};
 ghost use Rattle.cards.specs.Watched.{Prints, TellsFailure};
 ghost use Rattle.ground.specs.Fault as texts;
 
+use crate::rejected::{Rejected, print_rejected};
 use cards::{SheetFault, Watched, WriteFailed};
 use std::io::Write;
 use thiserror::Error;
@@ -29,10 +30,20 @@ pub enum RunFault {
     /// A votes file is refused.
     #[error("votes: {0}")]
     Votes(vote_store::Refusal),
+    /// The votes of a file are no legal book: this is the first place whose last vote is refused.
+    #[error("votes: BadVotes")]
+    BadVotes { place: u32 },
+    /// A pen line isn't taken. Lines are numbered from 1.
+    #[error("line {number}")]
+    Line { number: u64, why: Rejected },
+    /// The stations didn't agree this place in fifty turns each.
+    #[error("place {place} not agreed in 50 turns")]
+    NotAgreed { place: u32 },
 }
 
 impl RunFault {
-    /// Whether a sheet or a votes file is refused for what it holds, and no memory, stream or disk is to blame.
+    /// Whether a sheet, a votes file or a line is refused for what it holds, and no memory, stream or disk is to
+    /// blame.
     pub fn is_refusal(self) -> bool
         ensures { result ≡ texts.is_refusal self }
     {
@@ -41,6 +52,7 @@ impl RunFault {
             RunFault::Votes(vote_store::Refusal::NoMemory) => false,
             RunFault::Votes(vote_store::Refusal::File(entry_log::Refusal::Device)) => false,
             RunFault::Sheet(_) | RunFault::Votes(_) => true,
+            RunFault::BadVotes { .. } | RunFault::Line { .. } => true,
             _ => false,
         }
     }
@@ -131,5 +143,8 @@ pub fn print_fault<W: Write>(
         RunFault::Write | RunFault::Device => writeln!(out, "cannot write"),
         RunFault::Sheet(why) => print_sheet_fault(out, why),
         RunFault::Votes(why) => print_votes_fault(out, why),
+        RunFault::BadVotes { .. } => writeln!(out, "votes: 64 BadVotes"),
+        RunFault::Line { number, why } => print_rejected(out, number, why),
+        RunFault::NotAgreed { place } => writeln!(out, "place {place} not agreed in 50 turns"),
     }
 }

@@ -1,14 +1,22 @@
-//! Opening files of the host.
+//! Opening files of the host. Each fault names the file that was at work.
 
 ghost use Rattle.std.specs.Prelude.{◌≡◌};
 
 use crate::fault::RunFault;
-use cards::Watched;
+use crate::files::{FileDisk, OpenFault};
+use crate::input::LONGEST_INPUT;
+use crate::sheet::sheet_run;
+use agree_core::DeskId;
+use cards::{MatchSheet, Watched};
+use entry_log::OldSlots;
 use std::fs::{File, OpenOptions};
-use std::rt::Files;
+use vote_store::Votes;
+
+/// The most bytes that a new votes file can have: a header and 16,384 slots of 64 bytes each, and a gate.
+const LONGEST_FILE: usize = 1_048_641;
 
 /// Why a task ended, and the file that was at work, `-` where it was a standard stream.
-#[derive(Clone, Copy, Debug, PartialEq, Eq)]
+#[derive(Clone, Copy, Debug)]
 pub struct Stopped<'a> {
     pub path: &'a str,
     pub fault: RunFault,
@@ -24,30 +32,70 @@ impl<'a> Stopped<'a> {
 }
 
 /// Opens a file that is read from its front to its end.
-pub fn open_input<'a, R: Files>(rt: &R, path: &'a str) -> Result<Watched<R::File>, Stopped<'a>> {
+pub fn open_input<'a>(rt: &HostRuntime, path: &'a str) -> Result<Watched<File>, Stopped<'a>> {
     match File::open(rt, path) {
         Ok(file) => Ok(Watched::new(file)),
         Err(_) => Err(Stopped::at(path, RunFault::Read)),
     }
 }
 
-/// Opens a votes file that is there already.
-pub fn open_votes<'a, R: Files>(rt: &R, path: &'a str) -> Result<R::File, Stopped<'a>> {
-    match OpenOptions::new().read(true).write(true).open(rt, path) {
-        Ok(file) => Ok(file),
-        Err(_) => Err(Stopped::at(path, RunFault::Read)),
+/// The match sheet in a file.
+pub fn sheet_at<'a>(rt: &HostRuntime, path: &'a str) -> Result<MatchSheet, Stopped<'a>> {
+    let mut reader = open_input(rt, path)?;
+    match sheet_run(rt.alloc(), &mut reader) {
+        Ok(sheet) => Ok(sheet),
+        Err(fault) => Err(Stopped::at(path, fault)),
     }
 }
 
-/// Opens a votes file that is written, and makes it where there is none.
-pub fn make_votes<'a, R: Files>(rt: &R, path: &'a str) -> Result<R::File, Stopped<'a>> {
-    match OpenOptions::new()
+/// A disk on a file that is only read. A file of more than 16,777,216 bytes can't be read.
+fn reading_disk<'a>(rt: &HostRuntime, path: &'a str) -> Result<FileDisk<File>, Stopped<'a>> {
+    let file = match File::open(rt, path) {
+        Ok(file) => file,
+        Err(_) => return Err(Stopped::at(path, RunFault::Read)),
+    };
+    match FileDisk::new(rt.alloc(), file, LONGEST_INPUT) {
+        Ok(disk) => Ok(disk),
+        Err(OpenFault::NoMemory) => Err(Stopped::at(path, RunFault::NoMemory)),
+        Err(OpenFault::Host | OpenFault::TooLong) => Err(Stopped::at(path, RunFault::Read)),
+    }
+}
+
+/// A disk on a desk's votes file of version 1, whose votes were read once.
+pub fn old_votes_at<'a>(
+    rt: &HostRuntime,
+    path: &'a str,
+    desk: DeskId,
+    game: u64,
+) -> Result<FileDisk<File>, Stopped<'a>> {
+    let disk = reading_disk(rt, path)?;
+    match Votes::<OldSlots<FileDisk<File>>>::open(rt.alloc(), disk, desk, game) {
+        Ok(votes) => Ok(votes.into_disk()),
+        Err((why, _disk)) => Err(Stopped::at(path, RunFault::from(why))),
+    }
+}
+
+/// A disk on a file that is to have votes, which is made where there is none. A file that is longer than any votes
+/// file isn't empty.
+pub fn new_disk_at<'a>(rt: &HostRuntime, path: &'a str) -> Result<FileDisk<File>, Stopped<'a>> {
+    let opened = OpenOptions::new()
         .read(true)
         .write(true)
         .create(true)
-        .open(rt, path)
-    {
-        Ok(file) => Ok(file),
-        Err(_) => Err(Stopped::at(path, RunFault::Write)),
+        .open(rt, path);
+    let file = match opened {
+        Ok(file) => file,
+        Err(_) => return Err(Stopped::at(path, RunFault::Write)),
+    };
+    match FileDisk::new(rt.alloc(), file, LONGEST_FILE) {
+        Ok(disk) => Ok(disk),
+        Err(OpenFault::NoMemory) => Err(Stopped::at(path, RunFault::NoMemory)),
+        Err(OpenFault::Host) => Err(Stopped::at(path, RunFault::Device)),
+        Err(OpenFault::TooLong) => Err(Stopped::at(path, not_empty())),
     }
+}
+
+/// The fault of a file that was to be new and has bytes.
+fn not_empty() -> RunFault {
+    RunFault::from(vote_store::Refusal::File(entry_log::Refusal::NotEmpty))
 }

@@ -1,6 +1,6 @@
-use Rattle.std.proofs.Common.{◌≡◌, ◌≤◌}
+use Rattle.std.proofs.Common.{◌≡◌}
 use Rattle.std.specs.Io.KnownBytes.{Appends}
-use Rattle.match_laws.specs.Stands.{ForEachHistory, begun_in}
+use Rattle.match_laws.specs.Stands.{ForEachHistory}
 use Rattle.cards.specs.Watched.{stream_of, has_failed}
 use Rattle.ground.specs.Card.{cards_of}
 use Rattle.ground.proofs.card.print.print_innings.Given as goal

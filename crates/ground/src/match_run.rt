@@ -1,0 +1,58 @@
+//! `ground match`: two desks and a board agree the lines of a book.
+
+ghost use Rattle.std.specs.Prelude.{◌≡◌, ◌≢◌, ◌≤◌, true, length, Err, IfErr};
+ghost use Rattle.cards.specs.Watched.{has_failed};
+
+use crate::fault::RunFault;
+use crate::input::LONGEST_INPUT;
+use crate::lines::Lines;
+use crate::link::{Link, Post};
+use crate::stations::{Stations, new_stations};
+use cards::{MatchSheet, Watched};
+use entry_log::{Disk, SlotsOf};
+use std::alloc::Global;
+use std::io::Write;
+
+/// Has the stations take the lines of an input, one after the other.
+fn take_lines<S: SlotsOf, L: Link>(
+    stations: &mut Stations<S, L>,
+    input: &[u8],
+) -> Result<(), RunFault>
+    requires { length input.now ≤ LONGEST_INPUT }
+    ensures no_write { result ≢ Err RunFault.Write }
+{
+    let mut lines = Lines::new(input);
+    let mut number = 0;
+    while let Some(line) = lines.next() {
+        number += 1;
+        stations.take(number, line)?;
+    }
+    Ok(())
+}
+
+/// `ground match`: two desks with new files on these disks, and a board. Both desks pen each line, and the next
+/// follows when all three books have it; then the six lines of the board are written. The stations take turns,
+/// A, B and the board: in a turn a station sends what it says unasked to the other two, and takes up to eight
+/// datagrams, until none comes in time. A line that isn't taken ends the run, and so does a place that isn't
+/// agreed in fifty turns of each station. A disk that has a file is refused. At `Ok` both disks come back.
+pub fn run_match<D: Disk + Drop, L: Link + Drop, W: Write>(
+    alloc: Global,
+    sheet: &MatchSheet,
+    input: &[u8],
+    a: D,
+    b: D,
+    post: Post<L>,
+    writer: &mut Watched<W>,
+) -> Result<(D, D), RunFault>
+    requires { length input.now ≤ LONGEST_INPUT }
+    ensures write { result ≡ Err RunFault.Write → has_failed writer.new ≡ true }
+    // With any other fault nothing was written.
+    ensures unwritten { IfErr result (λ fault. fault ≢ RunFault.Write → writer.new ≡ writer.old) }
+{
+    let mut stations = new_stations(alloc, sheet, a, b, post)?;
+    take_lines(&mut stations, input)?;
+    match stations.print_board(sheet, writer) {
+        Ok(()) => Ok(stations.into_disks()),
+        Err(_) => Err(RunFault::Write),
+    }
+}
