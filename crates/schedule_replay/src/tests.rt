@@ -1,3 +1,4 @@
 //! Stations together, byte by byte.
 
 mod stations;
+mod worlds;
