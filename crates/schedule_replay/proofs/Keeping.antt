@@ -24,9 +24,11 @@ use Rattle.schedule_replay.specs.declared.version.FileVersion.TheVariants.{Old, 
 use Rattle.schedule_replay.specs.Worlds.{Process, Running, Down, Setting, Site, World, disk_of, site, votes_in, votes_of, with_disk, with_site}
 use Rattle.schedule_replay.specs.Steps.{AfterOpen, AfterPen, AfterReceive, Answer, AtBoard, AtDesk, Breaks, FallsDue, LosesPower, Migrates, MigratesAt, Migration, AfterMigration, ToNew, NotSound, Failed, StaysDownBy, Step, StepAt, station_of}
 use Rattle.schedule_replay.specs.Runs.{Begins, BeginsAt, Moment, Run, last_of}
-use Rattle.schedule_replay.proofs.Both.{both_grow, same}
-use Rattle.schedule_replay.proofs.Desks.{DeskFine, DeskKept, DiskFine, Each, MineFine, OneMore, OwnMessage, ShowsMore, TheirMessage, held, may_sync_fine, more_justified, more_within, on_disk, opened_fine, opens_fine, pens_keep, receives_keep, stays_fine, synced_fine, ticks_keep}
-use Rattle.schedule_replay.proofs.BoardKeeping.{BoardFine, MessageFine, board_asks, board_fine_at, board_grows, board_receives_keeps, board_set, each_append, each_other, fresh_boards_fine, fresh_fine, item_at, message_grows, noted_grows}
+use Rattle.agree_core.specs.Keeping.{BoardFine, DeskFine, DeskKept, DiskFine, Each, MessageFine, MineFine, OneMore, OwnMessage, ShowsMore, TheirMessage}
+use Rattle.agree_core.proofs.Both.{both_grow, same}
+use Rattle.agree_core.proofs.Desks.{held, may_sync_fine, more_justified, more_within, on_disk, opened_fine, opens_fine, pens_keep, receives_keep, stays_fine, synced_fine, ticks_keep}
+use Rattle.agree_core.proofs.Boards.{board_asks, board_grows, board_receives_keeps, fresh_fine, message_grows, noted_grows}
+use Rattle.schedule_replay.proofs.BoardKeeping.{board_fine_at, board_set, each_append, each_other, fresh_boards_fine, item_at}
 
 module _ {Disk Why : Type 0} (s : Setting Disk Why) where
   abbrev pub ProcessFine : FileVersion → DeskId → List Ballot → Process Disk → Type 0

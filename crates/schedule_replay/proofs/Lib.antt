@@ -3,8 +3,6 @@ pub mod ScheduleCuts
 pub mod EventTexts
 pub mod LineTexts
 pub mod ScheduleTexts
-pub mod Both
-pub mod Desks
 pub mod BoardKeeping
 pub mod Keeping
 pub mod Shown

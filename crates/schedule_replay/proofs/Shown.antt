@@ -19,9 +19,10 @@ use Rattle.schedule_replay.specs.declared.version.FileVersion.{FileVersion}
 use Rattle.schedule_replay.specs.Worlds.{Process, Running, Down, Setting, World, board_at, disk_of, site, votes_in, votes_of}
 use Rattle.schedule_replay.specs.Runs.{AtEachMoment, AtSomeMoment, Moment, Run, Shows, last_of, process_shows}
 use Rattle.schedule_replay.specs.Headline.{ByBoth, KeptSafe, NoneWaits, OneBook, StandsFast, WithinAgreed, noted_at_desk}
-use Rattle.schedule_replay.proofs.Both.{both_at, both_settled, both_turned, same}
-use Rattle.schedule_replay.proofs.Desks.{ShowsMore, more_within}
-use Rattle.schedule_replay.proofs.BoardKeeping.{MessageFine, board_fine_at, item_at}
+use Rattle.agree_core.specs.Keeping.{MessageFine, ShowsMore}
+use Rattle.agree_core.proofs.Both.{both_at, both_settled, both_turned, same}
+use Rattle.agree_core.proofs.Desks.{more_within}
+use Rattle.schedule_replay.proofs.BoardKeeping.{board_fine_at, item_at}
 use Rattle.schedule_replay.proofs.Keeping.{Fine, Grows, ProcessFine, all_justified, process_disk, run_keeps, running, site_fine, step_keeps}
 
 module _ {Disk Why : Type 0} (s : Setting Disk Why) where

@@ -34,9 +34,9 @@ use Rattle.schedule_replay.specs.Worlds.{Process, Down, Setting, Site, World, di
 use Rattle.schedule_replay.specs.Steps.{AfterOpen, AfterPen, AfterReceive, Answer, AtBoard, AtDesk, AfterMigration, Breaks, Failed, Migrates, MigratesAt, Migration, NotSound, StaysDownBy, ToNew, StepAt, board_told, station_of}
 use Rattle.schedule_replay.specs.Runs.{Begins, Moment, Run, last_of}
 use Rattle.schedule_replay.specs.Headline.{AtEachEvent, IsSound}
-use Rattle.schedule_replay.proofs.Both.{both_grow, both_settled, both_turned, more, same}
-use Rattle.schedule_replay.proofs.Desks.{MineFine, NotedFine, SeatFine}
-use Rattle.schedule_replay.proofs.BoardKeeping.{BoardFine, MessageFine, board_fine_at, item_at}
+use Rattle.agree_core.specs.Keeping.{BoardFine, MessageFine, MineFine, NotedFine, SeatFine}
+use Rattle.agree_core.proofs.Both.{both_grow, both_settled, both_turned, more, same}
+use Rattle.schedule_replay.proofs.BoardKeeping.{board_fine_at, item_at}
 use Rattle.schedule_replay.proofs.Keeping.{Fine, ProcessFine, all_justified, begins_fine, run_keeps, running, site_fine, their_message}
 use Rattle.schedule_replay.proofs.Passing.{BothHold, HeldBy, PensKeep, begins_hold, step_holds}
 
