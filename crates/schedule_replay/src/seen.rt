@@ -40,8 +40,8 @@ pub enum Seen {
     Done,
 }
 
-/// Why a world doesn't take an event. It stays as it was; after `NoMemory` of an `Open` the desk's disk may
-/// be synced.
+/// Why a world doesn't take an event. It stays as it was; after `NoMemory` of an `Open` or a `Migrate` the
+/// desk's disk may be synced.
 #[derive(Clone, Copy, Debug, PartialEq, Eq)]
 pub enum WorldRefusal {
     /// 80: no message of this number was handed out yet.

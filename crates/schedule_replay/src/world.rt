@@ -92,8 +92,8 @@ impl World {
         })
     }
 
-    /// One event. The world refuses it, in this order, `NoStation`, `Down`, `Up`, `NoMessage`, `WorldFull`,
-    /// `NoMemory`, and stays as it was; what a station refuses is seen.
+    /// One event. The world doesn't take it, in this order, by `NoStation`, `Down`, `Up`, `NoMessage`,
+    /// `WorldFull` and `NoMemory`, and stays as it was; what a station refuses is seen.
     pub fn step(&mut self, event: &Event) -> Result<Seen, WorldRefusal>
         requires event { IsEvent event.now }
         ensures step { IfOk result (λ seen. StepsTo event.now self.old seen self.new) }
