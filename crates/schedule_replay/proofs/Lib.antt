@@ -11,6 +11,10 @@ pub mod Sound
 pub mod Second
 pub mod Whole
 pub mod Scores
+pub mod NoteLemmas
+pub mod ReadLemmas
+pub mod ShowLemmas
+pub mod ReplayLemmas
 pub mod SiteLemmas
 pub mod PenLemmas
 pub mod EventLemmas

@@ -18,7 +18,7 @@ use Rattle.schedule_replay.proofs.Shown.{moment, shown_settled}
 use Rattle.schedule_replay.proofs.Sound.{same_length}
 
 -- a history has one standing
-one_standing : (m k : Standing) (n : ℕ) (h : History) → StandsFor m n h → StandsFor k n h → m ≡ k
+pub one_standing : (m k : Standing) (n : ℕ) (h : History) → StandsFor m n h → StandsFor k n h → m ≡ k
 one_standing m k n h p q = λ i. record {
   innings_a_side = (p.innings_a_side ∙ sym q.innings_a_side) i;
   taken = (p.taken ∙ sym q.taken) i;

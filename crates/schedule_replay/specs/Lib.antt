@@ -1,5 +1,6 @@
 -- What is claimed: Headline, over the runs of Runs, Steps and Worlds; Refusals, Match, CodeWorlds,
--- WorldDesks and Lending, and Replays. Sites and WorldBoards serve private functions only.
+-- WorldDesks and Lending, and Replays. Sites, WorldBoards, ShownScores and VotesFiles serve private functions
+-- only.
 -- Of texts: Lines, ScheduleLines, ScheduleFault and SeenWords; ScheduleReading serves private functions only.
 pub mod Worlds
 pub mod Steps
@@ -13,6 +14,8 @@ pub mod CodeWorlds
 pub mod WorldBoards
 pub mod Lending
 pub mod Replays
+pub mod ShownScores
+pub mod VotesFiles
 pub mod Lines
 pub mod ScheduleFault
 pub mod ScheduleLines

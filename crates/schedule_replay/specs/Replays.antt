@@ -1,21 +1,22 @@
 -- What a replay reports.
-use Rattle.std.specs.Prelude.{◌≡◌, ◌↔◌, ◌+◌, ◌⊎◌, ℕ, Some, List, map, length, take, slice_get, Contains}
+use Rattle.std.specs.Prelude.{◌≡◌, ◌↔◌, ◌+◌, ◌≤◌, ◌⊎◌, ℕ, Some, List, map, length, take, slice_get, Contains}
 use Rattle.notation.specs.declared.entry.Entry.{Entry}
 use Rattle.match_laws.specs.declared.standing.Standing.{Standing}
 use Rattle.corrections.specs.Legal.{IsScoreOf}
 use Rattle.corrections.specs.declared.refusal.Refusal.{Refusal}
 use Rattle.entry_log.specs.declared.mem_disk.MemDisk.{MemDisk}
-use Rattle.agree_core.specs.Agreed.{IsAgreedList}
+use Rattle.agree_core.specs.Agreed.{BeginsWith, IsAgreedList}
 use Rattle.agree_core.specs.Books.{IsAgreedByFiles}
 use Rattle.schedule_replay.specs.declared.event.Event.{Event}
 use Rattle.schedule_replay.specs.declared.event.Station.{Station}
+use Rattle.schedule_replay.specs.declared.report.Report.{Report}
 use Rattle.schedule_replay.specs.declared.seen.Seen.{Seen}
 use Rattle.schedule_replay.specs.declared.seen.WorldRefusal.{WorldRefusal}
 use Rattle.schedule_replay.specs.declared.seen.WorldRefusal.TheVariants.{NoMemory}
 use Rattle.schedule_replay.specs.declared.version.FileVersion.{FileVersion}
 use Rattle.schedule_replay.specs.Worlds.{World, votes_in}
 use Rattle.schedule_replay.specs.Runs.{AtEachMoment, AtSomeMoment, Begins, Moment, Run, Shows, answers_of, events_of, last_of}
-use Rattle.schedule_replay.specs.Headline.{AtEachEvent, Headline, IsSound, StandsFast}
+use Rattle.schedule_replay.specs.Headline.{AllPenned, AtEachEvent, ByBoth, Headline, IsSound, NoneWaits, OneBook, StandsFast, TakesSecond}
 use Rattle.schedule_replay.specs.Refusals.{RefusesEvent}
 use Rattle.schedule_replay.specs.Match.{answer_of, match_of}
 
@@ -50,13 +51,14 @@ pub record IsProved (game innings : ℕ) (w : World MemDisk) (ms : MatchRun) : T
   pub stands_fast : AtEachMoment w ms (StandsFast (match_of game innings))
   pub sound : AtEachEvent w ms (λ v m. IsSound m.answer)
 
--- event k, counted from 1, isn't taken after a run over those before it
+-- event k, counted from 1, isn't taken after such a run over those before it
 abbrev pub RefusedAt :
     ℕ → ℕ → FileVersion → ℕ → List Event → ℕ → WorldRefusal → Type 0
 RefusedAt game innings version boards events k why =
     (outcomes : List Seen) × (w : World MemDisk) × (ms : MatchRun) × (before : ℕ) × (event : Event)
     × (v : World MemDisk)
-    × IsRunOf game innings version boards (take before events) outcomes w ms × (k ≡ before + 1)
+    × IsRunOf game innings version boards (take before events) outcomes w ms × IsProved game innings w ms
+    × (k ≡ before + 1)
     × (slice_get events before ≡ Some event) × RefusesEvent (match_of game innings) (last_of w ms) event why v
 
 -- why a replay ends before its last event; without an event only for want of memory
@@ -64,11 +66,53 @@ abbrev pub EndsAt : ℕ → ℕ → FileVersion → ℕ → List Event → ℕ �
 EndsAt game innings version boards events end =
     ((end.0 ≡ 0) × (end.1 ≡ NoMemory)) ⊎ RefusedAt game innings version boards events end.0 end.1
 
--- a run of the match over all the events, with all that is proved of it
-abbrev pub IsRun : ℕ → ℕ → FileVersion → ℕ → List Event → List Seen → Type 0
-IsRun game innings version boards events outcomes =
-    (w : World MemDisk) × (ms : MatchRun) × IsRunOf game innings version boards events outcomes w ms
-    × IsProved game innings w ms
+-- the list begins with each book that is shown, at whatever moment
+abbrev pub BeginsWithAll : List Entry → World MemDisk → MatchRun → Type 0
+BeginsWithAll agreed w ms =
+    (t : Station) (book : List Entry) → AtSomeMoment w ms (λ v. Shows v t book) → BeginsWith agreed book
+
+-- each score that was shown is the Laws' score of its book: of so many first entries of the agreed list
+abbrev pub AreScores : ℕ → List Entry → List (Station × ℕ × Standing) → Type 0
+AreScores innings agreed seen =
+    (t : Station) (n : ℕ) (score : Standing) → Contains seen (t, n, score)
+    → (n ≤ length agreed) × IsScoreOf score innings (take n agreed)
+
+-- no station and length stand twice
+abbrev pub StandOnce : List (Station × ℕ × Standing) → Type 0
+StandOnce seen =
+    (i j : ℕ) (t : Station) (n : ℕ) (score other : Standing) → slice_get seen i ≡ Some (t, n, score)
+    → slice_get seen j ≡ Some (t, n, other) → i ≡ j
+
+-- the report of a run of the match over these events, and what that run meets
+pub record IsReportOf
+    (game innings : ℕ) (version : FileVersion) (boards : ℕ) (events : List Event) (report : Report)
+    (w : World MemDisk) (ms : MatchRun) : Type 0 where
+  -- it is a run over all the events, with these outcomes
+  pub run : IsRunOf game innings version boards events report.outcomes.items w ms
+  -- of two books that are shown at any two moments, by whatever stations, one is a prefix of the other
+  pub one_book : OneBook w ms
+  -- all are prefixes of the agreed list of the last votes
+  pub agreed : IsAgreedList (votes_in (last_of w ms)) report.agreed.items
+  pub prefixes : BeginsWithAll report.agreed.items w ms
+  -- for each place of a book both desks voted for its entry in one round
+  pub by_both : AtEachMoment w ms ByBoth
+  -- each vote was penned before by that desk's scorer, unchanged
+  pub penned : AllPenned w ms
+  -- a station, a length and a score are seen exactly where the run shows them, and each score is the Laws' score
+  pub seen : AreSeen innings w ms report.seen.items
+  pub once : StandOnce report.seen.items
+  pub scores : AreScores innings report.agreed.items report.seen.items
+  -- a running station's call that notes the second of two equal votes makes its book longer by that entry
+  pub takes_second : AtEachEvent w ms TakesSecond
+  pub none_waits : AtEachMoment w ms NoneWaits
+  -- how the votes stand and are kept at each moment, and which answers never come
+  pub stands_fast : AtEachMoment w ms (StandsFast (match_of game innings))
+  pub sound : AtEachEvent w ms (λ v m. IsSound m.answer)
+
+-- there is a run of which it is the report
+abbrev pub IsReplay : ℕ → ℕ → FileVersion → ℕ → List Event → Report → Type 0
+IsReplay game innings version boards events report =
+    (w : World MemDisk) × (ms : MatchRun) × IsReportOf game innings version boards events report w ms
 
 -- in each run of a match this holds of its start and its events
 abbrev pub OfEachRun : (ℕ → ℕ → World MemDisk → MatchRun → Type 0) → Type 0

@@ -11,6 +11,8 @@ ghost use Rattle.schedule_replay.specs.declared.event.Station.{Station as AStati
 ghost use Rattle.schedule_replay.specs.declared.event.Event.TheVariants as events;
 ghost use Rattle.schedule_replay.specs.declared.version.FileVersion.TheVariants as versions;
 
+mod reporting;
+
 use crate::admission::admit;
 use crate::any_desk::AnyDesk;
 use crate::event::Event;

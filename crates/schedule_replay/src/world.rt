@@ -7,6 +7,8 @@ ghost use Rattle.schedule_replay.specs.Steps.{station_of};
 ghost use Rattle.schedule_replay.specs.declared.event.Station.TheVariants as stations;
 ghost use Rattle.schedule_replay.specs.declared.version.FileVersion.TheVariants as versions;
 
+mod reporting;
+
 use crate::admission::admit;
 use crate::any_desk::AnyDesk;
 use crate::boards::{empty_boards, give_board, no_board, tick_board, wipe_board};

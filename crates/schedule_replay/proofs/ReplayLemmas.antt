@@ -1,0 +1,262 @@
+-- A run goes on by one event, and what it shows is noted.
+use Rattle.std.proofs.Common.{◌≡◌, ◌<◌, ◌≤◌, ℕ, zero, suc, ◌+◌, Some, List, [], ◌∷◌, ◌++◌, length, map, refl, sym, ap, ◌∙◌, subst, inl, inr, arith, ⊎_elim, take, slice_index_or, length-append}
+use Rattle.std.proofs.Math.Seq.{take-length}
+use Rattle.std.proofs.lemmas.List.{length-set, map-append}
+use Rattle.std.specs.Prelude.{Contains, slice_get}
+use Rattle.notation.specs.declared.entry.Entry.{Entry}
+use Rattle.match_laws.specs.declared.standing.Standing.{Standing}
+use Rattle.corrections.specs.Legal.{IsScoreOf}
+use Rattle.corrections.specs.declared.refusal.Refusal.{Refusal}
+use Rattle.entry_log.specs.declared.mem_disk.MemDisk.{MemDisk}
+use Rattle.agree_core.specs.Agreed.{BeginsWith, IsAgreedList}
+use Rattle.agree_core.specs.Boards.{BoardState}
+use Rattle.agree_core.specs.Books.{IsAgreedByFiles}
+use Rattle.agree_core.specs.declared.messages.DeskId.TheVariants.{A, B}
+use Rattle.agree_core.proofs.FileBooks.{agreed_by_files}
+use Rattle.schedule_replay.specs.declared.event.Event.{Event}
+use Rattle.schedule_replay.specs.declared.event.Station.{Station}
+use Rattle.schedule_replay.specs.declared.event.Station.TheVariants as stations
+use Rattle.schedule_replay.specs.declared.report.Report.{Report}
+use Rattle.schedule_replay.specs.declared.seen.Seen.{Seen}
+use Rattle.schedule_replay.specs.declared.seen.WorldRefusal.{WorldRefusal}
+use Rattle.schedule_replay.specs.declared.version.FileVersion.{FileVersion}
+use Rattle.schedule_replay.specs.declared.world.World.{World}
+use Rattle.schedule_replay.specs.Worlds as worlds
+use Rattle.schedule_replay.specs.Worlds.{fresh_boards, votes_in, with_board, with_site}
+use Rattle.schedule_replay.specs.Steps.{Answer, Step, StepAt, station_of}
+use Rattle.schedule_replay.specs.Runs.{AtSomeMoment, Begins, Moment, Run, Shows, answers_of, events_of, last_of}
+use Rattle.schedule_replay.specs.Match.{answer_of, match_of}
+use Rattle.schedule_replay.specs.Refusals.{RefusesEvent}
+use Rattle.schedule_replay.specs.CodeWorlds.{BeginsWorld, IsWorld, RefusesTo, SameMatch, StepsTo}
+use Rattle.schedule_replay.specs.Replays.{AreSeen, BeginsWithAll, EndsAt, IsProved, IsReplay, IsRunOf, MatchRun, ShowsScore, StandOnce}
+use Rattle.schedule_replay.specs.ShownScores.{IsNotable, Notes}
+use Rattle.schedule_replay.specs.VotesFiles.{FilesRead}
+use Rattle.schedule_replay.proofs.Keeping.{all_justified, begins_fine, run_keeps}
+use Rattle.schedule_replay.proofs.NoteLemmas.{Shown}
+use Rattle.schedule_replay.proofs.ReadLemmas.{files_read}
+use Rattle.schedule_replay.proofs.Scores.{one_score}
+use Rattle.schedule_replay.proofs.Sound.{sound_answers}
+use Rattle.schedule_replay.proofs.Whole.{headline, stand_fast}
+
+-- no event changes how many boards there are
+fresh_many : (n : ℕ) → length (fresh_boards n) ≡ n
+fresh_many zero = refl
+fresh_many (suc n) = ap suc (fresh_many n)
+
+with_board_many : (boards : List BoardState) (n : ℕ) (k : BoardState) → length (with_board boards n k) ≡ length boards
+with_board_many boards zero k = refl
+with_board_many boards (suc n) k = length-set boards n k
+
+module _ (game innings : ℕ) where
+  step_many : (w : worlds.World MemDisk) (event : Event) (t : Station) (answer : Answer Refusal) (new : worlds.World MemDisk) → StepAt (match_of game innings) w event t answer new → length new.boards ≡ length w.boards
+  step_many w event (stations.Desk A) answer new p = ap (λ (v : worlds.World MemDisk). length v.boards) p.3
+  step_many w event (stations.Desk B) answer new p = ap (λ (v : worlds.World MemDisk). length v.boards) p.3
+  step_many w event (stations.Board n) answer new p = ap (λ (v : worlds.World MemDisk). length v.boards) p.5 ∙ with_board_many w.boards n p.1
+
+  pub run_many : (version : FileVersion) (boards : ℕ) (w : worlds.World MemDisk) (ms : MatchRun) → Begins (match_of game innings) version boards w → Run (match_of game innings) w ms → length (last_of w ms).boards ≡ boards
+  run_many version boards w [] b r = ap length b.boards_are_fresh ∙ fresh_many boards
+  run_many version boards w (m ∷ ms) b r = step_many (last_of w ms) m.event (station_of m.event) m.answer m.after r.1 ∙ run_many version boards w ms b r.0
+
+-- a run of the match over the first events, with these outcomes, that ends with what the code's world shows
+pub record IsAt (game innings : ℕ) (version : FileVersion) (boards : ℕ) (events : List Event) (number : ℕ) (world : World) (outcomes : List Seen) (w : worlds.World MemDisk) (ms : MatchRun) : Type 0 where
+  pub run : IsRunOf game innings version boards (take number events) outcomes w ms
+  pub is_world : IsWorld world (last_of w ms)
+  pub same_game : world.game ≡ game
+  pub same_innings : world.innings_a_side ≡ innings
+
+-- and all that was shown is noted
+pub record IsAfter (game innings : ℕ) (version : FileVersion) (boards : ℕ) (events : List Event) (number : ℕ) (world : World) (outcomes : List Seen) (seen : List Shown) : Type 0 where
+  pub at : (w : worlds.World MemDisk) × (ms : MatchRun) × IsAt game innings version boards events number world outcomes w ms × AreSeen innings w ms seen
+
+-- such a run before its last event, whose outcome is the last one
+pub record IsNext (game innings : ℕ) (version : FileVersion) (boards : ℕ) (events : List Event) (number : ℕ) (world : World) (outcomes : List Seen) (seen : List Shown) : Type 0 where
+  pub at : (w : worlds.World MemDisk) × (ms : MatchRun) × (m : Moment MemDisk Refusal) × IsAt game innings version boards events number world outcomes w (m ∷ ms) × AreSeen innings w ms seen
+
+take_next : (events : List Event) (n : ℕ) (d : Event) → n < length events → take (suc n) events ≡ take n events ++ slice_index_or events n d ∷ []
+take_next [] n d h = absurd (omega (arith, h))
+take_next (x ∷ xs) zero d h = refl
+take_next (x ∷ xs) (suc n) d h = ap (λ (z : List Event). x ∷ z) (take_next xs n d (omega (arith, h)))
+
+event_at : (events : List Event) (n : ℕ) (d : Event) → n < length events → slice_get events n ≡ Some (slice_index_or events n d)
+event_at [] n d h = absurd (omega (arith, h))
+event_at (x ∷ xs) zero d h = refl
+event_at (x ∷ xs) (suc n) d h = event_at xs n d (omega (arith, h))
+
+module _ (game innings : ℕ) (version : FileVersion) (boards : ℕ) (events : List Event) where
+  pub begins_at : (world : World) → BeginsWorld game innings version boards world → (w : worlds.World MemDisk) × IsAt game innings version boards events 0 world [] w []
+  begins_at world h = let start = h.2 in (start.0, record { run = record { begins = start.2; run = tt; over = refl; answered = refl }; is_world = start.1; same_game = h.0; same_innings = h.1 })
+
+  -- what is noted of a world that shows the last one of a run has one score
+  notable_at : (number : ℕ) (world : World) (outcomes : List Seen) (seen : List Shown) (w : worlds.World MemDisk) (ms : MatchRun) → boards ≤ 4 → IsAt game innings version boards events number world outcomes w ms → ((t : Station) (n : ℕ) (score : Standing) → Contains seen (t, n, score) → AtSomeMoment w ms (λ v. ShowsScore innings v t n score)) → ((t : Station) (n : ℕ) (score : Standing) → ShowsScore innings (last_of w ms) t n score → AtSomeMoment w ms (λ v. ShowsScore innings v t n score)) → (v : worlds.World MemDisk) × IsNotable world seen v
+  notable_at number world outcomes seen w ms few h was now =
+      let run = h.run in
+      let many = run_many game innings version boards w ms run.begins run.run in (
+        last_of w ms,
+        record {
+          is_world = h.is_world;
+          few_boards = omega (arith, few, many);
+          one_score = λ t n score other c shows.
+              one_score game innings version boards w ms run.begins run.run t t n other score (was t n other c) (now t n score (subst (λ (i : ℕ). ShowsScore i (last_of w ms) t n score) h.same_innings shows));
+        },
+      )
+
+  nothing_noted : (x : Shown) → Contains {X = Shown} [] x → ⊥
+  nothing_noted x c = absurd (omega (arith, c.1))
+
+  pub first_notable : (world : World) (seen : List Shown) → boards ≤ 4 → BeginsWorld game innings version boards world → seen ≡ [] → (v : worlds.World MemDisk) × IsNotable world seen v
+  first_notable world seen few h none =
+      let b = begins_at world h in
+      notable_at 0 world [] seen b.0 [] few b.1 (λ t n score c. absurd (nothing_noted (t, n, score) (subst (λ (xs : List Shown). Contains xs (t, n, score)) none c))) (λ t n score s. s)
+
+  pub next_notable : (number : ℕ) (world : World) (outcomes : List Seen) (seen : List Shown) → boards ≤ 4 → IsNext game innings version boards events number world outcomes seen → (v : worlds.World MemDisk) × IsNotable world seen v
+  next_notable number world outcomes seen few h =
+      let at = h.at in
+      notable_at number world outcomes seen at.0 (at.2 ∷ at.1) few at.3 (λ t n score c. inr ((at.4 t n score).0 c)) (λ t n score s. inl s)
+
+  -- what the world shows at the start is noted
+  pub first_noted : (world : World) (old new : List Shown) (outcomes : List Seen) → BeginsWorld game innings version boards world → old ≡ [] → outcomes ≡ [] → Notes world old new → IsAfter game innings version boards events 0 world outcomes new
+  first_noted world old new outcomes h none no_outcomes noted =
+      let b = begins_at world h in
+      let at = subst (λ (o : List Seen). IsAt game innings version boards events 0 world o b.0 []) (sym no_outcomes) b.1 in
+      let same = at.same_innings in
+      record {
+        at = (
+          b.0,
+          [],
+          at,
+          λ t n score.
+              let k = noted b.0 at.is_world t n score in (
+                λ c. ⊎_elim (λ (o : Contains old (t, n, score)). absurd (nothing_noted (t, n, score) (subst (λ (xs : List Shown). Contains xs (t, n, score)) none o))) (λ s. subst (λ (i : ℕ). ShowsScore i b.0 t n score) same s) (k.0 c),
+                λ s. k.1 (inr (subst (λ (i : ℕ). ShowsScore i b.0 t n score) (sym same) s)),
+              ),
+        );
+      }
+
+  pub next_noted : (number : ℕ) (world : World) (outcomes : List Seen) (old new : List Shown) → IsNext game innings version boards events number world outcomes old → Notes world old new → IsAfter game innings version boards events number world outcomes new
+  next_noted number world outcomes old new h noted =
+      let p = h.at in
+      let at = p.3 in
+      let m = p.2 in
+      let same = at.same_innings in
+      record {
+        at = (
+          p.0,
+          m ∷ p.1,
+          at,
+          λ t n score.
+              let k = noted m.after at.is_world t n score in (
+                λ c. ⊎_elim (λ (o : Contains old (t, n, score)). inr ((p.4 t n score).0 o)) (λ s. inl (subst (λ (i : ℕ). ShowsScore i m.after t n score) same s)) (k.0 c),
+                λ s. k.1 (⊎_elim (λ (q : ShowsScore innings m.after t n score). inr (subst (λ (i : ℕ). ShowsScore i m.after t n score) (sym same) q)) (λ q. inl ((p.4 t n score).1 q)) s),
+              ),
+        );
+      }
+
+  -- the match that the world was made for
+  of_world : (world : World) (w after : worlds.World MemDisk) (event : Event) (answer : Answer Refusal) → world.game ≡ game → world.innings_a_side ≡ innings → Step (match_of world.game world.innings_a_side) w event answer after → Step (match_of game innings) w event answer after
+  of_world world w after event answer e f p = subst (λ (n : ℕ). Step (match_of game n) w event answer after) f (subst (λ (n : ℕ). Step (match_of n world.innings_a_side) w event answer after) e p)
+
+  pub goes_on : (number : ℕ) (event : Event) (world new : World) (outcomes : List Seen) (seen : Seen) (shown : List Shown) → number < length events → event ≡ slice_index_or events number event → IsAfter game innings version boards events number world outcomes shown → StepsTo event world seen new → SameMatch world new → IsNext game innings version boards events (number + 1) new (outcomes ++ seen ∷ []) shown
+  goes_on number event world new outcomes seen shown less here h steps same =
+      let p = h.at in
+      let at = p.2 in
+      let run = at.run in
+      let s = (steps (last_of p.0 p.1) at.is_world).1 in
+      let step = of_world world (last_of p.0 p.1) s.1 event s.0 at.same_game at.same_innings s.3 in
+      let m : Moment MemDisk Refusal = record { event = event; answer = s.0; after = s.1 } in
+      let next : take (number + 1) events ≡ take number events ++ event ∷ [] =
+      let e : suc number ≡ number + 1 = omega arith in
+      subst (λ (n : ℕ). take n events ≡ take number events ++ event ∷ []) e (take_next events number event less ∙ ap (λ (x : Event). take number events ++ x ∷ []) (sym here)) in
+      let over : events_of (m ∷ p.1) ≡ take (number + 1) events = ap (λ (z : List Event). z ++ event ∷ []) run.over ∙ sym next in
+      let answered : map answer_of (outcomes ++ seen ∷ []) ≡ map Some (answers_of p.1 ++ s.0 ∷ []) =
+      map-append answer_of outcomes (seen ∷ []) ∙ (λ i. run.answered i ++ s.2 i ∷ []) ∙ sym (map-append Some (answers_of p.1) (s.0 ∷ [])) in
+      record {
+        at = (
+          p.0,
+          p.1,
+          m,
+          record { run = record { begins = run.begins; run = (run.run, step); over = over; answered = answered }; is_world = s.4; same_game = same.same_game ∙ at.same_game; same_innings = same.same_innings ∙ at.same_innings },
+          p.3,
+        );
+      }
+
+  proved_of : (w : worlds.World MemDisk) (ms : MatchRun) → Begins (match_of game innings) version boards w → Run (match_of game innings) w ms → IsProved game innings w ms
+  proved_of w ms b r = let s = match_of game innings in record { headline = headline s version boards w ms b r; stands_fast = stand_fast s version boards w ms b r; sound = sound_answers s version boards w ms b r }
+
+  -- an event isn't taken
+  pub ends_at : (number k : ℕ) (event : Event) (world new : World) (outcomes : List Seen) (shown : List Shown) (why : WorldRefusal) → number < length events → event ≡ slice_index_or events number event → k ≡ number + 1 → IsAfter game innings version boards events number world outcomes shown → RefusesTo event world why new → EndsAt game innings version boards events (k, why)
+  ends_at number k event world new outcomes shown why less here e h refuses =
+      let p = h.at in
+      let at = p.2 in
+      let run = at.run in
+      let s = refuses (last_of p.0 p.1) at.is_world in
+      let refused = subst (λ (n : ℕ). RefusesEvent (match_of game n) (last_of p.0 p.1) event why s.0) at.same_innings (subst (λ (n : ℕ). RefusesEvent (match_of n world.innings_a_side) (last_of p.0 p.1) event why s.0) at.same_game s.1) in
+      inr (outcomes, p.0, p.1, number, event, s.0, run, proved_of p.0 p.1 run.begins run.run, e, event_at events number event less ∙ ap Some (sym here), refused)
+
+  -- a read of each file gives its desk's votes, and perhaps later ones
+  read_at : (number : ℕ) (world : World) (outcomes : List Seen) (w : worlds.World MemDisk) (ms : MatchRun) → IsAt game innings version boards events number world outcomes w ms → FilesRead world.game world.innings_a_side (last_of w ms)
+  read_at number world outcomes w ms at =
+      let run = at.run in
+      let s = match_of game innings in
+      let r = files_read game innings (last_of w ms) (run_keeps s w ms (begins_fine s version boards w run.begins) run.run) in
+      subst (λ (n : ℕ). FilesRead n world.innings_a_side (last_of w ms)) (sym at.same_game) (subst (λ (n : ℕ). FilesRead game n (last_of w ms)) (sym at.same_innings) r)
+
+  pub all_read : (number : ℕ) (world : World) (outcomes : List Seen) (shown : List Shown) → IsAfter game innings version boards events number world outcomes shown → (w : worlds.World MemDisk) × IsWorld world w × FilesRead world.game world.innings_a_side w
+  all_read number world outcomes shown h =
+      let p = h.at in
+      let at = p.2 in
+      (last_of p.0 p.1, at.is_world, read_at number world outcomes p.0 p.1 at)
+
+  take_front : (xs rest : List Entry) → take (length xs) (xs ++ rest) ≡ xs
+  take_front [] rest = refl
+  take_front (x ∷ xs) rest = ap (λ (z : List Entry). x ∷ z) (take_front xs rest)
+
+  -- a book of so many entries that the list begins with is that front of it
+  front_is : (agreed book : List Entry) (n : ℕ) → n ≡ length book → BeginsWith agreed book → (n ≤ length agreed) × (book ≡ take n agreed)
+  front_is agreed book n e b =
+      let long = ap length b.1 in
+      (omega (arith, e, long, length-append book b.0), sym (take_front book b.0) ∙ (λ i. take (sym e i) (b.1 i)))
+
+  -- what is reported of the whole run
+  pub reported : (number : ℕ) (world : World) (report : Report) → number ≡ length events → IsAfter game innings version boards events number world report.outcomes.items report.seen.items → StandOnce report.seen.items → ((w : worlds.World MemDisk) → IsWorld world w → FilesRead world.game world.innings_a_side w → IsAgreedByFiles (votes_in w).a (votes_in w).b report.agreed.items) → IsReplay game innings version boards events report
+  reported number world report e h once files =
+      let p = h.at in
+      let w = p.0 in
+      let ms = p.1 in
+      let at = p.2 in
+      let run = at.run in
+      let s = match_of game innings in
+      let all : take number events ≡ events = ap (λ (n : ℕ). take n events) e ∙ take-length events in
+      let proved = proved_of w ms run.begins run.run in
+      let head = proved.headline in
+      let by_files = files (last_of w ms) at.is_world (read_at number world report.outcomes.items w ms at) in
+      let agreed : IsAgreedList (votes_in (last_of w ms)) report.agreed.items = agreed_by_files (votes_in (last_of w ms)) (all_justified s (last_of w ms) (run_keeps s w ms (begins_fine s version boards w run.begins) run.run)) report.agreed.items by_files in
+      let prefixes : BeginsWithAll report.agreed.items w ms = λ t book shown. head.within_agreed t book report.agreed.items shown agreed in (
+        w,
+        ms,
+        record {
+          run = record { begins = run.begins; run = run.run; over = run.over ∙ all; answered = run.answered };
+          one_book = head.one_book;
+          agreed = agreed;
+          prefixes = prefixes;
+          by_both = head.by_both;
+          penned = head.penned;
+          seen = p.3;
+          once = once;
+          scores = λ t n score c. score_at w ms t n score ((p.3 t n score).0 c) prefixes;
+          takes_second = head.takes_second;
+          none_waits = head.none_waits;
+          stands_fast = proved.stands_fast;
+          sound = proved.sound;
+        },
+      )
+    where
+      some_book : (w : worlds.World MemDisk) (ms : MatchRun) (t : Station) (n : ℕ) (score : Standing) → AtSomeMoment w ms (λ v. ShowsScore innings v t n score) → (book : List Entry) × AtSomeMoment w ms (λ v. Shows v t book) × (n ≡ length book) × IsScoreOf score innings book
+      some_book w [] t n score h = (h.0, h.1, h.2, h.3)
+      some_book w (m ∷ ms) t n score (inl h) = (h.0, inl h.1, h.2, h.3)
+      some_book w (m ∷ ms) t n score (inr h) = let b = some_book w ms t n score h in (b.0, inr b.1, b.2, b.3)
+
+      score_at : (w : worlds.World MemDisk) (ms : MatchRun) (t : Station) (n : ℕ) (score : Standing) → AtSomeMoment w ms (λ v. ShowsScore innings v t n score) → BeginsWithAll report.agreed.items w ms → (n ≤ length report.agreed.items) × IsScoreOf score innings (take n report.agreed.items)
+      score_at w ms t n score h prefixes =
+          let b = some_book w ms t n score h in
+          let f = front_is report.agreed.items b.0 n b.2 (prefixes t b.0 b.1) in
+          (f.0, subst (IsScoreOf score innings) f.1 b.3)

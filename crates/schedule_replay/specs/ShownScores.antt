@@ -1,0 +1,87 @@
+-- Scores that stations have shown, each kept once.
+use Rattle.std.specs.Prelude.{◌≡◌, ◌⊎◌, ◌↔◌, ◌≤◌, ◌+◌, ◌*◌, ℕ, zero, suc, true, Some, None, Option, List, length, slice_get, Contains}
+use Rattle.corrections.specs.Legal.{IsScoreOf}
+use Rattle.match_laws.specs.declared.standing.Standing.{Standing}
+use Rattle.notation.specs.declared.entry.Entry.{Entry}
+use Rattle.agree_core.specs.declared.messages.DeskId.TheVariants.{A, B}
+use Rattle.agree_core.specs.Boards.{BoardState}
+use Rattle.agree_core.specs.Desks.{DeskState}
+use Rattle.schedule_replay.specs.declared.event.Station.{Station}
+use Rattle.schedule_replay.specs.declared.event.Station.TheVariants as stations
+use Rattle.schedule_replay.specs.declared.shown_scores.ShownScores.{ShownScores}
+use Rattle.schedule_replay.specs.declared.world.World.{World}
+use Rattle.schedule_replay.specs.declared.world_desk.WorldDesk.{WorldDesk}
+use Rattle.schedule_replay.specs.CodeWorlds.{IsWorld, MatchBoard, board_innings, board_state, code_site}
+use Rattle.schedule_replay.specs.Replays.{ShowsScore, StandOnce}
+use Rattle.schedule_replay.specs.WorldDesks.{innings_of, state_of}
+use Rattle.schedule_replay.specs.Worlds as worlds
+use Rattle.entry_log.specs.declared.mem_disk.MemDisk.{MemDisk}
+
+-- desks have numbers 0 and 1, and the boards those from 2 on
+abbrev pub station_number : Station → ℕ
+station_number (stations.Desk A) = 0
+station_number (stations.Desk B) = 1
+station_number (stations.Board n) = n + 1
+
+-- boards are numbered from 1 on, and there are at most four
+abbrev pub IsStation : Station → Type 0
+IsStation (stations.Desk d) = Unit {0}
+IsStation (stations.Board n) = (1 ≤ n) × (n ≤ 4)
+
+-- where the mark of a station and the length of a book stands
+abbrev pub mark_of : Station → ℕ → ℕ
+mark_of t n = station_number t * 8193 + n
+
+-- a station and a length are marked just where they stand among the scores, and then they stand there once
+pub record IsKept (shown : ShownScores) : Type 0 where
+  pub long : length shown.marks.items ≡ 49158
+  pub marked : (t : Station) (n : ℕ) → IsStation t → n ≤ 8192
+      → slice_get shown.marks.items (mark_of t n) ≡ Some true
+      → (score : Standing) × Contains shown.seen.items (t, n, score)
+  pub known : (i : ℕ) (t : Station) (n : ℕ) (score : Standing)
+      → slice_get shown.seen.items i ≡ Some (t, n, score)
+      → slice_get shown.marks.items (mark_of t n) ≡ Some true
+  pub once : StandOnce shown.seen.items
+
+-- just these lengths and scores of a station are added
+abbrev pub Adds :
+    Station → (ℕ → Standing → Type 0) → List (Station × ℕ × Standing) → List (Station × ℕ × Standing) → Type 0
+Adds u P old new =
+    (t : Station) (n : ℕ) (score : Standing)
+    → Contains new (t, n, score) ↔ (Contains old (t, n, score) ⊎ ((t ≡ u) × P n score))
+
+-- it is the length of a book and its score
+abbrev pub IsBookScore : ℕ → List Entry → ℕ → Standing → Type 0
+IsBookScore innings book n score = (n ≡ length book) × IsScoreOf score innings book
+
+-- what a desk's place shows, if the desk runs there
+abbrev pub DeskShows : Option WorldDesk → ℕ → Standing → Type 0
+DeskShows None n score = ⊥
+DeskShows (Some k) n score =
+    IsBookScore (innings_of k) ((λ (s : DeskState _). s.book) (state_of k)) n score
+
+abbrev pub BoardShows : Option MatchBoard → ℕ → Standing → Type 0
+BoardShows None n score = ⊥
+BoardShows (Some k) n score =
+    IsBookScore (board_innings k) ((λ (s : BoardState). s.book) (board_state k)) n score
+
+-- what a station of a world shows
+abbrev pub CodeShows : World → Station → ℕ → Standing → Type 0
+CodeShows world (stations.Desk d) n score = DeskShows (code_site world d).desk n score
+CodeShows world (stations.Board zero) n score = ⊥
+CodeShows world (stations.Board (suc i)) n score = BoardShows (slice_get world.boards.items i) n score
+
+-- a world shows these definitions' world, with at most four boards, and what it shows of a station and a length
+-- that stand among these scores has that score
+pub record IsNotable
+    (world : World) (seen : List (Station × ℕ × Standing)) (w : worlds.World MemDisk) : Type 0 where
+  pub is_world : IsWorld world w
+  pub few_boards : length w.boards ≤ 4
+  pub one_score : (t : Station) (n : ℕ) (score other : Standing) → Contains seen (t, n, other)
+      → ShowsScore world.innings_a_side w t n score → other ≡ score
+
+-- just what the world shows is added
+abbrev pub Notes : World → List (Station × ℕ × Standing) → List (Station × ℕ × Standing) → Type 0
+Notes world old new =
+    (w : worlds.World MemDisk) → IsWorld world w → (t : Station) (n : ℕ) (score : Standing)
+    → Contains new (t, n, score) ↔ (Contains old (t, n, score) ⊎ ShowsScore world.innings_a_side w t n score)

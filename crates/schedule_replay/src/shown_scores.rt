@@ -1,0 +1,74 @@
+//! Scores that stations have shown, each kept once.
+
+ghost use Rattle.std.specs.Prelude.{◌≡◌, ◌≤◌, ◌<◌, [], IfOk, OnErr, OnOk, Contains};
+ghost use Rattle.match_laws.specs.declared.standing.Standing.{Standing};
+ghost use Rattle.schedule_replay.specs.ShownScores.{Adds, IsKept, IsStation, mark_of};
+
+use crate::event::Station;
+use agree_core::DeskId;
+use match_laws::Match;
+use std::alloc::{AllocError, Global};
+
+/// A book has from 0 to 8,192 entries.
+const LENGTHS: usize = 8_193;
+
+/// Two desks and four boards, with each length of a book.
+const MARKS: usize = 49_158;
+
+/// Where the mark of a station and the length of its book stands.
+fn mark_of(station: Station, length: u32) -> usize
+    requires station { IsStation station }
+    requires length { length ≤ 8192 }
+    ensures mark { result ≡ mark_of station length }
+    ensures within { result < 49158 }
+{
+    let number = match station {
+        Station::Desk(DeskId::A) => 0,
+        Station::Desk(DeskId::B) => 1,
+        Station::Board(board) => board as usize + 1,
+    };
+    number * LENGTHS + length as usize
+}
+
+/// Stations with a length of their book and its score. Of each station and length one is kept, so that
+/// it takes no more room however often they are shown.
+#[derive(Drop)]
+pub struct ShownScores {
+    marks: Vec<bool>,
+    pub seen: Vec<(Station, u32, Match)>,
+}
+
+impl ShownScores {
+    /// No scores. The room for marks is taken at once.
+    pub fn new(alloc: Global) -> Result<ShownScores, AllocError>
+        ensures empty { IfOk result (λ shown. shown.seen.items ≡ []) }
+        ensures kept { IfOk result IsKept }
+    {
+        let marks = vec![in alloc; false; MARKS]?;
+        Ok(ShownScores {
+            marks,
+            seen: Vec::new(alloc),
+        })
+    }
+
+    /// Adds the score of a station's book of this length, unless it is there.
+    pub fn note(&mut self, station: Station, length: u32, score: &Match) -> Result<(), AllocError>
+        requires station { IsStation station }
+        requires length { length ≤ 8192 }
+        requires kept { IsKept self.old }
+        requires one { (other : Standing) →
+            Contains self.old.seen.items (station, length, other) → other ≡ score.now }
+        ensures noted { OnOk result (Adds station (λ n shown. (n ≡ length) × (shown ≡ score.now))
+            self.old.seen.items self.new.seen.items) }
+        ensures same { OnErr result (self.new.seen.items ≡ self.old.seen.items) }
+        ensures kept { IsKept self.new }
+    {
+        let mark = mark_of(station, length);
+        if self.marks[mark] {
+            return Ok(());
+        }
+        self.seen.push((station, length, *score))?;
+        self.marks[mark] = true;
+        Ok(())
+    }
+}

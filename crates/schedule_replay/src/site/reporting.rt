@@ -1,0 +1,52 @@
+//! What is reported of a site: the score that it shows, and the votes of its file.
+
+ghost use Rattle.std.specs.Prelude.{◌≡◌, ◌≤◌, ℕ, Contains, IfOk, OnOk, length};
+ghost use Rattle.entry_log.specs.declared.mem_disk.MemDisk.{MemDisk};
+ghost use Rattle.agree_core.specs.Ballots.{oldest};
+ghost use Rattle.match_laws.specs.declared.standing.Standing.{Standing};
+ghost use Rattle.schedule_replay.specs.declared.event.Station.TheVariants as stations;
+ghost use Rattle.schedule_replay.specs.ShownScores.{Adds, DeskShows, IsKept};
+ghost use Rattle.schedule_replay.specs.Sites.{IsSite, IsWhole};
+ghost use Rattle.schedule_replay.specs.VotesFiles.{SiteReads, votes_of};
+ghost use Rattle.schedule_replay.specs.Worlds as worlds;
+
+use crate::event::Station;
+use crate::shown_scores::ShownScores;
+use crate::site::Site;
+use crate::votes_file::VotesFile;
+use std::alloc::AllocError;
+
+impl Site {
+    /// Notes the score of the desk's book, if the desk runs.
+    pub fn note(&self, shown: &mut ShownScores) -> Result<(), AllocError>
+        requires kept { IsKept shown.old }
+        requires one { (n : ℕ) (score other : Standing) →
+            Contains shown.old.seen.items (stations.Desk self.now.name, n, other) →
+            DeskShows self.now.desk n score → other ≡ score }
+        ensures noted { OnOk result (Adds (stations.Desk self.now.name) (DeskShows self.now.desk)
+            shown.old.seen.items shown.new.seen.items) }
+        ensures kept { IsKept shown.new }
+    {
+        match &self.desk {
+            Some(desk) => shown.note(Station::Desk(self.name), desk.book_len(), desk.shown()),
+            None => Ok(()),
+        }
+    }
+
+    /// The desk's process ends, and its file is read, which is sound: all votes of the file, and how many of
+    /// them are the desk's.
+    pub fn into_votes(mut self) -> Result<(VotesFile, u32), AllocError>
+        requires whole { IsWhole self }
+        requires read { (x : worlds.Site MemDisk) × IsSite self x
+            × SiteReads self.game self.innings_a_side self.name x }
+        ensures counted { IfOk result (λ found. found.1 ≤ length (votes_of found.0)) }
+        ensures votes { IfOk result (λ found. (x : worlds.Site MemDisk) → IsSite self x →
+            SiteReads self.game self.innings_a_side self.name x →
+            oldest found.1 (votes_of found.0) ≡ worlds.votes_of x.process) }
+    {
+        self.put_down();
+        let disk = self.disk.take().unwrap();
+        let file = VotesFile::open(self.alloc, self.version, disk, self.name, self.game)?;
+        Ok((file, self.votes))
+    }
+}

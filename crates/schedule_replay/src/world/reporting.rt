@@ -1,0 +1,50 @@
+//! What is reported of a world: the scores that it shows, and the agreed list.
+
+ghost use Rattle.std.specs.Prelude.{◌≡◌, ◌≤◌, IfOk, OnOk};
+ghost use Rattle.agree_core.specs.Books.{IsAgreedByFiles};
+ghost use Rattle.schedule_replay.specs.CodeWorlds.{IsWorld};
+ghost use Rattle.schedule_replay.specs.ShownScores.{IsKept, IsNotable, Notes};
+ghost use Rattle.schedule_replay.specs.VotesFiles.{FilesRead};
+ghost use Rattle.schedule_replay.specs.Worlds as worlds;
+ghost use Rattle.schedule_replay.specs.Worlds.{votes_in};
+ghost use Rattle.entry_log.specs.declared.mem_disk.MemDisk.{MemDisk};
+
+use crate::event::Station;
+use crate::shown_scores::ShownScores;
+use crate::votes_file::agreed_list;
+use crate::world::World;
+use corrections::BookOf;
+use notation::Entry;
+use std::alloc::AllocError;
+
+impl World {
+    /// Notes the score of each station that isn't down.
+    pub fn note(&self, shown: &mut ShownScores) -> Result<(), AllocError>
+        requires kept { IsKept shown.old }
+        requires notable { (w : worlds.World MemDisk) × IsNotable self.now shown.old.seen.items w }
+        ensures noted { OnOk result (Notes self.now shown.old.seen.items shown.new.seen.items) }
+        ensures kept { IsKept shown.new }
+    {
+        self.a.note(shown)?;
+        self.b.note(shown)?;
+        for (number, board) in self.boards.iter().enumerate() {
+            let station = Station::Board(number as u8 + 1);
+            shown.note(station, board.book().len(), board.shown())?;
+        }
+        Ok(())
+    }
+
+    /// The agreed list of all votes, as both files tell it.
+    pub fn agreed(self) -> Result<Vec<Entry>, AllocError>
+        requires read { (w : worlds.World MemDisk) × IsWorld self w
+            × FilesRead self.game self.innings_a_side w }
+        ensures { IfOk result (λ list. (w : worlds.World MemDisk) → IsWorld self w
+            → FilesRead self.game self.innings_a_side w
+            → IsAgreedByFiles (votes_in w).a (votes_in w).b list.items) }
+    {
+        let alloc = self.alloc;
+        let (a, a_count) = self.a.into_votes()?;
+        let (b, b_count) = self.b.into_votes()?;
+        agreed_list(alloc, &a, a_count, &b, b_count)
+    }
+}
