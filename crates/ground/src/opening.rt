@@ -1,10 +1,11 @@
 //! Opening files of the host. Each fault names the file that was at work.
 
-ghost use Rattle.std.specs.Prelude.{◌≡◌};
+ghost use Rattle.std.specs.Prelude.{◌≡◌, ◌≤◌, IfOk, vec_len};
+ghost use Rattle.ground.specs.declared.input.TheConstants.{LONGEST_INPUT};
 
 use crate::fault::RunFault;
-use crate::files::{FileDisk, OpenFault};
-use crate::input::LONGEST_INPUT;
+use crate::files::FileDisk;
+use crate::input::read_all;
 use crate::sheet::sheet_run;
 use agree_core::DeskId;
 use cards::{MatchSheet, Watched};
@@ -48,16 +49,26 @@ pub fn sheet_at<'a>(rt: &HostRuntime, path: &'a str) -> Result<MatchSheet, Stopp
     }
 }
 
+/// All bytes of a file.
+pub fn bytes_at<'a>(rt: &HostRuntime, path: &'a str) -> Result<Vec<u8>, Stopped<'a>>
+    ensures { IfOk result (λ bytes. vec_len bytes ≤ LONGEST_INPUT) }
+{
+    let mut reader = open_input(rt, path)?;
+    match read_all(rt.alloc(), &mut reader) {
+        Ok(bytes) => Ok(bytes),
+        Err(fault) => Err(Stopped::at(path, fault)),
+    }
+}
+
 /// A disk on a file that is only read. A file of more than 16,777,216 bytes can't be read.
 fn reading_disk<'a>(rt: &HostRuntime, path: &'a str) -> Result<FileDisk<File>, Stopped<'a>> {
     let file = match File::open(rt, path) {
         Ok(file) => file,
         Err(_) => return Err(Stopped::at(path, RunFault::Read)),
     };
-    match FileDisk::new(rt.alloc(), file, LONGEST_INPUT) {
+    match FileDisk::new(rt.alloc(), file, 0) {
         Ok(disk) => Ok(disk),
-        Err(OpenFault::NoMemory) => Err(Stopped::at(path, RunFault::NoMemory)),
-        Err(OpenFault::Host | OpenFault::TooLong) => Err(Stopped::at(path, RunFault::Read)),
+        Err(fault) => Err(Stopped::at(path, fault.of_old())),
     }
 }
 
@@ -89,13 +100,22 @@ pub fn new_disk_at<'a>(rt: &HostRuntime, path: &'a str) -> Result<FileDisk<File>
     };
     match FileDisk::new(rt.alloc(), file, LONGEST_FILE) {
         Ok(disk) => Ok(disk),
-        Err(OpenFault::NoMemory) => Err(Stopped::at(path, RunFault::NoMemory)),
-        Err(OpenFault::Host) => Err(Stopped::at(path, RunFault::Device)),
-        Err(OpenFault::TooLong) => Err(Stopped::at(path, not_empty())),
+        Err(fault) => Err(Stopped::at(path, fault.of_new())),
     }
 }
 
-/// The fault of a file that was to be new and has bytes.
-fn not_empty() -> RunFault {
-    RunFault::from(vote_store::Refusal::File(entry_log::Refusal::NotEmpty))
+/// A disk on a new file of this name in a folder.
+pub fn new_disk_in<'a>(
+    rt: &HostRuntime,
+    folder: &'a str,
+    name: &str,
+) -> Result<FileDisk<File>, Stopped<'a>> {
+    let path = match format!(in rt.alloc(); "{folder}/{name}") {
+        Ok(path) => path,
+        Err(_) => return Err(Stopped::at(folder, RunFault::NoMemory)),
+    };
+    match new_disk_at(rt, path.as_str()) {
+        Ok(disk) => Ok(disk),
+        Err(stopped) => Err(Stopped::at(folder, stopped.fault)),
+    }
 }

@@ -1,6 +1,7 @@
 //! The words on the command line: each form, and words that are none.
 use super::*;
-use crate::words::{Source, Task, WordsFault, task_in};
+use crate::card::Source;
+use crate::words::{Task, WordsFault, task_in};
 use agree_core::DeskId;
 use std::alloc::AllocError;
 
