@@ -3,6 +3,7 @@
 mod crashes;
 mod lines;
 mod play;
+mod replays;
 mod rows;
 mod stations;
 mod sweeps;
