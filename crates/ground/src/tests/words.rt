@@ -21,11 +21,12 @@ fn expect_task(rt: &impl Abort, alloc: Global, texts: &[&str], wanted: Result<Ta
         Ok(words) => words,
         Err(_) => words_of(alloc, texts).expect(rt, "memory for words"),
     };
-    let answer = match task_in(alloc, words.as_slice()) {
-        Err(WordsFault::NoMemory) => task_in(alloc, words.as_slice()),
-        answer => answer,
-    };
-    assert!(rt; answer == wanted, "{texts:?}");
+    match task_in(alloc, words.as_slice()) {
+        Err(WordsFault::NoMemory) => {
+            assert!(rt; task_in(alloc, words.as_slice()) == wanted, "{texts:?}");
+        }
+        answer => assert!(rt; answer == wanted, "{texts:?}"),
+    }
 }
 
 #[test]
