@@ -253,9 +253,19 @@ pick_reads first (r ∷ rs) all ws e h = elim (chosen (bytes_eq first r.0) (r.1 
 ]
 
 all_read : AllRead readers
-all_read =
-    (tick_reads, (give_reads, (kill_reads, (power_reads,
-    (fail_reads, (stop_reads, (open_reads, (wipe_reads, (migrate_reads, tt)))))))))
+all_read = (
+  tick_reads,
+  (
+    give_reads,
+    (
+      kill_reads,
+      (
+        power_reads,
+        (fail_reads, (stop_reads, (open_reads, (wipe_reads, (migrate_reads, tt))))),
+      ),
+    ),
+  ),
+)
 
 -- what is read is the line of the event
 pub event_found : (line : List ℕ) (e : Event) → event_at line ≡ Some e → IsWrittenEvent e × (line ≡ event_text e)

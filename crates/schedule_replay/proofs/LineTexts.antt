@@ -115,12 +115,12 @@ no_event : (n : ℕ) (line : List ℕ) → pen_at line ≡ None → event_at lin
 unfolding line_says
 no_event n line pen other = record {
   no_event = λ e h was.
-    let ok : line_says n line ≡ Ok e = ap (line_says n) was ∙ says_again n e h in
-    let bad : line_says n line ≡ Err (BadEvent n) = ap (λ o. pen_or n o line) pen ∙ ap (event_or n) other in
-    absurd (cc);
+      let ok : line_says n line ≡ Ok e = ap (line_says n) was ∙ says_again n e h in
+      let bad : line_says n line ≡ Err (BadEvent n) = ap (λ o. pen_or n o line) pen ∙ ap (event_or n) other in
+      absurd (cc);
   no_pen = λ d entry was.
-    let some : pen_at line ≡ Some (d, entry) = ap pen_at was ∙ pen_again d entry in
-    absurd (cc);
+      let some : pen_at line ≡ Some (d, entry) = ap pen_at was ∙ pen_again d entry in
+      absurd (cc);
 }
 
 event_wrong : (n : ℕ) (line : List ℕ) (o : Option Event) (why : ScheduleFault) → pen_at line ≡ None → event_at line ≡ o → event_or n o ≡ Err why → IsWrong n line why

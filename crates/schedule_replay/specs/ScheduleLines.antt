@@ -105,4 +105,3 @@ abbrev pub HasFault : List (List ℕ) → ScheduleFault → Type 0
 HasFault lines NoMemory = ⊤
 HasFault lines (BadEvent n) = IsFirstAtFault lines n IsNoEvent
 HasFault lines (BadEntry n fault) = IsFirstAtFault lines n (HasBadEntry fault)
-

@@ -142,8 +142,13 @@ fn whole_texts(rt: HostRuntime) {
     assert!(rt; read(rt.alloc(), b"kill a\nopen a\n") == Ok(2));
     assert!(rt; read(rt.alloc(), b"\n") == Err(ScheduleFault::BadEvent { line: 1 }));
     assert!(rt; read(rt.alloc(), b"kill a\n\n") == Err(ScheduleFault::BadEvent { line: 2 }));
-    assert!(rt; read(rt.alloc(), b"kill a\n\nkill a\n") == Err(ScheduleFault::BadEvent { line: 2 }));
-    assert!(rt; read(rt.alloc(), b"kill a\nkill a\nkill c\npen a x") == Err(ScheduleFault::BadEvent { line: 3 }));
+    assert!(rt;
+        read(rt.alloc(), b"kill a\n\nkill a\n") == Err(ScheduleFault::BadEvent { line: 2 })
+    );
+    assert!(rt;
+        read(rt.alloc(), b"kill a\nkill a\nkill c\npen a x")
+            == Err(ScheduleFault::BadEvent { line: 3 })
+    );
 }
 
 /// Whether the text is read as this one event.
@@ -167,7 +172,10 @@ fn events(rt: HostRuntime) {
         ("kill a", Event::Kill(DeskId::A)),
         ("power b lost", Event::Power(DeskId::B, Choice::Lost)),
         ("power a kept", Event::Power(DeskId::A, Choice::Kept)),
-        ("power a fill 165", Event::Power(DeskId::A, Choice::Fill(165))),
+        (
+            "power a fill 165",
+            Event::Power(DeskId::A, Choice::Fill(165)),
+        ),
         ("fail a 2", Event::FailAt(DeskId::A, 2)),
         ("stop b 4", Event::StopAt(DeskId::B, 4)),
         ("open a", Event::Open(DeskId::A)),

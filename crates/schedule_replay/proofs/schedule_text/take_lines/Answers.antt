@@ -36,7 +36,7 @@ fault : (bytes line : List ℕ) (lines rest : List (List ℕ)) (n : ℕ) (old : 
 fault bytes line lines rest n old why m cut (inl e) = rw e tt
 fault bytes line lines rest n old why m cut (inr says) =
     at_fault (lines_of bytes) (n + 1) line rest old why m.written
-        (m.texts ∙ ap (λ u. map event_text old ++ u) cut) (omega (arith, m.numbered)) (says_wrong (n + 1) line why says)
+    (m.texts ∙ ap (λ u. map event_text old ++ u) cut) (omega (arith, m.numbered)) (says_wrong (n + 1) line why says)
 
 only_fault : (bytes line : List ℕ) (lines rest : List (List ℕ)) (n : ℕ) (old : List Event) (why : ScheduleFault) → Midway bytes lines n old → lines ≡ line ∷ rest → (why ≡ NoMemory) ⊎ (line_says (n + 1) line ≡ Err why) → (others : List Event) → IsScheduleOf (lines_of bytes) others → why ≡ NoMemory
 only_fault bytes line lines rest n old why m cut (inl e) others h = e
