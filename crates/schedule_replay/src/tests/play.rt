@@ -4,7 +4,10 @@
 ghost use Rattle.std.specs.Prelude.{◌≡◌, ◌≤◌, All};
 ghost use Rattle.schedule_replay.specs.Refusals.{IsEvent};
 
-use crate::{AnyDesk, Event, FileVersion, Seen, World, WorldRefusal, read_schedule};
+use crate::{
+    AnyDesk, Event, FileVersion, Report, Seen, World, WorldRefusal, read_schedule, replay,
+    replay_old,
+};
 use arrayvec::ArrayString;
 use corrections::BookOf;
 use match_laws::Match;
@@ -138,7 +141,125 @@ pub fn show(rt: &impl Abort, world: &World, a: &str, b: &str, board: &str) {
 /// What is shown in the end: by desk A, by desk B and by board 1, where there is one.
 pub type Shown = (&'static str, &'static str, &'static str);
 
-/// A schedule on files of this version, in two parts, with what is shown in the end.
+/// Adds a part to a text.
+pub fn add(rt: &impl Abort, text: &mut String, part: &str) {
+    if text.push_str(part).is_err() {
+        text.push_str(part).expect(rt, "room for a text");
+    }
+}
+
+/// Adds the events of lines `event: words` to a schedule.
+fn add_events(rt: &impl Abort, schedule: &mut String, lines: &str) {
+    for line in lines.lines() {
+        let (event, _words) = parts(rt, line);
+        add(rt, schedule, event);
+        add(rt, schedule, "\n");
+    }
+}
+
+/// A replay on files of this version.
+fn replay_once(
+    alloc: Global,
+    version: FileVersion,
+    boards: u8,
+    events: &[Event],
+) -> Result<Report, (u64, WorldRefusal)>
+    requires boards { boards ≤ 4 }
+    requires events { All IsEvent events.now }
+{
+    match version {
+        FileVersion::Old => replay_old(alloc, GAME, 2, boards, events),
+        FileVersion::New => replay(alloc, GAME, 2, boards, events),
+    }
+}
+
+/// The same, tried again where memory was refused.
+fn replay_of(
+    alloc: Global,
+    version: FileVersion,
+    boards: u8,
+    events: &[Event],
+) -> Result<Report, (u64, WorldRefusal)>
+    requires boards { boards ≤ 4 }
+    requires events { All IsEvent events.now }
+{
+    match replay_once(alloc, version, boards, events) {
+        Err((_, WorldRefusal::NoMemory)) => replay_once(alloc, version, boards, events),
+        answer => answer,
+    }
+}
+
+/// What a replay reports of a schedule as text.
+pub fn report_of(
+    rt: &impl Abort,
+    alloc: Global,
+    version: FileVersion,
+    boards: u8,
+    schedule: &str,
+) -> Report
+    requires { boards ≤ 4 }
+{
+    let events = events_of(rt, alloc, schedule);
+    match replay_of(alloc, version, boards, events.as_slice()) {
+        Ok(report) => report,
+        Err((event, _)) => panic!(rt; "event {event} isn't taken"),
+    }
+}
+
+/// The number of the event that a replay doesn't take, and of the refusal.
+pub fn end_of(
+    rt: &impl Abort,
+    alloc: Global,
+    version: FileVersion,
+    schedule: &str,
+) -> (u64, Option<u8>) {
+    let events = events_of(rt, alloc, schedule);
+    match replay_of(alloc, version, 1, events.as_slice()) {
+        Ok(_) => (0, None),
+        Err((event, why)) => (event, why.number()),
+    }
+}
+
+/// Compares the answers that a replay reports with the words of the lines.
+fn same_words(rt: &impl Abort, outcomes: &[Seen], first: usize, lines: &str) -> usize {
+    let mut at = first;
+    for line in lines.lines() {
+        let (event, words) = parts(rt, line);
+        let said = match outcomes.get(at) {
+            Some(seen) => words_of(Ok(*seen)),
+            None => ArrayString::new(),
+        };
+        assert!(rt; said.as_str() == words, "{event}: {said}");
+        at = at.saturating_add(1);
+    }
+    at
+}
+
+/// Replays a schedule in two parts, and compares the words of its events and the length of the agreed list.
+fn replay_row(
+    rt: &impl Abort,
+    alloc: Global,
+    version: FileVersion,
+    boards: u8,
+    lines: &str,
+    more: &str,
+    agreed: usize,
+)
+    requires { boards ≤ 4 }
+{
+    let mut schedule = String::new(alloc);
+    add_events(rt, &mut schedule, lines);
+    add_events(rt, &mut schedule, more);
+    let report = report_of(rt, alloc, version, boards, schedule.as_str());
+    let outcomes = report.outcomes.as_slice();
+    let at = same_words(rt, outcomes, 0, lines);
+    let end = same_words(rt, outcomes, at, more);
+    assert_eq!(rt; end, outcomes.len());
+    assert_eq!(rt; report.agreed.len(), agreed);
+}
+
+/// Plays a schedule in two parts in a world with files of this version, and compares what is shown in the end;
+/// then replays it.
 pub fn row_of(
     rt: &impl Abort,
     alloc: Global,
@@ -146,6 +267,7 @@ pub fn row_of(
     boards: u8,
     lines: &str,
     more: &str,
+    agreed: usize,
     shown: Shown,
 )
     requires { boards ≤ 4 }
@@ -155,12 +277,39 @@ pub fn row_of(
     play(rt, alloc, &mut world, more);
     show(rt, &world, shown.0, shown.1, shown.2);
     let_go(world);
+    replay_row(rt, alloc, version, boards, lines, more, agreed);
 }
 
 /// The same on files of either version.
-pub fn row(rt: &impl Abort, alloc: Global, boards: u8, lines: &str, more: &str, shown: Shown)
+pub fn row(
+    rt: &impl Abort,
+    alloc: Global,
+    boards: u8,
+    lines: &str,
+    more: &str,
+    agreed: usize,
+    shown: Shown,
+)
     requires { boards ≤ 4 }
 {
-    row_of(rt, alloc, FileVersion::Old, boards, lines, more, shown);
-    row_of(rt, alloc, FileVersion::New, boards, lines, more, shown);
+    row_of(
+        rt,
+        alloc,
+        FileVersion::Old,
+        boards,
+        lines,
+        more,
+        agreed,
+        shown,
+    );
+    row_of(
+        rt,
+        alloc,
+        FileVersion::New,
+        boards,
+        lines,
+        more,
+        agreed,
+        shown,
+    );
 }

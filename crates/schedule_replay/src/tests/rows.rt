@@ -1,6 +1,6 @@
 //! Worked schedules, on files of either version.
 
-use super::play::{let_go, play, row, show, world_of};
+use super::play::{add, end_of, let_go, play, row, show, world_of};
 use crate::FileVersion;
 
 /// Four lines penned at both desks; each vote is given to the other desk, and both to board 1.
@@ -45,7 +45,15 @@ give 5 a: agreed";
 
 #[test]
 fn four_lines(rt: HostRuntime) {
-    row(&rt, rt.alloc(), 1, FOUR_LINES, "", ("a 4 1 for 0", "b 4 1 for 0", "1 4 1 for 0"));
+    row(
+        &rt,
+        rt.alloc(),
+        1,
+        FOUR_LINES,
+        "",
+        4,
+        ("a 4 1 for 0", "b 4 1 for 0", "1 4 1 for 0"),
+    );
 }
 
 #[test]
@@ -60,7 +68,15 @@ give 8 b: agreed
 give 9 a: agreed
 give 6 b: old
 give 7 a: old";
-    row(&rt, rt.alloc(), 0, OPENED, lines, ("a 4 6 for 0", "b 4 6 for 0", ""));
+    row(
+        &rt,
+        rt.alloc(),
+        0,
+        OPENED,
+        lines,
+        4,
+        ("a 4 6 for 0", "b 4 6 for 0", ""),
+    );
 }
 
 /// A board that asks both desks for their votes.
@@ -78,7 +94,15 @@ give 7 1: agreed";
 
 #[test]
 fn a_board_asks(rt: HostRuntime) {
-    row(&rt, rt.alloc(), 1, BOARD_ASKS, "", ("a 1 0 for 0", "b 1 0 for 0", "1 1 0 for 0"));
+    row(
+        &rt,
+        rt.alloc(),
+        1,
+        BOARD_ASKS,
+        "",
+        1,
+        ("a 1 0 for 0", "b 1 0 for 0", "1 1 0 for 0"),
+    );
 }
 
 #[test]
@@ -88,8 +112,13 @@ fn a_board_is_wiped(rt: HostRuntime) {
         play(&rt, rt.alloc(), &mut world, BOARD_ASKS);
         play(&rt, rt.alloc(), &mut world, "wipe 1: done");
         show(&rt, &world, "a 1 0 for 0", "b 1 0 for 0", "1 0 no play");
-        play(&rt, rt.alloc(), &mut world, "give 6 1: noted
-give 7 1: agreed");
+        play(
+            &rt,
+            rt.alloc(),
+            &mut world,
+            "give 6 1: noted
+give 7 1: agreed",
+        );
         show(&rt, &world, "a 1 0 for 0", "b 1 0 for 0", "1 1 0 for 0");
         let_go(world);
     }
@@ -110,7 +139,15 @@ pen b late 3 ball 7 bat 1: pending
 give 10 b: agreed
 give 11 a: agreed
 pen a late 5 void: refused 33";
-    row(&rt, rt.alloc(), 0, OPENED, lines, ("a 6 5 for 0", "b 6 5 for 0", ""));
+    row(
+        &rt,
+        rt.alloc(),
+        0,
+        OPENED,
+        lines,
+        6,
+        ("a 6 5 for 0", "b 6 5 for 0", ""),
+    );
 }
 
 #[test]
@@ -134,5 +171,34 @@ give 13 a: agreed
 pen a late 6 void: refused 33
 pen a late 8 void: refused 30
 pen a late 2 over: refused 32";
-    row(&rt, rt.alloc(), 0, OPENED, lines, ("a 7 6 for 0", "b 7 6 for 0", ""));
+    row(
+        &rt,
+        rt.alloc(),
+        0,
+        OPENED,
+        lines,
+        7,
+        ("a 7 6 for 0", "b 7 6 for 0", ""),
+    );
+}
+
+#[test]
+fn a_board_is_wiped_in_a_replay(rt: HostRuntime) {
+    let more = "wipe 1: done
+give 6 1: noted
+give 7 1: agreed";
+    let shown = ("a 1 0 for 0", "b 1 0 for 0", "1 1 0 for 0");
+    row(&rt, rt.alloc(), 1, BOARD_ASKS, more, 1, shown);
+}
+
+#[test]
+fn ticks_fill_a_world(rt: HostRuntime) {
+    for version in [FileVersion::Old, FileVersion::New] {
+        let mut schedule = String::new(rt.alloc());
+        add(&rt, &mut schedule, "pen a innings home\n");
+        for _ in 0..32_768 {
+            add(&rt, &mut schedule, "tick a\n");
+        }
+        assert!(rt; end_of(&rt, rt.alloc(), version, schedule.as_str()) == (32_769, Some(82)));
+    }
 }

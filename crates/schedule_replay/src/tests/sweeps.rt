@@ -1,10 +1,10 @@
 //! A desk is stopped or fails at each device call of each pen and of a migration.
 
-
-use super::play::{Words, events_of, let_go, play, show, step, words_of, world_of};
+use super::play::{Words, add, events_of, let_go, play, report_of, show, step, words_of, world_of};
 use super::rows::FOUR_LINES;
 use crate::{AnyDesk, FileVersion, Seen, World};
 use arrayvec::ArrayString;
+use notation::{Entry, read_line};
 use std::alloc::Global;
 use std::fmt::Write;
 use std::process::Abort;
@@ -42,12 +42,8 @@ impl Played {
 
     /// Notes a line of the schedule.
     fn note(&mut self, rt: &impl Abort, line: &str) {
-        if self.text.push_str(line).is_err() {
-            self.text.push_str(line).expect(rt, "room for a line");
-        }
-        if self.text.push('\n').is_err() {
-            self.text.push('\n').expect(rt, "room for a line");
-        }
+        add(rt, &mut self.text, line);
+        add(rt, &mut self.text, "\n");
     }
 
     /// What is answered to the event of a line.
@@ -78,6 +74,23 @@ impl Played {
                 assert!(rt; !words.as_str().starts_with("world"), "{line}: {words}");
             }
         }
+    }
+}
+
+/// What both desks agree.
+fn agreed(rt: &impl Abort) -> [Entry; 4] {
+    [
+        entry(rt, "innings home"),
+        entry(rt, "in 1"),
+        entry(rt, "in 2"),
+        entry(rt, "ball 7 bat 0 six"),
+    ]
+}
+
+fn entry(rt: &impl Abort, line: &str) -> Entry {
+    match read_line(line.as_bytes()) {
+        Ok(entry) => entry,
+        Err(fault) => panic!(rt; "{line}: {fault}"),
     }
 }
 
@@ -117,7 +130,10 @@ fn pen_at_fault(rt: &impl Abort, played: &mut Played, fault: &str, choice: &str,
     expect(rt, played, pen.as_str(), met);
     expect(rt, played, line_of("power a", choice).as_str(), "done");
     let opened = played.tell(rt, "open a");
-    assert!(rt; opened.as_str().starts_with("opened"), "{fault}, {choice}: {opened}");
+    assert!(rt;
+        opened.as_str().starts_with("opened"),
+        "{fault}, {choice}: {opened}"
+    );
     let _sent = played.tell(rt, "tick a");
     played.give_all(rt);
     if votes_of_a(&played.world) == before {
@@ -135,6 +151,11 @@ fn sweep(rt: &impl Abort, alloc: Global, version: FileVersion, fault: &str, choi
         played.give_all(rt);
     }
     show(rt, &played.world, "a 4 6 for 0", "b 4 6 for 0", "");
+    let report = report_of(rt, alloc, version, 0, played.text.as_str());
+    assert!(rt;
+        report.agreed.as_slice() == agreed(rt).as_slice(),
+        "{fault}, {choice}"
+    );
     let_go(played.world);
 }
 
