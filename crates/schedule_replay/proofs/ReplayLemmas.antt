@@ -155,42 +155,46 @@ module _ (game innings : ℕ) (version : FileVersion) (boards : ℕ) (events : L
   of_world : (world : World) (w after : worlds.World MemDisk) (event : Event) (answer : Answer Refusal) → world.game ≡ game → world.innings_a_side ≡ innings → Step (match_of world.game world.innings_a_side) w event answer after → Step (match_of game innings) w event answer after
   of_world world w after event answer e f p = subst (λ (n : ℕ). Step (match_of game n) w event answer after) f (subst (λ (n : ℕ). Step (match_of n world.innings_a_side) w event answer after) e p)
 
-  pub goes_on : (number : ℕ) (event : Event) (world new : World) (outcomes : List Seen) (seen : Seen) (shown : List Shown) → number < length events → event ≡ slice_index_or events number event → IsAfter game innings version boards events number world outcomes shown → StepsTo event world seen new → SameMatch world new → IsNext game innings version boards events (number + 1) new (outcomes ++ seen ∷ []) shown
-  goes_on number event world new outcomes seen shown less here h steps same =
-      let p = h.at in
-      let at = p.2 in
+  -- one event more
+  pub steps_on : (number : ℕ) (event : Event) (world new : World) (outcomes : List Seen) (seen : Seen) (w : worlds.World MemDisk) (ms : MatchRun) → number < length events → event ≡ slice_index_or events number event → IsAt game innings version boards events number world outcomes w ms → StepsTo event world seen new → SameMatch world new → (m : Moment MemDisk Refusal) × IsAt game innings version boards events (number + 1) new (outcomes ++ seen ∷ []) w (m ∷ ms)
+  steps_on number event world new outcomes seen w ms less here at steps same =
       let run = at.run in
-      let s = (steps (last_of p.0 p.1) at.is_world).1 in
-      let step = of_world world (last_of p.0 p.1) s.1 event s.0 at.same_game at.same_innings s.3 in
+      let s = (steps (last_of w ms) at.is_world).1 in
+      let step = of_world world (last_of w ms) s.1 event s.0 at.same_game at.same_innings s.3 in
       let m : Moment MemDisk Refusal = record { event = event; answer = s.0; after = s.1 } in
       let next : take (number + 1) events ≡ take number events ++ event ∷ [] =
       let e : suc number ≡ number + 1 = omega arith in
       subst (λ (n : ℕ). take n events ≡ take number events ++ event ∷ []) e (take_next events number event less ∙ ap (λ (x : Event). take number events ++ x ∷ []) (sym here)) in
-      let over : events_of (m ∷ p.1) ≡ take (number + 1) events = ap (λ (z : List Event). z ++ event ∷ []) run.over ∙ sym next in
-      let answered : map answer_of (outcomes ++ seen ∷ []) ≡ map Some (answers_of p.1 ++ s.0 ∷ []) =
-      map-append answer_of outcomes (seen ∷ []) ∙ (λ i. run.answered i ++ s.2 i ∷ []) ∙ sym (map-append Some (answers_of p.1) (s.0 ∷ [])) in
-      record {
-        at = (
-          p.0,
-          p.1,
-          m,
-          record { run = record { begins = run.begins; run = (run.run, step); over = over; answered = answered }; is_world = s.4; same_game = same.same_game ∙ at.same_game; same_innings = same.same_innings ∙ at.same_innings },
-          p.3,
-        );
-      }
+      let over : events_of (m ∷ ms) ≡ take (number + 1) events = ap (λ (z : List Event). z ++ event ∷ []) run.over ∙ sym next in
+      let answered : map answer_of (outcomes ++ seen ∷ []) ≡ map Some (answers_of ms ++ s.0 ∷ []) =
+      map-append answer_of outcomes (seen ∷ []) ∙ (λ i. run.answered i ++ s.2 i ∷ []) ∙ sym (map-append Some (answers_of ms) (s.0 ∷ [])) in (
+        m,
+        record { run = record { begins = run.begins; run = (run.run, step); over = over; answered = answered }; is_world = s.4; same_game = same.same_game ∙ at.same_game; same_innings = same.same_innings ∙ at.same_innings },
+      )
+
+  pub goes_on : (number : ℕ) (event : Event) (world new : World) (outcomes : List Seen) (seen : Seen) (shown : List Shown) → number < length events → event ≡ slice_index_or events number event → IsAfter game innings version boards events number world outcomes shown → StepsTo event world seen new → SameMatch world new → IsNext game innings version boards events (number + 1) new (outcomes ++ seen ∷ []) shown
+  goes_on number event world new outcomes seen shown less here h steps same =
+      let p = h.at in
+      let n = steps_on number event world new outcomes seen p.0 p.1 less here p.2 steps same in
+      record { at = (p.0, p.1, n.0, n.1, p.3) }
 
   proved_of : (w : worlds.World MemDisk) (ms : MatchRun) → Begins (match_of game innings) version boards w → Run (match_of game innings) w ms → IsProved game innings w ms
   proved_of w ms b r = let s = match_of game innings in record { headline = headline s version boards w ms b r; stands_fast = stand_fast s version boards w ms b r; sound = sound_answers s version boards w ms b r }
 
   -- an event isn't taken
+  pub refuses_at : (number : ℕ) (event : Event) (world new : World) (outcomes : List Seen) (why : WorldRefusal) (w : worlds.World MemDisk) (ms : MatchRun) → number < length events → event ≡ slice_index_or events number event → IsAt game innings version boards events number world outcomes w ms → RefusesTo event world why new → (v : worlds.World MemDisk) × (slice_get events number ≡ Some event) × RefusesEvent (match_of game innings) (last_of w ms) event why v
+  refuses_at number event world new outcomes why w ms less here at refuses =
+      let s = refuses (last_of w ms) at.is_world in
+      let refused = subst (λ (n : ℕ). RefusesEvent (match_of game n) (last_of w ms) event why s.0) at.same_innings (subst (λ (n : ℕ). RefusesEvent (match_of n world.innings_a_side) (last_of w ms) event why s.0) at.same_game s.1) in
+      (s.0, event_at events number event less ∙ ap Some (sym here), refused)
+
   pub ends_at : (number k : ℕ) (event : Event) (world new : World) (outcomes : List Seen) (shown : List Shown) (why : WorldRefusal) → number < length events → event ≡ slice_index_or events number event → k ≡ number + 1 → IsAfter game innings version boards events number world outcomes shown → RefusesTo event world why new → EndsAt game innings version boards events (k, why)
   ends_at number k event world new outcomes shown why less here e h refuses =
       let p = h.at in
       let at = p.2 in
       let run = at.run in
-      let s = refuses (last_of p.0 p.1) at.is_world in
-      let refused = subst (λ (n : ℕ). RefusesEvent (match_of game n) (last_of p.0 p.1) event why s.0) at.same_innings (subst (λ (n : ℕ). RefusesEvent (match_of n world.innings_a_side) (last_of p.0 p.1) event why s.0) at.same_game s.1) in
-      inr (outcomes, p.0, p.1, number, event, s.0, run, proved_of p.0 p.1 run.begins run.run, e, event_at events number event less ∙ ap Some (sym here), refused)
+      let s = refuses_at number event world new outcomes why p.0 p.1 less here at refuses in
+      inr (outcomes, p.0, p.1, number, event, s.0, run, proved_of p.0 p.1 run.begins run.run, e, s.1, s.2)
 
   -- a read of each file gives its desk's votes, and perhaps later ones
   read_at : (number : ℕ) (world : World) (outcomes : List Seen) (w : worlds.World MemDisk) (ms : MatchRun) → IsAt game innings version boards events number world outcomes w ms → FilesRead world.game world.innings_a_side (last_of w ms)
