@@ -6,6 +6,7 @@ ghost use Rattle.ground.specs.Fault as texts;
 
 use crate::rejected::{Rejected, print_rejected};
 use cards::{SheetFault, Watched, WriteFailed};
+use schedule_replay::ScheduleFault;
 use std::io::Write;
 use thiserror::Error;
 
@@ -27,6 +28,9 @@ pub enum RunFault {
     /// The sheet is refused.
     #[error("sheet: {0}")]
     Sheet(SheetFault),
+    /// The schedule is refused.
+    #[error("schedule: {0}")]
+    Schedule(ScheduleFault),
     /// A votes file is refused.
     #[error("votes: {0}")]
     Votes(vote_store::Refusal),
@@ -42,8 +46,8 @@ pub enum RunFault {
 }
 
 impl RunFault {
-    /// Whether a sheet, a votes file or a line is refused for what it holds, and no memory, stream or disk is to
-    /// blame.
+    /// Whether a sheet, a schedule, a votes file or a line is refused for what it holds, and no memory, stream or
+    /// disk is to blame.
     pub fn is_refusal(self) -> bool
         ensures { result ≡ texts.is_refusal self }
     {
@@ -51,7 +55,8 @@ impl RunFault {
             RunFault::Sheet(SheetFault::NoMemory) => false,
             RunFault::Votes(vote_store::Refusal::NoMemory) => false,
             RunFault::Votes(vote_store::Refusal::File(entry_log::Refusal::Device)) => false,
-            RunFault::Sheet(_) | RunFault::Votes(_) => true,
+            RunFault::Schedule(ScheduleFault::NoMemory) => false,
+            RunFault::Sheet(_) | RunFault::Schedule(_) | RunFault::Votes(_) => true,
             RunFault::BadVotes { .. } | RunFault::Line { .. } => true,
             _ => false,
         }
@@ -67,6 +72,19 @@ impl From<SheetFault> for RunFault {
         match why {
             SheetFault::NoMemory => RunFault::NoMemory,
             _ => RunFault::Sheet(why),
+        }
+    }
+}
+
+impl From<ScheduleFault> for RunFault {
+    ghost use Rattle.ground.specs.Fault.{of_schedule};
+
+    ghost from_gives = { λ why fault. fault ≡ of_schedule why };
+
+    fn from(why: ScheduleFault) -> Self {
+        match why {
+            ScheduleFault::NoMemory => RunFault::NoMemory,
+            _ => RunFault::Schedule(why),
         }
     }
 }
@@ -111,6 +129,19 @@ fn print_sheet_fault<W: Write>(out: &mut Watched<W>, why: SheetFault) -> Result<
     }
 }
 
+fn print_schedule_fault<W: Write>(
+    out: &mut Watched<W>,
+    why: ScheduleFault,
+) -> Result<(), WriteFailed>
+    ensures text { OnOk result (Prints W.contents out.old out.new (texts.schedule_line why)) }
+    ensures failed { TellsFailure result out.old out.new }
+{
+    match why.number() {
+        Some(number) => writeln!(out, "schedule: {number} {why}"),
+        None => writeln!(out, "no memory"),
+    }
+}
+
 fn print_votes_fault<W: Write>(
     out: &mut Watched<W>,
     why: vote_store::Refusal,
@@ -142,6 +173,7 @@ pub fn print_fault<W: Write>(
         RunFault::Read => writeln!(out, "cannot read {path}"),
         RunFault::Write | RunFault::Device => writeln!(out, "cannot write"),
         RunFault::Sheet(why) => print_sheet_fault(out, why),
+        RunFault::Schedule(why) => print_schedule_fault(out, why),
         RunFault::Votes(why) => print_votes_fault(out, why),
         RunFault::BadVotes { .. } => writeln!(out, "votes: 64 BadVotes"),
         RunFault::Line { number, why } => print_rejected(out, number, why),
