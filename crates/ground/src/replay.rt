@@ -13,7 +13,9 @@ use crate::fault::RunFault;
 use crate::input::{LONGEST_INPUT, read_all};
 use cards::{MatchSheet, Watched};
 use print::{print_refused, print_whole};
-use schedule_replay::{Event, FileVersion, Report, WorldRefusal, read_schedule, replay, replay_old};
+use schedule_replay::{
+    Event, FileVersion, Report, WorldRefusal, read_schedule, replay, replay_old,
+};
 use std::alloc::Global;
 use std::io::{Read, Write};
 use step::{Stepped, step_all};

@@ -128,11 +128,7 @@ fn print_agreed<W: Write>(out: &mut Watched<W>, entries: usize) -> Result<(), Wr
 }
 
 /// Prints with which number a world refuses an event.
-fn print_refusal<W: Write>(
-    out: &mut Watched<W>,
-    event: u64,
-    why: u8,
-) -> Result<(), WriteFailed>
+fn print_refusal<W: Write>(out: &mut Watched<W>, event: u64, why: u8) -> Result<(), WriteFailed>
     ensures text { OnOk result (Prints W.contents out.old out.new (texts.refusal_line event why)) }
     ensures failed { TellsFailure result out.old out.new }
 {
