@@ -5,6 +5,9 @@ ghost use Rattle.schedule_replay.specs.Refusals.{IsEvent, is_desk};
 ghost use Rattle.schedule_replay.specs.Steps.{station_of};
 ghost use Rattle.notation.specs.Written.{IsEntry};
 ghost use Rattle.desk.specs.Answers.{replied};
+ghost use Rattle.entry_log.specs.Disk.{IsImage, only};
+ghost use Rattle.entry_log.specs.MemDisk.{cap_of, file_of, images_of, plan_of};
+ghost use Rattle.entry_log.specs.declared.mem_disk.plan.Plan.TheVariants.{Calm};
 ghost use Rattle.wire.specs.declared.datagram.Datagram.{Datagram};
 ghost use Rattle.schedule_replay.specs.Match.{given_seen, is_device, is_failing, is_fault, wants_memory};
 ghost use Rattle.schedule_replay.specs.declared.event.Station.{Station as AStation};
@@ -94,6 +97,17 @@ fn hand_out(sent: &mut Vec<Datagram>, reply: Option<[u8; 48]>)
     if let Some(bytes) = reply {
         sent.push(Datagram { bytes }).unwrap();
     }
+}
+
+/// Takes the power from a disk: what it reads then is an image of what was there, all of it synced, and no call
+/// is to fail.
+fn lose_power(disk: &mut MemDisk, choice: Choice)
+    ensures image { IsImage (images_of disk.old) (file_of disk.new) }
+    ensures images { images_of disk.new ≡ only (file_of disk.new) }
+    ensures cap { cap_of disk.new ≡ cap_of disk.old }
+    ensures plan { plan_of disk.new ≡ Calm }
+{
+    disk.power(choice);
 }
 
 impl Site {
@@ -250,7 +264,7 @@ impl Site {
         self.due = None;
         self.put_down();
         if let Some(disk) = &mut self.disk {
-            disk.power(choice);
+            lose_power(disk, choice);
         }
         Seen::Done
     }
