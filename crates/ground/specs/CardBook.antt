@@ -19,7 +19,7 @@ use Rattle.ground.specs.declared.rejected.Rejected.{Rejected}
 use Rattle.ground.specs.declared.card.Source.{Source}
 use Rattle.ground.specs.declared.card.Source.TheVariants as source
 use Rattle.ground.specs.declared.card.Source.TheVariants.{Lines}
-use Rattle.ground.specs.Lines.{lines_of}
+use Rattle.notation.specs.Lines.{lines_of}
 use Rattle.ground.specs.Output.{answer_to, book_after}
 
 -- the number of the first of these lines that isn't taken, and why: they are numbered from n, after the entries

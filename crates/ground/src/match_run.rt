@@ -5,11 +5,11 @@ ghost use Rattle.cards.specs.Watched.{has_failed};
 
 use crate::fault::RunFault;
 use crate::input::LONGEST_INPUT;
-use crate::lines::Lines;
 use crate::link::{Link, Post};
 use crate::stations::{Stations, new_stations};
 use cards::{MatchSheet, Watched};
 use entry_log::{Disk, SlotsOf};
+use notation::Lines;
 use std::alloc::Global;
 use std::io::Write;
 

@@ -13,7 +13,7 @@ use Rattle.notation.specs.declared.fault.LineFault.TheVariants.{TooLong, Spaces}
 use Rattle.notation.specs.Reading.{all_of, found_number, line_answer}
 use Rattle.notation.specs.Written.{is_number, is_spaced, text_of, tokens, IsEntry}
 use Rattle.notation.proofs.Joined.{words_are}
-use Rattle.notation.proofs.Lines.{spaced_is_ascii}
+use Rattle.notation.proofs.SpacedLines.{spaced_is_ascii}
 use Rattle.notation.proofs.Numbers.{own, parts, written}
 use Rattle.notation.proofs.Texts.{line_again}
 use Rattle.notation.proofs.Found.{chosen, same}

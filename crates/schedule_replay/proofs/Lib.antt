@@ -1,4 +1,3 @@
-pub mod Cuts
 pub mod ScheduleCuts
 pub mod EventTexts
 pub mod LineTexts

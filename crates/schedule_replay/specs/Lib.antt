@@ -1,7 +1,7 @@
 -- What is claimed: Headline, over the runs of Runs, Steps and Worlds; Refusals, Match, CodeWorlds,
 -- WorldDesks and Lending, and Replays. Sites, WorldBoards, ShownScores and VotesFiles serve private functions
 -- only.
--- Of texts: Lines, ScheduleLines, ScheduleFault and SeenWords; ScheduleReading serves private functions only.
+-- Of texts: ScheduleLines, ScheduleFault and SeenWords; ScheduleReading serves private functions only.
 pub mod Worlds
 pub mod Steps
 pub mod Runs
@@ -16,7 +16,6 @@ pub mod Lending
 pub mod Replays
 pub mod ShownScores
 pub mod VotesFiles
-pub mod Lines
 pub mod ScheduleFault
 pub mod ScheduleLines
 pub mod ScheduleReading

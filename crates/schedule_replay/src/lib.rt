@@ -8,7 +8,6 @@ mod event;
 mod event_line;
 mod fault;
 mod laws;
-mod lines;
 mod report;
 mod schedule_fault;
 mod schedule_text;

@@ -1,7 +1,7 @@
 //! A schedule as text.
 
 ghost use Rattle.std.specs.Prelude.{◌≡◌, ◌⊎◌, ◌++◌, All, Err, IfErr, IfOk, List, MatchResult, Ok, OnErr, OnOk, [], ◌∷◌};
-ghost use Rattle.schedule_replay.specs.Lines.{lines_of};
+ghost use Rattle.notation.specs.Lines.{lines_of};
 ghost use Rattle.schedule_replay.specs.Refusals.{IsEvent};
 ghost use Rattle.schedule_replay.specs.ScheduleLines.{HasFault, IsScheduleOf};
 ghost use Rattle.schedule_replay.specs.ScheduleReading.{line_says};
@@ -10,8 +10,8 @@ ghost use Rattle.schedule_replay.specs.declared.schedule_fault.ScheduleFault.The
 
 use crate::event::Event;
 use crate::event_line::read_event;
-use crate::lines::Lines;
 use crate::schedule_fault::ScheduleFault;
+use notation::Lines;
 use std::alloc::Global;
 
 /// Takes one more line.

@@ -1,16 +1,16 @@
 //! The book of pen lines.
 
 ghost use Rattle.std.specs.Prelude.{◌≡◌, ◌≤◌, [], None, length, IfOk, IfErr, OnOk};
-ghost use Rattle.ground.specs.Lines.{lines_of};
+ghost use Rattle.notation.specs.Lines.{lines_of};
 ghost use Rattle.ground.specs.Output.{book_after};
 ghost use Rattle.ground.specs.Table.{IsInStep, agreed_in, innings_in};
 ghost use Rattle.ground.specs.CardBook.{IsBookOfLines, NamesFirstRejected, WhyNoBookOfLines, first_rejected};
 
 use crate::fault::RunFault;
 use crate::input::LONGEST_INPUT;
-use crate::lines::Lines;
 use crate::table::Table;
 use corrections::CheckedBook;
+use notation::Lines;
 use std::alloc::Global;
 
 /// Takes the lines of an input up to the first that isn't taken.

@@ -1,6 +1,6 @@
 //! Worked schedules of stops, failures, power losses, restarts and migration.
 
-use super::play::{end_of, let_go, play, row, row_of, show, world_of};
+use super::play::{add, add_events, end_of, let_go, play, row, row_of, show, world_of};
 use super::rows::FOUR_LINES;
 use crate::FileVersion;
 
@@ -179,4 +179,8 @@ fn a_running_desk_is_not_migrated(rt: HostRuntime) {
     play(&rt, rt.alloc(), &mut world, FOUR_LINES);
     play(&rt, rt.alloc(), &mut world, "migrate b: world refused 84");
     let_go(world);
+    let mut schedule = String::new(rt.alloc());
+    add_events(&rt, &mut schedule, FOUR_LINES);
+    add(&rt, &mut schedule, "migrate b\n");
+    assert!(rt; end_of(&rt, rt.alloc(), FileVersion::Old, schedule.as_str()) == (25, Some(84)));
 }

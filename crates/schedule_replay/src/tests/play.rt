@@ -149,7 +149,7 @@ pub fn add(rt: &impl Abort, text: &mut String, part: &str) {
 }
 
 /// Adds the events of lines `event: words` to a schedule.
-fn add_events(rt: &impl Abort, schedule: &mut String, lines: &str) {
+pub fn add_events(rt: &impl Abort, schedule: &mut String, lines: &str) {
     for line in lines.lines() {
         let (event, _words) = parts(rt, line);
         add(rt, schedule, event);

@@ -30,7 +30,7 @@ give 6 1: noted
 give 7 1: agreed";
 
 /// Three lines penned at both desks, and each vote given to the other desk.
-const OPENED: &str = "pen a innings home: pending
+pub const OPENED: &str = "pen a innings home: pending
 pen b innings home: pending
 give 0 b: agreed
 give 1 a: agreed
@@ -56,9 +56,8 @@ fn four_lines(rt: HostRuntime) {
     );
 }
 
-#[test]
-fn desks_that_differ(rt: HostRuntime) {
-    let lines = "pen a ball 7 bat 0 four: pending
+/// Then both desks differ in a ball, and agree in the next round; their first votes are given again.
+pub const DIFFER: &str = "pen a ball 7 bat 0 four: pending
 pen b ball 7 bat 0 six: pending
 give 6 b: differ
 give 7 a: differ
@@ -68,12 +67,15 @@ give 8 b: agreed
 give 9 a: agreed
 give 6 b: old
 give 7 a: old";
+
+#[test]
+fn desks_that_differ(rt: HostRuntime) {
     row(
         &rt,
         rt.alloc(),
         0,
         OPENED,
-        lines,
+        DIFFER,
         4,
         ("a 4 6 for 0", "b 4 6 for 0", ""),
     );

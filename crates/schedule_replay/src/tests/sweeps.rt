@@ -1,12 +1,15 @@
 //! A desk is stopped or fails at each device call of each pen and of a migration.
 
-use super::play::{Words, add, events_of, let_go, play, report_of, show, step, words_of, world_of};
+use super::play::{
+    Words, add, events_of, let_go, report_of, row_of, show, step, words_of, world_of,
+};
 use super::rows::FOUR_LINES;
 use crate::{AnyDesk, FileVersion, Seen, World};
 use arrayvec::ArrayString;
 use notation::{Entry, read_line};
 use std::alloc::Global;
 use std::fmt::Write;
+use std::ops::Range;
 use std::process::Abort;
 
 /// What becomes of bytes that weren't synced.
@@ -214,25 +217,53 @@ fn failures_from_the_gate_in_version_2(rt: HostRuntime) {
     sweep_at(&rt, rt.alloc(), FileVersion::New, "fail a 4");
 }
 
-/// The migration of A's file with four votes meets this fault, and the old file stays.
+/// The migration of A's file with four votes meets this fault, and the old file stays: in a world, and in a
+/// replay.
 fn migration_at_fault(rt: &impl Abort, alloc: Global, fault: &str, met: &str) {
-    let mut world = world_of(rt, alloc, FileVersion::Old, 1);
-    play(rt, alloc, &mut world, FOUR_LINES);
-    play(rt, alloc, &mut world, "kill a: done");
-    play(rt, alloc, &mut world, fault);
-    play(rt, alloc, &mut world, met);
-    play(rt, alloc, &mut world, "open a: opened 3\ngive 7 a: agreed");
-    let_go(world);
+    let mut more = String::new(alloc);
+    add(rt, &mut more, "kill a: done\n");
+    add(rt, &mut more, fault);
+    add(rt, &mut more, ": done\nmigrate a: ");
+    add(rt, &mut more, met);
+    add(rt, &mut more, "\nopen a: opened 3\ngive 7 a: agreed");
+    let shown = ("a 4 1 for 0", "b 4 1 for 0", "1 4 1 for 0");
+    row_of(
+        rt,
+        alloc,
+        FileVersion::Old,
+        1,
+        FOUR_LINES,
+        more.as_str(),
+        4,
+        shown,
+    );
+}
+
+/// The same fault at some of the calls of a migration.
+fn migration_at_faults(rt: &impl Abort, alloc: Global, fault: &str, met: &str, calls: Range<u32>) {
+    for call in calls {
+        let mut line: Words = ArrayString::new();
+        let _ = write!(line, "{fault} {call}");
+        migration_at_fault(rt, alloc, line.as_str(), met);
+    }
 }
 
 #[test]
-fn faults_of_a_migration(rt: HostRuntime) {
-    for call in 1..11 {
-        let mut fault: Words = ArrayString::new();
-        let _ = write!(fault, "stop a {call}: done");
-        migration_at_fault(&rt, rt.alloc(), fault.as_str(), "migrate a: stopped");
-        let mut fault: Words = ArrayString::new();
-        let _ = write!(fault, "fail a {call}: done");
-        migration_at_fault(&rt, rt.alloc(), fault.as_str(), "migrate a: refused 40");
-    }
+fn stops_in_the_first_half_of_a_migration(rt: HostRuntime) {
+    migration_at_faults(&rt, rt.alloc(), "stop a", "stopped", 1..6);
+}
+
+#[test]
+fn stops_in_the_second_half_of_a_migration(rt: HostRuntime) {
+    migration_at_faults(&rt, rt.alloc(), "stop a", "stopped", 6..11);
+}
+
+#[test]
+fn failures_in_the_first_half_of_a_migration(rt: HostRuntime) {
+    migration_at_faults(&rt, rt.alloc(), "fail a", "refused 40", 1..6);
+}
+
+#[test]
+fn failures_in_the_second_half_of_a_migration(rt: HostRuntime) {
+    migration_at_faults(&rt, rt.alloc(), "fail a", "refused 40", 6..11);
 }

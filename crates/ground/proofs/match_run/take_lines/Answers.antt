@@ -1,5 +1,5 @@
 use Rattle.std.proofs.Common.{arith}
-use Rattle.ground.proofs.Cuts.{length-lines_of}
+use Rattle.notation.proofs.Cuts.{length-lines_of}
 use Rattle.ground.proofs.match_run.take_lines.Goals as goal
 
 pub overflow_add-number : goal.overflow_add-number

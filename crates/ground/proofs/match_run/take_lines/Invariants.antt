@@ -1,5 +1,5 @@
 use Rattle.std.proofs.Common.{◌≡◌, ◌+◌, length}
-use Rattle.ground.specs.Lines.{lines_of}
+use Rattle.notation.specs.Lines.{lines_of}
 use Rattle.ground.proofs.match_run.take_lines.Given as goal
 
 abbrev pub invariant-loop-line : goal.invariant-loop-line

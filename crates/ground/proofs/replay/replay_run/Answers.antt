@@ -3,7 +3,7 @@ use Rattle.std.specs.Prelude.{IfOk, IfSome}
 use Rattle.cards.specs.Sheet.{Sheet}
 use Rattle.cards.specs.declared.watched.Watched.{Watched}
 use Rattle.cards.specs.Watched.{stream_of}
-use Rattle.schedule_replay.specs.Lines.{lines_of}
+use Rattle.notation.specs.Lines.{lines_of}
 use Rattle.schedule_replay.specs.ScheduleLines.{IsScheduleOf}
 use Rattle.schedule_replay.specs.declared.event.Event.{Event}
 use Rattle.schedule_replay.specs.declared.version.FileVersion.{FileVersion}

@@ -4,10 +4,10 @@ use Rattle.std.proofs.lemmas.List.Elements.{All-nil, All-push}
 use Rattle.schedule_replay.specs.declared.event.Event.{Event}
 use Rattle.schedule_replay.specs.declared.schedule_fault.ScheduleFault.{ScheduleFault}
 use Rattle.schedule_replay.specs.declared.schedule_fault.ScheduleFault.TheVariants.{NoMemory}
-use Rattle.schedule_replay.specs.Lines.{lines_of}
+use Rattle.notation.specs.Lines.{lines_of}
 use Rattle.schedule_replay.specs.ScheduleLines.{event_text, HasFault, IsScheduleOf, IsWrittenEvent}
 use Rattle.schedule_replay.specs.ScheduleReading.{line_says}
-use Rattle.schedule_replay.proofs.Cuts.{length-lines_of}
+use Rattle.notation.proofs.Cuts.{length-lines_of}
 use Rattle.schedule_replay.proofs.LineTexts.{says_found, says_wrong}
 use Rattle.schedule_replay.proofs.ScheduleTexts.{at_fault, none_wrong, same_events}
 use Rattle.schedule_replay.proofs.schedule_text.take_lines.Invariants.{Midway}

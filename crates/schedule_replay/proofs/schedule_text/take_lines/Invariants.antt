@@ -1,7 +1,7 @@
 use Rattle.std.proofs.Common.{◌≡◌, ◌+◌, ◌≤◌, ℕ, List, ◌++◌, length, map}
 use Rattle.std.specs.Prelude.{All}
 use Rattle.schedule_replay.specs.declared.event.Event.{Event}
-use Rattle.schedule_replay.specs.Lines.{lines_of}
+use Rattle.notation.specs.Lines.{lines_of}
 use Rattle.schedule_replay.specs.ScheduleLines.{event_text, IsWrittenEvent}
 use Rattle.schedule_replay.proofs.schedule_text.take_lines.Given as goal
 

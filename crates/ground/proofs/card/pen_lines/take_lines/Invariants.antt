@@ -1,6 +1,6 @@
 use Rattle.std.proofs.Common.{◌≡◌, ◌+◌, ℕ, List, [], length}
 use Rattle.ground.specs.declared.table.Table.{Table}
-use Rattle.ground.specs.Lines.{lines_of}
+use Rattle.notation.specs.Lines.{lines_of}
 use Rattle.ground.specs.Table.{IsInStep, agreed_in, innings_in}
 use Rattle.ground.specs.Output.{book_after}
 use Rattle.ground.specs.CardBook.{first_rejected}

@@ -1,11 +1,11 @@
 //! The lines of a text.
 
 ghost use Rattle.std.specs.Prelude.{◌≡◌, ℕ, List, [], ◌∷◌, MatchOption};
-ghost use Rattle.schedule_replay.specs.Lines.{lines_of};
+ghost use Rattle.notation.specs.Lines.{lines_of};
 
 use std::marker::Model;
 
-/// The lines that are left of an input: what stands between newlines, without an empty line at the end.
+/// The lines that are left of a text: what stands between newlines, without an empty line at the end.
 #[derive(Drop)]
 pub struct Lines<'a> {
     rest: &'a [u8],
@@ -13,7 +13,7 @@ pub struct Lines<'a> {
 
 impl<'a> Model for Lines<'a> {
     ghost use Rattle.std.specs.Prelude.{List, ℕ};
-    ghost use Rattle.schedule_replay.specs.Lines.{lines_of};
+    ghost use Rattle.notation.specs.Lines.{lines_of};
 
     ghost Value = { List (List ℕ) };
 
@@ -21,11 +21,11 @@ impl<'a> Model for Lines<'a> {
 }
 
 impl<'a> Lines<'a> {
-    /// The lines of an input.
-    pub fn new(input: &'a [u8]) -> Lines<'a>
-        ensures { result ≡ lines_of input.entry.now }
+    /// All lines of a text.
+    pub fn new(text: &'a [u8]) -> Lines<'a>
+        ensures { result ≡ lines_of text.entry.now }
     {
-        Lines { rest: input }
+        Lines { rest: text }
     }
 
     /// The next line, if there is one.
