@@ -1,7 +1,11 @@
 //! `ground match`: two desks and a board agree the lines of a book.
 
-ghost use Rattle.std.specs.Prelude.{◌≡◌, ◌≢◌, ◌≤◌, true, length, Err, IfErr};
+ghost use Rattle.std.specs.Prelude.{◌≡◌, ◌≢◌, ◌≤◌, [], true, length, Err, IfErr, IfOk, OnOk};
 ghost use Rattle.cards.specs.Watched.{has_failed};
+ghost use Rattle.desk.specs.Desk.{game_of};
+ghost use Rattle.ground.specs.CardBook.{IsBookOfLines};
+ghost use Rattle.ground.specs.MatchRun.{AgreesLines, IsQuiet, WhyNoMatch};
+ghost use Rattle.ground.specs.Turns.{AreCalm, AreLevel, book_at, innings_at};
 
 use crate::fault::RunFault;
 use crate::input::LONGEST_INPUT;
@@ -18,8 +22,17 @@ fn take_lines<S: SlotsOf, L: Link>(
     stations: &mut Stations<S, L>,
     input: &[u8],
 ) -> Result<(), RunFault>
-    requires { length input.now ≤ LONGEST_INPUT }
+    requires short { length input.now ≤ LONGEST_INPUT }
+    requires level { AreLevel stations.old.a stations.old.b stations.old.board }
+    requires empty { book_at stations.old.a ≡ [] }
+    ensures level { OnOk result (AreLevel stations.new.a stations.new.b stations.new.board) }
+    ensures book { OnOk result
+        (IsBookOfLines (innings_at stations.old.a) input.now (book_at stations.new.a)) }
+    ensures same_game { OnOk result (game_of stations.new.a ≡ game_of stations.old.a) }
+    ensures same_innings { OnOk result (innings_at stations.new.a ≡ innings_at stations.old.a) }
+    ensures why { IfErr result (WhyNoMatch (innings_at stations.old.a) input.now [] []) }
     ensures no_write { result ≢ Err RunFault.Write }
+    ensures calm { AreCalm stations.old.a stations.old.b → result ≢ Err RunFault.Device }
 {
     let mut lines = Lines::new(input);
     let mut number = 0;
@@ -45,6 +58,12 @@ pub fn run_match<D: Disk + Drop, L: Link + Drop, W: Write>(
     writer: &mut Watched<W>,
 ) -> Result<(D, D), RunFault>
     requires { length input.now ≤ LONGEST_INPUT }
+    ensures agreed { IfOk result (λ disks.
+        AgreesLines W.contents writer.old writer.new D.seen D.images sheet.now input.now disks.0 disks.1) }
+    ensures only_empty { OnOk result ((length (D.seen a) ≡ 0) × (length (D.seen b) ≡ 0)) }
+    ensures why { IfErr result (WhyNoMatch sheet.now.innings input.now (D.seen a) (D.seen b)) }
+    // Where no fault is due at either disk, and both have room, none is met.
+    ensures calm { IsQuiet D.faults D.cap a → IsQuiet D.faults D.cap b → result ≢ Err RunFault.Device }
     ensures write { result ≡ Err RunFault.Write → has_failed writer.new ≡ true }
     // With any other fault nothing was written.
     ensures unwritten { IfErr result (λ fault. fault ≢ RunFault.Write → writer.new ≡ writer.old) }

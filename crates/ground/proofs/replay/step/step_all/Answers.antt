@@ -1,4 +1,4 @@
-use Rattle.std.proofs.Common.{◌≡◌, ◌+◌, ◌++◌, ◌∷◌, [], List, Some, arith, refl, sym, subst}
+use Rattle.std.proofs.Common.{◌≡◌, ◌+◌, List, Some, arith, refl, sym, subst}
 use Rattle.schedule_replay.specs.declared.seen.Seen.{Seen}
 use Rattle.schedule_replay.specs.SeenWords.{refusal_number}
 use Rattle.ground.proofs.WorldRuns.{IsStepping, refuses_one, starts, steps, takes_all}
