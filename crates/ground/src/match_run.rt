@@ -47,7 +47,8 @@ fn take_lines<S: SlotsOf, L: Link>(
 /// follows when all three books have it; then the six lines of the board are written. The stations take turns,
 /// A, B and the board: in a turn a station sends what it says unasked to the other two, and takes up to eight
 /// datagrams, until none comes in time. A line that isn't taken ends the run, and so does a place that isn't
-/// agreed in fifty turns of each station. A disk that has a file is refused. At `Ok` both disks come back.
+/// agreed in fifty turns of each station. A disk that has a file is refused. At `Ok` both disks come back: whatever
+/// the link loses, changes or makes up, they hold just the book of the lines, which a power loss doesn't take away.
 pub fn run_match<D: Disk + Drop, L: Link + Drop, W: Write>(
     alloc: Global,
     sheet: &MatchSheet,
