@@ -1,5 +1,5 @@
 -- What each call of a desk keeps of its turn, whatever it is given.
-use Rattle.std.proofs.Common.{◌≡◌, ◌⊎◌, ◌<◌, ◌≤◌, ℕ, ◌+◌, false, Some, List, [], ◌∷◌, ◌++◌, length, refl, sym, ap, ◌∙◌, subst, inl, inr, arith, ⊎_elim, length-append, Result, Ok}
+use Rattle.std.proofs.Common.{◌≡◌, ◌<◌, ◌≤◌, ℕ, ◌+◌, false, List, [], ◌∷◌, ◌++◌, length, refl, sym, ap, ◌∙◌, subst, inl, inr, arith, length-append, Result, Ok}
 use Rattle.std.specs.Prelude.{IsErrOf}
 use Rattle.std.specs.Bool.{⊤}
 use Rattle.std.proofs.lemmas.Bool.Decides.{nat_tests}
@@ -36,7 +36,7 @@ use Rattle.desk.specs.Takes.{Takes}
 use Rattle.vote_store.specs.View.{file_view}
 use Rattle.ground.specs.MatchRun.{HoldsBook}
 use Rattle.ground.specs.Taking.{is_full}
-use Rattle.ground.specs.Turns.{InTurn, IsCalm, IsInTurn, IsLevel, KeepsTurn, VotesFor, book_at, is_failing, places_voted}
+use Rattle.ground.specs.Turns.{GoesWith, InTurn, IsCalm, IsInTurn, IsLevel, KeepsTurn, VotesFor, book_at, is_failing, places_voted}
 
 -- a vote for the place behind the last one closes that
 closes : (b : Ballot) (votes : List Ballot) → b.at.place ≡ places_voted votes → book_of (b ∷ votes) ≡ voted_list votes
@@ -51,13 +51,7 @@ shorter book e = omega (arith, length-append book (e ∷ []))
 
 module _ {Disk : Type 0} (view : FileView Disk) where
   pub begins : (d : DeskId) (k : DeskState Disk) → Creates view d k → IsInTurn view k
-  begins d k c = subst (IsInTurn view) (sym c.0) (record { running = refl; held = c.1; voted = refl; place = refl; book = inl refl; own = λ e m. absurd (cc) })
-
-  -- a seat and a book that go with the votes of a desk
-  record GoesWith (votes : List Ballot) (seat : SeatState) (entries : List Entry) : Type 0 where
-    place : length entries ≡ seat.position.place
-    book : (entries ≡ voted_list votes) ⊎ (length entries < length (voted_list votes))
-    own : (e : Entry) → seat.mine ≡ Some e → voted_list votes ≡ entries ++ e ∷ []
+  begins d k c = subst (IsInTurn view) (sym c.0) (record { running = refl; held = c.1; voted = refl; goes = record { place = refl; book = inl refl; own = λ e m. absurd (cc) } })
 
   cast : (b : Ballot) (votes : List Ballot) (s t : SeatState) (book : List Entry) (e : Entry) (settled : Settled) → voted_list (b ∷ votes) ≡ book ++ e ∷ [] → length book ≡ s.position.place → Casts s e settled t → GoesWith (b ∷ votes) t (book_after settled book e)
   cast b votes s t book e Settled.Pending v l c =
@@ -71,18 +65,16 @@ module _ {Disk : Type 0} (view : FileView Disk) where
   pub casts : (k l : DeskState Disk) (e : Entry) (settled : Settled) → IsInTurn view k → voted_list k.votes ≡ k.book → CastsAndStores view k e settled l → IsInTurn view l × (voted_list l.votes ≡ k.book ++ e ∷ [])
   casts k l e settled t level c =
       let b = next_ballot k e in
-      let free : b.at.place ≡ places_voted k.votes = sym t.place ∙ (ap length (sym level) ∙ t.voted) in
+      let free : b.at.place ≡ places_voted k.votes = sym t.goes.place ∙ (ap length (sym level) ∙ t.voted) in
       let all : voted_list (b ∷ k.votes) ≡ k.book ++ e ∷ [] = ap (λ (xs : List Entry). xs ++ e ∷ []) (closes b k.votes free ∙ level) in
-      let with : GoesWith (b ∷ k.votes) l.seat (book_after settled k.book e) = cast b k.votes k.seat l.seat k.book e settled all t.place c.0 in
+      let with : GoesWith (b ∷ k.votes) l.seat (book_after settled k.book e) = cast b k.votes k.seat l.seat k.book e settled all t.goes.place c.0 in
       let seat : GoesWith l.votes l.seat l.book = subst (λ (votes : List Ballot). GoesWith votes l.seat l.book) (sym c.3) (subst (GoesWith (b ∷ k.votes) l.seat) (sym c.1) with) in
-      let long : length (voted_list (b ∷ k.votes)) ≡ places_voted (b ∷ k.votes) = ap length all ∙ one_longer k.book e k.seat.position.place t.place in (
+      let long : length (voted_list (b ∷ k.votes)) ≡ places_voted (b ∷ k.votes) = ap length all ∙ one_longer k.book e k.seat.position.place t.goes.place in (
         record {
           running = c.2;
           held = subst (Holds view l.disk) (sym c.3) c.4;
           voted = subst (λ (votes : List Ballot). length (voted_list votes) ≡ places_voted votes) (sym c.3) long;
-          place = seat.place;
-          book = seat.book;
-          own = seat.own;
+          goes = seat;
         },
         ap voted_list c.3 ∙ all,
       )
@@ -93,13 +85,10 @@ module _ {Disk : Type 0} (view : FileView Disk) where
   -- another seat and book go with the same votes
   goes_on : (k : DeskState Disk) (seat : SeatState) (book : List Entry) (disk : Disk) → IsInTurn view k → Stays view k.disk disk → GoesWith k.votes seat book → IsInTurn view (record k { seat = seat; book = book; disk = disk })
   goes_on k seat book disk t s with =
-      record { running = t.running; held = stays_held k.disk disk k.votes s t.held; voted = t.voted; place = with.place; book = with.book; own = with.own }
-
-  as_it_was : (k : DeskState Disk) → IsInTurn view k → GoesWith k.votes k.seat k.book
-  as_it_was k t = record { place = t.place; book = t.book; own = t.own }
+      record { running = t.running; held = stays_held k.disk disk k.votes s t.held; voted = t.voted; goes = with }
 
   unmoved : (k : DeskState Disk) (seat : SeatState) → IsInTurn view k → seat ≡ k.seat → GoesWith k.votes seat k.book
-  unmoved k seat t e = rw e (as_it_was k t)
+  unmoved k seat t e = rw e t.goes
 
   hears : (k : DeskState Disk) (seat : SeatState) (v : Vote) (h : Heard) → IsInTurn view k → Hears k.seat v h seat → GoesWith k.votes seat (book_heard h k.book v.entry)
   hears k seat v Heard.Mine t h = unmoved k seat t h.1
@@ -107,14 +96,14 @@ module _ {Disk : Type 0} (view : FileView Disk) where
   hears k seat v Heard.Ahead t h = unmoved k seat t h.2
   hears k seat v Heard.Again t h = unmoved k seat t h.2
   hears k seat v Heard.TwoVotes t h = unmoved k seat t h.2
-  hears k seat v Heard.Noted t h = rw h.3 (record { place = t.place; book = t.book; own = λ f m. absurd (cc) })
+  hears k seat v Heard.Noted t h = rw h.3 (record { place = t.goes.place; book = t.goes.book; own = λ f m. absurd (cc) })
   hears k seat v Heard.Agreed t h =
-      rw h.3 (record { place = one_longer k.book v.entry k.seat.position.place t.place; book = inl (sym (t.own v.entry h.2)); own = λ f m. absurd (cc) })
-  hears k seat v Heard.Differ t h = rw h.3 (record { place = t.place; book = t.book; own = λ f m. absurd (cc) })
+      rw h.3 (record { place = one_longer k.book v.entry k.seat.position.place t.goes.place; book = inl (sym (t.goes.own v.entry h.2)); own = λ f m. absurd (cc) })
+  hears k seat v Heard.Differ t h = rw h.3 (record { place = t.goes.place; book = t.goes.book; own = λ f m. absurd (cc) })
 
   unchanged : (k l : DeskState Disk) → IsInTurn view k → desks.Unchanged view k l → IsInTurn view l × (l.votes ≡ k.votes)
   unchanged k l t u =
-      (subst (IsInTurn view) (sym u.1) (goes_on k k.seat k.book l.disk t u.0 (as_it_was k t)), ap (λ (x : DeskState Disk). x.votes) u.1)
+      (subst (IsInTurn view) (sym u.1) (goes_on k k.seat k.book l.disk t u.0 t.goes), ap (λ (x : DeskState Disk). x.votes) u.1)
 
   receives : (k l : DeskState Disk) (m : Message) (h : Heard) (out : List Message) → IsInTurn view k → Receives view k m (desks.Told h) l out → IsInTurn view l × (l.votes ≡ k.votes)
   receives k l (Message.Vote v) h out t r =
@@ -132,10 +121,6 @@ module _ {Disk : Type 0} (view : FileView Disk) where
   takes game k l bytes whats.Asked out n t r = asked k l r.0 out t r.2
   takes game k l bytes whats.Device out n t r = absurd (cc)
   takes game k l bytes whats.Failed out n t r = absurd (cc)
-
-  -- where its book has as many entries as it voted for, it has just these
-  pub levels : (k : DeskState Disk) → IsInTurn view k → length (voted_list k.votes) ≤ length k.book → voted_list k.votes ≡ k.book
-  levels k t l = ⊎_elim (λ e. sym e) (λ less. absurd (omega arith)) t.book
 
 not_full : (book : List Entry) → length book < PLACES → is_full book ≡ false
 not_full book l = grind (arith, nat_tests)
@@ -156,18 +141,8 @@ module _ {S B D : Type 0} {g : Files S D} {h : Disks D} {b : Books B} where
   in_view old new o t = subst (λ (v : FileView D). IsInTurn v (state_of new)) (sym (view_is new (desk_of old) (game_of old) o.desk o.game)) t
 
   -- a call at which no device call failed leaves the disk as calm
-  pub calm_still : (old new : Desk S B D g h b) → SameOwner old new → h.faults (disk_of new) ≡ h.faults (disk_of old) → IsCalm old → IsCalm new
+  calm_still : (old new : Desk S B D g h b) → SameOwner old new → h.faults (disk_of new) ≡ h.faults (disk_of old) → IsCalm old → IsCalm new
   calm_still old new o f c = record { never = ap (λ x. x.due) f ∙ c.never; room = λ n l. subst (λ (m : ℕ). g.room n ≤ m) (sym o.cap) (c.room n l) }
-
-  pub same_desk : (x : Desk S B D g h b) → KeepsTurn x x
-  same_desk x = record { owner = record { desk = refl; game = refl; innings_a_side = refl; cap = refl }; turn = λ t. (t, refl); calm = λ c. c }
-
-  pub turn_after : (x y z : Desk S B D g h b) → KeepsTurn x y → KeepsTurn y z → KeepsTurn x z
-  turn_after x y z p q = record {
-    owner = record { desk = q.owner.desk ∙ p.owner.desk; game = q.owner.game ∙ p.owner.game; innings_a_side = q.owner.innings_a_side ∙ p.owner.innings_a_side; cap = q.owner.cap ∙ p.owner.cap };
-    turn = λ t. let r = p.turn t in let s = q.turn r.0 in (s.0, s.1 ∙ r.1);
-    calm = λ c. q.calm (p.calm c);
-  }
 
   abbrev GiveSteps : Desk S B D g h b → List ℕ → Received → Desk S B D g h b → Type 0
   GiveSteps old bytes r new =
@@ -202,7 +177,7 @@ module _ {S B D : Type 0} {g : Files S D} {h : Disks D} {b : Books B} where
   voted old new e penned l o step blame =
       let may = step.3.0 in
       let c = casts (view_of old) (state_of old) (state_of new) e penned.settled l.turn l.voted step.3.1 in
-      let room : length (book_at old) < PLACES = subst (λ (n : ℕ). n < PLACES) (sym l.turn.place) may.1.0.0 in
+      let room : length (book_at old) < PLACES = subst (λ (n : ℕ). n < PLACES) (sym l.turn.goes.place) may.1.0.0 in
       record { owner = o; taken = rw (not_full (book_at old) room, may.2) refl; turn = in_view old new o c.0; voted = c.1; calm = calm_still old new o (blame.same (λ q. (cc))) }
 
   pub holds_book : (desk : Desk S B D g h b) (d : DeskId) (game : ℕ) (book : List Entry) → desk_of desk ≡ d → game_of desk ≡ game → IsLevel desk → book_at desk ≡ book → HoldsBook (file_view g.contents h.seen h.images d game) (disk_of desk) book

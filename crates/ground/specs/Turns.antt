@@ -10,6 +10,7 @@ use Rattle.agree_core.specs.Ballots.{Ballot}
 use Rattle.agree_core.specs.Books.{voted_list}
 use Rattle.agree_core.specs.Desks.{DeskState, most_votes}
 use Rattle.agree_core.specs.FileView.{FileView, Holds}
+use Rattle.agree_core.specs.Seats.{SeatState}
 use Rattle.vote_store.specs.Refusal.{not_empty}
 use Rattle.wire.specs.declared.what.What.{What}
 use Rattle.wire.specs.declared.what.What.TheVariants as whats
@@ -31,15 +32,19 @@ abbrev pub places_voted : List Ballot → ℕ
 places_voted [] = 0
 places_voted (b ∷ votes) = b.at.place + 1
 
--- A desk that runs: its file holds its votes, each place has its last vote, and its book has their entries, or
--- those before its own vote that waits, or those before a vote from which the other's differed.
+-- A seat and a book go with a desk's votes: the book has the entry of each place's last vote, or those before its own
+-- vote that waits, or those before a vote from which the other's differed.
+pub record GoesWith (votes : List Ballot) (seat : SeatState) (entries : List Entry) : Type 0 where
+  pub place : length entries ≡ seat.position.place
+  pub book : (entries ≡ voted_list votes) ⊎ (length entries < length (voted_list votes))
+  pub own : (e : Entry) → seat.mine ≡ Some e → voted_list votes ≡ entries ++ e ∷ []
+
+-- a desk that runs: its file holds its votes, each place has one, and its seat and book go with them
 pub record IsInTurn {Disk : Type 0} (view : FileView Disk) (k : DeskState Disk) : Type 0 where
   pub running : k.failed ≡ false
   pub held : Holds view k.disk k.votes
   pub voted : length (voted_list k.votes) ≡ places_voted k.votes
-  pub place : length k.book ≡ k.seat.position.place
-  pub book : (k.book ≡ voted_list k.votes) ⊎ (length k.book < length (voted_list k.votes))
-  pub own : (e : Entry) → k.seat.mine ≡ Some e → voted_list k.votes ≡ k.book ++ e ∷ []
+  pub goes : GoesWith k.votes k.seat k.book
 
 -- why the stations don't agree line n, of which the table with this book would answer so
 abbrev pub WhyNotAgreed : Result Entry Rejected → List Entry → ℕ → RunFault → Type 0
