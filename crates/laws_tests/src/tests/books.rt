@@ -144,17 +144,29 @@ const STEPS: [(&str, u32); 9] = [
     ("late 500 void", 0),
 ];
 
+/// The same after a late entry at place 500, which belongs to place 3.
+const STEPS_OF_A_LATE_ENTRY: [(&str, u32); 2] = [
+    ("fix 500 penalty home 41 3", 501),
+    ("late 500 void", 0),
+];
+
+fn expect_steps(rt: &impl Abort, book: &CheckedBook, rows: &[(&str, u32)]) {
+    for (line, steps) in rows {
+        match read_line(line.as_bytes()) {
+            Ok(entry) => assert!(rt; book.check_counted(&entry).1 == *steps, "{line}"),
+            Err(_) => panic!(rt; "no entry: {line}"),
+        }
+    }
+}
+
 fn count_steps(rt: &impl Abort, alloc: Global) -> Result<(), AllocError> {
     let mut book = CheckedBook::new(alloc, 2)?;
     for _ in 0..500 {
         enter_all(rt, &mut book, &["penalty home 41 3"]);
     }
-    for (line, steps) in STEPS {
-        match read_line(line.as_bytes()) {
-            Ok(entry) => assert!(rt; book.check_counted(&entry).1 == steps, "{line}"),
-            Err(_) => panic!(rt; "no entry: {line}"),
-        }
-    }
+    expect_steps(rt, &book, &STEPS);
+    enter_all(rt, &mut book, &["late 3 penalty away 41 3"]);
+    expect_steps(rt, &book, &STEPS_OF_A_LATE_ENTRY);
     Ok(())
 }
 

@@ -60,21 +60,24 @@ fn nothing_yet(rt: HostRuntime) {
 #[test]
 fn standing_of_a_match(rt: HostRuntime) {
     let game = played(&rt);
-    assert!(rt; game.begun() == 2 && game.is_open());
-    assert!(rt;
-        game.ends()
-            == Ends {
-                striker: None,
-                other: None
-            }
-    );
-    assert!(rt; game.side(0) == Side::Home && game.side(1) == Side::Away);
-    assert!(rt; game.total(0) == 11 && game.total(1) == 5);
-    assert!(rt; game.side_total(Side::Home) == 11);
-    assert!(rt; game.wickets(0) == 1);
-    assert!(rt; game.overs(0) == (1, 0) && game.odd_overs(0) == 1);
-    assert!(rt; game.target() == Some(12));
-    assert!(rt; game.result() == Outcome::Undecided);
+    assert!(rt; game.begun() == 2);
+    let sides = (game.side(0), game.side(1), game.is_open());
+    assert!(rt; sides == (Side::Home, Side::Away, true));
+    let ends = Ends {
+        striker: None,
+        other: None,
+    };
+    assert!(rt; game.ends() == ends);
+    let figures = [
+        game.total(0),
+        game.total(1),
+        game.side_total(Side::Home),
+        game.wickets(0),
+        game.odd_overs(0),
+    ];
+    assert!(rt; figures == [11, 5, 11, 1, 1]);
+    let rest = (game.overs(0), game.target(), game.result());
+    assert!(rt; rest == ((1, 0), Some(12), Outcome::Undecided));
 }
 
 #[test]
