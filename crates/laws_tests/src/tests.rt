@@ -1,0 +1,6 @@
+//! One call of each public function over values whose answers are known; the rest is shown by `rows`.
+
+mod books;
+mod deliveries;
+mod entries;
+mod matches;

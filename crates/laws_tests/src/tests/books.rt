@@ -1,0 +1,271 @@
+//! Both kinds of book alike, copies, steps that are counted, and room for all places.
+//! What wants memory is done again where it was refused, so that the tests pass with any one growth refused.
+
+ghost use Rattle.std.specs.Prelude.{◌≤◌};
+
+use corrections::{Book, BookOf, CheckedBook, Refusal, Tally};
+use match_laws::start;
+use notation::{Entry, Plain, Side, read_line};
+use std::alloc::{AllocError, Global};
+use std::process::Abort;
+
+/// The refusal of the line, if there is one; else the book has its entry, by the check's answer alone.
+fn enter<B: BookOf>(rt: &impl Abort, book: &mut B, line: &str) -> Option<Refusal> {
+    assert!(rt; book.len() < 8192);
+    match read_line(line.as_bytes()) {
+        Ok(entry) => match book.check(&entry) {
+            Ok(score) => {
+                book.push(entry, score);
+                None
+            }
+            Err(why) => Some(why),
+        },
+        Err(_) => panic!(rt; "no entry: {line}"),
+    }
+}
+
+/// Enters lines that the book takes.
+fn enter_all<B: BookOf>(rt: &impl Abort, book: &mut B, lines: &[&str]) {
+    for line in lines {
+        assert!(rt; enter(rt, book, line).is_none(), "{line}");
+    }
+}
+
+const FOUR_BALLS: [&str; 7] = [
+    "innings home",
+    "in 1",
+    "in 2",
+    "ball 7 bat 1",
+    "ball 7 bat 0",
+    "ball 7 bat 1",
+    "ball 7 bat 0 four",
+];
+
+/// How many entries the book has, and the total of the home side.
+fn expect<B: BookOf>(rt: &impl Abort, book: &B, len: u32, total: u32) {
+    assert!(rt; book.len() == len);
+    assert!(rt; book.score().side_total(Side::Home) == total);
+}
+
+/// The single at place 3 becomes a two, in the book and not in its copy; nobody can be struck out of place 2.
+fn correct<B: BookOf>(rt: &impl Abort, book: &mut B, copy: &B) {
+    enter_all(rt, book, &["fix 3 ball 7 bat 2"]);
+    expect(rt, book, 8, 7);
+    expect(rt, copy, 7, 6);
+    assert!(rt; 0 < book.len());
+    assert!(rt; book.entry(0) == Entry::Write(Plain::Innings(Side::Home)));
+    assert!(rt; enter(rt, book, "fix 2 void").map(|why| why.number()) == Some(32));
+    expect(rt, book, 8, 7);
+}
+
+fn copy_a_book(rt: &impl Abort, alloc: Global) -> Result<(), AllocError> {
+    let mut book = Book::new(alloc, 2)?;
+    enter_all(rt, &mut book, &FOUR_BALLS);
+    let copy = book.copy()?;
+    correct(rt, &mut book, &copy);
+    Ok(())
+}
+
+fn copy_a_checked_book(rt: &impl Abort, alloc: Global) -> Result<(), AllocError> {
+    let mut book = CheckedBook::new(alloc, 2)?;
+    enter_all(rt, &mut book, &FOUR_BALLS);
+    let copy = book.copy()?;
+    correct(rt, &mut book, &copy);
+    Ok(())
+}
+
+#[test]
+fn copies(rt: HostRuntime) {
+    let alloc = rt.alloc();
+    assert!(rt; copy_a_book(&rt, alloc).is_ok() || copy_a_book(&rt, alloc).is_ok());
+    assert!(rt; copy_a_checked_book(&rt, alloc).is_ok() || copy_a_checked_book(&rt, alloc).is_ok());
+}
+
+/// A single that was forgotten, entered late and then corrected, stands behind the ball that it names.
+fn enter_late<B: BookOf>(rt: &impl Abort, book: &mut B) {
+    enter_all(rt, book, &FOUR_BALLS[..3]);
+    enter_all(rt, book, &["ball 7 bat 0", "ball 7 bat 0 four"]);
+    enter_all(rt, book, &["late 3 ball 7 bat 1", "fix 5 ball 7 bat 2"]);
+    expect(rt, book, 7, 6);
+    let why = enter(rt, book, "late 2 over").map(|why| why.number());
+    assert!(rt; why == Some(32));
+    let places = [(0, 0), (1, 1), (2, 2), (3, 3), (5, 3), (4, 4)];
+    assert!(rt; book.standing().len() == 6);
+    for index in 0..6 {
+        let stands = book.standing()[index];
+        assert!(rt; (stands.place, stands.anchor) == places[index]);
+    }
+}
+
+fn enter_late_in_both(rt: &impl Abort, alloc: Global) -> Result<(), AllocError> {
+    let mut book = Book::new(alloc, 2)?;
+    enter_late(rt, &mut book);
+    let mut book = CheckedBook::new(alloc, 2)?;
+    enter_late(rt, &mut book);
+    Ok(())
+}
+
+#[test]
+fn a_late_entry(rt: HostRuntime) {
+    let alloc = rt.alloc();
+    assert!(rt; enter_late_in_both(&rt, alloc).is_ok() || enter_late_in_both(&rt, alloc).is_ok());
+}
+
+/// A book of 8,192 places, the last of which can still be corrected, and its copy.
+fn fill_a_book(rt: &impl Abort, alloc: Global) -> Result<(), AllocError> {
+    let mut book = CheckedBook::new(alloc, 2)?;
+    for _ in 0..8192 {
+        assert!(rt; book.len() < 8192);
+        assert!(rt; book.enter(&Entry::Write(Plain::Void)).is_ok());
+    }
+    let correction = Entry::Fix(8191, Plain::Innings(Side::Home));
+    assert!(rt; book.check(&correction).is_ok());
+    let copy = book.copy()?;
+    assert!(rt; copy.len() == 8192);
+    Ok(())
+}
+
+#[test]
+fn all_places(rt: HostRuntime) {
+    let alloc = rt.alloc();
+    assert!(rt; fill_a_book(&rt, alloc).is_ok() || fill_a_book(&rt, alloc).is_ok());
+}
+
+/// How many steps each check makes after 500 plain places, the last checkpoint being that of place 448.
+const STEPS: [(&str, u32); 9] = [
+    ("penalty away 41 3", 1),
+    ("void", 0),
+    ("fix 499 swap", 52),
+    ("fix 499 penalty away 41 3", 52),
+    ("fix 0 penalty away 41 3", 500),
+    ("late 499 penalty away 41 3", 53),
+    ("late 0 penalty away 41 3", 501),
+    ("fix 500 void", 0),
+    ("late 500 void", 0),
+];
+
+/// The same after a late entry at place 500, which belongs to place 3.
+const STEPS_OF_A_LATE_ENTRY: [(&str, u32); 2] = [
+    ("fix 500 penalty home 41 3", 501),
+    ("late 500 void", 0),
+];
+
+fn expect_steps(rt: &impl Abort, book: &CheckedBook, rows: &[(&str, u32)]) {
+    for (line, steps) in rows {
+        match read_line(line.as_bytes()) {
+            Ok(entry) => assert!(rt; book.check_counted(&entry).1 == *steps, "{line}"),
+            Err(_) => panic!(rt; "no entry: {line}"),
+        }
+    }
+}
+
+fn count_steps(rt: &impl Abort, alloc: Global) -> Result<(), AllocError> {
+    let mut book = CheckedBook::new(alloc, 2)?;
+    for _ in 0..500 {
+        enter_all(rt, &mut book, &["penalty home 41 3"]);
+    }
+    expect_steps(rt, &book, &STEPS);
+    enter_all(rt, &mut book, &["late 3 penalty away 41 3"]);
+    expect_steps(rt, &book, &STEPS_OF_A_LATE_ENTRY);
+    Ok(())
+}
+
+#[test]
+fn steps_of_a_check(rt: HostRuntime) {
+    let alloc = rt.alloc();
+    assert!(rt; count_steps(&rt, alloc).is_ok() || count_steps(&rt, alloc).is_ok());
+}
+
+#[test]
+fn step_and_take_count_the_same(rt: HostRuntime) {
+    let item = Plain::Innings(Side::Home);
+    let mut tally = Tally::new();
+    let mut game = start(2);
+    let after = tally.step(&game, &item);
+    assert!(rt; tally.count() == 1);
+    assert!(rt; tally.take(&mut game, &item).is_ok());
+    assert!(rt; tally.count() == 2);
+    assert!(rt; after == Ok(game));
+}
+
+const ITEMS: [&str; 12] = [
+    "ball 7 bat 0",
+    "ball 7 bat 1",
+    "ball 8 bat 2",
+    "ball 8 bat 3",
+    "ball 7 bat 0 four",
+    "ball 8 nb 1",
+    "ball 7 wide 0",
+    "ball 7 bye 1",
+    "over",
+    "swap",
+    "void",
+    "penalty away 41 3",
+];
+
+const OPENED: [&str; 3] = ["innings home", "in 1", "in 2"];
+
+/// The opening; then, of 500 commands, 60 are corrections and 60 late entries, a third of
+/// each of the places 63, 64 or 65.
+fn command(alloc: Global, number: u32, dice: u32, len: u32) -> Result<String, AllocError>
+    requires { len ≤ 8192 }
+{
+    if number < 3 {
+        return String::from_str(alloc, OPENED[number as usize]);
+    }
+    let item = ITEMS[(dice % 12) as usize];
+    let near = 63 + number / 25 % 3;
+    let any = (dice / 12 % (len + 1)).min(8191);
+    match number % 25 {
+        4 => format!(in alloc; "fix {near} {item}"),
+        7 => format!(in alloc; "late {near} {item}"),
+        11 | 19 => format!(in alloc; "fix {any} {item}"),
+        15 | 23 => format!(in alloc; "late {any} {item}"),
+        _ => String::from_str(alloc, item),
+    }
+}
+
+/// The refusals of the line by `enter`.
+fn enter_in_place(
+    rt: &impl Abort,
+    book: &mut Book,
+    checked: &mut CheckedBook,
+    line: &str,
+) -> [Option<Refusal>; 2] {
+    assert!(rt; book.len() < 8192 && checked.len() < 8192);
+    match read_line(line.as_bytes()) {
+        Ok(entry) => [book.enter(&entry).err(), checked.enter(&entry).err()],
+        Err(_) => panic!(rt; "no entry: {line}"),
+    }
+}
+
+/// Both kinds of book, by `check` and `push` and by `enter`, answer each command alike and have one score.
+fn compare_books(rt: &impl Abort, alloc: Global) -> Result<(), AllocError> {
+    let mut book = Book::new(alloc, 2)?;
+    let mut checked = CheckedBook::new(alloc, 2)?;
+    let mut entered = Book::new(alloc, 2)?;
+    let mut entered_checked = CheckedBook::new(alloc, 2)?;
+    let mut dice: u32 = 1;
+    for number in 0..503 {
+        dice = dice.wrapping_mul(1103515245).wrapping_add(12345);
+        let line = command(alloc, number, dice >> 16, book.len())?;
+        let answer = enter(rt, &mut book, line.as_str());
+        assert!(rt; enter(rt, &mut checked, line.as_str()) == answer);
+        assert!(rt;
+            enter_in_place(rt, &mut entered, &mut entered_checked, line.as_str()) == [answer; 2]
+        );
+        assert!(rt; *checked.score() == *book.score());
+        assert!(rt; *entered.score() == *book.score());
+        assert!(rt; *entered_checked.score() == *book.score());
+    }
+    assert!(rt; checked.standing() == book.standing());
+    assert!(rt; entered.standing() == book.standing());
+    assert!(rt; entered_checked.standing() == book.standing());
+    Ok(())
+}
+
+#[test]
+fn both_books_agree(rt: HostRuntime) {
+    let alloc = rt.alloc();
+    assert!(rt; compare_books(&rt, alloc).is_ok() || compare_books(&rt, alloc).is_ok());
+}

@@ -1,0 +1,212 @@
+//! Sheets and their readers, each text on a writer that tells its bytes, and writers that fail.
+//! What wants memory is done again where it was refused, so that the tests pass with any one growth refused.
+
+use cards::{
+    MatchSheet, SheetFault, Watched, WriteFailed, batting_card, board_lines, book_page,
+    bowling_card, plain_sheet, read_sheet,
+};
+use corrections::{Book, BookOf};
+use notation::{Player, Side, read_line};
+use std::alloc::{AllocError, Global};
+use std::io::{self, Error, ErrorKind, Write};
+use std::process::Abort;
+
+const SHEET: &str = "title = \"T\"\nnumber = 7\ninnings = 2\nother = 1\n\
+    home = {name = \"Alder\", players = [\"H1\", \"H2\", \"H3\", \"H4\", \"H5\", \"H6\", \"H7\", \"H8\", \"H9\", \"H10\", \"H11\"]}\n\
+    [away]\nname = \"Birch\"\nplayers = [\"A1\", \"A2\", \"A3\", \"A4\", \"A5\", \"A6\", \"A7\", \"A8\", \"A9\", \"A10\", \"A11\"]\n";
+
+/// The sheet, or the fault, of a text.
+fn read(alloc: Global, text: &[u8]) -> Result<MatchSheet, SheetFault> {
+    match read_sheet(alloc, text) {
+        Err(SheetFault::NoMemory) => read_sheet(alloc, text),
+        answer => answer,
+    }
+}
+
+const LINES: [&str; 5] = [
+    "innings home",
+    "in 1",
+    "in 2",
+    "ball 7 bat 1",
+    "fix 3 ball 7 bat 2",
+];
+
+/// The book of the lines.
+fn lines_entered(rt: &impl Abort, alloc: Global) -> Result<Book, AllocError> {
+    let mut book = Book::new(alloc, 2)?;
+    for line in LINES {
+        assert!(rt; book.len() < 8192);
+        match read_line(line.as_bytes()) {
+            Ok(entry) => assert!(rt; book.enter(&entry).is_ok()),
+            Err(_) => panic!(rt; "no entry: {line}"),
+        }
+    }
+    Ok(book)
+}
+
+fn book_of_lines(rt: &impl Abort, alloc: Global) -> Book {
+    match lines_entered(rt, alloc) {
+        Ok(book) => book,
+        Err(_) => lines_entered(rt, alloc).expect(rt, "room for a book"),
+    }
+}
+
+/// The calls that print.
+#[derive(Clone, Copy)]
+enum Call {
+    Batting,
+    Bowling,
+    Page,
+    Board,
+}
+
+const CALLS: [Call; 4] = [Call::Batting, Call::Bowling, Call::Page, Call::Board];
+
+/// Prints one text of a book in which an innings has begun.
+fn print<W: Write>(
+    rt: &impl Abort,
+    call: Call,
+    sheet: &MatchSheet,
+    book: &Book,
+    out: &mut Watched<W>,
+) -> Result<(), WriteFailed> {
+    let game = book.score();
+    assert!(rt; 0 < game.begun());
+    match call {
+        Call::Batting => batting_card(sheet, game, 0, out),
+        Call::Bowling => bowling_card(sheet, game, 0, out),
+        Call::Page => book_page(sheet, book, out),
+        Call::Board => board_lines(sheet, game, out),
+    }
+}
+
+const BATTING: &str = "Alder, innings 1\n\
+    H1               not out                                   2    1   0   0\n\
+    H2               not out                                   0    0   0   0\n\
+    Extras 0 (b 0, lb 0, w 0, nb 0, p 0)\n\
+    Total 2 for 0 (0.1 overs)\n";
+
+const BOWLING: &str = "Birch bowling\n\
+    A7                  0.1   0    2   0   0   0\n\
+    Overs not of six 0\n";
+
+const PAGE: &str = "T\n   0 innings home\n   1 in 1\n   2 in 2\n   3 ball 7 bat 2\n\
+    Corrections\n   4 fix 3 ball 7 bat 2\n";
+
+const BOARD: &str =
+    "Alder 2 for 0\nOvers 0.1\nStriker H1 2 (1)\nOther H2 0 (0)\nTarget -\nResult -\n";
+
+/// Whether the text is printed so. Where a `Vec` may not grow, the write fails, and it is printed again.
+fn prints(
+    rt: &impl Abort,
+    alloc: Global,
+    call: Call,
+    sheet: &MatchSheet,
+    book: &Book,
+    text: &str,
+) -> bool {
+    let mut out = Watched::new(Vec::new(alloc));
+    if print(rt, call, sheet, book, &mut out).is_err() {
+        out = Watched::new(Vec::new(alloc));
+        assert!(rt; print(rt, call, sheet, book, &mut out).is_ok());
+    }
+    out.into_inner().as_slice() == text.as_bytes()
+}
+
+#[test]
+fn each_text(rt: HostRuntime) {
+    let alloc = rt.alloc();
+    let sheet = read(alloc, SHEET.as_bytes()).expect(&rt, "a sheet");
+    let book = book_of_lines(&rt, alloc);
+    for (call, text) in CALLS.iter().zip([BATTING, BOWLING, PAGE, BOARD].iter()) {
+        assert!(rt; prints(&rt, alloc, *call, &sheet, &book, text));
+    }
+}
+
+#[test]
+fn a_sheet(rt: HostRuntime) {
+    let sheet = read(rt.alloc(), SHEET.as_bytes()).expect(&rt, "a sheet");
+    assert!(rt; sheet.title() == "T" && sheet.game() == 7 && sheet.innings() == 2);
+    assert!(rt; sheet.name(Side::Away) == "Birch");
+    let eleven = Player::new(11).expect(&rt, "a player");
+    assert!(rt; sheet.player(Side::Home, eleven) == "H11");
+    let fault = read(rt.alloc(), b"title =").err();
+    assert!(rt; fault.and_then(|why| why.number()) == Some(70));
+}
+
+#[test]
+fn the_plain_sheet(rt: HostRuntime) {
+    let alloc = rt.alloc();
+    let sheet = match plain_sheet(alloc, 7, 1) {
+        Ok(sheet) => sheet,
+        Err(_) => plain_sheet(alloc, 7, 1).expect(&rt, "memory for a sheet"),
+    };
+    assert!(rt; sheet.title() == "match" && sheet.game() == 7 && sheet.innings() == 1);
+    assert!(rt; sheet.name(Side::Home) == "home" && sheet.name(Side::Away) == "away");
+    let eleven = Player::new(11).expect(&rt, "a player");
+    assert!(rt; sheet.player(Side::Away, eleven) == "11");
+}
+
+/// Takes this many writes and flushes, and fails the next.
+#[derive(Drop)]
+struct Failing {
+    calls: usize,
+}
+
+impl Failing {
+    fn call(&mut self) -> io::Result<()> {
+        if self.calls == 0 {
+            return Err(Error::from(ErrorKind::Other));
+        }
+        self.calls -= 1;
+        Ok(())
+    }
+}
+
+impl Write for Failing {
+    fn write(&mut self, buffer: &[u8]) -> io::Result<usize> {
+        self.call()?;
+        Ok(buffer.len())
+    }
+
+    fn flush(&mut self) -> io::Result<()> {
+        self.call()
+    }
+}
+
+/// How many of the writes of a text fail it, each in turn: a fault tells that the writer failed.
+fn failures(rt: &impl Abort, call: Call, sheet: &MatchSheet, book: &Book) -> usize {
+    for calls in 0..1000 {
+        let mut out = Watched::new(Failing { calls });
+        match print(rt, call, sheet, book, &mut out) {
+            Ok(()) => {
+                assert!(rt; !out.has_failed());
+                return calls;
+            }
+            Err(why) => assert!(rt; out.has_failed() && why.number() == 76),
+        }
+    }
+    1000
+}
+
+/// Each text has more than two lines, or figures that are written one by one.
+#[test]
+fn writes_that_fail(rt: HostRuntime) {
+    let sheet = read(rt.alloc(), SHEET.as_bytes()).expect(&rt, "a sheet");
+    let book = book_of_lines(&rt, rt.alloc());
+    for call in CALLS {
+        let count = failures(&rt, call, &sheet, &book);
+        assert!(rt; count > 4 && count < 1000);
+    }
+}
+
+/// A flush reaches the writer, and what failed is told from then on.
+#[test]
+fn a_flush_that_fails(rt: HostRuntime) {
+    let mut out = Watched::new(Failing { calls: 2 });
+    assert!(rt; write!(out, "a").is_ok());
+    assert!(rt; out.flush().is_ok());
+    assert!(rt; !out.has_failed());
+    assert!(rt; out.flush().is_err());
+    assert!(rt; out.has_failed());
+}
