@@ -3,16 +3,16 @@ use Rattle.std.proofs.Common.{◌≡◌, ◌<◌, ℕ, ◌+◌, Some, List, [], 
 use Rattle.std.proofs.Math.Seq.{take-length}
 use Rattle.entry_log.specs.declared.mem_disk.MemDisk.{MemDisk}
 use Rattle.cards.specs.Sheet.{Sheet}
-use Rattle.schedule_replay.specs.declared.event.Event.{Event}
+use Rattle.headline.specs.declared.event.Event.{Event}
 use Rattle.schedule_replay.specs.declared.seen.Seen.{Seen}
 use Rattle.schedule_replay.specs.declared.seen.WorldRefusal.{WorldRefusal}
-use Rattle.schedule_replay.specs.declared.version.FileVersion.{FileVersion}
+use Rattle.headline.specs.declared.version.FileVersion.{FileVersion}
 use Rattle.schedule_replay.specs.declared.world.World.{World}
 use Rattle.schedule_replay.specs.CodeWorlds.{BeginsWorld, IsWorld, RefusesTo, SameMatch, StepsTo}
 use Rattle.schedule_replay.specs.Replays.{IsRunOf, MatchRun}
-use Rattle.schedule_replay.specs.Runs.{last_of}
+use Rattle.headline.specs.Runs.{last_of}
 use Rattle.schedule_replay.specs.SeenWords.{refusal_number}
-use Rattle.schedule_replay.specs.Worlds as worlds
+use Rattle.headline.specs.Worlds as worlds
 use Rattle.schedule_replay.proofs.ReplayLemmas.{IsAt, begins_at, refuses_at, steps_on}
 use Rattle.ground.specs.ReplayRun.{RefusesOne, TakesAll}
 

@@ -3,9 +3,9 @@ use Rattle.std.specs.Prelude.{ℕ, List, ◌++◌, codes, decimal, Bool, true, f
 use Rattle.cards.specs.SheetFault.{number_of}
 use Rattle.cards.specs.declared.fault.SheetFault.{SheetFault}
 use Rattle.cards.specs.declared.fault.SheetFault.TheVariants as sheets
-use Rattle.schedule_replay.specs.ScheduleFault as schedule
-use Rattle.schedule_replay.specs.declared.schedule_fault.ScheduleFault.{ScheduleFault}
-use Rattle.schedule_replay.specs.declared.schedule_fault.ScheduleFault.TheVariants as schedules
+use Rattle.schedules.specs.ScheduleFault as schedule
+use Rattle.schedules.specs.declared.schedule_fault.ScheduleFault.{ScheduleFault}
+use Rattle.schedules.specs.declared.schedule_fault.ScheduleFault.TheVariants as schedules
 use Rattle.vote_store.specs.Refusal.{number, name}
 use Rattle.vote_store.specs.declared.refusal.Refusal.{Refusal}
 use Rattle.vote_store.specs.declared.refusal.Refusal.TheVariants as votes

@@ -13,9 +13,9 @@ use Rattle.agree_core.specs.Boards.{BoardState}
 use Rattle.agree_core.specs.Desks.{DeskState}
 use Rattle.schedule_replay.specs.declared.seen.Seen.{Seen}
 use Rattle.schedule_replay.specs.Lending.{running_of}
-use Rattle.schedule_replay.specs.ScheduleLines.{desk_word}
+use Rattle.schedules.specs.ScheduleLines.{desk_word}
 use Rattle.schedule_replay.specs.SeenWords.{seen_words}
-use Rattle.schedule_replay.specs.Worlds.{World, site}
+use Rattle.headline.specs.Worlds.{World, site}
 
 -- a text of each of these, numbered from n
 abbrev pub numbered : {X : Type 0} → (ℕ → X → List ℕ) → ℕ → List X → List ℕ

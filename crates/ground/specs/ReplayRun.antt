@@ -5,20 +5,20 @@ use Rattle.entry_log.specs.declared.mem_disk.MemDisk.{MemDisk}
 use Rattle.cards.specs.Sheet.{Sheet}
 use Rattle.cards.specs.declared.watched.Watched.{Watched}
 use Rattle.cards.specs.Watched.{Prints}
-use Rattle.schedule_replay.specs.declared.event.Event.{Event}
+use Rattle.headline.specs.declared.event.Event.{Event}
 use Rattle.schedule_replay.specs.declared.report.Report.{Report}
 use Rattle.schedule_replay.specs.declared.seen.Seen.{Seen}
 use Rattle.schedule_replay.specs.declared.seen.WorldRefusal.{WorldRefusal}
-use Rattle.schedule_replay.specs.declared.version.FileVersion.{FileVersion}
+use Rattle.headline.specs.declared.version.FileVersion.{FileVersion}
 use Rattle.schedule_replay.specs.CodeWorlds.{IsWorld}
 use Rattle.notation.specs.Lines.{lines_of}
-use Rattle.schedule_replay.specs.Match.{match_of}
+use Rattle.headline.specs.Match.{match_of}
 use Rattle.schedule_replay.specs.Refusals.{RefusesEvent}
 use Rattle.schedule_replay.specs.Replays.{IsReplay, IsRunOf, MatchRun}
-use Rattle.schedule_replay.specs.Runs.{last_of}
-use Rattle.schedule_replay.specs.ScheduleLines.{HasFault, IsScheduleOf}
+use Rattle.headline.specs.Runs.{last_of}
+use Rattle.schedules.specs.ScheduleLines.{HasFault, IsScheduleOf}
 use Rattle.schedule_replay.specs.SeenWords.{refusal_number}
-use Rattle.schedule_replay.specs.Worlds.{World}
+use Rattle.headline.specs.Worlds.{World}
 use Rattle.ground.specs.declared.fault.RunFault.{RunFault}
 use Rattle.ground.specs.declared.fault.RunFault.TheVariants.{NoMemory, Read, Write, Schedule}
 use Rattle.ground.specs.declared.replay.step.Stepped.{Stepped}

@@ -2,7 +2,7 @@
 
 ghost use Rattle.std.specs.Prelude.{◌≡◌, ◌≢◌, ◌≤◌, ◌<◌, ◌⊎◌, All, Err, IfErr, IfOk, IfSome, OnOk, length, true};
 ghost use Rattle.cards.specs.Watched.{has_failed, stream_of};
-ghost use Rattle.schedule_replay.specs.Refusals.{IsEvent};
+ghost use Rattle.headline.specs.Events.{IsEvent};
 ghost use Rattle.schedule_replay.specs.Replays.{IsReplay};
 ghost use Rattle.ground.specs.ReplayRun.{PrintsReplay, PrintsRun, WhyNoReplay};
 

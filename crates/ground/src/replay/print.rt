@@ -7,7 +7,7 @@ ghost use Rattle.cards.specs.Watched.{Prints, TellsFailure};
 ghost use Rattle.schedule_replay.specs.CodeWorlds.{IsWorld, board_state};
 ghost use Rattle.schedule_replay.specs.Lending.{lent_desk};
 ghost use Rattle.schedule_replay.specs.WorldDesks.{state_of};
-ghost use Rattle.schedule_replay.specs.Worlds as worlds;
+ghost use Rattle.headline.specs.Worlds as worlds;
 ghost use Rattle.ground.specs.Replay as texts;
 
 use board::Board;

@@ -2,7 +2,7 @@
 
 ghost use Rattle.std.specs.Prelude.{◌≡◌, ◌≤◌, All, IfErr, IfOk};
 ghost use Rattle.schedule_replay.specs.CodeWorlds.{BeginsWorld};
-ghost use Rattle.schedule_replay.specs.Refusals.{IsEvent};
+ghost use Rattle.headline.specs.Events.{IsEvent};
 ghost use Rattle.ground.specs.ReplayRun.{IsStepped};
 
 use crate::fault::RunFault;

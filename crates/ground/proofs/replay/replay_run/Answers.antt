@@ -4,9 +4,9 @@ use Rattle.cards.specs.Sheet.{Sheet}
 use Rattle.cards.specs.declared.watched.Watched.{Watched}
 use Rattle.cards.specs.Watched.{stream_of}
 use Rattle.notation.specs.Lines.{lines_of}
-use Rattle.schedule_replay.specs.ScheduleLines.{IsScheduleOf}
-use Rattle.schedule_replay.specs.declared.event.Event.{Event}
-use Rattle.schedule_replay.specs.declared.version.FileVersion.{FileVersion}
+use Rattle.schedules.specs.ScheduleLines.{IsScheduleOf}
+use Rattle.headline.specs.declared.event.Event.{Event}
+use Rattle.headline.specs.declared.version.FileVersion.{FileVersion}
 use Rattle.ground.specs.declared.fault.RunFault.{RunFault}
 use Rattle.ground.specs.ReplayRun.{PrintsReplay, PrintsRun}
 use Rattle.ground.proofs.replay.replay_run.Goals as goal
