@@ -1,17 +1,16 @@
 //! Opening files of the host. Each fault names the file that was at work.
 
 ghost use Rattle.std.specs.Prelude.{◌≡◌, ◌≤◌, IfOk, vec_len};
-ghost use Rattle.ground.specs.declared.input.TheConstants.{LONGEST_INPUT};
+ghost use Rattle.host.specs.declared.limit.TheConstants.{LONGEST_INPUT};
+ghost use Rattle.ground.specs.Opening as texts;
 
-use crate::fault::RunFault;
-use crate::files::FileDisk;
-use crate::input::read_all;
-use crate::sheet::sheet_run;
 use agree_core::DeskId;
+use books::{RunFault, read_all, sheet_run};
 use cards::{MatchSheet, Watched};
 use entry_log::OldSlots;
+use host::{FileDisk, OpenFault};
 use std::fs::{File, OpenOptions};
-use vote_store::Votes;
+use vote_store::{Refusal, Votes};
 
 /// The most bytes that a new votes file can have: a header and 16,384 slots of 64 bytes each, and a gate.
 const LONGEST_FILE: usize = 1_048_641;
@@ -32,21 +31,41 @@ impl<'a> Stopped<'a> {
     }
 }
 
+/// The fault of a run that wants to read a file of which no disk is made.
+fn fault_of_old(fault: OpenFault) -> RunFault
+    ensures { result ≡ texts.fault_of_old fault }
+{
+    match fault {
+        OpenFault::NoMemory => RunFault::NoMemory,
+        OpenFault::Host | OpenFault::TooLong => RunFault::Read,
+    }
+}
+
+/// The fault of a run that wants a file without a byte: one that is too long isn't empty.
+fn fault_of_new(fault: OpenFault) -> RunFault
+    ensures { result ≡ texts.fault_of_new fault }
+{
+    match fault {
+        OpenFault::NoMemory => RunFault::NoMemory,
+        OpenFault::Host => RunFault::Device,
+        OpenFault::TooLong => RunFault::Votes(Refusal::File(entry_log::Refusal::NotEmpty)),
+    }
+}
+
+/// A file that is only read.
+fn file_at<'a>(rt: &HostRuntime, path: &'a str) -> Result<File, Stopped<'a>> {
+    File::open(rt, path).map_err(|_| Stopped::at(path, RunFault::Read))
+}
+
 /// Opens a file that is read from its front to its end.
 pub fn open_input<'a>(rt: &HostRuntime, path: &'a str) -> Result<Watched<File>, Stopped<'a>> {
-    match File::open(rt, path) {
-        Ok(file) => Ok(Watched::new(file)),
-        Err(_) => Err(Stopped::at(path, RunFault::Read)),
-    }
+    Ok(Watched::new(file_at(rt, path)?))
 }
 
 /// The match sheet in a file.
 pub fn sheet_at<'a>(rt: &HostRuntime, path: &'a str) -> Result<MatchSheet, Stopped<'a>> {
     let mut reader = open_input(rt, path)?;
-    match sheet_run(rt.alloc(), &mut reader) {
-        Ok(sheet) => Ok(sheet),
-        Err(fault) => Err(Stopped::at(path, fault)),
-    }
+    sheet_run(rt.alloc(), &mut reader).map_err(|fault| Stopped::at(path, fault))
 }
 
 /// All bytes of a file.
@@ -62,14 +81,8 @@ pub fn bytes_at<'a>(rt: &HostRuntime, path: &'a str) -> Result<Vec<u8>, Stopped<
 
 /// A disk on a file that is only read. A file of more than 16,777,216 bytes can't be read.
 fn reading_disk<'a>(rt: &HostRuntime, path: &'a str) -> Result<FileDisk<File>, Stopped<'a>> {
-    let file = match File::open(rt, path) {
-        Ok(file) => file,
-        Err(_) => return Err(Stopped::at(path, RunFault::Read)),
-    };
-    match FileDisk::new(rt.alloc(), file, 0) {
-        Ok(disk) => Ok(disk),
-        Err(fault) => Err(Stopped::at(path, fault.of_old())),
-    }
+    let file = file_at(rt, path)?;
+    FileDisk::new(rt.alloc(), file, 0).map_err(|fault| Stopped::at(path, fault_of_old(fault)))
 }
 
 /// A disk on a desk's votes file of version 1, whose votes were read once.
@@ -98,10 +111,10 @@ pub fn new_disk_at<'a>(rt: &HostRuntime, path: &'a str) -> Result<FileDisk<File>
         Ok(file) => file,
         Err(_) => return Err(Stopped::at(path, RunFault::Write)),
     };
-    match FileDisk::new(rt.alloc(), file, LONGEST_FILE) {
-        Ok(disk) => Ok(disk),
-        Err(fault) => Err(Stopped::at(path, fault.of_new())),
-    }
+    FileDisk::new(rt.alloc(), file, LONGEST_FILE).map_err(|fault| Stopped::at(
+        path,
+        fault_of_new(fault),
+    ))
 }
 
 /// A disk on a new file of this name in a folder.
@@ -114,8 +127,5 @@ pub fn new_disk_in<'a>(
         Ok(path) => path,
         Err(_) => return Err(Stopped::at(folder, RunFault::NoMemory)),
     };
-    match new_disk_at(rt, path.as_str()) {
-        Ok(disk) => Ok(disk),
-        Err(stopped) => Err(Stopped::at(folder, stopped.fault)),
-    }
+    new_disk_at(rt, path.as_str()).map_err(|stopped| Stopped::at(folder, stopped.fault))
 }

@@ -1,0 +1,2 @@
+pub mod TakenLines
+mod VotesBook

@@ -1,0 +1,97 @@
+-- The book that `card` makes of its input, or why it makes none.
+use Rattle.std.specs.Prelude.{◌≡◌, ◌≢◌, ℕ, ◌+◌, ◌==◌, nat_eq, false, if◌then◌else◌, List, [], ◌∷◌, ◌++◌, length, Option, Some, None, Result, Ok, Err, slice_get, unwrap_or}
+use Rattle.notation.specs.declared.entry.Entry.{Entry}
+use Rattle.corrections.specs.Refusal.{book_refusal}
+use Rattle.agree_core.specs.declared.messages.DeskId.{DeskId}
+use Rattle.agree_core.specs.declared.messages.Vote.{Vote}
+use Rattle.agree_core.specs.Ballots.{Ballot}
+use Rattle.agree_core.specs.Books.{AllTaken, FirstRefused, Rules, book_of, voted_list}
+use Rattle.entry_log.specs.Format.{contents}
+use Rattle.entry_log.specs.Version1.{version_1}
+use Rattle.entry_log.specs.Version2.{version_2}
+use Rattle.vote_store.specs.declared.refusal.Refusal.{Refusal}
+use Rattle.vote_store.specs.Sequence.{file_votes}
+use Rattle.vote_store.specs.View.{desk_code}
+use Rattle.cards.specs.Sheet.{Sheet}
+use Rattle.books.specs.declared.fault.RunFault.{RunFault}
+use Rattle.books.specs.declared.fault.RunFault.TheVariants.{NoMemory, Read, Write, Line, Votes, BadVotes}
+use Rattle.books.specs.declared.rejected.Rejected.{Rejected}
+use Rattle.books.specs.declared.card.Source.{Source}
+use Rattle.books.specs.declared.card.Source.TheVariants as source
+use Rattle.books.specs.declared.card.Source.TheVariants.{Lines}
+use Rattle.notation.specs.Lines.{lines_of}
+use Rattle.books.specs.Output.{answer_to, book_after}
+
+-- the number of the first of these lines that isn't taken, and why: they are numbered from n, after the entries
+-- taken before
+abbrev pub first_rejected : ℕ → ℕ → List Entry → List (List ℕ) → Option (ℕ × Rejected)
+first_rejected innings n book [] = None
+first_rejected innings n book (line ∷ lines) = elim (answer_to innings book line) [
+  | Ok e ↦ first_rejected innings (n + 1) (book ++ e ∷ []) lines
+  | Err why ↦ Some (n, why)
+]
+
+-- each line of an input is taken, and these are their entries
+pub record IsBookOfLines (innings : ℕ) (input : List ℕ) (book : List Entry) : Type 0 where
+  pub taken : first_rejected innings 1 [] (lines_of input) ≡ None
+  pub entries : book ≡ book_after innings [] (lines_of input)
+
+-- the fault names the first line that isn't taken, and why
+abbrev pub NamesFirstRejected : ℕ → List ℕ → RunFault → Type 0
+NamesFirstRejected innings input (Line number why) = first_rejected innings 1 [] (lines_of input) ≡ Some (number, why)
+NamesFirstRejected innings input _ = ⊥
+
+abbrev pub WhyNoBookOfLines : ℕ → List ℕ → RunFault → Type 0
+WhyNoBookOfLines innings input NoMemory = Unit {0}
+WhyNoBookOfLines innings input fault = NamesFirstRejected innings input fault
+
+-- the votes of a desk's file of a match, by the version that byte 7 of the file names
+abbrev pub votes_in_file : DeskId → ℕ → List ℕ → Result (List Ballot) Refusal
+votes_in_file desk game file =
+    if unwrap_or (slice_get file 7) 0 == 1
+    then file_votes (contents version_1) (desk_code desk) game file
+    else file_votes (contents version_2) (desk_code desk) game file
+
+-- the last votes of all places, the last voted one included, are a legal book, and the book has all but that one
+pub record IsBookOf (innings : ℕ) (votes : List Ballot) (book : List Entry) : Type 0 where
+  pub taken : AllTaken (book_refusal innings) [] (voted_list votes)
+  pub entries : book ≡ book_of votes
+
+-- these votes were read, and this is their book
+abbrev pub IsBookOfVotes : ℕ → Result (List Ballot) Refusal → List Entry → Type 0
+IsBookOfVotes innings (Ok votes) book = IsBookOf innings votes book
+IsBookOfVotes innings (Err why) book = ⊥
+
+-- the fault names the first place at which the last votes of all places are no legal book
+abbrev pub NamesBadVotes : {Why : Type 0} → Rules Why → List Ballot → RunFault → Type 0
+NamesBadVotes rules votes (BadVotes place) = FirstRefused rules [] (voted_list votes) place
+NamesBadVotes rules votes _ = ⊥
+
+-- the fault of the file that was read, or the first place at which its votes are no legal book
+abbrev pub WhyNoBookOfVotes : ℕ → Result (List Ballot) Refusal → RunFault → Type 0
+WhyNoBookOfVotes innings shown NoMemory = Unit {0}
+WhyNoBookOfVotes innings (Err why) fault = fault ≡ Votes why
+WhyNoBookOfVotes innings (Ok votes) fault = NamesBadVotes (book_refusal innings) votes fault
+
+-- the book of an input, with the match and the innings of a sheet
+abbrev pub IsBookFrom : Source → Sheet → List ℕ → List Entry → Type 0
+IsBookFrom Lines s input book = IsBookOfLines s.innings input book
+IsBookFrom (source.Votes desk) s input book = IsBookOfVotes s.innings (votes_in_file desk s.game input) book
+
+abbrev pub WhyNoBook : Source → Sheet → List ℕ → RunFault → Type 0
+WhyNoBook Lines s input fault = WhyNoBookOfLines s.innings input fault
+WhyNoBook (source.Votes desk) s input fault = WhyNoBookOfVotes s.innings (votes_in_file desk s.game input) fault
+
+-- a read or a write failed, or the input has no book
+abbrev pub WhyNoCard : Source → Sheet → List ℕ → RunFault → Type 0
+WhyNoCard from s input Read = Unit {0}
+WhyNoCard from s input Write = Unit {0}
+WhyNoCard from s input fault = WhyNoBook from s input fault
+
+-- ---- for private functions
+
+-- the book doesn't take what the last vote would close it with, at this place
+abbrev pub IsNotClosed : {Why : Type 0} → Rules Why → List Entry → Option Vote → ℕ → RunFault → Type 0
+IsNotClosed rules book None place fault = ⊥
+IsNotClosed rules book (Some last) place fault =
+    (nat_eq place last.place ≡ false) × (rules book last.entry ≢ None) × (fault ≡ BadVotes (length book))

@@ -1,0 +1,87 @@
+-- What a run's fault is called, and the line that standard error has of it.
+use Rattle.std.specs.Prelude.{ℕ, List, ◌++◌, codes, decimal, Bool, true, false, Option, Some, None}
+use Rattle.cards.specs.SheetFault.{number_of}
+use Rattle.cards.specs.declared.fault.SheetFault.{SheetFault}
+use Rattle.cards.specs.declared.fault.SheetFault.TheVariants as sheets
+use Rattle.schedules.specs.ScheduleFault as schedule
+use Rattle.schedules.specs.declared.schedule_fault.ScheduleFault.{ScheduleFault}
+use Rattle.schedules.specs.declared.schedule_fault.ScheduleFault.TheVariants as schedules
+use Rattle.vote_store.specs.Refusal.{number, name}
+use Rattle.vote_store.specs.declared.refusal.Refusal.{Refusal}
+use Rattle.vote_store.specs.declared.refusal.Refusal.TheVariants as votes
+use Rattle.entry_log.specs.declared.refusal.Refusal.TheVariants as files
+use Rattle.books.specs.declared.fault.RunFault.{RunFault}
+use Rattle.books.specs.declared.fault.RunFault.TheVariants.{NoMemory, Read, Write, Device, Sheet, Schedule, Votes, BadVotes, Line, NotAgreed}
+use Rattle.books.specs.Rejected.{rejection_line}
+
+-- the fault of a run over a sheet that is refused: want of memory is its own
+abbrev pub of_sheet : SheetFault → RunFault
+of_sheet sheets.NoMemory = NoMemory
+of_sheet why = Sheet why
+
+-- the same of a schedule
+abbrev pub of_schedule : ScheduleFault → RunFault
+of_schedule schedules.NoMemory = NoMemory
+of_schedule why = Schedule why
+
+-- the fault of a run over a votes file that is refused: want of memory and a failing disk are their own
+abbrev pub of_votes : Refusal → RunFault
+of_votes votes.NoMemory = NoMemory
+of_votes (votes.File files.Device) = Device
+of_votes why = Votes why
+
+-- whether a sheet, a schedule, a votes file or a line is refused for what it holds, and no memory, stream or disk is to blame
+abbrev pub is_refusal : RunFault → Bool
+is_refusal (Sheet sheets.NoMemory) = false
+is_refusal (Sheet why) = true
+is_refusal (Schedule schedules.NoMemory) = false
+is_refusal (Schedule why) = true
+is_refusal (Votes votes.NoMemory) = false
+is_refusal (Votes (votes.File files.Device)) = false
+is_refusal (Votes why) = true
+is_refusal (BadVotes place) = true
+is_refusal (Line number why) = true
+is_refusal fault = false
+
+-- the name of a sheet's fault
+abbrev pub sheet_name : SheetFault → List ℕ
+sheet_name sheets.NoMemory = codes "NoMemory"
+sheet_name sheets.NotToml = codes "NotToml"
+sheet_name sheets.MissingKey = codes "MissingKey"
+sheet_name sheets.WrongKind = codes "WrongKind"
+sheet_name sheets.BadText = codes "BadText"
+sheet_name sheets.BadNumber = codes "BadNumber"
+sheet_name sheets.NotEleven = codes "NotEleven"
+
+-- the line of a refusal: of what it is, its number and its name
+abbrev pub refusal_line : List ℕ → ℕ → List ℕ → List ℕ
+refusal_line what n called = what ++ codes ": " ++ decimal n ++ codes " " ++ called ++ codes "\n"
+
+-- want of memory has no number
+abbrev pub numbered_line : List ℕ → Option ℕ → List ℕ → List ℕ
+numbered_line what (Some n) called = refusal_line what n called
+numbered_line what None called = codes "no memory\n"
+
+abbrev pub sheet_line : SheetFault → List ℕ
+sheet_line why = numbered_line (codes "sheet") (number_of why) (sheet_name why)
+
+abbrev pub schedule_line : ScheduleFault → List ℕ
+schedule_line why = numbered_line (codes "schedule") (schedule.number_of why) (schedule.name_of why)
+
+-- a disk that fails is told as an output that does
+abbrev pub votes_line : Refusal → List ℕ
+votes_line (votes.File files.Device) = codes "cannot write\n"
+votes_line why = numbered_line (codes "votes") (number why) (name why)
+
+-- the line of a fault that was met at this path
+abbrev pub fault_line : List ℕ → RunFault → List ℕ
+fault_line path NoMemory = codes "no memory\n"
+fault_line path Read = codes "cannot read " ++ path ++ codes "\n"
+fault_line path Write = codes "cannot write\n"
+fault_line path Device = codes "cannot write\n"
+fault_line path (Sheet why) = sheet_line why
+fault_line path (Schedule why) = schedule_line why
+fault_line path (Votes why) = votes_line why
+fault_line path (BadVotes place) = codes "votes: 64 BadVotes\n"
+fault_line path (Line number why) = rejection_line number why
+fault_line path (NotAgreed place) = codes "place " ++ decimal place ++ codes " not agreed in 50 turns\n"

@@ -1,0 +1,29 @@
+-- Which entries are taken: what the entries taken so far make of a line, in a match of so many innings a side.
+use Rattle.std.specs.Prelude.{ℕ, Bool, nat_le, if◌then◌else◌, List, length}
+use Rattle.std.specs.Prelude.{Option, Some, None, Result, Ok, Err}
+use Rattle.notation.specs.declared.entry.Entry.{Entry}
+use Rattle.notation.specs.declared.fault.LineFault.{LineFault}
+use Rattle.corrections.specs.declared.refusal.Refusal.{Refusal as BookRefusal}
+use Rattle.corrections.specs.Refusal.{book_refusal}
+use Rattle.books.specs.declared.rejected.Refusal.TheVariants.{PlacesFull, Book}
+use Rattle.books.specs.declared.rejected.Rejected.{Rejected}
+use Rattle.books.specs.declared.rejected.Rejected.TheVariants.{Fault, Refused}
+
+-- a book has 8,192 places
+abbrev pub is_full : List Entry → Bool
+is_full book = nat_le 8192 (length book)
+
+-- the entry, unless the book refuses it
+abbrev pub unless_refused : Option BookRefusal → Entry → Result Entry Rejected
+unless_refused None e = Ok e
+unless_refused (Some why) e = Err (Refused (Book why))
+
+-- what the book makes of an entry: the entry, to be taken, or why it isn't
+abbrev pub taking : ℕ → List Entry → Entry → Result Entry Rejected
+taking innings book e =
+    if is_full book then Err (Refused PlacesFull) else unless_refused (book_refusal innings book e) e
+
+-- the same of a line as it was read
+abbrev pub answer : ℕ → List Entry → Result Entry LineFault → Result Entry Rejected
+answer innings book (Err fault) = Err (Fault fault)
+answer innings book (Ok e) = taking innings book e

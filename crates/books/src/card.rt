@@ -1,0 +1,81 @@
+//! `ground card`: the cards of a book, which is made of pen lines or of a desk's votes file.
+
+ghost use Rattle.std.specs.Prelude.{◌≡◌, ◌≢◌, ◌≤◌, ◌<◌, ◌⊎◌, true, length, Err, IfOk, IfErr, IfSome, OnOk};
+ghost use Rattle.cards.specs.Watched.{stream_of, has_failed};
+ghost use Rattle.books.specs.Card.{PrintsCard};
+ghost use Rattle.books.specs.CardBook.{IsBookFrom, WhyNoBook, WhyNoCard};
+
+mod pen_lines;
+mod print;
+mod votes_file;
+
+use crate::fault::RunFault;
+use crate::input::read_all;
+use agree_core::DeskId;
+use cards::{MatchSheet, Watched};
+use corrections::CheckedBook;
+use host::LONGEST_INPUT;
+use pen_lines::book_of_lines;
+use print::print_card;
+use std::alloc::Global;
+use std::io::{Read, Write};
+use votes_file::book_of_file;
+
+/// What a book is made of.
+#[derive(Clone, Copy, Debug, PartialEq, Eq)]
+pub enum Source {
+    /// Pen lines.
+    Lines,
+    /// The votes file of a desk, of either version.
+    Votes(DeskId),
+}
+
+/// The book of an input.
+fn book_from(
+    alloc: Global,
+    sheet: &MatchSheet,
+    source: Source,
+    input: &[u8],
+) -> Result<CheckedBook, RunFault>
+    requires { length input.now ≤ LONGEST_INPUT }
+    ensures book { IfOk result (λ book. IsBookFrom source sheet.now input.now book.entries) }
+    ensures why { IfErr result (WhyNoBook source sheet.now input.now) }
+{
+    let innings = sheet.innings();
+    match source {
+        Source::Lines => book_of_lines(alloc, innings, input),
+        Source::Votes(desk) => book_of_file(alloc, innings, desk, sheet.game(), input),
+    }
+}
+
+/// `ground card`: reads pen lines or a votes file to the end, and prints both cards of each innings of their book
+/// and then its page. Where a line isn't taken, or the file or its votes are refused, nothing is written.
+pub fn card_run<R: Read, W: Write>(
+    alloc: Global,
+    sheet: &MatchSheet,
+    source: Source,
+    reader: &mut Watched<R>,
+    writer: &mut Watched<W>,
+) -> Result<(), RunFault>
+    ensures written { OnOk result (IfSome (R.remaining (stream_of reader.old)) (λ input.
+        PrintsCard W.contents writer.old writer.new source sheet.now input)) }
+    ensures why { IfErr result (λ fault. IfSome (R.remaining (stream_of reader.old)) (λ input.
+        WhyNoCard source sheet.now input fault)) }
+
+    // A read fault comes only where a read failed or the input is too long, and a write fault only where a
+    // write failed.
+    ensures read { result ≡ Err RunFault.Read → (has_failed reader.new ≡ true)
+        ⊎ IfSome (R.remaining (stream_of reader.old)) (λ input. LONGEST_INPUT < length input) }
+    ensures write { result ≡ Err RunFault.Write → has_failed writer.new ≡ true }
+    ensures sound { OnOk result (has_failed writer.new ≡ has_failed writer.old) }
+
+    // With any other fault nothing was written.
+    ensures unwritten { IfErr result (λ fault. fault ≢ RunFault.Write → writer.new ≡ writer.old) }
+{
+    let input = read_all(alloc, reader)?;
+    let book = book_from(alloc, sheet, source, input.as_slice())?;
+    match print_card(sheet, &book, writer) {
+        Ok(()) => Ok(()),
+        Err(_) => Err(RunFault::Write),
+    }
+}

@@ -1,0 +1,60 @@
+//! The printed cards of a book.
+
+ghost use Rattle.std.specs.Prelude.{◌<◌, OnOk};
+ghost use Rattle.match_laws.specs.History.{begun};
+ghost use Rattle.match_laws.specs.Stands.{ForEachHistory, begun_in};
+ghost use Rattle.cards.specs.Watched.{Prints, TellsFailure};
+ghost use Rattle.books.specs.Card.{both_cards, card_text, cards_of};
+
+use cards::{MatchSheet, Watched, WriteFailed, batting_card, book_page, bowling_card};
+use corrections::BookOf;
+use match_laws::Match;
+use std::io::Write;
+
+/// Prints both cards of an innings.
+fn print_both<W: Write>(
+    sheet: &MatchSheet,
+    game: &Match,
+    innings: usize,
+    out: &mut Watched<W>,
+) -> Result<(), WriteFailed>
+    requires { innings < begun_in game.now }
+    ensures text { ForEachHistory game.now (λ n h.
+        OnOk result (Prints W.contents out.old out.new (both_cards sheet.now h innings))) }
+    ensures failed { TellsFailure result out.old out.new }
+{
+    batting_card(sheet, game, innings, out)?;
+    bowling_card(sheet, game, innings, out)
+}
+
+/// Prints both cards of each innings.
+fn print_innings<W: Write>(
+    sheet: &MatchSheet,
+    game: &Match,
+    out: &mut Watched<W>,
+) -> Result<(), WriteFailed>
+    ensures text { ForEachHistory game.now (λ n h.
+        OnOk result (Prints W.contents out.old out.new (cards_of sheet.now h (begun h)))) }
+    ensures failed { TellsFailure result out.old out.new }
+{
+    for innings in 0..game.begun() {
+        print_both(sheet, game, innings, out)?;
+    }
+    Ok(())
+}
+
+/// Prints both cards of each innings of a book, and then its page. It fails only where a write fails; how much
+/// was written then isn't said.
+pub fn print_card<W: Write, B: BookOf>(
+    sheet: &MatchSheet,
+    book: &B,
+    out: &mut Watched<W>,
+) -> Result<(), WriteFailed>
+    ensures text { OnOk result (Prints W.contents out.old out.new
+        (card_text sheet.now (B.content book.now))) }
+    ensures failed { TellsFailure result out.old out.new }
+{
+    print_innings(sheet, book.score(), out)?;
+    book_page(sheet, book, out)?;
+    out.flush()
+}

@@ -1,0 +1,119 @@
+//! `ground check`: pen lines in, what isn't taken and the board out.
+
+ghost use Rattle.std.specs.Prelude.{◌≡◌, ◌≢◌, ◌≤◌, ◌<◌, ◌⊎◌, [], length, not, true, false};
+ghost use Rattle.std.specs.Prelude.{Err, IfOk, IfErr, IfSome, OnOk};
+ghost use Rattle.cards.specs.Watched.{Prints, TellsFailure, stream_of, has_failed};
+ghost use Rattle.books.specs.Fault.{is_refusal};
+ghost use Rattle.notation.specs.Lines.{lines_of};
+ghost use Rattle.books.specs.Table.{IsInStep, agreed_in, innings_in};
+ghost use Rattle.books.specs.Output as output;
+ghost use Rattle.books.specs.Output.{answer_to, with_taken, printed, is_rejected, has_rejected, output_of};
+
+use crate::fault::RunFault;
+use crate::input::read_all;
+use crate::rejected::print_rejected;
+use crate::table::Table;
+use cards::{MatchSheet, Watched, WriteFailed, board_lines, plain_sheet};
+use corrections::BookOf;
+use host::LONGEST_INPUT;
+use notation::Lines;
+use std::alloc::Global;
+use std::io::{Read, Write};
+
+/// Takes one line, or prints why it isn't taken. The answer is whether it was taken.
+fn take_line<W: Write>(
+    table: &mut Table,
+    out: &mut Watched<W>,
+    number: u64,
+    line: &[u8],
+) -> Result<bool, WriteFailed>
+    requires { IsInStep table.old }
+    ensures in_step { IsInStep table.new }
+    ensures book { agreed_in table.new ≡
+        with_taken (answer_to (innings_in table.old) (agreed_in table.old) line.now) (agreed_in table.old) }
+    ensures same_match { innings_in table.new ≡ innings_in table.old }
+    ensures printed { OnOk result (Prints W.contents out.old out.new
+        (printed number (answer_to (innings_in table.old) (agreed_in table.old) line.now))) }
+    ensures taken { IfOk result (λ taken.
+        taken ≡ not (is_rejected (answer_to (innings_in table.old) (agreed_in table.old) line.now))) }
+    ensures failed { TellsFailure result out.old out.new }
+{
+    match table.take(line) {
+        Ok(()) => Ok(true),
+        Err(why) => {
+            print_rejected(out, number, why)?;
+            Ok(false)
+        }
+    }
+}
+
+/// Takes the lines of an input, and prints what isn't taken and the board. The answer is whether a line
+/// wasn't taken.
+fn check_lines<W: Write>(
+    table: &mut Table,
+    sheet: &MatchSheet,
+    out: &mut Watched<W>,
+    input: &[u8],
+) -> Result<bool, WriteFailed>
+    requires short { length input.now ≤ LONGEST_INPUT }
+    requires in_step { IsInStep table.old }
+    requires empty { agreed_in table.old ≡ [] }
+    requires plain { sheet.now ≡ output.sheet (innings_in table.old) }
+    ensures written { OnOk result (Prints W.contents out.old out.new (output_of (innings_in table.old) input.now)) }
+    ensures rejected { IfOk result (λ rejected.
+        rejected ≡ has_rejected (innings_in table.old) [] (lines_of input.now)) }
+    ensures failed { TellsFailure result out.old out.new }
+{
+    let mut lines = Lines::new(input);
+    let mut number = 0;
+    let mut rejected = false;
+    while let Some(line) = lines.next() {
+        number += 1;
+        let taken = take_line(table, out, number, line)?;
+        rejected |= !taken;
+    }
+    board_lines(sheet, table.book.score(), out)?;
+    out.flush()?;
+    Ok(rejected)
+}
+
+/// `ground check`: reads pen lines to the end, has two seats agree each that the book takes, in a match of so
+/// many innings a side, and writes a line for each that isn't taken and then the six board lines of the book.
+/// The answer is whether a line wasn't taken.
+pub fn check_run<R: Read, W: Write>(
+    alloc: Global,
+    innings: u32,
+    reader: &mut Watched<R>,
+    writer: &mut Watched<W>,
+) -> Result<bool, RunFault>
+    requires { (1 ≤ innings) × (innings ≤ 2) }
+    ensures written { OnOk result (IfSome (R.remaining (stream_of reader.old)) (λ input.
+        Prints W.contents writer.old writer.new (output_of innings input))) }
+    ensures rejected { IfOk result (λ rejected. IfSome (R.remaining (stream_of reader.old)) (λ input.
+        rejected ≡ has_rejected innings [] (lines_of input))) }
+
+    // A read fault comes only where a read failed or the input is too long, and a write fault only where a
+    // write failed.
+    ensures read { result ≡ Err RunFault.Read → (has_failed reader.new ≡ true)
+        ⊎ IfSome (R.remaining (stream_of reader.old)) (λ input. LONGEST_INPUT < length input) }
+    ensures write { result ≡ Err RunFault.Write → has_failed writer.new ≡ true }
+    ensures sound { OnOk result (has_failed writer.new ≡ has_failed writer.old) }
+    ensures no_refusal { IfErr result (λ fault. is_refusal fault ≡ false) }
+
+    // With a read fault or for want of memory nothing was written.
+    ensures unwritten { IfErr result (λ fault. fault ≢ RunFault.Write → writer.new ≡ writer.old) }
+{
+    let input = read_all(alloc, reader)?;
+    let mut table = match Table::new(alloc, innings) {
+        Ok(table) => table,
+        Err(_) => return Err(RunFault::NoMemory),
+    };
+    let sheet = match plain_sheet(alloc, 0, innings) {
+        Ok(sheet) => sheet,
+        Err(_) => return Err(RunFault::NoMemory),
+    };
+    match check_lines(&mut table, &sheet, writer, input.as_slice()) {
+        Ok(rejected) => Ok(rejected),
+        Err(_) => Err(RunFault::Write),
+    }
+}

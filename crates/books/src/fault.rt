@@ -1,0 +1,182 @@
+//! Why a run ends before its end, and the line that standard error has of it.
+
+ghost use Rattle.std.specs.Prelude.{◌≡◌, OnOk};
+ghost use Rattle.cards.specs.Watched.{Prints, TellsFailure};
+ghost use Rattle.books.specs.Fault as texts;
+
+use crate::rejected::{Rejected, print_rejected};
+use cards::{SheetFault, Watched, WriteFailed};
+use schedules::ScheduleFault;
+use std::io::Write;
+use thiserror::Error;
+
+/// Why a run ends before its end.
+#[derive(Clone, Copy, Debug, PartialEq, Eq, Error)]
+pub enum RunFault {
+    /// Memory was refused.
+    #[error("no memory")]
+    NoMemory,
+    /// A read failed or was interrupted, or the input is longer than 16,777,216 bytes.
+    #[error("cannot read")]
+    Read,
+    /// A write failed.
+    #[error("cannot write")]
+    Write,
+    /// The disk of a votes file failed.
+    #[error("cannot write")]
+    Device,
+    /// The sheet is refused.
+    #[error("sheet: {0}")]
+    Sheet(SheetFault),
+    /// The schedule is refused.
+    #[error("schedule: {0}")]
+    Schedule(ScheduleFault),
+    /// A votes file is refused.
+    #[error("votes: {0}")]
+    Votes(vote_store::Refusal),
+    /// The votes of a file are no legal book: this is the first place whose last vote is refused.
+    #[error("votes: BadVotes")]
+    BadVotes { place: u32 },
+    /// A pen line isn't taken. Lines are numbered from 1.
+    #[error("line {number}")]
+    Line { number: u64, why: Rejected },
+    /// The stations didn't agree this place in fifty turns each.
+    #[error("place {place} not agreed in 50 turns")]
+    NotAgreed { place: u32 },
+}
+
+impl RunFault {
+    /// Whether a sheet, a schedule, a votes file or a line is refused for what it holds, and no memory, stream or
+    /// disk is to blame.
+    pub fn is_refusal(self) -> bool
+        ensures { result ≡ texts.is_refusal self }
+    {
+        match self {
+            RunFault::Sheet(SheetFault::NoMemory) => false,
+            RunFault::Votes(vote_store::Refusal::NoMemory) => false,
+            RunFault::Votes(vote_store::Refusal::File(entry_log::Refusal::Device)) => false,
+            RunFault::Schedule(ScheduleFault::NoMemory) => false,
+            RunFault::Sheet(_) | RunFault::Schedule(_) | RunFault::Votes(_) => true,
+            RunFault::BadVotes { .. } | RunFault::Line { .. } => true,
+            _ => false,
+        }
+    }
+}
+
+impl From<SheetFault> for RunFault {
+    ghost use Rattle.books.specs.Fault.{of_sheet};
+
+    ghost from_gives = { λ why fault. fault ≡ of_sheet why };
+
+    fn from(why: SheetFault) -> Self {
+        match why {
+            SheetFault::NoMemory => RunFault::NoMemory,
+            _ => RunFault::Sheet(why),
+        }
+    }
+}
+
+impl From<ScheduleFault> for RunFault {
+    ghost use Rattle.books.specs.Fault.{of_schedule};
+
+    ghost from_gives = { λ why fault. fault ≡ of_schedule why };
+
+    fn from(why: ScheduleFault) -> Self {
+        match why {
+            ScheduleFault::NoMemory => RunFault::NoMemory,
+            _ => RunFault::Schedule(why),
+        }
+    }
+}
+
+impl From<vote_store::Refusal> for RunFault {
+    ghost use Rattle.books.specs.Fault.{of_votes};
+
+    ghost from_gives = { λ why fault. fault ≡ of_votes why };
+
+    fn from(why: vote_store::Refusal) -> Self {
+        match why {
+            vote_store::Refusal::NoMemory => RunFault::NoMemory,
+            vote_store::Refusal::File(entry_log::Refusal::Device) => RunFault::Device,
+            _ => RunFault::Votes(why),
+        }
+    }
+}
+
+/// The name of a sheet's fault.
+pub fn sheet_name(why: SheetFault) -> &'static str
+    ensures { result.now ≡ texts.sheet_name why }
+{
+    match why {
+        SheetFault::NoMemory => "NoMemory",
+        SheetFault::NotToml => "NotToml",
+        SheetFault::MissingKey => "MissingKey",
+        SheetFault::WrongKind => "WrongKind",
+        SheetFault::BadText => "BadText",
+        SheetFault::BadNumber => "BadNumber",
+        SheetFault::NotEleven => "NotEleven",
+    }
+}
+
+fn print_sheet_fault<W: Write>(out: &mut Watched<W>, why: SheetFault) -> Result<(), WriteFailed>
+    ensures text { OnOk result (Prints W.contents out.old out.new (texts.sheet_line why)) }
+    ensures failed { TellsFailure result out.old out.new }
+{
+    let name = sheet_name(why);
+    match why.number() {
+        Some(number) => writeln!(out, "sheet: {number} {name}"),
+        None => writeln!(out, "no memory"),
+    }
+}
+
+fn print_schedule_fault<W: Write>(
+    out: &mut Watched<W>,
+    why: ScheduleFault,
+) -> Result<(), WriteFailed>
+    ensures text { OnOk result (Prints W.contents out.old out.new (texts.schedule_line why)) }
+    ensures failed { TellsFailure result out.old out.new }
+{
+    match why.number() {
+        Some(number) => writeln!(out, "schedule: {number} {why}"),
+        None => writeln!(out, "no memory"),
+    }
+}
+
+fn print_votes_fault<W: Write>(
+    out: &mut Watched<W>,
+    why: vote_store::Refusal,
+) -> Result<(), WriteFailed>
+    ensures text { OnOk result (Prints W.contents out.old out.new (texts.votes_line why)) }
+    ensures failed { TellsFailure result out.old out.new }
+{
+    if let vote_store::Refusal::File(entry_log::Refusal::Device) = why {
+        return writeln!(out, "cannot write");
+    }
+    match why.number() {
+        Some(number) => writeln!(out, "votes: {number} {why}"),
+        None => writeln!(out, "no memory"),
+    }
+}
+
+/// Prints the line that standard error has of a fault. `path` is the file that was at work, `-` for standard
+/// input.
+pub fn print_fault<W: Write>(
+    out: &mut Watched<W>,
+    path: &str,
+    fault: RunFault,
+) -> Result<(), WriteFailed>
+    ensures text { OnOk result (Prints W.contents out.old out.new (texts.fault_line path.now fault)) }
+    ensures failed { TellsFailure result out.old out.new }
+{
+    match fault {
+        RunFault::NoMemory => writeln!(out, "no memory"),
+        RunFault::Read => writeln!(out, "cannot read {path}"),
+        RunFault::Write | RunFault::Device => writeln!(out, "cannot write"),
+        RunFault::Sheet(why) => print_sheet_fault(out, why),
+        RunFault::Schedule(why) => print_schedule_fault(out, why),
+        RunFault::Votes(why) => print_votes_fault(out, why),
+        RunFault::BadVotes { .. } => writeln!(out, "votes: 64 BadVotes"),
+        RunFault::Line { number, why } => print_rejected(out, number, why),
+        RunFault::NotAgreed { place } => writeln!(out, "place {place} not agreed in 50 turns"),
+    }
+}

@@ -1,0 +1,36 @@
+//! Two desks at one table.
+
+ghost use Rattle.std.specs.Prelude.{◌≡◌, ◌+◌, ◌<◌, true};
+ghost use Rattle.agree_core.specs.declared.messages.DeskId.TheVariants.{A, B};
+ghost use Rattle.books.specs.Seats.{free_at};
+
+use agree_core::{DeskId, Heard, Seat, Settled, Vote};
+use notation::Entry;
+
+/// The vote of a desk for an entry in the first round of a place.
+fn first_vote(desk: DeskId, place: u32, entry: Entry) -> Vote
+    ensures { result ≡ record { desk = desk; place = place; round = 0; entry = entry } }
+{
+    Vote {
+        desk,
+        place,
+        round: 0,
+        entry,
+    }
+}
+
+/// Has both desks vote for an entry, each hearing the other's vote: both answer that it is agreed.
+pub fn agree(a: &mut Seat, b: &mut Seat, entry: &Entry, place: u32) -> bool
+    requires places { place < 8192 }
+    requires first { a.old ≡ free_at A place }
+    requires second { b.old ≡ free_at B place }
+    ensures agreed { result ≡ true }
+    ensures first { a.new ≡ free_at A (place + 1) }
+    ensures second { b.new ≡ free_at B (place + 1) }
+{
+    let _pending = a.cast(*entry);
+    let _noted = b.hear(&first_vote(DeskId::A, place, *entry));
+    let settled = b.cast(*entry);
+    let heard = a.hear(&first_vote(DeskId::B, place, *entry));
+    settled == Settled::Agreed && heard == Heard::Agreed
+}

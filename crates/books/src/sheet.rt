@@ -1,0 +1,26 @@
+//! Reading a match sheet from a file.
+
+ghost use Rattle.std.specs.Prelude.{◌≡◌, ◌<◌, ◌⊎◌, length, true, Err, IfErr, IfSome};
+ghost use Rattle.cards.specs.Watched.{stream_of, has_failed};
+ghost use Rattle.books.specs.SheetText.{IsSheetFault, Tells};
+
+use crate::fault::RunFault;
+use crate::input::read_all;
+use cards::{MatchSheet, Watched, read_sheet};
+use host::LONGEST_INPUT;
+use std::alloc::Global;
+use std::io::Read;
+
+/// Reads a match sheet to the end of its file. A sheet that is refused is `Sheet` with its first fault.
+pub fn sheet_run<R: Read>(alloc: Global, reader: &mut Watched<R>) -> Result<MatchSheet, RunFault>
+    ensures told { IfSome (R.remaining (stream_of reader.old)) (λ bytes. Tells bytes result) }
+    ensures only { IfErr result IsSheetFault }
+    ensures read { result ≡ Err RunFault.Read → (has_failed reader.new ≡ true)
+        ⊎ IfSome (R.remaining (stream_of reader.old)) (λ bytes. LONGEST_INPUT < length bytes) }
+{
+    let text = read_all(alloc, reader)?;
+    match read_sheet(alloc, text.as_slice()) {
+        Ok(sheet) => Ok(sheet),
+        Err(why) => Err(RunFault::from(why)),
+    }
+}

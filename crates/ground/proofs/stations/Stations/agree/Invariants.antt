@@ -1,8 +1,0 @@
-use Rattle.board.specs.Board.{SameMatch}
-use Rattle.ground.specs.Turns.{KeepsTurn}
-use Rattle.ground.proofs.stations.Stations.agree.Given as goal
-
-abbrev pub invariant-loop : goal.invariant-loop
-invariant-loop g l =
-    KeepsTurn l.initial.self.a l.self.a × KeepsTurn l.initial.self.b l.self.b
-    × SameMatch (λ book. book.innings_a_side) l.initial.self.board l.self.board

@@ -1,5 +1,0 @@
-use Rattle.ground.proofs.TurnLemmas.{voted}
-use Rattle.ground.proofs.stations.pen.Goals as goal
-
-pub returns-in-Ok-clause-voted : goal.returns-in-Ok-clause-voted
-returns-in-Ok-clause-voted g c = λ level. voted c.args.desk.now c.pen.new.self c.args.entry.now _ level c.in-Ok.ensures.owner c.in-Ok.ensures.step c.in-Ok.ensures.blame

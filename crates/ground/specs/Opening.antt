@@ -1,0 +1,18 @@
+-- The fault of a run over a file of which no disk is made.
+use Rattle.vote_store.specs.Refusal.{not_empty}
+use Rattle.host.specs.declared.file_disk.OpenFault.{OpenFault}
+use Rattle.host.specs.declared.file_disk.OpenFault.TheVariants.{NoMemory, Host, TooLong}
+use Rattle.books.specs.declared.fault.RunFault.{RunFault}
+use Rattle.books.specs.declared.fault.RunFault.TheVariants as faults
+
+-- where the file is to be read
+abbrev pub fault_of_old : OpenFault → RunFault
+fault_of_old NoMemory = faults.NoMemory
+fault_of_old Host = faults.Read
+fault_of_old TooLong = faults.Read
+
+-- and where a file without a byte is wanted: one that is too long isn't empty
+abbrev pub fault_of_new : OpenFault → RunFault
+fault_of_new NoMemory = faults.NoMemory
+fault_of_new Host = faults.Device
+fault_of_new TooLong = faults.Votes not_empty

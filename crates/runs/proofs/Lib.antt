@@ -1,0 +1,4 @@
+mod MatchLines
+mod ReplayTexts
+mod TurnLemmas
+mod WorldRuns

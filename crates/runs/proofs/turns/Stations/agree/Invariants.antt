@@ -1,0 +1,8 @@
+use Rattle.board.specs.Board.{SameMatch}
+use Rattle.runs.specs.Turns.{KeepsTurn}
+use Rattle.runs.proofs.turns.Stations.agree.Given as goal
+
+abbrev pub invariant-loop : goal.invariant-loop
+invariant-loop g l =
+    KeepsTurn l.initial.self.a l.self.a × KeepsTurn l.initial.self.b l.self.b
+    × SameMatch (λ book. book.innings_a_side) l.initial.self.board l.self.board

@@ -1,0 +1,23 @@
+-- What a migration prints, and why one isn't made.
+use Rattle.std.specs.Prelude.{◌≡◌, ◌<◌, ◌⊎◌, ℕ, List, ◌++◌, codes, decimal, length, Err, IsOk}
+use Rattle.entry_log.specs.Format.{contents}
+use Rattle.entry_log.specs.Version1.{version_1}
+use Rattle.vote_store.specs.Refusal.{not_empty}
+use Rattle.vote_store.specs.Sequence.{file_votes}
+use Rattle.books.specs.declared.fault.RunFault.{RunFault}
+use Rattle.books.specs.declared.fault.RunFault.TheVariants.{NoMemory, Write, Device, Votes}
+
+-- the line that says how many votes the new file has
+abbrev pub migrated_line : ℕ → List ℕ
+migrated_line votes = codes "migrated " ++ decimal votes ++ codes "\n"
+
+-- The fault of a migration, by the desk's number, the match and the bytes of both disks: the first fault of the
+-- old file, or that the old file is sound and the new disk isn't empty. Memory is wanted only for a sound file.
+abbrev pub WhyNotMigrated : ℕ → ℕ → List ℕ → List ℕ → RunFault → Type 0
+WhyNotMigrated desk game old new (Votes why) =
+    (file_votes (contents version_1) desk game old ≡ Err why)
+    ⊎ ((why ≡ not_empty) × (0 < length new) × IsOk (file_votes (contents version_1) desk game old))
+WhyNotMigrated desk game old new NoMemory = IsOk (contents version_1 desk game old)
+WhyNotMigrated desk game old new Device = Unit {0}
+WhyNotMigrated desk game old new Write = Unit {0}
+WhyNotMigrated desk game old new _ = ⊥

@@ -1,0 +1,302 @@
+//! Two desks and a board that take turns.
+
+ghost use Rattle.std.specs.Prelude.{◌≤◌, ◌<◌, ◌≡◌, ◌≢◌, ◌⊎◌, [], length, true, Err, IfErr, IfOk, IsOk, OnErr, OnOk};
+ghost use Rattle.notation.specs.Written.{IsEntry};
+ghost use Rattle.corrections.specs.CleanList.{history_of};
+ghost use Rattle.desk.specs.Desk.{IsOf, disk_of, game_of, votes_of};
+ghost use Rattle.board.specs.Board.{SameMatch};
+ghost use Rattle.board.specs.Board as boards;
+ghost use Rattle.cards.specs.Board.{board as board_text};
+ghost use Rattle.cards.specs.Watched.{Prints, has_failed};
+ghost use Rattle.runs.specs.MatchRun.{IsQuiet};
+ghost use Rattle.books.specs.Output.{answer_to, with_taken};
+ghost use Rattle.books.specs.Taking.{taking};
+ghost use Rattle.runs.specs.Turns as turns;
+ghost use Rattle.runs.specs.Turns.{AreCalm, AreLevel, InTurn, IsCalm, KeepsTurn, VotesFor, WhyNoDesk, WhyNotAgreed, book_at, innings_at};
+
+use crate::post::Post;
+use agree_core::{Asker, DeskId};
+use board::Board;
+use books::{Refusal, Rejected, RunFault};
+use cards::{MatchSheet, Watched, WriteFailed};
+use corrections::{BookOf, CheckedBook};
+use desk::{Desk, OpenRefusal};
+use entry_log::{Disk, Slots, SlotsOf};
+use host::{Link, ROOM};
+use notation::{Entry, read_line};
+use std::alloc::Global;
+use std::io::Write;
+use wire::What;
+
+/// How many datagrams a station takes in a turn at most.
+const MOST_TAKEN: usize = 8;
+
+/// How many turns each station has for an entry at most.
+const TURNS: usize = 50;
+
+/// An empty book of a match of one or two innings a side.
+fn empty_book(alloc: Global, innings: u32) -> Result<CheckedBook, RunFault>
+    requires { (1 ≤ innings) × (innings ≤ 2) }
+    ensures empty { IfOk result (λ book. book.entries ≡ []) }
+    ensures innings { IfOk result (λ book. book.innings_a_side ≡ innings) }
+    ensures only { IfErr result (λ fault. fault ≡ RunFault.NoMemory) }
+{
+    match CheckedBook::new(alloc, innings) {
+        Ok(book) => Ok(book),
+        Err(_) => Err(RunFault::NoMemory),
+    }
+}
+
+/// A desk with a new file on a disk that has none.
+fn new_desk<D: Disk + Drop>(
+    alloc: Global,
+    sheet: &MatchSheet,
+    disk: D,
+    desk: DeskId,
+) -> Result<Desk<Slots<D>, CheckedBook>, RunFault>
+    ensures owner { IfOk result (IsOf desk sheet.now.game sheet.now.innings) }
+    ensures turn { IfOk result (λ made. InTurn made) }
+    ensures votes { IfOk result (λ made. votes_of made ≡ []) }
+    ensures empty { IfOk result (λ made. book_at made ≡ []) }
+    ensures calm { IsQuiet D.faults D.cap disk → IfOk result (λ made. IsCalm made) }
+    ensures only_empty { OnOk result (length (D.seen disk) ≡ 0) }
+    ensures why { IfErr result (WhyNoDesk (D.seen disk)) }
+    ensures blame { IsQuiet D.faults D.cap disk → result ≢ Err RunFault.Device }
+{
+    let book = empty_book(alloc, sheet.innings())?;
+    match Desk::create(alloc, disk, desk, sheet.game(), book) {
+        Ok(desk) => Ok(desk),
+        Err((OpenRefusal::Votes(why), _disk)) => Err(RunFault::from(why)),
+        Err((OpenRefusal::BadVotes { place }, _disk)) => Err(RunFault::BadVotes { place }),
+    }
+}
+
+/// Why an entry of a line isn't penned. A desk that waits, or has used up its rounds or slots, can't agree the
+/// place.
+fn pen_fault(number: u64, place: u32, why: desk::Refusal) -> RunFault
+    ensures { result ≡ turns.pen_fault number place why }
+{
+    match why {
+        desk::Refusal::PlacesFull => RunFault::Line {
+            number,
+            why: Rejected::Refused(Refusal::PlacesFull),
+        },
+        desk::Refusal::Book(why) => RunFault::Line {
+            number,
+            why: Rejected::Refused(Refusal::Book(why)),
+        },
+        desk::Refusal::Device | desk::Refusal::Failed => RunFault::Device,
+        desk::Refusal::Waiting | desk::Refusal::RoundsFull | desk::Refusal::SlotsFull => {
+            RunFault::NotAgreed { place }
+        }
+    }
+}
+
+/// Has a desk pen the entry of a line.
+fn pen<S: SlotsOf>(
+    desk: &mut Desk<S, CheckedBook>,
+    number: u64,
+    entry: &Entry,
+) -> Result<(), RunFault>
+    requires { IsEntry entry.now }
+    ensures voted { turns.IsLevel desk.old → OnOk result (VotesFor entry.now desk.old desk.new) }
+    ensures why { InTurn desk.old →
+        IfErr result (WhyNotAgreed (taking (innings_at desk.old) (book_at desk.old) entry.now)
+        (book_at desk.old) number) }
+    ensures calm { InTurn desk.old → IsCalm desk.old → result ≢ Err RunFault.Device }
+{
+    let place = desk.book().len();
+    match desk.pen(entry) {
+        Ok(_) => Ok(()),
+        Err(why) => Err(pen_fault(number, place, why)),
+    }
+}
+
+/// Whether a desk's disk has failed, in this call or before.
+fn is_failing(what: What) -> bool
+    ensures { result ≡ turns.is_failing what }
+{
+    matches!(what, What::Device | What::Failed)
+}
+
+/// A desk takes bytes that came, and sends its reply.
+fn reply<S: SlotsOf, L: Link>(
+    desk: &mut Desk<S, CheckedBook>,
+    at: Asker,
+    post: &mut Post<L>,
+    bytes: &[u8],
+) -> Result<(), RunFault>
+    ensures kept { OnOk result (KeepsTurn desk.old desk.new) }
+    ensures only { IfErr result (λ fault. fault ≡ RunFault.Device) }
+    ensures calm { InTurn desk.old → IsCalm desk.old → result ≢ Err RunFault.Device }
+{
+    let received = desk.receive(bytes);
+    if is_failing(received.what) {
+        return Err(RunFault::Device);
+    }
+    if let Some(reply) = received.reply {
+        post.send(at, &reply);
+    }
+    Ok(())
+}
+
+/// A desk's turn: it sends what it says unasked, and takes what came.
+fn desk_turn<S: SlotsOf, L: Link>(
+    desk: &mut Desk<S, CheckedBook>,
+    at: Asker,
+    post: &mut Post<L>,
+) -> Result<(), RunFault>
+    ensures kept { OnOk result (KeepsTurn desk.old desk.new) }
+    ensures only { IfErr result (λ fault. fault ≡ RunFault.Device) }
+    ensures calm { InTurn desk.old → IsCalm desk.old → result ≢ Err RunFault.Device }
+{
+    post.send_each(at, desk.tick().as_slice());
+    let mut buffer = [0; ROOM];
+    for _ in 0..MOST_TAKEN {
+        match post.take(at, &mut buffer) {
+            Ok(Some(count)) => reply(desk, at, post, &buffer[..count.min(ROOM)])?,
+            Ok(None) => break,
+            Err(_) => {}
+        }
+    }
+    Ok(())
+}
+
+/// The board's turn. Votes that are no legal book are ignored.
+fn board_turn<L: Link>(board: &mut Board<CheckedBook>, post: &mut Post<L>)
+    ensures { SameMatch (λ book. book.innings_a_side) board.old board.new }
+{
+    post.send_each(Asker::Board, board.tick().as_slice());
+    let mut buffer = [0; ROOM];
+    for _ in 0..MOST_TAKEN {
+        match post.take(Asker::Board, &mut buffer) {
+            Ok(Some(count)) => {
+                let _ = board.receive(&buffer[..count.min(ROOM)]);
+            }
+            Ok(None) => break,
+            Err(_) => {}
+        }
+    }
+}
+
+/// Two desks and a board, with what carries their datagrams.
+#[derive(Drop)]
+pub struct Stations<S: SlotsOf, L: Link> {
+    a: Desk<S, CheckedBook>,
+    b: Desk<S, CheckedBook>,
+    board: Board<CheckedBook>,
+    post: Post<L>,
+}
+
+/// Both desks with new files, and an empty board. It is refused where a disk has a file.
+pub fn new_stations<D: Disk + Drop, L: Link + Drop>(
+    alloc: Global,
+    sheet: &MatchSheet,
+    a: D,
+    b: D,
+    post: Post<L>,
+) -> Result<Stations<Slots<D>, L>, RunFault>
+    ensures level { IfOk result (λ made. AreLevel made.a made.b made.board) }
+    ensures empty { IfOk result (λ made. book_at made.a ≡ []) }
+    ensures game { IfOk result (λ made. game_of made.a ≡ sheet.now.game) }
+    ensures innings { IfOk result (λ made. innings_at made.a ≡ sheet.now.innings) }
+    ensures only_empty { OnOk result ((length (D.seen a) ≡ 0) × (length (D.seen b) ≡ 0)) }
+    ensures why { IfErr result (λ fault. WhyNoDesk (D.seen a) fault ⊎ WhyNoDesk (D.seen b) fault) }
+    ensures calm { IsQuiet D.faults D.cap a → IsQuiet D.faults D.cap b →
+        IfOk result (λ made. IsCalm made.a × IsCalm made.b) }
+    ensures blame { IsQuiet D.faults D.cap a → IsQuiet D.faults D.cap b → result ≢ Err RunFault.Device }
+{
+    let book = empty_book(alloc, sheet.innings())?;
+    let a = new_desk(alloc, sheet, a, DeskId::A)?;
+    let b = new_desk(alloc, sheet, b, DeskId::B)?;
+    let board = Board::new(sheet.game(), book);
+    Ok(Stations { a, b, board, post })
+}
+
+impl<S: SlotsOf, L: Link> Stations<S, L> {
+    /// Whether all three books have more than this many entries.
+    fn have_more(&self, len: u32) -> bool
+        ensures a { result ≡ true → len < length (book_at self.now.a) }
+        ensures b { result ≡ true → len < length (book_at self.now.b) }
+        ensures board { result ≡ true → len < length (boards.book_of self.now.board).entries }
+    {
+        self.a.book().len() > len && self.b.book().len() > len && self.board.book().len() > len
+    }
+
+    /// Has the stations take turns until all three books have the entry of this place.
+    fn agree(&mut self, place: u32) -> Result<(), RunFault>
+        ensures kept_a { OnOk result (KeepsTurn self.old.a self.new.a) }
+        ensures kept_b { OnOk result (KeepsTurn self.old.b self.new.b) }
+        ensures board { OnOk result (SameMatch (λ book. book.innings_a_side) self.old.board self.new.board) }
+        ensures at_a { OnOk result (place < length (book_at self.new.a)) }
+        ensures at_b { OnOk result (place < length (book_at self.new.b)) }
+        ensures at_board { OnOk result (place < length (boards.book_of self.new.board).entries) }
+        ensures only { IfErr result (λ fault.
+            (fault ≡ RunFault.Device) ⊎ (fault ≡ RunFault.NotAgreed place)) }
+        ensures calm { AreCalm self.old.a self.old.b → result ≢ Err RunFault.Device }
+    {
+        for _ in 0..TURNS {
+            desk_turn(&mut self.a, Asker::A, &mut self.post)?;
+            desk_turn(&mut self.b, Asker::B, &mut self.post)?;
+            board_turn(&mut self.board, &mut self.post);
+            if self.have_more(place) {
+                return Ok(());
+            }
+        }
+        Err(RunFault::NotAgreed { place })
+    }
+
+    /// Has both desks pen the entry of a line, and all three stations agree it.
+    pub fn take(&mut self, number: u64, line: &[u8]) -> Result<(), RunFault>
+        requires level { AreLevel self.old.a self.old.b self.old.board }
+        ensures level { OnOk result (AreLevel self.new.a self.new.b self.new.board) }
+        ensures taken { OnOk result
+            (IsOk (answer_to (innings_at self.old.a) (book_at self.old.a) line.now)) }
+        ensures book { OnOk result (book_at self.new.a ≡
+            with_taken (answer_to (innings_at self.old.a) (book_at self.old.a) line.now) (book_at self.old.a)) }
+        ensures same_game { OnOk result (game_of self.new.a ≡ game_of self.old.a) }
+        ensures same_innings { OnOk result (innings_at self.new.a ≡ innings_at self.old.a) }
+        ensures why { IfErr result
+            (WhyNotAgreed (answer_to (innings_at self.old.a) (book_at self.old.a) line.now)
+            (book_at self.old.a) number) }
+        ensures calm_still { OnOk result (AreCalm self.old.a self.old.b → AreCalm self.new.a self.new.b) }
+        ensures calm { AreCalm self.old.a self.old.b → result ≢ Err RunFault.Device }
+    {
+        let entry = match read_line(line) {
+            Ok(entry) => entry,
+            Err(fault) => {
+                let why = Rejected::Fault(fault);
+                return Err(RunFault::Line { number, why });
+            }
+        };
+        let place = self.a.book().len();
+        pen(&mut self.a, number, &entry)?;
+        pen(&mut self.b, number, &entry)?;
+        self.agree(place)
+    }
+
+    /// Prints the six lines of the board.
+    pub fn print_board<W: Write>(
+        &self,
+        sheet: &MatchSheet,
+        out: &mut Watched<W>,
+    ) -> Result<(), WriteFailed>
+        ensures text { OnOk result (Prints W.contents out.old out.new
+            (board_text sheet.now (boards.book_of self.now.board).innings_a_side
+            (history_of (boards.book_of self.now.board).entries))) }
+        ensures failed { OnErr result (has_failed out.new ≡ true) }
+    {
+        self.board.lines(sheet, out)?;
+        out.flush()
+    }
+
+    /// The disks of desks A and B.
+    pub fn into_disks(self) -> (S::Disk, S::Disk)
+    where
+        L: Drop,
+        ensures a { result.0 ≡ disk_of self.a }
+        ensures b { result.1 ≡ disk_of self.b }
+    {
+        (self.a.into_disk(), self.b.into_disk())
+    }
+}
