@@ -225,6 +225,24 @@ fn command(alloc: Global, number: u32, dice: u32, len: u32) -> Result<String, Al
     }
 }
 
+/// Both kinds of book, by `check` and `push` and by `enter`.
+#[derive(Drop)]
+struct Books {
+    book: Book,
+    checked: CheckedBook,
+    entered: Book,
+    entered_checked: CheckedBook,
+}
+
+fn four_books(alloc: Global) -> Result<Books, AllocError> {
+    Ok(Books {
+        book: Book::new(alloc, 2)?,
+        checked: CheckedBook::new(alloc, 2)?,
+        entered: Book::new(alloc, 2)?,
+        entered_checked: CheckedBook::new(alloc, 2)?,
+    })
+}
+
 /// The refusals of the line by `enter`.
 fn enter_in_place(
     rt: &impl Abort,
@@ -239,28 +257,36 @@ fn enter_in_place(
     }
 }
 
-/// Both kinds of book, by `check` and `push` and by `enter`, answer each command alike and have one score.
+/// All books answer the line alike.
+fn enter_in_all(rt: &impl Abort, books: &mut Books, line: &str) {
+    let answer = enter(rt, &mut books.book, line);
+    let by_points = enter(rt, &mut books.checked, line);
+    let in_place = enter_in_place(rt, &mut books.entered, &mut books.entered_checked, line);
+    assert!(rt; [answer; 2] == in_place && by_points == answer);
+}
+
+/// A book has the score and the standing of another kind of book.
+fn expect_same<A: BookOf, B: BookOf>(rt: &impl Abort, book: &A, other: &B) {
+    assert!(rt; *book.score() == *other.score());
+    assert!(rt; book.standing() == other.standing());
+}
+
+fn expect_alike(rt: &impl Abort, books: &Books) {
+    expect_same(rt, &books.book, &books.checked);
+    expect_same(rt, &books.book, &books.entered);
+    expect_same(rt, &books.book, &books.entered_checked);
+}
+
+/// All books answer each command alike, and then have one score.
 fn compare_books(rt: &impl Abort, alloc: Global) -> Result<(), AllocError> {
-    let mut book = Book::new(alloc, 2)?;
-    let mut checked = CheckedBook::new(alloc, 2)?;
-    let mut entered = Book::new(alloc, 2)?;
-    let mut entered_checked = CheckedBook::new(alloc, 2)?;
+    let mut books = four_books(alloc)?;
     let mut dice: u32 = 1;
     for number in 0..503 {
         dice = dice.wrapping_mul(1103515245).wrapping_add(12345);
-        let line = command(alloc, number, dice >> 16, book.len())?;
-        let answer = enter(rt, &mut book, line.as_str());
-        assert!(rt; enter(rt, &mut checked, line.as_str()) == answer);
-        assert!(rt;
-            enter_in_place(rt, &mut entered, &mut entered_checked, line.as_str()) == [answer; 2]
-        );
-        assert!(rt; *checked.score() == *book.score());
-        assert!(rt; *entered.score() == *book.score());
-        assert!(rt; *entered_checked.score() == *book.score());
+        let line = command(alloc, number, dice >> 16, books.book.len())?;
+        enter_in_all(rt, &mut books, line.as_str());
+        expect_alike(rt, &books);
     }
-    assert!(rt; checked.standing() == book.standing());
-    assert!(rt; entered.standing() == book.standing());
-    assert!(rt; entered_checked.standing() == book.standing());
     Ok(())
 }
 
