@@ -24,24 +24,26 @@ use Rattle.wire.specs.Layout.{IsMessage, Says, written}
 use Rattle.wire.specs.Sent.{AreSent}
 use Rattle.wire.proofs.FaultLemmas.{reads_once}
 use Rattle.wire.proofs.MessageLemmas.{says_once}
-use Rattle.schedule_replay.specs.declared.event.Event.{Event}
-use Rattle.schedule_replay.specs.declared.event.Event.TheVariants as events
-use Rattle.schedule_replay.specs.declared.event.Station.{Station}
-use Rattle.schedule_replay.specs.declared.event.Station.TheVariants as stations
+use Rattle.headline.specs.declared.event.Event.{Event}
+use Rattle.headline.specs.declared.event.Event.TheVariants as events
+use Rattle.headline.specs.declared.event.Station.{Station}
+use Rattle.headline.specs.declared.event.Station.TheVariants as stations
 use Rattle.schedule_replay.specs.declared.seen.Seen.{Seen}
 use Rattle.schedule_replay.specs.declared.seen.Seen.TheVariants as seens
 use Rattle.schedule_replay.specs.declared.seen.WorldRefusal.{WorldRefusal}
 use Rattle.schedule_replay.specs.declared.seen.WorldRefusal.TheVariants as refuses
 use Rattle.schedule_replay.specs.declared.site.Site.{Site}
-use Rattle.schedule_replay.specs.declared.version.FileVersion.{FileVersion}
+use Rattle.headline.specs.declared.version.FileVersion.{FileVersion}
 use Rattle.schedule_replay.specs.declared.world_desk.WorldDesk.{WorldDesk}
 use Rattle.schedule_replay.specs.declared.world.World.{World}
-use Rattle.schedule_replay.specs.Worlds as worlds
-use Rattle.schedule_replay.specs.Worlds.{board_at, fresh_boards, with_board}
-use Rattle.schedule_replay.specs.Steps.{Answer, AtBoard, StepAt, board_told, station_of}
+use Rattle.headline.specs.Worlds as worlds
+use Rattle.headline.specs.Worlds.{board_at, fresh_boards, with_board}
+use Rattle.headline.specs.Events.{station_of}
+use Rattle.headline.specs.Steps.{Answer, AtBoard, StepAt, board_told}
 use Rattle.schedule_replay.specs.Refusals.{LeftByWant, down_at, first_cause, no_board, no_station, refusal_of}
-use Rattle.schedule_replay.specs.Match.{AreBytesOf, answer_of, match_of}
-use Rattle.schedule_replay.specs.Runs.{Begins, BeginsAt}
+use Rattle.headline.specs.Match.{match_of}
+use Rattle.schedule_replay.specs.Answers.{AreBytesOf, answer_of}
+use Rattle.headline.specs.Runs.{Begins, BeginsAt}
 use Rattle.schedule_replay.specs.Sites.{BeginsSite, IsProcess, IsSite}
 use Rattle.schedule_replay.specs.WorldDesks.{state_of}
 use Rattle.schedule_replay.specs.CodeWorlds.{IsBoardOf, IsSiteOf, IsWorld, MatchBoard, RefusesTo, StepsTo, board_game, board_innings, board_seen, board_state, code_site}

@@ -23,16 +23,17 @@ use Rattle.desk.specs.declared.desk.Received.{Received}
 use Rattle.desk.specs.declared.refusal.Refusal.TheVariants as refusals
 use Rattle.desk.specs.Answers.{device_answer, replied}
 use Rattle.desk.specs.Takes.{Takes}
-use Rattle.schedule_replay.specs.declared.event.Event.TheVariants as events
-use Rattle.schedule_replay.specs.declared.event.Station.{Station}
+use Rattle.headline.specs.declared.event.Event.TheVariants as events
+use Rattle.headline.specs.declared.event.Station.{Station}
 use Rattle.schedule_replay.specs.declared.seen.Cause.TheVariants as causes
 use Rattle.schedule_replay.specs.declared.seen.Seen.{Seen}
 use Rattle.schedule_replay.specs.declared.site.Site.{Site}
 use Rattle.schedule_replay.specs.declared.world_desk.WorldDesk.{WorldDesk}
-use Rattle.schedule_replay.specs.Worlds as worlds
-use Rattle.schedule_replay.specs.Worlds.{Running}
-use Rattle.schedule_replay.specs.Steps.{AfterReceive, Answer, has_any}
-use Rattle.schedule_replay.specs.Match.{AreBytesOf, answer_of, given_seen, is_fault, match_of}
+use Rattle.headline.specs.Worlds as worlds
+use Rattle.headline.specs.Worlds.{Running}
+use Rattle.headline.specs.Steps.{AfterReceive, Answer, has_any}
+use Rattle.headline.specs.Match.{match_of}
+use Rattle.schedule_replay.specs.Answers.{AreBytesOf, answer_of, given_seen, is_fault}
 use Rattle.schedule_replay.specs.Sites.{BreaksDown, SiteSteps}
 use Rattle.schedule_replay.specs.WorldDesks.{SameOwner, disk_of, game_of, state_of, view_of}
 use Rattle.schedule_replay.proofs.SiteLemmas.{Runs, broken_site, more_bytes, no_bytes, of_match, running_is, runs_on}

@@ -8,8 +8,8 @@ use Rattle.schedule_replay.specs.declared.any_desk.AnyDesk.{AnyDesk}
 use Rattle.schedule_replay.specs.declared.site.Site.{Site}
 use Rattle.schedule_replay.specs.declared.world.World.{World}
 use Rattle.schedule_replay.specs.declared.world_desk.WorldDesk.{WorldDesk}
-use Rattle.schedule_replay.specs.Worlds as worlds
-use Rattle.schedule_replay.specs.Worlds.{Process}
+use Rattle.headline.specs.Worlds as worlds
+use Rattle.headline.specs.Worlds.{Process}
 use Rattle.schedule_replay.specs.Sites.{IsProcess, IsSite}
 use Rattle.schedule_replay.specs.WorldDesks.{innings_of, state_of}
 use Rattle.schedule_replay.specs.CodeWorlds.{IsBoardOf, IsSiteOf, IsWorld, MatchBoard, board_state}

@@ -1,15 +1,3 @@
-pub mod ScheduleCuts
-pub mod EventTexts
-pub mod LineTexts
-pub mod ScheduleTexts
-pub mod BoardKeeping
-pub mod Keeping
-pub mod Shown
-pub mod Passing
-pub mod Sound
-pub mod Second
-pub mod Whole
-pub mod Scores
 pub mod NoteLemmas
 pub mod ReadLemmas
 pub mod ShowLemmas

@@ -23,18 +23,19 @@ use Rattle.vote_store.specs.Refusal.{device}
 use Rattle.vote_store.specs.Sequence.{file_votes, or_none}
 use Rattle.vote_store.specs.View.{desk_code, file_view, votes_shown, where_sound}
 use Rattle.wire.specs.declared.datagram.Datagram.{Datagram}
-use Rattle.schedule_replay.specs.declared.event.Event.TheVariants as events
+use Rattle.headline.specs.declared.event.Event.TheVariants as events
 use Rattle.schedule_replay.specs.declared.seen.Cause.TheVariants as causes
 use Rattle.schedule_replay.specs.declared.seen.Seen.{Seen}
 use Rattle.schedule_replay.specs.declared.seen.Seen.TheVariants as seens
 use Rattle.schedule_replay.specs.declared.seen.WorldRefusal.{WorldRefusal}
 use Rattle.schedule_replay.specs.declared.site.Site.{Site}
-use Rattle.schedule_replay.specs.declared.version.FileVersion.{FileVersion}
-use Rattle.schedule_replay.specs.declared.version.FileVersion.TheVariants as versions
-use Rattle.schedule_replay.specs.Worlds as worlds
-use Rattle.schedule_replay.specs.Worlds.{Process, Down}
-use Rattle.schedule_replay.specs.Steps.{Answer, Failed, MigratesAt, NotSound, ToNew}
-use Rattle.schedule_replay.specs.Match.{answer_of, format_of, is_failing, most_bytes, wants_memory}
+use Rattle.headline.specs.declared.version.FileVersion.{FileVersion}
+use Rattle.headline.specs.declared.version.FileVersion.TheVariants as versions
+use Rattle.headline.specs.Worlds as worlds
+use Rattle.headline.specs.Worlds.{Process, Down}
+use Rattle.headline.specs.Steps.{Answer, Failed, MigratesAt, NotSound, ToNew}
+use Rattle.headline.specs.Match.{format_of, most_bytes}
+use Rattle.schedule_replay.specs.Answers.{answer_of, is_failing, wants_memory}
 use Rattle.schedule_replay.specs.Sites.{BreaksDown, IsDue, IsSite, IsWorldDisk, NotFoundBy, SiteSteps}
 use Rattle.schedule_replay.proofs.SiteLemmas.{down_is, no_bytes}
 use Rattle.schedule_replay.proofs.OpenLemmas.{Outcome, ViewAt, broken_down, down_at, memory_is, seen_is, stays_down, syncs}

@@ -6,8 +6,8 @@ use Rattle.std.proofs.lemmas.List.Elements.{Contains-append_left, Contains-push,
 use Rattle.std.specs.Prelude.{Contains, slice_get, slice_index_or, slice_set}
 use Rattle.match_laws.specs.declared.standing.Standing.{Standing}
 use Rattle.agree_core.specs.declared.messages.DeskId.TheVariants.{A, B}
-use Rattle.schedule_replay.specs.declared.event.Station.{Station}
-use Rattle.schedule_replay.specs.declared.event.Station.TheVariants as stations
+use Rattle.headline.specs.declared.event.Station.{Station}
+use Rattle.headline.specs.declared.event.Station.TheVariants as stations
 use Rattle.schedule_replay.specs.declared.shown_scores.ShownScores.{ShownScores}
 use Rattle.schedule_replay.specs.Replays.{StandOnce}
 use Rattle.schedule_replay.specs.ShownScores.{Adds, IsKept, IsStation, mark_of, station_number}

@@ -22,9 +22,9 @@ use Rattle.wire.specs.declared.datagram.Datagram.{Datagram}
 use Rattle.desk.specs.Answers.{device, open_cause}
 use Rattle.desk.specs.declared.refusal.OpenRefusal.{OpenRefusal}
 use Rattle.desk.specs.declared.refusal.OpenRefusal.TheVariants.{BadVotes, Votes}
-use Rattle.schedule_replay.specs.declared.event.Event.TheVariants as events
-use Rattle.schedule_replay.specs.declared.fault.Fault.{Fault}
-use Rattle.schedule_replay.specs.declared.fault.Fault.TheVariants.{Fail, Stop}
+use Rattle.headline.specs.declared.event.Event.TheVariants as events
+use Rattle.headline.specs.declared.fault.Fault.{Fault}
+use Rattle.headline.specs.declared.fault.Fault.TheVariants.{Fail, Stop}
 use Rattle.schedule_replay.specs.declared.seen.Cause.{Cause}
 use Rattle.schedule_replay.specs.declared.seen.Cause.TheVariants as causes
 use Rattle.schedule_replay.specs.declared.seen.Seen.{Seen}
@@ -32,12 +32,13 @@ use Rattle.schedule_replay.specs.declared.seen.Seen.TheVariants as seens
 use Rattle.schedule_replay.specs.declared.seen.WorldRefusal.{WorldRefusal}
 use Rattle.schedule_replay.specs.declared.seen.WorldRefusal.TheVariants as refuses
 use Rattle.schedule_replay.specs.declared.site.Site.{Site}
-use Rattle.schedule_replay.specs.declared.version.FileVersion.{FileVersion}
+use Rattle.headline.specs.declared.version.FileVersion.{FileVersion}
 use Rattle.schedule_replay.specs.declared.world_desk.WorldDesk.{WorldDesk}
-use Rattle.schedule_replay.specs.Worlds as worlds
-use Rattle.schedule_replay.specs.Worlds.{Process, Running, Down}
-use Rattle.schedule_replay.specs.Steps.{Answer, StaysDown}
-use Rattle.schedule_replay.specs.Match.{answer_of, is_failing, match_of, wants_memory}
+use Rattle.headline.specs.Worlds as worlds
+use Rattle.headline.specs.Worlds.{Process, Running, Down}
+use Rattle.headline.specs.Steps.{Answer, StaysDown}
+use Rattle.headline.specs.Match.{match_of}
+use Rattle.schedule_replay.specs.Answers.{answer_of, is_failing, wants_memory}
 use Rattle.schedule_replay.specs.Sites.{BreaksDown, IsDue, IsProcess, IsSite, IsWorldDisk, NotFoundBy, SameMatch, SiteSteps, SyncsSite}
 use Rattle.schedule_replay.specs.WorldDesks.{IsOf, disk_of, state_of}
 use Rattle.schedule_replay.proofs.SiteLemmas.{HasDisk, broken_same, down_is, no_bytes, put_down_is, sets_plan_stays}
@@ -157,7 +158,7 @@ syncs old new disk left down there may cap faults e x h =
     )
 
 -- because of what is in the file
-not_sound : (old new : Site) (disk left : MemDisk) (why : OpenRefusal) (told : openings.OpenRefusal) (answer : Answer Refusal) (result : Result Seen WorldRefusal) → old.desk ≡ None → old.disk ≡ Some disk → Opens (ViewAt old old.version) (RulesAt old) old.name disk (NotOpened told left) → ((x : worlds.Site MemDisk) (votes : List Ballot) → Rattle.schedule_replay.specs.Steps.AfterOpen (ViewAt old x.version) x votes (NotOpened told left) answer (record x { process = Down votes left })) → cap_of left ≡ cap_of disk → faults_of left ≡ faults_of disk → answer_of (seens.Refused (causes.Open why)) ≡ Some answer → (result ≡ Ok (seens.Refused (causes.Open why))) × (new ≡ record old { disk = Some left }) → Outcome OpenSteps old result new
+not_sound : (old new : Site) (disk left : MemDisk) (why : OpenRefusal) (told : openings.OpenRefusal) (answer : Answer Refusal) (result : Result Seen WorldRefusal) → old.desk ≡ None → old.disk ≡ Some disk → Opens (ViewAt old old.version) (RulesAt old) old.name disk (NotOpened told left) → ((x : worlds.Site MemDisk) (votes : List Ballot) → Rattle.headline.specs.Steps.AfterOpen (ViewAt old x.version) x votes (NotOpened told left) answer (record x { process = Down votes left })) → cap_of left ≡ cap_of disk → faults_of left ≡ faults_of disk → answer_of (seens.Refused (causes.Open why)) ≡ Some answer → (result ≡ Ok (seens.Refused (causes.Open why))) × (new ≡ record old { disk = Some left }) → Outcome OpenSteps old result new
 not_sound old new disk left why told answer result down there opens after cap faults says (r, e) = seen_is OpenSteps old new result (seens.Refused (causes.Open why)) r steps
   where
     steps : (sent : List Datagram) → OpenSteps sent old (seens.Refused (causes.Open why)) new

@@ -15,16 +15,17 @@ use Rattle.desk.specs.declared.desk.Penned.{Penned}
 use Rattle.desk.specs.declared.refusal.Refusal.{Refusal as DeskRefusal}
 use Rattle.desk.specs.declared.refusal.Refusal.TheVariants as refusals
 use Rattle.desk.specs.Answers.{pen_answer, sent}
-use Rattle.schedule_replay.specs.declared.event.Event.TheVariants as events
+use Rattle.headline.specs.declared.event.Event.TheVariants as events
 use Rattle.schedule_replay.specs.declared.seen.Cause.TheVariants as causes
 use Rattle.schedule_replay.specs.declared.seen.Seen.{Seen}
 use Rattle.schedule_replay.specs.declared.seen.Seen.TheVariants as seens
 use Rattle.schedule_replay.specs.declared.site.Site.{Site}
 use Rattle.schedule_replay.specs.declared.world_desk.WorldDesk.{WorldDesk}
-use Rattle.schedule_replay.specs.Worlds as worlds
-use Rattle.schedule_replay.specs.Worlds.{Running}
-use Rattle.schedule_replay.specs.Steps.{AfterPen}
-use Rattle.schedule_replay.specs.Match.{AreBytesOf, answer_of, is_device, match_of, told_to_pen}
+use Rattle.headline.specs.Worlds as worlds
+use Rattle.headline.specs.Worlds.{Running}
+use Rattle.headline.specs.Steps.{AfterPen}
+use Rattle.headline.specs.Match.{match_of}
+use Rattle.schedule_replay.specs.Answers.{AreBytesOf, answer_of, told_to_pen}
 use Rattle.schedule_replay.specs.Sites.{AfterRefusal, RefusedBy, SameMatch, SiteSteps}
 use Rattle.schedule_replay.specs.WorldDesks.{HasRoom, SameOwner, disk_of, game_of, rules_of, state_of, view_of}
 use Rattle.schedule_replay.proofs.SiteLemmas.{broken_same, broken_site, has_room, more_bytes, no_bytes, of_match, running_is, runs_on, votes_of}
@@ -67,7 +68,7 @@ pen_breaks old new k l e seen before here step owner blame broke x messages h b 
     let disk = r.on_disk in
     let s = match_of old.game old.innings_a_side in
     let pens = of_match old.name x.version old.game old.innings_a_side k own (λ view rules. Pens view rules (state_of k) e PenAnswer.DeviceFailed (state_of l) step.0) step.3 in
-    let cap : cap_of (disk_of k) ≡ _ = disk.cap ∙ ap Rattle.schedule_replay.specs.Match.most_bytes (sym (own.same_version ∙ h.version)) in
+    let cap : cap_of (disk_of k) ≡ _ = disk.cap ∙ ap Rattle.headline.specs.Match.most_bytes (sym (own.same_version ∙ h.version)) in
     let within : HasRoom k = has_room (Rattle.schedule_replay.specs.WorldDesks.version_of k) (length (votes_of k)) (cap_of (disk_of k)) pens.0.1.1 cap in
     let broken = broken_site old new k l x (causes.Desk refusals.Device) seen old.due refl here h owner (λ n. blame.calm n within refl) (λ o. blame.spent o within refl) refl broke in
     let bytes : AreBytesOf old.game before (messages ++ step.0) = rw pens.3 (no_bytes old.game before messages b) in

@@ -11,13 +11,13 @@ use Rattle.agree_core.specs.Books.{book_of}
 use Rattle.vote_store.specs.View.{votes_shown}
 use Rattle.schedule_replay.specs.declared.site.Site.{Site}
 use Rattle.schedule_replay.specs.declared.world.World.{World}
-use Rattle.schedule_replay.specs.Worlds as worlds
-use Rattle.schedule_replay.specs.Match.{format_of, match_of}
+use Rattle.headline.specs.Worlds as worlds
+use Rattle.headline.specs.Match.{format_of, match_of}
 use Rattle.schedule_replay.specs.Sites.{IsSite, PutsDown}
 use Rattle.schedule_replay.specs.CodeWorlds.{IsWorld, code_site}
 use Rattle.schedule_replay.specs.VotesFiles.{FilesRead, SiteReads}
 use Rattle.agree_core.specs.Keeping.{ShowsMore}
-use Rattle.schedule_replay.proofs.Keeping.{Fine, process_disk, site_fine}
+use Rattle.headline.proofs.Keeping.{Fine, process_disk, site_fine}
 use Rattle.schedule_replay.proofs.SiteLemmas.{has_disk}
 
 one_left : (b : Ballot) (bs : List Ballot) → (c : Ballot) × (drop (length bs) (b ∷ bs) ≡ c ∷ [])

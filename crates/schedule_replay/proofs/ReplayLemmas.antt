@@ -13,30 +13,33 @@ use Rattle.agree_core.specs.Boards.{BoardState}
 use Rattle.agree_core.specs.Books.{IsAgreedByFiles}
 use Rattle.agree_core.specs.declared.messages.DeskId.TheVariants.{A, B}
 use Rattle.agree_core.proofs.FileBooks.{agreed_by_files}
-use Rattle.schedule_replay.specs.declared.event.Event.{Event}
-use Rattle.schedule_replay.specs.declared.event.Station.{Station}
-use Rattle.schedule_replay.specs.declared.event.Station.TheVariants as stations
+use Rattle.headline.specs.declared.event.Event.{Event}
+use Rattle.headline.specs.declared.event.Station.{Station}
+use Rattle.headline.specs.declared.event.Station.TheVariants as stations
 use Rattle.schedule_replay.specs.declared.report.Report.{Report}
 use Rattle.schedule_replay.specs.declared.seen.Seen.{Seen}
 use Rattle.schedule_replay.specs.declared.seen.WorldRefusal.{WorldRefusal}
-use Rattle.schedule_replay.specs.declared.version.FileVersion.{FileVersion}
+use Rattle.headline.specs.declared.version.FileVersion.{FileVersion}
 use Rattle.schedule_replay.specs.declared.world.World.{World}
-use Rattle.schedule_replay.specs.Worlds as worlds
-use Rattle.schedule_replay.specs.Worlds.{fresh_boards, votes_in, with_board, with_site}
-use Rattle.schedule_replay.specs.Steps.{Answer, Step, StepAt, station_of}
-use Rattle.schedule_replay.specs.Runs.{AtSomeMoment, Begins, Moment, Run, Shows, answers_of, events_of, last_of}
-use Rattle.schedule_replay.specs.Match.{answer_of, match_of}
+use Rattle.headline.specs.Worlds as worlds
+use Rattle.headline.specs.Worlds.{fresh_boards, votes_in, with_board, with_site}
+use Rattle.headline.specs.Events.{station_of}
+use Rattle.headline.specs.Steps.{Answer, Step, StepAt}
+use Rattle.headline.specs.Runs.{AtSomeMoment, Begins, Moment, Run, Shows, answers_of, events_of, last_of}
+use Rattle.headline.specs.Match.{match_of}
+use Rattle.schedule_replay.specs.Answers.{answer_of}
 use Rattle.schedule_replay.specs.Refusals.{RefusesEvent}
 use Rattle.schedule_replay.specs.CodeWorlds.{BeginsWorld, IsWorld, RefusesTo, SameMatch, StepsTo}
-use Rattle.schedule_replay.specs.Replays.{AreSeen, BeginsWithAll, EndsAt, IsProved, IsReplay, IsRunOf, MatchRun, ShowsScore, StandOnce}
+use Rattle.headline.specs.Laws.{IsProved, ShowsScore}
+use Rattle.schedule_replay.specs.Replays.{AreSeen, BeginsWithAll, EndsAt, IsReplay, IsRunOf, MatchRun, StandOnce}
 use Rattle.schedule_replay.specs.ShownScores.{IsNotable, Notes}
 use Rattle.schedule_replay.specs.VotesFiles.{FilesRead}
-use Rattle.schedule_replay.proofs.Keeping.{all_justified, begins_fine, run_keeps}
+use Rattle.headline.proofs.Keeping.{all_justified, begins_fine, run_keeps}
 use Rattle.schedule_replay.proofs.NoteLemmas.{Shown}
 use Rattle.schedule_replay.proofs.ReadLemmas.{files_read}
-use Rattle.schedule_replay.proofs.Scores.{one_score}
-use Rattle.schedule_replay.proofs.Sound.{sound_answers}
-use Rattle.schedule_replay.proofs.Whole.{headline, stand_fast}
+use Rattle.headline.proofs.Scores.{one_score}
+use Rattle.headline.proofs.Sound.{sound_answers}
+use Rattle.headline.proofs.Whole.{headline, stand_fast}
 
 -- no event changes how many boards there are
 fresh_many : (n : ℕ) → length (fresh_boards n) ≡ n

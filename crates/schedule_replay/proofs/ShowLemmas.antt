@@ -13,20 +13,20 @@ use Rattle.agree_core.specs.declared.messages.DeskId.{DeskId}
 use Rattle.agree_core.specs.declared.messages.DeskId.TheVariants.{A, B}
 use Rattle.agree_core.specs.Boards.{BoardState}
 use Rattle.agree_core.specs.Desks.{DeskState}
-use Rattle.schedule_replay.specs.declared.event.Station.{Station}
-use Rattle.schedule_replay.specs.declared.event.Station.TheVariants as stations
+use Rattle.headline.specs.declared.event.Station.{Station}
+use Rattle.headline.specs.declared.event.Station.TheVariants as stations
 use Rattle.schedule_replay.specs.declared.site.Site.{Site}
 use Rattle.schedule_replay.specs.declared.world.World.{World}
 use Rattle.schedule_replay.specs.declared.world_desk.WorldDesk.{WorldDesk}
-use Rattle.schedule_replay.specs.Worlds as worlds
-use Rattle.schedule_replay.specs.Runs.{process_shows}
+use Rattle.headline.specs.Worlds as worlds
+use Rattle.headline.specs.Runs.{process_shows}
 use Rattle.schedule_replay.specs.Sites.{IsProcess}
 use Rattle.schedule_replay.specs.CodeWorlds.{IsBoardOf, IsWorld, MatchBoard, board_innings, board_state, code_site}
-use Rattle.schedule_replay.specs.Replays.{ShowsScore}
+use Rattle.headline.specs.Laws.{ShowsScore}
 use Rattle.schedule_replay.specs.ShownScores.{Adds, BoardShows, CodeShows, DeskShows, IsBookScore, IsNotable, Notes, station_number}
 use Rattle.schedule_replay.specs.WorldDesks.{innings_of, state_of}
 use Rattle.schedule_replay.proofs.NoteLemmas.{FromOne, Shown, same_station}
-use Rattle.schedule_replay.proofs.Scores.{one_standing}
+use Rattle.headline.proofs.Scores.{one_standing}
 
 -- a book has one length and one score
 book_score_one : (innings : ℕ) (book : List Entry) (n m : ℕ) (score other : Standing) → IsBookScore innings book n score → IsBookScore innings book m other → (m ≡ n) × (other ≡ score)

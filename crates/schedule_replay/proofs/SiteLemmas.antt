@@ -20,19 +20,20 @@ use Rattle.agree_core.specs.Openings.{Opening, Opens}
 use Rattle.vote_store.specs.View.{file_view, votes_shown}
 use Rattle.wire.specs.declared.datagram.Datagram.{Datagram}
 use Rattle.wire.specs.Layout.{IsMessage, written}
-use Rattle.schedule_replay.specs.declared.fault.Fault.{Fault}
-use Rattle.schedule_replay.specs.declared.fault.Fault.TheVariants.{Fail, Stop}
+use Rattle.headline.specs.declared.fault.Fault.{Fault}
+use Rattle.headline.specs.declared.fault.Fault.TheVariants.{Fail, Stop}
 use Rattle.schedule_replay.specs.declared.seen.Cause.{Cause}
 use Rattle.schedule_replay.specs.declared.seen.Seen.{Seen}
 use Rattle.schedule_replay.specs.declared.seen.Seen.TheVariants as seens
 use Rattle.schedule_replay.specs.declared.site.Site.{Site}
-use Rattle.schedule_replay.specs.declared.version.FileVersion.{FileVersion}
-use Rattle.schedule_replay.specs.declared.version.FileVersion.TheVariants as versions
+use Rattle.headline.specs.declared.version.FileVersion.{FileVersion}
+use Rattle.headline.specs.declared.version.FileVersion.TheVariants as versions
 use Rattle.schedule_replay.specs.declared.world_desk.WorldDesk.{WorldDesk}
-use Rattle.schedule_replay.specs.Worlds as worlds
-use Rattle.schedule_replay.specs.Worlds.{Process, Running, Down}
-use Rattle.schedule_replay.specs.Steps.{Answer, Breaks}
-use Rattle.schedule_replay.specs.Match.{AreBytesOf, answer_of, format_of, match_of, most_bytes}
+use Rattle.headline.specs.Worlds as worlds
+use Rattle.headline.specs.Worlds.{Process, Running, Down}
+use Rattle.headline.specs.Steps.{Answer, Breaks}
+use Rattle.headline.specs.Match.{format_of, match_of, most_bytes}
+use Rattle.schedule_replay.specs.Answers.{AreBytesOf, answer_of}
 use Rattle.schedule_replay.specs.Sites.{BreaksDown, IsDue, IsProcess, IsSite, IsWorldDisk, PutsDown, SameMatch, disk_at, votes_at}
 use Rattle.schedule_replay.specs.WorldDesks.{IsOf, SameOwner, disk_of, game_of, innings_of, rules_of, state_of, version_of, view_of}
 

@@ -5,8 +5,8 @@ use Rattle.std.proofs.Math.Bool.{not}
 use Rattle.std.specs.Option.{is_none, is_some}
 use Rattle.agree_core.specs.declared.messages.DeskId.{DeskId}
 use Rattle.wire.specs.declared.datagram.Datagram.{Datagram}
-use Rattle.schedule_replay.specs.declared.event.Event.{Event}
-use Rattle.schedule_replay.specs.declared.event.Event.TheVariants as events
+use Rattle.headline.specs.declared.event.Event.{Event}
+use Rattle.headline.specs.declared.event.Event.TheVariants as events
 use Rattle.schedule_replay.specs.declared.seen.Seen.{Seen}
 use Rattle.schedule_replay.specs.declared.seen.WorldRefusal.{WorldRefusal}
 use Rattle.schedule_replay.specs.declared.seen.WorldRefusal.TheVariants as refuses

@@ -11,20 +11,22 @@ use Rattle.agree_core.specs.FileView.{MaySync}
 use Rattle.agree_core.specs.Readers.{other}
 use Rattle.wire.specs.declared.datagram.Datagram.{Datagram}
 use Rattle.wire.specs.Layout.{written}
-use Rattle.schedule_replay.specs.declared.event.Event.{Event}
-use Rattle.schedule_replay.specs.declared.event.Event.TheVariants as events
-use Rattle.schedule_replay.specs.declared.event.Station.{Station}
-use Rattle.schedule_replay.specs.declared.event.Station.TheVariants as stations
+use Rattle.headline.specs.declared.event.Event.{Event}
+use Rattle.headline.specs.declared.event.Event.TheVariants as events
+use Rattle.headline.specs.declared.event.Station.{Station}
+use Rattle.headline.specs.declared.event.Station.TheVariants as stations
 use Rattle.schedule_replay.specs.declared.seen.Seen.{Seen}
 use Rattle.schedule_replay.specs.declared.seen.WorldRefusal.{WorldRefusal}
 use Rattle.schedule_replay.specs.declared.site.Site.{Site}
 use Rattle.schedule_replay.specs.declared.world.World.{World}
 use Rattle.schedule_replay.specs.declared.world_desk.WorldDesk.{WorldDesk}
-use Rattle.schedule_replay.specs.Worlds as worlds
-use Rattle.schedule_replay.specs.Worlds.{Process}
-use Rattle.schedule_replay.specs.Steps.{Answer, AtDesk, StepAt, station_of}
+use Rattle.headline.specs.Worlds as worlds
+use Rattle.headline.specs.Worlds.{Process}
+use Rattle.headline.specs.Events.{station_of}
+use Rattle.headline.specs.Steps.{Answer, AtDesk, StepAt}
 use Rattle.schedule_replay.specs.Refusals.{LeftByWant, RefusesEvent, down_at, first_cause, is_down, no_station, refusal_of}
-use Rattle.schedule_replay.specs.Match.{AreBytesOf, answer_of, match_of}
+use Rattle.headline.specs.Match.{match_of}
+use Rattle.schedule_replay.specs.Answers.{AreBytesOf, answer_of}
 use Rattle.schedule_replay.specs.Sites.{IsProcess, IsSite, SiteLeft, SiteSteps, SiteTakes, SyncsSite, site_cause}
 use Rattle.schedule_replay.specs.Sites as sites
 use Rattle.schedule_replay.specs.CodeWorlds.{IsBoardOf, IsSiteOf, IsWorld, RefusesTo, StepsTo, board_state, code_site}

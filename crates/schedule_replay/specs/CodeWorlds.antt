@@ -12,18 +12,19 @@ use Rattle.board.specs.declared.board.Board.{Board}
 use Rattle.board.specs.Board as board
 use Rattle.board.specs.declared.refusal.BoardRefusal.{BoardRefusal}
 use Rattle.wire.specs.declared.what.What.{What}
-use Rattle.schedule_replay.specs.declared.event.Event.{Event}
+use Rattle.headline.specs.declared.event.Event.{Event}
 use Rattle.schedule_replay.specs.declared.seen.Seen.{Seen}
 use Rattle.schedule_replay.specs.declared.seen.Seen.TheVariants as seens
 use Rattle.schedule_replay.specs.declared.seen.WorldRefusal.{WorldRefusal}
 use Rattle.schedule_replay.specs.declared.site.Site.{Site}
-use Rattle.schedule_replay.specs.declared.version.FileVersion.{FileVersion}
+use Rattle.headline.specs.declared.version.FileVersion.{FileVersion}
 use Rattle.schedule_replay.specs.declared.world.World.{World}
-use Rattle.schedule_replay.specs.Worlds as worlds
-use Rattle.schedule_replay.specs.Steps.{Answer, Step}
-use Rattle.schedule_replay.specs.Runs.{Begins}
+use Rattle.headline.specs.Worlds as worlds
+use Rattle.headline.specs.Steps.{Answer, Step}
+use Rattle.headline.specs.Runs.{Begins}
 use Rattle.schedule_replay.specs.Refusals.{RefusesEvent, refusal_of}
-use Rattle.schedule_replay.specs.Match.{AreBytesOf, answer_of, given_seen, match_of}
+use Rattle.headline.specs.Match.{match_of}
+use Rattle.schedule_replay.specs.Answers.{AreBytesOf, answer_of, given_seen}
 use Rattle.schedule_replay.specs.Sites.{IsSite}
 
 abbrev pub code_site : World → DeskId → Site

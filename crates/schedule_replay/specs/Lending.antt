@@ -7,8 +7,8 @@ use Rattle.schedule_replay.specs.declared.any_desk.AnyDesk.TheVariants as lent
 use Rattle.schedule_replay.specs.declared.world.World.{World}
 use Rattle.schedule_replay.specs.declared.world_desk.WorldDesk.{WorldDesk}
 use Rattle.schedule_replay.specs.declared.world_desk.WorldDesk.TheVariants as desks
-use Rattle.schedule_replay.specs.Worlds as worlds
-use Rattle.schedule_replay.specs.Worlds.{Process, Running, Down}
+use Rattle.headline.specs.Worlds as worlds
+use Rattle.headline.specs.Worlds.{Process, Running, Down}
 use Rattle.schedule_replay.specs.WorldDesks.{innings_of, state_of}
 use Rattle.schedule_replay.specs.CodeWorlds.{IsBoardOf, IsWorld, MatchBoard, board_state}
 

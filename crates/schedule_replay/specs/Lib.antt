@@ -1,13 +1,7 @@
--- What is claimed: Headline, over the runs of Runs, Steps and Worlds; Refusals, Match, CodeWorlds,
--- WorldDesks and Lending, and Replays. Sites, WorldBoards, ShownScores and VotesFiles serve private functions
--- only.
--- Of texts: ScheduleLines, ScheduleFault and SeenWords; ScheduleReading serves private functions only.
-pub mod Worlds
-pub mod Steps
-pub mod Runs
-pub mod Headline
+-- What is claimed: Replays, over the runs of `headline`; Refusals, Answers, CodeWorlds, WorldDesks and Lending;
+-- SeenWords, of words. Sites, WorldBoards, ShownScores and VotesFiles serve private functions only.
 pub mod Refusals
-pub mod Match
+pub mod Answers
 pub mod WorldDesks
 pub mod Sites
 pub mod CodeWorlds
@@ -16,7 +10,4 @@ pub mod Lending
 pub mod Replays
 pub mod ShownScores
 pub mod VotesFiles
-pub mod ScheduleFault
-pub mod ScheduleLines
-pub mod ScheduleReading
 pub mod SeenWords

@@ -1,26 +1,18 @@
 -- Why a world doesn't take an event.
-use Rattle.std.specs.Prelude.{◌≡◌, ◌⊎◌, ◌≤◌, ℕ, zero, suc, Bool, true, false, nat_le, nat_lt, ◌&&◌, Option, Some, None, List, [], ◌∷◌, length}
+use Rattle.std.specs.Prelude.{◌≡◌, ◌⊎◌, ℕ, zero, suc, Bool, true, false, nat_le, nat_lt, ◌&&◌, Option, Some, None, List, [], ◌∷◌, length}
 use Rattle.std.proofs.Math.Bool.{not}
 use Rattle.std.specs.Option.{is_none}
-use Rattle.notation.specs.Written.{IsEntry}
 use Rattle.agree_core.specs.declared.messages.DeskId.{DeskId}
 use Rattle.agree_core.specs.FileView.{MaySync}
-use Rattle.schedule_replay.specs.declared.event.Event.{Event}
-use Rattle.schedule_replay.specs.declared.event.Event.TheVariants as events
-use Rattle.schedule_replay.specs.declared.event.Station.{Station}
-use Rattle.schedule_replay.specs.declared.event.Station.TheVariants as stations
+use Rattle.headline.specs.declared.event.Event.{Event}
+use Rattle.headline.specs.declared.event.Event.TheVariants as events
+use Rattle.headline.specs.declared.event.Station.{Station}
+use Rattle.headline.specs.declared.event.Station.TheVariants as stations
 use Rattle.schedule_replay.specs.declared.seen.WorldRefusal.{WorldRefusal}
 use Rattle.schedule_replay.specs.declared.seen.WorldRefusal.TheVariants.{NoMessage, NoStation, WorldFull, Down, Up, NoMemory}
-use Rattle.schedule_replay.specs.Worlds as worlds
-use Rattle.schedule_replay.specs.Worlds.{Process, Setting, World, board_at, disk_of, site, with_disk, with_site}
-use Rattle.schedule_replay.specs.Steps.{station_of}
-
--- the numbers of an event are in their ranges
-abbrev pub IsEvent : Event → Type 0
-IsEvent (events.Pen d e) = IsEntry e
-IsEvent (events.FailAt d n) = 1 ≤ n
-IsEvent (events.StopAt d n) = 1 ≤ n
-IsEvent _ = Unit {0}
+use Rattle.headline.specs.Worlds as worlds
+use Rattle.headline.specs.Worlds.{Process, Setting, World, board_at, disk_of, site, with_disk, with_site}
+use Rattle.headline.specs.Events.{station_of}
 
 abbrev pub is_down : {Disk : Type 0} → Process Disk → Bool
 is_down (worlds.Running k) = false

@@ -6,15 +6,16 @@ use Rattle.notation.specs.declared.entry.Entry.{Entry}
 use Rattle.agree_core.specs.declared.messages.DeskId.TheVariants.{A, B}
 use Rattle.agree_core.specs.Boards.{BoardState}
 use Rattle.agree_core.specs.Desks.{DeskState}
-use Rattle.schedule_replay.specs.declared.event.Station.{Station}
-use Rattle.schedule_replay.specs.declared.event.Station.TheVariants as stations
+use Rattle.headline.specs.declared.event.Station.{Station}
+use Rattle.headline.specs.declared.event.Station.TheVariants as stations
 use Rattle.schedule_replay.specs.declared.shown_scores.ShownScores.{ShownScores}
 use Rattle.schedule_replay.specs.declared.world.World.{World}
 use Rattle.schedule_replay.specs.declared.world_desk.WorldDesk.{WorldDesk}
 use Rattle.schedule_replay.specs.CodeWorlds.{IsWorld, MatchBoard, board_innings, board_state, code_site}
-use Rattle.schedule_replay.specs.Replays.{ShowsScore, StandOnce}
+use Rattle.headline.specs.Laws.{ShowsScore}
+use Rattle.schedule_replay.specs.Replays.{StandOnce}
 use Rattle.schedule_replay.specs.WorldDesks.{innings_of, state_of}
-use Rattle.schedule_replay.specs.Worlds as worlds
+use Rattle.headline.specs.Worlds as worlds
 use Rattle.entry_log.specs.declared.mem_disk.MemDisk.{MemDisk}
 
 -- desks have numbers 0 and 1, and the boards those from 2 on

@@ -20,17 +20,18 @@ use Rattle.schedule_replay.specs.declared.seen.Seen.{Seen}
 use Rattle.schedule_replay.specs.declared.seen.Seen.TheVariants as seens
 use Rattle.schedule_replay.specs.declared.seen.WorldRefusal.{WorldRefusal}
 use Rattle.schedule_replay.specs.declared.seen.WorldRefusal.TheVariants as worlds_refuse
-use Rattle.schedule_replay.specs.declared.event.Event.{Event}
-use Rattle.schedule_replay.specs.declared.event.Event.TheVariants as events
-use Rattle.schedule_replay.specs.declared.fault.Fault.{Fault}
-use Rattle.schedule_replay.specs.declared.fault.Fault.TheVariants.{Fail, Stop}
-use Rattle.schedule_replay.specs.declared.version.FileVersion.{FileVersion}
+use Rattle.headline.specs.declared.event.Event.{Event}
+use Rattle.headline.specs.declared.event.Event.TheVariants as events
+use Rattle.headline.specs.declared.fault.Fault.{Fault}
+use Rattle.headline.specs.declared.fault.Fault.TheVariants.{Fail, Stop}
+use Rattle.headline.specs.declared.version.FileVersion.{FileVersion}
 use Rattle.schedule_replay.specs.declared.world_desk.WorldDesk.{WorldDesk}
 use Rattle.schedule_replay.specs.declared.site.Site.{Site}
-use Rattle.schedule_replay.specs.Worlds as worlds
-use Rattle.schedule_replay.specs.Steps.{Answer, AtDesk}
+use Rattle.headline.specs.Worlds as worlds
+use Rattle.headline.specs.Steps.{Answer, AtDesk}
 use Rattle.schedule_replay.specs.Refusals.{first_cause}
-use Rattle.schedule_replay.specs.Match.{AreBytesOf, answer_of, is_device, match_of, most_bytes}
+use Rattle.headline.specs.Match.{match_of, most_bytes}
+use Rattle.schedule_replay.specs.Answers.{AreBytesOf, answer_of, is_device}
 use Rattle.schedule_replay.specs.WorldDesks.{IsOf, disk_of, state_of}
 
 -- what is due on a disk, by what was asked for

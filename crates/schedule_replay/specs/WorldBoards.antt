@@ -3,11 +3,12 @@ use Rattle.std.specs.Prelude.{◌≡◌, ℕ, List, map, All, ◌++◌, Some}
 use Rattle.corrections.specs.declared.refusal.Refusal.{Refusal}
 use Rattle.agree_core.specs.declared.messages.Message.{Message}
 use Rattle.wire.specs.declared.datagram.Datagram.{Datagram}
-use Rattle.schedule_replay.specs.declared.event.Event.{Event}
+use Rattle.headline.specs.declared.event.Event.{Event}
 use Rattle.schedule_replay.specs.declared.seen.Seen.{Seen}
-use Rattle.schedule_replay.specs.Worlds.{fresh_boards}
-use Rattle.schedule_replay.specs.Steps.{Answer, AtBoard}
-use Rattle.schedule_replay.specs.Match.{AreBytesOf, answer_of, match_of}
+use Rattle.headline.specs.Worlds.{fresh_boards}
+use Rattle.headline.specs.Steps.{Answer, AtBoard}
+use Rattle.headline.specs.Match.{match_of}
+use Rattle.schedule_replay.specs.Answers.{AreBytesOf, answer_of}
 use Rattle.schedule_replay.specs.CodeWorlds.{IsBoardOf, MatchBoard, board_game, board_innings, board_state}
 
 -- it is a board of the same match

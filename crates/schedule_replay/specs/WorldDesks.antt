@@ -13,12 +13,12 @@ use Rattle.agree_core.specs.Openings.{NotOpened, Opened, Opening}
 use Rattle.desk.specs.Answers.{open_cause}
 use Rattle.desk.specs.Desk as desk
 use Rattle.desk.specs.declared.refusal.OpenRefusal.{OpenRefusal}
-use Rattle.schedule_replay.specs.declared.version.FileVersion.{FileVersion}
-use Rattle.schedule_replay.specs.declared.version.FileVersion.TheVariants as versions
+use Rattle.headline.specs.declared.version.FileVersion.{FileVersion}
+use Rattle.headline.specs.declared.version.FileVersion.TheVariants as versions
 use Rattle.schedule_replay.specs.declared.world_desk.WorldDesk.{WorldDesk}
 use Rattle.schedule_replay.specs.declared.world_desk.WorldDesk.TheVariants.{Old, New}
-use Rattle.schedule_replay.specs.Match.{format_of, match_of}
-use Rattle.schedule_replay.specs.Worlds.{Setting}
+use Rattle.headline.specs.Match.{format_of, match_of}
+use Rattle.headline.specs.Worlds.{Setting}
 
 abbrev pub version_of : WorldDesk → FileVersion
 version_of (Old k) = versions.Old

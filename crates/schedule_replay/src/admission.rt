@@ -3,8 +3,8 @@
 ghost use Rattle.std.specs.Prelude.{◌≡◌, ◌+◌, ◌≤◌, ◌⊎◌, IfErr, OnOk, None, Some, length, vec_capacity, vec_len, true};
 ghost use Rattle.schedule_replay.specs.Refusals.{asks_down, asks_up, first_cause, may_send, no_message};
 
-use crate::event::Event;
 use crate::seen::WorldRefusal;
+use headline::Event;
 use wire::Datagram;
 
 /// How many messages leave room for what one event hands out.

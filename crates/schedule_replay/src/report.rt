@@ -2,15 +2,14 @@
 
 ghost use Rattle.std.specs.Prelude.{◌≡◌, ◌≤◌, All, IfErr, IfOk};
 ghost use Rattle.schedule_replay.specs.CodeWorlds.{BeginsWorld};
-ghost use Rattle.schedule_replay.specs.Refusals.{IsEvent};
+ghost use Rattle.headline.specs.Events.{IsEvent};
 ghost use Rattle.schedule_replay.specs.Replays.{EndsAt, IsReplay};
-ghost use Rattle.schedule_replay.specs.declared.version.FileVersion.TheVariants as versions;
+ghost use Rattle.headline.specs.declared.version.FileVersion.TheVariants as versions;
 
-use crate::event::{Event, Station};
 use crate::seen::{Seen, WorldRefusal};
 use crate::shown_scores::ShownScores;
-use crate::version::FileVersion;
 use crate::world::World;
+use headline::{Event, FileVersion, Station};
 use match_laws::Match;
 use notation::Entry;
 use std::alloc::{AllocError, Global};

@@ -4,8 +4,8 @@ ghost use Rattle.std.specs.Prelude.{◌≡◌, ◌≤◌, ◌<◌, [], IfOk, OnE
 ghost use Rattle.match_laws.specs.declared.standing.Standing.{Standing};
 ghost use Rattle.schedule_replay.specs.ShownScores.{Adds, IsKept, IsStation, mark_of};
 
-use crate::event::Station;
 use agree_core::DeskId;
+use headline::Station;
 use match_laws::Match;
 use std::alloc::{AllocError, Global};
 

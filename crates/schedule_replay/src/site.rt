@@ -1,31 +1,30 @@
 //! A desk's place in the world.
 
 ghost use Rattle.std.specs.Prelude.{◌≡◌, ◌+◌, ◌≤◌, ◌<◌, ◌++◌, IfOk, OnErr, IsSome, None, Some, Err, List, length, map, vec_capacity, vec_len, true};
-ghost use Rattle.schedule_replay.specs.Refusals.{IsEvent, is_desk};
-ghost use Rattle.schedule_replay.specs.Steps.{station_of};
+ghost use Rattle.headline.specs.Events.{IsEvent};
+ghost use Rattle.schedule_replay.specs.Refusals.{is_desk};
+ghost use Rattle.headline.specs.Events.{station_of};
 ghost use Rattle.notation.specs.Written.{IsEntry};
 ghost use Rattle.desk.specs.Answers.{replied};
 ghost use Rattle.entry_log.specs.Disk.{IsImage, only};
 ghost use Rattle.entry_log.specs.MemDisk.{cap_of, file_of, images_of, plan_of};
 ghost use Rattle.entry_log.specs.declared.mem_disk.plan.Plan.TheVariants.{Calm};
 ghost use Rattle.wire.specs.declared.datagram.Datagram.{Datagram};
-ghost use Rattle.schedule_replay.specs.Match.{given_seen, is_device, is_failing, is_fault, wants_memory};
-ghost use Rattle.schedule_replay.specs.declared.event.Station.{Station as AStation};
-ghost use Rattle.schedule_replay.specs.declared.event.Event.TheVariants as events;
-ghost use Rattle.schedule_replay.specs.declared.version.FileVersion.TheVariants as versions;
+ghost use Rattle.schedule_replay.specs.Answers.{given_seen, is_device, is_failing, is_fault, wants_memory};
+ghost use Rattle.headline.specs.declared.event.Station.{Station as AStation};
+ghost use Rattle.headline.specs.declared.event.Event.TheVariants as events;
+ghost use Rattle.headline.specs.declared.version.FileVersion.TheVariants as versions;
 
 mod reporting;
 
 use crate::admission::admit;
 use crate::any_desk::AnyDesk;
-use crate::event::Event;
-use crate::fault::Fault;
 use crate::seen::{Cause, Seen, WorldRefusal};
-use crate::version::FileVersion;
 use crate::world_desk::{WorldDesk, most_bytes};
 use agree_core::DeskId;
 use desk::{OpenRefusal, Refusal};
 use entry_log::{Choice, MemDisk};
+use headline::{Event, Fault, FileVersion};
 use notation::Entry;
 use std::alloc::{AllocError, Global};
 use vote_store::migrate;

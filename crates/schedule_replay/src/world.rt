@@ -1,24 +1,23 @@
 //! Two desks with a file each, boards, and all that they have sent.
 
 ghost use Rattle.std.specs.Prelude.{◌≡◌, ◌≤◌, IfErr, IfOk};
-ghost use Rattle.schedule_replay.specs.Refusals.{IsEvent};
+ghost use Rattle.headline.specs.Events.{IsEvent};
 ghost use Rattle.schedule_replay.specs.Sites.{IsWhole};
-ghost use Rattle.schedule_replay.specs.Steps.{station_of};
-ghost use Rattle.schedule_replay.specs.declared.event.Station.TheVariants as stations;
-ghost use Rattle.schedule_replay.specs.declared.version.FileVersion.TheVariants as versions;
+ghost use Rattle.headline.specs.Events.{station_of};
+ghost use Rattle.headline.specs.declared.event.Station.TheVariants as stations;
+ghost use Rattle.headline.specs.declared.version.FileVersion.TheVariants as versions;
 
 mod reporting;
 
 use crate::admission::admit;
 use crate::any_desk::AnyDesk;
 use crate::boards::{empty_boards, give_board, no_board, tick_board, wipe_board};
-use crate::event::{Event, Station};
 use crate::seen::{Seen, WorldRefusal};
 use crate::site::Site;
-use crate::version::FileVersion;
 use agree_core::DeskId;
 use board::Board;
 use corrections::CheckedBook;
+use headline::{Event, FileVersion, Station};
 use std::alloc::{AllocError, Global};
 use wire::Datagram;
 

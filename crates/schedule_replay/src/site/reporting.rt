@@ -4,16 +4,16 @@ ghost use Rattle.std.specs.Prelude.{◌≡◌, ◌≤◌, ℕ, Contains, IfOk, O
 ghost use Rattle.entry_log.specs.declared.mem_disk.MemDisk.{MemDisk};
 ghost use Rattle.agree_core.specs.Ballots.{oldest};
 ghost use Rattle.match_laws.specs.declared.standing.Standing.{Standing};
-ghost use Rattle.schedule_replay.specs.declared.event.Station.TheVariants as stations;
+ghost use Rattle.headline.specs.declared.event.Station.TheVariants as stations;
 ghost use Rattle.schedule_replay.specs.ShownScores.{Adds, DeskShows, IsKept};
 ghost use Rattle.schedule_replay.specs.Sites.{IsSite, IsWhole};
 ghost use Rattle.schedule_replay.specs.VotesFiles.{SiteReads, votes_of};
-ghost use Rattle.schedule_replay.specs.Worlds as worlds;
+ghost use Rattle.headline.specs.Worlds as worlds;
 
-use crate::event::Station;
 use crate::shown_scores::ShownScores;
 use crate::site::Site;
 use crate::votes_file::VotesFile;
+use headline::Station;
 use std::alloc::AllocError;
 
 impl Site {

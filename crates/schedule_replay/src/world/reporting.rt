@@ -5,15 +5,15 @@ ghost use Rattle.agree_core.specs.Books.{IsAgreedByFiles};
 ghost use Rattle.schedule_replay.specs.CodeWorlds.{IsWorld};
 ghost use Rattle.schedule_replay.specs.ShownScores.{IsKept, IsNotable, Notes};
 ghost use Rattle.schedule_replay.specs.VotesFiles.{FilesRead};
-ghost use Rattle.schedule_replay.specs.Worlds as worlds;
-ghost use Rattle.schedule_replay.specs.Worlds.{votes_in};
+ghost use Rattle.headline.specs.Worlds as worlds;
+ghost use Rattle.headline.specs.Worlds.{votes_in};
 ghost use Rattle.entry_log.specs.declared.mem_disk.MemDisk.{MemDisk};
 
-use crate::event::Station;
 use crate::shown_scores::ShownScores;
 use crate::votes_file::agreed_list;
 use crate::world::World;
 use corrections::BookOf;
+use headline::Station;
 use notation::Entry;
 use std::alloc::AllocError;
 

@@ -1,5 +1,5 @@
 use Rattle.std.proofs.Common.{[], sym, subst}
-use Rattle.schedule_replay.specs.declared.event.Event.TheVariants as events
+use Rattle.headline.specs.declared.event.Event.TheVariants as events
 use Rattle.schedule_replay.specs.declared.seen.Seen.{Seen}
 use Rattle.schedule_replay.specs.WorldBoards.{BoardSteps}
 use Rattle.schedule_replay.proofs.BoardLemmas.{board_gives}

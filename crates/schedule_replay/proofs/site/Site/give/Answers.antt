@@ -1,5 +1,5 @@
 use Rattle.std.proofs.Common.{sym, subst, ◌∙◌, Some}
-use Rattle.schedule_replay.specs.declared.event.Event.TheVariants as events
+use Rattle.headline.specs.declared.event.Event.TheVariants as events
 use Rattle.schedule_replay.specs.declared.seen.Cause.TheVariants as causes
 use Rattle.schedule_replay.specs.declared.seen.Seen.{Seen}
 use Rattle.desk.specs.declared.refusal.Refusal.TheVariants as refusals

@@ -1,5 +1,5 @@
 use Rattle.std.proofs.Common.{Option, sym, subst, Result, Ok, Err, OnOk}
-use Rattle.schedule_replay.specs.declared.event.Station.TheVariants as stations
+use Rattle.headline.specs.declared.event.Station.TheVariants as stations
 use Rattle.schedule_replay.specs.declared.world_desk.WorldDesk.{WorldDesk}
 use Rattle.schedule_replay.specs.ShownScores.{Adds, DeskShows}
 use Rattle.schedule_replay.proofs.ShowLemmas.{adds_book}

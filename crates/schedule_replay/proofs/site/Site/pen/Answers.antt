@@ -1,5 +1,5 @@
 use Rattle.std.proofs.Common.{refl, sym, ◌∙◌, Ok}
-use Rattle.schedule_replay.specs.Match.{is_device}
+use Rattle.schedule_replay.specs.Answers.{is_device}
 use Rattle.schedule_replay.specs.declared.seen.Seen.TheVariants as seens
 use Rattle.schedule_replay.proofs.PenLemmas.{pen_refused, pen_runs_on, refused_same}
 use Rattle.schedule_replay.proofs.SiteLemmas.{pushed}

@@ -1,7 +1,7 @@
 use Rattle.std.proofs.Common.{sym, refl, ◌∙◌, ℕ, subst, []}
 use Rattle.entry_log.specs.MemDisk.{IsFresh}
 use Rattle.schedule_replay.specs.declared.seen.Cause.TheVariants as causes
-use Rattle.schedule_replay.specs.Match.{is_failing, wants_memory}
+use Rattle.schedule_replay.specs.Answers.{is_failing, wants_memory}
 use Rattle.schedule_replay.proofs.MigrateLemmas.{IsMoved, IsReturned, migrated, not_migrated, refused_for}
 use Rattle.schedule_replay.proofs.OpenLemmas.{not_found_same, stays_so}
 use Rattle.schedule_replay.proofs.site.Site.renew.Goals as goal

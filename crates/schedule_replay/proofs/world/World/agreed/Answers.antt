@@ -3,7 +3,7 @@ use Rattle.agree_core.specs.declared.messages.DeskId.TheVariants.{A, B}
 use Rattle.agree_core.specs.Ballots.{Ballot, oldest}
 use Rattle.agree_core.specs.Books.{IsAgreedByFiles}
 use Rattle.schedule_replay.specs.VotesFiles.{votes_of}
-use Rattle.schedule_replay.specs.Worlds as worlds
+use Rattle.headline.specs.Worlds as worlds
 use Rattle.schedule_replay.proofs.ReadLemmas.{of_names}
 use Rattle.schedule_replay.proofs.world.World.agreed.Goals as goal
 

@@ -1,6 +1,6 @@
 use Rattle.std.proofs.Common.{refl, ap, ◌∙◌}
 use Rattle.agree_core.specs.declared.messages.DeskId.TheVariants as desks
-use Rattle.schedule_replay.specs.declared.event.Station.TheVariants as stations
+use Rattle.headline.specs.declared.event.Station.TheVariants as stations
 use Rattle.schedule_replay.proofs.WorldLemmas.{at_desk_err, at_desk_ok}
 use Rattle.schedule_replay.proofs.world.World.at_desk.Goals as goal
 

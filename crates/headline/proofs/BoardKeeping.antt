@@ -1,0 +1,38 @@
+-- What is so of each item of a list, and of each board.
+use Rattle.std.proofs.Common.{◌≡◌, ℕ, zero, suc, Some, List, [], ◌∷◌, ◌++◌, subst}
+use Rattle.std.specs.Prelude.{slice_get, slice_set}
+use Rattle.agree_core.specs.Ballots.{AllVotes}
+use Rattle.agree_core.specs.Boards.{BoardState}
+use Rattle.agree_core.specs.Keeping.{BoardFine, Each}
+use Rattle.agree_core.proofs.Boards.{fresh_fine}
+use Rattle.headline.specs.Worlds.{board_at, fresh_boards, with_board}
+
+pub each_append : {X : Type 0} (P : X → Type 0) (xs ys : List X) → Each P xs → Each P ys → Each P (xs ++ ys)
+each_append P [] ys h k = k
+each_append P (x ∷ xs) ys h k = (h.0, each_append P xs ys h.1 k)
+
+pub each_other : {X : Type 0} (P Q : X → Type 0) → ((x : X) → P x → Q x) → (xs : List X) → Each P xs → Each Q xs
+each_other P Q f [] h = tt
+each_other P Q f (x ∷ xs) h = (f x h.0, each_other P Q f xs h.1)
+
+pub item_at : {X : Type 0} (P : X → Type 0) (xs : List X) (n : ℕ) (x : X) → slice_get xs n ≡ Some x → Each P xs → P x
+item_at P [] n m e h = absurd (cc)
+item_at P (x ∷ xs) zero m e h = let q : x ≡ m = cc in subst P q h.0
+item_at P (x ∷ xs) (suc n) m e h = item_at P xs n m e h.1
+
+item_set : {X : Type 0} (P : X → Type 0) (xs : List X) (n : ℕ) (x : X) → P x → Each P xs → Each P (slice_set xs n x)
+item_set P [] n k p h = tt
+item_set P (x ∷ xs) zero k p h = (p, h.1)
+item_set P (x ∷ xs) (suc n) k p h = (h.0, item_set P xs n k p h.1)
+
+pub board_fine_at : (v : AllVotes) (boards : List BoardState) (n : ℕ) (k : BoardState) → board_at boards n ≡ Some k → Each (BoardFine v) boards → BoardFine v k
+board_fine_at v boards zero k e h = absurd (cc)
+board_fine_at v boards (suc n) k e h = item_at (BoardFine v) boards n k e h
+
+pub board_set : (v : AllVotes) (boards : List BoardState) (n : ℕ) (k : BoardState) → BoardFine v k → Each (BoardFine v) boards → Each (BoardFine v) (with_board boards n k)
+board_set v boards zero k f h = h
+board_set v boards (suc n) k f h = item_set (BoardFine v) boards n k f h
+
+pub fresh_boards_fine : (v : AllVotes) (n : ℕ) → Each (BoardFine v) (fresh_boards n)
+fresh_boards_fine v zero = tt
+fresh_boards_fine v (suc n) = (fresh_fine v, fresh_boards_fine v n)

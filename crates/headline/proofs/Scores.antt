@@ -1,0 +1,54 @@
+-- Books of one length have one score.
+use Rattle.std.proofs.Common.{◌≡◌, ℕ, List, length, sym, ◌∙◌, subst, ⊎_elim}
+use Rattle.notation.specs.declared.entry.Entry.{Entry}
+use Rattle.ball_laws.specs.History.{History}
+use Rattle.match_laws.specs.declared.standing.Standing.{Standing}
+use Rattle.match_laws.specs.Stands.{StandsFor}
+use Rattle.corrections.specs.CleanList.{history_of}
+use Rattle.corrections.specs.declared.refusal.Refusal.{Refusal}
+use Rattle.entry_log.specs.declared.mem_disk.MemDisk.{MemDisk}
+use Rattle.agree_core.specs.Agreed.{BeginsWith}
+use Rattle.agree_core.proofs.Settling.{one_book}
+use Rattle.headline.specs.declared.version.FileVersion.{FileVersion}
+use Rattle.headline.specs.Worlds.{World, votes_in}
+use Rattle.headline.specs.Match.{match_of}
+use Rattle.headline.specs.Runs.{Begins, Moment, Run, last_of}
+use Rattle.headline.specs.Laws.{OneScore, ShowsScore}
+use Rattle.headline.proofs.Keeping.{all_justified, begins_fine, run_keeps}
+use Rattle.headline.proofs.Shown.{moment, shown_settled}
+use Rattle.headline.proofs.Sound.{same_length}
+
+-- a history has one standing
+pub one_standing : (m k : Standing) (n : ℕ) (h : History) → StandsFor m n h → StandsFor k n h → m ≡ k
+one_standing m k n h p q = λ i. record {
+  innings_a_side = (p.innings_a_side ∙ sym q.innings_a_side) i;
+  taken = (p.taken ∙ sym q.taken) i;
+  closed = (p.closed ∙ sym q.closed) i;
+  playing = (p.playing ∙ sym q.playing) i;
+  last = (p.last ∙ sym q.last) i;
+  begun = (p.begun ∙ sym q.begun) i;
+  home = (p.home ∙ sym q.home) i;
+  away = (p.away ∙ sym q.away) i;
+  crease = (p.crease ∙ sym q.crease) i;
+  scores = (p.scores ∙ sym q.scores) i;
+  batting = (p.batting ∙ sym q.batting) i;
+  bowling = (p.bowling ∙ sym q.bowling) i;
+}
+
+pub one_score : (game innings : ℕ) (version : FileVersion) (boards : ℕ) (w : World MemDisk) (ms : List (Moment MemDisk Refusal)) → Begins (match_of game innings) version boards w → Run (match_of game innings) w ms → OneScore game innings w ms
+one_score game innings version boards w ms begins run t u n score other p q =
+    let s = match_of game innings in
+    let f = begins_fine s version boards w begins in
+    let j = all_justified s (last_of w ms) (run_keeps s w ms f run) in
+    let x = moment s w ms (λ v. ShowsScore innings v t n score) f run p in
+    let y = moment s w ms (λ v. ShowsScore innings v u n other) f run q in
+    let xs = x.3.0 in
+    let ys = y.3.0 in
+    let size : length xs ≡ length ys = sym x.3.2 ∙ y.3.2 in
+    let equal : xs ≡ ys = ⊎_elim
+    (λ (b : BeginsWith ys xs). same_length xs ys b size)
+    (λ (b : BeginsWith xs ys). sym (same_length ys xs b (sym size)))
+    (one_book (votes_in (last_of w ms)) j (votes_in x.0) (votes_in y.0) xs ys x.2 y.2 (shown_settled s x.0 t xs x.1 x.3.1) (shown_settled s y.0 u ys y.1 y.3.1)) in
+    let a = x.3.3 in
+    let b = y.3.3 in
+    one_standing score other innings (history_of ys) (subst (λ (o : List Entry). StandsFor score innings (history_of o)) equal a.score) b.score

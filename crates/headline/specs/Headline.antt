@@ -1,0 +1,137 @@
+-- What holds in every run.
+use Rattle.std.specs.Prelude.{◌≡◌, ◌≢◌, ◌⊎◌, ℕ, false, Option, Some, List, [], ◌∷◌, ◌++◌, slice_get}
+use Rattle.notation.specs.declared.entry.Entry.{Entry}
+use Rattle.agree_core.specs.declared.messages.DeskId.{DeskId}
+use Rattle.agree_core.specs.declared.messages.DeskId.TheVariants.{A, B}
+use Rattle.agree_core.specs.declared.messages.Message.{Message}
+use Rattle.agree_core.specs.declared.messages.Vote.{Vote}
+use Rattle.agree_core.specs.declared.seat.Heard.{Heard}
+use Rattle.agree_core.specs.Agreed.{BeginsWith, EqualVotes, IsAgreedList}
+use Rattle.agree_core.specs.Ballots as ballots
+use Rattle.agree_core.specs.Ballots.{AllVotes, Ballot, In, Within, ballot_of, vote_of}
+use Rattle.agree_core.specs.Boards.{BoardState}
+use Rattle.agree_core.specs.Desks.{DeskState}
+use Rattle.agree_core.specs.Laws.{OneVoteEach, PlacesSettled, RoundsDiffer}
+use Rattle.agree_core.specs.Readers.{noted_of, other}
+use Rattle.headline.specs.declared.event.Event.{Event}
+use Rattle.headline.specs.declared.event.Event.TheVariants as events
+use Rattle.headline.specs.declared.event.Station.{Station}
+use Rattle.headline.specs.declared.event.Station.TheVariants as stations
+use Rattle.headline.specs.Worlds.{Running, Setting, World, board_at, disk_of, site, votes_in}
+use Rattle.headline.specs.Steps.{Answer}
+use Rattle.headline.specs.Runs.{AtEachMoment, AtSomeMoment, Moment, Shows, WasPenned, last_of}
+
+-- the desk runs and hasn't failed
+abbrev pub IsRunning : {Disk : Type 0} → World Disk → DeskId → DeskState Disk → Type 0
+IsRunning w d k = ((site w d).process ≡ Running k) × (k.failed ≡ false)
+
+abbrev pub noted_at_desk : {Disk : Type 0} → DeskState Disk → DeskId → DeskId → Option Entry
+noted_at_desk k A A = k.seat.mine
+noted_at_desk k A B = k.seat.theirs
+noted_at_desk k B A = k.seat.theirs
+noted_at_desk k B B = k.seat.mine
+
+-- a running station, with this book and at this position, has noted this vote of a desk there
+abbrev pub HasNoted :
+    {Disk : Type 0} → World Disk → Station → List Entry → Ballot → DeskId → Type 0
+HasNoted w (stations.Desk d) book b c =
+    (k : DeskState _) × IsRunning w d k × (k.book ≡ book) × (k.seat.position ≡ b.at)
+    × (noted_at_desk k d c ≡ Some b.entry)
+HasNoted w (stations.Board n) book b c =
+    (k : BoardState) × (board_at w.boards n ≡ Some k) × (k.book ≡ book) × (k.reader.position ≡ b.at)
+    × (noted_of k.reader c ≡ Some b.entry)
+
+-- the event brings a desk's vote to the station: it is given to another station than that desk, or the
+-- desk's own scorer pens it
+abbrev pub Brings : {Disk : Type 0} → World Disk → Event → Station → DeskId → Ballot → Type 0
+Brings w event t c b =
+    ((t ≢ stations.Desk c)
+    × ((n : ℕ) × (event ≡ events.Give n t) × (slice_get w.sent n ≡ Some (Message.Vote (vote_of c b)))))
+    ⊎ ((t ≡ stations.Desk c) × (event ≡ events.Pen c b.entry))
+
+-- it was penned, or told as a vote
+abbrev pub IsTaken : {Why : Type 0} → Answer Why → Type 0
+IsTaken (Answer.Penned settled) = Unit {0}
+IsTaken (Answer.Told heard) = Unit {0}
+IsTaken _ = ⊥
+
+-- no running station keeps both votes of its position
+abbrev pub NoneWaits : {Disk : Type 0} → World Disk → Type 0
+NoneWaits w =
+    (t : Station) (book : List Entry) (b c : Ballot) → HasNoted w t book b A → HasNoted w t book c B → ⊥
+
+-- the event that brings the second of two equal votes makes the book one longer by their entry
+abbrev pub TakesSecond : {Disk Why : Type 0} → World Disk → Moment Disk Why → Type 0
+TakesSecond w m =
+    (t : Station) (book : List Entry) (b : Ballot) (c : DeskId) → HasNoted w t book b c
+    → Brings w m.event t (other c) b → IsTaken m.answer → Shows m.after t (book ++ b.entry ∷ [])
+
+-- each event from this world on
+abbrev pub AtEachEvent :
+    {Disk Why : Type 0} → World Disk → List (Moment Disk Why)
+    → (World Disk → Moment Disk Why → Type 0) → Type 0
+AtEachEvent w [] P = Unit {0}
+AtEachEvent w (m ∷ ms) P = AtEachEvent w ms P × P (last_of w ms) m
+
+-- of two books that are shown at any two moments, by whatever stations, one begins with the other
+abbrev pub OneBook : {Disk Why : Type 0} → World Disk → List (Moment Disk Why) → Type 0
+OneBook w ms =
+    (t u : Station) (xs ys : List Entry) → AtSomeMoment w ms (λ v. Shows v t xs)
+    → AtSomeMoment w ms (λ v. Shows v u ys) → BeginsWith ys xs ⊎ BeginsWith xs ys
+
+-- the agreed list of the last votes begins with each book that is shown
+abbrev pub WithinAgreed : {Disk Why : Type 0} → World Disk → List (Moment Disk Why) → Type 0
+WithinAgreed w ms =
+    (t : Station) (xs agreed : List Entry) → AtSomeMoment w ms (λ v. Shows v t xs)
+    → IsAgreedList (votes_in (last_of w ms)) agreed → BeginsWith agreed xs
+
+-- for each entry of a book, as it is shown, both desks have voted in one round of its place
+abbrev pub ByBoth : {Disk : Type 0} → World Disk → Type 0
+ByBoth v =
+    (t : Station) (xs : List Entry) (place : ℕ) (e : Entry) → Shows v t xs → slice_get xs place ≡ Some e
+    → (round : ℕ) × EqualVotes (votes_in v) place round e
+
+-- each vote of a desk was penned by its scorer, unchanged
+abbrev pub AllPenned : {Disk Why : Type 0} → World Disk → List (Moment Disk Why) → Type 0
+AllPenned w ms =
+    (d : DeskId) (b : Ballot) → In b (ballots.votes_of (votes_in (last_of w ms)) d) → WasPenned w ms d b
+
+-- a vote that was handed out is among its desk's votes, and those are in what is read and in every image
+pub record KeptSafe {Disk Why : Type 0} (s : Setting Disk Why) (w : World Disk) : Type 0 where
+  pub sent : (n : ℕ) (v : Vote) → slice_get w.sent n ≡ Some (Message.Vote v)
+      → In (ballot_of v) (ballots.votes_of (votes_in w) v.desk)
+  pub images : (d : DeskId) (image : Option (List Ballot))
+      → (s.view d (site w d).version).Image (disk_of (site w d).process) image
+      → (votes : List Ballot) × (image ≡ Some votes) × Within (ballots.votes_of (votes_in w) d) votes
+  pub reads : (d : DeskId) → (votes : List Ballot)
+      × ((s.view d (site w d).version).reads (disk_of (site w d).process) ≡ Some votes)
+      × Within (ballots.votes_of (votes_in w) d) votes
+
+-- how the votes stand: no vote without the one before it, by the votes of the other desk
+pub record VotesStand (v : AllVotes) : Type 0 where
+  pub one_each : OneVoteEach v
+  pub rounds : RoundsDiffer v
+  pub places : PlacesSettled v
+
+-- neither two votes of one desk for a position, nor votes that are no book, nor a file that isn't sound
+abbrev pub IsSound : {Why : Type 0} → Answer Why → Type 0
+IsSound (Answer.Told Heard.TwoVotes) = ⊥
+IsSound Answer.BadVotes = ⊥
+IsSound Answer.Unsound = ⊥
+IsSound Answer.NoBook = ⊥
+IsSound _ = Unit {0}
+
+-- the headline: the books that are shown are one book; each entry was voted for by both desks in one
+-- round, and each vote was penned; and a running station that has noted equal votes has the entry
+pub record Headline {Disk Why : Type 0} (w : World Disk) (ms : List (Moment Disk Why)) : Type 0 where
+  pub one_book : OneBook w ms
+  pub within_agreed : WithinAgreed w ms
+  pub by_both : AtEachMoment w ms ByBoth
+  pub penned : AllPenned w ms
+  pub none_waits : AtEachMoment w ms NoneWaits
+  pub takes_second : AtEachEvent w ms TakesSecond
+
+-- what holds besides, at each moment
+pub record StandsFast {Disk Why : Type 0} (s : Setting Disk Why) (w : World Disk) : Type 0 where
+  pub safe : KeptSafe s w
+  pub votes : VotesStand (votes_in w)

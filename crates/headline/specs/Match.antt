@@ -1,0 +1,27 @@
+-- The setting of a match on disks in memory.
+use Rattle.std.specs.Prelude.{ℕ}
+use Rattle.corrections.specs.declared.refusal.Refusal.{Refusal}
+use Rattle.corrections.specs.Refusal.{book_refusal}
+use Rattle.entry_log.specs.declared.mem_disk.MemDisk.{MemDisk}
+use Rattle.entry_log.specs.Format.{Format, contents, room}
+use Rattle.entry_log.specs.MemDisk.{file_of, images_of}
+use Rattle.entry_log.specs.Version1.{version_1}
+use Rattle.entry_log.specs.Version2.{version_2}
+use Rattle.agree_core.specs.Desks.{most_votes}
+use Rattle.vote_store.specs.View.{file_view}
+use Rattle.headline.specs.declared.version.FileVersion.{FileVersion}
+use Rattle.headline.specs.declared.version.FileVersion.TheVariants.{Old, New}
+use Rattle.headline.specs.Worlds.{Setting}
+
+abbrev pub format_of : FileVersion → Format
+format_of Old = version_1
+format_of New = version_2
+
+-- how long the largest file of this version is
+abbrev pub most_bytes : FileVersion → ℕ
+most_bytes version = room (format_of version) most_votes
+
+-- the match of this number, with so many innings a side, on disks in memory
+abbrev pub match_of : ℕ → ℕ → Setting MemDisk Refusal
+match_of game innings =
+    record { view = λ d version. file_view (contents (format_of version)) file_of images_of d game; rules = book_refusal innings }

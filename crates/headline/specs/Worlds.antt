@@ -1,0 +1,75 @@
+-- Two desks with a file each, boards, and every message ever handed out.
+use Rattle.std.specs.Prelude.{ℕ, zero, suc, Option, None, List, [], ◌∷◌, ◌++◌, slice_get, slice_set}
+use Rattle.agree_core.specs.declared.messages.DeskId.{DeskId}
+use Rattle.agree_core.specs.declared.messages.DeskId.TheVariants.{A, B}
+use Rattle.agree_core.specs.declared.messages.Message.{Message}
+use Rattle.agree_core.specs.Ballots.{Ballot, AllVotes}
+use Rattle.agree_core.specs.Boards.{BoardState, fresh_board}
+use Rattle.agree_core.specs.Books.{Rules}
+use Rattle.agree_core.specs.Desks.{DeskState}
+use Rattle.agree_core.specs.FileView.{FileView}
+use Rattle.headline.specs.declared.fault.Fault.{Fault}
+use Rattle.headline.specs.declared.version.FileVersion.{FileVersion}
+
+-- what a match is recorded by: how a disk shows each desk's votes, in a file of either version, and the
+-- rules of a book
+pub record Setting (Disk Why : Type 0) : Type 1 where
+  pub view : DeskId → FileVersion → FileView Disk
+  pub rules : Rules Why
+
+-- a desk that runs, or its votes and its disk alone
+pub data Process (Disk : Type 0) : Type 0 where
+  Running : DeskState Disk → Process Disk
+  Down : List Ballot → Disk → Process Disk
+
+-- a desk's place in the world: the version of its file, what runs there, and the fault that is due on its disk
+pub record Site (Disk : Type 0) : Type 0 where
+  pub version : FileVersion
+  pub process : Process Disk
+  pub due : Option Fault
+
+abbrev pub votes_of : {Disk : Type 0} → Process Disk → List Ballot
+votes_of (Running k) = k.votes
+votes_of (Down votes disk) = votes
+
+abbrev pub disk_of : {Disk : Type 0} → Process Disk → Disk
+disk_of (Running k) = k.disk
+disk_of (Down votes disk) = disk
+
+-- the same on this disk
+abbrev pub with_disk : {Disk : Type 0} → Process Disk → Disk → Process Disk
+with_disk (Running k) disk = Running (record k { disk = disk })
+with_disk (Down votes old) disk = Down votes disk
+
+pub record World (Disk : Type 0) : Type 0 where
+  pub a : Site Disk
+  pub b : Site Disk
+  pub boards : List BoardState
+  pub sent : List Message
+
+abbrev pub site : {Disk : Type 0} → World Disk → DeskId → Site Disk
+site w A = w.a
+site w B = w.b
+
+-- the votes of both desks
+abbrev pub votes_in : {Disk : Type 0} → World Disk → AllVotes
+votes_in w = record { a = votes_of w.a.process; b = votes_of w.b.process }
+
+-- the board of this number, from 1 on
+abbrev pub board_at : List BoardState → ℕ → Option BoardState
+board_at boards zero = None
+board_at boards (suc n) = slice_get boards n
+
+-- the boards, with this one in the place of that number
+abbrev pub with_board : List BoardState → ℕ → BoardState → List BoardState
+with_board boards zero k = boards
+with_board boards (suc n) k = slice_set boards n k
+
+-- the world with this desk so, once these messages were handed out
+abbrev pub with_site : {Disk : Type 0} → World Disk → DeskId → Site Disk → List Message → World Disk
+with_site w A x out = record { a = x; b = w.b; boards = w.boards; sent = w.sent ++ out }
+with_site w B x out = record { a = w.a; b = x; boards = w.boards; sent = w.sent ++ out }
+
+abbrev pub fresh_boards : ℕ → List BoardState
+fresh_boards zero = []
+fresh_boards (suc n) = fresh_board ∷ fresh_boards n

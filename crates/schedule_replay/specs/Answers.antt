@@ -1,0 +1,90 @@
+-- What is seen, and bytes that were sent, in the definitions of a run.
+use Rattle.std.specs.Prelude.{◌≡◌, ℕ, Bool, true, false, List, map, All, is_some, Option, Some, None, Err}
+use Rattle.corrections.specs.declared.refusal.Refusal.{Refusal}
+use Rattle.entry_log.specs.declared.refusal.Refusal.TheVariants as files
+use Rattle.vote_store.specs.declared.refusal.Refusal.{Refusal as VotesRefusal}
+use Rattle.vote_store.specs.declared.refusal.Refusal.TheVariants as votes
+use Rattle.agree_core.specs.declared.messages.Message.{Message}
+use Rattle.agree_core.specs.Desks.{PenAnswer}
+use Rattle.agree_core.specs.Openings.{OpenRefusal}
+use Rattle.wire.specs.declared.datagram.Datagram.{Datagram}
+use Rattle.wire.specs.declared.what.What.{What}
+use Rattle.wire.specs.declared.what.What.TheVariants as whats
+use Rattle.wire.specs.Layout.{IsMessage, written}
+use Rattle.desk.specs.declared.refusal.Refusal.{Refusal as DeskRefusal}
+use Rattle.desk.specs.declared.refusal.Refusal.TheVariants as refusals
+use Rattle.desk.specs.Answers.{open_cause, pen_answer}
+use Rattle.schedule_replay.specs.declared.seen.Cause.{Cause}
+use Rattle.schedule_replay.specs.declared.seen.Cause.TheVariants as causes
+use Rattle.schedule_replay.specs.declared.seen.Seen.{Seen}
+use Rattle.schedule_replay.specs.declared.seen.Seen.TheVariants as seens
+use Rattle.headline.specs.Steps.{Answer}
+
+-- what a pen answers
+abbrev pub told_to_pen : PenAnswer Refusal → Answer Refusal
+told_to_pen (PenAnswer.Penned settled) = Answer.Penned settled
+told_to_pen (PenAnswer.Refused why) = Answer.NotPenned why
+told_to_pen PenAnswer.DeviceFailed = Answer.DeviceFailed
+
+abbrev pub told_to_open : OpenRefusal → Option (Answer Refusal)
+told_to_open OpenRefusal.Unsound = Some Answer.Unsound
+told_to_open (OpenRefusal.BadVotes place) = Some Answer.NoBook
+told_to_open OpenRefusal.NoMemory = None
+told_to_open OpenRefusal.DeviceFailed = Some Answer.DeviceFailed
+
+-- why a file isn't migrated; want of memory is no answer
+abbrev pub told_to_migrate : VotesRefusal → Option (Answer Refusal)
+told_to_migrate votes.NoMemory = None
+told_to_migrate (votes.File files.Device) = Some Answer.DeviceFailed
+told_to_migrate (votes.File files.Version) = Some Answer.OtherVersion
+told_to_migrate (votes.File fault) = Some Answer.Unsound
+told_to_migrate (votes.NotASequence slot) = Some Answer.Unsound
+
+abbrev pub told_by : Cause → Option (Answer Refusal)
+told_by (causes.Desk why) = Some (told_to_pen (pen_answer (Err why)))
+told_by (causes.Open why) = told_to_open (open_cause why)
+told_by (causes.Migrate why) = told_to_migrate why
+
+abbrev pub is_device : DeskRefusal → Bool
+is_device refusals.Device = true
+is_device _ = false
+
+-- the answer that is seen; bytes that are no message are none
+abbrev pub answer_of : Seen → Option (Answer Refusal)
+answer_of (seens.Penned settled) = Some (Answer.Penned settled)
+answer_of (seens.Refused cause) = told_by cause
+answer_of seens.Stopped = Some Answer.Stopped
+answer_of (seens.Ticked n) = Some (Answer.Ticked n)
+answer_of (seens.Heard h) = Some (Answer.Told h)
+answer_of (seens.Asked replied) = Some (Answer.Asked replied)
+answer_of (seens.Bad fault) = None
+answer_of seens.BadVotes = Some Answer.BadVotes
+answer_of seens.Failed = Some Answer.HasFailed
+answer_of (seens.Opened n) = Some (Answer.Opened n)
+answer_of (seens.Migrated n) = Some (Answer.Migrated n)
+answer_of seens.Done = Some Answer.Done
+
+-- these are the bytes of the messages
+abbrev pub AreBytesOf : ℕ → List Datagram → List Message → Type 0
+AreBytesOf game sent messages = All IsMessage messages × (map (λ d. d.bytes) sent ≡ map (written game) messages)
+
+-- what is seen where a desk was given bytes, but for a failing device
+abbrev pub given_seen : What → Option (List ℕ) → Seen
+given_seen (whats.Bad fault) reply = seens.Bad fault
+given_seen (whats.Heard h) reply = seens.Heard h
+given_seen whats.Asked reply = seens.Asked (is_some reply)
+given_seen whats.Device reply = seens.Failed
+given_seen whats.Failed reply = seens.Failed
+
+abbrev pub is_fault : What → Bool
+is_fault whats.Device = true
+is_fault _ = false
+
+-- why a votes file isn't found: memory was wanted, or its disk failed
+abbrev pub wants_memory : VotesRefusal → Bool
+wants_memory votes.NoMemory = true
+wants_memory _ = false
+
+abbrev pub is_failing : VotesRefusal → Bool
+is_failing (votes.File files.Device) = true
+is_failing _ = false

@@ -1,0 +1,4 @@
+pub mod ScheduleCuts
+pub mod EventTexts
+pub mod LineTexts
+pub mod ScheduleTexts

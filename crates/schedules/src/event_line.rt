@@ -1,0 +1,218 @@
+//! One line of a schedule.
+
+ghost use Rattle.std.specs.Prelude.{◌≡◌, ◌≤◌, IfSome, MatchOption, Some, None};
+ghost use Rattle.notation.specs.Reading.{found_number};
+ghost use Rattle.schedules.specs.ScheduleReading.{board_at, choice_at, cut, count_at, desk_at, event_at, fill_at, give_at, line_says, pen_at, pick, power_at, readers, station_at};
+
+use crate::schedule_fault::ScheduleFault;
+use agree_core::DeskId;
+use entry_log::Choice;
+use headline::{Event, Station};
+use notation::read_line;
+use std::str;
+
+/// The number that the word is, if it has no needless zero or sign and lies in the range.
+fn number(word: &str, low: u16, high: u16) -> Option<u16>
+    ensures value { result ≡ found_number low high word.now }
+    ensures range { IfSome result (λ n. (low ≤ n) × (n ≤ high)) }
+{
+    let bytes = word.as_bytes();
+    if bytes.len() > 1 && bytes[0] <= b'0' {
+        return None;
+    }
+    match word.parse::<u16>() {
+        Ok(number) => {
+            if low <= number && number <= high {
+                Some(number)
+            } else {
+                None
+            }
+        }
+        Err(_) => None,
+    }
+}
+
+/// What stands before the first space, and after it.
+fn cut(words: &str) -> Option<(&str, &str)>
+    ensures { MatchOption result (cut words.now ≡ None) (λ p. cut words.now ≡ Some (p.0.now, p.1.now)) }
+{
+    words.split_once(' ')
+}
+
+#[tactic(auto, unfolding(crate::specs::ScheduleReading::desk_at))]
+fn desk(word: &str) -> Option<DeskId>
+    ensures { result ≡ desk_at word.now }
+{
+    match word {
+        "a" => Some(DeskId::A),
+        "b" => Some(DeskId::B),
+        _ => None,
+    }
+}
+
+/// A board's number.
+#[tactic(auto, unfolding(crate::specs::ScheduleReading::board_at))]
+fn board(word: &str) -> Option<u8>
+    ensures { result ≡ board_at word.now }
+{
+    let number = number(word, 1, 4)?;
+    Some(number as u8)
+}
+
+#[tactic(auto, unfolding(crate::specs::ScheduleReading::station_at))]
+fn station(word: &str) -> Option<Station>
+    ensures { result ≡ station_at word.now }
+{
+    match desk(word) {
+        Some(desk) => Some(Station::Desk(desk)),
+        None => {
+            let number = board(word)?;
+            Some(Station::Board(number))
+        }
+    }
+}
+
+/// The bytes that a power loss leaves, by their value.
+#[tactic(auto, unfolding(crate::specs::ScheduleReading::fill_at))]
+fn fill(words: &str) -> Option<Choice>
+    ensures { result ≡ fill_at words.now }
+{
+    let (first, value) = cut(words)?;
+    if first != "fill" {
+        return None;
+    }
+    let value = number(value, 0, 255)?;
+    Some(Choice::Fill(value as u8))
+}
+
+/// What a power loss leaves.
+#[tactic(auto, unfolding(crate::specs::ScheduleReading::choice_at))]
+fn choice(words: &str) -> Option<Choice>
+    ensures { result ≡ choice_at words.now }
+{
+    match words {
+        "lost" => Some(Choice::Lost),
+        "kept" => Some(Choice::Kept),
+        _ => fill(words),
+    }
+}
+
+/// A message, by its number, and the station that it is given to.
+#[tactic(auto, unfolding(crate::specs::ScheduleReading::give_at))]
+fn give(words: &str) -> Option<Event>
+    ensures { result ≡ give_at words.now }
+{
+    let (message, to) = cut(words)?;
+    let message = number(message, 0, 65_535)?;
+    let to = station(to)?;
+    Some(Event::Give(u32::from(message), to))
+}
+
+/// A desk, and what the power loss leaves.
+#[tactic(auto, unfolding(crate::specs::ScheduleReading::power_at))]
+fn power(words: &str) -> Option<Event>
+    ensures { result ≡ power_at words.now }
+{
+    let (at, left) = cut(words)?;
+    let desk = desk(at)?;
+    let choice = choice(left)?;
+    Some(Event::Power(desk, choice))
+}
+
+/// A desk, and a number of device calls.
+#[tactic(auto, unfolding(crate::specs::ScheduleReading::count_at))]
+fn count(words: &str) -> Option<(DeskId, u32)>
+    ensures { result ≡ count_at words.now }
+{
+    let (at, calls) = cut(words)?;
+    let desk = desk(at)?;
+    let calls = number(calls, 1, 1000)?;
+    Some((desk, u32::from(calls)))
+}
+
+/// What the words after the first say, for each first word but `pen`.
+fn event_after(first: &str, words: &str) -> Option<Event>
+    ensures { result ≡ pick first.now readers words.now }
+{
+    match first {
+        "tick" => {
+            let station = station(words)?;
+            Some(Event::Tick(station))
+        }
+        "give" => give(words),
+        "kill" => {
+            let desk = desk(words)?;
+            Some(Event::Kill(desk))
+        }
+        "power" => power(words),
+        "fail" => {
+            let (desk, calls) = count(words)?;
+            Some(Event::FailAt(desk, calls))
+        }
+        "stop" => {
+            let (desk, calls) = count(words)?;
+            Some(Event::StopAt(desk, calls))
+        }
+        "open" => {
+            let desk = desk(words)?;
+            Some(Event::Open(desk))
+        }
+        "wipe" => {
+            let number = board(words)?;
+            Some(Event::Wipe(number))
+        }
+        "migrate" => {
+            let desk = desk(words)?;
+            Some(Event::Migrate(desk))
+        }
+        _ => None,
+    }
+}
+
+/// The event of a line, but for pens.
+#[tactic(auto, unfolding(crate::specs::ScheduleReading::event_at))]
+fn spelled(line: &str) -> Option<Event>
+    ensures { result ≡ event_at line.now }
+{
+    let (first, words) = cut(line)?;
+    event_after(first, words)
+}
+
+/// The same of bytes, which may be no text.
+fn event(line: &[u8]) -> Option<Event>
+    ensures { result ≡ event_at line.now }
+{
+    match str::from_utf8(line) {
+        Ok(text) => spelled(text),
+        Err(_) => None,
+    }
+}
+
+/// The desk and the entry line of a pen line.
+#[tactic(auto, unfolding(crate::specs::ScheduleReading::pen_at))]
+fn pen(line: &[u8]) -> Option<(DeskId, &[u8])>
+    ensures { MatchOption result (pen_at line.now ≡ None) (λ p. pen_at line.now ≡ Some (p.0, p.1.now)) }
+{
+    if let Some(entry) = line.strip_prefix(b"pen a ") {
+        return Some((DeskId::A, entry));
+    }
+    let entry = line.strip_prefix(b"pen b ")?;
+    Some((DeskId::B, entry))
+}
+
+/// The event of line `number`, or its fault.
+#[tactic(auto, unfolding(crate::specs::ScheduleReading::line_says))]
+pub fn read_event(line: &[u8], number: u64) -> Result<Event, ScheduleFault>
+    ensures { result ≡ line_says number line.now }
+{
+    if let Some((desk, entry)) = pen(line) {
+        return match read_line(entry) {
+            Ok(entry) => Ok(Event::Pen(desk, entry)),
+            Err(fault) => Err(ScheduleFault::BadEntry {
+                line: number,
+                fault,
+            }),
+        };
+    }
+    event(line).ok_or(ScheduleFault::BadEvent { line: number })
+}

@@ -1,0 +1,47 @@
+//! Why a text is no schedule.
+
+ghost use Rattle.std.specs.Prelude.{◌≡◌, Some};
+ghost use Rattle.schedules.specs.ScheduleFault.{name_of, number_of};
+
+use notation::LineFault;
+use std::error::Error;
+use std::fmt;
+
+/// Why a text is no schedule: the first line at fault, counted from 1.
+#[derive(Clone, Copy, Debug, PartialEq, Eq)]
+pub enum ScheduleFault {
+    /// A growth was refused.
+    NoMemory,
+    /// 85: the line is neither an event's nor a pen's, which is `pen D ` and anything behind it.
+    BadEvent { line: u64 },
+    /// 86: what stands behind `pen D ` is no entry line, for this fault.
+    BadEntry { line: u64, fault: LineFault },
+}
+
+impl ScheduleFault {
+    /// The number by which it is reported. Want of memory has none.
+    pub fn number(self) -> Option<u8>
+        ensures { result ≡ number_of self }
+    {
+        match self {
+            ScheduleFault::NoMemory => None,
+            ScheduleFault::BadEvent { .. } => Some(85),
+            ScheduleFault::BadEntry { .. } => Some(86),
+        }
+    }
+}
+
+impl fmt::Display for ScheduleFault {
+    ghost output = { λ fault. Some (name_of fault) };
+
+    /// Writes its name.
+    fn fmt<W: fmt::Write>(&self, f: &mut fmt::Formatter<W>) -> fmt::Result {
+        f.write_str(match self {
+            ScheduleFault::NoMemory => "NoMemory",
+            ScheduleFault::BadEvent { .. } => "BadEvent",
+            ScheduleFault::BadEntry { .. } => "BadEntry",
+        })
+    }
+}
+
+impl Error for ScheduleFault {}
