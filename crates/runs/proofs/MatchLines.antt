@@ -1,5 +1,5 @@
 -- The lines of a match: the first that isn't agreed ends it.
-use Rattle.std.proofs.Common.{◌≡◌, ◌+◌, ℕ, List, ◌∷◌, [], refl, ◌∙◌, subst, arith, Result, Ok, Err}
+use Rattle.std.proofs.Common.{◌≡◌, ◌+◌, ℕ, List, ◌∷◌, [], ◌∙◌, arith, Result, Ok, Err}
 use Rattle.std.specs.Prelude.{IsErrAnd}
 use Rattle.notation.specs.declared.entry.Entry.{Entry}
 use Rattle.books.specs.declared.fault.RunFault.{RunFault}
