@@ -24,6 +24,3 @@ pub use step_laws::{
     ShowsVotes, a_pen_is_allowed_or_refused, boards_are_those_of_the_votes,
     desks_are_those_of_their_votes,
 };
-
-#[cfg(test)]
-mod tests;

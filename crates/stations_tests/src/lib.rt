@@ -1,4 +1,4 @@
-//! Tests of the stations and of what they print: `cards`.
+//! Tests of stations and of what they print: desks on disks that fail, boards, sheets and cards.
 #![tactic(auto)]
 
 #[cfg(test)]
