@@ -1,0 +1,7 @@
+use Rattle.cards.specs.Watched.{stream_of}
+use Rattle.live.specs.Boards.{BoardGoes}
+use Rattle.live.proofs.board_loop.take_all.Given as goal
+
+abbrev pub invariant-loop : goal.invariant-loop
+invariant-loop g l =
+    BoardGoes g.B.BookOf.content g.B.BookOf.innings_a_side l.sheet l.initial.board l.board (g.L.Link.log l.initial.link) (g.L.Link.log l.link) (g.W.Write.contents (stream_of l.initial.out)) (g.W.Write.contents (stream_of l.out))
