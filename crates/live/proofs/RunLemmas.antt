@@ -1,11 +1,12 @@
 -- Runs of a station, one after the other.
-use Rattle.std.proofs.Common.{◌≡◌, ℕ, List, [], ◌∷◌, ◌++◌, Option, Some, None, refl, sym, ap, ◌∙◌, subst, append-nil, append_assoc}
+use Rattle.std.proofs.Common.{◌≡◌, ℕ, List, [], ◌∷◌, ◌++◌, Option, None, refl, sym, ap, ◌∙◌, subst, append-nil, append_assoc}
 use Rattle.std.specs.Prelude.{All}
 use Rattle.std.specs.Io.KnownBytes.{Appends}
 use Rattle.agree_core.specs.declared.messages.Message.{Message}
 use Rattle.wire.specs.Layout.{IsMessage}
 use Rattle.cards.proofs.Appending.{appends_both, appends_none}
 use Rattle.live.specs.Passed.{Passed}
+use Rattle.live.specs.Typing.{Input}
 use Rattle.live.specs.Runs.{Goes, Kind, Moment, Run, last_of, passed_at, passed_in, printed_in, typed_in}
 
 module _ {State Call : Type 0} (kind : Kind State Call) where
@@ -36,10 +37,10 @@ module _ {State Call : Type 0} (kind : Kind State Call) where
       ∙ (ap (λ xs. xs ++ here) (printed_both k ns ms) ∙ append_assoc (printed_in kind k ms) (printed_in kind (last_of k ms) ns) here)
 
   -- nothing happens
-  pub stays : (k : State) (log : List Passed) (lines : List (List ℕ)) (told : Option (List ℕ)) → Goes kind k k log log lines lines told told
-  stays k log lines told = record { moments = []; run = tt; last = refl; passed = sym (append-nil log); typed = sym (append-nil lines); printed = appends_none told }
+  pub stays : (k : State) (log : List Passed) (lines : List Input) (told : Option (List ℕ)) → Goes kind k k log log lines lines told told
+  stays k log lines told = record { moments = []; run = tt; last = refl; passed = sym (append-nil log); inputs = sym (append-nil lines); printed = appends_none told }
 
-  pub both : (k l m : State) (a b c : List Passed) (x y z : List (List ℕ)) (s t u : Option (List ℕ)) → Goes kind k l a b x y s t → Goes kind l m b c y z t u → Goes kind k m a c x z s u
+  pub both : (k l m : State) (a b c : List Passed) (x y z : List Input) (s t u : Option (List ℕ)) → Goes kind k l a b x y s t → Goes kind l m b c y z t u → Goes kind k m a c x z s u
   both k l m a b c x y z s t u g h =
       let ms = g.moments in
       let ns = h.moments in
@@ -50,16 +51,16 @@ module _ {State Call : Type 0} (kind : Kind State Call) where
         run = run_both k ns ms g.run from;
         last = last_both k ns ms ∙ (ap (λ q. last_of q ns) g.last ∙ h.last);
         passed = h.passed ∙ (ap (λ xs. xs ++ passed_in kind ns) g.passed ∙ (append_assoc a (passed_in kind ms) (passed_in kind ns) ∙ ap (λ xs. a ++ xs) (sym (passed_both ns ms))));
-        typed = h.typed ∙ (ap (λ xs. xs ++ typed_in kind ns) g.typed ∙ (append_assoc x (typed_in kind ms) (typed_in kind ns) ∙ ap (λ xs. x ++ xs) (sym (typed_both ns ms))));
+        inputs = h.inputs ∙ (ap (λ xs. xs ++ typed_in kind ns) g.inputs ∙ (append_assoc x (typed_in kind ms) (typed_in kind ns) ∙ ap (λ xs. x ++ xs) (sym (typed_both ns ms))));
         printed = subst (Appends s u) (sym text) (appends_both s t u (printed_in kind k ms) (printed_in kind l ns) g.printed h.printed);
       }
 
   -- one call
-  pub one : (k : State) (call : Call) (out : List Message) (l : State) (log : List Passed) (lines : List (List ℕ)) (s t : Option (List ℕ)) →
+  pub one : (k : State) (call : Call) (out : List Message) (l : State) (log : List Passed) (lines : List Input) (s t : Option (List ℕ)) →
       All IsMessage out → kind.Step k call out l → Appends s t (kind.prints k call l) → Goes kind k l log (log ++ passed_at kind call out) lines (lines ++ kind.typed call) s t
   one k call out l log lines s t fine step prints =
-      record { moments = record { call = call; out = out; after = l } ∷ []; run = (tt, fine, step); last = refl; passed = refl; typed = refl; printed = prints }
+      record { moments = record { call = call; out = out; after = l } ∷ []; run = (tt, fine, step); last = refl; passed = refl; inputs = refl; printed = prints }
 
   -- of what was written nothing is said
-  pub unsaid : (k l : State) (a b : List Passed) (x y : List (List ℕ)) (s t : Option (List ℕ)) → Goes kind k l a b x y s t → Goes kind k l a b x y None None
-  unsaid k l a b x y s t g = record { moments = g.moments; run = g.run; last = g.last; passed = g.passed; typed = g.typed; printed = tt }
+  pub unsaid : (k l : State) (a b : List Passed) (x y : List Input) (s t : Option (List ℕ)) → Goes kind k l a b x y s t → Goes kind k l a b x y None None
+  unsaid k l a b x y s t g = record { moments = g.moments; run = g.run; last = g.last; passed = g.passed; inputs = g.inputs; printed = tt }

@@ -1,7 +1,7 @@
 //! What a scorer types.
 
-ghost use Rattle.std.specs.Prelude.{List, ℕ};
-ghost use Rattle.live.specs.Typing.{IsTyped};
+ghost use Rattle.std.specs.Prelude.{List};
+ghost use Rattle.live.specs.Typing.{Input, IsTyped};
 
 /// How many bytes of a line are taken at most: more than an entry has, so that a longer one is seen as such.
 pub const LINE_ROOM: usize = 128;
@@ -16,10 +16,10 @@ pub enum Typed {
 
 /// A scorer's lines. Nothing is known of when they come.
 pub trait Keys {
-    /// The lines that it gave, the oldest first.
-    ghost lines: { Self → List (List ℕ) };
+    /// What it gave, the oldest first: lines, and that there are no more.
+    ghost inputs: { Self → List Input };
 
     /// The next line, without its newline, if there is one. It doesn't wait for one.
     fn line(&mut self, buffer: &mut [u8; 128]) -> Typed
-        ensures { IsTyped result buffer.new (lines self.old) (lines self.new) };
+        ensures { IsTyped result buffer.new (inputs self.old) (inputs self.new) };
 }

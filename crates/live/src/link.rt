@@ -6,6 +6,9 @@ ghost use Rattle.live.specs.Passed.{Passed, Sent, Came};
 /// How many bytes of a datagram are taken at most: more than a message has, so that a longer one is seen as such.
 pub const ROOM: usize = 64;
 
+/// How many datagrams a station takes in a turn at most.
+pub const MOST_TAKEN: usize = 8;
+
 /// Carries datagrams between a station and its peers. Nothing is known of what it loses, changes or makes up;
 /// only what was handed to it and what it gave is told.
 pub trait Link {
