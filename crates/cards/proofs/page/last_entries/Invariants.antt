@@ -1,0 +1,11 @@
+use Rattle.std.proofs.Common.{◌≡◌, ◌-◌}
+use Rattle.cards.specs.Watched.{stream_of, has_failed}
+use Rattle.cards.specs.Page.{entry_line}
+use Rattle.cards.proofs.Pages.{CopiedFrom}
+use Rattle.cards.proofs.page.last_entries.Given as goal
+
+abbrev pub invariant-loop-place : goal.invariant-loop-place
+invariant-loop-place g l =
+    CopiedFrom entry_line (g.B.BookOf.content l.book) (l.len - l.most) l.place
+    (g.W.Write.contents (stream_of l.initial.out)) (g.W.Write.contents (stream_of l.out))
+    × (has_failed l.out ≡ has_failed l.initial.out)

@@ -1,0 +1,103 @@
+-- How a run of a desk's process ends, and what it blames its disk for.
+use Rattle.std.proofs.Common.{◌≡◌, ℕ, List, [], ◌∷◌, Result, Ok, Err, false, refl, sym, ap, ◌∙◌, subst}
+use Rattle.std.specs.Prelude.{IsErrOf}
+use Rattle.entry_log.specs.Blame.{BlamesDisk}
+use Rattle.entry_log.specs.Disk.{Faults}
+use Rattle.cards.specs.Sheet.{Sheet}
+use Rattle.agree_core.specs.declared.messages.Message.{Message}
+use Rattle.agree_core.specs.declared.seat.Heard.{Heard}
+use Rattle.agree_core.specs.Desks as desks
+use Rattle.agree_core.specs.Desks.{DeskState, Receives}
+use Rattle.agree_core.specs.FileView.{FileView}
+use Rattle.wire.specs.declared.what.What.TheVariants as whats
+use Rattle.desk.specs.declared.refusal.Refusal.TheVariants as refusals
+use Rattle.live.specs.Ends.{Course, further}
+use Rattle.live.specs.Runs.{Moment, Run, last_of}
+use Rattle.live.specs.Desks.{DeskCall, DeskProcess, DeskStep, DiskView, Ended, Given, Ticked, TurnEnded, Typed, TypingEnded, course_after, desk_kind}
+use Rattle.live.specs.declared.said.Said.TheVariants as said
+use Rattle.live.specs.declared.ends.DeskEnd.{DeskEnd}
+use Rattle.live.specs.declared.ends.DeskEnd.TheVariants as ends
+use Rattle.live.proofs.DeskLemmas.{blameless}
+
+module _ {Disk : Type 0} (view : FileView Disk) (game innings : ℕ) (k l : DeskState Disk) (out : List Message) (runs : k.failed ≡ false) where
+  same_desk : l ≡ k → l.failed ≡ false
+  same_desk e = ap (λ (x : DeskState Disk). x.failed) e ∙ runs
+
+  unchanged : desks.Unchanged view k l → l.failed ≡ false
+  unchanged u = ap (λ (x : DeskState Disk). x.failed) u.1 ∙ runs
+
+  hears : (m : Message) (h : Heard) → Receives view k m (desks.Told h) l out → l.failed ≡ false
+  hears (Message.Vote v) h r = ap (λ (x : DeskState Disk). x.failed) r.3 ∙ runs
+  hears (Message.Ask q) h r = absurd r
+
+  asked : (m : Message) → Receives view k m desks.Asked l out → l.failed ≡ false
+  asked (Message.Vote v) r = absurd r
+  asked (Message.Ask q) r = unchanged r.1
+
+  -- a call that doesn't end the process leaves its desk running
+  pub runs_on : (call : DeskCall) → DeskStep view game innings k call out l → course_after call ≡ further → l.failed ≡ false
+  runs_on (Typed line said.Quit) r e = same_desk r.1
+  runs_on (Typed line said.List) r e = same_desk r.1
+  runs_on (Typed line said.Help) r e = same_desk r.1
+  runs_on (Typed line (said.Fault fault)) r e = same_desk r.1
+  runs_on (Typed line said.SayAgain) r e = same_desk r.1
+  runs_on (Typed line said.NoneDiffers) r e = same_desk r.1
+  runs_on (Typed line (said.Penned settled)) r e = r.2.1.2
+  runs_on (Typed line (said.Refused refusals.Device)) r e = absurd (cc)
+  runs_on (Typed line (said.Refused refusals.Failed)) r e = absurd (cc)
+  runs_on (Typed line (said.Refused refusals.Waiting)) r e = unchanged r.2.1
+  runs_on (Typed line (said.Refused refusals.PlacesFull)) r e = unchanged r.2.1
+  runs_on (Typed line (said.Refused refusals.RoundsFull)) r e = unchanged r.2.1
+  runs_on (Typed line (said.Refused refusals.SlotsFull)) r e = unchanged r.2.1
+  runs_on (Typed line (said.Refused (refusals.Book why))) r e = unchanged r.2.1
+  runs_on TypingEnded r e = same_desk r.0
+  runs_on (Given bytes (whats.Bad fault)) r e = unchanged r.2
+  runs_on (Given bytes (whats.Heard h)) r e = hears r.0 h r.2
+  runs_on (Given bytes whats.Asked) r e = asked r.0 r.2
+  runs_on (Given bytes whats.Device) r e = absurd (cc)
+  runs_on (Given bytes whats.Failed) r e = absurd (cc)
+  runs_on Ticked r e = same_desk r.1
+  runs_on TurnEnded r e = same_desk r.0
+
+-- the same blame, after calls that met no failure
+later : {W : Type 0} (course course' : Course) (start mid end : Faults) → mid ≡ start → course ≡ course' → BlamesDisk ends.Device W course mid end → BlamesDisk ends.Device W course' start end
+later {W = W} course course' start mid end e f b =
+    let c = subst (λ (x : Faults). BlamesDisk ends.Device W course x end) e b in
+    subst (λ (x : Course). BlamesDisk ends.Device W x start end) f c
+
+not_ended : (course : Course) → course ≡ further → IsErrOf course ends.Device → ⊥
+not_ended course e f = let path : further ≡ Err ends.Device = sym e ∙ f in (cc)
+
+module _ {Disk : Type 0} (sheet : Sheet) (view : FileView Disk) (disks : DiskView Disk) (game innings : ℕ) where
+  -- what is so after moments of a process whose desk hadn't failed
+  record Stands (p q : DeskProcess Disk) : Type 0 where
+    blame : BlamesDisk ends.Device disks.HasRoom q.course (disks.faults p.desk.disk) (disks.faults q.desk.disk)
+    running : q.course ≡ further → q.desk.failed ≡ false
+
+  stands : (p : DeskProcess Disk) (ms : List (Moment (DeskProcess Disk) DeskCall)) → p.course ≡ further → p.desk.failed ≡ false → Run (desk_kind sheet view disks game innings) p ms → Stands p (last_of p ms)
+  stands p [] e f r = record { blame = blameless p.course _ _ (not_ended p.course e) refl; running = λ x. f }
+  stands p (m ∷ ms) e f r =
+      let q = last_of p ms in
+      let so_far = stands p ms e f r.0 in
+      let step = r.2 in
+      let sound = so_far.running step.0 in
+      let is : m.after.course ≡ course_after m.call = ap (λ (x : DeskProcess Disk). x.course) step.3 in
+      record {
+        blame = later (course_after m.call) m.after.course (disks.faults p.desk.disk) (disks.faults q.desk.disk) (disks.faults m.after.desk.disk)
+            (so_far.blame.same (not_ended q.course step.0)) (sym is) (step.2 sound);
+        running = λ x. runs_on view game innings q.desk m.after.desk m.out sound m.call step.1 (sym is ∙ x);
+      }
+
+  -- a run blames the disk where its last call does
+  pub run_blames : (p q : DeskProcess Disk) (ms : List (Moment (DeskProcess Disk) DeskCall)) → p.course ≡ further → p.desk.failed ≡ false → Run (desk_kind sheet view disks game innings) p ms → last_of p ms ≡ q →
+      BlamesDisk ends.Device disks.HasRoom q.course (disks.faults p.desk.disk) (disks.faults q.desk.disk)
+  run_blames p q ms e f r is =
+      subst (λ (x : DeskProcess Disk). BlamesDisk ends.Device disks.HasRoom x.course (disks.faults p.desk.disk) (disks.faults x.desk.disk)) is (stands p ms e f r).blame
+
+-- the answer of a process blames the disk as its last call does
+pub answer_blames : {Disk W : Type 0} (turns : ℕ) (result : Result (Unit {0}) DeskEnd) (last : DeskProcess Disk) (old new : Faults) → Ended turns result last → BlamesDisk ends.Device W last.course old new → BlamesDisk ends.Device W result old new
+answer_blames turns (Ok done) last old new is b = blameless (Ok done) old new (λ q. (cc)) (b.same (not_ended last.course is.0))
+answer_blames turns (Err ends.Write) last old new is b = blameless (Err ends.Write) old new (λ q. (cc)) (b.same (not_ended last.course is))
+answer_blames {W = W} turns (Err ends.Quit) last old new is b = subst (λ (x : Course). BlamesDisk ends.Device W x old new) is b
+answer_blames {W = W} turns (Err ends.NoMoreLines) last old new is b = subst (λ (x : Course). BlamesDisk ends.Device W x old new) is b
+answer_blames {W = W} turns (Err ends.Device) last old new is b = subst (λ (x : Course). BlamesDisk ends.Device W x old new) is b

@@ -1,0 +1,94 @@
+-- What the scorer is told, and how the process goes on then.
+use Rattle.std.proofs.Common.{◌≡◌, ℕ, List, [], ◌++◌, Result, Ok, Err, Option, Some, None, refl, sym, ap, ◌∙◌, subst, append-nil}
+use Rattle.std.specs.Prelude.{OnOk}
+use Rattle.std.specs.Io.KnownBytes.{Appends}
+use Rattle.cards.proofs.Appending.{appends_none}
+use Rattle.cards.specs.Sheet.{Sheet}
+use Rattle.cards.specs.declared.watched.WriteFailed.{WriteFailed}
+use Rattle.notation.specs.declared.entry.Entry.{Entry}
+use Rattle.wire.specs.declared.what.What.{What}
+use Rattle.wire.specs.declared.what.What.TheVariants as whats
+use Rattle.desk.specs.declared.refusal.Refusal.TheVariants as refusals
+use Rattle.live.specs.Ends.{Course, course_of, ending, end_at, end_of, further, known_at, written}
+use Rattle.live.specs.Runs.{with_text}
+use Rattle.live.specs.Texts.{came_text, said_text}
+use Rattle.live.specs.declared.said.Said.{Said}
+use Rattle.live.specs.declared.said.Said.TheVariants as said
+use Rattle.live.specs.declared.warned.Warned.{Warned}
+use Rattle.live.specs.declared.ends.DeskEnd.{DeskEnd}
+use Rattle.live.specs.declared.ends.DeskEnd.TheVariants as ends
+
+course_at : (course : Course) (end : DeskEnd) → course ≡ Err end → (end ≡ ends.Write → ⊥) → ending end ≡ course
+course_at course ends.Quit e n = sym e
+course_at course ends.NoMoreLines e n = sym e
+course_at course ends.Device e n = sym e
+course_at course ends.Write e n = absurd (n refl)
+
+said_no_write : (answer : Said) (end : DeskEnd) → end_of answer ≡ Err end → end ≡ ends.Write → ⊥
+said_no_write said.Quit end e w = cc
+said_no_write said.List end e w = cc
+said_no_write said.Help end e w = cc
+said_no_write (said.Fault fault) end e w = cc
+said_no_write said.SayAgain end e w = cc
+said_no_write said.NoneDiffers end e w = cc
+said_no_write (said.Penned settled) end e w = cc
+said_no_write (said.Refused refusals.Failed) end e w = cc
+said_no_write (said.Refused refusals.Waiting) end e w = cc
+said_no_write (said.Refused refusals.PlacesFull) end e w = cc
+said_no_write (said.Refused refusals.RoundsFull) end e w = cc
+said_no_write (said.Refused refusals.SlotsFull) end e w = cc
+said_no_write (said.Refused (refusals.Book why)) end e w = cc
+said_no_write (said.Refused refusals.Device) end e w = cc
+
+came_no_write : (what : What) (end : DeskEnd) → end_at what ≡ Err end → end ≡ ends.Write → ⊥
+came_no_write (whats.Bad fault) end e w = cc
+came_no_write (whats.Heard heard) end e w = cc
+came_no_write whats.Asked end e w = cc
+came_no_write whats.Device end e w = cc
+came_no_write whats.Failed end e w = cc
+
+-- a line at which the process ends
+pub said_course : (answer : Said) (end : DeskEnd) → end_of answer ≡ Err end → ending end ≡ end_of answer
+said_course answer end e = course_at (end_of answer) end e (said_no_write answer end e)
+
+pub came_course : (what : What) (end : DeskEnd) → end_at what ≡ Err end → ending end ≡ end_at what
+came_course what end e = course_at (end_at what) end e (came_no_write what end e)
+
+-- nothing is told of an end
+pub said_nothing : (sheet : Sheet) (innings place : ℕ) (book : List Entry) (answer : Said) (end : DeskEnd) (s : Option (List ℕ)) → end_of answer ≡ Err end → Appends s s (said_text sheet innings place book answer)
+said_nothing sheet innings place book said.Quit end s e = appends_none s
+said_nothing sheet innings place book said.List end s e = absurd (cc)
+said_nothing sheet innings place book said.Help end s e = absurd (cc)
+said_nothing sheet innings place book (said.Fault fault) end s e = absurd (cc)
+said_nothing sheet innings place book said.SayAgain end s e = absurd (cc)
+said_nothing sheet innings place book said.NoneDiffers end s e = absurd (cc)
+said_nothing sheet innings place book (said.Penned settled) end s e = absurd (cc)
+said_nothing sheet innings place book (said.Refused refusals.Failed) end s e = appends_none s
+said_nothing sheet innings place book (said.Refused refusals.Waiting) end s e = absurd (cc)
+said_nothing sheet innings place book (said.Refused refusals.PlacesFull) end s e = absurd (cc)
+said_nothing sheet innings place book (said.Refused refusals.RoundsFull) end s e = absurd (cc)
+said_nothing sheet innings place book (said.Refused refusals.SlotsFull) end s e = absurd (cc)
+said_nothing sheet innings place book (said.Refused (refusals.Book why)) end s e = absurd (cc)
+said_nothing sheet innings place book (said.Refused refusals.Device) end s e = appends_none s
+
+pub came_nothing : (sheet : Sheet) (innings place : ℕ) (book : List Entry) (warned : Warned) (what : What) (end : DeskEnd) (s : Option (List ℕ)) → end_at what ≡ Err end → Appends s s (came_text sheet innings place book warned what)
+came_nothing sheet innings place book warned (whats.Bad fault) end s e = absurd (cc)
+came_nothing sheet innings place book warned (whats.Heard heard) end s e = absurd (cc)
+came_nothing sheet innings place book warned whats.Asked end s e = absurd (cc)
+came_nothing sheet innings place book warned whats.Device end s e = appends_none s
+came_nothing sheet innings place book warned whats.Failed end s e = appends_none s
+
+-- a text is told, or a write failed
+pub tells : (answer : Result (Unit {0}) WriteFailed) (r : Course) (s t : Option (List ℕ)) (text : List ℕ) → r ≡ written answer → OnOk answer (Appends s t text) → Appends (known_at r s) (known_at r t) text
+tells (Ok done) r s t text e a = subst (λ (x : Course). Appends (known_at x s) (known_at x t) text) (sym e) a
+tells (Err fault) r s t text e a = subst (λ (x : Course). Appends (known_at x s) (known_at x t) text) (sym e) tt
+
+pub goes_further : (answer : Result (Unit {0}) WriteFailed) (r : Course) → r ≡ written answer → course_of r ≡ further
+goes_further (Ok done) r e = ap (λ (x : Course). course_of x) e
+goes_further (Err fault) r e = ap (λ (x : Course). course_of x) e
+
+-- what was told first
+pub told_first : (s t : Option (List ℕ)) (text : List ℕ) → Appends s t text → Appends (with_text s text) t []
+told_first None t text a = tt
+told_first (Some xs) None text a = absurd a
+told_first (Some xs) (Some ys) text a = a ∙ sym (append-nil (xs ++ text))

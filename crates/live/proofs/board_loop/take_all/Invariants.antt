@@ -1,0 +1,10 @@
+use Rattle.std.proofs.Common.{List, ℕ, Option}
+use Rattle.cards.specs.Sheet.{Sheet}
+use Rattle.live.specs.Boards.{BoardGoes, in_turn}
+use Rattle.live.proofs.board_loop.take_all.Given as goal
+
+abbrev pub invariant-loop-taken : goal.invariant-loop-taken
+invariant-loop-taken g l =
+    (sheet : Sheet) (told : Option (List ℕ)) (turns had : ℕ) → BoardGoes g.B.BookOf.content g.B.BookOf.innings_a_side sheet l.initial.board l.board
+    (in_turn g.B.BookOf.content l.initial.board turns had 0) (in_turn g.B.BookOf.content l.board turns had l.taken)
+    (g.L.Link.log l.initial.link) (g.L.Link.log l.link) told told

@@ -1,0 +1,25 @@
+use Rattle.std.proofs.Common.{◌≡◌, nat_lt, subst}
+use Rattle.notation.specs.Written.{IsEntry, text_of}
+use Rattle.agree_core.specs.declared.position.Position.{Position}
+use Rattle.live.specs.Saying.{ComesTo, says_again}
+use Rattle.live.proofs.DeskLemmas.{penned, refused, unpenned}
+use Rattle.live.proofs.desk_calls.pen.Goals as goal
+
+pub returns-in-Err : goal.returns-in-Err
+returns-in-Err g c =
+    unpenned c.args.desk.now c.args.line.now c.in-Err.said _
+    (subst (λ (p : Position). ComesTo (nat_lt 0 p.round) c.args.line.now c.in-Err.said) c.position-differs.ensures c.in-Err.ensures.none)
+
+pub returns-in-Ok-pen : goal.returns-in-Ok-pen
+returns-in-Ok-pen g c =
+    let e = c.in-Ok.entry in
+    let says = subst (λ (p : Position). IsEntry e × (c.args.line.now ≡ says_again (nat_lt 0 p.round) (text_of e))) c.position-differs.ensures c.in-Ok.ensures.said in
+    let answer = c.in-Ok-pen.ensures in
+    penned c.args.desk.now c.pen.new.self c.args.line.now e c.in-Ok-pen.penned _ _ answer.owner says answer.step answer.blame c.send.ensures
+
+pub returns-in-Err-pen : goal.returns-in-Err-pen
+returns-in-Err-pen g c =
+    let e = c.in-Ok.entry in
+    let says = subst (λ (p : Position). IsEntry e × (c.args.line.now ≡ says_again (nat_lt 0 p.round) (text_of e))) c.position-differs.ensures c.in-Ok.ensures.said in
+    let answer = c.in-Err-pen.ensures in
+    refused c.args.desk.now c.pen.new.self c.args.line.now e c.in-Err-pen.why _ answer.owner says answer.step answer.blame

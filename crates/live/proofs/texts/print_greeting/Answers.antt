@@ -1,0 +1,6 @@
+use Rattle.cards.proofs.Appending.{appends_last}
+use Rattle.live.proofs.texts.print_greeting.Goals as goal
+
+pub returns-clause-text : goal.returns-clause-text
+returns-clause-text g c =
+    rw (← c.standing.ensures) (appends_last c.print_at.result _ _ _ _ _ c.in_ok-print_score.ensures.text c.print_at.ensures.text)

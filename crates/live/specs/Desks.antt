@@ -1,0 +1,171 @@
+-- A desk's process, call by call.
+use Rattle.std.specs.Prelude.{◌≡◌, ◌≤◌, ◌+◌, ℕ, false, List, [], ◌∷◌, ◌++◌, All, Option, is_some, Result, Ok, Err}
+use Rattle.corrections.specs.declared.book_of.BookOf.{Ghosts as Books}
+use Rattle.corrections.specs.Refusal.{book_refusal}
+use Rattle.entry_log.specs.Blame.{BlamesDisk}
+use Rattle.entry_log.specs.Disk.{Faults}
+use Rattle.entry_log.specs.declared.disk.Disk.{Ghosts as Disks}
+use Rattle.entry_log.specs.declared.slots_of.SlotsOf.{Ghosts as Files}
+use Rattle.agree_core.specs.declared.messages.Message.{Message}
+use Rattle.agree_core.specs.Desks.{DeskState, Ticks, most_votes}
+use Rattle.agree_core.specs.FileView.{FileView}
+use Rattle.wire.specs.Layout.{IsMessage}
+use Rattle.wire.specs.declared.what.What.{What}
+use Rattle.cards.specs.Sheet.{Sheet}
+use Rattle.desk.specs.declared.desk.Desk.{Desk}
+use Rattle.desk.specs.Desk.{SameOwner, book_of, disk_of, game_of, state_of, view_of}
+use Rattle.desk.specs.Takes.{Takes}
+use Rattle.live.specs.declared.ends.DeskEnd.{DeskEnd}
+use Rattle.live.specs.declared.ends.DeskEnd.TheVariants.{NoMoreLines, Device, Write}
+use Rattle.live.specs.declared.said.Said.{Said}
+use Rattle.live.specs.declared.warned.Warned.{Warned}
+use Rattle.live.specs.declared.warned.Warned.TheVariants.{Nothing}
+use Rattle.live.specs.Ends.{Course, end_at, end_of, further, known_at}
+use Rattle.live.specs.Passed.{Passed, Came, sends}
+use Rattle.live.specs.Runs.{Goes, Kind, with_text}
+use Rattle.live.specs.Saying.{Types}
+use Rattle.live.specs.Texts.{came_text, greeting, said_text, warned_after}
+use Rattle.live.specs.Typing.{Input, Line, End}
+
+-- a call of a desk: its scorer's line, the end of its scorer's lines, bytes that it is given, a tick, or the end of a
+-- turn
+pub data DeskCall : Type 0 where
+  Typed : List ℕ → Said → DeskCall
+  TypingEnded : DeskCall
+  Given : List ℕ → What → DeskCall
+  Ticked : DeskCall
+  TurnEnded : DeskCall
+
+-- in a match of this number and innings a side
+abbrev pub DeskStep :
+    {Disk : Type 0} → FileView Disk → ℕ → ℕ
+    → DeskState Disk → DeskCall → List Message → DeskState Disk → Type 0
+DeskStep view game innings k (Typed line said) out l = Types view (book_refusal innings) k line said l out
+DeskStep view game innings k TypingEnded out l = (l ≡ k) × (out ≡ [])
+DeskStep view game innings k (Given bytes what) out l = Takes view game k bytes what l out
+DeskStep view game innings k Ticked out l = Ticks k out × (l ≡ k)
+DeskStep view game innings k TurnEnded out l = (l ≡ k) × (out ≡ [])
+
+-- how the process goes on after a call
+abbrev pub course_after : DeskCall → Course
+course_after (Typed line said) = end_of said
+course_after TypingEnded = Err NoMoreLines
+course_after (Given bytes what) = end_at what
+course_after call = further
+
+-- what a disk's failures are told by: how many there were, and whether there is room for the longest file
+pub record DiskView (Disk : Type 0) : Type 1 where
+  pub faults : Disk → Faults
+  pub HasRoom : Type 0
+
+-- a call of a desk that hasn't failed ends the process with `Device` exactly where the disk failed in the call
+abbrev pub Blames : {Disk : Type 0} → DiskView Disk → DeskState Disk → DeskCall → DeskState Disk → Type 0
+Blames disks k call l =
+    k.failed ≡ false → BlamesDisk Device disks.HasRoom (course_after call) (disks.faults k.disk) (disks.faults l.disk)
+
+-- a desk's process: the desk, what its scorer was told of a peer since something right came, how many turns are
+-- over, and how it goes on
+pub record DeskProcess (Disk : Type 0) : Type 0 where
+  pub desk : DeskState Disk
+  pub warned : Warned
+  pub turns : ℕ
+  pub course : Course
+
+abbrev pub warned_at : Warned → DeskCall → Warned
+warned_at warned (Given bytes what) = warned_after warned what
+warned_at warned call = warned
+
+abbrev pub turns_at : ℕ → DeskCall → ℕ
+turns_at turns TurnEnded = turns + 1
+turns_at turns call = turns
+
+abbrev pub after_call : {Disk : Type 0} → DeskProcess Disk → DeskCall → DeskState Disk → DeskProcess Disk
+after_call k call l =
+    record { desk = l; warned = warned_at k.warned call; turns = turns_at k.turns call; course = course_after call }
+
+-- a process that hasn't ended makes a call
+abbrev pub ProcessStep :
+    {Disk : Type 0} → FileView Disk → DiskView Disk → ℕ → ℕ
+    → DeskProcess Disk → DeskCall → List Message → DeskProcess Disk → Type 0
+ProcessStep view disks game innings k call out l =
+    (k.course ≡ further) × DeskStep view game innings k.desk call out l.desk
+    × Blames disks k.desk call l.desk × (l ≡ after_call k call l.desk)
+
+abbrev pub given : DeskCall → List Passed
+given (Given bytes what) = Came bytes ∷ []
+given call = []
+
+abbrev pub typed : DeskCall → List Input
+typed (Typed line said) = Line line ∷ []
+typed TypingEnded = End ∷ []
+typed call = []
+
+-- what the scorer is told of a call
+abbrev pub told_of : {Disk : Type 0} → Sheet → ℕ → DeskProcess Disk → DeskCall → DeskProcess Disk → List ℕ
+told_of sheet innings k (Typed line said) l = said_text sheet innings k.desk.seat.position.place l.desk.book said
+told_of sheet innings k (Given bytes what) l =
+    came_text sheet innings k.desk.seat.position.place l.desk.book k.warned what
+told_of sheet innings k call l = []
+
+abbrev pub desk_kind : {Disk : Type 0} → Sheet → FileView Disk → DiskView Disk → ℕ → ℕ → Kind (DeskProcess Disk) DeskCall
+desk_kind sheet view disks game innings = record {
+  game = game;
+  Step = ProcessStep view disks game innings;
+  given = given;
+  typed = typed;
+  prints = told_of sheet innings;
+}
+
+-- a file of this many slots has so many bytes, and the longest one is within the cap
+abbrev pub HasRoom : (ℕ → ℕ) → ℕ → Type 0
+HasRoom room cap = (votes : ℕ) → votes ≤ most_votes → room votes ≤ cap
+
+-- how a run of so many turns ended with this answer: all turns are over, or a write failed, or the process came to its
+-- end
+abbrev pub Ended : {Disk : Type 0} → ℕ → Result (Unit {0}) DeskEnd → DeskProcess Disk → Type 0
+Ended turns (Ok done) last = (last.course ≡ further) × (last.turns ≡ turns)
+Ended turns (Err Write) last = last.course ≡ further
+Ended turns (Err end) last = last.course ≡ Err end
+
+module _ {S B D : Type 0} {g : Files S D} {h : Disks D} {b : Books B} where
+  abbrev pub innings_of : Desk S B D g h b → ℕ
+  innings_of desk = b.innings_a_side (book_of desk)
+
+  abbrev pub disks_of : Desk S B D g h b → DiskView D
+  disks_of desk = record { faults = h.faults; HasRoom = HasRoom g.room (h.cap (disk_of desk)) }
+
+  abbrev pub kind_of : Sheet → Desk S B D g h b → Kind (DeskProcess D) DeskCall
+  kind_of sheet desk = desk_kind sheet (view_of desk) (disks_of desk) (game_of desk) (innings_of desk)
+
+  abbrev pub process_of : Desk S B D g h b → Warned → ℕ → Course → DeskProcess D
+  process_of desk warned turns course =
+      record { desk = state_of desk; warned = warned; turns = turns; course = course }
+
+  -- a call of a desk with its answer: what it handed out is what the link's log grew by
+  pub record Calls (old new : Desk S B D g h b) (call : DeskCall) (before after : List Passed) : Type 0 where
+    pub same : SameOwner old new
+    pub out : List Message
+    pub fine : All IsMessage out
+    pub passed : after ≡ before ++ sends (game_of old) out
+    pub step : DeskStep (view_of old) (game_of old) (innings_of old) (state_of old) call out (state_of new)
+    pub blame : Blames (disks_of old) (state_of old) call (state_of new)
+
+  -- from a desk's process on there is a run to another one of the same desk
+  pub record DeskGoes
+      (sheet : Sheet) (old new : Desk S B D g h b) (k l : DeskProcess D) (before after : List Passed)
+      (typed types : List Input) (told tells : Option (List ℕ)) : Type 0 where
+    pub same : SameOwner old new
+    pub goes : Goes (kind_of sheet old) k l before after typed types told tells
+
+  -- A desk's process: the scorer is told where the desk stands, and then there is a run from its first turn on.
+  pub record DeskRuns
+      (sheet : Sheet) (old new : Desk S B D g h b) (before after : List Passed) (typed types : List Input)
+      (told tells : Option (List ℕ)) (turns : ℕ) (result : Result (Unit {0}) DeskEnd) : Type 0 where
+    pub last : DeskProcess D
+    pub is : last.desk ≡ state_of new
+    pub goes : DeskGoes sheet old new (process_of old Nothing 0 further) last before after typed types
+        (known_at result (with_text told
+        (greeting sheet (innings_of old) (state_of old).book (state_of old).seat.position
+        (is_some (state_of old).seat.mine))))
+        (known_at result tells)
+    pub ended : Ended turns result last

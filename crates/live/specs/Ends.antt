@@ -1,0 +1,58 @@
+-- How a desk's process ends.
+use Rattle.std.specs.Prelude.{◌+◌, ℕ, List, Option, None, Result, Ok, Err}
+use Rattle.wire.specs.declared.what.What.{What}
+use Rattle.wire.specs.declared.what.What.TheVariants as whats
+use Rattle.desk.specs.declared.refusal.Refusal.TheVariants as refusals
+use Rattle.cards.specs.declared.watched.WriteFailed.{WriteFailed}
+use Rattle.live.specs.declared.ends.DeskEnd.{DeskEnd}
+use Rattle.live.specs.declared.ends.DeskEnd.TheVariants.{Quit, Device, Write}
+use Rattle.live.specs.declared.said.Said.{Said}
+use Rattle.live.specs.declared.said.Said.TheVariants as said
+
+-- how a desk's process goes on: further, or to an end
+abbrev pub Course : Type 0
+Course = Result (Unit {0}) DeskEnd
+
+abbrev pub further : Course
+further = Ok tt
+
+-- after what a line came to: it ends at `quit` and at a failed disk
+abbrev pub end_of : Said → Course
+end_of said.Quit = Err Quit
+end_of (said.Refused refusals.Device) = Err Device
+end_of (said.Refused refusals.Failed) = Err Device
+end_of answer = further
+
+-- after the answer to bytes that came
+abbrev pub end_at : What → Course
+end_at whats.Device = Err Device
+end_at whats.Failed = Err Device
+end_at what = further
+
+-- a failed write ends the process, whatever its desk would do
+abbrev pub ending : DeskEnd → Course
+ending Write = further
+ending end = Err end
+
+abbrev pub course_of : {T : Type 0} → Result T DeskEnd → Course
+course_of (Ok value) = further
+course_of (Err end) = ending end
+
+-- what the writer tells, and nothing where a write failed
+abbrev pub known_to : DeskEnd → Option (List ℕ) → Option (List ℕ)
+known_to Write told = None
+known_to end told = told
+
+abbrev pub known_at : {T : Type 0} → Result T DeskEnd → Option (List ℕ) → Option (List ℕ)
+known_at (Ok value) told = told
+known_at (Err end) told = known_to end told
+
+-- a failed write of what the scorer is told
+abbrev pub written : Result (Unit {0}) WriteFailed → Course
+written (Ok done) = further
+written (Err fault) = Err Write
+
+-- how many turns are over after this one
+abbrev pub turns_after : {T : Type 0} → ℕ → Result T DeskEnd → ℕ
+turns_after turns (Ok value) = turns + 1
+turns_after turns (Err end) = turns

@@ -1,0 +1,17 @@
+-- What a log tells.
+use Rattle.std.specs.Prelude.{List, [], ◌∷◌, ◌++◌, take}
+use Rattle.live.specs.declared.log.InputLog.{InputLog}
+use Rattle.live.specs.declared.log.InputLog as inputs
+use Rattle.live.specs.declared.log.Log.{Log, Empty, Sent', Came'}
+use Rattle.live.specs.Passed.{Passed, Sent, Came}
+use Rattle.live.specs.Typing.{Input, Line, End}
+
+abbrev pub passed_of : Log → List Passed
+passed_of Empty = []
+passed_of (Sent' marker before bytes) = passed_of before ++ Sent bytes.value ∷ []
+passed_of (Came' marker before buffer count) = passed_of before ++ Came (take count.value buffer.value) ∷ []
+
+abbrev pub inputs_of : InputLog → List Input
+inputs_of inputs.Empty = []
+inputs_of (inputs.Line' marker before buffer count) = inputs_of before ++ Line (take count.value buffer.value) ∷ []
+inputs_of (inputs.End' marker before) = inputs_of before ++ End ∷ []

@@ -1,0 +1,76 @@
+-- Runs of one station: its calls, what they hand out, and what they print.
+use Rattle.std.specs.Prelude.{◌≡◌, ℕ, List, [], ◌∷◌, ◌++◌, All, Option, Some, None, Result, Ok, Err}
+use Rattle.std.specs.Io.KnownBytes.{Appends}
+use Rattle.agree_core.specs.declared.messages.Message.{Message}
+use Rattle.wire.specs.Layout.{IsMessage}
+use Rattle.live.specs.Passed.{Passed, sends}
+use Rattle.live.specs.Typing.{Input}
+
+-- what a writer tells, and nothing where a write failed
+abbrev pub known : {T E : Type 0} → Result T E → Option (List ℕ) → Option (List ℕ)
+known (Ok value) told = told
+known (Err fault) told = None
+
+-- what a writer tells, once it has written this too
+abbrev pub with_text : Option (List ℕ) → List ℕ → Option (List ℕ)
+with_text None text = None
+with_text (Some told) text = Some (told ++ text)
+
+-- a call of a station with its answer, the messages that it handed out, and the station after it
+pub record Moment (State Call : Type 0) : Type 0 where
+  pub call : Call
+  pub out : List Message
+  pub after : State
+
+-- a kind of station in a match: what its calls do, the datagrams and the lines that are given to it with a call,
+-- and what is printed of a call
+pub record Kind (State Call : Type 0) : Type 1 where
+  pub game : ℕ
+  pub Step : State → Call → List Message → State → Type 0
+  pub given : Call → List Passed
+  pub typed : Call → List Input
+  pub prints : State → Call → State → List ℕ
+
+module _ {State Call : Type 0} where
+  -- the station after these moments, the newest first
+  abbrev pub last_of : State → List (Moment State Call) → State
+  last_of k [] = k
+  last_of k (m ∷ ms) = m.after
+
+  -- each moment is a step from the one before
+  abbrev pub Run : Kind State Call → State → List (Moment State Call) → Type 0
+  Run kind k [] = Unit {0}
+  Run kind k (m ∷ ms) =
+      Run kind k ms × All IsMessage m.out × kind.Step (last_of k ms) m.call m.out m.after
+
+  -- what passed in a call: what it was given, and then what it handed out
+  abbrev pub passed_at : Kind State Call → Call → List Message → List Passed
+  passed_at kind call out = kind.given call ++ sends kind.game out
+
+  -- what passed in these moments, the oldest first
+  abbrev pub passed_in : Kind State Call → List (Moment State Call) → List Passed
+  passed_in kind [] = []
+  passed_in kind (m ∷ ms) = passed_in kind ms ++ passed_at kind m.call m.out
+
+  -- what was typed
+  abbrev pub typed_in : Kind State Call → List (Moment State Call) → List Input
+  typed_in kind [] = []
+  typed_in kind (m ∷ ms) = typed_in kind ms ++ kind.typed m.call
+
+  -- the texts that were printed
+  abbrev pub printed_in : Kind State Call → State → List (Moment State Call) → List ℕ
+  printed_in kind k [] = []
+  printed_in kind k (m ∷ ms) = printed_in kind k ms ++ kind.prints (last_of k ms) m.call m.after
+
+  -- Between two states of a station, of its link's log, of its scorer's typing and of its writer there is a run:
+  -- its datagrams are just those that passed, its lines just those that were typed, and its texts just those that
+  -- were written.
+  pub record Goes
+      (kind : Kind State Call) (k l : State) (before after : List Passed) (typed types : List Input)
+      (told tells : Option (List ℕ)) : Type 0 where
+    pub moments : List (Moment State Call)
+    pub run : Run kind k moments
+    pub last : last_of k moments ≡ l
+    pub passed : after ≡ before ++ passed_in kind moments
+    pub inputs : types ≡ typed ++ typed_in kind moments
+    pub printed : Appends told tells (printed_in kind k moments)

@@ -1,0 +1,120 @@
+-- What a desk's scorer is told.
+use Rattle.std.specs.Prelude.{ℕ, Bool, true, false, if◌then◌else◌, nat_lt, List, [], ◌++◌, codes, decimal}
+use Rattle.notation.specs.declared.entry.Entry.{Entry}
+use Rattle.notation.specs.LineFault.{number_of as fault_number, name_of as fault_name}
+use Rattle.match_laws.specs.LawRefusal.{number_of as law_number}
+use Rattle.corrections.specs.declared.refusal.Refusal.TheVariants.{Later}
+use Rattle.corrections.specs.CleanList.{history_of}
+use Rattle.agree_core.specs.declared.position.Position.{Position}
+use Rattle.agree_core.specs.declared.seat.Settled.{Settled}
+use Rattle.agree_core.specs.declared.seat.Heard.{Heard}
+use Rattle.wire.specs.Fault.{number_of as wire_number, name_of as wire_name}
+use Rattle.wire.specs.declared.fault.WireFault.{WireFault}
+use Rattle.wire.specs.declared.what.What.{What}
+use Rattle.wire.specs.declared.what.What.TheVariants as whats
+use Rattle.desk.specs.Refusal.{number_of, name_of}
+use Rattle.desk.specs.declared.refusal.Refusal.{Refusal}
+use Rattle.desk.specs.declared.refusal.Refusal.TheVariants as refusals
+use Rattle.cards.specs.Sheet.{Sheet}
+use Rattle.cards.specs.Board.{board}
+use Rattle.cards.specs.Page.{last_entries}
+use Rattle.live.specs.declared.said.Said.{Said}
+use Rattle.live.specs.declared.said.Said.TheVariants as said
+use Rattle.live.specs.declared.warned.Warned.{Warned}
+use Rattle.live.specs.declared.warned.Warned.TheVariants.{Nothing, OfBytes, OfDesk}
+use Rattle.live.specs.Help.{help}
+
+-- a place and what is told of it
+abbrev pub at_place : ℕ → List ℕ → List ℕ
+at_place place words = decimal place ++ codes " " ++ words ++ codes "\n"
+
+-- the six lines of a book
+abbrev pub score : Sheet → ℕ → List Entry → List ℕ
+score sheet innings book = board sheet innings (history_of book)
+
+abbrev pub agreed : Sheet → ℕ → ℕ → List Entry → List ℕ
+agreed sheet innings place book = at_place place (codes "agreed") ++ score sheet innings book
+
+abbrev pub numbered : List ℕ → ℕ → List ℕ → List ℕ
+numbered word number name = word ++ codes " " ++ decimal number ++ codes " " ++ name ++ codes "\n"
+
+-- of a correction, the first place that it leaves refused, and why
+abbrev pub refused_text : Refusal → List ℕ
+refused_text refusals.Failed = []
+refused_text refusals.Device = []
+refused_text (refusals.Book (Later place why)) =
+    codes "refused 32 Later " ++ decimal place ++ codes " " ++ decimal (law_number why) ++ codes "\n"
+refused_text why = numbered (codes "refused") (number_of why) (name_of why)
+
+abbrev pub settled_text : Sheet → ℕ → ℕ → List Entry → Settled → List ℕ
+settled_text sheet innings place book Settled.Pending = at_place place (codes "pending")
+settled_text sheet innings place book Settled.Agreed = agreed sheet innings place book
+settled_text sheet innings place book Settled.Differ = at_place place (codes "differs")
+
+-- of a line at this place, with the book after it
+abbrev pub said_text : Sheet → ℕ → ℕ → List Entry → Said → List ℕ
+said_text sheet innings place book said.Quit = []
+said_text sheet innings place book said.List = last_entries 12 book
+said_text sheet innings place book said.Help = help
+said_text sheet innings place book (said.Fault fault) =
+    numbered (codes "fault") (fault_number fault) (fault_name fault)
+said_text sheet innings place book said.SayAgain = at_place place (codes "differs: begin the line with again")
+said_text sheet innings place book said.NoneDiffers = at_place place (codes "doesn't differ: leave out again")
+said_text sheet innings place book (said.Refused why) = refused_text why
+said_text sheet innings place book (said.Penned settled) = settled_text sheet innings place book settled
+
+-- of a peer, once until something right comes
+abbrev pub warning : Warned → List ℕ → List ℕ
+warning Nothing text = text
+warning OfBytes text = []
+warning OfDesk text = []
+
+-- why bytes are no message of the match
+abbrev pub bad_text : WireFault → List ℕ
+bad_text fault = numbered (codes "peer:") (wire_number fault) (wire_name fault)
+
+-- of a vote that came at this place, with the book after it
+abbrev pub heard_text : Sheet → ℕ → ℕ → List Entry → Warned → Heard → List ℕ
+heard_text sheet innings place book warned Heard.Noted = at_place place (codes "the other has written")
+heard_text sheet innings place book warned Heard.Agreed = agreed sheet innings place book
+heard_text sheet innings place book warned Heard.Differ = at_place place (codes "differs")
+heard_text sheet innings place book warned Heard.Mine = warning warned (codes "peer: the same desk\n")
+heard_text sheet innings place book warned Heard.TwoVotes = warning warned (codes "peer: two votes\n")
+heard_text sheet innings place book warned heard = []
+
+-- of what came at this place, with the book after it
+abbrev pub came_text : Sheet → ℕ → ℕ → List Entry → Warned → What → List ℕ
+came_text sheet innings place book warned (whats.Bad fault) = warning warned (bad_text fault)
+came_text sheet innings place book warned (whats.Heard heard) = heard_text sheet innings place book warned heard
+came_text sheet innings place book warned what = []
+
+-- what was told of a peer already, once this was told
+abbrev pub once : Warned → Warned → Warned
+once Nothing warned = warned
+once OfBytes warned = OfBytes
+once OfDesk warned = OfDesk
+
+-- an ask is right, but the same desk asks too
+abbrev pub asked : Warned → Warned
+asked Nothing = Nothing
+asked OfBytes = Nothing
+asked OfDesk = OfDesk
+
+-- what was told of a peer since something right came, after the answer to what came
+abbrev pub warned_after : Warned → What → Warned
+warned_after warned (whats.Bad fault) = once warned OfBytes
+warned_after warned (whats.Heard Heard.TwoVotes) = once warned OfBytes
+warned_after warned (whats.Heard Heard.Mine) = once warned OfDesk
+warned_after warned (whats.Heard heard) = Nothing
+warned_after warned whats.Asked = asked warned
+warned_after warned whats.Device = warned
+warned_after warned whats.Failed = warned
+
+-- of a desk's position as it begins: its vote is cast, or the scorers differed there, or neither
+abbrev pub standing : Position → Bool → List ℕ
+standing at true = codes "pending"
+standing at false = if nat_lt 0 at.round then codes "differs" else codes "next"
+
+-- as a desk begins
+abbrev pub greeting : Sheet → ℕ → List Entry → Position → Bool → List ℕ
+greeting sheet innings book at is_cast = score sheet innings book ++ at_place at.place (standing at is_cast)

@@ -1,0 +1,58 @@
+//! The calls of a desk at its link.
+
+ghost use Rattle.std.specs.Prelude.{◌≡◌, ◌++◌, ◌∷◌, [], List};
+ghost use Rattle.desk.specs.Desk.{state_of};
+ghost use Rattle.live.specs.Desks.{Calls, Given, Ticked, Typed};
+ghost use Rattle.live.specs.Passed.{Passed};
+
+use crate::link::Link;
+use crate::said::{Said, entry_said};
+use crate::sending::send_each;
+use corrections::BookOf;
+use desk::Desk;
+use entry_log::SlotsOf;
+use wire::What;
+
+/// Has a desk pen the entry of a line, and sends its vote.
+pub fn pen<S: SlotsOf, B: BookOf + Drop, L: Link>(
+    desk: &mut Desk<S, B>,
+    line: &[u8],
+    link: &mut L,
+) -> Said
+    ensures { Calls desk.old desk.new (Typed line.now result) (L.log link.old) (L.log link.new) }
+{
+    let differs = desk.position().round > 0;
+    let entry = match entry_said(line, differs) {
+        Ok(entry) => entry,
+        Err(said) => return said,
+    };
+    match desk.pen(&entry) {
+        Ok(penned) => {
+            link.send(&penned.send);
+            Said::Penned(penned.settled)
+        }
+        Err(why) => Said::Refused(why),
+    }
+}
+
+/// A desk takes bytes that came, and sends its reply.
+pub fn give<S: SlotsOf, B: BookOf + Drop, L: Link>(
+    desk: &mut Desk<S, B>,
+    bytes: &[u8],
+    link: &mut L,
+) -> What
+    ensures { Calls desk.old desk.new (Given bytes.now result) (L.log link.old) (L.log link.new) }
+{
+    let received = desk.receive(bytes);
+    if let Some(reply) = received.reply {
+        link.send(&reply);
+    }
+    received.what
+}
+
+/// Has a desk say what it says unasked.
+pub fn tick<S: SlotsOf, B: BookOf + Drop, L: Link>(desk: &Desk<S, B>, link: &mut L)
+    ensures { Calls desk.now desk.now Ticked (L.log link.old) (L.log link.new) }
+{
+    send_each(link, desk.tick().as_slice());
+}

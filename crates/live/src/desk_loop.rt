@@ -1,0 +1,272 @@
+//! A desk's process.
+
+ghost use Rattle.std.specs.Prelude.{◌≡◌, ◌++◌, ◌∷◌, [], ℕ, List, Option, true, false, Err, IfErr, OnErr, OnOk, is_some};
+ghost use Rattle.entry_log.specs.Blame.{BlamesDisk};
+ghost use Rattle.cards.specs.Sheet.{Sheet};
+ghost use Rattle.cards.specs.Watched.{Prints, has_failed, stream_of};
+ghost use Rattle.desk.specs.Desk.{disk_of, state_of};
+ghost use Rattle.live.specs.Desks.{DeskGoes, DeskRuns, HasRoom, innings_of, process_of};
+ghost use Rattle.live.specs.Ends.{course_of, further, known_at, turns_after, written};
+ghost use Rattle.live.specs.Passed.{Came, Passed};
+ghost use Rattle.live.specs.Texts.{greeting};
+ghost use Rattle.live.specs.Typing.{Input};
+
+use crate::clock::Clock;
+use crate::desk_calls::{give, pen, tick};
+use crate::ends::{DeskEnd, end_at, end_of};
+use crate::hearing::promises_more;
+use crate::keys::{Keys, LINE_ROOM, Typed};
+use crate::link::{Link, MOST_TAKEN, ROOM};
+use crate::pace::Pace;
+use crate::texts::{print_came, print_greeting, print_said};
+use crate::warned::Warned;
+use cards::{MatchSheet, Watched, WriteFailed};
+use corrections::BookOf;
+use desk::Desk;
+use entry_log::SlotsOf;
+use std::io::Write;
+
+/// What a desk's process keeps between its calls.
+#[derive(Clone, Copy, Debug, PartialEq, Eq)]
+struct Between {
+    pace: Pace,
+    warned: Warned,
+}
+
+/// A failed write of what the scorer is told ends the process.
+fn told(answer: Result<(), WriteFailed>) -> Result<(), DeskEnd>
+    ensures { result ≡ written answer }
+{
+    match answer {
+        Ok(()) => Ok(()),
+        Err(_) => Err(DeskEnd::Write),
+    }
+}
+
+/// Takes a line that was typed, if there is one, and tells the scorer what it came to.
+fn take_line<S: SlotsOf, B: BookOf + Drop, L: Link, K: Keys, W: Write>(
+    desk: &mut Desk<S, B>,
+    sheet: &MatchSheet,
+    link: &mut L,
+    keys: &mut K,
+    out: &mut Watched<W>,
+) -> Result<(), DeskEnd>
+    ensures goes { (warned : Warned) (turns : ℕ) → DeskGoes sheet.now desk.old desk.new
+        (process_of desk.old warned turns further) (process_of desk.new warned turns (course_of result))
+        (L.log link.old) (L.log link.new) (K.inputs keys.old) (K.inputs keys.new)
+        (known_at result (W.contents (stream_of out.old))) (known_at result (W.contents (stream_of out.new))) }
+    ensures failed { result ≡ Err DeskEnd.Write → has_failed out.new ≡ true }
+{
+    let mut buffer = [0; LINE_ROOM];
+    let count = match keys.line(&mut buffer) {
+        Typed::Nothing => return Ok(()),
+        Typed::Ended => return Err(DeskEnd::NoMoreLines),
+        Typed::Line(count) => count,
+    };
+    let place = desk.position().place;
+    let said = pen(desk, &buffer[..count], link);
+    if let Err(end) = end_of(said) {
+        return Err(end);
+    }
+    told(print_said(out, sheet, place, said, desk.book()))
+}
+
+/// Takes bytes that came, and tells the scorer what is news.
+fn hear<S: SlotsOf, B: BookOf + Drop, L: Link, W: Write>(
+    desk: &mut Desk<S, B>,
+    sheet: &MatchSheet,
+    bytes: &[u8],
+    link: &mut L,
+    out: &mut Watched<W>,
+    between: &mut Between,
+    now: u64,
+) -> Result<(), DeskEnd>
+    ensures goes { (log : List Passed) (typed : List Input) (turns : ℕ) → L.log link.old ≡ log ++ Came bytes.now ∷ [] →
+        DeskGoes sheet.now desk.old desk.new
+        (process_of desk.old between.old.warned turns further)
+        (process_of desk.new between.new.warned turns (course_of result))
+        log (L.log link.new) typed typed
+        (known_at result (W.contents (stream_of out.old))) (known_at result (W.contents (stream_of out.new))) }
+    ensures failed { result ≡ Err DeskEnd.Write → has_failed out.new ≡ true }
+{
+    let at = desk.position();
+    let what = give(desk, bytes, link);
+    let may_come = promises_more(what, sheet.game(), bytes, at);
+    between.pace.note(desk.position() != at, may_come, now);
+    let warned = between.warned;
+    between.warned = warned.after(what);
+    if let Err(end) = end_at(what) {
+        return Err(end);
+    }
+    told(print_came(out, sheet, at.place, warned, what, desk.book()))
+}
+
+/// Has a desk say what it says unasked, where that is due.
+fn say<S: SlotsOf, B: BookOf + Drop, L: Link>(desk: &Desk<S, B>, link: &mut L, is_due: bool)
+    ensures { (sheet : Sheet) (typed : List Input) (warned : Warned) (turns : ℕ) (told : Option (List ℕ)) →
+        DeskGoes sheet desk.now desk.now
+        (process_of desk.now warned turns further) (process_of desk.now warned turns further)
+        (L.log link.old) (L.log link.new) typed typed told told }
+{
+    if is_due {
+        tick(desk, link);
+    }
+}
+
+/// Says what is due, and takes the next datagram, unless the turn is over or none came. It answers whether one was
+/// taken.
+fn take_next<S: SlotsOf, B: BookOf + Drop, L: Link, C: Clock, W: Write>(
+    desk: &mut Desk<S, B>,
+    sheet: &MatchSheet,
+    link: &mut L,
+    clock: &mut C,
+    out: &mut Watched<W>,
+    between: &mut Between,
+) -> Result<bool, DeskEnd>
+    ensures goes { (typed : List Input) (turns : ℕ) → DeskGoes sheet.now desk.old desk.new
+        (process_of desk.old between.old.warned turns further)
+        (process_of desk.new between.new.warned turns (course_of result))
+        (L.log link.old) (L.log link.new) typed typed
+        (known_at result (W.contents (stream_of out.old))) (known_at result (W.contents (stream_of out.new))) }
+    ensures failed { result ≡ Err DeskEnd.Write → has_failed out.new ≡ true }
+{
+    let now = clock.millis();
+    say(desk, link, between.pace.take_due(now));
+    if between.pace.is_over(now) {
+        return Ok(false);
+    }
+    let mut buffer = [0; ROOM];
+    match link.take(&mut buffer) {
+        Some(count) => {
+            hear(desk, sheet, &buffer[..count], link, out, between, now)?;
+            Ok(true)
+        }
+        None => Ok(false),
+    }
+}
+
+/// Takes what came in a turn.
+fn take_all<S: SlotsOf, B: BookOf + Drop, L: Link, C: Clock, W: Write>(
+    desk: &mut Desk<S, B>,
+    sheet: &MatchSheet,
+    link: &mut L,
+    clock: &mut C,
+    out: &mut Watched<W>,
+    between: &mut Between,
+) -> Result<(), DeskEnd>
+    ensures goes { (typed : List Input) (turns : ℕ) → DeskGoes sheet.now desk.old desk.new
+        (process_of desk.old between.old.warned turns further)
+        (process_of desk.new between.new.warned turns (course_of result))
+        (L.log link.old) (L.log link.new) typed typed
+        (known_at result (W.contents (stream_of out.old))) (known_at result (W.contents (stream_of out.new))) }
+    ensures failed { result ≡ Err DeskEnd.Write → has_failed out.new ≡ true }
+{
+    between.pace.begin_turn(clock.millis());
+    for _ in 0..MOST_TAKEN {
+        if !take_next(desk, sheet, link, clock, out, between)? {
+            break;
+        }
+    }
+    Ok(())
+}
+
+/// What a turn does before what it has told is handed on: it takes a line of the scorer, and then what came.
+fn act<S: SlotsOf, B: BookOf + Drop, L: Link, K: Keys, C: Clock, W: Write>(
+    desk: &mut Desk<S, B>,
+    sheet: &MatchSheet,
+    link: &mut L,
+    keys: &mut K,
+    clock: &mut C,
+    out: &mut Watched<W>,
+    between: &mut Between,
+) -> Result<(), DeskEnd>
+    ensures goes { (turns : ℕ) → DeskGoes sheet.now desk.old desk.new
+        (process_of desk.old between.old.warned turns further)
+        (process_of desk.new between.new.warned turns (course_of result))
+        (L.log link.old) (L.log link.new) (K.inputs keys.old) (K.inputs keys.new)
+        (known_at result (W.contents (stream_of out.old))) (known_at result (W.contents (stream_of out.new))) }
+    ensures failed { result ≡ Err DeskEnd.Write → has_failed out.new ≡ true }
+{
+    let at = desk.position();
+    let votes = desk.votes();
+    take_line(desk, sheet, link, keys, out)?;
+    let has_voted = desk.votes() != votes;
+    between
+        .pace
+        .note(desk.position() != at, has_voted, clock.millis());
+    take_all(desk, sheet, link, clock, out, between)
+}
+
+/// A desk's turn: it takes a line of its scorer, says what is due, and takes what came.
+fn turn<S: SlotsOf, B: BookOf + Drop, L: Link, K: Keys, C: Clock, W: Write>(
+    desk: &mut Desk<S, B>,
+    sheet: &MatchSheet,
+    link: &mut L,
+    keys: &mut K,
+    clock: &mut C,
+    out: &mut Watched<W>,
+    between: &mut Between,
+) -> Result<(), DeskEnd>
+    ensures goes { (turns : ℕ) → DeskGoes sheet.now desk.old desk.new
+        (process_of desk.old between.old.warned turns further)
+        (process_of desk.new between.new.warned (turns_after turns result) (course_of result))
+        (L.log link.old) (L.log link.new) (K.inputs keys.old) (K.inputs keys.new)
+        (known_at result (W.contents (stream_of out.old))) (known_at result (W.contents (stream_of out.new))) }
+    ensures failed { result ≡ Err DeskEnd.Write → has_failed out.new ≡ true }
+{
+    let acted = act(desk, sheet, link, keys, clock, out, between);
+    let flushed = told(out.flush());
+    if let Err(end) = acted {
+        return Err(end);
+    }
+    flushed
+}
+
+/// Tells the scorer where the desk stands.
+fn greet<S: SlotsOf, B: BookOf + Drop, W: Write>(
+    desk: &Desk<S, B>,
+    sheet: &MatchSheet,
+    out: &mut Watched<W>,
+) -> Result<(), DeskEnd>
+    ensures text { OnOk result (Prints W.contents out.old out.new
+        (greeting sheet.now (innings_of desk.now) (state_of desk.now).book
+        (state_of desk.now).seat.position (is_some (state_of desk.now).seat.mine))) }
+    ensures only { IfErr result (λ end. end ≡ DeskEnd.Write) }
+    ensures failed { OnErr result (has_failed out.new ≡ true) }
+{
+    told(print_greeting(out, sheet, desk.position(), desk.has_voted(), desk.book()))?;
+    told(out.flush())
+}
+
+/// A desk's process, for so many turns: it tells its scorer where the desk stands, takes the scorer's lines, tells
+/// what comes of them, sends its votes and replies, and asks for what it lacks. However it ends, it is a run of the
+/// definitions of a desk: its datagrams are just those that passed at the link, its lines just those that were
+/// typed, its texts just those that were written.
+pub fn run_desk<S: SlotsOf, B: BookOf + Drop, L: Link, K: Keys, C: Clock, W: Write>(
+    desk: &mut Desk<S, B>,
+    sheet: &MatchSheet,
+    link: &mut L,
+    keys: &mut K,
+    clock: &mut C,
+    out: &mut Watched<W>,
+    turns: u64,
+) -> Result<(), DeskEnd>
+    ensures runs { DeskRuns sheet.now desk.old desk.new (L.log link.old) (L.log link.new)
+        (K.inputs keys.old) (K.inputs keys.new)
+        (W.contents (stream_of out.old)) (W.contents (stream_of out.new)) turns result }
+    // `Device` is answered only where the disk failed in this run.
+    ensures blame { (state_of desk.old).failed ≡ false →
+        BlamesDisk DeskEnd.Device (HasRoom S.room (S.Disk.cap (disk_of desk.old))) result
+        (S.Disk.faults (disk_of desk.old)) (S.Disk.faults (disk_of desk.new)) }
+    ensures failed { result ≡ Err DeskEnd.Write → has_failed out.new ≡ true }
+{
+    greet(desk, sheet, out)?;
+    let mut between = Between {
+        pace: Pace::new(),
+        warned: Warned::Nothing,
+    };
+    for number in 0..turns {
+        turn(desk, sheet, link, keys, clock, out, &mut between)?;
+    }
+    Ok(())
+}

@@ -1,0 +1,42 @@
+//! How a desk's process ends.
+
+ghost use Rattle.std.specs.Prelude.{◌≡◌};
+ghost use Rattle.live.specs.Ends as ends;
+
+use crate::said::Said;
+use desk::Refusal;
+use wire::What;
+
+/// Why a desk's process ends before its turns are over.
+#[derive(Clone, Copy, Debug, PartialEq, Eq)]
+pub enum DeskEnd {
+    /// The scorer said `quit`.
+    Quit,
+    /// The scorer types no more.
+    NoMoreLines,
+    /// The disk failed. The same command, started again, goes on.
+    Device,
+    /// A write of what the scorer is told failed.
+    Write,
+}
+
+/// How the process goes on after what a line came to.
+pub fn end_of(said: Said) -> Result<(), DeskEnd>
+    ensures { result ≡ ends.end_of said }
+{
+    match said {
+        Said::Quit => Err(DeskEnd::Quit),
+        Said::Refused(Refusal::Device | Refusal::Failed) => Err(DeskEnd::Device),
+        _ => Ok(()),
+    }
+}
+
+/// How the process goes on after the answer to bytes that came.
+pub fn end_at(what: What) -> Result<(), DeskEnd>
+    ensures { result ≡ ends.end_at what }
+{
+    match what {
+        What::Device | What::Failed => Err(DeskEnd::Device),
+        _ => Ok(()),
+    }
+}

@@ -1,0 +1,30 @@
+//! Stations as processes of their own: a desk with its scorer, or a board, at a link that carries datagrams to its
+//! peers.
+#![tactic(auto)]
+
+mod begin;
+mod board_loop;
+mod clock;
+mod desk_calls;
+mod desk_loop;
+mod ends;
+mod hearing;
+mod keys;
+mod link;
+mod log;
+mod pace;
+mod said;
+mod sending;
+mod texts;
+mod warned;
+
+pub use begin::begin_desk;
+pub use board_loop::run_board;
+pub use clock::Clock;
+pub use desk_loop::run_desk;
+pub use ends::DeskEnd;
+pub use keys::{Keys, LINE_ROOM, Typed};
+pub use link::{Link, MOST_TAKEN, ROOM};
+pub use log::{InputLog, Log};
+pub use said::Said;
+pub use warned::Warned;

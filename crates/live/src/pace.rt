@@ -1,0 +1,66 @@
+//! When a station says what it says unasked.
+
+ghost use Rattle.std.specs.Prelude.{◌≡◌, ◌≤◌};
+
+/// How long an answer is waited for at first, in milliseconds.
+const FIRST_WAIT: u64 = 20;
+
+/// How long at most, so that something is said four times a second.
+const LAST_WAIT: u64 = 250;
+
+/// How long a turn takes, where nothing comes.
+const TURN: u64 = 10;
+
+/// When a station says next what it says unasked: at once where its position is new, then again after 20 ms, after
+/// twice that and so on, up to four times a second.
+#[derive(Clone, Copy, Debug, PartialEq, Eq)]
+pub struct Pace {
+    due: u64,
+    wait: u64,
+    /// When the turn is over.
+    over: u64,
+    ghost soon: { wait ≤ 250 },
+}
+
+impl Pace {
+    /// Something is due at once.
+    pub fn new() -> Pace {
+        Pace {
+            due: 0,
+            wait: FIRST_WAIT,
+            over: 0,
+        }
+    }
+
+    /// A turn begins.
+    pub fn begin_turn(&mut self, now: u64) {
+        self.over = now.saturating_add(TURN);
+    }
+
+    /// Whether the turn is over.
+    pub fn is_over(&self, now: u64) -> bool {
+        now >= self.over
+    }
+
+    /// Whether something is due. If so it is said now, and is due again after a wait, which then doubles.
+    pub fn take_due(&mut self, now: u64) -> bool {
+        let is_due = now >= self.due;
+        if is_due {
+            self.due = now.saturating_add(self.wait);
+            self.wait = LAST_WAIT.min(self.wait * 2);
+        }
+        is_due
+    }
+
+    /// The position is new: what is to be said is due at once. Else an answer may come soon: it is waited for no longer
+    /// than at first.
+    pub fn note(&mut self, is_new: bool, may_come: bool, now: u64) {
+        if is_new {
+            self.due = 0;
+            self.wait = FIRST_WAIT;
+        } else if may_come {
+            self.due = self.due.min(now.saturating_add(FIRST_WAIT));
+            self.wait = FIRST_WAIT;
+        }
+    }
+}
