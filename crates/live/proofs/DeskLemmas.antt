@@ -268,14 +268,6 @@ module _ {S B D : Type 0} {g : Files S D} {h : Disks D} {b : Books B} where
   muted (Err ends.Device) sheet k l p q a b' x y s t v = v
   muted (Err ends.Write) sheet k l p q a b' x y s t v = silent sheet k l p q a b' x y s t v
 
-  -- a flush after an end
-  pub flushed : (end : DeskEnd) (sheet : Sheet) (k l : Desk S B D g h b) (p q : DeskProcess D) (a b' : List Passed) (x y : List Input) (s t u : Option (List ℕ)) →
-      DeskGoes sheet k l p q a b' x y (known_to end s) (known_to end t) → Keeps t u → DeskGoes sheet k l p q a b' x y (known_to end s) (known_to end u)
-  flushed ends.Quit sheet k l p q a b' x y s t u v w = kept sheet k l p q a b' x y s t u v w
-  flushed ends.NoMoreLines sheet k l p q a b' x y s t u v w = kept sheet k l p q a b' x y s t u v w
-  flushed ends.Device sheet k l p q a b' x y s t u v w = kept sheet k l p q a b' x y s t u v w
-  flushed ends.Write sheet k l p q a b' x y s t u v w = v
-
   -- a turn is over, unless its flush failed
   pub turn_done : (answer : Result (Unit {0}) WriteFailed) (r : Course) (sheet : Sheet) (k l : Desk S B D g h b) (p : DeskProcess D) (warned : Warned) (turns : ℕ) (a b' : List Passed) (x y : List Input) (s t u : Option (List ℕ)) →
       r ≡ answer_of answer → DeskGoes sheet k l p (process_of l warned turns further) a b' x y s t → Keeps t u →
@@ -292,3 +284,9 @@ module _ {S B D : Type 0} {g : Files S D} {h : Disks D} {b : Books B} where
 pub passed_on : {T : Type 0} (r : Result T DeskEnd) (met : DeskEnd) (P : Course → (Option (List ℕ) → Option (List ℕ)) → Type 0) → IsErrAnd r (λ end. end ≡ met) → P (ending met) (known_to met) → P (course_of r) (known_at r)
 passed_on (Ok value) met P h x = absurd h
 passed_on (Err end) met P h x = subst (λ (e : DeskEnd). P (ending e) (known_to e)) (sym h) x
+
+-- the same in a turn
+pub turn_passed_on : {T : Type 0} (r : Result T DeskEnd) (met : DeskEnd) (turns : ℕ) (P : ℕ → Course → (Option (List ℕ) → Option (List ℕ)) → Type 0) → IsErrAnd r (λ end. end ≡ met) → P turns (ending met) (known_to met) →
+    P (turns_after turns r) (course_of r) (known_at r)
+turn_passed_on (Ok value) met turns P h x = absurd h
+turn_passed_on (Err end) met turns P h x = subst (λ (e : DeskEnd). P turns (ending e) (known_to e)) (sym h) x

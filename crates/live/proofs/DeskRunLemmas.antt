@@ -1,8 +1,9 @@
 -- Whole runs of a desk's process.
 use Rattle.std.proofs.Common.{◌≡◌, ℕ, List, [], Option, Result, Ok, Err, false, refl, sym, ◌∙◌, subst, append-nil}
 use Rattle.std.specs.Prelude.{IsErrAnd, is_some}
-use Rattle.std.specs.Io.KnownBytes.{Appends}
+use Rattle.std.specs.Io.KnownBytes.{Appends, Keeps}
 use Rattle.cards.specs.Sheet.{Sheet}
+use Rattle.cards.specs.declared.watched.WriteFailed.{WriteFailed}
 use Rattle.corrections.specs.declared.book_of.BookOf.{Ghosts as Books}
 use Rattle.entry_log.specs.Blame.{BlamesDisk}
 use Rattle.entry_log.specs.declared.disk.Disk.{Ghosts as Disks}
@@ -14,13 +15,13 @@ use Rattle.live.specs.Passed.{Passed}
 use Rattle.live.specs.Runs.{with_text}
 use Rattle.live.specs.Typing.{Input}
 use Rattle.live.specs.Texts.{greeting}
-use Rattle.live.specs.Ends.{ending, further, known_to}
+use Rattle.live.specs.Ends.{Course, end_told, ending, further, known_to, written}
 use Rattle.live.specs.Desks.{DeskGoes, DeskProcess, DeskRuns, Ended, HasRoom, disks_of, innings_of, process_of}
 use Rattle.live.specs.declared.warned.Warned.{Warned}
 use Rattle.live.specs.declared.warned.Warned.TheVariants.{Nothing}
 use Rattle.live.specs.declared.ends.DeskEnd.{DeskEnd}
 use Rattle.live.specs.declared.ends.DeskEnd.TheVariants as ends
-use Rattle.live.proofs.DeskLemmas.{muted, rests, same_here, then}
+use Rattle.live.proofs.DeskLemmas.{kept, muted, rests, same_here, silent, then}
 use Rattle.live.proofs.EndLemmas.{answer_blames, run_blames}
 use Rattle.live.proofs.TellingLemmas.{told_first}
 
@@ -28,7 +29,10 @@ ended_at : {Disk : Type 0} (met : DeskEnd) (turns : ℕ) (last : DeskProcess Dis
 ended_at ends.Quit turns last e = e
 ended_at ends.NoMoreLines turns last e = e
 ended_at ends.Device turns last e = e
-ended_at ends.Write turns last e = e
+ended_at ends.Write turns last e = λ q. let path : further ≡ Err ends.Device = sym e ∙ q in (cc)
+
+not_the_disk : (course : Course) (end : DeskEnd) → course ≡ Err end → (end ≡ ends.Device → ⊥) → course ≡ Err ends.Device → ⊥
+not_the_disk course end e n q = let path : ◌≡◌ {A = Course} (Err end) (Err ends.Device) = sym e ∙ q in n (cc)
 
 module _ {S B D : Type 0} {g : Files S D} {h : Disks D} {b : Books B} where
   abbrev greeting_of : Sheet → Desk S B D g h b → List ℕ
@@ -61,7 +65,7 @@ module _ {S B D : Type 0} {g : Files S D} {h : Disks D} {b : Books B} where
   not_greeted (Ok done) met sheet k turns a x s t e w = absurd e
   not_greeted (Err end) met sheet k turns a x s t e w =
       let p = process_of k Nothing 0 further in
-      let failed : DeskRuns sheet k k a a x x s t turns (Err ends.Write) = record { last = p; is = refl; goes = rests sheet k p a x Option.None; ended = refl } in
+      let failed : DeskRuns sheet k k a a x x s t turns (Err ends.Write) = record { last = p; is = refl; goes = rests sheet k p a x Option.None; ended = λ q. (cc) } in
       subst (λ (d : DeskEnd). DeskRuns sheet k k a a x x s t turns (Err d)) (sym (e ∙ w)) failed
 
   -- a turn ended the process
@@ -92,3 +96,36 @@ module _ {S B D : Type 0} {g : Files S D} {h : Disks D} {b : Books B} where
       let last = run_blames sheet (view_of k) (disks_of k) (game_of k) (innings_of k) (process_of k Nothing 0 further) runs.last m.moments refl sound m.run m.last in
       let here = subst (λ (d : DeskState D). BlamesDisk ends.Device (HasRoom g.room (h.cap (disk_of k))) runs.last.course (h.faults (disk_of k)) (h.faults d.disk)) runs.is last in
       answer_blames turns r runs.last (h.faults (disk_of k)) (h.faults (disk_of l)) runs.ended here
+
+  -- the last flush leaves what was written
+  flushed : (r : Result (Unit {0}) DeskEnd) (sheet : Sheet) (k l : Desk S B D g h b) (a b' : List Passed) (x y : List Input) (s t u : Option (List ℕ)) (turns : ℕ) → DeskRuns sheet k l a b' x y s t turns r → Keeps t u →
+      DeskRuns sheet k l a b' x y s u turns r
+  flushed (Ok done) sheet k l a b' x y s t u turns v w = record { last = v.last; is = v.is; goes = kept sheet k l _ v.last a b' x y _ t u v.goes w; ended = v.ended }
+  flushed (Err ends.Quit) sheet k l a b' x y s t u turns v w = record { last = v.last; is = v.is; goes = kept sheet k l _ v.last a b' x y _ t u v.goes w; ended = v.ended }
+  flushed (Err ends.NoMoreLines) sheet k l a b' x y s t u turns v w = record { last = v.last; is = v.is; goes = kept sheet k l _ v.last a b' x y _ t u v.goes w; ended = v.ended }
+  flushed (Err ends.Device) sheet k l a b' x y s t u turns v w = record { last = v.last; is = v.is; goes = kept sheet k l _ v.last a b' x y _ t u v.goes w; ended = v.ended }
+  flushed (Err ends.Write) sheet k l a b' x y s t u turns v w = record { last = v.last; is = v.is; goes = v.goes; ended = v.ended }
+
+  -- an end that isn't the disk's, and then a write that failed
+  unwritten : (r : Result (Unit {0}) DeskEnd) (sheet : Sheet) (k l : Desk S B D g h b) (a b' : List Passed) (x y : List Input) (s t u : Option (List ℕ)) (turns : ℕ) → (last : DeskRuns sheet k l a b' x y s t turns r) → (last.last.course ≡ Err ends.Device → ⊥) →
+      DeskRuns sheet k l a b' x y s u turns (Err ends.Write)
+  unwritten r sheet k l a b' x y s t u turns v n =
+      record { last = v.last; is = v.is; goes = silent sheet k l _ v.last a b' x y _ _ v.goes; ended = n }
+
+  -- a run and its last flush
+  pub told_last : (answer : Result (Unit {0}) WriteFailed) (r r' : Course) (sheet : Sheet) (k l : Desk S B D g h b) (a b' : List Passed) (x y : List Input) (s t u : Option (List ℕ)) (turns : ℕ) → r' ≡ end_told r (written answer) →
+      DeskRuns sheet k l a b' x y s t turns r → Keeps t u → DeskRuns sheet k l a b' x y s u turns r'
+  told_last (Ok done) (Ok over) r' sheet k l a b' x y s t u turns e v w = subst (DeskRuns sheet k l a b' x y s u turns) (sym e) (flushed (Ok over) sheet k l a b' x y s t u turns v w)
+  told_last (Ok done) (Err ends.Quit) r' sheet k l a b' x y s t u turns e v w = subst (DeskRuns sheet k l a b' x y s u turns) (sym e) (flushed (Err ends.Quit) sheet k l a b' x y s t u turns v w)
+  told_last (Ok done) (Err ends.NoMoreLines) r' sheet k l a b' x y s t u turns e v w = subst (DeskRuns sheet k l a b' x y s u turns) (sym e) (flushed (Err ends.NoMoreLines) sheet k l a b' x y s t u turns v w)
+  told_last (Ok done) (Err ends.Write) r' sheet k l a b' x y s t u turns e v w = subst (DeskRuns sheet k l a b' x y s u turns) (sym e) (flushed (Err ends.Write) sheet k l a b' x y s t u turns v w)
+  told_last (Ok done) (Err ends.Device) r' sheet k l a b' x y s t u turns e v w = subst (DeskRuns sheet k l a b' x y s u turns) (sym e) (flushed (Err ends.Device) sheet k l a b' x y s t u turns v w)
+  told_last (Err fault) (Err ends.Device) r' sheet k l a b' x y s t u turns e v w = subst (DeskRuns sheet k l a b' x y s u turns) (sym e) (flushed (Err ends.Device) sheet k l a b' x y s t u turns v w)
+  told_last (Err fault) (Ok over) r' sheet k l a b' x y s t u turns e v w =
+      subst (DeskRuns sheet k l a b' x y s u turns) (sym e) (unwritten (Ok over) sheet k l a b' x y s t u turns v (λ q. let path : further ≡ Err ends.Device = sym v.ended.0 ∙ q in (cc)))
+  told_last (Err fault) (Err ends.Quit) r' sheet k l a b' x y s t u turns e v w =
+      subst (DeskRuns sheet k l a b' x y s u turns) (sym e) (unwritten (Err ends.Quit) sheet k l a b' x y s t u turns v (not_the_disk v.last.course ends.Quit v.ended (λ q. (cc))))
+  told_last (Err fault) (Err ends.NoMoreLines) r' sheet k l a b' x y s t u turns e v w =
+      subst (DeskRuns sheet k l a b' x y s u turns) (sym e) (unwritten (Err ends.NoMoreLines) sheet k l a b' x y s t u turns v (not_the_disk v.last.course ends.NoMoreLines v.ended (λ q. (cc))))
+  told_last (Err fault) (Err ends.Write) r' sheet k l a b' x y s t u turns e v w =
+      subst (DeskRuns sheet k l a b' x y s u turns) (sym e) (unwritten (Err ends.Write) sheet k l a b' x y s t u turns v v.ended)

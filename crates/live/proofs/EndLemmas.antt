@@ -97,7 +97,7 @@ module _ {Disk : Type 0} (sheet : Sheet) (view : FileView Disk) (disks : DiskVie
 -- the answer of a process blames the disk as its last call does
 pub answer_blames : {Disk W : Type 0} (turns : ℕ) (result : Result (Unit {0}) DeskEnd) (last : DeskProcess Disk) (old new : Faults) → Ended turns result last → BlamesDisk ends.Device W last.course old new → BlamesDisk ends.Device W result old new
 answer_blames turns (Ok done) last old new is b = blameless (Ok done) old new (λ q. (cc)) (b.same (not_ended last.course is.0))
-answer_blames turns (Err ends.Write) last old new is b = blameless (Err ends.Write) old new (λ q. (cc)) (b.same (not_ended last.course is))
+answer_blames turns (Err ends.Write) last old new is b = blameless (Err ends.Write) old new (λ q. (cc)) (b.same is)
 answer_blames {W = W} turns (Err ends.Quit) last old new is b = subst (λ (x : Course). BlamesDisk ends.Device W x old new) is b
 answer_blames {W = W} turns (Err ends.NoMoreLines) last old new is b = subst (λ (x : Course). BlamesDisk ends.Device W x old new) is b
 answer_blames {W = W} turns (Err ends.Device) last old new is b = subst (λ (x : Course). BlamesDisk ends.Device W x old new) is b

@@ -1,5 +1,5 @@
 -- A desk's process, call by call.
-use Rattle.std.specs.Prelude.{◌≡◌, ◌≤◌, ◌+◌, ℕ, false, List, [], ◌∷◌, ◌++◌, All, Option, is_some, Result, Ok, Err}
+use Rattle.std.specs.Prelude.{◌≡◌, ◌≢◌, ◌≤◌, ◌+◌, ℕ, false, List, [], ◌∷◌, ◌++◌, All, Option, is_some, Result, Ok, Err}
 use Rattle.corrections.specs.declared.book_of.BookOf.{Ghosts as Books}
 use Rattle.corrections.specs.Refusal.{book_refusal}
 use Rattle.entry_log.specs.Blame.{BlamesDisk}
@@ -120,11 +120,11 @@ desk_kind sheet view disks game innings = record {
 abbrev pub HasRoom : (ℕ → ℕ) → ℕ → Type 0
 HasRoom room cap = (votes : ℕ) → votes ≤ most_votes → room votes ≤ cap
 
--- how a run of so many turns ended with this answer: all turns are over, or a write failed, or the process came to its
--- end
+-- how a run of so many turns ended with this answer: all turns are over, or a write failed and no disk, or the process
+-- came to its end
 abbrev pub Ended : {Disk : Type 0} → ℕ → Result (Unit {0}) DeskEnd → DeskProcess Disk → Type 0
 Ended turns (Ok done) last = (last.course ≡ further) × (last.turns ≡ turns)
-Ended turns (Err Write) last = last.course ≡ further
+Ended turns (Err Write) last = last.course ≢ Err Device
 Ended turns (Err end) last = last.course ≡ Err end
 
 module _ {S B D : Type 0} {g : Files S D} {h : Disks D} {b : Books B} where

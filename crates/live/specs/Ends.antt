@@ -52,6 +52,12 @@ abbrev pub written : Result (Unit {0}) WriteFailed → Course
 written (Ok done) = further
 written (Err fault) = Err Write
 
+-- an end with its last flush: a failed flush is told, unless the disk failed
+abbrev pub end_told : Course → Course → Course
+end_told (Err Device) flushed = Err Device
+end_told end (Err fault) = Err fault
+end_told end (Ok done) = end
+
 -- how many turns are over after this one
 abbrev pub turns_after : {T : Type 0} → ℕ → Result T DeskEnd → ℕ
 turns_after turns (Ok value) = turns + 1

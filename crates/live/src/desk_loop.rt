@@ -6,6 +6,7 @@ ghost use Rattle.cards.specs.Sheet.{Sheet};
 ghost use Rattle.cards.specs.Watched.{Prints, has_failed, stream_of};
 ghost use Rattle.desk.specs.Desk.{disk_of, state_of};
 ghost use Rattle.live.specs.Desks.{DeskGoes, DeskRuns, HasRoom, innings_of, process_of};
+ghost use Rattle.live.specs.Ends as ends;
 ghost use Rattle.live.specs.Ends.{course_of, further, known_at, turns_after, written};
 ghost use Rattle.live.specs.Passed.{Came, Passed};
 ghost use Rattle.live.specs.Texts.{greeting};
@@ -214,12 +215,8 @@ fn turn<S: SlotsOf, B: BookOf + Drop, L: Link, K: Keys, C: Clock, W: Write>(
         (known_at result (W.contents (stream_of out.old))) (known_at result (W.contents (stream_of out.new))) }
     ensures failed { result ≡ Err DeskEnd.Write → has_failed out.new ≡ true }
 {
-    let acted = act(desk, sheet, link, keys, clock, out, between);
-    let flushed = told(out.flush());
-    if let Err(end) = acted {
-        return Err(end);
-    }
-    flushed
+    act(desk, sheet, link, keys, clock, out, between)?;
+    told(out.flush())
 }
 
 /// Tells the scorer where the desk stands.
@@ -238,6 +235,43 @@ fn greet<S: SlotsOf, B: BookOf + Drop, W: Write>(
     told(out.flush())
 }
 
+/// Tells the scorer where the desk stands, and takes so many turns.
+fn take_turns<S: SlotsOf, B: BookOf + Drop, L: Link, K: Keys, C: Clock, W: Write>(
+    desk: &mut Desk<S, B>,
+    sheet: &MatchSheet,
+    link: &mut L,
+    keys: &mut K,
+    clock: &mut C,
+    out: &mut Watched<W>,
+    turns: u64,
+) -> Result<(), DeskEnd>
+    ensures runs { DeskRuns sheet.now desk.old desk.new (L.log link.old) (L.log link.new)
+        (K.inputs keys.old) (K.inputs keys.new)
+        (W.contents (stream_of out.old)) (W.contents (stream_of out.new)) turns result }
+    ensures failed { result ≡ Err DeskEnd.Write → has_failed out.new ≡ true }
+{
+    greet(desk, sheet, out)?;
+    let mut between = Between {
+        pace: Pace::new(),
+        warned: Warned::Nothing,
+    };
+    for number in 0..turns {
+        turn(desk, sheet, link, keys, clock, out, &mut between)?;
+    }
+    Ok(())
+}
+
+/// An end with its last flush: a failed flush is told, unless the disk failed.
+fn end_told(end: Result<(), DeskEnd>, flushed: Result<(), DeskEnd>) -> Result<(), DeskEnd>
+    ensures { result ≡ ends.end_told end flushed }
+{
+    match (end, flushed) {
+        (Err(DeskEnd::Device), _) => Err(DeskEnd::Device),
+        (_, Err(fault)) => Err(fault),
+        (end, Ok(())) => end,
+    }
+}
+
 /// A desk's process, for so many turns: it tells its scorer where the desk stands, takes the scorer's lines, tells
 /// what comes of them, sends its votes and replies, and asks for what it lacks. However it ends, it is a run of the
 /// definitions of a desk: its datagrams are just those that passed at the link, its lines just those that were
@@ -254,19 +288,12 @@ pub fn run_desk<S: SlotsOf, B: BookOf + Drop, L: Link, K: Keys, C: Clock, W: Wri
     ensures runs { DeskRuns sheet.now desk.old desk.new (L.log link.old) (L.log link.new)
         (K.inputs keys.old) (K.inputs keys.new)
         (W.contents (stream_of out.old)) (W.contents (stream_of out.new)) turns result }
-    // `Device` is answered only where the disk failed in this run.
+    // `Device` is answered exactly where the disk failed in this run.
     ensures blame { (state_of desk.old).failed ≡ false →
         BlamesDisk DeskEnd.Device (HasRoom S.room (S.Disk.cap (disk_of desk.old))) result
         (S.Disk.faults (disk_of desk.old)) (S.Disk.faults (disk_of desk.new)) }
     ensures failed { result ≡ Err DeskEnd.Write → has_failed out.new ≡ true }
 {
-    greet(desk, sheet, out)?;
-    let mut between = Between {
-        pace: Pace::new(),
-        warned: Warned::Nothing,
-    };
-    for number in 0..turns {
-        turn(desk, sheet, link, keys, clock, out, &mut between)?;
-    }
-    Ok(())
+    let end = take_turns(desk, sheet, link, keys, clock, out, turns);
+    end_told(end, told(out.flush()))
 }

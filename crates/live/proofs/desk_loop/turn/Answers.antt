@@ -1,9 +1,20 @@
-use Rattle.live.proofs.DeskLemmas.{flushed, turn_done}
+use Rattle.std.proofs.Common.{List, Option, ℕ}
+use Rattle.cards.specs.Watched.{stream_of}
+use Rattle.live.specs.Desks.{DeskGoes, process_of}
+use Rattle.live.specs.Ends.{Course, further}
+use Rattle.live.proofs.DeskLemmas.{turn_done, turn_passed_on}
 use Rattle.live.proofs.desk_loop.turn.Goals as goal
 
-pub returns-in-Err-clause-goes : goal.returns-in-Err-clause-goes
-returns-in-Err-clause-goes g c = λ turns. flushed c.in-Err.end c.args.sheet.now _ _ _ _ _ _ _ _ _ _ _ (c.in-Err.ensures.goes turns) c.flush.ensures.bytes
+pub returns-in_err-act-clause-goes : goal.returns-in_err-act-clause-goes
+returns-in_err-act-clause-goes g c =
+    let old = c.args in
+    let new = c.act.new in
+    λ turns. turn_passed_on c.from_residual.result c.in_err-act.field-0.0 turns
+    (λ (after : ℕ) (course : Course) (known : Option (List ℕ) → Option (List ℕ)). DeskGoes old.sheet.now old.desk.now new.desk (process_of old.desk.now old.between.now.warned turns further)
+    (process_of new.desk new.between.warned after course) (g.L.Link.log old.link.now) (g.L.Link.log new.link) (g.K.Keys.inputs old.keys.now) (g.K.Keys.inputs new.keys)
+    (known (g.W.Write.contents (stream_of old.out.now))) (known (g.W.Write.contents (stream_of new.out))))
+    c.from_residual.ensures.1 (c.in_err-act.ensures.goes turns)
 
 pub returns-clause-goes : goal.returns-clause-goes
 returns-clause-goes g c =
-    λ turns. turn_done c.flush.result c.told-flushed.result c.args.sheet.now _ _ _ _ turns _ _ _ _ _ _ _ c.told-flushed.ensures (c.in_default.ensures.goes turns) c.flush.ensures.bytes
+    λ turns. turn_done c.flush.result c.told.result c.args.sheet.now _ _ _ _ turns _ _ _ _ _ _ _ c.told.ensures (c.in_ok-act.ensures.goes turns) c.flush.ensures.bytes

@@ -2,7 +2,7 @@ use Rattle.cards.specs.Watched.{stream_of}
 use Rattle.live.specs.Desks.{DeskGoes, process_of}
 use Rattle.live.specs.Ends.{further}
 use Rattle.live.specs.declared.warned.Warned.TheVariants.{Nothing}
-use Rattle.live.proofs.desk_loop.run_desk.Given as goal
+use Rattle.live.proofs.desk_loop.take_turns.Given as goal
 
 abbrev pub invariant-loop-number : goal.invariant-loop-number
 invariant-loop-number g l =
