@@ -19,7 +19,7 @@ use Rattle.headline.specs.declared.version.FileVersion.TheVariants.{Old, New}
 use Rattle.headline.specs.Worlds.{Process, Running, Down, Setting, Site, World, disk_of, site, votes_in, votes_of, with_disk, with_site}
 use Rattle.headline.specs.Steps.{AfterMigration, AfterOpen, AfterPen, AfterReceive, Answer, AtDesk, Breaks, Failed, LosesPower, Migrates, MigratesAt, Migration, NotSound, StaysDownBy, Step, ToNew}
 use Rattle.headline.specs.Runs.{Begins, BeginsAt, Moment, Run, WasPenned, last_of}
-use Rattle.headline.specs.Headline.{AllPenned}
+use Rattle.headline.specs.Headline.{ArePenned, PennedBefore}
 
 module _ {Disk Why : Type 0} (s : Setting Disk Why) where
   -- of these votes, of those that a read gives, and of those of each image
@@ -223,18 +223,18 @@ module _ {Disk Why : Type 0} (s : Setting Disk Why) where
   weaker Q R f view x h = record { of_votes = f (votes_of x) h.of_votes; of_reads = λ vs e. f vs (h.of_reads vs e); of_images = λ vs i. f vs (h.of_images vs i) }
 
   -- each of these votes was penned
-  abbrev ArePenned : World Disk → List (Moment Disk Why) → DeskId → List Ballot → Type 0
-  ArePenned w ms d vs = (b : Ballot) → In b vs → WasPenned w ms d b
+  abbrev ThesePenned : World Disk → List (Moment Disk Why) → DeskId → List Ballot → Type 0
+  ThesePenned w ms d vs = (b : Ballot) → In b vs → WasPenned w ms d b
 
-  penned : (version : FileVersion) (n : ℕ) (w : World Disk) (ms : List (Moment Disk Why)) → Begins s version n w → Run s w ms → BothHold (ArePenned w ms) w → BothHold (ArePenned w ms) (last_of w ms)
+  penned : (version : FileVersion) (n : ℕ) (w : World Disk) (ms : List (Moment Disk Why)) → Begins s version n w → Run s w ms → BothHold (ThesePenned w ms) w → BothHold (ThesePenned w ms) (last_of w ms)
   penned version n w [] e r h = h
   penned version n w (m ∷ ms) e r h0 =
-      let none : BothHold (ArePenned w ms) w = begins_hold (ArePenned w ms) (λ d b i. absurd i) version n w e in
+      let none : BothHold (ThesePenned w ms) w = begins_hold (ThesePenned w ms) (λ d b i. absurd i) version n w e in
       let before = penned version n w ms e r.0 none in
-      let wide : BothHold (ArePenned w (m ∷ ms)) (last_of w ms) = λ d. weaker (ArePenned w ms d) (ArePenned w (m ∷ ms) d) (λ vs q b i. inr (q b i)) (s.view d (site (last_of w ms) d).version) (site (last_of w ms) d).process (before d) in
-      step_holds (ArePenned w (m ∷ ms)) (last_of w ms) m.event m.answer m.after (now m ms) wide r.1
+      let wide : BothHold (ThesePenned w (m ∷ ms)) (last_of w ms) = λ d. weaker (ThesePenned w ms d) (ThesePenned w (m ∷ ms) d) (λ vs q b i. inr (q b i)) (s.view d (site (last_of w ms) d).version) (site (last_of w ms) d).process (before d) in
+      step_holds (ThesePenned w (m ∷ ms)) (last_of w ms) m.event m.answer m.after (now m ms) wide r.1
     where
-      now : (m : Moment Disk Why) (ms : List (Moment Disk Why)) → PensKeep (ArePenned w (m ∷ ms)) (last_of w ms) m.event
+      now : (m : Moment Disk Why) (ms : List (Moment Disk Why)) → PensKeep (ThesePenned w (m ∷ ms)) (last_of w ms) m.event
       now m ms d k g q i may old b (inl j) =
           let entry : b.entry ≡ g = ap (λ (c : Ballot). c.entry) j in
           inl (q ∙ ap (events.Pen d) (sym entry), (k, i, ap (λ (c : Ballot). c.at) (sym j)))
@@ -244,7 +244,11 @@ module _ {Disk Why : Type 0} (s : Setting Disk Why) where
   votes_at w A = refl
   votes_at w B = refl
 
-  pub all_penned : (version : FileVersion) (n : ℕ) (w : World Disk) (ms : List (Moment Disk Why)) → Begins s version n w → Run s w ms → AllPenned w ms
+  pub all_penned : (version : FileVersion) (n : ℕ) (w : World Disk) (ms : List (Moment Disk Why)) → Begins s version n w → Run s w ms → ArePenned w ms
   all_penned version n w ms e r d b i =
-      let h = penned version n w ms e r (begins_hold (ArePenned w ms) (λ d b i. absurd i) version n w e) d in
+      let h = penned version n w ms e r (begins_hold (ThesePenned w ms) (λ d b i. absurd i) version n w e) d in
       h.of_votes b (subst (In b) (sym (votes_at (last_of w ms) d)) i)
+
+  pub penned_before : (version : FileVersion) (n : ℕ) (w : World Disk) (ms : List (Moment Disk Why)) → Begins s version n w → Run s w ms → PennedBefore w ms
+  penned_before version n w [] e r = all_penned version n w [] e r
+  penned_before version n w (m ∷ ms) e r = (all_penned version n w (m ∷ ms) e r, penned_before version n w ms e r.0)

@@ -5,15 +5,12 @@ use Rattle.ball_laws.specs.History.{History}
 use Rattle.match_laws.specs.declared.standing.Standing.{Standing}
 use Rattle.match_laws.specs.Stands.{StandsFor}
 use Rattle.corrections.specs.CleanList.{history_of}
-use Rattle.corrections.specs.declared.refusal.Refusal.{Refusal}
-use Rattle.entry_log.specs.declared.mem_disk.MemDisk.{MemDisk}
 use Rattle.agree_core.specs.Agreed.{BeginsWith}
 use Rattle.agree_core.proofs.Settling.{one_book}
 use Rattle.headline.specs.declared.version.FileVersion.{FileVersion}
-use Rattle.headline.specs.Worlds.{World, votes_in}
-use Rattle.headline.specs.Match.{match_of}
+use Rattle.headline.specs.Worlds.{Setting, World, votes_in}
 use Rattle.headline.specs.Runs.{Begins, Moment, Run, last_of}
-use Rattle.headline.specs.Laws.{OneScore, ShowsScore}
+use Rattle.headline.specs.Headline.{HaveOneScore, ShowsScore}
 use Rattle.headline.proofs.Keeping.{all_justified, begins_fine, run_keeps}
 use Rattle.headline.proofs.Shown.{moment, shown_settled}
 use Rattle.headline.proofs.Sound.{same_length}
@@ -35,9 +32,8 @@ one_standing m k n h p q = λ i. record {
   bowling = (p.bowling ∙ sym q.bowling) i;
 }
 
-pub one_score : (game innings : ℕ) (version : FileVersion) (boards : ℕ) (w : World MemDisk) (ms : List (Moment MemDisk Refusal)) → Begins (match_of game innings) version boards w → Run (match_of game innings) w ms → OneScore game innings w ms
-one_score game innings version boards w ms begins run t u n score other p q =
-    let s = match_of game innings in
+pub one_score : {Disk Why : Type 0} (s : Setting Disk Why) (innings : ℕ) (version : FileVersion) (boards : ℕ) (w : World Disk) (ms : List (Moment Disk Why)) → Begins s version boards w → Run s w ms → HaveOneScore innings w ms
+one_score s innings version boards w ms begins run t u n score other p q =
     let f = begins_fine s version boards w begins in
     let j = all_justified s (last_of w ms) (run_keeps s w ms f run) in
     let x = moment s w ms (λ v. ShowsScore innings v t n score) f run p in

@@ -18,7 +18,7 @@ use Rattle.headline.specs.declared.event.Station.TheVariants as stations
 use Rattle.headline.specs.declared.version.FileVersion.{FileVersion}
 use Rattle.headline.specs.Worlds.{Process, Running, Down, Setting, World, board_at, disk_of, site, votes_in, votes_of}
 use Rattle.headline.specs.Runs.{AtEachMoment, AtSomeMoment, Moment, Run, Shows, last_of, process_shows}
-use Rattle.headline.specs.Headline.{ByBoth, KeptSafe, NoneWaits, OneBook, StandsFast, WithinAgreed, noted_at_desk}
+use Rattle.headline.specs.Headline.{ArePrefixes, AtEachEvent, ByBoth, KeepsVotes, KeptSafe, NoneWaits, StandsFast, WithinAgreed, noted_at_desk}
 use Rattle.agree_core.specs.Keeping.{MessageFine, ShowsMore}
 use Rattle.agree_core.proofs.Both.{both_at, both_settled, both_turned, same}
 use Rattle.agree_core.proofs.Desks.{more_within}
@@ -65,7 +65,7 @@ module _ {Disk Why : Type 0} (s : Setting Disk Why) where
   each_moment w [] P h f r = h w f
   each_moment w (m ∷ ms) P h f r = (h m.after (run_keeps s w (m ∷ ms) f r), each_moment w ms P h f r.0)
 
-  pub one_book_shown : (w : World Disk) (ms : List (Moment Disk Why)) → Fine s w → Run s w ms → OneBook w ms
+  pub one_book_shown : (w : World Disk) (ms : List (Moment Disk Why)) → Fine s w → Run s w ms → ArePrefixes w ms
   one_book_shown w ms f r t u xs ys p q =
       let x = moment w ms (λ v. Shows v t xs) f r p in
       let y = moment w ms (λ v. Shows v u ys) f r q in
@@ -130,3 +130,7 @@ module _ {Disk Why : Type 0} (s : Setting Disk Why) where
         safe = kept_safe w f;
         votes = record { one_each = one_vote_each (votes_in w) j; rounds = rounds_differ (votes_in w) j; places = places_settled (votes_in w) j };
       }
+
+  pub votes_kept : (w : World Disk) (ms : List (Moment Disk Why)) → Fine s w → Run s w ms → AtEachEvent w ms KeepsVotes
+  votes_kept w [] f r = tt
+  votes_kept w (m ∷ ms) f r = (votes_kept w ms f r.0, (step_keeps s (last_of w ms) m.event m.answer m.after (run_keeps s w ms f r.0) r.1).1)

@@ -1,6 +1,8 @@
--- What holds in every run.
-use Rattle.std.specs.Prelude.{◌≡◌, ◌≢◌, ◌⊎◌, ℕ, false, Option, Some, List, [], ◌∷◌, ◌++◌, slice_get}
+-- The headline: what holds in every run.
+use Rattle.std.specs.Prelude.{◌≡◌, ◌≢◌, ◌⊎◌, ℕ, false, Option, Some, List, [], ◌∷◌, ◌++◌, length, slice_get}
 use Rattle.notation.specs.declared.entry.Entry.{Entry}
+use Rattle.match_laws.specs.declared.standing.Standing.{Standing}
+use Rattle.corrections.specs.Legal.{IsScoreOf}
 use Rattle.agree_core.specs.declared.messages.DeskId.{DeskId}
 use Rattle.agree_core.specs.declared.messages.DeskId.TheVariants.{A, B}
 use Rattle.agree_core.specs.declared.messages.Message.{Message}
@@ -8,7 +10,7 @@ use Rattle.agree_core.specs.declared.messages.Vote.{Vote}
 use Rattle.agree_core.specs.declared.seat.Heard.{Heard}
 use Rattle.agree_core.specs.Agreed.{BeginsWith, EqualVotes, IsAgreedList}
 use Rattle.agree_core.specs.Ballots as ballots
-use Rattle.agree_core.specs.Ballots.{AllVotes, Ballot, In, Within, ballot_of, vote_of}
+use Rattle.agree_core.specs.Ballots.{AllVotes, Ballot, In, VotesGrow, Within, ballot_of, vote_of}
 use Rattle.agree_core.specs.Boards.{BoardState}
 use Rattle.agree_core.specs.Desks.{DeskState}
 use Rattle.agree_core.specs.Laws.{OneVoteEach, PlacesSettled, RoundsDiffer}
@@ -73,9 +75,9 @@ abbrev pub AtEachEvent :
 AtEachEvent w [] P = Unit {0}
 AtEachEvent w (m ∷ ms) P = AtEachEvent w ms P × P (last_of w ms) m
 
--- of two books that are shown at any two moments, by whatever stations, one begins with the other
-abbrev pub OneBook : {Disk Why : Type 0} → World Disk → List (Moment Disk Why) → Type 0
-OneBook w ms =
+-- of two books that are shown at any two moments, by whatever stations, one is a prefix of the other
+abbrev pub ArePrefixes : {Disk Why : Type 0} → World Disk → List (Moment Disk Why) → Type 0
+ArePrefixes w ms =
     (t u : Station) (xs ys : List Entry) → AtSomeMoment w ms (λ v. Shows v t xs)
     → AtSomeMoment w ms (λ v. Shows v u ys) → BeginsWith ys xs ⊎ BeginsWith xs ys
 
@@ -91,10 +93,26 @@ ByBoth v =
     (t : Station) (xs : List Entry) (place : ℕ) (e : Entry) → Shows v t xs → slice_get xs place ≡ Some e
     → (round : ℕ) × EqualVotes (votes_in v) place round e
 
--- each vote of a desk was penned by its scorer, unchanged
-abbrev pub AllPenned : {Disk Why : Type 0} → World Disk → List (Moment Disk Why) → Type 0
-AllPenned w ms =
+-- each vote that a desk now has was penned by its scorer, unchanged
+abbrev pub ArePenned : {Disk Why : Type 0} → World Disk → List (Moment Disk Why) → Type 0
+ArePenned w ms =
     (d : DeskId) (b : Ballot) → In b (ballots.votes_of (votes_in (last_of w ms)) d) → WasPenned w ms d b
+
+-- at the start there are no votes, and after each event each vote was penned in that event or an earlier one
+abbrev pub PennedBefore : {Disk Why : Type 0} → World Disk → List (Moment Disk Why) → Type 0
+PennedBefore w [] = (d : DeskId) (b : Ballot) → In b (ballots.votes_of (votes_in w) d) → ⊥
+PennedBefore w (m ∷ ms) = ArePenned w (m ∷ ms) × PennedBefore w ms
+
+-- a station that isn't down shows a book of so many entries, whose score by the Laws is this
+abbrev pub ShowsScore : {Disk : Type 0} → ℕ → World Disk → Station → ℕ → Standing → Type 0
+ShowsScore innings v t n score =
+    (book : List Entry) × Shows v t book × (n ≡ length book) × IsScoreOf score innings book
+
+-- books of one length have one score by the Laws, whichever stations show them at whatever moments
+abbrev pub HaveOneScore : {Disk Why : Type 0} → ℕ → World Disk → List (Moment Disk Why) → Type 0
+HaveOneScore innings w ms =
+    (t u : Station) (n : ℕ) (score other : Standing) → AtSomeMoment w ms (λ v. ShowsScore innings v t n score)
+    → AtSomeMoment w ms (λ v. ShowsScore innings v u n other) → score ≡ other
 
 -- a vote that was handed out is among its desk's votes, and those are in what is read and in every image
 pub record KeptSafe {Disk Why : Type 0} (s : Setting Disk Why) (w : World Disk) : Type 0 where
@@ -121,17 +139,23 @@ IsSound Answer.Unsound = ⊥
 IsSound Answer.NoBook = ⊥
 IsSound _ = Unit {0}
 
--- the headline: the books that are shown are one book; each entry was voted for by both desks in one
--- round, and each vote was penned; and a running station that has noted equal votes has the entry
-pub record Headline {Disk Why : Type 0} (w : World Disk) (ms : List (Moment Disk Why)) : Type 0 where
-  pub one_book : OneBook w ms
-  pub within_agreed : WithinAgreed w ms
-  pub by_both : AtEachMoment w ms ByBoth
-  pub penned : AllPenned w ms
-  pub none_waits : AtEachMoment w ms NoneWaits
-  pub takes_second : AtEachEvent w ms TakesSecond
+-- the headline, of a run of a match with so many innings a side
+pub record Headline {Disk Why : Type 0} (innings : ℕ) (w : World Disk) (ms : List (Moment Disk Why)) : Type 0 where
+  -- any books that desks or boards show at any two moments are one a prefix of the other
+  pub prefixes : ArePrefixes w ms
+  -- both scorers voted in one round for each entry of a book, and each vote was penned before
+  pub by_both : AtEachMoment w ms ByBoth × PennedBefore w ms
+  -- each score is the Laws' score of its book
+  pub scores : HaveOneScore innings w ms
+  -- a running station that noted both equal votes of its position has the entry: the call that notes the second
+  -- makes its book longer by it, and no station is left with both
+  pub has_entry : AtEachEvent w ms TakesSecond × AtEachMoment w ms NoneWaits
 
 -- what holds besides, at each moment
 pub record StandsFast {Disk Why : Type 0} (s : Setting Disk Why) (w : World Disk) : Type 0 where
   pub safe : KeptSafe s w
   pub votes : VotesStand (votes_in w)
+
+-- no vote is lost by an event
+abbrev pub KeepsVotes : {Disk Why : Type 0} → World Disk → Moment Disk Why → Type 0
+KeepsVotes w m = VotesGrow (votes_in w) (votes_in m.after)

@@ -1,10 +1,12 @@
--- The setting of a match on disks in memory.
-use Rattle.std.specs.Prelude.{ℕ}
+-- The setting of a match.
+use Rattle.std.specs.Prelude.{ℕ, List}
 use Rattle.corrections.specs.declared.refusal.Refusal.{Refusal}
 use Rattle.corrections.specs.Refusal.{book_refusal}
 use Rattle.entry_log.specs.declared.mem_disk.MemDisk.{MemDisk}
+use Rattle.entry_log.specs.Disk.{Images}
 use Rattle.entry_log.specs.Format.{Format, contents, room}
 use Rattle.entry_log.specs.MemDisk.{file_of, images_of}
+use Rattle.entry_log.specs.Slots.{Contents}
 use Rattle.entry_log.specs.Version1.{version_1}
 use Rattle.entry_log.specs.Version2.{version_2}
 use Rattle.agree_core.specs.Desks.{most_votes}
@@ -21,7 +23,13 @@ format_of New = version_2
 abbrev pub most_bytes : FileVersion → ℕ
 most_bytes version = room (format_of version) most_votes
 
--- the match of this number, with so many innings a side, on disks in memory
+-- the match of this number, with so many innings a side: what a file of each version shows of its bytes, and the
+-- bytes that a disk has and may have after a power loss
+abbrev pub setting_of :
+    {Disk : Type 0} → (FileVersion → Contents) → (Disk → List ℕ) → (Disk → Images) → ℕ → ℕ → Setting Disk Refusal
+setting_of file seen images game innings =
+    record { view = λ d version. file_view (file version) seen images d game; rules = book_refusal innings }
+
+-- that match on disks in memory
 abbrev pub match_of : ℕ → ℕ → Setting MemDisk Refusal
-match_of game innings =
-    record { view = λ d version. file_view (contents (format_of version)) file_of images_of d game; rules = book_refusal innings }
+match_of game innings = setting_of (λ version. contents (format_of version)) file_of images_of game innings

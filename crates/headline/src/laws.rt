@@ -1,11 +1,14 @@
-//! What holds in every run of a match. These functions do nothing: each stands for the laws that it ensures.
+//! What holds in every run of a match. This function does nothing: it stands for the law that it ensures.
 
-ghost use Rattle.headline.specs.Laws.{FilesShowAgreed, IsProved, OfEachRun, OneScore};
+ghost use Rattle.headline.specs.Laws.{HoldsInEachRun};
 
-/// In every run the headline holds, and besides, at each moment, how the votes stand and that each vote that was
-/// handed out is in every image of its desk's disk; and no event is answered as unsound.
-pub fn every_run_is_sound()
-    ensures proved { OfEachRun IsProved }
-    ensures agreed { OfEachRun FilesShowAgreed }
-    ensures one_score { OfEachRun OneScore }
+use entry_log::Disk;
+
+/// In every run of a match, by whatever code and on whatever disks, the headline holds: any books that
+/// desks or boards show at any two moments are one a prefix of the other; both scorers voted for each entry
+/// in one round; each score is the Laws' score of its book; and a running station that noted both equal
+/// votes of its position has the entry. Besides, no vote is lost, each vote that was handed out is in every
+/// image of its desk's disk, and no event is answered as unsound.
+pub fn every_run_is_sound<D: Disk>()
+    ensures { HoldsInEachRun D.seen D.images }
 {}

@@ -12,7 +12,6 @@ use Rattle.agree_core.specs.Agreed.{BeginsWith, IsAgreedList}
 use Rattle.agree_core.specs.Boards.{BoardState}
 use Rattle.agree_core.specs.Books.{IsAgreedByFiles}
 use Rattle.agree_core.specs.declared.messages.DeskId.TheVariants.{A, B}
-use Rattle.agree_core.proofs.FileBooks.{agreed_by_files}
 use Rattle.headline.specs.declared.event.Event.{Event}
 use Rattle.headline.specs.declared.event.Station.{Station}
 use Rattle.headline.specs.declared.event.Station.TheVariants as stations
@@ -30,16 +29,15 @@ use Rattle.headline.specs.Match.{match_of}
 use Rattle.schedule_replay.specs.Answers.{answer_of}
 use Rattle.schedule_replay.specs.Refusals.{RefusesEvent}
 use Rattle.schedule_replay.specs.CodeWorlds.{BeginsWorld, IsWorld, RefusesTo, SameMatch, StepsTo}
-use Rattle.headline.specs.Laws.{IsProved, ShowsScore}
-use Rattle.schedule_replay.specs.Replays.{AreSeen, BeginsWithAll, EndsAt, IsReplay, IsRunOf, MatchRun, StandOnce}
+use Rattle.headline.specs.Headline.{ShowsScore}
+use Rattle.schedule_replay.specs.Replays.{AreSeen, EndsAt, IsReplay, IsRunOf, MatchRun, StandOnce}
 use Rattle.schedule_replay.specs.ShownScores.{IsNotable, Notes}
 use Rattle.schedule_replay.specs.VotesFiles.{FilesRead}
-use Rattle.headline.proofs.Keeping.{all_justified, begins_fine, run_keeps}
+use Rattle.headline.proofs.Keeping.{begins_fine, run_keeps}
 use Rattle.schedule_replay.proofs.NoteLemmas.{Shown}
 use Rattle.schedule_replay.proofs.ReadLemmas.{files_read}
 use Rattle.headline.proofs.Scores.{one_score}
-use Rattle.headline.proofs.Sound.{sound_answers}
-use Rattle.headline.proofs.Whole.{headline, stand_fast}
+use Rattle.headline.proofs.Whole.{holds_in_run}
 
 -- no event changes how many boards there are
 fresh_many : (n : ℕ) → length (fresh_boards n) ≡ n
@@ -99,7 +97,7 @@ module _ (game innings : ℕ) (version : FileVersion) (boards : ℕ) (events : L
           is_world = h.is_world;
           few_boards = omega (arith, few, many);
           one_score = λ t n score other c shows.
-              one_score game innings version boards w ms run.begins run.run t t n other score (was t n other c) (now t n score (subst (λ (i : ℕ). ShowsScore i (last_of w ms) t n score) h.same_innings shows));
+              one_score (match_of game innings) innings version boards w ms run.begins run.run t t n other score (was t n other c) (now t n score (subst (λ (i : ℕ). ShowsScore i (last_of w ms) t n score) h.same_innings shows));
         },
       )
 
@@ -181,9 +179,6 @@ module _ (game innings : ℕ) (version : FileVersion) (boards : ℕ) (events : L
       let n = steps_on number event world new outcomes seen p.0 p.1 less here p.2 steps same in
       record { at = (p.0, p.1, n.0, n.1, p.3) }
 
-  proved_of : (w : worlds.World MemDisk) (ms : MatchRun) → Begins (match_of game innings) version boards w → Run (match_of game innings) w ms → IsProved game innings w ms
-  proved_of w ms b r = let s = match_of game innings in record { headline = headline s version boards w ms b r; stands_fast = stand_fast s version boards w ms b r; sound = sound_answers s version boards w ms b r }
-
   -- an event isn't taken
   pub refuses_at : (number : ℕ) (event : Event) (world new : World) (outcomes : List Seen) (why : WorldRefusal) (w : worlds.World MemDisk) (ms : MatchRun) → number < length events → event ≡ slice_index_or events number event → IsAt game innings version boards events number world outcomes w ms → RefusesTo event world why new → (v : worlds.World MemDisk) × (slice_get events number ≡ Some event) × RefusesEvent (match_of game innings) (last_of w ms) event why v
   refuses_at number event world new outcomes why w ms less here at refuses =
@@ -197,7 +192,7 @@ module _ (game innings : ℕ) (version : FileVersion) (boards : ℕ) (events : L
       let at = p.2 in
       let run = at.run in
       let s = refuses_at number event world new outcomes why p.0 p.1 less here at refuses in
-      inr (outcomes, p.0, p.1, number, event, s.0, run, proved_of p.0 p.1 run.begins run.run, e, s.1, s.2)
+      inr (outcomes, p.0, p.1, number, event, s.0, run, holds_in_run (match_of game innings) innings version boards p.0 p.1 run.begins run.run, e, s.1, s.2)
 
   -- a read of each file gives its desk's votes, and perhaps later ones
   read_at : (number : ℕ) (world : World) (outcomes : List Seen) (w : worlds.World MemDisk) (ms : MatchRun) → IsAt game innings version boards events number world outcomes w ms → FilesRead world.game world.innings_a_side (last_of w ms)
@@ -233,27 +228,18 @@ module _ (game innings : ℕ) (version : FileVersion) (boards : ℕ) (events : L
       let run = at.run in
       let s = match_of game innings in
       let all : take number events ≡ events = ap (λ (n : ℕ). take n events) e ∙ take-length events in
-      let proved = proved_of w ms run.begins run.run in
-      let head = proved.headline in
-      let by_files = files (last_of w ms) at.is_world (read_at number world report.outcomes.items w ms at) in
-      let agreed : IsAgreedList (votes_in (last_of w ms)) report.agreed.items = agreed_by_files (votes_in (last_of w ms)) (all_justified s (last_of w ms) (run_keeps s w ms (begins_fine s version boards w run.begins) run.run)) report.agreed.items by_files in
-      let prefixes : BeginsWithAll report.agreed.items w ms = λ t book shown. head.within_agreed t book report.agreed.items shown agreed in (
+      let holds = holds_in_run s innings version boards w ms run.begins run.run in
+      let agreed : IsAgreedList (votes_in (last_of w ms)) report.agreed.items =
+      holds.by_files report.agreed.items (files (last_of w ms) at.is_world (read_at number world report.outcomes.items w ms at)) in (
         w,
         ms,
         record {
           run = record { begins = run.begins; run = run.run; over = run.over ∙ all; answered = run.answered };
-          one_book = head.one_book;
+          holds = holds;
           agreed = agreed;
-          prefixes = prefixes;
-          by_both = head.by_both;
-          penned = head.penned;
           seen = p.3;
           once = once;
-          scores = λ t n score c. score_at w ms t n score ((p.3 t n score).0 c) prefixes;
-          takes_second = head.takes_second;
-          none_waits = head.none_waits;
-          stands_fast = proved.stands_fast;
-          sound = proved.sound;
+          scores = λ t n score c. score_at w ms t n score ((p.3 t n score).0 c) (λ t book shown. holds.within_agreed t book report.agreed.items shown agreed);
         },
       )
     where
@@ -262,7 +248,7 @@ module _ (game innings : ℕ) (version : FileVersion) (boards : ℕ) (events : L
       some_book w (m ∷ ms) t n score (inl h) = (h.0, inl h.1, h.2, h.3)
       some_book w (m ∷ ms) t n score (inr h) = let b = some_book w ms t n score h in (b.0, inr b.1, b.2, b.3)
 
-      score_at : (w : worlds.World MemDisk) (ms : MatchRun) (t : Station) (n : ℕ) (score : Standing) → AtSomeMoment w ms (λ v. ShowsScore innings v t n score) → BeginsWithAll report.agreed.items w ms → (n ≤ length report.agreed.items) × IsScoreOf score innings (take n report.agreed.items)
+      score_at : (w : worlds.World MemDisk) (ms : MatchRun) (t : Station) (n : ℕ) (score : Standing) → AtSomeMoment w ms (λ v. ShowsScore innings v t n score) → ((u : Station) (book : List Entry) → AtSomeMoment w ms (λ v. Shows v u book) → BeginsWith report.agreed.items book) → (n ≤ length report.agreed.items) × IsScoreOf score innings (take n report.agreed.items)
       score_at w ms t n score h prefixes =
           let b = some_book w ms t n score h in
           let f = front_is report.agreed.items b.0 n b.2 (prefixes t b.0 b.1) in

@@ -22,7 +22,7 @@ use Rattle.headline.specs.Worlds as worlds
 use Rattle.headline.specs.Runs.{process_shows}
 use Rattle.schedule_replay.specs.Sites.{IsProcess}
 use Rattle.schedule_replay.specs.CodeWorlds.{IsBoardOf, IsWorld, MatchBoard, board_innings, board_state, code_site}
-use Rattle.headline.specs.Laws.{ShowsScore}
+use Rattle.headline.specs.Headline.{ShowsScore}
 use Rattle.schedule_replay.specs.ShownScores.{Adds, BoardShows, CodeShows, DeskShows, IsBookScore, IsNotable, Notes, station_number}
 use Rattle.schedule_replay.specs.WorldDesks.{innings_of, state_of}
 use Rattle.schedule_replay.proofs.NoteLemmas.{FromOne, Shown, same_station}

@@ -13,10 +13,10 @@ use Rattle.schedule_replay.specs.declared.seen.Seen.{Seen}
 use Rattle.schedule_replay.specs.declared.seen.WorldRefusal.{WorldRefusal}
 use Rattle.schedule_replay.specs.declared.seen.WorldRefusal.TheVariants.{NoMemory}
 use Rattle.headline.specs.declared.version.FileVersion.{FileVersion}
-use Rattle.headline.specs.Laws.{IsProved, ShowsScore}
+use Rattle.headline.specs.Laws.{HoldsInRun}
 use Rattle.headline.specs.Worlds.{World, votes_in}
-use Rattle.headline.specs.Runs.{AtEachMoment, AtSomeMoment, Begins, Moment, Run, Shows, answers_of, events_of, last_of}
-use Rattle.headline.specs.Headline.{AllPenned, AtEachEvent, ByBoth, IsSound, NoneWaits, OneBook, StandsFast, TakesSecond}
+use Rattle.headline.specs.Runs.{AtSomeMoment, Begins, Moment, Run, answers_of, events_of, last_of}
+use Rattle.headline.specs.Headline.{ShowsScore}
 use Rattle.schedule_replay.specs.Refusals.{RefusesEvent}
 use Rattle.headline.specs.Match.{match_of}
 use Rattle.schedule_replay.specs.Answers.{answer_of}
@@ -47,7 +47,7 @@ abbrev pub RefusedAt :
 RefusedAt game innings version boards events k why =
     (outcomes : List Seen) × (w : World MemDisk) × (ms : MatchRun) × (before : ℕ) × (event : Event)
     × (v : World MemDisk)
-    × IsRunOf game innings version boards (take before events) outcomes w ms × IsProved game innings w ms
+    × IsRunOf game innings version boards (take before events) outcomes w ms × HoldsInRun (match_of game innings) innings w ms
     × (k ≡ before + 1)
     × (slice_get events before ≡ Some event) × RefusesEvent (match_of game innings) (last_of w ms) event why v
 
@@ -55,11 +55,6 @@ RefusedAt game innings version boards events k why =
 abbrev pub EndsAt : ℕ → ℕ → FileVersion → ℕ → List Event → ℕ × WorldRefusal → Type 0
 EndsAt game innings version boards events end =
     ((end.0 ≡ 0) × (end.1 ≡ NoMemory)) ⊎ RefusedAt game innings version boards events end.0 end.1
-
--- the list begins with each book that is shown, at whatever moment
-abbrev pub BeginsWithAll : List Entry → World MemDisk → MatchRun → Type 0
-BeginsWithAll agreed w ms =
-    (t : Station) (book : List Entry) → AtSomeMoment w ms (λ v. Shows v t book) → BeginsWith agreed book
 
 -- each score that was shown is the Laws' score of its book: of so many first entries of the agreed list
 abbrev pub AreScores : ℕ → List Entry → List (Station × ℕ × Standing) → Type 0
@@ -73,31 +68,20 @@ StandOnce seen =
     (i j : ℕ) (t : Station) (n : ℕ) (score other : Standing) → slice_get seen i ≡ Some (t, n, score)
     → slice_get seen j ≡ Some (t, n, other) → i ≡ j
 
--- the report of a run of the match over these events, and what that run meets
+-- the report of a run of the match over these events
 pub record IsReportOf
     (game innings : ℕ) (version : FileVersion) (boards : ℕ) (events : List Event) (report : Report)
     (w : World MemDisk) (ms : MatchRun) : Type 0 where
-  -- it is a run over all the events, with these outcomes
+  -- it is a run over all the events, with these outcomes, and what holds in every run holds in it
   pub run : IsRunOf game innings version boards events report.outcomes.items w ms
-  -- of two books that are shown at any two moments, by whatever stations, one is a prefix of the other
-  pub one_book : OneBook w ms
-  -- all are prefixes of the agreed list of the last votes
+  pub holds : HoldsInRun (match_of game innings) innings w ms
+  -- the agreed list is that of the last votes
   pub agreed : IsAgreedList (votes_in (last_of w ms)) report.agreed.items
-  pub prefixes : BeginsWithAll report.agreed.items w ms
-  -- for each place of a book both desks voted for its entry in one round
-  pub by_both : AtEachMoment w ms ByBoth
-  -- each vote was penned before by that desk's scorer, unchanged
-  pub penned : AllPenned w ms
-  -- a station, a length and a score are seen exactly where the run shows them, and each score is the Laws' score
+  -- a station, a length and a score are seen exactly where the run shows them, once each, and each score is the
+  -- Laws' score of so many first entries of the agreed list
   pub seen : AreSeen innings w ms report.seen.items
   pub once : StandOnce report.seen.items
   pub scores : AreScores innings report.agreed.items report.seen.items
-  -- a running station's call that notes the second of two equal votes makes its book longer by that entry
-  pub takes_second : AtEachEvent w ms TakesSecond
-  pub none_waits : AtEachMoment w ms NoneWaits
-  -- how the votes stand and are kept at each moment, and which answers never come
-  pub stands_fast : AtEachMoment w ms (StandsFast (match_of game innings))
-  pub sound : AtEachEvent w ms (λ v m. IsSound m.answer)
 
 -- there is a run of which it is the report
 abbrev pub IsReplay : ℕ → ℕ → FileVersion → ℕ → List Event → Report → Type 0

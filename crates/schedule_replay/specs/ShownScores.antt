@@ -12,7 +12,7 @@ use Rattle.schedule_replay.specs.declared.shown_scores.ShownScores.{ShownScores}
 use Rattle.schedule_replay.specs.declared.world.World.{World}
 use Rattle.schedule_replay.specs.declared.world_desk.WorldDesk.{WorldDesk}
 use Rattle.schedule_replay.specs.CodeWorlds.{IsWorld, MatchBoard, board_innings, board_state, code_site}
-use Rattle.headline.specs.Laws.{ShowsScore}
+use Rattle.headline.specs.Headline.{ShowsScore}
 use Rattle.schedule_replay.specs.Replays.{StandOnce}
 use Rattle.schedule_replay.specs.WorldDesks.{innings_of, state_of}
 use Rattle.headline.specs.Worlds as worlds

@@ -26,9 +26,14 @@ pub struct Report {
     pub seen: Vec<(Station, u32, Match)>,
 }
 
-/// Runs a new world over these events, on files of version 2. It ends at the first event that the world
-/// doesn't take, with its number, counted from 1, and why; the number is 0 where memory was wanted for no
-/// event.
+/// Runs a new world over these events, on files of version 2, and reports it.
+///
+/// Whatever the events are, in this run any books that desks or boards show at any two moments are one a
+/// prefix of the other; both scorers voted for each entry in one round; each score is the Laws' score of its
+/// book; and a running station that noted both equal votes of its position has the entry.
+///
+/// It ends at the first event that the world doesn't take, with its number, counted from 1, and why; all
+/// this holds of the events before. The number is 0 where memory was wanted for no event.
 pub fn replay(
     alloc: Global,
     game: u64,
