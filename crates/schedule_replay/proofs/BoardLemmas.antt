@@ -40,7 +40,7 @@ use Rattle.headline.specs.Worlds as worlds
 use Rattle.headline.specs.Worlds.{board_at, fresh_boards, with_board}
 use Rattle.headline.specs.Events.{station_of}
 use Rattle.headline.specs.Steps.{Answer, AtBoard, StepAt, board_told}
-use Rattle.schedule_replay.specs.Refusals.{LeftByWant, down_at, first_cause, no_board, no_station, refusal_of}
+use Rattle.schedule_replay.specs.Refusals.{LeftByWant, down_at, first_cause, may_grow, may_send, no_board, no_station, refusal_of}
 use Rattle.headline.specs.Match.{match_of}
 use Rattle.schedule_replay.specs.Answers.{AreBytesOf, answer_of}
 use Rattle.headline.specs.Runs.{Begins, BeginsAt}
@@ -48,6 +48,7 @@ use Rattle.schedule_replay.specs.Sites.{BeginsSite, IsProcess, IsSite}
 use Rattle.schedule_replay.specs.WorldDesks.{state_of}
 use Rattle.schedule_replay.specs.CodeWorlds.{IsBoardOf, IsSiteOf, IsWorld, MatchBoard, RefusesTo, StepsTo, board_game, board_innings, board_seen, board_state, code_site}
 use Rattle.schedule_replay.specs.WorldBoards.{AreFresh, BoardSteps, SameBoard}
+use Rattle.schedule_replay.proofs.TakeLemmas.{sending_grows}
 use Rattle.schedule_replay.proofs.GiveLemmas.{datagram_at, message_at, message_in, not_both}
 use Rattle.schedule_replay.proofs.SiteLemmas.{more_bytes, no_bytes}
 use Rattle.schedule_replay.proofs.WorldLemmas.{sent_length}
@@ -194,9 +195,9 @@ stays old new w s h = record {
 }
 
 -- an event that a board hasn't taken
-pub board_refuses : (n : ℕ) (old new : World) (event : Event) (why : WorldRefusal) → station_of event ≡ stations.Board n → StaysSo old new → (first_cause (no_board (length old.boards.items) n) false (length old.sent.items) event ≡ Some why) ⊎ ((first_cause (no_board (length old.boards.items) n) false (length old.sent.items) event ≡ None) × (why ≡ refuses.NoMemory)) → RefusesTo event old why new
+pub board_refuses : (n : ℕ) (old new : World) (event : Event) (why : WorldRefusal) → station_of event ≡ stations.Board n → StaysSo old new → (first_cause (no_board (length old.boards.items) n) false (length old.sent.items) event ≡ Some why) ⊎ ((first_cause (no_board (length old.boards.items) n) false (length old.sent.items) event ≡ None) × (why ≡ refuses.NoMemory) × (may_grow event ≡ true)) → RefusesTo event old why new
 board_refuses n old new event why e s (inl cause) w h = (w, inl (cause_is n old w event e h ∙ cause, refl), stays old new w s h)
-board_refuses n old new event why e s (inr (none, want)) w h = (w, inr (cause_is n old w event e h ∙ none, want, left n event e w), stays old new w s h)
+board_refuses n old new event why e s (inr (none, want, grows)) w h = (w, inr (cause_is n old w event e h ∙ none, want, grows, left n event e w), stays old new w s h)
   where
     left : (n : ℕ) (event : Event) → station_of event ≡ stations.Board n → (w : worlds.World MemDisk) → LeftByWant (match_of old.game old.innings_a_side) w event w
     left n (events.Open d) e w = absurd (cc)
@@ -210,16 +211,21 @@ board_refuses n old new event why e s (inr (none, want)) w h = (w, inr (cause_is
     left n (events.StopAt d m) e w = refl
     left n (events.Wipe m) e w = refl
 
+-- one that was refused before anything was done, for want of memory where it may send
+pub board_admits_not : (n : ℕ) (old new : World) (event : Event) (why : WorldRefusal) → station_of event ≡ stations.Board n → StaysSo old new → (first_cause (no_board (length old.boards.items) n) false (length old.sent.items) event ≡ Some why) ⊎ ((first_cause (no_board (length old.boards.items) n) false (length old.sent.items) event ≡ None) × (why ≡ refuses.NoMemory) × (may_send event ≡ true)) → RefusesTo event old why new
+board_admits_not n old new event why e s (inl cause) = board_refuses n old new event why e s (inl cause)
+board_admits_not n old new event why e s (inr (none, want, sends)) = board_refuses n old new event why e s (inr (none, want, sending_grows event sends))
+
 -- the board begins empty, or is as it was where memory is wanted
 pub wipes : (n m : ℕ) (old new : World) (k l : MatchBoard) (event : Event) (result : Result Seen WorldRefusal) → station_of event ≡ stations.Board n → IsThere n old event k → PutsBoard n old new l → event ≡ events.Wipe m → new.sent.items ≡ old.sent.items → IfOk result (λ seen. (n : ℕ) (sent : List Datagram) → BoardSteps (events.Wipe n) k sent seen l sent) → OnOk result (IsBoardOf old.game old.innings_a_side l) → IfOk result (λ seen. StepsTo event old seen new)
 wipes n m old new k l event (Ok seen) e t c q items steps owner = board_steps n old new k l event (events.Wipe m) seen old.sent.items old.sent.items e t c (λ of. owner) q refl (sym items) (steps m old.sent.items)
 wipes n m old new k l event (Err why) e t c q items steps owner = tt
 
-pub not_wiped : (n : ℕ) (old new : World) (k l : MatchBoard) (event : Event) (result : Result Seen WorldRefusal) → station_of event ≡ stations.Board n → IsThere n old event k → PutsBoard n old new l → new.sent.items ≡ old.sent.items → IfErr result (λ why. (why ≡ refuses.NoMemory) × (l ≡ k)) → IfErr result (λ why. RefusesTo event old why new)
-not_wiped n old new k l event (Ok seen) e t c items refused = tt
-not_wiped n old new k l event (Err why) e t c items (want, same) =
+pub not_wiped : (n m : ℕ) (old new : World) (k l : MatchBoard) (event : Event) (result : Result Seen WorldRefusal) → station_of event ≡ stations.Board n → IsThere n old event k → PutsBoard n old new l → event ≡ events.Wipe m → new.sent.items ≡ old.sent.items → IfErr result (λ why. (why ≡ refuses.NoMemory) × (l ≡ k)) → IfErr result (λ why. RefusesTo event old why new)
+not_wiped n m old new k l event (Ok seen) e t c q items refused = tt
+not_wiped n m old new k l event (Err why) e t c q items (want, same) =
     let boards : new.boards.items ≡ old.boards.items = c.there ∙ ap (slice_set old.boards.items (n - 1)) (same ∙ sym (get_or_from_slice_get old.boards.items (n - 1) k k t.here)) ∙ set-get_or old.boards.items (n - 1) k in
-    board_refuses n old new event why e (record { a = c.a; b = c.b; boards = boards; sent = items; same_game = c.same_game; same_innings = c.same_innings }) (inr (t.none, want))
+    board_refuses n old new event why e (record { a = c.a; b = c.b; boards = boards; sent = items; same_game = c.same_game; same_innings = c.same_innings }) (inr (t.none, want, ap may_grow q))
 
 -- a desk that was just created
 site_begins : (version : FileVersion) (name : DeskId) (game innings : ℕ) (site : Site) → BeginsSite version name game innings site → (x : worlds.Site MemDisk) × IsSite site x × BeginsAt (match_of game innings) version name x

@@ -11,22 +11,22 @@ use Rattle.schedule_replay.specs.declared.world_desk.WorldDesk.{WorldDesk}
 use Rattle.headline.specs.Worlds as worlds
 use Rattle.headline.specs.Worlds.{Process}
 use Rattle.schedule_replay.specs.Sites.{IsProcess, IsSite}
-use Rattle.schedule_replay.specs.WorldDesks.{innings_of, state_of}
+use Rattle.schedule_replay.specs.WorldDesks.{game_of, innings_of, state_of}
 use Rattle.schedule_replay.specs.CodeWorlds.{IsBoardOf, IsSiteOf, IsWorld, MatchBoard, board_state}
 use Rattle.schedule_replay.specs.Lending.{Lends, LendsDesk, lent_desk, running_of}
 
-lends_desk : (site : Site) (p : Process MemDisk) (desk : Option WorldDesk) (disk : Option MemDisk) (k : Option AnyDesk) → option_map lent_desk k ≡ desk → IsProcess site desk disk p → LendsDesk site.innings_a_side p k
+lends_desk : (site : Site) (p : Process MemDisk) (desk : Option WorldDesk) (disk : Option MemDisk) (k : Option AnyDesk) → option_map lent_desk k ≡ desk → IsProcess site desk disk p → LendsDesk site.game site.innings_a_side p k
 lends_desk site p (Some d) disk (Some k) e (own, none, is) =
     let q : lent_desk k ≡ d = cc in
     let owner = own.owner in
-    record { state = ap (λ (z : WorldDesk). Some (state_of z)) q ∙ sym (ap running_of is); of_match = ap innings_of q ∙ owner.same_innings }
+    record { state = ap (λ (z : WorldDesk). Some (state_of z)) q ∙ sym (ap running_of is); of_match = (ap game_of q ∙ owner.same_game, ap innings_of q ∙ owner.same_innings) }
 lends_desk site p (Some d) disk None e h = absurd (cc)
 lends_desk site p None disk (Some k) e h = absurd (cc)
 lends_desk site p None (Some disk) None e h = record { state = sym (ap running_of h.1.2); of_match = tt }
 lends_desk site p None None None e h = absurd h
 
-lends_site : (name : DeskId) (game innings : ℕ) (site : Site) (x : worlds.Site MemDisk) (k : Option AnyDesk) → IsSiteOf name game innings site → IsSite site x → option_map lent_desk k ≡ site.desk → LendsDesk innings x.process k
-lends_site name game innings site x k n i e = subst (λ (m : ℕ). LendsDesk m x.process k) n.same_innings (lends_desk site x.process site.desk site.disk k e i.process)
+lends_site : (name : DeskId) (game innings : ℕ) (site : Site) (x : worlds.Site MemDisk) (k : Option AnyDesk) → IsSiteOf name game innings site → IsSite site x → option_map lent_desk k ≡ site.desk → LendsDesk game innings x.process k
+lends_site name game innings site x k n i e = subst (λ (g : ℕ). LendsDesk g innings x.process k) n.same_game (subst (λ (m : ℕ). LendsDesk site.game m x.process k) n.same_innings (lends_desk site x.process site.desk site.disk k e i.process))
 
 pub lends : (world : World) (w : worlds.World MemDisk) (a b : Option AnyDesk) (boards : List MatchBoard) → option_map lent_desk a ≡ world.a.desk → option_map lent_desk b ≡ world.b.desk → boards ≡ world.boards.items → IsWorld world w → Lends world w a b boards
 lends world w a b boards p q e h = record {

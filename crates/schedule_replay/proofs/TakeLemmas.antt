@@ -1,5 +1,5 @@
 -- An event at a site is taken, or not.
-use Rattle.std.proofs.Common.{◌≡◌, ◌⊎◌, Bool, true, false, Option, Some, None, List, length, refl, sym, subst, inl, inr, Result, Ok, Err}
+use Rattle.std.proofs.Common.{◌≡◌, ◌⊎◌, Bool, true, false, Option, Some, None, List, length, refl, sym, ap, subst, inl, inr, Result, Ok, Err}
 use Rattle.std.specs.Prelude.{IfOk, OnErr}
 use Rattle.std.proofs.Math.Bool.{not}
 use Rattle.std.specs.Option.{is_none, is_some}
@@ -12,7 +12,7 @@ use Rattle.schedule_replay.specs.declared.seen.WorldRefusal.{WorldRefusal}
 use Rattle.schedule_replay.specs.declared.seen.WorldRefusal.TheVariants as refuses
 use Rattle.schedule_replay.specs.declared.site.Site.{Site}
 use Rattle.schedule_replay.specs.declared.world_desk.WorldDesk.{WorldDesk}
-use Rattle.schedule_replay.specs.Refusals.{first_cause}
+use Rattle.schedule_replay.specs.Refusals.{first_cause, may_grow, may_send}
 use Rattle.schedule_replay.specs.Sites.{SiteLeft, SiteSteps, SiteTakes, SyncsSite, site_cause}
 use Rattle.schedule_replay.proofs.OpenLemmas.{stays_so}
 
@@ -42,16 +42,29 @@ none_of None false e = absurd (cc)
 -- one that may want memory
 pub opens_so : (event : Event) (d : DeskId) (old new : Site) (sent roomy : List Datagram) (result : Result Seen WorldRefusal) (down : Bool) → event ≡ events.Open d → down ≡ is_none old.desk → first_cause false down (length sent) event ≡ None → roomy ≡ sent → IfOk result (λ seen. (z : List Datagram) → SiteSteps (events.Open old.name) old z seen new z) → OnErr result ((result ≡ Err refuses.NoMemory) × SyncsSite old new) → SiteTakes event old sent result new roomy
 opens_so event d old new sent roomy (Ok seen) down q is cause e h k = takes_still event (events.Open d) old new sent roomy seen down q is cause e h
-opens_so event d old new sent roomy (Err why) down q is cause e h k = (e, inr (cause_is event old sent down is cause, want_is (Err why) why refl k.0, subst (λ (v : Event). SiteLeft v old new) (sym q) k.1))
+opens_so event d old new sent roomy (Err why) down q is cause e h k = (e, inr (cause_is event old sent down is cause, want_is (Err why) why refl k.0, ap may_grow q, subst (λ (v : Event). SiteLeft v old new) (sym q) k.1))
+
+-- what may send may take memory
+pub sending_grows : (event : Event) → may_send event ≡ true → may_grow event ≡ true
+sending_grows (events.Open d) e = refl
+sending_grows (events.Migrate d) e = refl
+sending_grows (events.Pen d n) e = refl
+sending_grows (events.Tick t) e = refl
+sending_grows (events.Give n t) e = refl
+sending_grows (events.Wipe n) e = refl
+sending_grows (events.Kill d) e = e
+sending_grows (events.Power d choice) e = e
+sending_grows (events.FailAt d n) e = e
+sending_grows (events.StopAt d n) e = e
 
 pub migrates_so : (event : Event) (d : DeskId) (old new : Site) (sent roomy : List Datagram) (result : Result Seen WorldRefusal) (down : Bool) → event ≡ events.Migrate d → down ≡ is_none old.desk → first_cause false down (length sent) event ≡ None → roomy ≡ sent → IfOk result (λ seen. (z : List Datagram) → SiteSteps (events.Migrate old.name) old z seen new z) → OnErr result ((result ≡ Err refuses.NoMemory) × SyncsSite old new) → SiteTakes event old sent result new roomy
 migrates_so event d old new sent roomy (Ok seen) down q is cause e h k = takes_still event (events.Migrate d) old new sent roomy seen down q is cause e h
-migrates_so event d old new sent roomy (Err why) down q is cause e h k = (e, inr (cause_is event old sent down is cause, want_is (Err why) why refl k.0, subst (λ (v : Event). SiteLeft v old new) (sym q) k.1))
+migrates_so event d old new sent roomy (Err why) down q is cause e h k = (e, inr (cause_is event old sent down is cause, want_is (Err why) why refl k.0, ap may_grow q, subst (λ (v : Event). SiteLeft v old new) (sym q) k.1))
 
 -- an event that isn't
-pub refused : (event : Event) (old : Site) (sent roomy : List Datagram) (why : WorldRefusal) (down : Bool) → down ≡ is_none old.desk → roomy ≡ sent → (first_cause false down (length sent) event ≡ Some why) ⊎ ((first_cause false down (length sent) event ≡ None) × (why ≡ refuses.NoMemory)) → SiteTakes event old sent (Err why) old roomy
+pub refused : (event : Event) (old : Site) (sent roomy : List Datagram) (why : WorldRefusal) (down : Bool) → down ≡ is_none old.desk → roomy ≡ sent → (first_cause false down (length sent) event ≡ Some why) ⊎ ((first_cause false down (length sent) event ≡ None) × (why ≡ refuses.NoMemory) × (may_send event ≡ true)) → SiteTakes event old sent (Err why) old roomy
 refused event old sent roomy why down d e (inl cause) = (e, inl (subst (λ (z : Bool). first_cause false z (length sent) event ≡ Some why) d cause, refl))
-refused event old sent roomy why down d e (inr (cause, want)) = (e, inr (cause_is event old sent down d cause, want, left event))
+refused event old sent roomy why down d e (inr (cause, want, sends)) = (e, inr (cause_is event old sent down d cause, want, sending_grows event sends, left event))
   where
     left : (event : Event) → SiteLeft event old old
     left (events.Open d) = stays_so old

@@ -172,9 +172,9 @@ left d old new site (events.Wipe n) w e change l items h = (w, refl, stays d old
 -- an event that a site hasn't taken
 pub desk_refuses : (d : DeskId) (old new : World) (site : Site) (event : Event) (why : WorldRefusal) → station_of event ≡ stations.Desk d → Changes d old new site → SiteTakes event (code_site old d) old.sent.items (Err why) site new.sent.items → RefusesTo event old why new
 desk_refuses d old new site event why e c (items, inl (cause, same)) w h = (w, inl (cause_is d old w event e h ∙ cause, refl), stays d old new site w c same items h)
-desk_refuses d old new site event why e c (items, inr (none, want, l)) w h =
+desk_refuses d old new site event why e c (items, inr (none, want, grows, l)) w h =
     let k = left d old new site event w e c l items h in
-    (k.0, inr (cause_is d old w event e h ∙ none, want, k.1), k.2)
+    (k.0, inr (cause_is d old w event e h ∙ none, want, grows, k.1), k.2)
 
 pub at_desk_ok : (d : DeskId) (old new : World) (site : Site) (event : Event) (result : Result Seen WorldRefusal) → station_of event ≡ stations.Desk d → Changes d old new site → SiteTakes event (code_site old d) old.sent.items result site new.sent.items → IfOk result (λ seen. StepsTo event old seen new)
 at_desk_ok d old new site event (Ok seen) e c t = desk_steps d old new site event seen e c t

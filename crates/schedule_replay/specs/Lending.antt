@@ -9,7 +9,7 @@ use Rattle.schedule_replay.specs.declared.world_desk.WorldDesk.{WorldDesk}
 use Rattle.schedule_replay.specs.declared.world_desk.WorldDesk.TheVariants as desks
 use Rattle.headline.specs.Worlds as worlds
 use Rattle.headline.specs.Worlds.{Process, Running, Down}
-use Rattle.schedule_replay.specs.WorldDesks.{innings_of, state_of}
+use Rattle.schedule_replay.specs.WorldDesks.{game_of, innings_of, state_of}
 use Rattle.schedule_replay.specs.CodeWorlds.{IsBoardOf, IsWorld, MatchBoard, board_state}
 
 -- the desk itself
@@ -22,16 +22,16 @@ abbrev pub running_of : Process MemDisk → Option (DeskState MemDisk)
 running_of (Running k) = Some k
 running_of (Down votes disk) = None
 
--- the desk that runs is lent, and none of one that is down; its book is of the match
-pub record LendsDesk (innings : ℕ) (process : Process MemDisk) (k : Option AnyDesk) : Type 0 where
+-- the desk that runs is lent, and none of one that is down; it is of the match, and so is its book
+pub record LendsDesk (game innings : ℕ) (process : Process MemDisk) (k : Option AnyDesk) : Type 0 where
   pub state : option_map (λ d. state_of (lent_desk d)) k ≡ running_of process
-  pub of_match : IfSome k (λ d. innings_of (lent_desk d) ≡ innings)
+  pub of_match : IfSome k (λ d. (game_of (lent_desk d) ≡ game) × (innings_of (lent_desk d) ≡ innings))
 
 -- the desks that run and the boards of a world of the definitions
 pub record Lends
     (world : World) (w : worlds.World MemDisk) (a b : Option AnyDesk) (boards : List MatchBoard) : Type 0 where
-  pub desk_a : LendsDesk world.innings_a_side w.a.process a
-  pub desk_b : LendsDesk world.innings_a_side w.b.process b
+  pub desk_a : LendsDesk world.game world.innings_a_side w.a.process a
+  pub desk_b : LendsDesk world.game world.innings_a_side w.b.process b
   pub states : map board_state boards ≡ w.boards
   pub of_match : All (IsBoardOf world.game world.innings_a_side) boards
 

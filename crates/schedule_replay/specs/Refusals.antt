@@ -66,6 +66,16 @@ may_send (events.Tick t) = true
 may_send (events.Give n t) = true
 may_send _ = false
 
+-- the event may take memory: for messages, for what a desk is opened to, for a new file or for an empty board
+abbrev pub may_grow : Event → Bool
+may_grow (events.Pen d e) = true
+may_grow (events.Tick t) = true
+may_grow (events.Give n t) = true
+may_grow (events.Open d) = true
+may_grow (events.Wipe n) = true
+may_grow (events.Migrate d) = true
+may_grow _ = false
+
 abbrev pub first_row : List (WorldRefusal × Bool) → Option WorldRefusal
 first_row [] = None
 first_row ((why, true) ∷ rows) = Some why
@@ -97,9 +107,10 @@ LeftByWant s w (events.Migrate d) v = MaySyncAt s w d v
 LeftByWant s w _ v = v ≡ w
 
 -- the world doesn't take this event, and goes on so: it stays, where a cause stands against the event; where
--- none does, memory was wanted
+-- none does, memory was wanted, for an event that may take it
 abbrev pub RefusesEvent :
     {Disk Why : Type 0} → Setting Disk Why → World Disk → Event → WorldRefusal → World Disk → Type 0
 RefusesEvent s w event why v =
     ((refusal_of w event ≡ Some why) × (v ≡ w))
-    ⊎ ((refusal_of w event ≡ None) × (why ≡ NoMemory) × LeftByWant s w event v)
+    ⊎ ((refusal_of w event ≡ None) × (why ≡ NoMemory) × (may_grow event ≡ true)
+    × LeftByWant s w event v)

@@ -5,7 +5,7 @@ use Rattle.match_laws.specs.declared.standing.Standing.{Standing}
 use Rattle.corrections.specs.Legal.{IsScoreOf}
 use Rattle.corrections.specs.declared.refusal.Refusal.{Refusal}
 use Rattle.entry_log.specs.declared.mem_disk.MemDisk.{MemDisk}
-use Rattle.agree_core.specs.Agreed.{BeginsWith, IsAgreedList}
+use Rattle.agree_core.specs.Agreed.{IsAgreedList}
 use Rattle.headline.specs.declared.event.Event.{Event}
 use Rattle.headline.specs.declared.event.Station.{Station}
 use Rattle.schedule_replay.specs.declared.report.Report.{Report}

@@ -29,7 +29,7 @@ use Rattle.schedule_replay.specs.declared.world_desk.WorldDesk.{WorldDesk}
 use Rattle.schedule_replay.specs.declared.site.Site.{Site}
 use Rattle.headline.specs.Worlds as worlds
 use Rattle.headline.specs.Steps.{Answer, AtDesk}
-use Rattle.schedule_replay.specs.Refusals.{first_cause}
+use Rattle.schedule_replay.specs.Refusals.{first_cause, may_grow}
 use Rattle.headline.specs.Match.{match_of, most_bytes}
 use Rattle.schedule_replay.specs.Answers.{AreBytesOf, answer_of, is_device}
 use Rattle.schedule_replay.specs.WorldDesks.{IsOf, disk_of, state_of}
@@ -125,7 +125,8 @@ SiteTakes event old sent (Ok seen) new sent' =
 SiteTakes event old sent (Err why) new sent' =
     (sent' ≡ sent)
     × (((site_cause old sent event ≡ Some why) × (new ≡ old))
-    ⊎ ((site_cause old sent event ≡ None) × (why ≡ worlds_refuse.NoMemory) × SiteLeft event old new))
+    ⊎ ((site_cause old sent event ≡ None) × (why ≡ worlds_refuse.NoMemory) × (may_grow event ≡ true)
+    × SiteLeft event old new))
 
 -- the disk of a desk, and the number of its votes, whether it runs or is down
 abbrev pub disk_at : Option WorldDesk → Option MemDisk → Option MemDisk

@@ -71,7 +71,8 @@ pub fn admit(
     ensures room { OnOk result (may_send event.now ≡ true → vec_len sent.new + 2 ≤ vec_capacity sent.new) }
     ensures refused { IfErr result (λ why.
         (first_cause missing down (length sent.old.items) event.now ≡ Some why)
-        ⊎ ((first_cause missing down (length sent.old.items) event.now ≡ None) × (why ≡ WorldRefusal.NoMemory))) }
+        ⊎ ((first_cause missing down (length sent.old.items) event.now ≡ None) × (why ≡ WorldRefusal.NoMemory)
+        × (may_send event.now ≡ true))) }
     ensures items { sent.new.items ≡ sent.old.items }
 {
     if let Some(why) = first_cause(event, missing, down, sent.len()) {

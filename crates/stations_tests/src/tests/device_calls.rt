@@ -40,8 +40,8 @@ fn file_of_two(rt: &impl Abort, alloc: Global, n: u32) -> MemDisk
     a.into_disk()
 }
 
-// A pen makes four device calls, a create four, and an open of two votes nine: a sync, the length, the header, three
-// gates, a page, and two pages for the book.
+// A pen makes four device calls, a create three, and an open of two votes eight: a sync, the length, the header, three
+// gates, a page, and that page again for the book.
 #[test]
 fn calls_that_fail(rt: HostRuntime) {
     for n in 1..6 {
@@ -71,14 +71,14 @@ fn is_made(rt: &impl Abort, answer: Made<Version2>) -> bool {
     }
 }
 
-// The length twice, a write and a sync; and what is said above.
+// The length, a write and a sync; and what is said above.
 #[test]
 fn desks_that_are_not_made(rt: HostRuntime) {
     for n in 1..11 {
         let mut disk = empty_disk(&rt, rt.alloc(), 400);
         disk.fail_at(n);
         let answer = create::<Version2>(&rt, rt.alloc(), disk, DeskId::A);
-        assert_eq!(rt; is_made(&rt, answer), n > 4, "{n}");
+        assert_eq!(rt; is_made(&rt, answer), n > 3, "{n}");
         let mut disk = file_of_two(&rt, rt.alloc(), 5);
         disk.kill();
         disk.fail_at(n);

@@ -1,6 +1,6 @@
 use Rattle.std.proofs.Common.{refl, ap, ◌∙◌, ℕ}
 use Rattle.schedule_replay.specs.Refusals.{no_board}
-use Rattle.schedule_replay.proofs.BoardLemmas.{board_refuses, board_steps, is_there, not_wiped, same_owner, wipes}
+use Rattle.schedule_replay.proofs.BoardLemmas.{board_admits_not, board_steps, is_there, not_wiped, same_owner, wipes}
 use Rattle.schedule_replay.proofs.world.World.at_board.Goals as goal
 
 pub returns-in-Give-clause-step : goal.returns-in-Give-clause-step
@@ -35,15 +35,15 @@ pub returns-in-Wipe-clause-refused : goal.returns-in-Wipe-clause-refused
 returns-in-Wipe-clause-refused c =
     let world = c.args.self.now in
     let missing = c.no_board-missing.ensures ∙ ap (λ (m : ℕ). no_board m c.args.number) (c.len.ensures ∙ world.boards.ok.0) in
-    not_wiped c.args.number world _ c.index_mut-board.result.now c.wipe_board.new.board c.args.event.now c.wipe_board.result c.requires.here
+    not_wiped c.args.number c.in-Wipe.field-0 world _ c.index_mut-board.result.now c.wipe_board.new.board c.args.event.now c.wipe_board.result c.requires.here
     (is_there c.args.number world c.args.event.now c.index_mut-board.result.now c.no_board-missing.result missing c.in-Ok.ensures.admitted c.index_mut-board.ensures.value)
     (record { there = refl; a = refl; b = refl; same_game = refl; same_innings = refl })
-    c.in-Ok.ensures.items c.wipe_board.ensures.refused
+    c.in-Wipe.is c.in-Ok.ensures.items c.wipe_board.ensures.refused
 
 pub returns-in-Err-clause-refused : goal.returns-in-Err-clause-refused
 returns-in-Err-clause-refused c =
     let world = c.args.self.now in
     let missing = c.no_board-missing.ensures ∙ ap (λ (m : ℕ). no_board m c.args.number) (c.len.ensures ∙ world.boards.ok.0) in
-    board_refuses c.args.number world _ c.args.event.now c.in-Err.why c.requires.here
+    board_admits_not c.args.number world _ c.args.event.now c.in-Err.why c.requires.here
     (record { a = refl; b = refl; boards = refl; sent = c.in-Err.ensures.items; same_game = refl; same_innings = refl })
     (rw missing at c.in-Err.ensures.refused)

@@ -1,35 +1,27 @@
-//! Opening files of the host. Each fault names the file that was at work.
+//! Opening files, standard output and sockets. Each fault names the file or the address that was at work.
 
 ghost use Rattle.std.specs.Prelude.{◌≡◌, ◌≤◌, IfOk, vec_len};
 ghost use Rattle.host.specs.declared.limit.TheConstants.{LONGEST_INPUT};
-ghost use Rattle.ground.specs.Opening as texts;
+ghost use Rattle.laptop.specs.Opening as texts;
 
+use crate::address::{Address, MOST_PEERS};
+use crate::peers::Peers;
+use crate::stopped::{StopFault, Stopped};
 use agree_core::DeskId;
 use books::{RunFault, read_all, sheet_run};
 use cards::{MatchSheet, Watched};
 use entry_log::OldSlots;
 use host::{FileDisk, OpenFault};
-use std::fs::{File, OpenOptions};
+use std::fs::{self, File, OpenOptions};
+use std::io::{self, BufWriter, Printer};
+use std::net::SocketAddr;
 use vote_store::{Refusal, Votes};
 
 /// The most bytes that a new votes file can have: a header and 16,384 slots of 64 bytes each, and a gate.
 const LONGEST_FILE: usize = 1_048_641;
 
-/// Why a task ended, and the file that was at work, `-` where it was a standard stream.
-#[derive(Clone, Copy, Debug)]
-pub struct Stopped<'a> {
-    pub path: &'a str,
-    pub fault: RunFault,
-}
-
-impl<'a> Stopped<'a> {
-    /// A task that met this fault at this file.
-    pub fn at(path: &'a str, fault: RunFault) -> Stopped<'a>
-        ensures { result ≡ record { path = path.entry; fault = fault } }
-    {
-        Stopped { path, fault }
-    }
-}
+/// Standard output, a buffer at a time.
+pub type Output<'a> = Watched<BufWriter<Printer<'a, HostRuntime>>>;
 
 /// The fault of a run that wants to read a file of which no disk is made.
 fn fault_of_old(fault: OpenFault) -> RunFault
@@ -99,21 +91,48 @@ pub fn old_votes_at<'a>(
     }
 }
 
-/// A disk on a file that is to have votes, which is made where there is none. A file that is longer than any votes
-/// file isn't empty.
-pub fn new_disk_at<'a>(rt: &HostRuntime, path: &'a str) -> Result<FileDisk<File>, Stopped<'a>> {
-    let opened = OpenOptions::new()
+/// Syncs the folder that a file is in, so that its name isn't lost with the power.
+fn sync_folder(rt: &HostRuntime, path: &str) -> io::Result<()> {
+    let whole = fs::canonicalize(rt, path)?;
+    match whole.parent() {
+        Some(folder) => File::open(rt, folder)?.sync_all(),
+        None => Ok(()),
+    }
+}
+
+/// A votes file for this process alone, which is made where there is none. Another process that has it is let be.
+fn votes_file(rt: &HostRuntime, path: &str) -> io::Result<File> {
+    let file = OpenOptions::new()
         .read(true)
         .write(true)
         .create(true)
-        .open(rt, path);
-    let file = match opened {
-        Ok(file) => file,
-        Err(_) => return Err(Stopped::at(path, RunFault::Write)),
-    };
+        .open(rt, path)?;
+    file.try_lock()?;
+    sync_folder(rt, path)?;
+    Ok(file)
+}
+
+/// A votes file, as a task wants it.
+fn votes_file_at<'a>(rt: &HostRuntime, path: &'a str) -> Result<File, Stopped<'a>> {
+    votes_file(rt, path).map_err(|_| Stopped::at(path, RunFault::Write))
+}
+
+/// A disk on a file that is to have votes, which is made where there is none. A file that is longer than any votes
+/// file isn't empty.
+pub fn new_disk_at<'a>(rt: &HostRuntime, path: &'a str) -> Result<FileDisk<File>, Stopped<'a>> {
+    let file = votes_file_at(rt, path)?;
     FileDisk::new(rt.alloc(), file, LONGEST_FILE).map_err(|fault| Stopped::at(
         path,
         fault_of_new(fault),
+    ))
+}
+
+/// A disk on a desk's votes file, which is made where there is none.
+pub fn kept_disk_at<'a>(rt: &HostRuntime, path: &'a str) -> Result<FileDisk<File>, Stopped<'a>> {
+    let file = votes_file_at(rt, path)?;
+    FileDisk::new(rt.alloc(), file, LONGEST_FILE).map_err(|fault| Stopped::at(
+        path,
+        fault_of_old(fault),
     ))
 }
 
@@ -127,5 +146,32 @@ pub fn new_disk_in<'a>(
         Ok(path) => path,
         Err(_) => return Err(Stopped::at(folder, RunFault::NoMemory)),
     };
-    new_disk_at(rt, path.as_str()).map_err(|stopped| Stopped::at(folder, stopped.fault))
+    new_disk_at(rt, path.as_str()).map_err(|stopped| Stopped {
+        path: folder,
+        fault: stopped.fault,
+    })
+}
+
+/// Standard output, a buffer at a time.
+pub fn printer(
+    rt: &HostRuntime,
+) -> Result<BufWriter<Printer<'_, HostRuntime>>, Stopped<'static>> {
+    BufWriter::new(rt.alloc(), io::writer(rt)).map_err(|_| Stopped::at("-", RunFault::NoMemory))
+}
+
+/// Standard output, watched.
+pub fn output(rt: &HostRuntime) -> Result<Output<'_>, Stopped<'static>> {
+    Ok(Watched::new(printer(rt)?))
+}
+
+/// A station's socket at its address.
+pub fn peers_at<'a>(
+    rt: &HostRuntime,
+    at: Address<'a>,
+    peers: [Option<SocketAddr>; MOST_PEERS],
+) -> Result<Peers, Stopped<'a>> {
+    Peers::new(rt, at.socket, peers).map_err(|_| Stopped {
+        path: at.text,
+        fault: StopFault::Listen,
+    })
 }

@@ -1,0 +1,67 @@
+//! `ground board`: a scoreboard.
+
+use crate::address::{Address, MOST_PEERS};
+use crate::opening::{peers_at, printer, sheet_at};
+use crate::sign::Sign;
+use crate::stopped::Stopped;
+use crate::text_file::TextFile;
+use crate::watch::Watch;
+use board::Board;
+use books::RunFault;
+use cards::{MatchSheet, Watched, WriteFailed};
+use corrections::CheckedBook;
+use live::{Clock, Link, run_board};
+use std::io::{BufWriter, Printer, Write};
+use std::net::SocketAddr;
+
+/// What a board shows: its text at standard output, and in a file.
+type Shown<'a> = Watched<Sign<BufWriter<Printer<'a, HostRuntime>>, TextFile<'a>>>;
+
+/// Standard output and the file of a board's text, where there is one.
+fn shown<'a>(rt: &'a HostRuntime, text: Option<&'a str>) -> Result<Shown<'a>, Stopped<'a>> {
+    let file = match text {
+        Some(path) => match TextFile::new(rt, path) {
+            Ok(file) => Some(file),
+            Err(_) => return Err(Stopped::at(path, RunFault::NoMemory)),
+        },
+        None => None,
+    };
+    Ok(Watched::new(Sign::new(rt.alloc(), printer(rt)?, file)))
+}
+
+/// Shows the six lines, and then runs the board without an end.
+fn show<L: Link, C: Clock, W: Write>(
+    board: &mut Board<CheckedBook>,
+    sheet: &MatchSheet,
+    link: &mut L,
+    clock: &mut C,
+    out: &mut Watched<W>,
+) -> Result<(), WriteFailed> {
+    board.lines(sheet, out)?;
+    out.flush()?;
+    run_board(board, sheet, link, clock, out, u64::MAX)
+}
+
+/// `ground board`: keeps a board that listens at an address, and shows its six lines at the start and whenever they
+/// change.
+pub fn board_run<'a>(
+    rt: &'a HostRuntime,
+    sheet: &'a str,
+    at: Address<'a>,
+    peers: [Option<SocketAddr>; MOST_PEERS],
+    text: Option<&'a str>,
+) -> Result<bool, Stopped<'a>> {
+    let sheet = sheet_at(rt, sheet)?;
+    let mut out = shown(rt, text)?;
+    let book = match CheckedBook::new(rt.alloc(), sheet.innings()) {
+        Ok(book) => book,
+        Err(_) => return Err(Stopped::at("-", RunFault::NoMemory)),
+    };
+    let mut board = Board::new(sheet.game(), book);
+    let mut link = peers_at(rt, at, peers)?;
+    let mut clock = Watch::new(rt);
+    match show(&mut board, &sheet, &mut link, &mut clock, &mut out) {
+        Ok(()) => Ok(false),
+        Err(_) => Err(Stopped::at("-", RunFault::Write)),
+    }
+}

@@ -1,0 +1,92 @@
+//! `ground desk`: a scorer's desk.
+
+ghost use Rattle.std.specs.Prelude.{IfOk};
+ghost use Rattle.desk.specs.Desk.{IsOf};
+
+use crate::address::{Address, MOST_PEERS};
+use crate::keyboard::Keyboard;
+use crate::opening::{kept_disk_at, output, peers_at, sheet_at};
+use crate::stopped::{StopFault, Stopped};
+use crate::watch::Watch;
+use agree_core::DeskId;
+use books::RunFault;
+use cards::MatchSheet;
+use corrections::CheckedBook;
+use desk::{Desk, OpenRefusal};
+use entry_log::Slots;
+use host::FileDisk;
+use live::{DeskEnd, begin_desk, run_desk};
+use std::fs::File;
+use std::net::SocketAddr;
+
+/// A desk whose votes are in a file.
+type FileDesk = Desk<Slots<FileDisk<File>>, CheckedBook>;
+
+/// The desk whose votes are in this file, or that begins with a new one.
+fn desk_at<'a>(
+    rt: &HostRuntime,
+    sheet: &MatchSheet,
+    desk: DeskId,
+    file: &'a str,
+) -> Result<FileDesk, Stopped<'a>>
+    ensures owner { IfOk result (IsOf desk sheet.now.game sheet.now.innings) }
+{
+    let disk = kept_disk_at(rt, file)?;
+    let book = match CheckedBook::new(rt.alloc(), sheet.innings()) {
+        Ok(book) => book,
+        Err(_) => return Err(Stopped::at(file, RunFault::NoMemory)),
+    };
+    let begun = begin_desk::<Slots<FileDisk<File>>, CheckedBook>(
+        rt.alloc(),
+        disk,
+        desk,
+        sheet.game(),
+        book,
+    );
+    match begun {
+        Ok(desk) => Ok(desk),
+        Err((OpenRefusal::Votes(why), _disk)) => Err(Stopped::at(file, RunFault::from(why))),
+        Err((OpenRefusal::BadVotes { place }, _disk)) => {
+            Err(Stopped::at(file, RunFault::BadVotes { place }))
+        }
+    }
+}
+
+/// Standard input as a scorer's keyboard.
+fn keyboard(rt: &HostRuntime) -> Result<Keyboard<File>, Stopped<'static>> {
+    Keyboard::open(rt).map_err(|_| Stopped::at("-", RunFault::Read))
+}
+
+/// `ground desk`: keeps a scorer's desk with its votes in a file, listening at an address, until the scorer types
+/// `quit` or no more.
+pub fn desk_run<'a>(
+    rt: &HostRuntime,
+    sheet: &'a str,
+    desk: DeskId,
+    file: &'a str,
+    at: Address<'a>,
+    peers: [Option<SocketAddr>; MOST_PEERS],
+) -> Result<bool, Stopped<'a>> {
+    let sheet = sheet_at(rt, sheet)?;
+    let mut writer = output(rt)?;
+    let mut desk = desk_at(rt, &sheet, desk, file)?;
+    let mut link = peers_at(rt, at, peers)?;
+    let mut keys = keyboard(rt)?;
+    let mut clock = Watch::new(rt);
+    match run_desk(
+        &mut desk,
+        &sheet,
+        &mut link,
+        &mut keys,
+        &mut clock,
+        &mut writer,
+        u64::MAX,
+    ) {
+        Ok(()) | Err(DeskEnd::Quit | DeskEnd::NoMoreLines) => Ok(false),
+        Err(DeskEnd::Write) => Err(Stopped::at("-", RunFault::Write)),
+        Err(DeskEnd::Device) => Err(Stopped {
+            path: file,
+            fault: StopFault::Disk,
+        }),
+    }
+}

@@ -1,0 +1,152 @@
+//! What a board prints, when it asks, and how it catches up.
+ghost use Rattle.std.specs.Prelude.{◌≡◌, ◌≤◌, IfSome};
+
+use super::memory::Failing;
+use super::*;
+use board::Board;
+use live::{Link, Log, run_board};
+use notation::Plain;
+use wire::message_of;
+
+fn new_board(rt: &impl Abort, alloc: Global) -> Board<Book> {
+    Board::new(7, empty_book(rt, alloc))
+}
+
+const TWO: &str = "No play\nOvers -\nStriker -\nOther -\nTarget -\nResult -\n\
+    home 0 for 0\nOvers 0.0\nStriker -\nOther -\nTarget -\nResult -\n";
+
+// Two entries come in the first turn, and one in the third.
+#[test]
+fn printed_once_a_turn(rt: HostRuntime) {
+    let alloc = rt.alloc();
+    let sheet = sheet(&rt, alloc);
+    let mut link = Queue::new(alloc);
+    for (place, line, pauses) in [(0, "void", 0), (1, "void", 2), (2, "innings home", 1)] {
+        for desk in [DeskId::A, DeskId::B] {
+            link.bring(&rt, &vote(&rt, desk, place, 0, line));
+        }
+        for _ in 0..pauses {
+            link.pause(&rt);
+        }
+    }
+    let mut board = new_board(&rt, alloc);
+    let mut out = Watched::new(Vec::new(alloc));
+    let mut clock = Ticking::new();
+    let answer = run_board(&mut board, &sheet, &mut link, &mut clock, &mut out, 9);
+    assert!(rt; answer.is_ok());
+    assert_eq!(rt; out.into_inner().as_slice(), TWO.as_bytes());
+}
+
+// Nothing comes: it asks at once, then 20, 40, 80, 160 and 250 ms later, and 250 ms after that; a turn takes 2 ms here.
+#[test]
+fn asks_that_nobody_answers(rt: HostRuntime) {
+    let alloc = rt.alloc();
+    let sheet = sheet(&rt, alloc);
+    for (first, asks) in [
+        (1, 1),
+        (11, 2),
+        (31, 3),
+        (71, 4),
+        (151, 5),
+        (276, 6),
+        (401, 7),
+    ] {
+        for (turns, wanted) in [(first, asks), (first - 1, asks - 1)] {
+            let mut link = Queue::new(alloc);
+            let mut board = new_board(&rt, alloc);
+            let mut out = Watched::new(Failing { calls: 0 });
+            let mut clock = Ticking::new();
+            let answer = run_board(&mut board, &sheet, &mut link, &mut clock, &mut out, turns);
+            assert!(rt; answer.is_ok());
+            assert_eq!(rt; link.sent.len(), wanted, "{turns}");
+        }
+    }
+}
+
+/// Two desks that have agreed a thousand entries: each answers an ask with its vote.
+#[derive(Drop)]
+struct Archive {
+    asked: Option<u32>,
+    answers: u32,
+    log: Log,
+}
+
+impl Archive {
+    /// The answer of the next desk, in this buffer.
+    fn answer(&mut self, buffer: &mut [u8; 64]) -> Option<usize>
+        ensures count { IfSome result (λ count. count ≤ 64) }
+        ensures log { self.new.log ≡ self.old.log }
+    {
+        let place = self.asked?;
+        if self.answers > 1 || place >= 1000 {
+            return None;
+        }
+        let desk = if self.answers == 0 {
+            DeskId::A
+        } else {
+            DeskId::B
+        };
+        self.answers += 1;
+        let vote = Vote {
+            desk,
+            place,
+            round: 0,
+            entry: Entry::Write(Plain::Void),
+        };
+        buffer[..48].copy_from_slice(&bytes_of(7, &Message::Vote(vote)));
+        Some(48)
+    }
+}
+
+impl Link for Archive {
+    ghost use Rattle.live.specs.Logs.{passed_of};
+
+    ghost log = { λ archive. passed_of archive.log };
+
+    fn send(&mut self, bytes: &[u8; 48]) {
+        if let Ok(Message::Ask(ask)) = message_of(7, bytes) {
+            self.asked = Some(ask.place);
+            self.answers = 0;
+        }
+        self.log = self.log.sent(bytes);
+    }
+
+    fn take(&mut self, buffer: &mut [u8; 64]) -> Option<usize> {
+        let count = self.answer(buffer)?;
+        self.log = self.log.came(buffer, count);
+        Some(count)
+    }
+}
+
+#[test]
+fn a_thousand_entries(rt: HostRuntime) {
+    let alloc = rt.alloc();
+    let sheet = sheet(&rt, alloc);
+    let mut link = Archive {
+        asked: None,
+        answers: 0,
+        log: Log::Empty,
+    };
+    let mut board = new_board(&rt, alloc);
+    let mut out = Watched::new(Vec::new(alloc));
+    let mut clock = Ticking::new();
+    let answer = run_board(&mut board, &sheet, &mut link, &mut clock, &mut out, 502);
+    assert!(rt; answer.is_ok());
+    assert_eq!(rt; board.book().len(), 1000);
+}
+
+#[test]
+fn a_writer_of_a_board_that_fails(rt: HostRuntime) {
+    let alloc = rt.alloc();
+    let sheet = sheet(&rt, alloc);
+    for calls in 0..3 {
+        let mut link = Queue::new(alloc);
+        link.bring(&rt, &vote(&rt, DeskId::A, 0, 0, "void"));
+        link.bring(&rt, &vote(&rt, DeskId::B, 0, 0, "void"));
+        let mut board = new_board(&rt, alloc);
+        let mut out = Watched::new(Failing { calls });
+        let mut clock = Ticking::new();
+        let answer = run_board(&mut board, &sheet, &mut link, &mut clock, &mut out, 9);
+        assert!(rt; answer.is_err());
+    }
+}

@@ -1,0 +1,150 @@
+//! What a desk's scorer is told.
+use super::*;
+
+const OPENED: &str = "home 0 for 0\nOvers 0.0\nStriker -\nOther -\nTarget -\nResult -\n";
+
+const FIRST_IN: &str = "home 0 for 0\nOvers 0.0\nStriker 1 0 (0)\nOther -\nTarget -\nResult -\n";
+
+/// 130 letters, of which a keyboard gives 128.
+const LONG: &str =
+    "aaaaaaaaaaaaaaaaaaaaaaaaaaaaaaaaaaaaaaaaaaaaaaaaaaaaaaaaaaaaaaaaaaaaaaaaaaaaaaaaaaaaaaaaaaaaaaaaaaaaaaaaaaaaaaaaaaaaaaaaaaaaaaaaaa";
+
+const HELP: &str = "\
+innings S       S: home away
+in n            n: 1 to 11
+ball b K r [short s] [B] [dead] [out H W f [crossed]]
+  K: bat bye leg wide nb nbbye nbleg    B: four six overthrow
+  H: bowled caught lbw stumped hitwicket hittwice obstructing runout
+  W: striker other    f: 0 none, 12 a substitute
+gone L n        L: timedout retiredout retiredhurt runout
+over
+penalty S x y   by Law x.y
+swap
+end C           C: allout nobatter declared forfeited overs
+close
+void
+fix p E         place p is to read E, any line above
+late p E        E, any line above, belongs after place p
+again E         E, where you two differ
+list            the last twelve entries, with their places
+help            this
+quit            ends; the same command goes on
+";
+
+const BOTH_IN: &str =
+    "home 0 for 0\nOvers 0.0\nStriker 1 0 (0)\nOther 2 0 (0)\nTarget -\nResult -\n";
+
+/// What a new desk A tells over these lines, one a turn, each followed by the datagrams up to the next mark.
+fn is_told(
+    rt: &impl Abort,
+    alloc: Global,
+    lines: &[&'static str],
+    link: &mut Queue,
+    texts: &[&str],
+) {
+    let mut desk = new_desk(rt, alloc, DeskId::A);
+    let mut typed = Lines::new(alloc);
+    for line in lines {
+        typed.type_line(rt, *line);
+    }
+    let (answer, told) = told(rt, alloc, &mut desk, &mut typed, link, 100);
+    assert_eq!(rt; answer, Err(DeskEnd::Quit));
+    let mut left = told.as_slice();
+    for text in texts {
+        match left.strip_prefix(text.as_bytes()) {
+            Some(rest) => left = rest,
+            None => panic!(rt; "not told: {text}"),
+        }
+    }
+    assert!(rt; left.is_empty());
+}
+
+#[test]
+fn lines_and_rounds(rt: HostRuntime) {
+    let alloc = rt.alloc();
+    let mut link = Queue::new(alloc);
+    for (place, round, line, pauses) in [
+        (0, 0, "innings home", 1),
+        (1, 0, "in 2", 5),
+        (1, 1, "in 1", 1),
+        (2, 0, "in 2", 2),
+        (3, 0, "ball 7 bat 2", 1),
+    ] {
+        link.bring(&rt, &vote(&rt, DeskId::B, place, round, line));
+        for _ in 0..pauses {
+            link.pause(&rt);
+        }
+    }
+    let lines = [
+        "innings home",
+        "",
+        "again in 1",
+        "in 1",
+        "in 1",
+        "again in 1",
+        "again in 1",
+        "",
+        "in 2",
+        "ball 7 bat 1",
+        "ball 7 bat 1",
+        LONG,
+        "bogus",
+        "again ball 12 bat 1",
+        "again fix 0 void",
+        "again over",
+        "list",
+        "help",
+        "quit",
+    ];
+    let texts = [
+        NO_PLAY,
+        "0 next\n0 pending\n0 agreed\n",
+        OPENED,
+        "1 the other has written\n1 doesn't differ: leave out again\n1 differs\n",
+        "1 differs: begin the line with again\n1 pending\nrefused 61 Waiting\n1 agreed\n",
+        FIRST_IN,
+        "2 the other has written\n2 agreed\n",
+        BOTH_IN,
+        "3 pending\n3 differs\n3 differs: begin the line with again\n",
+        "3 differs: begin the line with again\n3 differs: begin the line with again\n",
+        "fault 3 BadNumber\nrefused 32 Later 1 20\nrefused 10 NoBall\n",
+        "   0 innings home\n   1 in 1\n   2 in 2\n",
+        HELP,
+    ];
+    is_told(&rt, alloc, &lines, &mut link, &texts);
+}
+
+/// The same vote in another match.
+const ELSEWHERE: [u8; 48] = [
+    0x43, 0x42, 2, 1, 0, 0, 0, 0, 0, 0, 0, 8, 2, 0, 0, 0, 0, 0, 0, 0, 0, 0, 0, 0, 0, 0, 0, 0, 0, 0,
+    0, 0, 0, 0, 0, 0, 0, 0, 0, 0, 0, 0, 0, 0, 0, 0, 0, 0,
+];
+
+#[test]
+fn what_cannot_be_right(rt: HostRuntime) {
+    let alloc = rt.alloc();
+    let mut link = Queue::new(alloc);
+    let own = vote(&rt, DeskId::A, 0, 0, "void");
+    let theirs = vote(&rt, DeskId::B, 0, 0, "void");
+    let second = vote(&rt, DeskId::B, 0, 0, "innings home");
+    for bytes in [[0; 64].as_slice(), &own[..47], ELSEWHERE.as_slice()] {
+        link.bring(&rt, bytes);
+    }
+    for bytes in [theirs, ELSEWHERE, own, second, ask(Asker::Board), own] {
+        link.bring(&rt, &bytes);
+    }
+    for bytes in [own, ask(Asker::A), own, second, theirs, second, ELSEWHERE] {
+        link.bring(&rt, &bytes);
+    }
+    let mut long = [0; 49];
+    long[..48].copy_from_slice(&theirs);
+    link.bring(&rt, &theirs);
+    link.bring(&rt, &long);
+    let lines = ["", "", "", "bogus", "quit"];
+    let texts = [
+        NO_PLAY,
+        "0 next\npeer: 50 Length\n0 the other has written\npeer: 54 OtherMatch\n",
+        "peer: the same desk\npeer: two votes\npeer: 50 Length\nfault 2 UnknownWord\n",
+    ];
+    is_told(&rt, alloc, &lines, &mut link, &texts);
+}

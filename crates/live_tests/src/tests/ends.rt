@@ -1,0 +1,87 @@
+//! How a desk's process ends, and what it leaves.
+use super::memory::Failing;
+use super::*;
+
+/// A new desk A whose scorer types one line, with nothing to take.
+fn one_line(
+    rt: &impl Abort,
+    alloc: Global,
+    desk: &mut Station,
+    turns: u64,
+) -> (Result<(), DeskEnd>, Vec<u8>) {
+    let mut lines = Lines::new(alloc);
+    lines.type_line(rt, "void");
+    let mut link = Queue::new(alloc);
+    told(rt, alloc, desk, &mut lines, &mut link, turns)
+}
+
+fn is_text(rt: &impl Abort, told: &[u8], last: &str) {
+    match told.strip_prefix(NO_PLAY.as_bytes()) {
+        Some(rest) => assert_eq!(rt; rest, last.as_bytes()),
+        None => panic!(rt; "no score"),
+    }
+}
+
+#[test]
+fn turns_and_lines_that_end(rt: HostRuntime) {
+    let alloc = rt.alloc();
+    for (turns, end) in [(1, Ok(())), (2, Err(DeskEnd::NoMoreLines))] {
+        let mut desk = new_desk(&rt, alloc, DeskId::A);
+        let (answer, told) = one_line(&rt, alloc, &mut desk, turns);
+        assert_eq!(rt; answer, end);
+        is_text(&rt, told.as_slice(), "0 next\n0 pending\n");
+    }
+}
+
+// A pen makes four device calls. After a failed one the vote is in the file or not.
+#[test]
+fn a_disk_that_fails(rt: HostRuntime) {
+    let alloc = rt.alloc();
+    for n in 1..5 {
+        for stops in [false, true] {
+            let mut desk = new_desk(&rt, alloc, DeskId::A);
+            if stops {
+                desk.stop_at(n);
+            } else {
+                desk.fail_at(n);
+            }
+            let (answer, told) = one_line(&rt, alloc, &mut desk, 9);
+            assert_eq!(rt; answer, Err(DeskEnd::Device));
+            is_text(&rt, told.as_slice(), "0 next\n");
+            let mut disk = desk.into_disk();
+            disk.kill();
+            let mut again = begun(&rt, begin(&rt, alloc, disk, DeskId::A));
+            let (answer, told) = one_line(&rt, alloc, &mut again, 9);
+            assert_eq!(rt; answer, Err(DeskEnd::NoMoreLines));
+            if n < 4 {
+                is_text(&rt, told.as_slice(), "0 next\n0 pending\n");
+            } else {
+                is_text(&rt, told.as_slice(), "0 pending\nrefused 61 Waiting\n");
+            }
+        }
+    }
+}
+
+#[test]
+fn a_writer_that_fails(rt: HostRuntime) {
+    let alloc = rt.alloc();
+    let sheet = sheet(&rt, alloc);
+    let mut ended = 0;
+    for calls in 0..60 {
+        let mut desk = new_desk(&rt, alloc, DeskId::A);
+        let mut lines = Lines::new(alloc);
+        lines.type_line(&rt, "void");
+        let mut link = Queue::new(alloc);
+        let mut out = Watched::new(Failing { calls });
+        let mut clock = Ticking::new();
+        let answer = run_desk(
+            &mut desk, &sheet, &mut link, &mut lines, &mut clock, &mut out, 9,
+        );
+        match answer {
+            Err(DeskEnd::Write) => assert!(rt; out.has_failed() && ended == 0),
+            Err(DeskEnd::NoMoreLines) => ended += 1,
+            _ => panic!(rt; "another end"),
+        }
+    }
+    assert!(rt; ended > 1);
+}

@@ -1,0 +1,180 @@
+//! Links, keyboards, clocks and writers in memory.
+ghost use Rattle.std.specs.Prelude.{◌≡◌, ◌≤◌, IfSome};
+
+use super::*;
+use live::{Clock, InputLog, Keys, Link, Log, Typed};
+use std::io::{self, Error, ErrorKind, Write};
+
+/// A clock of which each reading is a millisecond later. A turn in which nothing comes reads it twice.
+#[derive(Drop)]
+pub struct Ticking {
+    now: u64,
+}
+
+impl Ticking {
+    pub fn new() -> Ticking {
+        Ticking { now: 0 }
+    }
+}
+
+impl Clock for Ticking {
+    fn millis(&mut self) -> u64 {
+        self.now = self.now.saturating_add(1);
+        self.now
+    }
+}
+
+/// A datagram, or a mark where none comes in time.
+#[derive(Clone, Copy)]
+pub struct Item {
+    bytes: [u8; 64],
+    count: Option<usize>,
+}
+
+/// What was sent, and what is still to come.
+#[derive(Drop)]
+pub struct Queue {
+    pub sent: Vec<[u8; 48]>,
+    items: Vec<Item>,
+    taken: usize,
+    log: Log,
+}
+
+impl Queue {
+    pub fn new(alloc: Global) -> Queue {
+        Queue {
+            sent: Vec::new(alloc),
+            items: Vec::new(alloc),
+            taken: 0,
+            log: Log::Empty,
+        }
+    }
+
+    /// A datagram is to come; of a longer one the first 64 bytes.
+    pub fn bring(&mut self, rt: &impl Abort, datagram: &[u8]) {
+        let mut bytes = [0; 64];
+        let count = datagram.len().min(64);
+        bytes[..count].copy_from_slice(&datagram[..count]);
+        let count = Some(count);
+        self.items.push(Item { bytes, count }).expect(rt, "room");
+    }
+
+    /// None comes in time.
+    pub fn pause(&mut self, rt: &impl Abort) {
+        let bytes = [0; 64];
+        let count = None;
+        self.items.push(Item { bytes, count }).expect(rt, "room");
+    }
+
+    fn next(&mut self) -> Option<Item> {
+        let item = *self.items.get(self.taken)?;
+        self.taken += 1;
+        Some(item)
+    }
+
+    /// The datagram that comes next, in this buffer.
+    fn fill(&mut self, buffer: &mut [u8; 64]) -> Option<usize>
+        ensures count { IfSome result (λ count. count ≤ 64) }
+        ensures log { self.new.log ≡ self.old.log }
+    {
+        let item = self.next()?;
+        let count = item.count?;
+        buffer.copy_from_slice(&item.bytes);
+        Some(count.min(64))
+    }
+}
+
+impl Link for Queue {
+    ghost use Rattle.live.specs.Logs.{passed_of};
+
+    ghost log = { λ queue. passed_of queue.log };
+
+    fn send(&mut self, bytes: &[u8; 48]) {
+        let _ = self.sent.push(*bytes);
+        self.log = self.log.sent(bytes);
+    }
+
+    fn take(&mut self, buffer: &mut [u8; 64]) -> Option<usize> {
+        let count = self.fill(buffer)?;
+        self.log = self.log.came(buffer, count);
+        Some(count)
+    }
+}
+
+/// A line for each turn, or none where it is empty, and then the end.
+#[derive(Drop)]
+pub struct Lines {
+    lines: Vec<&'static str>,
+    taken: usize,
+    log: InputLog,
+}
+
+impl Lines {
+    pub fn new(alloc: Global) -> Lines {
+        Lines {
+            lines: Vec::new(alloc),
+            taken: 0,
+            log: InputLog::Empty,
+        }
+    }
+
+    pub fn type_line(&mut self, rt: &impl Abort, line: &'static str) {
+        self.lines.push(line).expect(rt, "room");
+    }
+
+    fn next(&mut self) -> Option<&'static str>
+        ensures { self.new.log ≡ self.old.log }
+    {
+        let line = *self.lines.get(self.taken)?;
+        self.taken += 1;
+        Some(line)
+    }
+}
+
+impl Keys for Lines {
+    ghost use Rattle.live.specs.Logs.{inputs_of};
+
+    ghost inputs = { λ lines. inputs_of lines.log };
+
+    fn line(&mut self, buffer: &mut [u8; 128]) -> Typed {
+        let line = match self.next() {
+            Some("") => return Typed::Nothing,
+            Some(line) => line.as_bytes(),
+            None => {
+                self.log = self.log.end();
+                return Typed::Ended;
+            }
+        };
+        let count = line.len().min(128);
+        buffer[..count].copy_from_slice(&line[..count]);
+        self.log = self.log.line(buffer, count);
+        Typed::Line(count)
+    }
+}
+
+/// Takes this many writes and flushes, and fails the next.
+#[derive(Drop)]
+pub struct Failing {
+    pub calls: usize,
+}
+
+impl Failing {
+    fn call(&mut self) -> io::Result<()> {
+        if self.calls == 0 {
+            return Err(Error::from(ErrorKind::Other));
+        }
+        self.calls -= 1;
+        Ok(())
+    }
+}
+
+impl Write for Failing {
+    fn write(&mut self, buffer: &[u8]) -> io::Result<usize> {
+        self.call()?;
+        Ok(buffer.len())
+    }
+
+    fn flush(&mut self) -> io::Result<()> {
+        self.call()
+    }
+}
