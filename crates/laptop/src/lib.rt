@@ -3,24 +3,24 @@
 #![tactic(auto)]
 
 mod address;
-mod board_run;
-mod desk_run;
 mod keyboard;
 mod opening;
 mod peers;
+mod scoreboard;
+mod scorer;
 mod sign;
 mod stopped;
 mod text_file;
 mod watch;
 
 pub use address::{Address, MOST_PEERS, address_in, peers_in};
-pub use board_run::board_run;
-pub use desk_run::desk_run;
 pub use keyboard::Keyboard;
 pub use opening::{
     Output, bytes_at, new_disk_at, new_disk_in, old_votes_at, open_input, output, sheet_at,
 };
 pub use peers::Peers;
+pub use scoreboard::board_run;
+pub use scorer::desk_run;
 pub use sign::Sign;
 pub use stopped::{StopFault, Stopped, print_stopped};
 pub use text_file::{Replaces, TextFile};
