@@ -171,7 +171,10 @@ board_steps n old new k l event same seen before after e t c owner q b a steps w
     let there : board_at w.boards (suc (n - 1)) ≡ Some (board_state k) = ap (λ (bs : List BoardState). slice_get bs (n - 1)) h.board_states ∙ slice_get-map board_state old.boards.items (n - 1) ∙ ap (option_map board_state) t.here in
     let step : StepAt (match_of old.game old.innings_a_side) w event (station_of event) given.1 world =
     subst (λ (u : Station). StepAt (match_of old.game old.innings_a_side) w event u given.1 world) (sym (e ∙ ap stations.Board t.number)) (board_state k, board_state l, given.0, there, given.3, refl) in
-    (cause_is n old w event e h ∙ t.none, (given.1, world, given.2, step, put n old new l w given.0 c (owner of) h (subst (λ (z : List Datagram). AreBytesOf old.game z (w.sent ++ given.0)) a given.4)))
+    (cause_is n old w event e h ∙ t.none, (given.1, world, given.2, step, put n old new l w given.0 c (owner of) h (subst (λ (z : List Datagram). AreBytesOf old.game z (w.sent ++ given.0)) a given.4), λ d f. absurd (not_desk n d (sym e ∙ f))))
+  where
+    not_desk : (n : ℕ) (d : DeskId) → stations.Board n ≡ stations.Desk d → ⊥
+    not_desk n d q = absurd (cc)
 
 pub same_owner : (game innings : ℕ) (k l : MatchBoard) → SameBoard k l → IsBoardOf game innings k → IsBoardOf game innings l
 same_owner game innings k l s of = record { same_game = s.same_game ∙ of.same_game; same_innings = s.same_innings ∙ of.same_innings }

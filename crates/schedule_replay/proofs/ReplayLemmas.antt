@@ -85,7 +85,7 @@ event_at (x ∷ xs) (suc n) d h = event_at xs n d (omega (arith, h))
 
 module _ (game innings : ℕ) (version : FileVersion) (boards : ℕ) (events : List Event) where
   pub begins_at : (world : World) → BeginsWorld game innings version boards world → (w : worlds.World MemDisk) × IsAt game innings version boards events 0 world [] w []
-  begins_at world h = let start = h.2 in (start.0, record { run = record { begins = start.2; run = tt; over = refl; answered = refl }; is_world = start.1; same_game = h.0; same_innings = h.1 })
+  begins_at world h = let start = h.2 in (start.0, record { run = record { begins = start.2; run = tt; over = refl; answered = refl; planned = tt }; is_world = start.1; same_game = h.0; same_innings = h.1 })
 
   -- what is noted of a world that shows the last one of a run has one score
   notable_at : (number : ℕ) (world : World) (outcomes : List Seen) (seen : List Shown) (w : worlds.World MemDisk) (ms : MatchRun) → boards ≤ 4 → IsAt game innings version boards events number world outcomes w ms → ((t : Station) (n : ℕ) (score : Standing) → Contains seen (t, n, score) → AtSomeMoment w ms (λ v. ShowsScore innings v t n score)) → ((t : Station) (n : ℕ) (score : Standing) → ShowsScore innings (last_of w ms) t n score → AtSomeMoment w ms (λ v. ShowsScore innings v t n score)) → (v : worlds.World MemDisk) × IsNotable world seen v
@@ -170,7 +170,7 @@ module _ (game innings : ℕ) (version : FileVersion) (boards : ℕ) (events : L
       let answered : map answer_of (outcomes ++ seen ∷ []) ≡ map Some (answers_of ms ++ s.0 ∷ []) =
       map-append answer_of outcomes (seen ∷ []) ∙ (λ i. run.answered i ++ s.2 i ∷ []) ∙ sym (map-append Some (answers_of ms) (s.0 ∷ [])) in (
         m,
-        record { run = record { begins = run.begins; run = (run.run, step); over = over; answered = answered }; is_world = s.4; same_game = same.same_game ∙ at.same_game; same_innings = same.same_innings ∙ at.same_innings },
+        record { run = record { begins = run.begins; run = (run.run, step); over = over; answered = answered; planned = (run.planned, s.5) }; is_world = s.4; same_game = same.same_game ∙ at.same_game; same_innings = same.same_innings ∙ at.same_innings },
       )
 
   pub goes_on : (number : ℕ) (event : Event) (world new : World) (outcomes : List Seen) (seen : Seen) (shown : List Shown) → number < length events → event ≡ slice_index_or events number event → IsAfter game innings version boards events number world outcomes shown → StepsTo event world seen new → SameMatch world new → IsNext game innings version boards events (number + 1) new (outcomes ++ seen ∷ []) shown
@@ -234,7 +234,7 @@ module _ (game innings : ℕ) (version : FileVersion) (boards : ℕ) (events : L
         w,
         ms,
         record {
-          run = record { begins = run.begins; run = run.run; over = run.over ∙ all; answered = run.answered };
+          run = record { begins = run.begins; run = run.run; over = run.over ∙ all; answered = run.answered; planned = run.planned };
           holds = holds;
           agreed = agreed;
           seen = p.3;

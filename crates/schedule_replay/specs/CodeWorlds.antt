@@ -25,6 +25,7 @@ use Rattle.headline.specs.Runs.{Begins}
 use Rattle.schedule_replay.specs.Refusals.{RefusesEvent, refusal_of}
 use Rattle.headline.specs.Match.{match_of}
 use Rattle.schedule_replay.specs.Answers.{AreBytesOf, answer_of, given_seen}
+use Rattle.schedule_replay.specs.Plans.{PlansFault}
 use Rattle.schedule_replay.specs.Sites.{IsSite}
 
 abbrev pub code_site : World → DeskId → Site
@@ -79,13 +80,15 @@ BeginsWorld game innings version boards world =
     (world.game ≡ game) × (world.innings_a_side ≡ innings)
     × ((w : worlds.World MemDisk) × IsWorld world w × Begins (match_of game innings) version boards w)
 
--- the event is taken: it is a step of the definitions, and this is what is seen of its answer
+-- the event is taken: it is a step of the definitions, this is what is seen of its answer, and a fault that it asks
+-- for is planned
 abbrev pub StepsTo : Event → World → Seen → World → Type 0
 StepsTo event old seen new =
     (w : worlds.World MemDisk) → IsWorld old w
     → (refusal_of w event ≡ None)
     × ((answer : Answer Refusal) × (after : worlds.World MemDisk) × (answer_of seen ≡ Some answer)
-    × Step (match_of old.game old.innings_a_side) w event answer after × IsWorld new after)
+    × Step (match_of old.game old.innings_a_side) w event answer after × IsWorld new after
+    × PlansFault event after)
 
 -- the event isn't taken
 abbrev pub RefusesTo : Event → World → WorldRefusal → World → Type 0

@@ -1,6 +1,7 @@
--- What is claimed: Replays, over the runs of `headline`; Refusals, Answers, CodeWorlds, WorldDesks and Lending;
+-- What is claimed: Replays, over the runs of `headline`; Plans, Refusals, Answers, CodeWorlds, WorldDesks and Lending;
 -- SeenWords, of words. Sites, WorldBoards, ShownScores and VotesFiles serve private functions only.
 pub mod Refusals
+pub mod Plans
 pub mod Answers
 pub mod WorldDesks
 pub mod Sites

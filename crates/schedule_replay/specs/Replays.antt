@@ -16,9 +16,10 @@ use Rattle.headline.specs.declared.version.FileVersion.{FileVersion}
 use Rattle.headline.specs.Laws.{HoldsInRun}
 use Rattle.headline.specs.Worlds.{World, votes_in}
 use Rattle.headline.specs.Runs.{AtSomeMoment, Begins, Moment, Run, answers_of, events_of, last_of}
-use Rattle.headline.specs.Headline.{ShowsScore}
+use Rattle.headline.specs.Headline.{AtEachEvent, ShowsScore}
 use Rattle.schedule_replay.specs.Refusals.{RefusesEvent}
 use Rattle.headline.specs.Match.{match_of}
+use Rattle.schedule_replay.specs.Plans.{PlansFault}
 use Rattle.schedule_replay.specs.Answers.{answer_of}
 
 -- a run of a match on disks in memory
@@ -32,7 +33,7 @@ AreSeen innings w ms seen =
     (t : Station) (n : ℕ) (score : Standing)
     → Contains seen (t, n, score) ↔ AtSomeMoment w ms (λ v. ShowsScore innings v t n score)
 
--- a run of the match over these events, whose answers are seen so
+-- a run of the match over these events, whose answers are seen so, and in which each fault is planned that is asked for
 pub record IsRunOf
     (game innings : ℕ) (version : FileVersion) (boards : ℕ) (events : List Event) (outcomes : List Seen)
     (w : World MemDisk) (ms : MatchRun) : Type 0 where
@@ -40,6 +41,7 @@ pub record IsRunOf
   pub run : Run (match_of game innings) w ms
   pub over : events_of ms ≡ events
   pub answered : map answer_of outcomes ≡ map Some (answers_of ms)
+  pub planned : AtEachEvent w ms (λ v m. PlansFault m.event m.after)
 
 -- event k, counted from 1, isn't taken after such a run over those before it
 abbrev pub RefusedAt :
