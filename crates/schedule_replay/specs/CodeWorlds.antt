@@ -1,5 +1,5 @@
 -- A world as the definitions of a run see it.
-use Rattle.std.specs.Prelude.{◌≡◌, ℕ, map, All, Some, None, Result, Ok, Err}
+use Rattle.std.specs.Prelude.{◌≡◌, ℕ, length, map, All, Some, None, Result, Ok, Err}
 use Rattle.corrections.specs.Book.{Contents}
 use Rattle.corrections.specs.declared.checked_book.CheckedBook.{CheckedBook}
 use Rattle.corrections.specs.contracts.checked_book.CheckedBookBookOf.TheImpl as book_impl
@@ -74,11 +74,27 @@ pub record SameMatch (old new : World) : Type 0 where
   pub same_game : new.game ≡ old.game
   pub same_innings : new.innings_a_side ≡ old.innings_a_side
 
--- at the start of a match
-abbrev pub BeginsWorld : ℕ → ℕ → FileVersion → ℕ → World → Type 0
-BeginsWorld game innings version boards world =
-    (world.game ≡ game) × (world.innings_a_side ≡ innings)
-    × ((w : worlds.World MemDisk) × IsWorld world w × Begins (match_of game innings) version boards w)
+-- the version of desk A's file, which at the start of a match is that of both desks' files
+abbrev pub version_of : World → FileVersion
+version_of world = world.a.version
+
+-- how many boards it has
+abbrev pub boards_of : World → ℕ
+boards_of world = length world.boards.items
+
+-- it is at the start of its match
+abbrev pub IsNew : World → Type 0
+IsNew world =
+    (w : worlds.World MemDisk) × IsWorld world w
+    × Begins (match_of world.game world.innings_a_side) (version_of world) (boards_of world) w
+
+-- it is at the start of this match, with files of this version and so many boards
+pub record BeginsWorld (game innings : ℕ) (version : FileVersion) (boards : ℕ) (world : World) : Type 0 where
+  pub is_new : IsNew world
+  pub same_game : world.game ≡ game
+  pub same_innings : world.innings_a_side ≡ innings
+  pub same_version : version_of world ≡ version
+  pub same_boards : boards_of world ≡ boards
 
 -- the event is taken: it is a step of the definitions, this is what is seen of its answer, and a fault that it asks
 -- for is planned

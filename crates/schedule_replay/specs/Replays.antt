@@ -53,10 +53,17 @@ RefusedAt game innings version boards events k why =
     × (k ≡ before + 1)
     × (slice_get events before ≡ Some event) × RefusesEvent (match_of game innings) (last_of w ms) event why v
 
--- why a replay ends before its last event; without an event only for want of memory
+-- all the events are taken
+abbrev pub TakesEach : ℕ → ℕ → FileVersion → ℕ → List Event → Type 0
+TakesEach game innings version boards events =
+    (outcomes : List Seen) × (w : World MemDisk) × (ms : MatchRun)
+    × IsRunOf game innings version boards events outcomes w ms × HoldsInRun (match_of game innings) innings w ms
+
+-- why a replay has no report: an event isn't taken; or all are, and memory was wanted for the report alone
 abbrev pub EndsAt : ℕ → ℕ → FileVersion → ℕ → List Event → ℕ × WorldRefusal → Type 0
 EndsAt game innings version boards events end =
-    ((end.0 ≡ 0) × (end.1 ≡ NoMemory)) ⊎ RefusedAt game innings version boards events end.0 end.1
+    ((end.0 ≡ 0) × (end.1 ≡ NoMemory) × TakesEach game innings version boards events)
+    ⊎ RefusedAt game innings version boards events end.0 end.1
 
 -- each score that was shown is the Laws' score of its book: of so many first entries of the agreed list
 abbrev pub AreScores : ℕ → List Entry → List (Station × ℕ × Standing) → Type 0
