@@ -31,8 +31,6 @@ pub fn read_all<R: Read>(alloc: Global, reader: &mut Watched<R>) -> Result<Vec<u
         if count > LONGEST_INPUT - input.len() {
             return Err(RunFault::Read);
         }
-        if input.extend_from_slice(&chunk[..count]).is_err() {
-            return Err(RunFault::NoMemory);
-        }
+        input.extend_from_slice(&chunk[..count])?;
     }
 }
