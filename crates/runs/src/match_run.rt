@@ -1,9 +1,9 @@
 //! `ground match`: two desks and a board agree the lines of a book.
 
-ghost use Rattle.std.specs.Prelude.{◌≡◌, ◌≢◌, ◌≤◌, ◌<◌, ◌⊎◌, [], true, length, Err, IfErr, IfOk, OnOk};
+ghost use Rattle.std.specs.Prelude.{◌≡◌, ◌≢◌, ◌≤◌, ◌<◌, ◌⊎◌, [], length, Err, IfErr, IfOk, OnOk};
 ghost use Rattle.corrections.specs.CleanList.{history_of};
 ghost use Rattle.cards.specs.Board.{board as board_text};
-ghost use Rattle.cards.specs.Watched.{Prints, has_failed};
+ghost use Rattle.cards.specs.Watched.{IsHandedOn, MeetsFailure, Prints};
 ghost use Rattle.desk.specs.Desk.{game_of};
 ghost use Rattle.board.specs.Board.{book_of};
 ghost use Rattle.vote_store.specs.Refusal.{not_empty};
@@ -99,7 +99,8 @@ fn play<S: SlotsOf, L: Link, W: Write>(
         (history_of (book_of stations.new.board).entries))) }
     ensures why { IfErr result (WhyNoMatch (innings_at stations.old.a) input.now [] []) }
     ensures calm { AreCalm stations.old.a stations.old.b → result ≢ Err RunFault.Device }
-    ensures write { result ≡ Err RunFault.Write → has_failed writer.new ≡ true }
+    ensures handed_on { OnOk result (IsHandedOn writer.new) }
+    ensures write { result ≡ Err RunFault.Write → MeetsFailure writer.old writer.new }
     ensures unwritten { IfErr result (λ fault. fault ≢ RunFault.Write → writer.new ≡ writer.old) }
 {
     take_lines(stations, input)?;
@@ -137,7 +138,8 @@ pub fn run_match<D: Disk + Drop, L: Link + Drop, W: Write>(
     // Where no fault is due at either disk, and both have room, none is met.
     ensures calm { IsQuiet D.faults D.cap a → IsQuiet D.faults D.cap b →
         answer_of result ≢ Err RunFault.Device }
-    ensures write { answer_of result ≡ Err RunFault.Write → has_failed writer.new ≡ true }
+    ensures handed_on { OnOk result (IsHandedOn writer.new) }
+    ensures write { answer_of result ≡ Err RunFault.Write → MeetsFailure writer.old writer.new }
     // With any other fault nothing was written.
     ensures unwritten { IfErr (answer_of result) (λ fault.
         fault ≢ RunFault.Write → writer.new ≡ writer.old) }

@@ -1,13 +1,13 @@
 //! Two desks and a board that take turns.
 
-ghost use Rattle.std.specs.Prelude.{◌≤◌, ◌<◌, ◌≡◌, ◌≢◌, ◌⊎◌, [], length, true, Err, IfErr, IfOk, IsOk, OnErr, OnOk};
+ghost use Rattle.std.specs.Prelude.{◌≤◌, ◌<◌, ◌≡◌, ◌≢◌, ◌⊎◌, [], length, true, Err, IfErr, IfOk, IsOk, OnOk};
 ghost use Rattle.notation.specs.Written.{IsEntry};
 ghost use Rattle.corrections.specs.CleanList.{history_of};
 ghost use Rattle.desk.specs.Desk.{IsOf, disk_of, game_of, votes_of};
 ghost use Rattle.board.specs.Board.{SameMatch};
 ghost use Rattle.board.specs.Board as boards;
 ghost use Rattle.cards.specs.Board.{board as board_text};
-ghost use Rattle.cards.specs.Watched.{Prints, has_failed};
+ghost use Rattle.cards.specs.Watched.{IsHandedOn, Prints, TellsFailure};
 ghost use Rattle.runs.specs.MatchRun.{IsQuiet};
 ghost use Rattle.books.specs.Output.{answer_to, with_taken};
 ghost use Rattle.books.specs.Taking.{taking};
@@ -310,7 +310,8 @@ impl<S: SlotsOf, L: Link> Stations<S, L> {
         ensures text { OnOk result (Prints W.contents out.old out.new
             (board_text sheet.now (boards.book_of self.now.board).innings_a_side
             (history_of (boards.book_of self.now.board).entries))) }
-        ensures failed { OnErr result (has_failed out.new ≡ true) }
+        ensures handed_on { OnOk result (IsHandedOn out.new) }
+        ensures failed { TellsFailure result out.old out.new }
     {
         self.board.lines(sheet, out)?;
         out.flush()
