@@ -1,0 +1,168 @@
+-- A moment of a desk's process is no event, one, or a fault that falls due and one.
+use Rattle.std.proofs.Common.{◌≡◌, ℕ, Option, Some, None, List, [], ◌++◌, length, refl, sym, ap, ◌∙◌, subst, append-nil}
+use Rattle.corrections.specs.Refusal.{book_refusal}
+use Rattle.corrections.specs.declared.refusal.Refusal.{Refusal}
+use Rattle.notation.specs.declared.entry.Entry.{Entry}
+use Rattle.agree_core.specs.declared.messages.DeskId.{DeskId}
+use Rattle.agree_core.specs.declared.messages.DeskId.TheVariants.{A, B}
+use Rattle.agree_core.specs.declared.messages.Message.{Message}
+use Rattle.agree_core.specs.Desks as core
+use Rattle.agree_core.specs.Desks.{DeskState, PenAnswer, PenRefusal, Pens, ReceiveAnswer, Receives, Unchanged}
+use Rattle.agree_core.specs.FileView.{FileView, Stays}
+use Rattle.wire.specs.declared.what.What.TheVariants as whats
+use Rattle.wire.specs.Layout.{Says}
+use Rattle.desk.specs.declared.refusal.Refusal.TheVariants as refusals
+use Rattle.headline.specs.declared.event.Event.{Event}
+use Rattle.headline.specs.declared.event.Event.TheVariants as events
+use Rattle.headline.specs.declared.event.Station.{Station}
+use Rattle.headline.specs.declared.event.Station.TheVariants as stations
+use Rattle.headline.specs.declared.fault.Fault.{Fault}
+use Rattle.headline.specs.declared.fault.Fault.TheVariants.{Fail}
+use Rattle.headline.specs.Worlds.{Process, Running, Setting, Site, World, disk_of, site, with_disk, with_site}
+use Rattle.headline.specs.Steps as steps
+use Rattle.headline.specs.Steps.{AfterPen, AfterReceive, Answer, AtDesk, StepAt, has_any}
+use Rattle.headline.specs.Events.{station_of}
+use Rattle.live.specs.Desks as desks
+use Rattle.live.specs.Desks.{DeskCall, DeskStep}
+use Rattle.live.specs.declared.said.Said.TheVariants.{Quit, List as Listed, Help, Fault as LineFaulty, SayAgain, NoneDiffers, Refused, Penned}
+use Rattle.processes.specs.Happenings.{WasSent, DeskCame, Happening, DeskCalled}
+use Rattle.processes.specs.Laws.{RunsSo}
+use Rattle.processes.proofs.Going.{Fits, Leads, TypedAs, none, one, two}
+
+module _ {Disk : Type 0} where
+  unmoved : (v : World Disk) (d : DeskId) → with_site v d (site v d) [] ≡ v
+  unmoved v A = λ i. record { a = v.a; b = v.b; boards = v.boards; sent = append-nil v.sent i }
+  unmoved v B = λ i. record { a = v.a; b = v.b; boards = v.boards; sent = append-nil v.sent i }
+
+  pub site_put : (v : World Disk) (d : DeskId) (x : Site Disk) (out : List Message) → site (with_site v d x out) d ≡ x
+  site_put v A x out = refl
+  site_put v B x out = refl
+
+  sent_put : (v : World Disk) (d : DeskId) (x : Site Disk) → (λ (u : World Disk). u.sent) (with_site v d x []) ≡ v.sent
+  sent_put v A x = append-nil v.sent
+  sent_put v B x = append-nil v.sent
+
+  put_again : (v : World Disk) (d : DeskId) (x y : Site Disk) (out : List Message) → with_site (with_site v d x []) d y out ≡ with_site v d y out
+  put_again v A x y out = λ i. record { a = y; b = v.b; boards = v.boards; sent = append-nil v.sent i ++ out }
+  put_again v B x y out = λ i. record { a = v.a; b = y; boards = v.boards; sent = append-nil v.sent i ++ out }
+
+  abbrev pub runs_on : Site Disk → DeskState Disk → Option Fault → Site Disk
+  runs_on x l due = record { version = x.version; process = Running l; due = due }
+
+  -- with whatever fault is due, the desk runs so
+  pub placed_so : (v : World Disk) (d : DeskId) (l : DeskState Disk) (due : Option Fault) (out : List Message) → RunsSo v d l out (with_site v d (runs_on (site v d) l due) out)
+  placed_so v A l due out = refl
+  placed_so v B l due out = refl
+
+  itself : (x : Site Disk) (k : DeskState Disk) → x.process ≡ Running k → runs_on x k x.due ≡ x
+  itself x k e = λ i. record { version = x.version; process = sym e i; due = x.due }
+
+  pub stays_refl : (view : FileView Disk) (disk : Disk) → Stays view disk disk
+  stays_refl view disk = (refl, λ image. (λ h. h, λ h. h))
+
+  unchanged_refl : (view : FileView Disk) (k : DeskState Disk) → Unchanged view k k
+  unchanged_refl view k = (stays_refl view k.disk, refl)
+
+module _ {Disk : Type 0} (s : Setting Disk Refusal) (v : World Disk) (d : DeskId) (what : Happening Disk) where
+  abbrev here : Site Disk
+  here = site v d
+
+  abbrev view : FileView Disk
+  view = s.view d (site v d).version
+
+  pub at_desk : (event : Event) (answer : Answer Refusal) (y : Site Disk) (out : List Message) → station_of event ≡ stations.Desk d → Fits what v v event → AtDesk s v.sent d event (site v d) answer y out → Leads s (Fits what v) v (with_site v d y out)
+  at_desk event answer y out e f h = one s (Fits what v) v event answer (with_site v d y out) f (subst (λ (t : Station). StepAt s v event t answer (with_site v d y out)) (sym e) (y, out, h, refl))
+
+  -- a fault falls due, and the disk may go on unseen
+  falls : (k l : DeskState Disk) → (site v d).process ≡ Running k → Unchanged view k l → AtDesk s v.sent d (events.FailAt d 1) (site v d) steps.Done (runs_on (site v d) l (Some Fail)) []
+  falls k l e u =
+      let p : Running l ≡ with_disk (site v d).process l.disk = ap Running u.1 ∙ ap (λ (q : Process Disk). with_disk q l.disk) (sym e) in
+      ((l.disk, subst (λ (q : Process Disk). Stays view (disk_of q) l.disk) (sym e) u.0, λ i. record { version = (site v d).version; process = p i; due = Some Fail }), refl, refl)
+
+  -- nothing is seen of the moment but the disk
+  unseen : (k l : DeskState Disk) (out : List Message) → (site v d).process ≡ Running k → Unchanged view k l → out ≡ [] → Leads s (Fits what v) v (with_site v d (runs_on (site v d) l (Some Fail)) out)
+  unseen k l out e u empty =
+      subst (λ (xs : List Message). Leads s (Fits what v) v (with_site v d (runs_on (site v d) l (Some Fail)) xs)) (sym empty)
+      (at_desk (events.FailAt d 1) steps.Done (runs_on (site v d) l (Some Fail)) [] refl tt (falls k l e u))
+
+  -- no event
+  nothing : (k l : DeskState Disk) (out : List Message) → (site v d).process ≡ Running k → l ≡ k → out ≡ [] → Leads s (Fits what v) v (with_site v d (runs_on (site v d) l (site v d).due) out)
+  nothing k l out e same empty =
+      none s (Fits what v) v (with_site v d (runs_on (site v d) l (site v d).due) out)
+      (sym ((λ i. with_site v d (runs_on (site v d) (same i) (site v d).due) (empty i)) ∙ (ap (λ (x : Site Disk). with_site v d x []) (itself (site v d) k e) ∙ unmoved v d)))
+
+  -- a fault falls due, and then this happens
+  pub after_fault : (x : Site Disk) (event : Event) (answer : Answer Refusal) (y : Site Disk) (out : List Message) → AtDesk s v.sent d (events.FailAt d 1) (site v d) steps.Done x [] → station_of event ≡ stations.Desk d → Fits what v (with_site v d x []) event → AtDesk s v.sent d event x answer y out → Leads s (Fits what v) v (with_site v d y out)
+  after_fault x event answer y out fall st f h =
+      let u : World Disk = with_site v d x [] in
+      let new : World Disk = with_site u d y out in
+      let moved : AtDesk s u.sent d event (site u d) answer y out =
+      subst (λ (xs : List Message). AtDesk s xs d event (site u d) answer y out) (sym (sent_put v d x))
+      (subst (λ (z : Site Disk). AtDesk s v.sent d event z answer y out) (sym (site_put v d x [])) h) in
+      subst (Leads s (Fits what v) v) (put_again v d x y out)
+      (two s (Fits what v) v (events.FailAt d 1) event steps.Done answer u new tt f (x, [], fall, refl)
+      (subst (λ (t : Station). StepAt s u event t answer new) (sym st) (y, out, moved, refl)))
+
+  broken : (k : DeskState Disk) (event : Event) (answer : Answer Refusal) (y : Site Disk) (out : List Message) → (site v d).process ≡ Running k → station_of event ≡ stations.Desk d → Fits what v (with_site v d (runs_on (site v d) k (Some Fail)) []) event → AtDesk s v.sent d event (runs_on (site v d) k (Some Fail)) answer y out → Leads s (Fits what v) v (with_site v d y out)
+  broken k event answer y out e st f h = after_fault (runs_on (site v d) k (Some Fail)) event answer y out (falls k k e (unchanged_refl view k)) st f h
+
+  abbrev pub SomeDue : DeskState Disk → List Message → Type 0
+  SomeDue l out = (due : Option Fault) × Leads s (Fits what v) v (with_site v d (runs_on (site v d) l due) out)
+
+  penned : (k l : DeskState Disk) (e : Entry) (told : PenAnswer Refusal) (answer : Answer Refusal) (out : List Message) → (site v d).process ≡ Running k → ((u : World Disk) → (site u d).process ≡ Running k → TypedAs what v u d e) → Pens view s.rules k e told l out → AfterPen view (site v d) told l answer (runs_on (site v d) l (site v d).due) → SomeDue l out
+  penned k l e told answer out at typed h after = ((site v d).due, at_desk (events.Pen d e) answer (runs_on (site v d) l (site v d).due) out refl (typed v at) (k, l, told, at, h, after))
+
+  refused : (k l : DeskState Disk) (e : Entry) (why : PenRefusal Refusal) (out : List Message) → (site v d).process ≡ Running k → ((u : World Disk) → (site u d).process ≡ Running k → TypedAs what v u d e) → Pens view s.rules k e (PenAnswer.Refused why) l out → SomeDue l out
+  refused k l e why out at typed h = penned k l e (PenAnswer.Refused why) (steps.NotPenned why) out at typed h (refl, refl)
+
+  pen_failed : (k l : DeskState Disk) (e : Entry) (out : List Message) → (site v d).process ≡ Running k → ((u : World Disk) → (site u d).process ≡ Running k → TypedAs what v u d e) → Pens view s.rules k e PenAnswer.DeviceFailed l out → SomeDue l out
+  pen_failed k l e out at typed h = (
+    None,
+    broken k (events.Pen d e) steps.DeviceFailed (runs_on (site v d) l None) out at refl
+        (typed (with_site v d (runs_on (site v d) k (Some Fail)) []) (ap (λ (z : Site Disk). z.process) (site_put v d (runs_on (site v d) k (Some Fail)) [])))
+        (k, l, PenAnswer.DeviceFailed, refl, h, (Fail, refl, (refl, refl))),
+  )
+
+  received : (k l : DeskState Disk) (bytes : List ℕ) (m : Message) (told : ReceiveAnswer) (answer : Answer Refusal) (out : List Message) (game : ℕ) → (site v d).process ≡ Running k → WasSent game v.sent bytes → Says game bytes m → Receives view k m told l out → AfterReceive view (site v d) told l out answer (runs_on (site v d) l (site v d).due) → SomeDue l out
+  received k l bytes m told answer out game at came says h after =
+      let found = came m says in
+      ((site v d).due, at_desk (events.Give found.0 (stations.Desk d)) answer (runs_on (site v d) l (site v d).due) out refl tt (k, l, m, told, at, found.1, h, after))
+
+  ask_failed : (k l : DeskState Disk) (bytes : List ℕ) (m : Message) (out : List Message) (game : ℕ) → (site v d).process ≡ Running k → WasSent game v.sent bytes → Says game bytes m → Receives view k m ReceiveAnswer.DeviceFailed l out → SomeDue l out
+  ask_failed k l bytes m out game at came says h =
+      let found = came m says in (
+        None,
+        broken k (events.Give found.0 (stations.Desk d)) steps.DeviceFailed (runs_on (site v d) l None) out at refl tt
+            (k, l, m, ReceiveAnswer.DeviceFailed, refl, found.1, h, (Fail, refl, (refl, refl))),
+      )
+
+module _ {Disk : Type 0} (s : Setting Disk Refusal) (game innings : ℕ) (rules : s.rules ≡ book_refusal innings) (v : World Disk) (d : DeskId) where
+  pens : (k l : DeskState Disk) (e : Entry) (told : PenAnswer Refusal) (out : List Message) → Pens (s.view d (site v d).version) (book_refusal innings) k e told l out → Pens (s.view d (site v d).version) s.rules k e told l out
+  pens k l e told out h = subst (λ r. Pens (s.view d (site v d).version) r k e told l out) (sym rules) h
+
+  pub desk_moment : (k l : DeskState Disk) (call : DeskCall) (out : List Message) → (site v d).process ≡ Running k → DeskCame game v.sent call → DeskStep (s.view d (site v d).version) game innings k call out l → SomeDue s v d (DeskCalled d call out l) l out
+  desk_moment k l (desks.Typed line Quit) out at came h = ((site v d).due, nothing s v d (DeskCalled d (desks.Typed line Quit) out l) k l out at h.1 h.2)
+  desk_moment k l (desks.Typed line Listed) out at came h = ((site v d).due, nothing s v d (DeskCalled d (desks.Typed line Listed) out l) k l out at h.1 h.2)
+  desk_moment k l (desks.Typed line Help) out at came h = ((site v d).due, nothing s v d (DeskCalled d (desks.Typed line Help) out l) k l out at h.1 h.2)
+  desk_moment k l (desks.Typed line (LineFaulty fault)) out at came h = ((site v d).due, nothing s v d (DeskCalled d (desks.Typed line (LineFaulty fault)) out l) k l out at h.1 h.2)
+  desk_moment k l (desks.Typed line SayAgain) out at came h = ((site v d).due, nothing s v d (DeskCalled d (desks.Typed line SayAgain) out l) k l out at h.1 h.2)
+  desk_moment k l (desks.Typed line NoneDiffers) out at came h = ((site v d).due, nothing s v d (DeskCalled d (desks.Typed line NoneDiffers) out l) k l out at h.1 h.2)
+  desk_moment k l (desks.Typed line (Penned settled)) out at came h =
+      penned s v d (DeskCalled d (desks.Typed line (Penned settled)) out l) k l h.0 (PenAnswer.Penned settled) (steps.Penned settled) out at (λ u x. (refl, k, at, x, h.1)) (pens k l h.0 (PenAnswer.Penned settled) out h.2) (refl, refl)
+  desk_moment k l (desks.Typed line (Refused refusals.Failed)) out at came h = refused s v d (DeskCalled d (desks.Typed line (Refused refusals.Failed)) out l) k l h.0 PenRefusal.Failed out at (λ u x. (refl, k, at, x, h.1)) (pens k l h.0 (PenAnswer.Refused PenRefusal.Failed) out h.2)
+  desk_moment k l (desks.Typed line (Refused refusals.Waiting)) out at came h = refused s v d (DeskCalled d (desks.Typed line (Refused refusals.Waiting)) out l) k l h.0 core.Waiting out at (λ u x. (refl, k, at, x, h.1)) (pens k l h.0 (PenAnswer.Refused core.Waiting) out h.2)
+  desk_moment k l (desks.Typed line (Refused refusals.PlacesFull)) out at came h = refused s v d (DeskCalled d (desks.Typed line (Refused refusals.PlacesFull)) out l) k l h.0 core.PlacesFull out at (λ u x. (refl, k, at, x, h.1)) (pens k l h.0 (PenAnswer.Refused core.PlacesFull) out h.2)
+  desk_moment k l (desks.Typed line (Refused refusals.RoundsFull)) out at came h = refused s v d (DeskCalled d (desks.Typed line (Refused refusals.RoundsFull)) out l) k l h.0 core.RoundsFull out at (λ u x. (refl, k, at, x, h.1)) (pens k l h.0 (PenAnswer.Refused core.RoundsFull) out h.2)
+  desk_moment k l (desks.Typed line (Refused refusals.SlotsFull)) out at came h = refused s v d (DeskCalled d (desks.Typed line (Refused refusals.SlotsFull)) out l) k l h.0 core.SlotsFull out at (λ u x. (refl, k, at, x, h.1)) (pens k l h.0 (PenAnswer.Refused core.SlotsFull) out h.2)
+  desk_moment k l (desks.Typed line (Refused (refusals.Book why))) out at came h = refused s v d (DeskCalled d (desks.Typed line (Refused (refusals.Book why))) out l) k l h.0 (core.Illegal why) out at (λ u x. (refl, k, at, x, h.1)) (pens k l h.0 (PenAnswer.Refused (core.Illegal why)) out h.2)
+  desk_moment k l (desks.Typed line (Refused refusals.Device)) out at came h = pen_failed s v d (DeskCalled d (desks.Typed line (Refused refusals.Device)) out l) k l h.0 out at (λ u x. (refl, k, at, x, h.1)) (pens k l h.0 PenAnswer.DeviceFailed out h.2)
+  desk_moment k l (desks.Given bytes whats.Failed) out at came h = (Some Fail, unseen s v d (DeskCalled d (desks.Given bytes whats.Failed) out l) k l out at h.1 h.2)
+  desk_moment k l (desks.Given bytes (whats.Bad fault)) out at came h = (Some Fail, unseen s v d (DeskCalled d (desks.Given bytes (whats.Bad fault)) out l) k l out at h.2 h.3)
+  desk_moment k l (desks.Given bytes (whats.Heard x)) out at came h = received s v d (DeskCalled d (desks.Given bytes (whats.Heard x)) out l) k l bytes h.0 (ReceiveAnswer.Told x) (steps.Told x) out game at came h.1 h.2 (refl, refl)
+  desk_moment k l (desks.Given bytes whats.Asked) out at came h = received s v d (DeskCalled d (desks.Given bytes whats.Asked) out l) k l bytes h.0 ReceiveAnswer.Asked (steps.Asked (has_any out)) out game at came h.1 h.2 (refl, refl)
+  desk_moment k l (desks.Given bytes whats.Device) out at came h = ask_failed s v d (DeskCalled d (desks.Given bytes whats.Device) out l) k l bytes h.0 out game at came h.1 h.2
+  desk_moment k l desks.Ticked out at came h =
+      let e : (site v d).process ≡ Running l = at ∙ ap Running (sym h.1) in
+      ((site v d).due, at_desk s v d (DeskCalled d desks.Ticked out l) (events.Tick (stations.Desk d)) (steps.Ticked (length out)) (runs_on (site v d) l (site v d).due) out refl tt (k, at, h.0, refl, itself (site v d) l e))
+  desk_moment k l desks.TypingEnded out at came h = ((site v d).due, nothing s v d (DeskCalled d desks.TypingEnded out l) k l out at h.0 h.1)
+  desk_moment k l desks.TurnEnded out at came h = ((site v d).due, nothing s v d (DeskCalled d desks.TurnEnded out l) k l out at h.0 h.1)

@@ -1,0 +1,4 @@
+-- What is claimed: Laws and Weaving, of Happenings, by the Headline for processes.
+pub mod Happenings
+pub mod Headline
+pub mod Laws

@@ -1,0 +1,19 @@
+//! What ties processes to runs. These functions do nothing: each stands for the laws that it ensures.
+
+ghost use Rattle.processes.specs.Laws.{BoardStepsInWorld, DeskStepsInWorld, FlowsAreRuns, FlowsHaveHeadline};
+
+use entry_log::Disk;
+
+/// A moment of a board's or a desk's process, in a world that a run has come to, extends that run.
+pub fn moments_extend_a_run<D: Disk>()
+    ensures boards { BoardStepsInWorld D.seen D.images }
+    ensures desks { DeskStepsInWorld D.seen D.images }
+{}
+
+/// Where every datagram that came to a station and reads as a message of the match was sent by one of them before, the
+/// moments of two desks' and some boards' processes, with their ends and new beginnings, in the order in which they
+/// happened, are a run of the definitions. So the headline holds of them.
+pub fn every_flow_is_sound<D: Disk>()
+    ensures runs { FlowsAreRuns D.seen D.images }
+    ensures headline { FlowsHaveHeadline D.seen D.images }
+{}
