@@ -2,3 +2,5 @@
 pub mod Happenings
 pub mod Headline
 pub mod Laws
+pub mod Lives
+pub mod Weaving

@@ -1,6 +1,7 @@
 //! What ties processes to runs. These functions do nothing: each stands for the laws that it ensures.
 
 ghost use Rattle.processes.specs.Laws.{BoardStepsInWorld, DeskStepsInWorld, FlowsAreRuns, FlowsHaveHeadline};
+ghost use Rattle.processes.specs.Weaving.{WovenLivesFlow, WovenLivesHaveHeadline};
 
 use entry_log::Disk;
 
@@ -16,4 +17,11 @@ pub fn moments_extend_a_run<D: Disk>()
 pub fn every_flow_is_sound<D: Disk>()
     ensures runs { FlowsAreRuns D.seen D.images }
     ensures headline { FlowsHaveHeadline D.seen D.images }
+{}
+
+/// The lives of two desks and some boards, each process from its beginning to its end, put into one order in which
+/// nothing comes before it was sent, are such moments.
+pub fn woven_lives_are_a_flow<D: Disk>()
+    ensures flow { WovenLivesFlow D.seen D.images D.faults }
+    ensures headline { WovenLivesHaveHeadline D.seen D.images D.faults }
 {}
