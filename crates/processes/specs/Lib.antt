@@ -3,4 +3,5 @@ pub mod Happenings
 pub mod Headline
 pub mod Laws
 pub mod Lives
+pub mod Stations
 pub mod Weaving

@@ -1,9 +1,13 @@
 //! What ties processes to runs. These functions do nothing: each stands for the laws that it ensures.
 
 ghost use Rattle.processes.specs.Laws.{BoardStepsInWorld, DeskStepsInWorld, FlowsAreRuns, FlowsHaveHeadline};
+ghost use Rattle.processes.specs.Stations.{BoardRunIsLife, DeskRunIsStage};
 ghost use Rattle.processes.specs.Weaving.{WovenLivesFlow, WovenLivesHaveHeadline};
 
-use entry_log::Disk;
+use board::Board;
+use corrections::BookOf;
+use desk::Desk;
+use entry_log::{Disk, SlotsOf};
 
 /// A moment of a board's or a desk's process, in a world that a run has come to, extends that run.
 pub fn moments_extend_a_run<D: Disk>()
@@ -24,4 +28,14 @@ pub fn every_flow_is_sound<D: Disk>()
 pub fn woven_lives_are_a_flow<D: Disk>()
     ensures flow { WovenLivesFlow D.seen D.images D.faults }
     ensures headline { WovenLivesHaveHeadline D.seen D.images D.faults }
+{}
+
+/// What `live::run_desk` ensures of a desk is a stage of its life.
+pub fn desk_runs_are_stages<S: SlotsOf, B: BookOf>(old: &Desk<S, B>, new: &Desk<S, B>)
+    ensures { DeskRunIsStage old.now new.now }
+{}
+
+/// What `live::run_board` ensures of a new board is a process of its life.
+pub fn board_runs_are_lives<B: BookOf>(old: &Board<B>, new: &Board<B>)
+    ensures { BoardRunIsLife B.content B.innings_a_side old.now new.now }
 {}
