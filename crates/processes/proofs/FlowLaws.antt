@@ -8,19 +8,23 @@ use Rattle.agree_core.specs.Ballots as ballots
 use Rattle.headline.proofs.Whole.{holds_in_run}
 use Rattle.headline.specs.Headline.{ArePenned, ByBoth, NoneWaits, PennedBefore, ShowsScore}
 use Rattle.headline.specs.Match.{setting_of}
-use Rattle.headline.specs.Runs.{Moment, Shows, last_of}
-use Rattle.headline.specs.Worlds.{Site, World, votes_in}
+use Rattle.headline.specs.Runs.{Begins, Moment, Shows, last_of}
+use Rattle.headline.specs.declared.version.FileVersion.{FileVersion}
+use Rattle.headline.specs.Worlds.{Setting, Site, World, votes_in}
 use Rattle.corrections.specs.declared.refusal.Refusal.{Refusal}
 use Rattle.processes.specs.Laws.{FlowsAreRuns, FlowsHaveHeadline, calm, without_faults}
 use Rattle.processes.proofs.Flowing.{at_each, at_some, flow_runs, notes, shows}
 
 module _ {Disk : Type 0} where
-  -- a world in which no fault is due
-  same_world : (w : World Disk) → calm w.a ≡ w.a → calm w.b ≡ w.b → without_faults w ≡ w
-  same_world w e f = λ i. record w { a = e i; b = f i }
-
   calm_site : (x y : Site Disk) → x ≡ y → calm y ≡ y → calm x ≡ x
   calm_site x y e h = subst (λ (z : Site Disk). calm z ≡ z) (sym e) h
+
+  -- at the start no fault is due
+  pub begins_calm : (s : Setting Disk Refusal) (version : FileVersion) (boards : ℕ) (w : World Disk) → Begins s version boards w → without_faults w ≡ w
+  begins_calm s version boards w b =
+      let x : calm w.a ≡ w.a = calm_site w.a _ b.a.1 refl in
+      let y : calm w.b ≡ w.b = calm_site w.b _ b.b.1 refl in
+      λ i. record w { a = x i; b = y i }
 
   now_penned : (w : World Disk) (ms : List (Moment Disk Refusal)) → PennedBefore w ms → ArePenned w ms
   now_penned w [] h = λ d b i. absurd (h d b i)
@@ -34,15 +38,13 @@ module _ {Disk : Type 0} (seen : Disk → List ℕ) (images : Disk → Images) w
   pub flows_are_runs : FlowsAreRuns seen images
   flows_are_runs contents game innings version boards w hs f =
       let s = setting_of contents seen images game innings in
-      let at = same_world w (calm_site w.a _ f.0.a.1 refl) (calm_site w.b _ f.0.b.1 refl) in
-      let p = flow_runs s game innings refl w at hs f.1 in
+      let p = flow_runs s game innings refl w (begins_calm s version boards w f.0) hs f.1 in
       (p.0, p.1, p.2, holds_in_run s innings version boards w p.0 f.0 p.1)
 
   pub flows_have_headline : FlowsHaveHeadline seen images
   flows_have_headline contents game innings version boards w hs f =
       let s = setting_of contents seen images game innings in
-      let at = same_world w (calm_site w.a _ f.0.a.1 refl) (calm_site w.b _ f.0.b.1 refl) in
-      let p = flow_runs s game innings refl w at hs f.1 in
+      let p = flow_runs s game innings refl w (begins_calm s version boards w f.0) hs f.1 in
       let h = (holds_in_run s innings version boards w p.0 f.0 p.1).headline in
       record {
         prefixes = λ t u xs ys x y. h.prefixes t u xs ys (at_some (λ v. Shows v t xs) (shows t xs) w hs p.0 p.2 x) (at_some (λ v. Shows v u ys) (shows u ys) w hs p.0 p.2 y);

@@ -99,7 +99,7 @@ module _ {Disk : Type 0} where
       subst (λ (ns : List (Moment Disk Refusal)). AtSomeMoment w ns P) (sym g.3)
       (before P w g.0 g.1 (at_some P f w cs g.1 g.4 h))
 
-  last_so : (P : World Disk → Type 0) (w : World Disk) (ms : List (Moment Disk Refusal)) → AtEachMoment w ms P → P (last_of w ms)
+  pub last_so : (P : World Disk → Type 0) (w : World Disk) (ms : List (Moment Disk Refusal)) → AtEachMoment w ms P → P (last_of w ms)
   last_so P w [] h = h
   last_so P w (m ∷ ms) h = h.0
 

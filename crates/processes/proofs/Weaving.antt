@@ -1,5 +1,5 @@
 -- Woven lives are a flow.
-use Rattle.std.proofs.Common.{◌≡◌, ℕ, zero, suc, Bool, true, false, nat_eq, Option, Some, None, List, [], ◌∷◌, ◌++◌, cond, refl, sym, ap, ◌∙◌, subst, append-nil}
+use Rattle.std.proofs.Common.{◌≡◌, ◌<◌, length, ℕ, zero, suc, Bool, true, false, nat_eq, Option, Some, None, List, [], ◌∷◌, ◌++◌, cond, refl, sym, ap, ◌∙◌, subst, append-nil}
 use Rattle.std.proofs.lemmas.Bool.{eq-eqb}
 use Rattle.std.proofs.Math.Dec.{eqb-suc-suc, eqb-suc-zero, eqb-zero-suc}
 use Rattle.std.specs.List.{filter}
@@ -10,7 +10,7 @@ use Rattle.agree_core.specs.Boards.{BoardState, fresh_board}
 use Rattle.agree_core.specs.declared.messages.Message.{Message}
 use Rattle.agree_core.specs.FileView.{FileView}
 use Rattle.headline.specs.declared.version.FileVersion.{FileVersion}
-use Rattle.headline.specs.Worlds.{Process, World, board_at, with_board}
+use Rattle.headline.specs.Worlds.{Process, World, board_at, disk_of, site, with_board}
 use Rattle.processes.specs.Happenings.{BoardBegun, BoardCalled, DeskBegun, DeskCalled, DeskEnded, Flow, Happening, Happens, PowerLost, after, after_one, with_process}
 use Rattle.processes.specs.Weaving.{Came, NothingComesEarly, is_at_board, is_at_desk}
 use Rattle.processes.proofs.BoardLives.{BoardLocal, MayBoard, board_after, next_board}
@@ -45,12 +45,12 @@ tail : {State What : Type 0} (next : State → What → State) (May : State → 
 tail next May s true x xs l = l.0
 tail next May s false x xs l = l
 
-module _ {Disk : Type 0} (view : DeskId → FileVersion → FileView Disk) (game innings : ℕ) (w : World Disk) where
+module _ {Disk : Type 0} (view : DeskId → FileVersion → FileView Disk) (seen : Disk → List ℕ) (game innings : ℕ) (w : World Disk) where
   abbrev LocalA : List (Happening Disk) → Type 0
-  LocalA xs = DeskLocal (view A w.a.version) A game innings w.a.process xs
+  LocalA xs = DeskLocal (view A w.a.version) seen A game innings w.a.process xs
 
   abbrev LocalB : List (Happening Disk) → Type 0
-  LocalB ys = DeskLocal (view B w.b.version) B game innings w.b.process ys
+  LocalB ys = DeskLocal (view B w.b.version) seen B game innings w.b.process ys
 
   abbrev LocalBoards : (ℕ → List (Happening Disk)) → Type 0
   LocalBoards bs = (n : ℕ) (k : BoardState) → board_at w.boards n ≡ Some k → BoardLocal Disk game innings k (bs n)
@@ -62,16 +62,16 @@ module _ {Disk : Type 0} (view : DeskId → FileVersion → FileView Disk) (game
   record Stands (v : World Disk) (xs ys : List (Happening Disk)) (bs : ℕ → List (Happening Disk)) : Type 0 where
     pub a_version : v.a.version ≡ w.a.version
     pub b_version : v.b.version ≡ w.b.version
-    pub a_runs : v.a.process ≡ desk_after (view A w.a.version) A game innings w.a.process xs
-    pub b_runs : v.b.process ≡ desk_after (view B w.b.version) B game innings w.b.process ys
+    pub a_runs : v.a.process ≡ desk_after (view A w.a.version) seen A game innings w.a.process xs
+    pub b_runs : v.b.process ≡ desk_after (view B w.b.version) seen B game innings w.b.process ys
     pub boards : (n : ℕ) (k : BoardState) → board_at w.boards n ≡ Some k → board_at v.boards n ≡ Some (board_after Disk game innings k (bs n))
 
   module _ (v : World Disk) (xs ys : List (Happening Disk)) (bs : ℕ → List (Happening Disk)) (s : Stands v xs ys bs) (h : Happening Disk) where
-    may_a : LocalA (h ∷ xs) → MayDesk (view A v.a.version) A game innings v.a.process h
-    may_a r = subst (λ (p : Process Disk). MayDesk (view A v.a.version) A game innings p h) (sym s.a_runs) (subst (λ (z : FileVersion). MayDesk (view A z) A game innings (desk_after (view A w.a.version) A game innings w.a.process xs) h) (sym s.a_version) r.1)
+    may_a : LocalA (h ∷ xs) → MayDesk (view A v.a.version) seen A game innings v.a.process h
+    may_a r = subst (λ (p : Process Disk). MayDesk (view A v.a.version) seen A game innings p h) (sym s.a_runs) (subst (λ (z : FileVersion). MayDesk (view A z) seen A game innings (desk_after (view A w.a.version) seen A game innings w.a.process xs) h) (sym s.a_version) r.1)
 
-    may_b : LocalB (h ∷ ys) → MayDesk (view B v.b.version) B game innings v.b.process h
-    may_b r = subst (λ (p : Process Disk). MayDesk (view B v.b.version) B game innings p h) (sym s.b_runs) (subst (λ (z : FileVersion). MayDesk (view B z) B game innings (desk_after (view B w.b.version) B game innings w.b.process ys) h) (sym s.b_version) r.1)
+    may_b : LocalB (h ∷ ys) → MayDesk (view B v.b.version) seen B game innings v.b.process h
+    may_b r = subst (λ (p : Process Disk). MayDesk (view B v.b.version) seen B game innings p h) (sym s.b_runs) (subst (λ (z : FileVersion). MayDesk (view B z) seen B game innings (desk_after (view B w.b.version) seen B game innings w.b.process ys) h) (sym s.b_version) r.1)
 
     stands_a : (out : List Message) → Stands (with_process v A (next_desk v.a.process h) out) (h ∷ xs) ys bs
     stands_a out = record { a_version = s.a_version; b_version = s.b_version; a_runs = ap (λ (p : Process Disk). next_desk p h) s.a_runs; b_runs = s.b_runs; boards = s.boards }
@@ -104,32 +104,39 @@ module _ {Disk : Type 0} (view : DeskId → FileVersion → FileView Disk) (game
           boards = λ m j at. board_set v.boards n m (board_after Disk game innings j (bs m)) l (s.boards m j at) ∙ ap Some (pushed j l m (nat_eq m n) (e (board_after Disk game innings j (bs m))));
         }
 
+  abbrev pub HasBytes : World Disk → Type 0
+  HasBytes v = (d : DeskId) → 0 < length (seen (disk_of (site v d).process))
+
   abbrev Moves : Happening Disk → Type 0
   Moves h =
       (v : World Disk) (xs ys : List (Happening Disk)) (bs : ℕ → List (Happening Disk)) → Stands v xs ys bs
       → LocalA (with_one (is_at_desk A h) h xs) → LocalB (with_one (is_at_desk B h) h ys)
       → LocalBoards (λ n. with_one (is_at_board n h) h (bs n)) → NoOthers (λ n. with_one (is_at_board n h) h (bs n))
-      → Came game v h
+      → HasBytes v → Came game v h
       → Happens view game innings v h
       × Stands (after_one v h) (with_one (is_at_desk A h) h xs) (with_one (is_at_desk B h) h ys) (λ n. with_one (is_at_board n h) h (bs n))
 
   moves : (h : Happening Disk) → Moves h
-  moves (DeskCalled A call out l) v xs ys bs s a b t o c =
+  moves (DeskCalled A call out l) v xs ys bs s a b t o f c =
       let m = may_a v xs ys bs s (DeskCalled A call out l) a in
       ((m.0, m.1, c, m.2), stands_a v xs ys bs s (DeskCalled A call out l) out)
-  moves (DeskCalled B call out l) v xs ys bs s a b t o c =
+  moves (DeskCalled B call out l) v xs ys bs s a b t o f c =
       let m = may_b v xs ys bs s (DeskCalled B call out l) b in
       ((m.0, m.1, c, m.2), stands_b v xs ys bs s (DeskCalled B call out l) out)
-  moves (DeskEnded A disk) v xs ys bs s a b t o c = (may_a v xs ys bs s (DeskEnded A disk) a, stands_a v xs ys bs s (DeskEnded A disk) [])
-  moves (DeskEnded B disk) v xs ys bs s a b t o c = (may_b v xs ys bs s (DeskEnded B disk) b, stands_b v xs ys bs s (DeskEnded B disk) [])
-  moves (PowerLost A disk) v xs ys bs s a b t o c = (may_a v xs ys bs s (PowerLost A disk) a, stands_a v xs ys bs s (PowerLost A disk) [])
-  moves (PowerLost B disk) v xs ys bs s a b t o c = (may_b v xs ys bs s (PowerLost B disk) b, stands_b v xs ys bs s (PowerLost B disk) [])
-  moves (DeskBegun A opening) v xs ys bs s a b t o c = (may_a v xs ys bs s (DeskBegun A opening) a, stands_a v xs ys bs s (DeskBegun A opening) [])
-  moves (DeskBegun B opening) v xs ys bs s a b t o c = (may_b v xs ys bs s (DeskBegun B opening) b, stands_b v xs ys bs s (DeskBegun B opening) [])
-  moves (BoardCalled n call out l) v xs ys bs s a b t o c =
+  moves (DeskEnded A disk) v xs ys bs s a b t o f c = (may_a v xs ys bs s (DeskEnded A disk) a, stands_a v xs ys bs s (DeskEnded A disk) [])
+  moves (DeskEnded B disk) v xs ys bs s a b t o f c = (may_b v xs ys bs s (DeskEnded B disk) b, stands_b v xs ys bs s (DeskEnded B disk) [])
+  moves (PowerLost A disk) v xs ys bs s a b t o f c = (may_a v xs ys bs s (PowerLost A disk) a, stands_a v xs ys bs s (PowerLost A disk) [])
+  moves (PowerLost B disk) v xs ys bs s a b t o f c = (may_b v xs ys bs s (PowerLost B disk) b, stands_b v xs ys bs s (PowerLost B disk) [])
+  moves (DeskBegun A opening) v xs ys bs s a b t o f c =
+      let m = may_a v xs ys bs s (DeskBegun A opening) a in
+      ((m.0, m.1, m.2, m.3.1 (subst (λ (p : Process Disk). 0 < length (seen (disk_of p))) m.2 (f A))), stands_a v xs ys bs s (DeskBegun A opening) [])
+  moves (DeskBegun B opening) v xs ys bs s a b t o f c =
+      let m = may_b v xs ys bs s (DeskBegun B opening) b in
+      ((m.0, m.1, m.2, m.3.1 (subst (λ (p : Process Disk). 0 < length (seen (disk_of p))) m.2 (f B))), stands_b v xs ys bs s (DeskBegun B opening) [])
+  moves (BoardCalled n call out l) v xs ys bs s a b t o f c =
       let m = there v xs ys bs s (BoardCalled n call out l) n t o in
       ((m.0, m.1, c, m.2), stands_board v xs ys bs s (BoardCalled n call out l) n l out (λ k. refl))
-  moves (BoardBegun n) v xs ys bs s a b t o c =
+  moves (BoardBegun n) v xs ys bs s a b t o f c =
       let m = there v xs ys bs s (BoardBegun n) n t o in
       let stands = stands_board v xs ys bs s (BoardBegun n) n fresh_board [] (λ k. refl) in
       ((m.0, m.1), subst (λ (sent : List Message). Stands (record v { boards = with_board v.boards n fresh_board; sent = sent }) xs ys (λ m. with_one (nat_eq m n) (BoardBegun n) (bs m))) (append-nil v.sent) stands)
@@ -141,15 +148,15 @@ module _ {Disk : Type 0} (view : DeskId → FileVersion → FileView Disk) (game
   abbrev of_boards : List (Happening Disk) → ℕ → List (Happening Disk)
   of_boards hs n = filter (is_at_board n) hs
 
-  weaves : (hs : List (Happening Disk)) → NothingComesEarly game w hs → LocalA (filter (is_at_desk A) hs) → LocalB (filter (is_at_desk B) hs) → LocalBoards (of_boards hs) → NoOthers (of_boards hs) → Flow view game innings w hs × Stands (after w hs) (filter (is_at_desk A) hs) (filter (is_at_desk B) hs) (of_boards hs)
-  weaves [] c a b t o = (tt, record { a_version = refl; b_version = refl; a_runs = refl; b_runs = refl; boards = λ n k e. e })
-  weaves (h ∷ hs) c a b t o =
-      let before = weaves hs c.0 (tail next_desk (MayDesk (view A w.a.version) A game innings) w.a.process (is_at_desk A h) h (filter (is_at_desk A) hs) a)
-      (tail next_desk (MayDesk (view B w.b.version) B game innings) w.b.process (is_at_desk B h) h (filter (is_at_desk B) hs) b)
+  weaves : (hs : List (Happening Disk)) → NothingComesEarly game w hs → LocalA (filter (is_at_desk A) hs) → LocalB (filter (is_at_desk B) hs) → LocalBoards (of_boards hs) → NoOthers (of_boards hs) → ((gs : List (Happening Disk)) → Flow view game innings w gs → HasBytes (after w gs)) → Flow view game innings w hs × Stands (after w hs) (filter (is_at_desk A) hs) (filter (is_at_desk B) hs) (of_boards hs)
+  weaves [] c a b t o f = (tt, record { a_version = refl; b_version = refl; a_runs = refl; b_runs = refl; boards = λ n k e. e })
+  weaves (h ∷ hs) c a b t o f =
+      let before = weaves hs c.0 (tail next_desk (MayDesk (view A w.a.version) seen A game innings) w.a.process (is_at_desk A h) h (filter (is_at_desk A) hs) a)
+      (tail next_desk (MayDesk (view B w.b.version) seen B game innings) w.b.process (is_at_desk B h) h (filter (is_at_desk B) hs) b)
       (λ n k e. tail next_board (MayBoard Disk game innings) k (is_at_board n h) h (of_boards hs n) (t n k e))
-      (λ n e. no_tail (is_at_board n h) h (of_boards hs n) (o n e)) in
-      let m = moves h (after w hs) (filter (is_at_desk A) hs) (filter (is_at_desk B) hs) (of_boards hs) before.1 a b t o c.1 in
+      (λ n e. no_tail (is_at_board n h) h (of_boards hs n) (o n e)) f in
+      let m = moves h (after w hs) (filter (is_at_desk A) hs) (filter (is_at_desk B) hs) (of_boards hs) before.1 a b t o (f hs before.0) c.1 in
       ((before.0, m.0), m.1)
 
-  pub woven : (hs : List (Happening Disk)) → NothingComesEarly game w hs → LocalA (filter (is_at_desk A) hs) → LocalB (filter (is_at_desk B) hs) → LocalBoards (of_boards hs) → NoOthers (of_boards hs) → Flow view game innings w hs
-  woven hs c a b t o = let f = weaves hs c a b t o in f.0
+  pub woven : (hs : List (Happening Disk)) → NothingComesEarly game w hs → LocalA (filter (is_at_desk A) hs) → LocalB (filter (is_at_desk B) hs) → LocalBoards (of_boards hs) → NoOthers (of_boards hs) → ((gs : List (Happening Disk)) → Flow view game innings w gs → HasBytes (after w gs)) → Flow view game innings w hs
+  woven hs c a b t o f = let g = weaves hs c a b t o f in g.0

@@ -1,5 +1,5 @@
 -- The life of one station: its processes, one after the other, each from its beginning to its end.
-use Rattle.std.specs.Prelude.{◌≡◌, ◌⊎◌, ℕ, List, [], ◌∷◌, ◌++◌, Err}
+use Rattle.std.specs.Prelude.{◌≡◌, ◌<◌, ℕ, List, [], ◌∷◌, ◌++◌, length, Err}
 use Rattle.corrections.specs.Refusal.{book_refusal}
 use Rattle.entry_log.specs.Disk.{Faults}
 use Rattle.cards.specs.Sheet.{Sheet}
@@ -8,7 +8,7 @@ use Rattle.agree_core.specs.Ballots.{Ballot}
 use Rattle.agree_core.specs.Boards.{fresh_board}
 use Rattle.agree_core.specs.Desks.{DeskState}
 use Rattle.agree_core.specs.FileView.{FileView, Stays}
-use Rattle.agree_core.specs.Openings.{Creates, Opened, Opening, Opens}
+use Rattle.agree_core.specs.Openings.{Creates, NotOpened, Opened, Opening, Opens}
 use Rattle.headline.specs.Worlds.{Process, Running, Down, disk_of, votes_of}
 use Rattle.headline.specs.Steps as steps
 use Rattle.live.specs.Boards as boards
@@ -52,15 +52,29 @@ abbrev pub after_life : {Disk : Type 0} → Process Disk → List (Stage Disk) �
 after_life p [] = p
 after_life p (x ∷ xs) = after_stage (after_life p xs) x
 
--- a desk's first process has a file without votes: one that it made, or one that it found so
-abbrev pub BeginsFirst : {Disk : Type 0} → FileView Disk → ℕ → DeskId → DeskState Disk → Type 0
-BeginsFirst view innings d k =
-    Creates view d k
-    ⊎ ((disk : _) × Opens view (book_refusal innings) d disk (Opened k) × (k.votes ≡ []))
+-- on a disk without a byte a process makes its file
+abbrev pub Makes : {Disk : Type 0} → FileView Disk → DeskId → Opening Disk → Type 0
+Makes view d (Opened k) = Creates view d k
+Makes view d (NotOpened why left) = Unit {0}
+
+-- a process begins on this disk, of which a read gives these bytes: it makes its file where there are none, and else
+-- opens what is there, so too after a beginning that was cut off
+abbrev pub BeginsOn :
+    {Disk : Type 0} → FileView Disk → (Disk → List ℕ) → ℕ → DeskId → Disk → Opening Disk → Type 0
+BeginsOn view seen innings d disk opening =
+    (length (seen disk) ≡ 0 → Makes view d opening)
+    × (0 < length (seen disk) → Opens view (book_refusal innings) d disk opening)
+
+-- a desk's first process makes its file, or finds one without votes
+abbrev pub BeginsFirst : {Disk : Type 0} → FileView Disk → (Disk → List ℕ) → ℕ → DeskId → DeskState Disk → Type 0
+BeginsFirst view seen innings d k =
+    (disk : _) × BeginsOn view seen innings d disk (Opened k) × (k.votes ≡ [])
 
 -- the desk of this letter in a match of this number and innings a side, where this is what a disk shows of its file,
--- and what is told of its failures
-module _ {Disk : Type 0} (view : FileView Disk) (faults : Disk → Faults) (d : DeskId) (game innings : ℕ) where
+-- what a read gives, and what is told of its failures
+module _
+    {Disk : Type 0} (view : FileView Disk) (seen : Disk → List ℕ) (faults : Disk → Faults) (d : DeskId)
+    (game innings : ℕ) where
   -- the moments are a run of a desk's process from its beginning on
   abbrev pub RunsFrom : DeskState Disk → List (own.Moment (DeskProcess Disk) DeskCall) → Type 0
   RunsFrom k ms =
@@ -78,7 +92,7 @@ module _ {Disk : Type 0} (view : FileView Disk) (faults : Disk → Faults) (d : 
   ComesNext p (LosesPower disk) = steps.LosesPower view (disk_of p) disk
   ComesNext p (Begins opening) =
       (votes : List Ballot) × (disk : Disk) × (p ≡ Down votes disk)
-      × Opens view (book_refusal innings) d disk opening
+      × BeginsOn view seen innings d disk opening
 
   abbrev pub IsLife : Process Disk → List (Stage Disk) → Type 0
   IsLife p [] = Unit {0}

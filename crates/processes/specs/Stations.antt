@@ -30,7 +30,7 @@ module _ {S B D : Type 0} {g : Files S D} {h : Disks D} {b : Books B} where
       (turns : ℕ) (result : Result (Unit {0}) DeskEnd)
       → DeskRuns sheet old new before after typed types told tells turns result
       → (ms : List (own.Moment (DeskProcess D) DeskCall))
-      × ComesNext (view_of old) h.faults (desk_of old) (game_of old) (innings_of old)
+      × ComesNext (view_of old) h.seen h.faults (desk_of old) (game_of old) (innings_of old)
       (Running (state_of old)) (Runs ms)
       × (after_stage (Running (state_of old)) (Runs ms) ≡ Running (state_of new))
       × (after ≡ before ++ own.passed_in (kind_of sheet old) ms) × (types ≡ typed ++ own.typed_in (kind_of sheet old) ms)

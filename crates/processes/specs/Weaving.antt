@@ -3,7 +3,7 @@ use Rattle.std.specs.Prelude.{◌≡◌, ℕ, Bool, true, false, nat_eq, List, [
 use Rattle.std.specs.List.{filter}
 use Rattle.entry_log.specs.Disk.{Faults, Images}
 use Rattle.entry_log.specs.Slots.{Contents}
-use Rattle.vote_store.specs.View.{file_view}
+use Rattle.vote_store.specs.View.{file_view, votes_shown}
 use Rattle.agree_core.specs.declared.messages.DeskId.{DeskId}
 use Rattle.agree_core.specs.declared.messages.DeskId.TheVariants.{A, B}
 use Rattle.agree_core.specs.Desks.{DeskState}
@@ -62,7 +62,7 @@ module _ {Disk : Type 0} (seen : Disk → List ℕ) (images : Disk → Images) (
   pub record IsWoven (contents : Contents) (game innings : ℕ) (w : World Disk) (hs : List (Happening Disk)) : Type 0 where
     pub order : NothingComesEarly game w hs
     pub desks : (d : DeskId) → (life : List (Stage Disk))
-        × IsLife (file_view contents seen images d game) faults d game innings (site w d).process life
+        × IsLife (file_view contents seen images d game) seen faults d game innings (site w d).process life
         × (filter (is_at_desk d) hs ≡ life_happens d life)
     pub boards : (n : ℕ) → (life : List (List (own.Moment BoardTurn BoardCall)))
         × IsBoardLife game innings life × (filter (is_at_board n) hs ≡ board_happens n life)
@@ -71,14 +71,20 @@ module _ {Disk : Type 0} (seen : Disk → List ℕ) (images : Disk → Images) (
   -- the desks at the beginnings of their first processes
   abbrev pub BothBegin : Contents → ℕ → ℕ → DeskState Disk → DeskState Disk → Type 0
   BothBegin contents game innings a b =
-      BeginsFirst (file_view contents seen images A game) innings A a
-      × BeginsFirst (file_view contents seen images B game) innings B b
+      BeginsFirst (file_view contents seen images A game) seen innings A a
+      × BeginsFirst (file_view contents seen images B game) seen innings B b
+
+  -- bytes of which there are none show no votes
+  abbrev pub NoneShowNone : (FileVersion → Contents) → ℕ → Type 0
+  NoneShowNone contents game =
+      (version : FileVersion) (d : DeskId) → votes_shown (contents version) d game [] ≡ None
 
   -- the lives of all stations, put into one order in which nothing comes before it was sent, are a flow
   abbrev pub WovenLivesFlow : Type 0
   WovenLivesFlow =
       (contents : FileVersion → Contents) (game innings : ℕ) (version : FileVersion) (boards : ℕ)
-      (a b : DeskState Disk) (hs : List (Happening Disk)) → BothBegin (contents version) game innings a b
+      (a b : DeskState Disk) (hs : List (Happening Disk)) → NoneShowNone contents game
+      → BothBegin (contents version) game innings a b
       → IsWoven (contents version) game innings (start version boards a b) hs
       → IsFlow seen images contents game innings version boards (start version boards a b) hs
 
@@ -86,6 +92,7 @@ module _ {Disk : Type 0} (seen : Disk → List ℕ) (images : Disk → Images) (
   abbrev pub WovenLivesHaveHeadline : Type 0
   WovenLivesHaveHeadline =
       (contents : FileVersion → Contents) (game innings : ℕ) (version : FileVersion) (boards : ℕ)
-      (a b : DeskState Disk) (hs : List (Happening Disk)) → BothBegin (contents version) game innings a b
+      (a b : DeskState Disk) (hs : List (Happening Disk)) → NoneShowNone contents game
+      → BothBegin (contents version) game innings a b
       → IsWoven (contents version) game innings (start version boards a b) hs
       → ProcessHeadline innings (start version boards a b) hs
