@@ -9,7 +9,8 @@ use Rattle.agree_core.specs.Desks.{DeskState}
 use Rattle.agree_core.specs.FileView.{FileView, Holds}
 use Rattle.agree_core.specs.Openings.{Creates, opened}
 use Rattle.processes.specs.Lives.{BeginsFirst}
-use Rattle.processes.specs.Weaving.{NoneShowNone, WovenLivesFlow, WovenLivesHaveHeadline, start}
+use Rattle.processes.specs.Files.{NoneShowNone}
+use Rattle.processes.specs.Weaving.{WovenLivesFlow, WovenLivesHaveHeadline, start}
 use Rattle.processes.proofs.BoardLives.{BoardLocal, board_life}
 use Rattle.processes.proofs.DeskLives.{DeskLocal, life}
 use Rattle.processes.proofs.FlowLaws.{begins_calm, flows_have_headline}
@@ -57,7 +58,7 @@ module _ {Disk : Type 0} (view : DeskId → FileVersion → FileView Disk) where
 
 module _ {Disk : Type 0} (seen : Disk → List ℕ) (images : Disk → Images) (faults : Disk → Faults) where
   -- so at each desk there are bytes
-  has_bytes : (contents : FileVersion → Contents) (game innings : ℕ) (version : FileVersion) (boards : ℕ) (w : World Disk) (hs : List (Happening Disk)) → NoneShowNone seen images faults contents game → IsFlow seen images contents game innings version boards w hs → (d : DeskId) → 0 < length (seen (disk_of (site (after w hs) d).process))
+  has_bytes : (contents : FileVersion → Contents) (game innings : ℕ) (version : FileVersion) (boards : ℕ) (w : World Disk) (hs : List (Happening Disk)) → NoneShowNone contents game → IsFlow seen images contents game innings version boards w hs → (d : DeskId) → 0 < length (seen (disk_of (site (after w hs) d).process))
   has_bytes contents game innings version boards w hs none f d =
       let s = setting_of contents seen images game innings in
       let p = flow_runs s game innings refl w (begins_calm s version boards w f.0) hs f.1 in

@@ -3,7 +3,7 @@ use Rattle.std.specs.Prelude.{◌≡◌, ℕ, Bool, true, false, nat_eq, List, [
 use Rattle.std.specs.List.{filter}
 use Rattle.entry_log.specs.Disk.{Faults, Images}
 use Rattle.entry_log.specs.Slots.{Contents}
-use Rattle.vote_store.specs.View.{file_view, votes_shown}
+use Rattle.vote_store.specs.View.{file_view}
 use Rattle.agree_core.specs.declared.messages.DeskId.{DeskId}
 use Rattle.agree_core.specs.declared.messages.DeskId.TheVariants.{A, B}
 use Rattle.agree_core.specs.Desks.{DeskState}
@@ -13,6 +13,7 @@ use Rattle.live.specs.Boards.{BoardCall, BoardTurn}
 use Rattle.live.specs.Runs as own
 use Rattle.processes.specs.Happenings.{BoardBegun, BoardCalled, BoardCame, DeskBegun, DeskCalled, DeskCame, DeskEnded, Happening, PowerLost, after}
 use Rattle.processes.specs.Lives.{BeginsFirst, IsBoardLife, IsLife, Stage, board_happens, life_happens}
+use Rattle.processes.specs.Files.{NoneShowNone}
 use Rattle.processes.specs.Headline.{ProcessHeadline}
 use Rattle.processes.specs.Laws.{IsFlow}
 
@@ -73,11 +74,6 @@ module _ {Disk : Type 0} (seen : Disk → List ℕ) (images : Disk → Images) (
   BothBegin contents game innings a b =
       BeginsFirst (file_view contents seen images A game) seen innings A a
       × BeginsFirst (file_view contents seen images B game) seen innings B b
-
-  -- bytes of which there are none show no votes
-  abbrev pub NoneShowNone : (FileVersion → Contents) → ℕ → Type 0
-  NoneShowNone contents game =
-      (version : FileVersion) (d : DeskId) → votes_shown (contents version) d game [] ≡ None
 
   -- the lives of all stations, put into one order in which nothing comes before it was sent, are a flow
   abbrev pub WovenLivesFlow : Type 0

@@ -1,5 +1,6 @@
 //! What ties processes to runs. These functions do nothing: each stands for the laws that it ensures.
 
+ghost use Rattle.processes.specs.Files.{EmptyFilesShowNone};
 ghost use Rattle.processes.specs.Laws.{BoardStepsInWorld, DeskStepsInWorld, FlowsAreRuns, FlowsHaveHeadline};
 ghost use Rattle.processes.specs.Stations.{BoardRunIsLife, DeskRunIsStage};
 ghost use Rattle.processes.specs.Weaving.{WovenLivesFlow, WovenLivesHaveHeadline};
@@ -38,4 +39,9 @@ pub fn desk_runs_are_stages<S: SlotsOf, B: BookOf>(old: &Desk<S, B>, new: &Desk<
 /// What `live::run_board` ensures of a new board is a process of its life.
 pub fn board_runs_are_lives<B: BookOf>(old: &Board<B>, new: &Board<B>)
     ensures { BoardRunIsLife B.content B.innings_a_side old.now new.now }
+{}
+
+/// A file of either version without a byte shows no votes.
+pub fn empty_files_show_none()
+    ensures { EmptyFilesShowNone }
 {}
