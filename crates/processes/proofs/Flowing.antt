@@ -27,10 +27,6 @@ sides : (X Y P Q : Type 0) → (X → P) → (Y → Q) → X ⊎ Y → P ⊎ Q
 sides X Y P Q f g (inl x) = inl (f x)
 sides X Y P Q f g (inr y) = inr (g y)
 
-last_on_any : {Disk : Type 0} (w : World Disk) (ms more : List (Moment Disk Refusal)) → last_of w (more ++ ms) ≡ last_of (last_of w ms) more
-last_on_any w ms [] = refl
-last_on_any w ms (m ∷ more) = refl
-
 module _ {Disk : Type 0} where
   same_desk : (k l : DeskState Disk) (p : Process Disk) → p ≡ Running k → p ≡ Running l → k ≡ l
   same_desk k l p e f = cc
@@ -62,7 +58,7 @@ module _ {Disk : Type 0} where
   penned_in what w (m ∷ more) rest v f d b (inl p) =
       let u = last_of (last_of w rest) more in
       let fits : TypedAs what v u d b.entry = subst (Fits what v u) p.0 f.1 in
-      let at : (site u d).process ≡ Running p.1.0 = subst (λ (z : World Disk). (site z d).process ≡ Running p.1.0) (last_on_any w rest more) p.1.1 in
+      let at : (site u d).process ≡ Running p.1.0 = subst (λ (z : World Disk). (site z d).process ≡ Running p.1.0) (last_on w rest more) p.1.1 in
       inl (types what v u d b p.1.0 fits at p.1.2)
   penned_in what w (m ∷ more) rest v f d b (inr h) = penned_in what w more rest v f.0 d b h
 
@@ -78,7 +74,7 @@ module _ {Disk : Type 0} (s : Setting Disk Refusal) (game innings : ℕ) (rules 
       let h : Happens s.view game innings (without_faults v) c = subst (λ (g : World Disk). Happens s.view game innings g c) (sym p.3) f.1 in
       let r = happening s game innings rules v c h in
       let led = r.1 in
-      let last : without_faults (last_of w (led.0 ++ p.0)) ≡ after w (c ∷ cs) = ap without_faults (last_on s w p.0 led.0 ∙ led.3) ∙ r.2 ∙ ap (λ (g : World Disk). after_one g c) p.3 in
+      let last : without_faults (last_of w (led.0 ++ p.0)) ≡ after w (c ∷ cs) = ap without_faults (last_on w p.0 led.0 ∙ led.3) ∙ r.2 ∙ ap (λ (g : World Disk). after_one g c) p.3 in
       let typed : Typed (led.0 ++ p.0) (c ∷ cs) = λ d b t. sides (TypesBallot (without_faults v) c d b) (WasPenned w p.0 d b) (TypesBallot (after w cs) c d b) (WasTyped w cs d b) (subst (λ (x : World Disk). TypesBallot x c d b) p.3) (p.4 d b) (penned_in c w led.0 p.0 v led.4 d b t) in
       (led.0 ++ p.0, run_on s w p.0 led.0 p.1 led.2, (led.0, p.0, led.1, refl, p.2, last), last, typed)
 

@@ -26,16 +26,17 @@ abbrev pub Fits : {Disk : Type 0} → Happening Disk → World Disk → World Di
 Fits what v u (events.Pen c e) = TypedAs what v u c e
 Fits what v u event = Unit {0}
 
+module _ {Disk : Type 0} where
+  pub last_on : (w : World Disk) (ms more : List (Moment Disk Refusal)) → last_of w (more ++ ms) ≡ last_of (last_of w ms) more
+  last_on w ms [] = refl
+  last_on w ms (m ∷ more) = refl
+
 module _ {Disk : Type 0} (s : Setting Disk Refusal) where
   -- a run of at most two events from one world to the other, and what is so of each event
   abbrev pub Leads : (World Disk → Event → Type 0) → World Disk → World Disk → Type 0
   Leads F v new =
       (more : List (Moment Disk Refusal)) × (length more ≤ 2) × Run s v more × (last_of v more ≡ new)
       × AtEachEvent v more (λ u m. F u m.event)
-
-  pub last_on : (w : World Disk) (ms more : List (Moment Disk Refusal)) → last_of w (more ++ ms) ≡ last_of (last_of w ms) more
-  last_on w ms [] = refl
-  last_on w ms (m ∷ more) = refl
 
   pub run_on : (w : World Disk) (ms more : List (Moment Disk Refusal)) → Run s w ms → Run s (last_of w ms) more → Run s w (more ++ ms)
   run_on w ms [] r q = r

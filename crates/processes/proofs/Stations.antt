@@ -1,5 +1,5 @@
 -- What the processes of `live` state is part of a station's life.
-use Rattle.std.proofs.Common.{◌≡◌, ℕ, List, ap, ◌∙◌, refl, subst}
+use Rattle.std.proofs.Common.{Result, Ok, Err, ◌≡◌, ℕ, List, ap, ◌∙◌, refl, subst}
 use Rattle.notation.specs.declared.entry.Entry.{Entry}
 use Rattle.corrections.specs.declared.book_of.BookOf.{Ghosts as Books}
 use Rattle.entry_log.specs.declared.disk.Disk.{Ghosts as Disks}
@@ -9,14 +9,19 @@ use Rattle.board.specs.declared.board.Board.{Board}
 use Rattle.board.specs.Board as board
 use Rattle.desk.specs.declared.desk.Desk.{Desk}
 use Rattle.desk.specs.Desk.{disk_of}
+use Rattle.desk.specs.declared.refusal.OpenRefusal.{OpenRefusal}
 use Rattle.headline.specs.Worlds.{Running}
 use Rattle.live.specs.Boards as boards
 use Rattle.live.specs.Boards.{BoardTurn, board_kind}
 use Rattle.live.specs.Runs as own
 use Rattle.live.specs.Desks.{DeskProcess}
-use Rattle.processes.specs.Stations.{BoardRunIsLife, DeskRunIsStage}
+use Rattle.processes.specs.Stations.{BeginningIsStage, BoardRunIsLife, DeskRunIsStage}
 
 module _ {S B D : Type 0} {g : Files S D} {h : Disks D} {b : Books B} where
+  pub beginning : (made : Result (Desk S B D g h b) (OpenRefusal × D)) → BeginningIsStage made
+  beginning (Ok k) disk d game innings creates opens = (creates, opens)
+  beginning (Err refused) disk d game innings creates opens = (λ none. tt, opens)
+
   pub desk_run : (old new : Desk S B D g h b) → DeskRunIsStage old new
   desk_run old new sheet before after typed types told tells turns result r =
       let goes = r.goes.goes in (

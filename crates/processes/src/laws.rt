@@ -2,12 +2,12 @@
 
 ghost use Rattle.processes.specs.Files.{EmptyFilesShowNone};
 ghost use Rattle.processes.specs.Laws.{BoardStepsInWorld, DeskStepsInWorld, FlowsAreRuns, FlowsHaveHeadline};
-ghost use Rattle.processes.specs.Stations.{BoardRunIsLife, DeskRunIsStage};
+ghost use Rattle.processes.specs.Stations.{BeginningIsStage, BoardRunIsLife, DeskRunIsStage};
 ghost use Rattle.processes.specs.Weaving.{WovenLivesFlow, WovenLivesHaveHeadline};
 
 use board::Board;
 use corrections::BookOf;
-use desk::Desk;
+use desk::{Desk, OpenRefusal};
 use entry_log::{Disk, SlotsOf};
 
 /// A moment of a board's or a desk's process, in a world that a run has come to, extends that run.
@@ -29,6 +29,13 @@ pub fn every_flow_is_sound<D: Disk>()
 pub fn woven_lives_are_a_flow<D: Disk>()
     ensures flow { WovenLivesFlow D.seen D.images D.faults }
     ensures headline { WovenLivesHaveHeadline D.seen D.images D.faults }
+{}
+
+/// What `live::begin_desk` ensures of its answer is a beginning in a desk's life.
+pub fn beginnings_are_stages<S: SlotsOf, B: BookOf>(
+    made: &Result<Desk<S, B>, (OpenRefusal, S::Disk)>,
+)
+    ensures { BeginningIsStage made.now }
 {}
 
 /// What `live::run_desk` ensures of a desk is a stage of its life.
