@@ -43,10 +43,7 @@ pub fn book_of_lines(alloc: Global, innings: u32, input: &[u8]) -> Result<Checke
     ensures book { IfOk result (λ book. IsBookOfLines innings input.now book.entries) }
     ensures why { IfErr result (WhyNoBookOfLines innings input.now) }
 {
-    let mut table = match Table::new(alloc, innings) {
-        Ok(table) => table,
-        Err(_) => return Err(RunFault::NoMemory),
-    };
+    let mut table = Table::new(alloc, innings)?;
     take_lines(&mut table, input)?;
     Ok(table.book)
 }
