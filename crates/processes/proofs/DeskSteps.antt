@@ -79,12 +79,6 @@ module _ {Disk : Type 0} (s : Setting Disk Refusal) (v : World Disk) (d : DeskId
       let p : Running l ≡ with_disk (site v d).process l.disk = ap Running u.1 ∙ ap (λ (q : Process Disk). with_disk q l.disk) (sym e) in
       ((l.disk, subst (λ (q : Process Disk). Stays view (disk_of q) l.disk) (sym e) u.0, λ i. record { version = (site v d).version; process = p i; due = Some Fail }), refl, refl)
 
-  -- nothing is seen of the moment but the disk
-  unseen : (k l : DeskState Disk) (out : List Message) → (site v d).process ≡ Running k → Unchanged view k l → out ≡ [] → Leads s (Fits what v) v (with_site v d (runs_on (site v d) l (Some Fail)) out)
-  unseen k l out e u empty =
-      subst (λ (xs : List Message). Leads s (Fits what v) v (with_site v d (runs_on (site v d) l (Some Fail)) xs)) (sym empty)
-      (at_desk (events.FailAt d 1) steps.Done (runs_on (site v d) l (Some Fail)) [] refl tt (falls k l e u))
-
   -- no event
   nothing : (k l : DeskState Disk) (out : List Message) → (site v d).process ≡ Running k → l ≡ k → out ≡ [] → Leads s (Fits what v) v (with_site v d (runs_on (site v d) l (site v d).due) out)
   nothing k l out e same empty =
@@ -156,8 +150,8 @@ module _ {Disk : Type 0} (s : Setting Disk Refusal) (game innings : ℕ) (rules 
   desk_moment k l (desks.Typed line (Refused refusals.SlotsFull)) out at came h = refused s v d (DeskCalled d (desks.Typed line (Refused refusals.SlotsFull)) out l) k l h.0 core.SlotsFull out at (λ u x. (refl, k, at, x, h.1)) (pens k l h.0 (PenAnswer.Refused core.SlotsFull) out h.2)
   desk_moment k l (desks.Typed line (Refused (refusals.Book why))) out at came h = refused s v d (DeskCalled d (desks.Typed line (Refused (refusals.Book why))) out l) k l h.0 (core.Illegal why) out at (λ u x. (refl, k, at, x, h.1)) (pens k l h.0 (PenAnswer.Refused (core.Illegal why)) out h.2)
   desk_moment k l (desks.Typed line (Refused refusals.Device)) out at came h = pen_failed s v d (DeskCalled d (desks.Typed line (Refused refusals.Device)) out l) k l h.0 out at (λ u x. (refl, k, at, x, h.1)) (pens k l h.0 PenAnswer.DeviceFailed out h.2)
-  desk_moment k l (desks.Given bytes whats.Failed) out at came h = (Some Fail, unseen s v d (DeskCalled d (desks.Given bytes whats.Failed) out l) k l out at h.1 h.2)
-  desk_moment k l (desks.Given bytes (whats.Bad fault)) out at came h = (Some Fail, unseen s v d (DeskCalled d (desks.Given bytes (whats.Bad fault)) out l) k l out at h.2 h.3)
+  desk_moment k l (desks.Given bytes whats.Failed) out at came h = ((site v d).due, nothing s v d (DeskCalled d (desks.Given bytes whats.Failed) out l) k l out at h.1 h.2)
+  desk_moment k l (desks.Given bytes (whats.Bad fault)) out at came h = ((site v d).due, nothing s v d (DeskCalled d (desks.Given bytes (whats.Bad fault)) out l) k l out at h.2 h.3)
   desk_moment k l (desks.Given bytes (whats.Heard x)) out at came h = received s v d (DeskCalled d (desks.Given bytes (whats.Heard x)) out l) k l bytes h.0 (ReceiveAnswer.Told x) (steps.Told x) out game at came h.1 h.2 (refl, refl)
   desk_moment k l (desks.Given bytes whats.Asked) out at came h = received s v d (DeskCalled d (desks.Given bytes whats.Asked) out l) k l bytes h.0 ReceiveAnswer.Asked (steps.Asked (has_any out)) out game at came h.1 h.2 (refl, refl)
   desk_moment k l (desks.Given bytes whats.Device) out at came h = ask_failed s v d (DeskCalled d (desks.Given bytes whats.Device) out l) k l bytes h.0 out game at came h.1 h.2
