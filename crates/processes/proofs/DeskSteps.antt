@@ -11,7 +11,10 @@ use Rattle.agree_core.specs.Desks.{DeskState, PenAnswer, PenRefusal, Pens, Recei
 use Rattle.agree_core.specs.FileView.{FileView, Stays}
 use Rattle.wire.specs.declared.what.What.TheVariants as whats
 use Rattle.wire.specs.Layout.{Says}
+use Rattle.desk.specs.declared.refusal.Refusal as desk_refusals
 use Rattle.desk.specs.declared.refusal.Refusal.TheVariants as refusals
+use Rattle.agree_core.specs.declared.seat.Settled.{Settled}
+use Rattle.live.specs.Saying.{SaysEntry}
 use Rattle.headline.specs.declared.event.Event.{Event}
 use Rattle.headline.specs.declared.event.Event.TheVariants as events
 use Rattle.headline.specs.declared.event.Station.{Station}
@@ -25,8 +28,7 @@ use Rattle.headline.specs.Events.{station_of}
 use Rattle.live.specs.Desks as desks
 use Rattle.live.specs.Desks.{DeskCall, DeskStep}
 use Rattle.live.specs.declared.said.Said.TheVariants.{Quit, List as Listed, Help, Fault as LineFaulty, SayAgain, NoneDiffers, Refused, Penned}
-use Rattle.processes.specs.Happenings.{WasSent, DeskCame, Happening, DeskCalled}
-use Rattle.processes.specs.Laws.{RunsSo}
+use Rattle.processes.specs.Happenings.{WasSent, DeskCame, Happening, DeskCalled, with_process}
 use Rattle.processes.proofs.Going.{Fits, Leads, TypedAs, none, one, two}
 
 module _ {Disk : Type 0} where
@@ -49,19 +51,11 @@ module _ {Disk : Type 0} where
   abbrev pub runs_on : Site Disk → DeskState Disk → Option Fault → Site Disk
   runs_on x l due = record { version = x.version; process = Running l; due = due }
 
-  -- with whatever fault is due, the desk runs so
-  pub placed_so : (v : World Disk) (d : DeskId) (l : DeskState Disk) (due : Option Fault) (out : List Message) → RunsSo v d l out (with_site v d (runs_on (site v d) l due) out)
-  placed_so v A l due out = refl
-  placed_so v B l due out = refl
-
   itself : (x : Site Disk) (k : DeskState Disk) → x.process ≡ Running k → runs_on x k x.due ≡ x
   itself x k e = λ i. record { version = x.version; process = sym e i; due = x.due }
 
   pub stays_refl : (view : FileView Disk) (disk : Disk) → Stays view disk disk
   stays_refl view disk = (refl, λ image. (λ h. h, λ h. h))
-
-  unchanged_refl : (view : FileView Disk) (k : DeskState Disk) → Unchanged view k k
-  unchanged_refl view k = (stays_refl view k.disk, refl)
 
 module _ {Disk : Type 0} (s : Setting Disk Refusal) (v : World Disk) (d : DeskId) (what : Happening Disk) where
   abbrev here : Site Disk
@@ -73,11 +67,11 @@ module _ {Disk : Type 0} (s : Setting Disk Refusal) (v : World Disk) (d : DeskId
   pub at_desk : (event : Event) (answer : Answer Refusal) (y : Site Disk) (out : List Message) → station_of event ≡ stations.Desk d → Fits what v v event → AtDesk s v.sent d event (site v d) answer y out → Leads s (Fits what v) v (with_site v d y out)
   at_desk event answer y out e f h = one s (Fits what v) v event answer (with_site v d y out) f (subst (λ (t : Station). StepAt s v event t answer (with_site v d y out)) (sym e) (y, out, h, refl))
 
-  -- a fault falls due, and the disk may go on unseen
-  falls : (k l : DeskState Disk) → (site v d).process ≡ Running k → Unchanged view k l → AtDesk s v.sent d (events.FailAt d 1) (site v d) steps.Done (runs_on (site v d) l (Some Fail)) []
-  falls k l e u =
-      let p : Running l ≡ with_disk (site v d).process l.disk = ap Running u.1 ∙ ap (λ (q : Process Disk). with_disk q l.disk) (sym e) in
-      ((l.disk, subst (λ (q : Process Disk). Stays view (disk_of q) l.disk) (sym e) u.0, λ i. record { version = (site v d).version; process = p i; due = Some Fail }), refl, refl)
+  -- a fault falls due
+  falls : (k : DeskState Disk) → (site v d).process ≡ Running k → AtDesk s v.sent d (events.FailAt d 1) (site v d) steps.Done (runs_on (site v d) k (Some Fail)) []
+  falls k e =
+      let p : Running k ≡ with_disk (site v d).process k.disk = ap (λ (q : Process Disk). with_disk q k.disk) (sym e) in
+      ((k.disk, subst (λ (q : Process Disk). Stays view (disk_of q) k.disk) (sym e) (stays_refl view k.disk), λ i. record { version = (site v d).version; process = p i; due = Some Fail }), refl, refl)
 
   -- no event
   nothing : (k l : DeskState Disk) (out : List Message) → (site v d).process ≡ Running k → l ≡ k → out ≡ [] → Leads s (Fits what v) v (with_site v d (runs_on (site v d) l (site v d).due) out)
@@ -98,65 +92,94 @@ module _ {Disk : Type 0} (s : Setting Disk Refusal) (v : World Disk) (d : DeskId
       (subst (λ (t : Station). StepAt s u event t answer new) (sym st) (y, out, moved, refl)))
 
   broken : (k : DeskState Disk) (event : Event) (answer : Answer Refusal) (y : Site Disk) (out : List Message) → (site v d).process ≡ Running k → station_of event ≡ stations.Desk d → Fits what v (with_site v d (runs_on (site v d) k (Some Fail)) []) event → AtDesk s v.sent d event (runs_on (site v d) k (Some Fail)) answer y out → Leads s (Fits what v) v (with_site v d y out)
-  broken k event answer y out e st f h = after_fault (runs_on (site v d) k (Some Fail)) event answer y out (falls k k e (unchanged_refl view k)) st f h
+  broken k event answer y out e st f h = after_fault (runs_on (site v d) k (Some Fail)) event answer y out (falls k e) st f h
 
-  abbrev pub SomeDue : DeskState Disk → List Message → Type 0
-  SomeDue l out = (due : Option Fault) × Leads s (Fits what v) v (with_site v d (runs_on (site v d) l due) out)
+  abbrev pub Goes : DeskState Disk → List Message → Type 0
+  Goes l out = Leads s (Fits what v) v (with_site v d (runs_on (site v d) l (site v d).due) out)
 
-  penned : (k l : DeskState Disk) (e : Entry) (told : PenAnswer Refusal) (answer : Answer Refusal) (out : List Message) → (site v d).process ≡ Running k → ((u : World Disk) → (site u d).process ≡ Running k → TypedAs what v u d e) → Pens view s.rules k e told l out → AfterPen view (site v d) told l answer (runs_on (site v d) l (site v d).due) → SomeDue l out
-  penned k l e told answer out at typed h after = ((site v d).due, at_desk (events.Pen d e) answer (runs_on (site v d) l (site v d).due) out refl (typed v at) (k, l, told, at, h, after))
+  -- once the fault is spent, none is due, as before
+  spent : (l : DeskState Disk) (out : List Message) → (site v d).due ≡ None → Leads s (Fits what v) v (with_site v d (runs_on (site v d) l None) out) → Goes l out
+  spent l out calm h = subst (λ (due : Option Fault). Leads s (Fits what v) v (with_site v d (runs_on (site v d) l due) out)) (sym calm) h
 
-  refused : (k l : DeskState Disk) (e : Entry) (why : PenRefusal Refusal) (out : List Message) → (site v d).process ≡ Running k → ((u : World Disk) → (site u d).process ≡ Running k → TypedAs what v u d e) → Pens view s.rules k e (PenAnswer.Refused why) l out → SomeDue l out
-  refused k l e why out at typed h = penned k l e (PenAnswer.Refused why) (steps.NotPenned why) out at typed h (refl, refl)
+  penned : (k l : DeskState Disk) (e : Entry) (told : PenAnswer Refusal) (answer : Answer Refusal) (out : List Message) → (site v d).process ≡ Running k → ((u : World Disk) → (site u d).process ≡ Running k → TypedAs what v u d e) → Pens view s.rules k e told l out → AfterPen view (site v d) told l answer (runs_on (site v d) l (site v d).due) → Goes l out
+  penned k l e told answer out at typed h after = at_desk (events.Pen d e) answer (runs_on (site v d) l (site v d).due) out refl (typed v at) (k, l, told, at, h, after)
 
-  pen_failed : (k l : DeskState Disk) (e : Entry) (out : List Message) → (site v d).process ≡ Running k → ((u : World Disk) → (site u d).process ≡ Running k → TypedAs what v u d e) → Pens view s.rules k e PenAnswer.DeviceFailed l out → SomeDue l out
-  pen_failed k l e out at typed h = (
-    None,
-    broken k (events.Pen d e) steps.DeviceFailed (runs_on (site v d) l None) out at refl
-        (typed (with_site v d (runs_on (site v d) k (Some Fail)) []) (ap (λ (z : Site Disk). z.process) (site_put v d (runs_on (site v d) k (Some Fail)) [])))
-        (k, l, PenAnswer.DeviceFailed, refl, h, (Fail, refl, (refl, refl))),
-  )
+  pen_failed : (site v d).due ≡ None → (k l : DeskState Disk) (e : Entry) (out : List Message) → (site v d).process ≡ Running k → ((u : World Disk) → (site u d).process ≡ Running k → TypedAs what v u d e) → Pens view s.rules k e PenAnswer.DeviceFailed l out → Goes l out
+  pen_failed calm k l e out at typed h =
+      spent l out calm
+      (broken k (events.Pen d e) steps.DeviceFailed (runs_on (site v d) l None) out at refl
+      (typed (with_site v d (runs_on (site v d) k (Some Fail)) []) (ap (λ (z : Site Disk). z.process) (site_put v d (runs_on (site v d) k (Some Fail)) [])))
+      (k, l, PenAnswer.DeviceFailed, refl, h, (Fail, refl, (refl, refl))))
 
-  received : (k l : DeskState Disk) (bytes : List ℕ) (m : Message) (told : ReceiveAnswer) (answer : Answer Refusal) (out : List Message) (game : ℕ) → (site v d).process ≡ Running k → WasSent game v.sent bytes → Says game bytes m → Receives view k m told l out → AfterReceive view (site v d) told l out answer (runs_on (site v d) l (site v d).due) → SomeDue l out
+  received : (k l : DeskState Disk) (bytes : List ℕ) (m : Message) (told : ReceiveAnswer) (answer : Answer Refusal) (out : List Message) (game : ℕ) → (site v d).process ≡ Running k → WasSent game v.sent bytes → Says game bytes m → Receives view k m told l out → AfterReceive view (site v d) told l out answer (runs_on (site v d) l (site v d).due) → Goes l out
   received k l bytes m told answer out game at came says h after =
       let found = came m says in
-      ((site v d).due, at_desk (events.Give found.0 (stations.Desk d)) answer (runs_on (site v d) l (site v d).due) out refl tt (k, l, m, told, at, found.1, h, after))
+      at_desk (events.Give found.0 (stations.Desk d)) answer (runs_on (site v d) l (site v d).due) out refl tt (k, l, m, told, at, found.1, h, after)
 
-  ask_failed : (k l : DeskState Disk) (bytes : List ℕ) (m : Message) (out : List Message) (game : ℕ) → (site v d).process ≡ Running k → WasSent game v.sent bytes → Says game bytes m → Receives view k m ReceiveAnswer.DeviceFailed l out → SomeDue l out
-  ask_failed k l bytes m out game at came says h =
-      let found = came m says in (
-        None,
-        broken k (events.Give found.0 (stations.Desk d)) steps.DeviceFailed (runs_on (site v d) l None) out at refl tt
-            (k, l, m, ReceiveAnswer.DeviceFailed, refl, found.1, h, (Fail, refl, (refl, refl))),
-      )
+  ask_failed : (site v d).due ≡ None → (k l : DeskState Disk) (bytes : List ℕ) (m : Message) (out : List Message) (game : ℕ) → (site v d).process ≡ Running k → WasSent game v.sent bytes → Says game bytes m → Receives view k m ReceiveAnswer.DeviceFailed l out → Goes l out
+  ask_failed calm k l bytes m out game at came says h =
+      let found = came m says in
+      spent l out calm
+      (broken k (events.Give found.0 (stations.Desk d)) steps.DeviceFailed (runs_on (site v d) l None) out at refl tt
+      (k, l, m, ReceiveAnswer.DeviceFailed, refl, found.1, h, (Fail, refl, (refl, refl))))
 
-module _ {Disk : Type 0} (s : Setting Disk Refusal) (game innings : ℕ) (rules : s.rules ≡ book_refusal innings) (v : World Disk) (d : DeskId) where
-  pens : (k l : DeskState Disk) (e : Entry) (told : PenAnswer Refusal) (out : List Message) → Pens (s.view d (site v d).version) (book_refusal innings) k e told l out → Pens (s.view d (site v d).version) s.rules k e told l out
-  pens k l e told out h = subst (λ r. Pens (s.view d (site v d).version) r k e told l out) (sym rules) h
+module _ {Disk : Type 0} (s : Setting Disk Refusal) (game innings : ℕ) (rules : s.rules ≡ book_refusal innings) (v : World Disk) (d : DeskId) (calm : (site v d).due ≡ None) where
+  module _ (k l : DeskState Disk) (out : List Message) (at : (site v d).process ≡ Running k) where
+    abbrev Moves : DeskCall → Type 0
+    Moves call = Leads s (Fits (DeskCalled d call out l) v) v (with_process v d (Running l) out)
 
-  pub desk_moment : (k l : DeskState Disk) (call : DeskCall) (out : List Message) → (site v d).process ≡ Running k → DeskCame game v.sent call → DeskStep (s.view d (site v d).version) game innings k call out l → SomeDue s v d (DeskCalled d call out l) l out
-  desk_moment k l (desks.Typed line Quit) out at came h = ((site v d).due, nothing s v d (DeskCalled d (desks.Typed line Quit) out l) k l out at h.1 h.2)
-  desk_moment k l (desks.Typed line Listed) out at came h = ((site v d).due, nothing s v d (DeskCalled d (desks.Typed line Listed) out l) k l out at h.1 h.2)
-  desk_moment k l (desks.Typed line Help) out at came h = ((site v d).due, nothing s v d (DeskCalled d (desks.Typed line Help) out l) k l out at h.1 h.2)
-  desk_moment k l (desks.Typed line (LineFaulty fault)) out at came h = ((site v d).due, nothing s v d (DeskCalled d (desks.Typed line (LineFaulty fault)) out l) k l out at h.1 h.2)
-  desk_moment k l (desks.Typed line SayAgain) out at came h = ((site v d).due, nothing s v d (DeskCalled d (desks.Typed line SayAgain) out l) k l out at h.1 h.2)
-  desk_moment k l (desks.Typed line NoneDiffers) out at came h = ((site v d).due, nothing s v d (DeskCalled d (desks.Typed line NoneDiffers) out l) k l out at h.1 h.2)
-  desk_moment k l (desks.Typed line (Penned settled)) out at came h =
-      penned s v d (DeskCalled d (desks.Typed line (Penned settled)) out l) k l h.0 (PenAnswer.Penned settled) (steps.Penned settled) out at (λ u x. (refl, k, at, x, h.1)) (pens k l h.0 (PenAnswer.Penned settled) out h.2) (refl, refl)
-  desk_moment k l (desks.Typed line (Refused refusals.Failed)) out at came h = refused s v d (DeskCalled d (desks.Typed line (Refused refusals.Failed)) out l) k l h.0 PenRefusal.Failed out at (λ u x. (refl, k, at, x, h.1)) (pens k l h.0 (PenAnswer.Refused PenRefusal.Failed) out h.2)
-  desk_moment k l (desks.Typed line (Refused refusals.Waiting)) out at came h = refused s v d (DeskCalled d (desks.Typed line (Refused refusals.Waiting)) out l) k l h.0 core.Waiting out at (λ u x. (refl, k, at, x, h.1)) (pens k l h.0 (PenAnswer.Refused core.Waiting) out h.2)
-  desk_moment k l (desks.Typed line (Refused refusals.PlacesFull)) out at came h = refused s v d (DeskCalled d (desks.Typed line (Refused refusals.PlacesFull)) out l) k l h.0 core.PlacesFull out at (λ u x. (refl, k, at, x, h.1)) (pens k l h.0 (PenAnswer.Refused core.PlacesFull) out h.2)
-  desk_moment k l (desks.Typed line (Refused refusals.RoundsFull)) out at came h = refused s v d (DeskCalled d (desks.Typed line (Refused refusals.RoundsFull)) out l) k l h.0 core.RoundsFull out at (λ u x. (refl, k, at, x, h.1)) (pens k l h.0 (PenAnswer.Refused core.RoundsFull) out h.2)
-  desk_moment k l (desks.Typed line (Refused refusals.SlotsFull)) out at came h = refused s v d (DeskCalled d (desks.Typed line (Refused refusals.SlotsFull)) out l) k l h.0 core.SlotsFull out at (λ u x. (refl, k, at, x, h.1)) (pens k l h.0 (PenAnswer.Refused core.SlotsFull) out h.2)
-  desk_moment k l (desks.Typed line (Refused (refusals.Book why))) out at came h = refused s v d (DeskCalled d (desks.Typed line (Refused (refusals.Book why))) out l) k l h.0 (core.Illegal why) out at (λ u x. (refl, k, at, x, h.1)) (pens k l h.0 (PenAnswer.Refused (core.Illegal why)) out h.2)
-  desk_moment k l (desks.Typed line (Refused refusals.Device)) out at came h = pen_failed s v d (DeskCalled d (desks.Typed line (Refused refusals.Device)) out l) k l h.0 out at (λ u x. (refl, k, at, x, h.1)) (pens k l h.0 PenAnswer.DeviceFailed out h.2)
-  desk_moment k l (desks.Given bytes whats.Failed) out at came h = ((site v d).due, nothing s v d (DeskCalled d (desks.Given bytes whats.Failed) out l) k l out at h.1 h.2)
-  desk_moment k l (desks.Given bytes (whats.Bad fault)) out at came h = ((site v d).due, nothing s v d (DeskCalled d (desks.Given bytes (whats.Bad fault)) out l) k l out at h.2 h.3)
-  desk_moment k l (desks.Given bytes (whats.Heard x)) out at came h = received s v d (DeskCalled d (desks.Given bytes (whats.Heard x)) out l) k l bytes h.0 (ReceiveAnswer.Told x) (steps.Told x) out game at came h.1 h.2 (refl, refl)
-  desk_moment k l (desks.Given bytes whats.Asked) out at came h = received s v d (DeskCalled d (desks.Given bytes whats.Asked) out l) k l bytes h.0 ReceiveAnswer.Asked (steps.Asked (has_any out)) out game at came h.1 h.2 (refl, refl)
-  desk_moment k l (desks.Given bytes whats.Device) out at came h = ask_failed s v d (DeskCalled d (desks.Given bytes whats.Device) out l) k l bytes h.0 out game at came h.1 h.2
+    still : (call : DeskCall) → l ≡ k → out ≡ [] → Moves call
+    still call same empty = nothing s v d (DeskCalled d call out l) k l out at same empty
+
+    -- the desk's scorer types a line that says an entry, and it is penned with this answer
+    abbrev SaysAndPens : List ℕ → PenAnswer Refusal → Type 0
+    SaysAndPens line told =
+        (e : Entry) × SaysEntry k.seat.position.round line e
+        × Pens (s.view d (site v d).version) (book_refusal innings) k e told l out
+
+    pens : (line : List ℕ) (told : PenAnswer Refusal) (h : SaysAndPens line told) → Pens (s.view d (site v d).version) s.rules k h.0 told l out
+    pens line told h = subst (λ r. Pens (s.view d (site v d).version) r k h.0 told l out) (sym rules) h.2
+
+    pens_entry : (line : List ℕ) (settled : Settled) → SaysAndPens line (PenAnswer.Penned settled) → Moves (desks.Typed line (Penned settled))
+    pens_entry line settled h =
+        penned s v d (DeskCalled d (desks.Typed line (Penned settled)) out l) k l h.0 (PenAnswer.Penned settled) (steps.Penned settled) out at (λ u x. (refl, k, at, x, h.1))
+        (pens line (PenAnswer.Penned settled) h) (refl, refl)
+
+    refuses : (line : List ℕ) (why : desk_refusals.Refusal) (cause : PenRefusal Refusal) → SaysAndPens line (PenAnswer.Refused cause) → Moves (desks.Typed line (Refused why))
+    refuses line why cause h =
+        penned s v d (DeskCalled d (desks.Typed line (Refused why)) out l) k l h.0 (PenAnswer.Refused cause) (steps.NotPenned cause) out at (λ u x. (refl, k, at, x, h.1))
+        (pens line (PenAnswer.Refused cause) h) (refl, refl)
+
+    fails : (line : List ℕ) → SaysAndPens line PenAnswer.DeviceFailed → Moves (desks.Typed line (Refused refusals.Device))
+    fails line h =
+        pen_failed s v d (DeskCalled d (desks.Typed line (Refused refusals.Device)) out l) calm k l h.0 out at (λ u x. (refl, k, at, x, h.1))
+        (pens line PenAnswer.DeviceFailed h)
+
+  pub desk_moment : (k l : DeskState Disk) (call : DeskCall) (out : List Message) → (site v d).process ≡ Running k → DeskCame game v.sent call → DeskStep (s.view d (site v d).version) game innings k call out l → Leads s (Fits (DeskCalled d call out l) v) v (with_process v d (Running l) out)
+  desk_moment k l (desks.Typed line Quit) out at came h = still k l out at (desks.Typed line Quit) h.1 h.2
+  desk_moment k l (desks.Typed line Listed) out at came h = still k l out at (desks.Typed line Listed) h.1 h.2
+  desk_moment k l (desks.Typed line Help) out at came h = still k l out at (desks.Typed line Help) h.1 h.2
+  desk_moment k l (desks.Typed line (LineFaulty fault)) out at came h = still k l out at (desks.Typed line (LineFaulty fault)) h.1 h.2
+  desk_moment k l (desks.Typed line SayAgain) out at came h = still k l out at (desks.Typed line SayAgain) h.1 h.2
+  desk_moment k l (desks.Typed line NoneDiffers) out at came h = still k l out at (desks.Typed line NoneDiffers) h.1 h.2
+  desk_moment k l (desks.Typed line (Penned settled)) out at came h = pens_entry k l out at line settled h
+  desk_moment k l (desks.Typed line (Refused refusals.Failed)) out at came h = refuses k l out at line refusals.Failed PenRefusal.Failed h
+  desk_moment k l (desks.Typed line (Refused refusals.Waiting)) out at came h = refuses k l out at line refusals.Waiting core.Waiting h
+  desk_moment k l (desks.Typed line (Refused refusals.PlacesFull)) out at came h = refuses k l out at line refusals.PlacesFull core.PlacesFull h
+  desk_moment k l (desks.Typed line (Refused refusals.RoundsFull)) out at came h = refuses k l out at line refusals.RoundsFull core.RoundsFull h
+  desk_moment k l (desks.Typed line (Refused refusals.SlotsFull)) out at came h = refuses k l out at line refusals.SlotsFull core.SlotsFull h
+  desk_moment k l (desks.Typed line (Refused (refusals.Book why))) out at came h = refuses k l out at line (refusals.Book why) (core.Illegal why) h
+  desk_moment k l (desks.Typed line (Refused refusals.Device)) out at came h = fails k l out at line h
+  desk_moment k l (desks.Given bytes whats.Failed) out at came h = still k l out at (desks.Given bytes whats.Failed) h.1 h.2
+  desk_moment k l (desks.Given bytes (whats.Bad fault)) out at came h = still k l out at (desks.Given bytes (whats.Bad fault)) h.2 h.3
+  desk_moment k l (desks.Given bytes (whats.Heard x)) out at came h =
+      received s v d (DeskCalled d (desks.Given bytes (whats.Heard x)) out l) k l bytes h.0 (ReceiveAnswer.Told x) (steps.Told x) out game at came h.1 h.2 (refl, refl)
+  desk_moment k l (desks.Given bytes whats.Asked) out at came h =
+      received s v d (DeskCalled d (desks.Given bytes whats.Asked) out l) k l bytes h.0 ReceiveAnswer.Asked (steps.Asked (has_any out)) out game at came h.1 h.2 (refl, refl)
+  desk_moment k l (desks.Given bytes whats.Device) out at came h =
+      ask_failed s v d (DeskCalled d (desks.Given bytes whats.Device) out l) calm k l bytes h.0 out game at came h.1 h.2
   desk_moment k l desks.Ticked out at came h =
       let e : (site v d).process ≡ Running l = at ∙ ap Running (sym h.1) in
-      ((site v d).due, at_desk s v d (DeskCalled d desks.Ticked out l) (events.Tick (stations.Desk d)) (steps.Ticked (length out)) (runs_on (site v d) l (site v d).due) out refl tt (k, at, h.0, refl, itself (site v d) l e))
-  desk_moment k l desks.TypingEnded out at came h = ((site v d).due, nothing s v d (DeskCalled d desks.TypingEnded out l) k l out at h.0 h.1)
-  desk_moment k l desks.TurnEnded out at came h = ((site v d).due, nothing s v d (DeskCalled d desks.TurnEnded out l) k l out at h.0 h.1)
+      at_desk s v d (DeskCalled d desks.Ticked out l) (events.Tick (stations.Desk d)) (steps.Ticked (length out)) (runs_on (site v d) l (site v d).due) out refl tt (k, at, h.0, refl, itself (site v d) l e)
+  desk_moment k l desks.TypingEnded out at came h = still k l out at desks.TypingEnded h.0 h.1
+  desk_moment k l desks.TurnEnded out at came h = still k l out at desks.TurnEnded h.0 h.1

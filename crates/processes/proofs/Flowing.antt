@@ -1,6 +1,5 @@
 -- A flow of processes is a run, and what is so after some change is so at some moment.
-use Rattle.std.proofs.Common.{◌≡◌, ◌⊎◌, ℕ, List, [], ◌∷◌, ◌++◌, refl, sym, ap, ◌∙◌, subst, inl, inr}
-use Rattle.notation.specs.declared.entry.Entry.{Entry}
+use Rattle.std.proofs.Common.{◌≡◌, ◌⊎◌, ℕ, List, [], ◌∷◌, ◌++◌, refl, sym, ◌∙◌, subst, inl, inr}
 use Rattle.corrections.specs.Refusal.{book_refusal}
 use Rattle.corrections.specs.declared.refusal.Refusal.{Refusal}
 use Rattle.agree_core.specs.declared.messages.DeskId.{DeskId}
@@ -12,16 +11,14 @@ use Rattle.agree_core.specs.Desks.{DeskState}
 use Rattle.live.specs.Desks as desks
 use Rattle.live.specs.Saying.{SaysEntry}
 use Rattle.live.specs.declared.said.Said.{Said}
-use Rattle.headline.specs.Headline.{AtEachEvent, HasNoted}
-use Rattle.headline.specs.declared.event.Station.{Station}
-use Rattle.headline.specs.declared.event.Station.TheVariants as stations
+use Rattle.headline.specs.Headline.{AtEachEvent}
 use Rattle.headline.specs.Worlds.{Process, Running, Setting, World, site}
-use Rattle.headline.specs.Runs.{AtEachMoment, AtSomeMoment, Moment, Run, Shows, WasPenned, last_of}
-use Rattle.processes.specs.Happenings.{BoardBegun, BoardCalled, DeskBegun, DeskCalled, DeskEnded, Flow, Happening, Happens, PowerLost, after, after_one}
+use Rattle.headline.specs.Runs.{AtEachMoment, AtSomeMoment, Moment, Run, WasPenned, last_of}
+use Rattle.processes.specs.Happenings.{BoardBegun, BoardCalled, DeskBegun, DeskCalled, DeskEnded, Flow, Happening, PowerLost, after}
 use Rattle.processes.specs.Headline.{AtEachTime, AtSomeTime, TypesBallot, WasTyped}
-use Rattle.processes.specs.Laws.{GoesThrough, without_faults}
-use Rattle.processes.proofs.Going.{Fits, TypedAs, last_on, run_on}
-use Rattle.processes.proofs.FlowSteps.{happening}
+use Rattle.processes.specs.Laws.{GoesThrough}
+use Rattle.processes.proofs.Going.{Fits, Leads, TypedAs, last_on, run_on}
+use Rattle.processes.proofs.FlowSteps.{IsCalm, calm_after, happening}
 
 sides : (X Y P Q : Type 0) → (X → P) → (Y → Q) → X ⊎ Y → P ⊎ Q
 sides X Y P Q f g (inl x) = inl (f x)
@@ -39,7 +36,7 @@ module _ {Disk : Type 0} where
       (h.0, h.1, h.2, there, subst (λ (z : Position). SaysEntry z.round line b.entry) there h.4)
 
   -- an event that pens a ballot, in what happened
-  types : (what : Happening Disk) (v u : World Disk) (c : DeskId) (b : Ballot) (k : DeskState Disk) → TypedAs what v u c b.entry → (site u c).process ≡ Running k → k.seat.position ≡ b.at → TypesBallot (without_faults v) what c b
+  types : (what : Happening Disk) (v u : World Disk) (c : DeskId) (b : Ballot) (k : DeskState Disk) → TypedAs what v u c b.entry → (site u c).process ≡ Running k → k.seat.position ≡ b.at → TypesBallot v what c b
   types (DeskCalled A (desks.Typed line said) out l) v u c b k h at pos = typed_is v u c A line said out l b k h at pos
   types (DeskCalled B (desks.Typed line said) out l) v u c b k h at pos = typed_is v u c B line said out l b k h at pos
   types (DeskCalled d (desks.Given bytes answer) out l) v u c b k h at pos = absurd h
@@ -53,7 +50,7 @@ module _ {Disk : Type 0} where
   types (BoardBegun n) v u c b k h at pos = absurd h
 
   -- a ballot that was penned in the later events, or before
-  penned_in : (what : Happening Disk) (w : World Disk) (more rest : List (Moment Disk Refusal)) (v : World Disk) → AtEachEvent (last_of w rest) more (λ u m. Fits what v u m.event) → (d : DeskId) (b : Ballot) → WasPenned w (more ++ rest) d b → TypesBallot (without_faults v) what d b ⊎ WasPenned w rest d b
+  penned_in : (what : Happening Disk) (w : World Disk) (more rest : List (Moment Disk Refusal)) (v : World Disk) → AtEachEvent (last_of w rest) more (λ u m. Fits what v u m.event) → (d : DeskId) (b : Ballot) → WasPenned w (more ++ rest) d b → TypesBallot v what d b ⊎ WasPenned w rest d b
   penned_in what w [] rest v f d b h = inr h
   penned_in what w (m ∷ more) rest v f d b (inl p) =
       let u = last_of (last_of w rest) more in
@@ -62,20 +59,22 @@ module _ {Disk : Type 0} where
       inl (types what v u d b p.1.0 fits at p.1.2)
   penned_in what w (m ∷ more) rest v f d b (inr h) = penned_in what w more rest v f.0 d b h
 
-module _ {Disk : Type 0} (s : Setting Disk Refusal) (game innings : ℕ) (rules : s.rules ≡ book_refusal innings) (w : World Disk) (calm : without_faults w ≡ w) where
+module _ {Disk : Type 0} (s : Setting Disk Refusal) (game innings : ℕ) (rules : s.rules ≡ book_refusal innings) (w : World Disk) (calm : IsCalm w) where
   abbrev pub Typed : List (Moment Disk Refusal) → List (Happening Disk) → Type 0
   Typed ms hs = (d : DeskId) (b : Ballot) → WasPenned w ms d b → WasTyped w hs d b
 
-  pub flow_runs : (hs : List (Happening Disk)) → Flow s.view game innings w hs → (ms : List (Moment Disk Refusal)) × Run s w ms × GoesThrough w ms hs × (without_faults (last_of w ms) ≡ after w hs) × Typed ms hs
-  flow_runs [] f = ([], tt, refl, calm, λ d b h. h)
+  stays_calm : (hs : List (Happening Disk)) → IsCalm (after w hs)
+  stays_calm [] = calm
+  stays_calm (c ∷ cs) = calm_after (after w cs) (stays_calm cs) c
+
+  pub flow_runs : (hs : List (Happening Disk)) → Flow s.view game innings w hs → (ms : List (Moment Disk Refusal)) × Run s w ms × GoesThrough w ms hs × (last_of w ms ≡ after w hs) × Typed ms hs
+  flow_runs [] f = ([], tt, refl, refl, λ d b h. h)
   flow_runs (c ∷ cs) f =
       let p = flow_runs cs f.0 in
-      let v = last_of w p.0 in
-      let h : Happens s.view game innings (without_faults v) c = subst (λ (g : World Disk). Happens s.view game innings g c) (sym p.3) f.1 in
-      let r = happening s game innings rules v c h in
-      let led = r.1 in
-      let last : without_faults (last_of w (led.0 ++ p.0)) ≡ after w (c ∷ cs) = ap without_faults (last_on w p.0 led.0 ∙ led.3) ∙ r.2 ∙ ap (λ (g : World Disk). after_one g c) p.3 in
-      let typed : Typed (led.0 ++ p.0) (c ∷ cs) = λ d b t. sides (TypesBallot (without_faults v) c d b) (WasPenned w p.0 d b) (TypesBallot (after w cs) c d b) (WasTyped w cs d b) (subst (λ (x : World Disk). TypesBallot x c d b) p.3) (p.4 d b) (penned_in c w led.0 p.0 v led.4 d b t) in
+      let v = after w cs in
+      let led : Leads s (Fits c v) (last_of w p.0) (after w (c ∷ cs)) = subst (λ (u : World Disk). Leads s (Fits c v) u (after w (c ∷ cs))) (sym p.3) (happening s game innings rules v (stays_calm cs) c f.1) in
+      let last : last_of w (led.0 ++ p.0) ≡ after w (c ∷ cs) = last_on w p.0 led.0 ∙ led.3 in
+      let typed : Typed (led.0 ++ p.0) (c ∷ cs) = λ d b t. sides (TypesBallot v c d b) (WasPenned w p.0 d b) (TypesBallot v c d b) (WasTyped w cs d b) (λ h. h) (p.4 d b) (penned_in c w led.0 p.0 v led.4 d b t) in
       (led.0 ++ p.0, run_on s w p.0 led.0 p.1 led.2, (led.0, p.0, led.1, refl, p.2, last), last, typed)
 
 module _ {Disk : Type 0} where
@@ -87,15 +86,15 @@ module _ {Disk : Type 0} where
   before P w [] rest h = h
   before P w (m ∷ more) rest h = inr (before P w more rest h)
 
-  -- what is so at some time is so at some moment, where it is so whatever faults are due
-  pub at_some : (P : World Disk → Type 0) → ((v : World Disk) → P (without_faults v) → P v) → (w : World Disk) (hs : List (Happening Disk)) (ms : List (Moment Disk Refusal)) → GoesThrough w ms hs → AtSomeTime w hs P → AtSomeMoment w ms P
-  at_some P f w [] ms g h = subst (λ (ns : List (Moment Disk Refusal)). AtSomeMoment w ns P) (sym g) h
-  at_some P f w (c ∷ cs) ms g (inl h) = at_last P w ms (f (last_of w ms) (subst P (sym g.5) h))
-  at_some P f w (c ∷ cs) ms g (inr h) =
+  -- what is so at some time is so at some moment
+  pub at_some : (P : World Disk → Type 0) (w : World Disk) (hs : List (Happening Disk)) (ms : List (Moment Disk Refusal)) → GoesThrough w ms hs → AtSomeTime w hs P → AtSomeMoment w ms P
+  at_some P w [] ms g h = subst (λ (ns : List (Moment Disk Refusal)). AtSomeMoment w ns P) (sym g) h
+  at_some P w (c ∷ cs) ms g (inl h) = at_last P w ms (subst P (sym g.5) h)
+  at_some P w (c ∷ cs) ms g (inr h) =
       subst (λ (ns : List (Moment Disk Refusal)). AtSomeMoment w ns P) (sym g.3)
-      (before P w g.0 g.1 (at_some P f w cs g.1 g.4 h))
+      (before P w g.0 g.1 (at_some P w cs g.1 g.4 h))
 
-  pub last_so : (P : World Disk → Type 0) (w : World Disk) (ms : List (Moment Disk Refusal)) → AtEachMoment w ms P → P (last_of w ms)
+  last_so : (P : World Disk → Type 0) (w : World Disk) (ms : List (Moment Disk Refusal)) → AtEachMoment w ms P → P (last_of w ms)
   last_so P w [] h = h
   last_so P w (m ∷ ms) h = h.0
 
@@ -104,17 +103,6 @@ module _ {Disk : Type 0} where
   earlier P w (m ∷ more) rest h = earlier P w more rest h.1
 
   -- and what is so at each moment is so at each time
-  pub at_each : (P : World Disk → Type 0) → ((v : World Disk) → P v → P (without_faults v)) → (w : World Disk) (hs : List (Happening Disk)) (ms : List (Moment Disk Refusal)) → GoesThrough w ms hs → AtEachMoment w ms P → AtEachTime w hs P
-  at_each P f w [] ms g h = subst (λ (ns : List (Moment Disk Refusal)). AtEachMoment w ns P) g h
-  at_each P f w (c ∷ cs) ms g h = (subst P g.5 (f (last_of w ms) (last_so P w ms h)), at_each P f w cs g.1 g.4 (earlier P w g.0 g.1 (subst (λ (ns : List (Moment Disk Refusal)). AtEachMoment w ns P) g.3 h)))
-
-  -- a book that is shown, and what is noted, whatever faults are due
-  pub shows : (t : Station) (book : List Entry) (v : World Disk) → Shows (without_faults v) t book → Shows v t book
-  shows (stations.Desk A) book v h = h
-  shows (stations.Desk B) book v h = h
-  shows (stations.Board n) book v h = h
-
-  pub notes : (v : World Disk) (t : Station) (book : List Entry) (b : Ballot) (d : DeskId) → HasNoted (without_faults v) t book b d → HasNoted v t book b d
-  notes v (stations.Desk A) book b d h = h
-  notes v (stations.Desk B) book b d h = h
-  notes v (stations.Board n) book b d h = h
+  pub at_each : (P : World Disk → Type 0) (w : World Disk) (hs : List (Happening Disk)) (ms : List (Moment Disk Refusal)) → GoesThrough w ms hs → AtEachMoment w ms P → AtEachTime w hs P
+  at_each P w [] ms g h = subst (λ (ns : List (Moment Disk Refusal)). AtEachMoment w ns P) g h
+  at_each P w (c ∷ cs) ms g h = (subst P g.5 (last_so P w ms h), at_each P w cs g.1 g.4 (earlier P w g.0 g.1 (subst (λ (ns : List (Moment Disk Refusal)). AtEachMoment w ns P) g.3 h)))

@@ -42,10 +42,10 @@ module _ {Disk : Type 0} (s : Setting Disk Refusal) where
   run_on w ms [] r q = r
   run_on w ms (m ∷ more) r q = (run_on w ms more r q.0, subst (λ (v : World Disk). Step s v m.event m.answer m.after) (sym (last_on w ms more)) q.1)
 
-  pub goes_from : (F : World Disk → Event → Type 0) (w : World Disk) (ms : List (Moment Disk Refusal)) (v new : World Disk) (P : World Disk → Type 0) → v ≡ last_of w ms → Run s w ms → Leads F v new → P new → GoesOn s w ms P
-  goes_from F w ms v new P e r h p =
+  pub goes_from : (F : World Disk → Event → Type 0) (w : World Disk) (ms : List (Moment Disk Refusal)) (v new : World Disk) → v ≡ last_of w ms → Run s w ms → Leads F v new → GoesOn s w ms new
+  goes_from F w ms v new e r h =
       let at : Leads F (last_of w ms) new = subst (λ (u : World Disk). Leads F u new) e h in
-      (at.0, at.1, run_on w ms at.0 r at.2, subst P (sym (last_on w ms at.0 ∙ at.3)) p)
+      (at.0, at.1, run_on w ms at.0 r at.2, last_on w ms at.0 ∙ at.3)
 
   pub none : (F : World Disk → Event → Type 0) (v new : World Disk) → v ≡ new → Leads F v new
   none F v new e = ([], omega arith, tt, e, tt)

@@ -14,10 +14,11 @@ use Rattle.processes.specs.Weaving.{WovenLivesFlow, WovenLivesHaveHeadline, star
 use Rattle.processes.proofs.BoardLives.{BoardLocal, board_life}
 use Rattle.processes.proofs.DeskLives.{DeskLocal, life}
 use Rattle.processes.proofs.FlowLaws.{begins_calm, flows_have_headline}
-use Rattle.processes.proofs.Flowing.{flow_runs, last_so}
+use Rattle.processes.proofs.Flowing.{at_each, flow_runs}
 use Rattle.processes.proofs.Weaving.{woven}
 use Rattle.processes.specs.Happenings.{Happening, after}
-use Rattle.processes.specs.Laws.{IsFlow, without_faults}
+use Rattle.processes.specs.Laws.{IsFlow}
+use Rattle.processes.specs.Headline.{AtEachTime}
 use Rattle.corrections.specs.Refusal.{book_refusal}
 use Rattle.entry_log.specs.Slots.{Contents}
 use Rattle.vote_store.specs.View.{votes_shown}
@@ -26,7 +27,7 @@ use Rattle.headline.proofs.Whole.{holds_in_run}
 use Rattle.headline.specs.declared.version.FileVersion.{FileVersion}
 use Rattle.headline.specs.Headline.{StandsFast}
 use Rattle.headline.specs.Match.{setting_of}
-use Rattle.headline.specs.Runs.{Begins, last_of}
+use Rattle.headline.specs.Runs.{Begins}
 use Rattle.headline.specs.Worlds.{World, disk_of, site}
 
 -- a desk that begins first is as one that was created
@@ -47,14 +48,9 @@ first view seen innings d k h = by_length (length (seen h.0)) refl
 some_bytes : (o : Option (List Ballot)) (votes : List Ballot) → o ≡ None → o ≡ Some votes → ⊥
 some_bytes o votes e f = absurd (cc)
 
-module _ {Disk : Type 0} (view : DeskId → FileVersion → FileView Disk) where
-  -- what a desk's disk shows
-  abbrev Reads : World Disk → DeskId → Type 0
-  Reads v d = (votes : List Ballot) × ((view d (site v d).version).reads (disk_of (site v d).process) ≡ Some votes)
-
-  same_reads : (v : World Disk) (d : DeskId) → Reads v d → Reads (without_faults v) d
-  same_reads v A h = h
-  same_reads v B h = h
+now_so : {Disk : Type 0} (P : World Disk → Type 0) (w : World Disk) (hs : List (Happening Disk)) → AtEachTime w hs P → P (after w hs)
+now_so P w [] h = h
+now_so P w (x ∷ hs) h = h.0
 
 module _ {Disk : Type 0} (seen : Disk → List ℕ) (images : Disk → Images) (faults : Disk → Faults) where
   -- so at each desk there are bytes
@@ -62,11 +58,9 @@ module _ {Disk : Type 0} (seen : Disk → List ℕ) (images : Disk → Images) (
   has_bytes contents game innings version boards w hs none f d =
       let s = setting_of contents seen images game innings in
       let p = flow_runs s game innings refl w (begins_calm s version boards w f.0) hs f.1 in
-      let fast = last_so (StandsFast s) w p.0 (holds_in_run s innings version boards w p.0 f.0 p.1).stands_fast in
-      let found = fast.safe.reads d in
-      let here = same_reads s.view (last_of w p.0) d (found.0, found.1) in
-      let shown : Reads s.view (after w hs) d = subst (λ (v : World Disk). Reads s.view v d) p.3 here in
-      by_bytes (seen (disk_of (site (after w hs) d).process)) shown.0 ((site (after w hs) d).version) shown.1
+      let fast = at_each (StandsFast s) w hs p.0 p.2 (holds_in_run s innings version boards w p.0 f.0 p.1).stands_fast in
+      let found = (now_so (StandsFast s) w hs fast).safe.reads d in
+      by_bytes (seen (disk_of (site (after w hs) d).process)) found.0 (site (after w hs) d).version found.1
     where
       by_bytes : (file : List ℕ) (votes : List Ballot) (z : FileVersion) → votes_shown (contents z) d game file ≡ Some votes → 0 < length file
       by_bytes [] votes z e = absurd (some_bytes (votes_shown (contents z) d game []) votes (none z d) e)

@@ -9,34 +9,20 @@ use Rattle.agree_core.specs.declared.messages.Message.{Message}
 use Rattle.agree_core.specs.Boards.{BoardState}
 use Rattle.agree_core.specs.Desks.{DeskState}
 use Rattle.headline.specs.declared.version.FileVersion.{FileVersion}
-use Rattle.headline.specs.Worlds.{Running, Setting, Site, World, board_at, site, with_board, with_site}
+use Rattle.headline.specs.Worlds.{Running, Setting, World, board_at, site, with_board}
 use Rattle.headline.specs.Runs.{Begins, Moment, Run, last_of}
 use Rattle.headline.specs.Laws.{HoldsInRun}
 use Rattle.headline.specs.Match.{setting_of}
 use Rattle.live.specs.Boards.{BoardCall, BoardStep}
 use Rattle.live.specs.Desks.{DeskCall, DeskStep}
-use Rattle.processes.specs.Happenings.{BoardCame, DeskCame, Flow, Happening, after}
+use Rattle.processes.specs.Happenings.{BoardCame, DeskCame, Flow, Happening, after, with_process}
 use Rattle.processes.specs.Headline.{ProcessHeadline}
 
--- the run goes on, by at most two events, to a world that is so
+-- the run goes on, by at most two events, to this world
 abbrev pub GoesOn :
-    {Disk : Type 0} → Setting Disk Refusal → World Disk → List (Moment Disk Refusal) → (World Disk → Type 0) → Type 0
-GoesOn s w ms P =
-    (more : List (Moment _ Refusal)) × (length more ≤ 2) × Run s w (more ++ ms) × P (last_of w (more ++ ms))
-
--- the world is this one, with a desk that runs so, once these messages were handed out; what fault is due on that
--- desk's disk is left open
-abbrev pub RunsSo :
-    {Disk : Type 0} → World Disk → DeskId → DeskState Disk → List Message → World Disk → Type 0
-RunsSo v d l out new =
-    new ≡ with_site v d (record { version = (site v d).version; process = Running l; due = (site new d).due }) out
-
--- the world with no fault due
-abbrev pub calm : {Disk : Type 0} → Site Disk → Site Disk
-calm x = record x { due = None }
-
-abbrev pub without_faults : {Disk : Type 0} → World Disk → World Disk
-without_faults w = record w { a = calm w.a; b = calm w.b }
+    {Disk : Type 0} → Setting Disk Refusal → World Disk → List (Moment Disk Refusal) → World Disk → Type 0
+GoesOn s w ms new =
+    (more : List (Moment _ Refusal)) × (length more ≤ 2) × Run s w (more ++ ms) × (last_of w (more ++ ms) ≡ new)
 
 -- the run goes through all that happened, one after the other, with at most two events for each
 abbrev pub GoesThrough :
@@ -44,7 +30,7 @@ abbrev pub GoesThrough :
 GoesThrough w ms [] = ms ≡ []
 GoesThrough w ms (h ∷ hs) =
     (more : List (Moment _ Refusal)) × (rest : List (Moment _ Refusal)) × (length more ≤ 2)
-    × (ms ≡ more ++ rest) × GoesThrough w rest hs × (without_faults (last_of w ms) ≡ after w (h ∷ hs))
+    × (ms ≡ more ++ rest) × GoesThrough w rest hs × (last_of w ms ≡ after w (h ∷ hs))
 
 module _ {Disk : Type 0} (seen : Disk → List ℕ) (images : Disk → Images) where
   -- A moment of a board's process, in the world that a run has come to, whose datagram, where it reads as a message of
@@ -56,17 +42,17 @@ module _ {Disk : Type 0} (seen : Disk → List ℕ) (images : Disk → Images) w
       → (n : ℕ) (k l : BoardState) (call : BoardCall) (out : List Message) → board_at v.boards n ≡ Some k
       → BoardCame game v.sent call → BoardStep game innings k call out l
       → GoesOn (setting_of contents seen images game innings) w ms
-      (λ new. new ≡ record v { boards = with_board v.boards n l; sent = v.sent ++ out })
+      (record v { boards = with_board v.boards n l; sent = v.sent ++ out })
 
-  -- the same of a desk's process
+  -- the same of a desk's process, where no fault is due on its disk
   abbrev pub DeskStepsInWorld : Type 0
   DeskStepsInWorld =
       (contents : FileVersion → Contents) (game innings : ℕ) (w : World Disk) (ms : List (Moment Disk Refusal))
       → Run (setting_of contents seen images game innings) w ms → (v : World Disk) → v ≡ last_of w ms
       → (d : DeskId) (k l : DeskState Disk) (call : DeskCall) (out : List Message) → (site v d).process ≡ Running k
-      → DeskCame game v.sent call
+      → (site v d).due ≡ None → DeskCame game v.sent call
       → DeskStep (file_view (contents (site v d).version) seen images d game) game innings k call out l
-      → GoesOn (setting_of contents seen images game innings) w ms (RunsSo v d l out)
+      → GoesOn (setting_of contents seen images game innings) w ms (with_process v d (Running l) out)
 
   -- Of all that happens to the processes of two desks that were just created and of boards:
   module _ (contents : FileVersion → Contents) (game innings : ℕ) where
