@@ -1,0 +1,56 @@
+-- A moment of a board's process is an event.
+use Rattle.std.proofs.Common.{◌≡◌, ℕ, zero, suc, Some, List, [], ◌∷◌, ◌++◌, length, refl, sym, ap, ◌∙◌, subst, append-nil, Ok, Err}
+use Rattle.std.specs.Prelude.{slice_get, slice_set}
+use Rattle.corrections.specs.Refusal.{book_refusal}
+use Rattle.corrections.specs.declared.refusal.Refusal.{Refusal}
+use Rattle.agree_core.specs.declared.messages.Message.{Message}
+use Rattle.agree_core.specs.Boards.{BoardAnswer, BoardReceives, BoardState}
+use Rattle.wire.specs.declared.what.What.TheVariants.{Bad, Heard, Asked, Device, Failed}
+use Rattle.wire.specs.Layout.{Says}
+use Rattle.board.specs.declared.refusal.BoardRefusal.TheVariants.{BadVotes}
+use Rattle.headline.specs.declared.event.Event.TheVariants as events
+use Rattle.headline.specs.declared.event.Station.TheVariants as stations
+use Rattle.headline.specs.Worlds.{Setting, World, board_at, with_board}
+use Rattle.headline.specs.Steps as steps
+use Rattle.headline.specs.Steps.{board_told}
+use Rattle.live.specs.Boards as boards
+use Rattle.live.specs.Boards.{BoardCall, BoardStep}
+use Rattle.processes.specs.Happenings.{BoardCame, Happening}
+use Rattle.processes.proofs.Going.{Fits, Leads, none, one}
+
+same_item : (xs : List BoardState) (n : ℕ) (x : BoardState) → slice_get xs n ≡ Some x → slice_set xs n x ≡ xs
+same_item [] n x e = refl
+same_item (y ∷ xs) zero x e = let q : x ≡ y = cc in ap (λ (z : BoardState). z ∷ xs) q
+same_item (y ∷ xs) (suc n) x e = ap (λ (zs : List BoardState). y ∷ zs) (same_item xs n x e)
+
+pub same_board : (xs : List BoardState) (n : ℕ) (x : BoardState) → board_at xs n ≡ Some x → with_board xs n x ≡ xs
+same_board xs zero x e = refl
+same_board xs (suc n) x e = same_item xs n x e
+
+-- the world with this board so, once these messages were handed out
+abbrev pub with_it : {Disk : Type 0} → World Disk → ℕ → BoardState → List Message → World Disk
+with_it v n l out = record v { boards = with_board v.boards n l; sent = v.sent ++ out }
+
+module _ {Disk : Type 0} (s : Setting Disk Refusal) (game innings : ℕ) (rules : s.rules ≡ book_refusal innings) (v : World Disk) (what : Happening Disk) where
+  received : (n : ℕ) (k l : BoardState) (bytes : List ℕ) (m : Message) (told : BoardAnswer) (out : List Message) → board_at v.boards n ≡ Some k → BoardCame game v.sent (boards.Given bytes (Ok Asked)) → Says game bytes m → BoardReceives (book_refusal innings) k m told l → out ≡ [] → Leads s (Fits what v) v (with_it v n l out)
+  received n k l bytes m told out at came says got empty =
+      let found = came m says in
+      one s (Fits what v) v (events.Give found.0 (stations.Board n)) (board_told told) (with_it v n l out) tt
+      (k, l, out, at, (m, told, found.1, subst (λ r. BoardReceives r k m told l) (sym rules) got, refl, empty), refl)
+
+  unmoved : (n : ℕ) (k l : BoardState) (out : List Message) → board_at v.boards n ≡ Some k → l ≡ k → out ≡ [] → Leads s (Fits what v) v (with_it v n l out)
+  unmoved n k l out at same empty =
+      none s (Fits what v) v (with_it v n l out) (sym ((λ i. record v { boards = with_board v.boards n (same i); sent = v.sent ++ empty i }) ∙ (λ i. record v { boards = same_board v.boards n k at i; sent = append-nil v.sent i })))
+
+  pub board_moment : (n : ℕ) (k l : BoardState) (call : BoardCall) (out : List Message) → board_at v.boards n ≡ Some k → BoardCame game v.sent call → BoardStep game innings k call out l → Leads s (Fits what v) v (with_it v n l out)
+  board_moment n k l (boards.Given bytes (Ok (Bad fault))) out at came h =
+      unmoved n k l out at h.0.1 h.1
+  board_moment n k l (boards.Given bytes (Ok (Heard x))) out at came h = let t = h.0 in received n k l bytes t.0 (BoardAnswer.Told x) out at came t.1 t.2 h.1
+  board_moment n k l (boards.Given bytes (Ok Asked)) out at came h = let t = h.0 in received n k l bytes t.0 BoardAnswer.Asked out at came t.1 t.2 h.1
+  board_moment n k l (boards.Given bytes (Ok Device)) out at came h = absurd h.0
+  board_moment n k l (boards.Given bytes (Ok Failed)) out at came h = absurd h.0
+  board_moment n k l (boards.Given bytes (Err (BadVotes p))) out at came h = let t = h.0 in received n k l bytes t.0 (BoardAnswer.BadVotes p) out at came t.1 t.2 h.1
+  board_moment n k l boards.Ticked out at came h =
+      one s (Fits what v) v (events.Tick (stations.Board n)) (steps.Ticked (length out)) (with_it v n l out) tt
+      (k, l, out, at, (h.0, refl, h.1), refl)
+  board_moment n k l boards.TurnEnded out at came h = unmoved n k l out at h.0 h.1

@@ -1,0 +1,118 @@
+-- What happens to a process is a run of at most two events.
+use Rattle.std.proofs.Common.{◌≡◌, ℕ, Option, Some, None, List, [], ◌++◌, length, refl, sym, ap, subst, append-nil}
+use Rattle.corrections.specs.Refusal.{book_refusal}
+use Rattle.corrections.specs.declared.refusal.Refusal.{Refusal}
+use Rattle.agree_core.specs.declared.messages.DeskId.{DeskId}
+use Rattle.agree_core.specs.declared.messages.DeskId.TheVariants.{A, B}
+use Rattle.agree_core.specs.declared.messages.Message.{Message}
+use Rattle.agree_core.specs.Ballots.{Ballot}
+use Rattle.agree_core.specs.Boards.{BoardState, fresh_board}
+use Rattle.agree_core.specs.Desks.{DeskState}
+use Rattle.agree_core.specs.FileView.{MaySync, Stays}
+use Rattle.agree_core.specs.Openings.{OpenRefusal, Opening, Opens}
+use Rattle.entry_log.specs.declared.mem_disk.choice.Choice.TheVariants as choices
+use Rattle.headline.specs.declared.event.Event.{Event}
+use Rattle.headline.specs.declared.event.Event.TheVariants as events
+use Rattle.headline.specs.declared.event.Station.TheVariants as stations
+use Rattle.headline.specs.declared.fault.Fault.{Fault}
+use Rattle.headline.specs.declared.fault.Fault.TheVariants.{Fail}
+use Rattle.headline.specs.Worlds.{Process, Running, Down, Setting, Site, World, board_at, disk_of, site, votes_of, with_board, with_disk, with_site}
+use Rattle.headline.specs.Steps as steps
+use Rattle.headline.specs.Steps.{Answer, AtDesk, LosesPower}
+use Rattle.headline.specs.Events.{station_of}
+use Rattle.processes.specs.Happenings.{Happening, DeskCalled, DeskEnded, PowerLost, DeskBegun, BoardCalled, BoardBegun, Happens, after_one, begun, with_process}
+use Rattle.processes.proofs.Going.{Fits, Leads, one}
+use Rattle.processes.proofs.BoardSteps.{board_moment, with_it}
+use Rattle.processes.proofs.DeskSteps.{after_fault, at_desk, desk_moment, stays_refl}
+
+module _ {Disk : Type 0} (s : Setting Disk Refusal) (v : World Disk) (what : Happening Disk) where
+  abbrev Reaches : World Disk → Type 0
+  Reaches new = Leads s (Fits what v) v new
+
+  module _ (d : DeskId) (calm : (site v d).due ≡ None) where
+    -- the site with this process, and this fault due
+    abbrev placed : Process Disk → Option Fault → Site Disk
+    placed p due = record { version = (site v d).version; process = p; due = due }
+
+    -- no fault is due, as before
+    as_before : (p : Process Disk) → Reaches (with_site v d (placed p None) []) → Reaches (with_process v d p [])
+    as_before p h = subst (λ (due : Option Fault). Reaches (with_site v d (placed p due) [])) (sym calm) h
+
+    by_event : (event : Event) (answer : Answer Refusal) (p : Process Disk) (due : Option Fault) → station_of event ≡ stations.Desk d → Fits what v v event → AtDesk s v.sent d event (site v d) answer (placed p due) [] → Reaches (with_site v d (placed p due) [])
+    by_event event answer p due e f h = at_desk s v d what event answer (placed p due) [] e f h
+
+    ended : (k : DeskState Disk) (disk : Disk) → (site v d).process ≡ Running k → Stays (s.view d (site v d).version) k.disk disk → Reaches (with_process v d (Down (votes_of (site v d).process) disk) [])
+    ended k disk at h =
+        as_before (Down (votes_of (site v d).process) disk)
+        (by_event (events.Kill d) steps.Done (Down (votes_of (site v d).process) disk) None refl tt
+        (k, at, (disk, subst (λ (q : Process Disk). Stays (s.view d (site v d).version) (disk_of q) disk) (sym at) h, refl), refl, refl))
+
+    power_lost : (disk : Disk) → LosesPower (s.view d (site v d).version) (disk_of (site v d).process) disk → Reaches (with_process v d (Down (votes_of (site v d).process) disk) [])
+    power_lost disk h =
+        as_before (Down (votes_of (site v d).process) disk)
+        (by_event (events.Power d choices.Kept) steps.Done (Down (votes_of (site v d).process) disk) None refl tt (disk, h, refl, refl, refl))
+
+    -- a fault falls due at a desk that is down
+    fault_down : (votes : List Ballot) (disk : Disk) → (site v d).process ≡ Down votes disk → AtDesk s v.sent d (events.FailAt d 1) (site v d) steps.Done (placed (Down votes disk) (Some Fail)) []
+    fault_down votes disk at =
+        let p : Down votes disk ≡ with_disk (site v d).process disk = ap (λ (q : Process Disk). with_disk q disk) (sym at) in
+        ((disk, subst (λ (q : Process Disk). Stays (s.view d (site v d).version) (disk_of q) disk) (sym at) (stays_refl (s.view d (site v d).version) disk), λ i. placed (p i) (Some Fail)), refl, refl)
+
+    not_opened : (votes : List Ballot) (disk left : Disk) → (site v d).process ≡ Down votes disk → MaySync (s.view d (site v d).version) disk left → Reaches (with_process v d (Down votes left) [])
+    not_opened votes disk left at h =
+        as_before (Down votes left)
+        (after_fault s v d what (placed (Down votes disk) (Some Fail)) (events.Open d) steps.DeviceFailed (placed (Down votes left) None) [] (fault_down votes disk at) refl tt
+        (votes, disk, Opening.NotOpened OpenRefusal.DeviceFailed left, refl, h, (Fail, refl, (refl, refl)), refl))
+
+    opened : (votes : List Ballot) (disk : Disk) (opening : Opening Disk) → (site v d).process ≡ Down votes disk → Opens (s.view d (site v d).version) s.rules d disk opening → Reaches (with_process v d (begun votes opening) [])
+    opened votes disk (Opening.Opened k) at h =
+        by_event (events.Open d) (steps.Opened (length k.book)) (Running k) (site v d).due refl tt (votes, disk, Opening.Opened k, at, h, (refl, refl), refl)
+    opened votes disk (Opening.NotOpened OpenRefusal.Unsound left) at h =
+        by_event (events.Open d) steps.Unsound (Down votes left) (site v d).due refl tt (votes, disk, Opening.NotOpened OpenRefusal.Unsound left, at, h, (refl, refl), refl)
+    opened votes disk (Opening.NotOpened (OpenRefusal.BadVotes place) left) at h =
+        by_event (events.Open d) steps.NoBook (Down votes left) (site v d).due refl tt (votes, disk, Opening.NotOpened (OpenRefusal.BadVotes place) left, at, h, (refl, refl), refl)
+    opened votes disk (Opening.NotOpened OpenRefusal.NoMemory left) at h = not_opened votes disk left at h
+    opened votes disk (Opening.NotOpened OpenRefusal.DeviceFailed left) at h = not_opened votes disk left at h
+
+  wiped : (n : ℕ) (k : BoardState) → board_at v.boards n ≡ Some k → Reaches (record v { boards = with_board v.boards n fresh_board })
+  wiped n k at =
+      subst (λ (sent : List Message). Reaches (record v { boards = with_board v.boards n fresh_board; sent = sent })) (append-nil v.sent)
+      (one s (Fits what v) v (events.Wipe n) steps.Done (with_it v n fresh_board []) tt (k, fresh_board, [], at, (refl, refl, refl), refl))
+
+module _ {Disk : Type 0} where
+  -- no fault is due
+  abbrev pub IsCalm : World Disk → Type 0
+  IsCalm v = (d : DeskId) → (site v d).due ≡ None
+
+  calm_put : (v : World Disk) → IsCalm v → (d : DeskId) (p : Process Disk) (out : List Message) → IsCalm (with_process v d p out)
+  calm_put v c A p out A = c A
+  calm_put v c A p out B = c B
+  calm_put v c B p out A = c A
+  calm_put v c B p out B = c B
+
+  calm_boards : (v : World Disk) → IsCalm v → (boards : List BoardState) (sent : List Message) → IsCalm (record v { boards = boards; sent = sent })
+  calm_boards v c boards sent A = c A
+  calm_boards v c boards sent B = c B
+
+  -- so it stays
+  pub calm_after : (v : World Disk) → IsCalm v → (what : Happening Disk) → IsCalm (after_one v what)
+  calm_after v c (DeskCalled d call out l) = calm_put v c d (Running l) out
+  calm_after v c (DeskEnded d disk) = calm_put v c d (Down (votes_of (site v d).process) disk) []
+  calm_after v c (PowerLost d disk) = calm_put v c d (Down (votes_of (site v d).process) disk) []
+  calm_after v c (DeskBegun d opening) = calm_put v c d (begun (votes_of (site v d).process) opening) []
+  calm_after v c (BoardCalled n call out l) = calm_boards v c (with_board v.boards n l) (v.sent ++ out)
+  calm_after v c (BoardBegun n) = calm_boards v c (with_board v.boards n fresh_board) v.sent
+
+module _ {Disk : Type 0} (s : Setting Disk Refusal) (game innings : ℕ) (rules : s.rules ≡ book_refusal innings) (v : World Disk) (calm : IsCalm v) where
+  opens : (what : Happening Disk) (d : DeskId) (votes : List Ballot) (disk : Disk) (opening : Opening Disk) → (site v d).process ≡ Down votes disk → Opens (s.view d (site v d).version) (book_refusal innings) d disk opening → Leads s (Fits what v) v (with_process v d (begun (votes_of (site v d).process) opening) [])
+  opens what d votes disk opening at h =
+      subst (λ (p : Process Disk). Leads s (Fits what v) v (with_process v d (begun (votes_of p) opening) [])) (sym at)
+      (opened s v what d (calm d) votes disk opening at (subst (λ r. Opens (s.view d (site v d).version) r d disk opening) (sym rules) h))
+
+  pub happening : (what : Happening Disk) → Happens s.view game innings v what → Leads s (Fits what v) v (after_one v what)
+  happening (DeskCalled d call out l) h = desk_moment s game innings rules v d (calm d) h.0 l call out h.1 h.2 h.3
+  happening (DeskEnded d disk) h = ended s v (DeskEnded d disk) d (calm d) h.0 disk h.1 h.2
+  happening (PowerLost d disk) h = power_lost s v (PowerLost d disk) d (calm d) disk h
+  happening (DeskBegun d opening) h = opens (DeskBegun d opening) d h.0 h.1 opening h.2 h.3
+  happening (BoardCalled n call out l) h = board_moment s game innings rules v (BoardCalled n call out l) n h.0 l call out h.1 h.2 h.3
+  happening (BoardBegun n) h = wiped s v (BoardBegun n) n h.0 h.1

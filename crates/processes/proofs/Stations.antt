@@ -1,0 +1,44 @@
+-- What the processes of `live` state is part of a station's life.
+use Rattle.std.proofs.Common.{Result, Ok, Err, ◌≡◌, ℕ, List, ap, ◌∙◌, refl, subst}
+use Rattle.notation.specs.declared.entry.Entry.{Entry}
+use Rattle.corrections.specs.declared.book_of.BookOf.{Ghosts as Books}
+use Rattle.entry_log.specs.declared.disk.Disk.{Ghosts as Disks}
+use Rattle.entry_log.specs.declared.slots_of.SlotsOf.{Ghosts as Files}
+use Rattle.agree_core.specs.Boards.{BoardState}
+use Rattle.board.specs.declared.board.Board.{Board}
+use Rattle.board.specs.Board as board
+use Rattle.desk.specs.declared.desk.Desk.{Desk}
+use Rattle.desk.specs.Desk.{disk_of}
+use Rattle.desk.specs.declared.refusal.OpenRefusal.{OpenRefusal}
+use Rattle.headline.specs.Worlds.{Running}
+use Rattle.live.specs.Boards as boards
+use Rattle.live.specs.Boards.{BoardTurn, board_kind}
+use Rattle.live.specs.Runs as own
+use Rattle.live.specs.Desks.{DeskProcess}
+use Rattle.processes.specs.Stations.{BeginningIsStage, BoardRunIsLife, DeskRunIsStage}
+
+module _ {S B D : Type 0} {g : Files S D} {h : Disks D} {b : Books B} where
+  pub beginning : (made : Result (Desk S B D g h b) (OpenRefusal × D)) → BeginningIsStage made
+  beginning (Ok k) disk d game innings creates opens = (creates, opens)
+  beginning (Err refused) disk d game innings creates opens = (λ none. tt, opens)
+
+  pub desk_run : (old new : Desk S B D g h b) → DeskRunIsStage old new
+  desk_run old new sheet before after typed types told tells turns result r =
+      let goes = r.goes.goes in (
+        goes.moments,
+        (_, refl, (sheet, g.room, h.cap (disk_of old), goes.run)),
+        ap (λ (p : DeskProcess D). Running p.desk) goes.last ∙ ap Running r.is,
+        goes.passed,
+        goes.inputs,
+      )
+
+module _ {B : Type 0} {g : _} (content : B → List Entry) (innings_of : B → ℕ) where
+  pub board_run : (old new : Board B g) → BoardRunIsLife content innings_of old new
+  board_run old new sheet before after told tells turns result new_board r =
+      let goes = r.goes.goes in
+      let kind = board_kind sheet (board.game_of old) (innings_of (board.book_of old)) in (
+        goes.moments,
+        (sheet, subst (λ (k : BoardState). own.Run kind (boards.begun k 0) goes.moments) new_board goes.run),
+        subst (λ (k : BoardState). (λ (t : BoardTurn). t.board) (own.last_of (boards.begun k 0) goes.moments) ≡ board.state_of content new) new_board (ap (λ (t : BoardTurn). t.board) goes.last ∙ r.is),
+        goes.passed,
+      )

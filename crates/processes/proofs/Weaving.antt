@@ -1,0 +1,162 @@
+-- Woven lives are a flow.
+use Rattle.std.proofs.Common.{◌≡◌, ◌<◌, length, ℕ, zero, suc, Bool, true, false, nat_eq, Option, Some, None, List, [], ◌∷◌, ◌++◌, cond, refl, sym, ap, ◌∙◌, subst, append-nil}
+use Rattle.std.proofs.lemmas.Bool.{eq-eqb}
+use Rattle.std.proofs.Math.Dec.{eqb-suc-suc, eqb-suc-zero, eqb-zero-suc}
+use Rattle.std.specs.List.{filter}
+use Rattle.std.specs.Prelude.{slice_get, slice_set}
+use Rattle.agree_core.specs.declared.messages.DeskId.{DeskId}
+use Rattle.agree_core.specs.declared.messages.DeskId.TheVariants.{A, B}
+use Rattle.agree_core.specs.Boards.{BoardState, fresh_board}
+use Rattle.agree_core.specs.declared.messages.Message.{Message}
+use Rattle.agree_core.specs.FileView.{FileView}
+use Rattle.headline.specs.declared.version.FileVersion.{FileVersion}
+use Rattle.headline.specs.Worlds.{Process, World, board_at, disk_of, site, with_board}
+use Rattle.processes.specs.Happenings.{BoardBegun, BoardCalled, DeskBegun, DeskCalled, DeskEnded, Flow, Happening, Happens, PowerLost, after, after_one, with_process}
+use Rattle.processes.specs.Weaving.{Came, NothingComesEarly, is_at_board, is_at_desk}
+use Rattle.processes.proofs.BoardLives.{BoardLocal, MayBoard, board_after, next_board}
+use Rattle.processes.proofs.Local.{Local}
+use Rattle.processes.proofs.DeskLives.{DeskLocal, MayDesk, desk_after, next_desk}
+
+-- by a test that is false, or true
+tested : (k l : BoardState) (o : Option BoardState) (p q : Bool) → p ≡ q → o ≡ Some (cond q l k) → o ≡ Some (cond p l k)
+tested k l o p q e h = subst (λ (b : Bool). o ≡ Some (cond b l k)) (sym e) h
+
+set_at : (xs : List BoardState) (n m : ℕ) (k l : BoardState) → slice_get xs m ≡ Some k → slice_get (slice_set xs n l) m ≡ Some (cond (nat_eq m n) l k)
+set_at [] n m k l e = absurd (cc)
+set_at (x ∷ xs) zero zero k l e = refl
+set_at (x ∷ xs) zero (suc m) k l e = tested k l (slice_get xs m) (nat_eq (suc m) zero) false (eqb-suc-zero m) e
+set_at (x ∷ xs) (suc n) zero k l e = tested k l (Some x) (nat_eq zero (suc n)) false (eqb-zero-suc n) e
+set_at (x ∷ xs) (suc n) (suc m) k l e = tested k l (slice_get (slice_set xs n l) m) (nat_eq (suc m) (suc n)) (nat_eq m n) (eqb-suc-suc m n) (set_at xs n m k l e)
+
+-- what a board's list has at one number after a change at another, or the same
+board_set : (xs : List BoardState) (n m : ℕ) (k l : BoardState) → board_at xs m ≡ Some k → board_at (with_board xs n l) m ≡ Some (cond (nat_eq m n) l k)
+board_set xs n zero k l e = absurd (cc)
+board_set xs zero (suc m) k l e = tested k l (slice_get xs m) (nat_eq (suc m) zero) false (eqb-suc-zero m) e
+board_set xs (suc n) (suc m) k l e = tested k l (slice_get (slice_set xs n l) m) (nat_eq (suc m) (suc n)) (nat_eq m n) (eqb-suc-suc m n) (set_at xs n m k l e)
+
+no_item : {X : Type 0} (x : X) (xs : List X) → x ∷ xs ≡ [] → ⊥
+no_item x xs e = absurd (cc)
+
+-- what happened, with this before it where it is for the station
+abbrev with_one : {X : Type 0} → Bool → X → List X → List X
+with_one test x xs = cond test (x ∷ xs) xs
+
+tail : {State What : Type 0} (next : State → What → State) (May : State → What → Type 0) (s : State) (test : Bool) (x : What) (xs : List What) → Local next May s (with_one test x xs) → Local next May s xs
+tail next May s true x xs l = l.0
+tail next May s false x xs l = l
+
+module _ {Disk : Type 0} (view : DeskId → FileVersion → FileView Disk) (seen : Disk → List ℕ) (game innings : ℕ) (w : World Disk) where
+  abbrev LocalA : List (Happening Disk) → Type 0
+  LocalA xs = DeskLocal (view A w.a.version) seen A game innings w.a.process xs
+
+  abbrev LocalB : List (Happening Disk) → Type 0
+  LocalB ys = DeskLocal (view B w.b.version) seen B game innings w.b.process ys
+
+  abbrev LocalBoards : (ℕ → List (Happening Disk)) → Type 0
+  LocalBoards bs = (n : ℕ) (k : BoardState) → board_at w.boards n ≡ Some k → BoardLocal Disk game innings k (bs n)
+
+  abbrev NoOthers : (ℕ → List (Happening Disk)) → Type 0
+  NoOthers bs = (n : ℕ) → board_at w.boards n ≡ None → bs n ≡ []
+
+  -- each station is as what happened there leaves it
+  record Stands (v : World Disk) (xs ys : List (Happening Disk)) (bs : ℕ → List (Happening Disk)) : Type 0 where
+    pub a_version : v.a.version ≡ w.a.version
+    pub b_version : v.b.version ≡ w.b.version
+    pub a_runs : v.a.process ≡ desk_after (view A w.a.version) seen A game innings w.a.process xs
+    pub b_runs : v.b.process ≡ desk_after (view B w.b.version) seen B game innings w.b.process ys
+    pub boards : (n : ℕ) (k : BoardState) → board_at w.boards n ≡ Some k → board_at v.boards n ≡ Some (board_after Disk game innings k (bs n))
+
+  module _ (v : World Disk) (xs ys : List (Happening Disk)) (bs : ℕ → List (Happening Disk)) (s : Stands v xs ys bs) (h : Happening Disk) where
+    may_a : LocalA (h ∷ xs) → MayDesk (view A v.a.version) seen A game innings v.a.process h
+    may_a r = subst (λ (p : Process Disk). MayDesk (view A v.a.version) seen A game innings p h) (sym s.a_runs) (subst (λ (z : FileVersion). MayDesk (view A z) seen A game innings (desk_after (view A w.a.version) seen A game innings w.a.process xs) h) (sym s.a_version) r.1)
+
+    may_b : LocalB (h ∷ ys) → MayDesk (view B v.b.version) seen B game innings v.b.process h
+    may_b r = subst (λ (p : Process Disk). MayDesk (view B v.b.version) seen B game innings p h) (sym s.b_runs) (subst (λ (z : FileVersion). MayDesk (view B z) seen B game innings (desk_after (view B w.b.version) seen B game innings w.b.process ys) h) (sym s.b_version) r.1)
+
+    stands_a : (out : List Message) → Stands (with_process v A (next_desk v.a.process h) out) (h ∷ xs) ys bs
+    stands_a out = record { a_version = s.a_version; b_version = s.b_version; a_runs = ap (λ (p : Process Disk). next_desk p h) s.a_runs; b_runs = s.b_runs; boards = s.boards }
+
+    stands_b : (out : List Message) → Stands (with_process v B (next_desk v.b.process h) out) xs (h ∷ ys) bs
+    stands_b out = record { a_version = s.a_version; b_version = s.b_version; a_runs = s.a_runs; b_runs = ap (λ (p : Process Disk). next_desk p h) s.b_runs; boards = s.boards }
+
+    -- the board is there, and it may happen there
+    at_there : (n : ℕ) (o : Option BoardState) → board_at w.boards n ≡ o → ((k : BoardState) → board_at w.boards n ≡ Some k → BoardLocal Disk game innings k (h ∷ bs n)) → (board_at w.boards n ≡ None → h ∷ bs n ≡ []) → (k : BoardState) × (board_at v.boards n ≡ Some k) × MayBoard Disk game innings k h
+    at_there n (Some k) e t f = (board_after Disk game innings k (bs n), s.boards n k e, (t k e).1)
+    at_there n None e t f = absurd (no_item h (bs n) (f e))
+
+    there : (n : ℕ) → LocalBoards (λ m. with_one (nat_eq m n) h (bs m)) → NoOthers (λ m. with_one (nat_eq m n) h (bs m)) → (k : BoardState) × (board_at v.boards n ≡ Some k) × MayBoard Disk game innings k h
+    there n t f =
+        at_there n (board_at w.boards n) refl
+        (λ k e. subst (λ (q : Bool). BoardLocal Disk game innings k (with_one q h (bs n))) (eq-eqb n n refl) (t n k e))
+        (λ e. subst (λ (q : Bool). with_one q h (bs n) ≡ []) (eq-eqb n n refl) (f n e))
+
+    pushed : (j l : BoardState) (m : ℕ) (q : Bool) → next_board (board_after Disk game innings j (bs m)) h ≡ l → cond q l (board_after Disk game innings j (bs m)) ≡ board_after Disk game innings j (with_one q h (bs m))
+    pushed j l m true e = sym e
+    pushed j l m false e = refl
+
+    stands_board : (n : ℕ) (l : BoardState) (out : List Message) → ((k : BoardState) → next_board k h ≡ l) → Stands (record v { boards = with_board v.boards n l; sent = v.sent ++ out }) xs ys (λ m. with_one (nat_eq m n) h (bs m))
+    stands_board n l out e =
+        record {
+          a_version = s.a_version;
+          b_version = s.b_version;
+          a_runs = s.a_runs;
+          b_runs = s.b_runs;
+          boards = λ m j at. board_set v.boards n m (board_after Disk game innings j (bs m)) l (s.boards m j at) ∙ ap Some (pushed j l m (nat_eq m n) (e (board_after Disk game innings j (bs m))));
+        }
+
+  abbrev pub HasBytes : World Disk → Type 0
+  HasBytes v = (d : DeskId) → 0 < length (seen (disk_of (site v d).process))
+
+  abbrev Moves : Happening Disk → Type 0
+  Moves h =
+      (v : World Disk) (xs ys : List (Happening Disk)) (bs : ℕ → List (Happening Disk)) → Stands v xs ys bs
+      → LocalA (with_one (is_at_desk A h) h xs) → LocalB (with_one (is_at_desk B h) h ys)
+      → LocalBoards (λ n. with_one (is_at_board n h) h (bs n)) → NoOthers (λ n. with_one (is_at_board n h) h (bs n))
+      → HasBytes v → Came game v h
+      → Happens view game innings v h
+      × Stands (after_one v h) (with_one (is_at_desk A h) h xs) (with_one (is_at_desk B h) h ys) (λ n. with_one (is_at_board n h) h (bs n))
+
+  moves : (h : Happening Disk) → Moves h
+  moves (DeskCalled A call out l) v xs ys bs s a b t o f c =
+      let m = may_a v xs ys bs s (DeskCalled A call out l) a in
+      ((m.0, m.1, c, m.2), stands_a v xs ys bs s (DeskCalled A call out l) out)
+  moves (DeskCalled B call out l) v xs ys bs s a b t o f c =
+      let m = may_b v xs ys bs s (DeskCalled B call out l) b in
+      ((m.0, m.1, c, m.2), stands_b v xs ys bs s (DeskCalled B call out l) out)
+  moves (DeskEnded A disk) v xs ys bs s a b t o f c = (may_a v xs ys bs s (DeskEnded A disk) a, stands_a v xs ys bs s (DeskEnded A disk) [])
+  moves (DeskEnded B disk) v xs ys bs s a b t o f c = (may_b v xs ys bs s (DeskEnded B disk) b, stands_b v xs ys bs s (DeskEnded B disk) [])
+  moves (PowerLost A disk) v xs ys bs s a b t o f c = (may_a v xs ys bs s (PowerLost A disk) a, stands_a v xs ys bs s (PowerLost A disk) [])
+  moves (PowerLost B disk) v xs ys bs s a b t o f c = (may_b v xs ys bs s (PowerLost B disk) b, stands_b v xs ys bs s (PowerLost B disk) [])
+  moves (DeskBegun A opening) v xs ys bs s a b t o f c =
+      let m = may_a v xs ys bs s (DeskBegun A opening) a in
+      ((m.0, m.1, m.2, m.3.1 (subst (λ (p : Process Disk). 0 < length (seen (disk_of p))) m.2 (f A))), stands_a v xs ys bs s (DeskBegun A opening) [])
+  moves (DeskBegun B opening) v xs ys bs s a b t o f c =
+      let m = may_b v xs ys bs s (DeskBegun B opening) b in
+      ((m.0, m.1, m.2, m.3.1 (subst (λ (p : Process Disk). 0 < length (seen (disk_of p))) m.2 (f B))), stands_b v xs ys bs s (DeskBegun B opening) [])
+  moves (BoardCalled n call out l) v xs ys bs s a b t o f c =
+      let m = there v xs ys bs s (BoardCalled n call out l) n t o in
+      ((m.0, m.1, c, m.2), stands_board v xs ys bs s (BoardCalled n call out l) n l out (λ k. refl))
+  moves (BoardBegun n) v xs ys bs s a b t o f c =
+      let m = there v xs ys bs s (BoardBegun n) n t o in
+      let stands = stands_board v xs ys bs s (BoardBegun n) n fresh_board [] (λ k. refl) in
+      ((m.0, m.1), subst (λ (sent : List Message). Stands (record v { boards = with_board v.boards n fresh_board; sent = sent }) xs ys (λ m. with_one (nat_eq m n) (BoardBegun n) (bs m))) (append-nil v.sent) stands)
+
+  no_tail : (q : Bool) (h : Happening Disk) (xs : List (Happening Disk)) → with_one q h xs ≡ [] → xs ≡ []
+  no_tail true h xs e = absurd (no_item h xs e)
+  no_tail false h xs e = e
+
+  abbrev of_boards : List (Happening Disk) → ℕ → List (Happening Disk)
+  of_boards hs n = filter (is_at_board n) hs
+
+  weaves : (hs : List (Happening Disk)) → NothingComesEarly game w hs → LocalA (filter (is_at_desk A) hs) → LocalB (filter (is_at_desk B) hs) → LocalBoards (of_boards hs) → NoOthers (of_boards hs) → ((gs : List (Happening Disk)) → Flow view game innings w gs → HasBytes (after w gs)) → Flow view game innings w hs × Stands (after w hs) (filter (is_at_desk A) hs) (filter (is_at_desk B) hs) (of_boards hs)
+  weaves [] c a b t o f = (tt, record { a_version = refl; b_version = refl; a_runs = refl; b_runs = refl; boards = λ n k e. e })
+  weaves (h ∷ hs) c a b t o f =
+      let before = weaves hs c.0 (tail next_desk (MayDesk (view A w.a.version) seen A game innings) w.a.process (is_at_desk A h) h (filter (is_at_desk A) hs) a)
+      (tail next_desk (MayDesk (view B w.b.version) seen B game innings) w.b.process (is_at_desk B h) h (filter (is_at_desk B) hs) b)
+      (λ n k e. tail next_board (MayBoard Disk game innings) k (is_at_board n h) h (of_boards hs n) (t n k e))
+      (λ n e. no_tail (is_at_board n h) h (of_boards hs n) (o n e)) f in
+      let m = moves h (after w hs) (filter (is_at_desk A) hs) (filter (is_at_desk B) hs) (of_boards hs) before.1 a b t o (f hs before.0) c.1 in
+      ((before.0, m.0), m.1)
+
+  pub woven : (hs : List (Happening Disk)) → NothingComesEarly game w hs → LocalA (filter (is_at_desk A) hs) → LocalB (filter (is_at_desk B) hs) → LocalBoards (of_boards hs) → NoOthers (of_boards hs) → ((gs : List (Happening Disk)) → Flow view game innings w gs → HasBytes (after w gs)) → Flow view game innings w hs
+  woven hs c a b t o f = let g = weaves hs c a b t o f in g.0

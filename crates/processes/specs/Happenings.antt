@@ -1,0 +1,91 @@
+-- What happens to the processes of two desks and of boards, in one order, and the world that it leaves.
+use Rattle.std.specs.Prelude.{◌≡◌, ℕ, List, [], ◌∷◌, ◌++◌, Some, slice_get}
+use Rattle.corrections.specs.Refusal.{book_refusal}
+use Rattle.agree_core.specs.declared.messages.DeskId.{DeskId}
+use Rattle.agree_core.specs.declared.messages.Message.{Message}
+use Rattle.agree_core.specs.Ballots.{Ballot}
+use Rattle.agree_core.specs.Boards.{BoardState, fresh_board}
+use Rattle.agree_core.specs.Desks.{DeskState}
+use Rattle.agree_core.specs.FileView.{FileView, Stays}
+use Rattle.agree_core.specs.Openings.{Opening, Opened, NotOpened, Opens}
+use Rattle.wire.specs.Layout.{Says}
+use Rattle.headline.specs.declared.version.FileVersion.{FileVersion}
+use Rattle.headline.specs.Worlds.{Process, Running, Down, World, board_at, disk_of, site, votes_of, with_board, with_site}
+use Rattle.headline.specs.Steps.{LosesPower}
+use Rattle.live.specs.Boards as boards
+use Rattle.live.specs.Boards.{BoardCall, BoardStep}
+use Rattle.live.specs.Desks as desks
+use Rattle.live.specs.Desks.{DeskCall, DeskStep}
+
+-- What happens: a call of a desk, with what it handed out and the desk after it; the end of its process, with the
+-- disk left; power lost at its laptop, with the disk left; its beginning on its file; a call of a board; a board's
+-- beginning. A process that is killed amid a call has made a call whose disk failed, and then ended.
+pub data Happening (Disk : Type 0) : Type 0 where
+  DeskCalled : DeskId → DeskCall → List Message → DeskState Disk → Happening Disk
+  DeskEnded : DeskId → Disk → Happening Disk
+  PowerLost : DeskId → Disk → Happening Disk
+  DeskBegun : DeskId → Opening Disk → Happening Disk
+  BoardCalled : ℕ → BoardCall → List Message → BoardState → Happening Disk
+  BoardBegun : ℕ → Happening Disk
+
+-- the desk that was opened, or what is left of one that wasn't
+abbrev pub begun : {Disk : Type 0} → List Ballot → Opening Disk → Process Disk
+begun votes (Opened k) = Running k
+begun votes (NotOpened why left) = Down votes left
+
+-- the world with this process at a desk, once these messages were handed out
+abbrev pub with_process : {Disk : Type 0} → World Disk → DeskId → Process Disk → List Message → World Disk
+with_process w d p out = with_site w d (record (site w d) { process = p }) out
+
+-- the world after a happening
+abbrev pub after_one : {Disk : Type 0} → World Disk → Happening Disk → World Disk
+after_one w (DeskCalled d call out l) = with_process w d (Running l) out
+after_one w (DeskEnded d disk) = with_process w d (Down (votes_of (site w d).process) disk) []
+after_one w (PowerLost d disk) = with_process w d (Down (votes_of (site w d).process) disk) []
+after_one w (DeskBegun d opening) = with_process w d (begun (votes_of (site w d).process) opening) []
+after_one w (BoardCalled n call out l) =
+    record w { boards = with_board w.boards n l; sent = w.sent ++ out }
+after_one w (BoardBegun n) = record w { boards = with_board w.boards n fresh_board }
+
+-- the world after all that happened, the newest first
+abbrev pub after : {Disk : Type 0} → World Disk → List (Happening Disk) → World Disk
+after w [] = w
+after w (h ∷ hs) = after_one (after w hs) h
+
+-- where these bytes read as a message of the match, one of the stations sent it before
+abbrev pub WasSent : ℕ → List Message → List ℕ → Type 0
+WasSent game sent bytes = (m : Message) → Says game bytes m → (i : ℕ) × (slice_get sent i ≡ Some m)
+
+-- so for the datagram of a call, where it has one
+abbrev pub DeskCame : ℕ → List Message → DeskCall → Type 0
+DeskCame game sent (desks.Given bytes what) = WasSent game sent bytes
+DeskCame game sent call = Unit {0}
+
+abbrev pub BoardCame : ℕ → List Message → BoardCall → Type 0
+BoardCame game sent (boards.Given bytes answer) = WasSent game sent bytes
+BoardCame game sent call = Unit {0}
+
+-- in a match of this number and innings a side, where this is what a disk shows of each desk's file
+module _ {Disk : Type 0} (view : DeskId → FileVersion → FileView Disk) (game innings : ℕ) where
+  -- it may happen in this world
+  abbrev pub Happens : World Disk → Happening Disk → Type 0
+  Happens w (DeskCalled d call out l) =
+      (k : DeskState Disk) × ((site w d).process ≡ Running k) × DeskCame game w.sent call
+      × DeskStep (view d (site w d).version) game innings k call out l
+  Happens w (DeskEnded d disk) =
+      (k : DeskState Disk) × ((site w d).process ≡ Running k)
+      × Stays (view d (site w d).version) k.disk disk
+  Happens w (PowerLost d disk) =
+      LosesPower (view d (site w d).version) (disk_of (site w d).process) disk
+  Happens w (DeskBegun d opening) =
+      (votes : List Ballot) × (disk : Disk) × ((site w d).process ≡ Down votes disk)
+      × Opens (view d (site w d).version) (book_refusal innings) d disk opening
+  Happens w (BoardCalled n call out l) =
+      (k : BoardState) × (board_at w.boards n ≡ Some k) × BoardCame game w.sent call
+      × BoardStep game innings k call out l
+  Happens w (BoardBegun n) = (k : BoardState) × (board_at w.boards n ≡ Some k)
+
+  -- each happening may happen after those before it
+  abbrev pub Flow : World Disk → List (Happening Disk) → Type 0
+  Flow w [] = Unit {0}
+  Flow w (h ∷ hs) = Flow w hs × Happens (after w hs) h

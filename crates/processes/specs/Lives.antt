@@ -1,0 +1,134 @@
+-- The life of one station: its processes, one after the other, each from its beginning to its end.
+use Rattle.std.specs.Prelude.{◌≡◌, ◌<◌, ℕ, List, [], ◌∷◌, ◌++◌, length, Err}
+use Rattle.corrections.specs.Refusal.{book_refusal}
+use Rattle.entry_log.specs.Disk.{Faults}
+use Rattle.cards.specs.Sheet.{Sheet}
+use Rattle.agree_core.specs.declared.messages.DeskId.{DeskId}
+use Rattle.agree_core.specs.Ballots.{Ballot}
+use Rattle.agree_core.specs.Boards.{fresh_board}
+use Rattle.agree_core.specs.Desks.{DeskState}
+use Rattle.agree_core.specs.FileView.{FileView, Stays}
+use Rattle.agree_core.specs.Openings.{Creates, NotOpened, Opened, Opening, Opens}
+use Rattle.headline.specs.Worlds.{Process, Running, Down, disk_of, votes_of}
+use Rattle.headline.specs.Steps as steps
+use Rattle.live.specs.Boards as boards
+use Rattle.live.specs.Boards.{BoardCall, BoardTurn, board_kind}
+use Rattle.live.specs.Desks.{DeskCall, DeskProcess, DeskStep, HasRoom, course_after, desk_kind}
+use Rattle.live.specs.Ends.{further}
+use Rattle.live.specs.Runs as own
+use Rattle.live.specs.declared.ends.DeskEnd.TheVariants.{Device}
+use Rattle.live.specs.declared.warned.Warned.TheVariants.{Nothing}
+use Rattle.processes.specs.Happenings.{BoardBegun, BoardCalled, DeskBegun, DeskCalled, DeskEnded, Happening, PowerLost, begun}
+
+-- A stage of a desk's life: its process makes these calls, from its beginning on; it is cut off amid a call, which has
+-- then done what one does whose disk fails; it has ended or was killed, with the disk left; its laptop has lost power,
+-- with the disk left; the next process begins on its file.
+pub data Stage (Disk : Type 0) : Type 0 where
+  Runs : List (own.Moment (DeskProcess Disk) DeskCall) → Stage Disk
+  CutOff : DeskCall → DeskState Disk → Stage Disk
+  Ends : Disk → Stage Disk
+  LosesPower : Disk → Stage Disk
+  Begins : Opening Disk → Stage Disk
+
+-- the process of this desk, at its beginning
+abbrev pub fresh : {Disk : Type 0} → DeskState Disk → DeskProcess Disk
+fresh k = record { desk = k; warned = Nothing; turns = 0; course = further }
+
+abbrev pub after_calls :
+    {Disk : Type 0} → Process Disk → List (own.Moment (DeskProcess Disk) DeskCall) → Process Disk
+after_calls (Running k) ms = Running ((λ (p : DeskProcess _). p.desk) (own.last_of (fresh k) ms))
+after_calls (Down votes disk) ms = Down votes disk
+
+-- the desk's process, or its votes and its disk alone, after a stage
+abbrev pub after_stage : {Disk : Type 0} → Process Disk → Stage Disk → Process Disk
+after_stage p (Runs ms) = after_calls p ms
+after_stage p (CutOff call l) = Running l
+after_stage p (Ends disk) = Down (votes_of p) disk
+after_stage p (LosesPower disk) = Down (votes_of p) disk
+after_stage p (Begins opening) = begun (votes_of p) opening
+
+-- after these stages, the newest first
+abbrev pub after_life : {Disk : Type 0} → Process Disk → List (Stage Disk) → Process Disk
+after_life p [] = p
+after_life p (x ∷ xs) = after_stage (after_life p xs) x
+
+-- on a disk without a byte a process makes its file
+abbrev pub Makes : {Disk : Type 0} → FileView Disk → DeskId → Opening Disk → Type 0
+Makes view d (Opened k) = Creates view d k
+Makes view d (NotOpened why left) = Unit {0}
+
+-- a process begins on this disk, of which a read gives these bytes: it makes its file where there are none, and else
+-- opens what is there, so too after a beginning that was cut off
+abbrev pub BeginsOn :
+    {Disk : Type 0} → FileView Disk → (Disk → List ℕ) → ℕ → DeskId → Disk → Opening Disk → Type 0
+BeginsOn view seen innings d disk opening =
+    (length (seen disk) ≡ 0 → Makes view d opening)
+    × (0 < length (seen disk) → Opens view (book_refusal innings) d disk opening)
+
+-- a desk's first process makes its file, or finds one without votes
+abbrev pub BeginsFirst : {Disk : Type 0} → FileView Disk → (Disk → List ℕ) → ℕ → DeskId → DeskState Disk → Type 0
+BeginsFirst view seen innings d k =
+    (disk : _) × BeginsOn view seen innings d disk (Opened k) × (k.votes ≡ [])
+
+-- the desk of this letter in a match of this number and innings a side, where this is what a disk shows of its file,
+-- what a read gives, and what is told of its failures
+module _
+    {Disk : Type 0} (view : FileView Disk) (seen : Disk → List ℕ) (faults : Disk → Faults) (d : DeskId)
+    (game innings : ℕ) where
+  -- the moments are a run of a desk's process from its beginning on
+  abbrev pub RunsFrom : DeskState Disk → List (own.Moment (DeskProcess Disk) DeskCall) → Type 0
+  RunsFrom k ms =
+      (sheet : Sheet) × (room : ℕ → ℕ) × (cap : ℕ)
+      × own.Run (desk_kind sheet view (record { faults = faults; HasRoom = HasRoom room cap }) game innings)
+      (fresh k) ms
+
+  -- the stage may come next
+  abbrev pub ComesNext : Process Disk → Stage Disk → Type 0
+  ComesNext p (Runs ms) = (k : DeskState Disk) × (p ≡ Running k) × RunsFrom k ms
+  ComesNext p (CutOff call l) =
+      (k : DeskState Disk) × (p ≡ Running k) × (course_after call ≡ Err Device)
+      × DeskStep view game innings k call [] l
+  ComesNext p (Ends disk) = (k : DeskState Disk) × (p ≡ Running k) × Stays view k.disk disk
+  ComesNext p (LosesPower disk) = steps.LosesPower view (disk_of p) disk
+  ComesNext p (Begins opening) =
+      (votes : List Ballot) × (disk : Disk) × (p ≡ Down votes disk)
+      × BeginsOn view seen innings d disk opening
+
+  abbrev pub IsLife : Process Disk → List (Stage Disk) → Type 0
+  IsLife p [] = Unit {0}
+  IsLife p (x ∷ xs) = IsLife p xs × ComesNext (after_life p xs) x
+
+-- what happens at a desk in a stage, and in its life
+abbrev pub calls_of : {Disk : Type 0} → DeskId → List (own.Moment (DeskProcess Disk) DeskCall) → List (Happening Disk)
+calls_of d [] = []
+calls_of d (m ∷ ms) = DeskCalled d m.call m.out ((λ (p : DeskProcess _). p.desk) m.after) ∷ calls_of d ms
+
+abbrev pub stage_happens : {Disk : Type 0} → DeskId → Stage Disk → List (Happening Disk)
+stage_happens d (Runs ms) = calls_of d ms
+stage_happens d (CutOff call l) = DeskCalled d call [] l ∷ []
+stage_happens d (Ends disk) = DeskEnded d disk ∷ []
+stage_happens d (LosesPower disk) = PowerLost d disk ∷ []
+stage_happens d (Begins opening) = DeskBegun d opening ∷ []
+
+abbrev pub life_happens : {Disk : Type 0} → DeskId → List (Stage Disk) → List (Happening Disk)
+life_happens d [] = []
+life_happens d (x ∷ xs) = stage_happens d x ++ life_happens d xs
+
+-- the moments are a run of a board's process from its beginning on, with an empty book
+abbrev pub BoardRuns : ℕ → ℕ → List (own.Moment BoardTurn BoardCall) → Type 0
+BoardRuns game innings ms =
+    (sheet : Sheet) × own.Run (board_kind sheet game innings) (boards.begun fresh_board 0) ms
+
+-- so are those of each of its processes, the newest first
+abbrev pub IsBoardLife : ℕ → ℕ → List (List (own.Moment BoardTurn BoardCall)) → Type 0
+IsBoardLife game innings [] = Unit {0}
+IsBoardLife game innings (ms ∷ rest) = IsBoardLife game innings rest × BoardRuns game innings ms
+
+-- what happens at a board in a process, and in its life
+abbrev pub board_calls : {Disk : Type 0} → ℕ → List (own.Moment BoardTurn BoardCall) → List (Happening Disk)
+board_calls n [] = []
+board_calls n (m ∷ ms) = BoardCalled n m.call m.out ((λ (k : BoardTurn). k.board) m.after) ∷ board_calls n ms
+
+abbrev pub board_happens : {Disk : Type 0} → ℕ → List (List (own.Moment BoardTurn BoardCall)) → List (Happening Disk)
+board_happens n [] = []
+board_happens n (ms ∷ rest) = board_calls n ms ++ BoardBegun n ∷ board_happens n rest

@@ -1,0 +1,94 @@
+-- The lives of all stations in one order.
+use Rattle.std.specs.Prelude.{◌≡◌, ℕ, Bool, true, false, nat_eq, List, [], ◌∷◌, None}
+use Rattle.std.specs.List.{filter}
+use Rattle.entry_log.specs.Disk.{Faults, Images}
+use Rattle.entry_log.specs.Slots.{Contents}
+use Rattle.vote_store.specs.View.{file_view}
+use Rattle.agree_core.specs.declared.messages.DeskId.{DeskId}
+use Rattle.agree_core.specs.declared.messages.DeskId.TheVariants.{A, B}
+use Rattle.agree_core.specs.Desks.{DeskState}
+use Rattle.headline.specs.declared.version.FileVersion.{FileVersion}
+use Rattle.headline.specs.Worlds.{Running, World, board_at, fresh_boards, site}
+use Rattle.live.specs.Boards.{BoardCall, BoardTurn}
+use Rattle.live.specs.Runs as own
+use Rattle.processes.specs.Happenings.{BoardBegun, BoardCalled, BoardCame, DeskBegun, DeskCalled, DeskCame, DeskEnded, Happening, PowerLost, after}
+use Rattle.processes.specs.Lives.{BeginsFirst, IsBoardLife, IsLife, Stage, board_happens, life_happens}
+use Rattle.processes.specs.Files.{NoneShowNone}
+use Rattle.processes.specs.Headline.{ProcessHeadline}
+use Rattle.processes.specs.Laws.{IsFlow}
+
+-- it happens at this desk; at this board
+abbrev pub same_desk : DeskId → DeskId → Bool
+same_desk A A = true
+same_desk A B = false
+same_desk B A = false
+same_desk B B = true
+
+abbrev pub is_at_desk : {Disk : Type 0} → DeskId → Happening Disk → Bool
+is_at_desk d (DeskCalled c call out l) = same_desk d c
+is_at_desk d (DeskEnded c disk) = same_desk d c
+is_at_desk d (PowerLost c disk) = same_desk d c
+is_at_desk d (DeskBegun c opening) = same_desk d c
+is_at_desk d (BoardCalled n call out l) = false
+is_at_desk d (BoardBegun n) = false
+
+abbrev pub is_at_board : {Disk : Type 0} → ℕ → Happening Disk → Bool
+is_at_board n (BoardCalled m call out l) = nat_eq n m
+is_at_board n (BoardBegun m) = nat_eq n m
+is_at_board n what = false
+
+-- where a datagram came and reads as a message of the match, a station had sent it
+abbrev pub Came : {Disk : Type 0} → ℕ → World Disk → Happening Disk → Type 0
+Came game w (DeskCalled d call out l) = DeskCame game w.sent call
+Came game w (BoardCalled n call out l) = BoardCame game w.sent call
+Came game w what = Unit {0}
+
+abbrev pub NothingComesEarly : {Disk : Type 0} → ℕ → World Disk → List (Happening Disk) → Type 0
+NothingComesEarly game w [] = Unit {0}
+NothingComesEarly game w (h ∷ hs) = NothingComesEarly game w hs × Came game (after w hs) h
+
+-- two desks at the beginning of their first processes, and so many boards
+abbrev pub start : {Disk : Type 0} → FileVersion → ℕ → DeskState Disk → DeskState Disk → World Disk
+start version boards a b =
+    record {
+      a = record { version = version; process = Running a; due = None };
+      b = record { version = version; process = Running b; due = None };
+      boards = fresh_boards boards;
+      sent = [];
+    }
+
+module _ {Disk : Type 0} (seen : Disk → List ℕ) (images : Disk → Images) (faults : Disk → Faults) where
+  -- All that happened to the processes of a match, the newest first: nothing came before it was sent; what happened at
+  -- each desk and at each board is its life; and there are no other boards.
+  pub record IsWoven (contents : Contents) (game innings : ℕ) (w : World Disk) (hs : List (Happening Disk)) : Type 0 where
+    pub order : NothingComesEarly game w hs
+    pub desks : (d : DeskId) → (life : List (Stage Disk))
+        × IsLife (file_view contents seen images d game) seen faults d game innings (site w d).process life
+        × (filter (is_at_desk d) hs ≡ life_happens d life)
+    pub boards : (n : ℕ) → (life : List (List (own.Moment BoardTurn BoardCall)))
+        × IsBoardLife game innings life × (filter (is_at_board n) hs ≡ board_happens n life)
+    pub no_others : (n : ℕ) → board_at w.boards n ≡ None → filter (is_at_board n) hs ≡ []
+
+  -- the desks at the beginnings of their first processes
+  abbrev pub BothBegin : Contents → ℕ → ℕ → DeskState Disk → DeskState Disk → Type 0
+  BothBegin contents game innings a b =
+      BeginsFirst (file_view contents seen images A game) seen innings A a
+      × BeginsFirst (file_view contents seen images B game) seen innings B b
+
+  -- the lives of all stations, put into one order in which nothing comes before it was sent, are a flow
+  abbrev pub WovenLivesFlow : Type 0
+  WovenLivesFlow =
+      (contents : FileVersion → Contents) (game innings : ℕ) (version : FileVersion) (boards : ℕ)
+      (a b : DeskState Disk) (hs : List (Happening Disk)) → NoneShowNone contents game
+      → BothBegin (contents version) game innings a b
+      → IsWoven (contents version) game innings (start version boards a b) hs
+      → IsFlow seen images contents game innings version boards (start version boards a b) hs
+
+  -- and so the headline holds of them
+  abbrev pub WovenLivesHaveHeadline : Type 0
+  WovenLivesHaveHeadline =
+      (contents : FileVersion → Contents) (game innings : ℕ) (version : FileVersion) (boards : ℕ)
+      (a b : DeskState Disk) (hs : List (Happening Disk)) → NoneShowNone contents game
+      → BothBegin (contents version) game innings a b
+      → IsWoven (contents version) game innings (start version boards a b) hs
+      → ProcessHeadline innings (start version boards a b) hs

@@ -1,0 +1,54 @@
+//! What ties processes to runs. These functions do nothing: each stands for the laws that it ensures.
+
+ghost use Rattle.processes.specs.Files.{EmptyFilesShowNone};
+ghost use Rattle.processes.specs.Laws.{BoardStepsInWorld, DeskStepsInWorld, FlowsAreRuns, FlowsHaveHeadline};
+ghost use Rattle.processes.specs.Stations.{BeginningIsStage, BoardRunIsLife, DeskRunIsStage};
+ghost use Rattle.processes.specs.Weaving.{WovenLivesFlow, WovenLivesHaveHeadline};
+
+use board::Board;
+use corrections::BookOf;
+use desk::{Desk, OpenRefusal};
+use entry_log::{Disk, SlotsOf};
+
+/// A moment of a board's or a desk's process, in a world that a run has come to, extends that run.
+pub fn moments_extend_a_run<D: Disk>()
+    ensures boards { BoardStepsInWorld D.seen D.images }
+    ensures desks { DeskStepsInWorld D.seen D.images }
+{}
+
+/// Where every datagram that came to a station and reads as a message of the match was sent by one of them before, the
+/// moments of two desks' and some boards' processes, with their ends and new beginnings, in the order in which they
+/// happened, are a run of the definitions. So the headline holds of them.
+pub fn every_flow_is_sound<D: Disk>()
+    ensures runs { FlowsAreRuns D.seen D.images }
+    ensures headline { FlowsHaveHeadline D.seen D.images }
+{}
+
+/// The lives of two desks and some boards, each process from its beginning to its end, put into one order in which
+/// nothing comes before it was sent, are such moments.
+pub fn woven_lives_are_a_flow<D: Disk>()
+    ensures flow { WovenLivesFlow D.seen D.images D.faults }
+    ensures headline { WovenLivesHaveHeadline D.seen D.images D.faults }
+{}
+
+/// What `live::begin_desk` ensures of its answer is a beginning in a desk's life.
+pub fn beginnings_are_stages<S: SlotsOf, B: BookOf>(
+    made: &Result<Desk<S, B>, (OpenRefusal, S::Disk)>,
+)
+    ensures { BeginningIsStage made.now }
+{}
+
+/// What `live::run_desk` ensures of a desk is a stage of its life.
+pub fn desk_runs_are_stages<S: SlotsOf, B: BookOf>(old: &Desk<S, B>, new: &Desk<S, B>)
+    ensures { DeskRunIsStage old.now new.now }
+{}
+
+/// What `live::run_board` ensures of a new board is a process of its life.
+pub fn board_runs_are_lives<B: BookOf>(old: &Board<B>, new: &Board<B>)
+    ensures { BoardRunIsLife B.content B.innings_a_side old.now new.now }
+{}
+
+/// A file of either version without a byte shows no votes.
+pub fn empty_files_show_none()
+    ensures { EmptyFilesShowNone }
+{}
