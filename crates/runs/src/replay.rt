@@ -14,29 +14,11 @@ use cards::{MatchSheet, Watched};
 use headline::{Event, FileVersion};
 use host::LONGEST_INPUT;
 use print::{print_refused, print_whole};
-use schedule_replay::{Report, WorldRefusal, replay, replay_old};
+use schedule_replay::{Report, replay};
 use schedules::read_schedule;
 use std::alloc::Global;
 use std::io::{Read, Write};
-use step::{Stepped, step_all};
-
-/// A replay of the events on files of this version.
-fn replay_on(
-    alloc: Global,
-    sheet: &MatchSheet,
-    version: FileVersion,
-    boards: u8,
-    events: &[Event],
-) -> Result<Report, (u64, WorldRefusal)>
-    requires boards { boards ≤ 4 }
-    requires events { All IsEvent events.now }
-    ensures { IfOk result (IsReplay sheet.now.game sheet.now.innings version boards events.now) }
-{
-    match version {
-        FileVersion::Old => replay_old(alloc, sheet.game(), sheet.innings(), boards, events),
-        FileVersion::New => replay(alloc, sheet.game(), sheet.innings(), boards, events),
-    }
-}
+use step::{Stepped, begin, step_all};
 
 /// What a replay of the events reports. The world of a run took all of them: a second one ends before the last
 /// only for want of memory.
@@ -52,7 +34,10 @@ fn report_of(
     ensures reported { IfOk result (IsReplay sheet.now.game sheet.now.innings version boards events.now) }
     ensures only { IfErr result (λ fault. fault ≡ RunFault.NoMemory) }
 {
-    match replay_on(alloc, sheet, version, boards, events) {
+    let Ok(world) = begin(alloc, sheet, version, boards) else {
+        return Err(RunFault::NoMemory);
+    };
+    match replay(alloc, world, events) {
         Ok(report) => Ok(report),
         Err(_) => Err(RunFault::NoMemory),
     }

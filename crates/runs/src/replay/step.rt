@@ -22,7 +22,7 @@ pub enum Stepped {
 }
 
 /// A new world for the match of a sheet, on files of this version.
-fn begin(
+pub fn begin(
     alloc: Global,
     sheet: &MatchSheet,
     version: FileVersion,
