@@ -24,7 +24,7 @@ use Rattle.headline.specs.declared.fault.Fault.TheVariants.{Fail, Stop}
 use Rattle.headline.specs.Worlds.{Process, Running, Setting, Site, World, board_at, site, with_board, votes_in, with_site}
 use Rattle.headline.specs.Steps.{AfterPen, AfterReceive, Answer, Breaks, Step, board_told}
 use Rattle.headline.specs.Runs.{Moment, Run, Shows, last_of, process_shows}
-use Rattle.headline.specs.Headline.{AtEachEvent, Brings, HasNoted, IsTaken, TakesSecond, noted_at_desk}
+use Rattle.headline.specs.Headline.{AtEachEvent, Brings, HasNoted, IsVoteAnswer, TakesSecond, noted_at_desk}
 use Rattle.headline.proofs.BoardKeeping.{board_fine_at}
 use Rattle.headline.proofs.Keeping.{Fine, run_keeps, running, site_fine}
 
@@ -131,14 +131,14 @@ module _ {Disk Why : Type 0} (s : Setting Disk Why) where
       let grown : l.book ≡ book_heard h k.book v.entry = ap (λ (z : DeskState Disk). z.book) r.3 in
       runs_on x y l (k.book ++ v.entry ∷ []) p.1 (grown ∙ heard_second k.seat l.seat v h k.book o at m t r.1)
 
-  taken_not : (answer told : Answer Why) → answer ≡ told → IsTaken answer → IsTaken told
-  taken_not answer told e h = subst IsTaken e h
+  taken_not : (answer told : Answer Why) → answer ≡ told → IsVoteAnswer answer → IsVoteAnswer told
+  taken_not answer told e h = subst IsVoteAnswer e h
 
-  broken_not : (d : DeskId) (x : Site Disk) (l : DeskState Disk) (answer : Answer Why) (y : Site Disk) → Breaks (s.view d x.version) x l answer y → IsTaken answer → ⊥
+  broken_not : (d : DeskId) (x : Site Disk) (l : DeskState Disk) (answer : Answer Why) (y : Site Disk) → Breaks (s.view d x.version) x l answer y → IsVoteAnswer answer → ⊥
   broken_not d x l answer y (Fail, u, p) t = taken_not answer Answer.DeviceFailed p.0 t
   broken_not d x l answer y (Stop, u, p) t = taken_not answer Answer.Stopped p.1 t
 
-  second_pen : (d : DeskId) (x : Site Disk) (k l : DeskState Disk) (e : Entry) (told : PenAnswer Why) (out : List Message) (answer : Answer Why) (y : Site Disk) → k.seat.theirs ≡ Some e → Pens (s.view d x.version) s.rules k e told l out → AfterPen (s.view d x.version) x told l answer y → IsTaken answer → process_shows y.process (k.book ++ e ∷ [])
+  second_pen : (d : DeskId) (x : Site Disk) (k l : DeskState Disk) (e : Entry) (told : PenAnswer Why) (out : List Message) (answer : Answer Why) (y : Site Disk) → k.seat.theirs ≡ Some e → Pens (s.view d x.version) s.rules k e told l out → AfterPen (s.view d x.version) x told l answer y → IsVoteAnswer answer → process_shows y.process (k.book ++ e ∷ [])
   second_pen d x k l e (PenAnswer.Penned settled) out answer y t r p i =
       let c = r.1 in
       runs_on x y l (k.book ++ e ∷ []) p.1 (c.1 ∙ cast_second k.seat l.seat e settled k.book t c.0)
@@ -158,7 +158,7 @@ module _ {Disk Why : Type 0} (s : Setting Disk Why) where
       let shown = after_vote d (site w d) k q.1 (vote_of (other c) b) q.3 p.1 answer p.0 h.1.1 (λ e. apart (e ∙ seat.desk)) (sym h.3) mine (alone k.seat.mine k.seat.theirs b.entry seat.waits mine) received q.7 in
       shows_at w new d p.0 p.1 (book ++ b.entry ∷ []) p.3 (subst (λ (o : List Entry). process_shows p.0.process (o ++ b.entry ∷ [])) h.2 shown)
 
-  desk_penned : (w : World Disk) (c : DeskId) (book : List Entry) (b : Ballot) (answer : Answer Why) (new : World Disk) → HasNoted w (stations.Desk (other c)) book b c → Step s w (events.Pen (other c) b.entry) answer new → IsTaken answer → Shows new (stations.Desk (other c)) (book ++ b.entry ∷ [])
+  desk_penned : (w : World Disk) (c : DeskId) (book : List Entry) (b : Ballot) (answer : Answer Why) (new : World Disk) → HasNoted w (stations.Desk (other c)) book b c → Step s w (events.Pen (other c) b.entry) answer new → IsVoteAnswer answer → Shows new (stations.Desk (other c)) (book ++ b.entry ∷ [])
   desk_penned w c book b answer new h p t =
       let q = p.2 in
       let k = h.0 in
@@ -168,12 +168,12 @@ module _ {Disk Why : Type 0} (s : Setting Disk Why) where
       let shown = second_pen (other c) (site w (other c)) k q.1 b.entry q.2 p.1 answer p.0 theirs pens q.5 t in
       shows_at w new (other c) p.0 p.1 (book ++ b.entry ∷ []) p.3 (subst (λ (o : List Entry). process_shows p.0.process (o ++ b.entry ∷ [])) h.2 shown)
 
-  board_told_second : (k l : BoardState) (v : Vote) (told : BoardAnswer) → position_of v ≡ k.reader.position → noted_of k.reader v.desk ≡ None → noted_of k.reader (other v.desk) ≡ Some v.entry → BoardReceives s.rules k (Message.Vote v) told l → IsTaken {Why = Why} (board_told told) → l.book ≡ k.book ++ v.entry ∷ []
+  board_told_second : (k l : BoardState) (v : Vote) (told : BoardAnswer) → position_of v ≡ k.reader.position → noted_of k.reader v.desk ≡ None → noted_of k.reader (other v.desk) ≡ Some v.entry → BoardReceives s.rules k (Message.Vote v) told l → IsVoteAnswer {Why = Why} (board_told told) → l.book ≡ k.book ++ v.entry ∷ []
   board_told_second k l v (BoardAnswer.Told h) at m t r i = r.2 ∙ listened_second k.reader l.reader v h k.book at m t r.0
   board_told_second k l v BoardAnswer.Asked at m t r i = absurd r
   board_told_second k l v (BoardAnswer.BadVotes place) at m t r i = absurd i
 
-  board_given : (w : World Disk) (number : ℕ) (c : DeskId) (n : ℕ) (book : List Entry) (b : Ballot) (answer : Answer Why) (new : World Disk) → Fine s w → HasNoted w (stations.Board number) book b c → slice_get w.sent n ≡ Some (Message.Vote (vote_of (other c) b)) → Step s w (events.Give n (stations.Board number)) answer new → IsTaken answer → Shows new (stations.Board number) (book ++ b.entry ∷ [])
+  board_given : (w : World Disk) (number : ℕ) (c : DeskId) (n : ℕ) (book : List Entry) (b : Ballot) (answer : Answer Why) (new : World Disk) → Fine s w → HasNoted w (stations.Board number) book b c → slice_get w.sent n ≡ Some (Message.Vote (vote_of (other c) b)) → Step s w (events.Give n (stations.Board number)) answer new → IsVoteAnswer answer → Shows new (stations.Board number) (book ++ b.entry ∷ [])
   board_given w number c n book b answer new f h sent p i =
       let q = p.4 in
       let k = h.0 in
@@ -188,7 +188,7 @@ module _ {Disk Why : Type 0} (s : Setting Disk Why) where
       let there : board_at new.boards number ≡ Some p.1 = ap (λ (z : World Disk). board_at z.boards number) p.5 ∙ board_put w.boards number p.0 p.1 p.3 in
       (p.1, there, grown ∙ ap (λ (o : List Entry). o ++ b.entry ∷ []) h.2)
 
-  second_taken : (w : World Disk) (event : Event) (answer : Answer Why) (new : World Disk) (t : Station) (book : List Entry) (b : Ballot) (c : DeskId) → Fine s w → HasNoted w t book b c → Brings w event t (other c) b → Step s w event answer new → IsTaken answer → Shows new t (book ++ b.entry ∷ [])
+  second_taken : (w : World Disk) (event : Event) (answer : Answer Why) (new : World Disk) (t : Station) (book : List Entry) (b : Ballot) (c : DeskId) → Fine s w → HasNoted w t book b c → Brings w event t (other c) b → Step s w event answer new → IsVoteAnswer answer → Shows new t (book ++ b.entry ∷ [])
   second_taken w event answer new (stations.Desk d) book b c f h (inl (apart, (n, e, sent))) p i =
       desk_given w d c n book b answer new f h (λ q. apart (ap stations.Desk (sym q))) sent (subst (λ (z : Event). Step s w z answer new) e p)
   second_taken w event answer new (stations.Board number) book b c f h (inl (apart, (n, e, sent))) p i =

@@ -34,7 +34,7 @@ use Rattle.headline.specs.Worlds.{Process, Down, Setting, Site, World, disk_of, 
 use Rattle.headline.specs.Events.{station_of}
 use Rattle.headline.specs.Steps.{AfterOpen, AfterPen, AfterReceive, Answer, AtBoard, AtDesk, AfterMigration, Breaks, Failed, Migrates, MigratesAt, Migration, NotSound, StaysDownBy, ToNew, StepAt, board_told}
 use Rattle.headline.specs.Runs.{Begins, Moment, Run, last_of}
-use Rattle.headline.specs.Headline.{AtEachEvent, IsSound}
+use Rattle.headline.specs.Headline.{AtEachEvent, IsSoundAnswer}
 use Rattle.agree_core.specs.Keeping.{BoardFine, MessageFine, MineFine, NotedFine, SeatFine}
 use Rattle.agree_core.proofs.Both.{both_grow, both_settled, both_turned, more, same}
 use Rattle.headline.proofs.BoardKeeping.{board_fine_at, item_at}
@@ -138,7 +138,7 @@ module _ {Disk Why : Type 0} (s : Setting Disk Why) where
       turned w A book h = h
       turned w B book h = both_turned (votes_in w).b (votes_in w).a 0 book h
 
-  told_sound : (h : Heard) → (h ≡ Heard.TwoVotes → ⊥) → IsSound {Why = Why} (Answer.Told h)
+  told_sound : (h : Heard) → (h ≡ Heard.TwoVotes → ⊥) → IsSoundAnswer {Why = Why} (Answer.Told h)
   told_sound Heard.TwoVotes n = n refl
   told_sound Heard.Mine n = tt
   told_sound Heard.Old n = tt
@@ -148,14 +148,14 @@ module _ {Disk Why : Type 0} (s : Setting Disk Why) where
   told_sound Heard.Agreed n = tt
   told_sound Heard.Differ n = tt
 
-  sound_as : (answer told : Answer Why) → answer ≡ told → IsSound told → IsSound answer
-  sound_as answer told e h = subst IsSound (sym e) h
+  sound_as : (answer told : Answer Why) → answer ≡ told → IsSoundAnswer told → IsSoundAnswer answer
+  sound_as answer told e h = subst IsSoundAnswer (sym e) h
 
-  broken_sound : (d : DeskId) (x : Site Disk) (l : DeskState Disk) (answer : Answer Why) (y : Site Disk) → Breaks (s.view d x.version) x l answer y → IsSound answer
+  broken_sound : (d : DeskId) (x : Site Disk) (l : DeskState Disk) (answer : Answer Why) (y : Site Disk) → Breaks (s.view d x.version) x l answer y → IsSoundAnswer answer
   broken_sound d x l answer y (Fail, u, p) = sound_as answer Answer.DeviceFailed p.0 tt
   broken_sound d x l answer y (Stop, u, p) = sound_as answer Answer.Stopped p.1 tt
 
-  pen_sound : (d : DeskId) (x : Site Disk) (told : PenAnswer Why) (l : DeskState Disk) (answer : Answer Why) (y : Site Disk) → AfterPen (s.view d x.version) x told l answer y → IsSound answer
+  pen_sound : (d : DeskId) (x : Site Disk) (told : PenAnswer Why) (l : DeskState Disk) (answer : Answer Why) (y : Site Disk) → AfterPen (s.view d x.version) x told l answer y → IsSoundAnswer answer
   pen_sound d x (PenAnswer.Penned settled) l answer y p = sound_as answer (Answer.Penned settled) p.0 tt
   pen_sound d x (PenAnswer.Refused why) l answer y p = sound_as answer (Answer.NotPenned why) p.0 tt
   pen_sound d x PenAnswer.DeviceFailed l answer y p = broken_sound d x l answer y p
@@ -165,7 +165,7 @@ module _ {Disk Why : Type 0} (s : Setting Disk Why) where
       let i = their_message s (votes_in w) d (Message.Vote v) m (λ e. h.0.0 (e ∙ sym g.desk)) in
       two_entries (ballots.votes_of (votes_in w) d) (ballots.votes_of (votes_in w) (other d)) k.seat.theirs v h.1.0 k.seat.position (justified_other w d f) g.noted h.1.1 i h.0.1 h.1.2
 
-  receive_sound : (w : World Disk) (d : DeskId) (x : Site Disk) (k l : DeskState Disk) (m : Message) (told : ReceiveAnswer) (out : List Message) (answer : Answer Why) (y : Site Disk) → Fine s w → SeatFine d k.votes (ballots.votes_of (votes_in w) (other d)) k.seat k.book → MessageFine (votes_in w) m → Receives (s.view d x.version) k m told l out → AfterReceive (s.view d x.version) x told l out answer y → IsSound answer
+  receive_sound : (w : World Disk) (d : DeskId) (x : Site Disk) (k l : DeskState Disk) (m : Message) (told : ReceiveAnswer) (out : List Message) (answer : Answer Why) (y : Site Disk) → Fine s w → SeatFine d k.votes (ballots.votes_of (votes_in w) (other d)) k.seat k.book → MessageFine (votes_in w) m → Receives (s.view d x.version) k m told l out → AfterReceive (s.view d x.version) x told l out answer y → IsSoundAnswer answer
   receive_sound w d x k l m ReceiveAnswer.Failed out answer y f g i r p = sound_as answer Answer.HasFailed p.0 tt
   receive_sound w d x k l m ReceiveAnswer.Asked out answer y f g i r p = sound_as answer (Answer.Asked _) p.0 tt
   receive_sound w d x k l m ReceiveAnswer.DeviceFailed out answer y f g i r p = broken_sound d x l answer y p
@@ -176,11 +176,11 @@ module _ {Disk Why : Type 0} (s : Setting Disk Why) where
   some_or_none : (o : Option (List Ballot)) (vs : List Ballot) → o ≡ Some vs → o ≡ None → ⊥
   some_or_none o vs e n = cc
 
-  stays_down_sound : (view : FileView Disk) (x : Site Disk) (fault : Fault) (votes : List Ballot) (left : Disk) (answer : Answer Why) (y : Site Disk) → StaysDownBy view x fault votes left answer y → IsSound answer
+  stays_down_sound : (view : FileView Disk) (x : Site Disk) (fault : Fault) (votes : List Ballot) (left : Disk) (answer : Answer Why) (y : Site Disk) → StaysDownBy view x fault votes left answer y → IsSoundAnswer answer
   stays_down_sound view x Fail votes left answer y p = sound_as answer Answer.DeviceFailed p.0 tt
   stays_down_sound view x Stop votes left answer y p = sound_as answer Answer.Stopped p.1 tt
 
-  open_sound : (d : DeskId) (theirs : List Ballot) (x : Site Disk) (votes : List Ballot) (old : Disk) (opening : Opening Disk) (answer : Answer Why) (y : Site Disk) → ProcessFine s x.version d theirs (Down votes old) → HeldBy s (Lawful s.rules) (s.view d x.version) votes old → Opens (s.view d x.version) s.rules d old opening → AfterOpen (s.view d x.version) x votes opening answer y → IsSound answer
+  open_sound : (d : DeskId) (theirs : List Ballot) (x : Site Disk) (votes : List Ballot) (old : Disk) (opening : Opening Disk) (answer : Answer Why) (y : Site Disk) → ProcessFine s x.version d theirs (Down votes old) → HeldBy s (Lawful s.rules) (s.view d x.version) votes old → Opens (s.view d x.version) s.rules d old opening → AfterOpen (s.view d x.version) x votes opening answer y → IsSoundAnswer answer
   open_sound d theirs x votes old (Opening.Opened k) answer y f h o p = sound_as answer (Answer.Opened _) p.0 tt
   open_sound d theirs x votes old (Opening.NotOpened OpenRefusal.Unsound left) answer y f h o p =
       let g = f.1.0 in absurd (some_or_none ((s.view d x.version).reads old) g.0 g.1 o.0)
@@ -190,17 +190,17 @@ module _ {Disk Why : Type 0} (s : Setting Disk Why) where
   open_sound d theirs x votes old (Opening.NotOpened OpenRefusal.DeviceFailed left) answer y f h o p = stays_down_sound (s.view d x.version) x p.0 votes left answer y p.2
 
   -- a file that is migrated is sound
-  migration_sound : (d : DeskId) (theirs : List Ballot) (x : Site Disk) (votes : List Ballot) (old : Disk) (migration : Migration Disk) (answer : Answer Why) (y : Site Disk) → ProcessFine s Old d theirs (Down votes old) → Migrates (s.view d) old migration → AfterMigration (s.view d) x votes migration answer y → IsSound answer
+  migration_sound : (d : DeskId) (theirs : List Ballot) (x : Site Disk) (votes : List Ballot) (old : Disk) (migration : Migration Disk) (answer : Answer Why) (y : Site Disk) → ProcessFine s Old d theirs (Down votes old) → Migrates (s.view d) old migration → AfterMigration (s.view d) x votes migration answer y → IsSoundAnswer answer
   migration_sound d theirs x votes old (ToNew found new) answer y f m p = sound_as answer (Answer.Migrated _) p.0 tt
   migration_sound d theirs x votes old (NotSound left) answer y f m p = let g = f.1.0 in absurd (some_or_none ((s.view d Old).reads old) g.0 g.1 m.0)
   migration_sound d theirs x votes old (Failed left) answer y f m p = stays_down_sound (s.view d Old) x p.0 votes left answer y p.2
 
-  migrates_sound : (d : DeskId) (theirs : List Ballot) (x : Site Disk) (version : FileVersion) (votes : List Ballot) (old : Disk) (answer : Answer Why) (y : Site Disk) → ProcessFine s version d theirs (Down votes old) → MigratesAt (s.view d) x version votes old answer y → IsSound answer
+  migrates_sound : (d : DeskId) (theirs : List Ballot) (x : Site Disk) (version : FileVersion) (votes : List Ballot) (old : Disk) (answer : Answer Why) (y : Site Disk) → ProcessFine s version d theirs (Down votes old) → MigratesAt (s.view d) x version votes old answer y → IsSoundAnswer answer
   migrates_sound d theirs x Old votes old answer y f p = migration_sound d theirs x votes old p.0 answer y f p.1 p.2
   migrates_sound d theirs x New votes old answer y f p = sound_as answer Answer.OtherVersion p.0 tt
 
   -- what an event at a desk is answered
-  desk_sound : (w : World Disk) (d : DeskId) (event : Event) (answer : Answer Why) (y : Site Disk) (out : List Message) → Fine s w → BothHold s (λ d. Lawful s.rules) w → AtDesk s w.sent d event (site w d) answer y out → IsSound answer
+  desk_sound : (w : World Disk) (d : DeskId) (event : Event) (answer : Answer Why) (y : Site Disk) (out : List Message) → Fine s w → BothHold s (λ d. Lawful s.rules) w → AtDesk s w.sent d event (site w d) answer y out → IsSoundAnswer answer
   desk_sound w d (events.Pen c e) answer y out f l p = pen_sound d (site w d) p.2 p.1 answer y p.5
   desk_sound w d (events.Give n t) answer y out f l p =
       let fine = running s (site w d).version d (ballots.votes_of (votes_in w) (other d)) (site w d).process p.0 p.4 (site_fine s w d f) in
@@ -219,7 +219,7 @@ module _ {Disk Why : Type 0} (s : Setting Disk Why) where
       (subst (ProcessFine s (site w d).version d (ballots.votes_of (votes_in w) (other d))) p.2 (site_fine s w d f)) p.3
   desk_sound w d (events.Wipe n) answer y out f l p = absurd p
 
-  board_told_sound : (w : World Disk) (k l : BoardState) (m : Message) (told : BoardAnswer) → Fine s w → BothHold s (λ d. Lawful s.rules) w → BoardFine (votes_in w) k → MessageFine (votes_in w) m → BoardReceives s.rules k m told l → IsSound {Why = Why} (board_told told)
+  board_told_sound : (w : World Disk) (k l : BoardState) (m : Message) (told : BoardAnswer) → Fine s w → BothHold s (λ d. Lawful s.rules) w → BoardFine (votes_in w) k → MessageFine (votes_in w) m → BoardReceives s.rules k m told l → IsSoundAnswer {Why = Why} (board_told told)
   board_told_sound w k l m BoardAnswer.Asked f h b i p = tt
   board_told_sound w k l (Message.Ask q) (BoardAnswer.Told x) f h b i p = absurd p
   board_told_sound w k l (Message.Ask q) (BoardAnswer.BadVotes place) f h b i p = absurd p
@@ -230,7 +230,7 @@ module _ {Disk Why : Type 0} (s : Setting Disk Why) where
       two : Listens k.reader v Heard.TwoVotes l.reader → ⊥
       two c = two_entries (ballots.votes_of (votes_in w) (other v.desk)) (ballots.votes_of (votes_in w) v.desk) (noted_of k.reader v.desk) v c.1.0 k.reader.position (justified_of w v.desk f) (b.noted v.desk) c.1.1 i c.0 c.1.2
 
-  board_sound : (w : World Disk) (event : Event) (k : BoardState) (answer : Answer Why) (l : BoardState) (out : List Message) → Fine s w → BothHold s (λ d. Lawful s.rules) w → BoardFine (votes_in w) k → AtBoard s w.sent event k answer l out → IsSound answer
+  board_sound : (w : World Disk) (event : Event) (k : BoardState) (answer : Answer Why) (l : BoardState) (out : List Message) → Fine s w → BothHold s (λ d. Lawful s.rules) w → BoardFine (votes_in w) k → AtBoard s w.sent event k answer l out → IsSoundAnswer answer
   board_sound w (events.Give n t) k answer l out f h b p =
       sound_as answer (board_told p.1) p.4 (board_told_sound w k l p.0 p.1 f h b (item_at (MessageFine (votes_in w)) w.sent n p.0 p.2 f.on_sent) p.3)
   board_sound w (events.Tick t) k answer l out f h b p = sound_as answer (Answer.Ticked _) p.1 tt
@@ -243,11 +243,11 @@ module _ {Disk Why : Type 0} (s : Setting Disk Why) where
   board_sound w (events.Open d) k answer l out f h b p = absurd p
   board_sound w (events.Migrate d) k answer l out f h b p = absurd p
 
-  station_sound : (w : World Disk) (event : Event) (t : Station) (answer : Answer Why) (new : World Disk) → Fine s w → BothHold s (λ d. Lawful s.rules) w → StepAt s w event t answer new → IsSound answer
+  station_sound : (w : World Disk) (event : Event) (t : Station) (answer : Answer Why) (new : World Disk) → Fine s w → BothHold s (λ d. Lawful s.rules) w → StepAt s w event t answer new → IsSoundAnswer answer
   station_sound w event (stations.Desk d) answer new f l p = desk_sound w d event answer p.0 p.1 f l p.2
   station_sound w event (stations.Board n) answer new f l p = board_sound w event p.0 answer p.1 p.2 f l (board_fine_at (votes_in w) w.boards n p.0 p.3 f.on_boards) p.4
 
-  pub sound_answers : (version : FileVersion) (n : ℕ) (w : World Disk) (ms : List (Moment Disk Why)) → Begins s version n w → Run s w ms → AtEachEvent w ms (λ v m. IsSound m.answer)
+  pub sound_answers : (version : FileVersion) (n : ℕ) (w : World Disk) (ms : List (Moment Disk Why)) → Begins s version n w → Run s w ms → AtEachEvent w ms (λ v m. IsSoundAnswer m.answer)
   sound_answers version n w [] e r = tt
   sound_answers version n w (m ∷ ms) e r =
       (sound_answers version n w ms e r.0, station_sound (last_of w ms) m.event (station_of m.event) m.answer m.after (run_keeps s w ms (begins_fine s version n w e) r.0) (lawful_run version n w ms e r.0) r.1)

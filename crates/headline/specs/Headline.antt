@@ -52,10 +52,10 @@ Brings w event t c b =
     ⊎ ((t ≡ stations.Desk c) × (event ≡ events.Pen c b.entry))
 
 -- it was penned, or told as a vote
-abbrev pub IsTaken : {Why : Type 0} → Answer Why → Type 0
-IsTaken (Answer.Penned settled) = Unit {0}
-IsTaken (Answer.Told heard) = Unit {0}
-IsTaken _ = ⊥
+abbrev pub IsVoteAnswer : {Why : Type 0} → Answer Why → Type 0
+IsVoteAnswer (Answer.Penned settled) = Unit {0}
+IsVoteAnswer (Answer.Told heard) = Unit {0}
+IsVoteAnswer _ = ⊥
 
 -- no running station keeps both votes of its position
 abbrev pub NoneWaits : {Disk : Type 0} → World Disk → Type 0
@@ -66,7 +66,7 @@ NoneWaits w =
 abbrev pub TakesSecond : {Disk Why : Type 0} → World Disk → Moment Disk Why → Type 0
 TakesSecond w m =
     (t : Station) (book : List Entry) (b : Ballot) (c : DeskId) → HasNoted w t book b c
-    → Brings w m.event t (other c) b → IsTaken m.answer → Shows m.after t (book ++ b.entry ∷ [])
+    → Brings w m.event t (other c) b → IsVoteAnswer m.answer → Shows m.after t (book ++ b.entry ∷ [])
 
 -- each event from this world on
 abbrev pub AtEachEvent :
@@ -132,12 +132,12 @@ pub record VotesStand (v : AllVotes) : Type 0 where
   pub places : PlacesSettled v
 
 -- neither two votes of one desk for a position, nor votes that are no book, nor a file that isn't sound
-abbrev pub IsSound : {Why : Type 0} → Answer Why → Type 0
-IsSound (Answer.Told Heard.TwoVotes) = ⊥
-IsSound Answer.BadVotes = ⊥
-IsSound Answer.Unsound = ⊥
-IsSound Answer.NoBook = ⊥
-IsSound _ = Unit {0}
+abbrev pub IsSoundAnswer : {Why : Type 0} → Answer Why → Type 0
+IsSoundAnswer (Answer.Told Heard.TwoVotes) = ⊥
+IsSoundAnswer Answer.BadVotes = ⊥
+IsSoundAnswer Answer.Unsound = ⊥
+IsSoundAnswer Answer.NoBook = ⊥
+IsSoundAnswer _ = Unit {0}
 
 -- the headline, of a run of a match with so many innings a side
 pub record Headline {Disk Why : Type 0} (innings : ℕ) (w : World Disk) (ms : List (Moment Disk Why)) : Type 0 where

@@ -9,7 +9,7 @@ use Rattle.agree_core.specs.Books.{IsAgreedByFiles}
 use Rattle.headline.specs.declared.version.FileVersion.{FileVersion}
 use Rattle.headline.specs.Worlds.{Setting, World, votes_in}
 use Rattle.headline.specs.Runs.{AtEachMoment, Begins, Moment, Run, last_of}
-use Rattle.headline.specs.Headline.{AtEachEvent, Headline, IsSound, KeepsVotes, StandsFast, WithinAgreed}
+use Rattle.headline.specs.Headline.{AtEachEvent, Headline, IsSoundAnswer, KeepsVotes, StandsFast, WithinAgreed}
 use Rattle.headline.specs.Match.{setting_of}
 
 -- the list that both files show is the agreed list of the last votes
@@ -29,7 +29,7 @@ pub record HoldsInRun
   -- no vote is lost; how the votes stand and are kept at each moment; and which answers never come
   pub votes_kept : AtEachEvent w ms KeepsVotes
   pub stands_fast : AtEachMoment w ms (StandsFast s)
-  pub sound : AtEachEvent w ms (λ v m. IsSound m.answer)
+  pub sound : AtEachEvent w ms (λ v m. IsSoundAnswer m.answer)
 
 module _ {Disk : Type 0} (seen : Disk → List ℕ) (images : Disk → Images) where
   -- it holds in each run of a match on such disks, whatever a file of either version shows of its bytes

@@ -169,30 +169,40 @@ FallsDue view fault x y =
 abbrev pub AtDesk :
     {Disk Why : Type 0} → Setting Disk Why → List Message → DeskId → Event
     → Site Disk → Answer Why → Site Disk → List Message → Type 0
+-- its scorer pens an entry, while it runs
 AtDesk s sent d (events.Pen c e) x answer y out =
     (k : DeskState _) × (l : DeskState _) × (penned : PenAnswer _) × (x.process ≡ Running k)
     × Pens (s.view d x.version) s.rules k e penned l out × AfterPen (s.view d x.version) x penned l answer y
+-- while it runs it is given the message of this number
 AtDesk s sent d (events.Give n t) x answer y out =
     (k : DeskState _) × (l : DeskState _) × (m : Message) × (received : ReceiveAnswer)
     × (x.process ≡ Running k) × (slice_get sent n ≡ Some m)
     × Receives (s.view d x.version) k m received l out × AfterReceive (s.view d x.version) x received l out answer y
+-- while it runs it says what it has to say, and is as it was
 AtDesk s sent d (events.Tick t) x answer y out =
     (k : DeskState _) × (x.process ≡ Running k) × Ticks k out × (answer ≡ Ticked (length out)) × (y ≡ x)
+-- its process ends, while it runs
 AtDesk s sent d (events.Kill c) x answer y out =
     (k : DeskState _) × (x.process ≡ Running k) × Ends (s.view d x.version) x y × (answer ≡ Done) × (out ≡ [])
+-- running or down, it loses power; it has the votes that it had
 AtDesk s sent d (events.Power c choice) x answer y out =
     (disk : _) × LosesPower (s.view d x.version) (disk_of x.process) disk
     × (y ≡ record x { process = Down (votes_of x.process) disk; due = None }) × (answer ≡ Done) × (out ≡ [])
+-- running or down, its disk is to fail; which call that is, by n, the disk counts
 AtDesk s sent d (events.FailAt c n) x answer y out =
     FallsDue (s.view d x.version) Fail x y × (answer ≡ Done) × (out ≡ [])
+-- the same, and then all later calls
 AtDesk s sent d (events.StopAt c n) x answer y out =
     FallsDue (s.view d x.version) Stop x y × (answer ≡ Done) × (out ≡ [])
+-- while it is down it is opened from its file
 AtDesk s sent d (events.Open c) x answer y out =
     (votes : List Ballot) × (disk : _) × (opening : Opening _) × (x.process ≡ Down votes disk)
     × Opens (s.view d x.version) s.rules d disk opening × AfterOpen (s.view d x.version) x votes opening answer y × (out ≡ [])
+-- while it is down its file is migrated
 AtDesk s sent d (events.Migrate c) x answer y out =
     (votes : List Ballot) × (disk : _) × (x.process ≡ Down votes disk)
     × MigratesAt (s.view d) x x.version votes disk answer y × (out ≡ [])
+-- a desk isn't wiped
 AtDesk s sent d (events.Wipe n) x answer y out = ⊥
 
 abbrev pub board_told : {Why : Type 0} → BoardAnswer → Answer Why
@@ -204,12 +214,16 @@ board_told (BoardAnswer.BadVotes place) = BadVotes
 abbrev pub AtBoard :
     {Disk Why : Type 0} → Setting Disk Why → List Message → Event
     → BoardState → Answer Why → BoardState → List Message → Type 0
+-- it is given the message of this number
 AtBoard s sent (events.Give n t) k answer l out =
     (m : Message) × (received : BoardAnswer) × (slice_get sent n ≡ Some m)
     × BoardReceives s.rules k m received l × (answer ≡ board_told received) × (out ≡ [])
+-- it asks for what it lacks, and is as it was
 AtBoard s sent (events.Tick t) k answer l out =
     BoardTicks k out × (answer ≡ Ticked (length out)) × (l ≡ k)
+-- it begins empty
 AtBoard s sent (events.Wipe n) k answer l out = (l ≡ fresh_board) × (answer ≡ Done) × (out ≡ [])
+-- all else is for desks
 AtBoard s sent (events.Pen d e) k answer l out = ⊥
 AtBoard s sent (events.Kill d) k answer l out = ⊥
 AtBoard s sent (events.Power d choice) k answer l out = ⊥

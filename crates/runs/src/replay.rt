@@ -20,8 +20,8 @@ use std::alloc::Global;
 use std::io::{Read, Write};
 use step::{Stepped, begin, step_all};
 
-/// What a replay of the events reports. The world of a run took all of them: a second one ends before the last
-/// only for want of memory.
+/// What a replay of the events reports, which the world of a run has taken. Where it has no report, memory is
+/// told to be wanted.
 fn report_of(
     alloc: Global,
     sheet: &MatchSheet,

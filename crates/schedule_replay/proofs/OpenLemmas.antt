@@ -39,7 +39,7 @@ use Rattle.headline.specs.Worlds.{Process, Running, Down}
 use Rattle.headline.specs.Steps.{Answer, StaysDown}
 use Rattle.headline.specs.Match.{match_of}
 use Rattle.schedule_replay.specs.Answers.{answer_of, is_failing, wants_memory}
-use Rattle.schedule_replay.specs.Sites.{BreaksDown, IsDue, IsProcess, IsSite, IsWorldDisk, NotFoundBy, SameMatch, SiteSteps, SyncsSite}
+use Rattle.schedule_replay.specs.Sites.{BreaksDown, IsDue, IsProcess, IsSite, IsWorldDisk, NotFoundBy, SameSite, SiteSteps, SyncsSite}
 use Rattle.schedule_replay.specs.WorldDesks.{IsOf, disk_of, state_of}
 use Rattle.schedule_replay.proofs.SiteLemmas.{HasDisk, broken_same, down_is, no_bytes, put_down_is, sets_plan_stays}
 
@@ -215,10 +215,10 @@ bad_votes old new disk left place result down there o cap blame r e =
     not_sound old new disk left (BadVotes place) (openings.OpenRefusal.BadVotes place) Answer.NoBook result down there o (λ x v. (refl, refl)) cap (blame.same (not_device (BadVotes place) (λ q. (cc)))) refl (r, e)
 
 -- the site after that is of the same match
-pub not_found_same : (memory fails : Bool) (cause : Cause) (old new : Site) (result : Result Seen WorldRefusal) → NotFoundBy memory fails cause old result new → SameMatch old new
-not_found_same true fails cause old new result n = subst (SameMatch old) (sym n.1) (record { name = refl; same_game = refl; innings = refl })
+pub not_found_same : (memory fails : Bool) (cause : Cause) (old new : Site) (result : Result Seen WorldRefusal) → NotFoundBy memory fails cause old result new → SameSite old new
+not_found_same true fails cause old new result n = subst (SameSite old) (sym n.1) (record { name = refl; same_game = refl; innings = refl })
 not_found_same false true cause old new result n = broken_same old.due cause old new n.0 n.2
-not_found_same false false cause old new result n = subst (SameMatch old) (sym n.1) (record { name = refl; same_game = refl; innings = refl })
+not_found_same false false cause old new result n = subst (SameSite old) (sym n.1) (record { name = refl; same_game = refl; innings = refl })
 
 -- the same of a refusal that is told so
 pub not_found_as : (old new : Site) (disk left : MemDisk) (why : OpenRefusal) (fault : VotesRefusal) (result : Result Seen WorldRefusal) → why ≡ Votes fault → old.desk ≡ None → old.disk ≡ Some disk → Opens (ViewAt old old.version) (RulesAt old) old.name disk (NotOpened (open_cause why) left) → cap_of left ≡ cap_of disk → OpenBlame disk why left → NotFoundBy (wants_memory fault) (is_failing fault) (causes.Open (Votes fault)) (record old { disk = Some left }) result new → Outcome OpenSteps old result new

@@ -26,7 +26,7 @@ use Rattle.headline.specs.Worlds.{Running}
 use Rattle.headline.specs.Steps.{AfterPen}
 use Rattle.headline.specs.Match.{match_of}
 use Rattle.schedule_replay.specs.Answers.{AreBytesOf, answer_of, told_to_pen}
-use Rattle.schedule_replay.specs.Sites.{AfterRefusal, RefusedBy, SameMatch, SiteSteps}
+use Rattle.schedule_replay.specs.Sites.{AfterRefusal, RefusedBy, SameSite, SiteSteps}
 use Rattle.schedule_replay.specs.WorldDesks.{HasRoom, SameOwner, disk_of, game_of, rules_of, state_of, view_of}
 use Rattle.schedule_replay.proofs.SiteLemmas.{broken_same, broken_site, has_room, more_bytes, no_bytes, of_match, running_is, runs_on, votes_of}
 
@@ -93,6 +93,6 @@ pen_refused old new k l e refusals.SlotsFull seen before here step owner blame a
 pen_refused old new k l e (refusals.Book cause) seen before here step owner blame a = refused old new k l e (refusals.Book cause) seen before here step owner blame (λ q. (cc)) (λ q. (cc)) a
 
 -- the site after a refusal is of the same match
-pub refused_same : (device : Bool) (why : DeskRefusal) (old new : Site) (seen : Seen) → RefusedBy device why old seen new → SameMatch old new
+pub refused_same : (device : Bool) (why : DeskRefusal) (old new : Site) (seen : Seen) → RefusedBy device why old seen new → SameSite old new
 refused_same true why old new seen q = broken_same old.due (causes.Desk why) old new seen q
-refused_same false why old new seen q = subst (SameMatch old) (sym q.1) (record { name = refl; same_game = refl; innings = refl })
+refused_same false why old new seen q = subst (SameSite old) (sym q.1) (record { name = refl; same_game = refl; innings = refl })

@@ -25,19 +25,20 @@ use Rattle.headline.specs.Worlds as worlds
 use Rattle.headline.specs.Worlds.{fresh_boards, votes_in, with_board, with_site}
 use Rattle.headline.specs.Events.{station_of}
 use Rattle.headline.specs.Steps.{Answer, Step, StepAt}
-use Rattle.headline.specs.Runs.{AtSomeMoment, Begins, Moment, Run, Shows, answers_of, events_of, last_of}
+use Rattle.headline.specs.Runs.{AtEachMoment, AtSomeMoment, Begins, Moment, Run, Shows, answers_of, events_of, last_of}
 use Rattle.headline.specs.Match.{match_of}
 use Rattle.schedule_replay.specs.Answers.{answer_of}
 use Rattle.schedule_replay.specs.Refusals.{RefusesEvent}
 use Rattle.schedule_replay.specs.CodeWorlds.{BeginsWorld, IsNew, boards_of, version_of, IsWorld, RefusesTo, SameMatch, StepsTo}
 use Rattle.headline.specs.Headline.{ShowsScore}
-use Rattle.schedule_replay.specs.Replays.{AreSeen, EndsAt, IsReplay, IsRunOf, MatchRun, StandOnce}
+use Rattle.schedule_replay.specs.Replays.{AreSeen, EndsAt, IsReplay, IsRunOf, MatchRun, ShowScores, StandOnce}
 use Rattle.schedule_replay.specs.RunsSoFar.{HasTaken, IsAt}
-use Rattle.schedule_replay.specs.ShownScores.{IsNotable, Notes}
+use Rattle.schedule_replay.specs.ShownScores.{HaveScores, IsNotable, Notes}
 use Rattle.schedule_replay.specs.VotesFiles.{FilesRead}
 use Rattle.headline.proofs.Keeping.{begins_fine, run_keeps}
 use Rattle.schedule_replay.proofs.BoardLemmas.{fresh_many}
 use Rattle.schedule_replay.proofs.NoteLemmas.{Shown}
+use Rattle.schedule_replay.proofs.ShowLemmas.{code_scored}
 use Rattle.schedule_replay.proofs.ReadLemmas.{files_read}
 use Rattle.headline.proofs.Scores.{one_score}
 use Rattle.headline.proofs.Whole.{holds_in_run}
@@ -59,11 +60,11 @@ module _ (game innings : ℕ) where
 
 -- a run over the first events ends with what the code's world shows, and all that was shown is noted
 pub record IsAfter (game innings : ℕ) (version : FileVersion) (boards : ℕ) (events : List Event) (number : ℕ) (world : World) (outcomes : List Seen) (seen : List Shown) : Type 0 where
-  pub at : (w : worlds.World MemDisk) × (ms : MatchRun) × IsAt game innings version boards events number world outcomes w ms × AreSeen innings w ms seen
+  pub at : (w : worlds.World MemDisk) × (ms : MatchRun) × IsAt game innings version boards events number world outcomes w ms × AreSeen innings w ms seen × AtEachMoment w ms (ShowScores innings)
 
 -- such a run before its last event, whose outcome is the last one
 pub record IsNext (game innings : ℕ) (version : FileVersion) (boards : ℕ) (events : List Event) (number : ℕ) (world : World) (outcomes : List Seen) (seen : List Shown) : Type 0 where
-  pub at : (w : worlds.World MemDisk) × (ms : MatchRun) × (m : Moment MemDisk Refusal) × IsAt game innings version boards events number world outcomes w (m ∷ ms) × AreSeen innings w ms seen
+  pub at : (w : worlds.World MemDisk) × (ms : MatchRun) × (m : Moment MemDisk Refusal) × IsAt game innings version boards events number world outcomes w (m ∷ ms) × AreSeen innings w ms seen × AtEachMoment w ms (ShowScores innings)
 
 take_next : (events : List Event) (n : ℕ) (d : Event) → n < length events → take (suc n) events ≡ take n events ++ slice_index_or events n d ∷ []
 take_next [] n d h = absurd (omega (arith, h))
@@ -114,8 +115,8 @@ module _ (game innings : ℕ) (version : FileVersion) (boards : ℕ) (events : L
       notable_at number world outcomes seen at.0 (at.2 ∷ at.1) few at.3 (λ t n score c. inr ((at.4 t n score).0 c)) (λ t n score s. inl s)
 
   -- what the world shows at the start is noted
-  pub first_noted : (world : World) (old new : List Shown) (outcomes : List Seen) → BeginsWorld game innings version boards world → old ≡ [] → outcomes ≡ [] → Notes world old new → IsAfter game innings version boards events 0 world outcomes new
-  first_noted world old new outcomes h none no_outcomes noted =
+  pub first_noted : (world : World) (old new : List Shown) (outcomes : List Seen) → BeginsWorld game innings version boards world → old ≡ [] → outcomes ≡ [] → Notes world old new → HaveScores world → IsAfter game innings version boards events 0 world outcomes new
+  first_noted world old new outcomes h none no_outcomes noted have =
       let b = begins_at world h in
       let at = subst (λ (o : List Seen). IsAt game innings version boards events 0 world o b.0 []) (sym no_outcomes) b.1 in
       let same = at.same_innings in
@@ -129,11 +130,12 @@ module _ (game innings : ℕ) (version : FileVersion) (boards : ℕ) (events : L
                 λ c. ⊎_elim (λ (o : Contains old (t, n, score)). absurd (nothing_noted (t, n, score) (subst (λ (xs : List Shown). Contains xs (t, n, score)) none o))) (λ s. subst (λ (i : ℕ). ShowsScore i b.0 t n score) same s) (k.0 c),
                 λ s. k.1 (inr (subst (λ (i : ℕ). ShowsScore i b.0 t n score) (sym same) s)),
               ),
+          subst (λ (i : ℕ). ShowScores i b.0) same (code_scored world b.0 have at.is_world),
         );
       }
 
-  pub next_noted : (number : ℕ) (world : World) (outcomes : List Seen) (old new : List Shown) → IsNext game innings version boards events number world outcomes old → Notes world old new → IsAfter game innings version boards events number world outcomes new
-  next_noted number world outcomes old new h noted =
+  pub next_noted : (number : ℕ) (world : World) (outcomes : List Seen) (old new : List Shown) → IsNext game innings version boards events number world outcomes old → Notes world old new → HaveScores world → IsAfter game innings version boards events number world outcomes new
+  next_noted number world outcomes old new h noted have =
       let p = h.at in
       let at = p.3 in
       let m = p.2 in
@@ -148,6 +150,7 @@ module _ (game innings : ℕ) (version : FileVersion) (boards : ℕ) (events : L
                 λ c. ⊎_elim (λ (o : Contains old (t, n, score)). inr ((p.4 t n score).0 o)) (λ s. inl (subst (λ (i : ℕ). ShowsScore i m.after t n score) same s)) (k.0 c),
                 λ s. k.1 (⊎_elim (λ (q : ShowsScore innings m.after t n score). inr (subst (λ (i : ℕ). ShowsScore i m.after t n score) (sym same) q)) (λ q. inl ((p.4 t n score).1 q)) s),
               ),
+          (subst (λ (i : ℕ). ShowScores i m.after) same (code_scored world m.after have at.is_world), p.5),
         );
       }
 
@@ -176,7 +179,7 @@ module _ (game innings : ℕ) (version : FileVersion) (boards : ℕ) (events : L
   goes_on number event world new outcomes seen shown less here h steps same =
       let p = h.at in
       let n = steps_on number event world new outcomes seen p.0 p.1 less here p.2 steps same in
-      record { at = (p.0, p.1, n.0, n.1, p.3) }
+      record { at = (p.0, p.1, n.0, n.1, p.3, p.4) }
 
   -- an event isn't taken
   pub refuses_at : (number : ℕ) (event : Event) (world new : World) (outcomes : List Seen) (why : WorldRefusal) (w : worlds.World MemDisk) (ms : MatchRun) → number < length events → event ≡ slice_index_or events number event → IsAt game innings version boards events number world outcomes w ms → RefusesTo event world why new → (v : worlds.World MemDisk) × (slice_get events number ≡ Some event) × RefusesEvent (match_of game innings) (last_of w ms) event why v
@@ -256,6 +259,7 @@ module _ (game innings : ℕ) (version : FileVersion) (boards : ℕ) (events : L
           run = record { begins = run.begins; run = run.run; over = run.over ∙ all; answered = run.answered; planned = run.planned };
           holds = holds;
           agreed = agreed;
+          scored = p.4;
           seen = p.3;
           once = once;
           scores = λ t n score c. score_at w ms t n score ((p.3 t n score).0 c) (λ t book shown. holds.within_agreed t book report.agreed.items shown agreed);

@@ -23,7 +23,8 @@ use Rattle.headline.specs.Runs.{process_shows}
 use Rattle.schedule_replay.specs.Sites.{IsProcess}
 use Rattle.schedule_replay.specs.CodeWorlds.{IsBoardOf, IsWorld, MatchBoard, board_innings, board_state, code_site}
 use Rattle.headline.specs.Headline.{ShowsScore}
-use Rattle.schedule_replay.specs.ShownScores.{Adds, BoardShows, CodeShows, DeskShows, IsBookScore, IsNotable, Notes, station_number}
+use Rattle.schedule_replay.specs.Replays.{ShowScores}
+use Rattle.schedule_replay.specs.ShownScores.{Adds, BoardHasScore, BoardShows, CodeShows, DeskHasScore, DeskShows, HaveScores, IsBookScore, IsNotable, Notes, station_number}
 use Rattle.schedule_replay.specs.WorldDesks.{innings_of, state_of}
 use Rattle.schedule_replay.proofs.NoteLemmas.{FromOne, Shown, same_station}
 use Rattle.headline.proofs.Scores.{one_standing}
@@ -101,6 +102,49 @@ code_shows code w (stations.Board (suc i)) n score h =
     let all = h.boards_are in
     let shows = board_shows code.innings_a_side (slice_get items i) n score (λ k e. board_of code.game code.innings_a_side items i k all e) in
     subst (λ (o : Option BoardState). BoardScore code.innings_a_side o n score ↔ BoardShows (slice_get items i) n score) (sym there) shows
+
+-- what has a score shows it
+scored_desk : (site : Site) (innings : ℕ) (desk : Option WorldDesk) (disk : Option MemDisk) (p : worlds.Process MemDisk) (book : List Entry) → site.innings_a_side ≡ innings → IsProcess site desk disk p → DeskHasScore desk → process_shows p book → (score : Standing) × ProcessScore innings p (length book) score
+scored_desk site innings (Some k) disk p book e h d s =
+    let own = h.0.owner in
+    let here : (λ (s : DeskState MemDisk). s.book) (state_of k) ≡ book = subst (λ (q : worlds.Process MemDisk). process_shows q book) h.2 s in
+    (d.0, (book, s, refl, subst (λ (i : ℕ). IsScoreOf d.0 i book) (own.same_innings ∙ e) (subst (IsScoreOf d.0 (innings_of k)) here d.1)))
+scored_desk site innings None (Some disk) p book e h d s = absurd (subst (λ (q : worlds.Process MemDisk). process_shows q book) h.1.2 s)
+scored_desk site innings None None p book e h d s = absurd h
+
+scored_board : (innings : ℕ) (o : Option MatchBoard) (book : List Entry) → ((k : MatchBoard) → o ≡ Some k → board_innings k ≡ innings) → BoardHasScore o → (k : BoardState) × (option_map board_state o ≡ Some k) × (k.book ≡ book) → (score : Standing) × BoardScore innings (option_map board_state o) (length book) score
+scored_board innings None book h d s = absurd (let e = s.1 in cc)
+scored_board innings (Some k) book h d s =
+    let here : (λ (s : BoardState). s.book) (board_state k) ≡ book = ap (λ (s : BoardState). s.book) (same_state (board_state k) s.0 s.1) ∙ s.2 in
+    (d.0, (book, s, refl, subst (λ (i : ℕ). IsScoreOf d.0 i book) (h k refl) (subst (IsScoreOf d.0 (board_innings k)) here d.1)))
+
+pub code_scored : (code : World) (w : worlds.World MemDisk) → HaveScores code → IsWorld code w → ShowScores code.innings_a_side w
+code_scored code w d h (stations.Desk A) book s = let is = h.sites A in let own = h.named A in scored_desk code.a code.innings_a_side code.a.desk code.a.disk w.a.process book own.same_innings is.process d.a_desk s
+code_scored code w d h (stations.Desk B) book s = let is = h.sites B in let own = h.named B in scored_desk code.b code.innings_a_side code.b.desk code.b.disk w.b.process book own.same_innings is.process d.b_desk s
+code_scored code w d h (stations.Board zero) book s = absurd (let e = s.1 in cc)
+code_scored code w d h (stations.Board (suc i)) book s =
+    let items = code.boards.items in
+    let there : slice_get w.boards i ≡ option_map board_state (slice_get items i) = ap (λ (bs : List BoardState). slice_get bs i) h.board_states ∙ slice_get-map board_state items i in
+    let all = h.boards_are in
+    let shown = scored_board code.innings_a_side (slice_get items i) book (λ k e. board_of code.game code.innings_a_side items i k all e) (d.of_boards i) (s.0, sym there ∙ s.1, s.2) in
+    (shown.0, subst (λ (o : Option BoardState). BoardScore code.innings_a_side o (length book) shown.0) (sym there) shown.1)
+
+-- each board below this number has a score
+abbrev pub ScoredBelow : World → ℕ → Type 0
+ScoredBelow code n = (i : ℕ) → i < n → BoardHasScore (slice_get code.boards.items i)
+
+pub scored_next : (code : World) (n : ℕ) (k : MatchBoard) (score : Standing) → ScoredBelow code n → slice_get code.boards.items n ≡ Some k → IsScoreOf score (board_innings k) ((λ (s : BoardState). s.book) (board_state k)) → ScoredBelow code (n + 1)
+scored_next code n k score h there has i less = ⊎_elim (λ (l : i < n). h i l) (λ (e : i ≡ n). subst (λ (o : Option MatchBoard). BoardHasScore o) (sym (ap (slice_get code.boards.items) e ∙ there)) (score, has)) (split i n less)
+  where
+    split : (i n : ℕ) → i < n + 1 → (i < n) ⊎ (i ≡ n)
+    split i n l = grind (arith, l)
+
+pub all_scored : (boards : List MatchBoard) (n : ℕ) → length boards ≤ n → ((i : ℕ) → i < n → BoardHasScore (slice_get boards i)) → (i : ℕ) → BoardHasScore (slice_get boards i)
+all_scored [] n less h zero = tt
+all_scored [] n less h (suc i) = tt
+all_scored (k ∷ ks) zero less h i = absurd (omega (arith, less))
+all_scored (k ∷ ks) (suc n) less h zero = h zero (omega arith)
+all_scored (k ∷ ks) (suc n) less h (suc i) = all_scored ks n (omega (arith, less)) (λ j l. h (suc j) (omega (arith, l))) i
 
 -- a station shows one score of one length
 pub desk_one : (o : Option WorldDesk) (n : ℕ) (score other : Standing) → DeskShows o n score → DeskShows o n other → other ≡ score

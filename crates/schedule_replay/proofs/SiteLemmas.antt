@@ -34,7 +34,7 @@ use Rattle.headline.specs.Worlds.{Process, Running, Down}
 use Rattle.headline.specs.Steps.{Answer, Breaks}
 use Rattle.headline.specs.Match.{format_of, match_of, most_bytes}
 use Rattle.schedule_replay.specs.Answers.{AreBytesOf, answer_of}
-use Rattle.schedule_replay.specs.Sites.{BreaksDown, IsDue, IsProcess, IsSite, IsWorldDisk, PutsDown, SameMatch, disk_at, votes_at}
+use Rattle.schedule_replay.specs.Sites.{BreaksDown, IsDue, IsProcess, IsSite, IsWorldDisk, PutsDown, SameSite, disk_at, votes_at}
 use Rattle.schedule_replay.specs.WorldDesks.{IsOf, SameOwner, disk_of, game_of, innings_of, rules_of, state_of, version_of, view_of}
 
 abbrev pub votes_of : WorldDesk → List Ballot
@@ -196,9 +196,9 @@ broken_site old new k l x cause seen (Some Stop) d here h o calm spent told q =
     (y, Answer.Stopped, ap answer_of q.0, (Stop, h.due ∙ d, (down.0, refl, sets_plan_stays old.name x.version old.game Calm (disk_of l) down.0 down.2, refl)), is)
 
 -- the site after that is of the same match
-pub broken_same : (due : Option Fault) (cause : Cause) (old new : Site) (seen : Seen) → BreaksDown due cause old seen new → SameMatch old new
-broken_same None cause old new seen q = subst (SameMatch old) (sym q.1) (record { name = refl; same_game = refl; innings = refl })
-broken_same (Some Fail) cause old new seen q = subst (SameMatch old) (sym q.1) (record { name = refl; same_game = refl; innings = refl })
+pub broken_same : (due : Option Fault) (cause : Cause) (old new : Site) (seen : Seen) → BreaksDown due cause old seen new → SameSite old new
+broken_same None cause old new seen q = subst (SameSite old) (sym q.1) (record { name = refl; same_game = refl; innings = refl })
+broken_same (Some Fail) cause old new seen q = subst (SameSite old) (sym q.1) (record { name = refl; same_game = refl; innings = refl })
 broken_same (Some Stop) cause old new seen q = let put = q.1 in let same = put.same in record { name = same.name; same_game = same.same_game; innings = same.innings }
 
 -- the file has room for one vote more

@@ -60,7 +60,7 @@ pub record Changes (d : DeskId) (old new : World) (site : Site) : Type 0 where
   pub same_game : new.game ≡ old.game
   pub same_innings : new.innings_a_side ≡ old.innings_a_side
   pub boards : new.boards.items ≡ old.boards.items
-  pub same : sites.SameMatch (code_site old d) site
+  pub same : sites.SameSite (code_site old d) site
 
 site_there : (d c : DeskId) (old new : World) (w : worlds.World MemDisk) (y : worlds.Site MemDisk) (out : List Message) → code_site new (other d) ≡ code_site old (other d) → IsSite (code_site new d) y → ((e : DeskId) → IsSite (code_site old e) (worlds.site w e)) → IsSite (code_site new c) (worlds.site (worlds.with_site w d y out) c)
 site_there A A old new w y out q i h = i

@@ -15,7 +15,7 @@ use Rattle.schedule_replay.specs.declared.seen.WorldRefusal.TheVariants.{NoMemor
 use Rattle.headline.specs.declared.version.FileVersion.{FileVersion}
 use Rattle.headline.specs.Laws.{HoldsInRun}
 use Rattle.headline.specs.Worlds.{World, votes_in}
-use Rattle.headline.specs.Runs.{AtSomeMoment, Begins, Moment, Run, answers_of, events_of, last_of}
+use Rattle.headline.specs.Runs.{AtEachMoment, AtSomeMoment, Begins, Moment, Run, Shows, answers_of, events_of, last_of}
 use Rattle.headline.specs.Headline.{AtEachEvent, ShowsScore}
 use Rattle.schedule_replay.specs.Refusals.{RefusesEvent}
 use Rattle.headline.specs.Match.{match_of}
@@ -32,6 +32,11 @@ abbrev pub AreSeen : ℕ → World MemDisk → MatchRun → List (Station × ℕ
 AreSeen innings w ms seen =
     (t : Station) (n : ℕ) (score : Standing)
     → Contains seen (t, n, score) ↔ AtSomeMoment w ms (λ v. ShowsScore innings v t n score)
+
+-- each station that isn't down shows a score of its book
+abbrev pub ShowScores : ℕ → World MemDisk → Type 0
+ShowScores innings v =
+    (t : Station) (book : List Entry) → Shows v t book → (score : Standing) × ShowsScore innings v t (length book) score
 
 -- a run of the match over these events, whose answers are seen so, and in which each fault is planned that is asked for
 pub record IsRunOf
@@ -86,8 +91,9 @@ pub record IsReportOf
   pub holds : HoldsInRun (match_of game innings) innings w ms
   -- the agreed list is that of the last votes
   pub agreed : IsAgreedList (votes_in (last_of w ms)) report.agreed.items
-  -- a station, a length and a score are seen exactly where the run shows them, once each, and each score is the
-  -- Laws' score of so many first entries of the agreed list
+  -- each station that isn't down shows a score; a station, a length and a score are seen exactly where the run
+  -- shows them, once each; and each score is the Laws' score of so many first entries of the agreed list
+  pub scored : AtEachMoment w ms (ShowScores innings)
   pub seen : AreSeen innings w ms report.seen.items
   pub once : StandOnce report.seen.items
   pub scores : AreScores innings report.agreed.items report.seen.items

@@ -72,6 +72,23 @@ CodeShows world (stations.Desk d) n score = DeskShows (code_site world d).desk n
 CodeShows world (stations.Board zero) n score = ⊥
 CodeShows world (stations.Board (suc i)) n score = BoardShows (slice_get world.boards.items i) n score
 
+-- a desk that runs has a score
+abbrev pub DeskHasScore : Option WorldDesk → Type 0
+DeskHasScore None = Unit {0}
+DeskHasScore (Some k) =
+    (score : Standing) × IsScoreOf score (innings_of k) ((λ (s : DeskState _). s.book) (state_of k))
+
+abbrev pub BoardHasScore : Option MatchBoard → Type 0
+BoardHasScore None = Unit {0}
+BoardHasScore (Some k) =
+    (score : Standing) × IsScoreOf score (board_innings k) ((λ (s : BoardState). s.book) (board_state k))
+
+-- each station of a world that isn't down has a score
+pub record HaveScores (world : World) : Type 0 where
+  pub a_desk : DeskHasScore world.a.desk
+  pub b_desk : DeskHasScore world.b.desk
+  pub of_boards : (i : ℕ) → BoardHasScore (slice_get world.boards.items i)
+
 -- a world shows these definitions' world, with at most four boards, and what it shows of a station and a length
 -- that stand among these scores has that score
 pub record IsNotable

@@ -66,7 +66,7 @@ pub record IsSite (site : Site) (x : worlds.Site MemDisk) : Type 0 where
   pub due : x.due ≡ site.due
 
 -- it is the same desk's, in the same match
-pub record SameMatch (old new : Site) : Type 0 where
+pub record SameSite (old new : Site) : Type 0 where
   pub name : new.name ≡ old.name
   pub same_game : new.game ≡ old.game
   pub innings : new.innings_a_side ≡ old.innings_a_side
@@ -145,7 +145,7 @@ pub record PutsDown (old new : Site) : Type 0 where
   pub desk : new.desk ≡ None
   pub due : new.due ≡ old.due
   pub version : new.version ≡ old.version
-  pub same : SameMatch old new
+  pub same : SameSite old new
 
 -- a device call has failed, for this cause to be told; where that was a stop, the desk is down
 abbrev pub BreaksDown : Option Fault → Cause → Site → Seen → Site → Type 0

@@ -113,7 +113,7 @@ impl Site {
     ghost use Rattle.std.specs.Prelude.{option_map};
     ghost use Rattle.schedule_replay.specs.Lending.{lent_desk};
     ghost use Rattle.schedule_replay.specs.Plans.{HasPlan};
-    ghost use Rattle.schedule_replay.specs.Sites.{AfterRefusal, BeginsSite, BreaksDown, IsWhole, NotFoundBy, PutsDown, SameMatch, SiteSteps, SiteTakes, SyncsSite, disk_at};
+    ghost use Rattle.schedule_replay.specs.Sites.{AfterRefusal, BeginsSite, BreaksDown, IsWhole, NotFoundBy, PutsDown, SameSite, SiteSteps, SiteTakes, SyncsSite, disk_at};
 
     /// A desk that is just created, on a file of this version.
     pub fn new(
@@ -157,7 +157,7 @@ impl Site {
         requires desk { is_desk (station_of event.now) ≡ true }
         ensures takes { SiteTakes event.now self.old sent.old.items result self.new sent.new.items }
         ensures planned { OnOk result (HasPlan event.now (disk_at self.new.desk self.new.disk)) }
-        ensures same { SameMatch self.old self.new }
+        ensures same { SameSite self.old self.new }
         ensures whole { IsWhole self.new }
     {
         match admit(event, false, self.desk.is_none(), sent) {
@@ -186,7 +186,7 @@ impl Site {
         requires room { vec_len sent.old + 2 ≤ vec_capacity sent.old }
         ensures step { SiteSteps (events.Pen self.old.name entry.now)
             self.old sent.old.items result self.new sent.new.items }
-        ensures same { SameMatch self.old self.new }
+        ensures same { SameSite self.old self.new }
         ensures whole { IsWhole self.new }
     {
         let mut desk = self.desk.take().unwrap();
@@ -210,7 +210,7 @@ impl Site {
         requires sent { message < length sent.old.items }
         ensures step { (t : AStation) → SiteSteps (events.Give message t)
             self.old sent.old.items result self.new sent.new.items }
-        ensures same { SameMatch self.old self.new }
+        ensures same { SameSite self.old self.new }
         ensures whole { IsWhole self.new }
     {
         let datagram = sent[message];
@@ -246,7 +246,7 @@ impl Site {
         requires running { IsSome self.old.desk }
         ensures step { (sent : List Datagram) → SiteSteps (events.Kill self.old.name)
             self.old sent result self.new sent }
-        ensures same { SameMatch self.old self.new }
+        ensures same { SameSite self.old self.new }
         ensures whole { IsWhole self.new }
     {
         self.due = None;
@@ -259,7 +259,7 @@ impl Site {
         requires whole { IsWhole self.old }
         ensures step { (sent : List Datagram) → SiteSteps (events.Power self.old.name choice)
             self.old sent result self.new sent }
-        ensures same { SameMatch self.old self.new }
+        ensures same { SameSite self.old self.new }
         ensures whole { IsWhole self.new }
     {
         self.due = None;
@@ -277,7 +277,7 @@ impl Site {
         ensures step { (sent : List Datagram) → SiteSteps (events.FailAt self.old.name n)
             self.old sent result self.new sent }
         ensures planned { HasPlan (events.FailAt self.old.name n) (disk_at self.new.desk self.new.disk) }
-        ensures same { SameMatch self.old self.new }
+        ensures same { SameSite self.old self.new }
         ensures whole { IsWhole self.new }
     {
         self.due = Some(Fault::Fail);
@@ -296,7 +296,7 @@ impl Site {
         ensures step { (sent : List Datagram) → SiteSteps (events.StopAt self.old.name n)
             self.old sent result self.new sent }
         ensures planned { HasPlan (events.StopAt self.old.name n) (disk_at self.new.desk self.new.disk) }
-        ensures same { SameMatch self.old self.new }
+        ensures same { SameSite self.old self.new }
         ensures whole { IsWhole self.new }
     {
         self.due = Some(Fault::Stop);
@@ -315,7 +315,7 @@ impl Site {
         ensures step { IfOk result (λ seen. (sent : List Datagram) →
             SiteSteps (events.Open self.old.name) self.old sent seen self.new sent) }
         ensures refused { OnErr result ((result ≡ Err WorldRefusal.NoMemory) × SyncsSite self.old self.new) }
-        ensures same { SameMatch self.old self.new }
+        ensures same { SameSite self.old self.new }
         ensures whole { IsWhole self.new }
     {
         let disk = self.disk.take().unwrap();
@@ -350,7 +350,7 @@ impl Site {
         ensures step { IfOk result (λ seen. (sent : List Datagram) →
             SiteSteps (events.Migrate self.old.name) self.old sent seen self.new sent) }
         ensures refused { OnErr result ((result ≡ Err WorldRefusal.NoMemory) × SyncsSite self.old self.new) }
-        ensures same { SameMatch self.old self.new }
+        ensures same { SameSite self.old self.new }
         ensures whole { IsWhole self.new }
     {
         match self.version {
@@ -367,7 +367,7 @@ impl Site {
         ensures step { IfOk result (λ seen. (sent : List Datagram) →
             SiteSteps (events.Migrate self.old.name) self.old sent seen self.new sent) }
         ensures refused { OnErr result ((result ≡ Err WorldRefusal.NoMemory) × SyncsSite self.old self.new) }
-        ensures same { SameMatch self.old self.new }
+        ensures same { SameSite self.old self.new }
         ensures whole { IsWhole self.new }
     {
         let Ok(mut new) = MemDisk::new(self.alloc, most_bytes(FileVersion::New)) else {

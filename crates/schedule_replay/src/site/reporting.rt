@@ -5,7 +5,7 @@ ghost use Rattle.entry_log.specs.declared.mem_disk.MemDisk.{MemDisk};
 ghost use Rattle.agree_core.specs.Ballots.{oldest};
 ghost use Rattle.match_laws.specs.declared.standing.Standing.{Standing};
 ghost use Rattle.headline.specs.declared.event.Station.TheVariants as stations;
-ghost use Rattle.schedule_replay.specs.ShownScores.{Adds, DeskShows, IsKept};
+ghost use Rattle.schedule_replay.specs.ShownScores.{Adds, DeskHasScore, DeskShows, IsKept};
 ghost use Rattle.schedule_replay.specs.Sites.{IsSite, IsWhole};
 ghost use Rattle.schedule_replay.specs.VotesFiles.{SiteReads, votes_of};
 ghost use Rattle.headline.specs.Worlds as worlds;
@@ -25,6 +25,7 @@ impl Site {
             DeskShows self.now.desk n score → other ≡ score }
         ensures noted { OnOk result (Adds (stations.Desk self.now.name) (DeskShows self.now.desk)
             shown.old.seen.items shown.new.seen.items) }
+        ensures scored { OnOk result (DeskHasScore self.now.desk) }
         ensures kept { IsKept shown.new }
     {
         match &self.desk {

@@ -3,7 +3,7 @@
 ghost use Rattle.std.specs.Prelude.{◌≡◌, ◌≤◌, IfOk, OnOk};
 ghost use Rattle.agree_core.specs.Books.{IsAgreedByFiles};
 ghost use Rattle.schedule_replay.specs.CodeWorlds.{IsWorld};
-ghost use Rattle.schedule_replay.specs.ShownScores.{IsKept, IsNotable, Notes};
+ghost use Rattle.schedule_replay.specs.ShownScores.{HaveScores, IsKept, IsNotable, Notes};
 ghost use Rattle.schedule_replay.specs.VotesFiles.{FilesRead};
 ghost use Rattle.headline.specs.Worlds as worlds;
 ghost use Rattle.headline.specs.Worlds.{votes_in};
@@ -23,6 +23,7 @@ impl World {
         requires kept { IsKept shown.old }
         requires notable { (w : worlds.World MemDisk) × IsNotable self.now shown.old.seen.items w }
         ensures noted { OnOk result (Notes self.now shown.old.seen.items shown.new.seen.items) }
+        ensures scored { OnOk result (HaveScores self.now) }
         ensures kept { IsKept shown.new }
     {
         self.a.note(shown)?;

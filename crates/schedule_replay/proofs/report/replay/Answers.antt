@@ -24,8 +24,9 @@ returns-then-is_err-clause-ends c = c.end_unreported-then-is_err.ensures c.args.
 
 pub loop-number-init : goal.loop-number-init
 loop-number-init c =
-    let noted = noted_ok c.note.result (sym c.is_err.ensures.value ∙ c.if-is_err.false) c.note.ensures.noted in (
-      first_noted c.args.world.game c.args.world.innings_a_side (version_of c.args.world) (boards_of c.args.world) c.args.events.now c.args.world c.in-Ok.shown.seen.items c.note.new.shown.seen.items c.in-Ok-with_capacity.outcomes.items (own_match c.args.world c.requires.new) c.in-Ok.ensures.empty c.in-Ok-with_capacity.ensures.items noted,
+    let noted = noted_ok c.note.result (sym c.is_err.ensures.value ∙ c.if-is_err.false) c.note.ensures.noted in
+    let scored = noted_ok c.note.result (sym c.is_err.ensures.value ∙ c.if-is_err.false) c.note.ensures.scored in (
+      first_noted c.args.world.game c.args.world.innings_a_side (version_of c.args.world) (boards_of c.args.world) c.args.events.now c.args.world c.in-Ok.shown.seen.items c.note.new.shown.seen.items c.in-Ok-with_capacity.outcomes.items (own_match c.args.world c.requires.new) c.in-Ok.ensures.empty c.in-Ok-with_capacity.ensures.items noted scored,
       c.note.ensures.kept,
       c.in-Ok-with_capacity.ensures.capacity,
       c.in-Ok-with_capacity.ensures.len,
@@ -51,9 +52,10 @@ loop-number-preserved c =
     let next = goes_on c.args.world.game c.args.world.innings_a_side (version_of c.args.world) (boards_of c.args.world) c.args.events.now c.loop-number.number c.index-events-number.result c.loop-number.world c.step.new.self c.loop-number.outcomes.items c.in-Ok-step.seen c.loop-number.shown.seen.items
     c.loop-number-test.true c.index-events-number.is c.loop-number.invariant.0 c.in-Ok-step.ensures.step c.in-Ok-step.ensures.same in
     let noted = noted_ok c.note-in-loop-number.result (sym c.is_err-in-loop-number.ensures.value ∙ c.if-is_err-2.false) c.note-in-loop-number.ensures.noted in
+    let scored = noted_ok c.note-in-loop-number.result (sym c.is_err-in-loop-number.ensures.value ∙ c.if-is_err-2.false) c.note-in-loop-number.ensures.scored in
     let pushed = rw c.unwrap.ensures at c.push.ensures.items in (
       subst (λ (o : List Seen). IsAfter c.args.world.game c.args.world.innings_a_side (version_of c.args.world) (boards_of c.args.world) c.args.events.now (c.loop-number.number + 1) c.step.new.self o c.note-in-loop-number.new.shown.seen.items) (sym pushed)
-          (next_noted c.args.world.game c.args.world.innings_a_side (version_of c.args.world) (boards_of c.args.world) c.args.events.now (c.loop-number.number + 1) c.step.new.self (c.loop-number.outcomes.items ++ c.in-Ok-step.seen ∷ []) c.loop-number.shown.seen.items c.note-in-loop-number.new.shown.seen.items next noted),
+          (next_noted c.args.world.game c.args.world.innings_a_side (version_of c.args.world) (boards_of c.args.world) c.args.events.now (c.loop-number.number + 1) c.step.new.self (c.loop-number.outcomes.items ++ c.in-Ok-step.seen ∷ []) c.loop-number.shown.seen.items c.note-in-loop-number.new.shown.seen.items next noted scored),
       c.note-in-loop-number.ensures.kept,
       (let room = c.loop-number.invariant.2 in let grown = c.push.ensures.capacity in omega arith),
       (let long = c.loop-number.invariant.3 in let more = rw c.unwrap.ensures at c.push.ensures.len in omega arith),

@@ -1,7 +1,7 @@
 use Rattle.std.proofs.Common.{Option, sym, subst, Result, Ok, Err, OnOk}
 use Rattle.headline.specs.declared.event.Station.TheVariants as stations
 use Rattle.schedule_replay.specs.declared.world_desk.WorldDesk.{WorldDesk}
-use Rattle.schedule_replay.specs.ShownScores.{Adds, DeskShows}
+use Rattle.schedule_replay.specs.ShownScores.{Adds, DeskHasScore, DeskShows}
 use Rattle.schedule_replay.proofs.ShowLemmas.{adds_book}
 use Rattle.schedule_replay.proofs.site.Site.note.Goals as goal
 
@@ -20,3 +20,6 @@ returns-in-Some-clause-noted c =
     (λ h. subst (λ (o : Option WorldDesk). Adds (stations.Desk c.args.self.now.name) (DeskShows o) c.args.shown.now.seen.items c.note.new.self.seen.items) (sym c.in-Some.is)
     (adds_book (stations.Desk c.args.self.now.name) _ _ c.book_len.result c.shown.result.now c.args.shown.now.seen.items c.note.new.self.seen.items (c.book_len.ensures.entries, c.shown.ensures) h))
     c.note.ensures.noted
+
+pub returns-in-Some-clause-scored : goal.returns-in-Some-clause-scored
+returns-in-Some-clause-scored c = on_ok c.note.result (λ _. subst DeskHasScore (sym c.in-Some.is) (c.shown.result.now, c.shown.ensures)) c.note.ensures.noted

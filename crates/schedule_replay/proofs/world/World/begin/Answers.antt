@@ -1,4 +1,3 @@
-use Rattle.std.proofs.Common.{refl}
 use Rattle.schedule_replay.proofs.BoardLemmas.{begins}
 use Rattle.schedule_replay.proofs.world.World.begin.Goals as goal
 
