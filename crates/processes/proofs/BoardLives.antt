@@ -4,7 +4,7 @@ use Rattle.agree_core.specs.Boards.{BoardState, fresh_board}
 use Rattle.live.specs.Boards as boards
 use Rattle.live.specs.Boards.{BoardCall, BoardStep, BoardTurn}
 use Rattle.live.specs.Runs as own
-use Rattle.processes.specs.Happenings.{BoardBegun, BoardCalled, DeskBegun, DeskCalled, DeskEnded, Happening, PowerLost}
+use Rattle.processes.specs.Happenings.{BoardBegun, BoardCalled, DeskBegun, DeskCalled, DeskEnded, FileMigrated, Happening, PowerLost}
 use Rattle.processes.specs.Lives.{BoardRuns, IsBoardLife, board_calls, board_happens}
 use Rattle.processes.proofs.Local.{Local, local-append, nexts}
 
@@ -17,6 +17,7 @@ module _ {Disk : Type 0} where
   next_board k (DeskEnded d disk) = k
   next_board k (PowerLost d disk) = k
   next_board k (DeskBegun d opening) = k
+  next_board k (FileMigrated d votes new) = k
 
 module _ (Disk : Type 0) (game innings : ℕ) where
   -- it may happen at this board, but for what came

@@ -1,70 +1,86 @@
 -- A desk's life, step by step.
-use Rattle.std.proofs.Common.{◌≡◌, ℕ, List, [], ◌∷◌, refl, sym, ◌∙◌, subst}
+use Rattle.std.proofs.Common.{◌≡◌, ℕ, List, [], ◌∷◌, refl, sym, ap, ◌∙◌, subst}
 use Rattle.entry_log.specs.Disk.{Faults}
 use Rattle.agree_core.specs.declared.messages.DeskId.{DeskId}
 use Rattle.agree_core.specs.Ballots.{Ballot}
 use Rattle.agree_core.specs.Desks.{DeskState}
 use Rattle.agree_core.specs.FileView.{FileView, Stays}
-use Rattle.headline.specs.Worlds.{Process, Running, Down, disk_of, votes_of}
+use Rattle.headline.specs.declared.version.FileVersion.{FileVersion}
+use Rattle.headline.specs.declared.version.FileVersion.TheVariants.{Old}
+use Rattle.headline.specs.Worlds.{Process, Running, Down, Site, disk_of, votes_of}
 use Rattle.headline.specs.Steps as steps
 use Rattle.live.specs.Desks.{DeskCall, DeskProcess, DeskStep}
 use Rattle.live.specs.Runs as own
-use Rattle.processes.specs.Happenings.{BoardBegun, BoardCalled, DeskBegun, DeskCalled, DeskEnded, Happening, PowerLost, begun}
-use Rattle.processes.specs.Lives.{Begins, BeginsOn, ComesNext, CutOff, Ends, IsLife, LosesPower, Runs, RunsFrom, Stage, after_calls, after_life, after_stage, calls_of, fresh, life_happens, stage_happens}
+use Rattle.processes.specs.Happenings.{BoardBegun, BoardCalled, DeskBegun, DeskCalled, DeskEnded, FileMigrated, Happening, PowerLost, begun, migrated}
+use Rattle.processes.specs.Lives.{Begins, BeginsOn, ComesNext, CutOff, Ends, IsLife, Migrates, LosesPower, Runs, RunsFrom, Stage, after_calls, after_life, after_stage, calls_of, fresh, life_happens, stage_happens}
 use Rattle.processes.proofs.Local.{Local, local-append, nexts, nexts-append}
 
 module _ {Disk : Type 0} where
-  -- the process at a desk after something that happens there
-  abbrev pub next_desk : Process Disk → Happening Disk → Process Disk
-  next_desk p (DeskCalled c call out l) = Running l
-  next_desk p (DeskEnded c disk) = Down (votes_of p) disk
-  next_desk p (PowerLost c disk) = Down (votes_of p) disk
-  next_desk p (DeskBegun c opening) = begun (votes_of p) opening
-  next_desk p (BoardCalled n call out l) = p
-  next_desk p (BoardBegun n) = p
+  -- a desk after something that happens there
+  abbrev pub next_desk : Site Disk → Happening Disk → Site Disk
+  next_desk x (DeskCalled c call out l) = record x { process = Running l }
+  next_desk x (DeskEnded c disk) = record x { process = Down (votes_of x.process) disk }
+  next_desk x (PowerLost c disk) = record x { process = Down (votes_of x.process) disk }
+  next_desk x (DeskBegun c opening) = record x { process = begun (votes_of x.process) opening }
+  next_desk x (FileMigrated c votes new) = migrated x new
+  next_desk x (BoardCalled n call out l) = x
+  next_desk x (BoardBegun n) = x
 
-module _ {Disk : Type 0} (view : FileView Disk) (seen : Disk → List ℕ) (d : DeskId) (game innings : ℕ) where
+module _ {Disk : Type 0} (view : FileVersion → FileView Disk) (seen : Disk → List ℕ) (d : DeskId) (game innings : ℕ) where
   -- it may happen at this desk, but for what came
-  abbrev pub MayDesk : Process Disk → Happening Disk → Type 0
-  MayDesk p (DeskCalled c call out l) =
-      (k : DeskState Disk) × (p ≡ Running k) × DeskStep view game innings k call out l
-  MayDesk p (DeskEnded c disk) = (k : DeskState Disk) × (p ≡ Running k) × Stays view k.disk disk
-  MayDesk p (PowerLost c disk) = steps.LosesPower view (disk_of p) disk
-  MayDesk p (DeskBegun c opening) =
-      (votes : List Ballot) × (disk : Disk) × (p ≡ Down votes disk) × BeginsOn view seen innings d disk opening
-  MayDesk p (BoardCalled n call out l) = Unit {0}
-  MayDesk p (BoardBegun n) = Unit {0}
+  abbrev pub MayDesk : Site Disk → Happening Disk → Type 0
+  MayDesk x (DeskCalled c call out l) =
+      (k : DeskState Disk) × (x.process ≡ Running k) × DeskStep (view x.version) game innings k call out l
+  MayDesk x (DeskEnded c disk) =
+      (k : DeskState Disk) × (x.process ≡ Running k) × Stays (view x.version) k.disk disk
+  MayDesk x (PowerLost c disk) = steps.LosesPower (view x.version) (disk_of x.process) disk
+  MayDesk x (DeskBegun c opening) =
+      (votes : List Ballot) × (disk : Disk) × (x.process ≡ Down votes disk)
+      × BeginsOn (view x.version) seen innings d disk opening
+  MayDesk x (FileMigrated c votes new) =
+      (had : List Ballot) × (disk : Disk) × (x.process ≡ Down had disk) × (x.version ≡ Old)
+      × steps.Migrates view disk (steps.ToNew votes new)
+  MayDesk x (BoardCalled n call out l) = Unit {0}
+  MayDesk x (BoardBegun n) = Unit {0}
 
-  abbrev pub DeskLocal : Process Disk → List (Happening Disk) → Type 0
+  abbrev pub DeskLocal : Site Disk → List (Happening Disk) → Type 0
   DeskLocal = Local next_desk MayDesk
 
-  abbrev pub desk_after : Process Disk → List (Happening Disk) → Process Disk
+  abbrev pub desk_after : Site Disk → List (Happening Disk) → Site Disk
   desk_after = nexts next_desk MayDesk
 
-module _ {Disk : Type 0} (view : FileView Disk) (seen : Disk → List ℕ) (faults : Disk → Faults) (d : DeskId) (game innings : ℕ) where
-  abbrev Goes : Process Disk → List (Happening Disk) → Process Disk → Type 0
-  Goes p hs q = DeskLocal view seen d game innings p hs × (desk_after view seen d game innings p hs ≡ q)
+module _ {Disk : Type 0} (view : FileVersion → FileView Disk) (seen : Disk → List ℕ) (faults : Disk → Faults) (d : DeskId) (game innings : ℕ) where
+  abbrev Goes : Site Disk → List (Happening Disk) → Site Disk → Type 0
+  Goes x hs y = DeskLocal view seen d game innings x hs × (desk_after view seen d game innings x hs ≡ y)
 
-  calls : (k : DeskState Disk) (ms : List (own.Moment (DeskProcess Disk) DeskCall)) → RunsFrom view seen faults d game innings k ms → Goes (Running k) (calls_of d ms) (after_calls (Running k) ms)
-  calls k [] r = (tt, refl)
-  calls k (m ∷ ms) r =
-      let before = calls k ms (r.0, r.1, r.2, r.3.0) in
-      ((before.0, ((λ (p : DeskProcess Disk). p.desk) (own.last_of (fresh k) ms), before.1, r.3.2.1)), refl)
+  abbrev with_run : Site Disk → Process Disk → Site Disk
+  with_run x p = record x { process = p }
 
-  stage : (p : Process Disk) (x : Stage Disk) → ComesNext view seen faults d game innings p x → Goes p (stage_happens d x) (after_stage p x)
-  stage p (Runs ms) h =
-      subst (λ (q : Process Disk). Goes q (calls_of d ms) (after_calls q ms)) (sym h.1) (calls h.0 ms h.2)
-  stage p (CutOff call l) h = ((tt, (h.0, h.1, h.3)), refl)
-  stage p (Ends disk) h = ((tt, h), refl)
-  stage p (LosesPower disk) h = ((tt, h), refl)
-  stage p (Begins opening) h = ((tt, h), refl)
+  calls : (x : Site Disk) (k : DeskState Disk) (ms : List (own.Moment (DeskProcess Disk) DeskCall)) → RunsFrom (view x.version) faults game innings k ms → Goes (with_run x (Running k)) (calls_of d ms) (with_run x (after_calls (Running k) ms))
+  calls x k [] r = (tt, refl)
+  calls x k (m ∷ ms) r =
+      let before = calls x k ms (r.0, r.1, r.2, r.3.0) in
+      let last : DeskState Disk = (λ (p : DeskProcess Disk). p.desk) (own.last_of (fresh k) ms) in
+      let may : MayDesk view seen d game innings (with_run x (Running last)) (DeskCalled d m.call m.out ((λ (p : DeskProcess Disk). p.desk) m.after)) = (last, refl, r.3.2.1) in (
+        (before.0, subst (λ (y : Site Disk). MayDesk view seen d game innings y (DeskCalled d m.call m.out ((λ (p : DeskProcess Disk). p.desk) m.after))) (sym before.1) may),
+        ap (λ (y : Site Disk). next_desk y (DeskCalled d m.call m.out ((λ (p : DeskProcess Disk). p.desk) m.after))) before.1,
+      )
 
-  pub life : (p : Process Disk) (xs : List (Stage Disk)) → IsLife view seen faults d game innings p xs → Goes p (life_happens d xs) (after_life p xs)
-  life p [] h = (tt, refl)
-  life p (x ∷ xs) h =
-      let before = life p xs h.0 in
-      let then : Goes (desk_after view seen d game innings p (life_happens d xs)) (stage_happens d x) (after_stage (after_life p xs) x) =
-      subst (λ (q : Process Disk). Goes q (stage_happens d x) (after_stage (after_life p xs) x)) (sym before.1) (stage (after_life p xs) x h.1) in (
-        local-append next_desk (MayDesk view seen d game innings) p (stage_happens d x) (life_happens d xs) before.0 then.0,
-        nexts-append next_desk (MayDesk view seen d game innings) p (stage_happens d x) (life_happens d xs) ∙ then.1,
+  one_stage : (x : Site Disk) (stage : Stage Disk) → ComesNext view seen faults d game innings x stage → Goes x (stage_happens d stage) (after_stage x stage)
+  one_stage x (Runs ms) h =
+      subst (λ (p : Process Disk). Goes (with_run x p) (calls_of d ms) (with_run x (after_calls p ms))) (sym h.1) (calls x h.0 ms h.2)
+  one_stage x (CutOff call l) h = ((tt, (h.0, h.1, h.3)), refl)
+  one_stage x (Ends disk) h = ((tt, h), refl)
+  one_stage x (LosesPower disk) h = ((tt, h), refl)
+  one_stage x (Begins opening) h = ((tt, h), refl)
+  one_stage x (Migrates votes new) h = ((tt, h), refl)
+
+  pub life : (x : Site Disk) (stages : List (Stage Disk)) → IsLife view seen faults d game innings x stages → Goes x (life_happens d stages) (after_life x stages)
+  life x [] h = (tt, refl)
+  life x (stage ∷ stages) h =
+      let before = life x stages h.0 in
+      let then : Goes (desk_after view seen d game innings x (life_happens d stages)) (stage_happens d stage) (after_stage (after_life x stages) stage) =
+      subst (λ (y : Site Disk). Goes y (stage_happens d stage) (after_stage (after_life x stages) stage)) (sym before.1) (one_stage (after_life x stages) stage h.1) in (
+        local-append next_desk (MayDesk view seen d game innings) x (stage_happens d stage) (life_happens d stages) before.0 then.0,
+        nexts-append next_desk (MayDesk view seen d game innings) x (stage_happens d stage) (life_happens d stages) ∙ then.1,
       )

@@ -16,11 +16,13 @@ use Rattle.headline.specs.declared.event.Event.TheVariants as events
 use Rattle.headline.specs.declared.event.Station.TheVariants as stations
 use Rattle.headline.specs.declared.fault.Fault.{Fault}
 use Rattle.headline.specs.declared.fault.Fault.TheVariants.{Fail}
+use Rattle.headline.specs.declared.version.FileVersion.{FileVersion}
+use Rattle.headline.specs.declared.version.FileVersion.TheVariants.{Old, New}
 use Rattle.headline.specs.Worlds.{Process, Running, Down, Setting, Site, World, board_at, disk_of, site, votes_of, with_board, with_disk, with_site}
 use Rattle.headline.specs.Steps as steps
-use Rattle.headline.specs.Steps.{Answer, AtDesk, LosesPower}
+use Rattle.headline.specs.Steps.{Answer, AtDesk, LosesPower, Migrates, MigratesAt, ToNew}
 use Rattle.headline.specs.Events.{station_of}
-use Rattle.processes.specs.Happenings.{Happening, DeskCalled, DeskEnded, PowerLost, DeskBegun, BoardCalled, BoardBegun, Happens, after_one, begun, with_process}
+use Rattle.processes.specs.Happenings.{Happening, DeskCalled, DeskEnded, PowerLost, DeskBegun, FileMigrated, BoardCalled, BoardBegun, Happens, after_one, begun, migrated, with_process}
 use Rattle.processes.proofs.Going.{Fits, Leads, one}
 use Rattle.processes.proofs.BoardSteps.{board_moment, with_it}
 use Rattle.processes.proofs.DeskSteps.{after_fault, at_desk, desk_moment, stays_refl}
@@ -74,6 +76,15 @@ module _ {Disk : Type 0} (s : Setting Disk Refusal) (v : World Disk) (what : Hap
     opened votes disk (Opening.NotOpened OpenRefusal.NoMemory left) at h = not_opened votes disk left at h
     opened votes disk (Opening.NotOpened OpenRefusal.DeviceFailed left) at h = not_opened votes disk left at h
 
+  -- the file of a desk that is down is migrated
+  file_migrated : (d : DeskId) (had votes : List Ballot) (disk new : Disk) → (site v d).process ≡ Down had disk → (site v d).version ≡ Old → Migrates (s.view d) disk (ToNew votes new) → Reaches (with_site v d (migrated (site v d) new) [])
+  file_migrated d had votes disk new at old h =
+      let y : Site Disk = record (site v d) { version = New; process = Down had new } in
+      let at_old : MigratesAt {Why = Refusal} (s.view d) (site v d) Old had disk (steps.Migrated (length votes)) y = (ToNew votes new, h, (refl, refl)) in
+      subst (λ (p : Process Disk). Reaches (with_site v d (record (site v d) { version = New; process = Down (votes_of p) new }) [])) (sym at)
+      (at_desk s v d what (events.Migrate d) (steps.Migrated (length votes)) y [] refl tt
+      (had, disk, at, subst (λ (z : FileVersion). MigratesAt {Why = Refusal} (s.view d) (site v d) z had disk (steps.Migrated (length votes)) y) (sym old) at_old, refl))
+
   wiped : (n : ℕ) (k : BoardState) → board_at v.boards n ≡ Some k → Reaches (record v { boards = with_board v.boards n fresh_board })
   wiped n k at =
       subst (λ (sent : List Message). Reaches (record v { boards = with_board v.boards n fresh_board; sent = sent })) (append-nil v.sent)
@@ -84,11 +95,14 @@ module _ {Disk : Type 0} where
   abbrev pub IsCalm : World Disk → Type 0
   IsCalm v = (d : DeskId) → (site v d).due ≡ None
 
+  calm_site : (v : World Disk) → IsCalm v → (d : DeskId) (x : Site Disk) (out : List Message) → x.due ≡ None → IsCalm (with_site v d x out)
+  calm_site v c A x out e A = e
+  calm_site v c A x out e B = c B
+  calm_site v c B x out e A = c A
+  calm_site v c B x out e B = e
+
   calm_put : (v : World Disk) → IsCalm v → (d : DeskId) (p : Process Disk) (out : List Message) → IsCalm (with_process v d p out)
-  calm_put v c A p out A = c A
-  calm_put v c A p out B = c B
-  calm_put v c B p out A = c A
-  calm_put v c B p out B = c B
+  calm_put v c d p out = calm_site v c d (record (site v d) { process = p }) out (c d)
 
   calm_boards : (v : World Disk) → IsCalm v → (boards : List BoardState) (sent : List Message) → IsCalm (record v { boards = boards; sent = sent })
   calm_boards v c boards sent A = c A
@@ -100,6 +114,7 @@ module _ {Disk : Type 0} where
   calm_after v c (DeskEnded d disk) = calm_put v c d (Down (votes_of (site v d).process) disk) []
   calm_after v c (PowerLost d disk) = calm_put v c d (Down (votes_of (site v d).process) disk) []
   calm_after v c (DeskBegun d opening) = calm_put v c d (begun (votes_of (site v d).process) opening) []
+  calm_after v c (FileMigrated d votes new) = calm_site v c d (migrated (site v d) new) [] (c d)
   calm_after v c (BoardCalled n call out l) = calm_boards v c (with_board v.boards n l) (v.sent ++ out)
   calm_after v c (BoardBegun n) = calm_boards v c (with_board v.boards n fresh_board) v.sent
 
@@ -114,5 +129,6 @@ module _ {Disk : Type 0} (s : Setting Disk Refusal) (game innings : ℕ) (rules 
   happening (DeskEnded d disk) h = ended s v (DeskEnded d disk) d (calm d) h.0 disk h.1 h.2
   happening (PowerLost d disk) h = power_lost s v (PowerLost d disk) d (calm d) disk h
   happening (DeskBegun d opening) h = opens (DeskBegun d opening) d h.0 h.1 opening h.2 h.3
+  happening (FileMigrated d votes new) h = file_migrated s v (FileMigrated d votes new) d h.0 votes h.1 new h.2 h.3 h.4
   happening (BoardCalled n call out l) h = board_moment s game innings rules v (BoardCalled n call out l) n h.0 l call out h.1 h.2 h.3
   happening (BoardBegun n) h = wiped s v (BoardBegun n) n h.0 h.1

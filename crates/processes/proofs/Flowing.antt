@@ -14,7 +14,7 @@ use Rattle.live.specs.declared.said.Said.{Said}
 use Rattle.headline.specs.Headline.{AtEachEvent}
 use Rattle.headline.specs.Worlds.{Process, Running, Setting, World, site}
 use Rattle.headline.specs.Runs.{AtEachMoment, AtSomeMoment, Moment, Run, WasPenned, last_of}
-use Rattle.processes.specs.Happenings.{BoardBegun, BoardCalled, DeskBegun, DeskCalled, DeskEnded, Flow, Happening, PowerLost, after}
+use Rattle.processes.specs.Happenings.{BoardBegun, BoardCalled, DeskBegun, DeskCalled, DeskEnded, FileMigrated, Flow, Happening, PowerLost, after}
 use Rattle.processes.specs.Headline.{AtEachTime, AtSomeTime, TypesBallot, WasTyped}
 use Rattle.processes.specs.Laws.{GoesThrough}
 use Rattle.processes.proofs.Going.{Fits, Leads, TypedAs, last_on, run_on}
@@ -46,6 +46,7 @@ module _ {Disk : Type 0} where
   types (DeskEnded d disk) v u c b k h at pos = absurd h
   types (PowerLost d disk) v u c b k h at pos = absurd h
   types (DeskBegun d opening) v u c b k h at pos = absurd h
+  types (FileMigrated d votes new) v u c b k h at pos = absurd h
   types (BoardCalled n call out l) v u c b k h at pos = absurd h
   types (BoardBegun n) v u c b k h at pos = absurd h
 

@@ -1,5 +1,5 @@
 -- What the processes of `live` state is part of a station's life.
-use Rattle.std.proofs.Common.{Result, Ok, Err, ◌≡◌, ℕ, List, ap, ◌∙◌, refl, subst}
+use Rattle.std.proofs.Common.{Result, Ok, Err, ◌≡◌, ℕ, List, ap, ◌∙◌, subst}
 use Rattle.notation.specs.declared.entry.Entry.{Entry}
 use Rattle.corrections.specs.declared.book_of.BookOf.{Ghosts as Books}
 use Rattle.entry_log.specs.declared.disk.Disk.{Ghosts as Disks}
@@ -26,7 +26,7 @@ module _ {S B D : Type 0} {g : Files S D} {h : Disks D} {b : Books B} where
   desk_run old new sheet before after typed types told tells turns result r =
       let goes = r.goes.goes in (
         goes.moments,
-        (_, refl, (sheet, g.room, h.cap (disk_of old), goes.run)),
+        (sheet, g.room, h.cap (disk_of old), goes.run),
         ap (λ (p : DeskProcess D). Running p.desk) goes.last ∙ ap Running r.is,
         goes.passed,
         goes.inputs,

@@ -10,8 +10,8 @@ use Rattle.agree_core.specs.Boards.{BoardState, fresh_board}
 use Rattle.agree_core.specs.declared.messages.Message.{Message}
 use Rattle.agree_core.specs.FileView.{FileView}
 use Rattle.headline.specs.declared.version.FileVersion.{FileVersion}
-use Rattle.headline.specs.Worlds.{Process, World, board_at, disk_of, site, with_board}
-use Rattle.processes.specs.Happenings.{BoardBegun, BoardCalled, DeskBegun, DeskCalled, DeskEnded, Flow, Happening, Happens, PowerLost, after, after_one, with_process}
+use Rattle.headline.specs.Worlds.{Process, Site, World, board_at, disk_of, site, with_board, with_site}
+use Rattle.processes.specs.Happenings.{BoardBegun, BoardCalled, DeskBegun, DeskCalled, DeskEnded, FileMigrated, Flow, Happening, Happens, PowerLost, after, after_one}
 use Rattle.processes.specs.Weaving.{Came, NothingComesEarly, is_at_board, is_at_desk}
 use Rattle.processes.proofs.BoardLives.{BoardLocal, MayBoard, board_after, next_board}
 use Rattle.processes.proofs.Local.{Local}
@@ -47,10 +47,10 @@ tail next May s false x xs l = l
 
 module _ {Disk : Type 0} (view : DeskId → FileVersion → FileView Disk) (seen : Disk → List ℕ) (game innings : ℕ) (w : World Disk) where
   abbrev LocalA : List (Happening Disk) → Type 0
-  LocalA xs = DeskLocal (view A w.a.version) seen A game innings w.a.process xs
+  LocalA xs = DeskLocal (view A) seen A game innings w.a xs
 
   abbrev LocalB : List (Happening Disk) → Type 0
-  LocalB ys = DeskLocal (view B w.b.version) seen B game innings w.b.process ys
+  LocalB ys = DeskLocal (view B) seen B game innings w.b ys
 
   abbrev LocalBoards : (ℕ → List (Happening Disk)) → Type 0
   LocalBoards bs = (n : ℕ) (k : BoardState) → board_at w.boards n ≡ Some k → BoardLocal Disk game innings k (bs n)
@@ -60,24 +60,22 @@ module _ {Disk : Type 0} (view : DeskId → FileVersion → FileView Disk) (seen
 
   -- each station is as what happened there leaves it
   record Stands (v : World Disk) (xs ys : List (Happening Disk)) (bs : ℕ → List (Happening Disk)) : Type 0 where
-    pub a_version : v.a.version ≡ w.a.version
-    pub b_version : v.b.version ≡ w.b.version
-    pub a_runs : v.a.process ≡ desk_after (view A w.a.version) seen A game innings w.a.process xs
-    pub b_runs : v.b.process ≡ desk_after (view B w.b.version) seen B game innings w.b.process ys
+    pub a_is : v.a ≡ desk_after (view A) seen A game innings w.a xs
+    pub b_is : v.b ≡ desk_after (view B) seen B game innings w.b ys
     pub boards : (n : ℕ) (k : BoardState) → board_at w.boards n ≡ Some k → board_at v.boards n ≡ Some (board_after Disk game innings k (bs n))
 
   module _ (v : World Disk) (xs ys : List (Happening Disk)) (bs : ℕ → List (Happening Disk)) (s : Stands v xs ys bs) (h : Happening Disk) where
-    may_a : LocalA (h ∷ xs) → MayDesk (view A v.a.version) seen A game innings v.a.process h
-    may_a r = subst (λ (p : Process Disk). MayDesk (view A v.a.version) seen A game innings p h) (sym s.a_runs) (subst (λ (z : FileVersion). MayDesk (view A z) seen A game innings (desk_after (view A w.a.version) seen A game innings w.a.process xs) h) (sym s.a_version) r.1)
+    may_a : LocalA (h ∷ xs) → MayDesk (view A) seen A game innings v.a h
+    may_a r = subst (λ (x : Site Disk). MayDesk (view A) seen A game innings x h) (sym s.a_is) r.1
 
-    may_b : LocalB (h ∷ ys) → MayDesk (view B v.b.version) seen B game innings v.b.process h
-    may_b r = subst (λ (p : Process Disk). MayDesk (view B v.b.version) seen B game innings p h) (sym s.b_runs) (subst (λ (z : FileVersion). MayDesk (view B z) seen B game innings (desk_after (view B w.b.version) seen B game innings w.b.process ys) h) (sym s.b_version) r.1)
+    may_b : LocalB (h ∷ ys) → MayDesk (view B) seen B game innings v.b h
+    may_b r = subst (λ (x : Site Disk). MayDesk (view B) seen B game innings x h) (sym s.b_is) r.1
 
-    stands_a : (out : List Message) → Stands (with_process v A (next_desk v.a.process h) out) (h ∷ xs) ys bs
-    stands_a out = record { a_version = s.a_version; b_version = s.b_version; a_runs = ap (λ (p : Process Disk). next_desk p h) s.a_runs; b_runs = s.b_runs; boards = s.boards }
+    stands_a : (out : List Message) → Stands (with_site v A (next_desk v.a h) out) (h ∷ xs) ys bs
+    stands_a out = record { a_is = ap (λ (x : Site Disk). next_desk x h) s.a_is; b_is = s.b_is; boards = s.boards }
 
-    stands_b : (out : List Message) → Stands (with_process v B (next_desk v.b.process h) out) xs (h ∷ ys) bs
-    stands_b out = record { a_version = s.a_version; b_version = s.b_version; a_runs = s.a_runs; b_runs = ap (λ (p : Process Disk). next_desk p h) s.b_runs; boards = s.boards }
+    stands_b : (out : List Message) → Stands (with_site v B (next_desk v.b h) out) xs (h ∷ ys) bs
+    stands_b out = record { a_is = s.a_is; b_is = ap (λ (x : Site Disk). next_desk x h) s.b_is; boards = s.boards }
 
     -- the board is there, and it may happen there
     at_there : (n : ℕ) (o : Option BoardState) → board_at w.boards n ≡ o → ((k : BoardState) → board_at w.boards n ≡ Some k → BoardLocal Disk game innings k (h ∷ bs n)) → (board_at w.boards n ≡ None → h ∷ bs n ≡ []) → (k : BoardState) × (board_at v.boards n ≡ Some k) × MayBoard Disk game innings k h
@@ -97,10 +95,8 @@ module _ {Disk : Type 0} (view : DeskId → FileVersion → FileView Disk) (seen
     stands_board : (n : ℕ) (l : BoardState) (out : List Message) → ((k : BoardState) → next_board k h ≡ l) → Stands (record v { boards = with_board v.boards n l; sent = v.sent ++ out }) xs ys (λ m. with_one (nat_eq m n) h (bs m))
     stands_board n l out e =
         record {
-          a_version = s.a_version;
-          b_version = s.b_version;
-          a_runs = s.a_runs;
-          b_runs = s.b_runs;
+          a_is = s.a_is;
+          b_is = s.b_is;
           boards = λ m j at. board_set v.boards n m (board_after Disk game innings j (bs m)) l (s.boards m j at) ∙ ap Some (pushed j l m (nat_eq m n) (e (board_after Disk game innings j (bs m))));
         }
 
@@ -133,6 +129,8 @@ module _ {Disk : Type 0} (view : DeskId → FileVersion → FileView Disk) (seen
   moves (DeskBegun B opening) v xs ys bs s a b t o f c =
       let m = may_b v xs ys bs s (DeskBegun B opening) b in
       ((m.0, m.1, m.2, m.3.1 (subst (λ (p : Process Disk). 0 < length (seen (disk_of p))) m.2 (f B))), stands_b v xs ys bs s (DeskBegun B opening) [])
+  moves (FileMigrated A votes new) v xs ys bs s a b t o f c = (may_a v xs ys bs s (FileMigrated A votes new) a, stands_a v xs ys bs s (FileMigrated A votes new) [])
+  moves (FileMigrated B votes new) v xs ys bs s a b t o f c = (may_b v xs ys bs s (FileMigrated B votes new) b, stands_b v xs ys bs s (FileMigrated B votes new) [])
   moves (BoardCalled n call out l) v xs ys bs s a b t o f c =
       let m = there v xs ys bs s (BoardCalled n call out l) n t o in
       ((m.0, m.1, c, m.2), stands_board v xs ys bs s (BoardCalled n call out l) n l out (λ k. refl))
@@ -149,10 +147,10 @@ module _ {Disk : Type 0} (view : DeskId → FileVersion → FileView Disk) (seen
   of_boards hs n = filter (is_at_board n) hs
 
   weaves : (hs : List (Happening Disk)) → NothingComesEarly game w hs → LocalA (filter (is_at_desk A) hs) → LocalB (filter (is_at_desk B) hs) → LocalBoards (of_boards hs) → NoOthers (of_boards hs) → ((gs : List (Happening Disk)) → Flow view game innings w gs → HasBytes (after w gs)) → Flow view game innings w hs × Stands (after w hs) (filter (is_at_desk A) hs) (filter (is_at_desk B) hs) (of_boards hs)
-  weaves [] c a b t o f = (tt, record { a_version = refl; b_version = refl; a_runs = refl; b_runs = refl; boards = λ n k e. e })
+  weaves [] c a b t o f = (tt, record { a_is = refl; b_is = refl; boards = λ n k e. e })
   weaves (h ∷ hs) c a b t o f =
-      let before = weaves hs c.0 (tail next_desk (MayDesk (view A w.a.version) seen A game innings) w.a.process (is_at_desk A h) h (filter (is_at_desk A) hs) a)
-      (tail next_desk (MayDesk (view B w.b.version) seen B game innings) w.b.process (is_at_desk B h) h (filter (is_at_desk B) hs) b)
+      let before = weaves hs c.0 (tail next_desk (MayDesk (view A) seen A game innings) w.a (is_at_desk A h) h (filter (is_at_desk A) hs) a)
+      (tail next_desk (MayDesk (view B) seen B game innings) w.b (is_at_desk B h) h (filter (is_at_desk B) hs) b)
       (λ n k e. tail next_board (MayBoard Disk game innings) k (is_at_board n h) h (of_boards hs n) (t n k e))
       (λ n e. no_tail (is_at_board n h) h (of_boards hs n) (o n e)) f in
       let m = moves h (after w hs) (filter (is_at_desk A) hs) (filter (is_at_desk B) hs) (of_boards hs) before.1 a b t o (f hs before.0) c.1 in

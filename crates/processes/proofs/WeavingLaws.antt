@@ -69,6 +69,7 @@ module _ {Disk : Type 0} (seen : Disk → List ℕ) (images : Disk → Images) (
   pub woven_lives_flow : WovenLivesFlow seen images faults
   woven_lives_flow contents game innings version boards a b hs none begin w =
       let here = file_view (contents version) seen images in
+      let view : DeskId → FileVersion → FileView Disk = λ d z. file_view (contents z) seen images d game in
       let x = w.desks A in
       let y = w.desks B in
       let begins : Begins (setting_of contents seen images game innings) version boards (start version boards a b) =
@@ -79,9 +80,9 @@ module _ {Disk : Type 0} (seen : Disk → List ℕ) (images : Disk → Images) (
         nothing_sent = refl;
       } in (
         begins,
-        woven (λ d z. file_view (contents z) seen images d game) seen game innings (start version boards a b) hs w.order
-            (subst (DeskLocal (here A game) seen A game innings _) (sym x.2) (life (here A game) seen faults A game innings _ x.0 x.1).0)
-            (subst (DeskLocal (here B game) seen B game innings _) (sym y.2) (life (here B game) seen faults B game innings _ y.0 y.1).0)
+        woven view seen game innings (start version boards a b) hs w.order
+            (subst (DeskLocal (view A) seen A game innings _) (sym x.2) (life (view A) seen faults A game innings _ x.0 x.1).0)
+            (subst (DeskLocal (view B) seen B game innings _) (sym y.2) (life (view B) seen faults B game innings _ y.0 y.1).0)
             (λ n k e. let z = w.boards n in subst (BoardLocal Disk game innings k) (sym z.2) (board_life Disk game innings n k z.0 z.1))
             w.no_others
             (λ gs f d. has_bytes contents game innings version boards (start version boards a b) gs none (begins, f) d),

@@ -10,21 +10,24 @@ use Rattle.agree_core.specs.FileView.{FileView, Stays}
 use Rattle.agree_core.specs.Openings.{Opening, Opened, NotOpened, Opens}
 use Rattle.wire.specs.Layout.{Says}
 use Rattle.headline.specs.declared.version.FileVersion.{FileVersion}
-use Rattle.headline.specs.Worlds.{Process, Running, Down, World, board_at, disk_of, site, votes_of, with_board, with_site}
-use Rattle.headline.specs.Steps.{LosesPower}
+use Rattle.headline.specs.declared.version.FileVersion.TheVariants.{Old, New}
+use Rattle.headline.specs.Worlds.{Process, Running, Down, Site, World, board_at, disk_of, site, votes_of, with_board, with_site}
+use Rattle.headline.specs.Steps.{LosesPower, Migrates, ToNew}
 use Rattle.live.specs.Boards as boards
 use Rattle.live.specs.Boards.{BoardCall, BoardStep}
 use Rattle.live.specs.Desks as desks
 use Rattle.live.specs.Desks.{DeskCall, DeskStep}
 
 -- What happens: a call of a desk, with what it handed out and the desk after it; the end of its process, with the
--- disk left; power lost at its laptop, with the disk left; its beginning on its file; a call of a board; a board's
--- beginning. A process that is killed amid a call has made a call whose disk failed, and then ended.
+-- disk left; power lost at its laptop, with the disk left; its beginning on its file; the migration of that file, with
+-- the votes that it shows and the disk with the new one; a call of a board; a board's beginning. A process that is
+-- killed amid a call has made a call whose disk failed, and then ended.
 pub data Happening (Disk : Type 0) : Type 0 where
   DeskCalled : DeskId → DeskCall → List Message → DeskState Disk → Happening Disk
   DeskEnded : DeskId → Disk → Happening Disk
   PowerLost : DeskId → Disk → Happening Disk
   DeskBegun : DeskId → Opening Disk → Happening Disk
+  FileMigrated : DeskId → List Ballot → Disk → Happening Disk
   BoardCalled : ℕ → BoardCall → List Message → BoardState → Happening Disk
   BoardBegun : ℕ → Happening Disk
 
@@ -37,12 +40,17 @@ begun votes (NotOpened why left) = Down votes left
 abbrev pub with_process : {Disk : Type 0} → World Disk → DeskId → Process Disk → List Message → World Disk
 with_process w d p out = with_site w d (record (site w d) { process = p }) out
 
+-- a desk that is down, once its file was migrated to this disk
+abbrev pub migrated : {Disk : Type 0} → Site Disk → Disk → Site Disk
+migrated x new = record x { version = New; process = Down (votes_of x.process) new }
+
 -- the world after a happening
 abbrev pub after_one : {Disk : Type 0} → World Disk → Happening Disk → World Disk
 after_one w (DeskCalled d call out l) = with_process w d (Running l) out
 after_one w (DeskEnded d disk) = with_process w d (Down (votes_of (site w d).process) disk) []
 after_one w (PowerLost d disk) = with_process w d (Down (votes_of (site w d).process) disk) []
 after_one w (DeskBegun d opening) = with_process w d (begun (votes_of (site w d).process) opening) []
+after_one w (FileMigrated d votes new) = with_site w d (migrated (site w d) new) []
 after_one w (BoardCalled n call out l) =
     record w { boards = with_board w.boards n l; sent = w.sent ++ out }
 after_one w (BoardBegun n) = record w { boards = with_board w.boards n fresh_board }
@@ -80,6 +88,9 @@ module _ {Disk : Type 0} (view : DeskId → FileVersion → FileView Disk) (game
   Happens w (DeskBegun d opening) =
       (votes : List Ballot) × (disk : Disk) × ((site w d).process ≡ Down votes disk)
       × Opens (view d (site w d).version) (book_refusal innings) d disk opening
+  Happens w (FileMigrated d votes new) =
+      (had : List Ballot) × (disk : Disk) × ((site w d).process ≡ Down had disk) × ((site w d).version ≡ Old)
+      × Migrates (view d) disk (ToNew votes new)
   Happens w (BoardCalled n call out l) =
       (k : BoardState) × (board_at w.boards n ≡ Some k) × BoardCame game w.sent call
       × BoardStep game innings k call out l

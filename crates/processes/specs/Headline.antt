@@ -50,5 +50,5 @@ pub record ProcessHeadline {Disk : Type 0} (innings : ℕ) (w : World Disk) (hs 
   pub scores : (t u : Station) (n : ℕ) (score other : Standing)
       → AtSomeTime w hs (λ v. ShowsScore innings v t n score)
       → AtSomeTime w hs (λ v. ShowsScore innings v u n other) → score ≡ other
-  -- no process keeps both equal votes of its position: it has the entry
+  -- no process whose disk hasn't failed keeps both equal votes of its position: it has the entry
   pub none_waits : AtEachTime w hs NoneWaits

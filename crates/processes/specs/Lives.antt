@@ -9,7 +9,9 @@ use Rattle.agree_core.specs.Boards.{fresh_board}
 use Rattle.agree_core.specs.Desks.{DeskState}
 use Rattle.agree_core.specs.FileView.{FileView, Stays}
 use Rattle.agree_core.specs.Openings.{Creates, NotOpened, Opened, Opening, Opens}
-use Rattle.headline.specs.Worlds.{Process, Running, Down, disk_of, votes_of}
+use Rattle.headline.specs.declared.version.FileVersion.{FileVersion}
+use Rattle.headline.specs.declared.version.FileVersion.TheVariants.{Old}
+use Rattle.headline.specs.Worlds.{Process, Running, Down, Site, disk_of, votes_of}
 use Rattle.headline.specs.Steps as steps
 use Rattle.live.specs.Boards as boards
 use Rattle.live.specs.Boards.{BoardCall, BoardTurn, board_kind}
@@ -18,17 +20,18 @@ use Rattle.live.specs.Ends.{further}
 use Rattle.live.specs.Runs as own
 use Rattle.live.specs.declared.ends.DeskEnd.TheVariants.{Device}
 use Rattle.live.specs.declared.warned.Warned.TheVariants.{Nothing}
-use Rattle.processes.specs.Happenings.{BoardBegun, BoardCalled, DeskBegun, DeskCalled, DeskEnded, Happening, PowerLost, begun}
+use Rattle.processes.specs.Happenings.{BoardBegun, BoardCalled, DeskBegun, DeskCalled, DeskEnded, FileMigrated, Happening, PowerLost, begun, migrated}
 
 -- A stage of a desk's life: its process makes these calls, from its beginning on; it is cut off amid a call, which has
 -- then done what one does whose disk fails; it has ended or was killed, with the disk left; its laptop has lost power,
--- with the disk left; the next process begins on its file.
+-- with the disk left; the next process begins on its file; its file is migrated, with these votes, to this disk.
 pub data Stage (Disk : Type 0) : Type 0 where
   Runs : List (own.Moment (DeskProcess Disk) DeskCall) → Stage Disk
   CutOff : DeskCall → DeskState Disk → Stage Disk
   Ends : Disk → Stage Disk
   LosesPower : Disk → Stage Disk
   Begins : Opening Disk → Stage Disk
+  Migrates : List Ballot → Disk → Stage Disk
 
 -- the process of this desk, at its beginning
 abbrev pub fresh : {Disk : Type 0} → DeskState Disk → DeskProcess Disk
@@ -39,18 +42,19 @@ abbrev pub after_calls :
 after_calls (Running k) ms = Running ((λ (p : DeskProcess _). p.desk) (own.last_of (fresh k) ms))
 after_calls (Down votes disk) ms = Down votes disk
 
--- the desk's process, or its votes and its disk alone, after a stage
-abbrev pub after_stage : {Disk : Type 0} → Process Disk → Stage Disk → Process Disk
-after_stage p (Runs ms) = after_calls p ms
-after_stage p (CutOff call l) = Running l
-after_stage p (Ends disk) = Down (votes_of p) disk
-after_stage p (LosesPower disk) = Down (votes_of p) disk
-after_stage p (Begins opening) = begun (votes_of p) opening
+-- the desk after a stage
+abbrev pub after_stage : {Disk : Type 0} → Site Disk → Stage Disk → Site Disk
+after_stage x (Runs ms) = record x { process = after_calls x.process ms }
+after_stage x (CutOff call l) = record x { process = Running l }
+after_stage x (Ends disk) = record x { process = Down (votes_of x.process) disk }
+after_stage x (LosesPower disk) = record x { process = Down (votes_of x.process) disk }
+after_stage x (Begins opening) = record x { process = begun (votes_of x.process) opening }
+after_stage x (Migrates votes new) = migrated x new
 
 -- after these stages, the newest first
-abbrev pub after_life : {Disk : Type 0} → Process Disk → List (Stage Disk) → Process Disk
-after_life p [] = p
-after_life p (x ∷ xs) = after_stage (after_life p xs) x
+abbrev pub after_life : {Disk : Type 0} → Site Disk → List (Stage Disk) → Site Disk
+after_life x [] = x
+after_life x (stage ∷ stages) = after_stage (after_life x stages) stage
 
 -- on a disk without a byte a process makes its file
 abbrev pub Makes : {Disk : Type 0} → FileView Disk → DeskId → Opening Disk → Type 0
@@ -70,33 +74,39 @@ abbrev pub BeginsFirst : {Disk : Type 0} → FileView Disk → (Disk → List �
 BeginsFirst view seen innings d k =
     (disk : _) × BeginsOn view seen innings d disk (Opened k) × (k.votes ≡ [])
 
--- the desk of this letter in a match of this number and innings a side, where this is what a disk shows of its file,
--- what a read gives, and what is told of its failures
+-- the moments are a run of a desk's process from its beginning on, where this is what a disk shows of its file, and
+-- what is told of the disk's failures
+abbrev pub RunsFrom :
+    {Disk : Type 0} → FileView Disk → (Disk → Faults) → ℕ → ℕ
+    → DeskState Disk → List (own.Moment (DeskProcess Disk) DeskCall) → Type 0
+RunsFrom view faults game innings k ms =
+    (sheet : Sheet) × (room : ℕ → ℕ) × (cap : ℕ)
+    × own.Run (desk_kind sheet view (record { faults = faults; HasRoom = HasRoom room cap }) game innings) (fresh k) ms
+
+-- the desk of this letter in a match of this number and innings a side, where this is what a disk shows of a file of
+-- each version, what a read gives, and what is told of its failures
 module _
-    {Disk : Type 0} (view : FileView Disk) (seen : Disk → List ℕ) (faults : Disk → Faults) (d : DeskId)
+    {Disk : Type 0} (view : FileVersion → FileView Disk) (seen : Disk → List ℕ) (faults : Disk → Faults) (d : DeskId)
     (game innings : ℕ) where
-  -- the moments are a run of a desk's process from its beginning on
-  abbrev pub RunsFrom : DeskState Disk → List (own.Moment (DeskProcess Disk) DeskCall) → Type 0
-  RunsFrom k ms =
-      (sheet : Sheet) × (room : ℕ → ℕ) × (cap : ℕ)
-      × own.Run (desk_kind sheet view (record { faults = faults; HasRoom = HasRoom room cap }) game innings)
-      (fresh k) ms
-
   -- the stage may come next
-  abbrev pub ComesNext : Process Disk → Stage Disk → Type 0
-  ComesNext p (Runs ms) = (k : DeskState Disk) × (p ≡ Running k) × RunsFrom k ms
-  ComesNext p (CutOff call l) =
-      (k : DeskState Disk) × (p ≡ Running k) × (course_after call ≡ Err Device)
-      × DeskStep view game innings k call [] l
-  ComesNext p (Ends disk) = (k : DeskState Disk) × (p ≡ Running k) × Stays view k.disk disk
-  ComesNext p (LosesPower disk) = steps.LosesPower view (disk_of p) disk
-  ComesNext p (Begins opening) =
-      (votes : List Ballot) × (disk : Disk) × (p ≡ Down votes disk)
-      × BeginsOn view seen innings d disk opening
+  abbrev pub ComesNext : Site Disk → Stage Disk → Type 0
+  ComesNext x (Runs ms) =
+      (k : DeskState Disk) × (x.process ≡ Running k) × RunsFrom (view x.version) faults game innings k ms
+  ComesNext x (CutOff call l) =
+      (k : DeskState Disk) × (x.process ≡ Running k) × (course_after call ≡ Err Device)
+      × DeskStep (view x.version) game innings k call [] l
+  ComesNext x (Ends disk) = (k : DeskState Disk) × (x.process ≡ Running k) × Stays (view x.version) k.disk disk
+  ComesNext x (LosesPower disk) = steps.LosesPower (view x.version) (disk_of x.process) disk
+  ComesNext x (Begins opening) =
+      (votes : List Ballot) × (disk : Disk) × (x.process ≡ Down votes disk)
+      × BeginsOn (view x.version) seen innings d disk opening
+  ComesNext x (Migrates votes new) =
+      (had : List Ballot) × (disk : Disk) × (x.process ≡ Down had disk) × (x.version ≡ Old)
+      × steps.Migrates view disk (steps.ToNew votes new)
 
-  abbrev pub IsLife : Process Disk → List (Stage Disk) → Type 0
-  IsLife p [] = Unit {0}
-  IsLife p (x ∷ xs) = IsLife p xs × ComesNext (after_life p xs) x
+  abbrev pub IsLife : Site Disk → List (Stage Disk) → Type 0
+  IsLife x [] = Unit {0}
+  IsLife x (stage ∷ stages) = IsLife x stages × ComesNext (after_life x stages) stage
 
 -- what happens at a desk in a stage, and in its life
 abbrev pub calls_of : {Disk : Type 0} → DeskId → List (own.Moment (DeskProcess Disk) DeskCall) → List (Happening Disk)
@@ -109,6 +119,7 @@ stage_happens d (CutOff call l) = DeskCalled d call [] l ∷ []
 stage_happens d (Ends disk) = DeskEnded d disk ∷ []
 stage_happens d (LosesPower disk) = PowerLost d disk ∷ []
 stage_happens d (Begins opening) = DeskBegun d opening ∷ []
+stage_happens d (Migrates votes new) = FileMigrated d votes new ∷ []
 
 abbrev pub life_happens : {Disk : Type 0} → DeskId → List (Stage Disk) → List (Happening Disk)
 life_happens d [] = []

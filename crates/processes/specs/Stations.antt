@@ -15,7 +15,7 @@ use Rattle.cards.specs.declared.watched.WriteFailed.{WriteFailed}
 use Rattle.board.specs.declared.board.Board.{Board}
 use Rattle.board.specs.Board as board
 use Rattle.desk.specs.declared.desk.Desk.{Desk}
-use Rattle.desk.specs.Desk.{desk_of, game_of, opening, state_of, view_of}
+use Rattle.desk.specs.Desk.{game_of, opening, state_of, view_of}
 use Rattle.desk.specs.declared.refusal.OpenRefusal.{OpenRefusal}
 use Rattle.live.specs.Boards as boards
 use Rattle.live.specs.Boards.{BoardCall, BoardTurn, board_kind}
@@ -24,7 +24,7 @@ use Rattle.live.specs.Passed.{Passed}
 use Rattle.live.specs.Runs as own
 use Rattle.live.specs.Typing.{Input}
 use Rattle.live.specs.declared.ends.DeskEnd.{DeskEnd}
-use Rattle.processes.specs.Lives.{BeginsOn, BoardRuns, ComesNext, Runs, after_stage}
+use Rattle.processes.specs.Lives.{BeginsOn, BoardRuns, RunsFrom, after_calls}
 
 module _ {S B D : Type 0} {g : Files S D} {h : Disks D} {b : Books B} where
   -- By what `begin_desk` ensures of its answer (`creates`, `opens`), a process so begins on this disk.
@@ -38,16 +38,15 @@ module _ {S B D : Type 0} {g : Files S D} {h : Disks D} {b : Books B} where
       → BeginsOn (file_view g.contents h.seen h.images d game) h.seen innings d disk (opening made)
 
   -- From the desk at the start of its process to the desk at its end, by what `run_desk` ensures: these moments are a
-  -- stage of its life, their datagrams are just those that passed, their lines just those that were typed.
+  -- run from its beginning on, their datagrams are just those that passed, their lines just those that were typed.
   abbrev pub DeskRunIsStage : (old new : Desk S B D g h b) → Type 0
   DeskRunIsStage old new =
       (sheet : Sheet) (before after : List Passed) (typed types : List Input) (told tells : Option (List ℕ))
       (turns : ℕ) (result : Result (Unit {0}) DeskEnd)
       → DeskRuns sheet old new before after typed types told tells turns result
       → (ms : List (own.Moment (DeskProcess D) DeskCall))
-      × ComesNext (view_of old) h.seen h.faults (desk_of old) (game_of old) (innings_of old)
-      (Running (state_of old)) (Runs ms)
-      × (after_stage (Running (state_of old)) (Runs ms) ≡ Running (state_of new))
+      × RunsFrom (view_of old) h.faults (game_of old) (innings_of old) (state_of old) ms
+      × (after_calls (Running (state_of old)) ms ≡ Running (state_of new))
       × (after ≡ before ++ own.passed_in (kind_of sheet old) ms) × (types ≡ typed ++ own.typed_in (kind_of sheet old) ms)
 
 module _ {B : Type 0} {g : _} (content : B → List Entry) (innings_of : B → ℕ) where

@@ -11,7 +11,7 @@ use Rattle.headline.specs.declared.version.FileVersion.{FileVersion}
 use Rattle.headline.specs.Worlds.{Running, World, board_at, fresh_boards, site}
 use Rattle.live.specs.Boards.{BoardCall, BoardTurn}
 use Rattle.live.specs.Runs as own
-use Rattle.processes.specs.Happenings.{BoardBegun, BoardCalled, BoardCame, DeskBegun, DeskCalled, DeskCame, DeskEnded, Happening, PowerLost, after}
+use Rattle.processes.specs.Happenings.{BoardBegun, BoardCalled, BoardCame, DeskBegun, DeskCalled, DeskCame, DeskEnded, FileMigrated, Happening, PowerLost, after}
 use Rattle.processes.specs.Lives.{BeginsFirst, IsBoardLife, IsLife, Stage, board_happens, life_happens}
 use Rattle.processes.specs.Files.{NoneShowNone}
 use Rattle.processes.specs.Headline.{ProcessHeadline}
@@ -29,6 +29,7 @@ is_at_desk d (DeskCalled c call out l) = same_desk d c
 is_at_desk d (DeskEnded c disk) = same_desk d c
 is_at_desk d (PowerLost c disk) = same_desk d c
 is_at_desk d (DeskBegun c opening) = same_desk d c
+is_at_desk d (FileMigrated c votes new) = same_desk d c
 is_at_desk d (BoardCalled n call out l) = false
 is_at_desk d (BoardBegun n) = false
 
@@ -60,10 +61,10 @@ start version boards a b =
 module _ {Disk : Type 0} (seen : Disk → List ℕ) (images : Disk → Images) (faults : Disk → Faults) where
   -- All that happened to the processes of a match, the newest first: nothing came before it was sent; what happened at
   -- each desk and at each board is its life; and there are no other boards.
-  pub record IsWoven (contents : Contents) (game innings : ℕ) (w : World Disk) (hs : List (Happening Disk)) : Type 0 where
+  pub record IsWoven (contents : FileVersion → Contents) (game innings : ℕ) (w : World Disk) (hs : List (Happening Disk)) : Type 0 where
     pub order : NothingComesEarly game w hs
     pub desks : (d : DeskId) → (life : List (Stage Disk))
-        × IsLife (file_view contents seen images d game) seen faults d game innings (site w d).process life
+        × IsLife (λ version. file_view (contents version) seen images d game) seen faults d game innings (site w d) life
         × (filter (is_at_desk d) hs ≡ life_happens d life)
     pub boards : (n : ℕ) → (life : List (List (own.Moment BoardTurn BoardCall)))
         × IsBoardLife game innings life × (filter (is_at_board n) hs ≡ board_happens n life)
@@ -81,7 +82,7 @@ module _ {Disk : Type 0} (seen : Disk → List ℕ) (images : Disk → Images) (
       (contents : FileVersion → Contents) (game innings : ℕ) (version : FileVersion) (boards : ℕ)
       (a b : DeskState Disk) (hs : List (Happening Disk)) → NoneShowNone contents game
       → BothBegin (contents version) game innings a b
-      → IsWoven (contents version) game innings (start version boards a b) hs
+      → IsWoven contents game innings (start version boards a b) hs
       → IsFlow seen images contents game innings version boards (start version boards a b) hs
 
   -- and so the headline holds of them
@@ -90,5 +91,5 @@ module _ {Disk : Type 0} (seen : Disk → List ℕ) (images : Disk → Images) (
       (contents : FileVersion → Contents) (game innings : ℕ) (version : FileVersion) (boards : ℕ)
       (a b : DeskState Disk) (hs : List (Happening Disk)) → NoneShowNone contents game
       → BothBegin (contents version) game innings a b
-      → IsWoven (contents version) game innings (start version boards a b) hs
+      → IsWoven contents game innings (start version boards a b) hs
       → ProcessHeadline innings (start version boards a b) hs
