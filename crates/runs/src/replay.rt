@@ -14,7 +14,7 @@ use cards::{MatchSheet, Watched};
 use headline::{Event, FileVersion};
 use host::LONGEST_INPUT;
 use print::{print_refused, print_whole};
-use schedule_replay::{Report, replay};
+use schedule_replay::{Report, replay_in};
 use schedules::read_schedule;
 use std::alloc::Global;
 use std::io::{Read, Write};
@@ -37,7 +37,7 @@ fn report_of(
     let Ok(world) = begin(alloc, sheet, version, boards) else {
         return Err(RunFault::NoMemory);
     };
-    match replay(alloc, world, events) {
+    match replay_in(alloc, world, events) {
         Ok(report) => Ok(report),
         Err(_) => Err(RunFault::NoMemory),
     }

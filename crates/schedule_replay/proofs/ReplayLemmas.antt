@@ -1,8 +1,8 @@
 -- A run goes on by one event, and what it shows is noted.
-use Rattle.std.proofs.Common.{◌≡◌, ◌<◌, ◌≤◌, ℕ, zero, suc, ◌+◌, Some, List, [], ◌∷◌, ◌++◌, length, map, refl, sym, ap, ◌∙◌, subst, inl, inr, arith, ⊎_elim, take, slice_index_or, length-append}
+use Rattle.std.proofs.Common.{◌≡◌, ◌<◌, ◌≤◌, ℕ, zero, suc, ◌+◌, Some, List, Result, Ok, Err, [], ◌∷◌, ◌++◌, length, map, refl, sym, ap, ◌∙◌, subst, inl, inr, arith, ⊎_elim, take, slice_index_or, length-append}
 use Rattle.std.proofs.Math.Seq.{take-length}
 use Rattle.std.proofs.lemmas.List.{length-set, map-append}
-use Rattle.std.specs.Prelude.{Contains, slice_get}
+use Rattle.std.specs.Prelude.{Contains, IfErr, slice_get}
 use Rattle.notation.specs.declared.entry.Entry.{Entry}
 use Rattle.match_laws.specs.declared.standing.Standing.{Standing}
 use Rattle.corrections.specs.Legal.{IsScoreOf}
@@ -31,7 +31,7 @@ use Rattle.schedule_replay.specs.Answers.{answer_of}
 use Rattle.schedule_replay.specs.Refusals.{RefusesEvent}
 use Rattle.schedule_replay.specs.CodeWorlds.{BeginsWorld, IsNew, boards_of, version_of, IsWorld, RefusesTo, SameMatch, StepsTo}
 use Rattle.headline.specs.Headline.{ShowsScore}
-use Rattle.schedule_replay.specs.Replays.{AreSeen, EndsAt, IsReplay, IsRunOf, MatchRun, ShowScores, StandOnce}
+use Rattle.schedule_replay.specs.Replays.{AreSeen, EndsAt, EndsOrNeverBegins, IsReplay, IsRunOf, MatchRun, ShowScores, StandOnce}
 use Rattle.schedule_replay.specs.RunsSoFar.{HasTaken, IsAt}
 use Rattle.schedule_replay.specs.ShownScores.{HaveScores, IsNotable, Notes}
 use Rattle.schedule_replay.specs.VotesFiles.{FilesRead}
@@ -276,3 +276,12 @@ module _ (game innings : ℕ) (version : FileVersion) (boards : ℕ) (events : L
           let b = some_book w ms t n score h in
           let f = front_is report.agreed.items b.0 n b.2 (prefixes t b.0 b.1) in
           (f.0, subst (IsScoreOf score innings) f.1 b.3)
+
+-- a world of a match ends a replay as a replay of the match ends
+pub ends_of_match : (game innings : ℕ) (version : FileVersion) (boards : ℕ) (events : List Event) (world : World) (r : Result Report (ℕ × WorldRefusal)) → BeginsWorld game innings version boards world → IfErr r (EndsAt world.game world.innings_a_side (version_of world) (boards_of world) events) → IfErr r (EndsOrNeverBegins game innings version boards events)
+ends_of_match game innings version boards events world (Ok report) b h = h
+ends_of_match game innings version boards events world (Err end) b h =
+    inr (subst (λ g. EndsAt g innings version boards events end) b.same_game
+    (subst (λ i. EndsAt world.game i version boards events end) b.same_innings
+    (subst (λ v. EndsAt world.game world.innings_a_side v boards events end) b.same_version
+    (subst (λ n. EndsAt world.game world.innings_a_side (version_of world) n events end) b.same_boards h))))

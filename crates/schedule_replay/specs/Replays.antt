@@ -70,6 +70,11 @@ EndsAt game innings version boards events end =
     ((end.0 ≡ 0) × (end.1 ≡ NoMemory) × TakesEach game innings version boards events)
     ⊎ RefusedAt game innings version boards events end.0 end.1
 
+-- the same where the replay makes its world, for which there may be no memory
+abbrev pub EndsOrNeverBegins : ℕ → ℕ → FileVersion → ℕ → List Event → ℕ × WorldRefusal → Type 0
+EndsOrNeverBegins game innings version boards events end =
+    ((end.0 ≡ 0) × (end.1 ≡ NoMemory)) ⊎ EndsAt game innings version boards events end
+
 -- each score that was shown is the Laws' score of its book: of so many first entries of the agreed list
 abbrev pub AreScores : ℕ → List Entry → List (Station × ℕ × Standing) → Type 0
 AreScores innings agreed seen =

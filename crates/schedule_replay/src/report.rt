@@ -4,8 +4,9 @@ ghost use Rattle.std.specs.Prelude.{◌≤◌, ℕ, All, IfErr, IfOk, length};
 ghost use Rattle.schedule_replay.specs.CodeWorlds.{IsNew, boards_of, version_of};
 ghost use Rattle.schedule_replay.specs.RunsSoFar.{HasTaken};
 ghost use Rattle.headline.specs.Events.{IsEvent};
-ghost use Rattle.schedule_replay.specs.Replays.{EndsAt, IsReplay};
+ghost use Rattle.schedule_replay.specs.Replays.{EndsAt, EndsOrNeverBegins, IsReplay};
 ghost use Rattle.headline.specs.declared.version.FileVersion.{FileVersion as AVersion};
+ghost use Rattle.headline.specs.declared.version.FileVersion.TheVariants as versions;
 
 use crate::seen::{Seen, WorldRefusal};
 use crate::shown_scores::ShownScores;
@@ -27,7 +28,49 @@ pub struct Report {
     pub seen: Vec<(Station, u32, Match)>,
 }
 
-/// Runs a new world over these events, and reports it.
+/// Runs a new world on files of version 2, for a match with this number and innings a side (1 or 2) and so many
+/// boards (0 to 4), over these events, and reports it as `replay_in` does. It ends as that does; and with the
+/// number 0 where there was no memory for the world.
+pub fn replay(
+    alloc: Global,
+    game: u64,
+    innings_a_side: u32,
+    boards: u8,
+    events: &[Event],
+) -> Result<Report, (u64, WorldRefusal)>
+    requires innings { (1 ≤ innings_a_side) × (innings_a_side ≤ 2) }
+    requires boards { boards ≤ 4 }
+    requires events { All IsEvent events.now }
+    ensures reported { IfOk result (IsReplay game innings_a_side versions.New boards events.now) }
+    ensures ends { IfErr result (EndsOrNeverBegins game innings_a_side versions.New boards events.now) }
+{
+    match World::new(alloc, game, innings_a_side, boards) {
+        Ok(world) => replay_in(alloc, world, events),
+        Err(_) => Err(NO_MEMORY),
+    }
+}
+
+/// As `replay` does, on files of version 1.
+pub fn replay_old(
+    alloc: Global,
+    game: u64,
+    innings_a_side: u32,
+    boards: u8,
+    events: &[Event],
+) -> Result<Report, (u64, WorldRefusal)>
+    requires innings { (1 ≤ innings_a_side) × (innings_a_side ≤ 2) }
+    requires boards { boards ≤ 4 }
+    requires events { All IsEvent events.now }
+    ensures reported { IfOk result (IsReplay game innings_a_side versions.Old boards events.now) }
+    ensures ends { IfErr result (EndsOrNeverBegins game innings_a_side versions.Old boards events.now) }
+{
+    match World::old(alloc, game, innings_a_side, boards) {
+        Ok(world) => replay_in(alloc, world, events),
+        Err(_) => Err(NO_MEMORY),
+    }
+}
+
+/// Runs a new world that is given over these events, and reports it.
 ///
 /// Whatever the events are, in this run any books that desks or boards show at any two moments are one a
 /// prefix of the other; both scorers voted for each entry in one round; each score is the Laws' score of its
@@ -36,7 +79,7 @@ pub struct Report {
 /// It ends at the first event that the world doesn't take, with its number, counted from 1, and why; all
 /// this holds of the events before. The number is 0 where the world takes all the events, and memory was
 /// wanted for the report alone.
-pub fn replay(
+pub fn replay_in(
     alloc: Global,
     mut world: World,
     events: &[Event],

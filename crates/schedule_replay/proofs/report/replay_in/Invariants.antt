@@ -3,7 +3,7 @@ use Rattle.std.specs.Prelude.{vec_capacity, vec_len}
 use Rattle.schedule_replay.specs.ShownScores.{IsKept}
 use Rattle.schedule_replay.specs.CodeWorlds.{boards_of, version_of}
 use Rattle.schedule_replay.proofs.ReplayLemmas.{IsAfter}
-use Rattle.schedule_replay.proofs.report.replay.Given as goal
+use Rattle.schedule_replay.proofs.report.replay_in.Given as goal
 
 abbrev pub invariant-loop-number : goal.invariant-loop-number
 invariant-loop-number l =
