@@ -1,7 +1,7 @@
 //! `ground card`: the cards of a book, which is made of pen lines or of a desk's votes file.
 
-ghost use Rattle.std.specs.Prelude.{◌≡◌, ◌≢◌, ◌≤◌, ◌<◌, ◌⊎◌, true, length, Err, IfOk, IfErr, IfSome, OnOk};
-ghost use Rattle.cards.specs.Watched.{stream_of, has_failed};
+ghost use Rattle.std.specs.Prelude.{◌≡◌, ◌≢◌, ◌≤◌, ◌<◌, ◌⊎◌, length, Err, IfOk, IfErr, IfSome, OnOk};
+ghost use Rattle.cards.specs.Watched.{IsHandedOn, MeetsFailure, failures, stream_of};
 ghost use Rattle.books.specs.Card.{PrintsCard};
 ghost use Rattle.books.specs.CardBook.{IsBookFrom, WhyNoBook, WhyNoCard};
 
@@ -66,10 +66,11 @@ pub fn card_run<R: Read, W: Write>(
 
     // A read fault comes only where a read failed or the input is too long, and a write fault only where a
     // write failed.
-    ensures read { result ≡ Err RunFault.Read → (has_failed reader.new ≡ true)
+    ensures read { result ≡ Err RunFault.Read → MeetsFailure reader.old reader.new
         ⊎ IfSome (R.remaining (stream_of reader.old)) (λ input. LONGEST_INPUT < length input) }
-    ensures write { result ≡ Err RunFault.Write → has_failed writer.new ≡ true }
-    ensures sound { OnOk result (has_failed writer.new ≡ has_failed writer.old) }
+    ensures write { result ≡ Err RunFault.Write → MeetsFailure writer.old writer.new }
+    ensures sound { OnOk result (failures writer.new ≡ failures writer.old) }
+    ensures handed_on { OnOk result (IsHandedOn writer.new) }
 
     // With any other fault nothing was written.
     ensures unwritten { IfErr result (λ fault. fault ≢ RunFault.Write → writer.new ≡ writer.old) }

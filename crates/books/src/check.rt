@@ -1,9 +1,8 @@
 //! `ground check`: pen lines in, what isn't taken and the board out.
 
-ghost use Rattle.std.specs.Prelude.{◌≡◌, ◌≢◌, ◌≤◌, ◌<◌, ◌⊎◌, [], length, not, true, false};
+ghost use Rattle.std.specs.Prelude.{◌≡◌, ◌≢◌, ◌≤◌, ◌<◌, ◌⊎◌, [], length, not, true};
 ghost use Rattle.std.specs.Prelude.{Err, IfOk, IfErr, IfSome, OnOk};
-ghost use Rattle.cards.specs.Watched.{Prints, TellsFailure, stream_of, has_failed};
-ghost use Rattle.books.specs.Fault.{is_refusal};
+ghost use Rattle.cards.specs.Watched.{IsHandedOn, MeetsFailure, Prints, TellsFailure, failures, stream_of};
 ghost use Rattle.notation.specs.Lines.{lines_of};
 ghost use Rattle.books.specs.Table.{IsInStep, agreed_in, innings_in};
 ghost use Rattle.books.specs.Output as output;
@@ -62,6 +61,7 @@ fn check_lines<W: Write>(
     ensures written { OnOk result (Prints W.contents out.old out.new (output_of (innings_in table.old) input.now)) }
     ensures rejected { IfOk result (λ rejected.
         rejected ≡ has_rejected (innings_in table.old) [] (lines_of input.now)) }
+    ensures handed_on { OnOk result (IsHandedOn out.new) }
     ensures failed { TellsFailure result out.old out.new }
 {
     let mut lines = Lines::new(input);
@@ -94,24 +94,20 @@ pub fn check_run<R: Read, W: Write>(
 
     // A read fault comes only where a read failed or the input is too long, and a write fault only where a
     // write failed.
-    ensures read { result ≡ Err RunFault.Read → (has_failed reader.new ≡ true)
+    ensures read { result ≡ Err RunFault.Read → MeetsFailure reader.old reader.new
         ⊎ IfSome (R.remaining (stream_of reader.old)) (λ input. LONGEST_INPUT < length input) }
-    ensures write { result ≡ Err RunFault.Write → has_failed writer.new ≡ true }
-    ensures sound { OnOk result (has_failed writer.new ≡ has_failed writer.old) }
-    ensures no_refusal { IfErr result (λ fault. is_refusal fault ≡ false) }
+    ensures write { result ≡ Err RunFault.Write → MeetsFailure writer.old writer.new }
+    ensures sound { OnOk result (failures writer.new ≡ failures writer.old) }
+    ensures handed_on { OnOk result (IsHandedOn writer.new) }
+    ensures only { IfErr result (λ fault.
+        (fault ≡ RunFault.NoMemory) ⊎ (fault ≡ RunFault.Read) ⊎ (fault ≡ RunFault.Write)) }
 
     // With a read fault or for want of memory nothing was written.
     ensures unwritten { IfErr result (λ fault. fault ≢ RunFault.Write → writer.new ≡ writer.old) }
 {
     let input = read_all(alloc, reader)?;
-    let mut table = match Table::new(alloc, innings) {
-        Ok(table) => table,
-        Err(_) => return Err(RunFault::NoMemory),
-    };
-    let sheet = match plain_sheet(alloc, 0, innings) {
-        Ok(sheet) => sheet,
-        Err(_) => return Err(RunFault::NoMemory),
-    };
+    let mut table = Table::new(alloc, innings)?;
+    let sheet = plain_sheet(alloc, 0, innings)?;
     match check_lines(&mut table, &sheet, writer, input.as_slice()) {
         Ok(rejected) => Ok(rejected),
         Err(_) => Err(RunFault::Write),

@@ -7,6 +7,7 @@ ghost use Rattle.books.specs.Fault as texts;
 use crate::rejected::{Rejected, print_rejected};
 use cards::{SheetFault, Watched, WriteFailed};
 use schedules::ScheduleFault;
+use std::alloc::AllocError;
 use std::io::Write;
 use thiserror::Error;
 
@@ -60,6 +61,16 @@ impl RunFault {
             RunFault::BadVotes { .. } | RunFault::Line { .. } => true,
             _ => false,
         }
+    }
+}
+
+impl From<AllocError> for RunFault {
+    ghost use Rattle.books.specs.declared.fault.RunFault.TheVariants.{NoMemory};
+
+    ghost from_gives = { λ _ fault. fault ≡ NoMemory };
+
+    fn from(_why: AllocError) -> Self {
+        RunFault::NoMemory
     }
 }
 

@@ -1,7 +1,7 @@
 //! The whole of an input, up to a bound.
 
-ghost use Rattle.std.specs.Prelude.{◌≡◌, ◌≢◌, ◌≤◌, ◌<◌, ◌⊎◌, length, true, vec_len, IfErr, IfOk, IfSome};
-ghost use Rattle.cards.specs.Watched.{stream_of, has_failed};
+ghost use Rattle.std.specs.Prelude.{◌≡◌, ◌≢◌, ◌≤◌, ◌<◌, ◌⊎◌, length, vec_len, IfErr, IfOk, IfSome};
+ghost use Rattle.cards.specs.Watched.{MeetsFailure, stream_of};
 
 use crate::fault::RunFault;
 use cards::Watched;
@@ -15,7 +15,7 @@ pub fn read_all<R: Read>(alloc: Global, reader: &mut Watched<R>) -> Result<Vec<u
         IfSome (R.remaining (stream_of reader.old)) (λ bytes. input.items ≡ bytes)) }
     ensures bound { IfOk result (λ input. vec_len input ≤ LONGEST_INPUT) }
     ensures only { IfErr result (λ fault. (fault ≡ RunFault.NoMemory) ⊎ (fault ≡ RunFault.Read)) }
-    ensures read { result ≡ Err RunFault.Read → (has_failed reader.new ≡ true)
+    ensures read { result ≡ Err RunFault.Read → MeetsFailure reader.old reader.new
         ⊎ IfSome (R.remaining (stream_of reader.old)) (λ bytes. LONGEST_INPUT < length bytes) }
 {
     let mut input = Vec::new(alloc);
@@ -31,8 +31,6 @@ pub fn read_all<R: Read>(alloc: Global, reader: &mut Watched<R>) -> Result<Vec<u
         if count > LONGEST_INPUT - input.len() {
             return Err(RunFault::Read);
         }
-        if input.extend_from_slice(&chunk[..count]).is_err() {
-            return Err(RunFault::NoMemory);
-        }
+        input.extend_from_slice(&chunk[..count])?;
     }
 }

@@ -1,7 +1,7 @@
 //! Reading a match sheet from a file.
 
-ghost use Rattle.std.specs.Prelude.{◌≡◌, ◌<◌, ◌⊎◌, length, true, Err, IfErr, IfSome};
-ghost use Rattle.cards.specs.Watched.{stream_of, has_failed};
+ghost use Rattle.std.specs.Prelude.{◌≡◌, ◌<◌, ◌⊎◌, length, Err, IfErr, IfSome};
+ghost use Rattle.cards.specs.Watched.{MeetsFailure, stream_of};
 ghost use Rattle.books.specs.SheetText.{IsSheetFault, Tells};
 
 use crate::fault::RunFault;
@@ -15,7 +15,7 @@ use std::io::Read;
 pub fn sheet_run<R: Read>(alloc: Global, reader: &mut Watched<R>) -> Result<MatchSheet, RunFault>
     ensures told { IfSome (R.remaining (stream_of reader.old)) (λ bytes. Tells bytes result) }
     ensures only { IfErr result IsSheetFault }
-    ensures read { result ≡ Err RunFault.Read → (has_failed reader.new ≡ true)
+    ensures read { result ≡ Err RunFault.Read → MeetsFailure reader.old reader.new
         ⊎ IfSome (R.remaining (stream_of reader.old)) (λ bytes. LONGEST_INPUT < length bytes) }
 {
     let text = read_all(alloc, reader)?;

@@ -1,2 +1,3 @@
--- What is claimed of a disk on a real file.
+-- What is claimed of a disk on a real file, and of what that is asked for.
+pub mod Calls
 pub mod FileDisk

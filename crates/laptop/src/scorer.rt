@@ -10,13 +10,14 @@ use crate::stopped::{StopFault, Stopped};
 use crate::watch::Watch;
 use agree_core::DeskId;
 use books::RunFault;
-use cards::MatchSheet;
-use corrections::CheckedBook;
+use cards::{MatchSheet, Watched};
+use corrections::{BookOf, CheckedBook};
 use desk::{Desk, OpenRefusal};
-use entry_log::Slots;
+use entry_log::{Slots, SlotsOf};
 use host::FileDisk;
-use live::{DeskEnd, begin_desk, run_desk};
+use live::{Clock, DeskEnd, Keys, Link, begin_desk, run_desk};
 use std::fs::File;
+use std::io::Write;
 use std::net::SocketAddr;
 
 /// A desk whose votes are in a file.
@@ -57,6 +58,18 @@ fn keyboard(rt: &HostRuntime) -> Result<Keyboard<File>, Stopped<'static>> {
     Keyboard::open(rt).map_err(|_| Stopped::at("-", RunFault::Read))
 }
 
+/// Runs a desk until its scorer stops, or its disk or a write fails.
+fn keep<S: SlotsOf + Drop, B: BookOf + Drop, L: Link, K: Keys, C: Clock, W: Write>(
+    mut desk: Desk<S, B>,
+    sheet: &MatchSheet,
+    link: &mut L,
+    keys: &mut K,
+    clock: &mut C,
+    out: &mut Watched<W>,
+) -> Result<(), DeskEnd> {
+    run_desk(&mut desk, sheet, link, keys, clock, out, u64::MAX)
+}
+
 /// `ground desk`: keeps a scorer's desk with its votes in a file, listening at an address, until the scorer types
 /// `quit` or no more.
 pub fn desk_run<'a>(
@@ -69,18 +82,17 @@ pub fn desk_run<'a>(
 ) -> Result<bool, Stopped<'a>> {
     let sheet = sheet_at(rt, sheet)?;
     let mut writer = output(rt)?;
-    let mut desk = desk_at(rt, &sheet, desk, file)?;
+    let desk = desk_at(rt, &sheet, desk, file)?;
     let mut link = peers_at(rt, at, peers)?;
     let mut keys = keyboard(rt)?;
     let mut clock = Watch::new(rt);
-    match run_desk(
-        &mut desk,
+    match keep(
+        desk,
         &sheet,
         &mut link,
         &mut keys,
         &mut clock,
         &mut writer,
-        u64::MAX,
     ) {
         Ok(()) | Err(DeskEnd::Quit | DeskEnd::NoMoreLines) => Ok(false),
         Err(DeskEnd::Write) => Err(Stopped::at("-", RunFault::Write)),

@@ -51,7 +51,7 @@ module _ {Disk : Type 0} (view : FileView Disk) (game innings : ℕ) (k l : Desk
   runs_on (Typed line (said.Refused refusals.SlotsFull)) r e = unchanged r.2.1
   runs_on (Typed line (said.Refused (refusals.Book why))) r e = unchanged r.2.1
   runs_on TypingEnded r e = same_desk r.0
-  runs_on (Given bytes (whats.Bad fault)) r e = unchanged r.2
+  runs_on (Given bytes (whats.Bad fault)) r e = same_desk r.2
   runs_on (Given bytes (whats.Heard h)) r e = hears r.0 h r.2
   runs_on (Given bytes whats.Asked) r e = asked r.0 r.2
   runs_on (Given bytes whats.Device) r e = absurd (cc)

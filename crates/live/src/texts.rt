@@ -113,7 +113,7 @@ fn print_settled<B: BookOf, W: Write>(
 }
 
 /// Prints what a line came to, at this place.
-pub fn print_said<B: BookOf, W: Write>(
+fn print_answer<B: BookOf, W: Write>(
     out: &mut Watched<W>,
     sheet: &MatchSheet,
     place: u32,
@@ -137,6 +137,22 @@ pub fn print_said<B: BookOf, W: Write>(
         Said::Refused(why) => print_refused(out, why),
         Said::Penned(settled) => print_settled(out, sheet, place, settled, book),
     }
+}
+
+/// Tells the scorer at once what a line came to, at this place.
+pub fn print_said<B: BookOf, W: Write>(
+    out: &mut Watched<W>,
+    sheet: &MatchSheet,
+    place: u32,
+    said: Said,
+    book: &B,
+) -> Result<(), WriteFailed>
+    ensures text { OnOk result (Prints W.contents out.old out.new
+        (texts.said_text sheet.now (B.innings_a_side book.now) place (B.content book.now) said)) }
+    ensures failed { OnErr result (has_failed out.new ≡ true) }
+{
+    print_answer(out, sheet, place, said, book)?;
+    out.flush()
 }
 
 /// Prints a text of a peer, once until something right comes.
@@ -195,7 +211,7 @@ fn print_heard<B: BookOf, W: Write>(
 }
 
 /// Prints what came of bytes at this place, where it is news.
-pub fn print_came<B: BookOf, W: Write>(
+fn print_news<B: BookOf, W: Write>(
     out: &mut Watched<W>,
     sheet: &MatchSheet,
     place: u32,
@@ -212,6 +228,23 @@ pub fn print_came<B: BookOf, W: Write>(
         What::Heard(heard) => print_heard(out, sheet, place, warned, heard, book),
         What::Asked | What::Device | What::Failed => Ok(()),
     }
+}
+
+/// Tells the scorer at once what came of bytes at this place, where it is news.
+pub fn print_came<B: BookOf, W: Write>(
+    out: &mut Watched<W>,
+    sheet: &MatchSheet,
+    place: u32,
+    warned: Warned,
+    what: What,
+    book: &B,
+) -> Result<(), WriteFailed>
+    ensures text { OnOk result (Prints W.contents out.old out.new
+        (texts.came_text sheet.now (B.innings_a_side book.now) place (B.content book.now) warned what)) }
+    ensures failed { OnErr result (has_failed out.new ≡ true) }
+{
+    print_news(out, sheet, place, warned, what, book)?;
+    out.flush()
 }
 
 /// Where a desk stands at its position.

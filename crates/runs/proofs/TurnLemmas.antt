@@ -116,7 +116,7 @@ module _ {Disk : Type 0} (view : FileView Disk) where
 
   -- bytes are taken, and no device call failed
   pub takes : (game : ℕ) (k l : DeskState Disk) (bytes : List ℕ) (what : What) (out : List Message) → is_failing what ≡ false → IsInTurn view k → Takes view game k bytes what l out → IsInTurn view l × (l.votes ≡ k.votes)
-  takes game k l bytes (whats.Bad fault) out n t r = unchanged k l t r.2
+  takes game k l bytes (whats.Bad fault) out n t r = (subst (IsInTurn view) (sym r.2) t, ap (λ (x : DeskState Disk). x.votes) r.2)
   takes game k l bytes (whats.Heard h) out n t r = receives k l r.0 h out t r.2
   takes game k l bytes whats.Asked out n t r = asked k l r.0 out t r.2
   takes game k l bytes whats.Device out n t r = absurd (cc)

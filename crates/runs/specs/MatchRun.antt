@@ -1,5 +1,5 @@
 -- What `match` comes to, over any disks and any link, whatever that loses, changes or makes up.
-use Rattle.std.specs.Prelude.{◌≡◌, ◌<◌, ◌≤◌, ◌⊎◌, ℕ, List, length, Option}
+use Rattle.std.specs.Prelude.{◌≡◌, ◌<◌, ◌≤◌, ◌⊎◌, ℕ, List, length, Option, Result, Ok, Err}
 use Rattle.notation.specs.declared.entry.Entry.{Entry}
 use Rattle.notation.specs.Lines.{lines_of}
 use Rattle.corrections.specs.CleanList.{history_of}
@@ -51,6 +51,25 @@ module _
       pub shown : List Entry
       pub long : length book ≤ length shown
       pub written : Prints bytes old new (board s s.innings (history_of shown))
+
+module _ {D : Type 0} where
+  -- the disks of A and of B, which come back with either answer
+  abbrev pub left_at_a : Result (D × D) (RunFault × D × D) → D
+  left_at_a (Ok disks) = disks.0
+  left_at_a (Err ended) = ended.1
+
+  abbrev pub left_at_b : Result (D × D) (RunFault × D × D) → D
+  left_at_b (Ok disks) = disks.1
+  left_at_b (Err ended) = ended.2
+
+  -- the answer alone
+  abbrev pub answer_of : Result (D × D) (RunFault × D × D) → Result (D × D) RunFault
+  answer_of (Ok disks) = Ok disks
+  answer_of (Err ended) = Err ended.0
+
+-- a read of this disk gives what it gave, and so may a power loss
+abbrev pub Stays : {D : Type 0} → (D → List ℕ) → (D → Images) → D → D → Type 0
+Stays seen images old new = (seen new ≡ seen old) × (images new ≡ images old)
 
 -- the first line that isn't taken; that a disk has a file; or which line isn't agreed, its place counted from 0
 abbrev pub WhyNoMatch : ℕ → List ℕ → List ℕ → List ℕ → RunFault → Type 0

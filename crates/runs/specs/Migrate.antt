@@ -17,7 +17,7 @@ abbrev pub WhyNotMigrated : ℕ → ℕ → List ℕ → List ℕ → RunFault �
 WhyNotMigrated desk game old new (Votes why) =
     (file_votes (contents version_1) desk game old ≡ Err why)
     ⊎ ((why ≡ not_empty) × (0 < length new) × IsOk (file_votes (contents version_1) desk game old))
-WhyNotMigrated desk game old new NoMemory = IsOk (contents version_1 desk game old)
+WhyNotMigrated desk game old new NoMemory = IsOk (file_votes (contents version_1) desk game old)
 WhyNotMigrated desk game old new Device = Unit {0}
 WhyNotMigrated desk game old new Write = Unit {0}
 WhyNotMigrated desk game old new _ = ⊥

@@ -11,17 +11,19 @@ use Rattle.agree_core.specs.Books.{voted_list}
 use Rattle.agree_core.specs.Desks.{DeskState, most_votes}
 use Rattle.agree_core.specs.FileView.{FileView, Holds}
 use Rattle.agree_core.specs.Seats.{SeatState}
-use Rattle.vote_store.specs.Refusal.{not_empty}
 use Rattle.wire.specs.declared.what.What.{What}
 use Rattle.wire.specs.declared.what.What.TheVariants as whats
 use Rattle.desk.specs.declared.desk.Desk.{Desk}
+use Rattle.desk.specs.declared.refusal.OpenRefusal.{OpenRefusal}
+use Rattle.desk.specs.declared.refusal.OpenRefusal.TheVariants as openings
 use Rattle.desk.specs.declared.refusal.Refusal.{Refusal as PenRefusal}
 use Rattle.desk.specs.declared.refusal.Refusal.TheVariants as pens
 use Rattle.desk.specs.Desk.{SameOwner, book_of, desk_of, disk_of, game_of, state_of, view_of, votes_of}
 use Rattle.board.specs.declared.board.Board.{Board}
 use Rattle.board.specs.Board as boards
 use Rattle.books.specs.declared.fault.RunFault.{RunFault}
-use Rattle.books.specs.declared.fault.RunFault.TheVariants.{NoMemory, Device, Votes, Line, NotAgreed}
+use Rattle.books.specs.declared.fault.RunFault.TheVariants.{Device, BadVotes, Line, NotAgreed}
+use Rattle.books.specs.Fault.{of_votes}
 use Rattle.books.specs.declared.rejected.Refusal.TheVariants.{PlacesFull, Book}
 use Rattle.books.specs.declared.rejected.Rejected.{Rejected}
 use Rattle.books.specs.declared.rejected.Rejected.TheVariants.{Refused}
@@ -53,12 +55,10 @@ WhyNotAgreed answer book n (NotAgreed place) = place ≡ length book
 WhyNotAgreed answer book n Device = Unit {0}
 WhyNotAgreed answer book n _ = ⊥
 
--- why no desk is made on a disk with these bytes
-abbrev pub WhyNoDesk : List ℕ → RunFault → Type 0
-WhyNoDesk bytes (Votes why) = (why ≡ not_empty) × (0 < length bytes)
-WhyNoDesk bytes NoMemory = Unit {0}
-WhyNoDesk bytes Device = Unit {0}
-WhyNoDesk bytes _ = ⊥
+-- the fault of a run where a desk isn't made on a new file
+abbrev pub open_fault : OpenRefusal → RunFault
+open_fault (openings.Votes why) = of_votes why
+open_fault (openings.BadVotes place) = BadVotes place
 
 -- a desk's disk has failed, in this call or before
 abbrev pub is_failing : What → Bool

@@ -1,21 +1,26 @@
 //! `ground match`: two desks and a board agree the lines of a book.
 
-ghost use Rattle.std.specs.Prelude.{◌≡◌, ◌≢◌, ◌≤◌, [], true, length, Err, IfErr, IfOk, OnOk};
-ghost use Rattle.cards.specs.Watched.{has_failed};
+ghost use Rattle.std.specs.Prelude.{◌≡◌, ◌≢◌, ◌≤◌, ◌<◌, ◌⊎◌, [], length, Err, IfErr, IfOk, OnOk};
+ghost use Rattle.corrections.specs.CleanList.{history_of};
+ghost use Rattle.cards.specs.Board.{board as board_text};
+ghost use Rattle.cards.specs.Watched.{IsHandedOn, MeetsFailure, Prints};
 ghost use Rattle.desk.specs.Desk.{game_of};
+ghost use Rattle.board.specs.Board.{book_of};
+ghost use Rattle.vote_store.specs.Refusal.{not_empty};
 ghost use Rattle.books.specs.CardBook.{IsBookOfLines};
-ghost use Rattle.runs.specs.MatchRun.{AgreesLines, IsQuiet, WhyNoMatch};
+ghost use Rattle.runs.specs.MatchRun.{AgreesLines, IsQuiet, Stays, WhyNoMatch, answer_of, left_at_a, left_at_b};
 ghost use Rattle.runs.specs.Turns.{AreCalm, AreLevel, book_at, innings_at};
 
 use crate::post::Post;
 use crate::turns::{Stations, new_stations};
 use books::RunFault;
 use cards::{MatchSheet, Watched};
-use entry_log::{Disk, SlotsOf};
+use entry_log::{Disk, Refusal as FileRefusal, SlotsOf};
 use host::{LONGEST_INPUT, Link};
 use notation::Lines;
 use std::alloc::Global;
 use std::io::Write;
+use vote_store::Refusal;
 
 /// Has the stations take the lines of an input, one after the other.
 fn take_lines<S: SlotsOf, L: Link>(
@@ -43,36 +48,110 @@ fn take_lines<S: SlotsOf, L: Link>(
     Ok(())
 }
 
+/// Whether a disk has no file. The answer is a fault where it has one, or where the disk fails.
+fn expect_empty<D: Disk>(disk: &mut D) -> Result<(), RunFault>
+    ensures empty { OnOk result (length (D.seen disk.old) ≡ 0) }
+    ensures stays { Stays D.seen D.images disk.old disk.new }
+    ensures calm { IsQuiet D.faults D.cap disk.old →
+        IsQuiet D.faults D.cap disk.new × (result ≢ Err RunFault.Device) }
+    ensures why { IfErr result (λ fault. (fault ≡ RunFault.Device)
+        ⊎ ((fault ≡ RunFault.Votes not_empty) × (0 < length (D.seen disk.old)))) }
+{
+    match disk.len() {
+        Ok(0) => Ok(()),
+        Ok(_) => Err(RunFault::Votes(Refusal::File(FileRefusal::NotEmpty))),
+        Err(_) => Err(RunFault::Device),
+    }
+}
+
+/// Whether neither disk has a file.
+fn expect_both_empty<D: Disk>(a: &mut D, b: &mut D) -> Result<(), RunFault>
+    ensures empty { OnOk result ((length (D.seen a.old) ≡ 0) × (length (D.seen b.old) ≡ 0)) }
+    ensures stays_a { Stays D.seen D.images a.old a.new }
+    ensures stays_b { Stays D.seen D.images b.old b.new }
+    ensures calm { IsQuiet D.faults D.cap a.old → IsQuiet D.faults D.cap b.old →
+        IsQuiet D.faults D.cap a.new × IsQuiet D.faults D.cap b.new × (result ≢ Err RunFault.Device) }
+    ensures why { IfErr result (λ fault. (fault ≡ RunFault.Device)
+        ⊎ ((fault ≡ RunFault.Votes not_empty)
+        × ((0 < length (D.seen a.old)) ⊎ (0 < length (D.seen b.old))))) }
+{
+    expect_empty(a)?;
+    expect_empty(b)
+}
+
+/// Has the stations take the lines of an input, and prints the board's six lines.
+fn play<S: SlotsOf, L: Link, W: Write>(
+    stations: &mut Stations<S, L>,
+    sheet: &MatchSheet,
+    input: &[u8],
+    writer: &mut Watched<W>,
+) -> Result<(), RunFault>
+    requires short { length input.now ≤ LONGEST_INPUT }
+    requires level { AreLevel stations.old.a stations.old.b stations.old.board }
+    requires empty { book_at stations.old.a ≡ [] }
+    ensures level { OnOk result (AreLevel stations.new.a stations.new.b stations.new.board) }
+    ensures book { OnOk result
+        (IsBookOfLines (innings_at stations.old.a) input.now (book_at stations.new.a)) }
+    ensures same_game { OnOk result (game_of stations.new.a ≡ game_of stations.old.a) }
+    ensures same_innings { OnOk result (innings_at stations.new.a ≡ innings_at stations.old.a) }
+    ensures written { OnOk result (Prints W.contents writer.old writer.new
+        (board_text sheet.now (innings_at stations.old.a)
+        (history_of (book_of stations.new.board).entries))) }
+    ensures why { IfErr result (WhyNoMatch (innings_at stations.old.a) input.now [] []) }
+    ensures calm { AreCalm stations.old.a stations.old.b → result ≢ Err RunFault.Device }
+    ensures handed_on { OnOk result (IsHandedOn writer.new) }
+    ensures write { result ≡ Err RunFault.Write → MeetsFailure writer.old writer.new }
+    ensures unwritten { IfErr result (λ fault. fault ≢ RunFault.Write → writer.new ≡ writer.old) }
+{
+    take_lines(stations, input)?;
+    match stations.print_board(sheet, writer) {
+        Ok(()) => Ok(()),
+        Err(_) => Err(RunFault::Write),
+    }
+}
+
 /// `ground match`: two desks with new files on these disks, and a board. Both desks pen each line, and the next
 /// follows when all three books have it; then the six lines of the board are written. The stations take turns,
 /// A, B and the board: in a turn a station sends what it says unasked to the other two, and takes up to eight
 /// datagrams, until none comes in time. A line that isn't taken ends the run, and so does a place that isn't
-/// agreed in fifty turns of each station. A disk that has a file is refused. At `Ok` both disks come back: whatever
-/// the link loses, changes or makes up, they hold just the book of the lines, which a power loss doesn't take away.
+/// agreed in fifty turns of each station. A disk that has a file is refused before either is written, so that both
+/// stay as they were. Both disks come back. At `Ok`, whatever the link loses, changes or makes up, they hold just the
+/// book of the lines, which a power loss doesn't take away.
 pub fn run_match<D: Disk + Drop, L: Link + Drop, W: Write>(
     alloc: Global,
     sheet: &MatchSheet,
     input: &[u8],
-    a: D,
-    b: D,
+    mut a: D,
+    mut b: D,
     post: Post<L>,
     writer: &mut Watched<W>,
-) -> Result<(D, D), RunFault>
+) -> Result<(D, D), (RunFault, D, D)>
     requires { length input.now ≤ LONGEST_INPUT }
     ensures agreed { IfOk result (λ disks.
         AgreesLines W.contents writer.old writer.new D.seen D.images sheet.now input.now disks.0 disks.1) }
     ensures only_empty { OnOk result ((length (D.seen a) ≡ 0) × (length (D.seen b) ≡ 0)) }
-    ensures why { IfErr result (WhyNoMatch sheet.now.innings input.now (D.seen a) (D.seen b)) }
+    ensures why { IfErr (answer_of result)
+        (WhyNoMatch sheet.now.innings input.now (D.seen a) (D.seen b)) }
+    // Where a disk has a file, both stay as they were, and so the next run meets the same.
+    ensures kept { (0 < length (D.seen a)) ⊎ (0 < length (D.seen b)) →
+        Stays D.seen D.images a (left_at_a result) × Stays D.seen D.images b (left_at_b result) }
     // Where no fault is due at either disk, and both have room, none is met.
-    ensures calm { IsQuiet D.faults D.cap a → IsQuiet D.faults D.cap b → result ≢ Err RunFault.Device }
-    ensures write { result ≡ Err RunFault.Write → has_failed writer.new ≡ true }
+    ensures calm { IsQuiet D.faults D.cap a → IsQuiet D.faults D.cap b →
+        answer_of result ≢ Err RunFault.Device }
+    ensures handed_on { OnOk result (IsHandedOn writer.new) }
+    ensures write { answer_of result ≡ Err RunFault.Write → MeetsFailure writer.old writer.new }
     // With any other fault nothing was written.
-    ensures unwritten { IfErr result (λ fault. fault ≢ RunFault.Write → writer.new ≡ writer.old) }
+    ensures unwritten { IfErr (answer_of result) (λ fault.
+        fault ≢ RunFault.Write → writer.new ≡ writer.old) }
 {
+    if let Err(why) = expect_both_empty(&mut a, &mut b) {
+        return Err((why, a, b));
+    }
     let mut stations = new_stations(alloc, sheet, a, b, post)?;
-    take_lines(&mut stations, input)?;
-    match stations.print_board(sheet, writer) {
-        Ok(()) => Ok(stations.into_disks()),
-        Err(_) => Err(RunFault::Write),
+    let answer = play(&mut stations, sheet, input, writer);
+    let (a, b) = stations.into_disks();
+    match answer {
+        Ok(()) => Ok((a, b)),
+        Err(why) => Err((why, a, b)),
     }
 }

@@ -1,7 +1,7 @@
 //! `ground migrate`: a new file with the votes of an old one.
 
-ghost use Rattle.std.specs.Prelude.{◌≡◌, ◌≢◌, ◌≤◌, true, length, Err, IfOk, IfErr, OnOk};
-ghost use Rattle.cards.specs.Watched.{Prints, TellsFailure, has_failed};
+ghost use Rattle.std.specs.Prelude.{◌≡◌, ◌≢◌, ◌≤◌, length, Err, IfOk, IfErr, OnOk};
+ghost use Rattle.cards.specs.Watched.{IsHandedOn, MeetsFailure, Prints, TellsFailure, failures};
 ghost use Rattle.entry_log.specs.Disk.{Never};
 ghost use Rattle.entry_log.specs.Format.{room};
 ghost use Rattle.entry_log.specs.Version2.{version_2};
@@ -21,6 +21,7 @@ use vote_store::{Migrated, migrate};
 /// Prints how many votes the new file has.
 fn print_migrated<W: Write>(out: &mut Watched<W>, votes: u32) -> Result<(), WriteFailed>
     ensures text { OnOk result (Prints W.contents out.old out.new (migrated_line votes)) }
+    ensures handed_on { OnOk result (IsHandedOn out.new) }
     ensures failed { TellsFailure result out.old out.new }
 {
     writeln!(out, "migrated {votes}")?;
@@ -48,8 +49,9 @@ pub fn migrate_run<D: Disk + Drop, E: Disk + Drop, W: Write>(
     // Where no fault is due at either disk, and the new one has room, none is met.
     ensures calm { (D.faults old).due ≡ Never → (E.faults new).due ≡ Never
         → room version_2 MAX_SLOTS ≤ E.cap new → result ≢ Err RunFault.Device }
-    ensures write { result ≡ Err RunFault.Write → has_failed out.new ≡ true }
-    ensures sound { OnOk result (has_failed out.new ≡ has_failed out.old) }
+    ensures write { result ≡ Err RunFault.Write → MeetsFailure out.old out.new }
+    ensures sound { OnOk result (failures out.new ≡ failures out.old) }
+    ensures handed_on { OnOk result (IsHandedOn out.new) }
     ensures unwritten { IfErr result (λ fault. fault ≢ RunFault.Write → out.new ≡ out.old) }
 {
     let migrated = match migrate(alloc, old, new, desk, game) {

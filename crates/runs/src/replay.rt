@@ -1,7 +1,7 @@
 //! `ground replay`: a schedule's events in, what each is answered and what the stations show out.
 
-ghost use Rattle.std.specs.Prelude.{◌≡◌, ◌≢◌, ◌≤◌, ◌<◌, ◌⊎◌, All, Err, IfErr, IfOk, IfSome, OnOk, length, true};
-ghost use Rattle.cards.specs.Watched.{has_failed, stream_of};
+ghost use Rattle.std.specs.Prelude.{◌≡◌, ◌≢◌, ◌≤◌, ◌<◌, ◌⊎◌, All, Err, IfErr, IfOk, IfSome, OnOk, length};
+ghost use Rattle.cards.specs.Watched.{IsHandedOn, MeetsFailure, failures, stream_of};
 ghost use Rattle.headline.specs.Events.{IsEvent};
 ghost use Rattle.schedule_replay.specs.Replays.{IsReplay};
 ghost use Rattle.runs.specs.ReplayRun.{PrintsReplay, PrintsRun, WhyNoReplay};
@@ -14,29 +14,11 @@ use cards::{MatchSheet, Watched};
 use headline::{Event, FileVersion};
 use host::LONGEST_INPUT;
 use print::{print_refused, print_whole};
-use schedule_replay::{Report, WorldRefusal, replay, replay_old};
+use schedule_replay::{Report, replay};
 use schedules::read_schedule;
 use std::alloc::Global;
 use std::io::{Read, Write};
-use step::{Stepped, step_all};
-
-/// A replay of the events on files of this version.
-fn replay_on(
-    alloc: Global,
-    sheet: &MatchSheet,
-    version: FileVersion,
-    boards: u8,
-    events: &[Event],
-) -> Result<Report, (u64, WorldRefusal)>
-    requires boards { boards ≤ 4 }
-    requires events { All IsEvent events.now }
-    ensures { IfOk result (IsReplay sheet.now.game sheet.now.innings version boards events.now) }
-{
-    match version {
-        FileVersion::Old => replay_old(alloc, sheet.game(), sheet.innings(), boards, events),
-        FileVersion::New => replay(alloc, sheet.game(), sheet.innings(), boards, events),
-    }
-}
+use step::{Stepped, begin, step_all};
 
 /// What a replay of the events reports. The world of a run took all of them: a second one ends before the last
 /// only for want of memory.
@@ -52,7 +34,10 @@ fn report_of(
     ensures reported { IfOk result (IsReplay sheet.now.game sheet.now.innings version boards events.now) }
     ensures only { IfErr result (λ fault. fault ≡ RunFault.NoMemory) }
 {
-    match replay_on(alloc, sheet, version, boards, events) {
+    let Ok(world) = begin(alloc, sheet, version, boards) else {
+        return Err(RunFault::NoMemory);
+    };
+    match replay(alloc, world, events) {
         Ok(report) => Ok(report),
         Err(_) => Err(RunFault::NoMemory),
     }
@@ -71,8 +56,9 @@ fn print_run<W: Write>(
     requires events { All IsEvent events.now }
     ensures written { IfOk result (PrintsRun W.contents out.old out.new sheet.now version boards events.now) }
     ensures only { IfErr result (λ fault. (fault ≡ RunFault.NoMemory) ⊎ (fault ≡ RunFault.Write)) }
-    ensures write { result ≡ Err RunFault.Write → has_failed out.new ≡ true }
-    ensures sound { OnOk result (has_failed out.new ≡ has_failed out.old) }
+    ensures write { result ≡ Err RunFault.Write → MeetsFailure out.old out.new }
+    ensures sound { OnOk result (failures out.new ≡ failures out.old) }
+    ensures handed_on { OnOk result (IsHandedOn out.new) }
     ensures unwritten { IfErr result (λ fault. fault ≢ RunFault.Write → out.new ≡ out.old) }
 {
     match step_all(alloc, sheet, version, boards, events)? {
@@ -112,10 +98,11 @@ pub fn replay_run<R: Read, W: Write>(
 
     // A read fault comes only where a read failed or the input is too long, and a write fault only where a
     // write failed.
-    ensures read { result ≡ Err RunFault.Read → (has_failed reader.new ≡ true)
+    ensures read { result ≡ Err RunFault.Read → MeetsFailure reader.old reader.new
         ⊎ IfSome (R.remaining (stream_of reader.old)) (λ input. LONGEST_INPUT < length input) }
-    ensures write { result ≡ Err RunFault.Write → has_failed writer.new ≡ true }
-    ensures sound { OnOk result (has_failed writer.new ≡ has_failed writer.old) }
+    ensures write { result ≡ Err RunFault.Write → MeetsFailure writer.old writer.new }
+    ensures sound { OnOk result (failures writer.new ≡ failures writer.old) }
+    ensures handed_on { OnOk result (IsHandedOn writer.new) }
 
     // With any other fault nothing was written.
     ensures unwritten { IfErr result (λ fault. fault ≢ RunFault.Write → writer.new ≡ writer.old) }

@@ -1,18 +1,18 @@
 //! Two desks and a board that take turns.
 
-ghost use Rattle.std.specs.Prelude.{◌≤◌, ◌<◌, ◌≡◌, ◌≢◌, ◌⊎◌, [], length, true, Err, IfErr, IfOk, IsOk, OnErr, OnOk};
+ghost use Rattle.std.specs.Prelude.{◌≤◌, ◌<◌, ◌≡◌, ◌≢◌, ◌⊎◌, [], length, true, Err, IfErr, IfOk, IsOk, OnOk};
 ghost use Rattle.notation.specs.Written.{IsEntry};
 ghost use Rattle.corrections.specs.CleanList.{history_of};
 ghost use Rattle.desk.specs.Desk.{IsOf, disk_of, game_of, votes_of};
 ghost use Rattle.board.specs.Board.{SameMatch};
 ghost use Rattle.board.specs.Board as boards;
 ghost use Rattle.cards.specs.Board.{board as board_text};
-ghost use Rattle.cards.specs.Watched.{Prints, has_failed};
+ghost use Rattle.cards.specs.Watched.{IsHandedOn, Prints, TellsFailure};
 ghost use Rattle.runs.specs.MatchRun.{IsQuiet};
 ghost use Rattle.books.specs.Output.{answer_to, with_taken};
 ghost use Rattle.books.specs.Taking.{taking};
 ghost use Rattle.runs.specs.Turns as turns;
-ghost use Rattle.runs.specs.Turns.{AreCalm, AreLevel, InTurn, IsCalm, KeepsTurn, VotesFor, WhyNoDesk, WhyNotAgreed, book_at, innings_at};
+ghost use Rattle.runs.specs.Turns.{AreCalm, AreLevel, InTurn, IsCalm, KeepsTurn, VotesFor, WhyNotAgreed, book_at, innings_at};
 
 use crate::post::Post;
 use agree_core::{Asker, DeskId};
@@ -24,7 +24,7 @@ use desk::{Desk, OpenRefusal};
 use entry_log::{Disk, Slots, SlotsOf};
 use host::{Link, ROOM};
 use notation::{Entry, read_line};
-use std::alloc::Global;
+use std::alloc::{AllocError, Global};
 use std::io::Write;
 use wire::What;
 
@@ -34,40 +34,38 @@ const MOST_TAKEN: usize = 8;
 /// How many turns each station has for an entry at most.
 const TURNS: usize = 50;
 
-/// An empty book of a match of one or two innings a side.
-fn empty_book(alloc: Global, innings: u32) -> Result<CheckedBook, RunFault>
-    requires { (1 ≤ innings) × (innings ≤ 2) }
-    ensures empty { IfOk result (λ book. book.entries ≡ []) }
-    ensures innings { IfOk result (λ book. book.innings_a_side ≡ innings) }
-    ensures only { IfErr result (λ fault. fault ≡ RunFault.NoMemory) }
+/// The fault of a run where a desk isn't made on a new file.
+fn open_fault(why: OpenRefusal) -> RunFault
+    ensures { result ≡ turns.open_fault why }
 {
-    match CheckedBook::new(alloc, innings) {
-        Ok(book) => Ok(book),
-        Err(_) => Err(RunFault::NoMemory),
+    match why {
+        OpenRefusal::Votes(why) => RunFault::from(why),
+        OpenRefusal::BadVotes { place } => RunFault::BadVotes { place },
     }
 }
 
-/// A desk with a new file on a disk that has none.
+/// A desk with a new file on an empty disk, and with an empty book.
 fn new_desk<D: Disk + Drop>(
     alloc: Global,
-    sheet: &MatchSheet,
+    game: u64,
     disk: D,
     desk: DeskId,
-) -> Result<Desk<Slots<D>, CheckedBook>, RunFault>
-    ensures owner { IfOk result (IsOf desk sheet.now.game sheet.now.innings) }
+    book: CheckedBook,
+) -> Result<Desk<Slots<D>, CheckedBook>, (RunFault, D)>
+    requires disk { length (D.seen disk) ≡ 0 }
+    requires book { book.entries ≡ [] }
+    ensures owner { IfOk result (IsOf desk game book.innings_a_side) }
     ensures turn { IfOk result (λ made. InTurn made) }
     ensures votes { IfOk result (λ made. votes_of made ≡ []) }
     ensures empty { IfOk result (λ made. book_at made ≡ []) }
     ensures calm { IsQuiet D.faults D.cap disk → IfOk result (λ made. IsCalm made) }
-    ensures only_empty { OnOk result (length (D.seen disk) ≡ 0) }
-    ensures why { IfErr result (WhyNoDesk (D.seen disk)) }
-    ensures blame { IsQuiet D.faults D.cap disk → result ≢ Err RunFault.Device }
+    ensures why { IfErr result (λ refused.
+        (refused.0 ≡ RunFault.NoMemory) ⊎ (refused.0 ≡ RunFault.Device)) }
+    ensures blame { IsQuiet D.faults D.cap disk → IfErr result (λ refused. refused.0 ≢ RunFault.Device) }
 {
-    let book = empty_book(alloc, sheet.innings())?;
-    match Desk::create(alloc, disk, desk, sheet.game(), book) {
+    match Desk::create(alloc, disk, desk, game, book) {
         Ok(desk) => Ok(desk),
-        Err((OpenRefusal::Votes(why), _disk)) => Err(RunFault::from(why)),
-        Err((OpenRefusal::BadVotes { place }, _disk)) => Err(RunFault::BadVotes { place }),
+        Err((why, disk)) => Err((open_fault(why), disk)),
     }
 }
 
@@ -188,27 +186,55 @@ pub struct Stations<S: SlotsOf, L: Link> {
     post: Post<L>,
 }
 
-/// Both desks with new files, and an empty board. It is refused where a disk has a file.
+/// Two empty books, and one for a board.
+fn empty_books(
+    alloc: Global,
+    innings: u32,
+) -> Result<(CheckedBook, CheckedBook, CheckedBook), AllocError>
+    requires { (1 ≤ innings) × (innings ≤ 2) }
+    ensures a { IfOk result (λ books. (books.0.entries ≡ []) × (books.0.innings_a_side ≡ innings)) }
+    ensures b { IfOk result (λ books. (books.1.entries ≡ []) × (books.1.innings_a_side ≡ innings)) }
+    ensures board { IfOk result (λ books. (books.2.entries ≡ []) × (books.2.innings_a_side ≡ innings)) }
+{
+    let a = CheckedBook::new(alloc, innings)?;
+    let b = CheckedBook::new(alloc, innings)?;
+    let board = CheckedBook::new(alloc, innings)?;
+    Ok((a, b, board))
+}
+
+/// Both desks with new files on empty disks, and an empty board. A refusal hands both disks back.
 pub fn new_stations<D: Disk + Drop, L: Link + Drop>(
     alloc: Global,
     sheet: &MatchSheet,
     a: D,
     b: D,
     post: Post<L>,
-) -> Result<Stations<Slots<D>, L>, RunFault>
+) -> Result<Stations<Slots<D>, L>, (RunFault, D, D)>
+    requires a { length (D.seen a) ≡ 0 }
+    requires b { length (D.seen b) ≡ 0 }
     ensures level { IfOk result (λ made. AreLevel made.a made.b made.board) }
     ensures empty { IfOk result (λ made. book_at made.a ≡ []) }
     ensures game { IfOk result (λ made. game_of made.a ≡ sheet.now.game) }
     ensures innings { IfOk result (λ made. innings_at made.a ≡ sheet.now.innings) }
-    ensures only_empty { OnOk result ((length (D.seen a) ≡ 0) × (length (D.seen b) ≡ 0)) }
-    ensures why { IfErr result (λ fault. WhyNoDesk (D.seen a) fault ⊎ WhyNoDesk (D.seen b) fault) }
+    ensures why { IfErr result (λ refused.
+        (refused.0 ≡ RunFault.NoMemory) ⊎ (refused.0 ≡ RunFault.Device)) }
     ensures calm { IsQuiet D.faults D.cap a → IsQuiet D.faults D.cap b →
         IfOk result (λ made. IsCalm made.a × IsCalm made.b) }
-    ensures blame { IsQuiet D.faults D.cap a → IsQuiet D.faults D.cap b → result ≢ Err RunFault.Device }
+    ensures blame { IsQuiet D.faults D.cap a → IsQuiet D.faults D.cap b →
+        IfErr result (λ refused. refused.0 ≢ RunFault.Device) }
 {
-    let book = empty_book(alloc, sheet.innings())?;
-    let a = new_desk(alloc, sheet, a, DeskId::A)?;
-    let b = new_desk(alloc, sheet, b, DeskId::B)?;
+    let (book_a, book_b, book) = match empty_books(alloc, sheet.innings()) {
+        Ok(books) => books,
+        Err(_) => return Err((RunFault::NoMemory, a, b)),
+    };
+    let a = match new_desk(alloc, sheet.game(), a, DeskId::A, book_a) {
+        Ok(desk) => desk,
+        Err((why, a)) => return Err((why, a, b)),
+    };
+    let b = match new_desk(alloc, sheet.game(), b, DeskId::B, book_b) {
+        Ok(desk) => desk,
+        Err((why, b)) => return Err((why, a.into_disk(), b)),
+    };
     let board = Board::new(sheet.game(), book);
     Ok(Stations { a, b, board, post })
 }
@@ -284,7 +310,8 @@ impl<S: SlotsOf, L: Link> Stations<S, L> {
         ensures text { OnOk result (Prints W.contents out.old out.new
             (board_text sheet.now (boards.book_of self.now.board).innings_a_side
             (history_of (boards.book_of self.now.board).entries))) }
-        ensures failed { OnErr result (has_failed out.new ≡ true) }
+        ensures handed_on { OnOk result (IsHandedOn out.new) }
+        ensures failed { TellsFailure result out.old out.new }
     {
         self.board.lines(sheet, out)?;
         out.flush()

@@ -46,7 +46,7 @@ use Rattle.schedule_replay.specs.Answers.{AreBytesOf, answer_of}
 use Rattle.headline.specs.Runs.{Begins, BeginsAt}
 use Rattle.schedule_replay.specs.Sites.{BeginsSite, IsProcess, IsSite}
 use Rattle.schedule_replay.specs.WorldDesks.{state_of}
-use Rattle.schedule_replay.specs.CodeWorlds.{IsBoardOf, IsSiteOf, IsWorld, MatchBoard, RefusesTo, StepsTo, board_game, board_innings, board_seen, board_state, code_site}
+use Rattle.schedule_replay.specs.CodeWorlds.{BeginsWorld, boards_of, version_of, IsBoardOf, IsSiteOf, IsWorld, MatchBoard, RefusesTo, StepsTo, board_game, board_innings, board_seen, board_state, code_site}
 use Rattle.schedule_replay.specs.WorldBoards.{AreFresh, BoardSteps, SameBoard}
 use Rattle.schedule_replay.proofs.TakeLemmas.{sending_grows}
 use Rattle.schedule_replay.proofs.GiveLemmas.{datagram_at, message_at, message_in, not_both}
@@ -171,7 +171,10 @@ board_steps n old new k l event same seen before after e t c owner q b a steps w
     let there : board_at w.boards (suc (n - 1)) ≡ Some (board_state k) = ap (λ (bs : List BoardState). slice_get bs (n - 1)) h.board_states ∙ slice_get-map board_state old.boards.items (n - 1) ∙ ap (option_map board_state) t.here in
     let step : StepAt (match_of old.game old.innings_a_side) w event (station_of event) given.1 world =
     subst (λ (u : Station). StepAt (match_of old.game old.innings_a_side) w event u given.1 world) (sym (e ∙ ap stations.Board t.number)) (board_state k, board_state l, given.0, there, given.3, refl) in
-    (cause_is n old w event e h ∙ t.none, (given.1, world, given.2, step, put n old new l w given.0 c (owner of) h (subst (λ (z : List Datagram). AreBytesOf old.game z (w.sent ++ given.0)) a given.4)))
+    (cause_is n old w event e h ∙ t.none, (given.1, world, given.2, step, put n old new l w given.0 c (owner of) h (subst (λ (z : List Datagram). AreBytesOf old.game z (w.sent ++ given.0)) a given.4), λ d f. absurd (not_desk n d (sym e ∙ f))))
+  where
+    not_desk : (n : ℕ) (d : DeskId) → stations.Board n ≡ stations.Desk d → ⊥
+    not_desk n d q = absurd (cc)
 
 pub same_owner : (game innings : ℕ) (k l : MatchBoard) → SameBoard k l → IsBoardOf game innings k → IsBoardOf game innings l
 same_owner game innings k l s of = record { same_game = s.same_game ∙ of.same_game; same_innings = s.same_innings ∙ of.same_innings }
@@ -240,22 +243,29 @@ site_begins version name game innings site h =
       (state_of k.0, refl, k.3),
     )
 
+-- so many boards
+pub fresh_many : (n : ℕ) → length (fresh_boards n) ≡ n
+fresh_many zero = refl
+fresh_many (suc n) = ap suc (fresh_many n)
+
 -- the world at the start of its match
-pub begins : (world : World) (version : FileVersion) (boards : ℕ) → BeginsSite version A world.game world.innings_a_side world.a → BeginsSite version B world.game world.innings_a_side world.b → AreFresh world.game world.innings_a_side boards world.boards.items → world.sent.items ≡ [] → (w : worlds.World MemDisk) × IsWorld world w × Begins (match_of world.game world.innings_a_side) version boards w
+pub begins : (world : World) (version : FileVersion) (boards : ℕ) → BeginsSite version A world.game world.innings_a_side world.a → BeginsSite version B world.game world.innings_a_side world.b → AreFresh world.game world.innings_a_side boards world.boards.items → world.sent.items ≡ [] → BeginsWorld world.game world.innings_a_side version boards world
 begins world version boards a b fresh sent =
     let x = site_begins version A world.game world.innings_a_side world.a a in
     let y = site_begins version B world.game world.innings_a_side world.b b in
-    let w : worlds.World MemDisk = record { a = x.0; b = y.0; boards = fresh_boards boards; sent = [] } in (
-      w,
-      record {
-        sites = sites w x.1 y.1;
-        named = named;
-        boards_are = fresh.of_match;
-        board_states = sym fresh.states;
-        bytes = (All-nil IsMessage, ap (map (λ (d : Datagram). d.bytes)) sent);
-      },
-      record { a = x.2; b = y.2; boards_are_fresh = refl; nothing_sent = refl },
-    )
+    let w : worlds.World MemDisk = record { a = x.0; b = y.0; boards = fresh_boards boards; sent = [] } in
+    let many : boards_of world ≡ boards = sym (length-map world.boards.items board_state) ∙ ap length fresh.states ∙ fresh_many boards in
+    let is : IsWorld world w = record {
+      sites = sites w x.1 y.1;
+      named = named;
+      boards_are = fresh.of_match;
+      board_states = sym fresh.states;
+      bytes = (All-nil IsMessage, ap (map (λ (d : Datagram). d.bytes)) sent);
+    } in
+    let begin : Begins (match_of world.game world.innings_a_side) version boards w = record { a = x.2; b = y.2; boards_are_fresh = refl; nothing_sent = refl } in
+    let own : Begins (match_of world.game world.innings_a_side) (version_of world) (boards_of world) w =
+    subst (λ (v : FileVersion). Begins (match_of world.game world.innings_a_side) v (boards_of world) w) (sym a.same_version) (subst (λ (n : ℕ). Begins (match_of world.game world.innings_a_side) version n w) (sym many) begin) in
+    record { is_new = (w, is, own); same_game = refl; same_innings = refl; same_version = a.same_version; same_boards = many }
   where
     sites : (w : worlds.World MemDisk) → IsSite world.a w.a → IsSite world.b w.b → (d : DeskId) → IsSite (code_site world d) (worlds.site w d)
     sites w i j A = i

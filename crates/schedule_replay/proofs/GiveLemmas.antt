@@ -9,7 +9,7 @@ use Rattle.entry_log.specs.Blame.{BlamesDisk}
 use Rattle.entry_log.specs.MemDisk.{faults_of}
 use Rattle.entry_log.specs.declared.mem_disk.MemDisk.{MemDisk}
 use Rattle.agree_core.specs.declared.messages.Message.{Message}
-use Rattle.agree_core.specs.Desks.{DeskState, ReceiveAnswer, Receives}
+use Rattle.agree_core.specs.Desks.{DeskState, ReceiveAnswer, Receives, Unchanged}
 use Rattle.agree_core.specs.FileView.{FileView}
 use Rattle.wire.specs.declared.datagram.Datagram.{Datagram}
 use Rattle.wire.specs.declared.fault.WireFault.{WireFault}
@@ -51,7 +51,8 @@ not_both m fault e = cc
 
 pub takes_as : {Disk : Type 0} (view : FileView Disk) (game : ℕ) (k l : DeskState Disk) (bytes : List ℕ) (what : What) (out : List Message) (m : Message) → Says game bytes m → Takes view game k bytes what l out → (received : ReceiveAnswer) × (received_as what ≡ Some received) × Receives view k m received l out
 takes_as view game k l bytes (whats.Bad fault) out m s t = absurd (not_both m fault (reads_once game bytes (Ok m) (Err fault) s t.1))
-takes_as view game k l bytes whats.Failed out m s t = (ReceiveAnswer.Failed, refl, t)
+takes_as view game k l bytes whats.Failed out m s t =
+    (ReceiveAnswer.Failed, refl, (t.0, subst (λ (x : DeskState _). Unchanged view k x) (sym t.1) ((refl, λ image. (λ shown. shown, λ shown. shown)), refl), t.2))
 takes_as view game k l bytes (whats.Heard h) out m s t = (ReceiveAnswer.Told h, refl, subst (λ (x : Message). Receives view k x (ReceiveAnswer.Told h) l out) (says_once game bytes t.0 m t.1 s) t.2)
 takes_as view game k l bytes whats.Asked out m s t = (ReceiveAnswer.Asked, refl, subst (λ (x : Message). Receives view k x ReceiveAnswer.Asked l out) (says_once game bytes t.0 m t.1 s) t.2)
 takes_as view game k l bytes whats.Device out m s t = (ReceiveAnswer.DeviceFailed, refl, subst (λ (x : Message). Receives view k x ReceiveAnswer.DeviceFailed l out) (says_once game bytes t.0 m t.1 s) t.2)

@@ -18,6 +18,7 @@ use Rattle.headline.specs.declared.event.Station.TheVariants as stations
 use Rattle.schedule_replay.specs.declared.report.Report.{Report}
 use Rattle.schedule_replay.specs.declared.seen.Seen.{Seen}
 use Rattle.schedule_replay.specs.declared.seen.WorldRefusal.{WorldRefusal}
+use Rattle.schedule_replay.specs.declared.seen.WorldRefusal.TheVariants.{NoMemory}
 use Rattle.headline.specs.declared.version.FileVersion.{FileVersion}
 use Rattle.schedule_replay.specs.declared.world.World.{World}
 use Rattle.headline.specs.Worlds as worlds
@@ -28,22 +29,20 @@ use Rattle.headline.specs.Runs.{AtSomeMoment, Begins, Moment, Run, Shows, answer
 use Rattle.headline.specs.Match.{match_of}
 use Rattle.schedule_replay.specs.Answers.{answer_of}
 use Rattle.schedule_replay.specs.Refusals.{RefusesEvent}
-use Rattle.schedule_replay.specs.CodeWorlds.{BeginsWorld, IsWorld, RefusesTo, SameMatch, StepsTo}
+use Rattle.schedule_replay.specs.CodeWorlds.{BeginsWorld, IsNew, boards_of, version_of, IsWorld, RefusesTo, SameMatch, StepsTo}
 use Rattle.headline.specs.Headline.{ShowsScore}
 use Rattle.schedule_replay.specs.Replays.{AreSeen, EndsAt, IsReplay, IsRunOf, MatchRun, StandOnce}
+use Rattle.schedule_replay.specs.RunsSoFar.{HasTaken, IsAt}
 use Rattle.schedule_replay.specs.ShownScores.{IsNotable, Notes}
 use Rattle.schedule_replay.specs.VotesFiles.{FilesRead}
 use Rattle.headline.proofs.Keeping.{begins_fine, run_keeps}
+use Rattle.schedule_replay.proofs.BoardLemmas.{fresh_many}
 use Rattle.schedule_replay.proofs.NoteLemmas.{Shown}
 use Rattle.schedule_replay.proofs.ReadLemmas.{files_read}
 use Rattle.headline.proofs.Scores.{one_score}
 use Rattle.headline.proofs.Whole.{holds_in_run}
 
 -- no event changes how many boards there are
-fresh_many : (n : ℕ) → length (fresh_boards n) ≡ n
-fresh_many zero = refl
-fresh_many (suc n) = ap suc (fresh_many n)
-
 with_board_many : (boards : List BoardState) (n : ℕ) (k : BoardState) → length (with_board boards n k) ≡ length boards
 with_board_many boards zero k = refl
 with_board_many boards (suc n) k = length-set boards n k
@@ -58,14 +57,7 @@ module _ (game innings : ℕ) where
   run_many version boards w [] b r = ap length b.boards_are_fresh ∙ fresh_many boards
   run_many version boards w (m ∷ ms) b r = step_many (last_of w ms) m.event (station_of m.event) m.answer m.after r.1 ∙ run_many version boards w ms b r.0
 
--- a run of the match over the first events, with these outcomes, that ends with what the code's world shows
-pub record IsAt (game innings : ℕ) (version : FileVersion) (boards : ℕ) (events : List Event) (number : ℕ) (world : World) (outcomes : List Seen) (w : worlds.World MemDisk) (ms : MatchRun) : Type 0 where
-  pub run : IsRunOf game innings version boards (take number events) outcomes w ms
-  pub is_world : IsWorld world (last_of w ms)
-  pub same_game : world.game ≡ game
-  pub same_innings : world.innings_a_side ≡ innings
-
--- and all that was shown is noted
+-- a run over the first events ends with what the code's world shows, and all that was shown is noted
 pub record IsAfter (game innings : ℕ) (version : FileVersion) (boards : ℕ) (events : List Event) (number : ℕ) (world : World) (outcomes : List Seen) (seen : List Shown) : Type 0 where
   pub at : (w : worlds.World MemDisk) × (ms : MatchRun) × IsAt game innings version boards events number world outcomes w ms × AreSeen innings w ms seen
 
@@ -83,9 +75,16 @@ event_at [] n d h = absurd (omega (arith, h))
 event_at (x ∷ xs) zero d h = refl
 event_at (x ∷ xs) (suc n) d h = event_at xs n d (omega (arith, h))
 
+-- a new world begins the match that it is of
+pub own_match : (world : World) → IsNew world → BeginsWorld world.game world.innings_a_side (version_of world) (boards_of world) world
+own_match world h = record { is_new = h; same_game = refl; same_innings = refl; same_version = refl; same_boards = refl }
+
 module _ (game innings : ℕ) (version : FileVersion) (boards : ℕ) (events : List Event) where
   pub begins_at : (world : World) → BeginsWorld game innings version boards world → (w : worlds.World MemDisk) × IsAt game innings version boards events 0 world [] w []
-  begins_at world h = let start = h.2 in (start.0, record { run = record { begins = start.2; run = tt; over = refl; answered = refl }; is_world = start.1; same_game = h.0; same_innings = h.1 })
+  begins_at world h =
+      let start = h.is_new in
+      let begins : Begins (match_of game innings) version boards start.0 = rw (h.same_game, h.same_innings, h.same_version, h.same_boards) at start.2 in
+      (start.0, record { run = record { begins = begins; run = tt; over = refl; answered = refl; planned = tt }; is_world = start.1; same_game = h.same_game; same_innings = h.same_innings })
 
   -- what is noted of a world that shows the last one of a run has one score
   notable_at : (number : ℕ) (world : World) (outcomes : List Seen) (seen : List Shown) (w : worlds.World MemDisk) (ms : MatchRun) → boards ≤ 4 → IsAt game innings version boards events number world outcomes w ms → ((t : Station) (n : ℕ) (score : Standing) → Contains seen (t, n, score) → AtSomeMoment w ms (λ v. ShowsScore innings v t n score)) → ((t : Station) (n : ℕ) (score : Standing) → ShowsScore innings (last_of w ms) t n score → AtSomeMoment w ms (λ v. ShowsScore innings v t n score)) → (v : worlds.World MemDisk) × IsNotable world seen v
@@ -170,7 +169,7 @@ module _ (game innings : ℕ) (version : FileVersion) (boards : ℕ) (events : L
       let answered : map answer_of (outcomes ++ seen ∷ []) ≡ map Some (answers_of ms ++ s.0 ∷ []) =
       map-append answer_of outcomes (seen ∷ []) ∙ (λ i. run.answered i ++ s.2 i ∷ []) ∙ sym (map-append Some (answers_of ms) (s.0 ∷ [])) in (
         m,
-        record { run = record { begins = run.begins; run = (run.run, step); over = over; answered = answered }; is_world = s.4; same_game = same.same_game ∙ at.same_game; same_innings = same.same_innings ∙ at.same_innings },
+        record { run = record { begins = run.begins; run = (run.run, step); over = over; answered = answered; planned = (run.planned, s.5) }; is_world = s.4; same_game = same.same_game ∙ at.same_game; same_innings = same.same_innings ∙ at.same_innings },
       )
 
   pub goes_on : (number : ℕ) (event : Event) (world new : World) (outcomes : List Seen) (seen : Seen) (shown : List Shown) → number < length events → event ≡ slice_index_or events number event → IsAfter game innings version boards events number world outcomes shown → StepsTo event world seen new → SameMatch world new → IsNext game innings version boards events (number + 1) new (outcomes ++ seen ∷ []) shown
@@ -186,13 +185,33 @@ module _ (game innings : ℕ) (version : FileVersion) (boards : ℕ) (events : L
       let refused = subst (λ (n : ℕ). RefusesEvent (match_of game n) (last_of w ms) event why s.0) at.same_innings (subst (λ (n : ℕ). RefusesEvent (match_of n world.innings_a_side) (last_of w ms) event why s.0) at.same_game s.1) in
       (s.0, event_at events number event less ∙ ap Some (sym here), refused)
 
-  pub ends_at : (number k : ℕ) (event : Event) (world new : World) (outcomes : List Seen) (shown : List Shown) (why : WorldRefusal) → number < length events → event ≡ slice_index_or events number event → k ≡ number + 1 → IsAfter game innings version boards events number world outcomes shown → RefusesTo event world why new → EndsAt game innings version boards events (k, why)
-  ends_at number k event world new outcomes shown why less here e h refuses =
-      let p = h.at in
-      let at = p.2 in
+  -- some run ends so
+  pub begins_taken : (world : World) → BeginsWorld game innings version boards world → HasTaken game innings version boards events 0 world
+  begins_taken world h = let b = begins_at world h in ([], b.0, [], b.1)
+
+  pub has_taken : (number : ℕ) (world : World) (outcomes : List Seen) (shown : List Shown) → IsAfter game innings version boards events number world outcomes shown → HasTaken game innings version boards events number world
+  has_taken number world outcomes shown h = let p = h.at in (outcomes, p.0, p.1, p.2)
+
+  pub takes_on : (number : ℕ) (event : Event) (world new : World) (seen : Seen) → number < length events → event ≡ slice_index_or events number event → HasTaken game innings version boards events number world → StepsTo event world seen new → SameMatch world new → HasTaken game innings version boards events (number + 1) new
+  takes_on number event world new seen less here h steps same =
+      let n = steps_on number event world new h.0 seen h.1 h.2 less here h.3 steps same in
+      (h.0 ++ seen ∷ [], h.1, n.0 ∷ h.2, n.1)
+
+  -- an event isn't taken
+  pub ends_at : (number k : ℕ) (event : Event) (world new : World) (why : WorldRefusal) → number < length events → event ≡ slice_index_or events number event → k ≡ number + 1 → HasTaken game innings version boards events number world → RefusesTo event world why new → EndsAt game innings version boards events (k, why)
+  ends_at number k event world new why less here e p refuses =
+      let at = p.3 in
       let run = at.run in
-      let s = refuses_at number event world new outcomes why p.0 p.1 less here at refuses in
-      inr (outcomes, p.0, p.1, number, event, s.0, run, holds_in_run (match_of game innings) innings version boards p.0 p.1 run.begins run.run, e, s.1, s.2)
+      let s = refuses_at number event world new p.0 why p.1 p.2 less here at refuses in
+      inr (p.0, p.1, p.2, number, event, s.0, run, holds_in_run (match_of game innings) innings version boards p.1 p.2 run.begins run.run, e, s.1, s.2)
+
+  -- all are, and there is no memory for the report
+  pub ends_unreported : (number : ℕ) (world : World) → number ≡ length events → HasTaken game innings version boards events number world → EndsAt game innings version boards events (0, NoMemory)
+  ends_unreported number world e p =
+      let at = p.3 in
+      let run = at.run in
+      let all : take number events ≡ events = ap (λ (n : ℕ). take n events) e ∙ take-length events in
+      inl (refl, refl, (p.0, p.1, p.2, subst (λ (es : List Event). IsRunOf game innings version boards es p.0 p.1 p.2) all run, holds_in_run (match_of game innings) innings version boards p.1 p.2 run.begins run.run))
 
   -- a read of each file gives its desk's votes, and perhaps later ones
   read_at : (number : ℕ) (world : World) (outcomes : List Seen) (w : worlds.World MemDisk) (ms : MatchRun) → IsAt game innings version boards events number world outcomes w ms → FilesRead world.game world.innings_a_side (last_of w ms)
@@ -234,7 +253,7 @@ module _ (game innings : ℕ) (version : FileVersion) (boards : ℕ) (events : L
         w,
         ms,
         record {
-          run = record { begins = run.begins; run = run.run; over = run.over ∙ all; answered = run.answered };
+          run = record { begins = run.begins; run = run.run; over = run.over ∙ all; answered = run.answered; planned = run.planned };
           holds = holds;
           agreed = agreed;
           seen = p.3;

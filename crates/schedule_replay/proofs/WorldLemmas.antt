@@ -1,6 +1,6 @@
 -- What happens at a site is a step of the world.
 use Rattle.std.proofs.Common.{◌≡◌, ℕ, suc, false, Option, Some, None, List, [], ◌∷◌, ◌++◌, length, map, refl, sym, ap, ◌∙◌, subst, inl, inr, Result, Ok, Err, append-nil}
-use Rattle.std.specs.Prelude.{All, IfErr, IfOk}
+use Rattle.std.specs.Prelude.{All, IfErr, IfOk, OnOk}
 use Rattle.std.specs.Option.{is_none}
 use Rattle.corrections.specs.declared.refusal.Refusal.{Refusal}
 use Rattle.entry_log.specs.declared.mem_disk.MemDisk.{MemDisk}
@@ -27,9 +27,11 @@ use Rattle.headline.specs.Steps.{Answer, AtDesk, StepAt}
 use Rattle.schedule_replay.specs.Refusals.{LeftByWant, RefusesEvent, down_at, first_cause, is_down, no_station, refusal_of}
 use Rattle.headline.specs.Match.{match_of}
 use Rattle.schedule_replay.specs.Answers.{AreBytesOf, answer_of}
-use Rattle.schedule_replay.specs.Sites.{IsProcess, IsSite, SiteLeft, SiteSteps, SiteTakes, SyncsSite, site_cause}
+use Rattle.schedule_replay.specs.Plans.{HasPlan, PlansFault}
+use Rattle.schedule_replay.specs.Sites.{IsProcess, IsSite, SiteLeft, SiteSteps, SiteTakes, SyncsSite, disk_at, site_cause}
 use Rattle.schedule_replay.specs.Sites as sites
 use Rattle.schedule_replay.specs.CodeWorlds.{IsBoardOf, IsSiteOf, IsWorld, RefusesTo, StepsTo, board_state, code_site}
+use Rattle.schedule_replay.proofs.SiteLemmas.{HasDisk, has_disk}
 
 down_is : (site : Site) (desk : Option WorldDesk) (disk : Option MemDisk) (p : Process MemDisk) → IsProcess site desk disk p → is_down p ≡ is_none desk
 down_is site (Some k) disk p h = ap is_down h.2
@@ -127,9 +129,23 @@ SiteGives x messages event seen new after name game innings =
     (y : worlds.Site MemDisk) × (out : List Message) × (answer : Answer Refusal) × (answer_of seen ≡ Some answer)
     × AtDesk (match_of game innings) messages name event x answer y out × IsSite new y × AreBytesOf game after (messages ++ out)
 
+desk_eq : (c d : DeskId) → stations.Desk c ≡ stations.Desk d → d ≡ c
+desk_eq c d q = cc
+
+-- what the site plans is planned in the world
+plans : (d : DeskId) (w : worlds.World MemDisk) (site : Site) (y : worlds.Site MemDisk) (out : List Message) (event : Event) → station_of event ≡ stations.Desk d → IsSite site y → HasPlan event (disk_at site.desk site.disk) → PlansFault event (worlds.with_site w d y out)
+plans d w site y out event e i h c q =
+    let has : HasDisk site y.process = has_disk site site.desk site.disk y.process refl refl i.process in
+    let here : worlds.site (worlds.with_site w d y out) c ≡ y = ap (worlds.site (worlds.with_site w d y out)) (desk_eq d c (sym e ∙ q)) ∙ changed d in
+    subst (λ (x : worlds.Site MemDisk). HasPlan event (Some (worlds.disk_of x.process))) (sym here) (subst (HasPlan event) has.disk h)
+  where
+    changed : (d : DeskId) → worlds.site (worlds.with_site w d y out) d ≡ y
+    changed A = refl
+    changed B = refl
+
 -- an event that a site has taken
-pub desk_steps : (d : DeskId) (old new : World) (site : Site) (event : Event) (seen : Seen) → station_of event ≡ stations.Desk d → Changes d old new site → SiteTakes event (code_site old d) old.sent.items (Ok seen) site new.sent.items → StepsTo event old seen new
-desk_steps d old new site event seen e c takes w h =
+pub desk_steps : (d : DeskId) (old new : World) (site : Site) (event : Event) (seen : Seen) → station_of event ≡ stations.Desk d → Changes d old new site → SiteTakes event (code_site old d) old.sent.items (Ok seen) site new.sent.items → HasPlan event (disk_at site.desk site.disk) → StepsTo event old seen new
+desk_steps d old new site event seen e c takes planned w h =
     let names = h.named d in
     let here = code_site old d in
     let own : AreBytesOf here.game old.sent.items w.sent = subst (λ (n : ℕ). AreBytesOf n old.sent.items w.sent) (sym names.same_game) h.bytes in
@@ -137,10 +153,7 @@ desk_steps d old new site event seen e c takes w h =
     let after : worlds.World MemDisk = worlds.with_site w d given.0 given.1 in
     let step : StepAt (match_of old.game old.innings_a_side) w event (station_of event) given.2 after =
     subst (λ (t : Station). StepAt (match_of old.game old.innings_a_side) w event t given.2 after) (sym e) (given.0, given.1, given.4, refl) in
-    (cause_is d old w event e h ∙ takes.0, (given.2, after, given.3, step, put d old new site w given.0 given.1 c h given.5 given.6))
-
-desk_eq : (c d : DeskId) → stations.Desk c ≡ stations.Desk d → d ≡ c
-desk_eq c d q = cc
+    (cause_is d old w event e h ∙ takes.0, (given.2, after, given.3, step, put d old new site w given.0 given.1 c h given.5 given.6, plans d w site given.0 given.1 event e given.5 planned))
 
 -- the disk of a site may have been synced
 synced : (d c : DeskId) (old new : World) (site : Site) (w : worlds.World MemDisk) → c ≡ d → Changes d old new site → SyncsSite (code_site old d) site → new.sent.items ≡ old.sent.items → IsWorld old w → (v : worlds.World MemDisk) × Rattle.schedule_replay.specs.Refusals.MaySyncAt (match_of old.game old.innings_a_side) w c v × IsWorld new v
@@ -176,9 +189,9 @@ desk_refuses d old new site event why e c (items, inr (none, want, grows, l)) w 
     let k = left d old new site event w e c l items h in
     (k.0, inr (cause_is d old w event e h ∙ none, want, grows, k.1), k.2)
 
-pub at_desk_ok : (d : DeskId) (old new : World) (site : Site) (event : Event) (result : Result Seen WorldRefusal) → station_of event ≡ stations.Desk d → Changes d old new site → SiteTakes event (code_site old d) old.sent.items result site new.sent.items → IfOk result (λ seen. StepsTo event old seen new)
-at_desk_ok d old new site event (Ok seen) e c t = desk_steps d old new site event seen e c t
-at_desk_ok d old new site event (Err why) e c t = tt
+pub at_desk_ok : (d : DeskId) (old new : World) (site : Site) (event : Event) (result : Result Seen WorldRefusal) → station_of event ≡ stations.Desk d → Changes d old new site → SiteTakes event (code_site old d) old.sent.items result site new.sent.items → OnOk result (HasPlan event (disk_at site.desk site.disk)) → IfOk result (λ seen. StepsTo event old seen new)
+at_desk_ok d old new site event (Ok seen) e c t planned = desk_steps d old new site event seen e c t planned
+at_desk_ok d old new site event (Err why) e c t planned = tt
 
 pub at_desk_err : (d : DeskId) (old new : World) (site : Site) (event : Event) (result : Result Seen WorldRefusal) → station_of event ≡ stations.Desk d → Changes d old new site → SiteTakes event (code_site old d) old.sent.items result site new.sent.items → IfErr result (λ why. RefusesTo event old why new)
 at_desk_err d old new site event (Ok seen) e c t = tt

@@ -1,5 +1,5 @@
 -- A world as the definitions of a run see it.
-use Rattle.std.specs.Prelude.{◌≡◌, ℕ, map, All, Some, None, Result, Ok, Err}
+use Rattle.std.specs.Prelude.{◌≡◌, ℕ, length, map, All, Some, None, Result, Ok, Err}
 use Rattle.corrections.specs.Book.{Contents}
 use Rattle.corrections.specs.declared.checked_book.CheckedBook.{CheckedBook}
 use Rattle.corrections.specs.contracts.checked_book.CheckedBookBookOf.TheImpl as book_impl
@@ -25,6 +25,7 @@ use Rattle.headline.specs.Runs.{Begins}
 use Rattle.schedule_replay.specs.Refusals.{RefusesEvent, refusal_of}
 use Rattle.headline.specs.Match.{match_of}
 use Rattle.schedule_replay.specs.Answers.{AreBytesOf, answer_of, given_seen}
+use Rattle.schedule_replay.specs.Plans.{PlansFault}
 use Rattle.schedule_replay.specs.Sites.{IsSite}
 
 abbrev pub code_site : World → DeskId → Site
@@ -73,19 +74,37 @@ pub record SameMatch (old new : World) : Type 0 where
   pub same_game : new.game ≡ old.game
   pub same_innings : new.innings_a_side ≡ old.innings_a_side
 
--- at the start of a match
-abbrev pub BeginsWorld : ℕ → ℕ → FileVersion → ℕ → World → Type 0
-BeginsWorld game innings version boards world =
-    (world.game ≡ game) × (world.innings_a_side ≡ innings)
-    × ((w : worlds.World MemDisk) × IsWorld world w × Begins (match_of game innings) version boards w)
+-- the version of desk A's file, which at the start of a match is that of both desks' files
+abbrev pub version_of : World → FileVersion
+version_of world = world.a.version
 
--- the event is taken: it is a step of the definitions, and this is what is seen of its answer
+-- how many boards it has
+abbrev pub boards_of : World → ℕ
+boards_of world = length world.boards.items
+
+-- it is at the start of its match
+abbrev pub IsNew : World → Type 0
+IsNew world =
+    (w : worlds.World MemDisk) × IsWorld world w
+    × Begins (match_of world.game world.innings_a_side) (version_of world) (boards_of world) w
+
+-- it is at the start of this match, with files of this version and so many boards
+pub record BeginsWorld (game innings : ℕ) (version : FileVersion) (boards : ℕ) (world : World) : Type 0 where
+  pub is_new : IsNew world
+  pub same_game : world.game ≡ game
+  pub same_innings : world.innings_a_side ≡ innings
+  pub same_version : version_of world ≡ version
+  pub same_boards : boards_of world ≡ boards
+
+-- the event is taken: it is a step of the definitions, this is what is seen of its answer, and a fault that it asks
+-- for is planned
 abbrev pub StepsTo : Event → World → Seen → World → Type 0
 StepsTo event old seen new =
     (w : worlds.World MemDisk) → IsWorld old w
     → (refusal_of w event ≡ None)
     × ((answer : Answer Refusal) × (after : worlds.World MemDisk) × (answer_of seen ≡ Some answer)
-    × Step (match_of old.game old.innings_a_side) w event answer after × IsWorld new after)
+    × Step (match_of old.game old.innings_a_side) w event answer after × IsWorld new after
+    × PlansFault event after)
 
 -- the event isn't taken
 abbrev pub RefusesTo : Event → World → WorldRefusal → World → Type 0

@@ -16,9 +16,10 @@ use Rattle.headline.specs.declared.version.FileVersion.{FileVersion}
 use Rattle.headline.specs.Laws.{HoldsInRun}
 use Rattle.headline.specs.Worlds.{World, votes_in}
 use Rattle.headline.specs.Runs.{AtSomeMoment, Begins, Moment, Run, answers_of, events_of, last_of}
-use Rattle.headline.specs.Headline.{ShowsScore}
+use Rattle.headline.specs.Headline.{AtEachEvent, ShowsScore}
 use Rattle.schedule_replay.specs.Refusals.{RefusesEvent}
 use Rattle.headline.specs.Match.{match_of}
+use Rattle.schedule_replay.specs.Plans.{PlansFault}
 use Rattle.schedule_replay.specs.Answers.{answer_of}
 
 -- a run of a match on disks in memory
@@ -32,7 +33,7 @@ AreSeen innings w ms seen =
     (t : Station) (n : ℕ) (score : Standing)
     → Contains seen (t, n, score) ↔ AtSomeMoment w ms (λ v. ShowsScore innings v t n score)
 
--- a run of the match over these events, whose answers are seen so
+-- a run of the match over these events, whose answers are seen so, and in which each fault is planned that is asked for
 pub record IsRunOf
     (game innings : ℕ) (version : FileVersion) (boards : ℕ) (events : List Event) (outcomes : List Seen)
     (w : World MemDisk) (ms : MatchRun) : Type 0 where
@@ -40,6 +41,7 @@ pub record IsRunOf
   pub run : Run (match_of game innings) w ms
   pub over : events_of ms ≡ events
   pub answered : map answer_of outcomes ≡ map Some (answers_of ms)
+  pub planned : AtEachEvent w ms (λ v m. PlansFault m.event m.after)
 
 -- event k, counted from 1, isn't taken after such a run over those before it
 abbrev pub RefusedAt :
@@ -51,10 +53,17 @@ RefusedAt game innings version boards events k why =
     × (k ≡ before + 1)
     × (slice_get events before ≡ Some event) × RefusesEvent (match_of game innings) (last_of w ms) event why v
 
--- why a replay ends before its last event; without an event only for want of memory
+-- all the events are taken
+abbrev pub TakesEach : ℕ → ℕ → FileVersion → ℕ → List Event → Type 0
+TakesEach game innings version boards events =
+    (outcomes : List Seen) × (w : World MemDisk) × (ms : MatchRun)
+    × IsRunOf game innings version boards events outcomes w ms × HoldsInRun (match_of game innings) innings w ms
+
+-- why a replay has no report: an event isn't taken; or all are, and memory was wanted for the report alone
 abbrev pub EndsAt : ℕ → ℕ → FileVersion → ℕ → List Event → ℕ × WorldRefusal → Type 0
 EndsAt game innings version boards events end =
-    ((end.0 ≡ 0) × (end.1 ≡ NoMemory)) ⊎ RefusedAt game innings version boards events end.0 end.1
+    ((end.0 ≡ 0) × (end.1 ≡ NoMemory) × TakesEach game innings version boards events)
+    ⊎ RefusedAt game innings version boards events end.0 end.1
 
 -- each score that was shown is the Laws' score of its book: of so many first entries of the agreed list
 abbrev pub AreScores : ℕ → List Entry → List (Station × ℕ × Standing) → Type 0

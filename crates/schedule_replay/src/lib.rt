@@ -15,7 +15,7 @@ mod world_desk;
 
 pub use any_desk::AnyDesk;
 pub use headline::{Event, Fault, FileVersion, Station, every_run_is_sound};
-pub use report::{Report, replay, replay_old};
+pub use report::{Report, replay};
 pub use schedules::{ScheduleFault, read_schedule};
 pub use seen::{Cause, Seen, WorldRefusal};
 pub use world::World;

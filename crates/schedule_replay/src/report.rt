@@ -1,18 +1,19 @@
 //! A replay: a new world over a whole schedule, and what is reported of it.
 
-ghost use Rattle.std.specs.Prelude.{◌≡◌, ◌≤◌, All, IfErr, IfOk};
-ghost use Rattle.schedule_replay.specs.CodeWorlds.{BeginsWorld};
+ghost use Rattle.std.specs.Prelude.{◌≤◌, ℕ, All, IfErr, IfOk, length};
+ghost use Rattle.schedule_replay.specs.CodeWorlds.{IsNew, boards_of, version_of};
+ghost use Rattle.schedule_replay.specs.RunsSoFar.{HasTaken};
 ghost use Rattle.headline.specs.Events.{IsEvent};
 ghost use Rattle.schedule_replay.specs.Replays.{EndsAt, IsReplay};
-ghost use Rattle.headline.specs.declared.version.FileVersion.TheVariants as versions;
+ghost use Rattle.headline.specs.declared.version.FileVersion.{FileVersion as AVersion};
 
 use crate::seen::{Seen, WorldRefusal};
 use crate::shown_scores::ShownScores;
 use crate::world::World;
-use headline::{Event, FileVersion, Station};
+use headline::{Event, Station};
 use match_laws::Match;
 use notation::Entry;
-use std::alloc::{AllocError, Global};
+use std::alloc::Global;
 
 /// What a replay reports.
 #[derive(Drop)]
@@ -26,108 +27,36 @@ pub struct Report {
     pub seen: Vec<(Station, u32, Match)>,
 }
 
-/// Runs a new world over these events, on files of version 2, and reports it.
+/// Runs a new world over these events, and reports it.
 ///
 /// Whatever the events are, in this run any books that desks or boards show at any two moments are one a
 /// prefix of the other; both scorers voted for each entry in one round; each score is the Laws' score of its
 /// book; and a running station that noted both equal votes of its position has the entry.
 ///
 /// It ends at the first event that the world doesn't take, with its number, counted from 1, and why; all
-/// this holds of the events before. The number is 0 where memory was wanted for no event.
+/// this holds of the events before. The number is 0 where the world takes all the events, and memory was
+/// wanted for the report alone.
 pub fn replay(
     alloc: Global,
-    game: u64,
-    innings_a_side: u32,
-    boards: u8,
+    mut world: World,
     events: &[Event],
 ) -> Result<Report, (u64, WorldRefusal)>
-    requires innings { (1 ≤ innings_a_side) × (innings_a_side ≤ 2) }
-    requires boards { boards ≤ 4 }
+    requires new { IsNew world }
+    requires boards { boards_of world ≤ 4 }
     requires events { All IsEvent events.now }
-    ensures reported { IfOk result (IsReplay game innings_a_side versions.New boards events.now) }
-    ensures ends { IfErr result (EndsAt game innings_a_side versions.New boards events.now) }
+    ensures reported { IfOk result (IsReplay world.game world.innings_a_side (version_of world)
+        (boards_of world) events.now) }
+    ensures ends { IfErr result (EndsAt world.game world.innings_a_side (version_of world)
+        (boards_of world) events.now) }
 {
-    run(
-        alloc,
-        FileVersion::New,
-        game,
-        innings_a_side,
-        boards,
-        events,
-    )
-}
-
-/// As `replay` does, on files of version 1.
-pub fn replay_old(
-    alloc: Global,
-    game: u64,
-    innings_a_side: u32,
-    boards: u8,
-    events: &[Event],
-) -> Result<Report, (u64, WorldRefusal)>
-    requires innings { (1 ≤ innings_a_side) × (innings_a_side ≤ 2) }
-    requires boards { boards ≤ 4 }
-    requires events { All IsEvent events.now }
-    ensures reported { IfOk result (IsReplay game innings_a_side versions.Old boards events.now) }
-    ensures ends { IfErr result (EndsAt game innings_a_side versions.Old boards events.now) }
-{
-    run(
-        alloc,
-        FileVersion::Old,
-        game,
-        innings_a_side,
-        boards,
-        events,
-    )
-}
-
-/// A new world on files of this version.
-fn begin(
-    alloc: Global,
-    version: FileVersion,
-    game: u64,
-    innings_a_side: u32,
-    boards: u8,
-) -> Result<World, AllocError>
-    requires innings { (1 ≤ innings_a_side) × (innings_a_side ≤ 2) }
-    requires boards { boards ≤ 4 }
-    ensures { IfOk result (BeginsWorld game innings_a_side version boards) }
-{
-    match version {
-        FileVersion::Old => World::old(alloc, game, innings_a_side, boards),
-        FileVersion::New => World::new(alloc, game, innings_a_side, boards),
-    }
-}
-
-/// Memory was wanted, and no event was refused.
-const NO_MEMORY: (u64, WorldRefusal) = (0, WorldRefusal::NoMemory);
-
-/// The replay on files of this version. What is shown is noted at the start and after each event.
-fn run(
-    alloc: Global,
-    version: FileVersion,
-    game: u64,
-    innings_a_side: u32,
-    boards: u8,
-    events: &[Event],
-) -> Result<Report, (u64, WorldRefusal)>
-    requires innings { (1 ≤ innings_a_side) × (innings_a_side ≤ 2) }
-    requires boards { boards ≤ 4 }
-    requires events { All IsEvent events.now }
-    ensures reported { IfOk result (IsReplay game innings_a_side version boards events.now) }
-    ensures ends { IfErr result (EndsAt game innings_a_side version boards events.now) }
-{
-    let Ok(mut world) = begin(alloc, version, game, innings_a_side, boards) else {
-        return Err(NO_MEMORY);
-    };
     let Ok(mut shown) = ShownScores::new(alloc) else {
-        return Err(NO_MEMORY);
+        return Err(end_unreported(world, events, 0));
     };
     let Ok(mut outcomes) = Vec::with_capacity(alloc, events.len()) else {
-        return Err(NO_MEMORY);
+        return Err(end_unreported(world, events, 0));
     };
     if world.note(&mut shown).is_err() {
-        return Err(NO_MEMORY);
+        return Err(end_unreported(world, events, 0));
     }
     for (number, event) in events.iter().enumerate() {
         match world.step(event) {
@@ -135,7 +64,7 @@ fn run(
             Err(why) => return Err((number as u64 + 1, why)),
         }
         if world.note(&mut shown).is_err() {
-            return Err(NO_MEMORY);
+            return Err(end_unreported(world, events, number + 1));
         }
     }
     let Ok(agreed) = world.agreed() else {
@@ -146,4 +75,24 @@ fn run(
         agreed,
         seen: shown.seen,
     })
+}
+
+/// Memory was wanted, and no event was refused.
+const NO_MEMORY: (u64, WorldRefusal) = (0, WorldRefusal::NoMemory);
+
+/// Why there is no report, where memory was wanted for it after so many events: the world takes the others
+/// too, or it doesn't take one of them.
+fn end_unreported(mut world: World, events: &[Event], after: usize) -> (u64, WorldRefusal)
+    requires after { after ≤ length events.now }
+    requires events { All IsEvent events.now }
+    ensures { (game innings boards : ℕ) (version : AVersion) →
+        HasTaken game innings version boards events.now after world →
+        EndsAt game innings version boards events.now result }
+{
+    for number in after..events.len() {
+        if let Err(why) = world.step(&events[number]) {
+            return (number as u64 + 1, why);
+        }
+    }
+    NO_MEMORY
 }

@@ -1,6 +1,6 @@
 //! A desk's place in the world.
 
-ghost use Rattle.std.specs.Prelude.{◌≡◌, ◌+◌, ◌≤◌, ◌<◌, ◌++◌, IfOk, OnErr, IsSome, None, Some, Err, List, length, map, vec_capacity, vec_len, true};
+ghost use Rattle.std.specs.Prelude.{◌≡◌, ◌+◌, ◌≤◌, ◌<◌, ◌++◌, IfOk, OnErr, OnOk, IsSome, None, Some, Err, List, length, map, vec_capacity, vec_len, true};
 ghost use Rattle.headline.specs.Events.{IsEvent};
 ghost use Rattle.schedule_replay.specs.Refusals.{is_desk};
 ghost use Rattle.headline.specs.Events.{station_of};
@@ -112,7 +112,8 @@ fn lose_power(disk: &mut MemDisk, choice: Choice)
 impl Site {
     ghost use Rattle.std.specs.Prelude.{option_map};
     ghost use Rattle.schedule_replay.specs.Lending.{lent_desk};
-    ghost use Rattle.schedule_replay.specs.Sites.{AfterRefusal, BeginsSite, BreaksDown, IsWhole, NotFoundBy, PutsDown, SameMatch, SiteSteps, SiteTakes, SyncsSite};
+    ghost use Rattle.schedule_replay.specs.Plans.{HasPlan};
+    ghost use Rattle.schedule_replay.specs.Sites.{AfterRefusal, BeginsSite, BreaksDown, IsWhole, NotFoundBy, PutsDown, SameMatch, SiteSteps, SiteTakes, SyncsSite, disk_at};
 
     /// A desk that is just created, on a file of this version.
     pub fn new(
@@ -155,6 +156,7 @@ impl Site {
         requires whole { IsWhole self.old }
         requires desk { is_desk (station_of event.now) ≡ true }
         ensures takes { SiteTakes event.now self.old sent.old.items result self.new sent.new.items }
+        ensures planned { OnOk result (HasPlan event.now (disk_at self.new.desk self.new.disk)) }
         ensures same { SameMatch self.old self.new }
         ensures whole { IsWhole self.new }
     {
@@ -274,6 +276,7 @@ impl Site {
         requires whole { IsWhole self.old }
         ensures step { (sent : List Datagram) → SiteSteps (events.FailAt self.old.name n)
             self.old sent result self.new sent }
+        ensures planned { HasPlan (events.FailAt self.old.name n) (disk_at self.new.desk self.new.disk) }
         ensures same { SameMatch self.old self.new }
         ensures whole { IsWhole self.new }
     {
@@ -292,6 +295,7 @@ impl Site {
         requires whole { IsWhole self.old }
         ensures step { (sent : List Datagram) → SiteSteps (events.StopAt self.old.name n)
             self.old sent result self.new sent }
+        ensures planned { HasPlan (events.StopAt self.old.name n) (disk_at self.new.desk self.new.disk) }
         ensures same { SameMatch self.old self.new }
         ensures whole { IsWhole self.new }
     {

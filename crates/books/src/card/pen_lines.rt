@@ -45,10 +45,7 @@ pub fn book_of_lines(alloc: Global, innings: u32, input: &[u8]) -> Result<Checke
     ensures innings { IfOk result (λ book. book.innings_a_side ≡ innings) }
     ensures why { IfErr result (WhyNoBookOfLines innings input.now) }
 {
-    let mut table = match Table::new(alloc, innings) {
-        Ok(table) => table,
-        Err(_) => return Err(RunFault::NoMemory),
-    };
+    let mut table = Table::new(alloc, innings)?;
     take_lines(&mut table, input)?;
     Ok(table.book)
 }

@@ -3,7 +3,7 @@
 ghost use Rattle.std.specs.Prelude.{◌<◌, OnOk};
 ghost use Rattle.match_laws.specs.History.{begun};
 ghost use Rattle.match_laws.specs.Stands.{ForEachHistory, begun_in};
-ghost use Rattle.cards.specs.Watched.{Prints, TellsFailure};
+ghost use Rattle.cards.specs.Watched.{IsHandedOn, Prints, TellsFailure};
 ghost use Rattle.books.specs.Card.{both_cards, card_text, cards_of};
 
 use cards::{MatchSheet, Watched, WriteFailed, batting_card, book_page, bowling_card};
@@ -52,6 +52,7 @@ pub fn print_card<W: Write, B: BookOf>(
 ) -> Result<(), WriteFailed>
     ensures text { OnOk result (Prints W.contents out.old out.new
         (card_text sheet.now (B.content book.now))) }
+    ensures handed_on { OnOk result (IsHandedOn out.new) }
     ensures failed { TellsFailure result out.old out.new }
 {
     print_innings(sheet, book.score(), out)?;

@@ -3,7 +3,7 @@
 ghost use Rattle.std.specs.Prelude.{◌++◌, option_map, OnOk};
 ghost use Rattle.entry_log.specs.declared.mem_disk.MemDisk.{MemDisk};
 ghost use Rattle.match_laws.specs.Stands.{ForEachHistory};
-ghost use Rattle.cards.specs.Watched.{Prints, TellsFailure};
+ghost use Rattle.cards.specs.Watched.{IsHandedOn, Prints, TellsFailure};
 ghost use Rattle.schedule_replay.specs.CodeWorlds.{IsWorld, board_state};
 ghost use Rattle.schedule_replay.specs.Lending.{lent_desk};
 ghost use Rattle.schedule_replay.specs.WorldDesks.{state_of};
@@ -146,6 +146,7 @@ pub fn print_whole<W: Write>(
     ensures text { (w : worlds.World MemDisk) → IsWorld world.now w →
         OnOk result (Prints W.contents out.old out.new
         (texts.event_lines outcomes.now ++ texts.last_lines agreed w)) }
+    ensures handed_on { OnOk result (IsHandedOn out.new) }
     ensures failed { TellsFailure result out.old out.new }
 {
     print_events(out, outcomes)?;
@@ -163,6 +164,7 @@ pub fn print_refused<W: Write>(
 ) -> Result<(), WriteFailed>
     ensures text { OnOk result (Prints W.contents out.old out.new
         (texts.event_lines outcomes.now ++ texts.refusal_line event why)) }
+    ensures handed_on { OnOk result (IsHandedOn out.new) }
     ensures failed { TellsFailure result out.old out.new }
 {
     print_events(out, outcomes)?;

@@ -22,7 +22,7 @@ pub enum Stepped {
 }
 
 /// A new world for the match of a sheet, on files of this version.
-fn begin(
+pub fn begin(
     alloc: Global,
     sheet: &MatchSheet,
     version: FileVersion,
@@ -50,12 +50,8 @@ pub fn step_all(
     ensures stepped { IfOk result (IsStepped sheet.now version boards events.now) }
     ensures only { IfErr result (λ fault. fault ≡ RunFault.NoMemory) }
 {
-    let Ok(mut world) = begin(alloc, sheet, version, boards) else {
-        return Err(RunFault::NoMemory);
-    };
-    let Ok(mut outcomes) = Vec::with_capacity(alloc, events.len()) else {
-        return Err(RunFault::NoMemory);
-    };
+    let mut world = begin(alloc, sheet, version, boards)?;
+    let mut outcomes = Vec::with_capacity(alloc, events.len())?;
     for (before, event) in events.iter().enumerate() {
         match world.step(event) {
             Ok(seen) => outcomes.push(seen).unwrap(),

@@ -2,7 +2,7 @@ use Rattle.std.proofs.Common.{◌≡◌, ◌+◌, ℕ, List, [], ◌++◌, lengt
 use Rattle.std.specs.Io.KnownBytes.{Appends}
 use Rattle.books.specs.declared.table.Table.{Table}
 use Rattle.notation.specs.Lines.{lines_of}
-use Rattle.cards.specs.Watched.{stream_of, has_failed}
+use Rattle.cards.specs.Watched.{stream_of, failures}
 use Rattle.books.specs.Table.{IsInStep, agreed_in, innings_in}
 use Rattle.books.specs.Output.{rejections, has_rejected, book_after}
 use Rattle.books.proofs.check.check_lines.Given as goal
@@ -22,7 +22,7 @@ pub record Midway (innings : ℕ) (input : List ℕ) (lines : List (List ℕ)) (
 abbrev pub invariant-loop-line : goal.invariant-loop-line
 invariant-loop-line g l =
     Midway (innings_in l.initial.table) l.input l.lines l.number l.rejected l.table (g.W.Write.contents (stream_of l.initial.out)) (g.W.Write.contents (stream_of l.out))
-    × (has_failed l.out ≡ has_failed l.initial.out)
+    × (failures l.out ≡ failures l.initial.out)
 
 abbrev pub decreases-loop-line : goal.decreases-loop-line
 decreases-loop-line g l = length l.lines

@@ -1,6 +1,6 @@
-use Rattle.std.proofs.Common.{◌≤◌, ◌-◌, vec_len, List, ℕ, Option}
+use Rattle.std.proofs.Common.{◌≡◌, ◌≤◌, ◌-◌, vec_len, List, ℕ, Option}
 use Rattle.std.specs.Io.KnownBytes.{Consumes}
-use Rattle.cards.specs.Watched.{stream_of}
+use Rattle.cards.specs.Watched.{failures, stream_of}
 use Rattle.books.proofs.input.read_all.Given as goal
 
 -- what was read is what the reader gave
@@ -9,7 +9,9 @@ pub record SoFar (before after : Option (List ℕ)) (items : List ℕ) (count : 
   pub bound : count ≤ 16777216
 
 abbrev pub invariant-loop-count : goal.invariant-loop-count
-invariant-loop-count g l = SoFar (g.R.Read.remaining (stream_of l.initial.reader)) (g.R.Read.remaining (stream_of l.reader)) l.input.items (vec_len l.input)
+invariant-loop-count g l =
+    SoFar (g.R.Read.remaining (stream_of l.initial.reader)) (g.R.Read.remaining (stream_of l.reader)) l.input.items (vec_len l.input)
+    × (failures l.reader ≡ failures l.initial.reader)
 
 -- the bytes that may still come
 abbrev pub decreases-loop-count : goal.decreases-loop-count

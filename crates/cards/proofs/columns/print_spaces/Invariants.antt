@@ -1,8 +1,8 @@
 use Rattle.std.proofs.Common.{◌≡◌}
 use Rattle.cards.specs.Columns.{spaces}
-use Rattle.cards.specs.Watched.{Prints, has_failed}
+use Rattle.cards.specs.Watched.{Prints, failures}
 use Rattle.cards.proofs.columns.print_spaces.Given as goal
 
 abbrev pub invariant-loop : goal.invariant-loop
 invariant-loop g l =
-    Prints g.W.Write.contents l.initial.out l.out (spaces l.counter) × (has_failed l.out ≡ has_failed l.initial.out)
+    Prints g.W.Write.contents l.initial.out l.out (spaces l.counter) × (failures l.out ≡ failures l.initial.out)

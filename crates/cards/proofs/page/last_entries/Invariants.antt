@@ -1,5 +1,5 @@
 use Rattle.std.proofs.Common.{◌≡◌, ◌-◌}
-use Rattle.cards.specs.Watched.{stream_of, has_failed}
+use Rattle.cards.specs.Watched.{stream_of, failures}
 use Rattle.cards.specs.Page.{entry_line}
 use Rattle.cards.proofs.Pages.{CopiedFrom}
 use Rattle.cards.proofs.page.last_entries.Given as goal
@@ -8,4 +8,4 @@ abbrev pub invariant-loop-place : goal.invariant-loop-place
 invariant-loop-place g l =
     CopiedFrom entry_line (g.B.BookOf.content l.book) (l.len - l.most) l.place
     (g.W.Write.contents (stream_of l.initial.out)) (g.W.Write.contents (stream_of l.out))
-    × (has_failed l.out ≡ has_failed l.initial.out)
+    × (failures l.out ≡ failures l.initial.out)

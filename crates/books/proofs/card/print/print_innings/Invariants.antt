@@ -1,7 +1,7 @@
 use Rattle.std.proofs.Common.{◌≡◌}
 use Rattle.std.specs.Io.KnownBytes.{Appends}
 use Rattle.match_laws.specs.Stands.{ForEachHistory}
-use Rattle.cards.specs.Watched.{stream_of, has_failed}
+use Rattle.cards.specs.Watched.{stream_of, failures}
 use Rattle.books.specs.Card.{cards_of}
 use Rattle.books.proofs.card.print.print_innings.Given as goal
 
@@ -9,5 +9,5 @@ use Rattle.books.proofs.card.print.print_innings.Given as goal
 abbrev pub invariant-loop-innings : goal.invariant-loop-innings
 invariant-loop-innings g l = record {
   written : ForEachHistory l.game (λ n h. Appends (g.W.Write.contents (stream_of l.initial.out)) (g.W.Write.contents (stream_of l.out)) (cards_of l.sheet h l.innings));
-  sound : has_failed l.out ≡ has_failed l.initial.out;
+  sound : failures l.out ≡ failures l.initial.out;
 }

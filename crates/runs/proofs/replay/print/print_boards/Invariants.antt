@@ -1,6 +1,6 @@
 use Rattle.std.proofs.Common.{◌≡◌, take}
 use Rattle.std.specs.Io.KnownBytes.{Appends}
-use Rattle.cards.specs.Watched.{stream_of, has_failed}
+use Rattle.cards.specs.Watched.{stream_of, failures}
 use Rattle.schedule_replay.specs.CodeWorlds.{board_state}
 use Rattle.runs.specs.Replay.{board_line, numbered}
 use Rattle.runs.proofs.replay.print.print_boards.Given as goal
@@ -9,5 +9,5 @@ use Rattle.runs.proofs.replay.print.print_boards.Given as goal
 abbrev pub invariant-loop-before : goal.invariant-loop-before
 invariant-loop-before g l = record {
   written : Appends (g.W.Write.contents (stream_of l.initial.out)) (g.W.Write.contents (stream_of l.out)) (numbered (λ n k. board_line n (board_state k)) 1 (take l.before l.boards));
-  sound : has_failed l.out ≡ has_failed l.initial.out;
+  sound : failures l.out ≡ failures l.initial.out;
 }

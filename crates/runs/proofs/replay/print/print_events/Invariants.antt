@@ -1,6 +1,6 @@
 use Rattle.std.proofs.Common.{◌≡◌, take}
 use Rattle.std.specs.Io.KnownBytes.{Appends}
-use Rattle.cards.specs.Watched.{stream_of, has_failed}
+use Rattle.cards.specs.Watched.{stream_of, failures}
 use Rattle.runs.specs.Replay.{event_lines}
 use Rattle.runs.proofs.replay.print.print_events.Given as goal
 
@@ -8,5 +8,5 @@ use Rattle.runs.proofs.replay.print.print_events.Given as goal
 abbrev pub invariant-loop-before : goal.invariant-loop-before
 invariant-loop-before g l = record {
   written : Appends (g.W.Write.contents (stream_of l.initial.out)) (g.W.Write.contents (stream_of l.out)) (event_lines (take l.before l.outcomes));
-  sound : has_failed l.out ≡ has_failed l.initial.out;
+  sound : failures l.out ≡ failures l.initial.out;
 }

@@ -6,16 +6,16 @@ use Rattle.runs.proofs.replay.step.step_all.Goals as goal
 
 pub loop-before-init : goal.loop-before-init
 loop-before-init c = (
-  starts c.args.sheet.now c.args.version c.args.boards c.args.events.now c.in-Ok.world c.in-Ok-with_capacity.outcomes.items c.in-Ok.ensures c.in-Ok-with_capacity.ensures.items,
-  c.in-Ok-with_capacity.ensures.capacity,
-  c.in-Ok-with_capacity.ensures.len,
+  starts c.args.sheet.now c.args.version c.args.boards c.args.events.now c.in_ok-world.world c.in_ok-outcomes.outcomes.items c.in_ok-world.ensures c.in_ok-outcomes.ensures.items,
+  c.in_ok-outcomes.ensures.capacity,
+  c.in_ok-outcomes.ensures.len,
   omega arith,
 )
 
 pub loop-before-preserved : goal.loop-before-preserved
 loop-before-preserved c =
-    let next = steps c.args.sheet.now c.args.version c.args.boards c.args.events.now c.loop-before.before c.index-events-before.result c.loop-before.world c.step.new.self c.loop-before.outcomes.items c.in-Ok-step.seen
-    c.loop-before-test.true c.index-events-before.is c.loop-before.invariant.0 c.in-Ok-step.ensures.step c.in-Ok-step.ensures.same in
+    let next = steps c.args.sheet.now c.args.version c.args.boards c.args.events.now c.loop-before.before c.index-events-before.result c.loop-before.world c.step.new.self c.loop-before.outcomes.items c.in-Ok.seen
+    c.loop-before-test.true c.index-events-before.is c.loop-before.invariant.0 c.in-Ok.ensures.step c.in-Ok.ensures.same in
     let pushed = rw c.unwrap.ensures at c.push.ensures.items in (
       subst (λ (o : List Seen). IsStepping c.args.sheet.now c.args.version c.args.boards c.args.events.now (c.loop-before.before + 1) c.step.new.self o) (sym pushed) next,
       (let room = c.loop-before.invariant.1 in let grown = c.push.ensures.capacity in omega arith),

@@ -1,0 +1,26 @@
+-- Which device calls are to fail, on disks in memory.
+use Rattle.std.specs.Prelude.{◌≡◌, ◌-◌, IfSome, option_map, Option, Some, None}
+use Rattle.entry_log.specs.MemDisk.{plan_of}
+use Rattle.entry_log.specs.declared.mem_disk.MemDisk.{MemDisk}
+use Rattle.entry_log.specs.declared.mem_disk.plan.Plan.{Plan}
+use Rattle.entry_log.specs.declared.mem_disk.plan.Plan.TheVariants.{Fail, Stop}
+use Rattle.agree_core.specs.declared.messages.DeskId.{DeskId}
+use Rattle.headline.specs.declared.event.Event.{Event}
+use Rattle.headline.specs.declared.event.Event.TheVariants as events
+use Rattle.headline.specs.declared.event.Station.TheVariants as stations
+use Rattle.headline.specs.Events.{station_of}
+use Rattle.headline.specs.Worlds.{World, disk_of, site}
+
+-- what an event asks of its desk's disk: n - 1 calls pass, and then one fails, or each
+abbrev pub plan_by : Event → Option Plan
+plan_by (events.FailAt d n) = Some (Fail (n - 1))
+plan_by (events.StopAt d n) = Some (Stop (n - 1))
+plan_by _ = None
+
+-- where it asks that, the disk has just this plan, by which each of its calls goes
+abbrev pub HasPlan : Event → Option MemDisk → Type 0
+HasPlan event disk = IfSome (plan_by event) (λ plan. option_map plan_of disk ≡ Some plan)
+
+-- so it is at the desk that the event is for
+abbrev pub PlansFault : Event → World MemDisk → Type 0
+PlansFault event w = (d : DeskId) → station_of event ≡ stations.Desk d → HasPlan event (Some (disk_of (site w d).process))
