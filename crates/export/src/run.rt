@@ -1,9 +1,9 @@
 //! `ground export`: the book of a match as JSON.
 
-ghost use Rattle.std.specs.Prelude.{◌≡◌, ◌≢◌, ◌≤◌, ◌<◌, ◌⊎◌, ◌++◌, true, length, string_bytes, codes, Err, IfOk, IfErr, IfSome, OnOk};
+ghost use Rattle.std.specs.Prelude.{◌≡◌, ◌≢◌, ◌≤◌, ◌<◌, ◌⊎◌, ◌++◌, length, string_bytes, codes, Err, IfOk, IfErr, IfSome, OnOk};
 ghost use Rattle.json.specs.Layout.{pretty};
 ghost use Rattle.json.specs.Tree.{json_tokens};
-ghost use Rattle.cards.specs.Watched.{Prints, TellsFailure, has_failed, stream_of};
+ghost use Rattle.cards.specs.Watched.{IsHandedOn, MeetsFailure, Prints, TellsFailure, failures, stream_of};
 ghost use Rattle.books.specs.CardBook.{WhyNoCard};
 ghost use Rattle.export.specs.Run.{PrintsExport};
 ghost use Rattle.export.specs.Value.{export_of};
@@ -38,6 +38,7 @@ fn text_of<B: BookOf>(alloc: Global, sheet: &MatchSheet, book: &B) -> Result<Str
 fn print_text<W: Write>(text: &str, out: &mut Watched<W>) -> Result<(), WriteFailed>
     ensures text { OnOk result (Prints W.contents out.old out.new (text.now ++ codes "\n")) }
     ensures failed { TellsFailure result out.old out.new }
+    ensures handed_on { OnOk result (IsHandedOn out.new) }
 {
     writeln!(out, "{text}")?;
     out.flush()
@@ -60,19 +61,18 @@ pub fn export_run<R: Read, W: Write>(
 
     // A read fault comes only where a read failed or the input is too long, and a write fault only where a
     // write failed.
-    ensures read { result ≡ Err RunFault.Read → (has_failed reader.new ≡ true)
+    ensures read { result ≡ Err RunFault.Read → MeetsFailure reader.old reader.new
         ⊎ IfSome (R.remaining (stream_of reader.old)) (λ input. LONGEST_INPUT < length input) }
-    ensures write { result ≡ Err RunFault.Write → has_failed writer.new ≡ true }
-    ensures sound { OnOk result (has_failed writer.new ≡ has_failed writer.old) }
+    ensures write { result ≡ Err RunFault.Write → MeetsFailure writer.old writer.new }
+    ensures sound { OnOk result (failures writer.new ≡ failures writer.old) }
+    ensures handed_on { OnOk result (IsHandedOn writer.new) }
 
     // With any other fault nothing was written.
     ensures unwritten { IfErr result (λ fault. fault ≢ RunFault.Write → writer.new ≡ writer.old) }
 {
     let input = read_all(alloc, reader)?;
     let book = book_from(alloc, sheet, source, input.as_slice())?;
-    let Ok(text) = text_of(alloc, sheet, &book) else {
-        return Err(RunFault::NoMemory);
-    };
+    let text = text_of(alloc, sheet, &book)?;
     match print_text(text.as_str(), writer) {
         Ok(()) => Ok(()),
         Err(_) => Err(RunFault::Write),
