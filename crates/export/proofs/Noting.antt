@@ -13,7 +13,7 @@ use Rattle.match_laws.specs.Stands.{StandsFor, IsStep, answer_with}
 use Rattle.corrections.specs.declared.placed.Placed.{Placed}
 use Rattle.corrections.specs.declared.refusal.Refusal.{Refusal}
 use Rattle.corrections.specs.CleanList.{clean, kept, standing_of}
-use Rattle.corrections.specs.Refusal.{first_refused, first_refused_in, refused_or}
+use Rattle.corrections.specs.Refusal.{first_refused, refused_or}
 use Rattle.corrections.specs.Legal.{IsLegalBook}
 use Rattle.corrections.proofs.LegalLemmas.{scored_legal}
 use Rattle.cards.proofs.Slots.{next}
@@ -51,7 +51,7 @@ stepped : (T : Type 0) (r : Result T LawRefusal) (n : ℕ) (h : History) (x : Pl
 stepped T (Ok _) n h x later none s = s.1
 stepped T (Err why) n h x later none s = absurd cc
 
-first_refused-cons : (n : ℕ) (h : History) (x : Placed) (xs : List Placed) → first_refused n h (x ∷ xs) ≡ None → (refusal n h x.item ≡ None) × (first_refused n (x.item ∷ h) xs ≡ None)
+pub first_refused-cons : (n : ℕ) (h : History) (x : Placed) (xs : List Placed) → first_refused n h (x ∷ xs) ≡ None → (refusal n h x.item ≡ None) × (first_refused n (x.item ∷ h) xs ≡ None)
 unfolding first_refused
 first_refused-cons n h x xs e = untaken x.place (refusal n h x.item) (first_refused n (x.item ∷ h) xs) e
 

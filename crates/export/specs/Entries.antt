@@ -1,7 +1,7 @@
 -- The entries of a book, each as it was penned.
 use Rattle.std.specs.Prelude.{ℕ, ◌==◌, if◌then◌else◌, List, [], ◌∷◌, ◌++◌, length, Option, Some, None, slice_get, codes}
 use Rattle.notation.specs.declared.entry.Entry.{Entry}
-use Rattle.notation.specs.declared.entry.Entry.TheVariants.{Write, Fix, Late}
+use Rattle.notation.specs.declared.entry.Entry.TheVariants.{Fix}
 use Rattle.notation.specs.Written.{text_of}
 use Rattle.json.specs.Json.{Json}
 use Rattle.export.specs.Values.{Field, array_of, object_of, text_field, number_field, number_value, up_to}

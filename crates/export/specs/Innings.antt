@@ -2,7 +2,6 @@
 use Rattle.std.specs.Prelude.{ℕ, ◌+◌, ◌-◌, ◌*◌, ◌==◌, Bool, false, true, ◌&&◌, if◌then◌else◌, List, [], ◌∷◌, ◌++◌, codes}
 use Rattle.std.specs.List.{list_any, flat_map}
 use Rattle.notation.specs.declared.entry.Side.{Side}
-use Rattle.notation.specs.declared.entry.Cause.{Cause}
 use Rattle.notation.specs.declared.entry.Cause.TheVariants as cause
 use Rattle.notation.specs.declared.entry.Plain.{Plain}
 use Rattle.notation.specs.declared.entry.Plain.TheVariants as plain

@@ -1,5 +1,5 @@
 -- The clean list with where each item stands in the match.
-use Rattle.std.specs.Prelude.{ℕ, ◌-◌, ◌==◌, if◌then◌else◌, List, [], ◌∷◌}
+use Rattle.std.specs.Prelude.{ℕ, ◌==◌, if◌then◌else◌, List, [], ◌∷◌}
 use Rattle.ball_laws.specs.History.{History}
 use Rattle.ball_laws.specs.Laws.{state_after}
 use Rattle.match_laws.specs.History.{begun}

@@ -6,10 +6,12 @@ mod deliveries;
 mod entries;
 mod info;
 mod innings;
+mod laws;
 mod notes;
 mod put;
 mod run;
 mod value;
 mod wickets;
 
+pub use laws::exports_add_up;
 pub use run::export_run;
