@@ -30,8 +30,9 @@ pub enum Source {
     Votes(DeskId),
 }
 
-/// The book of an input.
-fn book_from(
+/// The book of an input: of pen lines, or of a desk's votes file. It is refused with the first line that isn't taken,
+/// or as the file or its votes are.
+pub fn book_from(
     alloc: Global,
     sheet: &MatchSheet,
     source: Source,
@@ -39,6 +40,7 @@ fn book_from(
 ) -> Result<CheckedBook, RunFault>
     requires { length input.now ≤ LONGEST_INPUT }
     ensures book { IfOk result (λ book. IsBookFrom source sheet.now input.now book.entries) }
+    ensures innings { IfOk result (λ book. book.innings_a_side ≡ sheet.now.innings) }
     ensures why { IfErr result (WhyNoBook source sheet.now input.now) }
 {
     let innings = sheet.innings();

@@ -11,7 +11,7 @@ mod seats;
 mod sheet;
 mod table;
 
-pub use card::{Source, card_run};
+pub use card::{Source, book_from, card_run};
 pub use check::check_run;
 pub use fault::{RunFault, print_fault};
 pub use input::read_all;

@@ -23,6 +23,7 @@ fn take_lines(table: &mut Table, input: &[u8]) -> Result<(), RunFault>
     ensures taken { OnOk result
         (first_rejected (innings_in table.old) 1 [] (lines_of input.now) ≡ None) }
     ensures refused { IfErr result (NamesFirstRejected (innings_in table.old) input.now) }
+    ensures innings { OnOk result (innings_in table.new ≡ innings_in table.old) }
 {
     let mut lines = Lines::new(input);
     let mut number = 0;
@@ -41,6 +42,7 @@ pub fn book_of_lines(alloc: Global, innings: u32, input: &[u8]) -> Result<Checke
     requires short { length input.now ≤ LONGEST_INPUT }
     requires innings { (1 ≤ innings) × (innings ≤ 2) }
     ensures book { IfOk result (λ book. IsBookOfLines innings input.now book.entries) }
+    ensures innings { IfOk result (λ book. book.innings_a_side ≡ innings) }
     ensures why { IfErr result (WhyNoBookOfLines innings input.now) }
 {
     let mut table = Table::new(alloc, innings)?;

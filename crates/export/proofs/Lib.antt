@@ -1,0 +1,4 @@
+pub mod Putting
+pub mod Noting
+pub mod LawLemmas
+pub mod EntryLemmas

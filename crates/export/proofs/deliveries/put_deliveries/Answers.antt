@@ -1,0 +1,13 @@
+use Rattle.export.specs.Deliveries.{listed_in}
+use Rattle.export.proofs.Putting.{adds_each, begins_each, ends_each}
+use Rattle.export.proofs.deliveries.put_deliveries.Goals as goal
+
+pub loop-index-init : goal.loop-index-init
+loop-index-init c = begins_each c.args.out.now (listed_in c.args.sheet.now c.args.side c.args.innings c.args.over) c.args.notes.now
+
+pub loop-index-preserved : goal.loop-index-preserved
+loop-index-preserved c =
+    adds_each _ _ _ (listed_in c.args.sheet.now c.args.side c.args.innings c.args.over) c.args.notes.now c.loop-index.index c.noted_at-noted.result c.loop-index.invariant c.noted_at-noted.ensures c.in_ok-put_listed_in.ensures
+
+pub returns : goal.returns
+returns c = ends_each _ _ (listed_in c.args.sheet.now c.args.side c.args.innings c.args.over) c.args.notes.now c.loop-index.index c.loop-index.invariant c.loop-index-test.false

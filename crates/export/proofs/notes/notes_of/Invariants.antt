@@ -1,0 +1,5 @@
+use Rattle.export.proofs.Noting.{Noting}
+use Rattle.export.proofs.notes.notes_of.Given as goal
+
+abbrev pub invariant-loop-index : goal.invariant-loop-index
+invariant-loop-index g l = Noting l.standing l.innings_a_side l.game l.notes.items l.index

@@ -1,0 +1,83 @@
+-- What is said of the file and of the match. s is the sheet.
+use Rattle.std.specs.Prelude.{ℕ, ◌+◌, List, [], ◌∷◌, ◌++◌, codes}
+use Rattle.notation.specs.declared.entry.Side.{Side}
+use Rattle.notation.specs.declared.entry.Side.TheVariants.{Home, Away}
+use Rattle.ball_laws.specs.History.{History}
+use Rattle.match_laws.specs.declared.outcome.Outcome.{Outcome}
+use Rattle.match_laws.specs.declared.outcome.Outcome.TheVariants.{Undecided, Draw, Tie, Runs, Wickets, InningsAnd, PenaltyRuns}
+use Rattle.match_laws.specs.Result.{outcome}
+use Rattle.cards.specs.Sheet.{Sheet, name_of, player_of}
+use Rattle.json.specs.Json.{Json, string}
+use Rattle.export.specs.Values.{Field, array_of, object_of, text_field, number_field, up_to}
+
+-- the version of the field names, the program, and the match
+abbrev pub meta_field : Sheet → Field
+meta_field s = (
+  codes "meta",
+  object_of (text_field (codes "data_version") (codes "1.1.0") ∷ []
+      ++ text_field (codes "program") (codes "yermudosh 1") ∷ []
+      ++ number_field (codes "match_number") s.game ∷ []),
+)
+
+abbrev pub event_field : Sheet → Field
+event_field s = (codes "event", object_of (text_field (codes "name") s.title ∷ []))
+
+abbrev pub sides_of : Sheet → List Json
+sides_of s = string (name_of s Home) ∷ [] ++ string (name_of s Away) ∷ []
+
+abbrev pub teams_field : Sheet → Field
+teams_field s = (codes "teams", array_of (sides_of s))
+
+-- the eleven players of a side, in the order of their numbers
+abbrev pub names_of : Sheet → Side → List Json
+names_of s side = up_to (λ k. string (player_of s side (k + 1)) ∷ []) 11
+
+-- a side's name with its players
+abbrev pub team_field : Sheet → Side → Field
+team_field s side = (name_of s side, array_of (names_of s side))
+
+abbrev pub players_field : Sheet → Field
+players_field s = (codes "players", object_of (team_field s Home ∷ [] ++ team_field s Away ∷ []))
+
+-- by so many runs or wickets
+abbrev pub margin_field : List ℕ → ℕ → Field
+margin_field unit n = (codes "by", object_of (number_field unit n ∷ []))
+
+-- by an innings and so many runs
+abbrev pub innings_margin : ℕ → Field
+innings_margin n =
+    (codes "by", object_of (number_field (codes "runs") n ∷ [] ++ number_field (codes "innings") 1 ∷ []))
+
+-- by a method that is no play
+abbrev pub method_field : List ℕ → Field
+method_field method = text_field (codes "method") method
+
+-- a side has won, with this told of how
+abbrev pub win_field : Sheet → Side → Field → Field
+win_field s side how = (codes "outcome", object_of (text_field (codes "winner") (name_of s side) ∷ [] ++ how ∷ []))
+
+-- no side has won
+abbrev pub result_field : List ℕ → Field
+result_field word = (codes "outcome", object_of (text_field (codes "result") word ∷ []))
+
+-- the result of a match, where it has one
+abbrev pub outcome_fields : Sheet → Outcome → List Field
+outcome_fields s Undecided = []
+outcome_fields s Draw = result_field (codes "draw") ∷ []
+outcome_fields s Tie = result_field (codes "tie") ∷ []
+outcome_fields s (Runs side n) = win_field s side (margin_field (codes "runs") n) ∷ []
+outcome_fields s (Wickets side n) = win_field s side (margin_field (codes "wickets") n) ∷ []
+outcome_fields s (InningsAnd side n) = win_field s side (innings_margin n) ∷ []
+outcome_fields s (PenaltyRuns side) = win_field s side (method_field (codes "penalty runs")) ∷ []
+
+-- title, sides and players, and how the match stands
+abbrev pub info_field : Sheet → History → Field
+info_field s h = (
+  codes "info",
+  object_of (event_field s ∷ []
+      ++ teams_field s ∷ []
+      ++ players_field s ∷ []
+      ++ number_field (codes "balls_per_over") 6 ∷ []
+      ++ number_field (codes "innings_a_side") s.innings ∷ []
+      ++ outcome_fields s (outcome s.innings h)),
+)

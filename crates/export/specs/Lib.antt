@@ -1,0 +1,12 @@
+-- What the public calls claim: Value with all that it cites (Notes, Wickets, Deliveries, Innings, Info, Entries, and
+-- Values but for its last part), Run and Laws.
+pub mod Values
+pub mod Notes
+pub mod Wickets
+pub mod Deliveries
+pub mod Innings
+pub mod Info
+pub mod Entries
+pub mod Value
+pub mod Run
+pub mod Laws

@@ -1,0 +1,196 @@
+//! What is said of the file and of the match.
+
+ghost use Rattle.std.specs.Prelude.{◌≡◌, ◌+◌, ◌<◌, ◌∷◌, []};
+ghost use Rattle.ball_laws.specs.History.{History};
+ghost use Rattle.match_laws.specs.Stands.{StandsFor};
+ghost use Rattle.export.specs.Values.{PutsFields, PutsValues};
+ghost use Rattle.export.specs.Info as laws;
+
+use crate::put::{
+    begin_array, begin_field, end_array, end_object, put_figure, put_number, put_string, put_text,
+};
+use cards::MatchSheet;
+use json::Pretty;
+use match_laws::{Match, Outcome};
+use notation::{Player, Side};
+use std::alloc::AllocError;
+
+/// Puts what is said of the file.
+pub fn put_meta(out: &mut Pretty, sheet: &MatchSheet) -> Result<(), AllocError>
+    ensures { PutsFields result out.old out.new (laws.meta_field sheet.now ∷ []) }
+{
+    begin_field(out, "meta")?;
+    put_text(out, "data_version", "1.1.0")?;
+    put_text(out, "program", "yermudosh 1")?;
+    put_number(out, "match_number", sheet.game())?;
+    end_object(out)
+}
+
+/// Puts the title.
+fn put_event(out: &mut Pretty, sheet: &MatchSheet) -> Result<(), AllocError>
+    ensures { PutsFields result out.old out.new (laws.event_field sheet.now ∷ []) }
+{
+    begin_field(out, "event")?;
+    put_text(out, "name", sheet.title())?;
+    end_object(out)
+}
+
+/// Puts the names of both sides.
+fn put_sides(out: &mut Pretty, sheet: &MatchSheet) -> Result<(), AllocError>
+    ensures { PutsValues result out.old out.new (laws.sides_of sheet.now) }
+{
+    put_string(out, sheet.name(Side::Home))?;
+    put_string(out, sheet.name(Side::Away))
+}
+
+fn put_teams(out: &mut Pretty, sheet: &MatchSheet) -> Result<(), AllocError>
+    ensures { PutsFields result out.old out.new (laws.teams_field sheet.now ∷ []) }
+{
+    begin_array(out, "teams")?;
+    put_sides(out, sheet)?;
+    end_array(out)
+}
+
+/// The player at an index, from 0 to 10.
+fn player_at(index: u8) -> Player
+    requires { index < 11 }
+    ensures { result ≡ index + 1 }
+{
+    Player::new(index + 1).unwrap()
+}
+
+/// Puts the names of a side's players.
+fn put_names(out: &mut Pretty, sheet: &MatchSheet, side: Side) -> Result<(), AllocError>
+    ensures { PutsValues result out.old out.new (laws.names_of sheet.now side) }
+{
+    for index in 0..11 {
+        put_string(out, sheet.player(side, player_at(index)))?;
+    }
+    Ok(())
+}
+
+/// Puts a side's name with the names of its players.
+fn put_team(out: &mut Pretty, sheet: &MatchSheet, side: Side) -> Result<(), AllocError>
+    ensures { PutsFields result out.old out.new (laws.team_field sheet.now side ∷ []) }
+{
+    begin_array(out, sheet.name(side))?;
+    put_names(out, sheet, side)?;
+    end_array(out)
+}
+
+/// Puts both sides with their players.
+fn put_players(out: &mut Pretty, sheet: &MatchSheet) -> Result<(), AllocError>
+    ensures { PutsFields result out.old out.new (laws.players_field sheet.now ∷ []) }
+{
+    begin_field(out, "players")?;
+    put_team(out, sheet, Side::Home)?;
+    put_team(out, sheet, Side::Away)?;
+    end_object(out)
+}
+
+/// Puts by how many runs or wickets a match is won.
+fn put_margin(out: &mut Pretty, unit: &str, count: u32) -> Result<(), AllocError>
+    ensures { PutsFields result out.old out.new (laws.margin_field unit.now count ∷ []) }
+{
+    begin_field(out, "by")?;
+    put_figure(out, unit, count)?;
+    end_object(out)
+}
+
+/// Puts that a match is won by an innings and so many runs.
+fn put_innings_margin(out: &mut Pretty, runs: u32) -> Result<(), AllocError>
+    ensures { PutsFields result out.old out.new (laws.innings_margin runs ∷ []) }
+{
+    begin_field(out, "by")?;
+    put_figure(out, "runs", runs)?;
+    put_figure(out, "innings", 1)?;
+    end_object(out)
+}
+
+/// Puts that a side has won by so many runs or wickets.
+fn put_win(
+    out: &mut Pretty,
+    sheet: &MatchSheet,
+    side: Side,
+    unit: &str,
+    count: u32,
+) -> Result<(), AllocError>
+    ensures { PutsFields result out.old out.new
+        (laws.win_field sheet.now side (laws.margin_field unit.now count) ∷ []) }
+{
+    begin_field(out, "outcome")?;
+    put_text(out, "winner", sheet.name(side))?;
+    put_margin(out, unit, count)?;
+    end_object(out)
+}
+
+/// Puts that a side has won by an innings and so many runs.
+fn put_innings_win(
+    out: &mut Pretty,
+    sheet: &MatchSheet,
+    side: Side,
+    runs: u32,
+) -> Result<(), AllocError>
+    ensures { PutsFields result out.old out.new
+        (laws.win_field sheet.now side (laws.innings_margin runs) ∷ []) }
+{
+    begin_field(out, "outcome")?;
+    put_text(out, "winner", sheet.name(side))?;
+    put_innings_margin(out, runs)?;
+    end_object(out)
+}
+
+/// Puts that a side has won by a method that is no play.
+fn put_method_win(
+    out: &mut Pretty,
+    sheet: &MatchSheet,
+    side: Side,
+    method: &str,
+) -> Result<(), AllocError>
+    ensures { PutsFields result out.old out.new
+        (laws.win_field sheet.now side (laws.method_field method.now) ∷ []) }
+{
+    begin_field(out, "outcome")?;
+    put_text(out, "winner", sheet.name(side))?;
+    put_text(out, "method", method)?;
+    end_object(out)
+}
+
+/// Puts a result that no side has won.
+fn put_result(out: &mut Pretty, word: &str) -> Result<(), AllocError>
+    ensures { PutsFields result out.old out.new (laws.result_field word.now ∷ []) }
+{
+    begin_field(out, "outcome")?;
+    put_text(out, "result", word)?;
+    end_object(out)
+}
+
+/// Puts the result of a match, where it has one.
+fn put_outcome(out: &mut Pretty, sheet: &MatchSheet, outcome: Outcome) -> Result<(), AllocError>
+    ensures { PutsFields result out.old out.new (laws.outcome_fields sheet.now outcome) }
+{
+    match outcome {
+        Outcome::Undecided => Ok(()),
+        Outcome::Draw => put_result(out, "draw"),
+        Outcome::Tie => put_result(out, "tie"),
+        Outcome::Runs(side, count) => put_win(out, sheet, side, "runs", count),
+        Outcome::Wickets(side, count) => put_win(out, sheet, side, "wickets", count),
+        Outcome::InningsAnd(side, runs) => put_innings_win(out, sheet, side, runs),
+        Outcome::PenaltyRuns(side) => put_method_win(out, sheet, side, "penalty runs"),
+    }
+}
+
+/// Puts what is said of the match.
+pub fn put_info(out: &mut Pretty, sheet: &MatchSheet, game: &Match) -> Result<(), AllocError>
+    ensures { (h : History) → StandsFor game.now sheet.now.innings h
+        → PutsFields result out.old out.new (laws.info_field sheet.now h ∷ []) }
+{
+    begin_field(out, "info")?;
+    put_event(out, sheet)?;
+    put_teams(out, sheet)?;
+    put_players(out, sheet)?;
+    put_figure(out, "balls_per_over", 6)?;
+    put_figure(out, "innings_a_side", sheet.innings())?;
+    put_outcome(out, sheet, game.result())?;
+    end_object(out)
+}

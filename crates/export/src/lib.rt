@@ -1,0 +1,17 @@
+//! The book of a match as JSON, for archives and leagues: what happened ball by ball, with the results of the Laws,
+//! and each entry as it was penned.
+#![tactic(auto, unfolding(crate::specs::Values::fields_tokens, crate::specs::Values::values_tokens))]
+
+mod deliveries;
+mod entries;
+mod info;
+mod innings;
+mod laws;
+mod notes;
+mod put;
+mod run;
+mod value;
+mod wickets;
+
+pub use laws::exports_add_up;
+pub use run::export_run;

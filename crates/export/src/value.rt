@@ -1,0 +1,40 @@
+//! The book of a match as one JSON value.
+
+ghost use Rattle.std.specs.Prelude.{◌≡◌, ◌∷◌, []};
+ghost use Rattle.corrections.specs.CleanList.{clean, history_of};
+ghost use Rattle.match_laws.specs.Stands.{StandsFor};
+ghost use Rattle.export.specs.Notes.{notes};
+ghost use Rattle.export.specs.Values.{PutsValues};
+ghost use Rattle.export.specs.Value.{export_of};
+
+use crate::entries::put_entries;
+use crate::info::{put_info, put_meta};
+use crate::innings::put_all_innings;
+use crate::notes::Noted;
+use crate::put::{begin_object, end_object};
+use cards::MatchSheet;
+use corrections::BookOf;
+use json::Pretty;
+use match_laws::Match;
+use std::alloc::AllocError;
+
+/// Puts the book of a match as one JSON value, by its score and its clean list with
+/// where each item stands.
+pub fn put_export<B: BookOf>(
+    out: &mut Pretty,
+    sheet: &MatchSheet,
+    game: &Match,
+    book: &B,
+    noted: &[Noted],
+) -> Result<(), AllocError>
+    requires noted { noted.now ≡ notes [] (clean (B.content book.now)) }
+    requires stands { StandsFor game.now sheet.now.innings (history_of (B.content book.now)) }
+    ensures { PutsValues result out.old out.new (export_of sheet.now (B.content book.now) ∷ []) }
+{
+    begin_object(out)?;
+    put_meta(out, sheet)?;
+    put_info(out, sheet, game)?;
+    put_all_innings(out, sheet, game, noted)?;
+    put_entries(out, book)?;
+    end_object(out)
+}
