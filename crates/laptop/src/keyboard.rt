@@ -87,11 +87,7 @@ impl<R: Read> Keyboard<R> {
         self.drop_front(count + 1);
         let is_rest = self.skips;
         self.skips = false;
-        if is_rest {
-            None
-        } else {
-            Some(count)
-        }
+        if is_rest { None } else { Some(count) }
     }
 
     /// Takes the front of a line that is too long, or more of its rest.
@@ -103,11 +99,7 @@ impl<R: Read> Keyboard<R> {
         self.len = 0;
         self.skips = true;
         *buffer = self.held;
-        if is_rest {
-            None
-        } else {
-            Some(LINE_ROOM)
-        }
+        if is_rest { None } else { Some(LINE_ROOM) }
     }
 
     /// The length of the next line, if there is one.

@@ -153,9 +153,7 @@ pub fn new_disk_in<'a>(
 }
 
 /// Standard output, a buffer at a time.
-pub fn printer(
-    rt: &HostRuntime,
-) -> Result<BufWriter<Printer<'_, HostRuntime>>, Stopped<'static>> {
+pub fn printer(rt: &HostRuntime) -> Result<BufWriter<Printer<'_, HostRuntime>>, Stopped<'static>> {
     BufWriter::new(rt.alloc(), io::writer(rt)).map_err(|_| Stopped::at("-", RunFault::NoMemory))
 }
 

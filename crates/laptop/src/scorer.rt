@@ -86,14 +86,7 @@ pub fn desk_run<'a>(
     let mut link = peers_at(rt, at, peers)?;
     let mut keys = keyboard(rt)?;
     let mut clock = Watch::new(rt);
-    match keep(
-        desk,
-        &sheet,
-        &mut link,
-        &mut keys,
-        &mut clock,
-        &mut writer,
-    ) {
+    match keep(desk, &sheet, &mut link, &mut keys, &mut clock, &mut writer) {
         Ok(()) | Err(DeskEnd::Quit | DeskEnd::NoMoreLines) => Ok(false),
         Err(DeskEnd::Write) => Err(Stopped::at("-", RunFault::Write)),
         Err(DeskEnd::Device) => Err(Stopped {

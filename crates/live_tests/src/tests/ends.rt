@@ -33,31 +33,43 @@ fn turns_and_lines_that_end(rt: HostRuntime) {
     }
 }
 
+/// The disk of a new desk whose n-th device call fails as its scorer's line is penned.
+fn failed_disk(rt: &impl Abort, alloc: Global, n: u32, stops: bool) -> MemDisk {
+    let mut desk = new_desk(rt, alloc, DeskId::A);
+    if stops {
+        desk.stop_at(n);
+    } else {
+        desk.fail_at(n);
+    }
+    let (answer, told) = one_line(rt, alloc, &mut desk, 9);
+    assert_eq!(rt; answer, Err(DeskEnd::Device));
+    is_text(rt, told.as_slice(), "0 next\n");
+    let mut disk = desk.into_disk();
+    disk.kill();
+    disk
+}
+
+/// A desk on this disk tells this of a line.
+fn tells(rt: &impl Abort, alloc: Global, disk: MemDisk, last: &str) {
+    let mut desk = begun(rt, begin(rt, alloc, disk, DeskId::A));
+    let (answer, told) = one_line(rt, alloc, &mut desk, 9);
+    assert_eq!(rt; answer, Err(DeskEnd::NoMoreLines));
+    is_text(rt, told.as_slice(), last);
+}
+
 // A pen makes four device calls. After a failed one the vote is in the file or not.
 #[test]
 fn a_disk_that_fails(rt: HostRuntime) {
     let alloc = rt.alloc();
     for n in 1..5 {
         for stops in [false, true] {
-            let mut desk = new_desk(&rt, alloc, DeskId::A);
-            if stops {
-                desk.stop_at(n);
+            let disk = failed_disk(&rt, alloc, n, stops);
+            let last = if n < 4 {
+                "0 next\n0 pending\n"
             } else {
-                desk.fail_at(n);
-            }
-            let (answer, told) = one_line(&rt, alloc, &mut desk, 9);
-            assert_eq!(rt; answer, Err(DeskEnd::Device));
-            is_text(&rt, told.as_slice(), "0 next\n");
-            let mut disk = desk.into_disk();
-            disk.kill();
-            let mut again = begun(&rt, begin(&rt, alloc, disk, DeskId::A));
-            let (answer, told) = one_line(&rt, alloc, &mut again, 9);
-            assert_eq!(rt; answer, Err(DeskEnd::NoMoreLines));
-            if n < 4 {
-                is_text(&rt, told.as_slice(), "0 next\n0 pending\n");
-            } else {
-                is_text(&rt, told.as_slice(), "0 pending\nrefused 61 Waiting\n");
-            }
+                "0 pending\nrefused 61 Waiting\n"
+            };
+            tells(&rt, alloc, disk, last);
         }
     }
 }
@@ -66,7 +78,7 @@ fn a_disk_that_fails(rt: HostRuntime) {
 fn a_writer_that_fails(rt: HostRuntime) {
     let alloc = rt.alloc();
     let sheet = sheet(&rt, alloc);
-    let mut ended = 0;
+    let mut ended = false;
     for calls in 0..60 {
         let mut desk = new_desk(&rt, alloc, DeskId::A);
         let mut lines = Lines::new(alloc);
@@ -78,10 +90,10 @@ fn a_writer_that_fails(rt: HostRuntime) {
             &mut desk, &sheet, &mut link, &mut lines, &mut clock, &mut out, 9,
         );
         match answer {
-            Err(DeskEnd::Write) => assert!(rt; out.has_failed() && ended == 0),
-            Err(DeskEnd::NoMoreLines) => ended += 1,
+            Err(DeskEnd::Write) => assert!(rt; out.has_failed() && !ended),
+            Err(DeskEnd::NoMoreLines) => ended = true,
             _ => panic!(rt; "another end"),
         }
     }
-    assert!(rt; ended > 1);
+    assert!(rt; ended);
 }

@@ -66,7 +66,9 @@ impl Queue {
         self.items.push(Item { bytes, count }).expect(rt, "room");
     }
 
-    fn next(&mut self) -> Option<Item> {
+    fn next(&mut self) -> Option<Item>
+        ensures { self.new.log ≡ self.old.log }
+    {
         let item = *self.items.get(self.taken)?;
         self.taken += 1;
         Some(item)

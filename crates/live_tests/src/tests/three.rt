@@ -13,16 +13,17 @@ struct Loss {
 impl Loss {
     /// What the one sent comes to the others, but every third is lost.
     fn carry(&mut self, rt: &impl Abort, from: &mut Queue, one: &mut Queue, other: &mut Queue) {
-        while let Some(bytes) = from.sent.pop() {
+        for bytes in from.sent.iter() {
             self.count = self.count.wrapping_add(1);
             if self.count % 3 != 0 {
-                one.bring(rt, &bytes);
+                one.bring(rt, bytes);
             }
             self.count = self.count.wrapping_add(1);
             if self.count % 3 != 0 {
-                other.bring(rt, &bytes);
+                other.bring(rt, bytes);
             }
         }
+        from.sent.clear();
     }
 }
 
