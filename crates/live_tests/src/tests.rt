@@ -19,7 +19,6 @@ mod boards;
 mod desks;
 mod ends;
 mod memory;
-mod three;
 
 type Station = Desk<Slots<MemDisk>, Book>;
 

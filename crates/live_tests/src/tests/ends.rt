@@ -1,4 +1,6 @@
 //! How a desk's process ends, and what it leaves.
+ghost use Rattle.std.specs.Prelude.{◌≤◌};
+
 use super::memory::Failing;
 use super::*;
 
@@ -34,7 +36,9 @@ fn turns_and_lines_that_end(rt: HostRuntime) {
 }
 
 /// The disk of a new desk whose n-th device call fails as its scorer's line is penned.
-fn failed_disk(rt: &impl Abort, alloc: Global, n: u32, stops: bool) -> MemDisk {
+fn failed_disk(rt: &impl Abort, alloc: Global, n: u32, stops: bool) -> MemDisk
+    requires { 1 ≤ n }
+{
     let mut desk = new_desk(rt, alloc, DeskId::A);
     if stops {
         desk.stop_at(n);
