@@ -1,2 +1,1 @@
 pub mod TakenLines
-mod VotesBook

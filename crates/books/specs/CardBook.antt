@@ -1,9 +1,8 @@
 -- The book that `card` makes of its input, or why it makes none.
-use Rattle.std.specs.Prelude.{◌≡◌, ◌≢◌, ℕ, ◌+◌, ◌==◌, nat_eq, false, if◌then◌else◌, List, [], ◌∷◌, ◌++◌, length, Option, Some, None, Result, Ok, Err, slice_get, unwrap_or}
+use Rattle.std.specs.Prelude.{◌≡◌, ℕ, ◌+◌, ◌==◌, if◌then◌else◌, List, [], ◌∷◌, ◌++◌, Option, Some, None, Result, Ok, Err, slice_get, unwrap_or}
 use Rattle.notation.specs.declared.entry.Entry.{Entry}
 use Rattle.corrections.specs.Refusal.{book_refusal}
 use Rattle.agree_core.specs.declared.messages.DeskId.{DeskId}
-use Rattle.agree_core.specs.declared.messages.Vote.{Vote}
 use Rattle.agree_core.specs.Ballots.{Ballot}
 use Rattle.agree_core.specs.Books.{AllTaken, FirstRefused, Rules, book_of, voted_list}
 use Rattle.entry_log.specs.Format.{contents}
@@ -87,11 +86,3 @@ abbrev pub WhyNoCard : Source → Sheet → List ℕ → RunFault → Type 0
 WhyNoCard from s input Read = Unit {0}
 WhyNoCard from s input Write = Unit {0}
 WhyNoCard from s input fault = WhyNoBook from s input fault
-
--- ---- for private functions
-
--- the book doesn't take what the last vote would close it with, at this place
-abbrev pub IsNotClosed : {Why : Type 0} → Rules Why → List Entry → Option Vote → ℕ → RunFault → Type 0
-IsNotClosed rules book None place fault = ⊥
-IsNotClosed rules book (Some last) place fault =
-    (nat_eq place last.place ≡ false) × (rules book last.entry ≢ None) × (fault ≡ BadVotes (length book))

@@ -1,6 +1,6 @@
 -- What a run's fault is called, and the line that standard error has of it.
 use Rattle.std.specs.Prelude.{ℕ, List, ◌++◌, codes, decimal, Bool, true, false, Option, Some, None}
-use Rattle.cards.specs.SheetFault.{number_of}
+use Rattle.cards.specs.SheetFault as sheet
 use Rattle.cards.specs.declared.fault.SheetFault.{SheetFault}
 use Rattle.cards.specs.declared.fault.SheetFault.TheVariants as sheets
 use Rattle.schedules.specs.ScheduleFault as schedule
@@ -14,7 +14,7 @@ use Rattle.books.specs.declared.fault.RunFault.{RunFault}
 use Rattle.books.specs.declared.fault.RunFault.TheVariants.{NoMemory, Read, Write, Device, Sheet, Schedule, Votes, BadVotes, Line, NotAgreed}
 use Rattle.books.specs.Rejected.{rejection_line}
 
--- the fault of a run over a sheet that is refused: want of memory is its own
+-- the fault of a run over a sheet that is refused: being out of memory is its own
 abbrev pub of_sheet : SheetFault → RunFault
 of_sheet sheets.NoMemory = NoMemory
 of_sheet why = Sheet why
@@ -24,7 +24,7 @@ abbrev pub of_schedule : ScheduleFault → RunFault
 of_schedule schedules.NoMemory = NoMemory
 of_schedule why = Schedule why
 
--- the fault of a run over a votes file that is refused: want of memory and a failing disk are their own
+-- the fault of a run over a votes file that is refused: being out of memory and a failing disk are their own
 abbrev pub of_votes : Refusal → RunFault
 of_votes votes.NoMemory = NoMemory
 of_votes (votes.File files.Device) = Device
@@ -43,27 +43,17 @@ is_refusal (BadVotes place) = true
 is_refusal (Line number why) = true
 is_refusal fault = false
 
--- the name of a sheet's fault
-abbrev pub sheet_name : SheetFault → List ℕ
-sheet_name sheets.NoMemory = codes "NoMemory"
-sheet_name sheets.NotToml = codes "NotToml"
-sheet_name sheets.MissingKey = codes "MissingKey"
-sheet_name sheets.WrongKind = codes "WrongKind"
-sheet_name sheets.BadText = codes "BadText"
-sheet_name sheets.BadNumber = codes "BadNumber"
-sheet_name sheets.NotEleven = codes "NotEleven"
-
 -- the line of a refusal: of what it is, its number and its name
 abbrev pub refusal_line : List ℕ → ℕ → List ℕ → List ℕ
 refusal_line what n called = what ++ codes ": " ++ decimal n ++ codes " " ++ called ++ codes "\n"
 
--- want of memory has no number
+-- being out of memory has no number
 abbrev pub numbered_line : List ℕ → Option ℕ → List ℕ → List ℕ
 numbered_line what (Some n) called = refusal_line what n called
 numbered_line what None called = codes "no memory\n"
 
 abbrev pub sheet_line : SheetFault → List ℕ
-sheet_line why = numbered_line (codes "sheet") (number_of why) (sheet_name why)
+sheet_line why = numbered_line (codes "sheet") (sheet.number_of why) (sheet.name_of why)
 
 abbrev pub schedule_line : ScheduleFault → List ℕ
 schedule_line why = numbered_line (codes "schedule") (schedule.number_of why) (schedule.name_of why)

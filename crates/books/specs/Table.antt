@@ -4,7 +4,7 @@ use Rattle.notation.specs.declared.entry.Entry.{Entry}
 use Rattle.agree_core.specs.declared.messages.DeskId.TheVariants.{A, B}
 use Rattle.books.specs.declared.table.Table.{Table}
 use Rattle.books.specs.declared.rejected.Rejected.{Rejected}
-use Rattle.books.specs.Seats.{free_at}
+use Rattle.books.specs.inner.Seats.{free_at}
 
 -- the entries that both desks have agreed
 abbrev pub agreed_in : Table → List Entry

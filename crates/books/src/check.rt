@@ -102,7 +102,7 @@ pub fn check_run<R: Read, W: Write>(
     ensures only { IfErr result (λ fault.
         (fault ≡ RunFault.NoMemory) ⊎ (fault ≡ RunFault.Read) ⊎ (fault ≡ RunFault.Write)) }
 
-    // With a read fault or for want of memory nothing was written.
+    // With a read fault, or out of memory, nothing was written.
     ensures unwritten { IfErr result (λ fault. fault ≢ RunFault.Write → writer.new ≡ writer.old) }
 {
     let input = read_all(alloc, reader)?;

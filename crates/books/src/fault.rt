@@ -9,40 +9,29 @@ use cards::{SheetFault, Watched, WriteFailed};
 use schedules::ScheduleFault;
 use std::alloc::AllocError;
 use std::io::Write;
-use thiserror::Error;
 
 /// Why a run ends before its end.
-#[derive(Clone, Copy, Debug, PartialEq, Eq, Error)]
+#[derive(Clone, Copy, Debug, PartialEq, Eq)]
 pub enum RunFault {
     /// Memory was refused.
-    #[error("no memory")]
     NoMemory,
     /// A read failed or was interrupted, or the input is longer than 16,777,216 bytes.
-    #[error("cannot read")]
     Read,
     /// A write failed.
-    #[error("cannot write")]
     Write,
     /// The disk of a votes file failed.
-    #[error("cannot write")]
     Device,
     /// The sheet is refused.
-    #[error("sheet: {0}")]
     Sheet(SheetFault),
     /// The schedule is refused.
-    #[error("schedule: {0}")]
     Schedule(ScheduleFault),
     /// A votes file is refused.
-    #[error("votes: {0}")]
     Votes(vote_store::Refusal),
     /// The votes of a file are no legal book: this is the first place whose last vote is refused.
-    #[error("votes: BadVotes")]
     BadVotes { place: u32 },
     /// A pen line isn't taken. Lines are numbered from 1.
-    #[error("line {number}")]
     Line { number: u64, why: Rejected },
     /// The stations didn't agree this place in fifty turns each.
-    #[error("place {place} not agreed in 50 turns")]
     NotAgreed { place: u32 },
 }
 
@@ -114,28 +103,12 @@ impl From<vote_store::Refusal> for RunFault {
     }
 }
 
-/// The name of a sheet's fault.
-pub fn sheet_name(why: SheetFault) -> &'static str
-    ensures { result.now ≡ texts.sheet_name why }
-{
-    match why {
-        SheetFault::NoMemory => "NoMemory",
-        SheetFault::NotToml => "NotToml",
-        SheetFault::MissingKey => "MissingKey",
-        SheetFault::WrongKind => "WrongKind",
-        SheetFault::BadText => "BadText",
-        SheetFault::BadNumber => "BadNumber",
-        SheetFault::NotEleven => "NotEleven",
-    }
-}
-
 fn print_sheet_fault<W: Write>(out: &mut Watched<W>, why: SheetFault) -> Result<(), WriteFailed>
     ensures text { OnOk result (Prints W.contents out.old out.new (texts.sheet_line why)) }
     ensures failed { TellsFailure result out.old out.new }
 {
-    let name = sheet_name(why);
     match why.number() {
-        Some(number) => writeln!(out, "sheet: {number} {name}"),
+        Some(number) => writeln!(out, "sheet: {number} {why}"),
         None => writeln!(out, "no memory"),
     }
 }

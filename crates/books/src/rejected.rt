@@ -8,9 +8,10 @@ use cards::{Watched, WriteFailed};
 use notation::LineFault;
 use std::fmt;
 use std::io::Write;
+use thiserror::Error;
 
 /// Why an entry is refused.
-#[derive(Clone, Copy, Debug, PartialEq, Eq)]
+#[derive(Clone, Copy, Debug, PartialEq, Eq, Error)]
 pub enum Refusal {
     /// 8,192 entries were taken.
     PlacesFull,

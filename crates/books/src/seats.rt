@@ -2,7 +2,7 @@
 
 ghost use Rattle.std.specs.Prelude.{◌≡◌, ◌+◌, ◌<◌, true};
 ghost use Rattle.agree_core.specs.declared.messages.DeskId.TheVariants.{A, B};
-ghost use Rattle.books.specs.Seats.{free_at};
+ghost use Rattle.books.specs.inner.Seats.{free_at};
 
 use agree_core::{DeskId, Heard, Seat, Settled, Vote};
 use notation::Entry;

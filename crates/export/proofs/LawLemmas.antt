@@ -18,13 +18,13 @@ use Rattle.match_laws.specs.Result.{current}
 use Rattle.match_laws.proofs.LegalLemmas.{ball_open, gone_open, current-open}
 use Rattle.corrections.specs.declared.placed.Placed.{Placed}
 use Rattle.corrections.specs.CleanList.{clean}
-use Rattle.corrections.specs.Scoring.{history_after}
+use Rattle.corrections.specs.inner.Scoring.{history_after}
 use Rattle.corrections.specs.Refusal.{first_refused}
 use Rattle.corrections.specs.Legal.{IsLegalBook}
 use Rattle.corrections.proofs.LegalLemmas.{history_after-clean, scored_legal}
+use Rattle.corrections.proofs.ScoringLemmas.{first_refused-cons}
 use Rattle.export.specs.Notes.{note, notes, overs_called}
 use Rattle.export.specs.Laws.{AddsUp, AllStand, runs_listed, wickets_listed, total_of}
-use Rattle.export.proofs.Noting.{first_refused-cons}
 
 -- ---- an item of an open innings
 

@@ -1,5 +1,5 @@
 -- The clean list of a book, item by item.
-use Rattle.std.proofs.Common.{◌≡◌, ℕ, ◌+◌, ◌≤◌, List, [], ◌∷◌, ◌++◌, length, drop, Option, Some, None, true, false, refl, sym, ap, ◌∙◌, append-nil, append_assoc}
+use Rattle.std.proofs.Common.{◌≡◌, ℕ, ◌+◌, ◌≤◌, List, [], ◌∷◌, ◌++◌, length, drop, Some, None, true, false, refl, sym, ap, ◌∙◌, append-nil, append_assoc}
 use Rattle.std.specs.Prelude.{Result, Ok, Err, slice_get}
 use Rattle.std.proofs.lemmas.List.{drop_all}
 use Rattle.notation.specs.declared.entry.Plain.{Plain}
@@ -11,11 +11,11 @@ use Rattle.match_laws.specs.History.{is_void}
 use Rattle.match_laws.specs.Refusals.{refusal}
 use Rattle.match_laws.specs.Stands.{StandsFor, IsStep, answer_with}
 use Rattle.corrections.specs.declared.placed.Placed.{Placed}
-use Rattle.corrections.specs.declared.refusal.Refusal.{Refusal}
 use Rattle.corrections.specs.CleanList.{clean, kept, standing_of}
-use Rattle.corrections.specs.Refusal.{first_refused, refused_or}
+use Rattle.corrections.specs.Refusal.{first_refused}
 use Rattle.corrections.specs.Legal.{IsLegalBook}
 use Rattle.corrections.proofs.LegalLemmas.{scored_legal}
+use Rattle.corrections.proofs.ScoringLemmas.{first_refused-cons, kept_first, kept_not}
 use Rattle.cards.proofs.Slots.{next}
 use Rattle.export.specs.declared.notes.Noted.{Noted}
 use Rattle.export.specs.Notes.{note, notes}
@@ -36,24 +36,10 @@ notes_none book standing n game legal is s = record {
   whole = refl;
 }
 
-untaken : (place : ℕ) (r : Option LawRefusal) (rest : Option Refusal) → refused_or place r rest ≡ None → (r ≡ None) × (rest ≡ None)
-untaken place None rest e = (refl, e)
-untaken place (Some why) rest e = cc
-
-kept_first : (x : Placed) (xs : List Placed) → is_void x.item ≡ false → kept (x ∷ xs) ≡ x ∷ kept xs
-kept_first x xs stays = rw stays refl
-
-kept_not : (x : Placed) (xs : List Placed) → is_void x.item ≡ true → kept (x ∷ xs) ≡ kept xs
-kept_not x xs void = rw void refl
-
 -- an item that isn't refused is taken
 stepped : (T : Type 0) (r : Result T LawRefusal) (n : ℕ) (h : History) (x : Plain) (later : Standing) → refusal n h x ≡ None → IsStep (answer_with r later) n h x → StandsFor later n (x ∷ h)
 stepped T (Ok _) n h x later none s = s.1
 stepped T (Err why) n h x later none s = absurd cc
-
-pub first_refused-cons : (n : ℕ) (h : History) (x : Placed) (xs : List Placed) → first_refused n h (x ∷ xs) ≡ None → (refusal n h x.item ≡ None) × (first_refused n (x.item ∷ h) xs ≡ None)
-unfolding first_refused
-first_refused-cons n h x xs e = untaken x.place (refusal n h x.item) (first_refused n (x.item ∷ h) xs) e
 
 -- one item more
 pub notes_one : {T : Type 0} (r : Result T LawRefusal) (standing : List Placed) (n k : ℕ) (game later : Standing) (noted more : List Noted) (x : Placed) (y : Noted)

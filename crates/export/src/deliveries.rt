@@ -8,10 +8,11 @@ ghost use Rattle.export.specs.Deliveries as deliveries;
 
 use crate::notes::Noted;
 use crate::put::{begin_field, begin_object, end_object, put_count, put_figure, put_text};
-use crate::wickets::{opponent, put_batter, put_departures, put_wickets};
+use crate::wickets::{put_batter, put_departures, put_wickets};
 use ball_laws::{Ends, Split, runs_of};
 use cards::MatchSheet;
 use json::Pretty;
+use match_laws::opponent;
 use notation::{Ball, Leave, Plain, Player, Side};
 use std::alloc::AllocError;
 

@@ -11,10 +11,9 @@ use crate::notes::Noted;
 use crate::put::{
     begin_array, begin_field, begin_object, end_array, end_object, put_figure, put_flag, put_text,
 };
-use crate::wickets::opponent;
 use cards::MatchSheet;
 use json::Pretty;
-use match_laws::Match;
+use match_laws::{Match, opponent};
 use notation::{Cause, Plain, Side};
 use std::alloc::AllocError;
 

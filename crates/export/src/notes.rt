@@ -1,14 +1,13 @@
 //! The clean list of a book, each item with where it stands in the match.
 
 ghost use Rattle.std.specs.Prelude.{◌≡◌, ◌<◌, ◌≤◌, [], IfOk, Some, length, slice_get};
-ghost use Rattle.match_laws.specs.History as history;
 ghost use Rattle.match_laws.specs.Stands.{ForEachHistory};
 ghost use Rattle.corrections.specs.CleanList.{clean};
 ghost use Rattle.corrections.specs.Legal.{IsLegalBook};
 
 use ball_laws::Ends;
 use corrections::{BookOf, Placed};
-use match_laws::{Match, start};
+use match_laws::{Match, is_void, start};
 use notation::Plain;
 use std::alloc::{AllocError, Global};
 
@@ -50,12 +49,6 @@ fn note(game: &Match, placed: &Placed) -> Noted
         place: placed.place,
         item: placed.item,
     }
-}
-
-fn is_void(item: &Plain) -> bool
-    ensures { result ≡ history.is_void item.now }
-{
-    matches!(item, Plain::Void)
 }
 
 /// What stands at an index.

@@ -1,7 +1,6 @@
 //! Who is out, and how.
 
 ghost use Rattle.std.specs.Prelude.{◌≡◌, ◌∷◌, ◌≢◌, []};
-ghost use Rattle.match_laws.specs.History as history;
 ghost use Rattle.cards.specs.Dismissals.{fielder_name};
 ghost use Rattle.export.specs.Values.{PutsFields, PutsValues};
 ghost use Rattle.export.specs.Wickets as wickets;
@@ -10,18 +9,9 @@ use crate::put::{begin_array, begin_object, end_array, end_object, put_null, put
 use ball_laws::Ends;
 use cards::MatchSheet;
 use json::Pretty;
+use match_laws::opponent;
 use notation::{How, Leave, Out, Player, Side};
 use std::alloc::AllocError;
-
-/// The other side.
-pub fn opponent(side: Side) -> Side
-    ensures { result ≡ history.opponent side }
-{
-    match side {
-        Side::Home => Side::Away,
-        Side::Away => Side::Home,
-    }
-}
 
 fn how_words(how: How) -> &'static str
     ensures { result.now ≡ wickets.how_words how }

@@ -1,5 +1,5 @@
 -- What the words on the command line ask for, and what is told where they ask for nothing.
-use Rattle.std.specs.Prelude.{ℕ, ◌≤◌, ⊤, List, codes}
+use Rattle.std.specs.Prelude.{ℕ, ◌≤◌, ◌++◌, ⊤, List, codes}
 use Rattle.ground.specs.declared.status.Status.{Status}
 use Rattle.ground.specs.declared.status.Status.TheVariants as statuses
 use Rattle.ground.specs.declared.words.Task.{Task}
@@ -21,7 +21,10 @@ abbrev pub words_status : WordsFault → Status
 words_status NotUnderstood = statuses.Words
 words_status NoMemory = statuses.Failed
 
--- the line that standard error has
+-- what standard error is told
+abbrev pub words_text : WordsFault → List ℕ
+words_text NotUnderstood = codes "words not understood"
+words_text NoMemory = codes "no memory"
+
 abbrev pub words_line : WordsFault → List ℕ
-words_line NotUnderstood = codes "words not understood\n"
-words_line NoMemory = codes "no memory\n"
+words_line fault = words_text fault ++ codes "\n"

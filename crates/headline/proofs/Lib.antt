@@ -1,8 +1,12 @@
+pub mod Noting
+pub mod Heeding
+pub mod NotingSteps
+pub mod NotedRuns
 pub mod BoardKeeping
 pub mod Keeping
 pub mod Shown
-pub mod Passing
+pub mod PennedVotes
 pub mod Sound
-pub mod Second
-pub mod Whole
+pub mod SecondVotes
+pub mod EveryRun
 pub mod Scores

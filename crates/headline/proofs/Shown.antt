@@ -1,5 +1,5 @@
 -- What stations show in a run is one book, of entries that both desks voted for.
-use Rattle.std.proofs.Common.{◌≡◌, ℕ, ◌+◌, Option, Some, List, [], ◌∷◌, refl, subst, inl, inr, arith}
+use Rattle.std.proofs.Common.{◌≡◌, ℕ, ◌+◌, Option, Some, None, option_and_then, List, [], ◌∷◌, refl, subst, inl, inr, arith}
 use Rattle.notation.specs.declared.entry.Entry.{Entry}
 use Rattle.agree_core.specs.declared.messages.DeskId.{DeskId}
 use Rattle.agree_core.specs.declared.messages.DeskId.TheVariants.{A, B}
@@ -8,9 +8,8 @@ use Rattle.agree_core.specs.Agreed.{AllSettled, EqualVotes}
 use Rattle.agree_core.specs.Ballots.{AllVotes, Ballot, In, VotesGrow, Within}
 use Rattle.agree_core.specs.Ballots as ballots
 use Rattle.agree_core.specs.Boards.{BoardState}
-use Rattle.agree_core.specs.Desks.{DeskState}
-use Rattle.agree_core.specs.Readers.{other, ReaderWaits}
-use Rattle.agree_core.specs.Seats.{SeatWaits}
+use Rattle.agree_core.specs.Readers.{noted_of, other, ReaderWaits}
+use Rattle.agree_core.specs.Seats.{SeatState, SeatWaits}
 use Rattle.agree_core.proofs.FileBooks.{AllBoth}
 use Rattle.agree_core.proofs.Settling.{agreed_begins, one_book, one_vote_each, places_settled, rounds_differ}
 use Rattle.headline.specs.declared.event.Station.{Station}
@@ -18,12 +17,13 @@ use Rattle.headline.specs.declared.event.Station.TheVariants as stations
 use Rattle.headline.specs.declared.version.FileVersion.{FileVersion}
 use Rattle.headline.specs.Worlds.{Process, Running, Down, Setting, World, board_at, disk_of, site, votes_in, votes_of}
 use Rattle.headline.specs.Runs.{AtEachMoment, AtSomeMoment, Moment, Run, Shows, last_of, process_shows}
-use Rattle.headline.specs.Headline.{ArePrefixes, AtEachEvent, ByBoth, KeepsVotes, KeptSafe, NoneWaits, StandsFast, WithinAgreed, noted_at_desk}
+use Rattle.headline.specs.Noted.{kept_by_process, kept_by_seat}
+use Rattle.headline.specs.Headline.{ArePrefixes, AtEachEvent, ByBoth, KeepsVotes, KeptSafe, NoneKeepsBoth, StandsFast, WithinAgreed}
 use Rattle.agree_core.specs.Keeping.{MessageFine, ShowsMore}
 use Rattle.agree_core.proofs.Both.{both_at, both_settled, both_turned, same}
 use Rattle.agree_core.proofs.Desks.{more_within}
 use Rattle.headline.proofs.BoardKeeping.{board_fine_at, item_at}
-use Rattle.headline.proofs.Keeping.{Fine, Grows, ProcessFine, all_justified, process_disk, run_keeps, running, site_fine, step_keeps}
+use Rattle.headline.proofs.Keeping.{Fine, Grows, ProcessFine, all_justified, process_disk, run_keeps, site_fine, step_keeps}
 
 module _ {Disk Why : Type 0} (s : Setting Disk Why) where
   process_both : (v : FileVersion) (d : DeskId) (theirs : List Ballot) (x : Process Disk) (book : List Entry) → ProcessFine s v d theirs x → process_shows x book → AllBoth (votes_of x) theirs 0 book
@@ -77,33 +77,30 @@ module _ {Disk Why : Type 0} (s : Setting Disk Why) where
       let x = moment w ms (λ v. Shows v t xs) f r p in
       agreed_begins (votes_in x.0) (votes_in (last_of w ms)) x.2 (all_justified s (last_of w ms) (run_keeps s w ms f r)) xs agreed (shown_settled x.0 t xs x.1 x.3) g
 
-  desk_waits : (k : DeskState Disk) (d : DeskId) (e f : Entry) → SeatWaits k.seat → noted_at_desk k d A ≡ Some e → noted_at_desk k d B ≡ Some f → ⊥
-  desk_waits k A e f (inl w) p q = cc
-  desk_waits k A e f (inr w) p q = cc
-  desk_waits k B e f (inl w) p q = cc
-  desk_waits k B e f (inr w) p q = cc
+  seat_waits : (k : SeatState) (d : DeskId) (e f : Entry) → SeatWaits k → kept_by_seat k d A ≡ Some e → kept_by_seat k d B ≡ Some f → ⊥
+  seat_waits k A e f (inl w) p q = cc
+  seat_waits k A e f (inr w) p q = cc
+  seat_waits k B e f (inl w) p q = cc
+  seat_waits k B e f (inr w) p q = cc
+
+  process_waits : (v : FileVersion) (d : DeskId) (theirs : List Ballot) (x : Process Disk) (e f : Entry) → ProcessFine s v d theirs x → kept_by_process x d A ≡ Some e → kept_by_process x d B ≡ Some f → ⊥
+  process_waits v d theirs (Running k) e f g p q = let h = g.seat in seat_waits k.seat d e f h.waits p q
+  process_waits v d theirs (Down votes disk) e f g p q = cc
 
   reader_waits : (k : BoardState) (e f : Entry) → ReaderWaits k.reader → k.reader.a ≡ Some e → k.reader.b ≡ Some f → ⊥
   reader_waits k e f (inl w) p q = cc
   reader_waits k e f (inr w) p q = cc
 
-  one_desk : (x : Process Disk) (k l : DeskState Disk) → x ≡ Running k → x ≡ Running l → l ≡ k
-  one_desk x k l p q = cc
+  abbrev kept_by_board : Option BoardState → DeskId → Option Entry
+  kept_by_board board c = option_and_then (λ (k : BoardState). noted_of k.reader c) board
 
-  one_board : (x : Option BoardState) (k l : BoardState) → x ≡ Some k → x ≡ Some l → l ≡ k
-  one_board x k l p q = cc
+  board_waits : (w : World Disk) (n : ℕ) (board : Option BoardState) (e f : Entry) → Fine s w → board_at w.boards n ≡ board → kept_by_board board A ≡ Some e → kept_by_board board B ≡ Some f → ⊥
+  board_waits w n None e f g h p q = cc
+  board_waits w n (Some k) e f g h p q = let fine = board_fine_at (votes_in w) w.boards n k h g.on_boards in reader_waits k e f fine.waits p q
 
-  pub none_waits : (w : World Disk) → Fine s w → NoneWaits w
-  none_waits w f (stations.Desk d) book b c p q =
-      let same_desk = one_desk (site w d).process p.0 q.0 p.1.0 q.1.0 in
-      let fine = running s (site w d).version d (ballots.votes_of (votes_in w) (other d)) (site w d).process p.0 p.1.0 (site_fine s w d f) in
-      let seat = fine.seat in
-      let theirs : noted_at_desk p.0 d B ≡ Some c.entry = subst (λ (k : DeskState Disk). noted_at_desk k d B ≡ Some c.entry) same_desk q.4 in
-      desk_waits p.0 d b.entry c.entry seat.waits p.4 theirs
-  none_waits w f (stations.Board n) book b c p q =
-      let same_board = one_board (board_at w.boards n) p.0 q.0 p.1 q.1 in
-      let fine = board_fine_at (votes_in w) w.boards n p.0 p.1 f.on_boards in
-      reader_waits p.0 b.entry c.entry fine.waits p.4 (subst (λ (k : BoardState). k.reader.b ≡ Some c.entry) same_board q.4)
+  pub none_keeps_both : (w : World Disk) → Fine s w → NoneKeepsBoth w
+  none_keeps_both w g (stations.Desk d) e f p q = process_waits (site w d).version d (ballots.votes_of (votes_in w) (other d)) (site w d).process e f (site_fine s w d g) p q
+  none_keeps_both w g (stations.Board n) e f p q = board_waits w n (board_at w.boards n) e f g refl p q
 
   votes_at : (w : World Disk) (d : DeskId) → ballots.votes_of (votes_in w) d ≡ votes_of (site w d).process
   votes_at w A = refl

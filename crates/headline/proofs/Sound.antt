@@ -39,7 +39,7 @@ use Rattle.agree_core.specs.Keeping.{BoardFine, MessageFine, MineFine, NotedFine
 use Rattle.agree_core.proofs.Both.{both_grow, both_settled, both_turned, more, same}
 use Rattle.headline.proofs.BoardKeeping.{board_fine_at, item_at}
 use Rattle.headline.proofs.Keeping.{Fine, ProcessFine, all_justified, begins_fine, run_keeps, running, site_fine, their_message}
-use Rattle.headline.proofs.Passing.{BothHold, HeldBy, PensKeep, begins_hold, step_holds}
+use Rattle.headline.proofs.PennedVotes.{BothHold, HeldBy, PensKeep, begins_hold, step_holds}
 
 -- the list after each vote was one that the rules take
 abbrev Lawful : {Why : Type 0} → Rules Why → List Ballot → Type 0

@@ -1,5 +1,5 @@
 -- The headline: what holds in every run.
-use Rattle.std.specs.Prelude.{◌≡◌, ◌≢◌, ◌⊎◌, ℕ, false, Option, Some, List, [], ◌∷◌, ◌++◌, length, slice_get}
+use Rattle.std.specs.Prelude.{◌≡◌, ◌⊎◌, ℕ, Option, Some, List, [], ◌∷◌, ◌++◌, length, slice_get}
 use Rattle.notation.specs.declared.entry.Entry.{Entry}
 use Rattle.match_laws.specs.declared.standing.Standing.{Standing}
 use Rattle.corrections.specs.Legal.{IsScoreOf}
@@ -10,63 +10,36 @@ use Rattle.agree_core.specs.declared.messages.Vote.{Vote}
 use Rattle.agree_core.specs.declared.seat.Heard.{Heard}
 use Rattle.agree_core.specs.Agreed.{BeginsWith, EqualVotes, IsAgreedList}
 use Rattle.agree_core.specs.Ballots as ballots
-use Rattle.agree_core.specs.Ballots.{AllVotes, Ballot, In, VotesGrow, Within, ballot_of, vote_of}
-use Rattle.agree_core.specs.Boards.{BoardState}
-use Rattle.agree_core.specs.Desks.{DeskState}
+use Rattle.agree_core.specs.Ballots.{AllVotes, Ballot, In, VotesGrow, Within, ballot_of}
 use Rattle.agree_core.specs.Laws.{OneVoteEach, PlacesSettled, RoundsDiffer}
-use Rattle.agree_core.specs.Readers.{noted_of, other}
-use Rattle.headline.specs.declared.event.Event.{Event}
-use Rattle.headline.specs.declared.event.Event.TheVariants as events
+use Rattle.agree_core.specs.Readers.{other}
 use Rattle.headline.specs.declared.event.Station.{Station}
-use Rattle.headline.specs.declared.event.Station.TheVariants as stations
-use Rattle.headline.specs.Worlds.{Running, Setting, World, board_at, disk_of, site, votes_in}
+use Rattle.headline.specs.Worlds.{Setting, World, disk_of, site, votes_in}
 use Rattle.headline.specs.Steps.{Answer}
 use Rattle.headline.specs.Runs.{AtEachMoment, AtSomeMoment, Moment, Shows, WasPenned, last_of}
+use Rattle.headline.specs.Noted.{HasNoted, IsBrought, kept_at}
 
--- the desk runs and hasn't failed
-abbrev pub IsRunning : {Disk : Type 0} → World Disk → DeskId → DeskState Disk → Type 0
-IsRunning w d k = ((site w d).process ≡ Running k) × (k.failed ≡ false)
+-- no running station has noted both votes of its position
+abbrev pub NoneWaits : {Disk Why : Type 0} → Setting Disk Why → World Disk → List (Moment Disk Why) → Type 0
+NoneWaits s w ms =
+    (t : Station) (b c : Ballot) → HasNoted s w ms t A b → HasNoted s w ms t B c → ⊥
 
-abbrev pub noted_at_desk : {Disk : Type 0} → DeskState Disk → DeskId → DeskId → Option Entry
-noted_at_desk k A A = k.seat.mine
-noted_at_desk k A B = k.seat.theirs
-noted_at_desk k B A = k.seat.theirs
-noted_at_desk k B B = k.seat.mine
+-- the last event, where it brings the second of two equal votes of its position to a station that has noted the
+-- first, makes that station's book one longer by their entry
+abbrev pub TakesSecond : {Disk Why : Type 0} → Setting Disk Why → World Disk → List (Moment Disk Why) → Type 0
+TakesSecond s w [] = Unit {0}
+TakesSecond s w (m ∷ ms) =
+    (t : Station) (book : List Entry) (b : Ballot) (c : DeskId) → Shows (last_of w ms) t book → HasNoted s w ms t c b
+    → IsBrought (last_of w ms) m t (other c) b → Shows m.after t (book ++ b.entry ∷ [])
 
--- a running station, with this book and at this position, has noted this vote of a desk there
-abbrev pub HasNoted :
-    {Disk : Type 0} → World Disk → Station → List Entry → Ballot → DeskId → Type 0
-HasNoted w (stations.Desk d) book b c =
-    (k : DeskState _) × IsRunning w d k × (k.book ≡ book) × (k.seat.position ≡ b.at)
-    × (noted_at_desk k d c ≡ Some b.entry)
-HasNoted w (stations.Board n) book b c =
-    (k : BoardState) × (board_at w.boards n ≡ Some k) × (k.book ≡ book) × (k.reader.position ≡ b.at)
-    × (noted_of k.reader c ≡ Some b.entry)
+-- no station keeps both votes of its position
+abbrev pub NoneKeepsBoth : {Disk : Type 0} → World Disk → Type 0
+NoneKeepsBoth w = (t : Station) (e f : Entry) → kept_at w t A ≡ Some e → kept_at w t B ≡ Some f → ⊥
 
--- the event brings a desk's vote to the station: it is given to another station than that desk, or the
--- desk's own scorer pens it
-abbrev pub Brings : {Disk : Type 0} → World Disk → Event → Station → DeskId → Ballot → Type 0
-Brings w event t c b =
-    ((t ≢ stations.Desk c)
-    × ((n : ℕ) × (event ≡ events.Give n t) × (slice_get w.sent n ≡ Some (Message.Vote (vote_of c b)))))
-    ⊎ ((t ≡ stations.Desk c) × (event ≡ events.Pen c b.entry))
-
--- it was penned, or told as a vote
-abbrev pub IsVoteAnswer : {Why : Type 0} → Answer Why → Type 0
-IsVoteAnswer (Answer.Penned settled) = Unit {0}
-IsVoteAnswer (Answer.Told heard) = Unit {0}
-IsVoteAnswer _ = ⊥
-
--- no running station keeps both votes of its position
-abbrev pub NoneWaits : {Disk : Type 0} → World Disk → Type 0
-NoneWaits w =
-    (t : Station) (book : List Entry) (b c : Ballot) → HasNoted w t book b A → HasNoted w t book c B → ⊥
-
--- the event that brings the second of two equal votes makes the book one longer by their entry
-abbrev pub TakesSecond : {Disk Why : Type 0} → World Disk → Moment Disk Why → Type 0
-TakesSecond w m =
-    (t : Station) (book : List Entry) (b : Ballot) (c : DeskId) → HasNoted w t book b c
-    → Brings w m.event t (other c) b → IsVoteAnswer m.answer → Shows m.after t (book ++ b.entry ∷ [])
+-- at the start of a run and after each of its events, it is so of what has happened
+abbrev pub AfterEach : {Disk Why : Type 0} → List (Moment Disk Why) → (List (Moment Disk Why) → Type 0) → Type 0
+AfterEach [] P = P []
+AfterEach (m ∷ ms) P = P (m ∷ ms) × AfterEach ms P
 
 -- each event from this world on
 abbrev pub AtEachEvent :
@@ -97,11 +70,6 @@ ByBoth v =
 abbrev pub ArePenned : {Disk Why : Type 0} → World Disk → List (Moment Disk Why) → Type 0
 ArePenned w ms =
     (d : DeskId) (b : Ballot) → In b (ballots.votes_of (votes_in (last_of w ms)) d) → WasPenned w ms d b
-
--- at the start there are no votes, and after each event each vote was penned in that event or an earlier one
-abbrev pub PennedBefore : {Disk Why : Type 0} → World Disk → List (Moment Disk Why) → Type 0
-PennedBefore w [] = (d : DeskId) (b : Ballot) → In b (ballots.votes_of (votes_in w) d) → ⊥
-PennedBefore w (m ∷ ms) = ArePenned w (m ∷ ms) × PennedBefore w ms
 
 -- a station that isn't down shows a book of so many entries, whose score by the Laws is this
 abbrev pub ShowsScore : {Disk : Type 0} → ℕ → World Disk → Station → ℕ → Standing → Type 0
@@ -140,16 +108,18 @@ IsSoundAnswer Answer.NoBook = ⊥
 IsSoundAnswer _ = Unit {0}
 
 -- the headline, of a run of a match with so many innings a side
-pub record Headline {Disk Why : Type 0} (innings : ℕ) (w : World Disk) (ms : List (Moment Disk Why)) : Type 0 where
+pub record Headline
+    {Disk Why : Type 0} (s : Setting Disk Why) (innings : ℕ) (w : World Disk) (ms : List (Moment Disk Why))
+    : Type 0 where
   -- any books that desks or boards show at any two moments are one a prefix of the other
   pub prefixes : ArePrefixes w ms
   -- both scorers voted in one round for each entry of a book, and each vote was penned before
-  pub by_both : AtEachMoment w ms ByBoth × PennedBefore w ms
+  pub by_both : AtEachMoment w ms ByBoth × AfterEach ms (ArePenned w)
   -- each score is the Laws' score of its book
   pub scores : HaveOneScore innings w ms
   -- a running station that noted both equal votes of its position has the entry: the call that notes the second
   -- makes its book longer by it, and no station is left with both
-  pub has_entry : AtEachEvent w ms TakesSecond × AtEachMoment w ms NoneWaits
+  pub has_entry : AfterEach ms (TakesSecond s w) × AfterEach ms (NoneWaits s w)
 
 -- what holds besides, at each moment
 pub record StandsFast {Disk Why : Type 0} (s : Setting Disk Why) (w : World Disk) : Type 0 where

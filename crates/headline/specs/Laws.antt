@@ -9,7 +9,8 @@ use Rattle.agree_core.specs.Books.{IsAgreedByFiles}
 use Rattle.headline.specs.declared.version.FileVersion.{FileVersion}
 use Rattle.headline.specs.Worlds.{Setting, World, votes_in}
 use Rattle.headline.specs.Runs.{AtEachMoment, Begins, Moment, Run, last_of}
-use Rattle.headline.specs.Headline.{AtEachEvent, Headline, IsSoundAnswer, KeepsVotes, StandsFast, WithinAgreed}
+use Rattle.headline.specs.Noted.{KeepsNoted}
+use Rattle.headline.specs.Headline.{AfterEach, AtEachEvent, Headline, IsSoundAnswer, KeepsVotes, StandsFast, WithinAgreed}
 use Rattle.headline.specs.Match.{setting_of}
 
 -- the list that both files show is the agreed list of the last votes
@@ -22,10 +23,12 @@ FilesShowAgreed w ms =
 pub record HoldsInRun
     {Disk Why : Type 0} (s : Setting Disk Why) (innings : ℕ) (w : World Disk) (ms : List (Moment Disk Why))
     : Type 0 where
-  pub headline : Headline innings w ms
+  pub headline : Headline s innings w ms
   -- besides, all books are prefixes of the agreed list of the last votes, and both files show that list
   pub within_agreed : WithinAgreed w ms
   pub by_files : FilesShowAgreed w ms
+  -- seats and readers keep just the votes that are noted
+  pub noted : AfterEach ms (KeepsNoted s w)
   -- no vote is lost; how the votes stand and are kept at each moment; and which answers never come
   pub votes_kept : AtEachEvent w ms KeepsVotes
   pub stands_fast : AtEachMoment w ms (StandsFast s)

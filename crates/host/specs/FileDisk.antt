@@ -21,7 +21,7 @@ cap_of disk = mirror.cap_of disk.mirror
 
 -- as many failures as the mirror's
 abbrev pub always_due : Faults → Faults
-always_due faults = record { count = faults.count; due = Ever }
+always_due faults = record { count = faults.count; due = Ever 0 }
 
 abbrev pub faults_of : {F : Type 0} → FileDisk F → Faults
 faults_of disk = always_due (mirror.faults_of disk.mirror)

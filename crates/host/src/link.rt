@@ -1,12 +1,14 @@
 //! What carries datagrams between two desks and a board.
 
 use agree_core::Asker;
+use thiserror::Error;
 
 /// How many bytes of a datagram are taken at most: more than a message has, so that a longer one is seen as such.
 pub const ROOM: usize = 64;
 
 /// A send or a take failed.
-#[derive(Clone, Copy, Debug, PartialEq, Eq)]
+#[derive(Clone, Copy, Debug, PartialEq, Eq, Error)]
+#[error("the link failed")]
 pub struct LinkFault;
 
 /// Carries datagrams. Nothing is known of what it loses, changes or makes up.

@@ -1,3 +1,3 @@
--- What is claimed of a task that ended: Stopped. For private functions only: Opening.
-pub mod Opening
+-- What is claimed of a task that ended: Stopped. inner: for private functions only.
 pub mod Stopped
+pub mod inner

@@ -2,7 +2,7 @@
 
 ghost use Rattle.std.specs.Prelude.{◌≡◌, ◌≤◌, IfOk, vec_len};
 ghost use Rattle.host.specs.declared.limit.TheConstants.{LONGEST_INPUT};
-ghost use Rattle.laptop.specs.Opening as texts;
+ghost use Rattle.laptop.specs.inner.Opening as texts;
 
 use crate::address::{Address, MOST_PEERS};
 use crate::peers::Peers;
@@ -10,15 +10,12 @@ use crate::stopped::{StopFault, Stopped};
 use agree_core::DeskId;
 use books::{RunFault, read_all, sheet_run};
 use cards::{MatchSheet, Watched};
-use entry_log::OldSlots;
+use entry_log::{LONGEST_FILE, OldSlots};
 use host::{FileDisk, OpenFault};
 use std::fs::{self, File, OpenOptions};
 use std::io::{self, BufWriter, Printer};
 use std::net::SocketAddr;
 use vote_store::{Refusal, Votes};
-
-/// The most bytes that a new votes file can have: a header and 16,384 slots of 64 bytes each, and a gate.
-const LONGEST_FILE: usize = 1_048_641;
 
 /// Standard output, a buffer at a time.
 pub type Output<'a> = Watched<BufWriter<Printer<'a, HostRuntime>>>;
@@ -142,10 +139,10 @@ pub fn new_disk_in<'a>(
     folder: &'a str,
     name: &str,
 ) -> Result<FileDisk<File>, Stopped<'a>> {
-    let path = match format!(in rt.alloc(); "{folder}/{name}") {
-        Ok(path) => path,
-        Err(_) => return Err(Stopped::at(folder, RunFault::NoMemory)),
-    };
+    let path = format!(in rt.alloc(); "{folder}/{name}").map_err(|why| Stopped::at(
+        folder,
+        RunFault::from(why),
+    ))?;
     new_disk_at(rt, path.as_str()).map_err(|stopped| Stopped {
         path: folder,
         fault: stopped.fault,

@@ -20,10 +20,9 @@ type Shown<'a> = Watched<Sign<BufWriter<Printer<'a, HostRuntime>>, TextFile<'a>>
 /// Standard output and the file of a board's text, where there is one.
 fn shown<'a>(rt: &'a HostRuntime, text: Option<&'a str>) -> Result<Shown<'a>, Stopped<'a>> {
     let file = match text {
-        Some(path) => match TextFile::new(rt, path) {
-            Ok(file) => Some(file),
-            Err(_) => return Err(Stopped::at(path, RunFault::NoMemory)),
-        },
+        Some(path) => {
+            Some(TextFile::new(rt, path).map_err(|why| Stopped::at(path, RunFault::from(why)))?)
+        }
         None => None,
     };
     Ok(Watched::new(Sign::new(rt.alloc(), printer(rt)?, file)))
@@ -53,10 +52,10 @@ pub fn board_run<'a>(
 ) -> Result<bool, Stopped<'a>> {
     let sheet = sheet_at(rt, sheet)?;
     let mut out = shown(rt, text)?;
-    let book = match CheckedBook::new(rt.alloc(), sheet.innings()) {
-        Ok(book) => book,
-        Err(_) => return Err(Stopped::at("-", RunFault::NoMemory)),
-    };
+    let book = CheckedBook::new(rt.alloc(), sheet.innings()).map_err(|why| Stopped::at(
+        "-",
+        RunFault::from(why),
+    ))?;
     let mut board = Board::new(sheet.game(), book);
     let mut link = peers_at(rt, at, peers)?;
     let mut clock = Watch::new(rt);

@@ -33,10 +33,10 @@ fn desk_at<'a>(
     ensures owner { IfOk result (IsOf desk sheet.now.game sheet.now.innings) }
 {
     let disk = kept_disk_at(rt, file)?;
-    let book = match CheckedBook::new(rt.alloc(), sheet.innings()) {
-        Ok(book) => book,
-        Err(_) => return Err(Stopped::at(file, RunFault::NoMemory)),
-    };
+    let book = CheckedBook::new(rt.alloc(), sheet.innings()).map_err(|why| Stopped::at(
+        file,
+        RunFault::from(why),
+    ))?;
     let begun = begin_desk::<Slots<FileDisk<File>>, CheckedBook>(
         rt.alloc(),
         disk,

@@ -19,6 +19,7 @@ mod boards;
 mod desks;
 mod ends;
 mod memory;
+mod three;
 
 type Station = Desk<Slots<MemDisk>, Book>;
 

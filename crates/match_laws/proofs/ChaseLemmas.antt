@@ -1,5 +1,5 @@
 -- What a side that bats last needs, and what it has won.
-use Rattle.std.proofs.Common.{◌≡◌, ℕ, zero, suc, ◌+◌, ◌-◌, ◌≤◌, ◌<◌, Bool, true, false, Some, None, Option, List, [], ◌∷◌, refl, sym, subst, ap, ◌∙◌, arith, leb, inl, inr, ◌⊎◌}
+use Rattle.std.proofs.Common.{◌≡◌, ℕ, zero, suc, ◌+◌, ◌-◌, ◌≤◌, ◌<◌, Bool, true, false, Some, None, Option, [], ◌∷◌, refl, sym, subst, ap, ◌∙◌, arith, leb, inl, inr, ◌⊎◌}
 use Rattle.std.proofs.lemmas.Bool.{eq-eqb, eqb-true, le-leb, lt-leb, leb-true}
 use Rattle.std.proofs.lemmas.Bool.Decides.{leb_tells}
 use Rattle.std.specs.Prelude.{◌==◌, ◌&&◌, ◌||◌, not, nat_le, nat_lt, if◌then◌else◌}
@@ -10,7 +10,6 @@ use Rattle.ball_laws.specs.History.{History}
 use Rattle.match_laws.specs.declared.outcome.Outcome.{Outcome}
 use Rattle.match_laws.specs.declared.outcome.Outcome.TheVariants.{Undecided, Draw, Tie, Runs, Wickets, InningsAnd, PenaltyRuns}
 use Rattle.match_laws.specs.History.{begun, side_eq, side_of, is_side, last_side, is_open, is_closed, is_batting, begun_by, completed_by, opponent}
-use Rattle.ball_laws.specs.Sums.{one_if}
 use Rattle.match_laws.specs.Figures.{total, wickets}
 use Rattle.match_laws.specs.Result.{share, side_total, current, is_finished, is_chasing, leads, lead, has_won, won_by, needed, outcome, target}
 use Rattle.match_laws.specs.Refusals.{IsLegal}

@@ -4,8 +4,10 @@ use Rattle.entry_log.specs.Disk.{Images}
 use Rattle.agree_core.specs.declared.messages.DeskId.TheVariants.{A, B}
 use Rattle.agree_core.specs.Ballots.{Ballot, In}
 use Rattle.agree_core.specs.Ballots as ballots
-use Rattle.headline.proofs.Whole.{holds_in_run}
-use Rattle.headline.specs.Headline.{ArePenned, ByBoth, NoneWaits, PennedBefore, ShowsScore}
+use Rattle.headline.proofs.Keeping.{begins_fine}
+use Rattle.headline.proofs.Shown.{each_moment, none_keeps_both}
+use Rattle.headline.proofs.EveryRun.{holds_in_run}
+use Rattle.headline.specs.Headline.{AfterEach, ArePenned, ByBoth, NoneKeepsBoth, ShowsScore}
 use Rattle.headline.specs.Match.{setting_of}
 use Rattle.headline.specs.Runs.{Begins, Moment, Shows}
 use Rattle.headline.specs.declared.version.FileVersion.{FileVersion}
@@ -21,8 +23,8 @@ module _ {Disk : Type 0} where
   begins_calm s version boards w b A = ap (λ (x : Site Disk). x.due) b.a.1
   begins_calm s version boards w b B = ap (λ (x : Site Disk). x.due) b.b.1
 
-  now_penned : (w : World Disk) (ms : List (Moment Disk Refusal)) → PennedBefore w ms → ArePenned w ms
-  now_penned w [] h = λ d b i. absurd (h d b i)
+  now_penned : (w : World Disk) (ms : List (Moment Disk Refusal)) → AfterEach ms (ArePenned w) → ArePenned w ms
+  now_penned w [] h = h
   now_penned w (m ∷ ms) h = h.0
 
 module _ {Disk : Type 0} (seen : Disk → List ℕ) (images : Disk → Images) where
@@ -42,5 +44,5 @@ module _ {Disk : Type 0} (seen : Disk → List ℕ) (images : Disk → Images) w
         by_both = at_each ByBoth w hs p.0 p.2 h.by_both.0;
         typed = λ d b i. p.4 d b (now_penned w p.0 h.by_both.1 d b (subst (λ (v : World Disk). In b (ballots.votes_of (votes_in v) d)) (sym p.3) i));
         scores = λ t u n score other x y. h.scores t u n score other (at_some (λ v. ShowsScore innings v t n score) w hs p.0 p.2 x) (at_some (λ v. ShowsScore innings v u n other) w hs p.0 p.2 y);
-        none_waits = at_each NoneWaits w hs p.0 p.2 h.has_entry.1;
+        none_waits = at_each NoneKeepsBoth w hs p.0 p.2 (each_moment s w p.0 NoneKeepsBoth (none_keeps_both s) (begins_fine s version boards w f.0) p.1);
       }

@@ -23,7 +23,7 @@ use Rattle.corrections.specs.Refusal.{book_refusal}
 use Rattle.entry_log.specs.Slots.{Contents}
 use Rattle.vote_store.specs.View.{votes_shown}
 use Rattle.agree_core.specs.Openings.{Opened, Opens}
-use Rattle.headline.proofs.Whole.{holds_in_run}
+use Rattle.headline.proofs.EveryRun.{holds_in_run}
 use Rattle.headline.specs.declared.version.FileVersion.{FileVersion}
 use Rattle.headline.specs.Headline.{StandsFast}
 use Rattle.headline.specs.Match.{setting_of}

@@ -10,7 +10,7 @@ use Rattle.agree_core.specs.Desks.{DeskState}
 use Rattle.headline.specs.declared.event.Station.{Station}
 use Rattle.headline.specs.Worlds.{Running, World, site, votes_in}
 use Rattle.headline.specs.Runs.{Shows}
-use Rattle.headline.specs.Headline.{ByBoth, NoneWaits, ShowsScore}
+use Rattle.headline.specs.Headline.{ByBoth, NoneKeepsBoth, ShowsScore}
 use Rattle.live.specs.Desks as desks
 use Rattle.live.specs.Saying.{SaysEntry}
 use Rattle.processes.specs.Happenings.{Happening, DeskCalled, after}
@@ -50,5 +50,5 @@ pub record ProcessHeadline {Disk : Type 0} (innings : ℕ) (w : World Disk) (hs 
   pub scores : (t u : Station) (n : ℕ) (score other : Standing)
       → AtSomeTime w hs (λ v. ShowsScore innings v t n score)
       → AtSomeTime w hs (λ v. ShowsScore innings v u n other) → score ≡ other
-  -- no process whose disk hasn't failed keeps both equal votes of its position: it has the entry
-  pub none_waits : AtEachTime w hs NoneWaits
+  -- no process keeps both votes of its position: it has the entry, where they are equal
+  pub none_waits : AtEachTime w hs NoneKeepsBoth

@@ -13,7 +13,7 @@ use Rattle.schedule_replay.specs.Replays.{IsRunOf, MatchRun}
 use Rattle.headline.specs.Runs.{last_of}
 use Rattle.schedule_replay.specs.SeenWords.{refusal_number}
 use Rattle.headline.specs.Worlds as worlds
-use Rattle.schedule_replay.specs.RunsSoFar.{IsAt}
+use Rattle.schedule_replay.specs.inner.RunsSoFar.{IsAt}
 use Rattle.schedule_replay.proofs.ReplayLemmas.{begins_at, refuses_at, steps_on}
 use Rattle.runs.specs.ReplayRun.{RefusesOne, TakesAll}
 

@@ -1,7 +1,7 @@
 -- What the public calls claim: MatchRun, Migrate, Replay, ReplayRun.
--- For private functions only: Turns.
+-- inner: for private functions only.
 pub mod MatchRun
 pub mod Migrate
 pub mod Replay
 pub mod ReplayRun
-pub mod Turns
+pub mod inner

@@ -1,15 +1,18 @@
 //! `ground match`: two desks and a board agree the lines of a book.
 
-ghost use Rattle.std.specs.Prelude.{◌≡◌, ◌≢◌, ◌≤◌, ◌<◌, ◌⊎◌, [], length, Err, IfErr, IfOk, OnOk};
+ghost use Rattle.std.specs.Prelude.{◌≡◌, ◌≢◌, ◌≤◌, ◌<◌, ◌⊎◌, List, [], length, Err, IfErr, IfOk, OnOk};
 ghost use Rattle.corrections.specs.CleanList.{history_of};
 ghost use Rattle.cards.specs.Board.{board as board_text};
 ghost use Rattle.cards.specs.Watched.{IsHandedOn, MeetsFailure, Prints};
-ghost use Rattle.desk.specs.Desk.{game_of};
+ghost use Rattle.desk.specs.Desk.{SameOwner, game_of};
 ghost use Rattle.board.specs.Board.{book_of};
+ghost use Rattle.vote_store.specs.Migrated.{answer_of};
 ghost use Rattle.vote_store.specs.Refusal.{not_empty};
 ghost use Rattle.books.specs.CardBook.{IsBookOfLines};
-ghost use Rattle.runs.specs.MatchRun.{AgreesLines, IsQuiet, Stays, WhyNoMatch, answer_of, left_at_a, left_at_b};
-ghost use Rattle.runs.specs.Turns.{AreCalm, AreLevel, book_at, innings_at};
+ghost use Rattle.live.specs.Passed.{Passed};
+ghost use Rattle.runs.specs.MatchRun.{AgreesLines, IsQuiet, Leaves, Stays, WhyNoMatch, left_at_a, left_at_b, passed_at};
+ghost use Rattle.runs.specs.inner.Online.{IsOnline};
+ghost use Rattle.runs.specs.inner.Turns.{AreCalm, AreLevel, LinesLeave, board_at, book_at, innings_at};
 
 use crate::post::Post;
 use crate::turns::{Stations, new_stations};
@@ -24,8 +27,9 @@ use vote_store::Refusal;
 
 /// Has the stations take the lines of an input, one after the other.
 fn take_lines<S: SlotsOf, L: Link>(
-    stations: &mut Stations<S, L>,
+    stations: &mut Stations<S>,
     input: &[u8],
+    post: &mut Post<L>,
 ) -> Result<(), RunFault>
     requires short { length input.now ≤ LONGEST_INPUT }
     requires level { AreLevel stations.old.a stations.old.b stations.old.board }
@@ -33,8 +37,14 @@ fn take_lines<S: SlotsOf, L: Link>(
     ensures level { OnOk result (AreLevel stations.new.a stations.new.b stations.new.board) }
     ensures book { OnOk result
         (IsBookOfLines (innings_at stations.old.a) input.now (book_at stations.new.a)) }
-    ensures same_game { OnOk result (game_of stations.new.a ≡ game_of stations.old.a) }
-    ensures same_innings { OnOk result (innings_at stations.new.a ≡ innings_at stations.old.a) }
+    ensures owner_a { SameOwner stations.old.a stations.new.a }
+    ensures owner_b { SameOwner stations.old.b stations.new.b }
+    ensures online { OnOk result ((start : List Passed) →
+        IsOnline (game_of stations.old.a) start [] (passed_at post.old) (board_at stations.old.board) →
+        IsOnline (game_of stations.old.a) start (book_at stations.new.a) (passed_at post.new)
+        (board_at stations.new.board)) }
+    ensures left { IfErr result (λ fault.
+        LinesLeave (innings_at stations.old.a) input.now fault stations.new.a stations.new.b) }
     ensures why { IfErr result (WhyNoMatch (innings_at stations.old.a) input.now [] []) }
     ensures no_write { result ≢ Err RunFault.Write }
     ensures calm { AreCalm stations.old.a stations.old.b → result ≢ Err RunFault.Device }
@@ -43,7 +53,7 @@ fn take_lines<S: SlotsOf, L: Link>(
     let mut number = 0;
     while let Some(line) = lines.next() {
         number += 1;
-        stations.take(number, line)?;
+        stations.take(number, line, post)?;
     }
     Ok(())
 }
@@ -81,9 +91,10 @@ fn expect_both_empty<D: Disk>(a: &mut D, b: &mut D) -> Result<(), RunFault>
 
 /// Has the stations take the lines of an input, and prints the board's six lines.
 fn play<S: SlotsOf, L: Link, W: Write>(
-    stations: &mut Stations<S, L>,
+    stations: &mut Stations<S>,
     sheet: &MatchSheet,
     input: &[u8],
+    post: &mut Post<L>,
     writer: &mut Watched<W>,
 ) -> Result<(), RunFault>
     requires short { length input.now ≤ LONGEST_INPUT }
@@ -92,8 +103,14 @@ fn play<S: SlotsOf, L: Link, W: Write>(
     ensures level { OnOk result (AreLevel stations.new.a stations.new.b stations.new.board) }
     ensures book { OnOk result
         (IsBookOfLines (innings_at stations.old.a) input.now (book_at stations.new.a)) }
-    ensures same_game { OnOk result (game_of stations.new.a ≡ game_of stations.old.a) }
-    ensures same_innings { OnOk result (innings_at stations.new.a ≡ innings_at stations.old.a) }
+    ensures owner_a { SameOwner stations.old.a stations.new.a }
+    ensures owner_b { SameOwner stations.old.b stations.new.b }
+    ensures online { OnOk result ((start : List Passed) →
+        IsOnline (game_of stations.old.a) start [] (passed_at post.old) (board_at stations.old.board) →
+        IsOnline (game_of stations.old.a) start (book_at stations.new.a) (passed_at post.new)
+        (board_at stations.new.board)) }
+    ensures left { IfErr result (λ fault.
+        LinesLeave (innings_at stations.old.a) input.now fault stations.new.a stations.new.b) }
     ensures written { OnOk result (Prints W.contents writer.old writer.new
         (board_text sheet.now (innings_at stations.old.a)
         (history_of (book_of stations.new.board).entries))) }
@@ -103,7 +120,7 @@ fn play<S: SlotsOf, L: Link, W: Write>(
     ensures write { result ≡ Err RunFault.Write → MeetsFailure writer.old writer.new }
     ensures unwritten { IfErr result (λ fault. fault ≢ RunFault.Write → writer.new ≡ writer.old) }
 {
-    take_lines(stations, input)?;
+    take_lines(stations, input, post)?;
     match stations.print_board(sheet, writer) {
         Ok(()) => Ok(()),
         Err(_) => Err(RunFault::Write),
@@ -116,22 +133,27 @@ fn play<S: SlotsOf, L: Link, W: Write>(
 /// datagrams, until none comes in time. A line that isn't taken ends the run, and so does a place that isn't
 /// agreed in fifty turns of each station. A disk that has a file is refused before either is written, so that both
 /// stay as they were. Both disks come back. At `Ok`, whatever the link loses, changes or makes up, they hold just the
-/// book of the lines, which a power loss doesn't take away.
-pub fn run_match<D: Disk + Drop, L: Link + Drop, W: Write>(
+/// book of the lines, which a power loss doesn't take away; and where the link gives only what was sent, lost,
+/// repeated or in another order, the board's book is the same.
+pub fn run_match<D: Disk + Drop, L: Link, W: Write>(
     alloc: Global,
     sheet: &MatchSheet,
     input: &[u8],
     mut a: D,
     mut b: D,
-    post: Post<L>,
+    post: &mut Post<L>,
     writer: &mut Watched<W>,
 ) -> Result<(D, D), (RunFault, D, D)>
     requires { length input.now ≤ LONGEST_INPUT }
     ensures agreed { IfOk result (λ disks.
-        AgreesLines W.contents writer.old writer.new D.seen D.images sheet.now input.now disks.0 disks.1) }
+        AgreesLines W.contents writer.old writer.new D.seen D.images sheet.now input.now
+        (passed_at post.old) (passed_at post.new) disks.0 disks.1) }
     ensures only_empty { OnOk result ((length (D.seen a) ≡ 0) × (length (D.seen b) ≡ 0)) }
     ensures why { IfErr (answer_of result)
         (WhyNoMatch sheet.now.innings input.now (D.seen a) (D.seen b)) }
+    // What both disks hold after each fault.
+    ensures left { IfErr (answer_of result) (λ fault. Leaves D.seen D.images sheet.now input.now fault a b
+        (left_at_a result) (left_at_b result)) }
     // Where a disk has a file, both stay as they were, and so the next run meets the same.
     ensures kept { (0 < length (D.seen a)) ⊎ (0 < length (D.seen b)) →
         Stays D.seen D.images a (left_at_a result) × Stays D.seen D.images b (left_at_b result) }
@@ -147,8 +169,8 @@ pub fn run_match<D: Disk + Drop, L: Link + Drop, W: Write>(
     if let Err(why) = expect_both_empty(&mut a, &mut b) {
         return Err((why, a, b));
     }
-    let mut stations = new_stations(alloc, sheet, a, b, post)?;
-    let answer = play(&mut stations, sheet, input, writer);
+    let mut stations = new_stations(alloc, sheet, a, b)?;
+    let answer = play(&mut stations, sheet, input, post, writer);
     let (a, b) = stations.into_disks();
     match answer {
         Ok(()) => Ok((a, b)),

@@ -44,10 +44,11 @@ use Rattle.schedule_replay.specs.Refusals.{LeftByWant, down_at, first_cause, may
 use Rattle.headline.specs.Match.{match_of}
 use Rattle.schedule_replay.specs.Answers.{AreBytesOf, answer_of}
 use Rattle.headline.specs.Runs.{Begins, BeginsAt}
-use Rattle.schedule_replay.specs.Sites.{BeginsSite, IsProcess, IsSite}
+use Rattle.schedule_replay.specs.inner.Sites.{BeginsSite, IsProcess, IsSite}
 use Rattle.schedule_replay.specs.WorldDesks.{state_of}
+use Rattle.schedule_replay.specs.Plans.{StaysDue, due_on}
 use Rattle.schedule_replay.specs.CodeWorlds.{BeginsWorld, boards_of, version_of, IsBoardOf, IsSiteOf, IsWorld, MatchBoard, RefusesTo, StepsTo, board_game, board_innings, board_seen, board_state, code_site}
-use Rattle.schedule_replay.specs.WorldBoards.{AreFresh, BoardSteps, SameBoard}
+use Rattle.schedule_replay.specs.inner.WorldBoards.{AreFresh, BoardSteps, SameBoard}
 use Rattle.schedule_replay.proofs.TakeLemmas.{sending_grows}
 use Rattle.schedule_replay.proofs.GiveLemmas.{datagram_at, message_at, message_in, not_both}
 use Rattle.schedule_replay.proofs.SiteLemmas.{more_bytes, no_bytes}
@@ -159,6 +160,11 @@ BoardGives event k messages seen l after game innings =
     × AtBoard (match_of game innings) messages event (board_state k) answer (board_state l) out
     × AreBytesOf game after (messages ++ out)
 
+-- an event at a board leaves each desk's disk
+same_disks : (w v : worlds.World MemDisk) → v.a ≡ w.a → v.b ≡ w.b → (d : DeskId) → StaysDue (worlds.site v d).due (Some (worlds.disk_of (worlds.site w d).process)) (Some (worlds.disk_of (worlds.site v d).process))
+same_disks w v a b A fault due = ap (λ (z : worlds.Site MemDisk). due_on (Some (worlds.disk_of z.process))) a
+same_disks w v a b B fault due = ap (λ (z : worlds.Site MemDisk). due_on (Some (worlds.disk_of z.process))) b
+
 -- an event that a board has taken
 pub board_steps : (n : ℕ) (old new : World) (k l : MatchBoard) (event same : Event) (seen : Seen) (before after : List Datagram) → station_of event ≡ stations.Board n → IsThere n old event k → PutsBoard n old new l → (IsBoardOf old.game old.innings_a_side k → IsBoardOf old.game old.innings_a_side l) → event ≡ same → before ≡ old.sent.items → after ≡ new.sent.items → BoardSteps same k before seen l after → StepsTo event old seen new
 board_steps n old new k l event same seen before after e t c owner q b a steps w h =
@@ -171,7 +177,7 @@ board_steps n old new k l event same seen before after e t c owner q b a steps w
     let there : board_at w.boards (suc (n - 1)) ≡ Some (board_state k) = ap (λ (bs : List BoardState). slice_get bs (n - 1)) h.board_states ∙ slice_get-map board_state old.boards.items (n - 1) ∙ ap (option_map board_state) t.here in
     let step : StepAt (match_of old.game old.innings_a_side) w event (station_of event) given.1 world =
     subst (λ (u : Station). StepAt (match_of old.game old.innings_a_side) w event u given.1 world) (sym (e ∙ ap stations.Board t.number)) (board_state k, board_state l, given.0, there, given.3, refl) in
-    (cause_is n old w event e h ∙ t.none, (given.1, world, given.2, step, put n old new l w given.0 c (owner of) h (subst (λ (z : List Datagram). AreBytesOf old.game z (w.sent ++ given.0)) a given.4), λ d f. absurd (not_desk n d (sym e ∙ f))))
+    (cause_is n old w event e h ∙ t.none, (given.1, world, given.2, step, put n old new l w given.0 c (owner of) h (subst (λ (z : List Datagram). AreBytesOf old.game z (w.sent ++ given.0)) a given.4), λ d f. absurd (not_desk n d (sym e ∙ f)), λ none. same_disks w world refl refl))
   where
     not_desk : (n : ℕ) (d : DeskId) → stations.Board n ≡ stations.Desk d → ⊥
     not_desk n d q = absurd (cc)

@@ -3,7 +3,7 @@ use Rattle.std.proofs.Common.{◌≡◌, ℕ, suc, Option, Some, None, List, [],
 use Rattle.std.specs.Option.{is_none, is_some}
 use Rattle.entry_log.specs.Disk.{Images, IsImage, only}
 use Rattle.entry_log.specs.Format.{contents}
-use Rattle.entry_log.specs.MemDisk.{SetsPlan, cap_of, faults_of, file_of, images_of, plan_of}
+use Rattle.entry_log.specs.MemDisk.{SetsPlan, call_count, cap_of, faults_of, file_of, images_of, plan_of}
 use Rattle.entry_log.specs.Plan.{due_of}
 use Rattle.entry_log.specs.declared.mem_disk.MemDisk.{MemDisk}
 use Rattle.entry_log.specs.declared.mem_disk.choice.Choice.{Choice}
@@ -30,7 +30,7 @@ use Rattle.headline.specs.Worlds.{Process, Running, Down}
 use Rattle.headline.specs.Steps.{Answer, LosesPower, StaysDown}
 use Rattle.headline.specs.Match.{format_of, match_of, most_bytes}
 use Rattle.schedule_replay.specs.Answers.{AreBytesOf}
-use Rattle.schedule_replay.specs.Sites.{IsDue, IsProcess, IsSite, IsWorldDisk, PutsDown, SiteSteps}
+use Rattle.schedule_replay.specs.inner.Sites.{IsDue, IsProcess, IsSite, IsWorldDisk, PutsDown, SiteSteps}
 use Rattle.schedule_replay.specs.WorldDesks.{SameOwner, disk_of, game_of, state_of}
 use Rattle.schedule_replay.proofs.SiteLemmas.{HasDisk, down_is, has_disk, more_bytes, no_bytes, put_down_is, running_is, runs_again, sets_plan_stays}
 
@@ -103,7 +103,7 @@ powers old mid new choice there left sent put at lost is x messages h b =
     let none : mid.due ≡ None = put.due in
     let on : IsWorldDisk mid.version mid.due left = record {
       cap = lost.cap ∙ plan.cap ∙ d.cap ∙ ap most_bytes (sym put.version);
-      faults = subst (λ (o : Option Fault). IsDue o (faults_of left).due) (sym none) (ap due_of lost.plan);
+      faults = subst (λ (o : Option Fault). IsDue o (faults_of left).due) (sym none) (ap (due_of (call_count left)) lost.plan);
     } in
     let process : IsProcess (record mid { disk = Some left }) mid.desk (Some left) y.process = down_is (record mid { disk = Some left }) left (worlds.votes_of x.process) put.desk refl (put.counted ∙ d.votes) on in
     let site : IsSite new y = subst (λ (z : Site). IsSite z y) (sym is) (record { version = h.version ∙ sym put.version; process = process; due = sym put.due }) in
@@ -118,22 +118,22 @@ powers old mid new choice there left sent put at lost is x messages h b =
     some_is a b e = cc
 
 -- a fault falls due at a running desk
-pub falls_due_running : (old : Site) (k l : WorldDesk) (fault : Fault) (plan : Plan) (event : Event) (sent : List Datagram) → old.desk ≡ Some k → SetsPlan plan (disk_of k) (disk_of l) → state_of l ≡ record (state_of k) { disk = disk_of l } → SameOwner k l → IsDue (Some fault) (due_of plan) → (x : worlds.Site MemDisk) (messages : List Message) → IsSite old x → AreBytesOf old.game sent messages → Rattle.headline.specs.Steps.FallsDue ((match_of old.game old.innings_a_side).view old.name x.version) fault x (record x { process = Running (state_of l); due = Some fault }) × IsSite (record old { desk = Some l; due = Some fault }) (record x { process = Running (state_of l); due = Some fault })
+pub falls_due_running : (old : Site) (k l : WorldDesk) (fault : Fault) (plan : Plan) (event : Event) (sent : List Datagram) → old.desk ≡ Some k → SetsPlan plan (disk_of k) (disk_of l) → state_of l ≡ record (state_of k) { disk = disk_of l } → SameOwner k l → ((calls : ℕ) → IsDue (Some fault) (due_of calls plan)) → (x : worlds.Site MemDisk) (messages : List Message) → IsSite old x → AreBytesOf old.game sent messages → Rattle.headline.specs.Steps.FallsDue ((match_of old.game old.innings_a_side).view old.name x.version) fault x (record x { process = Running (state_of l); due = Some fault }) × IsSite (record old { desk = Some l; due = Some fault }) (record x { process = Running (state_of l); due = Some fault })
 falls_due_running old k l fault plan event sent here sets state owner due x messages h b =
     let r = running_is old k x here h in
     let shown : Running (state_of l) ≡ worlds.with_disk x.process (disk_of l) = ap (λ (s : DeskState MemDisk). Running s) state ∙ ap (λ (z : Process MemDisk). worlds.with_disk z (disk_of l)) (sym r.process) in
     let stays : Stays ((match_of old.game old.innings_a_side).view old.name x.version) (worlds.disk_of x.process) (disk_of l) =
     subst (λ (z : Process MemDisk). Stays ((match_of old.game old.innings_a_side).view old.name x.version) (worlds.disk_of z) (disk_of l)) (sym r.process) (sets_plan_stays old.name x.version old.game plan (disk_of k) (disk_of l) sets) in (
       (disk_of l, stays, ap (λ (p : Process MemDisk). record x { process = p; due = Some fault }) shown),
-      runs_again old k l (Some fault) x here h owner (subst (λ (p : Plan). IsDue (Some fault) (due_of p)) (sym sets.plan) due),
+      runs_again old k l (Some fault) x here h owner (subst (λ (p : Plan). IsDue (Some fault) (due_of (call_count (disk_of l)) p)) (sym sets.plan) (due (call_count (disk_of l)))),
     )
 
 -- and at one that is down
-pub falls_due_down : (old : Site) (disk left : MemDisk) (fault : Fault) (plan : Plan) → old.desk ≡ None → old.disk ≡ Some disk → SetsPlan plan disk left → IsDue (Some fault) (due_of plan) → (x : worlds.Site MemDisk) → IsSite old x → Rattle.headline.specs.Steps.FallsDue ((match_of old.game old.innings_a_side).view old.name x.version) fault x (record x { process = worlds.with_disk x.process left; due = Some fault }) × IsSite (record old { disk = Some left; due = Some fault }) (record x { process = worlds.with_disk x.process left; due = Some fault })
+pub falls_due_down : (old : Site) (disk left : MemDisk) (fault : Fault) (plan : Plan) → old.desk ≡ None → old.disk ≡ Some disk → SetsPlan plan disk left → ((calls : ℕ) → IsDue (Some fault) (due_of calls plan)) → (x : worlds.Site MemDisk) → IsSite old x → Rattle.headline.specs.Steps.FallsDue ((match_of old.game old.innings_a_side).view old.name x.version) fault x (record x { process = worlds.with_disk x.process left; due = Some fault }) × IsSite (record old { disk = Some left; due = Some fault }) (record x { process = worlds.with_disk x.process left; due = Some fault })
 falls_due_down old disk left fault plan down there sets due x h =
     let p : IsProcess old None (Some disk) x.process = subst (λ (o : Option MemDisk). IsProcess old None o x.process) there (subst (λ (o : Option WorldDesk). IsProcess old o old.disk x.process) down h.process) in
     let on = p.0 in
-    let faults : IsDue (Some fault) (faults_of left).due = subst (λ (z : Plan). IsDue (Some fault) (due_of z)) (sym sets.plan) due in
+    let faults : IsDue (Some fault) (faults_of left).due = subst (λ (z : Plan). IsDue (Some fault) (due_of (call_count left) z)) (sym sets.plan) (due (call_count left)) in
     let votes = p.1 in
     let same : worlds.with_disk x.process left ≡ Down votes.0 left = ap (λ (z : Process MemDisk). worlds.with_disk z left) votes.2 in
     let on_left : IsWorldDisk old.version (Some fault) left = record { cap = sets.cap ∙ on.cap; faults = faults } in
@@ -145,22 +145,22 @@ falls_due_down old disk left fault plan down there sets due x h =
 
 pub fails_running : (old : Site) (k l : WorldDesk) (n m : ℕ) (sent : List Datagram) → old.desk ≡ Some k → SetsPlan (plans.Fail m) (disk_of k) (disk_of l) → state_of l ≡ record (state_of k) { disk = disk_of l } → SameOwner k l → SiteSteps (events.FailAt old.name n) old sent seens.Done (record old { desk = Some l; due = Some Fail }) sent
 fails_running old k l n m sent here sets state owner x messages h b =
-    let f = falls_due_running old k l Fail (plans.Fail m) (events.FailAt old.name n) sent here sets state owner refl x messages h b in
+    let f = falls_due_running old k l Fail (plans.Fail m) (events.FailAt old.name n) sent here sets state owner (λ _. tt) x messages h b in
     (record x { process = Running (state_of l); due = Some Fail }, [], Answer.Done, refl, (f.0, refl, refl), f.1, no_bytes old.game sent messages b)
 
 pub stops_running : (old : Site) (k l : WorldDesk) (n m : ℕ) (sent : List Datagram) → old.desk ≡ Some k → SetsPlan (plans.Stop m) (disk_of k) (disk_of l) → state_of l ≡ record (state_of k) { disk = disk_of l } → SameOwner k l → SiteSteps (events.StopAt old.name n) old sent seens.Done (record old { desk = Some l; due = Some Stop }) sent
 stops_running old k l n m sent here sets state owner x messages h b =
-    let f = falls_due_running old k l Stop (plans.Stop m) (events.StopAt old.name n) sent here sets state owner tt x messages h b in
+    let f = falls_due_running old k l Stop (plans.Stop m) (events.StopAt old.name n) sent here sets state owner (λ _. tt) x messages h b in
     (record x { process = Running (state_of l); due = Some Stop }, [], Answer.Done, refl, (f.0, refl, refl), f.1, no_bytes old.game sent messages b)
 
 pub fails_down : (old : Site) (disk left : MemDisk) (n m : ℕ) (sent : List Datagram) → old.desk ≡ None → old.disk ≡ Some disk → SetsPlan (plans.Fail m) disk left → SiteSteps (events.FailAt old.name n) old sent seens.Done (record old { disk = Some left; due = Some Fail }) sent
 fails_down old disk left n m sent down there sets x messages h b =
-    let f = falls_due_down old disk left Fail (plans.Fail m) down there sets refl x h in
+    let f = falls_due_down old disk left Fail (plans.Fail m) down there sets (λ _. tt) x h in
     (record x { process = worlds.with_disk x.process left; due = Some Fail }, [], Answer.Done, refl, (f.0, refl, refl), f.1, no_bytes old.game sent messages b)
 
 pub stops_down : (old : Site) (disk left : MemDisk) (n m : ℕ) (sent : List Datagram) → old.desk ≡ None → old.disk ≡ Some disk → SetsPlan (plans.Stop m) disk left → SiteSteps (events.StopAt old.name n) old sent seens.Done (record old { disk = Some left; due = Some Stop }) sent
 stops_down old disk left n m sent down there sets x messages h b =
-    let f = falls_due_down old disk left Stop (plans.Stop m) down there sets tt x h in
+    let f = falls_due_down old disk left Stop (plans.Stop m) down there sets (λ _. tt) x h in
     (record x { process = worlds.with_disk x.process left; due = Some Stop }, [], Answer.Done, refl, (f.0, refl, refl), f.1, no_bytes old.game sent messages b)
 
 -- of a whole site that is neither running nor down there is none

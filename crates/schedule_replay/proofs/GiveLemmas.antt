@@ -34,7 +34,7 @@ use Rattle.headline.specs.Worlds.{Running}
 use Rattle.headline.specs.Steps.{AfterReceive, Answer, has_any}
 use Rattle.headline.specs.Match.{match_of}
 use Rattle.schedule_replay.specs.Answers.{AreBytesOf, answer_of, given_seen, is_fault}
-use Rattle.schedule_replay.specs.Sites.{BreaksDown, SiteSteps}
+use Rattle.schedule_replay.specs.inner.Sites.{BreaksDown, SiteSteps}
 use Rattle.schedule_replay.specs.WorldDesks.{SameOwner, disk_of, game_of, state_of, view_of}
 use Rattle.schedule_replay.proofs.SiteLemmas.{Runs, broken_site, more_bytes, no_bytes, of_match, running_is, runs_on}
 

@@ -10,7 +10,7 @@ use Rattle.schedule_replay.specs.declared.world.World.{World}
 use Rattle.schedule_replay.specs.declared.world_desk.WorldDesk.{WorldDesk}
 use Rattle.headline.specs.Worlds as worlds
 use Rattle.headline.specs.Worlds.{Process}
-use Rattle.schedule_replay.specs.Sites.{IsProcess, IsSite}
+use Rattle.schedule_replay.specs.inner.Sites.{IsProcess, IsSite}
 use Rattle.schedule_replay.specs.WorldDesks.{game_of, innings_of, state_of}
 use Rattle.schedule_replay.specs.CodeWorlds.{IsBoardOf, IsSiteOf, IsWorld, MatchBoard, board_state}
 use Rattle.schedule_replay.specs.Lending.{Lends, LendsDesk, lent_desk, running_of}

@@ -4,6 +4,7 @@ pub mod ShowLemmas
 pub mod ReplayLemmas
 pub mod SiteLemmas
 pub mod PenLemmas
+pub mod DueLemmas
 pub mod EventLemmas
 pub mod OpenLemmas
 pub mod MigrateLemmas

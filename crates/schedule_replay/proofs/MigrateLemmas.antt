@@ -3,12 +3,12 @@ use Rattle.std.proofs.Common.{◌≡◌, ◌≢◌, ◌⊎◌, ◌<◌, ◌≤�
 use Rattle.std.specs.Bool.{⊤}
 use Rattle.std.specs.Prelude.{IsErrOf}
 use Rattle.corrections.specs.declared.refusal.Refusal.{Refusal}
-use Rattle.entry_log.specs.Disk.{Faults, Images, IsImage, Never, only}
+use Rattle.entry_log.specs.Disk.{Faults, Images, IsImage, IsOnce, Never, only}
 use Rattle.entry_log.specs.Format.{contents, room}
 use Rattle.entry_log.specs.Version1.{version_1}
 use Rattle.entry_log.specs.Version2.{version_2}
 use Rattle.entry_log.specs.declared.slot.TheConstants.{MAX_SLOTS}
-use Rattle.entry_log.specs.MemDisk.{IsFresh, SetsPlan, cap_of, faults_of, file_of, images_of, plan_of}
+use Rattle.entry_log.specs.MemDisk.{IsFresh, SetsPlan, call_count, cap_of, faults_of, file_of, images_of, plan_of}
 use Rattle.entry_log.specs.Plan.{due_of}
 use Rattle.entry_log.specs.declared.mem_disk.MemDisk.{MemDisk}
 use Rattle.entry_log.specs.declared.mem_disk.plan.Plan.TheVariants.{Calm}
@@ -36,7 +36,7 @@ use Rattle.headline.specs.Worlds.{Process, Down}
 use Rattle.headline.specs.Steps.{Answer, Failed, MigratesAt, NotSound, ToNew}
 use Rattle.headline.specs.Match.{format_of, most_bytes}
 use Rattle.schedule_replay.specs.Answers.{answer_of, is_failing, wants_memory}
-use Rattle.schedule_replay.specs.Sites.{BreaksDown, IsDue, IsSite, IsWorldDisk, NotFoundBy, SiteSteps}
+use Rattle.schedule_replay.specs.inner.Sites.{BreaksDown, IsDue, IsSite, IsWorldDisk, NotFoundBy, SiteSteps}
 use Rattle.schedule_replay.proofs.SiteLemmas.{down_is, no_bytes}
 use Rattle.schedule_replay.proofs.OpenLemmas.{Outcome, ViewAt, broken_down, down_at, memory_is, seen_is, stays_down, syncs}
 
@@ -55,6 +55,7 @@ pub record IsMoved (old : Site) (disk moved fresh new : MemDisk) : Type 0 where
   pub fresh_is : IsFresh [] (most_bytes versions.New) fresh
   pub here : SetsPlan Calm disk moved
   pub there : SetsPlan (plan_of disk) fresh new
+  pub due : (faults_of new).due ≡ (faults_of disk).due
 
 -- the file is migrated
 pub migrated : (old : Site) (disk moved fresh begun made : MemDisk) (n : ℕ) (sent : List Datagram) → old.version ≡ versions.Old → old.desk ≡ None → old.disk ≡ Some disk → IsMoved old disk moved fresh begun → IsMigrated (desk_code old.name) old.game (file_of moved) (images_of made) n → Holds (file_view (contents version_2) file_of images_of old.name old.game) made (old_votes (desk_code old.name) old.game (file_of moved)) → cap_of made ≡ cap_of begun → faults_of made ≡ faults_of begun → SiteSteps (events.Migrate old.name) old sent (seens.Migrated n) (record old { version = versions.New; disk = Some made }) sent
@@ -71,7 +72,7 @@ migrated old disk moved fresh begun made n sent version down there m is holds ca
     let y : worlds.Site MemDisk = record x { version = versions.New; process = Down d.votes made } in
     let at : MigratesAt {Why = Refusal} (ViewAt old) x x.version d.votes disk (Answer.Migrated n) y =
     subst (λ (v : FileVersion). MigratesAt {Why = Refusal} (ViewAt old) x v d.votes disk (Answer.Migrated n) y) (sym (h.version ∙ version)) (ToNew is.votes made, (found, held), (ap (λ (k : ℕ). Answer.Migrated k) is.many, refl)) in
-    let due : (faults_of made).due ≡ (faults_of disk).due = ap (λ (z : Faults). z.due) faults ∙ ap due_of begins.plan in
+    let due : (faults_of made).due ≡ (faults_of disk).due = ap (λ (z : Faults). z.due) faults ∙ m.due in
     let on_made : IsWorldDisk versions.New old.due made = record { cap = cap ∙ begins.cap ∙ empty.cap; faults = subst (IsDue old.due) (sym due) on.faults } in
     let site : IsSite (record old { version = versions.New; disk = Some made }) y = record { version = refl; process = down_is (record old { version = versions.New; disk = Some made }) made d.votes down refl (sym d.many) on_made; due = h.due } in
     (y, [], Answer.Migrated n, refl, (d.votes, disk, d.process, at, refl), site, no_bytes old.game sent messages b)
@@ -83,6 +84,7 @@ pub record IsReturned (old : Site) (disk moved begun left new last : MemDisk) (w
   pub cap : cap_of left ≡ cap_of moved
   pub blame : BlamesEither {T = Migrated MemDisk MemDisk} (room version_2 MAX_SLOTS ≤ cap_of begun) (Err why) (faults_of moved) (faults_of begun) (faults_of left) (faults_of new)
   pub back : SetsPlan (plan_of new) left last
+  pub due : (faults_of last).due ≡ (faults_of new).due
 
 only_is : (file image : List ℕ) → IsImage (only file) image → image ≡ file
 only_is [] [] h = refl
@@ -129,7 +131,7 @@ calm_faults old disk moved fresh begun left made last why m r n =
     let blame = r.blame in
     let same = blame.same (λ q. n (cc)) in
     let count : (faults_of last).count ≡ (faults_of disk).count = back.count ∙ ap (λ (z : Faults). z.count) same.0 ∙ here.count in
-    let due : (faults_of last).due ≡ (faults_of disk).due = ap due_of back.plan ∙ ap (λ (z : Faults). z.due) same.1 ∙ ap due_of there.plan in
+    let due : (faults_of last).due ≡ (faults_of disk).due = r.due ∙ ap (λ (z : Faults). z.due) same.1 ∙ m.due in
     λ i. record { count = count i; due = due i }
 
 failing : (old new : Site) (disk moved fresh begun left made last : MemDisk) (result : Result Seen WorldRefusal) → old.version ≡ versions.Old → old.desk ≡ None → old.disk ≡ Some disk → IsMoved old disk moved fresh begun → IsReturned old disk moved begun left made last device → (seen : Seen) × (result ≡ Ok seen) × BreaksDown old.due (causes.Migrate device) (record old { disk = Some last }) seen new → Outcome MigrateSteps old result new
@@ -148,10 +150,10 @@ failing old new disk moved fresh begun left made last result version down there 
     blame = r.blame
 
     never : (faults_of moved).due ≡ Never
-    never = ap due_of here.plan
+    never = ap (due_of (call_count moved)) here.plan
 
     due : (faults_of begun).due ≡ (faults_of disk).due
-    due = ap due_of begins.plan
+    due = m.due
 
     within : room version_2 MAX_SLOTS ≤ cap_of begun
     within = let e : cap_of begun ≡ 1048641 = begins.cap ∙ (let f = m.fresh_is in f.cap) in omega arith
@@ -168,7 +170,7 @@ failing old new disk moved fresh begun left made last result version down there 
         let d = down_at old disk x down there h in
         let l = returned old disk moved fresh begun left made last device m r in
         let failed = at_new in
-        let broken = broken_down old new disk last x versions.Old (causes.Migrate device) seen old.due refl down h d l.cap (λ n. failed.calm (due ∙ n) within) (λ o. ap due_of back.plan ∙ failed.spent (due ∙ o) within) refl broke in
+        let broken = broken_down old new disk last x versions.Old (causes.Migrate device) seen old.due refl down h d l.cap (λ n. failed.calm (due ∙ n) within) (λ o. r.due ∙ failed.spent (subst IsOnce (sym due) o) within) refl broke in
         let at : MigratesAt {Why = Refusal} (ViewAt old) x x.version d.votes disk broken.1 broken.0 = subst (λ (v : FileVersion). MigratesAt {Why = Refusal} (ViewAt old) x v d.votes disk broken.1 broken.0) (sym (h.version ∙ version)) (Failed last, l.may versions.Old, broken.3) in
         (broken.0, [], broken.1, broken.2, (d.votes, disk, d.process, at, refl), broken.4, no_bytes old.game sent messages b)
 

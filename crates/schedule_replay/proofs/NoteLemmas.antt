@@ -10,7 +10,7 @@ use Rattle.headline.specs.declared.event.Station.{Station}
 use Rattle.headline.specs.declared.event.Station.TheVariants as stations
 use Rattle.schedule_replay.specs.declared.shown_scores.ShownScores.{ShownScores}
 use Rattle.schedule_replay.specs.Replays.{StandOnce}
-use Rattle.schedule_replay.specs.ShownScores.{Adds, IsKept, IsStation, mark_of, station_number}
+use Rattle.schedule_replay.specs.inner.ShownScores.{Adds, IsKept, IsStation, mark_of, station_number}
 
 abbrev pub Shown : Type 0
 Shown = Station × ℕ × Standing

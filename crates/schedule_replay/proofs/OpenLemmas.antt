@@ -5,7 +5,7 @@ use Rattle.std.specs.Bool.{⊤}
 use Rattle.std.specs.Prelude.{IfOk, IsErrOf, OnErr}
 use Rattle.corrections.specs.declared.refusal.Refusal.{Refusal}
 use Rattle.entry_log.specs.Blame.{BlamesDisk}
-use Rattle.entry_log.specs.Disk.{Faults, Never, Once}
+use Rattle.entry_log.specs.Disk.{Faults, IsOnce, Never}
 use Rattle.entry_log.specs.MemDisk.{cap_of, faults_of}
 use Rattle.entry_log.specs.declared.mem_disk.MemDisk.{MemDisk}
 use Rattle.entry_log.specs.declared.mem_disk.plan.Plan.TheVariants.{Calm}
@@ -39,7 +39,7 @@ use Rattle.headline.specs.Worlds.{Process, Running, Down}
 use Rattle.headline.specs.Steps.{Answer, StaysDown}
 use Rattle.headline.specs.Match.{match_of}
 use Rattle.schedule_replay.specs.Answers.{answer_of, is_failing, wants_memory}
-use Rattle.schedule_replay.specs.Sites.{BreaksDown, IsDue, IsProcess, IsSite, IsWorldDisk, NotFoundBy, SameSite, SiteSteps, SyncsSite}
+use Rattle.schedule_replay.specs.inner.Sites.{BreaksDown, IsDue, IsProcess, IsSite, IsWorldDisk, NotFoundBy, SameSite, SiteSteps, SyncsSite}
 use Rattle.schedule_replay.specs.WorldDesks.{IsOf, disk_of, state_of}
 use Rattle.schedule_replay.proofs.SiteLemmas.{HasDisk, broken_same, down_is, no_bytes, put_down_is, sets_plan_stays}
 
@@ -64,13 +64,13 @@ stays_down site disk left due x down h d cap faults =
     record { version = h.version; process = down_is (record site { disk = Some left; due = due }) left d.votes down refl (sym d.many) on_left; due = refl }
 
 -- a device call has failed at a desk that is down, by the fault that was due
-pub broken_down : (old new : Site) (disk left : MemDisk) (x : worlds.Site MemDisk) (v : FileVersion) (cause : Cause) (seen : Seen) (due : Option Fault) → old.due ≡ due → old.desk ≡ None → IsSite old x → (d : IsDown old disk x) → cap_of left ≡ cap_of disk → ((faults_of disk).due ≡ Never → ⊥) → ((faults_of disk).due ≡ Once → (faults_of left).due ≡ Never) → answer_of (seens.Refused cause) ≡ Some Answer.DeviceFailed → BreaksDown due cause (record old { disk = Some left }) seen new → (y : worlds.Site MemDisk) × (answer : Answer Refusal) × (answer_of seen ≡ Some answer) × StaysDown ((match_of old.game old.innings_a_side).view old.name v) x d.votes left answer y × IsSite new y
+pub broken_down : (old new : Site) (disk left : MemDisk) (x : worlds.Site MemDisk) (v : FileVersion) (cause : Cause) (seen : Seen) (due : Option Fault) → old.due ≡ due → old.desk ≡ None → IsSite old x → (d : IsDown old disk x) → cap_of left ≡ cap_of disk → ((faults_of disk).due ≡ Never → ⊥) → (IsOnce (faults_of disk).due → (faults_of left).due ≡ Never) → answer_of (seens.Refused cause) ≡ Some Answer.DeviceFailed → BreaksDown due cause (record old { disk = Some left }) seen new → (y : worlds.Site MemDisk) × (answer : Answer Refusal) × (answer_of seen ≡ Some answer) × StaysDown ((match_of old.game old.innings_a_side).view old.name v) x d.votes left answer y × IsSite new y
 broken_down old new disk left x v cause seen None q down h d cap calm spent told b =
     let on = d.on_disk in
     absurd (calm (subst (λ (z : Option Fault). IsDue z (faults_of disk).due) q on.faults))
 broken_down old new disk left x v cause seen (Some Fail) q down h d cap calm spent told b =
     let on = d.on_disk in
-    let once : (faults_of disk).due ≡ Once = subst (λ (z : Option Fault). IsDue z (faults_of disk).due) q on.faults in
+    let once : IsOnce (faults_of disk).due = subst (λ (z : Option Fault). IsDue z (faults_of disk).due) q on.faults in
     let y : worlds.Site MemDisk = record x { process = Down d.votes left; due = None } in
     let is : IsSite new y = subst (λ (z : Site). IsSite z y) (sym b.1) (stays_down old disk left None x down h d cap (spent once)) in
     (y, Answer.DeviceFailed, ap answer_of b.0 ∙ told, (Fail, h.due ∙ q, (refl, refl)), is)
@@ -80,8 +80,8 @@ broken_down old new disk left x v cause seen (Some Stop) q down h d cap calm spe
     let p : Process MemDisk = Down d.votes left in
     let site : Site = record old { disk = Some left; due = None } in
     let has : HasDisk site p = record {
-      disk = ap (λ (o : Option WorldDesk). Rattle.schedule_replay.specs.Sites.disk_at o (Some left)) down;
-      votes = ap (λ (o : Option WorldDesk). Rattle.schedule_replay.specs.Sites.votes_at o old.votes) down ∙ sym d.many;
+      disk = ap (λ (o : Option WorldDesk). Rattle.schedule_replay.specs.inner.Sites.disk_at o (Some left)) down;
+      votes = ap (λ (o : Option WorldDesk). Rattle.schedule_replay.specs.inner.Sites.votes_at o old.votes) down ∙ sym d.many;
       cap = cap ∙ on.cap;
     } in
     let lowered = put_down_is site new p has refl put in

@@ -26,7 +26,7 @@ use Rattle.headline.specs.Worlds.{Running}
 use Rattle.headline.specs.Steps.{AfterPen}
 use Rattle.headline.specs.Match.{match_of}
 use Rattle.schedule_replay.specs.Answers.{AreBytesOf, answer_of, told_to_pen}
-use Rattle.schedule_replay.specs.Sites.{AfterRefusal, RefusedBy, SameSite, SiteSteps}
+use Rattle.schedule_replay.specs.inner.Sites.{AfterRefusal, RefusedBy, SameSite, SiteSteps}
 use Rattle.schedule_replay.specs.WorldDesks.{HasRoom, SameOwner, disk_of, game_of, rules_of, state_of, view_of}
 use Rattle.schedule_replay.proofs.SiteLemmas.{broken_same, broken_site, has_room, more_bytes, no_bytes, of_match, running_is, runs_on, votes_of}
 

@@ -13,9 +13,9 @@ use Rattle.schedule_replay.specs.declared.site.Site.{Site}
 use Rattle.schedule_replay.specs.declared.world.World.{World}
 use Rattle.headline.specs.Worlds as worlds
 use Rattle.headline.specs.Match.{format_of, match_of}
-use Rattle.schedule_replay.specs.Sites.{IsSite, PutsDown}
+use Rattle.schedule_replay.specs.inner.Sites.{IsSite, PutsDown}
 use Rattle.schedule_replay.specs.CodeWorlds.{IsWorld, code_site}
-use Rattle.schedule_replay.specs.VotesFiles.{FilesRead, SiteReads}
+use Rattle.schedule_replay.specs.inner.VotesFiles.{FilesRead, SiteReads}
 use Rattle.agree_core.specs.Keeping.{ShowsMore}
 use Rattle.headline.proofs.Keeping.{Fine, process_disk, site_fine}
 use Rattle.schedule_replay.proofs.SiteLemmas.{has_disk}

@@ -32,16 +32,16 @@ use Rattle.schedule_replay.specs.Refusals.{RefusesEvent}
 use Rattle.schedule_replay.specs.CodeWorlds.{BeginsWorld, IsNew, boards_of, version_of, IsWorld, RefusesTo, SameMatch, StepsTo}
 use Rattle.headline.specs.Headline.{ShowsScore}
 use Rattle.schedule_replay.specs.Replays.{AreSeen, EndsAt, EndsOrNeverBegins, IsReplay, IsRunOf, MatchRun, ShowScores, StandOnce}
-use Rattle.schedule_replay.specs.RunsSoFar.{HasTaken, IsAt}
-use Rattle.schedule_replay.specs.ShownScores.{HaveScores, IsNotable, Notes}
-use Rattle.schedule_replay.specs.VotesFiles.{FilesRead}
+use Rattle.schedule_replay.specs.inner.RunsSoFar.{HasTaken, IsAt}
+use Rattle.schedule_replay.specs.inner.ShownScores.{HaveScores, IsNotable, Notes}
+use Rattle.schedule_replay.specs.inner.VotesFiles.{FilesRead}
 use Rattle.headline.proofs.Keeping.{begins_fine, run_keeps}
 use Rattle.schedule_replay.proofs.BoardLemmas.{fresh_many}
 use Rattle.schedule_replay.proofs.NoteLemmas.{Shown}
 use Rattle.schedule_replay.proofs.ShowLemmas.{code_scored}
 use Rattle.schedule_replay.proofs.ReadLemmas.{files_read}
 use Rattle.headline.proofs.Scores.{one_score}
-use Rattle.headline.proofs.Whole.{holds_in_run}
+use Rattle.headline.proofs.EveryRun.{holds_in_run}
 
 -- no event changes how many boards there are
 with_board_many : (boards : List BoardState) (n : ℕ) (k : BoardState) → length (with_board boards n k) ≡ length boards
@@ -85,7 +85,7 @@ module _ (game innings : ℕ) (version : FileVersion) (boards : ℕ) (events : L
   begins_at world h =
       let start = h.is_new in
       let begins : Begins (match_of game innings) version boards start.0 = rw (h.same_game, h.same_innings, h.same_version, h.same_boards) at start.2 in
-      (start.0, record { run = record { begins = begins; run = tt; over = refl; answered = refl; planned = tt }; is_world = start.1; same_game = h.same_game; same_innings = h.same_innings })
+      (start.0, record { run = record { begins = begins; run = tt; over = refl; answered = refl; planned = tt; counted = tt }; is_world = start.1; same_game = h.same_game; same_innings = h.same_innings })
 
   -- what is noted of a world that shows the last one of a run has one score
   notable_at : (number : ℕ) (world : World) (outcomes : List Seen) (seen : List Shown) (w : worlds.World MemDisk) (ms : MatchRun) → boards ≤ 4 → IsAt game innings version boards events number world outcomes w ms → ((t : Station) (n : ℕ) (score : Standing) → Contains seen (t, n, score) → AtSomeMoment w ms (λ v. ShowsScore innings v t n score)) → ((t : Station) (n : ℕ) (score : Standing) → ShowsScore innings (last_of w ms) t n score → AtSomeMoment w ms (λ v. ShowsScore innings v t n score)) → (v : worlds.World MemDisk) × IsNotable world seen v
@@ -172,7 +172,7 @@ module _ (game innings : ℕ) (version : FileVersion) (boards : ℕ) (events : L
       let answered : map answer_of (outcomes ++ seen ∷ []) ≡ map Some (answers_of ms ++ s.0 ∷ []) =
       map-append answer_of outcomes (seen ∷ []) ∙ (λ i. run.answered i ++ s.2 i ∷ []) ∙ sym (map-append Some (answers_of ms) (s.0 ∷ [])) in (
         m,
-        record { run = record { begins = run.begins; run = (run.run, step); over = over; answered = answered; planned = (run.planned, s.5) }; is_world = s.4; same_game = same.same_game ∙ at.same_game; same_innings = same.same_innings ∙ at.same_innings },
+        record { run = record { begins = run.begins; run = (run.run, step); over = over; answered = answered; planned = (run.planned, s.5); counted = (run.counted, s.6) }; is_world = s.4; same_game = same.same_game ∙ at.same_game; same_innings = same.same_innings ∙ at.same_innings },
       )
 
   pub goes_on : (number : ℕ) (event : Event) (world new : World) (outcomes : List Seen) (seen : Seen) (shown : List Shown) → number < length events → event ≡ slice_index_or events number event → IsAfter game innings version boards events number world outcomes shown → StepsTo event world seen new → SameMatch world new → IsNext game innings version boards events (number + 1) new (outcomes ++ seen ∷ []) shown
@@ -256,7 +256,7 @@ module _ (game innings : ℕ) (version : FileVersion) (boards : ℕ) (events : L
         w,
         ms,
         record {
-          run = record { begins = run.begins; run = run.run; over = run.over ∙ all; answered = run.answered; planned = run.planned };
+          run = record { begins = run.begins; run = run.run; over = run.over ∙ all; answered = run.answered; planned = run.planned; counted = run.counted };
           holds = holds;
           agreed = agreed;
           scored = p.4;

@@ -20,11 +20,11 @@ use Rattle.schedule_replay.specs.declared.world.World.{World}
 use Rattle.schedule_replay.specs.declared.world_desk.WorldDesk.{WorldDesk}
 use Rattle.headline.specs.Worlds as worlds
 use Rattle.headline.specs.Runs.{process_shows}
-use Rattle.schedule_replay.specs.Sites.{IsProcess}
+use Rattle.schedule_replay.specs.inner.Sites.{IsProcess}
 use Rattle.schedule_replay.specs.CodeWorlds.{IsBoardOf, IsWorld, MatchBoard, board_innings, board_state, code_site}
 use Rattle.headline.specs.Headline.{ShowsScore}
 use Rattle.schedule_replay.specs.Replays.{ShowScores}
-use Rattle.schedule_replay.specs.ShownScores.{Adds, BoardHasScore, BoardShows, CodeShows, DeskHasScore, DeskShows, HaveScores, IsBookScore, IsNotable, Notes, station_number}
+use Rattle.schedule_replay.specs.inner.ShownScores.{Adds, BoardHasScore, BoardShows, CodeShows, DeskHasScore, DeskShows, HaveScores, IsBookScore, IsNotable, Notes, station_number}
 use Rattle.schedule_replay.specs.WorldDesks.{innings_of, state_of}
 use Rattle.schedule_replay.proofs.NoteLemmas.{FromOne, Shown, same_station}
 use Rattle.headline.proofs.Scores.{one_standing}

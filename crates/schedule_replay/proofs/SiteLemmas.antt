@@ -3,9 +3,9 @@ use Rattle.std.proofs.Common.{◌≡◌, ℕ, ◌+◌, ◌≤◌, ◌<◌, Optio
 use Rattle.std.proofs.lemmas.List.Elements.{All-append}
 use Rattle.std.specs.Prelude.{All, IsSome}
 use Rattle.corrections.specs.declared.refusal.Refusal.{Refusal}
-use Rattle.entry_log.specs.Disk.{Faults, IsImage, Never, Once}
+use Rattle.entry_log.specs.Disk.{Faults, IsImage, IsOnce, Never}
 use Rattle.entry_log.specs.Format.{contents, room}
-use Rattle.entry_log.specs.MemDisk.{SetsPlan, cap_of, faults_of, file_of, images_of, plan_of}
+use Rattle.entry_log.specs.MemDisk.{SetsPlan, call_count, cap_of, faults_of, file_of, images_of, plan_of}
 use Rattle.entry_log.specs.Plan.{due_of}
 use Rattle.entry_log.specs.declared.mem_disk.MemDisk.{MemDisk}
 use Rattle.entry_log.specs.declared.mem_disk.plan.Plan.{Plan}
@@ -34,7 +34,7 @@ use Rattle.headline.specs.Worlds.{Process, Running, Down}
 use Rattle.headline.specs.Steps.{Answer, Breaks}
 use Rattle.headline.specs.Match.{format_of, match_of, most_bytes}
 use Rattle.schedule_replay.specs.Answers.{AreBytesOf, answer_of}
-use Rattle.schedule_replay.specs.Sites.{BreaksDown, IsDue, IsProcess, IsSite, IsWorldDisk, PutsDown, SameSite, disk_at, votes_at}
+use Rattle.schedule_replay.specs.inner.Sites.{BreaksDown, IsDue, IsProcess, IsSite, IsWorldDisk, PutsDown, SameSite, disk_at, votes_at}
 use Rattle.schedule_replay.specs.WorldDesks.{IsOf, SameOwner, disk_of, game_of, innings_of, rules_of, state_of, version_of, view_of}
 
 abbrev pub votes_of : WorldDesk → List Ballot
@@ -126,7 +126,7 @@ sets_plan_stays name version game plan old new h = (
 )
 
 calm_plan : (disk : MemDisk) → plan_of disk ≡ Calm → (faults_of disk).due ≡ Never
-calm_plan disk e = ap due_of e
+calm_plan disk e = ap (due_of (call_count disk)) e
 
 -- a site whose desk is down
 pub down_is : (site : Site) (disk : MemDisk) (votes : List Ballot) → site.desk ≡ None → site.disk ≡ Some disk → site.votes ≡ length votes → IsWorldDisk site.version site.due disk → IsProcess site site.desk site.disk (Down votes disk)
@@ -172,7 +172,7 @@ put_down_is old new p h due put =
     (d.1, d.3, plan, down_is new d.1 (worlds.votes_of p) put.desk d.3 (put.counted ∙ h.votes) on)
 
 -- the site's desk has failed, or is down, by the fault that was due
-pub broken_site : (old new : Site) (k l : WorldDesk) (x : worlds.Site MemDisk) (cause : Cause) (seen : Seen) (due : Option Fault) → old.due ≡ due → old.desk ≡ Some k → IsSite old x → SameOwner k l → ((faults_of (disk_of k)).due ≡ Never → ⊥) → ((faults_of (disk_of k)).due ≡ Once → (faults_of (disk_of l)).due ≡ Never) → answer_of (seens.Refused cause) ≡ Some Answer.DeviceFailed → BreaksDown due cause (record old { desk = Some l }) seen new → (y : worlds.Site MemDisk) × (answer : Answer Refusal) × (answer_of seen ≡ Some answer) × Breaks ((match_of old.game old.innings_a_side).view old.name x.version) x (state_of l) answer y × IsSite new y
+pub broken_site : (old new : Site) (k l : WorldDesk) (x : worlds.Site MemDisk) (cause : Cause) (seen : Seen) (due : Option Fault) → old.due ≡ due → old.desk ≡ Some k → IsSite old x → SameOwner k l → ((faults_of (disk_of k)).due ≡ Never → ⊥) → (IsOnce (faults_of (disk_of k)).due → (faults_of (disk_of l)).due ≡ Never) → answer_of (seens.Refused cause) ≡ Some Answer.DeviceFailed → BreaksDown due cause (record old { desk = Some l }) seen new → (y : worlds.Site MemDisk) × (answer : Answer Refusal) × (answer_of seen ≡ Some answer) × Breaks ((match_of old.game old.innings_a_side).view old.name x.version) x (state_of l) answer y × IsSite new y
 broken_site old new k l x cause seen None d here h o calm spent told q =
     let r = running_is old k x here h in
     let disk = r.on_disk in
@@ -180,7 +180,7 @@ broken_site old new k l x cause seen None d here h o calm spent told q =
 broken_site old new k l x cause seen (Some Fail) d here h o calm spent told q =
     let r = running_is old k x here h in
     let disk = r.on_disk in
-    let once : (faults_of (disk_of k)).due ≡ Once = subst (λ (z : Option Fault). IsDue z (faults_of (disk_of k)).due) d disk.faults in
+    let once : IsOnce (faults_of (disk_of k)).due = subst (λ (z : Option Fault). IsDue z (faults_of (disk_of k)).due) d disk.faults in
     let y : worlds.Site MemDisk = record x { process = Running (state_of l); due = None } in
     let is : IsSite new y = subst (λ (z : Site). IsSite z y) (sym q.1) (runs_again old k l None x here h o (spent once)) in
     (y, Answer.DeviceFailed, ap answer_of q.0 ∙ told, (Fail, h.due ∙ d, (refl, refl)), is)

@@ -13,7 +13,7 @@ use Rattle.schedule_replay.specs.declared.seen.WorldRefusal.TheVariants as refus
 use Rattle.schedule_replay.specs.declared.site.Site.{Site}
 use Rattle.schedule_replay.specs.declared.world_desk.WorldDesk.{WorldDesk}
 use Rattle.schedule_replay.specs.Refusals.{first_cause, may_grow, may_send}
-use Rattle.schedule_replay.specs.Sites.{SiteLeft, SiteSteps, SiteTakes, SyncsSite, site_cause}
+use Rattle.schedule_replay.specs.inner.Sites.{SiteLeft, SiteSteps, SiteTakes, SyncsSite, site_cause}
 use Rattle.schedule_replay.proofs.OpenLemmas.{stays_so}
 
 cause_is : (event : Event) (old : Site) (sent : List Datagram) (down : Bool) → down ≡ is_none old.desk → first_cause false down (length sent) event ≡ None → site_cause old sent event ≡ None

@@ -27,9 +27,9 @@ use Rattle.headline.specs.Steps.{Answer, AtDesk, StepAt}
 use Rattle.schedule_replay.specs.Refusals.{LeftByWant, RefusesEvent, down_at, first_cause, is_down, no_station, refusal_of}
 use Rattle.headline.specs.Match.{match_of}
 use Rattle.schedule_replay.specs.Answers.{AreBytesOf, answer_of}
-use Rattle.schedule_replay.specs.Plans.{HasPlan, PlansFault}
-use Rattle.schedule_replay.specs.Sites.{IsProcess, IsSite, SiteLeft, SiteSteps, SiteTakes, SyncsSite, disk_at, site_cause}
-use Rattle.schedule_replay.specs.Sites as sites
+use Rattle.schedule_replay.specs.Plans.{HasPlan, PlansFault, StaysDue, due_on, plan_by}
+use Rattle.schedule_replay.specs.inner.Sites.{IsProcess, IsSite, KeepsDue, SiteLeft, SiteSteps, SiteTakes, SyncsSite, disk_at, site_cause}
+use Rattle.schedule_replay.specs.inner.Sites as sites
 use Rattle.schedule_replay.specs.CodeWorlds.{IsBoardOf, IsSiteOf, IsWorld, RefusesTo, StepsTo, board_state, code_site}
 use Rattle.schedule_replay.proofs.SiteLemmas.{HasDisk, has_disk}
 
@@ -143,9 +143,22 @@ plans d w site y out event e i h c q =
     changed A = refl
     changed B = refl
 
+-- what stays due at the site stays so in the world
+stays_due : (old new : Site) (x y : worlds.Site MemDisk) → IsSite old x → IsSite new y → KeepsDue old new → StaysDue y.due (Some (worlds.disk_of x.process)) (Some (worlds.disk_of y.process))
+stays_due old new x y h i keeps fault due =
+    let before : HasDisk old x.process = has_disk old old.desk old.disk x.process refl refl h.process in
+    let after : HasDisk new y.process = has_disk new new.desk new.disk y.process refl refl i.process in
+    ap due_on (sym after.disk) ∙ keeps fault (sym i.due ∙ due) ∙ ap due_on before.disk
+
+counts : (d : DeskId) (w : worlds.World MemDisk) (y : worlds.Site MemDisk) (out : List Message) → StaysDue y.due (Some (worlds.disk_of (worlds.site w d).process)) (Some (worlds.disk_of y.process)) → (c : DeskId) → StaysDue (worlds.site (worlds.with_site w d y out) c).due (Some (worlds.disk_of (worlds.site w c).process)) (Some (worlds.disk_of (worlds.site (worlds.with_site w d y out) c).process))
+counts A w y out h A = h
+counts A w y out h B = λ fault due. refl
+counts B w y out h A = λ fault due. refl
+counts B w y out h B = h
+
 -- an event that a site has taken
-pub desk_steps : (d : DeskId) (old new : World) (site : Site) (event : Event) (seen : Seen) → station_of event ≡ stations.Desk d → Changes d old new site → SiteTakes event (code_site old d) old.sent.items (Ok seen) site new.sent.items → HasPlan event (disk_at site.desk site.disk) → StepsTo event old seen new
-desk_steps d old new site event seen e c takes planned w h =
+pub desk_steps : (d : DeskId) (old new : World) (site : Site) (event : Event) (seen : Seen) → station_of event ≡ stations.Desk d → Changes d old new site → SiteTakes event (code_site old d) old.sent.items (Ok seen) site new.sent.items → HasPlan event (disk_at site.desk site.disk) → (plan_by event ≡ None → KeepsDue (code_site old d) site) → StepsTo event old seen new
+desk_steps d old new site event seen e c takes planned counted w h =
     let names = h.named d in
     let here = code_site old d in
     let own : AreBytesOf here.game old.sent.items w.sent = subst (λ (n : ℕ). AreBytesOf n old.sent.items w.sent) (sym names.same_game) h.bytes in
@@ -153,7 +166,7 @@ desk_steps d old new site event seen e c takes planned w h =
     let after : worlds.World MemDisk = worlds.with_site w d given.0 given.1 in
     let step : StepAt (match_of old.game old.innings_a_side) w event (station_of event) given.2 after =
     subst (λ (t : Station). StepAt (match_of old.game old.innings_a_side) w event t given.2 after) (sym e) (given.0, given.1, given.4, refl) in
-    (cause_is d old w event e h ∙ takes.0, (given.2, after, given.3, step, put d old new site w given.0 given.1 c h given.5 given.6, plans d w site given.0 given.1 event e given.5 planned))
+    (cause_is d old w event e h ∙ takes.0, (given.2, after, given.3, step, put d old new site w given.0 given.1 c h given.5 given.6, plans d w site given.0 given.1 event e given.5 planned, λ none. counts d w given.0 given.1 (stays_due here site (worlds.site w d) given.0 (h.sites d) given.5 (counted none))))
 
 -- the disk of a site may have been synced
 synced : (d c : DeskId) (old new : World) (site : Site) (w : worlds.World MemDisk) → c ≡ d → Changes d old new site → SyncsSite (code_site old d) site → new.sent.items ≡ old.sent.items → IsWorld old w → (v : worlds.World MemDisk) × Rattle.schedule_replay.specs.Refusals.MaySyncAt (match_of old.game old.innings_a_side) w c v × IsWorld new v
@@ -189,9 +202,9 @@ desk_refuses d old new site event why e c (items, inr (none, want, grows, l)) w 
     let k = left d old new site event w e c l items h in
     (k.0, inr (cause_is d old w event e h ∙ none, want, grows, k.1), k.2)
 
-pub at_desk_ok : (d : DeskId) (old new : World) (site : Site) (event : Event) (result : Result Seen WorldRefusal) → station_of event ≡ stations.Desk d → Changes d old new site → SiteTakes event (code_site old d) old.sent.items result site new.sent.items → OnOk result (HasPlan event (disk_at site.desk site.disk)) → IfOk result (λ seen. StepsTo event old seen new)
-at_desk_ok d old new site event (Ok seen) e c t planned = desk_steps d old new site event seen e c t planned
-at_desk_ok d old new site event (Err why) e c t planned = tt
+pub at_desk_ok : (d : DeskId) (old new : World) (site : Site) (event : Event) (result : Result Seen WorldRefusal) → station_of event ≡ stations.Desk d → Changes d old new site → SiteTakes event (code_site old d) old.sent.items result site new.sent.items → OnOk result (HasPlan event (disk_at site.desk site.disk)) → OnOk result (plan_by event ≡ None → KeepsDue (code_site old d) site) → IfOk result (λ seen. StepsTo event old seen new)
+at_desk_ok d old new site event (Ok seen) e c t planned counted = desk_steps d old new site event seen e c t planned counted
+at_desk_ok d old new site event (Err why) e c t planned counted = tt
 
 pub at_desk_err : (d : DeskId) (old new : World) (site : Site) (event : Event) (result : Result Seen WorldRefusal) → station_of event ≡ stations.Desk d → Changes d old new site → SiteTakes event (code_site old d) old.sent.items result site new.sent.items → IfErr result (λ why. RefusesTo event old why new)
 at_desk_err d old new site event (Ok seen) e c t = tt

@@ -32,7 +32,7 @@ told_to_open (OpenRefusal.BadVotes place) = Some Answer.NoBook
 told_to_open OpenRefusal.NoMemory = None
 told_to_open OpenRefusal.DeviceFailed = Some Answer.DeviceFailed
 
--- why a file isn't migrated; want of memory is no answer
+-- why a file isn't migrated; being out of memory is no answer
 abbrev pub told_to_migrate : VotesRefusal → Option (Answer Refusal)
 told_to_migrate votes.NoMemory = None
 told_to_migrate (votes.File files.Device) = Some Answer.DeviceFailed

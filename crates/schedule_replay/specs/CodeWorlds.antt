@@ -25,8 +25,8 @@ use Rattle.headline.specs.Runs.{Begins}
 use Rattle.schedule_replay.specs.Refusals.{RefusesEvent, refusal_of}
 use Rattle.headline.specs.Match.{match_of}
 use Rattle.schedule_replay.specs.Answers.{AreBytesOf, answer_of, given_seen}
-use Rattle.schedule_replay.specs.Plans.{PlansFault}
-use Rattle.schedule_replay.specs.Sites.{IsSite}
+use Rattle.schedule_replay.specs.Plans.{CountsDown, PlansFault}
+use Rattle.schedule_replay.specs.inner.Sites.{IsSite}
 
 abbrev pub code_site : World → DeskId → Site
 code_site code A = code.a
@@ -96,15 +96,15 @@ pub record BeginsWorld (game innings : ℕ) (version : FileVersion) (boards : �
   pub same_version : version_of world ≡ version
   pub same_boards : boards_of world ≡ boards
 
--- the event is taken: it is a step of the definitions, this is what is seen of its answer, and a fault that it asks
--- for is planned
+-- the event is taken: it is a step of the definitions, this is what is seen of its answer, a fault that it asks for
+-- is planned, and one that was due before is counted down
 abbrev pub StepsTo : Event → World → Seen → World → Type 0
 StepsTo event old seen new =
     (w : worlds.World MemDisk) → IsWorld old w
     → (refusal_of w event ≡ None)
     × ((answer : Answer Refusal) × (after : worlds.World MemDisk) × (answer_of seen ≡ Some answer)
     × Step (match_of old.game old.innings_a_side) w event answer after × IsWorld new after
-    × PlansFault event after)
+    × PlansFault event after × CountsDown event w after)
 
 -- the event isn't taken
 abbrev pub RefusesTo : Event → World → WorldRefusal → World → Type 0

@@ -1,6 +1,7 @@
 -- Which device calls are to fail, on disks in memory.
 use Rattle.std.specs.Prelude.{◌≡◌, ◌-◌, IfSome, option_map, Option, Some, None}
-use Rattle.entry_log.specs.MemDisk.{plan_of}
+use Rattle.entry_log.specs.Disk.{Due}
+use Rattle.entry_log.specs.MemDisk.{faults_of, plan_of}
 use Rattle.entry_log.specs.declared.mem_disk.MemDisk.{MemDisk}
 use Rattle.entry_log.specs.declared.mem_disk.plan.Plan.{Plan}
 use Rattle.entry_log.specs.declared.mem_disk.plan.Plan.TheVariants.{Fail, Stop}
@@ -8,6 +9,7 @@ use Rattle.agree_core.specs.declared.messages.DeskId.{DeskId}
 use Rattle.headline.specs.declared.event.Event.{Event}
 use Rattle.headline.specs.declared.event.Event.TheVariants as events
 use Rattle.headline.specs.declared.event.Station.TheVariants as stations
+use Rattle.headline.specs.declared.fault.Fault.{Fault}
 use Rattle.headline.specs.Events.{station_of}
 use Rattle.headline.specs.Worlds.{World, disk_of, site}
 
@@ -24,3 +26,17 @@ HasPlan event disk = IfSome (plan_by event) (λ plan. option_map plan_of disk �
 -- so it is at the desk that the event is for
 abbrev pub PlansFault : Event → World MemDisk → Type 0
 PlansFault event w = (d : DeskId) → station_of event ≡ stations.Desk d → HasPlan event (Some (disk_of (site w d).process))
+
+-- which call of a disk is to fail, by its number
+abbrev pub due_on : Option MemDisk → Option Due
+due_on disk = option_map (λ (d : MemDisk). (faults_of d).due) disk
+
+-- a fault that stays due is due at the same call as before, so each call between counts it down
+abbrev pub StaysDue : Option Fault → Option MemDisk → Option MemDisk → Type 0
+StaysDue due old new = (fault : Fault) → due ≡ Some fault → due_on new ≡ due_on old
+
+-- so it is at each desk after an event that asks for no fault
+abbrev pub CountsDown : Event → World MemDisk → World MemDisk → Type 0
+CountsDown event w v =
+    plan_by event ≡ None
+    → (d : DeskId) → StaysDue (site v d).due (Some (disk_of (site w d).process)) (Some (disk_of (site v d).process))

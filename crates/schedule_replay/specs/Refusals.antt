@@ -87,7 +87,7 @@ first_cause missing down sent event =
     first_row ((NoStation, missing) ∷ (Down, asks_up event && down) ∷ (Up, asks_down event && not down)
     ∷ (NoMessage, no_message sent event) ∷ (WorldFull, may_send event && nat_lt most_sent sent) ∷ [])
 
--- the first cause against an event, but for want of memory
+-- the first cause against an event, but for being out of memory
 abbrev pub refusal_of : {Disk : Type 0} → World Disk → Event → Option WorldRefusal
 refusal_of w event =
     first_cause (no_station w (station_of event)) (down_at w (station_of event)) (length w.sent) event
@@ -98,7 +98,7 @@ MaySyncAt s w d v =
     (disk : _) × MaySync (s.view d (site w d).version) (disk_of (site w d).process) disk
     × (v ≡ with_site w d (record (site w d) { process = with_disk (site w d).process disk }) [])
 
--- the world after the want of memory: as it was, but that the disk of a desk that was to be opened, or its file
+-- the world after it was out of memory: as it was, but that the disk of a desk that was to be opened, or its file
 -- to be migrated, may be synced
 abbrev pub LeftByWant :
     {Disk Why : Type 0} → Setting Disk Why → World Disk → Event → World Disk → Type 0

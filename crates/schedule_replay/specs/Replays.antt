@@ -19,7 +19,7 @@ use Rattle.headline.specs.Runs.{AtEachMoment, AtSomeMoment, Begins, Moment, Run,
 use Rattle.headline.specs.Headline.{AtEachEvent, ShowsScore}
 use Rattle.schedule_replay.specs.Refusals.{RefusesEvent}
 use Rattle.headline.specs.Match.{match_of}
-use Rattle.schedule_replay.specs.Plans.{PlansFault}
+use Rattle.schedule_replay.specs.Plans.{CountsDown, PlansFault}
 use Rattle.schedule_replay.specs.Answers.{answer_of}
 
 -- a run of a match on disks in memory
@@ -38,7 +38,8 @@ abbrev pub ShowScores : ℕ → World MemDisk → Type 0
 ShowScores innings v =
     (t : Station) (book : List Entry) → Shows v t book → (score : Standing) × ShowsScore innings v t (length book) score
 
--- a run of the match over these events, whose answers are seen so, and in which each fault is planned that is asked for
+-- a run of the match over these events, whose answers are seen so, and in which each fault is planned that is asked
+-- for, and then counted down
 pub record IsRunOf
     (game innings : ℕ) (version : FileVersion) (boards : ℕ) (events : List Event) (outcomes : List Seen)
     (w : World MemDisk) (ms : MatchRun) : Type 0 where
@@ -47,6 +48,7 @@ pub record IsRunOf
   pub over : events_of ms ≡ events
   pub answered : map answer_of outcomes ≡ map Some (answers_of ms)
   pub planned : AtEachEvent w ms (λ v m. PlansFault m.event m.after)
+  pub counted : AtEachEvent w ms (λ v m. CountsDown m.event v m.after)
 
 -- event k, counted from 1, isn't taken after such a run over those before it
 abbrev pub RefusedAt :

@@ -14,7 +14,7 @@ use Rattle.schedule_replay.specs.declared.seen.Seen.TheVariants as seens
 use Rattle.schedule_replay.specs.declared.seen.WorldRefusal.{WorldRefusal}
 use Rattle.schedule_replay.specs.declared.seen.WorldRefusal.TheVariants.{NoMessage, NoStation, WorldFull, Down, Up, NoMemory}
 
--- want of memory has no number
+-- being out of memory has no number
 abbrev pub refusal_number : WorldRefusal → Option ℕ
 refusal_number NoMessage = Some 80
 refusal_number NoStation = Some 81

@@ -80,8 +80,3 @@ HasRoom k = room (format_of (version_of k)) (length ((λ (s : DeskState MemDisk)
 abbrev pub opening : Result WorldDesk (OpenRefusal × MemDisk) → Opening MemDisk
 opening (Ok k) = Opened (state_of k)
 opening (Err refused) = NotOpened (open_cause refused.0) refused.1
-
--- the disk, in the desk or handed back
-abbrev pub disk_left : Result WorldDesk (OpenRefusal × MemDisk) → MemDisk
-disk_left (Ok k) = disk_of k
-disk_left (Err refused) = refused.1

@@ -5,7 +5,7 @@ ghost use Rattle.wire.specs.declared.datagram.Datagram.{Datagram};
 ghost use Rattle.agree_core.specs.Boards.{fresh_board};
 ghost use Rattle.schedule_replay.specs.CodeWorlds.{IsBoardOf, board_seen, board_state};
 ghost use Rattle.schedule_replay.specs.Refusals.{no_board};
-ghost use Rattle.schedule_replay.specs.WorldBoards.{AreFresh, BoardSteps, SameBoard};
+ghost use Rattle.schedule_replay.specs.inner.WorldBoards.{AreFresh, BoardSteps, SameBoard};
 ghost use Rattle.headline.specs.declared.event.Event.TheVariants as events;
 ghost use Rattle.headline.specs.declared.event.Station.{Station as AStation};
 

@@ -2,7 +2,7 @@
 
 ghost use Rattle.std.specs.Prelude.{◌≤◌, ℕ, All, IfErr, IfOk, length};
 ghost use Rattle.schedule_replay.specs.CodeWorlds.{IsNew, boards_of, version_of};
-ghost use Rattle.schedule_replay.specs.RunsSoFar.{HasTaken};
+ghost use Rattle.schedule_replay.specs.inner.RunsSoFar.{HasTaken};
 ghost use Rattle.headline.specs.Events.{IsEvent};
 ghost use Rattle.schedule_replay.specs.Replays.{EndsAt, EndsOrNeverBegins, IsReplay};
 ghost use Rattle.headline.specs.declared.version.FileVersion.{FileVersion as AVersion};

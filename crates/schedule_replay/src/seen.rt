@@ -54,6 +54,6 @@ pub enum WorldRefusal {
     Down,
     /// 84: the desk isn't down.
     Up,
-    /// A growth was refused.
+    /// An allocation failed.
     NoMemory,
 }

@@ -8,7 +8,7 @@ use agree_core::{Heard, Settled};
 use std::fmt;
 
 impl Cause {
-    /// The number by which it is reported. Want of memory has none, and is no answer of a world.
+    /// The number by which it is reported. Being out of memory has none, and is no answer of a world.
     pub fn number(self) -> Option<u8>
         ensures { result ≡ cause_number self }
     {
@@ -21,7 +21,7 @@ impl Cause {
 }
 
 impl WorldRefusal {
-    /// The number by which it is reported. Want of memory has none.
+    /// The number by which it is reported. Being out of memory has none.
     pub fn number(self) -> Option<u8>
         ensures { result ≡ refusal_number self }
     {

@@ -2,7 +2,7 @@
 
 ghost use Rattle.std.specs.Prelude.{◌≡◌, ◌≤◌, ◌<◌, [], IfOk, OnErr, OnOk, Contains};
 ghost use Rattle.match_laws.specs.declared.standing.Standing.{Standing};
-ghost use Rattle.schedule_replay.specs.ShownScores.{Adds, IsKept, IsStation, mark_of};
+ghost use Rattle.schedule_replay.specs.inner.ShownScores.{Adds, IsKept, IsStation, mark_of};
 
 use agree_core::DeskId;
 use headline::Station;

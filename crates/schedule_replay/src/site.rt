@@ -112,8 +112,8 @@ fn lose_power(disk: &mut MemDisk, choice: Choice)
 impl Site {
     ghost use Rattle.std.specs.Prelude.{option_map};
     ghost use Rattle.schedule_replay.specs.Lending.{lent_desk};
-    ghost use Rattle.schedule_replay.specs.Plans.{HasPlan};
-    ghost use Rattle.schedule_replay.specs.Sites.{AfterRefusal, BeginsSite, BreaksDown, IsWhole, NotFoundBy, PutsDown, SameSite, SiteSteps, SiteTakes, SyncsSite, disk_at};
+    ghost use Rattle.schedule_replay.specs.Plans.{HasPlan, plan_by};
+    ghost use Rattle.schedule_replay.specs.inner.Sites.{AfterRefusal, BeginsSite, BreaksDown, IsWhole, KeepsDue, NotFoundBy, PutsDown, SameSite, SiteSteps, SiteTakes, SyncsSite, disk_at};
 
     /// A desk that is just created, on a file of this version.
     pub fn new(
@@ -157,6 +157,7 @@ impl Site {
         requires desk { is_desk (station_of event.now) ≡ true }
         ensures takes { SiteTakes event.now self.old sent.old.items result self.new sent.new.items }
         ensures planned { OnOk result (HasPlan event.now (disk_at self.new.desk self.new.disk)) }
+        ensures counted { OnOk result (plan_by event.now ≡ None → KeepsDue self.old self.new) }
         ensures same { SameSite self.old self.new }
         ensures whole { IsWhole self.new }
     {
@@ -186,6 +187,7 @@ impl Site {
         requires room { vec_len sent.old + 2 ≤ vec_capacity sent.old }
         ensures step { SiteSteps (events.Pen self.old.name entry.now)
             self.old sent.old.items result self.new sent.new.items }
+        ensures counted { KeepsDue self.old self.new }
         ensures same { SameSite self.old self.new }
         ensures whole { IsWhole self.new }
     {
@@ -210,6 +212,7 @@ impl Site {
         requires sent { message < length sent.old.items }
         ensures step { (t : AStation) → SiteSteps (events.Give message t)
             self.old sent.old.items result self.new sent.new.items }
+        ensures counted { KeepsDue self.old self.new }
         ensures same { SameSite self.old self.new }
         ensures whole { IsWhole self.new }
     {
@@ -246,6 +249,7 @@ impl Site {
         requires running { IsSome self.old.desk }
         ensures step { (sent : List Datagram) → SiteSteps (events.Kill self.old.name)
             self.old sent result self.new sent }
+        ensures ended { self.new.due ≡ None }
         ensures same { SameSite self.old self.new }
         ensures whole { IsWhole self.new }
     {
@@ -259,6 +263,7 @@ impl Site {
         requires whole { IsWhole self.old }
         ensures step { (sent : List Datagram) → SiteSteps (events.Power self.old.name choice)
             self.old sent result self.new sent }
+        ensures ended { self.new.due ≡ None }
         ensures same { SameSite self.old self.new }
         ensures whole { IsWhole self.new }
     {
@@ -315,6 +320,7 @@ impl Site {
         ensures step { IfOk result (λ seen. (sent : List Datagram) →
             SiteSteps (events.Open self.old.name) self.old sent seen self.new sent) }
         ensures refused { OnErr result ((result ≡ Err WorldRefusal.NoMemory) × SyncsSite self.old self.new) }
+        ensures counted { OnOk result (KeepsDue self.old self.new) }
         ensures same { SameSite self.old self.new }
         ensures whole { IsWhole self.new }
     {
@@ -350,6 +356,7 @@ impl Site {
         ensures step { IfOk result (λ seen. (sent : List Datagram) →
             SiteSteps (events.Migrate self.old.name) self.old sent seen self.new sent) }
         ensures refused { OnErr result ((result ≡ Err WorldRefusal.NoMemory) × SyncsSite self.old self.new) }
+        ensures counted { OnOk result (KeepsDue self.old self.new) }
         ensures same { SameSite self.old self.new }
         ensures whole { IsWhole self.new }
     {
@@ -367,6 +374,7 @@ impl Site {
         ensures step { IfOk result (λ seen. (sent : List Datagram) →
             SiteSteps (events.Migrate self.old.name) self.old sent seen self.new sent) }
         ensures refused { OnErr result ((result ≡ Err WorldRefusal.NoMemory) × SyncsSite self.old self.new) }
+        ensures counted { OnOk result (KeepsDue self.old self.new) }
         ensures same { SameSite self.old self.new }
         ensures whole { IsWhole self.new }
     {

@@ -2,7 +2,7 @@
 
 ghost use Rattle.std.specs.Prelude.{◌≡◌, ◌≤◌, IfErr, IfOk};
 ghost use Rattle.headline.specs.Events.{IsEvent};
-ghost use Rattle.schedule_replay.specs.Sites.{IsWhole};
+ghost use Rattle.schedule_replay.specs.inner.Sites.{IsWhole};
 ghost use Rattle.headline.specs.Events.{station_of};
 ghost use Rattle.headline.specs.declared.event.Station.TheVariants as stations;
 ghost use Rattle.headline.specs.declared.version.FileVersion.TheVariants as versions;

@@ -10,7 +10,8 @@ use Rattle.std.proofs.lemmas.Str.Ascii.{IsAscii-cons, IsAscii-nil}
 use Rattle.notation.specs.declared.entry.Entry.{Entry}
 use Rattle.notation.specs.declared.entry.Entry.TheVariants as entries
 use Rattle.notation.specs.declared.fault.LineFault.TheVariants.{TooLong, Spaces}
-use Rattle.notation.specs.Reading.{all_of, found_number, line_answer}
+use Rattle.notation.specs.Reading.{line_answer}
+use Rattle.notation.specs.inner.TokenReading.{all_of, found_number}
 use Rattle.notation.specs.Written.{is_number, is_spaced, text_of, tokens, IsEntry}
 use Rattle.notation.proofs.Joined.{words_are}
 use Rattle.notation.proofs.SpacedLines.{spaced_is_ascii}
@@ -26,7 +27,7 @@ use Rattle.headline.specs.declared.event.Event.TheVariants as events
 use Rattle.headline.specs.declared.event.Station.{Station}
 use Rattle.headline.specs.declared.event.Station.TheVariants as stations
 use Rattle.schedules.specs.ScheduleLines.{choice_words, desk_word, event_text, pen_line, station_word, IsWrittenBoard, IsWrittenChoice, IsWrittenCount, IsWrittenEvent, IsWrittenStation}
-use Rattle.schedules.specs.ScheduleReading.{◌>>=◌, Reader, board_at, board_station, choice_at, count_at, cut, desk_at, event_at, fill_at, give_at, pick, power_at, readers, station_at}
+use Rattle.schedules.specs.inner.ScheduleReading.{◌>>=◌, Reader, board_at, board_station, choice_at, count_at, cut, desk_at, event_at, fill_at, give_at, pick, power_at, readers, station_at}
 use Rattle.schedules.proofs.ScheduleCuts.{cut_digits, cut_found}
 
 pub bind_some : {X Y : Type 0} → (o : Option X) (f : X → Option Y) (y : Y) → (o >>= f) ≡ Some y → (x : X) × (o ≡ Some x) × (f x ≡ Some y)

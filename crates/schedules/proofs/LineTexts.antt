@@ -17,7 +17,7 @@ use Rattle.headline.specs.declared.event.Event.TheVariants as events
 use Rattle.schedules.specs.declared.schedule_fault.ScheduleFault.{ScheduleFault}
 use Rattle.schedules.specs.declared.schedule_fault.ScheduleFault.TheVariants.{NoMemory, BadEvent, BadEntry}
 use Rattle.schedules.specs.ScheduleLines.{event_text, pen_line, HasBadEntry, IsNoEvent, IsWrittenEvent}
-use Rattle.schedules.specs.ScheduleReading.{after_start, event_at, event_or, line_says, pen_at, pen_of, pen_or, penned}
+use Rattle.schedules.specs.inner.ScheduleReading.{after_start, event_at, event_or, line_says, pen_at, pen_of, pen_or, penned}
 use Rattle.schedules.proofs.EventTexts.{event_again, event_found, pen_text, IsPen}
 
 pen_again : (d : DeskId) (entry : List ℕ) → pen_at (pen_line d entry) ≡ Some (d, entry)

@@ -4,7 +4,7 @@ use Rattle.std.specs.Char.{is_ascii_digit}
 use Rattle.std.specs.Str.{all_ascii_digits}
 use Rattle.std.proofs.lemmas.Bool.{and_parts, eqb-true, leb-true}
 use Rattle.std.proofs.lemmas.Str.Pattern.{IsSplitOnceResult, split_parts}
-use Rattle.schedules.specs.ScheduleReading.{cut, with_first}
+use Rattle.schedules.specs.inner.ScheduleReading.{cut, with_first}
 
 -- a piece without a space is cut off at the first space
 cut_at : (a rest : List ℕ) → ((i : ℕ) → i < length a → get_or a i 0 ≢ 32) → cut (a ++ (32 ∷ rest)) ≡ Some (a, rest)

@@ -6,7 +6,7 @@ use Rattle.headline.specs.declared.event.Event.{Event}
 use Rattle.schedules.specs.declared.schedule_fault.ScheduleFault.{ScheduleFault}
 use Rattle.schedules.specs.declared.schedule_fault.ScheduleFault.TheVariants.{NoMemory, BadEvent, BadEntry}
 use Rattle.schedules.specs.ScheduleLines.{event_text, HasFault, IsWrittenEvent}
-use Rattle.schedules.specs.ScheduleReading.{line_says}
+use Rattle.schedules.specs.inner.ScheduleReading.{line_says}
 use Rattle.schedules.proofs.LineTexts.{IsWrong, says_again}
 
 -- a line says one event

@@ -1,4 +1,4 @@
--- What is claimed: ScheduleLines and ScheduleFault. ScheduleReading serves private functions only.
+-- What is claimed: ScheduleLines and ScheduleFault. inner serves private functions only.
 pub mod ScheduleFault
 pub mod ScheduleLines
-pub mod ScheduleReading
+pub mod inner

@@ -1,4 +1,4 @@
--- Why a text is no schedule: the number and the name. Want of memory has no number.
+-- Why a text is no schedule: the number and the name. Being out of memory has no number.
 use Rattle.std.specs.Prelude.{ℕ, List, codes, Option, Some, None}
 use Rattle.schedules.specs.declared.schedule_fault.ScheduleFault.{ScheduleFault}
 use Rattle.schedules.specs.declared.schedule_fault.ScheduleFault.TheVariants.{NoMemory, BadEvent, BadEntry}

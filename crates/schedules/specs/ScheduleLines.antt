@@ -100,7 +100,7 @@ pub record IsFirstAtFault (lines : List (List ℕ)) (n : ℕ) (Wrong : List ℕ 
   pub number : n ≡ length before + 1
   pub wrong : Wrong line
 
--- why the lines are no schedule, or that memory was wanted
+-- why the lines are no schedule, or that it is out of memory
 abbrev pub HasFault : List (List ℕ) → ScheduleFault → Type 0
 HasFault lines NoMemory = ⊤
 HasFault lines (BadEvent n) = IsFirstAtFault lines n IsNoEvent

@@ -1,8 +1,8 @@
 //! One line of a schedule.
 
 ghost use Rattle.std.specs.Prelude.{◌≡◌, ◌≤◌, IfSome, MatchOption, Some, None};
-ghost use Rattle.notation.specs.Reading.{found_number};
-ghost use Rattle.schedules.specs.ScheduleReading.{board_at, choice_at, cut, count_at, desk_at, event_at, fill_at, give_at, line_says, pen_at, pick, power_at, readers, station_at};
+ghost use Rattle.notation.specs.inner.TokenReading.{found_number};
+ghost use Rattle.schedules.specs.inner.ScheduleReading.{board_at, choice_at, cut, count_at, desk_at, event_at, fill_at, give_at, line_says, pen_at, pick, power_at, readers, station_at};
 
 use crate::schedule_fault::ScheduleFault;
 use agree_core::DeskId;
@@ -39,7 +39,7 @@ fn cut(words: &str) -> Option<(&str, &str)>
     words.split_once(' ')
 }
 
-#[tactic(auto, unfolding(crate::specs::ScheduleReading::desk_at))]
+#[tactic(auto, unfolding(crate::specs::inner::ScheduleReading::desk_at))]
 fn desk(word: &str) -> Option<DeskId>
     ensures { result ≡ desk_at word.now }
 {
@@ -51,7 +51,7 @@ fn desk(word: &str) -> Option<DeskId>
 }
 
 /// A board's number.
-#[tactic(auto, unfolding(crate::specs::ScheduleReading::board_at))]
+#[tactic(auto, unfolding(crate::specs::inner::ScheduleReading::board_at))]
 fn board(word: &str) -> Option<u8>
     ensures { result ≡ board_at word.now }
 {
@@ -59,7 +59,7 @@ fn board(word: &str) -> Option<u8>
     Some(number as u8)
 }
 
-#[tactic(auto, unfolding(crate::specs::ScheduleReading::station_at))]
+#[tactic(auto, unfolding(crate::specs::inner::ScheduleReading::station_at))]
 fn station(word: &str) -> Option<Station>
     ensures { result ≡ station_at word.now }
 {
@@ -73,7 +73,7 @@ fn station(word: &str) -> Option<Station>
 }
 
 /// The bytes that a power loss leaves, by their value.
-#[tactic(auto, unfolding(crate::specs::ScheduleReading::fill_at))]
+#[tactic(auto, unfolding(crate::specs::inner::ScheduleReading::fill_at))]
 fn fill(words: &str) -> Option<Choice>
     ensures { result ≡ fill_at words.now }
 {
@@ -86,7 +86,7 @@ fn fill(words: &str) -> Option<Choice>
 }
 
 /// What a power loss leaves.
-#[tactic(auto, unfolding(crate::specs::ScheduleReading::choice_at))]
+#[tactic(auto, unfolding(crate::specs::inner::ScheduleReading::choice_at))]
 fn choice(words: &str) -> Option<Choice>
     ensures { result ≡ choice_at words.now }
 {
@@ -98,7 +98,7 @@ fn choice(words: &str) -> Option<Choice>
 }
 
 /// A message, by its number, and the station that it is given to.
-#[tactic(auto, unfolding(crate::specs::ScheduleReading::give_at))]
+#[tactic(auto, unfolding(crate::specs::inner::ScheduleReading::give_at))]
 fn give(words: &str) -> Option<Event>
     ensures { result ≡ give_at words.now }
 {
@@ -109,7 +109,7 @@ fn give(words: &str) -> Option<Event>
 }
 
 /// A desk, and what the power loss leaves.
-#[tactic(auto, unfolding(crate::specs::ScheduleReading::power_at))]
+#[tactic(auto, unfolding(crate::specs::inner::ScheduleReading::power_at))]
 fn power(words: &str) -> Option<Event>
     ensures { result ≡ power_at words.now }
 {
@@ -120,7 +120,7 @@ fn power(words: &str) -> Option<Event>
 }
 
 /// A desk, and a number of device calls.
-#[tactic(auto, unfolding(crate::specs::ScheduleReading::count_at))]
+#[tactic(auto, unfolding(crate::specs::inner::ScheduleReading::count_at))]
 fn count(words: &str) -> Option<(DeskId, u32)>
     ensures { result ≡ count_at words.now }
 {
@@ -170,7 +170,7 @@ fn event_after(first: &str, words: &str) -> Option<Event>
 }
 
 /// The event of a line, but for pens.
-#[tactic(auto, unfolding(crate::specs::ScheduleReading::event_at))]
+#[tactic(auto, unfolding(crate::specs::inner::ScheduleReading::event_at))]
 fn spelled(line: &str) -> Option<Event>
     ensures { result ≡ event_at line.now }
 {
@@ -189,7 +189,7 @@ fn event(line: &[u8]) -> Option<Event>
 }
 
 /// The desk and the entry line of a pen line.
-#[tactic(auto, unfolding(crate::specs::ScheduleReading::pen_at))]
+#[tactic(auto, unfolding(crate::specs::inner::ScheduleReading::pen_at))]
 fn pen(line: &[u8]) -> Option<(DeskId, &[u8])>
     ensures { MatchOption result (pen_at line.now ≡ None) (λ p. pen_at line.now ≡ Some (p.0, p.1.now)) }
 {
@@ -201,7 +201,7 @@ fn pen(line: &[u8]) -> Option<(DeskId, &[u8])>
 }
 
 /// The event of line `number`, or its fault.
-#[tactic(auto, unfolding(crate::specs::ScheduleReading::line_says))]
+#[tactic(auto, unfolding(crate::specs::inner::ScheduleReading::line_says))]
 pub fn read_event(line: &[u8], number: u64) -> Result<Event, ScheduleFault>
     ensures { result ≡ line_says number line.now }
 {

@@ -10,7 +10,7 @@ use std::fmt;
 /// Why a text is no schedule: the first line at fault, counted from 1.
 #[derive(Clone, Copy, Debug, PartialEq, Eq)]
 pub enum ScheduleFault {
-    /// A growth was refused.
+    /// An allocation failed.
     NoMemory,
     /// 85: the line is neither an event's nor a pen's, which is `pen D ` and anything behind it.
     BadEvent { line: u64 },
@@ -19,7 +19,7 @@ pub enum ScheduleFault {
 }
 
 impl ScheduleFault {
-    /// The number by which it is reported. Want of memory has none.
+    /// The number by which it is reported. Being out of memory has none.
     pub fn number(self) -> Option<u8>
         ensures { result ≡ number_of self }
     {

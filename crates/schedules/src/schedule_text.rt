@@ -4,7 +4,7 @@ ghost use Rattle.std.specs.Prelude.{◌≡◌, ◌⊎◌, ◌++◌, All, Err, If
 ghost use Rattle.notation.specs.Lines.{lines_of};
 ghost use Rattle.headline.specs.Events.{IsEvent};
 ghost use Rattle.schedules.specs.ScheduleLines.{HasFault, IsScheduleOf};
-ghost use Rattle.schedules.specs.ScheduleReading.{line_says};
+ghost use Rattle.schedules.specs.inner.ScheduleReading.{line_says};
 ghost use Rattle.headline.specs.declared.event.Event.{Event};
 ghost use Rattle.schedules.specs.declared.schedule_fault.ScheduleFault.TheVariants.{NoMemory};
 

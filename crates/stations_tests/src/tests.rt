@@ -1,4 +1,4 @@
-//! Desks and boards, byte by byte, and what is printed of a book. Where a growth is refused once, the call made again
+//! Desks and boards, byte by byte, and what is printed of a book. Where one allocation fails, the call made again
 //! gives its answer.
 ghost use Rattle.std.specs.Prelude.{◌≡◌, ◌<◌, []};
 ghost use Rattle.notation.specs.Written.{IsEntry};

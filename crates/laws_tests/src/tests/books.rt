@@ -1,5 +1,5 @@
 //! Both kinds of book alike, copies, steps that are counted, and room for all places.
-//! What wants memory is done again where it was refused, so that the tests pass with any one growth refused.
+//! What takes memory is done again where an allocation failed, so that the tests pass with any one refused.
 
 ghost use Rattle.std.specs.Prelude.{◌≤◌};
 

@@ -5,9 +5,9 @@ ghost use Rattle.entry_log.specs.declared.mem_disk.MemDisk.{MemDisk};
 ghost use Rattle.agree_core.specs.Ballots.{oldest};
 ghost use Rattle.match_laws.specs.declared.standing.Standing.{Standing};
 ghost use Rattle.headline.specs.declared.event.Station.TheVariants as stations;
-ghost use Rattle.schedule_replay.specs.ShownScores.{Adds, DeskHasScore, DeskShows, IsKept};
-ghost use Rattle.schedule_replay.specs.Sites.{IsSite, IsWhole};
-ghost use Rattle.schedule_replay.specs.VotesFiles.{SiteReads, votes_of};
+ghost use Rattle.schedule_replay.specs.inner.ShownScores.{Adds, DeskHasScore, DeskShows, IsKept};
+ghost use Rattle.schedule_replay.specs.inner.Sites.{IsSite, IsWhole};
+ghost use Rattle.schedule_replay.specs.inner.VotesFiles.{SiteReads, votes_of};
 ghost use Rattle.headline.specs.Worlds as worlds;
 
 use crate::shown_scores::ShownScores;

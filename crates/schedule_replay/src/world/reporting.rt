@@ -3,8 +3,8 @@
 ghost use Rattle.std.specs.Prelude.{◌≡◌, ◌≤◌, IfOk, OnOk};
 ghost use Rattle.agree_core.specs.Books.{IsAgreedByFiles};
 ghost use Rattle.schedule_replay.specs.CodeWorlds.{IsWorld};
-ghost use Rattle.schedule_replay.specs.ShownScores.{HaveScores, IsKept, IsNotable, Notes};
-ghost use Rattle.schedule_replay.specs.VotesFiles.{FilesRead};
+ghost use Rattle.schedule_replay.specs.inner.ShownScores.{HaveScores, IsKept, IsNotable, Notes};
+ghost use Rattle.schedule_replay.specs.inner.VotesFiles.{FilesRead};
 ghost use Rattle.headline.specs.Worlds as worlds;
 ghost use Rattle.headline.specs.Worlds.{votes_in};
 ghost use Rattle.entry_log.specs.declared.mem_disk.MemDisk.{MemDisk};

@@ -40,8 +40,8 @@ fn file_of_two(rt: &impl Abort, alloc: Global, n: u32) -> MemDisk
     a.into_disk()
 }
 
-// A pen makes four device calls, a create three, and an open of two votes eight: a sync, the length, the header, three
-// gates, a page, and that page again for the book.
+// A pen makes four device calls, a create three, and an open of two votes six: a sync, the length, the header, the
+// gates of a page, its records, and those again for the book.
 #[test]
 fn calls_that_fail(rt: HostRuntime) {
     for n in 1..6 {
@@ -74,7 +74,7 @@ fn is_made(rt: &impl Abort, answer: Made<Version2>) -> bool {
 // The length, a write and a sync; and what is said above.
 #[test]
 fn desks_that_are_not_made(rt: HostRuntime) {
-    for n in 1..11 {
+    for n in 1..9 {
         let mut disk = empty_disk(&rt, rt.alloc(), 400);
         disk.fail_at(n);
         let answer = create::<Version2>(&rt, rt.alloc(), disk, DeskId::A);
@@ -83,7 +83,7 @@ fn desks_that_are_not_made(rt: HostRuntime) {
         disk.kill();
         disk.fail_at(n);
         let answer = open::<Version2>(&rt, rt.alloc(), disk, DeskId::A);
-        assert_eq!(rt; is_made(&rt, answer), n > 8, "{n}");
+        assert_eq!(rt; is_made(&rt, answer), n > 6, "{n}");
     }
 }
 

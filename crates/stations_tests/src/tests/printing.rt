@@ -1,5 +1,5 @@
 //! Sheets and their readers, each text on a writer that tells its bytes, and writers that fail.
-//! What wants memory is done again where it was refused, so that the tests pass with any one growth refused.
+//! What takes memory is done again where an allocation failed, so that the tests pass with any one refused.
 
 use cards::{
     MatchSheet, SheetFault, Watched, WriteFailed, batting_card, board_lines, book_page,

@@ -1,5 +1,5 @@
 use Rattle.headline.specs.Match.{setting_of}
-use Rattle.headline.proofs.Whole.{holds_in_run}
+use Rattle.headline.proofs.EveryRun.{holds_in_run}
 use Rattle.headline.proofs.laws.every_run_is_sound.Goals as goal
 
 pub returns : goal.returns

@@ -1,6 +1,6 @@
 use Rattle.std.proofs.Common.{◌+◌, List, subst, sym}
 use Rattle.schedule_replay.specs.CodeWorlds.{MatchBoard}
-use Rattle.schedule_replay.specs.WorldBoards.{AreFresh}
+use Rattle.schedule_replay.specs.inner.WorldBoards.{AreFresh}
 use Rattle.schedule_replay.proofs.BoardLemmas.{one_more}
 use Rattle.schedule_replay.proofs.boards.empty_boards.Goals as goal
 

@@ -1,4 +1,4 @@
-use Rattle.schedule_replay.specs.WorldBoards.{AreFresh}
+use Rattle.schedule_replay.specs.inner.WorldBoards.{AreFresh}
 use Rattle.schedule_replay.proofs.boards.empty_boards.Given as goal
 
 abbrev pub invariant-loop : goal.invariant-loop

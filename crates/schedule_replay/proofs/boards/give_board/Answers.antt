@@ -1,7 +1,7 @@
 use Rattle.std.proofs.Common.{[], sym, subst}
 use Rattle.headline.specs.declared.event.Event.TheVariants as events
 use Rattle.schedule_replay.specs.declared.seen.Seen.{Seen}
-use Rattle.schedule_replay.specs.WorldBoards.{BoardSteps}
+use Rattle.schedule_replay.specs.inner.WorldBoards.{BoardSteps}
 use Rattle.schedule_replay.proofs.BoardLemmas.{board_gives}
 use Rattle.std.proofs.lemmas.Option.{slice_get-get_or}
 use Rattle.schedule_replay.proofs.boards.give_board.Goals as goal

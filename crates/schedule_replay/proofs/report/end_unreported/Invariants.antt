@@ -1,6 +1,6 @@
 use Rattle.std.proofs.Common.{◌≤◌, ℕ}
 use Rattle.headline.specs.declared.version.FileVersion.{FileVersion}
-use Rattle.schedule_replay.specs.RunsSoFar.{HasTaken}
+use Rattle.schedule_replay.specs.inner.RunsSoFar.{HasTaken}
 use Rattle.schedule_replay.proofs.report.end_unreported.Given as goal
 
 abbrev pub invariant-loop-number : goal.invariant-loop-number

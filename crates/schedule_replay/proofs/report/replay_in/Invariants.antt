@@ -1,6 +1,6 @@
 use Rattle.std.proofs.Common.{◌≡◌, ◌≤◌}
 use Rattle.std.specs.Prelude.{vec_capacity, vec_len}
-use Rattle.schedule_replay.specs.ShownScores.{IsKept}
+use Rattle.schedule_replay.specs.inner.ShownScores.{IsKept}
 use Rattle.schedule_replay.specs.CodeWorlds.{boards_of, version_of}
 use Rattle.schedule_replay.proofs.ReplayLemmas.{IsAfter}
 use Rattle.schedule_replay.proofs.report.replay_in.Given as goal

@@ -1,7 +1,7 @@
 use Rattle.std.proofs.Common.{Option, Some, None, Bor, List, ℕ, ◌≡◌}
 use Rattle.std.specs.Option.{MatchOption}
 use Rattle.std.proofs.lemmas.Str.Pattern.{IsSplitOnceResult}
-use Rattle.schedules.specs.ScheduleReading.{cut}
+use Rattle.schedules.specs.inner.ScheduleReading.{cut}
 use Rattle.schedules.proofs.ScheduleCuts.{cut_none, cut_some}
 use Rattle.schedules.proofs.event_line.cut.Goals as goal
 

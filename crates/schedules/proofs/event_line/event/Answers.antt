@@ -1,7 +1,7 @@
 use Rattle.std.proofs.Common.{◌≡◌, List, ℕ, Option, Some, None, refl, sym}
 use Rattle.std.specs.Str.{IsUtf8}
 use Rattle.headline.specs.declared.event.Event.{Event}
-use Rattle.schedules.specs.ScheduleReading.{event_at}
+use Rattle.schedules.specs.inner.ScheduleReading.{event_at}
 use Rattle.schedules.proofs.EventTexts.{event_utf8}
 use Rattle.schedules.proofs.event_line.event.Goals as goal
 

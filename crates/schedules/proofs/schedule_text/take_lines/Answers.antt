@@ -6,7 +6,7 @@ use Rattle.schedules.specs.declared.schedule_fault.ScheduleFault.{ScheduleFault}
 use Rattle.schedules.specs.declared.schedule_fault.ScheduleFault.TheVariants.{NoMemory}
 use Rattle.notation.specs.Lines.{lines_of}
 use Rattle.schedules.specs.ScheduleLines.{event_text, HasFault, IsScheduleOf, IsWrittenEvent}
-use Rattle.schedules.specs.ScheduleReading.{line_says}
+use Rattle.schedules.specs.inner.ScheduleReading.{line_says}
 use Rattle.notation.proofs.Cuts.{length-lines_of}
 use Rattle.schedules.proofs.LineTexts.{says_found, says_wrong}
 use Rattle.schedules.proofs.ScheduleTexts.{at_fault, none_wrong, same_events}

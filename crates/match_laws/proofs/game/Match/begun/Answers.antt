@@ -1,4 +1,4 @@
-use Rattle.match_laws.proofs.KeptLemmas.{kept_begun}
+use Rattle.match_laws.proofs.StandingBounds.{kept_begun}
 use Rattle.match_laws.proofs.game.Match.begun.Goals as goal
 
 pub returns-clause-bound : goal.returns-clause-bound

@@ -3,10 +3,11 @@ use Rattle.headline.specs.declared.event.Event.TheVariants as events
 use Rattle.schedule_replay.specs.declared.seen.Cause.TheVariants as causes
 use Rattle.schedule_replay.specs.declared.seen.Seen.{Seen}
 use Rattle.desk.specs.declared.refusal.Refusal.TheVariants as refusals
-use Rattle.schedule_replay.specs.Sites.{SiteSteps}
+use Rattle.schedule_replay.specs.inner.Sites.{SiteSteps}
 use Rattle.schedule_replay.proofs.GiveLemmas.{calm_answer, fault_is, fault_not, give_breaks, give_runs_on, stands_at}
 use Rattle.schedule_replay.proofs.SiteLemmas.{broken_same}
 use Rattle.schedule_replay.proofs.site.Site.give.Goals as goal
+use Rattle.schedule_replay.proofs.DueLemmas.{breaks_none, keeps_none, keeps_running}
 
 pub returns-then-is_fault-clause-step : goal.returns-then-is_fault-clause-step
 returns-then-is_fault-clause-step c = λ t.
@@ -26,3 +27,11 @@ returns-clause-step c = λ t.
     (give_runs_on c.args.self.now c.unwrap-desk.result c.receive-received.new.self c.args.message t c.index.result.now c.receive-received.result c.args.sent.now.items c.hand_out.new.sent.items
     (sym c.take.ensures.value ∙ c.unwrap-desk.ensures) (stands_at c.args.sent.now.items c.args.message c.index.result.now c.requires.sent c.index.ensures) c.receive-received.ensures.step c.receive-received.ensures.owner
     (c.receive-received.ensures.blame.same (calm_answer c.receive-received.result.what calm)) calm c.hand_out.ensures)
+
+pub returns-then-is_fault-clause-counted : goal.returns-then-is_fault-clause-counted
+returns-then-is_fault-clause-counted c = keeps_none c.args.self.now c.fail.new.self (breaks_none c.args.self.now.due (causes.Desk refusals.Device) _ c.fail.result c.fail.new.self c.fail.ensures.broken)
+
+pub returns-clause-counted : goal.returns-clause-counted
+returns-clause-counted c =
+    let calm = fault_not c.receive-received.result.what (sym c.is_fault.ensures ∙ c.if-is_fault.false) in
+    keeps_running c.args.self.now c.unwrap-desk.result c.receive-received.new.self (sym c.take.ensures.value ∙ c.unwrap-desk.ensures) (c.receive-received.ensures.blame.same (calm_answer c.receive-received.result.what calm))

@@ -1,7 +1,7 @@
 use Rattle.std.proofs.Common.{Option, sym, subst, Result, Ok, Err, OnOk}
 use Rattle.headline.specs.declared.event.Station.TheVariants as stations
 use Rattle.schedule_replay.specs.declared.world_desk.WorldDesk.{WorldDesk}
-use Rattle.schedule_replay.specs.ShownScores.{Adds, DeskHasScore, DeskShows}
+use Rattle.schedule_replay.specs.inner.ShownScores.{Adds, DeskHasScore, DeskShows}
 use Rattle.schedule_replay.proofs.ShowLemmas.{adds_book}
 use Rattle.schedule_replay.proofs.site.Site.note.Goals as goal
 

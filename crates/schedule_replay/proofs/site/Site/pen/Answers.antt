@@ -4,6 +4,7 @@ use Rattle.schedule_replay.specs.declared.seen.Seen.TheVariants as seens
 use Rattle.schedule_replay.proofs.PenLemmas.{pen_refused, pen_runs_on, refused_same}
 use Rattle.schedule_replay.proofs.SiteLemmas.{pushed}
 use Rattle.schedule_replay.proofs.site.Site.pen.Goals as goal
+use Rattle.schedule_replay.proofs.DueLemmas.{keeps_refused, keeps_running}
 
 pub returns-in-Ok-clause-step : goal.returns-in-Ok-clause-step
 returns-in-Ok-clause-step c =
@@ -18,3 +19,11 @@ returns-in-Err-clause-step c =
 
 pub returns-in-Err-clause-same : goal.returns-in-Err-clause-same
 returns-in-Err-clause-same c = let s = refused_same (is_device c.in-Err.why) c.in-Err.why _ c.refuse.new.self c.refuse.result c.refuse.ensures.refused in record { name = s.name; same_game = s.same_game; innings = s.innings }
+
+pub returns-in-Ok-clause-counted : goal.returns-in-Ok-clause-counted
+returns-in-Ok-clause-counted c = keeps_running c.args.self.now c.unwrap-desk.result c.pen-penned.new.self (sym c.take.ensures.value ∙ c.unwrap-desk.ensures) (c.in-Ok.ensures.blame.same (λ e. (cc)))
+
+pub returns-in-Err-clause-counted : goal.returns-in-Err-clause-counted
+returns-in-Err-clause-counted c =
+    keeps_refused c.in-Err.why c.args.self.now c.refuse.new.self c.unwrap-desk.result c.pen-penned.new.self c.refuse.result (sym c.take.ensures.value ∙ c.unwrap-desk.ensures)
+    (λ n. c.in-Err.ensures.blame.same (λ e. n (cc))) c.refuse.ensures.refused

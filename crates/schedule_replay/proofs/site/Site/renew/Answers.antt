@@ -5,6 +5,8 @@ use Rattle.schedule_replay.specs.Answers.{is_failing, wants_memory}
 use Rattle.schedule_replay.proofs.MigrateLemmas.{IsMoved, IsReturned, migrated, not_migrated, refused_for}
 use Rattle.schedule_replay.proofs.OpenLemmas.{not_found_same, stays_so}
 use Rattle.schedule_replay.proofs.site.Site.renew.Goals as goal
+use Rattle.std.proofs.Common.{ap}
+use Rattle.schedule_replay.proofs.DueLemmas.{keeps_down, keeps_migrated, keeps_not_found, no_failure}
 
 pub returns-in_default-clause-refused : goal.returns-in_default-clause-refused
 returns-in_default-clause-refused c = (refl, stays_so c.args.self.now)
@@ -14,25 +16,25 @@ returns-in-Ok-migrate-clause-step c = λ sent.
     let fresh = subst (λ (n : ℕ). IsFresh [] n c.in-Ok.new) c.most_bytes.ensures c.in-Ok.ensures in
     let same = c.in-Ok-migrate.ensures.blame.same (λ q. (cc)) in
     migrated c.args.self.now c.unwrap-old.result c.move_fault.new.self c.in-Ok.new c.move_fault.new.other c.in-Ok-migrate.migrated.new c.in-Ok-migrate.migrated.votes sent c.requires.version c.requires.down
-    (sym c.take.ensures.value ∙ c.unwrap-old.ensures) (record { fresh_is = fresh; here = c.move_fault.ensures.here; there = c.move_fault.ensures.there })
+    (sym c.take.ensures.value ∙ c.unwrap-old.ensures) (record { fresh_is = fresh; here = c.move_fault.ensures.here; there = c.move_fault.ensures.there; due = c.move_fault.ensures.due })
     c.in-Ok-migrate.ensures.found c.in-Ok-migrate.ensures.holds c.in-Ok-migrate.ensures.new_cap same.1
 
 pub returns-in-Err-clause-step : goal.returns-in-Err-clause-step
 returns-in-Err-clause-step c =
     let fresh = subst (λ (n : ℕ). IsFresh [] n c.in-Ok.new) c.most_bytes.ensures c.in-Ok.ensures in
-    let moved : IsMoved c.args.self.now c.unwrap-old.result c.move_fault.new.self c.in-Ok.new c.move_fault.new.other = record { fresh_is = fresh; here = c.move_fault.ensures.here; there = c.move_fault.ensures.there } in
+    let moved : IsMoved c.args.self.now c.unwrap-old.result c.move_fault.new.self c.in-Ok.new c.move_fault.new.other = record { fresh_is = fresh; here = c.move_fault.ensures.here; there = c.move_fault.ensures.there; due = c.move_fault.ensures.due } in
     let e = c.in-Err.ensures in
     let back : IsReturned c.args.self.now c.unwrap-old.result c.move_fault.new.self c.move_fault.new.other c.in-Err.old c.in-Err.new c.move_fault-in-Err.new.other c.in-Err.why =
-    record { seen = e.old_seen; images = e.old_images; cap = e.old_cap; blame = e.blame; back = c.move_fault-in-Err.ensures.there } in
+    record { seen = e.old_seen; images = e.old_images; cap = e.old_cap; blame = e.blame; back = c.move_fault-in-Err.ensures.there; due = c.move_fault-in-Err.ensures.due } in
     (not_migrated c.args.self.now c.not_found.new.self c.unwrap-old.result c.move_fault.new.self c.in-Ok.new c.move_fault.new.other c.in-Err.old c.in-Err.new c.move_fault-in-Err.new.other c.in-Err.why c.not_found.result c.requires.version c.requires.down (sym c.take.ensures.value ∙ c.unwrap-old.ensures) moved back (refused_for c.args.self.now c.unwrap-old.result c.move_fault.new.self c.in-Ok.new c.move_fault.new.other c.in-Err.why moved e.not_empty e.refused) c.not_found.ensures.refused).0
 
 pub returns-in-Err-clause-refused : goal.returns-in-Err-clause-refused
 returns-in-Err-clause-refused c =
     let fresh = subst (λ (n : ℕ). IsFresh [] n c.in-Ok.new) c.most_bytes.ensures c.in-Ok.ensures in
-    let moved : IsMoved c.args.self.now c.unwrap-old.result c.move_fault.new.self c.in-Ok.new c.move_fault.new.other = record { fresh_is = fresh; here = c.move_fault.ensures.here; there = c.move_fault.ensures.there } in
+    let moved : IsMoved c.args.self.now c.unwrap-old.result c.move_fault.new.self c.in-Ok.new c.move_fault.new.other = record { fresh_is = fresh; here = c.move_fault.ensures.here; there = c.move_fault.ensures.there; due = c.move_fault.ensures.due } in
     let e = c.in-Err.ensures in
     let back : IsReturned c.args.self.now c.unwrap-old.result c.move_fault.new.self c.move_fault.new.other c.in-Err.old c.in-Err.new c.move_fault-in-Err.new.other c.in-Err.why =
-    record { seen = e.old_seen; images = e.old_images; cap = e.old_cap; blame = e.blame; back = c.move_fault-in-Err.ensures.there } in
+    record { seen = e.old_seen; images = e.old_images; cap = e.old_cap; blame = e.blame; back = c.move_fault-in-Err.ensures.there; due = c.move_fault-in-Err.ensures.due } in
     (not_migrated c.args.self.now c.not_found.new.self c.unwrap-old.result c.move_fault.new.self c.in-Ok.new c.move_fault.new.other c.in-Err.old c.in-Err.new c.move_fault-in-Err.new.other c.in-Err.why c.not_found.result c.requires.version c.requires.down (sym c.take.ensures.value ∙ c.unwrap-old.ensures) moved back (refused_for c.args.self.now c.unwrap-old.result c.move_fault.new.self c.in-Ok.new c.move_fault.new.other c.in-Err.why moved e.not_empty e.refused) c.not_found.ensures.refused).1
 
 pub returns-in-Err-clause-same : goal.returns-in-Err-clause-same
@@ -56,3 +58,18 @@ invariant_of-new c =
       image = disk.image;
       synced_image = disk.synced_image;
     }
+
+pub returns-in-Ok-migrate-clause-counted : goal.returns-in-Ok-migrate-clause-counted
+returns-in-Ok-migrate-clause-counted c =
+    let there = sym c.take.ensures.value ∙ c.unwrap-old.ensures in
+    let same = c.in-Ok-migrate.ensures.blame.same (λ q. (cc)) in
+    keeps_migrated c.args.self.now c.unwrap-old.result c.in-Ok-migrate.migrated.new c.requires.down there (ap (λ z. z.due) same.1 ∙ c.move_fault.ensures.due)
+
+pub returns-in-Err-clause-counted : goal.returns-in-Err-clause-counted
+returns-in-Err-clause-counted c =
+    let there = sym c.take.ensures.value ∙ c.unwrap-old.ensures in
+    keeps_not_found (wants_memory c.in-Err.why) (is_failing c.in-Err.why) (causes.Migrate c.in-Err.why) c.args.self.now _ c.not_found.new.self c.not_found.result
+    (λ n.
+    let same = c.in-Err.ensures.blame.same (λ q. no_failure c.in-Err.why n (cc)) in
+    keeps_down c.args.self.now c.unwrap-old.result c.move_fault-in-Err.new.other c.requires.down there (c.move_fault-in-Err.ensures.due ∙ ap (λ z. z.due) same.1 ∙ c.move_fault.ensures.due))
+    c.not_found.ensures.refused

@@ -2,7 +2,7 @@ use Rattle.std.proofs.Common.{List, subst, Result, Ok, Err, IfOk}
 use Rattle.agree_core.specs.declared.messages.DeskId.TheVariants.{A, B}
 use Rattle.agree_core.specs.Ballots.{Ballot, oldest}
 use Rattle.agree_core.specs.Books.{IsAgreedByFiles}
-use Rattle.schedule_replay.specs.VotesFiles.{votes_of}
+use Rattle.schedule_replay.specs.inner.VotesFiles.{votes_of}
 use Rattle.headline.specs.Worlds as worlds
 use Rattle.schedule_replay.proofs.ReadLemmas.{of_names}
 use Rattle.schedule_replay.proofs.world.World.agreed.Goals as goal

@@ -1,5 +1,5 @@
 use Rattle.std.proofs.Common.{◌≤◌, ◌+◌, length}
-use Rattle.schedule_replay.specs.ShownScores.{IsKept}
+use Rattle.schedule_replay.specs.inner.ShownScores.{IsKept}
 use Rattle.schedule_replay.proofs.ShowLemmas.{NotedBelow, ScoredBelow}
 use Rattle.schedule_replay.proofs.world.World.note.Given as goal
 

@@ -1,0 +1,175 @@
+-- What a desk keeps of its votes, as it opens, casts and hears.
+use Rattle.std.proofs.Common.{◌≡◌, ◌∙◌, ◌+◌, ◌&&◌, ◌==◌, nat_lt, ℕ, true, Option, Some, None, List, [], ◌∷◌, ◌++◌, length, refl, sym, ap, subst, append-nil, append_assoc}
+use Rattle.std.proofs.lemmas.Bool.{and_from, or_left, or_right, lt-ltb}
+use Rattle.std.proofs.lemmas.Bool.Decides.{Decides-eqb}
+use Rattle.std.proofs.lemmas.List.{length-append}
+use Rattle.notation.specs.declared.entry.Entry.{Entry}
+use Rattle.corrections.specs.Refusal.{book_refusal}
+use Rattle.agree_core.specs.declared.messages.DeskId.{DeskId}
+use Rattle.agree_core.specs.declared.messages.Vote.{Vote}
+use Rattle.agree_core.specs.declared.position.Position.{Position}
+use Rattle.agree_core.specs.declared.position.TheConstants.{PLACES, ROUNDS}
+use Rattle.agree_core.specs.declared.seat.Heard.{Heard}
+use Rattle.agree_core.specs.declared.seat.Settled.{Settled}
+use Rattle.agree_core.specs.Ballots.{Ballot, ComesNext}
+use Rattle.agree_core.specs.Books.{AllTaken, Rules, book_of, seat_of, voted_list}
+use Rattle.agree_core.specs.Desks.{book_after, book_heard}
+use Rattle.agree_core.specs.Positions.{InRange, next_place, next_round}
+use Rattle.agree_core.specs.Seats.{Casts, Hears, SeatState, waiting}
+use Rattle.agree_core.proofs.FileBooks.{book_long}
+use Rattle.vote_store.specs.Sequence.{comes_next, is_at, last_position}
+use Rattle.vote_store.proofs.SequenceLemmas.{IsVotes, may_follow-true}
+use Rattle.desk.specs.inner.Kept.{IsCast, IsNext, newest}
+
+pub record IsKept (n : ℕ) (book : List Entry) (seat : SeatState) (votes : List Ballot) : Type 0 where
+  pub as_long : length book ≡ seat.position.place
+  pub cast : IsCast n book seat votes
+  pub next : IsNext seat votes
+
+-- the same book, seat and votes
+pub kept_as : (n : ℕ) (book book' : List Entry) (seat seat' : SeatState) (votes votes' : List Ballot)
+    → IsKept n book seat votes → book' ≡ book → seat' ≡ seat → votes' ≡ votes → IsKept n book' seat' votes'
+kept_as n book book' seat seat' votes votes' k b s v =
+    subst (λ (x : List Entry). IsKept n x seat' votes') (sym b)
+    (subst (λ (x : SeatState). IsKept n book x votes') (sym s)
+    (subst (λ (x : List Ballot). IsKept n book seat x) (sym v) k))
+
+last_legal : {Why : Type 0} (rules : Rules Why) (book xs : List Entry) (e : Entry) → AllTaken rules book (xs ++ e ∷ []) → rules (book ++ xs) e ≡ None
+last_legal rules book [] e t = rw append-nil t.0
+last_legal rules book (x ∷ xs) e t = rw (sym (append_assoc book (x ∷ []) xs)) (last_legal rules (book ++ x ∷ []) xs e t.1)
+
+-- the seat and the book that a file's votes show
+pub opened_kept : (n : ℕ) (d : DeskId) (votes : List Ballot) → IsVotes votes → AllTaken (book_refusal n) [] (voted_list votes)
+    → IsKept n (book_of votes) (seat_of d votes) votes
+opened_kept n d [] fine taken = record { as_long = refl; cast = λ e h. absurd (cc); next = λ h. refl }
+opened_kept n d (b ∷ rest) fine taken = record {
+  as_long = book_long b rest fine.sequence;
+  cast = λ e h.
+      let is : b.entry ≡ e = cc in
+      record {
+        legal = subst (λ (x : Entry). book_refusal n (book_of (b ∷ rest)) x ≡ None) is (last_legal (book_refusal n) [] (book_of (b ∷ rest)) b.entry taken);
+        last = ap (λ (x : Entry). Some (record { at = b.at; entry = x })) is;
+      };
+  next = λ h. absurd (cc);
+}
+
+same_place : (p : Position) → is_at p p ≡ true
+same_place p = and_from (p.place == p.place) (p.round == p.round) ((Decides-eqb p.place p.place).1 refl) ((Decides-eqb p.round p.round).1 refl)
+
+-- behind a vote at this position come the next round and the next place
+next_is : (p : Position) (votes : List Ballot) (e : Entry) → newest votes ≡ Some (record { at = p; entry = e })
+    → (comes_next (next_place p) (last_position votes) ≡ true) × (comes_next (next_round p) (last_position votes) ≡ true)
+next_is p [] e h = absurd (cc)
+next_is p (b ∷ rest) e h =
+    let at : b.at ≡ p = ap (λ (o : Option Ballot). at_or p o) h in (
+      subst (λ (q : Position). comes_next (next_place p) (Some q) ≡ true) (sym at) (or_right (is_at (next_place p) (next_round p)) (is_at (next_place p) (next_place p)) (same_place (next_place p))),
+      subst (λ (q : Position). comes_next (next_round p) (Some q) ≡ true) (sym at) (or_left (is_at (next_round p) (next_round p)) (is_at (next_round p) (next_place p)) (same_place (next_round p))),
+    )
+  where
+    at_or : Position → Option Ballot → Position
+    at_or q None = q
+    at_or q (Some c) = c.at
+
+one_longer : (book : List Entry) (e : Entry) → length (book ++ e ∷ []) ≡ length book + 1
+one_longer book e = length-append book (e ∷ [])
+
+-- both desks have voted, for this entry or not
+settled_kept : (n : ℕ) (book : List Entry) (s t : SeatState) (votes : List Ballot) (e : Entry) → length book ≡ s.position.place
+    → newest votes ≡ Some (record { at = s.position; entry = e })
+    → t ≡ waiting s.desk (next_place s.position) → IsKept n (book ++ e ∷ []) t votes
+settled_kept n book s t votes e long last is = subst (λ (x : SeatState). IsKept n (book ++ e ∷ []) x votes) (sym is) (record {
+  as_long = one_longer book e ∙ ap (λ (k : ℕ). k + 1) long;
+  cast = λ f h. absurd (cc);
+  next = λ h. (next_is s.position votes e last).0;
+})
+
+differed_kept : (n : ℕ) (book : List Entry) (s t : SeatState) (votes : List Ballot) (e : Entry) → length book ≡ s.position.place
+    → newest votes ≡ Some (record { at = s.position; entry = e })
+    → t ≡ waiting s.desk (next_round s.position) → IsKept n book t votes
+differed_kept n book s t votes e long last is = subst (λ (x : SeatState). IsKept n book x votes) (sym is) (record {
+  as_long = long;
+  cast = λ f h. absurd (cc);
+  next = λ h. (next_is s.position votes e last).1;
+})
+
+-- once a vote is cast and stored
+pub cast_kept : (n : ℕ) (book : List Entry) (s t : SeatState) (votes : List Ballot) (e : Entry) (settled : Settled)
+    → length book ≡ s.position.place → book_refusal n book e ≡ None → Casts s e settled t
+    → IsKept n (book_after settled book e) t (record { at = s.position; entry = e } ∷ votes)
+cast_kept n book s t votes e Settled.Pending long legal c =
+    subst (λ (x : SeatState). IsKept n book x (record { at = s.position; entry = e } ∷ votes)) (sym c.1) (record {
+      as_long = long;
+      cast = λ f h. let is : e ≡ f = cc in record {
+        legal = subst (λ (x : Entry). book_refusal n book x ≡ None) is legal;
+        last = ap (λ (x : Entry). Some (record { at = s.position; entry = x })) is;
+      };
+      next = λ h. absurd (cc);
+    })
+cast_kept n book s t votes e Settled.Agreed long legal c = settled_kept n book s t _ e long refl c.1
+cast_kept n book s t votes e Settled.Differ long legal c = differed_kept n book s t _ e long refl c.1
+
+-- once a vote is heard
+pub heard_kept : (n : ℕ) (book : List Entry) (s t : SeatState) (votes : List Ballot) (v : Vote) (heard : Heard)
+    → IsKept n book s votes → Hears s v heard t → IsKept n (book_heard heard book v.entry) t votes
+heard_kept n book s t votes v Heard.Mine k h = subst (λ (x : SeatState). IsKept n book x votes) (sym h.1) k
+heard_kept n book s t votes v Heard.Old k h = subst (λ (x : SeatState). IsKept n book x votes) (sym h.2) k
+heard_kept n book s t votes v Heard.Ahead k h = subst (λ (x : SeatState). IsKept n book x votes) (sym h.2) k
+heard_kept n book s t votes v Heard.Again k h = subst (λ (x : SeatState). IsKept n book x votes) (sym h.2) k
+heard_kept n book s t votes v Heard.TwoVotes k h = subst (λ (x : SeatState). IsKept n book x votes) (sym h.2) k
+heard_kept n book s t votes v Heard.Noted k h = subst (λ (x : SeatState). IsKept n book x votes) (sym h.3) (record {
+  as_long = k.as_long;
+  cast = λ f g. absurd (cc);
+  next = λ g. k.next h.2;
+})
+heard_kept n book s t votes v Heard.Agreed k h = settled_kept n book s t votes v.entry k.as_long (k.cast v.entry h.2).last h.3
+heard_kept n book s t votes v Heard.Differ k h = differed_kept n book s t votes h.2.0 k.as_long (k.cast h.2.0 h.2.1).last h.3
+
+-- the vote for its position comes next, where there is a place and a round for it
+pub vote_is_next : (s : SeatState) (votes : List Ballot) (e : Entry) → IsNext s votes → s.mine ≡ None → InRange s.position
+    → ComesNext (record { at = s.position; entry = e }) votes
+vote_is_next s votes e next none range =
+    (may_follow-true (record { at = s.position; entry = e }) votes
+    (and_from (nat_lt s.position.place PLACES && nat_lt s.position.round ROUNDS) (comes_next s.position (last_position votes))
+    (and_from (nat_lt s.position.place PLACES) (nat_lt s.position.round ROUNDS) (lt-ltb s.position.place PLACES range.0) (lt-ltb s.position.round ROUNDS range.1))
+    (next none))).1
+
+pub seat_desk : (d : DeskId) (votes : List Ballot) → (seat_of d votes).desk ≡ d
+seat_desk d [] = refl
+seat_desk d (b ∷ rest) = refl
+
+-- a seat stays the same desk's
+pub hears_desk : (s t : SeatState) (v : Vote) (heard : Heard) → Hears s v heard t → t.desk ≡ s.desk
+hears_desk s t v Heard.Mine h = ap (λ (x : SeatState). x.desk) h.1
+hears_desk s t v Heard.Old h = ap (λ (x : SeatState). x.desk) h.2
+hears_desk s t v Heard.Ahead h = ap (λ (x : SeatState). x.desk) h.2
+hears_desk s t v Heard.Again h = ap (λ (x : SeatState). x.desk) h.2
+hears_desk s t v Heard.TwoVotes h = ap (λ (x : SeatState). x.desk) h.2
+hears_desk s t v Heard.Noted h = ap (λ (x : SeatState). x.desk) h.3
+hears_desk s t v Heard.Agreed h = ap (λ (x : SeatState). x.desk) h.3
+hears_desk s t v Heard.Differ h = ap (λ (x : SeatState). x.desk) h.3
+
+pub casts_desk : (s t : SeatState) (e : Entry) (settled : Settled) → Casts s e settled t → t.desk ≡ s.desk
+casts_desk s t e Settled.Pending h = ap (λ (x : SeatState). x.desk) h.1
+casts_desk s t e Settled.Agreed h = ap (λ (x : SeatState). x.desk) h.1
+casts_desk s t e Settled.Differ h = ap (λ (x : SeatState). x.desk) h.1
+
+-- the book stays, unless both desks agree
+pub heard_book : (heard : Heard) (book : List Entry) (e : Entry) → (heard ≡ Heard.Agreed → ⊥) → book ≡ book_heard heard book e
+heard_book Heard.Mine book e n = refl
+heard_book Heard.Old book e n = refl
+heard_book Heard.Ahead book e n = refl
+heard_book Heard.Again book e n = refl
+heard_book Heard.TwoVotes book e n = refl
+heard_book Heard.Noted book e n = refl
+heard_book Heard.Agreed book e n = absurd (n refl)
+heard_book Heard.Differ book e n = refl
+
+pub cast_book : (settled : Settled) (book : List Entry) (e : Entry) → (settled ≡ Settled.Agreed → ⊥) → book ≡ book_after settled book e
+cast_book Settled.Pending book e n = refl
+cast_book Settled.Agreed book e n = absurd (n refl)
+cast_book Settled.Differ book e n = refl
+
+pub still_kept : (n : ℕ) (book : List Entry) (s t : SeatState) (votes : List Ballot) (v : Vote) (heard : Heard)
+    → IsKept n book s votes → Hears s v heard t → (heard ≡ Heard.Agreed → ⊥) → IsKept n book t votes
+still_kept n book s t votes v heard k h not_agreed =
+    kept_as n (book_heard heard book v.entry) book t t votes votes (heard_kept n book s t votes v heard k h) (heard_book heard book v.entry not_agreed) refl refl

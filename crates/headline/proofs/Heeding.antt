@@ -1,0 +1,136 @@
+-- What a seat and a reader make of a vote; which board or station another one is.
+use Rattle.std.proofs.Common.{◌≡◌, ◌≢◌, ◌⊎◌, ◌+◌, ℕ, zero, suc, Option, Some, None, List, [], ◌∷◌, refl, sym, ap, ◌∙◌, inl, inr, arith, ⊎_elim}
+use Rattle.std.specs.Prelude.{slice_get, slice_set}
+use Rattle.std.proofs.lemmas.Bool.Decides.{eqb_tells}
+use Rattle.notation.specs.declared.entry.Entry.{Entry}
+use Rattle.agree_core.specs.declared.messages.DeskId.{DeskId}
+use Rattle.agree_core.specs.declared.messages.DeskId.TheVariants.{A, B}
+use Rattle.agree_core.specs.declared.messages.Vote.{Vote}
+use Rattle.agree_core.specs.declared.position.Position.{Position}
+use Rattle.agree_core.specs.declared.seat.Heard.{Heard}
+use Rattle.agree_core.specs.Boards.{BoardState}
+use Rattle.agree_core.specs.Positions.{position_of}
+use Rattle.agree_core.specs.Readers.{Listens, ReaderState, noted_of, other}
+use Rattle.agree_core.specs.Readers as readers
+use Rattle.agree_core.specs.Seats.{Hears, SeatState}
+use Rattle.agree_core.proofs.Order.{not_before}
+use Rattle.headline.specs.declared.event.Station.{Station}
+use Rattle.headline.specs.declared.event.Station.TheVariants as stations
+use Rattle.headline.specs.Worlds.{board_at, with_board}
+use Rattle.headline.specs.Noted.{kept_by_seat}
+
+set_other : (xs : List BoardState) (m n : ℕ) (l : BoardState) → m ≢ n → slice_get (slice_set xs m l) n ≡ slice_get xs n
+set_other [] m n l h = refl
+set_other (x ∷ xs) zero zero l h = absurd (h refl)
+set_other (x ∷ xs) zero (suc n) l h = refl
+set_other (x ∷ xs) (suc m) zero l h = refl
+set_other (x ∷ xs) (suc m) (suc n) l h = set_other xs m n l (λ e. h (ap suc e))
+
+pub board_other : (boards : List BoardState) (m n : ℕ) (l : BoardState) → m ≢ n → board_at (with_board boards m l) n ≡ board_at boards n
+board_other boards zero n l h = refl
+board_other boards (suc m) zero l h = refl
+board_other boards (suc m) (suc n) l h = set_other boards m n l (λ e. h (ap suc e))
+
+set_there : (xs : List BoardState) (n : ℕ) (k l : BoardState) → slice_get xs n ≡ Some k → slice_get (slice_set xs n l) n ≡ Some l
+set_there [] n k l e = absurd (cc)
+set_there (x ∷ xs) zero k l e = refl
+set_there (x ∷ xs) (suc n) k l e = set_there xs n k l e
+
+pub board_put : (boards : List BoardState) (n : ℕ) (k l : BoardState) → board_at boards n ≡ Some k → board_at (with_board boards n l) n ≡ Some l
+board_put boards zero k l e = absurd (cc)
+board_put boards (suc n) k l e = set_there boards n k l e
+
+pub same_station : (t u : Station) → (t ≡ u) ⊎ (t ≢ u)
+same_station (stations.Desk A) (stations.Desk A) = inl refl
+same_station (stations.Desk A) (stations.Desk B) = inr (λ e. cc)
+same_station (stations.Desk B) (stations.Desk A) = inr (λ e. cc)
+same_station (stations.Desk B) (stations.Desk B) = inl refl
+same_station (stations.Desk d) (stations.Board n) = inr (λ e. cc)
+same_station (stations.Board n) (stations.Desk d) = inr (λ e. cc)
+same_station (stations.Board m) (stations.Board n) = ⊎_elim (λ (p : _ × (m ≡ n)). inl (ap stations.Board p.1)) (λ (p : _ × (m ≢ n)). inr (λ e. p.1 (cc))) (eqb_tells m n)
+
+pub own_kept : (k : SeatState) (d : DeskId) → kept_by_seat k d d ≡ k.mine
+own_kept k A = refl
+own_kept k B = refl
+
+pub their_kept : (k : SeatState) (d c : DeskId) → c ≢ d → kept_by_seat k d c ≡ k.theirs
+their_kept k A A n = absurd (n refl)
+their_kept k A B n = refl
+their_kept k B A n = refl
+their_kept k B B n = absurd (n refl)
+
+pub no_seat_kept : (k : SeatState) (d c : DeskId) → k.mine ≡ None → k.theirs ≡ None → kept_by_seat k d c ≡ None
+no_seat_kept k A A m t = m
+no_seat_kept k A B m t = t
+no_seat_kept k B A m t = t
+no_seat_kept k B B m t = m
+
+pub other_not : (d : DeskId) → other d ≢ d
+other_not A = λ e. cc
+other_not B = λ e. cc
+
+pub other_of : (c d : DeskId) → c ≢ d → other c ≡ d
+other_of A A n = absurd (n refl)
+other_of A B n = refl
+other_of B A n = refl
+other_of B B n = absurd (n refl)
+
+pub next_place_differs : (p q : Position) → q ≡ record { place = p.place + 1; round = 0 } → p ≢ q
+next_place_differs p q e h = let a = ap (λ (x : Position). x.place) (h ∙ e) in omega (arith, a)
+
+pub next_round_differs : (p q : Position) → q ≡ record { place = p.place; round = p.round + 1 } → p ≢ q
+next_round_differs p q e h = let a = ap (λ (x : Position). x.round) (h ∙ e) in omega (arith, a)
+
+pub some_none : {X : Type 0} (o : Option X) (x : X) → o ≡ None → o ≡ Some x → ⊥
+some_none o x p q = cc
+
+-- a vote that is heard changes nothing, where it isn't the first of the other desk for this position; else the seat
+-- keeps it, or is at another position without a vote
+abbrev pub Heeds : SeatState → Vote → SeatState → Type 0
+Heeds k v l =
+    ((l ≡ k) × (v.desk ≢ k.desk → position_of v ≡ k.position → k.theirs ≡ None → ⊥))
+    ⊎ (((v.desk ≢ k.desk) × (position_of v ≡ k.position) × (k.theirs ≡ None) × (l.position ≡ k.position) × (l.mine ≡ k.mine) × (l.theirs ≡ Some v.entry))
+    ⊎ ((k.position ≢ l.position) × (l.mine ≡ None) × (l.theirs ≡ None)))
+
+pub heeds : (k l : SeatState) (v : Vote) (h : Heard) → Hears k v h l → Heeds k v l
+heeds k l v Heard.Mine r = inl (r.1, λ n at t. n r.0)
+heeds k l v Heard.Old r = inl (r.2, λ n at t. not_before (position_of v) k.position at r.1)
+heeds k l v Heard.Ahead r = inl (r.2, λ n at t. not_before k.position (position_of v) (sym at) r.1)
+heeds k l v Heard.Again r = inl (r.2, λ n at t. some_none k.theirs v.entry t r.1)
+heeds k l v Heard.TwoVotes r = inl (r.2, λ n at t. some_none k.theirs r.1.0 t r.1.1)
+heeds k l v Heard.Noted r = let e = r.3 in inr (inl (r.0.0, r.0.1, r.1, ap (λ (z : SeatState). z.position) e, ap (λ (z : SeatState). z.mine) e ∙ sym r.2, ap (λ (z : SeatState). z.theirs) e))
+heeds k l v Heard.Agreed r = let e = r.3 in inr (inr (next_place_differs k.position l.position (ap (λ (z : SeatState). z.position) e), ap (λ (z : SeatState). z.mine) e, ap (λ (z : SeatState). z.theirs) e))
+heeds k l v Heard.Differ r = let e = r.3 in inr (inr (next_round_differs k.position l.position (ap (λ (z : SeatState). z.position) e), ap (λ (z : SeatState). z.mine) e, ap (λ (z : SeatState). z.theirs) e))
+
+-- the same of a board
+abbrev pub Reads : ReaderState → Vote → ReaderState → Type 0
+Reads k v l =
+    ((l ≡ k) × (position_of v ≡ k.position → noted_of k v.desk ≡ None → ⊥))
+    ⊎ (((position_of v ≡ k.position) × (noted_of k v.desk ≡ None) × (l ≡ readers.noting k v.desk v.entry))
+    ⊎ ((k.position ≢ l.position) × (l.a ≡ None) × (l.b ≡ None)))
+
+pub reads : (k l : ReaderState) (v : Vote) (h : Heard) → Listens k v h l → Reads k v l
+reads k l v Heard.Mine r = absurd r
+reads k l v Heard.Old r = inl (r.1, λ at t. not_before (position_of v) k.position at r.0)
+reads k l v Heard.Ahead r = inl (r.1, λ at t. not_before k.position (position_of v) (sym at) r.0)
+reads k l v Heard.Again r = inl (r.2, λ at t. some_none (noted_of k v.desk) v.entry t r.1)
+reads k l v Heard.TwoVotes r = inl (r.2, λ at t. some_none (noted_of k v.desk) r.1.0 t r.1.1)
+reads k l v Heard.Noted r = inr (inl (r.0, r.1, r.3))
+reads k l v Heard.Agreed r = let e = r.3 in inr (inr (next_place_differs k.position l.position (ap (λ (z : ReaderState). z.position) e), ap (λ (z : ReaderState). z.a) e, ap (λ (z : ReaderState). z.b) e))
+reads k l v Heard.Differ r = let e = r.3 in inr (inr (next_round_differs k.position l.position (ap (λ (z : ReaderState). z.position) e), ap (λ (z : ReaderState). z.a) e, ap (λ (z : ReaderState). z.b) e))
+
+pub noting_there : (k : ReaderState) (d : DeskId) (e : Entry) → noted_of (readers.noting k d e) d ≡ Some e
+noting_there k A e = refl
+noting_there k B e = refl
+
+pub noting_other : (k : ReaderState) (d : DeskId) (e : Entry) → noted_of (readers.noting k d e) (other d) ≡ noted_of k (other d)
+noting_other k A e = refl
+noting_other k B e = refl
+
+pub noting_at : (k : ReaderState) (d : DeskId) (e : Entry) → (readers.noting k d e).position ≡ k.position
+noting_at k A e = refl
+noting_at k B e = refl
+
+pub no_reader_kept : (k : ReaderState) (c : DeskId) → k.a ≡ None → k.b ≡ None → noted_of k c ≡ None
+no_reader_kept k A a b = a
+no_reader_kept k B a b = b

@@ -1,0 +1,62 @@
+-- The bowling table of an innings: the eleven bowlers' rows, and the order in which they first bowled.
+use Rattle.std.specs.Prelude.{ℕ, ◌+◌, ◌-◌, ◌<◌, ◌^◌, ◌==◌, Bool, true, false}
+use Rattle.notation.specs.declared.entry.Ball.{Ball}
+use Rattle.notation.specs.declared.entry.Plain.{Plain}
+use Rattle.notation.specs.declared.entry.Plain as plain
+use Rattle.ball_laws.specs.declared.over.OverNow.{OverNow}
+use Rattle.ball_laws.specs.History.{History}
+use Rattle.ball_laws.specs.Over.{counts, debit_of}
+use Rattle.match_laws.specs.declared.rows.BowlingRow.{BowlingRow}
+use Rattle.match_laws.specs.declared.bowling.BowlingTable.{BowlingTable}
+use Rattle.ball_laws.specs.Sums.{one_if}
+use Rattle.match_laws.specs.Figures.{wides_of, noballs_of, credited, bowling_order}
+use Rattle.match_laws.specs.Parts.{from_front, bowling_row_of}
+use Rattle.match_laws.specs.inner.BattingTables.{player_rows}
+
+-- the bowling table of innings i
+abbrev pub bowling_table_of : History → ℕ → BowlingTable
+bowling_table_of h i = record {
+  rows = player_rows (bowling_row_of h i);
+  order = from_front 11 (bowling_order h i);
+}
+
+-- the bowler's row with a delivery more
+abbrev pub row_with_ball : Ball → BowlingRow → BowlingRow
+row_with_ball b row = record {
+  overs = row.overs;
+  balls = row.balls + one_if (counts b);
+  maidens = row.maidens;
+  runs = row.runs + debit_of b;
+  wickets = row.wickets + credited b;
+  wides = row.wides + wides_of b;
+  noballs = row.noballs + noballs_of b;
+}
+
+-- the row of who bowled an over alone, once it is called: its counting deliveries are an over, and no
+-- more balls
+abbrev pub row_with_over : OverNow → BowlingRow → BowlingRow
+row_with_over over row = record {
+  overs = row.overs + 1;
+  balls = row.balls - over.counting;
+  maidens = row.maidens + one_if (over.debit == 0);
+  runs = row.runs;
+  wickets = row.wickets;
+  wides = row.wides;
+  noballs = row.noballs;
+}
+
+-- each number of a row has room for one entry more
+pub record IsSmallBowlingRow (row : BowlingRow) : Type 0 where
+  pub overs : row.overs < 2 ^ 28
+  pub balls : row.balls < 2 ^ 28
+  pub maidens : row.maidens < 2 ^ 28
+  pub runs : row.runs < 2 ^ 28
+  pub wickets : row.wickets < 2 ^ 28
+  pub wides : row.wides < 2 ^ 28
+  pub noballs : row.noballs < 2 ^ 28
+
+-- whether an entry is a delivery or a call of over
+abbrev pub is_of_bowling : Plain → Bool
+is_of_bowling (plain.TheVariants.Ball b) = true
+is_of_bowling plain.TheVariants.Over = true
+is_of_bowling _ = false

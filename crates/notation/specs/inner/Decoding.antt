@@ -1,0 +1,112 @@
+-- Reading the 24 bytes of an entry, which may be the code of no entry: then the entry's code is another.
+use Rattle.std.specs.Prelude.{ℕ, ◌==◌, ◌&&◌, nat_le, List, [], ◌∷◌, if◌then◌else◌, Option, Some, None, slice_index}
+use Rattle.std.specs.Int.{w32, from_be_bytes}
+use Rattle.notation.specs.declared.entry.Bound.{Bound}
+use Rattle.notation.specs.declared.entry.Bound.TheVariants as bounds
+use Rattle.notation.specs.declared.entry.Out.{Out}
+use Rattle.notation.specs.declared.entry.Ball.{Ball}
+use Rattle.notation.specs.declared.entry.Plain.{Plain}
+use Rattle.notation.specs.declared.entry.Plain.TheVariants as plains
+use Rattle.notation.specs.declared.entry.Entry.{Entry}
+use Rattle.notation.specs.declared.entry.Entry.TheVariants as entries
+use Rattle.notation.specs.declared.words.First.{First}
+use Rattle.notation.specs.declared.words.First.TheVariants as firsts
+use Rattle.notation.specs.inner.TokenReading.{all_firsts}
+use Rattle.notation.specs.Written.{all_sides, all_kinds, all_hows, all_whos, all_leaves, all_causes}
+use Rattle.notation.specs.Code.{side_code, kind_code, bound_code, how_code, who_code, leave_code, cause_code}
+
+infixl 10 ◌>>=◌
+abbrev pub ◌>>=◌ : {A B : Type 0} → Option A → (A → Option B) → Option B
+(Some x) >>= f = f x
+None >>= f = None
+
+-- the first of these values that has the code
+abbrev pub find_code : {W : Type 0} → (W → ℕ) → List W → ℕ → Option W
+find_code code [] n = None
+find_code code (w ∷ ws) n = if n == code w then Some w else find_code code ws n
+
+abbrev pub first_code : First → ℕ
+first_code firsts.Innings = 1
+first_code firsts.Come = 2
+first_code firsts.Ball = 3
+first_code firsts.Gone = 4
+first_code firsts.Over = 5
+first_code firsts.Penalty = 6
+first_code firsts.Swap = 7
+first_code firsts.End = 8
+first_code firsts.Close = 9
+first_code firsts.Void = 10
+
+abbrev pub all_bounds : List Bound
+all_bounds = bounds.Run ∷ bounds.Four ∷ bounds.Six ∷ bounds.Overthrow ∷ []
+
+abbrev pub in_range : ℕ → ℕ → ℕ → Option ℕ
+in_range low high n = if nat_le low n && nat_le n high then Some n else None
+
+unfoldable pub out_from : ℕ → ℕ → ℕ → ℕ → Option (Option Out)
+out_from how who fielder crossed = if how == 0 then Some None else do
+  h ← find_code how_code all_hows how
+  w ← find_code who_code all_whos who
+  f ← in_range 0 12 fielder
+  Some (Some (record { how = h; who = w; fielder = f; crossed = crossed == 1 }))
+
+-- a byte of the code
+abbrev pub at : List ℕ → ℕ → ℕ
+at bytes i = slice_index bytes i
+
+unfoldable pub ball_from : List ℕ → Option Ball
+ball_from bytes = do
+  bowler ← in_range 1 11 (at bytes 6)
+  kind ← find_code kind_code all_kinds (at bytes 7)
+  ran ← in_range 0 20 (at bytes 8)
+  short ← in_range 0 20 (at bytes 9)
+  bound ← find_code bound_code all_bounds (at bytes 10)
+  out ← out_from (at bytes 12) (at bytes 13) (at bytes 14) (at bytes 15)
+  Some (record {
+    bowler = bowler;
+    kind = kind;
+    ran = ran;
+    short = short;
+    bound = bound;
+    dead = at bytes 11 == 1;
+    out = out;
+  })
+
+unfoldable pub body_from : First → List ℕ → Option Plain
+body_from firsts.Innings bytes = do
+  side ← find_code side_code all_sides (at bytes 6)
+  Some (plains.Innings side)
+body_from firsts.Come bytes = do
+  n ← in_range 1 11 (at bytes 6)
+  Some (plains.Come n)
+body_from firsts.Ball bytes = do
+  b ← ball_from bytes
+  Some (plains.Ball b)
+body_from firsts.Gone bytes = do
+  leave ← find_code leave_code all_leaves (at bytes 6)
+  n ← in_range 1 11 (at bytes 7)
+  Some (plains.Gone leave n)
+body_from firsts.Over bytes = Some plains.Over
+body_from firsts.Penalty bytes = do
+  side ← find_code side_code all_sides (at bytes 6)
+  x ← in_range 1 42 (at bytes 7)
+  y ← in_range 0 99 (at bytes 8)
+  Some (plains.Penalty side x y)
+body_from firsts.Swap bytes = Some plains.Swap
+body_from firsts.End bytes = do
+  cause ← find_code cause_code all_causes (at bytes 6)
+  Some (plains.End cause)
+body_from firsts.Close bytes = Some plains.Close
+body_from firsts.Void bytes = Some plains.Void
+
+-- the place that the bytes 2 to 5 say
+abbrev pub place_from : List ℕ → ℕ
+place_from bytes = from_be_bytes w32 (at bytes 2 ∷ at bytes 3 ∷ at bytes 4 ∷ at bytes 5 ∷ [])
+
+unfoldable pub decode : List ℕ → Option Entry
+decode bytes = do
+  first ← find_code first_code all_firsts (at bytes 0)
+  p ← body_from first bytes
+  if at bytes 1 == 0 then Some (entries.Write p)
+      else (in_range 0 8191 (place_from bytes) >>= λ place.
+      if at bytes 1 == 1 then Some (entries.Fix place p) else Some (entries.Late place p))

@@ -1,0 +1,180 @@
+-- Reading tokens from the left: a value and the tokens after it, or the first fault.
+use Rattle.std.specs.Prelude.{◌≡◌, ℕ, List, [], ◌∷◌, codes, Bool, true, false, if◌then◌else◌, Option, Some, None, Result, Ok, Err}
+use Rattle.std.specs.Str.{bytes_eq}
+use Rattle.std.specs.Str.Parse.{digits_value}
+use Rattle.notation.specs.declared.fault.LineFault.{LineFault}
+use Rattle.notation.specs.declared.fault.LineFault.TheVariants.{UnknownWord, BadNumber, Missing, Extra}
+use Rattle.notation.specs.declared.entry.Bound.{Bound}
+use Rattle.notation.specs.declared.entry.Bound.TheVariants as bounds
+use Rattle.notation.specs.declared.entry.Out.{Out}
+use Rattle.notation.specs.declared.entry.Ball.{Ball}
+use Rattle.notation.specs.declared.entry.Plain.{Plain}
+use Rattle.notation.specs.declared.entry.Plain.TheVariants as plains
+use Rattle.notation.specs.declared.entry.Entry.{Entry}
+use Rattle.notation.specs.declared.entry.Entry.TheVariants as entries
+use Rattle.notation.specs.declared.words.First.{First}
+use Rattle.notation.specs.declared.words.First.TheVariants as firsts
+use Rattle.notation.specs.Written.{Token, side_text, kind_text, how_text, who_text, leave_text, cause_text, all_sides, all_kinds, all_hows, all_whos, all_leaves, all_causes, is_number}
+
+infixl 10 ◌>>=◌
+abbrev pub ◌>>=◌ : {A B : Type 0} → Result A LineFault → (A → Result B LineFault) → Result B LineFault
+(Ok x) >>= f = f x
+(Err e) >>= f = Err e
+
+abbrev pub first_text : First → Token
+first_text firsts.Innings = codes "innings"
+first_text firsts.Come = codes "in"
+first_text firsts.Ball = codes "ball"
+first_text firsts.Gone = codes "gone"
+first_text firsts.Over = codes "over"
+first_text firsts.Penalty = codes "penalty"
+first_text firsts.Swap = codes "swap"
+first_text firsts.End = codes "end"
+first_text firsts.Close = codes "close"
+first_text firsts.Void = codes "void"
+
+-- each word that may stand in a place
+abbrev pub all_firsts : List First
+all_firsts =
+    firsts.Innings ∷ firsts.Come ∷ firsts.Ball ∷ firsts.Gone ∷ firsts.Over ∷ firsts.Penalty
+    ∷ firsts.Swap ∷ firsts.End ∷ firsts.Close ∷ firsts.Void ∷ []
+
+-- the first of these words that the token is
+abbrev pub find_word : {W : Type 0} → (W → Token) → List W → Token → Option W
+find_word text [] t = None
+find_word text (w ∷ ws) t = if bytes_eq t (text w) then Some w else find_word text ws t
+
+abbrev pub found_word : {W : Type 0} → Option W → List Token → Result (W × List Token) LineFault
+found_word None ts = Err UnknownWord
+found_word (Some w) ts = Ok (w, ts)
+
+unfoldable pub word_at :
+    {W : Type 0} → (W → Token) → List W → List Token → Result (W × List Token) LineFault
+word_at text all [] = Err Missing
+word_at text all (t ∷ ts) = found_word (find_word text all t) ts
+
+-- the number that the token is, if it is one in the range
+abbrev pub found_number : ℕ → ℕ → Token → Option ℕ
+found_number low high t = if is_number low high t then Some (digits_value 10 t) else None
+
+unfoldable pub number_at : ℕ → ℕ → List Token → Result (ℕ × List Token) LineFault
+number_at low high [] = Err Missing
+number_at low high (t ∷ ts) = if is_number low high t then Ok (digits_value 10 t, ts) else Err BadNumber
+
+-- whether the word stands next, and the tokens after it where it does
+unfoldable pub skip : Token → List Token → Bool × List Token
+skip word [] = (false, [])
+skip word (t ∷ ts) = if bytes_eq t word then (true, ts) else (false, t ∷ ts)
+
+unfoldable pub short_at : List Token → Result (ℕ × List Token) LineFault
+short_at ts = let next = skip (codes "short") ts in if next.0 then number_at 1 20 next.1 else Ok (0, next.1)
+
+unfoldable pub bound_at : List Token → Bound × List Token
+bound_at ts =
+    let four = skip (codes "four") ts in
+    let six = skip (codes "six") four.1 in
+    let over = skip (codes "overthrow") six.1 in
+    if four.0 then (bounds.Four, four.1)
+    else if six.0 then (bounds.Six, six.1)
+    else if over.0 then (bounds.Overthrow, over.1)
+    else (bounds.Run, over.1)
+
+unfoldable pub dismissal_at : List Token → Result (Out × List Token) LineFault
+dismissal_at ts = do
+  how ← word_at how_text all_hows ts
+  who ← word_at who_text all_whos how.1
+  fielder ← number_at 0 12 who.1
+  let crossed = skip (codes "crossed") fielder.1 in
+      Ok (record { how = how.0; who = who.0; fielder = fielder.0; crossed = crossed.0 }, crossed.1)
+
+unfoldable pub out_at : List Token → Result (Option Out × List Token) LineFault
+out_at ts =
+    let next = skip (codes "out") ts in
+    if next.0 then (dismissal_at next.1 >>= λ o. Ok (Some o.0, o.1)) else Ok (None, next.1)
+
+unfoldable pub ball_at : List Token → Result (Ball × List Token) LineFault
+ball_at ts = do
+  bowler ← number_at 1 11 ts
+  kind ← word_at kind_text all_kinds bowler.1
+  ran ← number_at 0 20 kind.1
+  short ← short_at ran.1
+  out ← out_at (skip (codes "dead") (bound_at short.1).1).1
+  Ok (
+    record {
+      bowler = bowler.0;
+      kind = kind.0;
+      ran = ran.0;
+      short = short.0;
+      bound = (bound_at short.1).0;
+      dead = (skip (codes "dead") (bound_at short.1).1).0;
+      out = out.0;
+    },
+    out.1,
+  )
+
+-- what follows the first word
+unfoldable pub after_first : First → List Token → Result (Plain × List Token) LineFault
+after_first firsts.Innings ts = do
+  side ← word_at side_text all_sides ts
+  Ok (plains.Innings side.0, side.1)
+after_first firsts.Come ts = do
+  n ← number_at 1 11 ts
+  Ok (plains.Come n.0, n.1)
+after_first firsts.Ball ts = do
+  b ← ball_at ts
+  Ok (plains.Ball b.0, b.1)
+after_first firsts.Gone ts = do
+  leave ← word_at leave_text all_leaves ts
+  n ← number_at 1 11 leave.1
+  Ok (plains.Gone leave.0 n.0, n.1)
+after_first firsts.Over ts = Ok (plains.Over, ts)
+after_first firsts.Penalty ts = do
+  side ← word_at side_text all_sides ts
+  x ← number_at 1 42 side.1
+  y ← number_at 0 99 x.1
+  Ok (plains.Penalty side.0 x.0 y.0, y.1)
+after_first firsts.Swap ts = Ok (plains.Swap, ts)
+after_first firsts.End ts = do
+  cause ← word_at cause_text all_causes ts
+  Ok (plains.End cause.0, cause.1)
+after_first firsts.Close ts = Ok (plains.Close, ts)
+after_first firsts.Void ts = Ok (plains.Void, ts)
+
+unfoldable pub plain_at : List Token → Result (Plain × List Token) LineFault
+plain_at ts = do
+  first ← word_at first_text all_firsts ts
+  after_first first.0 first.1
+
+-- a place, and what is entered for it
+unfoldable pub placed_at : List Token → Result ((ℕ × Plain) × List Token) LineFault
+placed_at ts = do
+  place ← number_at 0 8191 ts
+  plain ← plain_at place.1
+  Ok ((place.0, plain.0), plain.1)
+
+unfoldable pub entry_at : List Token → Result (Entry × List Token) LineFault
+entry_at ts =
+    let fix = skip (codes "fix") ts in
+    let late = skip (codes "late") fix.1 in
+    if fix.0
+    then (placed_at fix.1 >>= λ x. Ok (entries.Fix (x.0).0 (x.0).1, x.1))
+    else if late.0
+    then (placed_at late.1 >>= λ x. Ok (entries.Late (x.0).0 (x.0).1, x.1))
+    else (plain_at late.1 >>= λ p. Ok (entries.Write p.0, p.1))
+
+-- nothing may stand after an entry
+abbrev pub ends : Entry → List Token → Result Entry LineFault
+ends e [] = Ok e
+ends e (t ∷ ts) = Err Extra
+
+abbrev pub alone : Entry × List Token → Result Entry LineFault
+alone e = ends e.0 e.1
+
+unfoldable pub all_of : List Token → Result Entry LineFault
+all_of ts = entry_at ts >>= alone
+
+-- What a reading function answered, and the tokens that it left.
+abbrev pub Reads :
+    {X : Type 0} → Result X LineFault → List Token → Result (X × List Token) LineFault → Type 0
+Reads (Ok x) left read = read ≡ Ok (x, left)
+Reads (Err f) left read = read ≡ Err f

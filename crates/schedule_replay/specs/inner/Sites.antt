@@ -1,0 +1,174 @@
+-- A site as the definitions of a run see it.
+use Rattle.std.specs.Prelude.{◌≡◌, ◌⊎◌, ◌≤◌, ℕ, List, ◌++◌, length, Option, Some, None, Bool, true, false, Result, Ok, Err}
+use Rattle.std.specs.Option.{is_none, is_some}
+use Rattle.corrections.specs.declared.refusal.Refusal.{Refusal}
+use Rattle.entry_log.specs.Disk.{Due, IsOnce, Never}
+use Rattle.entry_log.specs.declared.mem_disk.MemDisk.{MemDisk}
+use Rattle.entry_log.specs.MemDisk.{SetsPlan, cap_of, faults_of}
+use Rattle.entry_log.specs.declared.mem_disk.plan.Plan.TheVariants.{Calm}
+use Rattle.agree_core.specs.declared.messages.DeskId.{DeskId}
+use Rattle.agree_core.specs.declared.messages.Message.{Message}
+use Rattle.agree_core.specs.Ballots.{Ballot}
+use Rattle.agree_core.specs.Desks.{DeskState}
+use Rattle.agree_core.specs.FileView.{MaySync}
+use Rattle.agree_core.specs.Openings.{Creates}
+use Rattle.wire.specs.declared.datagram.Datagram.{Datagram}
+use Rattle.desk.specs.declared.refusal.Refusal.{Refusal as DeskRefusal}
+use Rattle.schedule_replay.specs.declared.seen.Cause.{Cause}
+use Rattle.schedule_replay.specs.declared.seen.Cause.TheVariants as causes
+use Rattle.schedule_replay.specs.declared.seen.Seen.{Seen}
+use Rattle.schedule_replay.specs.declared.seen.Seen.TheVariants as seens
+use Rattle.schedule_replay.specs.declared.seen.WorldRefusal.{WorldRefusal}
+use Rattle.schedule_replay.specs.declared.seen.WorldRefusal.TheVariants as worlds_refuse
+use Rattle.headline.specs.declared.event.Event.{Event}
+use Rattle.headline.specs.declared.event.Event.TheVariants as events
+use Rattle.headline.specs.declared.fault.Fault.{Fault}
+use Rattle.headline.specs.declared.fault.Fault.TheVariants.{Fail, Stop}
+use Rattle.headline.specs.declared.version.FileVersion.{FileVersion}
+use Rattle.schedule_replay.specs.declared.world_desk.WorldDesk.{WorldDesk}
+use Rattle.schedule_replay.specs.declared.site.Site.{Site}
+use Rattle.headline.specs.Worlds as worlds
+use Rattle.headline.specs.Steps.{Answer, AtDesk}
+use Rattle.schedule_replay.specs.Refusals.{first_cause, may_grow}
+use Rattle.headline.specs.Match.{match_of, most_bytes}
+use Rattle.schedule_replay.specs.Plans.{StaysDue}
+use Rattle.schedule_replay.specs.Answers.{AreBytesOf, answer_of, is_device}
+use Rattle.schedule_replay.specs.WorldDesks.{IsOf, disk_of, state_of}
+
+-- what is due on a disk, by what was asked for
+abbrev pub IsDue : Option Fault → Due → Type 0
+IsDue None due = due ≡ Never
+IsDue (Some Fail) due = IsOnce due
+IsDue (Some Stop) due = Unit {0}
+
+-- it has room for the largest file of its version, and no other fault is due than was asked for
+pub record IsWorldDisk (version : FileVersion) (due : Option Fault) (disk : MemDisk) : Type 0 where
+  pub cap : cap_of disk ≡ most_bytes version
+  pub faults : IsDue due (faults_of disk).due
+
+-- it is the desk of this site, on such a disk
+pub record IsWorldDesk (site : Site) (k : WorldDesk) : Type 0 where
+  pub owner : IsOf site.name site.version site.game site.innings_a_side k
+  pub on_disk : IsWorldDisk site.version site.due (disk_of k)
+
+-- what runs at a site: the desk, or, of a desk that is down, its disk alone; of the votes of the latter the
+-- site keeps the number
+abbrev pub IsProcess : Site → Option WorldDesk → Option MemDisk → worlds.Process MemDisk → Type 0
+IsProcess site (Some k) disk p = IsWorldDesk site k × (disk ≡ None) × (p ≡ worlds.Running (state_of k))
+IsProcess site None (Some disk) p =
+    IsWorldDisk site.version site.due disk
+    × ((ballots : List Ballot) × (length ballots ≡ site.votes) × (p ≡ worlds.Down ballots disk))
+IsProcess site None None p = ⊥
+
+-- what the definitions see of a site
+pub record IsSite (site : Site) (x : worlds.Site MemDisk) : Type 0 where
+  pub version : x.version ≡ site.version
+  pub process : IsProcess site site.desk site.disk x.process
+  pub due : x.due ≡ site.due
+
+-- it is the same desk's, in the same match
+pub record SameSite (old new : Site) : Type 0 where
+  pub name : new.name ≡ old.name
+  pub same_game : new.game ≡ old.game
+  pub innings : new.innings_a_side ≡ old.innings_a_side
+
+-- it has a desk or a disk, and one or two innings a side
+abbrev pub IsWhole : Site → Type 0
+IsWhole site =
+    (is_some site.disk ≡ is_none site.desk) × ((1 ≤ site.innings_a_side) × (site.innings_a_side ≤ 2))
+
+-- its desk was just created, on a file of this version
+pub record BeginsSite (version : FileVersion) (name : DeskId) (game innings : ℕ) (site : Site) : Type 0 where
+  pub same_name : site.name ≡ name
+  pub same_version : site.version ≡ version
+  pub same_game : site.game ≡ game
+  pub same_innings : site.innings_a_side ≡ innings
+  pub due : site.due ≡ None
+  pub down : site.disk ≡ None
+  pub whole : IsWhole site
+  pub desk : (k : WorldDesk) × (site.desk ≡ Some k) × IsWorldDesk site k
+      × Creates ((match_of game innings).view name version) name (state_of k)
+
+-- an event at a desk is a step of the definitions there: the answer is seen, and the messages that it hands
+-- out are added to those that were sent
+abbrev pub SiteSteps : Event → Site → List Datagram → Seen → Site → List Datagram → Type 0
+SiteSteps event old sent seen new sent' =
+    (x : worlds.Site MemDisk) (messages : List Message) → IsSite old x
+    → AreBytesOf old.game sent messages
+    → (y : worlds.Site MemDisk) × (out : List Message) × (answer : Answer Refusal)
+    × (answer_of seen ≡ Some answer)
+    × AtDesk (match_of old.game old.innings_a_side) messages old.name event x answer y out
+    × IsSite new y × AreBytesOf old.game sent' (messages ++ out)
+
+-- the disk of the desk may be synced, and all else that the definitions see stays
+abbrev pub SyncsSite : Site → Site → Type 0
+SyncsSite old new =
+    (x : worlds.Site MemDisk) → IsSite old x
+    → (disk : MemDisk)
+    × MaySync ((match_of old.game old.innings_a_side).view old.name x.version) (worlds.disk_of x.process) disk
+    × IsSite new (record x { process = worlds.with_disk x.process disk })
+
+-- the site after it was out of memory
+abbrev pub SiteLeft : Event → Site → Site → Type 0
+SiteLeft (events.Open d) old new = SyncsSite old new
+SiteLeft (events.Migrate d) old new = SyncsSite old new
+SiteLeft _ old new = new ≡ old
+
+-- the first cause against an event at a site
+abbrev pub site_cause : Site → List Datagram → Event → Option WorldRefusal
+site_cause site sent event = first_cause false (is_none site.desk) (length sent) event
+
+-- an event at a desk is taken, or not: then all stays, but for what being out of memory leaves
+abbrev pub SiteTakes :
+    Event → Site → List Datagram → Result Seen WorldRefusal → Site → List Datagram → Type 0
+SiteTakes event old sent (Ok seen) new sent' =
+    (site_cause old sent event ≡ None) × SiteSteps event old sent seen new sent'
+SiteTakes event old sent (Err why) new sent' =
+    (sent' ≡ sent)
+    × (((site_cause old sent event ≡ Some why) × (new ≡ old))
+    ⊎ ((site_cause old sent event ≡ None) × (why ≡ worlds_refuse.NoMemory) × (may_grow event ≡ true)
+    × SiteLeft event old new))
+
+-- the disk of a desk, and the number of its votes, whether it runs or is down
+abbrev pub disk_at : Option WorldDesk → Option MemDisk → Option MemDisk
+disk_at (Some k) disk = Some (disk_of k)
+disk_at None disk = disk
+
+abbrev pub votes_at : Option WorldDesk → ℕ → ℕ
+votes_at (Some k) votes = length ((λ (s : DeskState MemDisk). s.votes) (state_of k))
+votes_at None votes = votes
+
+-- a fault that stays due there is due at the same call
+abbrev pub KeepsDue : Site → Site → Type 0
+KeepsDue old new = StaysDue new.due (disk_at old.desk old.disk) (disk_at new.desk new.disk)
+
+-- the desk is down: its disk stays, with no call of it to fail
+pub record PutsDown (old new : Site) : Type 0 where
+  pub disk : (before : MemDisk) × (after : MemDisk) × (disk_at old.desk old.disk ≡ Some before)
+      × (new.disk ≡ Some after) × SetsPlan Calm before after
+  pub counted : new.votes ≡ votes_at old.desk old.votes
+  pub desk : new.desk ≡ None
+  pub due : new.due ≡ old.due
+  pub version : new.version ≡ old.version
+  pub same : SameSite old new
+
+-- a device call has failed, for this cause to be told; where that was a stop, the desk is down
+abbrev pub BreaksDown : Option Fault → Cause → Site → Seen → Site → Type 0
+BreaksDown (Some Stop) cause old seen new = (seen ≡ seens.Stopped) × PutsDown (record old { due = None }) new
+BreaksDown (Some Fail) cause old seen new = (seen ≡ seens.Refused cause) × (new ≡ record old { due = None })
+BreaksDown None cause old seen new = (seen ≡ seens.Refused cause) × (new ≡ record old { due = None })
+
+-- the desk has refused: it runs on, unless a device call has failed
+abbrev pub RefusedBy : Bool → DeskRefusal → Site → Seen → Site → Type 0
+RefusedBy true why old seen new = BreaksDown old.due (causes.Desk why) old seen new
+RefusedBy false why old seen new = (seen ≡ seens.Refused (causes.Desk why)) × (new ≡ old)
+
+abbrev pub AfterRefusal : DeskRefusal → Site → Seen → Site → Type 0
+AfterRefusal why old seen new = RefusedBy (is_device why) why old seen new
+
+-- the votes of a desk that is down aren't found: memory was wanted, its disk failed, or there is this cause
+abbrev pub NotFoundBy : Bool → Bool → Cause → Site → Result Seen WorldRefusal → Site → Type 0
+NotFoundBy true failing cause old result new = (result ≡ Err worlds_refuse.NoMemory) × (new ≡ old)
+NotFoundBy false true cause old result new =
+    (seen : Seen) × (result ≡ Ok seen) × BreaksDown old.due cause old seen new
+NotFoundBy false false cause old result new = (result ≡ Ok (seens.Refused cause)) × (new ≡ old)
