@@ -23,7 +23,12 @@ use Rattle.headline.specs.declared.version.FileVersion.{FileVersion}
 use Rattle.headline.specs.declared.version.FileVersion.TheVariants.{Old, New}
 use Rattle.headline.specs.Worlds.{Process, Running, Down, Setting, Site, World, disk_of, site, votes_in, votes_of, with_disk, with_site}
 use Rattle.headline.specs.Events.{station_of}
-use Rattle.headline.specs.Steps.{AfterOpen, AfterPen, AfterReceive, Answer, AtBoard, AtDesk, Breaks, FallsDue, LosesPower, Migrates, MigratesAt, Migration, AfterMigration, ToNew, NotSound, Failed, StaysDownBy, Step, StepAt}
+use Rattle.headline.specs.Answers.{Answer}
+use Rattle.headline.specs.DeskFaults.{Breaks, FallsDue, LosesPower, StaysDownBy}
+use Rattle.headline.specs.Migrations.{Migrates, MigratesAt, Migration, AfterMigration, ToNew, NotSound, Failed}
+use Rattle.headline.specs.DeskSteps.{AfterOpen, AfterPen, AfterReceive, AtDesk}
+use Rattle.headline.specs.BoardSteps.{AtBoard}
+use Rattle.headline.specs.Steps.{Step, StepAt}
 use Rattle.headline.specs.Runs.{Begins, BeginsAt, Moment, Run, last_of}
 use Rattle.agree_core.specs.Keeping.{BoardFine, DeskFine, DeskKept, DiskFine, Each, MessageFine, MineFine, OneMore, OwnMessage, ShowsMore, TheirMessage}
 use Rattle.agree_core.proofs.Both.{both_grow, same}

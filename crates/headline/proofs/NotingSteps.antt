@@ -29,7 +29,11 @@ use Rattle.headline.specs.declared.version.FileVersion.{FileVersion}
 use Rattle.headline.specs.declared.version.FileVersion.TheVariants.{Old, New}
 use Rattle.headline.specs.Events.{station_of}
 use Rattle.headline.specs.Worlds.{Process, Running, Down, Setting, Site, World, board_at, disk_of, site, votes_in, votes_of, with_disk, with_site}
-use Rattle.headline.specs.Steps.{AfterMigration, AfterOpen, AfterPen, AfterReceive, Answer, AtBoard, AtDesk, Breaks, Failed, FallsDue, MigratesAt, Migration, NotSound, StaysDownBy, ToNew, board_told}
+use Rattle.headline.specs.Answers.{Answer}
+use Rattle.headline.specs.DeskFaults.{Breaks, FallsDue, StaysDownBy}
+use Rattle.headline.specs.Migrations.{AfterMigration, Failed, MigratesAt, Migration, NotSound, ToNew}
+use Rattle.headline.specs.DeskSteps.{AfterOpen, AfterPen, AfterReceive, AtDesk}
+use Rattle.headline.specs.BoardSteps.{AtBoard, board_told}
 use Rattle.headline.specs.Runs.{Moment}
 use Rattle.headline.specs.Noted.{Brings, IsBrought, IsFound, IsVoteAnswer, beginning_of, kept_at, kept_by_process, kept_by_seat, position_at, process_position}
 use Rattle.headline.proofs.Heeding.{Heeds, Reads, heeds, next_place_differs, next_round_differs, no_reader_kept, no_seat_kept, noting_at, noting_other, noting_there, other_not, other_of, own_kept, reads, some_none, their_kept}

@@ -17,7 +17,11 @@ use Rattle.headline.specs.declared.fault.Fault.{Fault}
 use Rattle.headline.specs.declared.version.FileVersion.{FileVersion}
 use Rattle.headline.specs.declared.version.FileVersion.TheVariants.{Old, New}
 use Rattle.headline.specs.Worlds.{Process, Running, Down, Setting, Site, World, disk_of, site, votes_in, votes_of, with_disk, with_site}
-use Rattle.headline.specs.Steps.{AfterMigration, AfterOpen, AfterPen, AfterReceive, Answer, AtDesk, Breaks, Failed, LosesPower, Migrates, MigratesAt, Migration, NotSound, StaysDownBy, Step, ToNew}
+use Rattle.headline.specs.Answers.{Answer}
+use Rattle.headline.specs.DeskFaults.{Breaks, LosesPower, StaysDownBy}
+use Rattle.headline.specs.Migrations.{AfterMigration, Failed, Migrates, MigratesAt, Migration, NotSound, ToNew}
+use Rattle.headline.specs.DeskSteps.{AfterOpen, AfterPen, AfterReceive, AtDesk}
+use Rattle.headline.specs.Steps.{Step}
 use Rattle.headline.specs.Runs.{Begins, BeginsAt, Moment, Run, WasPenned, last_of}
 use Rattle.headline.specs.Headline.{AfterEach, ArePenned}
 

@@ -24,7 +24,11 @@ use Rattle.headline.specs.declared.event.Station.TheVariants as stations
 use Rattle.headline.specs.declared.fault.Fault.TheVariants.{Fail, Stop}
 use Rattle.headline.specs.declared.version.FileVersion.{FileVersion}
 use Rattle.headline.specs.Worlds.{Process, Running, Setting, Site, World, board_at, site, votes_in, with_site}
-use Rattle.headline.specs.Steps.{AfterPen, AfterReceive, Answer, Breaks, Step, board_told}
+use Rattle.headline.specs.Answers.{Answer}
+use Rattle.headline.specs.DeskFaults.{Breaks}
+use Rattle.headline.specs.DeskSteps.{AfterPen, AfterReceive}
+use Rattle.headline.specs.BoardSteps.{board_told}
+use Rattle.headline.specs.Steps.{Step}
 use Rattle.headline.specs.Runs.{Begins, Moment, Run, Shows, last_of, process_shows}
 use Rattle.headline.specs.Noted.{Brings, IsVoteAnswer, kept_at, kept_by_process, kept_by_seat, position_at, process_position}
 use Rattle.headline.specs.Headline.{NoneWaits, TakesSecond}

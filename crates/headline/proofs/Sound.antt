@@ -32,7 +32,12 @@ use Rattle.headline.specs.declared.version.FileVersion.{FileVersion}
 use Rattle.headline.specs.declared.version.FileVersion.TheVariants.{Old, New}
 use Rattle.headline.specs.Worlds.{Process, Down, Setting, Site, World, disk_of, site, votes_in, votes_of}
 use Rattle.headline.specs.Events.{station_of}
-use Rattle.headline.specs.Steps.{AfterOpen, AfterPen, AfterReceive, Answer, AtBoard, AtDesk, AfterMigration, Breaks, Failed, Migrates, MigratesAt, Migration, NotSound, StaysDownBy, ToNew, StepAt, board_told}
+use Rattle.headline.specs.Answers.{Answer}
+use Rattle.headline.specs.DeskFaults.{Breaks, StaysDownBy}
+use Rattle.headline.specs.Migrations.{AfterMigration, Failed, Migrates, MigratesAt, Migration, NotSound, ToNew}
+use Rattle.headline.specs.DeskSteps.{AfterOpen, AfterPen, AfterReceive, AtDesk}
+use Rattle.headline.specs.BoardSteps.{AtBoard, board_told}
+use Rattle.headline.specs.Steps.{StepAt}
 use Rattle.headline.specs.Runs.{Begins, Moment, Run, last_of}
 use Rattle.headline.specs.Headline.{AtEachEvent, IsSoundAnswer}
 use Rattle.agree_core.specs.Keeping.{BoardFine, MessageFine, MineFine, NotedFine, SeatFine}

@@ -15,7 +15,7 @@ use Rattle.agree_core.specs.Laws.{OneVoteEach, PlacesSettled, RoundsDiffer}
 use Rattle.agree_core.specs.Readers.{other}
 use Rattle.headline.specs.declared.event.Station.{Station}
 use Rattle.headline.specs.Worlds.{Setting, World, disk_of, site, votes_in}
-use Rattle.headline.specs.Steps.{Answer}
+use Rattle.headline.specs.Answers.{Answer}
 use Rattle.headline.specs.Runs.{AtEachMoment, AtSomeMoment, Moment, Shows, WasPenned, last_of}
 use Rattle.headline.specs.Noted.{HasNoted, IsBrought, kept_at}
 

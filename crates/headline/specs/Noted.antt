@@ -14,7 +14,7 @@ use Rattle.headline.specs.declared.event.Event.TheVariants as events
 use Rattle.headline.specs.declared.event.Station.{Station}
 use Rattle.headline.specs.declared.event.Station.TheVariants as stations
 use Rattle.headline.specs.Worlds.{Process, Running, Down, Setting, World, board_at, disk_of, site}
-use Rattle.headline.specs.Steps.{Answer}
+use Rattle.headline.specs.Answers.{Answer}
 use Rattle.headline.specs.Runs.{Moment, last_of}
 
 -- the position of a station that isn't down

@@ -13,7 +13,8 @@ use Rattle.headline.specs.declared.event.Station.{Station}
 use Rattle.headline.specs.declared.event.Station.TheVariants as stations
 use Rattle.headline.specs.declared.version.FileVersion.{FileVersion}
 use Rattle.headline.specs.Worlds.{Process, Running, Down, Setting, Site, World, board_at, fresh_boards, site}
-use Rattle.headline.specs.Steps.{Answer, Step}
+use Rattle.headline.specs.Answers.{Answer}
+use Rattle.headline.specs.Steps.{Step}
 
 -- a desk that was just created, on a file of this version without votes, with no fault due
 abbrev pub BeginsAt : {Disk Why : Type 0} → Setting Disk Why → FileVersion → DeskId → Site Disk → Type 0

@@ -11,8 +11,8 @@ use Rattle.board.specs.declared.refusal.BoardRefusal.TheVariants.{BadVotes}
 use Rattle.headline.specs.declared.event.Event.TheVariants as events
 use Rattle.headline.specs.declared.event.Station.TheVariants as stations
 use Rattle.headline.specs.Worlds.{Setting, World, board_at, with_board}
-use Rattle.headline.specs.Steps as steps
-use Rattle.headline.specs.Steps.{board_told}
+use Rattle.headline.specs.Answers as answers
+use Rattle.headline.specs.BoardSteps.{board_told}
 use Rattle.live.specs.Boards as boards
 use Rattle.live.specs.Boards.{BoardCall, BoardStep}
 use Rattle.processes.specs.Happenings.{BoardCame, Happening}
@@ -51,6 +51,6 @@ module _ {Disk : Type 0} (s : Setting Disk Refusal) (game innings : ℕ) (rules 
   board_moment n k l (boards.Given bytes (Ok Failed)) out at came h = absurd h.0
   board_moment n k l (boards.Given bytes (Err (BadVotes p))) out at came h = let t = h.0 in received n k l bytes t.0 (BoardAnswer.BadVotes p) out at came t.1 t.2 h.1
   board_moment n k l boards.Ticked out at came h =
-      one s (Fits what v) v (events.Tick (stations.Board n)) (steps.Ticked (length out)) (with_it v n l out) tt
+      one s (Fits what v) v (events.Tick (stations.Board n)) (answers.Ticked (length out)) (with_it v n l out) tt
       (k, l, out, at, (h.0, refl, h.1), refl)
   board_moment n k l boards.TurnEnded out at came h = unmoved n k l out at h.0 h.1

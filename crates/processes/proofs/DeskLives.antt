@@ -8,7 +8,8 @@ use Rattle.agree_core.specs.FileView.{FileView, Stays}
 use Rattle.headline.specs.declared.version.FileVersion.{FileVersion}
 use Rattle.headline.specs.declared.version.FileVersion.TheVariants.{Old}
 use Rattle.headline.specs.Worlds.{Process, Running, Down, Site, disk_of, votes_of}
-use Rattle.headline.specs.Steps as steps
+use Rattle.headline.specs.DeskFaults as desk_faults
+use Rattle.headline.specs.Migrations as migrations
 use Rattle.live.specs.Desks.{DeskCall, DeskProcess, DeskStep}
 use Rattle.live.specs.Runs as own
 use Rattle.processes.specs.Happenings.{BoardBegun, BoardCalled, DeskBegun, DeskCalled, DeskEnded, FileMigrated, Happening, PowerLost, begun, migrated}
@@ -33,13 +34,13 @@ module _ {Disk : Type 0} (view : FileVersion → FileView Disk) (seen : Disk →
       (k : DeskState Disk) × (x.process ≡ Running k) × DeskStep (view x.version) game innings k call out l
   MayDesk x (DeskEnded c disk) =
       (k : DeskState Disk) × (x.process ≡ Running k) × Stays (view x.version) k.disk disk
-  MayDesk x (PowerLost c disk) = steps.LosesPower (view x.version) (disk_of x.process) disk
+  MayDesk x (PowerLost c disk) = desk_faults.LosesPower (view x.version) (disk_of x.process) disk
   MayDesk x (DeskBegun c opening) =
       (votes : List Ballot) × (disk : Disk) × (x.process ≡ Down votes disk)
       × BeginsOn (view x.version) seen innings d disk opening
   MayDesk x (FileMigrated c votes new) =
       (had : List Ballot) × (disk : Disk) × (x.process ≡ Down had disk) × (x.version ≡ Old)
-      × steps.Migrates view disk (steps.ToNew votes new)
+      × migrations.Migrates view disk (migrations.ToNew votes new)
   MayDesk x (BoardCalled n call out l) = Unit {0}
   MayDesk x (BoardBegun n) = Unit {0}
 

@@ -22,8 +22,10 @@ use Rattle.headline.specs.declared.event.Station.TheVariants as stations
 use Rattle.headline.specs.declared.fault.Fault.{Fault}
 use Rattle.headline.specs.declared.fault.Fault.TheVariants.{Fail}
 use Rattle.headline.specs.Worlds.{Process, Running, Setting, Site, World, disk_of, site, with_disk, with_site}
-use Rattle.headline.specs.Steps as steps
-use Rattle.headline.specs.Steps.{AfterPen, AfterReceive, Answer, AtDesk, StepAt, has_any}
+use Rattle.headline.specs.Answers as answers
+use Rattle.headline.specs.Answers.{Answer}
+use Rattle.headline.specs.DeskSteps.{AfterPen, AfterReceive, AtDesk, has_any}
+use Rattle.headline.specs.Steps.{StepAt}
 use Rattle.headline.specs.Events.{station_of}
 use Rattle.live.specs.Desks as desks
 use Rattle.live.specs.Desks.{DeskCall, DeskStep}
@@ -68,7 +70,7 @@ module _ {Disk : Type 0} (s : Setting Disk Refusal) (v : World Disk) (d : DeskId
   at_desk event answer y out e f h = one s (Fits what v) v event answer (with_site v d y out) f (subst (λ (t : Station). StepAt s v event t answer (with_site v d y out)) (sym e) (y, out, h, refl))
 
   -- a fault falls due
-  falls : (k : DeskState Disk) → (site v d).process ≡ Running k → AtDesk s v.sent d (events.FailAt d 1) (site v d) steps.Done (runs_on (site v d) k (Some Fail)) []
+  falls : (k : DeskState Disk) → (site v d).process ≡ Running k → AtDesk s v.sent d (events.FailAt d 1) (site v d) answers.Done (runs_on (site v d) k (Some Fail)) []
   falls k e =
       let p : Running k ≡ with_disk (site v d).process k.disk = ap (λ (q : Process Disk). with_disk q k.disk) (sym e) in
       ((k.disk, subst (λ (q : Process Disk). Stays view (disk_of q) k.disk) (sym e) (stays_refl view k.disk), λ i. record { version = (site v d).version; process = p i; due = Some Fail }), refl, refl)
@@ -80,7 +82,7 @@ module _ {Disk : Type 0} (s : Setting Disk Refusal) (v : World Disk) (d : DeskId
       (sym ((λ i. with_site v d (runs_on (site v d) (same i) (site v d).due) (empty i)) ∙ (ap (λ (x : Site Disk). with_site v d x []) (itself (site v d) k e) ∙ unmoved v d)))
 
   -- a fault falls due, and then this happens
-  pub after_fault : (x : Site Disk) (event : Event) (answer : Answer Refusal) (y : Site Disk) (out : List Message) → AtDesk s v.sent d (events.FailAt d 1) (site v d) steps.Done x [] → station_of event ≡ stations.Desk d → Fits what v (with_site v d x []) event → AtDesk s v.sent d event x answer y out → Leads s (Fits what v) v (with_site v d y out)
+  pub after_fault : (x : Site Disk) (event : Event) (answer : Answer Refusal) (y : Site Disk) (out : List Message) → AtDesk s v.sent d (events.FailAt d 1) (site v d) answers.Done x [] → station_of event ≡ stations.Desk d → Fits what v (with_site v d x []) event → AtDesk s v.sent d event x answer y out → Leads s (Fits what v) v (with_site v d y out)
   after_fault x event answer y out fall st f h =
       let u : World Disk = with_site v d x [] in
       let new : World Disk = with_site u d y out in
@@ -88,7 +90,7 @@ module _ {Disk : Type 0} (s : Setting Disk Refusal) (v : World Disk) (d : DeskId
       subst (λ (xs : List Message). AtDesk s xs d event (site u d) answer y out) (sym (sent_put v d x))
       (subst (λ (z : Site Disk). AtDesk s v.sent d event z answer y out) (sym (site_put v d x [])) h) in
       subst (Leads s (Fits what v) v) (put_again v d x y out)
-      (two s (Fits what v) v (events.FailAt d 1) event steps.Done answer u new tt f (x, [], fall, refl)
+      (two s (Fits what v) v (events.FailAt d 1) event answers.Done answer u new tt f (x, [], fall, refl)
       (subst (λ (t : Station). StepAt s u event t answer new) (sym st) (y, out, moved, refl)))
 
   broken : (k : DeskState Disk) (event : Event) (answer : Answer Refusal) (y : Site Disk) (out : List Message) → (site v d).process ≡ Running k → station_of event ≡ stations.Desk d → Fits what v (with_site v d (runs_on (site v d) k (Some Fail)) []) event → AtDesk s v.sent d event (runs_on (site v d) k (Some Fail)) answer y out → Leads s (Fits what v) v (with_site v d y out)
@@ -107,7 +109,7 @@ module _ {Disk : Type 0} (s : Setting Disk Refusal) (v : World Disk) (d : DeskId
   pen_failed : (site v d).due ≡ None → (k l : DeskState Disk) (e : Entry) (out : List Message) → (site v d).process ≡ Running k → ((u : World Disk) → (site u d).process ≡ Running k → TypedAs what v u d e) → Pens view s.rules k e PenAnswer.DeviceFailed l out → Goes l out
   pen_failed calm k l e out at typed h =
       spent l out calm
-      (broken k (events.Pen d e) steps.DeviceFailed (runs_on (site v d) l None) out at refl
+      (broken k (events.Pen d e) answers.DeviceFailed (runs_on (site v d) l None) out at refl
       (typed (with_site v d (runs_on (site v d) k (Some Fail)) []) (ap (λ (z : Site Disk). z.process) (site_put v d (runs_on (site v d) k (Some Fail)) [])))
       (k, l, PenAnswer.DeviceFailed, refl, h, (Fail, refl, (refl, refl))))
 
@@ -120,7 +122,7 @@ module _ {Disk : Type 0} (s : Setting Disk Refusal) (v : World Disk) (d : DeskId
   ask_failed calm k l bytes m out game at came says h =
       let found = came m says in
       spent l out calm
-      (broken k (events.Give found.0 (stations.Desk d)) steps.DeviceFailed (runs_on (site v d) l None) out at refl tt
+      (broken k (events.Give found.0 (stations.Desk d)) answers.DeviceFailed (runs_on (site v d) l None) out at refl tt
       (k, l, m, ReceiveAnswer.DeviceFailed, refl, found.1, h, (Fail, refl, (refl, refl))))
 
 module _ {Disk : Type 0} (s : Setting Disk Refusal) (game innings : ℕ) (rules : s.rules ≡ book_refusal innings) (v : World Disk) (d : DeskId) (calm : (site v d).due ≡ None) where
@@ -142,12 +144,12 @@ module _ {Disk : Type 0} (s : Setting Disk Refusal) (game innings : ℕ) (rules 
 
     pens_entry : (line : List ℕ) (settled : Settled) → SaysAndPens line (PenAnswer.Penned settled) → Moves (desks.Typed line (Penned settled))
     pens_entry line settled h =
-        penned s v d (DeskCalled d (desks.Typed line (Penned settled)) out l) k l h.0 (PenAnswer.Penned settled) (steps.Penned settled) out at (λ u x. (refl, k, at, x, h.1))
+        penned s v d (DeskCalled d (desks.Typed line (Penned settled)) out l) k l h.0 (PenAnswer.Penned settled) (answers.Penned settled) out at (λ u x. (refl, k, at, x, h.1))
         (pens line (PenAnswer.Penned settled) h) (refl, refl)
 
     refuses : (line : List ℕ) (why : desk_refusals.Refusal) (cause : PenRefusal Refusal) → SaysAndPens line (PenAnswer.Refused cause) → Moves (desks.Typed line (Refused why))
     refuses line why cause h =
-        penned s v d (DeskCalled d (desks.Typed line (Refused why)) out l) k l h.0 (PenAnswer.Refused cause) (steps.NotPenned cause) out at (λ u x. (refl, k, at, x, h.1))
+        penned s v d (DeskCalled d (desks.Typed line (Refused why)) out l) k l h.0 (PenAnswer.Refused cause) (answers.NotPenned cause) out at (λ u x. (refl, k, at, x, h.1))
         (pens line (PenAnswer.Refused cause) h) (refl, refl)
 
     fails : (line : List ℕ) → SaysAndPens line PenAnswer.DeviceFailed → Moves (desks.Typed line (Refused refusals.Device))
@@ -173,13 +175,13 @@ module _ {Disk : Type 0} (s : Setting Disk Refusal) (game innings : ℕ) (rules 
   desk_moment k l (desks.Given bytes whats.Failed) out at came h = still k l out at (desks.Given bytes whats.Failed) h.1 h.2
   desk_moment k l (desks.Given bytes (whats.Bad fault)) out at came h = still k l out at (desks.Given bytes (whats.Bad fault)) h.2 h.3
   desk_moment k l (desks.Given bytes (whats.Heard x)) out at came h =
-      received s v d (DeskCalled d (desks.Given bytes (whats.Heard x)) out l) k l bytes h.0 (ReceiveAnswer.Told x) (steps.Told x) out game at came h.1 h.2 (refl, refl)
+      received s v d (DeskCalled d (desks.Given bytes (whats.Heard x)) out l) k l bytes h.0 (ReceiveAnswer.Told x) (answers.Told x) out game at came h.1 h.2 (refl, refl)
   desk_moment k l (desks.Given bytes whats.Asked) out at came h =
-      received s v d (DeskCalled d (desks.Given bytes whats.Asked) out l) k l bytes h.0 ReceiveAnswer.Asked (steps.Asked (has_any out)) out game at came h.1 h.2 (refl, refl)
+      received s v d (DeskCalled d (desks.Given bytes whats.Asked) out l) k l bytes h.0 ReceiveAnswer.Asked (answers.Asked (has_any out)) out game at came h.1 h.2 (refl, refl)
   desk_moment k l (desks.Given bytes whats.Device) out at came h =
       ask_failed s v d (DeskCalled d (desks.Given bytes whats.Device) out l) calm k l bytes h.0 out game at came h.1 h.2
   desk_moment k l desks.Ticked out at came h =
       let e : (site v d).process ≡ Running l = at ∙ ap Running (sym h.1) in
-      at_desk s v d (DeskCalled d desks.Ticked out l) (events.Tick (stations.Desk d)) (steps.Ticked (length out)) (runs_on (site v d) l (site v d).due) out refl tt (k, at, h.0, refl, itself (site v d) l e)
+      at_desk s v d (DeskCalled d desks.Ticked out l) (events.Tick (stations.Desk d)) (answers.Ticked (length out)) (runs_on (site v d) l (site v d).due) out refl tt (k, at, h.0, refl, itself (site v d) l e)
   desk_moment k l desks.TypingEnded out at came h = still k l out at desks.TypingEnded h.0 h.1
   desk_moment k l desks.TurnEnded out at came h = still k l out at desks.TurnEnded h.0 h.1

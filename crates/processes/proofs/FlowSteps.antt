@@ -19,8 +19,11 @@ use Rattle.headline.specs.declared.fault.Fault.TheVariants.{Fail}
 use Rattle.headline.specs.declared.version.FileVersion.{FileVersion}
 use Rattle.headline.specs.declared.version.FileVersion.TheVariants.{Old, New}
 use Rattle.headline.specs.Worlds.{Process, Running, Down, Setting, Site, World, board_at, disk_of, site, votes_of, with_board, with_disk, with_site}
-use Rattle.headline.specs.Steps as steps
-use Rattle.headline.specs.Steps.{Answer, AtDesk, LosesPower, Migrates, MigratesAt, ToNew}
+use Rattle.headline.specs.Answers as answers
+use Rattle.headline.specs.Answers.{Answer}
+use Rattle.headline.specs.DeskFaults.{LosesPower}
+use Rattle.headline.specs.Migrations.{Migrates, MigratesAt, ToNew}
+use Rattle.headline.specs.DeskSteps.{AtDesk}
 use Rattle.headline.specs.Events.{station_of}
 use Rattle.processes.specs.Happenings.{Happening, DeskCalled, DeskEnded, PowerLost, DeskBegun, FileMigrated, BoardCalled, BoardBegun, Happens, after_one, begun, migrated, with_process}
 use Rattle.processes.proofs.Going.{Fits, Leads, one}
@@ -46,16 +49,16 @@ module _ {Disk : Type 0} (s : Setting Disk Refusal) (v : World Disk) (what : Hap
     ended : (k : DeskState Disk) (disk : Disk) → (site v d).process ≡ Running k → Stays (s.view d (site v d).version) k.disk disk → Reaches (with_process v d (Down (votes_of (site v d).process) disk) [])
     ended k disk at h =
         as_before (Down (votes_of (site v d).process) disk)
-        (by_event (events.Kill d) steps.Done (Down (votes_of (site v d).process) disk) None refl tt
+        (by_event (events.Kill d) answers.Done (Down (votes_of (site v d).process) disk) None refl tt
         (k, at, (disk, subst (λ (q : Process Disk). Stays (s.view d (site v d).version) (disk_of q) disk) (sym at) h, refl), refl, refl))
 
     power_lost : (disk : Disk) → LosesPower (s.view d (site v d).version) (disk_of (site v d).process) disk → Reaches (with_process v d (Down (votes_of (site v d).process) disk) [])
     power_lost disk h =
         as_before (Down (votes_of (site v d).process) disk)
-        (by_event (events.Power d choices.Kept) steps.Done (Down (votes_of (site v d).process) disk) None refl tt (disk, h, refl, refl, refl))
+        (by_event (events.Power d choices.Kept) answers.Done (Down (votes_of (site v d).process) disk) None refl tt (disk, h, refl, refl, refl))
 
     -- a fault falls due at a desk that is down
-    fault_down : (votes : List Ballot) (disk : Disk) → (site v d).process ≡ Down votes disk → AtDesk s v.sent d (events.FailAt d 1) (site v d) steps.Done (placed (Down votes disk) (Some Fail)) []
+    fault_down : (votes : List Ballot) (disk : Disk) → (site v d).process ≡ Down votes disk → AtDesk s v.sent d (events.FailAt d 1) (site v d) answers.Done (placed (Down votes disk) (Some Fail)) []
     fault_down votes disk at =
         let p : Down votes disk ≡ with_disk (site v d).process disk = ap (λ (q : Process Disk). with_disk q disk) (sym at) in
         ((disk, subst (λ (q : Process Disk). Stays (s.view d (site v d).version) (disk_of q) disk) (sym at) (stays_refl (s.view d (site v d).version) disk), λ i. placed (p i) (Some Fail)), refl, refl)
@@ -63,16 +66,16 @@ module _ {Disk : Type 0} (s : Setting Disk Refusal) (v : World Disk) (what : Hap
     not_opened : (votes : List Ballot) (disk left : Disk) → (site v d).process ≡ Down votes disk → MaySync (s.view d (site v d).version) disk left → Reaches (with_process v d (Down votes left) [])
     not_opened votes disk left at h =
         as_before (Down votes left)
-        (after_fault s v d what (placed (Down votes disk) (Some Fail)) (events.Open d) steps.DeviceFailed (placed (Down votes left) None) [] (fault_down votes disk at) refl tt
+        (after_fault s v d what (placed (Down votes disk) (Some Fail)) (events.Open d) answers.DeviceFailed (placed (Down votes left) None) [] (fault_down votes disk at) refl tt
         (votes, disk, Opening.NotOpened OpenRefusal.DeviceFailed left, refl, h, (Fail, refl, (refl, refl)), refl))
 
     opened : (votes : List Ballot) (disk : Disk) (opening : Opening Disk) → (site v d).process ≡ Down votes disk → Opens (s.view d (site v d).version) s.rules d disk opening → Reaches (with_process v d (begun votes opening) [])
     opened votes disk (Opening.Opened k) at h =
-        by_event (events.Open d) (steps.Opened (length k.book)) (Running k) (site v d).due refl tt (votes, disk, Opening.Opened k, at, h, (refl, refl), refl)
+        by_event (events.Open d) (answers.Opened (length k.book)) (Running k) (site v d).due refl tt (votes, disk, Opening.Opened k, at, h, (refl, refl), refl)
     opened votes disk (Opening.NotOpened OpenRefusal.Unsound left) at h =
-        by_event (events.Open d) steps.Unsound (Down votes left) (site v d).due refl tt (votes, disk, Opening.NotOpened OpenRefusal.Unsound left, at, h, (refl, refl), refl)
+        by_event (events.Open d) answers.Unsound (Down votes left) (site v d).due refl tt (votes, disk, Opening.NotOpened OpenRefusal.Unsound left, at, h, (refl, refl), refl)
     opened votes disk (Opening.NotOpened (OpenRefusal.BadVotes place) left) at h =
-        by_event (events.Open d) steps.NoBook (Down votes left) (site v d).due refl tt (votes, disk, Opening.NotOpened (OpenRefusal.BadVotes place) left, at, h, (refl, refl), refl)
+        by_event (events.Open d) answers.NoBook (Down votes left) (site v d).due refl tt (votes, disk, Opening.NotOpened (OpenRefusal.BadVotes place) left, at, h, (refl, refl), refl)
     opened votes disk (Opening.NotOpened OpenRefusal.NoMemory left) at h = not_opened votes disk left at h
     opened votes disk (Opening.NotOpened OpenRefusal.DeviceFailed left) at h = not_opened votes disk left at h
 
@@ -80,15 +83,15 @@ module _ {Disk : Type 0} (s : Setting Disk Refusal) (v : World Disk) (what : Hap
   file_migrated : (d : DeskId) (had votes : List Ballot) (disk new : Disk) → (site v d).process ≡ Down had disk → (site v d).version ≡ Old → Migrates (s.view d) disk (ToNew votes new) → Reaches (with_site v d (migrated (site v d) new) [])
   file_migrated d had votes disk new at old h =
       let y : Site Disk = record (site v d) { version = New; process = Down had new } in
-      let at_old : MigratesAt {Why = Refusal} (s.view d) (site v d) Old had disk (steps.Migrated (length votes)) y = (ToNew votes new, h, (refl, refl)) in
+      let at_old : MigratesAt {Why = Refusal} (s.view d) (site v d) Old had disk (answers.Migrated (length votes)) y = (ToNew votes new, h, (refl, refl)) in
       subst (λ (p : Process Disk). Reaches (with_site v d (record (site v d) { version = New; process = Down (votes_of p) new }) [])) (sym at)
-      (at_desk s v d what (events.Migrate d) (steps.Migrated (length votes)) y [] refl tt
-      (had, disk, at, subst (λ (z : FileVersion). MigratesAt {Why = Refusal} (s.view d) (site v d) z had disk (steps.Migrated (length votes)) y) (sym old) at_old, refl))
+      (at_desk s v d what (events.Migrate d) (answers.Migrated (length votes)) y [] refl tt
+      (had, disk, at, subst (λ (z : FileVersion). MigratesAt {Why = Refusal} (s.view d) (site v d) z had disk (answers.Migrated (length votes)) y) (sym old) at_old, refl))
 
   wiped : (n : ℕ) (k : BoardState) → board_at v.boards n ≡ Some k → Reaches (record v { boards = with_board v.boards n fresh_board })
   wiped n k at =
       subst (λ (sent : List Message). Reaches (record v { boards = with_board v.boards n fresh_board; sent = sent })) (append-nil v.sent)
-      (one s (Fits what v) v (events.Wipe n) steps.Done (with_it v n fresh_board []) tt (k, fresh_board, [], at, (refl, refl, refl), refl))
+      (one s (Fits what v) v (events.Wipe n) answers.Done (with_it v n fresh_board []) tt (k, fresh_board, [], at, (refl, refl, refl), refl))
 
 module _ {Disk : Type 0} where
   -- no fault is due

@@ -10,7 +10,8 @@ use Rattle.notation.specs.declared.entry.Entry.{Entry}
 use Rattle.live.specs.Desks as desks
 use Rattle.live.specs.Saying.{SaysEntry}
 use Rattle.processes.specs.Happenings.{Happening, DeskCalled}
-use Rattle.headline.specs.Steps.{Answer, Step}
+use Rattle.headline.specs.Answers.{Answer}
+use Rattle.headline.specs.Steps.{Step}
 use Rattle.headline.specs.Runs.{Moment, Run, last_of}
 use Rattle.headline.specs.Headline.{AtEachEvent}
 use Rattle.processes.specs.Laws.{GoesOn}

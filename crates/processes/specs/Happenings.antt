@@ -12,7 +12,8 @@ use Rattle.wire.specs.Layout.{Says}
 use Rattle.headline.specs.declared.version.FileVersion.{FileVersion}
 use Rattle.headline.specs.declared.version.FileVersion.TheVariants.{Old, New}
 use Rattle.headline.specs.Worlds.{Process, Running, Down, Site, World, board_at, disk_of, site, votes_of, with_board, with_site}
-use Rattle.headline.specs.Steps.{LosesPower, Migrates, ToNew}
+use Rattle.headline.specs.DeskFaults.{LosesPower}
+use Rattle.headline.specs.Migrations.{Migrates, ToNew}
 use Rattle.live.specs.Boards as boards
 use Rattle.live.specs.Boards.{BoardCall, BoardStep}
 use Rattle.live.specs.Desks as desks

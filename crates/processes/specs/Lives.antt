@@ -12,7 +12,8 @@ use Rattle.agree_core.specs.Openings.{Creates, NotOpened, Opened, Opening, Opens
 use Rattle.headline.specs.declared.version.FileVersion.{FileVersion}
 use Rattle.headline.specs.declared.version.FileVersion.TheVariants.{Old}
 use Rattle.headline.specs.Worlds.{Process, Running, Down, Site, disk_of, votes_of}
-use Rattle.headline.specs.Steps as steps
+use Rattle.headline.specs.DeskFaults as desk_faults
+use Rattle.headline.specs.Migrations as migrations
 use Rattle.live.specs.Boards as boards
 use Rattle.live.specs.Boards.{BoardCall, BoardTurn, board_kind}
 use Rattle.live.specs.Desks.{DeskCall, DeskProcess, DeskStep, HasRoom, course_after, desk_kind}
@@ -96,13 +97,13 @@ module _
       (k : DeskState Disk) × (x.process ≡ Running k) × (course_after call ≡ Err Device)
       × DeskStep (view x.version) game innings k call [] l
   ComesNext x (Ends disk) = (k : DeskState Disk) × (x.process ≡ Running k) × Stays (view x.version) k.disk disk
-  ComesNext x (LosesPower disk) = steps.LosesPower (view x.version) (disk_of x.process) disk
+  ComesNext x (LosesPower disk) = desk_faults.LosesPower (view x.version) (disk_of x.process) disk
   ComesNext x (Begins opening) =
       (votes : List Ballot) × (disk : Disk) × (x.process ≡ Down votes disk)
       × BeginsOn (view x.version) seen innings d disk opening
   ComesNext x (Migrates votes new) =
       (had : List Ballot) × (disk : Disk) × (x.process ≡ Down had disk) × (x.version ≡ Old)
-      × steps.Migrates view disk (steps.ToNew votes new)
+      × migrations.Migrates view disk (migrations.ToNew votes new)
 
   abbrev pub IsLife : Site Disk → List (Stage Disk) → Type 0
   IsLife x [] = Unit {0}

@@ -39,7 +39,9 @@ use Rattle.schedule_replay.specs.declared.world.World.{World}
 use Rattle.headline.specs.Worlds as worlds
 use Rattle.headline.specs.Worlds.{board_at, fresh_boards, with_board}
 use Rattle.headline.specs.Events.{station_of}
-use Rattle.headline.specs.Steps.{Answer, AtBoard, StepAt, board_told}
+use Rattle.headline.specs.Answers.{Answer}
+use Rattle.headline.specs.BoardSteps.{AtBoard, board_told}
+use Rattle.headline.specs.Steps.{StepAt}
 use Rattle.schedule_replay.specs.Refusals.{LeftByWant, down_at, first_cause, may_grow, may_send, no_board, no_station, refusal_of}
 use Rattle.headline.specs.Match.{match_of}
 use Rattle.schedule_replay.specs.Answers.{AreBytesOf, answer_of}

@@ -27,7 +27,8 @@ use Rattle.schedule_replay.specs.declared.site.Site.{Site}
 use Rattle.schedule_replay.specs.declared.world_desk.WorldDesk.{WorldDesk}
 use Rattle.headline.specs.Worlds as worlds
 use Rattle.headline.specs.Worlds.{Process, Running, Down}
-use Rattle.headline.specs.Steps.{Answer, LosesPower, StaysDown}
+use Rattle.headline.specs.Answers.{Answer}
+use Rattle.headline.specs.DeskFaults.{LosesPower, StaysDown}
 use Rattle.headline.specs.Match.{format_of, match_of, most_bytes}
 use Rattle.schedule_replay.specs.Answers.{AreBytesOf}
 use Rattle.schedule_replay.specs.inner.Sites.{IsDue, IsProcess, IsSite, IsWorldDisk, PutsDown, SiteSteps}
@@ -118,7 +119,7 @@ powers old mid new choice there left sent put at lost is x messages h b =
     some_is a b e = cc
 
 -- a fault falls due at a running desk
-pub falls_due_running : (old : Site) (k l : WorldDesk) (fault : Fault) (plan : Plan) (event : Event) (sent : List Datagram) → old.desk ≡ Some k → SetsPlan plan (disk_of k) (disk_of l) → state_of l ≡ record (state_of k) { disk = disk_of l } → SameOwner k l → ((calls : ℕ) → IsDue (Some fault) (due_of calls plan)) → (x : worlds.Site MemDisk) (messages : List Message) → IsSite old x → AreBytesOf old.game sent messages → Rattle.headline.specs.Steps.FallsDue ((match_of old.game old.innings_a_side).view old.name x.version) fault x (record x { process = Running (state_of l); due = Some fault }) × IsSite (record old { desk = Some l; due = Some fault }) (record x { process = Running (state_of l); due = Some fault })
+pub falls_due_running : (old : Site) (k l : WorldDesk) (fault : Fault) (plan : Plan) (event : Event) (sent : List Datagram) → old.desk ≡ Some k → SetsPlan plan (disk_of k) (disk_of l) → state_of l ≡ record (state_of k) { disk = disk_of l } → SameOwner k l → ((calls : ℕ) → IsDue (Some fault) (due_of calls plan)) → (x : worlds.Site MemDisk) (messages : List Message) → IsSite old x → AreBytesOf old.game sent messages → Rattle.headline.specs.DeskFaults.FallsDue ((match_of old.game old.innings_a_side).view old.name x.version) fault x (record x { process = Running (state_of l); due = Some fault }) × IsSite (record old { desk = Some l; due = Some fault }) (record x { process = Running (state_of l); due = Some fault })
 falls_due_running old k l fault plan event sent here sets state owner due x messages h b =
     let r = running_is old k x here h in
     let shown : Running (state_of l) ≡ worlds.with_disk x.process (disk_of l) = ap (λ (s : DeskState MemDisk). Running s) state ∙ ap (λ (z : Process MemDisk). worlds.with_disk z (disk_of l)) (sym r.process) in
@@ -129,7 +130,7 @@ falls_due_running old k l fault plan event sent here sets state owner due x mess
     )
 
 -- and at one that is down
-pub falls_due_down : (old : Site) (disk left : MemDisk) (fault : Fault) (plan : Plan) → old.desk ≡ None → old.disk ≡ Some disk → SetsPlan plan disk left → ((calls : ℕ) → IsDue (Some fault) (due_of calls plan)) → (x : worlds.Site MemDisk) → IsSite old x → Rattle.headline.specs.Steps.FallsDue ((match_of old.game old.innings_a_side).view old.name x.version) fault x (record x { process = worlds.with_disk x.process left; due = Some fault }) × IsSite (record old { disk = Some left; due = Some fault }) (record x { process = worlds.with_disk x.process left; due = Some fault })
+pub falls_due_down : (old : Site) (disk left : MemDisk) (fault : Fault) (plan : Plan) → old.desk ≡ None → old.disk ≡ Some disk → SetsPlan plan disk left → ((calls : ℕ) → IsDue (Some fault) (due_of calls plan)) → (x : worlds.Site MemDisk) → IsSite old x → Rattle.headline.specs.DeskFaults.FallsDue ((match_of old.game old.innings_a_side).view old.name x.version) fault x (record x { process = worlds.with_disk x.process left; due = Some fault }) × IsSite (record old { disk = Some left; due = Some fault }) (record x { process = worlds.with_disk x.process left; due = Some fault })
 falls_due_down old disk left fault plan down there sets due x h =
     let p : IsProcess old None (Some disk) x.process = subst (λ (o : Option MemDisk). IsProcess old None o x.process) there (subst (λ (o : Option WorldDesk). IsProcess old o old.disk x.process) down h.process) in
     let on = p.0 in

@@ -31,7 +31,8 @@ use Rattle.schedule_replay.specs.declared.site.Site.{Site}
 use Rattle.schedule_replay.specs.declared.world_desk.WorldDesk.{WorldDesk}
 use Rattle.headline.specs.Worlds as worlds
 use Rattle.headline.specs.Worlds.{Running}
-use Rattle.headline.specs.Steps.{AfterReceive, Answer, has_any}
+use Rattle.headline.specs.Answers.{Answer}
+use Rattle.headline.specs.DeskSteps.{AfterReceive, has_any}
 use Rattle.headline.specs.Match.{match_of}
 use Rattle.schedule_replay.specs.Answers.{AreBytesOf, answer_of, given_seen, is_fault}
 use Rattle.schedule_replay.specs.inner.Sites.{BreaksDown, SiteSteps}

@@ -33,7 +33,8 @@ use Rattle.headline.specs.declared.version.FileVersion.{FileVersion}
 use Rattle.headline.specs.declared.version.FileVersion.TheVariants as versions
 use Rattle.headline.specs.Worlds as worlds
 use Rattle.headline.specs.Worlds.{Process, Down}
-use Rattle.headline.specs.Steps.{Answer, Failed, MigratesAt, NotSound, ToNew}
+use Rattle.headline.specs.Answers.{Answer}
+use Rattle.headline.specs.Migrations.{Failed, MigratesAt, NotSound, ToNew}
 use Rattle.headline.specs.Match.{format_of, most_bytes}
 use Rattle.schedule_replay.specs.Answers.{answer_of, is_failing, wants_memory}
 use Rattle.schedule_replay.specs.inner.Sites.{BreaksDown, IsDue, IsSite, IsWorldDisk, NotFoundBy, SiteSteps}

@@ -36,7 +36,8 @@ use Rattle.headline.specs.declared.version.FileVersion.{FileVersion}
 use Rattle.schedule_replay.specs.declared.world_desk.WorldDesk.{WorldDesk}
 use Rattle.headline.specs.Worlds as worlds
 use Rattle.headline.specs.Worlds.{Process, Running, Down}
-use Rattle.headline.specs.Steps.{Answer, StaysDown}
+use Rattle.headline.specs.Answers.{Answer}
+use Rattle.headline.specs.DeskFaults.{StaysDown}
 use Rattle.headline.specs.Match.{match_of}
 use Rattle.schedule_replay.specs.Answers.{answer_of, is_failing, wants_memory}
 use Rattle.schedule_replay.specs.inner.Sites.{BreaksDown, IsDue, IsProcess, IsSite, IsWorldDisk, NotFoundBy, SameSite, SiteSteps, SyncsSite}
@@ -158,7 +159,7 @@ syncs old new disk left down there may cap faults e x h =
     )
 
 -- because of what is in the file
-not_sound : (old new : Site) (disk left : MemDisk) (why : OpenRefusal) (told : openings.OpenRefusal) (answer : Answer Refusal) (result : Result Seen WorldRefusal) → old.desk ≡ None → old.disk ≡ Some disk → Opens (ViewAt old old.version) (RulesAt old) old.name disk (NotOpened told left) → ((x : worlds.Site MemDisk) (votes : List Ballot) → Rattle.headline.specs.Steps.AfterOpen (ViewAt old x.version) x votes (NotOpened told left) answer (record x { process = Down votes left })) → cap_of left ≡ cap_of disk → faults_of left ≡ faults_of disk → answer_of (seens.Refused (causes.Open why)) ≡ Some answer → (result ≡ Ok (seens.Refused (causes.Open why))) × (new ≡ record old { disk = Some left }) → Outcome OpenSteps old result new
+not_sound : (old new : Site) (disk left : MemDisk) (why : OpenRefusal) (told : openings.OpenRefusal) (answer : Answer Refusal) (result : Result Seen WorldRefusal) → old.desk ≡ None → old.disk ≡ Some disk → Opens (ViewAt old old.version) (RulesAt old) old.name disk (NotOpened told left) → ((x : worlds.Site MemDisk) (votes : List Ballot) → Rattle.headline.specs.DeskSteps.AfterOpen (ViewAt old x.version) x votes (NotOpened told left) answer (record x { process = Down votes left })) → cap_of left ≡ cap_of disk → faults_of left ≡ faults_of disk → answer_of (seens.Refused (causes.Open why)) ≡ Some answer → (result ≡ Ok (seens.Refused (causes.Open why))) × (new ≡ record old { disk = Some left }) → Outcome OpenSteps old result new
 not_sound old new disk left why told answer result down there opens after cap faults says (r, e) = seen_is OpenSteps old new result (seens.Refused (causes.Open why)) r steps
   where
     steps : (sent : List Datagram) → OpenSteps sent old (seens.Refused (causes.Open why)) new

@@ -24,7 +24,8 @@ use Rattle.schedule_replay.specs.declared.world.World.{World}
 use Rattle.headline.specs.Worlds as worlds
 use Rattle.headline.specs.Worlds.{fresh_boards, votes_in, with_board, with_site}
 use Rattle.headline.specs.Events.{station_of}
-use Rattle.headline.specs.Steps.{Answer, Step, StepAt}
+use Rattle.headline.specs.Answers.{Answer}
+use Rattle.headline.specs.Steps.{Step, StepAt}
 use Rattle.headline.specs.Runs.{AtEachMoment, AtSomeMoment, Begins, Moment, Run, Shows, answers_of, events_of, last_of}
 use Rattle.headline.specs.Match.{match_of}
 use Rattle.schedule_replay.specs.Answers.{answer_of}

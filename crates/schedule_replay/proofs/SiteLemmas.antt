@@ -31,7 +31,8 @@ use Rattle.headline.specs.declared.version.FileVersion.TheVariants as versions
 use Rattle.schedule_replay.specs.declared.world_desk.WorldDesk.{WorldDesk}
 use Rattle.headline.specs.Worlds as worlds
 use Rattle.headline.specs.Worlds.{Process, Running, Down}
-use Rattle.headline.specs.Steps.{Answer, Breaks}
+use Rattle.headline.specs.Answers.{Answer}
+use Rattle.headline.specs.DeskFaults.{Breaks}
 use Rattle.headline.specs.Match.{format_of, match_of, most_bytes}
 use Rattle.schedule_replay.specs.Answers.{AreBytesOf, answer_of}
 use Rattle.schedule_replay.specs.inner.Sites.{BreaksDown, IsDue, IsProcess, IsSite, IsWorldDisk, PutsDown, SameSite, disk_at, votes_at}

@@ -23,7 +23,9 @@ use Rattle.schedule_replay.specs.declared.world_desk.WorldDesk.{WorldDesk}
 use Rattle.headline.specs.Worlds as worlds
 use Rattle.headline.specs.Worlds.{Process}
 use Rattle.headline.specs.Events.{station_of}
-use Rattle.headline.specs.Steps.{Answer, AtDesk, StepAt}
+use Rattle.headline.specs.Answers.{Answer}
+use Rattle.headline.specs.DeskSteps.{AtDesk}
+use Rattle.headline.specs.Steps.{StepAt}
 use Rattle.schedule_replay.specs.Refusals.{LeftByWant, RefusesEvent, down_at, first_cause, is_down, no_station, refusal_of}
 use Rattle.headline.specs.Match.{match_of}
 use Rattle.schedule_replay.specs.Answers.{AreBytesOf, answer_of}

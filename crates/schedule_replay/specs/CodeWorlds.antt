@@ -20,7 +20,8 @@ use Rattle.schedule_replay.specs.declared.site.Site.{Site}
 use Rattle.headline.specs.declared.version.FileVersion.{FileVersion}
 use Rattle.schedule_replay.specs.declared.world.World.{World}
 use Rattle.headline.specs.Worlds as worlds
-use Rattle.headline.specs.Steps.{Answer, Step}
+use Rattle.headline.specs.Answers.{Answer}
+use Rattle.headline.specs.Steps.{Step}
 use Rattle.headline.specs.Runs.{Begins}
 use Rattle.schedule_replay.specs.Refusals.{RefusesEvent, refusal_of}
 use Rattle.headline.specs.Match.{match_of}

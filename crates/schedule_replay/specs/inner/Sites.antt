@@ -28,7 +28,8 @@ use Rattle.headline.specs.declared.version.FileVersion.{FileVersion}
 use Rattle.schedule_replay.specs.declared.world_desk.WorldDesk.{WorldDesk}
 use Rattle.schedule_replay.specs.declared.site.Site.{Site}
 use Rattle.headline.specs.Worlds as worlds
-use Rattle.headline.specs.Steps.{Answer, AtDesk}
+use Rattle.headline.specs.Answers.{Answer}
+use Rattle.headline.specs.DeskSteps.{AtDesk}
 use Rattle.schedule_replay.specs.Refusals.{first_cause, may_grow}
 use Rattle.headline.specs.Match.{match_of, most_bytes}
 use Rattle.schedule_replay.specs.Plans.{StaysDue}

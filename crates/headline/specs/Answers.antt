@@ -1,0 +1,31 @@
+-- Answers to events.
+use Rattle.std.specs.Prelude.{ℕ, Bool}
+use Rattle.agree_core.specs.declared.seat.Heard.{Heard}
+use Rattle.agree_core.specs.declared.seat.Settled.{Settled}
+use Rattle.agree_core.specs.Desks.{PenRefusal}
+
+-- what an event is answered
+pub data Answer (Why : Type 0) : Type 0 where
+  Penned : Settled → Answer Why
+  NotPenned : PenRefusal Why → Answer Why
+  Ticked : ℕ → Answer Why
+  Told : Heard → Answer Why
+  -- an ask was given to it, and it handed out a reply or not
+  Asked : Bool → Answer Why
+  -- both desks' votes are equal, for an entry that the book's rules refuse
+  BadVotes : Answer Why
+  -- the desk had failed before
+  HasFailed : Answer Why
+  -- a device call failed, or the desk was stopped at one
+  DeviceFailed : Answer Why
+  Stopped : Answer Why
+  -- the desk is opened, with a book of so many entries
+  Opened : ℕ → Answer Why
+  -- it isn't, because its file is no sound file of its votes, or they are no book
+  Unsound : Answer Why
+  NoBook : Answer Why
+  -- the file is migrated, with so many votes
+  Migrated : ℕ → Answer Why
+  -- it isn't, because it is of another version
+  OtherVersion : Answer Why
+  Done : Answer Why
