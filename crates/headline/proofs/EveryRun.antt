@@ -2,7 +2,7 @@
 use Rattle.std.proofs.Common.{ℕ, List}
 use Rattle.agree_core.proofs.FileBooks.{agreed_by_files}
 use Rattle.headline.specs.declared.version.FileVersion.{FileVersion}
-use Rattle.headline.specs.Worlds.{Setting, World, votes_in}
+use Rattle.headline.specs.Configurations.{Setting, Configuration, votes_in}
 use Rattle.headline.specs.Runs.{Begins, Moment, Run, last_of}
 use Rattle.headline.specs.Noted.{KeepsNoted}
 use Rattle.headline.specs.Headline.{ByBoth, Headline, NoneWaits, StandsFast, TakesSecond}
@@ -16,7 +16,7 @@ use Rattle.headline.proofs.Shown.{by_both, each_moment, one_book_shown, stands_f
 use Rattle.headline.proofs.Sound.{sound_answers}
 
 module _ {Disk Why : Type 0} (s : Setting Disk Why) (innings : ℕ) where
-  headline : (version : FileVersion) (n : ℕ) (w : World Disk) (ms : List (Moment Disk Why)) → Begins s version n w → Run s w ms → Headline s innings w ms
+  headline : (version : FileVersion) (n : ℕ) (w : Configuration Disk) (ms : List (Moment Disk Why)) → Begins s version n w → Run s w ms → Headline s innings w ms
   headline version n w ms e r =
       let f = begins_fine s version n w e in
       record {
@@ -26,7 +26,7 @@ module _ {Disk Why : Type 0} (s : Setting Disk Why) (innings : ℕ) where
         has_entry = (after_each s w ms (TakesSecond s w) (takes_second s version n w e) r, after_each s w ms (NoneWaits s w) (none_waits s version n w e) r);
       }
 
-  pub holds_in_run : (version : FileVersion) (n : ℕ) (w : World Disk) (ms : List (Moment Disk Why)) → Begins s version n w → Run s w ms → HoldsInRun s innings w ms
+  pub holds_in_run : (version : FileVersion) (n : ℕ) (w : Configuration Disk) (ms : List (Moment Disk Why)) → Begins s version n w → Run s w ms → HoldsInRun s innings w ms
   holds_in_run version n w ms e r =
       let f = begins_fine s version n w e in
       record {

@@ -8,7 +8,7 @@ use Rattle.corrections.specs.CleanList.{history_of}
 use Rattle.agree_core.specs.Agreed.{BeginsWith}
 use Rattle.agree_core.proofs.Settling.{one_book}
 use Rattle.headline.specs.declared.version.FileVersion.{FileVersion}
-use Rattle.headline.specs.Worlds.{Setting, World, votes_in}
+use Rattle.headline.specs.Configurations.{Setting, Configuration, votes_in}
 use Rattle.headline.specs.Runs.{Begins, Moment, Run, last_of}
 use Rattle.headline.specs.Headline.{HaveOneScore, ShowsScore}
 use Rattle.headline.proofs.Keeping.{all_justified, begins_fine, run_keeps}
@@ -32,7 +32,7 @@ one_standing m k n h p q = λ i. record {
   bowling = (p.bowling ∙ sym q.bowling) i;
 }
 
-pub one_score : {Disk Why : Type 0} (s : Setting Disk Why) (innings : ℕ) (version : FileVersion) (boards : ℕ) (w : World Disk) (ms : List (Moment Disk Why)) → Begins s version boards w → Run s w ms → HaveOneScore innings w ms
+pub one_score : {Disk Why : Type 0} (s : Setting Disk Why) (innings : ℕ) (version : FileVersion) (boards : ℕ) (w : Configuration Disk) (ms : List (Moment Disk Why)) → Begins s version boards w → Run s w ms → HaveOneScore innings w ms
 one_score s innings version boards w ms begins run t u n score other p q =
     let f = begins_fine s version boards w begins in
     let j = all_justified s (last_of w ms) (run_keeps s w ms f run) in

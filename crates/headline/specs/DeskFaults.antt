@@ -5,13 +5,13 @@ use Rattle.agree_core.specs.Desks.{DeskState}
 use Rattle.agree_core.specs.FileView.{FileView, Stays}
 use Rattle.headline.specs.declared.fault.Fault.TheVariants.{Fail, Stop}
 use Rattle.headline.specs.declared.fault.Fault.{Fault}
-use Rattle.headline.specs.Worlds.{Running, Down, Site, disk_of, votes_of, with_disk}
+use Rattle.headline.specs.Configurations.{Running, Down, Node, process_disk, process_votes, with_disk}
 use Rattle.headline.specs.Answers.{Answer, DeviceFailed, Stopped}
 
 -- a device call of a running desk has failed: the desk has failed; or it is down, where that was a stop
 abbrev pub BreaksBy :
-    {Disk Why : Type 0} → FileView Disk → Site Disk → Fault → DeskState Disk
-    → Answer Why → Site Disk → Type 0
+    {Disk Why : Type 0} → FileView Disk → Node Disk → Fault → DeskState Disk
+    → Answer Why → Node Disk → Type 0
 BreaksBy view x Fail l answer y =
     (answer ≡ DeviceFailed) × (y ≡ record x { process = Running l; due = None })
 BreaksBy view x Stop l answer y =
@@ -20,13 +20,13 @@ BreaksBy view x Stop l answer y =
 
 -- that happens only by the fault that is due, which is spent
 abbrev pub Breaks :
-    {Disk Why : Type 0} → FileView Disk → Site Disk → DeskState Disk → Answer Why → Site Disk → Type 0
+    {Disk Why : Type 0} → FileView Disk → Node Disk → DeskState Disk → Answer Why → Node Disk → Type 0
 Breaks view x l answer y = (fault : Fault) × (x.due ≡ Some fault) × BreaksBy view x fault l answer y
 
 -- at a desk that is down a device call has failed, by this fault: the desk stays down
 abbrev pub StaysDownBy :
-    {Disk Why : Type 0} → FileView Disk → Site Disk → Fault → List Ballot → Disk
-    → Answer Why → Site Disk → Type 0
+    {Disk Why : Type 0} → FileView Disk → Node Disk → Fault → List Ballot → Disk
+    → Answer Why → Node Disk → Type 0
 StaysDownBy view x Fail votes left answer y =
     (answer ≡ DeviceFailed) × (y ≡ record x { process = Down votes left; due = None })
 StaysDownBy view x Stop votes left answer y =
@@ -35,7 +35,7 @@ StaysDownBy view x Stop votes left answer y =
 
 -- that happens only by the fault that is due, which is spent
 abbrev pub StaysDown :
-    {Disk Why : Type 0} → FileView Disk → Site Disk → List Ballot → Disk → Answer Why → Site Disk → Type 0
+    {Disk Why : Type 0} → FileView Disk → Node Disk → List Ballot → Disk → Answer Why → Node Disk → Type 0
 StaysDown view x votes left answer y =
     (fault : Fault) × (x.due ≡ Some fault) × StaysDownBy view x fault votes left answer y
 
@@ -46,13 +46,13 @@ LosesPower view old new =
     × ((image : Option (List Ballot)) → view.Image new image → image ≡ view.reads new)
 
 -- the process ends, and the disk stays
-abbrev pub Ends : {Disk : Type 0} → FileView Disk → Site Disk → Site Disk → Type 0
+abbrev pub Ends : {Disk : Type 0} → FileView Disk → Node Disk → Node Disk → Type 0
 Ends view x y =
-    (disk : _) × Stays view (disk_of x.process) disk
-    × (y ≡ record x { process = Down (votes_of x.process) disk; due = None })
+    (disk : _) × Stays view (process_disk x.process) disk
+    × (y ≡ record x { process = Down (process_votes x.process) disk; due = None })
 
 -- a fault is due on the disk, in the place of any before
-abbrev pub FallsDue : {Disk : Type 0} → FileView Disk → Fault → Site Disk → Site Disk → Type 0
+abbrev pub FallsDue : {Disk : Type 0} → FileView Disk → Fault → Node Disk → Node Disk → Type 0
 FallsDue view fault x y =
-    (disk : _) × Stays view (disk_of x.process) disk
+    (disk : _) × Stays view (process_disk x.process) disk
     × (y ≡ record x { process = with_disk x.process disk; due = Some fault })

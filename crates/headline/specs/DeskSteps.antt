@@ -9,19 +9,19 @@ use Rattle.agree_core.specs.Openings.{OpenRefusal, Opening, Opens}
 use Rattle.headline.specs.declared.event.Event.{Event}
 use Rattle.headline.specs.declared.event.Event.TheVariants as events
 use Rattle.headline.specs.declared.fault.Fault.TheVariants.{Fail, Stop}
-use Rattle.headline.specs.Worlds.{Running, Down, Setting, Site, disk_of, votes_of}
+use Rattle.headline.specs.Configurations.{Running, Down, Setting, Node, process_disk, process_votes}
 use Rattle.headline.specs.Answers.{Answer, Penned, NotPenned, Ticked, Told, Asked, HasFailed, Opened, Unsound, NoBook, Done}
 use Rattle.headline.specs.DeskFaults.{Breaks, StaysDown, LosesPower, Ends, FallsDue}
 use Rattle.headline.specs.Migrations.{MigratesAt}
 
 -- a call of a desk has ended without a fault: the desk runs on, and what is due stays so
-abbrev pub RunsOn : {Disk : Type 0} → Site Disk → DeskState Disk → Site Disk → Type 0
+abbrev pub RunsOn : {Disk : Type 0} → Node Disk → DeskState Disk → Node Disk → Type 0
 RunsOn x l y = y ≡ record x { process = Running l }
 
 -- the desk has gone on so and answered so to a pen
 abbrev pub AfterPen :
-    {Disk Why : Type 0} → FileView Disk → Site Disk → PenAnswer Why → DeskState Disk
-    → Answer Why → Site Disk → Type 0
+    {Disk Why : Type 0} → FileView Disk → Node Disk → PenAnswer Why → DeskState Disk
+    → Answer Why → Node Disk → Type 0
 AfterPen view x (PenAnswer.Penned settled) l answer y = (answer ≡ Penned settled) × RunsOn x l y
 AfterPen view x (PenAnswer.Refused why) l answer y = (answer ≡ NotPenned why) × RunsOn x l y
 AfterPen view x PenAnswer.DeviceFailed l answer y = Breaks view x l answer y
@@ -33,8 +33,8 @@ has_any (m ∷ ms) = true
 
 -- the desk has gone on so, handed out these messages and answered so to what it was given
 abbrev pub AfterReceive :
-    {Disk Why : Type 0} → FileView Disk → Site Disk → ReceiveAnswer → DeskState Disk → List Message
-    → Answer Why → Site Disk → Type 0
+    {Disk Why : Type 0} → FileView Disk → Node Disk → ReceiveAnswer → DeskState Disk → List Message
+    → Answer Why → Node Disk → Type 0
 AfterReceive view x ReceiveAnswer.Failed l out answer y = (answer ≡ HasFailed) × RunsOn x l y
 AfterReceive view x (ReceiveAnswer.Told h) l out answer y = (answer ≡ Told h) × RunsOn x l y
 AfterReceive view x ReceiveAnswer.Asked l out answer y = (answer ≡ Asked (has_any out)) × RunsOn x l y
@@ -42,8 +42,8 @@ AfterReceive view x ReceiveAnswer.DeviceFailed l out answer y = Breaks view x l 
 
 -- what has come of opening the file of a desk that is down, whose votes were these
 abbrev pub AfterOpen :
-    {Disk Why : Type 0} → FileView Disk → Site Disk → List Ballot → Opening Disk
-    → Answer Why → Site Disk → Type 0
+    {Disk Why : Type 0} → FileView Disk → Node Disk → List Ballot → Opening Disk
+    → Answer Why → Node Disk → Type 0
 AfterOpen view x votes (Opening.Opened k) answer y = (answer ≡ Opened (length k.book)) × RunsOn x k y
 AfterOpen view x votes (Opening.NotOpened OpenRefusal.Unsound left) answer y =
     (answer ≡ Unsound) × (y ≡ record x { process = Down votes left })
@@ -56,7 +56,7 @@ AfterOpen view x votes (Opening.NotOpened OpenRefusal.DeviceFailed left) answer 
 -- what an event does at the desk that it names, what that hands out and answers
 abbrev pub AtDesk :
     {Disk Why : Type 0} → Setting Disk Why → List Message → DeskId → Event
-    → Site Disk → Answer Why → Site Disk → List Message → Type 0
+    → Node Disk → Answer Why → Node Disk → List Message → Type 0
 -- its scorer pens an entry, while it runs
 AtDesk s sent d (events.Pen c e) x answer y out =
     (k : DeskState _) × (l : DeskState _) × (penned : PenAnswer _) × (x.process ≡ Running k)
@@ -74,8 +74,8 @@ AtDesk s sent d (events.Kill c) x answer y out =
     (k : DeskState _) × (x.process ≡ Running k) × Ends (s.view d x.version) x y × (answer ≡ Done) × (out ≡ [])
 -- running or down, it loses power; it has the votes that it had
 AtDesk s sent d (events.Power c choice) x answer y out =
-    (disk : _) × LosesPower (s.view d x.version) (disk_of x.process) disk
-    × (y ≡ record x { process = Down (votes_of x.process) disk; due = None }) × (answer ≡ Done) × (out ≡ [])
+    (disk : _) × LosesPower (s.view d x.version) (process_disk x.process) disk
+    × (y ≡ record x { process = Down (process_votes x.process) disk; due = None }) × (answer ≡ Done) × (out ≡ [])
 -- running or down, its disk is to fail; which call that is, by n, the disk counts
 AtDesk s sent d (events.FailAt c n) x answer y out =
     FallsDue (s.view d x.version) Fail x y × (answer ≡ Done) × (out ≡ [])

@@ -1,7 +1,7 @@
 -- What is claimed: Laws and Headline, over the runs of Runs and Noted; Match is the setting. A step of a run is Steps, by
--- what desks (DeskSteps, Migrations, DeskFaults) and boards (BoardSteps) do and answer (Answers) in Worlds at Events.
+-- what desks (DeskSteps, Migrations, DeskFaults) and boards (BoardSteps) do and answer (Answers) in Configurations at Events.
 pub mod Events
-pub mod Worlds
+pub mod Configurations
 pub mod Answers
 pub mod DeskFaults
 pub mod Migrations

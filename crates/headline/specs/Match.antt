@@ -13,7 +13,7 @@ use Rattle.agree_core.specs.Desks.{most_votes}
 use Rattle.vote_store.specs.View.{file_view}
 use Rattle.headline.specs.declared.version.FileVersion.{FileVersion}
 use Rattle.headline.specs.declared.version.FileVersion.TheVariants.{Old, New}
-use Rattle.headline.specs.Worlds.{Setting}
+use Rattle.headline.specs.Configurations.{Setting}
 
 abbrev pub format_of : FileVersion → Format
 format_of Old = version_1

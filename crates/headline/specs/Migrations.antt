@@ -4,7 +4,7 @@ use Rattle.agree_core.specs.Ballots.{Ballot}
 use Rattle.agree_core.specs.FileView.{FileView, Holds, MaySync}
 use Rattle.headline.specs.declared.version.FileVersion.{FileVersion}
 use Rattle.headline.specs.declared.version.FileVersion.TheVariants.{Old, New}
-use Rattle.headline.specs.Worlds.{Down, Site}
+use Rattle.headline.specs.Configurations.{Down, Node}
 use Rattle.headline.specs.Answers.{Answer, Unsound, Migrated, OtherVersion}
 use Rattle.headline.specs.DeskFaults.{StaysDown}
 
@@ -23,8 +23,8 @@ Migrates view old (Failed left) = MaySync (view Old) old left
 
 -- the desk stays down: with the new file, and what is due on it; or with the old one
 abbrev pub AfterMigration :
-    {Disk Why : Type 0} → (FileVersion → FileView Disk) → Site Disk → List Ballot → Migration Disk
-    → Answer Why → Site Disk → Type 0
+    {Disk Why : Type 0} → (FileVersion → FileView Disk) → Node Disk → List Ballot → Migration Disk
+    → Answer Why → Node Disk → Type 0
 AfterMigration view x votes (ToNew found new) answer y =
     (answer ≡ Migrated (length found)) × (y ≡ record x { version = New; process = Down votes new })
 AfterMigration view x votes (NotSound left) answer y =
@@ -33,8 +33,8 @@ AfterMigration view x votes (Failed left) answer y = StaysDown (view Old) x vote
 
 -- a file of the old version is migrated; one of the new version is of another one, and stays
 abbrev pub MigratesAt :
-    {Disk Why : Type 0} → (FileVersion → FileView Disk) → Site Disk → FileVersion → List Ballot → Disk
-    → Answer Why → Site Disk → Type 0
+    {Disk Why : Type 0} → (FileVersion → FileView Disk) → Node Disk → FileVersion → List Ballot → Disk
+    → Answer Why → Node Disk → Type 0
 MigratesAt view x Old votes disk answer y =
     (migration : Migration _) × Migrates view disk migration × AfterMigration view x votes migration answer y
 MigratesAt view x New votes disk answer y = (answer ≡ OtherVersion) × (y ≡ x)

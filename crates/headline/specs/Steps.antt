@@ -1,4 +1,4 @@
--- What an event makes of the world: a step at the station that it is for.
+-- What an event makes of a configuration: a step at the station that it is for.
 use Rattle.std.specs.Prelude.{◌≡◌, Some, List, ◌++◌}
 use Rattle.agree_core.specs.declared.messages.Message.{Message}
 use Rattle.agree_core.specs.Boards.{BoardState}
@@ -6,17 +6,17 @@ use Rattle.headline.specs.declared.event.Event.{Event}
 use Rattle.headline.specs.declared.event.Station.{Station}
 use Rattle.headline.specs.declared.event.Station.TheVariants as stations
 use Rattle.headline.specs.Events.{station_of}
-use Rattle.headline.specs.Worlds.{Setting, Site, World, board_at, site, with_board, with_site}
+use Rattle.headline.specs.Configurations.{Setting, Node, Configuration, board_at, node, with_board, with_node}
 use Rattle.headline.specs.Answers.{Answer}
 use Rattle.headline.specs.DeskSteps.{AtDesk}
 use Rattle.headline.specs.BoardSteps.{AtBoard}
 
 -- an event changes the station that it is for, and adds to the messages what that hands out
 abbrev pub StepAt :
-    {Disk Why : Type 0} → Setting Disk Why → World Disk → Event → Station → Answer Why → World Disk → Type 0
+    {Disk Why : Type 0} → Setting Disk Why → Configuration Disk → Event → Station → Answer Why → Configuration Disk → Type 0
 StepAt s w event (stations.Desk d) answer new =
-    (y : Site _) × (out : List Message) × AtDesk s w.sent d event (site w d) answer y out
-    × (new ≡ with_site w d y out)
+    (y : Node _) × (out : List Message) × AtDesk s w.sent d event (node w d) answer y out
+    × (new ≡ with_node w d y out)
 StepAt s w event (stations.Board n) answer new =
     (k : BoardState) × (l : BoardState) × (out : List Message) × (board_at w.boards n ≡ Some k)
     × AtBoard s w.sent event k answer l out
@@ -24,5 +24,5 @@ StepAt s w event (stations.Board n) answer new =
 
 -- so at the station that the event names
 abbrev pub Step :
-    {Disk Why : Type 0} → Setting Disk Why → World Disk → Event → Answer Why → World Disk → Type 0
+    {Disk Why : Type 0} → Setting Disk Why → Configuration Disk → Event → Answer Why → Configuration Disk → Type 0
 Step s w event answer new = StepAt s w event (station_of event) answer new

@@ -10,7 +10,7 @@ use Rattle.wire.specs.Layout.{Says}
 use Rattle.board.specs.declared.refusal.BoardRefusal.TheVariants.{BadVotes}
 use Rattle.headline.specs.declared.event.Event.TheVariants as events
 use Rattle.headline.specs.declared.event.Station.TheVariants as stations
-use Rattle.headline.specs.Worlds.{Setting, World, board_at, with_board}
+use Rattle.headline.specs.Configurations.{Setting, Configuration, board_at, with_board}
 use Rattle.headline.specs.Answers as answers
 use Rattle.headline.specs.BoardSteps.{board_told}
 use Rattle.live.specs.Boards as boards
@@ -27,11 +27,11 @@ pub same_board : (xs : List BoardState) (n : ℕ) (x : BoardState) → board_at 
 same_board xs zero x e = refl
 same_board xs (suc n) x e = same_item xs n x e
 
--- the world with this board so, once these messages were handed out
-abbrev pub with_it : {Disk : Type 0} → World Disk → ℕ → BoardState → List Message → World Disk
+-- the configuration with this board so, once these messages were handed out
+abbrev pub with_it : {Disk : Type 0} → Configuration Disk → ℕ → BoardState → List Message → Configuration Disk
 with_it v n l out = record v { boards = with_board v.boards n l; sent = v.sent ++ out }
 
-module _ {Disk : Type 0} (s : Setting Disk Refusal) (game innings : ℕ) (rules : s.rules ≡ book_refusal innings) (v : World Disk) (what : Happening Disk) where
+module _ {Disk : Type 0} (s : Setting Disk Refusal) (game innings : ℕ) (rules : s.rules ≡ book_refusal innings) (v : Configuration Disk) (what : Happening Disk) where
   received : (n : ℕ) (k l : BoardState) (bytes : List ℕ) (m : Message) (told : BoardAnswer) (out : List Message) → board_at v.boards n ≡ Some k → BoardCame game v.sent (boards.Given bytes (Ok Asked)) → Says game bytes m → BoardReceives (book_refusal innings) k m told l → out ≡ [] → Leads s (Fits what v) v (with_it v n l out)
   received n k l bytes m told out at came says got empty =
       let found = came m says in

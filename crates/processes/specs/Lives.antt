@@ -11,7 +11,7 @@ use Rattle.agree_core.specs.FileView.{FileView, Stays}
 use Rattle.agree_core.specs.Openings.{Creates, NotOpened, Opened, Opening, Opens}
 use Rattle.headline.specs.declared.version.FileVersion.{FileVersion}
 use Rattle.headline.specs.declared.version.FileVersion.TheVariants.{Old}
-use Rattle.headline.specs.Worlds.{Process, Running, Down, Site, disk_of, votes_of}
+use Rattle.headline.specs.Configurations.{Process, Running, Down, Node, process_disk, process_votes}
 use Rattle.headline.specs.DeskFaults as desk_faults
 use Rattle.headline.specs.Migrations as migrations
 use Rattle.live.specs.Boards as boards
@@ -44,16 +44,16 @@ after_calls (Running k) ms = Running ((λ (p : DeskProcess _). p.desk) (own.last
 after_calls (Down votes disk) ms = Down votes disk
 
 -- the desk after a stage
-abbrev pub after_stage : {Disk : Type 0} → Site Disk → Stage Disk → Site Disk
+abbrev pub after_stage : {Disk : Type 0} → Node Disk → Stage Disk → Node Disk
 after_stage x (Runs ms) = record x { process = after_calls x.process ms }
 after_stage x (CutOff call l) = record x { process = Running l }
-after_stage x (Ends disk) = record x { process = Down (votes_of x.process) disk }
-after_stage x (LosesPower disk) = record x { process = Down (votes_of x.process) disk }
-after_stage x (Begins opening) = record x { process = begun (votes_of x.process) opening }
+after_stage x (Ends disk) = record x { process = Down (process_votes x.process) disk }
+after_stage x (LosesPower disk) = record x { process = Down (process_votes x.process) disk }
+after_stage x (Begins opening) = record x { process = begun (process_votes x.process) opening }
 after_stage x (Migrates votes new) = migrated x new
 
 -- after these stages, the newest first
-abbrev pub after_life : {Disk : Type 0} → Site Disk → List (Stage Disk) → Site Disk
+abbrev pub after_life : {Disk : Type 0} → Node Disk → List (Stage Disk) → Node Disk
 after_life x [] = x
 after_life x (stage ∷ stages) = after_stage (after_life x stages) stage
 
@@ -90,14 +90,14 @@ module _
     {Disk : Type 0} (view : FileVersion → FileView Disk) (seen : Disk → List ℕ) (faults : Disk → Faults) (d : DeskId)
     (game innings : ℕ) where
   -- the stage may come next
-  abbrev pub ComesNext : Site Disk → Stage Disk → Type 0
+  abbrev pub ComesNext : Node Disk → Stage Disk → Type 0
   ComesNext x (Runs ms) =
       (k : DeskState Disk) × (x.process ≡ Running k) × RunsFrom (view x.version) faults game innings k ms
   ComesNext x (CutOff call l) =
       (k : DeskState Disk) × (x.process ≡ Running k) × (course_after call ≡ Err Device)
       × DeskStep (view x.version) game innings k call [] l
   ComesNext x (Ends disk) = (k : DeskState Disk) × (x.process ≡ Running k) × Stays (view x.version) k.disk disk
-  ComesNext x (LosesPower disk) = desk_faults.LosesPower (view x.version) (disk_of x.process) disk
+  ComesNext x (LosesPower disk) = desk_faults.LosesPower (view x.version) (process_disk x.process) disk
   ComesNext x (Begins opening) =
       (votes : List Ballot) × (disk : Disk) × (x.process ≡ Down votes disk)
       × BeginsOn (view x.version) seen innings d disk opening
@@ -105,7 +105,7 @@ module _
       (had : List Ballot) × (disk : Disk) × (x.process ≡ Down had disk) × (x.version ≡ Old)
       × migrations.Migrates view disk (migrations.ToNew votes new)
 
-  abbrev pub IsLife : Site Disk → List (Stage Disk) → Type 0
+  abbrev pub IsLife : Node Disk → List (Stage Disk) → Type 0
   IsLife x [] = Unit {0}
   IsLife x (stage ∷ stages) = IsLife x stages × ComesNext (after_life x stages) stage
 

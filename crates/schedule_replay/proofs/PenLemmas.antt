@@ -21,8 +21,7 @@ use Rattle.schedule_replay.specs.declared.seen.Seen.{Seen}
 use Rattle.schedule_replay.specs.declared.seen.Seen.TheVariants as seens
 use Rattle.schedule_replay.specs.declared.site.Site.{Site}
 use Rattle.schedule_replay.specs.declared.world_desk.WorldDesk.{WorldDesk}
-use Rattle.headline.specs.Worlds as worlds
-use Rattle.headline.specs.Worlds.{Running}
+use Rattle.headline.specs.Configurations.{Running, Node}
 use Rattle.headline.specs.DeskSteps.{AfterPen}
 use Rattle.headline.specs.Match.{match_of}
 use Rattle.schedule_replay.specs.Answers.{AreBytesOf, answer_of, told_to_pen}
@@ -38,7 +37,7 @@ abbrev pub PenBlame : WorldDesk → Result Penned DeskRefusal → WorldDesk → 
 PenBlame k told l = BlamesDisk refusals.Device (HasRoom k) told (faults_of (disk_of k)) (faults_of (disk_of l))
 
 -- after a pen that didn't fail at the device
-after_pen : (view : FileView MemDisk) (x : worlds.Site MemDisk) (told : PenAnswer Refusal) (l : DeskState MemDisk) → told ≢ PenAnswer.DeviceFailed → AfterPen view x told l (told_to_pen told) (record x { process = Running l })
+after_pen : (view : FileView MemDisk) (x : Node MemDisk) (told : PenAnswer Refusal) (l : DeskState MemDisk) → told ≢ PenAnswer.DeviceFailed → AfterPen view x told l (told_to_pen told) (record x { process = Running l })
 after_pen view x (PenAnswer.Penned settled) l n = (refl, refl)
 after_pen view x (PenAnswer.Refused why) l n = (refl, refl)
 after_pen view x PenAnswer.DeviceFailed l n = absurd (n refl)

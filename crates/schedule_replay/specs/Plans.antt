@@ -11,7 +11,7 @@ use Rattle.headline.specs.declared.event.Event.TheVariants as events
 use Rattle.headline.specs.declared.event.Station.TheVariants as stations
 use Rattle.headline.specs.declared.fault.Fault.{Fault}
 use Rattle.headline.specs.Events.{station_of}
-use Rattle.headline.specs.Worlds.{World, disk_of, site}
+use Rattle.headline.specs.Configurations.{Configuration, process_disk, node}
 
 -- what an event asks of its desk's disk: n - 1 calls pass, and then one fails, or each
 abbrev pub plan_by : Event → Option Plan
@@ -24,8 +24,8 @@ abbrev pub HasPlan : Event → Option MemDisk → Type 0
 HasPlan event disk = IfSome (plan_by event) (λ plan. option_map plan_of disk ≡ Some plan)
 
 -- so it is at the desk that the event is for
-abbrev pub PlansFault : Event → World MemDisk → Type 0
-PlansFault event w = (d : DeskId) → station_of event ≡ stations.Desk d → HasPlan event (Some (disk_of (site w d).process))
+abbrev pub PlansFault : Event → Configuration MemDisk → Type 0
+PlansFault event w = (d : DeskId) → station_of event ≡ stations.Desk d → HasPlan event (Some (process_disk (node w d).process))
 
 -- which call of a disk is to fail, by its number
 abbrev pub due_on : Option MemDisk → Option Due
@@ -36,7 +36,7 @@ abbrev pub StaysDue : Option Fault → Option MemDisk → Option MemDisk → Typ
 StaysDue due old new = (fault : Fault) → due ≡ Some fault → due_on new ≡ due_on old
 
 -- so it is at each desk after an event that asks for no fault
-abbrev pub CountsDown : Event → World MemDisk → World MemDisk → Type 0
+abbrev pub CountsDown : Event → Configuration MemDisk → Configuration MemDisk → Type 0
 CountsDown event w v =
     plan_by event ≡ None
-    → (d : DeskId) → StaysDue (site v d).due (Some (disk_of (site w d).process)) (Some (disk_of (site v d).process))
+    → (d : DeskId) → StaysDue (node v d).due (Some (process_disk (node w d).process)) (Some (process_disk (node v d).process))

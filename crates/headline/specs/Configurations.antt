@@ -1,4 +1,4 @@
--- Two desks with a file each, boards, and every message ever handed out.
+-- A configuration: two desks with a file each, boards, and every message ever handed out.
 use Rattle.std.specs.Prelude.{ℕ, zero, suc, Option, None, List, [], ◌∷◌, ◌++◌, slice_get, slice_set}
 use Rattle.agree_core.specs.declared.messages.DeskId.{DeskId}
 use Rattle.agree_core.specs.declared.messages.DeskId.TheVariants.{A, B}
@@ -22,38 +22,39 @@ pub data Process (Disk : Type 0) : Type 0 where
   Running : DeskState Disk → Process Disk
   Down : List Ballot → Disk → Process Disk
 
--- a desk's place in the world: the version of its file, what runs there, and the fault that is due on its disk
-pub record Site (Disk : Type 0) : Type 0 where
+-- a desk's node: the version of its file, what runs there, and the fault that is due on its disk
+pub record Node (Disk : Type 0) : Type 0 where
   pub version : FileVersion
   pub process : Process Disk
   pub due : Option Fault
 
-abbrev pub votes_of : {Disk : Type 0} → Process Disk → List Ballot
-votes_of (Running k) = k.votes
-votes_of (Down votes disk) = votes
+abbrev pub process_votes : {Disk : Type 0} → Process Disk → List Ballot
+process_votes (Running k) = k.votes
+process_votes (Down votes disk) = votes
 
-abbrev pub disk_of : {Disk : Type 0} → Process Disk → Disk
-disk_of (Running k) = k.disk
-disk_of (Down votes disk) = disk
+abbrev pub process_disk : {Disk : Type 0} → Process Disk → Disk
+process_disk (Running k) = k.disk
+process_disk (Down votes disk) = disk
 
 -- the same on this disk
 abbrev pub with_disk : {Disk : Type 0} → Process Disk → Disk → Process Disk
 with_disk (Running k) disk = Running (record k { disk = disk })
 with_disk (Down votes old) disk = Down votes disk
 
-pub record World (Disk : Type 0) : Type 0 where
-  pub a : Site Disk
-  pub b : Site Disk
+-- the nodes of desks A and B, the boards, and what was sent
+pub record Configuration (Disk : Type 0) : Type 0 where
+  pub a : Node Disk
+  pub b : Node Disk
   pub boards : List BoardState
   pub sent : List Message
 
-abbrev pub site : {Disk : Type 0} → World Disk → DeskId → Site Disk
-site w A = w.a
-site w B = w.b
+abbrev pub node : {Disk : Type 0} → Configuration Disk → DeskId → Node Disk
+node w A = w.a
+node w B = w.b
 
 -- the votes of both desks
-abbrev pub votes_in : {Disk : Type 0} → World Disk → AllVotes
-votes_in w = record { a = votes_of w.a.process; b = votes_of w.b.process }
+abbrev pub votes_in : {Disk : Type 0} → Configuration Disk → AllVotes
+votes_in w = record { a = process_votes w.a.process; b = process_votes w.b.process }
 
 -- the board of this number, from 1 on
 abbrev pub board_at : List BoardState → ℕ → Option BoardState
@@ -65,10 +66,10 @@ abbrev pub with_board : List BoardState → ℕ → BoardState → List BoardSta
 with_board boards zero k = boards
 with_board boards (suc n) k = slice_set boards n k
 
--- the world with this desk so, once these messages were handed out
-abbrev pub with_site : {Disk : Type 0} → World Disk → DeskId → Site Disk → List Message → World Disk
-with_site w A x out = record { a = x; b = w.b; boards = w.boards; sent = w.sent ++ out }
-with_site w B x out = record { a = w.a; b = x; boards = w.boards; sent = w.sent ++ out }
+-- the configuration with this node so, once these messages were handed out
+abbrev pub with_node : {Disk : Type 0} → Configuration Disk → DeskId → Node Disk → List Message → Configuration Disk
+with_node w A x out = record { a = x; b = w.b; boards = w.boards; sent = w.sent ++ out }
+with_node w B x out = record { a = w.a; b = x; boards = w.boards; sent = w.sent ++ out }
 
 abbrev pub fresh_boards : ℕ → List BoardState
 fresh_boards zero = []
