@@ -16,7 +16,7 @@ use Rattle.headline.specs.DeskFaults as desk_faults
 use Rattle.headline.specs.Migrations as migrations
 use Rattle.live.specs.Boards as boards
 use Rattle.live.specs.Boards.{BoardCall, BoardTurn, board_kind}
-use Rattle.live.specs.Desks.{DeskCall, DeskProcess, DeskStep, HasRoom, course_after, desk_kind}
+use Rattle.live.specs.Desks.{DeskCall, DeskProcess, DeskStep, FitsLongest, course_after, desk_kind}
 use Rattle.live.specs.Ends.{further}
 use Rattle.live.specs.Runs as own
 use Rattle.live.specs.declared.ends.DeskEnd.TheVariants.{Device}
@@ -82,7 +82,7 @@ abbrev pub RunsFrom :
     → DeskState Disk → List (own.Moment (DeskProcess Disk) DeskCall) → Type 0
 RunsFrom view faults game innings k ms =
     (sheet : Sheet) × (room : ℕ → ℕ) × (cap : ℕ)
-    × own.Run (desk_kind sheet view (record { faults = faults; HasRoom = HasRoom room cap }) game innings) (fresh k) ms
+    × own.Run (desk_kind sheet view (record { faults = faults; FitsLongest = FitsLongest room cap }) game innings) (fresh k) ms
 
 -- the desk of this letter in a match of this number and innings a side, where this is what a disk shows of a file of
 -- each version, what a read gives, and what is told of its failures

@@ -8,7 +8,7 @@ use Rattle.schedule_replay.specs.declared.seen.Seen.{Seen}
 use Rattle.schedule_replay.specs.declared.seen.WorldRefusal.{WorldRefusal}
 use Rattle.headline.specs.declared.version.FileVersion.{FileVersion}
 use Rattle.schedule_replay.specs.declared.world.World.{World}
-use Rattle.schedule_replay.specs.CodeWorlds.{BeginsWorld, HasConfiguration, RefusesTo, SameMatch, StepsTo}
+use Rattle.schedule_replay.specs.CodeWorlds.{BeginsWorld, HasConfiguration, RefusesTo, KeepsMatch, StepsTo}
 use Rattle.schedule_replay.specs.Replays.{IsRunOf, MatchRun}
 use Rattle.headline.specs.Runs.{last_of}
 use Rattle.schedule_replay.specs.SeenWords.{refusal_number}
@@ -29,7 +29,7 @@ module _ (s : Sheet) (version : FileVersion) (boards : ℕ) (events : List Event
       let b = begins_at s.game s.innings version boards events world h in
       record { w = b.0; ms = []; at = subst (λ (o : List Seen). IsAt s.game s.innings version boards events 0 world o b.0 []) (sym none) b.1 }
 
-  pub steps : (number : ℕ) (event : Event) (world new : World) (outcomes : List Seen) (seen : Seen) → number < length events → event ≡ slice_index_or events number event → IsStepping number world outcomes → StepsTo event world seen new → SameMatch world new → IsStepping (number + 1) new (outcomes ++ seen ∷ [])
+  pub steps : (number : ℕ) (event : Event) (world new : World) (outcomes : List Seen) (seen : Seen) → number < length events → event ≡ slice_index_or events number event → IsStepping number world outcomes → StepsTo event world seen new → KeepsMatch world new → IsStepping (number + 1) new (outcomes ++ seen ∷ [])
   steps number event world new outcomes seen less here h taken same =
       let n = steps_on s.game s.innings version boards events number event world new outcomes seen h.w h.ms less here h.at taken same in
       record { w = h.w; ms = n.0 ∷ h.ms; at = n.1 }

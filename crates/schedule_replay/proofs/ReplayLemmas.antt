@@ -29,7 +29,7 @@ use Rattle.headline.specs.Runs.{AtEachMoment, AtSomeMoment, Begins, Moment, Run,
 use Rattle.headline.specs.Match.{match_of}
 use Rattle.schedule_replay.specs.Answers.{answer_of}
 use Rattle.schedule_replay.specs.Refusals.{RefusesEvent}
-use Rattle.schedule_replay.specs.CodeWorlds.{BeginsWorld, IsNew, boards_of, version_of, HasConfiguration, RefusesTo, SameMatch, StepsTo}
+use Rattle.schedule_replay.specs.CodeWorlds.{BeginsWorld, IsNew, boards_of, version_of, HasConfiguration, RefusesTo, KeepsMatch, StepsTo}
 use Rattle.headline.specs.Headline.{ShowsScore}
 use Rattle.schedule_replay.specs.Replays.{AreSeen, EndsAt, EndsOrNeverBegins, IsReplay, IsRunOf, MatchRun, ShowScores, StandOnce}
 use Rattle.schedule_replay.specs.inner.RunsSoFar.{HasTaken, IsAt}
@@ -159,7 +159,7 @@ module _ (game innings : ℕ) (version : FileVersion) (boards : ℕ) (events : L
   of_world world w after event answer e f p = subst (λ (n : ℕ). Step (match_of game n) w event answer after) f (subst (λ (n : ℕ). Step (match_of n world.innings_a_side) w event answer after) e p)
 
   -- one event more
-  pub steps_on : (number : ℕ) (event : Event) (world new : World) (outcomes : List Seen) (seen : Seen) (w : Configuration MemDisk) (ms : MatchRun) → number < length events → event ≡ slice_index_or events number event → IsAt game innings version boards events number world outcomes w ms → StepsTo event world seen new → SameMatch world new → (m : Moment MemDisk Refusal) × IsAt game innings version boards events (number + 1) new (outcomes ++ seen ∷ []) w (m ∷ ms)
+  pub steps_on : (number : ℕ) (event : Event) (world new : World) (outcomes : List Seen) (seen : Seen) (w : Configuration MemDisk) (ms : MatchRun) → number < length events → event ≡ slice_index_or events number event → IsAt game innings version boards events number world outcomes w ms → StepsTo event world seen new → KeepsMatch world new → (m : Moment MemDisk Refusal) × IsAt game innings version boards events (number + 1) new (outcomes ++ seen ∷ []) w (m ∷ ms)
   steps_on number event world new outcomes seen w ms less here at steps same =
       let run = at.run in
       let s = (steps (last_of w ms) at.has_configuration).1 in
@@ -175,7 +175,7 @@ module _ (game innings : ℕ) (version : FileVersion) (boards : ℕ) (events : L
         record { run = record { begins = run.begins; run = (run.run, step); over = over; answered = answered; planned = (run.planned, s.5); counted = (run.counted, s.6) }; has_configuration = s.4; same_game = same.same_game ∙ at.same_game; same_innings = same.same_innings ∙ at.same_innings },
       )
 
-  pub goes_on : (number : ℕ) (event : Event) (world new : World) (outcomes : List Seen) (seen : Seen) (shown : List Shown) → number < length events → event ≡ slice_index_or events number event → IsAfter game innings version boards events number world outcomes shown → StepsTo event world seen new → SameMatch world new → IsNext game innings version boards events (number + 1) new (outcomes ++ seen ∷ []) shown
+  pub goes_on : (number : ℕ) (event : Event) (world new : World) (outcomes : List Seen) (seen : Seen) (shown : List Shown) → number < length events → event ≡ slice_index_or events number event → IsAfter game innings version boards events number world outcomes shown → StepsTo event world seen new → KeepsMatch world new → IsNext game innings version boards events (number + 1) new (outcomes ++ seen ∷ []) shown
   goes_on number event world new outcomes seen shown less here h steps same =
       let p = h.at in
       let n = steps_on number event world new outcomes seen p.0 p.1 less here p.2 steps same in
@@ -195,7 +195,7 @@ module _ (game innings : ℕ) (version : FileVersion) (boards : ℕ) (events : L
   pub has_taken : (number : ℕ) (world : World) (outcomes : List Seen) (shown : List Shown) → IsAfter game innings version boards events number world outcomes shown → HasTaken game innings version boards events number world
   has_taken number world outcomes shown h = let p = h.at in (outcomes, p.0, p.1, p.2)
 
-  pub takes_on : (number : ℕ) (event : Event) (world new : World) (seen : Seen) → number < length events → event ≡ slice_index_or events number event → HasTaken game innings version boards events number world → StepsTo event world seen new → SameMatch world new → HasTaken game innings version boards events (number + 1) new
+  pub takes_on : (number : ℕ) (event : Event) (world new : World) (seen : Seen) → number < length events → event ≡ slice_index_or events number event → HasTaken game innings version boards events number world → StepsTo event world seen new → KeepsMatch world new → HasTaken game innings version boards events (number + 1) new
   takes_on number event world new seen less here h steps same =
       let n = steps_on number event world new h.0 seen h.1 h.2 less here h.3 steps same in
       (h.0 ++ seen ∷ [], h.1, n.0 ∷ h.2, n.1)

@@ -71,7 +71,7 @@ pub record HasConfiguration (code : World) (w : Configuration MemDisk) : Type 0 
   pub bytes : AreBytesOf code.game code.sent.items w.sent
 
 -- it is a world of the same match
-pub record SameMatch (old new : World) : Type 0 where
+pub record KeepsMatch (old new : World) : Type 0 where
   pub same_game : new.game ≡ old.game
   pub same_innings : new.innings_a_side ≡ old.innings_a_side
 

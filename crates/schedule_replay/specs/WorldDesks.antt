@@ -73,8 +73,8 @@ pub record SameOwner (old new : WorldDesk) : Type 0 where
   pub cap : cap_of (disk_of new) ≡ cap_of (disk_of old)
 
 -- of its file there is room for one vote more
-abbrev pub HasRoom : WorldDesk → Type 0
-HasRoom k = room (format_of (version_of k)) (length ((λ (s : DeskState MemDisk). s.votes) (state_of k)) + 1) ≤ cap_of (disk_of k)
+abbrev pub FitsOneMore : WorldDesk → Type 0
+FitsOneMore k = room (format_of (version_of k)) (length ((λ (s : DeskState MemDisk). s.votes) (state_of k)) + 1) ≤ cap_of (disk_of k)
 
 -- what comes of opening a file
 abbrev pub opening : Result WorldDesk (OpenRefusal × MemDisk) → Opening MemDisk
