@@ -27,7 +27,7 @@ use Rattle.headline.specs.declared.fault.Fault.{Fault}
 use Rattle.headline.specs.declared.version.FileVersion.{FileVersion}
 use Rattle.headline.specs.declared.version.FileVersion.TheVariants.{Old, New}
 use Rattle.headline.specs.Events.{station_of}
-use Rattle.headline.specs.Configurations.{Process, Running, Down, Setting, Node, Configuration, board_at, process_disk, node, votes_in, process_votes, with_disk, with_node}
+use Rattle.headline.specs.Configurations.{Setting, Process, Running, Down, Node, Configuration, board_at, node, process_disk, process_votes, votes_in, with_disk, with_node}
 use Rattle.headline.specs.Answers.{Answer}
 use Rattle.headline.specs.DeskFaults.{Breaks, FallsDue, StaysDownBy}
 use Rattle.headline.specs.Migrations.{AfterMigration, Failed, MigratesAt, Migration, NotSound, ToNew}

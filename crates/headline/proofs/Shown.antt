@@ -14,7 +14,7 @@ use Rattle.agree_core.proofs.Settling.{agreed_begins, one_book, one_vote_each, p
 use Rattle.headline.specs.declared.event.Station.{Station}
 use Rattle.headline.specs.declared.event.Station.TheVariants as stations
 use Rattle.headline.specs.declared.version.FileVersion.{FileVersion}
-use Rattle.headline.specs.Configurations.{Process, Running, Down, Setting, Configuration, board_at, process_disk, node, votes_in, process_votes}
+use Rattle.headline.specs.Configurations.{Setting, Process, Running, Down, Configuration, board_at, node, process_disk, process_votes, votes_in}
 use Rattle.headline.specs.Runs.{AtEachMoment, AtSomeMoment, Moment, Run, Shows, last_of, process_shows}
 use Rattle.headline.specs.Noted.{kept_by_process, kept_by_seat}
 use Rattle.headline.specs.Headline.{ArePrefixes, AtEachEvent, ByBoth, KeepsVotes, KeptSafe, NoneKeepsBoth, StandsFast, WithinAgreed}

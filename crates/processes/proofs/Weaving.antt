@@ -10,7 +10,7 @@ use Rattle.agree_core.specs.Boards.{BoardState, fresh_board}
 use Rattle.agree_core.specs.declared.messages.Message.{Message}
 use Rattle.agree_core.specs.FileView.{FileView}
 use Rattle.headline.specs.declared.version.FileVersion.{FileVersion}
-use Rattle.headline.specs.Configurations.{Process, Node, Configuration, board_at, process_disk, node, with_board, with_node}
+use Rattle.headline.specs.Configurations.{Process, Node, Configuration, board_at, node, process_disk, with_board, with_node}
 use Rattle.processes.specs.Happenings.{BoardBegun, BoardCalled, DeskBegun, DeskCalled, DeskEnded, FileMigrated, Flow, Happening, Happens, PowerLost, after, after_one}
 use Rattle.processes.specs.Weaving.{Came, NothingComesEarly, is_at_board, is_at_desk}
 use Rattle.processes.proofs.BoardLives.{BoardLocal, MayBoard, board_after, next_board}

@@ -28,7 +28,7 @@ use Rattle.headline.specs.declared.version.FileVersion.{FileVersion}
 use Rattle.headline.specs.Headline.{StandsFast}
 use Rattle.headline.specs.Match.{setting_of}
 use Rattle.headline.specs.Runs.{Begins}
-use Rattle.headline.specs.Configurations.{Configuration, process_disk, node}
+use Rattle.headline.specs.Configurations.{Configuration, node, process_disk}
 
 -- a desk that begins first is as one that was created
 first : {Disk : Type 0} (view : FileView Disk) (seen : Disk → List ℕ) (innings : ℕ) (d : DeskId) (k : DeskState Disk) → BeginsFirst view seen innings d k → Creates view d k

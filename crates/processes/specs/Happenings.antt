@@ -11,7 +11,7 @@ use Rattle.agree_core.specs.Openings.{Opening, Opened, NotOpened, Opens}
 use Rattle.wire.specs.Layout.{Says}
 use Rattle.headline.specs.declared.version.FileVersion.{FileVersion}
 use Rattle.headline.specs.declared.version.FileVersion.TheVariants.{Old, New}
-use Rattle.headline.specs.Configurations.{Process, Running, Down, Node, Configuration, board_at, process_disk, node, process_votes, with_board, with_node}
+use Rattle.headline.specs.Configurations.{Process, Running, Down, Node, Configuration, board_at, node, process_disk, process_votes, with_board, with_node}
 use Rattle.headline.specs.DeskFaults.{LosesPower}
 use Rattle.headline.specs.Migrations.{Migrates, ToNew}
 use Rattle.live.specs.Boards as boards

@@ -9,7 +9,7 @@ use Rattle.agree_core.specs.declared.messages.Message.{Message}
 use Rattle.agree_core.specs.Boards.{BoardState}
 use Rattle.agree_core.specs.Desks.{DeskState}
 use Rattle.headline.specs.declared.version.FileVersion.{FileVersion}
-use Rattle.headline.specs.Configurations.{Running, Setting, Configuration, board_at, node, with_board}
+use Rattle.headline.specs.Configurations.{Setting, Running, Configuration, board_at, node, with_board}
 use Rattle.headline.specs.Runs.{Begins, Moment, Run, last_of}
 use Rattle.headline.specs.Laws.{HoldsInRun}
 use Rattle.headline.specs.Match.{setting_of}

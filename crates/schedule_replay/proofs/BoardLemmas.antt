@@ -36,7 +36,7 @@ use Rattle.schedule_replay.specs.declared.site.Site.{Site}
 use Rattle.headline.specs.declared.version.FileVersion.{FileVersion}
 use Rattle.schedule_replay.specs.declared.world_desk.WorldDesk.{WorldDesk}
 use Rattle.schedule_replay.specs.declared.world.World.{World}
-use Rattle.headline.specs.Configurations.{board_at, fresh_boards, with_board, Running, Node, Configuration, process_disk, node}
+use Rattle.headline.specs.Configurations.{Running, Node, Configuration, board_at, fresh_boards, node, process_disk, with_board}
 use Rattle.headline.specs.Events.{station_of}
 use Rattle.headline.specs.Answers.{Answer}
 use Rattle.headline.specs.BoardSteps.{AtBoard, board_told}

@@ -1,5 +1,6 @@
 -- A tick, an end, a fault and an opening at a site are steps of the definitions there.
 use Rattle.std.proofs.Common.{◌≡◌, ℕ, suc, Option, Some, None, List, [], ◌∷◌, ◌++◌, length, map, refl, sym, ap, ◌∙◌, subst}
+use Rattle.std.specs.Prelude.{option_map}
 use Rattle.std.specs.Option.{is_none, is_some}
 use Rattle.entry_log.specs.Disk.{Images, IsImage, only}
 use Rattle.entry_log.specs.Format.{contents}
@@ -30,7 +31,7 @@ use Rattle.headline.specs.Answers.{Answer}
 use Rattle.headline.specs.DeskFaults.{LosesPower, StaysDown}
 use Rattle.headline.specs.Match.{format_of, match_of, most_bytes}
 use Rattle.schedule_replay.specs.Answers.{AreBytesOf}
-use Rattle.schedule_replay.specs.inner.Sites.{IsDue, IsProcess, HasNode, IsWorldDisk, PutsDown, SiteSteps}
+use Rattle.schedule_replay.specs.inner.Sites.{HasNode, IsDue, IsProcess, IsWorldDisk, PutsDown, SiteSteps, disk_at}
 use Rattle.schedule_replay.specs.WorldDesks.{SameOwner, disk_of, game_of, state_of}
 use Rattle.schedule_replay.proofs.SiteLemmas.{HasDisk, down_is, has_disk, more_bytes, no_bytes, put_down_is, running_is, runs_again, sets_plan_stays}
 
@@ -78,6 +79,13 @@ kills old new k sent here put x messages h b =
       record { version = h.version ∙ sym put.version; process = down.3; due = sym put.due },
       no_bytes old.game sent messages b,
     )
+
+-- no call of its disk is to fail then
+pub put_down_plan : (old new : Site) → PutsDown old new → option_map plan_of (disk_at new.desk new.disk) ≡ Some Calm
+put_down_plan old new put = (λ i. option_map plan_of (disk_at (put.desk i) (put.disk.3 i))) ∙ ap Some put.disk.4.plan
+
+pub left_plan : (mid : Site) (left : MemDisk) → mid.desk ≡ None → plan_of left ≡ Calm → option_map plan_of (disk_at mid.desk (Some left)) ≡ Some Calm
+left_plan mid left down calm = ap (λ (o : Option WorldDesk). option_map plan_of (disk_at o (Some left))) down ∙ ap Some calm
 
 -- what a power loss leaves
 pub record IsLeft (choice : Choice) (old new : MemDisk) : Type 0 where

@@ -34,7 +34,7 @@ use Rattle.schedule_replay.specs.declared.seen.WorldRefusal.TheVariants as refus
 use Rattle.schedule_replay.specs.declared.site.Site.{Site}
 use Rattle.headline.specs.declared.version.FileVersion.{FileVersion}
 use Rattle.schedule_replay.specs.declared.world_desk.WorldDesk.{WorldDesk}
-use Rattle.headline.specs.Configurations.{Process, Running, Down, Setting, Node, process_disk, with_disk}
+use Rattle.headline.specs.Configurations.{Setting, Process, Running, Down, Node, process_disk, with_disk}
 use Rattle.headline.specs.Answers.{Answer}
 use Rattle.headline.specs.DeskFaults.{StaysDown}
 use Rattle.headline.specs.Match.{match_of}

@@ -10,7 +10,7 @@ use Rattle.agree_core.specs.Books.{book_of}
 use Rattle.vote_store.specs.View.{votes_shown}
 use Rattle.schedule_replay.specs.declared.site.Site.{Site}
 use Rattle.schedule_replay.specs.declared.world.World.{World}
-use Rattle.headline.specs.Configurations.{Node, Configuration, process_disk, node, votes_in, process_votes}
+use Rattle.headline.specs.Configurations.{Node, Configuration, node, process_disk, process_votes, votes_in}
 use Rattle.headline.specs.Match.{format_of, match_of}
 use Rattle.schedule_replay.specs.inner.Sites.{HasNode, PutsDown}
 use Rattle.schedule_replay.specs.CodeWorlds.{HasConfiguration, code_site}

@@ -20,7 +20,7 @@ use Rattle.schedule_replay.specs.declared.seen.WorldRefusal.{WorldRefusal}
 use Rattle.schedule_replay.specs.declared.site.Site.{Site}
 use Rattle.schedule_replay.specs.declared.world.World.{World}
 use Rattle.schedule_replay.specs.declared.world_desk.WorldDesk.{WorldDesk}
-use Rattle.headline.specs.Configurations.{Process, Node, Configuration, process_disk, node, with_disk, with_node}
+use Rattle.headline.specs.Configurations.{Process, Node, Configuration, node, process_disk, with_disk, with_node}
 use Rattle.headline.specs.Events.{station_of}
 use Rattle.headline.specs.Answers.{Answer}
 use Rattle.headline.specs.DeskSteps.{AtDesk}
@@ -28,7 +28,7 @@ use Rattle.headline.specs.Steps.{StepAt}
 use Rattle.schedule_replay.specs.Refusals.{LeftByWant, RefusesEvent, down_at, first_cause, is_down, no_station, refusal_of}
 use Rattle.headline.specs.Match.{match_of}
 use Rattle.schedule_replay.specs.Answers.{AreBytesOf, answer_of}
-use Rattle.schedule_replay.specs.Plans.{HasPlan, PlansFault, StaysDue, due_on, plan_by}
+use Rattle.schedule_replay.specs.Plans.{HasPlan, LeavesPlan, StaysDue, asks_fault, due_on}
 use Rattle.schedule_replay.specs.inner.Sites.{IsProcess, HasNode, KeepsDue, SiteLeft, SiteSteps, SiteTakes, SyncsSite, disk_at, site_cause}
 use Rattle.schedule_replay.specs.inner.Sites as sites
 use Rattle.schedule_replay.specs.CodeWorlds.{IsBoardOf, IsSiteOf, HasConfiguration, RefusesTo, StepsTo, board_state, code_site}
@@ -134,7 +134,7 @@ desk_eq : (c d : DeskId) → stations.Desk c ≡ stations.Desk d → d ≡ c
 desk_eq c d q = cc
 
 -- what the site plans is planned in the world
-plans : (d : DeskId) (w : Configuration MemDisk) (site : Site) (y : Node MemDisk) (out : List Message) (event : Event) → station_of event ≡ stations.Desk d → HasNode site y → HasPlan event (disk_at site.desk site.disk) → PlansFault event (with_node w d y out)
+plans : (d : DeskId) (w : Configuration MemDisk) (site : Site) (y : Node MemDisk) (out : List Message) (event : Event) → station_of event ≡ stations.Desk d → HasNode site y → HasPlan event (disk_at site.desk site.disk) → LeavesPlan event (with_node w d y out)
 plans d w site y out event e i h c q =
     let has : HasDisk site y.process = has_disk site site.desk site.disk y.process refl refl i.process in
     let here : node (with_node w d y out) c ≡ y = ap (node (with_node w d y out)) (desk_eq d c (sym e ∙ q)) ∙ changed d in
@@ -158,7 +158,7 @@ counts B w y out h A = λ fault due. refl
 counts B w y out h B = h
 
 -- an event that a site has taken
-pub desk_steps : (d : DeskId) (old new : World) (site : Site) (event : Event) (seen : Seen) → station_of event ≡ stations.Desk d → Changes d old new site → SiteTakes event (code_site old d) old.sent.items (Ok seen) site new.sent.items → HasPlan event (disk_at site.desk site.disk) → (plan_by event ≡ None → KeepsDue (code_site old d) site) → StepsTo event old seen new
+pub desk_steps : (d : DeskId) (old new : World) (site : Site) (event : Event) (seen : Seen) → station_of event ≡ stations.Desk d → Changes d old new site → SiteTakes event (code_site old d) old.sent.items (Ok seen) site new.sent.items → HasPlan event (disk_at site.desk site.disk) → (asks_fault event ≡ false → KeepsDue (code_site old d) site) → StepsTo event old seen new
 desk_steps d old new site event seen e c takes planned counted w h =
     let names = h.named d in
     let here = code_site old d in
@@ -203,7 +203,7 @@ desk_refuses d old new site event why e c (items, inr (none, want, grows, l)) w 
     let k = left d old new site event w e c l items h in
     (k.0, inr (cause_is d old w event e h ∙ none, want, grows, k.1), k.2)
 
-pub at_desk_ok : (d : DeskId) (old new : World) (site : Site) (event : Event) (result : Result Seen WorldRefusal) → station_of event ≡ stations.Desk d → Changes d old new site → SiteTakes event (code_site old d) old.sent.items result site new.sent.items → OnOk result (HasPlan event (disk_at site.desk site.disk)) → OnOk result (plan_by event ≡ None → KeepsDue (code_site old d) site) → IfOk result (λ seen. StepsTo event old seen new)
+pub at_desk_ok : (d : DeskId) (old new : World) (site : Site) (event : Event) (result : Result Seen WorldRefusal) → station_of event ≡ stations.Desk d → Changes d old new site → SiteTakes event (code_site old d) old.sent.items result site new.sent.items → OnOk result (HasPlan event (disk_at site.desk site.disk)) → OnOk result (asks_fault event ≡ false → KeepsDue (code_site old d) site) → IfOk result (λ seen. StepsTo event old seen new)
 at_desk_ok d old new site event (Ok seen) e c t planned counted = desk_steps d old new site event seen e c t planned counted
 at_desk_ok d old new site event (Err why) e c t planned counted = tt
 

@@ -26,7 +26,7 @@ use Rattle.headline.specs.Runs.{Begins}
 use Rattle.schedule_replay.specs.Refusals.{RefusesEvent, refusal_of}
 use Rattle.headline.specs.Match.{match_of}
 use Rattle.schedule_replay.specs.Answers.{AreBytesOf, answer_of, given_seen}
-use Rattle.schedule_replay.specs.Plans.{CountsDown, PlansFault}
+use Rattle.schedule_replay.specs.Plans.{CountsDown, LeavesPlan}
 use Rattle.schedule_replay.specs.inner.Sites.{HasNode}
 
 abbrev pub code_site : World → DeskId → Site
@@ -98,14 +98,14 @@ pub record BeginsWorld (game innings : ℕ) (version : FileVersion) (boards : �
   pub same_boards : boards_of world ≡ boards
 
 -- the event is taken: it is a step of the definitions, this is what is seen of its answer, a fault that it asks for
--- is planned, and one that was due before is counted down
+-- is planned, none is after a kill or a power loss, and one that was due before is counted down
 abbrev pub StepsTo : Event → World → Seen → World → Type 0
 StepsTo event old seen new =
     (w : Configuration MemDisk) → HasConfiguration old w
     → (refusal_of w event ≡ None)
     × ((answer : Answer Refusal) × (after : Configuration MemDisk) × (answer_of seen ≡ Some answer)
     × Step (match_of old.game old.innings_a_side) w event answer after × HasConfiguration new after
-    × PlansFault event after × CountsDown event w after)
+    × LeavesPlan event after × CountsDown event w after)
 
 -- the event isn't taken
 abbrev pub RefusesTo : Event → World → WorldRefusal → World → Type 0

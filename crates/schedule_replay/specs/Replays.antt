@@ -19,7 +19,7 @@ use Rattle.headline.specs.Runs.{AtEachMoment, AtSomeMoment, Begins, Moment, Run,
 use Rattle.headline.specs.Headline.{AtEachEvent, ShowsScore}
 use Rattle.schedule_replay.specs.Refusals.{RefusesEvent}
 use Rattle.headline.specs.Match.{match_of}
-use Rattle.schedule_replay.specs.Plans.{CountsDown, PlansFault}
+use Rattle.schedule_replay.specs.Plans.{CountsDown, LeavesPlan}
 use Rattle.schedule_replay.specs.Answers.{answer_of}
 
 -- a run of a match on disks in memory
@@ -39,7 +39,7 @@ ShowScores innings v =
     (t : Station) (book : List Entry) → Shows v t book → (score : Standing) × ShowsScore innings v t (length book) score
 
 -- a run of the match over these events, whose answers are seen so, and in which each fault is planned that is asked
--- for, and then counted down
+-- for, and then counted down, and none stays planned after a kill or a power loss
 pub record IsRunOf
     (game innings : ℕ) (version : FileVersion) (boards : ℕ) (events : List Event) (outcomes : List Seen)
     (w : Configuration MemDisk) (ms : MatchRun) : Type 0 where
@@ -47,7 +47,7 @@ pub record IsRunOf
   pub run : Run (match_of game innings) w ms
   pub over : events_of ms ≡ events
   pub answered : map answer_of outcomes ≡ map Some (answers_of ms)
-  pub planned : AtEachEvent w ms (λ v m. PlansFault m.event m.after)
+  pub planned : AtEachEvent w ms (λ v m. LeavesPlan m.event m.after)
   pub counted : AtEachEvent w ms (λ v m. CountsDown m.event v m.after)
 
 -- event k, counted from 1, isn't taken after such a run over those before it

@@ -5,7 +5,7 @@ ghost use Rattle.agree_core.specs.Books.{IsAgreedByFiles};
 ghost use Rattle.schedule_replay.specs.CodeWorlds.{HasConfiguration};
 ghost use Rattle.schedule_replay.specs.inner.ShownScores.{HaveScores, IsKept, IsNotable, Notes};
 ghost use Rattle.schedule_replay.specs.inner.VotesFiles.{FilesRead};
-ghost use Rattle.headline.specs.Configurations.{votes_in, Configuration};
+ghost use Rattle.headline.specs.Configurations.{Configuration, votes_in};
 ghost use Rattle.entry_log.specs.declared.mem_disk.MemDisk.{MemDisk};
 
 use crate::shown_scores::ShownScores;
