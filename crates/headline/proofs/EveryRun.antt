@@ -2,7 +2,8 @@
 use Rattle.std.proofs.Common.{ℕ, List}
 use Rattle.agree_core.proofs.FileBooks.{agreed_by_files}
 use Rattle.headline.specs.declared.version.FileVersion.{FileVersion}
-use Rattle.headline.specs.Configurations.{Setting, Configuration, votes_in}
+use Rattle.headline.specs.Match.{Setting}
+use Rattle.headline.specs.Configurations.{Configuration, votes_in}
 use Rattle.headline.specs.Runs.{Begins, Moment, Run, last_of}
 use Rattle.headline.specs.Noted.{KeepsNoted}
 use Rattle.headline.specs.Headline.{ByBoth, Headline, NoneWaits, StandsFast, TakesSecond}

@@ -10,7 +10,8 @@ use Rattle.headline.specs.declared.event.Station.{Station}
 use Rattle.headline.specs.declared.event.Station.TheVariants as stations
 use Rattle.headline.specs.declared.version.FileVersion.{FileVersion}
 use Rattle.headline.specs.Events.{station_of}
-use Rattle.headline.specs.Configurations.{Setting, Node, Configuration, board_at, fresh_boards, node, with_board, with_node}
+use Rattle.headline.specs.Match.{Setting}
+use Rattle.headline.specs.Configurations.{Node, Configuration, board_at, fresh_boards, node, with_board, with_node}
 use Rattle.headline.specs.Steps.{StepAt}
 use Rattle.headline.specs.Runs.{Begins, BeginsAt, Moment, Run, last_of}
 use Rattle.headline.specs.Noted.{KeepsNoted, kept_at, kept_by_process}

@@ -13,7 +13,8 @@ use Rattle.headline.specs.declared.event.Event.{Event}
 use Rattle.headline.specs.declared.event.Event.TheVariants as events
 use Rattle.headline.specs.declared.event.Station.{Station}
 use Rattle.headline.specs.declared.event.Station.TheVariants as stations
-use Rattle.headline.specs.Configurations.{Setting, Configuration}
+use Rattle.headline.specs.Match.{Setting}
+use Rattle.headline.specs.Configurations.{Configuration}
 use Rattle.headline.specs.Runs.{Moment, last_of}
 use Rattle.headline.specs.Noted.{Brings, HasNoted, IsBrought, IsFound, beginning_of, kept_at, position_at}
 

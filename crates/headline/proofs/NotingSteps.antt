@@ -9,7 +9,7 @@ use Rattle.agree_core.specs.declared.messages.Vote.{Vote}
 use Rattle.agree_core.specs.declared.position.Position.{Position}
 use Rattle.agree_core.specs.declared.seat.Heard.{Heard}
 use Rattle.agree_core.specs.declared.seat.Settled.{Settled}
-use Rattle.agree_core.specs.Ballots.{Ballot, ballot_of, vote_of, votes_of}
+use Rattle.agree_core.specs.Ballots.{Ballot, vote_of, votes_of}
 use Rattle.agree_core.specs.Boards.{BoardAnswer, BoardReceives, BoardState, fresh_board}
 use Rattle.agree_core.specs.Books.{seat_of}
 use Rattle.agree_core.specs.Desks.{DeskState, PenAnswer, Pens, ReceiveAnswer, Receives}
@@ -27,7 +27,8 @@ use Rattle.headline.specs.declared.fault.Fault.{Fault}
 use Rattle.headline.specs.declared.version.FileVersion.{FileVersion}
 use Rattle.headline.specs.declared.version.FileVersion.TheVariants.{Old, New}
 use Rattle.headline.specs.Events.{station_of}
-use Rattle.headline.specs.Configurations.{Setting, Process, Running, Down, Node, Configuration, board_at, node, process_disk, process_votes, votes_in, with_disk, with_node}
+use Rattle.headline.specs.Match.{Setting}
+use Rattle.headline.specs.Configurations.{Process, Running, Down, Node, Configuration, board_at, node, process_disk, process_votes, votes_in, with_disk, with_node}
 use Rattle.headline.specs.Answers.{Answer}
 use Rattle.headline.specs.DeskFaults.{Breaks, FallsDue, StaysDownBy}
 use Rattle.headline.specs.Migrations.{AfterMigration, Failed, MigratesAt, Migration, NotSound, ToNew}

@@ -8,7 +8,8 @@ use Rattle.corrections.specs.CleanList.{history_of}
 use Rattle.agree_core.specs.Agreed.{BeginsWith}
 use Rattle.agree_core.proofs.Settling.{one_book}
 use Rattle.headline.specs.declared.version.FileVersion.{FileVersion}
-use Rattle.headline.specs.Configurations.{Setting, Configuration, votes_in}
+use Rattle.headline.specs.Match.{Setting}
+use Rattle.headline.specs.Configurations.{Configuration, votes_in}
 use Rattle.headline.specs.Runs.{Begins, Moment, Run, last_of}
 use Rattle.headline.specs.Headline.{HaveOneScore, ShowsScore}
 use Rattle.headline.proofs.Keeping.{all_justified, begins_fine, run_keeps}

@@ -5,7 +5,7 @@ use Rattle.agree_core.specs.declared.messages.DeskId.{DeskId}
 use Rattle.agree_core.specs.declared.messages.DeskId.TheVariants.{A, B}
 use Rattle.agree_core.specs.declared.messages.Message.{Message}
 use Rattle.agree_core.specs.Agreed.{AllSettled, EqualVotes}
-use Rattle.agree_core.specs.Ballots.{AllVotes, Ballot, In, VotesGrow, Within, votes_of}
+use Rattle.agree_core.specs.Ballots.{Ballot, Within, votes_of}
 use Rattle.agree_core.specs.Boards.{BoardState}
 use Rattle.agree_core.specs.Readers.{noted_of, other, ReaderWaits}
 use Rattle.agree_core.specs.Seats.{SeatState, SeatWaits}
@@ -14,7 +14,8 @@ use Rattle.agree_core.proofs.Settling.{agreed_begins, one_book, one_vote_each, p
 use Rattle.headline.specs.declared.event.Station.{Station}
 use Rattle.headline.specs.declared.event.Station.TheVariants as stations
 use Rattle.headline.specs.declared.version.FileVersion.{FileVersion}
-use Rattle.headline.specs.Configurations.{Setting, Process, Running, Down, Configuration, board_at, node, process_disk, process_votes, votes_in}
+use Rattle.headline.specs.Match.{Setting}
+use Rattle.headline.specs.Configurations.{Process, Running, Down, Configuration, board_at, node, process_disk, process_votes, votes_in}
 use Rattle.headline.specs.Runs.{AtEachMoment, AtSomeMoment, Moment, Run, Shows, last_of, process_shows}
 use Rattle.headline.specs.Noted.{kept_by_process, kept_by_seat}
 use Rattle.headline.specs.Headline.{ArePrefixes, AtEachEvent, ByBoth, KeepsVotes, KeptSafe, NoneKeepsBoth, StandsFast, WithinAgreed}

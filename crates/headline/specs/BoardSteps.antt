@@ -4,7 +4,7 @@ use Rattle.agree_core.specs.declared.messages.Message.{Message}
 use Rattle.agree_core.specs.Boards.{BoardState, BoardAnswer, BoardReceives, BoardTicks, fresh_board}
 use Rattle.headline.specs.declared.event.Event.{Event}
 use Rattle.headline.specs.declared.event.Event.TheVariants as events
-use Rattle.headline.specs.Configurations.{Setting}
+use Rattle.headline.specs.Match.{Setting}
 use Rattle.headline.specs.Answers.{Answer, Ticked, Told, Asked, BadVotes, Done}
 
 -- what a board's answer tells

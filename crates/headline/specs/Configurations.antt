@@ -5,17 +5,9 @@ use Rattle.agree_core.specs.declared.messages.DeskId.TheVariants.{A, B}
 use Rattle.agree_core.specs.declared.messages.Message.{Message}
 use Rattle.agree_core.specs.Ballots.{Ballot, AllVotes}
 use Rattle.agree_core.specs.Boards.{BoardState, fresh_board}
-use Rattle.agree_core.specs.Books.{Rules}
 use Rattle.agree_core.specs.Desks.{DeskState}
-use Rattle.agree_core.specs.FileView.{FileView}
 use Rattle.headline.specs.declared.fault.Fault.{Fault}
 use Rattle.headline.specs.declared.version.FileVersion.{FileVersion}
-
--- what a match is recorded by: how a disk shows each desk's votes, in a file of either version, and the
--- rules of a book
-pub record Setting (Disk Why : Type 0) : Type 1 where
-  pub view : DeskId → FileVersion → FileView Disk
-  pub rules : Rules Why
 
 -- a desk that runs, or its votes and its disk alone
 pub data Process (Disk : Type 0) : Type 0 where

@@ -9,7 +9,8 @@ use Rattle.agree_core.specs.Openings.{OpenRefusal, Opening, Opens}
 use Rattle.headline.specs.declared.event.Event.{Event}
 use Rattle.headline.specs.declared.event.Event.TheVariants as events
 use Rattle.headline.specs.declared.fault.Fault.TheVariants.{Fail, Stop}
-use Rattle.headline.specs.Configurations.{Setting, Running, Down, Node, process_disk, process_votes}
+use Rattle.headline.specs.Match.{Setting}
+use Rattle.headline.specs.Configurations.{Running, Down, Node, process_disk, process_votes}
 use Rattle.headline.specs.Answers.{Answer, Penned, NotPenned, Ticked, Told, Asked, HasFailed, Opened, Unsound, NoBook, Done}
 use Rattle.headline.specs.DeskFaults.{Breaks, StaysDown, LosesPower, Ends, FallsDue}
 use Rattle.headline.specs.Migrations.{MigratesAt}

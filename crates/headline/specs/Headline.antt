@@ -13,7 +13,8 @@ use Rattle.agree_core.specs.Ballots.{AllVotes, Ballot, In, VotesGrow, Within, ba
 use Rattle.agree_core.specs.Laws.{OneVoteEach, PlacesSettled, RoundsDiffer}
 use Rattle.agree_core.specs.Readers.{other}
 use Rattle.headline.specs.declared.event.Station.{Station}
-use Rattle.headline.specs.Configurations.{Setting, Configuration, node, process_disk, votes_in}
+use Rattle.headline.specs.Match.{Setting}
+use Rattle.headline.specs.Configurations.{Configuration, node, process_disk, votes_in}
 use Rattle.headline.specs.Answers.{Answer}
 use Rattle.headline.specs.Runs.{AtEachMoment, AtSomeMoment, Moment, Shows, WasPenned, last_of}
 use Rattle.headline.specs.Noted.{HasNoted, IsBrought, kept_at}

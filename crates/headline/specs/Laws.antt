@@ -7,11 +7,11 @@ use Rattle.entry_log.specs.Slots.{Contents}
 use Rattle.agree_core.specs.Agreed.{IsAgreedList}
 use Rattle.agree_core.specs.Books.{IsAgreedByFiles}
 use Rattle.headline.specs.declared.version.FileVersion.{FileVersion}
-use Rattle.headline.specs.Configurations.{Setting, Configuration, votes_in}
+use Rattle.headline.specs.Configurations.{Configuration, votes_in}
 use Rattle.headline.specs.Runs.{AtEachMoment, Begins, Moment, Run, last_of}
 use Rattle.headline.specs.Noted.{KeepsNoted}
 use Rattle.headline.specs.Headline.{AfterEach, AtEachEvent, Headline, IsSoundAnswer, KeepsVotes, StandsFast, WithinAgreed}
-use Rattle.headline.specs.Match.{setting_of}
+use Rattle.headline.specs.Match.{Setting, setting_of}
 
 -- the list that both files show is the agreed list of the last votes
 abbrev pub FilesShowAgreed : {Disk Why : Type 0} → Configuration Disk → List (Moment Disk Why) → Type 0

@@ -1,5 +1,6 @@
 -- What is claimed: Laws and Headline, over the runs of Runs and Noted; Match is the setting. A step of a run is Steps, by
 -- what desks (DeskSteps, Migrations, DeskFaults) and boards (BoardSteps) do and answer (Answers) in Configurations at Events.
+pub mod Match
 pub mod Events
 pub mod Configurations
 pub mod Answers
@@ -11,5 +12,4 @@ pub mod Steps
 pub mod Runs
 pub mod Noted
 pub mod Headline
-pub mod Match
 pub mod Laws

@@ -13,7 +13,8 @@ use Rattle.headline.specs.declared.event.Event.{Event}
 use Rattle.headline.specs.declared.event.Event.TheVariants as events
 use Rattle.headline.specs.declared.event.Station.{Station}
 use Rattle.headline.specs.declared.event.Station.TheVariants as stations
-use Rattle.headline.specs.Configurations.{Setting, Process, Running, Down, Configuration, board_at, node, process_disk}
+use Rattle.headline.specs.Match.{Setting}
+use Rattle.headline.specs.Configurations.{Process, Running, Down, Configuration, board_at, node, process_disk}
 use Rattle.headline.specs.Answers.{Answer}
 use Rattle.headline.specs.Runs.{Moment, last_of}
 

@@ -12,7 +12,8 @@ use Rattle.headline.specs.declared.event.Event.TheVariants as events
 use Rattle.headline.specs.declared.event.Station.{Station}
 use Rattle.headline.specs.declared.event.Station.TheVariants as stations
 use Rattle.headline.specs.declared.version.FileVersion.{FileVersion}
-use Rattle.headline.specs.Configurations.{Setting, Process, Running, Down, Node, Configuration, board_at, fresh_boards, node}
+use Rattle.headline.specs.Match.{Setting}
+use Rattle.headline.specs.Configurations.{Process, Running, Down, Node, Configuration, board_at, fresh_boards, node}
 use Rattle.headline.specs.Answers.{Answer}
 use Rattle.headline.specs.Steps.{Step}
 

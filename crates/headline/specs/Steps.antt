@@ -6,7 +6,8 @@ use Rattle.headline.specs.declared.event.Event.{Event}
 use Rattle.headline.specs.declared.event.Station.{Station}
 use Rattle.headline.specs.declared.event.Station.TheVariants as stations
 use Rattle.headline.specs.Events.{station_of}
-use Rattle.headline.specs.Configurations.{Setting, Node, Configuration, board_at, node, with_board, with_node}
+use Rattle.headline.specs.Match.{Setting}
+use Rattle.headline.specs.Configurations.{Node, Configuration, board_at, node, with_board, with_node}
 use Rattle.headline.specs.Answers.{Answer}
 use Rattle.headline.specs.DeskSteps.{AtDesk}
 use Rattle.headline.specs.BoardSteps.{AtBoard}

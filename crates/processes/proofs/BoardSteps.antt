@@ -10,7 +10,8 @@ use Rattle.wire.specs.Layout.{Says}
 use Rattle.board.specs.declared.refusal.BoardRefusal.TheVariants.{BadVotes}
 use Rattle.headline.specs.declared.event.Event.TheVariants as events
 use Rattle.headline.specs.declared.event.Station.TheVariants as stations
-use Rattle.headline.specs.Configurations.{Setting, Configuration, board_at, with_board}
+use Rattle.headline.specs.Match.{Setting}
+use Rattle.headline.specs.Configurations.{Configuration, board_at, with_board}
 use Rattle.headline.specs.Answers as answers
 use Rattle.headline.specs.BoardSteps.{board_told}
 use Rattle.live.specs.Boards as boards

@@ -21,7 +21,8 @@ use Rattle.headline.specs.declared.event.Station.{Station}
 use Rattle.headline.specs.declared.event.Station.TheVariants as stations
 use Rattle.headline.specs.declared.fault.Fault.{Fault}
 use Rattle.headline.specs.declared.fault.Fault.TheVariants.{Fail}
-use Rattle.headline.specs.Configurations.{Setting, Process, Running, Node, Configuration, node, process_disk, with_disk, with_node}
+use Rattle.headline.specs.Match.{Setting}
+use Rattle.headline.specs.Configurations.{Process, Running, Node, Configuration, node, process_disk, with_disk, with_node}
 use Rattle.headline.specs.Answers as answers
 use Rattle.headline.specs.Answers.{Answer}
 use Rattle.headline.specs.DeskSteps.{AfterPen, AfterReceive, AtDesk, has_any}

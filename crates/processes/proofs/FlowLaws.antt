@@ -7,10 +7,10 @@ use Rattle.headline.proofs.Keeping.{begins_fine}
 use Rattle.headline.proofs.Shown.{each_moment, none_keeps_both}
 use Rattle.headline.proofs.EveryRun.{holds_in_run}
 use Rattle.headline.specs.Headline.{AfterEach, ArePenned, ByBoth, NoneKeepsBoth, ShowsScore}
-use Rattle.headline.specs.Match.{setting_of}
+use Rattle.headline.specs.Match.{Setting, setting_of}
 use Rattle.headline.specs.Runs.{Begins, Moment, Shows}
 use Rattle.headline.specs.declared.version.FileVersion.{FileVersion}
-use Rattle.headline.specs.Configurations.{Setting, Node, Configuration, votes_in}
+use Rattle.headline.specs.Configurations.{Node, Configuration, votes_in}
 use Rattle.corrections.specs.declared.refusal.Refusal.{Refusal}
 use Rattle.processes.specs.Laws.{FlowsAreRuns, FlowsHaveHeadline}
 use Rattle.processes.proofs.FlowSteps.{IsCalm}

@@ -18,7 +18,8 @@ use Rattle.headline.specs.declared.fault.Fault.{Fault}
 use Rattle.headline.specs.declared.fault.Fault.TheVariants.{Fail}
 use Rattle.headline.specs.declared.version.FileVersion.{FileVersion}
 use Rattle.headline.specs.declared.version.FileVersion.TheVariants.{Old, New}
-use Rattle.headline.specs.Configurations.{Setting, Process, Running, Down, Node, Configuration, board_at, node, process_disk, process_votes, with_board, with_disk, with_node}
+use Rattle.headline.specs.Match.{Setting}
+use Rattle.headline.specs.Configurations.{Process, Running, Down, Node, Configuration, board_at, node, process_disk, process_votes, with_board, with_disk, with_node}
 use Rattle.headline.specs.Answers as answers
 use Rattle.headline.specs.Answers.{Answer}
 use Rattle.headline.specs.DeskFaults.{LosesPower}

@@ -12,7 +12,8 @@ use Rattle.live.specs.Desks as desks
 use Rattle.live.specs.Saying.{SaysEntry}
 use Rattle.live.specs.declared.said.Said.{Said}
 use Rattle.headline.specs.Headline.{AtEachEvent}
-use Rattle.headline.specs.Configurations.{Setting, Process, Running, Configuration, node}
+use Rattle.headline.specs.Match.{Setting}
+use Rattle.headline.specs.Configurations.{Process, Running, Configuration, node}
 use Rattle.headline.specs.Runs.{AtEachMoment, AtSomeMoment, Moment, Run, WasPenned, last_of}
 use Rattle.processes.specs.Happenings.{BoardBegun, BoardCalled, DeskBegun, DeskCalled, DeskEnded, FileMigrated, Flow, Happening, PowerLost, after}
 use Rattle.processes.specs.Headline.{AtEachTime, AtSomeTime, TypesBallot, WasTyped}

@@ -2,7 +2,8 @@
 use Rattle.std.proofs.Common.{◌≡◌, ◌≤◌, List, [], ◌∷◌, ◌++◌, length, refl, sym, ◌∙◌, subst, arith}
 use Rattle.corrections.specs.declared.refusal.Refusal.{Refusal}
 use Rattle.headline.specs.declared.event.Event.{Event}
-use Rattle.headline.specs.Configurations.{Setting, Running, Configuration, node}
+use Rattle.headline.specs.Match.{Setting}
+use Rattle.headline.specs.Configurations.{Running, Configuration, node}
 use Rattle.headline.specs.declared.event.Event.TheVariants as events
 use Rattle.agree_core.specs.Desks.{DeskState}
 use Rattle.agree_core.specs.declared.messages.DeskId.{DeskId}

@@ -34,10 +34,10 @@ use Rattle.schedule_replay.specs.declared.seen.WorldRefusal.TheVariants as refus
 use Rattle.schedule_replay.specs.declared.site.Site.{Site}
 use Rattle.headline.specs.declared.version.FileVersion.{FileVersion}
 use Rattle.schedule_replay.specs.declared.world_desk.WorldDesk.{WorldDesk}
-use Rattle.headline.specs.Configurations.{Setting, Process, Running, Down, Node, process_disk, with_disk}
+use Rattle.headline.specs.Configurations.{Process, Running, Down, Node, process_disk, with_disk}
 use Rattle.headline.specs.Answers.{Answer}
 use Rattle.headline.specs.DeskFaults.{StaysDown}
-use Rattle.headline.specs.Match.{match_of}
+use Rattle.headline.specs.Match.{Setting, match_of}
 use Rattle.schedule_replay.specs.Answers.{answer_of, is_failing, wants_memory}
 use Rattle.schedule_replay.specs.inner.Sites.{BreaksDown, IsDue, IsProcess, HasNode, IsWorldDisk, NotFoundBy, SameSite, SiteSteps, SyncsSite}
 use Rattle.schedule_replay.specs.WorldDesks.{IsOf, disk_of, state_of}

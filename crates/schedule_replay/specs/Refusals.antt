@@ -11,7 +11,8 @@ use Rattle.headline.specs.declared.event.Station.TheVariants as stations
 use Rattle.schedule_replay.specs.declared.seen.WorldRefusal.{WorldRefusal}
 use Rattle.schedule_replay.specs.declared.seen.WorldRefusal.TheVariants.{NoMessage, NoStation, WorldFull, Down, Up, NoMemory}
 use Rattle.headline.specs.Configurations as configurations
-use Rattle.headline.specs.Configurations.{Setting, Process, Configuration, board_at, node, process_disk, with_disk, with_node}
+use Rattle.headline.specs.Match.{Setting}
+use Rattle.headline.specs.Configurations.{Process, Configuration, board_at, node, process_disk, with_disk, with_node}
 use Rattle.headline.specs.Events.{station_of}
 
 abbrev pub is_down : {Disk : Type 0} → Process Disk → Bool

@@ -17,8 +17,7 @@ use Rattle.headline.specs.declared.version.FileVersion.{FileVersion}
 use Rattle.headline.specs.declared.version.FileVersion.TheVariants as versions
 use Rattle.schedule_replay.specs.declared.world_desk.WorldDesk.{WorldDesk}
 use Rattle.schedule_replay.specs.declared.world_desk.WorldDesk.TheVariants.{Old, New}
-use Rattle.headline.specs.Match.{format_of, match_of}
-use Rattle.headline.specs.Configurations.{Setting}
+use Rattle.headline.specs.Match.{Setting, format_of, match_of}
 
 abbrev pub version_of : WorldDesk → FileVersion
 version_of (Old k) = versions.Old
