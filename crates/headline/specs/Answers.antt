@@ -6,9 +6,12 @@ use Rattle.agree_core.specs.Desks.{PenRefusal}
 
 -- what an event is answered
 pub data Answer (Why : Type 0) : Type 0 where
+  -- the entry is penned, with what has become of the round; or it isn't, for this cause
   Penned : Settled → Answer Why
   NotPenned : PenRefusal Why → Answer Why
+  -- so many messages are handed out
   Ticked : ℕ → Answer Why
+  -- what came of a vote that was given to it
   Told : Heard → Answer Why
   -- an ask was given to it, and it handed out a reply or not
   Asked : Bool → Answer Why
@@ -28,4 +31,5 @@ pub data Answer (Why : Type 0) : Type 0 where
   Migrated : ℕ → Answer Why
   -- it isn't, because it is of another version
   OtherVersion : Answer Why
+  -- all else is done, and says nothing
   Done : Answer Why

@@ -9,7 +9,7 @@ use Rattle.agree_core.specs.Desks.{DeskState}
 use Rattle.headline.specs.declared.fault.Fault.{Fault}
 use Rattle.headline.specs.declared.version.FileVersion.{FileVersion}
 
--- a desk that runs, or its votes and its disk alone
+-- a desk that runs, or one that is down: its votes and its disk alone
 pub data Process (Disk : Type 0) : Type 0 where
   Running : DeskState Disk → Process Disk
   Down : List Ballot → Disk → Process Disk
@@ -20,6 +20,7 @@ pub record Node (Disk : Type 0) : Type 0 where
   pub process : Process Disk
   pub due : Option Fault
 
+-- the votes and the disk of a desk, whether it runs or is down
 abbrev pub process_votes : {Disk : Type 0} → Process Disk → List Ballot
 process_votes (Running k) = k.votes
 process_votes (Down votes disk) = votes

@@ -41,7 +41,8 @@ AfterReceive view x (ReceiveAnswer.Told h) l out answer y = (answer ≡ Told h) 
 AfterReceive view x ReceiveAnswer.Asked l out answer y = (answer ≡ Asked (has_any out)) × RunsOn x l y
 AfterReceive view x ReceiveAnswer.DeviceFailed l out answer y = Breaks view x l answer y
 
--- what has come of opening the file of a desk that is down, whose votes were these
+-- what has come of opening the file of a desk that is down, whose votes were these; an opening that is out of memory is
+-- no step
 abbrev pub AfterOpen :
     {Disk Why : Type 0} → FileView Disk → Node Disk → List Ballot → Opening Disk
     → Answer Why → Node Disk → Type 0
