@@ -8,12 +8,12 @@ use Rattle.agree_core.specs.FileView.{FileView, Stays}
 use Rattle.headline.specs.declared.version.FileVersion.{FileVersion}
 use Rattle.headline.specs.declared.version.FileVersion.TheVariants.{Old}
 use Rattle.headline.specs.Configurations.{Process, Running, Down, Node, process_disk, process_votes}
-use Rattle.headline.specs.DeskFaults as desk_faults
-use Rattle.headline.specs.Migrations as migrations
+use Rattle.headline.specs.DeskFaults.{LosesPower}
+use Rattle.headline.specs.Migrations.{Migrates, ToNew}
 use Rattle.live.specs.Desks.{DeskCall, DeskProcess, DeskStep}
 use Rattle.live.specs.Runs as own
 use Rattle.processes.specs.Happenings.{BoardBegun, BoardCalled, DeskBegun, DeskCalled, DeskEnded, FileMigrated, Happening, PowerLost, begun, migrated}
-use Rattle.processes.specs.Lives.{Begins, BeginsOn, ComesNext, CutOff, Ends, IsLife, Migrates, LosesPower, Runs, RunsFrom, Stage, after_calls, after_life, after_stage, calls_of, fresh, life_happens, stage_happens}
+use Rattle.processes.specs.Lives.{Beginning, BeginsOn, ComesNext, CutOff, ProcessEnd, IsLife, FileMigration, PowerLoss, CallsMade, RunsFrom, Stage, after_calls, after_life, after_stage, calls_of, fresh, life_happens, stage_happens}
 use Rattle.processes.proofs.Local.{Local, local-append, nexts, nexts-append}
 
 module _ {Disk : Type 0} where
@@ -34,13 +34,13 @@ module _ {Disk : Type 0} (view : FileVersion → FileView Disk) (seen : Disk →
       (k : DeskState Disk) × (x.process ≡ Running k) × DeskStep (view x.version) game innings k call out l
   MayDesk x (DeskEnded c disk) =
       (k : DeskState Disk) × (x.process ≡ Running k) × Stays (view x.version) k.disk disk
-  MayDesk x (PowerLost c disk) = desk_faults.LosesPower (view x.version) (process_disk x.process) disk
+  MayDesk x (PowerLost c disk) = LosesPower (view x.version) (process_disk x.process) disk
   MayDesk x (DeskBegun c opening) =
       (votes : List Ballot) × (disk : Disk) × (x.process ≡ Down votes disk)
       × BeginsOn (view x.version) seen innings d disk opening
   MayDesk x (FileMigrated c votes new) =
       (had : List Ballot) × (disk : Disk) × (x.process ≡ Down had disk) × (x.version ≡ Old)
-      × migrations.Migrates view disk (migrations.ToNew votes new)
+      × Migrates view disk (ToNew votes new)
   MayDesk x (BoardCalled n call out l) = Unit {0}
   MayDesk x (BoardBegun n) = Unit {0}
 
@@ -68,13 +68,13 @@ module _ {Disk : Type 0} (view : FileVersion → FileView Disk) (seen : Disk →
       )
 
   one_stage : (x : Node Disk) (stage : Stage Disk) → ComesNext view seen faults d game innings x stage → Goes x (stage_happens d stage) (after_stage x stage)
-  one_stage x (Runs ms) h =
+  one_stage x (CallsMade ms) h =
       subst (λ (p : Process Disk). Goes (with_run x p) (calls_of d ms) (with_run x (after_calls p ms))) (sym h.1) (calls x h.0 ms h.2)
   one_stage x (CutOff call l) h = ((tt, (h.0, h.1, h.3)), refl)
-  one_stage x (Ends disk) h = ((tt, h), refl)
-  one_stage x (LosesPower disk) h = ((tt, h), refl)
-  one_stage x (Begins opening) h = ((tt, h), refl)
-  one_stage x (Migrates votes new) h = ((tt, h), refl)
+  one_stage x (ProcessEnd disk) h = ((tt, h), refl)
+  one_stage x (PowerLoss disk) h = ((tt, h), refl)
+  one_stage x (Beginning opening) h = ((tt, h), refl)
+  one_stage x (FileMigration votes new) h = ((tt, h), refl)
 
   pub life : (x : Node Disk) (stages : List (Stage Disk)) → IsLife view seen faults d game innings x stages → Goes x (life_happens d stages) (after_life x stages)
   life x [] h = (tt, refl)

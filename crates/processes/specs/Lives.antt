@@ -12,8 +12,8 @@ use Rattle.agree_core.specs.Openings.{Creates, NotOpened, Opened, Opening, Opens
 use Rattle.headline.specs.declared.version.FileVersion.{FileVersion}
 use Rattle.headline.specs.declared.version.FileVersion.TheVariants.{Old}
 use Rattle.headline.specs.Configurations.{Process, Running, Down, Node, process_disk, process_votes}
-use Rattle.headline.specs.DeskFaults as desk_faults
-use Rattle.headline.specs.Migrations as migrations
+use Rattle.headline.specs.DeskFaults.{LosesPower}
+use Rattle.headline.specs.Migrations.{Migrates, ToNew}
 use Rattle.live.specs.Boards as boards
 use Rattle.live.specs.Boards.{BoardCall, BoardTurn, board_kind}
 use Rattle.live.specs.Desks.{DeskCall, DeskProcess, DeskStep, FitsLongest, course_after, desk_kind}
@@ -27,12 +27,12 @@ use Rattle.processes.specs.Happenings.{BoardBegun, BoardCalled, DeskBegun, DeskC
 -- then done what one does whose disk fails; it has ended or was killed, with the disk left; its laptop has lost power,
 -- with the disk left; the next process begins on its file; its file is migrated, with these votes, to this disk.
 pub data Stage (Disk : Type 0) : Type 0 where
-  Runs : List (own.Moment (DeskProcess Disk) DeskCall) → Stage Disk
+  CallsMade : List (own.Moment (DeskProcess Disk) DeskCall) → Stage Disk
   CutOff : DeskCall → DeskState Disk → Stage Disk
-  Ends : Disk → Stage Disk
-  LosesPower : Disk → Stage Disk
-  Begins : Opening Disk → Stage Disk
-  Migrates : List Ballot → Disk → Stage Disk
+  ProcessEnd : Disk → Stage Disk
+  PowerLoss : Disk → Stage Disk
+  Beginning : Opening Disk → Stage Disk
+  FileMigration : List Ballot → Disk → Stage Disk
 
 -- the process of this desk, at its beginning
 abbrev pub fresh : {Disk : Type 0} → DeskState Disk → DeskProcess Disk
@@ -45,12 +45,12 @@ after_calls (Down votes disk) ms = Down votes disk
 
 -- the desk after a stage
 abbrev pub after_stage : {Disk : Type 0} → Node Disk → Stage Disk → Node Disk
-after_stage x (Runs ms) = record x { process = after_calls x.process ms }
+after_stage x (CallsMade ms) = record x { process = after_calls x.process ms }
 after_stage x (CutOff call l) = record x { process = Running l }
-after_stage x (Ends disk) = record x { process = Down (process_votes x.process) disk }
-after_stage x (LosesPower disk) = record x { process = Down (process_votes x.process) disk }
-after_stage x (Begins opening) = record x { process = begun (process_votes x.process) opening }
-after_stage x (Migrates votes new) = migrated x new
+after_stage x (ProcessEnd disk) = record x { process = Down (process_votes x.process) disk }
+after_stage x (PowerLoss disk) = record x { process = Down (process_votes x.process) disk }
+after_stage x (Beginning opening) = record x { process = begun (process_votes x.process) opening }
+after_stage x (FileMigration votes new) = migrated x new
 
 -- after these stages, the newest first
 abbrev pub after_life : {Disk : Type 0} → Node Disk → List (Stage Disk) → Node Disk
@@ -91,19 +91,19 @@ module _
     (game innings : ℕ) where
   -- the stage may come next
   abbrev pub ComesNext : Node Disk → Stage Disk → Type 0
-  ComesNext x (Runs ms) =
+  ComesNext x (CallsMade ms) =
       (k : DeskState Disk) × (x.process ≡ Running k) × RunsFrom (view x.version) faults game innings k ms
   ComesNext x (CutOff call l) =
       (k : DeskState Disk) × (x.process ≡ Running k) × (course_after call ≡ Err Device)
       × DeskStep (view x.version) game innings k call [] l
-  ComesNext x (Ends disk) = (k : DeskState Disk) × (x.process ≡ Running k) × Stays (view x.version) k.disk disk
-  ComesNext x (LosesPower disk) = desk_faults.LosesPower (view x.version) (process_disk x.process) disk
-  ComesNext x (Begins opening) =
+  ComesNext x (ProcessEnd disk) = (k : DeskState Disk) × (x.process ≡ Running k) × Stays (view x.version) k.disk disk
+  ComesNext x (PowerLoss disk) = LosesPower (view x.version) (process_disk x.process) disk
+  ComesNext x (Beginning opening) =
       (votes : List Ballot) × (disk : Disk) × (x.process ≡ Down votes disk)
       × BeginsOn (view x.version) seen innings d disk opening
-  ComesNext x (Migrates votes new) =
+  ComesNext x (FileMigration votes new) =
       (had : List Ballot) × (disk : Disk) × (x.process ≡ Down had disk) × (x.version ≡ Old)
-      × migrations.Migrates view disk (migrations.ToNew votes new)
+      × Migrates view disk (ToNew votes new)
 
   abbrev pub IsLife : Node Disk → List (Stage Disk) → Type 0
   IsLife x [] = Unit {0}
@@ -115,12 +115,12 @@ calls_of d [] = []
 calls_of d (m ∷ ms) = DeskCalled d m.call m.out ((λ (p : DeskProcess _). p.desk) m.after) ∷ calls_of d ms
 
 abbrev pub stage_happens : {Disk : Type 0} → DeskId → Stage Disk → List (Happening Disk)
-stage_happens d (Runs ms) = calls_of d ms
+stage_happens d (CallsMade ms) = calls_of d ms
 stage_happens d (CutOff call l) = DeskCalled d call [] l ∷ []
-stage_happens d (Ends disk) = DeskEnded d disk ∷ []
-stage_happens d (LosesPower disk) = PowerLost d disk ∷ []
-stage_happens d (Begins opening) = DeskBegun d opening ∷ []
-stage_happens d (Migrates votes new) = FileMigrated d votes new ∷ []
+stage_happens d (ProcessEnd disk) = DeskEnded d disk ∷ []
+stage_happens d (PowerLoss disk) = PowerLost d disk ∷ []
+stage_happens d (Beginning opening) = DeskBegun d opening ∷ []
+stage_happens d (FileMigration votes new) = FileMigrated d votes new ∷ []
 
 abbrev pub life_happens : {Disk : Type 0} → DeskId → List (Stage Disk) → List (Happening Disk)
 life_happens d [] = []
