@@ -3,7 +3,7 @@ use Rattle.std.proofs.Common.{ℕ, List}
 use Rattle.agree_core.proofs.FileBooks.{agreed_by_files}
 use Rattle.headline.specs.declared.version.FileVersion.{FileVersion}
 use Rattle.headline.specs.Match.{Setting}
-use Rattle.headline.specs.Configurations.{Configuration, votes_in}
+use Rattle.headline.specs.Configurations.{Configuration, all_votes}
 use Rattle.headline.specs.Runs.{Begins, Moment, Run, last_of}
 use Rattle.headline.specs.Noted.{KeepsNoted}
 use Rattle.headline.specs.Headline.{ByBoth, Headline, NoneWaits, StandsFast, TakesSecond}
@@ -33,7 +33,7 @@ module _ {Disk Why : Type 0} (s : Setting Disk Why) (innings : ℕ) where
       record {
         headline = headline version n w ms e r;
         within_agreed = within_agreed s w ms f r;
-        by_files = λ xs h. agreed_by_files (votes_in (last_of w ms)) (all_justified s (last_of w ms) (run_keeps s w ms f r)) xs h;
+        by_files = λ xs h. agreed_by_files (all_votes (last_of w ms)) (all_justified s (last_of w ms) (run_keeps s w ms f r)) xs h;
         noted = after_each s w ms (KeepsNoted s w) (λ ns q. keeps_noted s version n w ns e q) r;
         votes_kept = votes_kept s w ms f r;
         stands_fast = each_moment s w ms (StandsFast s) (stands_fast s) f r;

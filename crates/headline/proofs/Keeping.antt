@@ -22,7 +22,7 @@ use Rattle.headline.specs.declared.fault.Fault.{Fault}
 use Rattle.headline.specs.declared.version.FileVersion.{FileVersion}
 use Rattle.headline.specs.declared.version.FileVersion.TheVariants.{Old, New}
 use Rattle.headline.specs.Match.{Setting}
-use Rattle.headline.specs.Configurations.{Process, Running, Down, Node, Configuration, node, process_disk, process_votes, votes_in, with_disk, with_node}
+use Rattle.headline.specs.Configurations.{Process, Running, Down, Node, Configuration, node, process_disk, process_votes, all_votes, with_disk, with_node}
 use Rattle.headline.specs.Events.{station_of}
 use Rattle.headline.specs.Answers.{Answer}
 use Rattle.headline.specs.DeskFaults.{Breaks, FallsDue, LosesPower, StaysDownBy}
@@ -187,16 +187,16 @@ module _ {Disk Why : Type 0} (s : Setting Disk Why) where
   at_desk_keeps sent d theirs (events.Wipe n) x answer y out t f p = absurd p
 
   pub record Fine (w : Configuration Disk) : Type 0 where
-    pub on_a : ProcessFine w.a.version A (votes_in w).b w.a.process
-    pub on_b : ProcessFine w.b.version B (votes_in w).a w.b.process
-    pub on_boards : Each (BoardFine (votes_in w)) w.boards
-    pub on_sent : Each (MessageFine (votes_in w)) w.sent
+    pub on_a : ProcessFine w.a.version A (all_votes w).b w.a.process
+    pub on_b : ProcessFine w.b.version B (all_votes w).a w.b.process
+    pub on_boards : Each (BoardFine (all_votes w)) w.boards
+    pub on_sent : Each (MessageFine (all_votes w)) w.sent
 
   abbrev pub Grows : Configuration Disk → Configuration Disk → Type 0
-  Grows w new = VotesGrow (votes_in w) (votes_in new)
+  Grows w new = VotesGrow (all_votes w) (all_votes new)
 
-  pub all_justified : (w : Configuration Disk) → Fine w → AllJustified (votes_in w)
-  all_justified w f = (process_justified w.a.version A (votes_in w).b w.a.process f.on_a, process_justified w.b.version B (votes_in w).a w.b.process f.on_b)
+  pub all_justified : (w : Configuration Disk) → Fine w → AllJustified (all_votes w)
+  all_justified w f = (process_justified w.a.version A (all_votes w).b w.a.process f.on_a, process_justified w.b.version B (all_votes w).a w.b.process f.on_b)
 
   mine_grows : (own theirs theirs' : List Ballot) (book : List Entry) → Within theirs theirs' → (at : _) (x : Option Entry) → MineFine theirs own book at x → MineFine theirs' own book at x
   mine_grows own theirs theirs' book g at (Some e) h = h
@@ -245,16 +245,16 @@ module _ {Disk Why : Type 0} (s : Setting Disk Why) where
   their_message v d (Message.Vote w) h = λ n. subst (λ (c : DeskId). In (ballot_of w) (votes_of v c)) (other_desk w.desk d n) h
   their_message v d (Message.Ask q) h = tt
 
-  pub node_fine : (w : Configuration Disk) (d : DeskId) → Fine w → ProcessFine (node w d).version d (votes_of (votes_in w) (other d)) (node w d).process
+  pub node_fine : (w : Configuration Disk) (d : DeskId) → Fine w → ProcessFine (node w d).version d (votes_of (all_votes w) (other d)) (node w d).process
   node_fine w A f = f.on_a
   node_fine w B f = f.on_b
 
   rest_grows : (v w : AllVotes) → VotesGrow v w → (sent out : List Message) → Each (MessageFine v) sent → Each (MessageFine w) out → Each (MessageFine w) (sent ++ out)
   rest_grows v w g sent out h k = each_append (MessageFine w) sent out (each_other (MessageFine v) (MessageFine w) (message_grows v w g) sent h) k
 
-  node_changed : (w : Configuration Disk) (d : DeskId) (y : Node Disk) (out : List Message) → Fine w → KeptAt d (votes_of (votes_in w) (other d)) (node w d).process y out → Fine (with_node w d y out) × Grows w (with_node w d y out)
+  node_changed : (w : Configuration Disk) (d : DeskId) (y : Node Disk) (out : List Message) → Fine w → KeptAt d (votes_of (all_votes w) (other d)) (node w d).process y out → Fine (with_node w d y out) × Grows w (with_node w d y out)
   node_changed w A y out f k =
-      let v = votes_in w in
+      let v = all_votes w in
       let new : AllVotes = record { a = process_votes y.process; b = v.b } in
       let g : VotesGrow v new = (k.grows, same v.b) in (
         record {
@@ -266,7 +266,7 @@ module _ {Disk Why : Type 0} (s : Setting Disk Why) where
         g,
       )
   node_changed w B y out f k =
-      let v = votes_in w in
+      let v = all_votes w in
       let new : AllVotes = record { a = v.a; b = process_votes y.process } in
       let g : VotesGrow v new = (same v.a, k.grows) in (
         record {
@@ -292,12 +292,12 @@ module _ {Disk Why : Type 0} (s : Setting Disk Why) where
 
   pub step_at_keeps : (w : Configuration Disk) (event : Event) (t : Station) (answer : Answer Why) (new : Configuration Disk) → Fine w → StepAt s w event t answer new → Fine new × Grows w new
   step_at_keeps w event (stations.Desk d) answer new f p =
-      let v = votes_in w in
+      let v = all_votes w in
       let told : (n : ℕ) (m : Message) → slice_get w.sent n ≡ Some m → TheirMessage d (votes_of v (other d)) m = λ n m e. their_message v d m (item_at (MessageFine v) w.sent n m e f.on_sent) in
       let k = at_desk_keeps w.sent d (votes_of v (other d)) event (node w d) answer p.0 p.1 told (node_fine w d f) p.2 in
       subst (λ (z : Configuration Disk). Fine z × Grows w z) (sym p.3) (node_changed w d p.0 p.1 f k)
   step_at_keeps w event (stations.Board n) answer new f p =
-      let v = votes_in w in
+      let v = all_votes w in
       let k = board_fine_at v w.boards n p.0 p.3 f.on_boards in
       let h = at_board_keeps w.sent v event p.0 p.1 answer p.2 f.on_sent k p.4 in
       subst (λ (z : Configuration Disk). Fine z × Grows w z) (sym p.5) (
@@ -331,6 +331,6 @@ module _ {Disk Why : Type 0} (s : Setting Disk Why) where
       record {
         on_a = subst (λ (o : List Ballot). ProcessFine w.a.version A o w.a.process) (sym b.1) a.0;
         on_b = subst (λ (o : List Ballot). ProcessFine w.b.version B o w.b.process) (sym a.1) b.0;
-        on_boards = subst (Each (BoardFine (votes_in w))) (sym p.boards_are_fresh) (fresh_boards_fine (votes_in w) n);
-        on_sent = subst (Each (MessageFine (votes_in w))) (sym p.nothing_sent) tt;
+        on_boards = subst (Each (BoardFine (all_votes w))) (sym p.boards_are_fresh) (fresh_boards_fine (all_votes w) n);
+        on_sent = subst (Each (MessageFine (all_votes w))) (sym p.nothing_sent) tt;
       }

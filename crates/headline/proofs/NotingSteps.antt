@@ -28,7 +28,7 @@ use Rattle.headline.specs.declared.version.FileVersion.{FileVersion}
 use Rattle.headline.specs.declared.version.FileVersion.TheVariants.{Old, New}
 use Rattle.headline.specs.Events.{station_of}
 use Rattle.headline.specs.Match.{Setting}
-use Rattle.headline.specs.Configurations.{Process, Running, Down, Node, Configuration, board_at, node, process_disk, process_votes, votes_in, with_disk, with_node}
+use Rattle.headline.specs.Configurations.{Process, Running, Down, Node, Configuration, board_at, node, process_disk, process_votes, all_votes, with_disk, with_node}
 use Rattle.headline.specs.Answers.{Answer}
 use Rattle.headline.specs.DeskFaults.{Breaks, FallsDue, StaysDownBy}
 use Rattle.headline.specs.Migrations.{AfterMigration, Failed, MigratesAt, Migration, NotSound, ToNew}
@@ -330,7 +330,7 @@ module _ {Disk Why : Type 0} (s : Setting Disk Why) where
   desk_leaves w d (events.Pen c e) answer new y out f h t p =
       pens w (moment (events.Pen c e) answer new) d p.0 p.1 e p.2 out y (ap (λ (x : DeskId). events.Pen x e) (same_desk c d (sym h))) p.3 t p.4 p.5
   desk_leaves w d (events.Give n u) answer new y out f h t p =
-      let fine = running s (node w d).version d (votes_of (votes_in w) (other d)) (node w d).process p.0 p.4 (node_fine s w d f) in
+      let fine = running s (node w d).version d (votes_of (all_votes w) (other d)) (node w d).process p.0 p.4 (node_fine s w d f) in
       let seat = fine.seat in
       subst (λ (z : Station). Leaves s w (moment (events.Give n z) answer new) (stations.Desk d)) (sym h)
       (given w n d answer new p.0 p.1 p.2 p.3 out y seat.desk p.4 t p.5 p.6 p.7)

@@ -16,7 +16,7 @@ use Rattle.headline.specs.declared.fault.Fault.{Fault}
 use Rattle.headline.specs.declared.version.FileVersion.{FileVersion}
 use Rattle.headline.specs.declared.version.FileVersion.TheVariants.{Old, New}
 use Rattle.headline.specs.Match.{Setting}
-use Rattle.headline.specs.Configurations.{Process, Running, Down, Node, Configuration, node, process_disk, process_votes, votes_in, with_disk, with_node}
+use Rattle.headline.specs.Configurations.{Process, Running, Down, Node, Configuration, node, process_disk, process_votes, all_votes, with_disk, with_node}
 use Rattle.headline.specs.Answers.{Answer}
 use Rattle.headline.specs.DeskFaults.{Breaks, LosesPower, StaysDownBy}
 use Rattle.headline.specs.Migrations.{AfterMigration, Failed, Migrates, MigratesAt, Migration, NotSound, ToNew}
@@ -244,7 +244,7 @@ module _ {Disk Why : Type 0} (s : Setting Disk Why) where
           inl (q ∙ ap (events.Pen d) (sym entry), (k, i, ap (λ (c : Ballot). c.at) (sym j)))
       now m ms d k g q i may old b (inr j) = old b j
 
-  votes_at : (w : Configuration Disk) (d : DeskId) → process_votes (node w d).process ≡ votes_of (votes_in w) d
+  votes_at : (w : Configuration Disk) (d : DeskId) → process_votes (node w d).process ≡ votes_of (all_votes w) d
   votes_at w A = refl
   votes_at w B = refl
 

@@ -23,7 +23,7 @@ use Rattle.headline.specs.declared.event.Station.TheVariants as stations
 use Rattle.headline.specs.declared.fault.Fault.TheVariants.{Fail, Stop}
 use Rattle.headline.specs.declared.version.FileVersion.{FileVersion}
 use Rattle.headline.specs.Match.{Setting}
-use Rattle.headline.specs.Configurations.{Process, Running, Node, Configuration, board_at, node, votes_in, with_node}
+use Rattle.headline.specs.Configurations.{Process, Running, Node, Configuration, board_at, node, all_votes, with_node}
 use Rattle.headline.specs.Answers.{Answer}
 use Rattle.headline.specs.DeskFaults.{Breaks}
 use Rattle.headline.specs.DeskSteps.{AfterPen, AfterReceive}
@@ -156,7 +156,7 @@ module _ {Disk Why : Type 0} (s : Setting Disk Why) where
       let k = q.0 in
       let h = desk_keeps w d c k book b q.4 g in
       let this : q.2 ≡ Message.Vote (vote_of (other c) b) = same_message (slice_get w.sent n) q.2 (Message.Vote (vote_of (other c) b)) q.5 sent in
-      let fine = running s (node w d).version d (votes_of (votes_in w) (other d)) (node w d).process k q.4 (node_fine s w d f) in
+      let fine = running s (node w d).version d (votes_of (all_votes w) (other d)) (node w d).process k q.4 (node_fine s w d f) in
       let seat = fine.seat in
       let mine : k.seat.mine ≡ Some b.entry = sym (kept_own k.seat c d apart) ∙ h.2 in
       let received : Receives (s.view d (node w d).version) k (Message.Vote (vote_of (other c) b)) q.3 q.1 p.1 = subst (λ (z : Message). Receives (s.view d (node w d).version) k z q.3 q.1 p.1) this q.6 in
@@ -184,7 +184,7 @@ module _ {Disk Why : Type 0} (s : Setting Disk Why) where
       let v = vote_of (other c) b in
       let h = board_keeps w number c k book b p.3 g in
       let this : q.0 ≡ Message.Vote v = same_message (slice_get w.sent n) q.0 (Message.Vote v) q.2 sent in
-      let fine = board_fine_at (votes_in w) w.boards number k p.3 f.on_boards in
+      let fine = board_fine_at (all_votes w) w.boards number k p.3 f.on_boards in
       let none = reader_alone k.reader c b.entry fine.waits h.2 in
       let noted : noted_of k.reader (other (other c)) ≡ Some b.entry = subst (λ (d : DeskId). noted_of k.reader d ≡ Some b.entry) (sym (other_twice c)) h.2 in
       let received : BoardReceives s.rules k (Message.Vote v) q.1 p.1 = subst (λ (z : Message). BoardReceives s.rules k z q.1 p.1) this q.3 in

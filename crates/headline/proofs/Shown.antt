@@ -15,7 +15,7 @@ use Rattle.headline.specs.declared.event.Station.{Station}
 use Rattle.headline.specs.declared.event.Station.TheVariants as stations
 use Rattle.headline.specs.declared.version.FileVersion.{FileVersion}
 use Rattle.headline.specs.Match.{Setting}
-use Rattle.headline.specs.Configurations.{Process, Running, Down, Configuration, board_at, node, process_disk, process_votes, votes_in}
+use Rattle.headline.specs.Configurations.{Process, Running, Down, Configuration, board_at, node, process_disk, process_votes, all_votes}
 use Rattle.headline.specs.Runs.{AtEachMoment, AtSomeMoment, Moment, Run, Shows, last_of, process_shows}
 use Rattle.headline.specs.Noted.{kept_by_process, kept_by_seat}
 use Rattle.headline.specs.Headline.{ArePrefixes, AtEachEvent, ByBoth, KeepsVotes, KeptSafe, NoneKeepsBoth, StandsFast, WithinAgreed}
@@ -31,26 +31,26 @@ module _ {Disk Why : Type 0} (s : Setting Disk Why) where
   process_both v d theirs (Running k) book f h = let g = f.seat in subst (AllBoth k.votes theirs 0) h g.both
 
   -- for each entry of a book that is shown both have a vote
-  pub shown_both : (w : Configuration Disk) (t : Station) (book : List Entry) → Fine s w → Shows w t book → AllBoth (votes_in w).a (votes_in w).b 0 book
-  shown_both w (stations.Desk A) book f h = process_both w.a.version A (votes_in w).b w.a.process book f.on_a h
-  shown_both w (stations.Desk B) book f h = both_turned (votes_in w).b (votes_in w).a 0 book (process_both w.b.version B (votes_in w).a w.b.process book f.on_b h)
+  pub shown_both : (w : Configuration Disk) (t : Station) (book : List Entry) → Fine s w → Shows w t book → AllBoth (all_votes w).a (all_votes w).b 0 book
+  shown_both w (stations.Desk A) book f h = process_both w.a.version A (all_votes w).b w.a.process book f.on_a h
+  shown_both w (stations.Desk B) book f h = both_turned (all_votes w).b (all_votes w).a 0 book (process_both w.b.version B (all_votes w).a w.b.process book f.on_b h)
   shown_both w (stations.Board n) book f h =
-      let k = board_fine_at (votes_in w) w.boards n h.0 h.1 f.on_boards in
-      subst (AllBoth (votes_in w).a (votes_in w).b 0) h.2 k.both
+      let k = board_fine_at (all_votes w) w.boards n h.0 h.1 f.on_boards in
+      subst (AllBoth (all_votes w).a (all_votes w).b 0) h.2 k.both
 
-  pub shown_settled : (w : Configuration Disk) (t : Station) (book : List Entry) → Fine s w → Shows w t book → AllSettled (votes_in w) 0 book
-  shown_settled w t book f h = both_settled (votes_in w) (all_justified s w f) 0 book (shown_both w t book f h)
+  pub shown_settled : (w : Configuration Disk) (t : Station) (book : List Entry) → Fine s w → Shows w t book → AllSettled (all_votes w) 0 book
+  shown_settled w t book f h = both_settled (all_votes w) (all_justified s w f) 0 book (shown_both w t book f h)
 
   pub by_both : (w : Configuration Disk) → Fine s w → ByBoth w
   by_both w f t xs place e h k =
       let here : 0 + place ≡ place = omega arith in
-      subst (λ (p : ℕ). (round : ℕ) × EqualVotes (votes_in w) p round e) here (both_at (votes_in w).a (votes_in w).b 0 xs place e (shown_both w t xs f h) k)
+      subst (λ (p : ℕ). (round : ℕ) × EqualVotes (all_votes w) p round e) here (both_at (all_votes w).a (all_votes w).b 0 xs place e (shown_both w t xs f h) k)
 
   grows_on : (u v w : Configuration Disk) → Grows s u v → Grows s v w → Grows s u w
   grows_on u v w g h = (λ b i. h.0 b (g.0 b i), λ b i. h.1 b (g.1 b i))
 
   same_votes : (w : Configuration Disk) → Grows s w w
-  same_votes w = (same (votes_in w).a, same (votes_in w).b)
+  same_votes w = (same (all_votes w).a, same (all_votes w).b)
 
   -- what is so at some moment is so of a configuration that is fine, and whose votes are among the last ones
   pub moment : (w : Configuration Disk) (ms : List (Moment Disk Why)) (P : Configuration Disk → Type 0) → Fine s w → Run s w ms → AtSomeMoment w ms P → (v : Configuration Disk) × Fine s v × Grows s v (last_of w ms) × P v
@@ -69,13 +69,13 @@ module _ {Disk Why : Type 0} (s : Setting Disk Why) where
   one_book_shown w ms f r t u xs ys p q =
       let x = moment w ms (λ v. Shows v t xs) f r p in
       let y = moment w ms (λ v. Shows v u ys) f r q in
-      one_book (votes_in (last_of w ms)) (all_justified s (last_of w ms) (run_keeps s w ms f r)) (votes_in x.0) (votes_in y.0) xs ys x.2 y.2
+      one_book (all_votes (last_of w ms)) (all_justified s (last_of w ms) (run_keeps s w ms f r)) (all_votes x.0) (all_votes y.0) xs ys x.2 y.2
       (shown_settled x.0 t xs x.1 x.3) (shown_settled y.0 u ys y.1 y.3)
 
   pub within_agreed : (w : Configuration Disk) (ms : List (Moment Disk Why)) → Fine s w → Run s w ms → WithinAgreed w ms
   within_agreed w ms f r t xs agreed p g =
       let x = moment w ms (λ v. Shows v t xs) f r p in
-      agreed_begins (votes_in x.0) (votes_in (last_of w ms)) x.2 (all_justified s (last_of w ms) (run_keeps s w ms f r)) xs agreed (shown_settled x.0 t xs x.1 x.3) g
+      agreed_begins (all_votes x.0) (all_votes (last_of w ms)) x.2 (all_justified s (last_of w ms) (run_keeps s w ms f r)) xs agreed (shown_settled x.0 t xs x.1 x.3) g
 
   seat_waits : (k : SeatState) (d : DeskId) (e f : Entry) → SeatWaits k → kept_by_seat k d A ≡ Some e → kept_by_seat k d B ≡ Some f → ⊥
   seat_waits k A e f (inl w) p q = cc
@@ -96,13 +96,13 @@ module _ {Disk Why : Type 0} (s : Setting Disk Why) where
 
   board_waits : (w : Configuration Disk) (n : ℕ) (board : Option BoardState) (e f : Entry) → Fine s w → board_at w.boards n ≡ board → kept_by_board board A ≡ Some e → kept_by_board board B ≡ Some f → ⊥
   board_waits w n None e f g h p q = cc
-  board_waits w n (Some k) e f g h p q = let fine = board_fine_at (votes_in w) w.boards n k h g.on_boards in reader_waits k e f fine.waits p q
+  board_waits w n (Some k) e f g h p q = let fine = board_fine_at (all_votes w) w.boards n k h g.on_boards in reader_waits k e f fine.waits p q
 
   pub none_keeps_both : (w : Configuration Disk) → Fine s w → NoneKeepsBoth w
-  none_keeps_both w g (stations.Desk d) e f p q = process_waits (node w d).version d (votes_of (votes_in w) (other d)) (node w d).process e f (node_fine s w d g) p q
+  none_keeps_both w g (stations.Desk d) e f p q = process_waits (node w d).version d (votes_of (all_votes w) (other d)) (node w d).process e f (node_fine s w d g) p q
   none_keeps_both w g (stations.Board n) e f p q = board_waits w n (board_at w.boards n) e f g refl p q
 
-  votes_at : (w : Configuration Disk) (d : DeskId) → votes_of (votes_in w) d ≡ process_votes (node w d).process
+  votes_at : (w : Configuration Disk) (d : DeskId) → votes_of (all_votes w) d ≡ process_votes (node w d).process
   votes_at w A = refl
   votes_at w B = refl
 
@@ -111,12 +111,12 @@ module _ {Disk Why : Type 0} (s : Setting Disk Why) where
 
   pub kept_safe : (w : Configuration Disk) → Fine s w → KeptSafe s w
   kept_safe w f = record {
-    sent = λ n v e. item_at (MessageFine (votes_in w)) w.sent n (Message.Vote v) e f.on_sent;
+    sent = λ n v e. item_at (MessageFine (all_votes w)) w.sent n (Message.Vote v) e f.on_sent;
     images = λ d image i.
-        let theirs = votes_of (votes_in w) (other d) in
+        let theirs = votes_of (all_votes w) (other d) in
         rw (votes_at w d) (image_has theirs (process_votes (node w d).process) image ((fine_disk s (node w d).version d theirs (node w d).process (node_fine s w d f)).1 image i));
     reads = λ d.
-        let theirs = votes_of (votes_in w) (other d) in
+        let theirs = votes_of (all_votes w) (other d) in
         rw (votes_at w d) (image_has theirs (process_votes (node w d).process) ((s.view d (node w d).version).reads (process_disk (node w d).process)) (fine_disk s (node w d).version d theirs (node w d).process (node_fine s w d f)).0);
   }
 
@@ -125,7 +125,7 @@ module _ {Disk Why : Type 0} (s : Setting Disk Why) where
       let j = all_justified s w f in
       record {
         safe = kept_safe w f;
-        votes = record { one_each = one_vote_each (votes_in w) j; rounds = rounds_differ (votes_in w) j; places = places_settled (votes_in w) j };
+        votes = record { one_each = one_vote_each (all_votes w) j; rounds = rounds_differ (all_votes w) j; places = places_settled (all_votes w) j };
       }
 
   pub votes_kept : (w : Configuration Disk) (ms : List (Moment Disk Why)) → Fine s w → Run s w ms → AtEachEvent w ms KeepsVotes

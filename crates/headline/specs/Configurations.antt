@@ -46,8 +46,8 @@ node w A = w.a
 node w B = w.b
 
 -- the votes of both desks
-abbrev pub votes_in : {Disk : Type 0} → Configuration Disk → AllVotes
-votes_in w = record { a = process_votes w.a.process; b = process_votes w.b.process }
+abbrev pub all_votes : {Disk : Type 0} → Configuration Disk → AllVotes
+all_votes w = record { a = process_votes w.a.process; b = process_votes w.b.process }
 
 -- the board of this number, from 1 on
 abbrev pub board_at : List BoardState → ℕ → Option BoardState

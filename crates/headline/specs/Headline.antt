@@ -14,7 +14,7 @@ use Rattle.agree_core.specs.Laws.{OneVoteEach, PlacesSettled, RoundsDiffer}
 use Rattle.agree_core.specs.Readers.{other}
 use Rattle.headline.specs.declared.event.Station.{Station}
 use Rattle.headline.specs.Match.{Setting}
-use Rattle.headline.specs.Configurations.{Configuration, node, process_disk, votes_in}
+use Rattle.headline.specs.Configurations.{Configuration, node, process_disk, all_votes}
 use Rattle.headline.specs.Answers.{Answer}
 use Rattle.headline.specs.Runs.{AtEachMoment, AtSomeMoment, Moment, Shows, WasPenned, last_of}
 use Rattle.headline.specs.Noted.{HasNoted, IsBrought, kept_at}
@@ -58,18 +58,18 @@ ArePrefixes w ms =
 abbrev pub WithinAgreed : {Disk Why : Type 0} → Configuration Disk → List (Moment Disk Why) → Type 0
 WithinAgreed w ms =
     (t : Station) (xs agreed : List Entry) → AtSomeMoment w ms (λ v. Shows v t xs)
-    → IsAgreedList (votes_in (last_of w ms)) agreed → BeginsWith agreed xs
+    → IsAgreedList (all_votes (last_of w ms)) agreed → BeginsWith agreed xs
 
 -- for each entry of a book, as it is shown, both desks have voted in one round of its place
 abbrev pub ByBoth : {Disk : Type 0} → Configuration Disk → Type 0
 ByBoth v =
     (t : Station) (xs : List Entry) (place : ℕ) (e : Entry) → Shows v t xs → slice_get xs place ≡ Some e
-    → (round : ℕ) × EqualVotes (votes_in v) place round e
+    → (round : ℕ) × EqualVotes (all_votes v) place round e
 
 -- each vote that a desk now has was penned by its scorer, unchanged
 abbrev pub ArePenned : {Disk Why : Type 0} → Configuration Disk → List (Moment Disk Why) → Type 0
 ArePenned w ms =
-    (d : DeskId) (b : Ballot) → In b (votes_of (votes_in (last_of w ms)) d) → WasPenned w ms d b
+    (d : DeskId) (b : Ballot) → In b (votes_of (all_votes (last_of w ms)) d) → WasPenned w ms d b
 
 -- a station that isn't down shows a book of so many entries, whose score by the Laws is this
 abbrev pub ShowsScore : {Disk : Type 0} → ℕ → Configuration Disk → Station → ℕ → Standing → Type 0
@@ -85,13 +85,13 @@ HaveOneScore innings w ms =
 -- a vote that was handed out is among its desk's votes, and those are in what is read and in every image
 pub record KeptSafe {Disk Why : Type 0} (s : Setting Disk Why) (w : Configuration Disk) : Type 0 where
   pub sent : (n : ℕ) (v : Vote) → slice_get w.sent n ≡ Some (Message.Vote v)
-      → In (ballot_of v) (votes_of (votes_in w) v.desk)
+      → In (ballot_of v) (votes_of (all_votes w) v.desk)
   pub images : (d : DeskId) (image : Option (List Ballot))
       → (s.view d (node w d).version).Image (process_disk (node w d).process) image
-      → (votes : List Ballot) × (image ≡ Some votes) × Within (votes_of (votes_in w) d) votes
+      → (votes : List Ballot) × (image ≡ Some votes) × Within (votes_of (all_votes w) d) votes
   pub reads : (d : DeskId) → (votes : List Ballot)
       × ((s.view d (node w d).version).reads (process_disk (node w d).process) ≡ Some votes)
-      × Within (votes_of (votes_in w) d) votes
+      × Within (votes_of (all_votes w) d) votes
 
 -- how the votes stand: no vote without the one before it, by the votes of the other desk
 pub record VotesStand (v : AllVotes) : Type 0 where
@@ -124,8 +124,8 @@ pub record Headline
 -- what holds besides, at each moment
 pub record StandsFast {Disk Why : Type 0} (s : Setting Disk Why) (w : Configuration Disk) : Type 0 where
   pub safe : KeptSafe s w
-  pub votes : VotesStand (votes_in w)
+  pub votes : VotesStand (all_votes w)
 
 -- no vote is lost by an event
 abbrev pub KeepsVotes : {Disk Why : Type 0} → Configuration Disk → Moment Disk Why → Type 0
-KeepsVotes w m = VotesGrow (votes_in w) (votes_in m.after)
+KeepsVotes w m = VotesGrow (all_votes w) (all_votes m.after)

@@ -7,7 +7,7 @@ use Rattle.entry_log.specs.Slots.{Contents}
 use Rattle.agree_core.specs.Agreed.{IsAgreedList}
 use Rattle.agree_core.specs.Books.{IsAgreedByFiles}
 use Rattle.headline.specs.declared.version.FileVersion.{FileVersion}
-use Rattle.headline.specs.Configurations.{Configuration, votes_in}
+use Rattle.headline.specs.Configurations.{Configuration, all_votes}
 use Rattle.headline.specs.Runs.{AtEachMoment, Begins, Moment, Run, last_of}
 use Rattle.headline.specs.Noted.{KeepsNoted}
 use Rattle.headline.specs.Headline.{AfterEach, AtEachEvent, Headline, IsSoundAnswer, KeepsVotes, StandsFast, WithinAgreed}
@@ -16,8 +16,8 @@ use Rattle.headline.specs.Match.{Setting, setting_of}
 -- the list that both files show is the agreed list of the last votes
 abbrev pub FilesShowAgreed : {Disk Why : Type 0} → Configuration Disk → List (Moment Disk Why) → Type 0
 FilesShowAgreed w ms =
-    (xs : List Entry) → IsAgreedByFiles (votes_in (last_of w ms)).a (votes_in (last_of w ms)).b xs
-    → IsAgreedList (votes_in (last_of w ms)) xs
+    (xs : List Entry) → IsAgreedByFiles (all_votes (last_of w ms)).a (all_votes (last_of w ms)).b xs
+    → IsAgreedList (all_votes (last_of w ms)) xs
 
 -- what holds in a run
 pub record HoldsInRun

@@ -13,7 +13,7 @@ use Rattle.headline.specs.Migrations.{Migrates, ToNew}
 use Rattle.live.specs.Desks.{DeskCall, DeskProcess, DeskStep}
 use Rattle.live.specs.Runs as own
 use Rattle.processes.specs.Happenings.{BoardBegun, BoardCalled, DeskBegun, DeskCalled, DeskEnded, FileMigrated, Happening, PowerLost, begun, migrated}
-use Rattle.processes.specs.Lives.{Beginning, BeginsOn, ComesNext, CutOff, ProcessEnd, IsLife, FileMigration, PowerLoss, CallsMade, RunsFrom, Stage, after_calls, after_life, after_stage, calls_of, fresh, life_happens, stage_happens}
+use Rattle.processes.specs.Lives.{Beginning, BeginsOn, IsNextStage, CutOff, ProcessEnd, IsLife, FileMigration, PowerLoss, CallsMade, RunsFrom, Stage, after_calls, after_life, after_stage, calls_of, fresh, life_happens, stage_happens}
 use Rattle.processes.proofs.Local.{Local, local-append, nexts, nexts-append}
 
 module _ {Disk : Type 0} where
@@ -67,7 +67,7 @@ module _ {Disk : Type 0} (view : FileVersion → FileView Disk) (seen : Disk →
         ap (λ (y : Node Disk). next_desk y (DeskCalled d m.call m.out ((λ (p : DeskProcess Disk). p.desk) m.after))) before.1,
       )
 
-  one_stage : (x : Node Disk) (stage : Stage Disk) → ComesNext view seen faults d game innings x stage → Goes x (stage_happens d stage) (after_stage x stage)
+  one_stage : (x : Node Disk) (stage : Stage Disk) → IsNextStage view seen faults d game innings x stage → Goes x (stage_happens d stage) (after_stage x stage)
   one_stage x (CallsMade ms) h =
       subst (λ (p : Process Disk). Goes (with_run x p) (calls_of d ms) (with_run x (after_calls p ms))) (sym h.1) (calls x h.0 ms h.2)
   one_stage x (CutOff call l) h = ((tt, (h.0, h.1, h.3)), refl)

@@ -10,7 +10,7 @@ use Rattle.headline.specs.Headline.{AfterEach, ArePenned, ByBoth, NoneKeepsBoth,
 use Rattle.headline.specs.Match.{Setting, setting_of}
 use Rattle.headline.specs.Runs.{Begins, Moment, Shows}
 use Rattle.headline.specs.declared.version.FileVersion.{FileVersion}
-use Rattle.headline.specs.Configurations.{Node, Configuration, votes_in}
+use Rattle.headline.specs.Configurations.{Node, Configuration, all_votes}
 use Rattle.corrections.specs.declared.refusal.Refusal.{Refusal}
 use Rattle.processes.specs.Laws.{FlowsAreRuns, FlowsHaveHeadline}
 use Rattle.processes.proofs.FlowSteps.{IsCalm}
@@ -41,7 +41,7 @@ module _ {Disk : Type 0} (seen : Disk → List ℕ) (images : Disk → Images) w
       record {
         prefixes = λ t u xs ys x y. h.prefixes t u xs ys (at_some (λ v. Shows v t xs) w hs p.0 p.2 x) (at_some (λ v. Shows v u ys) w hs p.0 p.2 y);
         by_both = at_each ByBoth w hs p.0 p.2 h.by_both.0;
-        typed = λ d b i. p.4 d b (now_penned w p.0 h.by_both.1 d b (subst (λ (v : Configuration Disk). In b (votes_of (votes_in v) d)) (sym p.3) i));
+        typed = λ d b i. p.4 d b (now_penned w p.0 h.by_both.1 d b (subst (λ (v : Configuration Disk). In b (votes_of (all_votes v) d)) (sym p.3) i));
         scores = λ t u n score other x y. h.scores t u n score other (at_some (λ v. ShowsScore innings v t n score) w hs p.0 p.2 x) (at_some (λ v. ShowsScore innings v u n other) w hs p.0 p.2 y);
         none_waits = at_each NoneKeepsBoth w hs p.0 p.2 (each_moment s w p.0 NoneKeepsBoth (none_keeps_both s) (begins_fine s version boards w f.0) p.1);
       }

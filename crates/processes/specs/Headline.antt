@@ -7,7 +7,7 @@ use Rattle.agree_core.specs.Agreed.{BeginsWith}
 use Rattle.agree_core.specs.Ballots.{Ballot, In, votes_of}
 use Rattle.agree_core.specs.Desks.{DeskState}
 use Rattle.headline.specs.declared.event.Station.{Station}
-use Rattle.headline.specs.Configurations.{Running, Configuration, node, votes_in}
+use Rattle.headline.specs.Configurations.{Running, Configuration, node, all_votes}
 use Rattle.headline.specs.Runs.{Shows}
 use Rattle.headline.specs.Headline.{ByBoth, NoneKeepsBoth, ShowsScore}
 use Rattle.live.specs.Desks as desks
@@ -44,7 +44,7 @@ pub record ProcessHeadline {Disk : Type 0} (innings : ℕ) (w : Configuration Di
   -- both desks have voted in one round for each entry of a book that a process shows
   pub by_both : AtEachTime w hs ByBoth
   -- each vote of a desk was typed there, at its position, as a line that says its entry
-  pub typed : (d : DeskId) (b : Ballot) → In b (votes_of (votes_in (after w hs)) d) → WasTyped w hs d b
+  pub typed : (d : DeskId) (b : Ballot) → In b (votes_of (all_votes (after w hs)) d) → WasTyped w hs d b
   -- books of one length have one score by the Laws, whichever processes show them at whatever times
   pub scores : (t u : Station) (n : ℕ) (score other : Standing)
       → AtSomeTime w hs (λ v. ShowsScore innings v t n score)

@@ -90,24 +90,24 @@ module _
     {Disk : Type 0} (view : FileVersion → FileView Disk) (seen : Disk → List ℕ) (faults : Disk → Faults) (d : DeskId)
     (game innings : ℕ) where
   -- the stage may come next
-  abbrev pub ComesNext : Node Disk → Stage Disk → Type 0
-  ComesNext x (CallsMade ms) =
+  abbrev pub IsNextStage : Node Disk → Stage Disk → Type 0
+  IsNextStage x (CallsMade ms) =
       (k : DeskState Disk) × (x.process ≡ Running k) × RunsFrom (view x.version) faults game innings k ms
-  ComesNext x (CutOff call l) =
+  IsNextStage x (CutOff call l) =
       (k : DeskState Disk) × (x.process ≡ Running k) × (course_after call ≡ Err Device)
       × DeskStep (view x.version) game innings k call [] l
-  ComesNext x (ProcessEnd disk) = (k : DeskState Disk) × (x.process ≡ Running k) × Stays (view x.version) k.disk disk
-  ComesNext x (PowerLoss disk) = LosesPower (view x.version) (process_disk x.process) disk
-  ComesNext x (Beginning opening) =
+  IsNextStage x (ProcessEnd disk) = (k : DeskState Disk) × (x.process ≡ Running k) × Stays (view x.version) k.disk disk
+  IsNextStage x (PowerLoss disk) = LosesPower (view x.version) (process_disk x.process) disk
+  IsNextStage x (Beginning opening) =
       (votes : List Ballot) × (disk : Disk) × (x.process ≡ Down votes disk)
       × BeginsOn (view x.version) seen innings d disk opening
-  ComesNext x (FileMigration votes new) =
+  IsNextStage x (FileMigration votes new) =
       (had : List Ballot) × (disk : Disk) × (x.process ≡ Down had disk) × (x.version ≡ Old)
       × Migrates view disk (ToNew votes new)
 
   abbrev pub IsLife : Node Disk → List (Stage Disk) → Type 0
   IsLife x [] = Unit {0}
-  IsLife x (stage ∷ stages) = IsLife x stages × ComesNext (after_life x stages) stage
+  IsLife x (stage ∷ stages) = IsLife x stages × IsNextStage (after_life x stages) stage
 
 -- what happens at a desk in a stage, and in its life
 abbrev pub calls_of : {Disk : Type 0} → DeskId → List (own.Moment (DeskProcess Disk) DeskCall) → List (Happening Disk)

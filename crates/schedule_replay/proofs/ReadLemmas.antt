@@ -10,7 +10,7 @@ use Rattle.agree_core.specs.Books.{book_of}
 use Rattle.vote_store.specs.View.{votes_shown}
 use Rattle.schedule_replay.specs.declared.site.Site.{Site}
 use Rattle.schedule_replay.specs.declared.world.World.{World}
-use Rattle.headline.specs.Configurations.{Node, Configuration, node, process_disk, process_votes, votes_in}
+use Rattle.headline.specs.Configurations.{Node, Configuration, node, process_disk, process_votes, all_votes}
 use Rattle.headline.specs.Match.{format_of, match_of}
 use Rattle.schedule_replay.specs.inner.Sites.{HasNode, PutsDown}
 use Rattle.schedule_replay.specs.CodeWorlds.{HasConfiguration, code_site}
@@ -84,7 +84,7 @@ pub files_read : (game innings : ℕ) (w : Configuration MemDisk) → Fine (matc
 files_read game innings w f d =
     let s = match_of game innings in
     let x = node w d in
-    let theirs = votes_of (votes_in w) (other d) in
+    let theirs = votes_of (all_votes w) (other d) in
     more theirs (process_votes x.process) ((s.view d x.version).reads (process_disk x.process)) (fine_disk s x.version d theirs x.process (node_fine s w d f)).0
   where
     more : (theirs votes : List Ballot) (shown : Option (List Ballot)) → ShowsMore theirs votes shown → (later : List Ballot) × (shown ≡ Some (later ++ votes))

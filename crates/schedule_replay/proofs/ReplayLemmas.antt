@@ -21,7 +21,7 @@ use Rattle.schedule_replay.specs.declared.seen.WorldRefusal.{WorldRefusal}
 use Rattle.schedule_replay.specs.declared.seen.WorldRefusal.TheVariants.{NoMemory}
 use Rattle.headline.specs.declared.version.FileVersion.{FileVersion}
 use Rattle.schedule_replay.specs.declared.world.World.{World}
-use Rattle.headline.specs.Configurations.{Configuration, fresh_boards, votes_in, with_board, with_node}
+use Rattle.headline.specs.Configurations.{Configuration, fresh_boards, all_votes, with_board, with_node}
 use Rattle.headline.specs.Events.{station_of}
 use Rattle.headline.specs.Answers.{Answer}
 use Rattle.headline.specs.Steps.{Step, StepAt}
@@ -241,7 +241,7 @@ module _ (game innings : ℕ) (version : FileVersion) (boards : ℕ) (events : L
       (omega (arith, e, long, length-append book b.0), sym (take_front book b.0) ∙ (λ i. take (sym e i) (b.1 i)))
 
   -- what is reported of the whole run
-  pub reported : (number : ℕ) (world : World) (report : Report) → number ≡ length events → IsAfter game innings version boards events number world report.outcomes.items report.seen.items → StandOnce report.seen.items → ((w : Configuration MemDisk) → HasConfiguration world w → FilesRead world.game world.innings_a_side w → IsAgreedByFiles (votes_in w).a (votes_in w).b report.agreed.items) → IsReplay game innings version boards events report
+  pub reported : (number : ℕ) (world : World) (report : Report) → number ≡ length events → IsAfter game innings version boards events number world report.outcomes.items report.seen.items → StandOnce report.seen.items → ((w : Configuration MemDisk) → HasConfiguration world w → FilesRead world.game world.innings_a_side w → IsAgreedByFiles (all_votes w).a (all_votes w).b report.agreed.items) → IsReplay game innings version boards events report
   reported number world report e h once files =
       let p = h.at in
       let w = p.0 in
@@ -251,7 +251,7 @@ module _ (game innings : ℕ) (version : FileVersion) (boards : ℕ) (events : L
       let s = match_of game innings in
       let all : take number events ≡ events = ap (λ (n : ℕ). take n events) e ∙ take-length events in
       let holds = holds_in_run s innings version boards w ms run.begins run.run in
-      let agreed : IsAgreedList (votes_in (last_of w ms)) report.agreed.items =
+      let agreed : IsAgreedList (all_votes (last_of w ms)) report.agreed.items =
       holds.by_files report.agreed.items (files (last_of w ms) at.has_configuration (read_at number world report.outcomes.items w ms at)) in (
         w,
         ms,

@@ -14,7 +14,7 @@ use Rattle.schedule_replay.specs.declared.seen.WorldRefusal.{WorldRefusal}
 use Rattle.schedule_replay.specs.declared.seen.WorldRefusal.TheVariants.{NoMemory}
 use Rattle.headline.specs.declared.version.FileVersion.{FileVersion}
 use Rattle.headline.specs.Laws.{HoldsInRun}
-use Rattle.headline.specs.Configurations.{Configuration, votes_in}
+use Rattle.headline.specs.Configurations.{Configuration, all_votes}
 use Rattle.headline.specs.Runs.{AtEachMoment, AtSomeMoment, Begins, Moment, Run, Shows, answers_of, events_of, last_of}
 use Rattle.headline.specs.Headline.{AtEachEvent, ShowsScore}
 use Rattle.schedule_replay.specs.Refusals.{RefusesEvent}
@@ -97,7 +97,7 @@ pub record IsReportOf
   pub run : IsRunOf game innings version boards events report.outcomes.items w ms
   pub holds : HoldsInRun (match_of game innings) innings w ms
   -- the agreed list is that of the last votes
-  pub agreed : IsAgreedList (votes_in (last_of w ms)) report.agreed.items
+  pub agreed : IsAgreedList (all_votes (last_of w ms)) report.agreed.items
   -- each station that isn't down shows a score; a station, a length and a score are seen exactly where the run
   -- shows them, once each; and each score is the Laws' score of so many first entries of the agreed list
   pub scored : AtEachMoment w ms (ShowScores innings)

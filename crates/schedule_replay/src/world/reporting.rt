@@ -5,7 +5,7 @@ ghost use Rattle.agree_core.specs.Books.{IsAgreedByFiles};
 ghost use Rattle.schedule_replay.specs.CodeWorlds.{HasConfiguration};
 ghost use Rattle.schedule_replay.specs.inner.ShownScores.{HaveScores, IsKept, IsNotable, Notes};
 ghost use Rattle.schedule_replay.specs.inner.VotesFiles.{FilesRead};
-ghost use Rattle.headline.specs.Configurations.{Configuration, votes_in};
+ghost use Rattle.headline.specs.Configurations.{Configuration, all_votes};
 ghost use Rattle.entry_log.specs.declared.mem_disk.MemDisk.{MemDisk};
 
 use crate::shown_scores::ShownScores;
@@ -40,7 +40,7 @@ impl World {
             × FilesRead self.game self.innings_a_side w }
         ensures { IfOk result (λ list. (w : Configuration MemDisk) → HasConfiguration self w
             → FilesRead self.game self.innings_a_side w
-            → IsAgreedByFiles (votes_in w).a (votes_in w).b list.items) }
+            → IsAgreedByFiles (all_votes w).a (all_votes w).b list.items) }
     {
         let alloc = self.alloc;
         let (a, a_count) = self.a.into_votes()?;
