@@ -2,7 +2,7 @@
 use Rattle.std.proofs.Common.{ℕ, List, [], ◌∷◌, refl, subst, sym, ap}
 use Rattle.entry_log.specs.Disk.{Images}
 use Rattle.agree_core.specs.declared.messages.DeskId.TheVariants.{A, B}
-use Rattle.agree_core.specs.Ballots.{Ballot, In, votes_of}
+use Rattle.agree_core.specs.Ballots.{In, votes_of}
 use Rattle.headline.proofs.Keeping.{begins_fine}
 use Rattle.headline.proofs.Shown.{each_moment, none_keeps_both}
 use Rattle.headline.proofs.EveryRun.{holds_in_run}

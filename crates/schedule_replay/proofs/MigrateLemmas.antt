@@ -31,7 +31,7 @@ use Rattle.schedule_replay.specs.declared.seen.WorldRefusal.{WorldRefusal}
 use Rattle.schedule_replay.specs.declared.site.Site.{Site}
 use Rattle.headline.specs.declared.version.FileVersion.{FileVersion}
 use Rattle.headline.specs.declared.version.FileVersion.TheVariants as versions
-use Rattle.headline.specs.Configurations.{Process, Down, Node}
+use Rattle.headline.specs.Configurations.{Down, Node}
 use Rattle.headline.specs.Answers.{Answer}
 use Rattle.headline.specs.Migrations.{Failed, MigratesAt, NotSound, ToNew}
 use Rattle.headline.specs.Match.{format_of, most_bytes}

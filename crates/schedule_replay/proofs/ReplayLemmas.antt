@@ -21,7 +21,7 @@ use Rattle.schedule_replay.specs.declared.seen.WorldRefusal.{WorldRefusal}
 use Rattle.schedule_replay.specs.declared.seen.WorldRefusal.TheVariants.{NoMemory}
 use Rattle.headline.specs.declared.version.FileVersion.{FileVersion}
 use Rattle.schedule_replay.specs.declared.world.World.{World}
-use Rattle.headline.specs.Configurations.{Configuration, fresh_boards, all_votes, with_board, with_node}
+use Rattle.headline.specs.Configurations.{Configuration, all_votes, with_board}
 use Rattle.headline.specs.Events.{station_of}
 use Rattle.headline.specs.Answers.{Answer}
 use Rattle.headline.specs.Steps.{Step, StepAt}
