@@ -10,8 +10,11 @@ use Rattle.vote_store.specs.Refusal.{number, name}
 use Rattle.vote_store.specs.declared.refusal.Refusal.{Refusal}
 use Rattle.vote_store.specs.declared.refusal.Refusal.TheVariants as votes
 use Rattle.entry_log.specs.declared.refusal.Refusal.TheVariants as files
+use Rattle.desk.specs.declared.refusal.OpenRefusal.{OpenRefusal}
+use Rattle.desk.specs.declared.refusal.OpenRefusal.TheVariants as openings
 use Rattle.books.specs.declared.fault.RunFault.{RunFault}
 use Rattle.books.specs.declared.fault.RunFault.TheVariants.{NoMemory, Read, Write, Device, Sheet, Schedule, Votes, BadVotes, Line, NotAgreed}
+use Rattle.books.specs.declared.fault.TheConstants.{TURNS}
 use Rattle.books.specs.Rejected.{rejection_line}
 
 -- the fault of a run over a sheet that is refused: being out of memory is its own
@@ -29,6 +32,11 @@ abbrev pub of_votes : Refusal → RunFault
 of_votes votes.NoMemory = NoMemory
 of_votes (votes.File files.Device) = Device
 of_votes why = Votes why
+
+-- the same of a desk that isn't made on a votes file
+abbrev pub of_opening : OpenRefusal → RunFault
+of_opening (openings.Votes why) = of_votes why
+of_opening (openings.BadVotes place) = BadVotes place
 
 -- whether a sheet, a schedule, a votes file or a line is refused for what it holds, and no memory, stream or disk is to blame
 abbrev pub is_refusal : RunFault → Bool
@@ -63,6 +71,10 @@ abbrev pub votes_line : Refusal → List ℕ
 votes_line (votes.File files.Device) = codes "cannot write\n"
 votes_line why = numbered_line (codes "votes") (number why) (name why)
 
+-- the line of a place that so many turns of each station didn't agree
+abbrev pub turns_line : ℕ → ℕ → List ℕ
+turns_line place turns = codes "place " ++ decimal place ++ codes " not agreed in " ++ decimal turns ++ codes " turns\n"
+
 -- the line of a fault that was met at this path
 abbrev pub fault_line : List ℕ → RunFault → List ℕ
 fault_line path NoMemory = codes "no memory\n"
@@ -74,4 +86,4 @@ fault_line path (Schedule why) = schedule_line why
 fault_line path (Votes why) = votes_line why
 fault_line path (BadVotes place) = codes "votes: 64 BadVotes\n"
 fault_line path (Line number why) = rejection_line number why
-fault_line path (NotAgreed place) = codes "place " ++ decimal place ++ codes " not agreed in 50 turns\n"
+fault_line path (NotAgreed place) = turns_line place TURNS

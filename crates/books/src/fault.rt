@@ -6,9 +6,13 @@ ghost use Rattle.books.specs.Fault as texts;
 
 use crate::rejected::{Rejected, print_rejected};
 use cards::{SheetFault, Watched, WriteFailed};
+use desk::OpenRefusal;
 use schedules::ScheduleFault;
 use std::alloc::AllocError;
 use std::io::Write;
+
+/// How many turns each station of a match has for a place at most.
+pub const TURNS: usize = 50;
 
 /// Why a run ends before its end.
 #[derive(Clone, Copy, Debug, PartialEq, Eq)]
@@ -31,7 +35,7 @@ pub enum RunFault {
     BadVotes { place: u32 },
     /// A pen line isn't taken. Lines are numbered from 1.
     Line { number: u64, why: Rejected },
-    /// The stations didn't agree this place in fifty turns each.
+    /// The stations didn't agree this place in `TURNS` turns each.
     NotAgreed { place: u32 },
 }
 
@@ -103,6 +107,19 @@ impl From<vote_store::Refusal> for RunFault {
     }
 }
 
+impl From<OpenRefusal> for RunFault {
+    ghost use Rattle.books.specs.Fault.{of_opening};
+
+    ghost from_gives = { λ why fault. fault ≡ of_opening why };
+
+    fn from(why: OpenRefusal) -> Self {
+        match why {
+            OpenRefusal::Votes(why) => RunFault::from(why),
+            OpenRefusal::BadVotes { place } => RunFault::BadVotes { place },
+        }
+    }
+}
+
 fn print_sheet_fault<W: Write>(out: &mut Watched<W>, why: SheetFault) -> Result<(), WriteFailed>
     ensures text { OnOk result (Prints W.contents out.old out.new (texts.sheet_line why)) }
     ensures failed { TellsFailure result out.old out.new }
@@ -142,6 +159,17 @@ fn print_votes_fault<W: Write>(
     }
 }
 
+fn print_not_agreed<W: Write>(
+    out: &mut Watched<W>,
+    place: u32,
+    turns: usize,
+) -> Result<(), WriteFailed>
+    ensures text { OnOk result (Prints W.contents out.old out.new (texts.turns_line place turns)) }
+    ensures failed { TellsFailure result out.old out.new }
+{
+    writeln!(out, "place {place} not agreed in {turns} turns")
+}
+
 /// Prints the line that standard error has of a fault. `path` is the file that was at work, `-` for standard
 /// input.
 pub fn print_fault<W: Write>(
@@ -161,6 +189,6 @@ pub fn print_fault<W: Write>(
         RunFault::Votes(why) => print_votes_fault(out, why),
         RunFault::BadVotes { .. } => writeln!(out, "votes: 64 BadVotes"),
         RunFault::Line { number, why } => print_rejected(out, number, why),
-        RunFault::NotAgreed { place } => writeln!(out, "place {place} not agreed in 50 turns"),
+        RunFault::NotAgreed { place } => print_not_agreed(out, place, TURNS),
     }
 }

@@ -13,7 +13,7 @@ mod table;
 
 pub use card::{Source, book_from, card_run};
 pub use check::check_run;
-pub use fault::{RunFault, print_fault};
+pub use fault::{RunFault, TURNS, print_fault};
 pub use input::read_all;
 pub use rejected::{Refusal, Rejected, print_rejected};
 pub use sheet::sheet_run;

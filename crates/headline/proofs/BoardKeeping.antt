@@ -5,7 +5,7 @@ use Rattle.agree_core.specs.Ballots.{AllVotes}
 use Rattle.agree_core.specs.Boards.{BoardState}
 use Rattle.agree_core.specs.Keeping.{BoardFine, Each}
 use Rattle.agree_core.proofs.Boards.{fresh_fine}
-use Rattle.headline.specs.Worlds.{board_at, fresh_boards, with_board}
+use Rattle.headline.specs.Configurations.{board_at, fresh_boards, with_board}
 
 pub each_append : {X : Type 0} (P : X → Type 0) (xs ys : List X) → Each P xs → Each P ys → Each P (xs ++ ys)
 each_append P [] ys h k = k

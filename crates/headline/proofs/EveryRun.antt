@@ -2,7 +2,8 @@
 use Rattle.std.proofs.Common.{ℕ, List}
 use Rattle.agree_core.proofs.FileBooks.{agreed_by_files}
 use Rattle.headline.specs.declared.version.FileVersion.{FileVersion}
-use Rattle.headline.specs.Worlds.{Setting, World, votes_in}
+use Rattle.headline.specs.Match.{Setting}
+use Rattle.headline.specs.Configurations.{Configuration, all_votes}
 use Rattle.headline.specs.Runs.{Begins, Moment, Run, last_of}
 use Rattle.headline.specs.Noted.{KeepsNoted}
 use Rattle.headline.specs.Headline.{ByBoth, Headline, NoneWaits, StandsFast, TakesSecond}
@@ -16,7 +17,7 @@ use Rattle.headline.proofs.Shown.{by_both, each_moment, one_book_shown, stands_f
 use Rattle.headline.proofs.Sound.{sound_answers}
 
 module _ {Disk Why : Type 0} (s : Setting Disk Why) (innings : ℕ) where
-  headline : (version : FileVersion) (n : ℕ) (w : World Disk) (ms : List (Moment Disk Why)) → Begins s version n w → Run s w ms → Headline s innings w ms
+  headline : (version : FileVersion) (n : ℕ) (w : Configuration Disk) (ms : List (Moment Disk Why)) → Begins s version n w → Run s w ms → Headline s innings w ms
   headline version n w ms e r =
       let f = begins_fine s version n w e in
       record {
@@ -26,13 +27,13 @@ module _ {Disk Why : Type 0} (s : Setting Disk Why) (innings : ℕ) where
         has_entry = (after_each s w ms (TakesSecond s w) (takes_second s version n w e) r, after_each s w ms (NoneWaits s w) (none_waits s version n w e) r);
       }
 
-  pub holds_in_run : (version : FileVersion) (n : ℕ) (w : World Disk) (ms : List (Moment Disk Why)) → Begins s version n w → Run s w ms → HoldsInRun s innings w ms
+  pub holds_in_run : (version : FileVersion) (n : ℕ) (w : Configuration Disk) (ms : List (Moment Disk Why)) → Begins s version n w → Run s w ms → HoldsInRun s innings w ms
   holds_in_run version n w ms e r =
       let f = begins_fine s version n w e in
       record {
         headline = headline version n w ms e r;
         within_agreed = within_agreed s w ms f r;
-        by_files = λ xs h. agreed_by_files (votes_in (last_of w ms)) (all_justified s (last_of w ms) (run_keeps s w ms f r)) xs h;
+        by_files = λ xs h. agreed_by_files (all_votes (last_of w ms)) (all_justified s (last_of w ms) (run_keeps s w ms f r)) xs h;
         noted = after_each s w ms (KeepsNoted s w) (λ ns q. keeps_noted s version n w ns e q) r;
         votes_kept = votes_kept s w ms f r;
         stands_fast = each_moment s w ms (StandsFast s) (stands_fast s) f r;

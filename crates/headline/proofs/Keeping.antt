@@ -5,7 +5,7 @@ use Rattle.notation.specs.declared.entry.Entry.{Entry}
 use Rattle.agree_core.specs.declared.messages.DeskId.{DeskId}
 use Rattle.agree_core.specs.declared.messages.DeskId.TheVariants.{A, B}
 use Rattle.agree_core.specs.declared.messages.Message.{Message}
-use Rattle.agree_core.specs.Ballots.{AllJustified, AllVotes, Ballot, In, Justified, VotesGrow, Within, ballot_of}
+use Rattle.agree_core.specs.Ballots.{AllJustified, AllVotes, Ballot, In, Justified, VotesGrow, Within, ballot_of, votes_of}
 use Rattle.agree_core.specs.Ballots as ballots
 use Rattle.agree_core.specs.Boards.{BoardState}
 use Rattle.agree_core.specs.Desks.{DeskState, PenAnswer, ReceiveAnswer}
@@ -21,9 +21,15 @@ use Rattle.headline.specs.declared.fault.Fault.TheVariants.{Fail, Stop}
 use Rattle.headline.specs.declared.fault.Fault.{Fault}
 use Rattle.headline.specs.declared.version.FileVersion.{FileVersion}
 use Rattle.headline.specs.declared.version.FileVersion.TheVariants.{Old, New}
-use Rattle.headline.specs.Worlds.{Process, Running, Down, Setting, Site, World, disk_of, site, votes_in, votes_of, with_disk, with_site}
+use Rattle.headline.specs.Match.{Setting}
+use Rattle.headline.specs.Configurations.{Process, Running, Down, Node, Configuration, node, process_disk, process_votes, all_votes, with_disk, with_node}
 use Rattle.headline.specs.Events.{station_of}
-use Rattle.headline.specs.Steps.{AfterOpen, AfterPen, AfterReceive, Answer, AtBoard, AtDesk, Breaks, FallsDue, LosesPower, Migrates, MigratesAt, Migration, AfterMigration, ToNew, NotSound, Failed, StaysDownBy, Step, StepAt}
+use Rattle.headline.specs.Answers.{Answer}
+use Rattle.headline.specs.DeskFaults.{Breaks, FallsDue, LosesPower, StaysDownBy}
+use Rattle.headline.specs.Migrations.{Migrates, MigratesAt, Migration, AfterMigration, ToNew, NotSound, Failed}
+use Rattle.headline.specs.DeskSteps.{AfterOpen, AfterPen, AfterReceive, AtDesk}
+use Rattle.headline.specs.BoardSteps.{AtBoard}
+use Rattle.headline.specs.Steps.{Step, StepAt}
 use Rattle.headline.specs.Runs.{Begins, BeginsAt, Moment, Run, last_of}
 use Rattle.agree_core.specs.Keeping.{BoardFine, DeskFine, DeskKept, DiskFine, Each, MessageFine, MineFine, OneMore, OwnMessage, ShowsMore, TheirMessage}
 use Rattle.agree_core.proofs.Both.{both_grow, same}
@@ -36,85 +42,85 @@ module _ {Disk Why : Type 0} (s : Setting Disk Why) where
   ProcessFine v d theirs (Running k) = DeskFine (s.view d v) d theirs k
   ProcessFine v d theirs (Down votes disk) = Justified theirs votes × DiskFine (s.view d v) d theirs votes disk
 
-  pub record SiteKept (v : FileVersion) (d : DeskId) (theirs : List Ballot) (x y : Process Disk) (out : List Message) : Type 0 where
+  pub record NodeKept (v : FileVersion) (d : DeskId) (theirs : List Ballot) (x y : Process Disk) (out : List Message) : Type 0 where
     pub fine : ProcessFine v d theirs y
-    pub grows : Within (votes_of x) (votes_of y)
-    pub told : Each (OwnMessage d (votes_of y)) out
+    pub grows : Within (process_votes x) (process_votes y)
+    pub told : Each (OwnMessage d (process_votes y)) out
 
-  pub process_justified : (v : FileVersion) (d : DeskId) (theirs : List Ballot) (x : Process Disk) → ProcessFine v d theirs x → Justified theirs (votes_of x)
+  pub process_justified : (v : FileVersion) (d : DeskId) (theirs : List Ballot) (x : Process Disk) → ProcessFine v d theirs x → Justified theirs (process_votes x)
   process_justified v d theirs (Running k) f = let t = f.seat in t.justified
   process_justified v d theirs (Down votes disk) f = f.0
 
-  pub process_disk : (v : FileVersion) (d : DeskId) (theirs : List Ballot) (x : Process Disk) → ProcessFine v d theirs x → DiskFine (s.view d v) d theirs (votes_of x) (disk_of x)
-  process_disk v d theirs (Running k) f = f.disk
-  process_disk v d theirs (Down votes disk) f = f.1
+  pub fine_disk : (v : FileVersion) (d : DeskId) (theirs : List Ballot) (x : Process Disk) → ProcessFine v d theirs x → DiskFine (s.view d v) d theirs (process_votes x) (process_disk x)
+  fine_disk v d theirs (Running k) f = f.disk
+  fine_disk v d theirs (Down votes disk) f = f.1
 
   pub running : (v : FileVersion) (d : DeskId) (theirs : List Ballot) (x : Process Disk) (k : DeskState Disk) → x ≡ Running k → ProcessFine v d theirs x → DeskFine (s.view d v) d theirs k
   running v d theirs x k e f = subst (ProcessFine v d theirs) e f
 
   -- a desk has gone on
-  gone_on : (v : FileVersion) (d : DeskId) (theirs : List Ballot) (x : Process Disk) (k l : DeskState Disk) (out : List Message) → x ≡ Running k → DeskKept (s.view d v) d theirs k l out → SiteKept v d theirs x (Running l) out
-  gone_on v d theirs x k l out e h = record { fine = h.fine; grows = subst (λ (p : Process Disk). Within (votes_of p) l.votes) (sym e) h.grows; told = h.told }
+  gone_on : (v : FileVersion) (d : DeskId) (theirs : List Ballot) (x : Process Disk) (k l : DeskState Disk) (out : List Message) → x ≡ Running k → DeskKept (s.view d v) d theirs k l out → NodeKept v d theirs x (Running l) out
+  gone_on v d theirs x k l out e h = record { fine = h.fine; grows = subst (λ (p : Process Disk). Within (process_votes p) l.votes) (sym e) h.grows; told = h.told }
 
-  gone_down : (v : FileVersion) (d : DeskId) (theirs : List Ballot) (x : Process Disk) (k l : DeskState Disk) (disk : Disk) (out : List Message) → x ≡ Running k → Stays (s.view d v) l.disk disk → DeskKept (s.view d v) d theirs k l out → SiteKept v d theirs x (Down l.votes disk) out
+  gone_down : (v : FileVersion) (d : DeskId) (theirs : List Ballot) (x : Process Disk) (k l : DeskState Disk) (disk : Disk) (out : List Message) → x ≡ Running k → Stays (s.view d v) l.disk disk → DeskKept (s.view d v) d theirs k l out → NodeKept v d theirs x (Down l.votes disk) out
   gone_down v d theirs x k l disk out e t h =
       let f = h.fine in
       let g = f.seat in
       record {
         fine = (g.justified, stays_fine (s.view d v) d theirs l.votes l.disk disk t f.disk);
-        grows = subst (λ (p : Process Disk). Within (votes_of p) l.votes) (sym e) h.grows;
+        grows = subst (λ (p : Process Disk). Within (process_votes p) l.votes) (sym e) h.grows;
         told = h.told;
       }
 
-  abbrev KeptAt : DeskId → List Ballot → Process Disk → Site Disk → List Message → Type 0
-  KeptAt d theirs x y out = SiteKept y.version d theirs x y.process out
+  abbrev KeptAt : DeskId → List Ballot → Process Disk → Node Disk → List Message → Type 0
+  KeptAt d theirs x y out = NodeKept y.version d theirs x y.process out
 
-  broken : (d : DeskId) (theirs : List Ballot) (x : Site Disk) (k l : DeskState Disk) (answer : Answer Why) (y : Site Disk) (out : List Message) → x.process ≡ Running k → DeskKept (s.view d x.version) d theirs k l out → Breaks (s.view d x.version) x l answer y → KeptAt d theirs x.process y out
-  broken d theirs x k l answer y out e h (Fail, u, p) = subst (λ (z : Site Disk). KeptAt d theirs x.process z out) (sym p.1) (gone_on x.version d theirs x.process k l out e h)
-  broken d theirs x k l answer y out e h (Stop, u, p) = subst (λ (z : Site Disk). KeptAt d theirs x.process z out) (sym p.3) (gone_down x.version d theirs x.process k l p.0 out e p.2 h)
+  broken : (d : DeskId) (theirs : List Ballot) (x : Node Disk) (k l : DeskState Disk) (answer : Answer Why) (y : Node Disk) (out : List Message) → x.process ≡ Running k → DeskKept (s.view d x.version) d theirs k l out → Breaks (s.view d x.version) x l answer y → KeptAt d theirs x.process y out
+  broken d theirs x k l answer y out e h (Fail, u, p) = subst (λ (z : Node Disk). KeptAt d theirs x.process z out) (sym p.1) (gone_on x.version d theirs x.process k l out e h)
+  broken d theirs x k l answer y out e h (Stop, u, p) = subst (λ (z : Node Disk). KeptAt d theirs x.process z out) (sym p.3) (gone_down x.version d theirs x.process k l p.0 out e p.2 h)
 
-  runs_on : (d : DeskId) (theirs : List Ballot) (x : Site Disk) (k l : DeskState Disk) (y : Site Disk) (out : List Message) → x.process ≡ Running k → DeskKept (s.view d x.version) d theirs k l out → y ≡ record x { process = Running l } → KeptAt d theirs x.process y out
-  runs_on d theirs x k l y out e h q = subst (λ (z : Site Disk). KeptAt d theirs x.process z out) (sym q) (gone_on x.version d theirs x.process k l out e h)
+  runs_on : (d : DeskId) (theirs : List Ballot) (x : Node Disk) (k l : DeskState Disk) (y : Node Disk) (out : List Message) → x.process ≡ Running k → DeskKept (s.view d x.version) d theirs k l out → y ≡ record x { process = Running l } → KeptAt d theirs x.process y out
+  runs_on d theirs x k l y out e h q = subst (λ (z : Node Disk). KeptAt d theirs x.process z out) (sym q) (gone_on x.version d theirs x.process k l out e h)
 
-  after_pen : (d : DeskId) (theirs : List Ballot) (x : Site Disk) (k l : DeskState Disk) (told : PenAnswer Why) (answer : Answer Why) (y : Site Disk) (out : List Message) → x.process ≡ Running k → DeskKept (s.view d x.version) d theirs k l out → AfterPen (s.view d x.version) x told l answer y → KeptAt d theirs x.process y out
+  after_pen : (d : DeskId) (theirs : List Ballot) (x : Node Disk) (k l : DeskState Disk) (told : PenAnswer Why) (answer : Answer Why) (y : Node Disk) (out : List Message) → x.process ≡ Running k → DeskKept (s.view d x.version) d theirs k l out → AfterPen (s.view d x.version) x told l answer y → KeptAt d theirs x.process y out
   after_pen d theirs x k l (PenAnswer.Penned settled) answer y out e h p = runs_on d theirs x k l y out e h p.1
   after_pen d theirs x k l (PenAnswer.Refused why) answer y out e h p = runs_on d theirs x k l y out e h p.1
   after_pen d theirs x k l PenAnswer.DeviceFailed answer y out e h p = broken d theirs x k l answer y out e h p
 
-  after_receive : (d : DeskId) (theirs : List Ballot) (x : Site Disk) (k l : DeskState Disk) (told : ReceiveAnswer) (answer : Answer Why) (y : Site Disk) (out : List Message) → x.process ≡ Running k → DeskKept (s.view d x.version) d theirs k l out → AfterReceive (s.view d x.version) x told l out answer y → KeptAt d theirs x.process y out
+  after_receive : (d : DeskId) (theirs : List Ballot) (x : Node Disk) (k l : DeskState Disk) (told : ReceiveAnswer) (answer : Answer Why) (y : Node Disk) (out : List Message) → x.process ≡ Running k → DeskKept (s.view d x.version) d theirs k l out → AfterReceive (s.view d x.version) x told l out answer y → KeptAt d theirs x.process y out
   after_receive d theirs x k l ReceiveAnswer.Failed answer y out e h p = runs_on d theirs x k l y out e h p.1
   after_receive d theirs x k l (ReceiveAnswer.Told w) answer y out e h p = runs_on d theirs x k l y out e h p.1
   after_receive d theirs x k l ReceiveAnswer.Asked answer y out e h p = runs_on d theirs x k l y out e h p.1
   after_receive d theirs x k l ReceiveAnswer.DeviceFailed answer y out e h p = broken d theirs x k l answer y out e h p
 
   -- a desk that is down stays down, on a disk that is fine
-  still_down : (v : FileVersion) (d : DeskId) (theirs : List Ballot) (x : Process Disk) (disk : Disk) → ProcessFine v d theirs x → DiskFine (s.view d v) d theirs (votes_of x) disk → SiteKept v d theirs x (Down (votes_of x) disk) []
-  still_down v d theirs x disk f g = record { fine = (process_justified v d theirs x f, g); grows = same (votes_of x); told = tt }
+  still_down : (v : FileVersion) (d : DeskId) (theirs : List Ballot) (x : Process Disk) (disk : Disk) → ProcessFine v d theirs x → DiskFine (s.view d v) d theirs (process_votes x) disk → NodeKept v d theirs x (Down (process_votes x) disk) []
+  still_down v d theirs x disk f g = record { fine = (process_justified v d theirs x f, g); grows = same (process_votes x); told = tt }
 
-  down_at : (d : DeskId) (theirs : List Ballot) (x y : Site Disk) (disk : Disk) (due : Option Fault) → ProcessFine x.version d theirs x.process → DiskFine (s.view d x.version) d theirs (votes_of x.process) disk → y ≡ record x { process = Down (votes_of x.process) disk; due = due } → KeptAt d theirs x.process y []
-  down_at d theirs x y disk due f g e = subst (λ (z : Site Disk). KeptAt d theirs x.process z []) (sym e) (still_down x.version d theirs x.process disk f g)
+  down_at : (d : DeskId) (theirs : List Ballot) (x y : Node Disk) (disk : Disk) (due : Option Fault) → ProcessFine x.version d theirs x.process → DiskFine (s.view d x.version) d theirs (process_votes x.process) disk → y ≡ record x { process = Down (process_votes x.process) disk; due = due } → KeptAt d theirs x.process y []
+  down_at d theirs x y disk due f g e = subst (λ (z : Node Disk). KeptAt d theirs x.process z []) (sym e) (still_down x.version d theirs x.process disk f g)
 
-  -- the same, of a site that is told to be down
-  down_from : (d : DeskId) (theirs votes : List Ballot) (x y : Site Disk) (old disk : Disk) (due : Option Fault) → x.process ≡ Down votes old → ProcessFine x.version d theirs x.process → DiskFine (s.view d x.version) d theirs votes disk → y ≡ record x { process = Down votes disk; due = due } → KeptAt d theirs x.process y []
+  -- the same, of a node that is told to be down
+  down_from : (d : DeskId) (theirs votes : List Ballot) (x y : Node Disk) (old disk : Disk) (due : Option Fault) → x.process ≡ Down votes old → ProcessFine x.version d theirs x.process → DiskFine (s.view d x.version) d theirs votes disk → y ≡ record x { process = Down votes disk; due = due } → KeptAt d theirs x.process y []
   down_from d theirs votes x y old disk due e f g q =
-      let same_votes : votes_of x.process ≡ votes = ap votes_of e in
+      let same_votes : process_votes x.process ≡ votes = ap process_votes e in
       down_at d theirs x y disk due f (subst (λ (o : List Ballot). DiskFine (s.view d x.version) d theirs o disk) (sym same_votes) g) (q ∙ (λ i. record x { process = Down (sym same_votes i) disk; due = due }))
 
-  stays_down : (d : DeskId) (theirs votes : List Ballot) (x y : Site Disk) (old left : Disk) (fault : Fault) (answer : Answer Why) → x.process ≡ Down votes old → ProcessFine x.version d theirs x.process → DiskFine (s.view d x.version) d theirs votes left → StaysDownBy (s.view d x.version) x fault votes left answer y → KeptAt d theirs x.process y []
+  stays_down : (d : DeskId) (theirs votes : List Ballot) (x y : Node Disk) (old left : Disk) (fault : Fault) (answer : Answer Why) → x.process ≡ Down votes old → ProcessFine x.version d theirs x.process → DiskFine (s.view d x.version) d theirs votes left → StaysDownBy (s.view d x.version) x fault votes left answer y → KeptAt d theirs x.process y []
   stays_down d theirs votes x y old left Fail answer e f g p = down_from d theirs votes x y old left None e f g p.1
   stays_down d theirs votes x y old left Stop answer e f g p = down_from d theirs votes x y old p.0 None e f (stays_fine (s.view d x.version) d theirs votes left p.0 p.2 g) p.3
 
   shows_votes : (theirs votes found : List Ballot) (o : Option (List Ballot)) → o ≡ Some found → ShowsMore theirs votes o → OneMore theirs votes found
   shows_votes theirs votes found o e h = let q : h.0 ≡ found = let z = h.1 in cc in subst (OneMore theirs votes) q h.2
 
-  after_open : (d : DeskId) (theirs votes : List Ballot) (x : Site Disk) (old : Disk) (opening : Opening Disk) (answer : Answer Why) (y : Site Disk) → x.process ≡ Down votes old → ProcessFine x.version d theirs x.process → Opens (s.view d x.version) s.rules d old opening → AfterOpen (s.view d x.version) x votes opening answer y → KeptAt d theirs x.process y []
+  after_open : (d : DeskId) (theirs votes : List Ballot) (x : Node Disk) (old : Disk) (opening : Opening Disk) (answer : Answer Why) (y : Node Disk) → x.process ≡ Down votes old → ProcessFine x.version d theirs x.process → Opens (s.view d x.version) s.rules d old opening → AfterOpen (s.view d x.version) x votes opening answer y → KeptAt d theirs x.process y []
   after_open d theirs votes x old (Opening.Opened k) answer y e f o p =
       let g : ProcessFine x.version d theirs (Down votes old) = subst (ProcessFine x.version d theirs) e f in
       let found = shows_votes theirs votes k.votes ((s.view d x.version).reads old) o.0 g.1.0 in
       let j = more_justified theirs votes k.votes g.0 found in
       let fine = opens_fine (s.view d x.version) d theirs k old k.votes j o.2 o.3 refl in
-      let w : Within (votes_of x.process) k.votes = subst (λ (q : Process Disk). Within (votes_of q) k.votes) (sym e) (more_within theirs votes k.votes found) in
-      subst (λ (z : Site Disk). KeptAt d theirs x.process z []) (sym p.1) (record { fine = fine; grows = w; told = tt })
+      let w : Within (process_votes x.process) k.votes = subst (λ (q : Process Disk). Within (process_votes q) k.votes) (sym e) (more_within theirs votes k.votes found) in
+      subst (λ (z : Node Disk). KeptAt d theirs x.process z []) (sym p.1) (record { fine = fine; grows = w; told = tt })
   after_open d theirs votes x old (Opening.NotOpened OpenRefusal.Unsound left) answer y e f o p =
       let g : ProcessFine x.version d theirs (Down votes old) = subst (ProcessFine x.version d theirs) e f in
       down_from d theirs votes x y old left x.due e f (synced_fine (s.view d x.version) d theirs votes old left o.1 g.1) p.1
@@ -127,52 +133,52 @@ module _ {Disk Why : Type 0} (s : Setting Disk Why) where
       let g : ProcessFine x.version d theirs (Down votes old) = subst (ProcessFine x.version d theirs) e f in
       stays_down d theirs votes x y old left p.0 answer e f (may_sync_fine (s.view d x.version) d theirs votes old left o g.1) p.2
 
-  loses_power : (v : FileVersion) (d : DeskId) (theirs : List Ballot) (x : Process Disk) (disk : Disk) → ProcessFine v d theirs x → LosesPower (s.view d v) (disk_of x) disk → DiskFine (s.view d v) d theirs (votes_of x) disk
+  loses_power : (v : FileVersion) (d : DeskId) (theirs : List Ballot) (x : Process Disk) (disk : Disk) → ProcessFine v d theirs x → LosesPower (s.view d v) (process_disk x) disk → DiskFine (s.view d v) d theirs (process_votes x) disk
   loses_power v d theirs x disk f p =
-      let g = (process_disk v d theirs x f).1 ((s.view d v).reads disk) p.0 in
-      (g, λ shown i. subst (ShowsMore theirs (votes_of x)) (sym (p.1 shown i)) g)
+      let g = (fine_disk v d theirs x f).1 ((s.view d v).reads disk) p.0 in
+      (g, λ shown i. subst (ShowsMore theirs (process_votes x)) (sym (p.1 shown i)) g)
 
-  on_other_disk : (v : FileVersion) (d : DeskId) (theirs : List Ballot) (x : Process Disk) (disk : Disk) → Stays (s.view d v) (disk_of x) disk → ProcessFine v d theirs x → SiteKept v d theirs x (with_disk x disk) []
+  on_other_disk : (v : FileVersion) (d : DeskId) (theirs : List Ballot) (x : Process Disk) (disk : Disk) → Stays (s.view d v) (process_disk x) disk → ProcessFine v d theirs x → NodeKept v d theirs x (with_disk x disk) []
   on_other_disk v d theirs (Running k) disk t f = record { fine = on_disk (s.view d v) d theirs k disk t f; grows = same k.votes; told = tt }
   on_other_disk v d theirs (Down votes old) disk t f = record { fine = (f.0, stays_fine (s.view d v) d theirs votes old disk t f.1); grows = same votes; told = tt }
 
-  falls_due : (d : DeskId) (theirs : List Ballot) (x y : Site Disk) (fault : Fault) → ProcessFine x.version d theirs x.process → FallsDue (s.view d x.version) fault x y → KeptAt d theirs x.process y []
-  falls_due d theirs x y fault f p = subst (λ (z : Site Disk). KeptAt d theirs x.process z []) (sym p.2) (on_other_disk x.version d theirs x.process p.0 p.1 f)
+  falls_due : (d : DeskId) (theirs : List Ballot) (x y : Node Disk) (fault : Fault) → ProcessFine x.version d theirs x.process → FallsDue (s.view d x.version) fault x y → KeptAt d theirs x.process y []
+  falls_due d theirs x y fault f p = subst (λ (z : Node Disk). KeptAt d theirs x.process z []) (sym p.2) (on_other_disk x.version d theirs x.process p.0 p.1 f)
 
   -- an old file that may have been synced
-  old_synced : (d : DeskId) (theirs votes : List Ballot) (x : Site Disk) (old left : Disk) → x.version ≡ Old → x.process ≡ Down votes old → ProcessFine x.version d theirs x.process → MaySync (s.view d Old) old left → DiskFine (s.view d x.version) d theirs votes left
+  old_synced : (d : DeskId) (theirs votes : List Ballot) (x : Node Disk) (old left : Disk) → x.version ≡ Old → x.process ≡ Down votes old → ProcessFine x.version d theirs x.process → MaySync (s.view d Old) old left → DiskFine (s.view d x.version) d theirs votes left
   old_synced d theirs votes x old left q e f m =
       let g : ProcessFine x.version d theirs (Down votes old) = subst (ProcessFine x.version d theirs) e f in
       may_sync_fine (s.view d x.version) d theirs votes old left (subst (λ (version : FileVersion). MaySync (s.view d version) old left) (sym q) m) g.1
 
   -- a desk's old file is migrated
-  after_migration : (d : DeskId) (theirs votes : List Ballot) (x : Site Disk) (old : Disk) (migration : Migration Disk) (answer : Answer Why) (y : Site Disk) → x.version ≡ Old → x.process ≡ Down votes old → ProcessFine x.version d theirs x.process → Migrates (s.view d) old migration → AfterMigration (s.view d) x votes migration answer y → KeptAt d theirs x.process y []
+  after_migration : (d : DeskId) (theirs votes : List Ballot) (x : Node Disk) (old : Disk) (migration : Migration Disk) (answer : Answer Why) (y : Node Disk) → x.version ≡ Old → x.process ≡ Down votes old → ProcessFine x.version d theirs x.process → Migrates (s.view d) old migration → AfterMigration (s.view d) x votes migration answer y → KeptAt d theirs x.process y []
   after_migration d theirs votes x old (ToNew found new) answer y q e f o p =
       let g : ProcessFine Old d theirs (Down votes old) = subst (λ (version : FileVersion). ProcessFine version d theirs (Down votes old)) q (subst (ProcessFine x.version d theirs) e f) in
       let more = shows_votes theirs votes found ((s.view d Old).reads old) o.0 g.1.0 in
-      let w : Within (votes_of x.process) votes = subst (λ (z : Process Disk). Within (votes_of z) votes) (sym e) (same votes) in
+      let w : Within (process_votes x.process) votes = subst (λ (z : Process Disk). Within (process_votes z) votes) (sym e) (same votes) in
       let fine : DiskFine (s.view d New) d theirs votes new = ((found, o.1.0, more), λ shown i. (found, o.1.1 shown i, more)) in
-      subst (λ (z : Site Disk). KeptAt d theirs x.process z []) (sym p.1) (record { fine = (g.0, fine); grows = w; told = tt })
+      subst (λ (z : Node Disk). KeptAt d theirs x.process z []) (sym p.1) (record { fine = (g.0, fine); grows = w; told = tt })
   after_migration d theirs votes x old (NotSound left) answer y q e f o p = down_from d theirs votes x y old left x.due e f (old_synced d theirs votes x old left q e f o.1) p.1
   after_migration d theirs votes x old (Failed left) answer y q e f o p =
       stays_down d theirs votes x y old left p.0 answer e f (old_synced d theirs votes x old left q e f o) (subst (λ (version : FileVersion). StaysDownBy (s.view d version) x p.0 votes left answer y) (sym q) p.2)
 
-  migrates_at : (d : DeskId) (theirs votes : List Ballot) (x : Site Disk) (old : Disk) (version : FileVersion) (answer : Answer Why) (y : Site Disk) → x.version ≡ version → x.process ≡ Down votes old → ProcessFine x.version d theirs x.process → MigratesAt (s.view d) x version votes old answer y → KeptAt d theirs x.process y []
+  migrates_at : (d : DeskId) (theirs votes : List Ballot) (x : Node Disk) (old : Disk) (version : FileVersion) (answer : Answer Why) (y : Node Disk) → x.version ≡ version → x.process ≡ Down votes old → ProcessFine x.version d theirs x.process → MigratesAt (s.view d) x version votes old answer y → KeptAt d theirs x.process y []
   migrates_at d theirs votes x old Old answer y q e f p = after_migration d theirs votes x old p.0 answer y q e f p.1 p.2
-  migrates_at d theirs votes x old New answer y q e f p = subst (λ (z : Site Disk). KeptAt d theirs x.process z []) (sym p.1) (record { fine = f; grows = same (votes_of x.process); told = tt })
+  migrates_at d theirs votes x old New answer y q e f p = subst (λ (z : Node Disk). KeptAt d theirs x.process z []) (sym p.1) (record { fine = f; grows = same (process_votes x.process); told = tt })
 
   -- every event at a desk keeps it fine
-  pub at_desk_keeps : (sent : List Message) (d : DeskId) (theirs : List Ballot) (event : Event) (x : Site Disk) (answer : Answer Why) (y : Site Disk) (out : List Message) → ((n : ℕ) (m : Message) → slice_get sent n ≡ Some m → TheirMessage d theirs m) → ProcessFine x.version d theirs x.process → AtDesk s sent d event x answer y out → KeptAt d theirs x.process y out
+  pub at_desk_keeps : (sent : List Message) (d : DeskId) (theirs : List Ballot) (event : Event) (x : Node Disk) (answer : Answer Why) (y : Node Disk) (out : List Message) → ((n : ℕ) (m : Message) → slice_get sent n ≡ Some m → TheirMessage d theirs m) → ProcessFine x.version d theirs x.process → AtDesk s sent d event x answer y out → KeptAt d theirs x.process y out
   at_desk_keeps sent d theirs (events.Pen c e) x answer y out t f p =
       after_pen d theirs x p.0 p.1 p.2 answer y out p.3 (pens_keep (s.view d x.version) d theirs s.rules p.0 p.1 e p.2 out (running x.version d theirs x.process p.0 p.3 f) p.4) p.5
   at_desk_keeps sent d theirs (events.Give n u) x answer y out t f p =
       after_receive d theirs x p.0 p.1 p.3 answer y out p.4 (receives_keep (s.view d x.version) d theirs p.0 p.1 p.2 p.3 out (running x.version d theirs x.process p.0 p.4 f) (t n p.2 p.5) p.6) p.7
   at_desk_keeps sent d theirs (events.Tick u) x answer y out t f p =
-      subst (λ (z : Site Disk). KeptAt d theirs x.process z out) (sym p.4)
-      (subst (λ (z : Process Disk). SiteKept x.version d theirs x.process z out) (sym p.1) (gone_on x.version d theirs x.process p.0 p.0 out p.1 (ticks_keep (s.view d x.version) d theirs p.0 out (running x.version d theirs x.process p.0 p.1 f) p.2)))
+      subst (λ (z : Node Disk). KeptAt d theirs x.process z out) (sym p.4)
+      (subst (λ (z : Process Disk). NodeKept x.version d theirs x.process z out) (sym p.1) (gone_on x.version d theirs x.process p.0 p.0 out p.1 (ticks_keep (s.view d x.version) d theirs p.0 out (running x.version d theirs x.process p.0 p.1 f) p.2)))
   at_desk_keeps sent d theirs (events.Kill c) x answer y out t f p =
       let h = p.2 in
-      rw p.4 (down_at d theirs x y h.0 None f (stays_fine (s.view d x.version) d theirs (votes_of x.process) (disk_of x.process) h.0 h.1 (process_disk x.version d theirs x.process f)) h.2)
+      rw p.4 (down_at d theirs x y h.0 None f (stays_fine (s.view d x.version) d theirs (process_votes x.process) (process_disk x.process) h.0 h.1 (fine_disk x.version d theirs x.process f)) h.2)
   at_desk_keeps sent d theirs (events.Power c choice) x answer y out t f p = rw p.4 (down_at d theirs x y p.0 None f (loses_power x.version d theirs x.process p.0 f p.1) p.2)
   at_desk_keeps sent d theirs (events.FailAt c n) x answer y out t f p = rw p.2 (falls_due d theirs x y Fail f p.0)
   at_desk_keeps sent d theirs (events.StopAt c n) x answer y out t f p = rw p.2 (falls_due d theirs x y Stop f p.0)
@@ -180,17 +186,17 @@ module _ {Disk Why : Type 0} (s : Setting Disk Why) where
   at_desk_keeps sent d theirs (events.Migrate c) x answer y out t f p = rw p.4 (migrates_at d theirs p.0 x p.1 x.version answer y refl p.2 f p.3)
   at_desk_keeps sent d theirs (events.Wipe n) x answer y out t f p = absurd p
 
-  pub record Fine (w : World Disk) : Type 0 where
-    pub on_a : ProcessFine w.a.version A (votes_in w).b w.a.process
-    pub on_b : ProcessFine w.b.version B (votes_in w).a w.b.process
-    pub on_boards : Each (BoardFine (votes_in w)) w.boards
-    pub on_sent : Each (MessageFine (votes_in w)) w.sent
+  pub record Fine (w : Configuration Disk) : Type 0 where
+    pub on_a : ProcessFine w.a.version A (all_votes w).b w.a.process
+    pub on_b : ProcessFine w.b.version B (all_votes w).a w.b.process
+    pub on_boards : Each (BoardFine (all_votes w)) w.boards
+    pub on_sent : Each (MessageFine (all_votes w)) w.sent
 
-  abbrev pub Grows : World Disk → World Disk → Type 0
-  Grows w new = VotesGrow (votes_in w) (votes_in new)
+  abbrev pub Grows : Configuration Disk → Configuration Disk → Type 0
+  Grows w new = VotesGrow (all_votes w) (all_votes new)
 
-  pub all_justified : (w : World Disk) → Fine w → AllJustified (votes_in w)
-  all_justified w f = (process_justified w.a.version A (votes_in w).b w.a.process f.on_a, process_justified w.b.version B (votes_in w).a w.b.process f.on_b)
+  pub all_justified : (w : Configuration Disk) → Fine w → AllJustified (all_votes w)
+  all_justified w f = (process_justified w.a.version A (all_votes w).b w.a.process f.on_a, process_justified w.b.version B (all_votes w).a w.b.process f.on_b)
 
   mine_grows : (own theirs theirs' : List Ballot) (book : List Entry) → Within theirs theirs' → (at : _) (x : Option Entry) → MineFine theirs own book at x → MineFine theirs' own book at x
   mine_grows own theirs theirs' book g at (Some e) h = h
@@ -225,8 +231,8 @@ module _ {Disk Why : Type 0} (s : Setting Disk Why) where
         safe = f.safe;
       }
 
-  own_message : (v : AllVotes) (d : DeskId) (m : Message) → OwnMessage d (ballots.votes_of v d) m → MessageFine v m
-  own_message v d (Message.Vote w) h = subst (λ (c : DeskId). In (ballot_of w) (ballots.votes_of v c)) (sym h.0) h.1
+  own_message : (v : AllVotes) (d : DeskId) (m : Message) → OwnMessage d (votes_of v d) m → MessageFine v m
+  own_message v d (Message.Vote w) h = subst (λ (c : DeskId). In (ballot_of w) (votes_of v c)) (sym h.0) h.1
   own_message v d (Message.Ask q) h = tt
 
   other_desk : (c d : DeskId) → c ≢ d → c ≡ other d
@@ -235,21 +241,21 @@ module _ {Disk Why : Type 0} (s : Setting Disk Why) where
   other_desk B A n = refl
   other_desk B B n = absurd (n refl)
 
-  pub their_message : (v : AllVotes) (d : DeskId) (m : Message) → MessageFine v m → TheirMessage d (ballots.votes_of v (other d)) m
-  their_message v d (Message.Vote w) h = λ n. subst (λ (c : DeskId). In (ballot_of w) (ballots.votes_of v c)) (other_desk w.desk d n) h
+  pub their_message : (v : AllVotes) (d : DeskId) (m : Message) → MessageFine v m → TheirMessage d (votes_of v (other d)) m
+  their_message v d (Message.Vote w) h = λ n. subst (λ (c : DeskId). In (ballot_of w) (votes_of v c)) (other_desk w.desk d n) h
   their_message v d (Message.Ask q) h = tt
 
-  pub site_fine : (w : World Disk) (d : DeskId) → Fine w → ProcessFine (site w d).version d (ballots.votes_of (votes_in w) (other d)) (site w d).process
-  site_fine w A f = f.on_a
-  site_fine w B f = f.on_b
+  pub node_fine : (w : Configuration Disk) (d : DeskId) → Fine w → ProcessFine (node w d).version d (votes_of (all_votes w) (other d)) (node w d).process
+  node_fine w A f = f.on_a
+  node_fine w B f = f.on_b
 
   rest_grows : (v w : AllVotes) → VotesGrow v w → (sent out : List Message) → Each (MessageFine v) sent → Each (MessageFine w) out → Each (MessageFine w) (sent ++ out)
   rest_grows v w g sent out h k = each_append (MessageFine w) sent out (each_other (MessageFine v) (MessageFine w) (message_grows v w g) sent h) k
 
-  site_changed : (w : World Disk) (d : DeskId) (y : Site Disk) (out : List Message) → Fine w → KeptAt d (ballots.votes_of (votes_in w) (other d)) (site w d).process y out → Fine (with_site w d y out) × Grows w (with_site w d y out)
-  site_changed w A y out f k =
-      let v = votes_in w in
-      let new : AllVotes = record { a = votes_of y.process; b = v.b } in
+  node_changed : (w : Configuration Disk) (d : DeskId) (y : Node Disk) (out : List Message) → Fine w → KeptAt d (votes_of (all_votes w) (other d)) (node w d).process y out → Fine (with_node w d y out) × Grows w (with_node w d y out)
+  node_changed w A y out f k =
+      let v = all_votes w in
+      let new : AllVotes = record { a = process_votes y.process; b = v.b } in
       let g : VotesGrow v new = (k.grows, same v.b) in (
         record {
           on_a = k.fine;
@@ -259,9 +265,9 @@ module _ {Disk Why : Type 0} (s : Setting Disk Why) where
         },
         g,
       )
-  site_changed w B y out f k =
-      let v = votes_in w in
-      let new : AllVotes = record { a = v.a; b = votes_of y.process } in
+  node_changed w B y out f k =
+      let v = all_votes w in
+      let new : AllVotes = record { a = v.a; b = process_votes y.process } in
       let g : VotesGrow v new = (same v.a, k.grows) in (
         record {
           on_a = process_grows w.a.version A v.b new.b k.grows w.a.process f.on_a;
@@ -284,17 +290,17 @@ module _ {Disk Why : Type 0} (s : Setting Disk Why) where
   at_board_keeps sent v (events.Open d) k l answer out h f p = absurd p
   at_board_keeps sent v (events.Migrate d) k l answer out h f p = absurd p
 
-  pub step_at_keeps : (w : World Disk) (event : Event) (t : Station) (answer : Answer Why) (new : World Disk) → Fine w → StepAt s w event t answer new → Fine new × Grows w new
+  pub step_at_keeps : (w : Configuration Disk) (event : Event) (t : Station) (answer : Answer Why) (new : Configuration Disk) → Fine w → StepAt s w event t answer new → Fine new × Grows w new
   step_at_keeps w event (stations.Desk d) answer new f p =
-      let v = votes_in w in
-      let told : (n : ℕ) (m : Message) → slice_get w.sent n ≡ Some m → TheirMessage d (ballots.votes_of v (other d)) m = λ n m e. their_message v d m (item_at (MessageFine v) w.sent n m e f.on_sent) in
-      let k = at_desk_keeps w.sent d (ballots.votes_of v (other d)) event (site w d) answer p.0 p.1 told (site_fine w d f) p.2 in
-      subst (λ (z : World Disk). Fine z × Grows w z) (sym p.3) (site_changed w d p.0 p.1 f k)
+      let v = all_votes w in
+      let told : (n : ℕ) (m : Message) → slice_get w.sent n ≡ Some m → TheirMessage d (votes_of v (other d)) m = λ n m e. their_message v d m (item_at (MessageFine v) w.sent n m e f.on_sent) in
+      let k = at_desk_keeps w.sent d (votes_of v (other d)) event (node w d) answer p.0 p.1 told (node_fine w d f) p.2 in
+      subst (λ (z : Configuration Disk). Fine z × Grows w z) (sym p.3) (node_changed w d p.0 p.1 f k)
   step_at_keeps w event (stations.Board n) answer new f p =
-      let v = votes_in w in
+      let v = all_votes w in
       let k = board_fine_at v w.boards n p.0 p.3 f.on_boards in
       let h = at_board_keeps w.sent v event p.0 p.1 answer p.2 f.on_sent k p.4 in
-      subst (λ (z : World Disk). Fine z × Grows w z) (sym p.5) (
+      subst (λ (z : Configuration Disk). Fine z × Grows w z) (sym p.5) (
         record {
           on_a = f.on_a;
           on_b = f.on_b;
@@ -304,27 +310,27 @@ module _ {Disk Why : Type 0} (s : Setting Disk Why) where
         (same v.a, same v.b),
       )
 
-  pub step_keeps : (w : World Disk) (event : Event) (answer : Answer Why) (new : World Disk) → Fine w → Step s w event answer new → Fine new × Grows w new
+  pub step_keeps : (w : Configuration Disk) (event : Event) (answer : Answer Why) (new : Configuration Disk) → Fine w → Step s w event answer new → Fine new × Grows w new
   step_keeps w event answer new f p = step_at_keeps w event (station_of event) answer new f p
 
-  pub run_keeps : (w : World Disk) (ms : List (Moment Disk Why)) → Fine w → Run s w ms → Fine (last_of w ms)
+  pub run_keeps : (w : Configuration Disk) (ms : List (Moment Disk Why)) → Fine w → Run s w ms → Fine (last_of w ms)
   run_keeps w [] f r = f
   run_keeps w (m ∷ ms) f r = (step_keeps (last_of w ms) m.event m.answer m.after (run_keeps w ms f r.0) r.1).0
 
-  begins_at : (version : FileVersion) (d : DeskId) (x : Site Disk) → BeginsAt s version d x → ProcessFine x.version d [] x.process × (votes_of x.process ≡ [])
+  begins_at : (version : FileVersion) (d : DeskId) (x : Node Disk) → BeginsAt s version d x → ProcessFine x.version d [] x.process × (process_votes x.process ≡ [])
   begins_at version d x p =
       let c = p.2 in
       let none : p.0.votes ≡ [] = ap (λ (k : DeskState Disk). k.votes) c.0 in
       let fine : DeskFine (s.view d version) d [] p.0 = subst (DeskFine (s.view d version) d []) (sym c.0) (record { seat = opened_fine d [] [] tt p.0.disk; disk = held (s.view d version) d [] [] p.0.disk c.1; safe = λ _. c.1 }) in
-      subst (λ (z : Site Disk). ProcessFine z.version d [] z.process × (votes_of z.process ≡ [])) (sym p.1) (fine, none)
+      subst (λ (z : Node Disk). ProcessFine z.version d [] z.process × (process_votes z.process ≡ [])) (sym p.1) (fine, none)
 
-  pub begins_fine : (version : FileVersion) (n : ℕ) (w : World Disk) → Begins s version n w → Fine w
+  pub begins_fine : (version : FileVersion) (n : ℕ) (w : Configuration Disk) → Begins s version n w → Fine w
   begins_fine version n w p =
       let a = begins_at version A w.a p.a in
       let b = begins_at version B w.b p.b in
       record {
         on_a = subst (λ (o : List Ballot). ProcessFine w.a.version A o w.a.process) (sym b.1) a.0;
         on_b = subst (λ (o : List Ballot). ProcessFine w.b.version B o w.b.process) (sym a.1) b.0;
-        on_boards = subst (Each (BoardFine (votes_in w))) (sym p.boards_are_fresh) (fresh_boards_fine (votes_in w) n);
-        on_sent = subst (Each (MessageFine (votes_in w))) (sym p.nothing_sent) tt;
+        on_boards = subst (Each (BoardFine (all_votes w))) (sym p.boards_are_fresh) (fresh_boards_fine (all_votes w) n);
+        on_sent = subst (Each (MessageFine (all_votes w))) (sym p.nothing_sent) tt;
       }

@@ -10,7 +10,8 @@ use Rattle.headline.specs.declared.event.Station.{Station}
 use Rattle.headline.specs.declared.event.Station.TheVariants as stations
 use Rattle.headline.specs.declared.version.FileVersion.{FileVersion}
 use Rattle.headline.specs.Events.{station_of}
-use Rattle.headline.specs.Worlds.{Setting, Site, World, board_at, fresh_boards, site, with_board, with_site}
+use Rattle.headline.specs.Match.{Setting}
+use Rattle.headline.specs.Configurations.{Node, Configuration, board_at, fresh_boards, node, with_board, with_node}
 use Rattle.headline.specs.Steps.{StepAt}
 use Rattle.headline.specs.Runs.{Begins, BeginsAt, Moment, Run, last_of}
 use Rattle.headline.specs.Noted.{KeepsNoted, kept_at, kept_by_process}
@@ -18,7 +19,7 @@ use Rattle.headline.specs.Headline.{AfterEach}
 use Rattle.headline.proofs.Keeping.{Fine, begins_fine, run_keeps}
 use Rattle.headline.proofs.Noting.{Leaves, follows}
 use Rattle.headline.proofs.Heeding.{board_other, board_put, no_seat_kept, same_station, some_none}
-use Rattle.headline.proofs.NotingSteps.{SameAt, board_leaves, boards_stay, desk_leaves, elsewhere, same_board, same_process, site_other, there}
+use Rattle.headline.proofs.NotingSteps.{SameAt, board_leaves, boards_stay, desk_leaves, elsewhere, same_board, same_process, node_other, there}
 
 fresh_kept : (boards n : ℕ) (c : DeskId) → option_and_then (λ (k : BoardState). noted_of k.reader c) (board_at (fresh_boards boards) n) ≡ None
 fresh_kept boards zero c = refl
@@ -28,16 +29,16 @@ fresh_kept (suc boards) (suc zero) B = refl
 fresh_kept (suc boards) (suc (suc n)) c = fresh_kept boards (suc n) c
 
 module _ {Disk Why : Type 0} (s : Setting Disk Why) where
-  desk_elsewhere : (w new : World Disk) (d : DeskId) (y : Site Disk) (out : List Message) (t : Station) → new ≡ with_site w d y out → stations.Desk d ≢ t → SameAt s w new t
-  desk_elsewhere w new d y out (stations.Desk c) e n = same_process s w new c (ap (λ (z : World Disk). (site z c).process) e ∙ ap (λ (z : Site Disk). z.process) (site_other s w d c y out (λ q. n (ap stations.Desk q))))
-  desk_elsewhere w new d y out (stations.Board i) e n = same_board s w new i (ap (λ (z : World Disk). board_at z.boards i) e ∙ ap (λ (z : List BoardState). board_at z i) (boards_stay s w d y out))
+  desk_elsewhere : (w new : Configuration Disk) (d : DeskId) (y : Node Disk) (out : List Message) (t : Station) → new ≡ with_node w d y out → stations.Desk d ≢ t → SameAt s w new t
+  desk_elsewhere w new d y out (stations.Desk c) e n = same_process s w new c (ap (λ (z : Configuration Disk). (node z c).process) e ∙ ap (λ (z : Node Disk). z.process) (node_other s w d c y out (λ q. n (ap stations.Desk q))))
+  desk_elsewhere w new d y out (stations.Board i) e n = same_board s w new i (ap (λ (z : Configuration Disk). board_at z.boards i) e ∙ ap (λ (z : List BoardState). board_at z i) (boards_stay s w d y out))
 
-  board_elsewhere : (w new : World Disk) (n : ℕ) (l : BoardState) (out : List Message) (t : Station) → new ≡ record w { boards = with_board w.boards n l; sent = w.sent ++ out } → stations.Board n ≢ t → SameAt s w new t
-  board_elsewhere w new n l out (stations.Desk A) e h = same_process s w new A (ap (λ (z : World Disk). z.a.process) e)
-  board_elsewhere w new n l out (stations.Desk B) e h = same_process s w new B (ap (λ (z : World Disk). z.b.process) e)
-  board_elsewhere w new n l out (stations.Board i) e h = same_board s w new i (ap (λ (z : World Disk). board_at z.boards i) e ∙ board_other w.boards n i l (λ q. h (ap stations.Board q)))
+  board_elsewhere : (w new : Configuration Disk) (n : ℕ) (l : BoardState) (out : List Message) (t : Station) → new ≡ record w { boards = with_board w.boards n l; sent = w.sent ++ out } → stations.Board n ≢ t → SameAt s w new t
+  board_elsewhere w new n l out (stations.Desk A) e h = same_process s w new A (ap (λ (z : Configuration Disk). z.a.process) e)
+  board_elsewhere w new n l out (stations.Desk B) e h = same_process s w new B (ap (λ (z : Configuration Disk). z.b.process) e)
+  board_elsewhere w new n l out (stations.Board i) e h = same_board s w new i (ap (λ (z : Configuration Disk). board_at z.boards i) e ∙ board_other w.boards n i l (λ q. h (ap stations.Board q)))
 
-  step_at_leaves : (w : World Disk) (m : Moment Disk Why) (t u : Station) → Fine s w → station_of m.event ≡ u → StepAt s w m.event u m.answer m.after → Leaves s w m t
+  step_at_leaves : (w : Configuration Disk) (m : Moment Disk Why) (t u : Station) → Fine s w → station_of m.event ≡ u → StepAt s w m.event u m.answer m.after → Leaves s w m t
   step_at_leaves w m t (stations.Desk d) f h p =
       ⊎_elim
       (λ (e : stations.Desk d ≡ t). subst (λ (z : Station). Leaves s w m z) e (desk_leaves s w d m.event m.answer m.after p.0 p.1 f h (there s w m.after d p.0 p.1 p.3) p.2))
@@ -45,26 +46,26 @@ module _ {Disk Why : Type 0} (s : Setting Disk Why) where
       (same_station (stations.Desk d) t)
   step_at_leaves w m t (stations.Board n) f h p =
       ⊎_elim
-      (λ (e : stations.Board n ≡ t). subst (λ (z : Station). Leaves s w m z) e (board_leaves s w n m.event m.answer m.after p.0 p.1 p.2 h p.3 (ap (λ (z : World Disk). board_at z.boards n) p.5 ∙ board_put w.boards n p.0 p.1 p.3) p.4))
+      (λ (e : stations.Board n ≡ t). subst (λ (z : Station). Leaves s w m z) e (board_leaves s w n m.event m.answer m.after p.0 p.1 p.2 h p.3 (ap (λ (z : Configuration Disk). board_at z.boards n) p.5 ∙ board_put w.boards n p.0 p.1 p.3) p.4))
       (λ (i : stations.Board n ≢ t). elsewhere s w m t (λ e. i (sym h ∙ e)) (board_elsewhere w m.after n p.1 p.2 t p.5 i))
       (same_station (stations.Board n) t)
 
-  begins_at_none : (version : FileVersion) (d : DeskId) (x : Site Disk) (c : DeskId) → BeginsAt s version d x → kept_by_process x.process d c ≡ None
+  begins_at_none : (version : FileVersion) (d : DeskId) (x : Node Disk) (c : DeskId) → BeginsAt s version d x → kept_by_process x.process d c ≡ None
   begins_at_none version d x c p =
       let k = p.2 in
-      ap (λ (z : Site Disk). kept_by_process z.process d c) p.1 ∙ no_seat_kept p.0.seat d c (ap (λ (z : DeskState Disk). z.seat.mine) k.0) (ap (λ (z : DeskState Disk). z.seat.theirs) k.0)
+      ap (λ (z : Node Disk). kept_by_process z.process d c) p.1 ∙ no_seat_kept p.0.seat d c (ap (λ (z : DeskState Disk). z.seat.mine) k.0) (ap (λ (z : DeskState Disk). z.seat.theirs) k.0)
 
-  begins_none : (version : FileVersion) (n : ℕ) (w : World Disk) → Begins s version n w → (t : Station) (c : DeskId) → kept_at w t c ≡ None
+  begins_none : (version : FileVersion) (n : ℕ) (w : Configuration Disk) → Begins s version n w → (t : Station) (c : DeskId) → kept_at w t c ≡ None
   begins_none version n w e (stations.Desk A) c = begins_at_none version A w.a c e.a
   begins_none version n w e (stations.Desk B) c = begins_at_none version B w.b c e.b
   begins_none version n w e (stations.Board i) c = ap (λ (z : List BoardState). option_and_then (λ (k : BoardState). noted_of k.reader c) (board_at z i)) e.boards_are_fresh ∙ fresh_kept n i c
 
-  pub keeps_noted : (version : FileVersion) (n : ℕ) (w : World Disk) (ms : List (Moment Disk Why)) → Begins s version n w → Run s w ms → KeepsNoted s w ms
+  pub keeps_noted : (version : FileVersion) (n : ℕ) (w : Configuration Disk) (ms : List (Moment Disk Why)) → Begins s version n w → Run s w ms → KeepsNoted s w ms
   keeps_noted version n w [] e r t c b = (λ h. absurd h, λ k. absurd (some_none (kept_at w t c) b.entry (begins_none version n w e t c) k.1))
   keeps_noted version n w (m ∷ ms) e r t c b =
       let f = run_keeps s w ms (begins_fine s version n w e) r.0 in
       follows s w m ms t (step_at_leaves (last_of w ms) m t (station_of m.event) f refl r.1) (λ d a. keeps_noted version n w ms e r.0 t d a) c b
 
-  pub after_each : (w : World Disk) (ms : List (Moment Disk Why)) (P : List (Moment Disk Why) → Type 0) → ((ms : List (Moment Disk Why)) → Run s w ms → P ms) → Run s w ms → AfterEach ms P
+  pub after_each : (w : Configuration Disk) (ms : List (Moment Disk Why)) (P : List (Moment Disk Why) → Type 0) → ((ms : List (Moment Disk Why)) → Run s w ms → P ms) → Run s w ms → AfterEach ms P
   after_each w [] P h r = h [] r
   after_each w (m ∷ ms) P h r = (h (m ∷ ms) r, after_each w ms P h r.0)

@@ -13,24 +13,25 @@ use Rattle.headline.specs.declared.event.Event.{Event}
 use Rattle.headline.specs.declared.event.Event.TheVariants as events
 use Rattle.headline.specs.declared.event.Station.{Station}
 use Rattle.headline.specs.declared.event.Station.TheVariants as stations
-use Rattle.headline.specs.Worlds.{Setting, World}
+use Rattle.headline.specs.Match.{Setting}
+use Rattle.headline.specs.Configurations.{Configuration}
 use Rattle.headline.specs.Runs.{Moment, last_of}
 use Rattle.headline.specs.Noted.{Brings, HasNoted, IsBrought, IsFound, beginning_of, kept_at, position_at}
 
 module _ {Disk Why : Type 0} (s : Setting Disk Why) where
   -- the station at its position keeps this vote
-  abbrev pub KeepsVote : World Disk → Station → DeskId → Ballot → Type 0
+  abbrev pub KeepsVote : Configuration Disk → Station → DeskId → Ballot → Type 0
   KeepsVote w t c b = (position_at w t ≡ Some b.at) × (kept_at w t c ≡ Some b.entry)
 
   -- it goes on at its position, with what it kept, and nothing was brought that it lacked
-  pub record Stays (w : World Disk) (m : Moment Disk Why) (t : Station) : Type 0 where
+  pub record Stays (w : Configuration Disk) (m : Moment Disk Why) (t : Station) : Type 0 where
     pub on : m.event ≢ beginning_of t
     pub at : position_at m.after t ≡ position_at w t
     pub keeps : (c : DeskId) → kept_at m.after t c ≡ kept_at w t c
     pub none : (c : DeskId) (b : Ballot) → IsBrought w m t c b → kept_at w t c ≡ None → ⊥
 
   -- it goes on at its position, with a vote more, that was brought
-  pub record Adds (w : World Disk) (m : Moment Disk Why) (t : Station) (c : DeskId) (b : Ballot) : Type 0 where
+  pub record Adds (w : Configuration Disk) (m : Moment Disk Why) (t : Station) (c : DeskId) (b : Ballot) : Type 0 where
     pub on : m.event ≢ beginning_of t
     pub at : position_at m.after t ≡ Some b.at
     pub brought : IsBrought w m t c b
@@ -39,13 +40,13 @@ module _ {Disk Why : Type 0} (s : Setting Disk Why) where
     pub rest : kept_at m.after t (other c) ≡ kept_at w t (other c)
 
   -- it is at another position, or begins there with the vote that was found
-  abbrev pub Moves : World Disk → Moment Disk Why → Station → Type 0
+  abbrev pub Moves : Configuration Disk → Moment Disk Why → Station → Type 0
   Moves w m t = ((at : Position) → position_at w t ≡ Some at → position_at m.after t ≡ Some at → ⊥) × ((c : DeskId) → kept_at m.after t c ≡ None) × (m.event ≢ beginning_of t)
 
-  abbrev pub BeginsWithFound : World Disk → Moment Disk Why → Station → Type 0
+  abbrev pub BeginsWithFound : Configuration Disk → Moment Disk Why → Station → Type 0
   BeginsWithFound w m t = (m.event ≡ beginning_of t) × ((c : DeskId) (b : Ballot) → position_at m.after t ≡ Some b.at → (kept_at m.after t c ≡ Some b.entry) ↔ ((t ≡ stations.Desk c) × IsFound s w m c b))
 
-  pub data Leaves (w : World Disk) (m : Moment Disk Why) (t : Station) : Type 0 where
+  pub data Leaves (w : Configuration Disk) (m : Moment Disk Why) (t : Station) : Type 0 where
     Gone : position_at m.after t ≡ None → Leaves w m t
     Begun : BeginsWithFound w m t → Leaves w m t
     Moved : Moves w m t → Leaves w m t
@@ -67,7 +68,7 @@ module _ {Disk Why : Type 0} (s : Setting Disk Why) where
   give_no_pen n t d e q = cc
 
   -- an event brings one vote
-  pub brings_once : (w : World Disk) (event : Event) (t : Station) (c d : DeskId) (a b : Ballot) → Brings w event t c a → Brings w event t d b → (c ≡ d) × (a.entry ≡ b.entry)
+  pub brings_once : (w : Configuration Disk) (event : Event) (t : Station) (c d : DeskId) (a b : Ballot) → Brings w event t c a → Brings w event t d b → (c ≡ d) × (a.entry ≡ b.entry)
   brings_once w event t c d a b (inl p) (inl q) =
       let g = p.1 in
       let h = q.1 in
@@ -77,13 +78,13 @@ module _ {Disk Why : Type 0} (s : Setting Disk Why) where
   brings_once w event t c d a b (inr p) (inl q) = let g = q.1 in absurd (give_no_pen g.0 t c a.entry (sym g.1 ∙ p.1))
   brings_once w event t c d a b (inr p) (inr q) = same_pen c d a.entry b.entry (sym p.1 ∙ q.1)
 
-  begins_no_brings : (w : World Disk) (event : Event) (t : Station) (c : DeskId) (b : Ballot) → event ≡ beginning_of t → Brings w event t c b → ⊥
+  begins_no_brings : (w : Configuration Disk) (event : Event) (t : Station) (c : DeskId) (b : Ballot) → event ≡ beginning_of t → Brings w event t c b → ⊥
   begins_no_brings w event (stations.Desk d) c b e (inl p) = let g = p.1.1 in absurd (cc)
   begins_no_brings w event (stations.Desk d) c b e (inr p) = let g = p.1 in absurd (cc)
   begins_no_brings w event (stations.Board n) c b e (inl p) = let g = p.1.1 in absurd (cc)
   begins_no_brings w event (stations.Board n) c b e (inr p) = let g = p.1 in absurd (cc)
 
-  found_begins : (w : World Disk) (m : Moment Disk Why) (t : Station) (c : DeskId) (b : Ballot) → t ≡ stations.Desk c → IsFound s w m c b → m.event ≡ beginning_of t
+  found_begins : (w : Configuration Disk) (m : Moment Disk Why) (t : Station) (c : DeskId) (b : Ballot) → t ≡ stations.Desk c → IsFound s w m c b → m.event ≡ beginning_of t
   found_begins w m t c b e f = f.0 ∙ sym (ap beginning_of e)
 
   not_both : {X : Type 0} (o : Option X) (x : X) → o ≡ None → o ≡ Some x → ⊥
@@ -96,20 +97,20 @@ module _ {Disk Why : Type 0} (s : Setting Disk Why) where
   which B B = inl refl
 
   -- what is noted is kept, at this station
-  abbrev pub KeepsAt : World Disk → List (Moment Disk Why) → Station → Type 0
+  abbrev pub KeepsAt : Configuration Disk → List (Moment Disk Why) → Station → Type 0
   KeepsAt w ms t = (c : DeskId) (b : Ballot) → HasNoted s w ms t c b ↔ KeepsVote (last_of w ms) t c b
 
-  begun_noted : (w : World Disk) (m : Moment Disk Why) (ms : List (Moment Disk Why)) (t : Station) → BeginsWithFound (last_of w ms) m t → (c : DeskId) (b : Ballot) → HasNoted s w (m ∷ ms) t c b → KeepsVote m.after t c b
+  begun_noted : (w : Configuration Disk) (m : Moment Disk Why) (ms : List (Moment Disk Why)) (t : Station) → BeginsWithFound (last_of w ms) m t → (c : DeskId) (b : Ballot) → HasNoted s w (m ∷ ms) t c b → KeepsVote m.after t c b
   begun_noted w m ms t g c b (at, inl p) = absurd (begins_no_brings (last_of w ms) m.event t c b g.0 p.0.1)
   begun_noted w m ms t g c b (at, inr (inl p)) = (at, (g.1 c b at).1 p)
   begun_noted w m ms t g c b (at, inr (inr p)) = absurd (p.0 g.0)
 
-  moved_noted : (w : World Disk) (m : Moment Disk Why) (ms : List (Moment Disk Why)) (t : Station) → Moves (last_of w ms) m t → KeepsAt w ms t → (c : DeskId) (b : Ballot) → HasNoted s w (m ∷ ms) t c b → ⊥
+  moved_noted : (w : Configuration Disk) (m : Moment Disk Why) (ms : List (Moment Disk Why)) (t : Station) → Moves (last_of w ms) m t → KeepsAt w ms t → (c : DeskId) (b : Ballot) → HasNoted s w (m ∷ ms) t c b → ⊥
   moved_noted w m ms t g h c b (at, inl p) = g.0 b.at p.0.0 at
   moved_noted w m ms t g h c b (at, inr (inl p)) = g.2 (found_begins (last_of w ms) m t c b p.0 p.1)
   moved_noted w m ms t g h c b (at, inr (inr p)) = g.0 b.at ((h c b).0 p.1).0 at
 
-  same_noted : (w : World Disk) (m : Moment Disk Why) (ms : List (Moment Disk Why)) (t : Station) → Stays (last_of w ms) m t → KeepsAt w ms t → (c : DeskId) (b : Ballot) → HasNoted s w (m ∷ ms) t c b → KeepsVote m.after t c b
+  same_noted : (w : Configuration Disk) (m : Moment Disk Why) (ms : List (Moment Disk Why)) (t : Station) → Stays (last_of w ms) m t → KeepsAt w ms t → (c : DeskId) (b : Ballot) → HasNoted s w (m ∷ ms) t c b → KeepsVote m.after t c b
   same_noted w m ms t g h c b (at, inl p) = absurd (lacking (kept_at (last_of w ms) t c) refl)
     where
       lacking : (o : Option Entry) → kept_at (last_of w ms) t c ≡ o → ⊥
@@ -118,7 +119,7 @@ module _ {Disk Why : Type 0} (s : Setting Disk Why) where
   same_noted w m ms t g h c b (at, inr (inl p)) = absurd (g.on (found_begins (last_of w ms) m t c b p.0 p.1))
   same_noted w m ms t g h c b (at, inr (inr p)) = (at, g.keeps c ∙ ((h c b).0 p.1).1)
 
-  more_noted : (w : World Disk) (m : Moment Disk Why) (ms : List (Moment Disk Why)) (t : Station) (d : DeskId) (a : Ballot) → Adds (last_of w ms) m t d a → KeepsAt w ms t → (c : DeskId) (b : Ballot) → HasNoted s w (m ∷ ms) t c b → KeepsVote m.after t c b
+  more_noted : (w : Configuration Disk) (m : Moment Disk Why) (ms : List (Moment Disk Why)) (t : Station) (d : DeskId) (a : Ballot) → Adds (last_of w ms) m t d a → KeepsAt w ms t → (c : DeskId) (b : Ballot) → HasNoted s w (m ∷ ms) t c b → KeepsVote m.after t c b
   more_noted w m ms t d a g h c b (at, inl p) =
       let once = brings_once (last_of w ms) m.event t c d b a p.0.1 g.brought.1 in
       (at, ap (λ (c : DeskId). kept_at m.after t c) once.0 ∙ g.has ∙ ap Some (sym once.1))
@@ -135,7 +136,7 @@ module _ {Disk Why : Type 0} (s : Setting Disk Why) where
   same_some : {X : Type 0} (o : Option X) (x y : X) → o ≡ Some x → o ≡ Some y → x ≡ y
   same_some o x y p q = cc
 
-  more_kept : (w : World Disk) (m : Moment Disk Why) (ms : List (Moment Disk Why)) (t : Station) (d : DeskId) (a : Ballot) → Adds (last_of w ms) m t d a → KeepsAt w ms t → (c : DeskId) (b : Ballot) → KeepsVote m.after t c b → HasNoted s w (m ∷ ms) t c b
+  more_kept : (w : Configuration Disk) (m : Moment Disk Why) (ms : List (Moment Disk Why)) (t : Station) (d : DeskId) (a : Ballot) → Adds (last_of w ms) m t d a → KeepsAt w ms t → (c : DeskId) (b : Ballot) → KeepsVote m.after t c b → HasNoted s w (m ∷ ms) t c b
   more_kept w m ms t d a g h c b k = (k.0, either (which d c))
     where
       at : a.at ≡ b.at
@@ -151,7 +152,7 @@ module _ {Disk Why : Type 0} (s : Setting Disk Why) where
           )
       either (inr e) = inr (inr (g.on, (h c b).1 (g.brought.0 ∙ ap Some at, ap (λ (c : DeskId). kept_at (last_of w ms) t c) e ∙ sym g.rest ∙ sym (ap (λ (c : DeskId). kept_at m.after t c) e) ∙ k.1)))
 
-  pub follows : (w : World Disk) (m : Moment Disk Why) (ms : List (Moment Disk Why)) (t : Station) → Leaves (last_of w ms) m t → KeepsAt w ms t → KeepsAt w (m ∷ ms) t
+  pub follows : (w : Configuration Disk) (m : Moment Disk Why) (ms : List (Moment Disk Why)) (t : Station) → Leaves (last_of w ms) m t → KeepsAt w ms t → KeepsAt w (m ∷ ms) t
   follows w m ms t (Gone g) h c b = (λ n. absurd (not_both (position_at m.after t) b.at g n.0), λ k. absurd (not_both (position_at m.after t) b.at g k.0))
   follows w m ms t (Begun g) h c b = (λ n. begun_noted w m ms t g c b n, λ k. (k.0, inr (inl ((g.1 c b k.0).0 k.1))))
   follows w m ms t (Moved g) h c b = (λ n. absurd (moved_noted w m ms t g h c b n), λ k. absurd (not_both (kept_at m.after t c) b.entry (g.1 c) k.1))

@@ -9,8 +9,7 @@ use Rattle.agree_core.specs.declared.messages.Vote.{Vote}
 use Rattle.agree_core.specs.declared.position.Position.{Position}
 use Rattle.agree_core.specs.declared.seat.Heard.{Heard}
 use Rattle.agree_core.specs.declared.seat.Settled.{Settled}
-use Rattle.agree_core.specs.Ballots.{Ballot, ballot_of, vote_of}
-use Rattle.agree_core.specs.Ballots as ballots
+use Rattle.agree_core.specs.Ballots.{Ballot, vote_of, votes_of}
 use Rattle.agree_core.specs.Boards.{BoardAnswer, BoardReceives, BoardState, fresh_board}
 use Rattle.agree_core.specs.Books.{seat_of}
 use Rattle.agree_core.specs.Desks.{DeskState, PenAnswer, Pens, ReceiveAnswer, Receives}
@@ -28,50 +27,55 @@ use Rattle.headline.specs.declared.fault.Fault.{Fault}
 use Rattle.headline.specs.declared.version.FileVersion.{FileVersion}
 use Rattle.headline.specs.declared.version.FileVersion.TheVariants.{Old, New}
 use Rattle.headline.specs.Events.{station_of}
-use Rattle.headline.specs.Worlds.{Process, Running, Down, Setting, Site, World, board_at, disk_of, site, votes_in, votes_of, with_disk, with_site}
-use Rattle.headline.specs.Steps.{AfterMigration, AfterOpen, AfterPen, AfterReceive, Answer, AtBoard, AtDesk, Breaks, Failed, FallsDue, MigratesAt, Migration, NotSound, StaysDownBy, ToNew, board_told}
+use Rattle.headline.specs.Match.{Setting}
+use Rattle.headline.specs.Configurations.{Process, Running, Down, Node, Configuration, board_at, node, process_disk, process_votes, all_votes, with_disk, with_node}
+use Rattle.headline.specs.Answers.{Answer}
+use Rattle.headline.specs.DeskFaults.{Breaks, FallsDue, StaysDownBy}
+use Rattle.headline.specs.Migrations.{AfterMigration, Failed, MigratesAt, Migration, NotSound, ToNew}
+use Rattle.headline.specs.DeskSteps.{AfterOpen, AfterPen, AfterReceive, AtDesk}
+use Rattle.headline.specs.BoardSteps.{AtBoard, board_told}
 use Rattle.headline.specs.Runs.{Moment}
 use Rattle.headline.specs.Noted.{Brings, IsBrought, IsFound, IsVoteAnswer, beginning_of, kept_at, kept_by_process, kept_by_seat, position_at, process_position}
 use Rattle.headline.proofs.Heeding.{Heeds, Reads, heeds, next_place_differs, next_round_differs, no_reader_kept, no_seat_kept, noting_at, noting_other, noting_there, other_not, other_of, own_kept, reads, some_none, their_kept}
-use Rattle.headline.proofs.Keeping.{Fine, running, site_fine}
+use Rattle.headline.proofs.Keeping.{Fine, running, node_fine}
 use Rattle.headline.proofs.Noting.{Begun, Gone, Leaves, More, Moved, Same}
 
 module _ {Disk Why : Type 0} (s : Setting Disk Why) where
-  pub site_put : (w : World Disk) (d : DeskId) (y : Site Disk) (out : List Message) → site (with_site w d y out) d ≡ y
-  site_put w A y out = refl
-  site_put w B y out = refl
+  pub node_put : (w : Configuration Disk) (d : DeskId) (y : Node Disk) (out : List Message) → node (with_node w d y out) d ≡ y
+  node_put w A y out = refl
+  node_put w B y out = refl
 
-  pub site_other : (w : World Disk) (c d : DeskId) (y : Site Disk) (out : List Message) → c ≢ d → site (with_site w c y out) d ≡ site w d
-  site_other w A A y out n = absurd (n refl)
-  site_other w A B y out n = refl
-  site_other w B A y out n = refl
-  site_other w B B y out n = absurd (n refl)
+  pub node_other : (w : Configuration Disk) (c d : DeskId) (y : Node Disk) (out : List Message) → c ≢ d → node (with_node w c y out) d ≡ node w d
+  node_other w A A y out n = absurd (n refl)
+  node_other w A B y out n = refl
+  node_other w B A y out n = refl
+  node_other w B B y out n = absurd (n refl)
 
-  pub boards_stay : (w : World Disk) (d : DeskId) (y : Site Disk) (out : List Message) → (with_site w d y out).boards ≡ w.boards
+  pub boards_stay : (w : Configuration Disk) (d : DeskId) (y : Node Disk) (out : List Message) → (with_node w d y out).boards ≡ w.boards
   boards_stay w A y out = refl
   boards_stay w B y out = refl
 
   -- the station is at this position, and keeps these
-  abbrev SeenAt : World Disk → Station → Position → (DeskId → Option Entry) → Type 0
+  abbrev SeenAt : Configuration Disk → Station → Position → (DeskId → Option Entry) → Type 0
   SeenAt w t at kept = (position_at w t ≡ Some at) × ((c : DeskId) → kept_at w t c ≡ kept c)
 
-  abbrev pub SameAt : World Disk → World Disk → Station → Type 0
+  abbrev pub SameAt : Configuration Disk → Configuration Disk → Station → Type 0
   SameAt w new t = (position_at new t ≡ position_at w t) × ((c : DeskId) → kept_at new t c ≡ kept_at w t c)
 
-  pub same_process : (w new : World Disk) (d : DeskId) → (site new d).process ≡ (site w d).process → SameAt w new (stations.Desk d)
+  pub same_process : (w new : Configuration Disk) (d : DeskId) → (node new d).process ≡ (node w d).process → SameAt w new (stations.Desk d)
   same_process w new d e = (ap process_position e, λ c. ap (λ (x : Process Disk). kept_by_process x d c) e)
 
-  pub same_board : (w new : World Disk) (n : ℕ) → board_at new.boards n ≡ board_at w.boards n → SameAt w new (stations.Board n)
+  pub same_board : (w new : Configuration Disk) (n : ℕ) → board_at new.boards n ≡ board_at w.boards n → SameAt w new (stations.Board n)
   same_board w new n e = (ap (option_map (λ (k : BoardState). k.reader.position)) e, λ c. ap (option_and_then (λ (k : BoardState). noted_of k.reader c)) e)
 
-  at_desk : (w : World Disk) (d : DeskId) (k : DeskState Disk) → (site w d).process ≡ Running k → SeenAt w (stations.Desk d) k.seat.position (λ c. kept_by_seat k.seat d c)
+  at_desk : (w : Configuration Disk) (d : DeskId) (k : DeskState Disk) → (node w d).process ≡ Running k → SeenAt w (stations.Desk d) k.seat.position (λ c. kept_by_seat k.seat d c)
   at_desk w d k e = (ap process_position e, λ c. ap (λ (x : Process Disk). kept_by_process x d c) e)
 
-  at_board : (w : World Disk) (n : ℕ) (k : BoardState) → board_at w.boards n ≡ Some k → SeenAt w (stations.Board n) k.reader.position (λ c. noted_of k.reader c)
+  at_board : (w : Configuration Disk) (n : ℕ) (k : BoardState) → board_at w.boards n ≡ Some k → SeenAt w (stations.Board n) k.reader.position (λ c. noted_of k.reader c)
   at_board w n k e = (ap (option_map (λ (k : BoardState). k.reader.position)) e, λ c. ap (option_and_then (λ (k : BoardState). noted_of k.reader c)) e)
 
   -- an event is for the station that it brings a vote to, or begins
-  brings_here : (w : World Disk) (event : Event) (t : Station) (c : DeskId) (b : Ballot) → Brings w event t c b → station_of event ≡ t
+  brings_here : (w : Configuration Disk) (event : Event) (t : Station) (c : DeskId) (b : Ballot) → Brings w event t c b → station_of event ≡ t
   brings_here w event t c b (inl p) = let g = p.1 in ap station_of g.1
   brings_here w event t c b (inr p) = ap station_of p.1 ∙ sym p.0
 
@@ -79,17 +83,17 @@ module _ {Disk Why : Type 0} (s : Setting Disk Why) where
   begins_here event (stations.Desk d) e = ap station_of e
   begins_here event (stations.Board n) e = ap station_of e
 
-  pub elsewhere : (w : World Disk) (m : Moment Disk Why) (t : Station) → station_of m.event ≢ t → SameAt w m.after t → Leaves s w m t
+  pub elsewhere : (w : Configuration Disk) (m : Moment Disk Why) (t : Station) → station_of m.event ≢ t → SameAt w m.after t → Leaves s w m t
   elsewhere w m t n h = Same (record { on = λ e. n (begins_here m.event t e); at = h.0; keeps = h.1; none = λ c b i k. n (brings_here w m.event t c b i.1) })
 
-  abbrev moment : Event → Answer Why → World Disk → Moment Disk Why
+  abbrev moment : Event → Answer Why → Configuration Disk → Moment Disk Why
   moment event answer new = record { event = event; answer = answer; after = new }
 
   -- the three ways in which a station goes on
-  goes_same : (w : World Disk) (m : Moment Disk Why) (t : Station) → m.event ≢ beginning_of t → SameAt w m.after t → ((c : DeskId) (b : Ballot) → IsBrought w m t c b → kept_at w t c ≡ None → ⊥) → Leaves s w m t
+  goes_same : (w : Configuration Disk) (m : Moment Disk Why) (t : Station) → m.event ≢ beginning_of t → SameAt w m.after t → ((c : DeskId) (b : Ballot) → IsBrought w m t c b → kept_at w t c ≡ None → ⊥) → Leaves s w m t
   goes_same w m t n h f = Same (record { on = n; at = h.0; keeps = h.1; none = f })
 
-  goes_more : (w : World Disk) (m : Moment Disk Why) (t : Station) (at next : Position) (kept then : DeskId → Option Entry) (c : DeskId) (e : Entry) → m.event ≢ beginning_of t → SeenAt w t at kept → SeenAt m.after t next then → next ≡ at → Brings w m.event t c (record { at = at; entry = e }) → IsVoteAnswer m.answer → kept c ≡ None → then c ≡ Some e → then (other c) ≡ kept (other c) → Leaves s w m t
+  goes_more : (w : Configuration Disk) (m : Moment Disk Why) (t : Station) (at next : Position) (kept then : DeskId → Option Entry) (c : DeskId) (e : Entry) → m.event ≢ beginning_of t → SeenAt w t at kept → SeenAt m.after t next then → next ≡ at → Brings w m.event t c (record { at = at; entry = e }) → IsVoteAnswer m.answer → kept c ≡ None → then c ≡ Some e → then (other c) ≡ kept (other c) → Leaves s w m t
   goes_more w m t at next kept then c e n h g q b i none has rest = More c (record { at = at; entry = e }) (record {
     on = n;
     at = g.0 ∙ ap Some q;
@@ -99,25 +103,25 @@ module _ {Disk Why : Type 0} (s : Setting Disk Why) where
     rest = g.1 (other c) ∙ rest ∙ sym (h.1 (other c));
   })
 
-  goes_far : (w : World Disk) (m : Moment Disk Why) (t : Station) (at next : Position) (kept then : DeskId → Option Entry) → m.event ≢ beginning_of t → SeenAt w t at kept → SeenAt m.after t next then → at ≢ next → ((c : DeskId) → then c ≡ None) → Leaves s w m t
+  goes_far : (w : Configuration Disk) (m : Moment Disk Why) (t : Station) (at next : Position) (kept then : DeskId → Option Entry) → m.event ≢ beginning_of t → SeenAt w t at kept → SeenAt m.after t next then → at ≢ next → ((c : DeskId) → then c ≡ None) → Leaves s w m t
   goes_far w m t at next kept then n h g q none = Moved (λ p x y. q (one (position_at w t) p at x h.0 ∙ sym (one (position_at m.after t) p next y g.0)), λ c. g.1 c ∙ none c, n)
     where
       one : (o : Option Position) (p q : Position) → o ≡ Some p → o ≡ Some q → q ≡ p
       one o p q x y = cc
 
-  goes_down : (w : World Disk) (m : Moment Disk Why) (d : DeskId) (votes : List Ballot) (disk : Disk) → (site m.after d).process ≡ Down votes disk → Leaves s w m (stations.Desk d)
+  goes_down : (w : Configuration Disk) (m : Moment Disk Why) (d : DeskId) (votes : List Ballot) (disk : Disk) → (node m.after d).process ≡ Down votes disk → Leaves s w m (stations.Desk d)
   goes_down w m d votes disk e = Gone (ap process_position e)
 
   -- a desk that runs on from one seat to another
-  record Runs (w : World Disk) (m : Moment Disk Why) (d : DeskId) (k l : SeatState) : Type 0 where
+  record Runs (w : Configuration Disk) (m : Moment Disk Why) (d : DeskId) (k l : SeatState) : Type 0 where
     pub on : m.event ≢ events.Open d
     pub from : SeenAt w (stations.Desk d) k.position (λ c. kept_by_seat k d c)
     pub to : SeenAt m.after (stations.Desk d) l.position (λ c. kept_by_seat l d c)
 
-  runs_from : (w : World Disk) (m : Moment Disk Why) (d : DeskId) (k l : DeskState Disk) → m.event ≢ events.Open d → (site w d).process ≡ Running k → (site m.after d).process ≡ Running l → Runs w m d k.seat l.seat
+  runs_from : (w : Configuration Disk) (m : Moment Disk Why) (d : DeskId) (k l : DeskState Disk) → m.event ≢ events.Open d → (node w d).process ≡ Running k → (node m.after d).process ≡ Running l → Runs w m d k.seat l.seat
   runs_from w m d k l n p q = record { on = n; from = at_desk w d k p; to = at_desk m.after d l q }
 
-  runs_same : (w : World Disk) (m : Moment Disk Why) (d : DeskId) (k l : SeatState) → Runs w m d k l → l ≡ k → ((c : DeskId) (b : Ballot) → IsBrought w m (stations.Desk d) c b → kept_by_seat k d c ≡ None → ⊥) → Leaves s w m (stations.Desk d)
+  runs_same : (w : Configuration Disk) (m : Moment Disk Why) (d : DeskId) (k l : SeatState) → Runs w m d k l → l ≡ k → ((c : DeskId) (b : Ballot) → IsBrought w m (stations.Desk d) c b → kept_by_seat k d c ≡ None → ⊥) → Leaves s w m (stations.Desk d)
   runs_same w m d k l r e f =
       let g = r.from in
       let h = r.to in
@@ -125,10 +129,10 @@ module _ {Disk Why : Type 0} (s : Setting Disk Why) where
       (h.0 ∙ ap (λ (z : SeatState). Some z.position) e ∙ sym g.0, λ c. h.1 c ∙ ap (λ (z : SeatState). kept_by_seat z d c) e ∙ sym (g.1 c))
       (λ c b i q. f c b i (sym (g.1 c) ∙ q))
 
-  runs_far : (w : World Disk) (m : Moment Disk Why) (d : DeskId) (k l : SeatState) → Runs w m d k l → k.position ≢ l.position → l.mine ≡ None → l.theirs ≡ None → Leaves s w m (stations.Desk d)
+  runs_far : (w : Configuration Disk) (m : Moment Disk Why) (d : DeskId) (k l : SeatState) → Runs w m d k l → k.position ≢ l.position → l.mine ≡ None → l.theirs ≡ None → Leaves s w m (stations.Desk d)
   runs_far w m d k l r n mine theirs = goes_far w m (stations.Desk d) k.position l.position (λ c. kept_by_seat k d c) (λ c. kept_by_seat l d c) r.on r.from r.to n (λ c. no_seat_kept l d c mine theirs)
 
-  casts : (w : World Disk) (m : Moment Disk Why) (d : DeskId) (k l : SeatState) (e : Entry) (settled : Settled) → Runs w m d k l → m.event ≡ events.Pen d e → IsVoteAnswer m.answer → k.mine ≡ None → Casts k e settled l → Leaves s w m (stations.Desk d)
+  casts : (w : Configuration Disk) (m : Moment Disk Why) (d : DeskId) (k l : SeatState) (e : Entry) (settled : Settled) → Runs w m d k l → m.event ≡ events.Pen d e → IsVoteAnswer m.answer → k.mine ≡ None → Casts k e settled l → Leaves s w m (stations.Desk d)
   casts w m d k l e Settled.Pending r p i none c =
       let q = c.1 in
       let at : l.position ≡ k.position = ap (λ (z : SeatState). z.position) q in
@@ -144,7 +148,7 @@ module _ {Disk Why : Type 0} (s : Setting Disk Why) where
       runs_far w m d k l r (next_round_differs k.position l.position (ap (λ (z : SeatState). z.position) q)) (ap (λ (z : SeatState). z.mine) q) (ap (λ (z : SeatState). z.theirs) q)
 
   -- the vote of the message that was given
-  same_vote : (w : World Disk) (n : ℕ) (t : Station) (answer : Answer Why) (new : World Disk) (v : Vote) (c : DeskId) (b : Ballot) → slice_get w.sent n ≡ Some (Message.Vote v) → Brings w (events.Give n t) t c b → (v ≡ vote_of c b) × (t ≢ stations.Desk c)
+  same_vote : (w : Configuration Disk) (n : ℕ) (t : Station) (answer : Answer Why) (new : Configuration Disk) (v : Vote) (c : DeskId) (b : Ballot) → slice_get w.sent n ≡ Some (Message.Vote v) → Brings w (events.Give n t) t c b → (v ≡ vote_of c b) × (t ≢ stations.Desk c)
   same_vote w n t answer new v c b e (inl p) =
       let g = p.1 in
       let number : n ≡ g.0 = let q = g.1 in cc in
@@ -155,7 +159,7 @@ module _ {Disk Why : Type 0} (s : Setting Disk Why) where
   one_position : (o : Option Position) (p q : Position) → o ≡ Some p → o ≡ Some q → q ≡ p
   one_position o p q x y = cc
 
-  hears_vote : (w : World Disk) (n : ℕ) (d : DeskId) (answer : Answer Why) (new : World Disk) (k l : SeatState) (v : Vote) (h : Heard) → k.desk ≡ d → Runs w (moment (events.Give n (stations.Desk d)) answer new) d k l → slice_get w.sent n ≡ Some (Message.Vote v) → answer ≡ Answer.Told h → Hears k v h l → Leaves s w (moment (events.Give n (stations.Desk d)) answer new) (stations.Desk d)
+  hears_vote : (w : Configuration Disk) (n : ℕ) (d : DeskId) (answer : Answer Why) (new : Configuration Disk) (k l : SeatState) (v : Vote) (h : Heard) → k.desk ≡ d → Runs w (moment (events.Give n (stations.Desk d)) answer new) d k l → slice_get w.sent n ≡ Some (Message.Vote v) → answer ≡ Answer.Told h → Hears k v h l → Leaves s w (moment (events.Give n (stations.Desk d)) answer new) (stations.Desk d)
   hears_vote w n d answer new k l v h desk r sent told hears = by (heeds k l v h hears)
     where
       m : Moment Disk Why
@@ -180,44 +184,44 @@ module _ {Disk Why : Type 0} (s : Setting Disk Why) where
       by (inr (inr p)) = runs_far w m d k l r p.0 p.1 p.2
 
   -- a desk that was put there
-  pub there : (w new : World Disk) (d : DeskId) (y : Site Disk) (out : List Message) → new ≡ with_site w d y out → site new d ≡ y
-  there w new d y out e = ap (λ (z : World Disk). site z d) e ∙ site_put w d y out
+  pub there : (w new : Configuration Disk) (d : DeskId) (y : Node Disk) (out : List Message) → new ≡ with_node w d y out → node new d ≡ y
+  there w new d y out e = ap (λ (z : Configuration Disk). node z d) e ∙ node_put w d y out
 
-  running_there : (new : World Disk) (d : DeskId) (y : Site Disk) (l : DeskState Disk) → site new d ≡ y → y.process ≡ Running l → (site new d).process ≡ Running l
-  running_there new d y l e q = ap (λ (z : Site Disk). z.process) e ∙ q
+  running_there : (new : Configuration Disk) (d : DeskId) (y : Node Disk) (l : DeskState Disk) → node new d ≡ y → y.process ≡ Running l → (node new d).process ≡ Running l
+  running_there new d y l e q = ap (λ (z : Node Disk). z.process) e ∙ q
 
-  down_there : (w : World Disk) (m : Moment Disk Why) (d : DeskId) (y : Site Disk) (votes : List Ballot) (disk : Disk) → site m.after d ≡ y → y.process ≡ Down votes disk → Leaves s w m (stations.Desk d)
-  down_there w m d y votes disk e q = goes_down w m d votes disk (ap (λ (z : Site Disk). z.process) e ∙ q)
+  down_there : (w : Configuration Disk) (m : Moment Disk Why) (d : DeskId) (y : Node Disk) (votes : List Ballot) (disk : Disk) → node m.after d ≡ y → y.process ≡ Down votes disk → Leaves s w m (stations.Desk d)
+  down_there w m d y votes disk e q = goes_down w m d votes disk (ap (λ (z : Node Disk). z.process) e ∙ q)
 
   -- an answer by which nothing is noted
-  unheard : (w : World Disk) (m : Moment Disk Why) (d : DeskId) (k l : DeskState Disk) → m.event ≢ events.Open d → (site w d).process ≡ Running k → (site m.after d).process ≡ Running l → l.seat ≡ k.seat → (IsVoteAnswer m.answer → ⊥) → Leaves s w m (stations.Desk d)
+  unheard : (w : Configuration Disk) (m : Moment Disk Why) (d : DeskId) (k l : DeskState Disk) → m.event ≢ events.Open d → (node w d).process ≡ Running k → (node m.after d).process ≡ Running l → l.seat ≡ k.seat → (IsVoteAnswer m.answer → ⊥) → Leaves s w m (stations.Desk d)
   unheard w m d k l n p q e f = runs_same w m d k.seat l.seat (runs_from w m d k l n p q) e (λ c b i none. f i.2)
 
   not_vote : (answer told : Answer Why) → answer ≡ told → (IsVoteAnswer told → ⊥) → IsVoteAnswer answer → ⊥
   not_vote answer told e f i = f (subst IsVoteAnswer e i)
 
-  breaks : (w : World Disk) (m : Moment Disk Why) (d : DeskId) (k l : DeskState Disk) (y : Site Disk) → m.event ≢ events.Open d → (site w d).process ≡ Running k → site m.after d ≡ y → l.seat ≡ k.seat → Breaks (s.view d (site w d).version) (site w d) l m.answer y → Leaves s w m (stations.Desk d)
-  breaks w m d k l y n p e q (Fail, u, b) = unheard w m d k l n p (running_there m.after d y l e (ap (λ (z : Site Disk). z.process) b.1)) q (not_vote m.answer Answer.DeviceFailed b.0 (λ x. x))
-  breaks w m d k l y n p e q (Stop, u, b) = down_there w m d y l.votes b.0 e (ap (λ (z : Site Disk). z.process) b.3)
+  breaks : (w : Configuration Disk) (m : Moment Disk Why) (d : DeskId) (k l : DeskState Disk) (y : Node Disk) → m.event ≢ events.Open d → (node w d).process ≡ Running k → node m.after d ≡ y → l.seat ≡ k.seat → Breaks (s.view d (node w d).version) (node w d) l m.answer y → Leaves s w m (stations.Desk d)
+  breaks w m d k l y n p e q (Fail, u, b) = unheard w m d k l n p (running_there m.after d y l e (ap (λ (z : Node Disk). z.process) b.1)) q (not_vote m.answer Answer.DeviceFailed b.0 (λ x. x))
+  breaks w m d k l y n p e q (Stop, u, b) = down_there w m d y l.votes b.0 e (ap (λ (z : Node Disk). z.process) b.3)
 
-  pens : (w : World Disk) (m : Moment Disk Why) (d : DeskId) (k l : DeskState Disk) (e : Entry) (told : PenAnswer Why) (out : List Message) (y : Site Disk) → m.event ≡ events.Pen d e → (site w d).process ≡ Running k → site m.after d ≡ y → Pens (s.view d (site w d).version) s.rules k e told l out → AfterPen (s.view d (site w d).version) (site w d) told l m.answer y → Leaves s w m (stations.Desk d)
+  pens : (w : Configuration Disk) (m : Moment Disk Why) (d : DeskId) (k l : DeskState Disk) (e : Entry) (told : PenAnswer Why) (out : List Message) (y : Node Disk) → m.event ≡ events.Pen d e → (node w d).process ≡ Running k → node m.after d ≡ y → Pens (s.view d (node w d).version) s.rules k e told l out → AfterPen (s.view d (node w d).version) (node w d) told l m.answer y → Leaves s w m (stations.Desk d)
   pens w m d k l e (PenAnswer.Penned settled) out y p q t r a =
       casts w m d k.seat l.seat e settled
-      (runs_from w m d k l (λ x. let z = sym p ∙ x in cc) q (running_there m.after d y l t (ap (λ (z : Site Disk). z.process) a.1)))
+      (runs_from w m d k l (λ x. let z = sym p ∙ x in cc) q (running_there m.after d y l t (ap (λ (z : Node Disk). z.process) a.1)))
       p (subst IsVoteAnswer (sym a.0) tt) r.0.0.1 r.1.0
   pens w m d k l e (PenAnswer.Refused why) out y p q t r a =
-      unheard w m d k l (λ x. let z = sym p ∙ x in cc) q (running_there m.after d y l t (ap (λ (z : Site Disk). z.process) a.1)) (ap (λ (z : DeskState Disk). z.seat) r.1.1) (not_vote m.answer (Answer.NotPenned why) a.0 (λ x. x))
+      unheard w m d k l (λ x. let z = sym p ∙ x in cc) q (running_there m.after d y l t (ap (λ (z : Node Disk). z.process) a.1)) (ap (λ (z : DeskState Disk). z.seat) r.1.1) (not_vote m.answer (Answer.NotPenned why) a.0 (λ x. x))
   pens w m d k l e PenAnswer.DeviceFailed out y p q t r a = breaks w m d k l y (λ x. let z = sym p ∙ x in cc) q t (ap (λ (z : DeskState Disk). z.seat) r.2) a
 
-  given : (w : World Disk) (n : ℕ) (d : DeskId) (answer : Answer Why) (new : World Disk) (k l : DeskState Disk) (v : Message) (told : ReceiveAnswer) (out : List Message) (y : Site Disk) → k.seat.desk ≡ d → (site w d).process ≡ Running k → site new d ≡ y → slice_get w.sent n ≡ Some v → Receives (s.view d (site w d).version) k v told l out → AfterReceive (s.view d (site w d).version) (site w d) told l out answer y → Leaves s w (moment (events.Give n (stations.Desk d)) answer new) (stations.Desk d)
+  given : (w : Configuration Disk) (n : ℕ) (d : DeskId) (answer : Answer Why) (new : Configuration Disk) (k l : DeskState Disk) (v : Message) (told : ReceiveAnswer) (out : List Message) (y : Node Disk) → k.seat.desk ≡ d → (node w d).process ≡ Running k → node new d ≡ y → slice_get w.sent n ≡ Some v → Receives (s.view d (node w d).version) k v told l out → AfterReceive (s.view d (node w d).version) (node w d) told l out answer y → Leaves s w (moment (events.Give n (stations.Desk d)) answer new) (stations.Desk d)
   given w n d answer new k l v ReceiveAnswer.Failed out y desk q t sent r a =
-      unheard w (moment (events.Give n (stations.Desk d)) answer new) d k l (λ x. cc) q (running_there new d y l t (ap (λ (z : Site Disk). z.process) a.1)) (ap (λ (z : DeskState Disk). z.seat) r.1.1) (not_vote answer Answer.HasFailed a.0 (λ x. x))
+      unheard w (moment (events.Give n (stations.Desk d)) answer new) d k l (λ x. cc) q (running_there new d y l t (ap (λ (z : Node Disk). z.process) a.1)) (ap (λ (z : DeskState Disk). z.seat) r.1.1) (not_vote answer Answer.HasFailed a.0 (λ x. x))
   given w n d answer new k l (Message.Vote v) (ReceiveAnswer.Told h) out y desk q t sent r a =
-      hears_vote w n d answer new k.seat l.seat v h desk (runs_from w (moment (events.Give n (stations.Desk d)) answer new) d k l (λ x. cc) q (running_there new d y l t (ap (λ (z : Site Disk). z.process) a.1))) sent a.0 r.1
+      hears_vote w n d answer new k.seat l.seat v h desk (runs_from w (moment (events.Give n (stations.Desk d)) answer new) d k l (λ x. cc) q (running_there new d y l t (ap (λ (z : Node Disk). z.process) a.1))) sent a.0 r.1
   given w n d answer new k l (Message.Ask v) (ReceiveAnswer.Told h) out y desk q t sent r a = absurd r
   given w n d answer new k l (Message.Vote v) ReceiveAnswer.Asked out y desk q t sent r a = absurd r
   given w n d answer new k l (Message.Ask v) ReceiveAnswer.Asked out y desk q t sent r a =
-      unheard w (moment (events.Give n (stations.Desk d)) answer new) d k l (λ x. cc) q (running_there new d y l t (ap (λ (z : Site Disk). z.process) a.1)) (ap (λ (z : DeskState Disk). z.seat) r.1.1) (not_vote answer (Answer.Asked _) a.0 (λ x. x))
+      unheard w (moment (events.Give n (stations.Desk d)) answer new) d k l (λ x. cc) q (running_there new d y l t (ap (λ (z : Node Disk). z.process) a.1)) (ap (λ (z : DeskState Disk). z.seat) r.1.1) (not_vote answer (Answer.Asked _) a.0 (λ x. x))
   given w n d answer new k l (Message.Vote v) ReceiveAnswer.DeviceFailed out y desk q t sent r a = absurd r
   given w n d answer new k l (Message.Ask v) ReceiveAnswer.DeviceFailed out y desk q t sent r a =
       breaks w (moment (events.Give n (stations.Desk d)) answer new) d k l y (λ x. cc) q t (ap (λ (z : DeskState Disk). z.seat) r.2) a
@@ -241,7 +245,7 @@ module _ {Disk Why : Type 0} (s : Setting Disk Why) where
   or_not B B = inl refl
 
   -- a desk that begins keeps its last vote alone
-  opens : (w : World Disk) (d : DeskId) (answer : Answer Why) (new : World Disk) (k : DeskState Disk) (votes : List Ballot) (n : ℕ) → (site new d).process ≡ Running k → k.seat ≡ seat_of d votes → answer ≡ Answer.Opened n → (s.view d (site w d).version).reads (disk_of (site w d).process) ≡ Some votes → Leaves s w (moment (events.Open d) answer new) (stations.Desk d)
+  opens : (w : Configuration Disk) (d : DeskId) (answer : Answer Why) (new : Configuration Disk) (k : DeskState Disk) (votes : List Ballot) (n : ℕ) → (node new d).process ≡ Running k → k.seat ≡ seat_of d votes → answer ≡ Answer.Opened n → (s.view d (node w d).version).reads (process_disk (node w d).process) ≡ Some votes → Leaves s w (moment (events.Open d) answer new) (stations.Desk d)
   opens w d answer new k [] n p seat told found = Begun (refl, λ c b at. (λ q. absurd (some_none (kept_at new (stations.Desk d) c) b.entry (none c) q), λ q. absurd (unfound c b q)))
     where
       none : (c : DeskId) → kept_at new (stations.Desk d) c ≡ None
@@ -250,7 +254,7 @@ module _ {Disk Why : Type 0} (s : Setting Disk Why) where
       unfound : (c : DeskId) (b : Ballot) → (stations.Desk d ≡ stations.Desk c) × IsFound s w (moment (events.Open d) answer new) c b → ⊥
       unfound c b q =
           let f : IsFound s w (moment (events.Open d) answer new) d b = subst (λ (c : DeskId). IsFound s w (moment (events.Open d) answer new) c b) (same_desk c d q.0) q.1 in
-          no_first ((s.view d (site w d).version).reads (disk_of (site w d).process)) b f.2.0 found f.2.1
+          no_first ((s.view d (node w d).version).reads (process_disk (node w d).process)) b f.2.0 found f.2.1
   opens w d answer new k (v ∷ rest) n p seat told found = Begun (refl, λ c b at. (λ q. has c b at q (or_not c d), λ q. keeps c b q))
     where
       own : kept_at new (stations.Desk d) d ≡ Some v.entry
@@ -272,34 +276,34 @@ module _ {Disk Why : Type 0} (s : Setting Disk Why) where
       keeps c b q =
           let h = same_desk c d q.0 in
           let f : IsFound s w (moment (events.Open d) answer new) d b = subst (λ (c : DeskId). IsFound s w (moment (events.Open d) answer new) c b) h q.1 in
-          let same : v ≡ b = same_first ((s.view d (site w d).version).reads (disk_of (site w d).process)) v b rest f.2.0 found f.2.1 in
+          let same : v ≡ b = same_first ((s.view d (node w d).version).reads (process_disk (node w d).process)) v b rest f.2.0 found f.2.1 in
           ap (λ (c : DeskId). kept_at new (stations.Desk d) c) h ∙ own ∙ ap (λ (b : Ballot). Some b.entry) same
 
   -- a desk that was down, and stays so
-  stays_down : (view : FileView Disk) (w : World Disk) (m : Moment Disk Why) (d : DeskId) (x y : Site Disk) (votes : List Ballot) (left : Disk) (fault : Fault) → site m.after d ≡ y → StaysDownBy view x fault votes left m.answer y → Leaves s w m (stations.Desk d)
-  stays_down view w m d x y votes left Fail e p = down_there w m d y votes left e (ap (λ (z : Site Disk). z.process) p.1)
-  stays_down view w m d x y votes left Stop e p = down_there w m d y votes p.0 e (ap (λ (z : Site Disk). z.process) p.3)
+  stays_down : (view : FileView Disk) (w : Configuration Disk) (m : Moment Disk Why) (d : DeskId) (x y : Node Disk) (votes : List Ballot) (left : Disk) (fault : Fault) → node m.after d ≡ y → StaysDownBy view x fault votes left m.answer y → Leaves s w m (stations.Desk d)
+  stays_down view w m d x y votes left Fail e p = down_there w m d y votes left e (ap (λ (z : Node Disk). z.process) p.1)
+  stays_down view w m d x y votes left Stop e p = down_there w m d y votes p.0 e (ap (λ (z : Node Disk). z.process) p.3)
 
-  opened : (w : World Disk) (d : DeskId) (answer : Answer Why) (new : World Disk) (votes : List Ballot) (disk : Disk) (opening : Opening Disk) (y : Site Disk) → (site w d).process ≡ Down votes disk → site new d ≡ y → Opens (s.view d (site w d).version) s.rules d disk opening → AfterOpen (s.view d (site w d).version) (site w d) votes opening answer y → Leaves s w (moment (events.Open d) answer new) (stations.Desk d)
+  opened : (w : Configuration Disk) (d : DeskId) (answer : Answer Why) (new : Configuration Disk) (votes : List Ballot) (disk : Disk) (opening : Opening Disk) (y : Node Disk) → (node w d).process ≡ Down votes disk → node new d ≡ y → Opens (s.view d (node w d).version) s.rules d disk opening → AfterOpen (s.view d (node w d).version) (node w d) votes opening answer y → Leaves s w (moment (events.Open d) answer new) (stations.Desk d)
   opened w d answer new votes disk (Opening.Opened k) y e t o a =
-      opens w d answer new k k.votes (length k.book) (running_there new d y k t (ap (λ (z : Site Disk). z.process) a.1)) (ap (λ (z : DeskState Disk). z.seat) o.3) a.0 (ap (s.view d (site w d).version).reads (ap disk_of e) ∙ o.0)
-  opened w d answer new votes disk (Opening.NotOpened OpenRefusal.Unsound left) y e t o a = down_there w (moment (events.Open d) answer new) d y votes left t (ap (λ (z : Site Disk). z.process) a.1)
-  opened w d answer new votes disk (Opening.NotOpened (OpenRefusal.BadVotes place) left) y e t o a = down_there w (moment (events.Open d) answer new) d y votes left t (ap (λ (z : Site Disk). z.process) a.1)
+      opens w d answer new k k.votes (length k.book) (running_there new d y k t (ap (λ (z : Node Disk). z.process) a.1)) (ap (λ (z : DeskState Disk). z.seat) o.3) a.0 (ap (s.view d (node w d).version).reads (ap process_disk e) ∙ o.0)
+  opened w d answer new votes disk (Opening.NotOpened OpenRefusal.Unsound left) y e t o a = down_there w (moment (events.Open d) answer new) d y votes left t (ap (λ (z : Node Disk). z.process) a.1)
+  opened w d answer new votes disk (Opening.NotOpened (OpenRefusal.BadVotes place) left) y e t o a = down_there w (moment (events.Open d) answer new) d y votes left t (ap (λ (z : Node Disk). z.process) a.1)
   opened w d answer new votes disk (Opening.NotOpened OpenRefusal.NoMemory left) y e t o a = absurd a
-  opened w d answer new votes disk (Opening.NotOpened OpenRefusal.DeviceFailed left) y e t o a = stays_down (s.view d (site w d).version) w (moment (events.Open d) answer new) d (site w d) y votes left a.0 t a.2
+  opened w d answer new votes disk (Opening.NotOpened OpenRefusal.DeviceFailed left) y e t o a = stays_down (s.view d (node w d).version) w (moment (events.Open d) answer new) d (node w d) y votes left a.0 t a.2
 
-  migrated : (w : World Disk) (m : Moment Disk Why) (d : DeskId) (x y : Site Disk) (votes : List Ballot) (migration : Migration Disk) → site m.after d ≡ y → AfterMigration (s.view d) x votes migration m.answer y → Leaves s w m (stations.Desk d)
-  migrated w m d x y votes (ToNew found new) e p = down_there w m d y votes new e (ap (λ (z : Site Disk). z.process) p.1)
-  migrated w m d x y votes (NotSound left) e p = down_there w m d y votes left e (ap (λ (z : Site Disk). z.process) p.1)
+  migrated : (w : Configuration Disk) (m : Moment Disk Why) (d : DeskId) (x y : Node Disk) (votes : List Ballot) (migration : Migration Disk) → node m.after d ≡ y → AfterMigration (s.view d) x votes migration m.answer y → Leaves s w m (stations.Desk d)
+  migrated w m d x y votes (ToNew found new) e p = down_there w m d y votes new e (ap (λ (z : Node Disk). z.process) p.1)
+  migrated w m d x y votes (NotSound left) e p = down_there w m d y votes left e (ap (λ (z : Node Disk). z.process) p.1)
   migrated w m d x y votes (Failed left) e p = stays_down (s.view d Old) w m d x y votes left p.0 e p.2
 
-  migrates : (w : World Disk) (m : Moment Disk Why) (d : DeskId) (x y : Site Disk) (version : FileVersion) (votes : List Ballot) (disk : Disk) → x.process ≡ Down votes disk → site m.after d ≡ y → MigratesAt (s.view d) x version votes disk m.answer y → Leaves s w m (stations.Desk d)
+  migrates : (w : Configuration Disk) (m : Moment Disk Why) (d : DeskId) (x y : Node Disk) (version : FileVersion) (votes : List Ballot) (disk : Disk) → x.process ≡ Down votes disk → node m.after d ≡ y → MigratesAt (s.view d) x version votes disk m.answer y → Leaves s w m (stations.Desk d)
   migrates w m d x y Old votes disk q e p = migrated w m d x y votes p.0 e p.2
-  migrates w m d x y New votes disk q e p = down_there w m d y votes disk e (ap (λ (z : Site Disk). z.process) p.1 ∙ q)
+  migrates w m d x y New votes disk q e p = down_there w m d y votes disk e (ap (λ (z : Node Disk). z.process) p.1 ∙ q)
 
   -- an event that neither brings a vote nor changes the desk's seat
-  idle : (w : World Disk) (m : Moment Disk Why) (d : DeskId) (y : Site Disk) → m.event ≢ events.Open d → site m.after d ≡ y → process_position y.process ≡ process_position (site w d).process → ((c : DeskId) → kept_by_process y.process d c ≡ kept_by_process (site w d).process d c) → ((c : DeskId) (b : Ballot) → Brings w m.event (stations.Desk d) c b → ⊥) → Leaves s w m (stations.Desk d)
-  idle w m d y n e at kept f = goes_same w m (stations.Desk d) n (ap (λ (z : Site Disk). process_position z.process) e ∙ at, λ c. ap (λ (z : Site Disk). kept_by_process z.process d c) e ∙ kept c) (λ c b i none. f c b i.1)
+  idle : (w : Configuration Disk) (m : Moment Disk Why) (d : DeskId) (y : Node Disk) → m.event ≢ events.Open d → node m.after d ≡ y → process_position y.process ≡ process_position (node w d).process → ((c : DeskId) → kept_by_process y.process d c ≡ kept_by_process (node w d).process d c) → ((c : DeskId) (b : Ballot) → Brings w m.event (stations.Desk d) c b → ⊥) → Leaves s w m (stations.Desk d)
+  idle w m d y n e at kept f = goes_same w m (stations.Desk d) n (ap (λ (z : Node Disk). process_position z.process) e ∙ at, λ c. ap (λ (z : Node Disk). kept_by_process z.process d c) e ∙ kept c) (λ c b i none. f c b i.1)
 
   other_disk_position : (x : Process Disk) (disk : Disk) → process_position (with_disk x disk) ≡ process_position x
   other_disk_position (Running k) disk = refl
@@ -309,40 +313,40 @@ module _ {Disk Why : Type 0} (s : Setting Disk Why) where
   other_disk_kept (Running k) disk d c = refl
   other_disk_kept (Down votes old) disk d c = refl
 
-  falls_due : (w : World Disk) (m : Moment Disk Why) (d : DeskId) (y : Site Disk) (fault : Fault) → m.event ≢ events.Open d → site m.after d ≡ y → ((c : DeskId) (b : Ballot) → Brings w m.event (stations.Desk d) c b → ⊥) → FallsDue (s.view d (site w d).version) fault (site w d) y → Leaves s w m (stations.Desk d)
+  falls_due : (w : Configuration Disk) (m : Moment Disk Why) (d : DeskId) (y : Node Disk) (fault : Fault) → m.event ≢ events.Open d → node m.after d ≡ y → ((c : DeskId) (b : Ballot) → Brings w m.event (stations.Desk d) c b → ⊥) → FallsDue (s.view d (node w d).version) fault (node w d) y → Leaves s w m (stations.Desk d)
   falls_due w m d y fault n e f p =
-      let q : y.process ≡ with_disk (site w d).process p.0 = ap (λ (z : Site Disk). z.process) p.2 in
-      idle w m d y n e (ap process_position q ∙ other_disk_position (site w d).process p.0) (λ c. ap (λ (z : Process Disk). kept_by_process z d c) q ∙ other_disk_kept (site w d).process p.0 d c) f
+      let q : y.process ≡ with_disk (node w d).process p.0 = ap (λ (z : Node Disk). z.process) p.2 in
+      idle w m d y n e (ap process_position q ∙ other_disk_position (node w d).process p.0) (λ c. ap (λ (z : Process Disk). kept_by_process z d c) q ∙ other_disk_kept (node w d).process p.0 d c) f
 
-  brings_by : (w : World Disk) (event : Event) (t : Station) (c : DeskId) (b : Ballot) → Brings w event t c b → ((n : ℕ) × (event ≡ events.Give n t)) ⊎ (event ≡ events.Pen c b.entry)
+  brings_by : (w : Configuration Disk) (event : Event) (t : Station) (c : DeskId) (b : Ballot) → Brings w event t c b → ((n : ℕ) × (event ≡ events.Give n t)) ⊎ (event ≡ events.Pen c b.entry)
   brings_by w event t c b (inl p) = let g = p.1 in inl (g.0, g.1)
   brings_by w event t c b (inr p) = inr p.1
 
-  not_brought : (w : World Disk) (event : Event) (t : Station) → ((n : ℕ) → event ≢ events.Give n t) → ((c : DeskId) (e : Entry) → event ≢ events.Pen c e) → (c : DeskId) (b : Ballot) → Brings w event t c b → ⊥
+  not_brought : (w : Configuration Disk) (event : Event) (t : Station) → ((n : ℕ) → event ≢ events.Give n t) → ((c : DeskId) (e : Entry) → event ≢ events.Pen c e) → (c : DeskId) (b : Ballot) → Brings w event t c b → ⊥
   not_brought w event t f g c b h = ⊎_elim (λ (p : (n : ℕ) × (event ≡ events.Give n t)). f p.0 p.1) (λ (p : event ≡ events.Pen c b.entry). g c b.entry p) (brings_by w event t c b h)
 
   -- what a step at a desk leaves there
-  pub desk_leaves : (w : World Disk) (d : DeskId) (event : Event) (answer : Answer Why) (new : World Disk) (y : Site Disk) (out : List Message) → Fine s w → station_of event ≡ stations.Desk d → site new d ≡ y → AtDesk s w.sent d event (site w d) answer y out → Leaves s w (moment event answer new) (stations.Desk d)
+  pub desk_leaves : (w : Configuration Disk) (d : DeskId) (event : Event) (answer : Answer Why) (new : Configuration Disk) (y : Node Disk) (out : List Message) → Fine s w → station_of event ≡ stations.Desk d → node new d ≡ y → AtDesk s w.sent d event (node w d) answer y out → Leaves s w (moment event answer new) (stations.Desk d)
   desk_leaves w d (events.Pen c e) answer new y out f h t p =
       pens w (moment (events.Pen c e) answer new) d p.0 p.1 e p.2 out y (ap (λ (x : DeskId). events.Pen x e) (same_desk c d (sym h))) p.3 t p.4 p.5
   desk_leaves w d (events.Give n u) answer new y out f h t p =
-      let fine = running s (site w d).version d (ballots.votes_of (votes_in w) (other d)) (site w d).process p.0 p.4 (site_fine s w d f) in
+      let fine = running s (node w d).version d (votes_of (all_votes w) (other d)) (node w d).process p.0 p.4 (node_fine s w d f) in
       let seat = fine.seat in
       subst (λ (z : Station). Leaves s w (moment (events.Give n z) answer new) (stations.Desk d)) (sym h)
       (given w n d answer new p.0 p.1 p.2 p.3 out y seat.desk p.4 t p.5 p.6 p.7)
   desk_leaves w d (events.Tick u) answer new y out f h t p =
-      idle w (moment (events.Tick u) answer new) d y (λ e. cc) t (ap (λ (z : Site Disk). process_position z.process) p.4) (λ c. ap (λ (z : Site Disk). kept_by_process z.process d c) p.4) (not_brought w (events.Tick u) (stations.Desk d) (λ n e. cc) (λ c e q. cc))
-  desk_leaves w d (events.Kill c) answer new y out f h t p = let g = p.2 in down_there w (moment (events.Kill c) answer new) d y (votes_of (site w d).process) g.0 t (ap (λ (z : Site Disk). z.process) g.2)
-  desk_leaves w d (events.Power c choice) answer new y out f h t p = down_there w (moment (events.Power c choice) answer new) d y (votes_of (site w d).process) p.0 t (ap (λ (z : Site Disk). z.process) p.2)
+      idle w (moment (events.Tick u) answer new) d y (λ e. cc) t (ap (λ (z : Node Disk). process_position z.process) p.4) (λ c. ap (λ (z : Node Disk). kept_by_process z.process d c) p.4) (not_brought w (events.Tick u) (stations.Desk d) (λ n e. cc) (λ c e q. cc))
+  desk_leaves w d (events.Kill c) answer new y out f h t p = let g = p.2 in down_there w (moment (events.Kill c) answer new) d y (process_votes (node w d).process) g.0 t (ap (λ (z : Node Disk). z.process) g.2)
+  desk_leaves w d (events.Power c choice) answer new y out f h t p = down_there w (moment (events.Power c choice) answer new) d y (process_votes (node w d).process) p.0 t (ap (λ (z : Node Disk). z.process) p.2)
   desk_leaves w d (events.FailAt c n) answer new y out f h t p = falls_due w (moment (events.FailAt c n) answer new) d y Fail (λ e. cc) t (not_brought w (events.FailAt c n) (stations.Desk d) (λ i e. cc) (λ b e q. cc)) p.0
   desk_leaves w d (events.StopAt c n) answer new y out f h t p = falls_due w (moment (events.StopAt c n) answer new) d y Stop (λ e. cc) t (not_brought w (events.StopAt c n) (stations.Desk d) (λ i e. cc) (λ b e q. cc)) p.0
   desk_leaves w d (events.Open c) answer new y out f h t p =
       subst (λ (z : DeskId). Leaves s w (moment (events.Open z) answer new) (stations.Desk d)) (sym (same_desk c d (sym h))) (opened w d answer new p.0 p.1 p.2 y p.3 t p.4 p.5)
-  desk_leaves w d (events.Migrate c) answer new y out f h t p = migrates w (moment (events.Migrate c) answer new) d (site w d) y (site w d).version p.0 p.1 p.2 t p.3
+  desk_leaves w d (events.Migrate c) answer new y out f h t p = migrates w (moment (events.Migrate c) answer new) d (node w d) y (node w d).version p.0 p.1 p.2 t p.3
   desk_leaves w d (events.Wipe n) answer new y out f h t p = absurd p
 
   -- what a step at a board leaves there
-  board_stays : (w : World Disk) (m : Moment Disk Why) (n : ℕ) (k l : BoardState) → m.event ≢ events.Wipe n → board_at w.boards n ≡ Some k → board_at m.after.boards n ≡ Some l → l.reader ≡ k.reader → ((c : DeskId) (b : Ballot) → IsBrought w m (stations.Board n) c b → noted_of k.reader c ≡ None → ⊥) → Leaves s w m (stations.Board n)
+  board_stays : (w : Configuration Disk) (m : Moment Disk Why) (n : ℕ) (k l : BoardState) → m.event ≢ events.Wipe n → board_at w.boards n ≡ Some k → board_at m.after.boards n ≡ Some l → l.reader ≡ k.reader → ((c : DeskId) (b : Ballot) → IsBrought w m (stations.Board n) c b → noted_of k.reader c ≡ None → ⊥) → Leaves s w m (stations.Board n)
   board_stays w m n k l x p q e f =
       let g = at_board w n k p in
       let h = at_board m.after n l q in
@@ -350,7 +354,7 @@ module _ {Disk Why : Type 0} (s : Setting Disk Why) where
       (h.0 ∙ ap (λ (z : ReaderState). Some z.position) e ∙ sym g.0, λ c. h.1 c ∙ ap (λ (z : ReaderState). noted_of z c) e ∙ sym (g.1 c))
       (λ c b i none. f c b i (sym (g.1 c) ∙ none))
 
-  listens : (w : World Disk) (n number : ℕ) (answer : Answer Why) (new : World Disk) (k l : BoardState) (v : Vote) (h : Heard) → board_at w.boards number ≡ Some k → board_at new.boards number ≡ Some l → slice_get w.sent n ≡ Some (Message.Vote v) → answer ≡ Answer.Told h → Listens k.reader v h l.reader → Leaves s w (moment (events.Give n (stations.Board number)) answer new) (stations.Board number)
+  listens : (w : Configuration Disk) (n number : ℕ) (answer : Answer Why) (new : Configuration Disk) (k l : BoardState) (v : Vote) (h : Heard) → board_at w.boards number ≡ Some k → board_at new.boards number ≡ Some l → slice_get w.sent n ≡ Some (Message.Vote v) → answer ≡ Answer.Told h → Listens k.reader v h l.reader → Leaves s w (moment (events.Give n (stations.Board number)) answer new) (stations.Board number)
   listens w n number answer new k l v h p q sent told heard = by (reads k.reader l.reader v h heard)
     where
       by : Reads k.reader v l.reader → Leaves s w (moment (events.Give n (stations.Board number)) answer new) (stations.Board number)
@@ -369,7 +373,7 @@ module _ {Disk Why : Type 0} (s : Setting Disk Why) where
       by (inr (inr r)) =
           goes_far w (moment (events.Give n (stations.Board number)) answer new) (stations.Board number) k.reader.position l.reader.position (λ c. noted_of k.reader c) (λ c. noted_of l.reader c) (λ e. cc) (at_board w number k p) (at_board new number l q) r.0 (λ c. no_reader_kept l.reader c r.1 r.2)
 
-  board_given : (w : World Disk) (n number : ℕ) (answer : Answer Why) (new : World Disk) (k l : BoardState) (v : Message) (told : BoardAnswer) → board_at w.boards number ≡ Some k → board_at new.boards number ≡ Some l → slice_get w.sent n ≡ Some v → answer ≡ board_told told → BoardReceives s.rules k v told l → Leaves s w (moment (events.Give n (stations.Board number)) answer new) (stations.Board number)
+  board_given : (w : Configuration Disk) (n number : ℕ) (answer : Answer Why) (new : Configuration Disk) (k l : BoardState) (v : Message) (told : BoardAnswer) → board_at w.boards number ≡ Some k → board_at new.boards number ≡ Some l → slice_get w.sent n ≡ Some v → answer ≡ board_told told → BoardReceives s.rules k v told l → Leaves s w (moment (events.Give n (stations.Board number)) answer new) (stations.Board number)
   board_given w n number answer new k l (Message.Vote v) (BoardAnswer.Told h) p q sent a r = listens w n number answer new k l v h p q sent a r.0
   board_given w n number answer new k l (Message.Vote v) BoardAnswer.Asked p q sent a r = absurd r
   board_given w n number answer new k l (Message.Vote v) (BoardAnswer.BadVotes place) p q sent a r =
@@ -380,7 +384,7 @@ module _ {Disk Why : Type 0} (s : Setting Disk Why) where
   board_given w n number answer new k l (Message.Ask v) (BoardAnswer.BadVotes place) p q sent a r = absurd r
 
   -- a board that was wiped
-  wiped : (w : World Disk) (n : ℕ) (answer : Answer Why) (new : World Disk) (l : BoardState) → board_at new.boards n ≡ Some l → l ≡ fresh_board → Leaves s w (moment (events.Wipe n) answer new) (stations.Board n)
+  wiped : (w : Configuration Disk) (n : ℕ) (answer : Answer Why) (new : Configuration Disk) (l : BoardState) → board_at new.boards n ≡ Some l → l ≡ fresh_board → Leaves s w (moment (events.Wipe n) answer new) (stations.Board n)
   wiped w n answer new l q e = Begun (refl, λ c b at. (λ k. absurd (some_none (kept_at new (stations.Board n) c) b.entry (none c) k), λ k. absurd (no_desk c k.0)))
     where
       none : (c : DeskId) → kept_at new (stations.Board n) c ≡ None
@@ -389,7 +393,7 @@ module _ {Disk Why : Type 0} (s : Setting Disk Why) where
       no_desk : (c : DeskId) → stations.Board n ≡ stations.Desk c → ⊥
       no_desk c e = cc
 
-  pub board_leaves : (w : World Disk) (number : ℕ) (event : Event) (answer : Answer Why) (new : World Disk) (k l : BoardState) (out : List Message) → station_of event ≡ stations.Board number → board_at w.boards number ≡ Some k → board_at new.boards number ≡ Some l → AtBoard s w.sent event k answer l out → Leaves s w (moment event answer new) (stations.Board number)
+  pub board_leaves : (w : Configuration Disk) (number : ℕ) (event : Event) (answer : Answer Why) (new : Configuration Disk) (k l : BoardState) (out : List Message) → station_of event ≡ stations.Board number → board_at w.boards number ≡ Some k → board_at new.boards number ≡ Some l → AtBoard s w.sent event k answer l out → Leaves s w (moment event answer new) (stations.Board number)
   board_leaves w number (events.Give n u) answer new k l out h p q r =
       subst (λ (z : Station). Leaves s w (moment (events.Give n z) answer new) (stations.Board number)) (sym h) (board_given w n number answer new k l r.0 r.1 p q r.2 r.4 r.3)
   board_leaves w number (events.Tick u) answer new k l out h p q r =

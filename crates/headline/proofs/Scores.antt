@@ -8,7 +8,8 @@ use Rattle.corrections.specs.CleanList.{history_of}
 use Rattle.agree_core.specs.Agreed.{BeginsWith}
 use Rattle.agree_core.proofs.Settling.{one_book}
 use Rattle.headline.specs.declared.version.FileVersion.{FileVersion}
-use Rattle.headline.specs.Worlds.{Setting, World, votes_in}
+use Rattle.headline.specs.Match.{Setting}
+use Rattle.headline.specs.Configurations.{Configuration, all_votes}
 use Rattle.headline.specs.Runs.{Begins, Moment, Run, last_of}
 use Rattle.headline.specs.Headline.{HaveOneScore, ShowsScore}
 use Rattle.headline.proofs.Keeping.{all_justified, begins_fine, run_keeps}
@@ -32,7 +33,7 @@ one_standing m k n h p q = λ i. record {
   bowling = (p.bowling ∙ sym q.bowling) i;
 }
 
-pub one_score : {Disk Why : Type 0} (s : Setting Disk Why) (innings : ℕ) (version : FileVersion) (boards : ℕ) (w : World Disk) (ms : List (Moment Disk Why)) → Begins s version boards w → Run s w ms → HaveOneScore innings w ms
+pub one_score : {Disk Why : Type 0} (s : Setting Disk Why) (innings : ℕ) (version : FileVersion) (boards : ℕ) (w : Configuration Disk) (ms : List (Moment Disk Why)) → Begins s version boards w → Run s w ms → HaveOneScore innings w ms
 one_score s innings version boards w ms begins run t u n score other p q =
     let f = begins_fine s version boards w begins in
     let j = all_justified s (last_of w ms) (run_keeps s w ms f run) in
@@ -44,7 +45,7 @@ one_score s innings version boards w ms begins run t u n score other p q =
     let equal : xs ≡ ys = ⊎_elim
     (λ (b : BeginsWith ys xs). same_length xs ys b size)
     (λ (b : BeginsWith xs ys). sym (same_length ys xs b (sym size)))
-    (one_book (votes_in (last_of w ms)) j (votes_in x.0) (votes_in y.0) xs ys x.2 y.2 (shown_settled s x.0 t xs x.1 x.3.1) (shown_settled s y.0 u ys y.1 y.3.1)) in
+    (one_book (all_votes (last_of w ms)) j (all_votes x.0) (all_votes y.0) xs ys x.2 y.2 (shown_settled s x.0 t xs x.1 x.3.1) (shown_settled s y.0 u ys y.1 y.3.1)) in
     let a = x.3.3 in
     let b = y.3.3 in
     one_standing score other innings (history_of ys) (subst (λ (o : List Entry). StandsFor score innings (history_of o)) equal a.score) b.score

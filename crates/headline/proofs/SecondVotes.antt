@@ -8,8 +8,7 @@ use Rattle.agree_core.specs.declared.messages.Message.{Message}
 use Rattle.agree_core.specs.declared.messages.Vote.{Vote}
 use Rattle.agree_core.specs.declared.seat.Heard.{Heard}
 use Rattle.agree_core.specs.declared.seat.Settled.{Settled}
-use Rattle.agree_core.specs.Ballots.{Ballot, vote_of}
-use Rattle.agree_core.specs.Ballots as ballots
+use Rattle.agree_core.specs.Ballots.{Ballot, vote_of, votes_of}
 use Rattle.agree_core.specs.Boards.{BoardAnswer, BoardReceives, BoardState}
 use Rattle.agree_core.specs.Desks.{DeskState, PenAnswer, Pens, ReceiveAnswer, Receives, book_after, book_heard}
 use Rattle.agree_core.specs.declared.position.Position.{Position}
@@ -23,15 +22,20 @@ use Rattle.headline.specs.declared.event.Station.{Station}
 use Rattle.headline.specs.declared.event.Station.TheVariants as stations
 use Rattle.headline.specs.declared.fault.Fault.TheVariants.{Fail, Stop}
 use Rattle.headline.specs.declared.version.FileVersion.{FileVersion}
-use Rattle.headline.specs.Worlds.{Process, Running, Setting, Site, World, board_at, site, votes_in, with_site}
-use Rattle.headline.specs.Steps.{AfterPen, AfterReceive, Answer, Breaks, Step, board_told}
+use Rattle.headline.specs.Match.{Setting}
+use Rattle.headline.specs.Configurations.{Process, Running, Node, Configuration, board_at, node, all_votes, with_node}
+use Rattle.headline.specs.Answers.{Answer}
+use Rattle.headline.specs.DeskFaults.{Breaks}
+use Rattle.headline.specs.DeskSteps.{AfterPen, AfterReceive}
+use Rattle.headline.specs.BoardSteps.{board_told}
+use Rattle.headline.specs.Steps.{Step}
 use Rattle.headline.specs.Runs.{Begins, Moment, Run, Shows, last_of, process_shows}
 use Rattle.headline.specs.Noted.{Brings, IsVoteAnswer, kept_at, kept_by_process, kept_by_seat, position_at, process_position}
 use Rattle.headline.specs.Headline.{NoneWaits, TakesSecond}
 use Rattle.headline.proofs.BoardKeeping.{board_fine_at}
-use Rattle.headline.proofs.Keeping.{Fine, begins_fine, run_keeps, running, site_fine}
+use Rattle.headline.proofs.Keeping.{Fine, begins_fine, run_keeps, running, node_fine}
 use Rattle.headline.proofs.Heeding.{board_put}
-use Rattle.headline.proofs.NotingSteps.{site_put}
+use Rattle.headline.proofs.NotingSteps.{node_put}
 use Rattle.headline.proofs.NotedRuns.{keeps_noted}
 use Rattle.headline.proofs.Shown.{none_keeps_both}
 
@@ -94,37 +98,37 @@ one_board x k l p q = cc
 
 module _ {Disk Why : Type 0} (s : Setting Disk Why) where
   -- a station shows this book, and keeps this vote for its position
-  abbrev Keeps : World Disk → Station → List Entry → DeskId → Ballot → Type 0
+  abbrev Keeps : Configuration Disk → Station → List Entry → DeskId → Ballot → Type 0
   Keeps w t book c b = Shows w t book × (position_at w t ≡ Some b.at) × (kept_at w t c ≡ Some b.entry)
 
   same_at : (p q : Position) → Some p ≡ Some q → p ≡ q
   same_at p q e = cc
 
   -- so its desk or board has them
-  desk_keeps : (w : World Disk) (d c : DeskId) (k : DeskState Disk) (book : List Entry) (b : Ballot) → (site w d).process ≡ Running k → Keeps w (stations.Desk d) book c b → (k.book ≡ book) × (k.seat.position ≡ b.at) × (kept_by_seat k.seat d c ≡ Some b.entry)
+  desk_keeps : (w : Configuration Disk) (d c : DeskId) (k : DeskState Disk) (book : List Entry) (b : Ballot) → (node w d).process ≡ Running k → Keeps w (stations.Desk d) book c b → (k.book ≡ book) × (k.seat.position ≡ b.at) × (kept_by_seat k.seat d c ≡ Some b.entry)
   desk_keeps w d c k book b e h = (
     subst (λ (x : Process Disk). process_shows x book) e h.0,
     same_at k.seat.position b.at (sym (ap process_position e) ∙ h.1),
     sym (ap (λ (x : Process Disk). kept_by_process x d c) e) ∙ h.2,
   )
 
-  board_keeps : (w : World Disk) (n : ℕ) (c : DeskId) (k : BoardState) (book : List Entry) (b : Ballot) → board_at w.boards n ≡ Some k → Keeps w (stations.Board n) book c b → (k.book ≡ book) × (k.reader.position ≡ b.at) × (noted_of k.reader c ≡ Some b.entry)
+  board_keeps : (w : Configuration Disk) (n : ℕ) (c : DeskId) (k : BoardState) (book : List Entry) (b : Ballot) → board_at w.boards n ≡ Some k → Keeps w (stations.Board n) book c b → (k.book ≡ book) × (k.reader.position ≡ b.at) × (noted_of k.reader c ≡ Some b.entry)
   board_keeps w n c k book b e h = (
     let g = h.0 in ap (λ (x : BoardState). x.book) (one_board (board_at w.boards n) g.0 k g.1 e) ∙ g.2,
     same_at k.reader.position b.at (sym (ap (option_map (λ (x : BoardState). x.reader.position)) e) ∙ h.1),
     sym (ap (option_and_then (λ (x : BoardState). noted_of x.reader c)) e) ∙ h.2,
   )
 
-  shows_at : (w new : World Disk) (d : DeskId) (y : Site Disk) (out : List Message) (book : List Entry) → new ≡ with_site w d y out → process_shows y.process book → Shows new (stations.Desk d) book
+  shows_at : (w new : Configuration Disk) (d : DeskId) (y : Node Disk) (out : List Message) (book : List Entry) → new ≡ with_node w d y out → process_shows y.process book → Shows new (stations.Desk d) book
   shows_at w new d y out book e h =
-      let here : site new d ≡ y = ap (λ (z : World Disk). site z d) e ∙ site_put s w d y out in
-      subst (λ (z : Site Disk). process_shows z.process book) (sym here) h
+      let here : node new d ≡ y = ap (λ (z : Configuration Disk). node z d) e ∙ node_put s w d y out in
+      subst (λ (z : Node Disk). process_shows z.process book) (sym here) h
 
   -- a desk that runs on shows its book
-  runs_on : (x y : Site Disk) (l : DeskState Disk) (book : List Entry) → y ≡ record x { process = Running l } → l.book ≡ book → process_shows y.process book
-  runs_on x y l book e h = subst (λ (z : Site Disk). process_shows z.process book) (sym e) h
+  runs_on : (x y : Node Disk) (l : DeskState Disk) (book : List Entry) → y ≡ record x { process = Running l } → l.book ≡ book → process_shows y.process book
+  runs_on x y l book e h = subst (λ (z : Node Disk). process_shows z.process book) (sym e) h
 
-  after_vote : (d : DeskId) (x : Site Disk) (k l : DeskState Disk) (v : Vote) (told : ReceiveAnswer) (out : List Message) (answer : Answer Why) (y : Site Disk) → IsVoteAnswer answer → v.desk ≢ k.seat.desk → position_of v ≡ k.seat.position → k.seat.mine ≡ Some v.entry → k.seat.theirs ≡ None → Receives (s.view d x.version) k (Message.Vote v) told l out → AfterReceive (s.view d x.version) x told l out answer y → process_shows y.process (k.book ++ v.entry ∷ [])
+  after_vote : (d : DeskId) (x : Node Disk) (k l : DeskState Disk) (v : Vote) (told : ReceiveAnswer) (out : List Message) (answer : Answer Why) (y : Node Disk) → IsVoteAnswer answer → v.desk ≢ k.seat.desk → position_of v ≡ k.seat.position → k.seat.mine ≡ Some v.entry → k.seat.theirs ≡ None → Receives (s.view d x.version) k (Message.Vote v) told l out → AfterReceive (s.view d x.version) x told l out answer y → process_shows y.process (k.book ++ v.entry ∷ [])
   after_vote d x k l v ReceiveAnswer.Failed out answer y u o at m t r p = absurd (subst IsVoteAnswer p.0 u)
   after_vote d x k l v ReceiveAnswer.Asked out answer y u o at m t r p = absurd r
   after_vote d x k l v ReceiveAnswer.DeviceFailed out answer y u o at m t r p = absurd r
@@ -135,37 +139,37 @@ module _ {Disk Why : Type 0} (s : Setting Disk Why) where
   taken_not : (answer told : Answer Why) → answer ≡ told → IsVoteAnswer answer → IsVoteAnswer told
   taken_not answer told e h = subst IsVoteAnswer e h
 
-  broken_not : (d : DeskId) (x : Site Disk) (l : DeskState Disk) (answer : Answer Why) (y : Site Disk) → Breaks (s.view d x.version) x l answer y → IsVoteAnswer answer → ⊥
+  broken_not : (d : DeskId) (x : Node Disk) (l : DeskState Disk) (answer : Answer Why) (y : Node Disk) → Breaks (s.view d x.version) x l answer y → IsVoteAnswer answer → ⊥
   broken_not d x l answer y (Fail, u, p) t = taken_not answer Answer.DeviceFailed p.0 t
   broken_not d x l answer y (Stop, u, p) t = taken_not answer Answer.Stopped p.1 t
 
-  second_pen : (d : DeskId) (x : Site Disk) (k l : DeskState Disk) (e : Entry) (told : PenAnswer Why) (out : List Message) (answer : Answer Why) (y : Site Disk) → k.seat.theirs ≡ Some e → Pens (s.view d x.version) s.rules k e told l out → AfterPen (s.view d x.version) x told l answer y → IsVoteAnswer answer → process_shows y.process (k.book ++ e ∷ [])
+  second_pen : (d : DeskId) (x : Node Disk) (k l : DeskState Disk) (e : Entry) (told : PenAnswer Why) (out : List Message) (answer : Answer Why) (y : Node Disk) → k.seat.theirs ≡ Some e → Pens (s.view d x.version) s.rules k e told l out → AfterPen (s.view d x.version) x told l answer y → IsVoteAnswer answer → process_shows y.process (k.book ++ e ∷ [])
   second_pen d x k l e (PenAnswer.Penned settled) out answer y t r p i =
       let c = r.1 in
       runs_on x y l (k.book ++ e ∷ []) p.1 (c.1 ∙ cast_second k.seat l.seat e settled k.book t c.0)
   second_pen d x k l e (PenAnswer.Refused why) out answer y t r p i = absurd (taken_not answer (Answer.NotPenned why) p.0 i)
   second_pen d x k l e PenAnswer.DeviceFailed out answer y t r p i = absurd (broken_not d x l answer y p i)
 
-  desk_given : (w : World Disk) (d c : DeskId) (n : ℕ) (book : List Entry) (b : Ballot) (answer : Answer Why) (new : World Disk) → Fine s w → Keeps w (stations.Desk d) book c b → other c ≢ d → slice_get w.sent n ≡ Some (Message.Vote (vote_of (other c) b)) → Step s w (events.Give n (stations.Desk d)) answer new → IsVoteAnswer answer → Shows new (stations.Desk d) (book ++ b.entry ∷ [])
+  desk_given : (w : Configuration Disk) (d c : DeskId) (n : ℕ) (book : List Entry) (b : Ballot) (answer : Answer Why) (new : Configuration Disk) → Fine s w → Keeps w (stations.Desk d) book c b → other c ≢ d → slice_get w.sent n ≡ Some (Message.Vote (vote_of (other c) b)) → Step s w (events.Give n (stations.Desk d)) answer new → IsVoteAnswer answer → Shows new (stations.Desk d) (book ++ b.entry ∷ [])
   desk_given w d c n book b answer new f g apart sent p i =
       let q = p.2 in
       let k = q.0 in
       let h = desk_keeps w d c k book b q.4 g in
       let this : q.2 ≡ Message.Vote (vote_of (other c) b) = same_message (slice_get w.sent n) q.2 (Message.Vote (vote_of (other c) b)) q.5 sent in
-      let fine = running s (site w d).version d (ballots.votes_of (votes_in w) (other d)) (site w d).process k q.4 (site_fine s w d f) in
+      let fine = running s (node w d).version d (votes_of (all_votes w) (other d)) (node w d).process k q.4 (node_fine s w d f) in
       let seat = fine.seat in
       let mine : k.seat.mine ≡ Some b.entry = sym (kept_own k.seat c d apart) ∙ h.2 in
-      let received : Receives (s.view d (site w d).version) k (Message.Vote (vote_of (other c) b)) q.3 q.1 p.1 = subst (λ (z : Message). Receives (s.view d (site w d).version) k z q.3 q.1 p.1) this q.6 in
-      let shown = after_vote d (site w d) k q.1 (vote_of (other c) b) q.3 p.1 answer p.0 i (λ e. apart (e ∙ seat.desk)) (sym h.1) mine (alone k.seat.mine k.seat.theirs b.entry seat.waits mine) received q.7 in
+      let received : Receives (s.view d (node w d).version) k (Message.Vote (vote_of (other c) b)) q.3 q.1 p.1 = subst (λ (z : Message). Receives (s.view d (node w d).version) k z q.3 q.1 p.1) this q.6 in
+      let shown = after_vote d (node w d) k q.1 (vote_of (other c) b) q.3 p.1 answer p.0 i (λ e. apart (e ∙ seat.desk)) (sym h.1) mine (alone k.seat.mine k.seat.theirs b.entry seat.waits mine) received q.7 in
       shows_at w new d p.0 p.1 (book ++ b.entry ∷ []) p.3 (subst (λ (o : List Entry). process_shows p.0.process (o ++ b.entry ∷ [])) h.0 shown)
 
-  desk_penned : (w : World Disk) (c : DeskId) (book : List Entry) (b : Ballot) (answer : Answer Why) (new : World Disk) → Keeps w (stations.Desk (other c)) book c b → Step s w (events.Pen (other c) b.entry) answer new → IsVoteAnswer answer → Shows new (stations.Desk (other c)) (book ++ b.entry ∷ [])
+  desk_penned : (w : Configuration Disk) (c : DeskId) (book : List Entry) (b : Ballot) (answer : Answer Why) (new : Configuration Disk) → Keeps w (stations.Desk (other c)) book c b → Step s w (events.Pen (other c) b.entry) answer new → IsVoteAnswer answer → Shows new (stations.Desk (other c)) (book ++ b.entry ∷ [])
   desk_penned w c book b answer new g p t =
       let q = p.2 in
       let k = q.0 in
       let h = desk_keeps w (other c) c k book b q.3 g in
       let theirs : k.seat.theirs ≡ Some b.entry = sym (kept_theirs k.seat c) ∙ h.2 in
-      let shown = second_pen (other c) (site w (other c)) k q.1 b.entry q.2 p.1 answer p.0 theirs q.4 q.5 t in
+      let shown = second_pen (other c) (node w (other c)) k q.1 b.entry q.2 p.1 answer p.0 theirs q.4 q.5 t in
       shows_at w new (other c) p.0 p.1 (book ++ b.entry ∷ []) p.3 (subst (λ (o : List Entry). process_shows p.0.process (o ++ b.entry ∷ [])) h.0 shown)
 
   board_told_second : (k l : BoardState) (v : Vote) (told : BoardAnswer) → position_of v ≡ k.reader.position → noted_of k.reader v.desk ≡ None → noted_of k.reader (other v.desk) ≡ Some v.entry → BoardReceives s.rules k (Message.Vote v) told l → IsVoteAnswer {Why = Why} (board_told told) → l.book ≡ k.book ++ v.entry ∷ []
@@ -173,22 +177,22 @@ module _ {Disk Why : Type 0} (s : Setting Disk Why) where
   board_told_second k l v BoardAnswer.Asked at m t r i = absurd r
   board_told_second k l v (BoardAnswer.BadVotes place) at m t r i = absurd i
 
-  board_given : (w : World Disk) (number : ℕ) (c : DeskId) (n : ℕ) (book : List Entry) (b : Ballot) (answer : Answer Why) (new : World Disk) → Fine s w → Keeps w (stations.Board number) book c b → slice_get w.sent n ≡ Some (Message.Vote (vote_of (other c) b)) → Step s w (events.Give n (stations.Board number)) answer new → IsVoteAnswer answer → Shows new (stations.Board number) (book ++ b.entry ∷ [])
+  board_given : (w : Configuration Disk) (number : ℕ) (c : DeskId) (n : ℕ) (book : List Entry) (b : Ballot) (answer : Answer Why) (new : Configuration Disk) → Fine s w → Keeps w (stations.Board number) book c b → slice_get w.sent n ≡ Some (Message.Vote (vote_of (other c) b)) → Step s w (events.Give n (stations.Board number)) answer new → IsVoteAnswer answer → Shows new (stations.Board number) (book ++ b.entry ∷ [])
   board_given w number c n book b answer new f g sent p i =
       let q = p.4 in
       let k = p.0 in
       let v = vote_of (other c) b in
       let h = board_keeps w number c k book b p.3 g in
       let this : q.0 ≡ Message.Vote v = same_message (slice_get w.sent n) q.0 (Message.Vote v) q.2 sent in
-      let fine = board_fine_at (votes_in w) w.boards number k p.3 f.on_boards in
+      let fine = board_fine_at (all_votes w) w.boards number k p.3 f.on_boards in
       let none = reader_alone k.reader c b.entry fine.waits h.2 in
       let noted : noted_of k.reader (other (other c)) ≡ Some b.entry = subst (λ (d : DeskId). noted_of k.reader d ≡ Some b.entry) (sym (other_twice c)) h.2 in
       let received : BoardReceives s.rules k (Message.Vote v) q.1 p.1 = subst (λ (z : Message). BoardReceives s.rules k z q.1 p.1) this q.3 in
       let grown = board_told_second k p.1 v q.1 (sym h.1) none noted received (taken_not answer (board_told q.1) q.4 i) in
-      let there : board_at new.boards number ≡ Some p.1 = ap (λ (z : World Disk). board_at z.boards number) p.5 ∙ board_put w.boards number p.0 p.1 p.3 in
+      let there : board_at new.boards number ≡ Some p.1 = ap (λ (z : Configuration Disk). board_at z.boards number) p.5 ∙ board_put w.boards number p.0 p.1 p.3 in
       (p.1, there, grown ∙ ap (λ (o : List Entry). o ++ b.entry ∷ []) h.0)
 
-  second_taken : (w : World Disk) (event : Event) (answer : Answer Why) (new : World Disk) (t : Station) (book : List Entry) (b : Ballot) (c : DeskId) → Fine s w → Keeps w t book c b → Brings w event t (other c) b → Step s w event answer new → IsVoteAnswer answer → Shows new t (book ++ b.entry ∷ [])
+  second_taken : (w : Configuration Disk) (event : Event) (answer : Answer Why) (new : Configuration Disk) (t : Station) (book : List Entry) (b : Ballot) (c : DeskId) → Fine s w → Keeps w t book c b → Brings w event t (other c) b → Step s w event answer new → IsVoteAnswer answer → Shows new t (book ++ b.entry ∷ [])
   second_taken w event answer new (stations.Desk d) book b c f h (inl (apart, (n, e, sent))) p i =
       desk_given w d c n book b answer new f h (λ q. apart (ap stations.Desk (sym q))) sent (subst (λ (z : Event). Step s w z answer new) e p) i
   second_taken w event answer new (stations.Board number) book b c f h (inl (apart, (n, e, sent))) p i =
@@ -198,13 +202,13 @@ module _ {Disk Why : Type 0} (s : Setting Disk Why) where
       (desk_penned w c book b answer new (subst (λ (z : Station). Keeps w z book c b) here h) (subst (λ (z : Event). Step s w z answer new) e p) i)
 
   -- of what is noted, since that is kept
-  pub takes_second : (version : FileVersion) (n : ℕ) (w : World Disk) → Begins s version n w → (ms : List (Moment Disk Why)) → Run s w ms → TakesSecond s w ms
+  pub takes_second : (version : FileVersion) (n : ℕ) (w : Configuration Disk) → Begins s version n w → (ms : List (Moment Disk Why)) → Run s w ms → TakesSecond s w ms
   takes_second version n w e [] r = tt
   takes_second version n w e (m ∷ ms) r = λ t book b c shown noted brought.
       let kept = (keeps_noted s version n w ms e r.0 t c b).0 noted in
       second_taken (last_of w ms) m.event m.answer m.after t book b c (run_keeps s w ms (begins_fine s version n w e) r.0) (shown, kept.0, kept.1) brought.1 r.1 brought.2
 
-  pub none_waits : (version : FileVersion) (n : ℕ) (w : World Disk) → Begins s version n w → (ms : List (Moment Disk Why)) → Run s w ms → NoneWaits s w ms
+  pub none_waits : (version : FileVersion) (n : ℕ) (w : Configuration Disk) → Begins s version n w → (ms : List (Moment Disk Why)) → Run s w ms → NoneWaits s w ms
   none_waits version n w e ms r t b c p q =
       let kept = keeps_noted s version n w ms e r t in
       none_keeps_both s (last_of w ms) (run_keeps s w ms (begins_fine s version n w e) r) t b.entry c.entry ((kept A b).0 p).1 ((kept B c).0 q).1

@@ -5,8 +5,7 @@ use Rattle.agree_core.specs.declared.messages.DeskId.{DeskId}
 use Rattle.agree_core.specs.declared.messages.DeskId.TheVariants.{A, B}
 use Rattle.agree_core.specs.declared.messages.Message.{Message}
 use Rattle.agree_core.specs.Agreed.{AllSettled, EqualVotes}
-use Rattle.agree_core.specs.Ballots.{AllVotes, Ballot, In, VotesGrow, Within}
-use Rattle.agree_core.specs.Ballots as ballots
+use Rattle.agree_core.specs.Ballots.{Ballot, Within, votes_of}
 use Rattle.agree_core.specs.Boards.{BoardState}
 use Rattle.agree_core.specs.Readers.{noted_of, other, ReaderWaits}
 use Rattle.agree_core.specs.Seats.{SeatState, SeatWaits}
@@ -15,7 +14,8 @@ use Rattle.agree_core.proofs.Settling.{agreed_begins, one_book, one_vote_each, p
 use Rattle.headline.specs.declared.event.Station.{Station}
 use Rattle.headline.specs.declared.event.Station.TheVariants as stations
 use Rattle.headline.specs.declared.version.FileVersion.{FileVersion}
-use Rattle.headline.specs.Worlds.{Process, Running, Down, Setting, World, board_at, disk_of, site, votes_in, votes_of}
+use Rattle.headline.specs.Match.{Setting}
+use Rattle.headline.specs.Configurations.{Process, Running, Down, Configuration, board_at, node, process_disk, process_votes, all_votes}
 use Rattle.headline.specs.Runs.{AtEachMoment, AtSomeMoment, Moment, Run, Shows, last_of, process_shows}
 use Rattle.headline.specs.Noted.{kept_by_process, kept_by_seat}
 use Rattle.headline.specs.Headline.{ArePrefixes, AtEachEvent, ByBoth, KeepsVotes, KeptSafe, NoneKeepsBoth, StandsFast, WithinAgreed}
@@ -23,37 +23,37 @@ use Rattle.agree_core.specs.Keeping.{MessageFine, ShowsMore}
 use Rattle.agree_core.proofs.Both.{both_at, both_settled, both_turned, same}
 use Rattle.agree_core.proofs.Desks.{more_within}
 use Rattle.headline.proofs.BoardKeeping.{board_fine_at, item_at}
-use Rattle.headline.proofs.Keeping.{Fine, Grows, ProcessFine, all_justified, process_disk, run_keeps, site_fine, step_keeps}
+use Rattle.headline.proofs.Keeping.{Fine, Grows, ProcessFine, all_justified, fine_disk, run_keeps, node_fine, step_keeps}
 
 module _ {Disk Why : Type 0} (s : Setting Disk Why) where
-  process_both : (v : FileVersion) (d : DeskId) (theirs : List Ballot) (x : Process Disk) (book : List Entry) → ProcessFine s v d theirs x → process_shows x book → AllBoth (votes_of x) theirs 0 book
+  process_both : (v : FileVersion) (d : DeskId) (theirs : List Ballot) (x : Process Disk) (book : List Entry) → ProcessFine s v d theirs x → process_shows x book → AllBoth (process_votes x) theirs 0 book
   process_both v d theirs (Down votes disk) book f h = absurd h
   process_both v d theirs (Running k) book f h = let g = f.seat in subst (AllBoth k.votes theirs 0) h g.both
 
   -- for each entry of a book that is shown both have a vote
-  pub shown_both : (w : World Disk) (t : Station) (book : List Entry) → Fine s w → Shows w t book → AllBoth (votes_in w).a (votes_in w).b 0 book
-  shown_both w (stations.Desk A) book f h = process_both w.a.version A (votes_in w).b w.a.process book f.on_a h
-  shown_both w (stations.Desk B) book f h = both_turned (votes_in w).b (votes_in w).a 0 book (process_both w.b.version B (votes_in w).a w.b.process book f.on_b h)
+  pub shown_both : (w : Configuration Disk) (t : Station) (book : List Entry) → Fine s w → Shows w t book → AllBoth (all_votes w).a (all_votes w).b 0 book
+  shown_both w (stations.Desk A) book f h = process_both w.a.version A (all_votes w).b w.a.process book f.on_a h
+  shown_both w (stations.Desk B) book f h = both_turned (all_votes w).b (all_votes w).a 0 book (process_both w.b.version B (all_votes w).a w.b.process book f.on_b h)
   shown_both w (stations.Board n) book f h =
-      let k = board_fine_at (votes_in w) w.boards n h.0 h.1 f.on_boards in
-      subst (AllBoth (votes_in w).a (votes_in w).b 0) h.2 k.both
+      let k = board_fine_at (all_votes w) w.boards n h.0 h.1 f.on_boards in
+      subst (AllBoth (all_votes w).a (all_votes w).b 0) h.2 k.both
 
-  pub shown_settled : (w : World Disk) (t : Station) (book : List Entry) → Fine s w → Shows w t book → AllSettled (votes_in w) 0 book
-  shown_settled w t book f h = both_settled (votes_in w) (all_justified s w f) 0 book (shown_both w t book f h)
+  pub shown_settled : (w : Configuration Disk) (t : Station) (book : List Entry) → Fine s w → Shows w t book → AllSettled (all_votes w) 0 book
+  shown_settled w t book f h = both_settled (all_votes w) (all_justified s w f) 0 book (shown_both w t book f h)
 
-  pub by_both : (w : World Disk) → Fine s w → ByBoth w
+  pub by_both : (w : Configuration Disk) → Fine s w → ByBoth w
   by_both w f t xs place e h k =
       let here : 0 + place ≡ place = omega arith in
-      subst (λ (p : ℕ). (round : ℕ) × EqualVotes (votes_in w) p round e) here (both_at (votes_in w).a (votes_in w).b 0 xs place e (shown_both w t xs f h) k)
+      subst (λ (p : ℕ). (round : ℕ) × EqualVotes (all_votes w) p round e) here (both_at (all_votes w).a (all_votes w).b 0 xs place e (shown_both w t xs f h) k)
 
-  grows_on : (u v w : World Disk) → Grows s u v → Grows s v w → Grows s u w
+  grows_on : (u v w : Configuration Disk) → Grows s u v → Grows s v w → Grows s u w
   grows_on u v w g h = (λ b i. h.0 b (g.0 b i), λ b i. h.1 b (g.1 b i))
 
-  same_votes : (w : World Disk) → Grows s w w
-  same_votes w = (same (votes_in w).a, same (votes_in w).b)
+  same_votes : (w : Configuration Disk) → Grows s w w
+  same_votes w = (same (all_votes w).a, same (all_votes w).b)
 
-  -- what is so at some moment is so of a world that is fine, and whose votes are among the last ones
-  pub moment : (w : World Disk) (ms : List (Moment Disk Why)) (P : World Disk → Type 0) → Fine s w → Run s w ms → AtSomeMoment w ms P → (v : World Disk) × Fine s v × Grows s v (last_of w ms) × P v
+  -- what is so at some moment is so of a configuration that is fine, and whose votes are among the last ones
+  pub moment : (w : Configuration Disk) (ms : List (Moment Disk Why)) (P : Configuration Disk → Type 0) → Fine s w → Run s w ms → AtSomeMoment w ms P → (v : Configuration Disk) × Fine s v × Grows s v (last_of w ms) × P v
   moment w [] P f r h = (w, f, same_votes w, h)
   moment w (m ∷ ms) P f r (inl h) = (m.after, (step_keeps s (last_of w ms) m.event m.answer m.after (run_keeps s w ms f r.0) r.1).0, same_votes m.after, h)
   moment w (m ∷ ms) P f r (inr h) =
@@ -61,21 +61,21 @@ module _ {Disk Why : Type 0} (s : Setting Disk Why) where
       let k = step_keeps s (last_of w ms) m.event m.answer m.after (run_keeps s w ms f r.0) r.1 in
       (g.0, g.1, grows_on g.0 (last_of w ms) m.after g.2 k.1, g.3)
 
-  pub each_moment : (w : World Disk) (ms : List (Moment Disk Why)) (P : World Disk → Type 0) → ((v : World Disk) → Fine s v → P v) → Fine s w → Run s w ms → AtEachMoment w ms P
+  pub each_moment : (w : Configuration Disk) (ms : List (Moment Disk Why)) (P : Configuration Disk → Type 0) → ((v : Configuration Disk) → Fine s v → P v) → Fine s w → Run s w ms → AtEachMoment w ms P
   each_moment w [] P h f r = h w f
   each_moment w (m ∷ ms) P h f r = (h m.after (run_keeps s w (m ∷ ms) f r), each_moment w ms P h f r.0)
 
-  pub one_book_shown : (w : World Disk) (ms : List (Moment Disk Why)) → Fine s w → Run s w ms → ArePrefixes w ms
+  pub one_book_shown : (w : Configuration Disk) (ms : List (Moment Disk Why)) → Fine s w → Run s w ms → ArePrefixes w ms
   one_book_shown w ms f r t u xs ys p q =
       let x = moment w ms (λ v. Shows v t xs) f r p in
       let y = moment w ms (λ v. Shows v u ys) f r q in
-      one_book (votes_in (last_of w ms)) (all_justified s (last_of w ms) (run_keeps s w ms f r)) (votes_in x.0) (votes_in y.0) xs ys x.2 y.2
+      one_book (all_votes (last_of w ms)) (all_justified s (last_of w ms) (run_keeps s w ms f r)) (all_votes x.0) (all_votes y.0) xs ys x.2 y.2
       (shown_settled x.0 t xs x.1 x.3) (shown_settled y.0 u ys y.1 y.3)
 
-  pub within_agreed : (w : World Disk) (ms : List (Moment Disk Why)) → Fine s w → Run s w ms → WithinAgreed w ms
+  pub within_agreed : (w : Configuration Disk) (ms : List (Moment Disk Why)) → Fine s w → Run s w ms → WithinAgreed w ms
   within_agreed w ms f r t xs agreed p g =
       let x = moment w ms (λ v. Shows v t xs) f r p in
-      agreed_begins (votes_in x.0) (votes_in (last_of w ms)) x.2 (all_justified s (last_of w ms) (run_keeps s w ms f r)) xs agreed (shown_settled x.0 t xs x.1 x.3) g
+      agreed_begins (all_votes x.0) (all_votes (last_of w ms)) x.2 (all_justified s (last_of w ms) (run_keeps s w ms f r)) xs agreed (shown_settled x.0 t xs x.1 x.3) g
 
   seat_waits : (k : SeatState) (d : DeskId) (e f : Entry) → SeatWaits k → kept_by_seat k d A ≡ Some e → kept_by_seat k d B ≡ Some f → ⊥
   seat_waits k A e f (inl w) p q = cc
@@ -94,40 +94,40 @@ module _ {Disk Why : Type 0} (s : Setting Disk Why) where
   abbrev kept_by_board : Option BoardState → DeskId → Option Entry
   kept_by_board board c = option_and_then (λ (k : BoardState). noted_of k.reader c) board
 
-  board_waits : (w : World Disk) (n : ℕ) (board : Option BoardState) (e f : Entry) → Fine s w → board_at w.boards n ≡ board → kept_by_board board A ≡ Some e → kept_by_board board B ≡ Some f → ⊥
+  board_waits : (w : Configuration Disk) (n : ℕ) (board : Option BoardState) (e f : Entry) → Fine s w → board_at w.boards n ≡ board → kept_by_board board A ≡ Some e → kept_by_board board B ≡ Some f → ⊥
   board_waits w n None e f g h p q = cc
-  board_waits w n (Some k) e f g h p q = let fine = board_fine_at (votes_in w) w.boards n k h g.on_boards in reader_waits k e f fine.waits p q
+  board_waits w n (Some k) e f g h p q = let fine = board_fine_at (all_votes w) w.boards n k h g.on_boards in reader_waits k e f fine.waits p q
 
-  pub none_keeps_both : (w : World Disk) → Fine s w → NoneKeepsBoth w
-  none_keeps_both w g (stations.Desk d) e f p q = process_waits (site w d).version d (ballots.votes_of (votes_in w) (other d)) (site w d).process e f (site_fine s w d g) p q
+  pub none_keeps_both : (w : Configuration Disk) → Fine s w → NoneKeepsBoth w
+  none_keeps_both w g (stations.Desk d) e f p q = process_waits (node w d).version d (votes_of (all_votes w) (other d)) (node w d).process e f (node_fine s w d g) p q
   none_keeps_both w g (stations.Board n) e f p q = board_waits w n (board_at w.boards n) e f g refl p q
 
-  votes_at : (w : World Disk) (d : DeskId) → ballots.votes_of (votes_in w) d ≡ votes_of (site w d).process
+  votes_at : (w : Configuration Disk) (d : DeskId) → votes_of (all_votes w) d ≡ process_votes (node w d).process
   votes_at w A = refl
   votes_at w B = refl
 
   image_has : (theirs votes : List Ballot) (o : Option (List Ballot)) → ShowsMore theirs votes o → (these : List Ballot) × (o ≡ Some these) × Within votes these
   image_has theirs votes o h = (h.0, h.1, more_within theirs votes h.0 h.2)
 
-  pub kept_safe : (w : World Disk) → Fine s w → KeptSafe s w
+  pub kept_safe : (w : Configuration Disk) → Fine s w → KeptSafe s w
   kept_safe w f = record {
-    sent = λ n v e. item_at (MessageFine (votes_in w)) w.sent n (Message.Vote v) e f.on_sent;
+    sent = λ n v e. item_at (MessageFine (all_votes w)) w.sent n (Message.Vote v) e f.on_sent;
     images = λ d image i.
-        let theirs = ballots.votes_of (votes_in w) (other d) in
-        rw (votes_at w d) (image_has theirs (votes_of (site w d).process) image ((process_disk s (site w d).version d theirs (site w d).process (site_fine s w d f)).1 image i));
+        let theirs = votes_of (all_votes w) (other d) in
+        rw (votes_at w d) (image_has theirs (process_votes (node w d).process) image ((fine_disk s (node w d).version d theirs (node w d).process (node_fine s w d f)).1 image i));
     reads = λ d.
-        let theirs = ballots.votes_of (votes_in w) (other d) in
-        rw (votes_at w d) (image_has theirs (votes_of (site w d).process) ((s.view d (site w d).version).reads (disk_of (site w d).process)) (process_disk s (site w d).version d theirs (site w d).process (site_fine s w d f)).0);
+        let theirs = votes_of (all_votes w) (other d) in
+        rw (votes_at w d) (image_has theirs (process_votes (node w d).process) ((s.view d (node w d).version).reads (process_disk (node w d).process)) (fine_disk s (node w d).version d theirs (node w d).process (node_fine s w d f)).0);
   }
 
-  pub stands_fast : (w : World Disk) → Fine s w → StandsFast s w
+  pub stands_fast : (w : Configuration Disk) → Fine s w → StandsFast s w
   stands_fast w f =
       let j = all_justified s w f in
       record {
         safe = kept_safe w f;
-        votes = record { one_each = one_vote_each (votes_in w) j; rounds = rounds_differ (votes_in w) j; places = places_settled (votes_in w) j };
+        votes = record { one_each = one_vote_each (all_votes w) j; rounds = rounds_differ (all_votes w) j; places = places_settled (all_votes w) j };
       }
 
-  pub votes_kept : (w : World Disk) (ms : List (Moment Disk Why)) → Fine s w → Run s w ms → AtEachEvent w ms KeepsVotes
+  pub votes_kept : (w : Configuration Disk) (ms : List (Moment Disk Why)) → Fine s w → Run s w ms → AtEachEvent w ms KeepsVotes
   votes_kept w [] f r = tt
   votes_kept w (m ∷ ms) f r = (votes_kept w ms f r.0, (step_keeps s (last_of w ms) m.event m.answer m.after (run_keeps s w ms f r.0) r.1).1)

@@ -8,7 +8,7 @@ use Rattle.agree_core.specs.declared.messages.Message.{Message}
 use Rattle.agree_core.specs.declared.messages.Vote.{Vote}
 use Rattle.agree_core.specs.declared.seat.Heard.{Heard}
 use Rattle.agree_core.specs.Agreed.{BeginsWith}
-use Rattle.agree_core.specs.Ballots.{AllJustified, AllVotes, Ballot, In, Justified, Within, ballot_of}
+use Rattle.agree_core.specs.Ballots.{AllJustified, AllVotes, Ballot, In, Justified, Within, ballot_of, votes_of}
 use Rattle.agree_core.specs.Ballots as ballots
 use Rattle.agree_core.specs.Boards.{BoardAnswer, BoardReceives, BoardState}
 use Rattle.agree_core.specs.Books.{AllTaken, Rules, book_of, closing, voted_list}
@@ -30,15 +30,21 @@ use Rattle.headline.specs.declared.fault.Fault.TheVariants.{Fail, Stop}
 use Rattle.headline.specs.declared.fault.Fault.{Fault}
 use Rattle.headline.specs.declared.version.FileVersion.{FileVersion}
 use Rattle.headline.specs.declared.version.FileVersion.TheVariants.{Old, New}
-use Rattle.headline.specs.Worlds.{Process, Down, Setting, Site, World, disk_of, site, votes_in, votes_of}
+use Rattle.headline.specs.Match.{Setting}
+use Rattle.headline.specs.Configurations.{Process, Down, Node, Configuration, node, process_disk, process_votes, all_votes}
 use Rattle.headline.specs.Events.{station_of}
-use Rattle.headline.specs.Steps.{AfterOpen, AfterPen, AfterReceive, Answer, AtBoard, AtDesk, AfterMigration, Breaks, Failed, Migrates, MigratesAt, Migration, NotSound, StaysDownBy, ToNew, StepAt, board_told}
+use Rattle.headline.specs.Answers.{Answer}
+use Rattle.headline.specs.DeskFaults.{Breaks, StaysDownBy}
+use Rattle.headline.specs.Migrations.{AfterMigration, Failed, Migrates, MigratesAt, Migration, NotSound, ToNew}
+use Rattle.headline.specs.DeskSteps.{AfterOpen, AfterPen, AfterReceive, AtDesk}
+use Rattle.headline.specs.BoardSteps.{AtBoard, board_told}
+use Rattle.headline.specs.Steps.{StepAt}
 use Rattle.headline.specs.Runs.{Begins, Moment, Run, last_of}
 use Rattle.headline.specs.Headline.{AtEachEvent, IsSoundAnswer}
 use Rattle.agree_core.specs.Keeping.{BoardFine, MessageFine, MineFine, NotedFine, SeatFine}
 use Rattle.agree_core.proofs.Both.{both_grow, both_settled, both_turned, more, same}
 use Rattle.headline.proofs.BoardKeeping.{board_fine_at, item_at}
-use Rattle.headline.proofs.Keeping.{Fine, ProcessFine, all_justified, begins_fine, run_keeps, running, site_fine, their_message}
+use Rattle.headline.proofs.Keeping.{Fine, ProcessFine, all_justified, begins_fine, run_keeps, running, node_fine, their_message}
 use Rattle.headline.proofs.PennedVotes.{BothHold, HeldBy, PensKeep, begins_hold, step_holds}
 
 -- the list after each vote was one that the rules take
@@ -91,52 +97,52 @@ two_entries theirs votes x v e at j n q i p unlike =
     unlike (ap (λ (b : Ballot). b.entry) (one_vote theirs votes j (ballot_of v) (record { at = at; entry = e }) i k p))
 
 module _ {Disk Why : Type 0} (s : Setting Disk Why) where
-  justified_of : (w : World Disk) (d : DeskId) → Fine s w → Justified (ballots.votes_of (votes_in w) (other d)) (ballots.votes_of (votes_in w) d)
+  justified_of : (w : Configuration Disk) (d : DeskId) → Fine s w → Justified (votes_of (all_votes w) (other d)) (votes_of (all_votes w) d)
   justified_of w A f = (all_justified s w f).0
   justified_of w B f = (all_justified s w f).1
 
-  justified_other : (w : World Disk) (d : DeskId) → Fine s w → Justified (ballots.votes_of (votes_in w) d) (ballots.votes_of (votes_in w) (other d))
+  justified_other : (w : Configuration Disk) (d : DeskId) → Fine s w → Justified (votes_of (all_votes w) d) (votes_of (all_votes w) (other d))
   justified_other w A f = (all_justified s w f).1
   justified_other w B f = (all_justified s w f).0
 
   -- each pen is lawful
-  lawful_pens : (w : World Disk) (event : Event) → Fine s w → PensKeep s (λ d. Lawful s.rules) w event
+  lawful_pens : (w : Configuration Disk) (event : Event) → Fine s w → PensKeep s (λ d. Lawful s.rules) w event
   lawful_pens w event f d k e q i may old =
-      let fine = running s (site w d).version d (ballots.votes_of (votes_in w) (other d)) (site w d).process k i (site_fine s w d f) in
+      let fine = running s (node w d).version d (votes_of (all_votes w) (other d)) (node w d).process k i (node_fine s w d f) in
       let seat = fine.seat in
-      let m : MineFine (ballots.votes_of (votes_in w) (other d)) k.votes k.book k.seat.position None = subst (MineFine (ballots.votes_of (votes_in w) (other d)) k.votes k.book k.seat.position) may.0.1 seat.mine in
+      let m : MineFine (votes_of (all_votes w) (other d)) k.votes k.book k.seat.position None = subst (MineFine (votes_of (all_votes w) (other d)) k.votes k.book k.seat.position) may.0.1 seat.mine in
       let book : book_of (next_ballot k e ∷ k.votes) ≡ k.book = (m e).1 in
       let next : s.rules (book_of (next_ballot k e ∷ k.votes)) e ≡ None = subst (λ (o : List Entry). s.rules o e ≡ None) (sym book) may.2 in
       (taken_push s.rules [] (book_of (next_ballot k e ∷ k.votes)) e (taken_book s.rules (next_ballot k e) k.votes old) next, old)
 
-  lawful_run : (version : FileVersion) (n : ℕ) (w : World Disk) (ms : List (Moment Disk Why)) → Begins s version n w → Run s w ms → BothHold s (λ d. Lawful s.rules) (last_of w ms)
+  lawful_run : (version : FileVersion) (n : ℕ) (w : Configuration Disk) (ms : List (Moment Disk Why)) → Begins s version n w → Run s w ms → BothHold s (λ d. Lawful s.rules) (last_of w ms)
   lawful_run version n w [] e r = begins_hold s (λ d. Lawful s.rules) (λ d. tt) version n w e
   lawful_run version n w (m ∷ ms) e r =
       step_holds s (λ d. Lawful s.rules) (last_of w ms) m.event m.answer m.after
       (lawful_pens (last_of w ms) m.event (run_keeps s w ms (begins_fine s version n w e) r.0)) (lawful_run version n w ms e r.0) r.1
 
-  lawful_votes : (w : World Disk) (d : DeskId) → BothHold s (λ d. Lawful s.rules) w → Lawful s.rules (ballots.votes_of (votes_in w) d)
+  lawful_votes : (w : Configuration Disk) (d : DeskId) → BothHold s (λ d. Lawful s.rules) w → Lawful s.rules (votes_of (all_votes w) d)
   lawful_votes w A l = let h = l A in h.of_votes
   lawful_votes w B l = let h = l B in h.of_votes
 
-  board_takes : (w : World Disk) (k : BoardState) (v : Vote) (reader : ReaderState) → Fine s w → BothHold s (λ d. Lawful s.rules) w → BoardFine (votes_in w) k → In (ballot_of v) (ballots.votes_of (votes_in w) v.desk) → Listens k.reader v Heard.Agreed reader → s.rules k.book v.entry ≡ None
+  board_takes : (w : Configuration Disk) (k : BoardState) (v : Vote) (reader : ReaderState) → Fine s w → BothHold s (λ d. Lawful s.rules) w → BoardFine (all_votes w) k → In (ballot_of v) (votes_of (all_votes w) v.desk) → Listens k.reader v Heard.Agreed reader → s.rules k.book v.entry ≡ None
   board_takes w k v reader f l b i h =
       let d = v.desk in
-      let g = taken_at s.rules (ballots.votes_of (votes_in w) (other d)) (ballots.votes_of (votes_in w) d) (justified_of w d f) (lawful_votes w d l) (ballot_of v) i in
+      let g = taken_at s.rules (votes_of (all_votes w) (other d)) (votes_of (all_votes w) d) (justified_of w d f) (lawful_votes w d l) (ballot_of v) i in
       let j = all_justified s w f in
-      let here = both_settled (votes_in w) j 0 g.0 (turned w d g.0 g.1) in
-      let there = both_settled (votes_in w) j 0 k.book b.both in
+      let here = both_settled (all_votes w) j 0 g.0 (turned w d g.0 g.1) in
+      let there = both_settled (all_votes w) j 0 k.book b.both in
       let size : length g.0 ≡ length k.book = g.2 ∙ ap (λ p. p.place) h.0 ∙ sym b.long in
-      let grow : ballots.VotesGrow (votes_in w) (votes_in w) = (same (votes_in w).a, same (votes_in w).b) in
+      let grow : ballots.VotesGrow (all_votes w) (all_votes w) = (same (all_votes w).a, same (all_votes w).b) in
       let equal : g.0 ≡ k.book = ⊎_elim
       (λ (p : BeginsWith k.book g.0). same_length g.0 k.book p size)
       (λ (p : BeginsWith g.0 k.book). sym (same_length k.book g.0 p (sym size)))
-      (one_book (votes_in w) j (votes_in w) (votes_in w) g.0 k.book grow grow here there) in
+      (one_book (all_votes w) j (all_votes w) (all_votes w) g.0 k.book grow grow here there) in
       subst (λ (o : List Entry). s.rules o v.entry ≡ None) equal g.3
     where
-      turned : (w : World Disk) (d : DeskId) (book : List Entry) → AllBoth (ballots.votes_of (votes_in w) d) (ballots.votes_of (votes_in w) (other d)) 0 book → AllBoth (votes_in w).a (votes_in w).b 0 book
+      turned : (w : Configuration Disk) (d : DeskId) (book : List Entry) → AllBoth (votes_of (all_votes w) d) (votes_of (all_votes w) (other d)) 0 book → AllBoth (all_votes w).a (all_votes w).b 0 book
       turned w A book h = h
-      turned w B book h = both_turned (votes_in w).b (votes_in w).a 0 book h
+      turned w B book h = both_turned (all_votes w).b (all_votes w).a 0 book h
 
   told_sound : (h : Heard) → (h ≡ Heard.TwoVotes → ⊥) → IsSoundAnswer {Why = Why} (Answer.Told h)
   told_sound Heard.TwoVotes n = n refl
@@ -151,21 +157,21 @@ module _ {Disk Why : Type 0} (s : Setting Disk Why) where
   sound_as : (answer told : Answer Why) → answer ≡ told → IsSoundAnswer told → IsSoundAnswer answer
   sound_as answer told e h = subst IsSoundAnswer (sym e) h
 
-  broken_sound : (d : DeskId) (x : Site Disk) (l : DeskState Disk) (answer : Answer Why) (y : Site Disk) → Breaks (s.view d x.version) x l answer y → IsSoundAnswer answer
+  broken_sound : (d : DeskId) (x : Node Disk) (l : DeskState Disk) (answer : Answer Why) (y : Node Disk) → Breaks (s.view d x.version) x l answer y → IsSoundAnswer answer
   broken_sound d x l answer y (Fail, u, p) = sound_as answer Answer.DeviceFailed p.0 tt
   broken_sound d x l answer y (Stop, u, p) = sound_as answer Answer.Stopped p.1 tt
 
-  pen_sound : (d : DeskId) (x : Site Disk) (told : PenAnswer Why) (l : DeskState Disk) (answer : Answer Why) (y : Site Disk) → AfterPen (s.view d x.version) x told l answer y → IsSoundAnswer answer
+  pen_sound : (d : DeskId) (x : Node Disk) (told : PenAnswer Why) (l : DeskState Disk) (answer : Answer Why) (y : Node Disk) → AfterPen (s.view d x.version) x told l answer y → IsSoundAnswer answer
   pen_sound d x (PenAnswer.Penned settled) l answer y p = sound_as answer (Answer.Penned settled) p.0 tt
   pen_sound d x (PenAnswer.Refused why) l answer y p = sound_as answer (Answer.NotPenned why) p.0 tt
   pen_sound d x PenAnswer.DeviceFailed l answer y p = broken_sound d x l answer y p
 
-  two_at_desk : (w : World Disk) (d : DeskId) (k : DeskState Disk) (v : Vote) (t : SeatState) → Fine s w → SeatFine d k.votes (ballots.votes_of (votes_in w) (other d)) k.seat k.book → MessageFine (votes_in w) (Message.Vote v) → Hears k.seat v Heard.TwoVotes t → ⊥
+  two_at_desk : (w : Configuration Disk) (d : DeskId) (k : DeskState Disk) (v : Vote) (t : SeatState) → Fine s w → SeatFine d k.votes (votes_of (all_votes w) (other d)) k.seat k.book → MessageFine (all_votes w) (Message.Vote v) → Hears k.seat v Heard.TwoVotes t → ⊥
   two_at_desk w d k v t f g m h =
-      let i = their_message s (votes_in w) d (Message.Vote v) m (λ e. h.0.0 (e ∙ sym g.desk)) in
-      two_entries (ballots.votes_of (votes_in w) d) (ballots.votes_of (votes_in w) (other d)) k.seat.theirs v h.1.0 k.seat.position (justified_other w d f) g.noted h.1.1 i h.0.1 h.1.2
+      let i = their_message s (all_votes w) d (Message.Vote v) m (λ e. h.0.0 (e ∙ sym g.desk)) in
+      two_entries (votes_of (all_votes w) d) (votes_of (all_votes w) (other d)) k.seat.theirs v h.1.0 k.seat.position (justified_other w d f) g.noted h.1.1 i h.0.1 h.1.2
 
-  receive_sound : (w : World Disk) (d : DeskId) (x : Site Disk) (k l : DeskState Disk) (m : Message) (told : ReceiveAnswer) (out : List Message) (answer : Answer Why) (y : Site Disk) → Fine s w → SeatFine d k.votes (ballots.votes_of (votes_in w) (other d)) k.seat k.book → MessageFine (votes_in w) m → Receives (s.view d x.version) k m told l out → AfterReceive (s.view d x.version) x told l out answer y → IsSoundAnswer answer
+  receive_sound : (w : Configuration Disk) (d : DeskId) (x : Node Disk) (k l : DeskState Disk) (m : Message) (told : ReceiveAnswer) (out : List Message) (answer : Answer Why) (y : Node Disk) → Fine s w → SeatFine d k.votes (votes_of (all_votes w) (other d)) k.seat k.book → MessageFine (all_votes w) m → Receives (s.view d x.version) k m told l out → AfterReceive (s.view d x.version) x told l out answer y → IsSoundAnswer answer
   receive_sound w d x k l m ReceiveAnswer.Failed out answer y f g i r p = sound_as answer Answer.HasFailed p.0 tt
   receive_sound w d x k l m ReceiveAnswer.Asked out answer y f g i r p = sound_as answer (Answer.Asked _) p.0 tt
   receive_sound w d x k l m ReceiveAnswer.DeviceFailed out answer y f g i r p = broken_sound d x l answer y p
@@ -176,11 +182,11 @@ module _ {Disk Why : Type 0} (s : Setting Disk Why) where
   some_or_none : (o : Option (List Ballot)) (vs : List Ballot) → o ≡ Some vs → o ≡ None → ⊥
   some_or_none o vs e n = cc
 
-  stays_down_sound : (view : FileView Disk) (x : Site Disk) (fault : Fault) (votes : List Ballot) (left : Disk) (answer : Answer Why) (y : Site Disk) → StaysDownBy view x fault votes left answer y → IsSoundAnswer answer
+  stays_down_sound : (view : FileView Disk) (x : Node Disk) (fault : Fault) (votes : List Ballot) (left : Disk) (answer : Answer Why) (y : Node Disk) → StaysDownBy view x fault votes left answer y → IsSoundAnswer answer
   stays_down_sound view x Fail votes left answer y p = sound_as answer Answer.DeviceFailed p.0 tt
   stays_down_sound view x Stop votes left answer y p = sound_as answer Answer.Stopped p.1 tt
 
-  open_sound : (d : DeskId) (theirs : List Ballot) (x : Site Disk) (votes : List Ballot) (old : Disk) (opening : Opening Disk) (answer : Answer Why) (y : Site Disk) → ProcessFine s x.version d theirs (Down votes old) → HeldBy s (Lawful s.rules) (s.view d x.version) votes old → Opens (s.view d x.version) s.rules d old opening → AfterOpen (s.view d x.version) x votes opening answer y → IsSoundAnswer answer
+  open_sound : (d : DeskId) (theirs : List Ballot) (x : Node Disk) (votes : List Ballot) (old : Disk) (opening : Opening Disk) (answer : Answer Why) (y : Node Disk) → ProcessFine s x.version d theirs (Down votes old) → HeldBy s (Lawful s.rules) (s.view d x.version) votes old → Opens (s.view d x.version) s.rules d old opening → AfterOpen (s.view d x.version) x votes opening answer y → IsSoundAnswer answer
   open_sound d theirs x votes old (Opening.Opened k) answer y f h o p = sound_as answer (Answer.Opened _) p.0 tt
   open_sound d theirs x votes old (Opening.NotOpened OpenRefusal.Unsound left) answer y f h o p =
       let g = f.1.0 in absurd (some_or_none ((s.view d x.version).reads old) g.0 g.1 o.0)
@@ -190,36 +196,36 @@ module _ {Disk Why : Type 0} (s : Setting Disk Why) where
   open_sound d theirs x votes old (Opening.NotOpened OpenRefusal.DeviceFailed left) answer y f h o p = stays_down_sound (s.view d x.version) x p.0 votes left answer y p.2
 
   -- a file that is migrated is sound
-  migration_sound : (d : DeskId) (theirs : List Ballot) (x : Site Disk) (votes : List Ballot) (old : Disk) (migration : Migration Disk) (answer : Answer Why) (y : Site Disk) → ProcessFine s Old d theirs (Down votes old) → Migrates (s.view d) old migration → AfterMigration (s.view d) x votes migration answer y → IsSoundAnswer answer
+  migration_sound : (d : DeskId) (theirs : List Ballot) (x : Node Disk) (votes : List Ballot) (old : Disk) (migration : Migration Disk) (answer : Answer Why) (y : Node Disk) → ProcessFine s Old d theirs (Down votes old) → Migrates (s.view d) old migration → AfterMigration (s.view d) x votes migration answer y → IsSoundAnswer answer
   migration_sound d theirs x votes old (ToNew found new) answer y f m p = sound_as answer (Answer.Migrated _) p.0 tt
   migration_sound d theirs x votes old (NotSound left) answer y f m p = let g = f.1.0 in absurd (some_or_none ((s.view d Old).reads old) g.0 g.1 m.0)
   migration_sound d theirs x votes old (Failed left) answer y f m p = stays_down_sound (s.view d Old) x p.0 votes left answer y p.2
 
-  migrates_sound : (d : DeskId) (theirs : List Ballot) (x : Site Disk) (version : FileVersion) (votes : List Ballot) (old : Disk) (answer : Answer Why) (y : Site Disk) → ProcessFine s version d theirs (Down votes old) → MigratesAt (s.view d) x version votes old answer y → IsSoundAnswer answer
+  migrates_sound : (d : DeskId) (theirs : List Ballot) (x : Node Disk) (version : FileVersion) (votes : List Ballot) (old : Disk) (answer : Answer Why) (y : Node Disk) → ProcessFine s version d theirs (Down votes old) → MigratesAt (s.view d) x version votes old answer y → IsSoundAnswer answer
   migrates_sound d theirs x Old votes old answer y f p = migration_sound d theirs x votes old p.0 answer y f p.1 p.2
   migrates_sound d theirs x New votes old answer y f p = sound_as answer Answer.OtherVersion p.0 tt
 
   -- what an event at a desk is answered
-  desk_sound : (w : World Disk) (d : DeskId) (event : Event) (answer : Answer Why) (y : Site Disk) (out : List Message) → Fine s w → BothHold s (λ d. Lawful s.rules) w → AtDesk s w.sent d event (site w d) answer y out → IsSoundAnswer answer
-  desk_sound w d (events.Pen c e) answer y out f l p = pen_sound d (site w d) p.2 p.1 answer y p.5
+  desk_sound : (w : Configuration Disk) (d : DeskId) (event : Event) (answer : Answer Why) (y : Node Disk) (out : List Message) → Fine s w → BothHold s (λ d. Lawful s.rules) w → AtDesk s w.sent d event (node w d) answer y out → IsSoundAnswer answer
+  desk_sound w d (events.Pen c e) answer y out f l p = pen_sound d (node w d) p.2 p.1 answer y p.5
   desk_sound w d (events.Give n t) answer y out f l p =
-      let fine = running s (site w d).version d (ballots.votes_of (votes_in w) (other d)) (site w d).process p.0 p.4 (site_fine s w d f) in
-      receive_sound w d (site w d) p.0 p.1 p.2 p.3 out answer y f fine.seat (item_at (MessageFine (votes_in w)) w.sent n p.2 p.5 f.on_sent) p.6 p.7
+      let fine = running s (node w d).version d (votes_of (all_votes w) (other d)) (node w d).process p.0 p.4 (node_fine s w d f) in
+      receive_sound w d (node w d) p.0 p.1 p.2 p.3 out answer y f fine.seat (item_at (MessageFine (all_votes w)) w.sent n p.2 p.5 f.on_sent) p.6 p.7
   desk_sound w d (events.Tick t) answer y out f l p = sound_as answer (Answer.Ticked _) p.3 tt
   desk_sound w d (events.Kill c) answer y out f l p = sound_as answer Answer.Done p.3 tt
   desk_sound w d (events.Power c choice) answer y out f l p = sound_as answer Answer.Done p.3 tt
   desk_sound w d (events.FailAt c n) answer y out f l p = sound_as answer Answer.Done p.1 tt
   desk_sound w d (events.StopAt c n) answer y out f l p = sound_as answer Answer.Done p.1 tt
   desk_sound w d (events.Open c) answer y out f l p =
-      open_sound d (ballots.votes_of (votes_in w) (other d)) (site w d) p.0 p.1 p.2 answer y
-      (subst (ProcessFine s (site w d).version d (ballots.votes_of (votes_in w) (other d))) p.3 (site_fine s w d f))
-      (subst (λ (z : Process Disk). HeldBy s (Lawful s.rules) (s.view d (site w d).version) (votes_of z) (disk_of z)) p.3 (l d)) p.4 p.5
+      open_sound d (votes_of (all_votes w) (other d)) (node w d) p.0 p.1 p.2 answer y
+      (subst (ProcessFine s (node w d).version d (votes_of (all_votes w) (other d))) p.3 (node_fine s w d f))
+      (subst (λ (z : Process Disk). HeldBy s (Lawful s.rules) (s.view d (node w d).version) (process_votes z) (process_disk z)) p.3 (l d)) p.4 p.5
   desk_sound w d (events.Migrate c) answer y out f l p =
-      migrates_sound d (ballots.votes_of (votes_in w) (other d)) (site w d) (site w d).version p.0 p.1 answer y
-      (subst (ProcessFine s (site w d).version d (ballots.votes_of (votes_in w) (other d))) p.2 (site_fine s w d f)) p.3
+      migrates_sound d (votes_of (all_votes w) (other d)) (node w d) (node w d).version p.0 p.1 answer y
+      (subst (ProcessFine s (node w d).version d (votes_of (all_votes w) (other d))) p.2 (node_fine s w d f)) p.3
   desk_sound w d (events.Wipe n) answer y out f l p = absurd p
 
-  board_told_sound : (w : World Disk) (k l : BoardState) (m : Message) (told : BoardAnswer) → Fine s w → BothHold s (λ d. Lawful s.rules) w → BoardFine (votes_in w) k → MessageFine (votes_in w) m → BoardReceives s.rules k m told l → IsSoundAnswer {Why = Why} (board_told told)
+  board_told_sound : (w : Configuration Disk) (k l : BoardState) (m : Message) (told : BoardAnswer) → Fine s w → BothHold s (λ d. Lawful s.rules) w → BoardFine (all_votes w) k → MessageFine (all_votes w) m → BoardReceives s.rules k m told l → IsSoundAnswer {Why = Why} (board_told told)
   board_told_sound w k l m BoardAnswer.Asked f h b i p = tt
   board_told_sound w k l (Message.Ask q) (BoardAnswer.Told x) f h b i p = absurd p
   board_told_sound w k l (Message.Ask q) (BoardAnswer.BadVotes place) f h b i p = absurd p
@@ -228,11 +234,11 @@ module _ {Disk Why : Type 0} (s : Setting Disk Why) where
       told_sound x (λ e. two (subst (λ (z : Heard). Listens k.reader v z l.reader) e p.0))
     where
       two : Listens k.reader v Heard.TwoVotes l.reader → ⊥
-      two c = two_entries (ballots.votes_of (votes_in w) (other v.desk)) (ballots.votes_of (votes_in w) v.desk) (noted_of k.reader v.desk) v c.1.0 k.reader.position (justified_of w v.desk f) (b.noted v.desk) c.1.1 i c.0 c.1.2
+      two c = two_entries (votes_of (all_votes w) (other v.desk)) (votes_of (all_votes w) v.desk) (noted_of k.reader v.desk) v c.1.0 k.reader.position (justified_of w v.desk f) (b.noted v.desk) c.1.1 i c.0 c.1.2
 
-  board_sound : (w : World Disk) (event : Event) (k : BoardState) (answer : Answer Why) (l : BoardState) (out : List Message) → Fine s w → BothHold s (λ d. Lawful s.rules) w → BoardFine (votes_in w) k → AtBoard s w.sent event k answer l out → IsSoundAnswer answer
+  board_sound : (w : Configuration Disk) (event : Event) (k : BoardState) (answer : Answer Why) (l : BoardState) (out : List Message) → Fine s w → BothHold s (λ d. Lawful s.rules) w → BoardFine (all_votes w) k → AtBoard s w.sent event k answer l out → IsSoundAnswer answer
   board_sound w (events.Give n t) k answer l out f h b p =
-      sound_as answer (board_told p.1) p.4 (board_told_sound w k l p.0 p.1 f h b (item_at (MessageFine (votes_in w)) w.sent n p.0 p.2 f.on_sent) p.3)
+      sound_as answer (board_told p.1) p.4 (board_told_sound w k l p.0 p.1 f h b (item_at (MessageFine (all_votes w)) w.sent n p.0 p.2 f.on_sent) p.3)
   board_sound w (events.Tick t) k answer l out f h b p = sound_as answer (Answer.Ticked _) p.1 tt
   board_sound w (events.Wipe n) k answer l out f h b p = sound_as answer Answer.Done p.1 tt
   board_sound w (events.Pen d e) k answer l out f h b p = absurd p
@@ -243,11 +249,11 @@ module _ {Disk Why : Type 0} (s : Setting Disk Why) where
   board_sound w (events.Open d) k answer l out f h b p = absurd p
   board_sound w (events.Migrate d) k answer l out f h b p = absurd p
 
-  station_sound : (w : World Disk) (event : Event) (t : Station) (answer : Answer Why) (new : World Disk) → Fine s w → BothHold s (λ d. Lawful s.rules) w → StepAt s w event t answer new → IsSoundAnswer answer
+  station_sound : (w : Configuration Disk) (event : Event) (t : Station) (answer : Answer Why) (new : Configuration Disk) → Fine s w → BothHold s (λ d. Lawful s.rules) w → StepAt s w event t answer new → IsSoundAnswer answer
   station_sound w event (stations.Desk d) answer new f l p = desk_sound w d event answer p.0 p.1 f l p.2
-  station_sound w event (stations.Board n) answer new f l p = board_sound w event p.0 answer p.1 p.2 f l (board_fine_at (votes_in w) w.boards n p.0 p.3 f.on_boards) p.4
+  station_sound w event (stations.Board n) answer new f l p = board_sound w event p.0 answer p.1 p.2 f l (board_fine_at (all_votes w) w.boards n p.0 p.3 f.on_boards) p.4
 
-  pub sound_answers : (version : FileVersion) (n : ℕ) (w : World Disk) (ms : List (Moment Disk Why)) → Begins s version n w → Run s w ms → AtEachEvent w ms (λ v m. IsSoundAnswer m.answer)
+  pub sound_answers : (version : FileVersion) (n : ℕ) (w : Configuration Disk) (ms : List (Moment Disk Why)) → Begins s version n w → Run s w ms → AtEachEvent w ms (λ v m. IsSoundAnswer m.answer)
   sound_answers version n w [] e r = tt
   sound_answers version n w (m ∷ ms) e r =
       (sound_answers version n w ms e r.0, station_sound (last_of w ms) m.event (station_of m.event) m.answer m.after (run_keeps s w ms (begins_fine s version n w e) r.0) (lawful_run version n w ms e r.0) r.1)

@@ -1,4 +1,4 @@
--- Events: which are such as a world takes, and which station each is for.
+-- Events: which are such as a run takes, and which station each is for.
 use Rattle.std.specs.Prelude.{◌≤◌}
 use Rattle.notation.specs.Written.{IsEntry}
 use Rattle.headline.specs.declared.event.Event.{Event}

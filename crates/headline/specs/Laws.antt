@@ -7,21 +7,21 @@ use Rattle.entry_log.specs.Slots.{Contents}
 use Rattle.agree_core.specs.Agreed.{IsAgreedList}
 use Rattle.agree_core.specs.Books.{IsAgreedByFiles}
 use Rattle.headline.specs.declared.version.FileVersion.{FileVersion}
-use Rattle.headline.specs.Worlds.{Setting, World, votes_in}
+use Rattle.headline.specs.Configurations.{Configuration, all_votes}
 use Rattle.headline.specs.Runs.{AtEachMoment, Begins, Moment, Run, last_of}
 use Rattle.headline.specs.Noted.{KeepsNoted}
 use Rattle.headline.specs.Headline.{AfterEach, AtEachEvent, Headline, IsSoundAnswer, KeepsVotes, StandsFast, WithinAgreed}
-use Rattle.headline.specs.Match.{setting_of}
+use Rattle.headline.specs.Match.{Setting, setting_of}
 
 -- the list that both files show is the agreed list of the last votes
-abbrev pub FilesShowAgreed : {Disk Why : Type 0} → World Disk → List (Moment Disk Why) → Type 0
+abbrev pub FilesShowAgreed : {Disk Why : Type 0} → Configuration Disk → List (Moment Disk Why) → Type 0
 FilesShowAgreed w ms =
-    (xs : List Entry) → IsAgreedByFiles (votes_in (last_of w ms)).a (votes_in (last_of w ms)).b xs
-    → IsAgreedList (votes_in (last_of w ms)) xs
+    (xs : List Entry) → IsAgreedByFiles (all_votes (last_of w ms)).a (all_votes (last_of w ms)).b xs
+    → IsAgreedList (all_votes (last_of w ms)) xs
 
 -- what holds in a run
 pub record HoldsInRun
-    {Disk Why : Type 0} (s : Setting Disk Why) (innings : ℕ) (w : World Disk) (ms : List (Moment Disk Why))
+    {Disk Why : Type 0} (s : Setting Disk Why) (innings : ℕ) (w : Configuration Disk) (ms : List (Moment Disk Why))
     : Type 0 where
   pub headline : Headline s innings w ms
   -- besides, all books are prefixes of the agreed list of the last votes, and both files show that list
@@ -38,7 +38,7 @@ module _ {Disk : Type 0} (seen : Disk → List ℕ) (images : Disk → Images) w
   -- it holds in each run of a match on such disks, whatever a file of either version shows of its bytes
   abbrev pub HoldsInEachRun : Type 0
   HoldsInEachRun =
-      (contents : FileVersion → Contents) (game innings : ℕ) (version : FileVersion) (boards : ℕ) (w : World Disk)
+      (contents : FileVersion → Contents) (game innings : ℕ) (version : FileVersion) (boards : ℕ) (w : Configuration Disk)
       (ms : List (Moment Disk Refusal)) → Begins (setting_of contents seen images game innings) version boards w
       → Run (setting_of contents seen images game innings) w ms
       → HoldsInRun (setting_of contents seen images game innings) innings w ms

@@ -13,8 +13,9 @@ use Rattle.headline.specs.declared.event.Event.{Event}
 use Rattle.headline.specs.declared.event.Event.TheVariants as events
 use Rattle.headline.specs.declared.event.Station.{Station}
 use Rattle.headline.specs.declared.event.Station.TheVariants as stations
-use Rattle.headline.specs.Worlds.{Process, Running, Down, Setting, World, board_at, disk_of, site}
-use Rattle.headline.specs.Steps.{Answer}
+use Rattle.headline.specs.Match.{Setting}
+use Rattle.headline.specs.Configurations.{Process, Running, Down, Configuration, board_at, node, process_disk}
+use Rattle.headline.specs.Answers.{Answer}
 use Rattle.headline.specs.Runs.{Moment, last_of}
 
 -- the position of a station that isn't down
@@ -22,8 +23,8 @@ abbrev pub process_position : {Disk : Type 0} → Process Disk → Option Positi
 process_position (Running k) = Some k.seat.position
 process_position (Down votes disk) = None
 
-abbrev pub position_at : {Disk : Type 0} → World Disk → Station → Option Position
-position_at w (stations.Desk d) = process_position (site w d).process
+abbrev pub position_at : {Disk : Type 0} → Configuration Disk → Station → Option Position
+position_at w (stations.Desk d) = process_position (node w d).process
 position_at w (stations.Board n) = option_map (λ (k : BoardState). k.reader.position) (board_at w.boards n)
 
 -- the event by which a station begins again
@@ -33,7 +34,7 @@ beginning_of (stations.Board n) = events.Wipe n
 
 -- the event brings a desk's vote to the station: it is given to another station than that desk, or the
 -- desk's own scorer pens it
-abbrev pub Brings : {Disk : Type 0} → World Disk → Event → Station → DeskId → Ballot → Type 0
+abbrev pub Brings : {Disk : Type 0} → Configuration Disk → Event → Station → DeskId → Ballot → Type 0
 Brings w event t c b =
     ((t ≢ stations.Desk c)
     × ((n : ℕ) × (event ≡ events.Give n t) × (slice_get w.sent n ≡ Some (Message.Vote (vote_of c b)))))
@@ -46,20 +47,20 @@ IsVoteAnswer (Answer.Told heard) = Unit {0}
 IsVoteAnswer _ = ⊥
 
 -- a desk's vote for the position that the station is at is brought to it, in a call that isn't refused
-abbrev pub IsBrought : {Disk Why : Type 0} → World Disk → Moment Disk Why → Station → DeskId → Ballot → Type 0
+abbrev pub IsBrought : {Disk Why : Type 0} → Configuration Disk → Moment Disk Why → Station → DeskId → Ballot → Type 0
 IsBrought w m t c b = (position_at w t ≡ Some b.at) × Brings w m.event t c b × IsVoteAnswer m.answer
 
 -- the desk is opened from its file, whose last vote this is
-abbrev pub IsFound : {Disk Why : Type 0} → Setting Disk Why → World Disk → Moment Disk Why → DeskId → Ballot → Type 0
+abbrev pub IsFound : {Disk Why : Type 0} → Setting Disk Why → Configuration Disk → Moment Disk Why → DeskId → Ballot → Type 0
 IsFound s w m d b =
     (m.event ≡ events.Open d) × ((length : ℕ) × (m.answer ≡ Answer.Opened length))
-    × ((before : List Ballot) × ((s.view d (site w d).version).reads (disk_of (site w d).process) ≡ Some (b ∷ before)))
+    × ((before : List Ballot) × ((s.view d (node w d).version).reads (process_disk (node w d).process) ≡ Some (b ∷ before)))
 
 -- A station that isn't down has noted this vote of a desk for its position. It is its own vote, penned with Ok or
 -- found as the last vote when it was opened; or the first vote of another desk for that position that was given to it
 -- since it began, in a call that wasn't refused.
 abbrev pub HasNoted :
-    {Disk Why : Type 0} → Setting Disk Why → World Disk → List (Moment Disk Why) → Station → DeskId → Ballot → Type 0
+    {Disk Why : Type 0} → Setting Disk Why → Configuration Disk → List (Moment Disk Why) → Station → DeskId → Ballot → Type 0
 -- at the start of a run none is noted
 HasNoted s w [] t c b = ⊥
 -- it was brought in the last event, as the first; or found in it; or noted before, and the station went on
@@ -81,12 +82,12 @@ abbrev pub kept_by_process : {Disk : Type 0} → Process Disk → DeskId → Des
 kept_by_process (Running k) d c = kept_by_seat k.seat d c
 kept_by_process (Down votes disk) d c = None
 
-abbrev pub kept_at : {Disk : Type 0} → World Disk → Station → DeskId → Option Entry
-kept_at w (stations.Desk d) c = kept_by_process (site w d).process d c
+abbrev pub kept_at : {Disk : Type 0} → Configuration Disk → Station → DeskId → Option Entry
+kept_at w (stations.Desk d) c = kept_by_process (node w d).process d c
 kept_at w (stations.Board n) c = option_and_then (λ (k : BoardState). noted_of k.reader c) (board_at w.boards n)
 
 -- seats and readers keep just the votes that are noted
-abbrev pub KeepsNoted : {Disk Why : Type 0} → Setting Disk Why → World Disk → List (Moment Disk Why) → Type 0
+abbrev pub KeepsNoted : {Disk Why : Type 0} → Setting Disk Why → Configuration Disk → List (Moment Disk Why) → Type 0
 KeepsNoted s w ms =
     (t : Station) (c : DeskId) (b : Ballot) → HasNoted s w ms t c b
     ↔ ((position_at (last_of w ms) t ≡ Some b.at) × (kept_at (last_of w ms) t c ≡ Some b.entry))

@@ -1,4 +1,4 @@
--- Runs of a world, the newest event first, and what stations show in them.
+-- Runs from one configuration to the next, the newest event first, and what stations show in them.
 use Rattle.std.specs.Prelude.{◌≡◌, ◌⊎◌, ℕ, Some, None, List, [], ◌∷◌, ◌++◌}
 use Rattle.notation.specs.declared.entry.Entry.{Entry}
 use Rattle.agree_core.specs.declared.messages.DeskId.{DeskId}
@@ -12,49 +12,51 @@ use Rattle.headline.specs.declared.event.Event.TheVariants as events
 use Rattle.headline.specs.declared.event.Station.{Station}
 use Rattle.headline.specs.declared.event.Station.TheVariants as stations
 use Rattle.headline.specs.declared.version.FileVersion.{FileVersion}
-use Rattle.headline.specs.Worlds.{Process, Running, Down, Setting, Site, World, board_at, fresh_boards, site}
-use Rattle.headline.specs.Steps.{Answer, Step}
+use Rattle.headline.specs.Match.{Setting}
+use Rattle.headline.specs.Configurations.{Process, Running, Down, Node, Configuration, board_at, fresh_boards, node}
+use Rattle.headline.specs.Answers.{Answer}
+use Rattle.headline.specs.Steps.{Step}
 
 -- a desk that was just created, on a file of this version without votes, with no fault due
-abbrev pub BeginsAt : {Disk Why : Type 0} → Setting Disk Why → FileVersion → DeskId → Site Disk → Type 0
+abbrev pub BeginsAt : {Disk Why : Type 0} → Setting Disk Why → FileVersion → DeskId → Node Disk → Type 0
 BeginsAt s version d x =
     (k : DeskState _) × (x ≡ record { version = version; process = Running k; due = None })
     × Creates (s.view d version) d k
 
 -- two desks that were just created, so many empty boards, and nothing sent
 pub record Begins
-    {Disk Why : Type 0} (s : Setting Disk Why) (version : FileVersion) (boards : ℕ) (w : World Disk)
+    {Disk Why : Type 0} (s : Setting Disk Why) (version : FileVersion) (boards : ℕ) (w : Configuration Disk)
     : Type 0 where
   pub a : BeginsAt s version A w.a
   pub b : BeginsAt s version B w.b
   pub boards_are_fresh : w.boards ≡ fresh_boards boards
   pub nothing_sent : w.sent ≡ []
 
--- an event, what it was answered, and the world after it
+-- an event, what it was answered, and the configuration after it
 pub record Moment (Disk Why : Type 0) : Type 0 where
   pub event : Event
   pub answer : Answer Why
-  pub after : World Disk
+  pub after : Configuration Disk
 
--- the world after these moments, the newest first
-abbrev pub last_of : {Disk Why : Type 0} → World Disk → List (Moment Disk Why) → World Disk
+-- the configuration after these moments, the newest first
+abbrev pub last_of : {Disk Why : Type 0} → Configuration Disk → List (Moment Disk Why) → Configuration Disk
 last_of w [] = w
 last_of w (m ∷ ms) = m.after
 
--- from this world on, each moment is a step from the one before
-abbrev pub Run : {Disk Why : Type 0} → Setting Disk Why → World Disk → List (Moment Disk Why) → Type 0
+-- from this configuration on, each moment is a step from the one before
+abbrev pub Run : {Disk Why : Type 0} → Setting Disk Why → Configuration Disk → List (Moment Disk Why) → Type 0
 Run s w [] = Unit {0}
 Run s w (m ∷ ms) = Run s w ms × Step s (last_of w ms) m.event m.answer m.after
 
--- at the start of a run, or after one of its events, the world was so
+-- at the start of a run, or after one of its events, the configuration was so
 abbrev pub AtSomeMoment :
-    {Disk Why : Type 0} → World Disk → List (Moment Disk Why) → (World Disk → Type 0) → Type 0
+    {Disk Why : Type 0} → Configuration Disk → List (Moment Disk Why) → (Configuration Disk → Type 0) → Type 0
 AtSomeMoment w [] P = P w
 AtSomeMoment w (m ∷ ms) P = P m.after ⊎ AtSomeMoment w ms P
 
--- at the start of a run and after each of its events the world is so
+-- at the start of a run and after each of its events the configuration is so
 abbrev pub AtEachMoment :
-    {Disk Why : Type 0} → World Disk → List (Moment Disk Why) → (World Disk → Type 0) → Type 0
+    {Disk Why : Type 0} → Configuration Disk → List (Moment Disk Why) → (Configuration Disk → Type 0) → Type 0
 AtEachMoment w [] P = P w
 AtEachMoment w (m ∷ ms) P = P m.after × AtEachMoment w ms P
 
@@ -72,18 +74,18 @@ process_shows (Running k) book = k.book ≡ book
 process_shows (Down votes disk) book = ⊥
 
 -- a station that isn't down shows this book
-abbrev pub Shows : {Disk : Type 0} → World Disk → Station → List Entry → Type 0
-Shows w (stations.Desk d) book = process_shows (site w d).process book
+abbrev pub Shows : {Disk : Type 0} → Configuration Disk → Station → List Entry → Type 0
+Shows w (stations.Desk d) book = process_shows (node w d).process book
 Shows w (stations.Board n) book = (k : BoardState) × (board_at w.boards n ≡ Some k) × (k.book ≡ book)
 
 -- the desk runs, at the ballot's position, and its scorer pens the ballot's entry
-abbrev pub PensBallot : {Disk : Type 0} → World Disk → Event → DeskId → Ballot → Type 0
+abbrev pub PensBallot : {Disk : Type 0} → Configuration Disk → Event → DeskId → Ballot → Type 0
 PensBallot w event d b =
     (event ≡ events.Pen d b.entry)
-    × ((k : DeskState _) × ((site w d).process ≡ Running k) × (k.seat.position ≡ b.at))
+    × ((k : DeskState _) × ((node w d).process ≡ Running k) × (k.seat.position ≡ b.at))
 
 -- in one of these events the desk's scorer penned this ballot
 abbrev pub WasPenned :
-    {Disk Why : Type 0} → World Disk → List (Moment Disk Why) → DeskId → Ballot → Type 0
+    {Disk Why : Type 0} → Configuration Disk → List (Moment Disk Why) → DeskId → Ballot → Type 0
 WasPenned w [] d b = ⊥
 WasPenned w (m ∷ ms) d b = PensBallot (last_of w ms) m.event d b ⊎ WasPenned w ms d b

@@ -12,7 +12,7 @@ use agree_core::DeskId;
 use books::RunFault;
 use cards::{MatchSheet, Watched};
 use corrections::{BookOf, CheckedBook};
-use desk::{Desk, OpenRefusal};
+use desk::Desk;
 use entry_log::{Slots, SlotsOf};
 use host::FileDisk;
 use live::{Clock, DeskEnd, Keys, Link, begin_desk, run_desk};
@@ -46,10 +46,7 @@ fn desk_at<'a>(
     );
     match begun {
         Ok(desk) => Ok(desk),
-        Err((OpenRefusal::Votes(why), _disk)) => Err(Stopped::at(file, RunFault::from(why))),
-        Err((OpenRefusal::BadVotes { place }, _disk)) => {
-            Err(Stopped::at(file, RunFault::BadVotes { place }))
-        }
+        Err((why, _disk)) => Err(Stopped::at(file, RunFault::from(why))),
     }
 }
 

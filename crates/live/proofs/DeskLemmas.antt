@@ -35,7 +35,7 @@ use Rattle.live.specs.Saying.{ComesTo, SaysEntry}
 use Rattle.live.specs.Typing.{Input, Line, End}
 use Rattle.live.specs.Texts.{came_text, said_text, warned_after}
 use Rattle.live.specs.Ends.{Course, course_of, end_at, end_of, ending, further, known_at, known_to, turns_after, written as answer_of}
-use Rattle.live.specs.Desks.{Blames, Calls, DeskCall, DeskGoes, DeskProcess, DeskStep, Given, HasRoom, Ticked, TurnEnded, Typed, TypingEnded, after_call, course_after, desk_kind, disks_of, given, innings_of, kind_of, process_of, told_of, typed}
+use Rattle.live.specs.Desks.{Blames, Calls, DeskCall, DeskGoes, DeskProcess, DeskStep, Given, FitsLongest, Ticked, TurnEnded, Typed, TypingEnded, after_call, course_after, desk_kind, disks_of, given, innings_of, kind_of, process_of, told_of, typed}
 use Rattle.live.specs.declared.said.Said.{Said}
 use Rattle.live.specs.declared.said.Said.TheVariants as said
 use Rattle.live.specs.declared.warned.Warned.{Warned}
@@ -71,7 +71,7 @@ no_blame differs line (said.Penned settled) h e = h
 
 -- the kind of a desk's runs, by what it depends on
 abbrev kind_with : {D : Type 0} → (DeskId → ℕ → FileView D) → (D → Faults) → (ℕ → ℕ) → Sheet → DeskId → ℕ → ℕ → ℕ → Kind (DeskProcess D) DeskCall
-kind_with view faults room sheet d game innings cap = desk_kind sheet (view d game) (record { faults = faults; HasRoom = HasRoom room cap }) game innings
+kind_with view faults room sheet d game innings cap = desk_kind sheet (view d game) (record { faults = faults; FitsLongest = FitsLongest room cap }) game innings
 
 module _ {S B D : Type 0} {g : Files S D} {h : Disks D} {b : Books B} where
   pub same_here : (k : Desk S B D g h b) → SameOwner k k
@@ -203,7 +203,7 @@ module _ {S B D : Type 0} {g : Files S D} {h : Disks D} {b : Books B} where
 
   -- a refusal blames the disk as the pen did
   refuses : (k l : Desk S B D g h b) (e : Entry) (why : Refusal) (out : List Message) → (state_of k).failed ≡ false → Pens (view_of k) (rules_of k) (state_of k) e (pen_answer (Err why)) (state_of l) out →
-      PenBlame k (Err why) l → BlamesDisk ends.Device (HasRoom g.room (h.cap (disk_of k))) (end_of (said.Refused why)) (h.faults (disk_of k)) (h.faults (disk_of l))
+      PenBlame k (Err why) l → BlamesDisk ends.Device (FitsLongest g.room (h.cap (disk_of k))) (end_of (said.Refused why)) (h.faults (disk_of k)) (h.faults (disk_of l))
   refuses k l e refusals.Device out runs r blame =
       let failed : Result Penned Refusal = Err refusals.Device in
       blamed failed refusals.Device (Err ends.Device) _ _ (λ q. refl) (λ q. refl) (λ q room. room (length (votes_of k) + 1) (omega (arith, r.0.1.1))) blame
@@ -228,7 +228,7 @@ module _ {S B D : Type 0} {g : Files S D} {h : Disks D} {b : Books B} where
   -- what it answers to bytes blames the disk as the call did
   answers : (k l : Desk S B D g h b) (bytes : List ℕ) (what : What) (out : List Message) → (state_of k).failed ≡ false → Takes (view_of k) (game_of k) (state_of k) bytes what (state_of l) out →
       BlamesDisk whats.Device ⊤ (device_answer what) (h.faults (disk_of k)) (h.faults (disk_of l)) →
-      BlamesDisk ends.Device (HasRoom g.room (h.cap (disk_of k))) (end_at what) (h.faults (disk_of k)) (h.faults (disk_of l))
+      BlamesDisk ends.Device (FitsLongest g.room (h.cap (disk_of k))) (end_at what) (h.faults (disk_of k)) (h.faults (disk_of l))
   answers k l bytes whats.Device out runs r blame = blamed (device_answer whats.Device) whats.Device (Err ends.Device) _ _ (λ q. refl) (λ q. refl) (λ q room. tt) blame
   answers k l bytes whats.Failed out runs r blame = absurd (let path : true ≡ false = sym r.0 ∙ runs in (cc))
   answers k l bytes (whats.Bad fault) out runs r blame = blameless further _ _ (λ q. (cc)) (blame.same (λ q. (cc)))

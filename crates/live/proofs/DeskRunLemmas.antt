@@ -16,7 +16,7 @@ use Rattle.live.specs.Runs.{with_text}
 use Rattle.live.specs.Typing.{Input}
 use Rattle.live.specs.Texts.{greeting}
 use Rattle.live.specs.Ends.{Course, end_told, ending, further, known_to, written}
-use Rattle.live.specs.Desks.{DeskGoes, DeskProcess, DeskRuns, Ended, HasRoom, disks_of, innings_of, process_of}
+use Rattle.live.specs.Desks.{DeskGoes, DeskProcess, DeskRuns, Ended, FitsLongest, disks_of, innings_of, process_of}
 use Rattle.live.specs.declared.warned.Warned.{Warned}
 use Rattle.live.specs.declared.warned.Warned.TheVariants.{Nothing}
 use Rattle.live.specs.declared.ends.DeskEnd.{DeskEnd}
@@ -90,11 +90,11 @@ module _ {S B D : Type 0} {g : Files S D} {h : Disks D} {b : Books B} where
 
   -- a run blames the disk only where it failed in the run
   pub blames : (sheet : Sheet) (k l : Desk S B D g h b) (a b' : List Passed) (x y : List Input) (s t : Option (List ℕ)) (turns : ℕ) (r : Result (Unit {0}) DeskEnd) → DeskRuns sheet k l a b' x y s t turns r → (state_of k).failed ≡ false →
-      BlamesDisk ends.Device (HasRoom g.room (h.cap (disk_of k))) r (h.faults (disk_of k)) (h.faults (disk_of l))
+      BlamesDisk ends.Device (FitsLongest g.room (h.cap (disk_of k))) r (h.faults (disk_of k)) (h.faults (disk_of l))
   blames sheet k l a b' x y s t turns r runs sound =
       let m = runs.goes.goes in
       let last = run_blames sheet (view_of k) (disks_of k) (game_of k) (innings_of k) (process_of k Nothing 0 further) runs.last m.moments refl sound m.run m.last in
-      let here = subst (λ (d : DeskState D). BlamesDisk ends.Device (HasRoom g.room (h.cap (disk_of k))) runs.last.course (h.faults (disk_of k)) (h.faults d.disk)) runs.is last in
+      let here = subst (λ (d : DeskState D). BlamesDisk ends.Device (FitsLongest g.room (h.cap (disk_of k))) runs.last.course (h.faults (disk_of k)) (h.faults d.disk)) runs.is last in
       answer_blames turns r runs.last (h.faults (disk_of k)) (h.faults (disk_of l)) runs.ended here
 
   -- the last flush leaves what was written

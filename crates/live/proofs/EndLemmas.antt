@@ -71,7 +71,7 @@ not_ended course e f = let path : further ≡ Err ends.Device = sym e ∙ f in (
 module _ {Disk : Type 0} (sheet : Sheet) (view : FileView Disk) (disks : DiskView Disk) (game innings : ℕ) where
   -- what is so after moments of a process whose desk hadn't failed
   record Stands (p q : DeskProcess Disk) : Type 0 where
-    blame : BlamesDisk ends.Device disks.HasRoom q.course (disks.faults p.desk.disk) (disks.faults q.desk.disk)
+    blame : BlamesDisk ends.Device disks.FitsLongest q.course (disks.faults p.desk.disk) (disks.faults q.desk.disk)
     running : q.course ≡ further → q.desk.failed ≡ false
 
   stands : (p : DeskProcess Disk) (ms : List (Moment (DeskProcess Disk) DeskCall)) → p.course ≡ further → p.desk.failed ≡ false → Run (desk_kind sheet view disks game innings) p ms → Stands p (last_of p ms)
@@ -90,9 +90,9 @@ module _ {Disk : Type 0} (sheet : Sheet) (view : FileView Disk) (disks : DiskVie
 
   -- a run blames the disk where its last call does
   pub run_blames : (p q : DeskProcess Disk) (ms : List (Moment (DeskProcess Disk) DeskCall)) → p.course ≡ further → p.desk.failed ≡ false → Run (desk_kind sheet view disks game innings) p ms → last_of p ms ≡ q →
-      BlamesDisk ends.Device disks.HasRoom q.course (disks.faults p.desk.disk) (disks.faults q.desk.disk)
+      BlamesDisk ends.Device disks.FitsLongest q.course (disks.faults p.desk.disk) (disks.faults q.desk.disk)
   run_blames p q ms e f r is =
-      subst (λ (x : DeskProcess Disk). BlamesDisk ends.Device disks.HasRoom x.course (disks.faults p.desk.disk) (disks.faults x.desk.disk)) is (stands p ms e f r).blame
+      subst (λ (x : DeskProcess Disk). BlamesDisk ends.Device disks.FitsLongest x.course (disks.faults p.desk.disk) (disks.faults x.desk.disk)) is (stands p ms e f r).blame
 
 -- the answer of a process blames the disk as its last call does
 pub answer_blames : {Disk W : Type 0} (turns : ℕ) (result : Result (Unit {0}) DeskEnd) (last : DeskProcess Disk) (old new : Faults) → Ended turns result last → BlamesDisk ends.Device W last.course old new → BlamesDisk ends.Device W result old new

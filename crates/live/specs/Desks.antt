@@ -56,12 +56,12 @@ course_after call = further
 -- what a disk's failures are told by: how many there were, and whether there is room for the longest file
 pub record DiskView (Disk : Type 0) : Type 1 where
   pub faults : Disk → Faults
-  pub HasRoom : Type 0
+  pub FitsLongest : Type 0
 
 -- a call of a desk that hasn't failed ends the process with `Device` exactly where the disk failed in the call
 abbrev pub Blames : {Disk : Type 0} → DiskView Disk → DeskState Disk → DeskCall → DeskState Disk → Type 0
 Blames disks k call l =
-    k.failed ≡ false → BlamesDisk Device disks.HasRoom (course_after call) (disks.faults k.disk) (disks.faults l.disk)
+    k.failed ≡ false → BlamesDisk Device disks.FitsLongest (course_after call) (disks.faults k.disk) (disks.faults l.disk)
 
 -- a desk's process: the desk, what its scorer was told of a peer since something right came, how many turns are
 -- over, and how it goes on
@@ -117,8 +117,8 @@ desk_kind sheet view disks game innings = record {
 }
 
 -- a file of this many slots has so many bytes, and the longest one is within the cap
-abbrev pub HasRoom : (ℕ → ℕ) → ℕ → Type 0
-HasRoom room cap = (votes : ℕ) → votes ≤ most_votes → room votes ≤ cap
+abbrev pub FitsLongest : (ℕ → ℕ) → ℕ → Type 0
+FitsLongest room cap = (votes : ℕ) → votes ≤ most_votes → room votes ≤ cap
 
 -- how a run of so many turns ended with this answer: all turns are over, or a write failed and no disk, or the process
 -- came to its end
@@ -132,7 +132,7 @@ module _ {S B D : Type 0} {g : Files S D} {h : Disks D} {b : Books B} where
   innings_of desk = b.innings_a_side (book_of desk)
 
   abbrev pub disks_of : Desk S B D g h b → DiskView D
-  disks_of desk = record { faults = h.faults; HasRoom = HasRoom g.room (h.cap (disk_of desk)) }
+  disks_of desk = record { faults = h.faults; FitsLongest = FitsLongest g.room (h.cap (disk_of desk)) }
 
   abbrev pub kind_of : Sheet → Desk S B D g h b → Kind (DeskProcess D) DeskCall
   kind_of sheet desk = desk_kind sheet (view_of desk) (disks_of desk) (game_of desk) (innings_of desk)

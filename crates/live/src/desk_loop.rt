@@ -5,7 +5,7 @@ ghost use Rattle.entry_log.specs.Blame.{BlamesDisk};
 ghost use Rattle.cards.specs.Sheet.{Sheet};
 ghost use Rattle.cards.specs.Watched.{Prints, has_failed, stream_of};
 ghost use Rattle.desk.specs.Desk.{disk_of, state_of};
-ghost use Rattle.live.specs.Desks.{DeskGoes, DeskRuns, HasRoom, innings_of, process_of};
+ghost use Rattle.live.specs.Desks.{DeskGoes, DeskRuns, FitsLongest, innings_of, process_of};
 ghost use Rattle.live.specs.Ends as ends;
 ghost use Rattle.live.specs.Ends.{course_of, further, known_at, turns_after, written};
 ghost use Rattle.live.specs.Passed.{Came, Passed};
@@ -290,7 +290,7 @@ pub fn run_desk<S: SlotsOf, B: BookOf + Drop, L: Link, K: Keys, C: Clock, W: Wri
         (W.contents (stream_of out.old)) (W.contents (stream_of out.new)) turns result }
     // `Device` is answered exactly where the disk failed in this run.
     ensures blame { (state_of desk.old).failed ≡ false →
-        BlamesDisk DeskEnd.Device (HasRoom S.room (S.Disk.cap (disk_of desk.old))) result
+        BlamesDisk DeskEnd.Device (FitsLongest S.room (S.Disk.cap (disk_of desk.old))) result
         (S.Disk.faults (disk_of desk.old)) (S.Disk.faults (disk_of desk.new)) }
     ensures failed { result ≡ Err DeskEnd.Write → has_failed out.new ≡ true }
 {

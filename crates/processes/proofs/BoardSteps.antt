@@ -10,9 +10,10 @@ use Rattle.wire.specs.Layout.{Says}
 use Rattle.board.specs.declared.refusal.BoardRefusal.TheVariants.{BadVotes}
 use Rattle.headline.specs.declared.event.Event.TheVariants as events
 use Rattle.headline.specs.declared.event.Station.TheVariants as stations
-use Rattle.headline.specs.Worlds.{Setting, World, board_at, with_board}
-use Rattle.headline.specs.Steps as steps
-use Rattle.headline.specs.Steps.{board_told}
+use Rattle.headline.specs.Match.{Setting}
+use Rattle.headline.specs.Configurations.{Configuration, board_at, with_board}
+use Rattle.headline.specs.Answers as answers
+use Rattle.headline.specs.BoardSteps.{board_told}
 use Rattle.live.specs.Boards as boards
 use Rattle.live.specs.Boards.{BoardCall, BoardStep}
 use Rattle.processes.specs.Happenings.{BoardCame, Happening}
@@ -27,11 +28,11 @@ pub same_board : (xs : List BoardState) (n : ℕ) (x : BoardState) → board_at 
 same_board xs zero x e = refl
 same_board xs (suc n) x e = same_item xs n x e
 
--- the world with this board so, once these messages were handed out
-abbrev pub with_it : {Disk : Type 0} → World Disk → ℕ → BoardState → List Message → World Disk
+-- the configuration with this board so, once these messages were handed out
+abbrev pub with_it : {Disk : Type 0} → Configuration Disk → ℕ → BoardState → List Message → Configuration Disk
 with_it v n l out = record v { boards = with_board v.boards n l; sent = v.sent ++ out }
 
-module _ {Disk : Type 0} (s : Setting Disk Refusal) (game innings : ℕ) (rules : s.rules ≡ book_refusal innings) (v : World Disk) (what : Happening Disk) where
+module _ {Disk : Type 0} (s : Setting Disk Refusal) (game innings : ℕ) (rules : s.rules ≡ book_refusal innings) (v : Configuration Disk) (what : Happening Disk) where
   received : (n : ℕ) (k l : BoardState) (bytes : List ℕ) (m : Message) (told : BoardAnswer) (out : List Message) → board_at v.boards n ≡ Some k → BoardCame game v.sent (boards.Given bytes (Ok Asked)) → Says game bytes m → BoardReceives (book_refusal innings) k m told l → out ≡ [] → Leads s (Fits what v) v (with_it v n l out)
   received n k l bytes m told out at came says got empty =
       let found = came m says in
@@ -51,6 +52,6 @@ module _ {Disk : Type 0} (s : Setting Disk Refusal) (game innings : ℕ) (rules 
   board_moment n k l (boards.Given bytes (Ok Failed)) out at came h = absurd h.0
   board_moment n k l (boards.Given bytes (Err (BadVotes p))) out at came h = let t = h.0 in received n k l bytes t.0 (BoardAnswer.BadVotes p) out at came t.1 t.2 h.1
   board_moment n k l boards.Ticked out at came h =
-      one s (Fits what v) v (events.Tick (stations.Board n)) (steps.Ticked (length out)) (with_it v n l out) tt
+      one s (Fits what v) v (events.Tick (stations.Board n)) (answers.Ticked (length out)) (with_it v n l out) tt
       (k, l, out, at, (h.0, refl, h.1), refl)
   board_moment n k l boards.TurnEnded out at came h = unmoved n k l out at h.0 h.1

@@ -7,80 +7,81 @@ use Rattle.agree_core.specs.Desks.{DeskState}
 use Rattle.agree_core.specs.FileView.{FileView, Stays}
 use Rattle.headline.specs.declared.version.FileVersion.{FileVersion}
 use Rattle.headline.specs.declared.version.FileVersion.TheVariants.{Old}
-use Rattle.headline.specs.Worlds.{Process, Running, Down, Site, disk_of, votes_of}
-use Rattle.headline.specs.Steps as steps
+use Rattle.headline.specs.Configurations.{Process, Running, Down, Node, process_disk, process_votes}
+use Rattle.headline.specs.DeskFaults.{LosesPower}
+use Rattle.headline.specs.Migrations.{Migrates, ToNew}
 use Rattle.live.specs.Desks.{DeskCall, DeskProcess, DeskStep}
 use Rattle.live.specs.Runs as own
 use Rattle.processes.specs.Happenings.{BoardBegun, BoardCalled, DeskBegun, DeskCalled, DeskEnded, FileMigrated, Happening, PowerLost, begun, migrated}
-use Rattle.processes.specs.Lives.{Begins, BeginsOn, ComesNext, CutOff, Ends, IsLife, Migrates, LosesPower, Runs, RunsFrom, Stage, after_calls, after_life, after_stage, calls_of, fresh, life_happens, stage_happens}
+use Rattle.processes.specs.Lives.{Beginning, BeginsOn, IsNextStage, CutOff, ProcessEnd, IsLife, FileMigration, PowerLoss, CallsMade, RunsFrom, Stage, after_calls, after_life, after_stage, calls_of, fresh, life_happens, stage_happens}
 use Rattle.processes.proofs.Local.{Local, local-append, nexts, nexts-append}
 
 module _ {Disk : Type 0} where
   -- a desk after something that happens there
-  abbrev pub next_desk : Site Disk → Happening Disk → Site Disk
+  abbrev pub next_desk : Node Disk → Happening Disk → Node Disk
   next_desk x (DeskCalled c call out l) = record x { process = Running l }
-  next_desk x (DeskEnded c disk) = record x { process = Down (votes_of x.process) disk }
-  next_desk x (PowerLost c disk) = record x { process = Down (votes_of x.process) disk }
-  next_desk x (DeskBegun c opening) = record x { process = begun (votes_of x.process) opening }
+  next_desk x (DeskEnded c disk) = record x { process = Down (process_votes x.process) disk }
+  next_desk x (PowerLost c disk) = record x { process = Down (process_votes x.process) disk }
+  next_desk x (DeskBegun c opening) = record x { process = begun (process_votes x.process) opening }
   next_desk x (FileMigrated c votes new) = migrated x new
   next_desk x (BoardCalled n call out l) = x
   next_desk x (BoardBegun n) = x
 
 module _ {Disk : Type 0} (view : FileVersion → FileView Disk) (seen : Disk → List ℕ) (d : DeskId) (game innings : ℕ) where
   -- it may happen at this desk, but for what came
-  abbrev pub MayDesk : Site Disk → Happening Disk → Type 0
+  abbrev pub MayDesk : Node Disk → Happening Disk → Type 0
   MayDesk x (DeskCalled c call out l) =
       (k : DeskState Disk) × (x.process ≡ Running k) × DeskStep (view x.version) game innings k call out l
   MayDesk x (DeskEnded c disk) =
       (k : DeskState Disk) × (x.process ≡ Running k) × Stays (view x.version) k.disk disk
-  MayDesk x (PowerLost c disk) = steps.LosesPower (view x.version) (disk_of x.process) disk
+  MayDesk x (PowerLost c disk) = LosesPower (view x.version) (process_disk x.process) disk
   MayDesk x (DeskBegun c opening) =
       (votes : List Ballot) × (disk : Disk) × (x.process ≡ Down votes disk)
       × BeginsOn (view x.version) seen innings d disk opening
   MayDesk x (FileMigrated c votes new) =
       (had : List Ballot) × (disk : Disk) × (x.process ≡ Down had disk) × (x.version ≡ Old)
-      × steps.Migrates view disk (steps.ToNew votes new)
+      × Migrates view disk (ToNew votes new)
   MayDesk x (BoardCalled n call out l) = Unit {0}
   MayDesk x (BoardBegun n) = Unit {0}
 
-  abbrev pub DeskLocal : Site Disk → List (Happening Disk) → Type 0
+  abbrev pub DeskLocal : Node Disk → List (Happening Disk) → Type 0
   DeskLocal = Local next_desk MayDesk
 
-  abbrev pub desk_after : Site Disk → List (Happening Disk) → Site Disk
+  abbrev pub desk_after : Node Disk → List (Happening Disk) → Node Disk
   desk_after = nexts next_desk MayDesk
 
 module _ {Disk : Type 0} (view : FileVersion → FileView Disk) (seen : Disk → List ℕ) (faults : Disk → Faults) (d : DeskId) (game innings : ℕ) where
-  abbrev Goes : Site Disk → List (Happening Disk) → Site Disk → Type 0
+  abbrev Goes : Node Disk → List (Happening Disk) → Node Disk → Type 0
   Goes x hs y = DeskLocal view seen d game innings x hs × (desk_after view seen d game innings x hs ≡ y)
 
-  abbrev with_run : Site Disk → Process Disk → Site Disk
+  abbrev with_run : Node Disk → Process Disk → Node Disk
   with_run x p = record x { process = p }
 
-  calls : (x : Site Disk) (k : DeskState Disk) (ms : List (own.Moment (DeskProcess Disk) DeskCall)) → RunsFrom (view x.version) faults game innings k ms → Goes (with_run x (Running k)) (calls_of d ms) (with_run x (after_calls (Running k) ms))
+  calls : (x : Node Disk) (k : DeskState Disk) (ms : List (own.Moment (DeskProcess Disk) DeskCall)) → RunsFrom (view x.version) faults game innings k ms → Goes (with_run x (Running k)) (calls_of d ms) (with_run x (after_calls (Running k) ms))
   calls x k [] r = (tt, refl)
   calls x k (m ∷ ms) r =
       let before = calls x k ms (r.0, r.1, r.2, r.3.0) in
       let last : DeskState Disk = (λ (p : DeskProcess Disk). p.desk) (own.last_of (fresh k) ms) in
       let may : MayDesk view seen d game innings (with_run x (Running last)) (DeskCalled d m.call m.out ((λ (p : DeskProcess Disk). p.desk) m.after)) = (last, refl, r.3.2.1) in (
-        (before.0, subst (λ (y : Site Disk). MayDesk view seen d game innings y (DeskCalled d m.call m.out ((λ (p : DeskProcess Disk). p.desk) m.after))) (sym before.1) may),
-        ap (λ (y : Site Disk). next_desk y (DeskCalled d m.call m.out ((λ (p : DeskProcess Disk). p.desk) m.after))) before.1,
+        (before.0, subst (λ (y : Node Disk). MayDesk view seen d game innings y (DeskCalled d m.call m.out ((λ (p : DeskProcess Disk). p.desk) m.after))) (sym before.1) may),
+        ap (λ (y : Node Disk). next_desk y (DeskCalled d m.call m.out ((λ (p : DeskProcess Disk). p.desk) m.after))) before.1,
       )
 
-  one_stage : (x : Site Disk) (stage : Stage Disk) → ComesNext view seen faults d game innings x stage → Goes x (stage_happens d stage) (after_stage x stage)
-  one_stage x (Runs ms) h =
+  one_stage : (x : Node Disk) (stage : Stage Disk) → IsNextStage view seen faults d game innings x stage → Goes x (stage_happens d stage) (after_stage x stage)
+  one_stage x (CallsMade ms) h =
       subst (λ (p : Process Disk). Goes (with_run x p) (calls_of d ms) (with_run x (after_calls p ms))) (sym h.1) (calls x h.0 ms h.2)
   one_stage x (CutOff call l) h = ((tt, (h.0, h.1, h.3)), refl)
-  one_stage x (Ends disk) h = ((tt, h), refl)
-  one_stage x (LosesPower disk) h = ((tt, h), refl)
-  one_stage x (Begins opening) h = ((tt, h), refl)
-  one_stage x (Migrates votes new) h = ((tt, h), refl)
+  one_stage x (ProcessEnd disk) h = ((tt, h), refl)
+  one_stage x (PowerLoss disk) h = ((tt, h), refl)
+  one_stage x (Beginning opening) h = ((tt, h), refl)
+  one_stage x (FileMigration votes new) h = ((tt, h), refl)
 
-  pub life : (x : Site Disk) (stages : List (Stage Disk)) → IsLife view seen faults d game innings x stages → Goes x (life_happens d stages) (after_life x stages)
+  pub life : (x : Node Disk) (stages : List (Stage Disk)) → IsLife view seen faults d game innings x stages → Goes x (life_happens d stages) (after_life x stages)
   life x [] h = (tt, refl)
   life x (stage ∷ stages) h =
       let before = life x stages h.0 in
       let then : Goes (desk_after view seen d game innings x (life_happens d stages)) (stage_happens d stage) (after_stage (after_life x stages) stage) =
-      subst (λ (y : Site Disk). Goes y (stage_happens d stage) (after_stage (after_life x stages) stage)) (sym before.1) (one_stage (after_life x stages) stage h.1) in (
+      subst (λ (y : Node Disk). Goes y (stage_happens d stage) (after_stage (after_life x stages) stage)) (sym before.1) (one_stage (after_life x stages) stage h.1) in (
         local-append next_desk (MayDesk view seen d game innings) x (stage_happens d stage) (life_happens d stages) before.0 then.0,
         nexts-append next_desk (MayDesk view seen d game innings) x (stage_happens d stage) (life_happens d stages) ∙ then.1,
       )

@@ -18,111 +18,115 @@ use Rattle.headline.specs.declared.fault.Fault.{Fault}
 use Rattle.headline.specs.declared.fault.Fault.TheVariants.{Fail}
 use Rattle.headline.specs.declared.version.FileVersion.{FileVersion}
 use Rattle.headline.specs.declared.version.FileVersion.TheVariants.{Old, New}
-use Rattle.headline.specs.Worlds.{Process, Running, Down, Setting, Site, World, board_at, disk_of, site, votes_of, with_board, with_disk, with_site}
-use Rattle.headline.specs.Steps as steps
-use Rattle.headline.specs.Steps.{Answer, AtDesk, LosesPower, Migrates, MigratesAt, ToNew}
+use Rattle.headline.specs.Match.{Setting}
+use Rattle.headline.specs.Configurations.{Process, Running, Down, Node, Configuration, board_at, node, process_disk, process_votes, with_board, with_disk, with_node}
+use Rattle.headline.specs.Answers as answers
+use Rattle.headline.specs.Answers.{Answer}
+use Rattle.headline.specs.DeskFaults.{LosesPower}
+use Rattle.headline.specs.Migrations.{Migrates, MigratesAt, ToNew}
+use Rattle.headline.specs.DeskSteps.{AtDesk}
 use Rattle.headline.specs.Events.{station_of}
 use Rattle.processes.specs.Happenings.{Happening, DeskCalled, DeskEnded, PowerLost, DeskBegun, FileMigrated, BoardCalled, BoardBegun, Happens, after_one, begun, migrated, with_process}
 use Rattle.processes.proofs.Going.{Fits, Leads, one}
 use Rattle.processes.proofs.BoardSteps.{board_moment, with_it}
 use Rattle.processes.proofs.DeskSteps.{after_fault, at_desk, desk_moment, stays_refl}
 
-module _ {Disk : Type 0} (s : Setting Disk Refusal) (v : World Disk) (what : Happening Disk) where
-  abbrev Reaches : World Disk → Type 0
+module _ {Disk : Type 0} (s : Setting Disk Refusal) (v : Configuration Disk) (what : Happening Disk) where
+  abbrev Reaches : Configuration Disk → Type 0
   Reaches new = Leads s (Fits what v) v new
 
-  module _ (d : DeskId) (calm : (site v d).due ≡ None) where
-    -- the site with this process, and this fault due
-    abbrev placed : Process Disk → Option Fault → Site Disk
-    placed p due = record { version = (site v d).version; process = p; due = due }
+  module _ (d : DeskId) (calm : (node v d).due ≡ None) where
+    -- the node with this process, and this fault due
+    abbrev placed : Process Disk → Option Fault → Node Disk
+    placed p due = record { version = (node v d).version; process = p; due = due }
 
     -- no fault is due, as before
-    as_before : (p : Process Disk) → Reaches (with_site v d (placed p None) []) → Reaches (with_process v d p [])
-    as_before p h = subst (λ (due : Option Fault). Reaches (with_site v d (placed p due) [])) (sym calm) h
+    as_before : (p : Process Disk) → Reaches (with_node v d (placed p None) []) → Reaches (with_process v d p [])
+    as_before p h = subst (λ (due : Option Fault). Reaches (with_node v d (placed p due) [])) (sym calm) h
 
-    by_event : (event : Event) (answer : Answer Refusal) (p : Process Disk) (due : Option Fault) → station_of event ≡ stations.Desk d → Fits what v v event → AtDesk s v.sent d event (site v d) answer (placed p due) [] → Reaches (with_site v d (placed p due) [])
+    by_event : (event : Event) (answer : Answer Refusal) (p : Process Disk) (due : Option Fault) → station_of event ≡ stations.Desk d → Fits what v v event → AtDesk s v.sent d event (node v d) answer (placed p due) [] → Reaches (with_node v d (placed p due) [])
     by_event event answer p due e f h = at_desk s v d what event answer (placed p due) [] e f h
 
-    ended : (k : DeskState Disk) (disk : Disk) → (site v d).process ≡ Running k → Stays (s.view d (site v d).version) k.disk disk → Reaches (with_process v d (Down (votes_of (site v d).process) disk) [])
+    ended : (k : DeskState Disk) (disk : Disk) → (node v d).process ≡ Running k → Stays (s.view d (node v d).version) k.disk disk → Reaches (with_process v d (Down (process_votes (node v d).process) disk) [])
     ended k disk at h =
-        as_before (Down (votes_of (site v d).process) disk)
-        (by_event (events.Kill d) steps.Done (Down (votes_of (site v d).process) disk) None refl tt
-        (k, at, (disk, subst (λ (q : Process Disk). Stays (s.view d (site v d).version) (disk_of q) disk) (sym at) h, refl), refl, refl))
+        as_before (Down (process_votes (node v d).process) disk)
+        (by_event (events.Kill d) answers.Done (Down (process_votes (node v d).process) disk) None refl tt
+        (k, at, (disk, subst (λ (q : Process Disk). Stays (s.view d (node v d).version) (process_disk q) disk) (sym at) h, refl), refl, refl))
 
-    power_lost : (disk : Disk) → LosesPower (s.view d (site v d).version) (disk_of (site v d).process) disk → Reaches (with_process v d (Down (votes_of (site v d).process) disk) [])
+    power_lost : (disk : Disk) → LosesPower (s.view d (node v d).version) (process_disk (node v d).process) disk → Reaches (with_process v d (Down (process_votes (node v d).process) disk) [])
     power_lost disk h =
-        as_before (Down (votes_of (site v d).process) disk)
-        (by_event (events.Power d choices.Kept) steps.Done (Down (votes_of (site v d).process) disk) None refl tt (disk, h, refl, refl, refl))
+        as_before (Down (process_votes (node v d).process) disk)
+        (by_event (events.Power d choices.Kept) answers.Done (Down (process_votes (node v d).process) disk) None refl tt (disk, h, refl, refl, refl))
 
     -- a fault falls due at a desk that is down
-    fault_down : (votes : List Ballot) (disk : Disk) → (site v d).process ≡ Down votes disk → AtDesk s v.sent d (events.FailAt d 1) (site v d) steps.Done (placed (Down votes disk) (Some Fail)) []
+    fault_down : (votes : List Ballot) (disk : Disk) → (node v d).process ≡ Down votes disk → AtDesk s v.sent d (events.FailAt d 1) (node v d) answers.Done (placed (Down votes disk) (Some Fail)) []
     fault_down votes disk at =
-        let p : Down votes disk ≡ with_disk (site v d).process disk = ap (λ (q : Process Disk). with_disk q disk) (sym at) in
-        ((disk, subst (λ (q : Process Disk). Stays (s.view d (site v d).version) (disk_of q) disk) (sym at) (stays_refl (s.view d (site v d).version) disk), λ i. placed (p i) (Some Fail)), refl, refl)
+        let p : Down votes disk ≡ with_disk (node v d).process disk = ap (λ (q : Process Disk). with_disk q disk) (sym at) in
+        ((disk, subst (λ (q : Process Disk). Stays (s.view d (node v d).version) (process_disk q) disk) (sym at) (stays_refl (s.view d (node v d).version) disk), λ i. placed (p i) (Some Fail)), refl, refl)
 
-    not_opened : (votes : List Ballot) (disk left : Disk) → (site v d).process ≡ Down votes disk → MaySync (s.view d (site v d).version) disk left → Reaches (with_process v d (Down votes left) [])
+    not_opened : (votes : List Ballot) (disk left : Disk) → (node v d).process ≡ Down votes disk → MaySync (s.view d (node v d).version) disk left → Reaches (with_process v d (Down votes left) [])
     not_opened votes disk left at h =
         as_before (Down votes left)
-        (after_fault s v d what (placed (Down votes disk) (Some Fail)) (events.Open d) steps.DeviceFailed (placed (Down votes left) None) [] (fault_down votes disk at) refl tt
+        (after_fault s v d what (placed (Down votes disk) (Some Fail)) (events.Open d) answers.DeviceFailed (placed (Down votes left) None) [] (fault_down votes disk at) refl tt
         (votes, disk, Opening.NotOpened OpenRefusal.DeviceFailed left, refl, h, (Fail, refl, (refl, refl)), refl))
 
-    opened : (votes : List Ballot) (disk : Disk) (opening : Opening Disk) → (site v d).process ≡ Down votes disk → Opens (s.view d (site v d).version) s.rules d disk opening → Reaches (with_process v d (begun votes opening) [])
+    opened : (votes : List Ballot) (disk : Disk) (opening : Opening Disk) → (node v d).process ≡ Down votes disk → Opens (s.view d (node v d).version) s.rules d disk opening → Reaches (with_process v d (begun votes opening) [])
     opened votes disk (Opening.Opened k) at h =
-        by_event (events.Open d) (steps.Opened (length k.book)) (Running k) (site v d).due refl tt (votes, disk, Opening.Opened k, at, h, (refl, refl), refl)
+        by_event (events.Open d) (answers.Opened (length k.book)) (Running k) (node v d).due refl tt (votes, disk, Opening.Opened k, at, h, (refl, refl), refl)
     opened votes disk (Opening.NotOpened OpenRefusal.Unsound left) at h =
-        by_event (events.Open d) steps.Unsound (Down votes left) (site v d).due refl tt (votes, disk, Opening.NotOpened OpenRefusal.Unsound left, at, h, (refl, refl), refl)
+        by_event (events.Open d) answers.Unsound (Down votes left) (node v d).due refl tt (votes, disk, Opening.NotOpened OpenRefusal.Unsound left, at, h, (refl, refl), refl)
     opened votes disk (Opening.NotOpened (OpenRefusal.BadVotes place) left) at h =
-        by_event (events.Open d) steps.NoBook (Down votes left) (site v d).due refl tt (votes, disk, Opening.NotOpened (OpenRefusal.BadVotes place) left, at, h, (refl, refl), refl)
+        by_event (events.Open d) answers.NoBook (Down votes left) (node v d).due refl tt (votes, disk, Opening.NotOpened (OpenRefusal.BadVotes place) left, at, h, (refl, refl), refl)
     opened votes disk (Opening.NotOpened OpenRefusal.NoMemory left) at h = not_opened votes disk left at h
     opened votes disk (Opening.NotOpened OpenRefusal.DeviceFailed left) at h = not_opened votes disk left at h
 
   -- the file of a desk that is down is migrated
-  file_migrated : (d : DeskId) (had votes : List Ballot) (disk new : Disk) → (site v d).process ≡ Down had disk → (site v d).version ≡ Old → Migrates (s.view d) disk (ToNew votes new) → Reaches (with_site v d (migrated (site v d) new) [])
+  file_migrated : (d : DeskId) (had votes : List Ballot) (disk new : Disk) → (node v d).process ≡ Down had disk → (node v d).version ≡ Old → Migrates (s.view d) disk (ToNew votes new) → Reaches (with_node v d (migrated (node v d) new) [])
   file_migrated d had votes disk new at old h =
-      let y : Site Disk = record (site v d) { version = New; process = Down had new } in
-      let at_old : MigratesAt {Why = Refusal} (s.view d) (site v d) Old had disk (steps.Migrated (length votes)) y = (ToNew votes new, h, (refl, refl)) in
-      subst (λ (p : Process Disk). Reaches (with_site v d (record (site v d) { version = New; process = Down (votes_of p) new }) [])) (sym at)
-      (at_desk s v d what (events.Migrate d) (steps.Migrated (length votes)) y [] refl tt
-      (had, disk, at, subst (λ (z : FileVersion). MigratesAt {Why = Refusal} (s.view d) (site v d) z had disk (steps.Migrated (length votes)) y) (sym old) at_old, refl))
+      let y : Node Disk = record (node v d) { version = New; process = Down had new } in
+      let at_old : MigratesAt {Why = Refusal} (s.view d) (node v d) Old had disk (answers.Migrated (length votes)) y = (ToNew votes new, h, (refl, refl)) in
+      subst (λ (p : Process Disk). Reaches (with_node v d (record (node v d) { version = New; process = Down (process_votes p) new }) [])) (sym at)
+      (at_desk s v d what (events.Migrate d) (answers.Migrated (length votes)) y [] refl tt
+      (had, disk, at, subst (λ (z : FileVersion). MigratesAt {Why = Refusal} (s.view d) (node v d) z had disk (answers.Migrated (length votes)) y) (sym old) at_old, refl))
 
   wiped : (n : ℕ) (k : BoardState) → board_at v.boards n ≡ Some k → Reaches (record v { boards = with_board v.boards n fresh_board })
   wiped n k at =
       subst (λ (sent : List Message). Reaches (record v { boards = with_board v.boards n fresh_board; sent = sent })) (append-nil v.sent)
-      (one s (Fits what v) v (events.Wipe n) steps.Done (with_it v n fresh_board []) tt (k, fresh_board, [], at, (refl, refl, refl), refl))
+      (one s (Fits what v) v (events.Wipe n) answers.Done (with_it v n fresh_board []) tt (k, fresh_board, [], at, (refl, refl, refl), refl))
 
 module _ {Disk : Type 0} where
   -- no fault is due
-  abbrev pub IsCalm : World Disk → Type 0
-  IsCalm v = (d : DeskId) → (site v d).due ≡ None
+  abbrev pub IsCalm : Configuration Disk → Type 0
+  IsCalm v = (d : DeskId) → (node v d).due ≡ None
 
-  calm_site : (v : World Disk) → IsCalm v → (d : DeskId) (x : Site Disk) (out : List Message) → x.due ≡ None → IsCalm (with_site v d x out)
-  calm_site v c A x out e A = e
-  calm_site v c A x out e B = c B
-  calm_site v c B x out e A = c A
-  calm_site v c B x out e B = e
+  calm_node : (v : Configuration Disk) → IsCalm v → (d : DeskId) (x : Node Disk) (out : List Message) → x.due ≡ None → IsCalm (with_node v d x out)
+  calm_node v c A x out e A = e
+  calm_node v c A x out e B = c B
+  calm_node v c B x out e A = c A
+  calm_node v c B x out e B = e
 
-  calm_put : (v : World Disk) → IsCalm v → (d : DeskId) (p : Process Disk) (out : List Message) → IsCalm (with_process v d p out)
-  calm_put v c d p out = calm_site v c d (record (site v d) { process = p }) out (c d)
+  calm_put : (v : Configuration Disk) → IsCalm v → (d : DeskId) (p : Process Disk) (out : List Message) → IsCalm (with_process v d p out)
+  calm_put v c d p out = calm_node v c d (record (node v d) { process = p }) out (c d)
 
-  calm_boards : (v : World Disk) → IsCalm v → (boards : List BoardState) (sent : List Message) → IsCalm (record v { boards = boards; sent = sent })
+  calm_boards : (v : Configuration Disk) → IsCalm v → (boards : List BoardState) (sent : List Message) → IsCalm (record v { boards = boards; sent = sent })
   calm_boards v c boards sent A = c A
   calm_boards v c boards sent B = c B
 
   -- so it stays
-  pub calm_after : (v : World Disk) → IsCalm v → (what : Happening Disk) → IsCalm (after_one v what)
+  pub calm_after : (v : Configuration Disk) → IsCalm v → (what : Happening Disk) → IsCalm (after_one v what)
   calm_after v c (DeskCalled d call out l) = calm_put v c d (Running l) out
-  calm_after v c (DeskEnded d disk) = calm_put v c d (Down (votes_of (site v d).process) disk) []
-  calm_after v c (PowerLost d disk) = calm_put v c d (Down (votes_of (site v d).process) disk) []
-  calm_after v c (DeskBegun d opening) = calm_put v c d (begun (votes_of (site v d).process) opening) []
-  calm_after v c (FileMigrated d votes new) = calm_site v c d (migrated (site v d) new) [] (c d)
+  calm_after v c (DeskEnded d disk) = calm_put v c d (Down (process_votes (node v d).process) disk) []
+  calm_after v c (PowerLost d disk) = calm_put v c d (Down (process_votes (node v d).process) disk) []
+  calm_after v c (DeskBegun d opening) = calm_put v c d (begun (process_votes (node v d).process) opening) []
+  calm_after v c (FileMigrated d votes new) = calm_node v c d (migrated (node v d) new) [] (c d)
   calm_after v c (BoardCalled n call out l) = calm_boards v c (with_board v.boards n l) (v.sent ++ out)
   calm_after v c (BoardBegun n) = calm_boards v c (with_board v.boards n fresh_board) v.sent
 
-module _ {Disk : Type 0} (s : Setting Disk Refusal) (game innings : ℕ) (rules : s.rules ≡ book_refusal innings) (v : World Disk) (calm : IsCalm v) where
-  opens : (what : Happening Disk) (d : DeskId) (votes : List Ballot) (disk : Disk) (opening : Opening Disk) → (site v d).process ≡ Down votes disk → Opens (s.view d (site v d).version) (book_refusal innings) d disk opening → Leads s (Fits what v) v (with_process v d (begun (votes_of (site v d).process) opening) [])
+module _ {Disk : Type 0} (s : Setting Disk Refusal) (game innings : ℕ) (rules : s.rules ≡ book_refusal innings) (v : Configuration Disk) (calm : IsCalm v) where
+  opens : (what : Happening Disk) (d : DeskId) (votes : List Ballot) (disk : Disk) (opening : Opening Disk) → (node v d).process ≡ Down votes disk → Opens (s.view d (node v d).version) (book_refusal innings) d disk opening → Leads s (Fits what v) v (with_process v d (begun (process_votes (node v d).process) opening) [])
   opens what d votes disk opening at h =
-      subst (λ (p : Process Disk). Leads s (Fits what v) v (with_process v d (begun (votes_of p) opening) [])) (sym at)
-      (opened s v what d (calm d) votes disk opening at (subst (λ r. Opens (s.view d (site v d).version) r d disk opening) (sym rules) h))
+      subst (λ (p : Process Disk). Leads s (Fits what v) v (with_process v d (begun (process_votes p) opening) [])) (sym at)
+      (opened s v what d (calm d) votes disk opening at (subst (λ r. Opens (s.view d (node v d).version) r d disk opening) (sym rules) h))
 
   pub happening : (what : Happening Disk) → Happens s.view game innings v what → Leads s (Fits what v) v (after_one v what)
   happening (DeskCalled d call out l) h = desk_moment s game innings rules v d (calm d) h.0 l call out h.1 h.2 h.3

@@ -12,7 +12,8 @@ use Rattle.live.specs.Desks as desks
 use Rattle.live.specs.Saying.{SaysEntry}
 use Rattle.live.specs.declared.said.Said.{Said}
 use Rattle.headline.specs.Headline.{AtEachEvent}
-use Rattle.headline.specs.Worlds.{Process, Running, Setting, World, site}
+use Rattle.headline.specs.Match.{Setting}
+use Rattle.headline.specs.Configurations.{Process, Running, Configuration, node}
 use Rattle.headline.specs.Runs.{AtEachMoment, AtSomeMoment, Moment, Run, WasPenned, last_of}
 use Rattle.processes.specs.Happenings.{BoardBegun, BoardCalled, DeskBegun, DeskCalled, DeskEnded, FileMigrated, Flow, Happening, PowerLost, after}
 use Rattle.processes.specs.Headline.{AtEachTime, AtSomeTime, TypesBallot, WasTyped}
@@ -28,15 +29,15 @@ module _ {Disk : Type 0} where
   same_desk : (k l : DeskState Disk) (p : Process Disk) → p ≡ Running k → p ≡ Running l → k ≡ l
   same_desk k l p e f = cc
 
-  typed_is : (v u : World Disk) (c d : DeskId) (line : List ℕ) (said : Said) (out : List Message) (l : DeskState Disk) (b : Ballot) (k : DeskState Disk) → TypedAs (DeskCalled d (desks.Typed line said) out l) v u c b.entry → (site u c).process ≡ Running k → k.seat.position ≡ b.at → (c ≡ d) × (j : DeskState Disk) × ((site v d).process ≡ Running j) × (j.seat.position ≡ b.at) × SaysEntry b.at.round line b.entry
+  typed_is : (v u : Configuration Disk) (c d : DeskId) (line : List ℕ) (said : Said) (out : List Message) (l : DeskState Disk) (b : Ballot) (k : DeskState Disk) → TypedAs (DeskCalled d (desks.Typed line said) out l) v u c b.entry → (node u c).process ≡ Running k → k.seat.position ≡ b.at → (c ≡ d) × (j : DeskState Disk) × ((node v d).process ≡ Running j) × (j.seat.position ≡ b.at) × SaysEntry b.at.round line b.entry
   typed_is v u c d line said out l b k h at pos =
-      let here : (site u d).process ≡ Running k = subst (λ (z : DeskId). (site u z).process ≡ Running k) h.0 at in
-      let same : k ≡ h.1 = same_desk k h.1 (site u d).process here h.3 in
+      let here : (node u d).process ≡ Running k = subst (λ (z : DeskId). (node u z).process ≡ Running k) h.0 at in
+      let same : k ≡ h.1 = same_desk k h.1 (node u d).process here h.3 in
       let there : (λ (j : DeskState Disk). j.seat.position) h.1 ≡ b.at = subst (λ (j : DeskState Disk). j.seat.position ≡ b.at) same pos in
       (h.0, h.1, h.2, there, subst (λ (z : Position). SaysEntry z.round line b.entry) there h.4)
 
   -- an event that pens a ballot, in what happened
-  types : (what : Happening Disk) (v u : World Disk) (c : DeskId) (b : Ballot) (k : DeskState Disk) → TypedAs what v u c b.entry → (site u c).process ≡ Running k → k.seat.position ≡ b.at → TypesBallot v what c b
+  types : (what : Happening Disk) (v u : Configuration Disk) (c : DeskId) (b : Ballot) (k : DeskState Disk) → TypedAs what v u c b.entry → (node u c).process ≡ Running k → k.seat.position ≡ b.at → TypesBallot v what c b
   types (DeskCalled A (desks.Typed line said) out l) v u c b k h at pos = typed_is v u c A line said out l b k h at pos
   types (DeskCalled B (desks.Typed line said) out l) v u c b k h at pos = typed_is v u c B line said out l b k h at pos
   types (DeskCalled d (desks.Given bytes answer) out l) v u c b k h at pos = absurd h
@@ -51,16 +52,16 @@ module _ {Disk : Type 0} where
   types (BoardBegun n) v u c b k h at pos = absurd h
 
   -- a ballot that was penned in the later events, or before
-  penned_in : (what : Happening Disk) (w : World Disk) (more rest : List (Moment Disk Refusal)) (v : World Disk) → AtEachEvent (last_of w rest) more (λ u m. Fits what v u m.event) → (d : DeskId) (b : Ballot) → WasPenned w (more ++ rest) d b → TypesBallot v what d b ⊎ WasPenned w rest d b
+  penned_in : (what : Happening Disk) (w : Configuration Disk) (more rest : List (Moment Disk Refusal)) (v : Configuration Disk) → AtEachEvent (last_of w rest) more (λ u m. Fits what v u m.event) → (d : DeskId) (b : Ballot) → WasPenned w (more ++ rest) d b → TypesBallot v what d b ⊎ WasPenned w rest d b
   penned_in what w [] rest v f d b h = inr h
   penned_in what w (m ∷ more) rest v f d b (inl p) =
       let u = last_of (last_of w rest) more in
       let fits : TypedAs what v u d b.entry = subst (Fits what v u) p.0 f.1 in
-      let at : (site u d).process ≡ Running p.1.0 = subst (λ (z : World Disk). (site z d).process ≡ Running p.1.0) (last_on w rest more) p.1.1 in
+      let at : (node u d).process ≡ Running p.1.0 = subst (λ (z : Configuration Disk). (node z d).process ≡ Running p.1.0) (last_on w rest more) p.1.1 in
       inl (types what v u d b p.1.0 fits at p.1.2)
   penned_in what w (m ∷ more) rest v f d b (inr h) = penned_in what w more rest v f.0 d b h
 
-module _ {Disk : Type 0} (s : Setting Disk Refusal) (game innings : ℕ) (rules : s.rules ≡ book_refusal innings) (w : World Disk) (calm : IsCalm w) where
+module _ {Disk : Type 0} (s : Setting Disk Refusal) (game innings : ℕ) (rules : s.rules ≡ book_refusal innings) (w : Configuration Disk) (calm : IsCalm w) where
   abbrev pub Typed : List (Moment Disk Refusal) → List (Happening Disk) → Type 0
   Typed ms hs = (d : DeskId) (b : Ballot) → WasPenned w ms d b → WasTyped w hs d b
 
@@ -73,37 +74,37 @@ module _ {Disk : Type 0} (s : Setting Disk Refusal) (game innings : ℕ) (rules 
   flow_runs (c ∷ cs) f =
       let p = flow_runs cs f.0 in
       let v = after w cs in
-      let led : Leads s (Fits c v) (last_of w p.0) (after w (c ∷ cs)) = subst (λ (u : World Disk). Leads s (Fits c v) u (after w (c ∷ cs))) (sym p.3) (happening s game innings rules v (stays_calm cs) c f.1) in
+      let led : Leads s (Fits c v) (last_of w p.0) (after w (c ∷ cs)) = subst (λ (u : Configuration Disk). Leads s (Fits c v) u (after w (c ∷ cs))) (sym p.3) (happening s game innings rules v (stays_calm cs) c f.1) in
       let last : last_of w (led.0 ++ p.0) ≡ after w (c ∷ cs) = last_on w p.0 led.0 ∙ led.3 in
       let typed : Typed (led.0 ++ p.0) (c ∷ cs) = λ d b t. sides (TypesBallot v c d b) (WasPenned w p.0 d b) (TypesBallot v c d b) (WasTyped w cs d b) (λ h. h) (p.4 d b) (penned_in c w led.0 p.0 v led.4 d b t) in
       (led.0 ++ p.0, run_on s w p.0 led.0 p.1 led.2, (led.0, p.0, led.1, refl, p.2, last), last, typed)
 
 module _ {Disk : Type 0} where
-  at_last : (P : World Disk → Type 0) (w : World Disk) (ms : List (Moment Disk Refusal)) → P (last_of w ms) → AtSomeMoment w ms P
+  at_last : (P : Configuration Disk → Type 0) (w : Configuration Disk) (ms : List (Moment Disk Refusal)) → P (last_of w ms) → AtSomeMoment w ms P
   at_last P w [] h = h
   at_last P w (m ∷ ms) h = inl h
 
-  before : (P : World Disk → Type 0) (w : World Disk) (more rest : List (Moment Disk Refusal)) → AtSomeMoment w rest P → AtSomeMoment w (more ++ rest) P
+  before : (P : Configuration Disk → Type 0) (w : Configuration Disk) (more rest : List (Moment Disk Refusal)) → AtSomeMoment w rest P → AtSomeMoment w (more ++ rest) P
   before P w [] rest h = h
   before P w (m ∷ more) rest h = inr (before P w more rest h)
 
   -- what is so at some time is so at some moment
-  pub at_some : (P : World Disk → Type 0) (w : World Disk) (hs : List (Happening Disk)) (ms : List (Moment Disk Refusal)) → GoesThrough w ms hs → AtSomeTime w hs P → AtSomeMoment w ms P
+  pub at_some : (P : Configuration Disk → Type 0) (w : Configuration Disk) (hs : List (Happening Disk)) (ms : List (Moment Disk Refusal)) → GoesThrough w ms hs → AtSomeTime w hs P → AtSomeMoment w ms P
   at_some P w [] ms g h = subst (λ (ns : List (Moment Disk Refusal)). AtSomeMoment w ns P) (sym g) h
   at_some P w (c ∷ cs) ms g (inl h) = at_last P w ms (subst P (sym g.5) h)
   at_some P w (c ∷ cs) ms g (inr h) =
       subst (λ (ns : List (Moment Disk Refusal)). AtSomeMoment w ns P) (sym g.3)
       (before P w g.0 g.1 (at_some P w cs g.1 g.4 h))
 
-  last_so : (P : World Disk → Type 0) (w : World Disk) (ms : List (Moment Disk Refusal)) → AtEachMoment w ms P → P (last_of w ms)
+  last_so : (P : Configuration Disk → Type 0) (w : Configuration Disk) (ms : List (Moment Disk Refusal)) → AtEachMoment w ms P → P (last_of w ms)
   last_so P w [] h = h
   last_so P w (m ∷ ms) h = h.0
 
-  earlier : (P : World Disk → Type 0) (w : World Disk) (more rest : List (Moment Disk Refusal)) → AtEachMoment w (more ++ rest) P → AtEachMoment w rest P
+  earlier : (P : Configuration Disk → Type 0) (w : Configuration Disk) (more rest : List (Moment Disk Refusal)) → AtEachMoment w (more ++ rest) P → AtEachMoment w rest P
   earlier P w [] rest h = h
   earlier P w (m ∷ more) rest h = earlier P w more rest h.1
 
   -- and what is so at each moment is so at each time
-  pub at_each : (P : World Disk → Type 0) (w : World Disk) (hs : List (Happening Disk)) (ms : List (Moment Disk Refusal)) → GoesThrough w ms hs → AtEachMoment w ms P → AtEachTime w hs P
+  pub at_each : (P : Configuration Disk → Type 0) (w : Configuration Disk) (hs : List (Happening Disk)) (ms : List (Moment Disk Refusal)) → GoesThrough w ms hs → AtEachMoment w ms P → AtEachTime w hs P
   at_each P w [] ms g h = subst (λ (ns : List (Moment Disk Refusal)). AtEachMoment w ns P) g h
   at_each P w (c ∷ cs) ms g h = (subst P g.5 (last_so P w ms h), at_each P w cs g.1 g.4 (earlier P w g.0 g.1 (subst (λ (ns : List (Moment Disk Refusal)). AtEachMoment w ns P) g.3 h)))

@@ -10,7 +10,7 @@ use Rattle.board.specs.Board as board
 use Rattle.desk.specs.declared.desk.Desk.{Desk}
 use Rattle.desk.specs.Desk.{disk_of}
 use Rattle.desk.specs.declared.refusal.OpenRefusal.{OpenRefusal}
-use Rattle.headline.specs.Worlds.{Running}
+use Rattle.headline.specs.Configurations.{Running}
 use Rattle.live.specs.Boards as boards
 use Rattle.live.specs.Boards.{BoardTurn, board_kind}
 use Rattle.live.specs.Runs as own

@@ -10,7 +10,7 @@ use Rattle.agree_core.specs.Boards.{BoardState, fresh_board}
 use Rattle.agree_core.specs.declared.messages.Message.{Message}
 use Rattle.agree_core.specs.FileView.{FileView}
 use Rattle.headline.specs.declared.version.FileVersion.{FileVersion}
-use Rattle.headline.specs.Worlds.{Process, Site, World, board_at, disk_of, site, with_board, with_site}
+use Rattle.headline.specs.Configurations.{Process, Node, Configuration, board_at, node, process_disk, with_board, with_node}
 use Rattle.processes.specs.Happenings.{BoardBegun, BoardCalled, DeskBegun, DeskCalled, DeskEnded, FileMigrated, Flow, Happening, Happens, PowerLost, after, after_one}
 use Rattle.processes.specs.Weaving.{Came, NothingComesEarly, is_at_board, is_at_desk}
 use Rattle.processes.proofs.BoardLives.{BoardLocal, MayBoard, board_after, next_board}
@@ -45,7 +45,7 @@ tail : {State What : Type 0} (next : State → What → State) (May : State → 
 tail next May s true x xs l = l.0
 tail next May s false x xs l = l
 
-module _ {Disk : Type 0} (view : DeskId → FileVersion → FileView Disk) (seen : Disk → List ℕ) (game innings : ℕ) (w : World Disk) where
+module _ {Disk : Type 0} (view : DeskId → FileVersion → FileView Disk) (seen : Disk → List ℕ) (game innings : ℕ) (w : Configuration Disk) where
   abbrev LocalA : List (Happening Disk) → Type 0
   LocalA xs = DeskLocal (view A) seen A game innings w.a xs
 
@@ -59,23 +59,23 @@ module _ {Disk : Type 0} (view : DeskId → FileVersion → FileView Disk) (seen
   NoOthers bs = (n : ℕ) → board_at w.boards n ≡ None → bs n ≡ []
 
   -- each station is as what happened there leaves it
-  record Stands (v : World Disk) (xs ys : List (Happening Disk)) (bs : ℕ → List (Happening Disk)) : Type 0 where
+  record Stands (v : Configuration Disk) (xs ys : List (Happening Disk)) (bs : ℕ → List (Happening Disk)) : Type 0 where
     pub a_is : v.a ≡ desk_after (view A) seen A game innings w.a xs
     pub b_is : v.b ≡ desk_after (view B) seen B game innings w.b ys
     pub boards : (n : ℕ) (k : BoardState) → board_at w.boards n ≡ Some k → board_at v.boards n ≡ Some (board_after Disk game innings k (bs n))
 
-  module _ (v : World Disk) (xs ys : List (Happening Disk)) (bs : ℕ → List (Happening Disk)) (s : Stands v xs ys bs) (h : Happening Disk) where
+  module _ (v : Configuration Disk) (xs ys : List (Happening Disk)) (bs : ℕ → List (Happening Disk)) (s : Stands v xs ys bs) (h : Happening Disk) where
     may_a : LocalA (h ∷ xs) → MayDesk (view A) seen A game innings v.a h
-    may_a r = subst (λ (x : Site Disk). MayDesk (view A) seen A game innings x h) (sym s.a_is) r.1
+    may_a r = subst (λ (x : Node Disk). MayDesk (view A) seen A game innings x h) (sym s.a_is) r.1
 
     may_b : LocalB (h ∷ ys) → MayDesk (view B) seen B game innings v.b h
-    may_b r = subst (λ (x : Site Disk). MayDesk (view B) seen B game innings x h) (sym s.b_is) r.1
+    may_b r = subst (λ (x : Node Disk). MayDesk (view B) seen B game innings x h) (sym s.b_is) r.1
 
-    stands_a : (out : List Message) → Stands (with_site v A (next_desk v.a h) out) (h ∷ xs) ys bs
-    stands_a out = record { a_is = ap (λ (x : Site Disk). next_desk x h) s.a_is; b_is = s.b_is; boards = s.boards }
+    stands_a : (out : List Message) → Stands (with_node v A (next_desk v.a h) out) (h ∷ xs) ys bs
+    stands_a out = record { a_is = ap (λ (x : Node Disk). next_desk x h) s.a_is; b_is = s.b_is; boards = s.boards }
 
-    stands_b : (out : List Message) → Stands (with_site v B (next_desk v.b h) out) xs (h ∷ ys) bs
-    stands_b out = record { a_is = s.a_is; b_is = ap (λ (x : Site Disk). next_desk x h) s.b_is; boards = s.boards }
+    stands_b : (out : List Message) → Stands (with_node v B (next_desk v.b h) out) xs (h ∷ ys) bs
+    stands_b out = record { a_is = s.a_is; b_is = ap (λ (x : Node Disk). next_desk x h) s.b_is; boards = s.boards }
 
     -- the board is there, and it may happen there
     at_there : (n : ℕ) (o : Option BoardState) → board_at w.boards n ≡ o → ((k : BoardState) → board_at w.boards n ≡ Some k → BoardLocal Disk game innings k (h ∷ bs n)) → (board_at w.boards n ≡ None → h ∷ bs n ≡ []) → (k : BoardState) × (board_at v.boards n ≡ Some k) × MayBoard Disk game innings k h
@@ -100,12 +100,12 @@ module _ {Disk : Type 0} (view : DeskId → FileVersion → FileView Disk) (seen
           boards = λ m j at. board_set v.boards n m (board_after Disk game innings j (bs m)) l (s.boards m j at) ∙ ap Some (pushed j l m (nat_eq m n) (e (board_after Disk game innings j (bs m))));
         }
 
-  abbrev pub HasBytes : World Disk → Type 0
-  HasBytes v = (d : DeskId) → 0 < length (seen (disk_of (site v d).process))
+  abbrev pub HasBytes : Configuration Disk → Type 0
+  HasBytes v = (d : DeskId) → 0 < length (seen (process_disk (node v d).process))
 
   abbrev Moves : Happening Disk → Type 0
   Moves h =
-      (v : World Disk) (xs ys : List (Happening Disk)) (bs : ℕ → List (Happening Disk)) → Stands v xs ys bs
+      (v : Configuration Disk) (xs ys : List (Happening Disk)) (bs : ℕ → List (Happening Disk)) → Stands v xs ys bs
       → LocalA (with_one (is_at_desk A h) h xs) → LocalB (with_one (is_at_desk B h) h ys)
       → LocalBoards (λ n. with_one (is_at_board n h) h (bs n)) → NoOthers (λ n. with_one (is_at_board n h) h (bs n))
       → HasBytes v → Came game v h
@@ -125,10 +125,10 @@ module _ {Disk : Type 0} (view : DeskId → FileVersion → FileView Disk) (seen
   moves (PowerLost B disk) v xs ys bs s a b t o f c = (may_b v xs ys bs s (PowerLost B disk) b, stands_b v xs ys bs s (PowerLost B disk) [])
   moves (DeskBegun A opening) v xs ys bs s a b t o f c =
       let m = may_a v xs ys bs s (DeskBegun A opening) a in
-      ((m.0, m.1, m.2, m.3.1 (subst (λ (p : Process Disk). 0 < length (seen (disk_of p))) m.2 (f A))), stands_a v xs ys bs s (DeskBegun A opening) [])
+      ((m.0, m.1, m.2, m.3.1 (subst (λ (p : Process Disk). 0 < length (seen (process_disk p))) m.2 (f A))), stands_a v xs ys bs s (DeskBegun A opening) [])
   moves (DeskBegun B opening) v xs ys bs s a b t o f c =
       let m = may_b v xs ys bs s (DeskBegun B opening) b in
-      ((m.0, m.1, m.2, m.3.1 (subst (λ (p : Process Disk). 0 < length (seen (disk_of p))) m.2 (f B))), stands_b v xs ys bs s (DeskBegun B opening) [])
+      ((m.0, m.1, m.2, m.3.1 (subst (λ (p : Process Disk). 0 < length (seen (process_disk p))) m.2 (f B))), stands_b v xs ys bs s (DeskBegun B opening) [])
   moves (FileMigrated A votes new) v xs ys bs s a b t o f c = (may_a v xs ys bs s (FileMigrated A votes new) a, stands_a v xs ys bs s (FileMigrated A votes new) [])
   moves (FileMigrated B votes new) v xs ys bs s a b t o f c = (may_b v xs ys bs s (FileMigrated B votes new) b, stands_b v xs ys bs s (FileMigrated B votes new) [])
   moves (BoardCalled n call out l) v xs ys bs s a b t o f c =

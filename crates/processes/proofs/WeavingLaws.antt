@@ -28,7 +28,7 @@ use Rattle.headline.specs.declared.version.FileVersion.{FileVersion}
 use Rattle.headline.specs.Headline.{StandsFast}
 use Rattle.headline.specs.Match.{setting_of}
 use Rattle.headline.specs.Runs.{Begins}
-use Rattle.headline.specs.Worlds.{World, disk_of, site}
+use Rattle.headline.specs.Configurations.{Configuration, node, process_disk}
 
 -- a desk that begins first is as one that was created
 first : {Disk : Type 0} (view : FileView Disk) (seen : Disk → List ℕ) (innings : ℕ) (d : DeskId) (k : DeskState Disk) → BeginsFirst view seen innings d k → Creates view d k
@@ -48,19 +48,19 @@ first view seen innings d k h = by_length (length (seen h.0)) refl
 some_bytes : (o : Option (List Ballot)) (votes : List Ballot) → o ≡ None → o ≡ Some votes → ⊥
 some_bytes o votes e f = absurd (cc)
 
-now_so : {Disk : Type 0} (P : World Disk → Type 0) (w : World Disk) (hs : List (Happening Disk)) → AtEachTime w hs P → P (after w hs)
+now_so : {Disk : Type 0} (P : Configuration Disk → Type 0) (w : Configuration Disk) (hs : List (Happening Disk)) → AtEachTime w hs P → P (after w hs)
 now_so P w [] h = h
 now_so P w (x ∷ hs) h = h.0
 
 module _ {Disk : Type 0} (seen : Disk → List ℕ) (images : Disk → Images) (faults : Disk → Faults) where
   -- so at each desk there are bytes
-  has_bytes : (contents : FileVersion → Contents) (game innings : ℕ) (version : FileVersion) (boards : ℕ) (w : World Disk) (hs : List (Happening Disk)) → NoneShowNone contents game → IsFlow seen images contents game innings version boards w hs → (d : DeskId) → 0 < length (seen (disk_of (site (after w hs) d).process))
+  has_bytes : (contents : FileVersion → Contents) (game innings : ℕ) (version : FileVersion) (boards : ℕ) (w : Configuration Disk) (hs : List (Happening Disk)) → NoneShowNone contents game → IsFlow seen images contents game innings version boards w hs → (d : DeskId) → 0 < length (seen (process_disk (node (after w hs) d).process))
   has_bytes contents game innings version boards w hs none f d =
       let s = setting_of contents seen images game innings in
       let p = flow_runs s game innings refl w (begins_calm s version boards w f.0) hs f.1 in
       let fast = at_each (StandsFast s) w hs p.0 p.2 (holds_in_run s innings version boards w p.0 f.0 p.1).stands_fast in
       let found = (now_so (StandsFast s) w hs fast).safe.reads d in
-      by_bytes (seen (disk_of (site (after w hs) d).process)) found.0 (site (after w hs) d).version found.1
+      by_bytes (seen (process_disk (node (after w hs) d).process)) found.0 (node (after w hs) d).version found.1
     where
       by_bytes : (file : List ℕ) (votes : List Ballot) (z : FileVersion) → votes_shown (contents z) d game file ≡ Some votes → 0 < length file
       by_bytes [] votes z e = absurd (some_bytes (votes_shown (contents z) d game []) votes (none z d) e)

@@ -1,4 +1,4 @@
--- What happens to the processes of two desks and of boards, in one order, and the world that it leaves.
+-- What happens to the processes of two desks and of boards, in one order, and the configuration that it leaves.
 use Rattle.std.specs.Prelude.{◌≡◌, ℕ, List, [], ◌∷◌, ◌++◌, Some, slice_get}
 use Rattle.corrections.specs.Refusal.{book_refusal}
 use Rattle.agree_core.specs.declared.messages.DeskId.{DeskId}
@@ -11,8 +11,9 @@ use Rattle.agree_core.specs.Openings.{Opening, Opened, NotOpened, Opens}
 use Rattle.wire.specs.Layout.{Says}
 use Rattle.headline.specs.declared.version.FileVersion.{FileVersion}
 use Rattle.headline.specs.declared.version.FileVersion.TheVariants.{Old, New}
-use Rattle.headline.specs.Worlds.{Process, Running, Down, Site, World, board_at, disk_of, site, votes_of, with_board, with_site}
-use Rattle.headline.specs.Steps.{LosesPower, Migrates, ToNew}
+use Rattle.headline.specs.Configurations.{Process, Running, Down, Node, Configuration, board_at, node, process_disk, process_votes, with_board, with_node}
+use Rattle.headline.specs.DeskFaults.{LosesPower}
+use Rattle.headline.specs.Migrations.{Migrates, ToNew}
 use Rattle.live.specs.Boards as boards
 use Rattle.live.specs.Boards.{BoardCall, BoardStep}
 use Rattle.live.specs.Desks as desks
@@ -36,27 +37,27 @@ abbrev pub begun : {Disk : Type 0} → List Ballot → Opening Disk → Process 
 begun votes (Opened k) = Running k
 begun votes (NotOpened why left) = Down votes left
 
--- the world with this process at a desk, once these messages were handed out
-abbrev pub with_process : {Disk : Type 0} → World Disk → DeskId → Process Disk → List Message → World Disk
-with_process w d p out = with_site w d (record (site w d) { process = p }) out
+-- the configuration with this process at a desk, once these messages were handed out
+abbrev pub with_process : {Disk : Type 0} → Configuration Disk → DeskId → Process Disk → List Message → Configuration Disk
+with_process w d p out = with_node w d (record (node w d) { process = p }) out
 
 -- a desk that is down, once its file was migrated to this disk
-abbrev pub migrated : {Disk : Type 0} → Site Disk → Disk → Site Disk
-migrated x new = record x { version = New; process = Down (votes_of x.process) new }
+abbrev pub migrated : {Disk : Type 0} → Node Disk → Disk → Node Disk
+migrated x new = record x { version = New; process = Down (process_votes x.process) new }
 
--- the world after a happening
-abbrev pub after_one : {Disk : Type 0} → World Disk → Happening Disk → World Disk
+-- the configuration after a happening
+abbrev pub after_one : {Disk : Type 0} → Configuration Disk → Happening Disk → Configuration Disk
 after_one w (DeskCalled d call out l) = with_process w d (Running l) out
-after_one w (DeskEnded d disk) = with_process w d (Down (votes_of (site w d).process) disk) []
-after_one w (PowerLost d disk) = with_process w d (Down (votes_of (site w d).process) disk) []
-after_one w (DeskBegun d opening) = with_process w d (begun (votes_of (site w d).process) opening) []
-after_one w (FileMigrated d votes new) = with_site w d (migrated (site w d) new) []
+after_one w (DeskEnded d disk) = with_process w d (Down (process_votes (node w d).process) disk) []
+after_one w (PowerLost d disk) = with_process w d (Down (process_votes (node w d).process) disk) []
+after_one w (DeskBegun d opening) = with_process w d (begun (process_votes (node w d).process) opening) []
+after_one w (FileMigrated d votes new) = with_node w d (migrated (node w d) new) []
 after_one w (BoardCalled n call out l) =
     record w { boards = with_board w.boards n l; sent = w.sent ++ out }
 after_one w (BoardBegun n) = record w { boards = with_board w.boards n fresh_board }
 
--- the world after all that happened, the newest first
-abbrev pub after : {Disk : Type 0} → World Disk → List (Happening Disk) → World Disk
+-- the configuration after all that happened, the newest first
+abbrev pub after : {Disk : Type 0} → Configuration Disk → List (Happening Disk) → Configuration Disk
 after w [] = w
 after w (h ∷ hs) = after_one (after w hs) h
 
@@ -75,21 +76,21 @@ BoardCame game sent call = Unit {0}
 
 -- in a match of this number and innings a side, where this is what a disk shows of each desk's file
 module _ {Disk : Type 0} (view : DeskId → FileVersion → FileView Disk) (game innings : ℕ) where
-  -- it may happen in this world
-  abbrev pub Happens : World Disk → Happening Disk → Type 0
+  -- it may happen in this configuration
+  abbrev pub Happens : Configuration Disk → Happening Disk → Type 0
   Happens w (DeskCalled d call out l) =
-      (k : DeskState Disk) × ((site w d).process ≡ Running k) × DeskCame game w.sent call
-      × DeskStep (view d (site w d).version) game innings k call out l
+      (k : DeskState Disk) × ((node w d).process ≡ Running k) × DeskCame game w.sent call
+      × DeskStep (view d (node w d).version) game innings k call out l
   Happens w (DeskEnded d disk) =
-      (k : DeskState Disk) × ((site w d).process ≡ Running k)
-      × Stays (view d (site w d).version) k.disk disk
+      (k : DeskState Disk) × ((node w d).process ≡ Running k)
+      × Stays (view d (node w d).version) k.disk disk
   Happens w (PowerLost d disk) =
-      LosesPower (view d (site w d).version) (disk_of (site w d).process) disk
+      LosesPower (view d (node w d).version) (process_disk (node w d).process) disk
   Happens w (DeskBegun d opening) =
-      (votes : List Ballot) × (disk : Disk) × ((site w d).process ≡ Down votes disk)
-      × Opens (view d (site w d).version) (book_refusal innings) d disk opening
+      (votes : List Ballot) × (disk : Disk) × ((node w d).process ≡ Down votes disk)
+      × Opens (view d (node w d).version) (book_refusal innings) d disk opening
   Happens w (FileMigrated d votes new) =
-      (had : List Ballot) × (disk : Disk) × ((site w d).process ≡ Down had disk) × ((site w d).version ≡ Old)
+      (had : List Ballot) × (disk : Disk) × ((node w d).process ≡ Down had disk) × ((node w d).version ≡ Old)
       × Migrates (view d) disk (ToNew votes new)
   Happens w (BoardCalled n call out l) =
       (k : BoardState) × (board_at w.boards n ≡ Some k) × BoardCame game w.sent call
@@ -97,6 +98,6 @@ module _ {Disk : Type 0} (view : DeskId → FileVersion → FileView Disk) (game
   Happens w (BoardBegun n) = (k : BoardState) × (board_at w.boards n ≡ Some k)
 
   -- each happening may happen after those before it
-  abbrev pub Flow : World Disk → List (Happening Disk) → Type 0
+  abbrev pub Flow : Configuration Disk → List (Happening Disk) → Type 0
   Flow w [] = Unit {0}
   Flow w (h ∷ hs) = Flow w hs × Happens (after w hs) h

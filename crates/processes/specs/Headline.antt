@@ -4,48 +4,47 @@ use Rattle.notation.specs.declared.entry.Entry.{Entry}
 use Rattle.match_laws.specs.declared.standing.Standing.{Standing}
 use Rattle.agree_core.specs.declared.messages.DeskId.{DeskId}
 use Rattle.agree_core.specs.Agreed.{BeginsWith}
-use Rattle.agree_core.specs.Ballots.{Ballot, In}
-use Rattle.agree_core.specs.Ballots as ballots
+use Rattle.agree_core.specs.Ballots.{Ballot, In, votes_of}
 use Rattle.agree_core.specs.Desks.{DeskState}
 use Rattle.headline.specs.declared.event.Station.{Station}
-use Rattle.headline.specs.Worlds.{Running, World, site, votes_in}
+use Rattle.headline.specs.Configurations.{Running, Configuration, node, all_votes}
 use Rattle.headline.specs.Runs.{Shows}
 use Rattle.headline.specs.Headline.{ByBoth, NoneKeepsBoth, ShowsScore}
 use Rattle.live.specs.Desks as desks
 use Rattle.live.specs.Saying.{SaysEntry}
 use Rattle.processes.specs.Happenings.{Happening, DeskCalled, after}
 
--- at the start, or after something that happened, the world was so
-abbrev pub AtSomeTime : {Disk : Type 0} → World Disk → List (Happening Disk) → (World Disk → Type 0) → Type 0
+-- at the start, or after something that happened, the configuration was so
+abbrev pub AtSomeTime : {Disk : Type 0} → Configuration Disk → List (Happening Disk) → (Configuration Disk → Type 0) → Type 0
 AtSomeTime w [] P = P w
 AtSomeTime w (h ∷ hs) P = P (after w (h ∷ hs)) ⊎ AtSomeTime w hs P
 
--- at the start and after all that happened the world was so
-abbrev pub AtEachTime : {Disk : Type 0} → World Disk → List (Happening Disk) → (World Disk → Type 0) → Type 0
+-- at the start and after all that happened the configuration was so
+abbrev pub AtEachTime : {Disk : Type 0} → Configuration Disk → List (Happening Disk) → (Configuration Disk → Type 0) → Type 0
 AtEachTime w [] P = P w
 AtEachTime w (h ∷ hs) P = P (after w (h ∷ hs)) × AtEachTime w hs P
 
 -- the desk's scorer typed a line that says the ballot's entry, at the ballot's position
-abbrev pub TypesBallot : {Disk : Type 0} → World Disk → Happening Disk → DeskId → Ballot → Type 0
+abbrev pub TypesBallot : {Disk : Type 0} → Configuration Disk → Happening Disk → DeskId → Ballot → Type 0
 TypesBallot w (DeskCalled c (desks.Typed line said) out l) d b =
-    (d ≡ c) × (k : DeskState _) × ((site w c).process ≡ Running k) × (k.seat.position ≡ b.at)
+    (d ≡ c) × (k : DeskState _) × ((node w c).process ≡ Running k) × (k.seat.position ≡ b.at)
     × SaysEntry b.at.round line b.entry
 TypesBallot w what d b = ⊥
 
 -- in something that happened the desk's scorer typed this ballot
-abbrev pub WasTyped : {Disk : Type 0} → World Disk → List (Happening Disk) → DeskId → Ballot → Type 0
+abbrev pub WasTyped : {Disk : Type 0} → Configuration Disk → List (Happening Disk) → DeskId → Ballot → Type 0
 WasTyped w [] d b = ⊥
 WasTyped w (h ∷ hs) d b = TypesBallot (after w hs) h d b ⊎ WasTyped w hs d b
 
 -- the headline for processes of a match with so many innings a side
-pub record ProcessHeadline {Disk : Type 0} (innings : ℕ) (w : World Disk) (hs : List (Happening Disk)) : Type 0 where
+pub record ProcessHeadline {Disk : Type 0} (innings : ℕ) (w : Configuration Disk) (hs : List (Happening Disk)) : Type 0 where
   -- of any two books that any two processes show at any two times, one is a prefix of the other
   pub prefixes : (t u : Station) (xs ys : List Entry) → AtSomeTime w hs (λ v. Shows v t xs)
       → AtSomeTime w hs (λ v. Shows v u ys) → BeginsWith ys xs ⊎ BeginsWith xs ys
   -- both desks have voted in one round for each entry of a book that a process shows
   pub by_both : AtEachTime w hs ByBoth
   -- each vote of a desk was typed there, at its position, as a line that says its entry
-  pub typed : (d : DeskId) (b : Ballot) → In b (ballots.votes_of (votes_in (after w hs)) d) → WasTyped w hs d b
+  pub typed : (d : DeskId) (b : Ballot) → In b (votes_of (all_votes (after w hs)) d) → WasTyped w hs d b
   -- books of one length have one score by the Laws, whichever processes show them at whatever times
   pub scores : (t u : Station) (n : ℕ) (score other : Standing)
       → AtSomeTime w hs (λ v. ShowsScore innings v t n score)

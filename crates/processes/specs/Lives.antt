@@ -11,11 +11,12 @@ use Rattle.agree_core.specs.FileView.{FileView, Stays}
 use Rattle.agree_core.specs.Openings.{Creates, NotOpened, Opened, Opening, Opens}
 use Rattle.headline.specs.declared.version.FileVersion.{FileVersion}
 use Rattle.headline.specs.declared.version.FileVersion.TheVariants.{Old}
-use Rattle.headline.specs.Worlds.{Process, Running, Down, Site, disk_of, votes_of}
-use Rattle.headline.specs.Steps as steps
+use Rattle.headline.specs.Configurations.{Process, Running, Down, Node, process_disk, process_votes}
+use Rattle.headline.specs.DeskFaults.{LosesPower}
+use Rattle.headline.specs.Migrations.{Migrates, ToNew}
 use Rattle.live.specs.Boards as boards
 use Rattle.live.specs.Boards.{BoardCall, BoardTurn, board_kind}
-use Rattle.live.specs.Desks.{DeskCall, DeskProcess, DeskStep, HasRoom, course_after, desk_kind}
+use Rattle.live.specs.Desks.{DeskCall, DeskProcess, DeskStep, FitsLongest, course_after, desk_kind}
 use Rattle.live.specs.Ends.{further}
 use Rattle.live.specs.Runs as own
 use Rattle.live.specs.declared.ends.DeskEnd.TheVariants.{Device}
@@ -26,12 +27,12 @@ use Rattle.processes.specs.Happenings.{BoardBegun, BoardCalled, DeskBegun, DeskC
 -- then done what one does whose disk fails; it has ended or was killed, with the disk left; its laptop has lost power,
 -- with the disk left; the next process begins on its file; its file is migrated, with these votes, to this disk.
 pub data Stage (Disk : Type 0) : Type 0 where
-  Runs : List (own.Moment (DeskProcess Disk) DeskCall) → Stage Disk
+  CallsMade : List (own.Moment (DeskProcess Disk) DeskCall) → Stage Disk
   CutOff : DeskCall → DeskState Disk → Stage Disk
-  Ends : Disk → Stage Disk
-  LosesPower : Disk → Stage Disk
-  Begins : Opening Disk → Stage Disk
-  Migrates : List Ballot → Disk → Stage Disk
+  ProcessEnd : Disk → Stage Disk
+  PowerLoss : Disk → Stage Disk
+  Beginning : Opening Disk → Stage Disk
+  FileMigration : List Ballot → Disk → Stage Disk
 
 -- the process of this desk, at its beginning
 abbrev pub fresh : {Disk : Type 0} → DeskState Disk → DeskProcess Disk
@@ -43,16 +44,16 @@ after_calls (Running k) ms = Running ((λ (p : DeskProcess _). p.desk) (own.last
 after_calls (Down votes disk) ms = Down votes disk
 
 -- the desk after a stage
-abbrev pub after_stage : {Disk : Type 0} → Site Disk → Stage Disk → Site Disk
-after_stage x (Runs ms) = record x { process = after_calls x.process ms }
+abbrev pub after_stage : {Disk : Type 0} → Node Disk → Stage Disk → Node Disk
+after_stage x (CallsMade ms) = record x { process = after_calls x.process ms }
 after_stage x (CutOff call l) = record x { process = Running l }
-after_stage x (Ends disk) = record x { process = Down (votes_of x.process) disk }
-after_stage x (LosesPower disk) = record x { process = Down (votes_of x.process) disk }
-after_stage x (Begins opening) = record x { process = begun (votes_of x.process) opening }
-after_stage x (Migrates votes new) = migrated x new
+after_stage x (ProcessEnd disk) = record x { process = Down (process_votes x.process) disk }
+after_stage x (PowerLoss disk) = record x { process = Down (process_votes x.process) disk }
+after_stage x (Beginning opening) = record x { process = begun (process_votes x.process) opening }
+after_stage x (FileMigration votes new) = migrated x new
 
 -- after these stages, the newest first
-abbrev pub after_life : {Disk : Type 0} → Site Disk → List (Stage Disk) → Site Disk
+abbrev pub after_life : {Disk : Type 0} → Node Disk → List (Stage Disk) → Node Disk
 after_life x [] = x
 after_life x (stage ∷ stages) = after_stage (after_life x stages) stage
 
@@ -81,7 +82,7 @@ abbrev pub RunsFrom :
     → DeskState Disk → List (own.Moment (DeskProcess Disk) DeskCall) → Type 0
 RunsFrom view faults game innings k ms =
     (sheet : Sheet) × (room : ℕ → ℕ) × (cap : ℕ)
-    × own.Run (desk_kind sheet view (record { faults = faults; HasRoom = HasRoom room cap }) game innings) (fresh k) ms
+    × own.Run (desk_kind sheet view (record { faults = faults; FitsLongest = FitsLongest room cap }) game innings) (fresh k) ms
 
 -- the desk of this letter in a match of this number and innings a side, where this is what a disk shows of a file of
 -- each version, what a read gives, and what is told of its failures
@@ -89,24 +90,24 @@ module _
     {Disk : Type 0} (view : FileVersion → FileView Disk) (seen : Disk → List ℕ) (faults : Disk → Faults) (d : DeskId)
     (game innings : ℕ) where
   -- the stage may come next
-  abbrev pub ComesNext : Site Disk → Stage Disk → Type 0
-  ComesNext x (Runs ms) =
+  abbrev pub IsNextStage : Node Disk → Stage Disk → Type 0
+  IsNextStage x (CallsMade ms) =
       (k : DeskState Disk) × (x.process ≡ Running k) × RunsFrom (view x.version) faults game innings k ms
-  ComesNext x (CutOff call l) =
+  IsNextStage x (CutOff call l) =
       (k : DeskState Disk) × (x.process ≡ Running k) × (course_after call ≡ Err Device)
       × DeskStep (view x.version) game innings k call [] l
-  ComesNext x (Ends disk) = (k : DeskState Disk) × (x.process ≡ Running k) × Stays (view x.version) k.disk disk
-  ComesNext x (LosesPower disk) = steps.LosesPower (view x.version) (disk_of x.process) disk
-  ComesNext x (Begins opening) =
+  IsNextStage x (ProcessEnd disk) = (k : DeskState Disk) × (x.process ≡ Running k) × Stays (view x.version) k.disk disk
+  IsNextStage x (PowerLoss disk) = LosesPower (view x.version) (process_disk x.process) disk
+  IsNextStage x (Beginning opening) =
       (votes : List Ballot) × (disk : Disk) × (x.process ≡ Down votes disk)
       × BeginsOn (view x.version) seen innings d disk opening
-  ComesNext x (Migrates votes new) =
+  IsNextStage x (FileMigration votes new) =
       (had : List Ballot) × (disk : Disk) × (x.process ≡ Down had disk) × (x.version ≡ Old)
-      × steps.Migrates view disk (steps.ToNew votes new)
+      × Migrates view disk (ToNew votes new)
 
-  abbrev pub IsLife : Site Disk → List (Stage Disk) → Type 0
+  abbrev pub IsLife : Node Disk → List (Stage Disk) → Type 0
   IsLife x [] = Unit {0}
-  IsLife x (stage ∷ stages) = IsLife x stages × ComesNext (after_life x stages) stage
+  IsLife x (stage ∷ stages) = IsLife x stages × IsNextStage (after_life x stages) stage
 
 -- what happens at a desk in a stage, and in its life
 abbrev pub calls_of : {Disk : Type 0} → DeskId → List (own.Moment (DeskProcess Disk) DeskCall) → List (Happening Disk)
@@ -114,12 +115,12 @@ calls_of d [] = []
 calls_of d (m ∷ ms) = DeskCalled d m.call m.out ((λ (p : DeskProcess _). p.desk) m.after) ∷ calls_of d ms
 
 abbrev pub stage_happens : {Disk : Type 0} → DeskId → Stage Disk → List (Happening Disk)
-stage_happens d (Runs ms) = calls_of d ms
+stage_happens d (CallsMade ms) = calls_of d ms
 stage_happens d (CutOff call l) = DeskCalled d call [] l ∷ []
-stage_happens d (Ends disk) = DeskEnded d disk ∷ []
-stage_happens d (LosesPower disk) = PowerLost d disk ∷ []
-stage_happens d (Begins opening) = DeskBegun d opening ∷ []
-stage_happens d (Migrates votes new) = FileMigrated d votes new ∷ []
+stage_happens d (ProcessEnd disk) = DeskEnded d disk ∷ []
+stage_happens d (PowerLoss disk) = PowerLost d disk ∷ []
+stage_happens d (Beginning opening) = DeskBegun d opening ∷ []
+stage_happens d (FileMigration votes new) = FileMigrated d votes new ∷ []
 
 abbrev pub life_happens : {Disk : Type 0} → DeskId → List (Stage Disk) → List (Happening Disk)
 life_happens d [] = []

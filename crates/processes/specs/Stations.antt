@@ -9,7 +9,7 @@ use Rattle.vote_store.specs.View.{file_view}
 use Rattle.agree_core.specs.declared.messages.DeskId.{DeskId}
 use Rattle.agree_core.specs.Boards.{fresh_board}
 use Rattle.agree_core.specs.Openings.{Creates, Opens}
-use Rattle.headline.specs.Worlds.{Running}
+use Rattle.headline.specs.Configurations.{Running}
 use Rattle.cards.specs.Sheet.{Sheet}
 use Rattle.cards.specs.declared.watched.WriteFailed.{WriteFailed}
 use Rattle.board.specs.declared.board.Board.{Board}

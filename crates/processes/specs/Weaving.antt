@@ -8,7 +8,7 @@ use Rattle.agree_core.specs.declared.messages.DeskId.{DeskId}
 use Rattle.agree_core.specs.declared.messages.DeskId.TheVariants.{A, B}
 use Rattle.agree_core.specs.Desks.{DeskState}
 use Rattle.headline.specs.declared.version.FileVersion.{FileVersion}
-use Rattle.headline.specs.Worlds.{Running, World, board_at, fresh_boards, site}
+use Rattle.headline.specs.Configurations.{Running, Configuration, board_at, fresh_boards, node}
 use Rattle.live.specs.Boards.{BoardCall, BoardTurn}
 use Rattle.live.specs.Runs as own
 use Rattle.processes.specs.Happenings.{BoardBegun, BoardCalled, BoardCame, DeskBegun, DeskCalled, DeskCame, DeskEnded, FileMigrated, Happening, PowerLost, after}
@@ -39,17 +39,17 @@ is_at_board n (BoardBegun m) = nat_eq n m
 is_at_board n what = false
 
 -- where a datagram came and reads as a message of the match, a station had sent it
-abbrev pub Came : {Disk : Type 0} → ℕ → World Disk → Happening Disk → Type 0
+abbrev pub Came : {Disk : Type 0} → ℕ → Configuration Disk → Happening Disk → Type 0
 Came game w (DeskCalled d call out l) = DeskCame game w.sent call
 Came game w (BoardCalled n call out l) = BoardCame game w.sent call
 Came game w what = Unit {0}
 
-abbrev pub NothingComesEarly : {Disk : Type 0} → ℕ → World Disk → List (Happening Disk) → Type 0
+abbrev pub NothingComesEarly : {Disk : Type 0} → ℕ → Configuration Disk → List (Happening Disk) → Type 0
 NothingComesEarly game w [] = Unit {0}
 NothingComesEarly game w (h ∷ hs) = NothingComesEarly game w hs × Came game (after w hs) h
 
 -- two desks at the beginning of their first processes, and so many boards
-abbrev pub start : {Disk : Type 0} → FileVersion → ℕ → DeskState Disk → DeskState Disk → World Disk
+abbrev pub start : {Disk : Type 0} → FileVersion → ℕ → DeskState Disk → DeskState Disk → Configuration Disk
 start version boards a b =
     record {
       a = record { version = version; process = Running a; due = None };
@@ -61,10 +61,10 @@ start version boards a b =
 module _ {Disk : Type 0} (seen : Disk → List ℕ) (images : Disk → Images) (faults : Disk → Faults) where
   -- All that happened to the processes of a match, the newest first: nothing came before it was sent; what happened at
   -- each desk and at each board is its life; and there are no other boards.
-  pub record IsWoven (contents : FileVersion → Contents) (game innings : ℕ) (w : World Disk) (hs : List (Happening Disk)) : Type 0 where
+  pub record IsWoven (contents : FileVersion → Contents) (game innings : ℕ) (w : Configuration Disk) (hs : List (Happening Disk)) : Type 0 where
     pub order : NothingComesEarly game w hs
     pub desks : (d : DeskId) → (life : List (Stage Disk))
-        × IsLife (λ version. file_view (contents version) seen images d game) seen faults d game innings (site w d) life
+        × IsLife (λ version. file_view (contents version) seen images d game) seen faults d game innings (node w d) life
         × (filter (is_at_desk d) hs ≡ life_happens d life)
     pub boards : (n : ℕ) → (life : List (List (own.Moment BoardTurn BoardCall)))
         × IsBoardLife game innings life × (filter (is_at_board n) hs ≡ board_happens n life)

@@ -1,7 +1,7 @@
 //! What ties processes to runs. These functions do nothing: each stands for the laws that it ensures.
 
 ghost use Rattle.processes.specs.Files.{EmptyFilesShowNone};
-ghost use Rattle.processes.specs.Laws.{BoardStepsInWorld, DeskStepsInWorld, FlowsAreRuns, FlowsHaveHeadline};
+ghost use Rattle.processes.specs.Laws.{BoardStepsInRun, DeskStepsInRun, FlowsAreRuns, FlowsHaveHeadline};
 ghost use Rattle.processes.specs.Stations.{BeginningIsStage, BoardRunIsLife, DeskRunIsStage};
 ghost use Rattle.processes.specs.Weaving.{WovenLivesFlow, WovenLivesHaveHeadline};
 
@@ -10,10 +10,10 @@ use corrections::BookOf;
 use desk::{Desk, OpenRefusal};
 use entry_log::{Disk, SlotsOf};
 
-/// A moment of a board's or a desk's process, in a world that a run has come to, extends that run.
+/// A moment of a board's or a desk's process, in a configuration that a run has come to, extends that run.
 pub fn moments_extend_a_run<D: Disk>()
-    ensures boards { BoardStepsInWorld D.seen D.images }
-    ensures desks { DeskStepsInWorld D.seen D.images }
+    ensures boards { BoardStepsInRun D.seen D.images }
+    ensures desks { DeskStepsInRun D.seen D.images }
 {}
 
 /// Where every datagram that came to a station and reads as a message of the match was sent by one of them before, the

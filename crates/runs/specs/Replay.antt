@@ -15,7 +15,7 @@ use Rattle.schedule_replay.specs.declared.seen.Seen.{Seen}
 use Rattle.schedule_replay.specs.Lending.{running_of}
 use Rattle.schedules.specs.ScheduleLines.{desk_word}
 use Rattle.schedule_replay.specs.SeenWords.{seen_words}
-use Rattle.headline.specs.Worlds.{World, site}
+use Rattle.headline.specs.Configurations.{Configuration, node}
 
 -- a text of each of these, numbered from n
 abbrev pub numbered : {X : Type 0} → (ℕ → X → List ℕ) → ℕ → List X → List ℕ
@@ -61,13 +61,13 @@ desk_line name None = name ++ codes " down\n"
 abbrev pub board_line : ℕ → BoardState → List ℕ
 board_line n k = book_line (decimal n) k.book
 
-abbrev pub line_of_desk : World MemDisk → DeskId → List ℕ
-line_of_desk w d = desk_line (desk_word d) (running_of (site w d).process)
+abbrev pub line_of_desk : Configuration MemDisk → DeskId → List ℕ
+line_of_desk w d = desk_line (desk_word d) (running_of (node w d).process)
 
 -- the lines of both desks and the boards
-abbrev pub station_lines : World MemDisk → List ℕ
+abbrev pub station_lines : Configuration MemDisk → List ℕ
 station_lines w = line_of_desk w A ++ line_of_desk w B ++ numbered board_line 1 w.boards
 
 -- what is printed behind the events' lines
-abbrev pub last_lines : ℕ → World MemDisk → List ℕ
+abbrev pub last_lines : ℕ → Configuration MemDisk → List ℕ
 last_lines entries w = agreed_line entries ++ station_lines w

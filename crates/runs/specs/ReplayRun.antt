@@ -10,7 +10,7 @@ use Rattle.schedule_replay.specs.declared.report.Report.{Report}
 use Rattle.schedule_replay.specs.declared.seen.Seen.{Seen}
 use Rattle.schedule_replay.specs.declared.seen.WorldRefusal.{WorldRefusal}
 use Rattle.headline.specs.declared.version.FileVersion.{FileVersion}
-use Rattle.schedule_replay.specs.CodeWorlds.{IsWorld}
+use Rattle.schedule_replay.specs.CodeWorlds.{HasConfiguration}
 use Rattle.notation.specs.Lines.{lines_of}
 use Rattle.headline.specs.Match.{match_of}
 use Rattle.schedule_replay.specs.Refusals.{RefusesEvent}
@@ -18,7 +18,7 @@ use Rattle.schedule_replay.specs.Replays.{IsReplay, IsRunOf, MatchRun}
 use Rattle.headline.specs.Runs.{last_of}
 use Rattle.schedules.specs.ScheduleLines.{HasFault, IsScheduleOf}
 use Rattle.schedule_replay.specs.SeenWords.{refusal_number}
-use Rattle.headline.specs.Worlds.{World}
+use Rattle.headline.specs.Configurations.{Configuration}
 use Rattle.books.specs.declared.fault.RunFault.{RunFault}
 use Rattle.books.specs.declared.fault.RunFault.TheVariants.{NoMemory, Read, Write, Schedule}
 use Rattle.runs.specs.declared.replay.step.Stepped.{Stepped}
@@ -28,8 +28,8 @@ use Rattle.runs.specs.Replay.{event_lines, last_lines, refusal_line}
 -- a world takes all the events, answers them so, and is this one then
 pub record TakesAll
     (s : Sheet) (version : FileVersion) (boards : ℕ) (events : List Event) (outcomes : List Seen)
-    (last : World MemDisk) : Type 0 where
-  pub w : World MemDisk
+    (last : Configuration MemDisk) : Type 0 where
+  pub w : Configuration MemDisk
   pub ms : MatchRun
   pub run : IsRunOf s.game s.innings version boards events outcomes w ms
   pub ends : last ≡ last_of w ms
@@ -38,12 +38,12 @@ pub record TakesAll
 pub record RefusesOne
     (s : Sheet) (version : FileVersion) (boards : ℕ) (events : List Event) (outcomes : List Seen)
     (k number : ℕ) : Type 0 where
-  pub w : World MemDisk
+  pub w : Configuration MemDisk
   pub ms : MatchRun
   pub before : ℕ
   pub event : Event
   pub why : WorldRefusal
-  pub v : World MemDisk
+  pub v : Configuration MemDisk
   pub run : IsRunOf s.game s.innings version boards (take before events) outcomes w ms
   pub counted : k ≡ before + 1
   pub next : slice_get events before ≡ Some event
@@ -55,7 +55,7 @@ module _ {S : Type 0} (contents : S → Option (List ℕ)) (old new : Watched S)
   -- are written
   pub record PrintsWhole : Type 0 where
     pub outcomes : List Seen
-    pub last : World MemDisk
+    pub last : Configuration MemDisk
     pub takes : TakesAll s version boards events outcomes last
     pub report : Report
     pub replayed : IsReplay s.game s.innings version boards events report
@@ -95,6 +95,6 @@ WhyNoReplay input _ = ⊥
 -- what came of the events
 abbrev pub IsStepped : Sheet → FileVersion → ℕ → List Event → Stepped → Type 0
 IsStepped s version boards events (Whole outcomes world) =
-    (last : World MemDisk) × TakesAll s version boards events outcomes.items last × IsWorld world last
+    (last : Configuration MemDisk) × TakesAll s version boards events outcomes.items last × HasConfiguration world last
 IsStepped s version boards events (Refused outcomes k number) =
     RefusesOne s version boards events outcomes.items k number

@@ -36,18 +36,19 @@ use Rattle.schedule_replay.specs.declared.site.Site.{Site}
 use Rattle.headline.specs.declared.version.FileVersion.{FileVersion}
 use Rattle.schedule_replay.specs.declared.world_desk.WorldDesk.{WorldDesk}
 use Rattle.schedule_replay.specs.declared.world.World.{World}
-use Rattle.headline.specs.Worlds as worlds
-use Rattle.headline.specs.Worlds.{board_at, fresh_boards, with_board}
+use Rattle.headline.specs.Configurations.{Running, Node, Configuration, board_at, fresh_boards, node, process_disk, with_board}
 use Rattle.headline.specs.Events.{station_of}
-use Rattle.headline.specs.Steps.{Answer, AtBoard, StepAt, board_told}
+use Rattle.headline.specs.Answers.{Answer}
+use Rattle.headline.specs.BoardSteps.{AtBoard, board_told}
+use Rattle.headline.specs.Steps.{StepAt}
 use Rattle.schedule_replay.specs.Refusals.{LeftByWant, down_at, first_cause, may_grow, may_send, no_board, no_station, refusal_of}
 use Rattle.headline.specs.Match.{match_of}
 use Rattle.schedule_replay.specs.Answers.{AreBytesOf, answer_of}
 use Rattle.headline.specs.Runs.{Begins, BeginsAt}
-use Rattle.schedule_replay.specs.inner.Sites.{BeginsSite, IsProcess, IsSite}
+use Rattle.schedule_replay.specs.inner.Sites.{BeginsSite, IsProcess, HasNode}
 use Rattle.schedule_replay.specs.WorldDesks.{state_of}
 use Rattle.schedule_replay.specs.Plans.{StaysDue, due_on}
-use Rattle.schedule_replay.specs.CodeWorlds.{BeginsWorld, boards_of, version_of, IsBoardOf, IsSiteOf, IsWorld, MatchBoard, RefusesTo, StepsTo, board_game, board_innings, board_seen, board_state, code_site}
+use Rattle.schedule_replay.specs.CodeWorlds.{BeginsWorld, boards_of, version_of, IsBoardOf, IsSiteOf, HasConfiguration, MatchBoard, RefusesTo, StepsTo, board_game, board_innings, board_seen, board_state, code_site}
 use Rattle.schedule_replay.specs.inner.WorldBoards.{AreFresh, BoardSteps, SameBoard}
 use Rattle.schedule_replay.proofs.TakeLemmas.{sending_grows}
 use Rattle.schedule_replay.proofs.GiveLemmas.{datagram_at, message_at, message_in, not_both}
@@ -109,12 +110,12 @@ none_there [] n = sym (leb-zero n)
 none_there (x ∷ xs) zero = sym (leb-suc-zero (length xs))
 none_there (x ∷ xs) (suc n) = none_there xs n ∙ sym (leb-suc-suc (length xs) n)
 
-no_station_is : (old : World) (w : worlds.World MemDisk) (n : ℕ) → IsWorld old w → no_station w (stations.Board n) ≡ no_board (length old.boards.items) n
+no_station_is : (old : World) (w : Configuration MemDisk) (n : ℕ) → HasConfiguration old w → no_station w (stations.Board n) ≡ no_board (length old.boards.items) n
 no_station_is old w zero h = refl
 no_station_is old w (suc n) h = ap (λ (bs : List BoardState). is_none (slice_get bs n)) h.board_states ∙ none_there old.boards.items n
 
 -- the first cause against an event at a board
-cause_is : (n : ℕ) (old : World) (w : worlds.World MemDisk) (event : Event) → station_of event ≡ stations.Board n → IsWorld old w → refusal_of w event ≡ first_cause (no_board (length old.boards.items) n) false (length old.sent.items) event
+cause_is : (n : ℕ) (old : World) (w : Configuration MemDisk) (event : Event) → station_of event ≡ stations.Board n → HasConfiguration old w → refusal_of w event ≡ first_cause (no_board (length old.boards.items) n) false (length old.sent.items) event
 cause_is n old w event e h =
     let missing = no_station_is old w n h in
     let many = sent_length old.game old.sent.items w.sent h.bytes in
@@ -138,15 +139,15 @@ is_there n old event k missing m none e =
       none = subst (λ (b : Bool). first_cause b false (length old.sent.items) event ≡ None) m none;
     }
 
-board_of : (n : ℕ) (old : World) (event : Event) (k : MatchBoard) (w : worlds.World MemDisk) → IsThere n old event k → IsWorld old w → IsBoardOf old.game old.innings_a_side k
+board_of : (n : ℕ) (old : World) (event : Event) (k : MatchBoard) (w : Configuration MemDisk) → IsThere n old event k → HasConfiguration old w → IsBoardOf old.game old.innings_a_side k
 board_of n old event k w t h = subst (IsBoardOf old.game old.innings_a_side) (get_or_from_slice_get old.boards.items (n - 1) k k t.here) (All-get_or (IsBoardOf old.game old.innings_a_side) old.boards.items (n - 1) k (slice_get_within old.boards.items (n - 1) k t.here) h.boards_are)
 
 -- the world after one of its boards has changed
-put : (n : ℕ) (old new : World) (l : MatchBoard) (w : worlds.World MemDisk) (out : List Message) → PutsBoard n old new l → IsBoardOf old.game old.innings_a_side l → IsWorld old w → AreBytesOf old.game new.sent.items (w.sent ++ out) → IsWorld new (record w { boards = with_board w.boards (suc (n - 1)) (board_state l); sent = w.sent ++ out })
+put : (n : ℕ) (old new : World) (l : MatchBoard) (w : Configuration MemDisk) (out : List Message) → PutsBoard n old new l → IsBoardOf old.game old.innings_a_side l → HasConfiguration old w → AreBytesOf old.game new.sent.items (w.sent ++ out) → HasConfiguration new (record w { boards = with_board w.boards (suc (n - 1)) (board_state l); sent = w.sent ++ out })
 put n old new l w out c owner h b =
     let boards : All (IsBoardOf old.game old.innings_a_side) new.boards.items = subst (All (IsBoardOf old.game old.innings_a_side)) (sym c.there) (All-set (IsBoardOf old.game old.innings_a_side) old.boards.items (n - 1) l owner h.boards_are) in
     record {
-      sites = λ d. subst (λ (z : Site). IsSite z (worlds.site w d)) (sym (site_stays old new d c.a c.b)) (h.sites d);
+      sites = λ d. subst (λ (z : Site). HasNode z (node w d)) (sym (site_stays old new d c.a c.b)) (h.sites d);
       named = λ d. subst (λ (z : Site). IsSiteOf d new.game new.innings_a_side z) (sym (site_stays old new d c.a c.b)) (rw (c.same_game, c.same_innings) (h.named d));
       boards_are = rw (c.same_game, c.same_innings) boards;
       board_states = ap (λ (bs : List BoardState). slice_set bs (n - 1) (board_state l)) h.board_states ∙ sym (map-set board_state old.boards.items (n - 1) l) ∙ ap (map board_state) (sym c.there);
@@ -161,9 +162,9 @@ BoardGives event k messages seen l after game innings =
     × AreBytesOf game after (messages ++ out)
 
 -- an event at a board leaves each desk's disk
-same_disks : (w v : worlds.World MemDisk) → v.a ≡ w.a → v.b ≡ w.b → (d : DeskId) → StaysDue (worlds.site v d).due (Some (worlds.disk_of (worlds.site w d).process)) (Some (worlds.disk_of (worlds.site v d).process))
-same_disks w v a b A fault due = ap (λ (z : worlds.Site MemDisk). due_on (Some (worlds.disk_of z.process))) a
-same_disks w v a b B fault due = ap (λ (z : worlds.Site MemDisk). due_on (Some (worlds.disk_of z.process))) b
+same_disks : (w v : Configuration MemDisk) → v.a ≡ w.a → v.b ≡ w.b → (d : DeskId) → StaysDue (node v d).due (Some (process_disk (node w d).process)) (Some (process_disk (node v d).process))
+same_disks w v a b A fault due = ap (λ (z : Node MemDisk). due_on (Some (process_disk z.process))) a
+same_disks w v a b B fault due = ap (λ (z : Node MemDisk). due_on (Some (process_disk z.process))) b
 
 -- an event that a board has taken
 pub board_steps : (n : ℕ) (old new : World) (k l : MatchBoard) (event same : Event) (seen : Seen) (before after : List Datagram) → station_of event ≡ stations.Board n → IsThere n old event k → PutsBoard n old new l → (IsBoardOf old.game old.innings_a_side k → IsBoardOf old.game old.innings_a_side l) → event ≡ same → before ≡ old.sent.items → after ≡ new.sent.items → BoardSteps same k before seen l after → StepsTo event old seen new
@@ -173,7 +174,7 @@ board_steps n old new k l event same seen before after e t c owner q b a steps w
     let p = subst (λ (g : ℕ). BoardGives same k w.sent seen l after g (board_innings k)) of.same_game (steps w.sent own) in
     let r = subst (λ (i : ℕ). BoardGives same k w.sent seen l after old.game i) of.same_innings p in
     let given = subst (λ (v : Event). BoardGives v k w.sent seen l after old.game old.innings_a_side) (sym q) r in
-    let world : worlds.World MemDisk = record w { boards = with_board w.boards (suc (n - 1)) (board_state l); sent = w.sent ++ given.0 } in
+    let world : Configuration MemDisk = record w { boards = with_board w.boards (suc (n - 1)) (board_state l); sent = w.sent ++ given.0 } in
     let there : board_at w.boards (suc (n - 1)) ≡ Some (board_state k) = ap (λ (bs : List BoardState). slice_get bs (n - 1)) h.board_states ∙ slice_get-map board_state old.boards.items (n - 1) ∙ ap (option_map board_state) t.here in
     let step : StepAt (match_of old.game old.innings_a_side) w event (station_of event) given.1 world =
     subst (λ (u : Station). StepAt (match_of old.game old.innings_a_side) w event u given.1 world) (sym (e ∙ ap stations.Board t.number)) (board_state k, board_state l, given.0, there, given.3, refl) in
@@ -194,9 +195,9 @@ pub record StaysSo (old new : World) : Type 0 where
   pub same_game : new.game ≡ old.game
   pub same_innings : new.innings_a_side ≡ old.innings_a_side
 
-stays : (old new : World) (w : worlds.World MemDisk) → StaysSo old new → IsWorld old w → IsWorld new w
+stays : (old new : World) (w : Configuration MemDisk) → StaysSo old new → HasConfiguration old w → HasConfiguration new w
 stays old new w s h = record {
-  sites = λ d. subst (λ (z : Site). IsSite z (worlds.site w d)) (sym (site_stays old new d s.a s.b)) (h.sites d);
+  sites = λ d. subst (λ (z : Site). HasNode z (node w d)) (sym (site_stays old new d s.a s.b)) (h.sites d);
   named = λ d. subst (λ (z : Site). IsSiteOf d new.game new.innings_a_side z) (sym (site_stays old new d s.a s.b)) (rw (s.same_game, s.same_innings) (h.named d));
   boards_are = rw (s.same_game, s.same_innings, s.boards) h.boards_are;
   board_states = h.board_states ∙ ap (map board_state) (sym s.boards);
@@ -208,7 +209,7 @@ pub board_refuses : (n : ℕ) (old new : World) (event : Event) (why : WorldRefu
 board_refuses n old new event why e s (inl cause) w h = (w, inl (cause_is n old w event e h ∙ cause, refl), stays old new w s h)
 board_refuses n old new event why e s (inr (none, want, grows)) w h = (w, inr (cause_is n old w event e h ∙ none, want, grows, left n event e w), stays old new w s h)
   where
-    left : (n : ℕ) (event : Event) → station_of event ≡ stations.Board n → (w : worlds.World MemDisk) → LeftByWant (match_of old.game old.innings_a_side) w event w
+    left : (n : ℕ) (event : Event) → station_of event ≡ stations.Board n → (w : Configuration MemDisk) → LeftByWant (match_of old.game old.innings_a_side) w event w
     left n (events.Open d) e w = absurd (cc)
     left n (events.Migrate d) e w = absurd (cc)
     left n (events.Pen d m) e w = refl
@@ -237,13 +238,13 @@ not_wiped n m old new k l event (Err why) e t c q items (want, same) =
     board_refuses n old new event why e (record { a = c.a; b = c.b; boards = boards; sent = items; same_game = c.same_game; same_innings = c.same_innings }) (inr (t.none, want, ap may_grow q))
 
 -- a desk that was just created
-site_begins : (version : FileVersion) (name : DeskId) (game innings : ℕ) (site : Site) → BeginsSite version name game innings site → (x : worlds.Site MemDisk) × IsSite site x × BeginsAt (match_of game innings) version name x
+site_begins : (version : FileVersion) (name : DeskId) (game innings : ℕ) (site : Site) → BeginsSite version name game innings site → (x : Node MemDisk) × HasNode site x × BeginsAt (match_of game innings) version name x
 site_begins version name game innings site h =
     let k = h.desk in (
-      record { version = version; process = worlds.Running (state_of k.0); due = None },
+      record { version = version; process = Running (state_of k.0); due = None },
       record {
         version = sym h.same_version;
-        process = subst (λ (o : Option WorldDesk). IsProcess site o site.disk (worlds.Running (state_of k.0))) (sym k.1) (k.2, h.down, refl);
+        process = subst (λ (o : Option WorldDesk). IsProcess site o site.disk (Running (state_of k.0))) (sym k.1) (k.2, h.down, refl);
         due = sym h.due;
       },
       (state_of k.0, refl, k.3),
@@ -259,9 +260,9 @@ pub begins : (world : World) (version : FileVersion) (boards : ℕ) → BeginsSi
 begins world version boards a b fresh sent =
     let x = site_begins version A world.game world.innings_a_side world.a a in
     let y = site_begins version B world.game world.innings_a_side world.b b in
-    let w : worlds.World MemDisk = record { a = x.0; b = y.0; boards = fresh_boards boards; sent = [] } in
+    let w : Configuration MemDisk = record { a = x.0; b = y.0; boards = fresh_boards boards; sent = [] } in
     let many : boards_of world ≡ boards = sym (length-map world.boards.items board_state) ∙ ap length fresh.states ∙ fresh_many boards in
-    let is : IsWorld world w = record {
+    let is : HasConfiguration world w = record {
       sites = sites w x.1 y.1;
       named = named;
       boards_are = fresh.of_match;
@@ -273,7 +274,7 @@ begins world version boards a b fresh sent =
     subst (λ (v : FileVersion). Begins (match_of world.game world.innings_a_side) v (boards_of world) w) (sym a.same_version) (subst (λ (n : ℕ). Begins (match_of world.game world.innings_a_side) version n w) (sym many) begin) in
     record { is_new = (w, is, own); same_game = refl; same_innings = refl; same_version = a.same_version; same_boards = many }
   where
-    sites : (w : worlds.World MemDisk) → IsSite world.a w.a → IsSite world.b w.b → (d : DeskId) → IsSite (code_site world d) (worlds.site w d)
+    sites : (w : Configuration MemDisk) → HasNode world.a w.a → HasNode world.b w.b → (d : DeskId) → HasNode (code_site world d) (node w d)
     sites w i j A = i
     sites w i j B = j
 

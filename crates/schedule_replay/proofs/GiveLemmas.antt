@@ -29,9 +29,9 @@ use Rattle.schedule_replay.specs.declared.seen.Cause.TheVariants as causes
 use Rattle.schedule_replay.specs.declared.seen.Seen.{Seen}
 use Rattle.schedule_replay.specs.declared.site.Site.{Site}
 use Rattle.schedule_replay.specs.declared.world_desk.WorldDesk.{WorldDesk}
-use Rattle.headline.specs.Worlds as worlds
-use Rattle.headline.specs.Worlds.{Running}
-use Rattle.headline.specs.Steps.{AfterReceive, Answer, has_any}
+use Rattle.headline.specs.Configurations.{Running, Node}
+use Rattle.headline.specs.Answers.{Answer}
+use Rattle.headline.specs.DeskSteps.{AfterReceive, has_any}
 use Rattle.headline.specs.Match.{match_of}
 use Rattle.schedule_replay.specs.Answers.{AreBytesOf, answer_of, given_seen, is_fault}
 use Rattle.schedule_replay.specs.inner.Sites.{BreaksDown, SiteSteps}
@@ -64,7 +64,7 @@ answer_to (ReceiveAnswer.Told h) out = Answer.Told h
 answer_to ReceiveAnswer.Asked out = Answer.Asked (has_any out)
 answer_to ReceiveAnswer.DeviceFailed out = Answer.DeviceFailed
 
-pub after_receive : {Disk : Type 0} (view : FileView Disk) (x : worlds.Site Disk) (received : ReceiveAnswer) (l : DeskState Disk) (out : List Message) → received ≢ ReceiveAnswer.DeviceFailed → AfterReceive view x received l out (answer_to received out) (record x { process = Running l })
+pub after_receive : {Disk : Type 0} (view : FileView Disk) (x : Node Disk) (received : ReceiveAnswer) (l : DeskState Disk) (out : List Message) → received ≢ ReceiveAnswer.DeviceFailed → AfterReceive view x received l out (answer_to received out) (record x { process = Running l })
 after_receive view x ReceiveAnswer.Failed l out n = (refl, refl)
 after_receive view x (ReceiveAnswer.Told h) l out n = (refl, refl)
 after_receive view x ReceiveAnswer.Asked l out n = (refl, refl)
@@ -111,14 +111,14 @@ pub datagram_at : (sent : List Datagram) (n : ℕ) (d : Datagram) → slice_get 
 datagram_at sent n d e = slice_get-map (λ (x : Datagram). x.bytes) sent n ∙ ap (option_map (λ (x : Datagram). x.bytes)) e
 
 -- what was given is one of the messages, and how the desk took it
-record Given (old : Site) (k l : WorldDesk) (n : ℕ) (d : Datagram) (r : Received) (x : worlds.Site MemDisk) (messages out : List Message) : Type 0 where
+record Given (old : Site) (k l : WorldDesk) (n : ℕ) (d : Datagram) (r : Received) (x : Node MemDisk) (messages out : List Message) : Type 0 where
   message : Message
   there : slice_get messages n ≡ Some message
   says : Says old.game d.bytes message
   takes : Takes ((match_of old.game old.innings_a_side).view old.name x.version) old.game (state_of k) d.bytes r.what (state_of l) out
   said : replied r.reply ≡ map (written old.game) out
 
-given_as : (old : Site) (k l : WorldDesk) (n : ℕ) (d : Datagram) (r : Received) (x : worlds.Site MemDisk) (messages : List Message) (before : List Datagram) → slice_get before n ≡ Some d → (step : GiveSteps k d.bytes r l) → Runs old k x → AreBytesOf old.game before messages → Given old k l n d r x messages step.0
+given_as : (old : Site) (k l : WorldDesk) (n : ℕ) (d : Datagram) (r : Received) (x : Node MemDisk) (messages : List Message) (before : List Datagram) → slice_get before n ≡ Some d → (step : GiveSteps k d.bytes r l) → Runs old k x → AreBytesOf old.game before messages → Given old k l n d r x messages step.0
 given_as old k l n d r x messages before there step runs b =
     let own = runs.owner in
     let found = message_at (written old.game) messages n d.bytes (ap (λ (z : List (List ℕ)). slice_get z n) (sym b.1) ∙ datagram_at before n d there) in

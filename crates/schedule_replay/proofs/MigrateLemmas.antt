@@ -31,12 +31,12 @@ use Rattle.schedule_replay.specs.declared.seen.WorldRefusal.{WorldRefusal}
 use Rattle.schedule_replay.specs.declared.site.Site.{Site}
 use Rattle.headline.specs.declared.version.FileVersion.{FileVersion}
 use Rattle.headline.specs.declared.version.FileVersion.TheVariants as versions
-use Rattle.headline.specs.Worlds as worlds
-use Rattle.headline.specs.Worlds.{Process, Down}
-use Rattle.headline.specs.Steps.{Answer, Failed, MigratesAt, NotSound, ToNew}
+use Rattle.headline.specs.Configurations.{Down, Node}
+use Rattle.headline.specs.Answers.{Answer}
+use Rattle.headline.specs.Migrations.{Failed, MigratesAt, NotSound, ToNew}
 use Rattle.headline.specs.Match.{format_of, most_bytes}
 use Rattle.schedule_replay.specs.Answers.{answer_of, is_failing, wants_memory}
-use Rattle.schedule_replay.specs.inner.Sites.{BreaksDown, IsDue, IsSite, IsWorldDisk, NotFoundBy, SiteSteps}
+use Rattle.schedule_replay.specs.inner.Sites.{BreaksDown, IsDue, HasNode, IsWorldDisk, NotFoundBy, SiteSteps}
 use Rattle.schedule_replay.proofs.SiteLemmas.{down_is, no_bytes}
 use Rattle.schedule_replay.proofs.OpenLemmas.{Outcome, ViewAt, broken_down, down_at, memory_is, seen_is, stays_down, syncs}
 
@@ -69,12 +69,12 @@ migrated old disk moved fresh begun made n sent version down there m is holds ca
     ap (λ (file : List ℕ). votes_shown (contents version_1) old.name old.game file) (sym moves.file) ∙ ap where_sound is.found in
     let held : Holds (ViewAt old versions.New) made is.votes =
     subst (λ (vs : List Ballot). Holds (ViewAt old versions.New) made vs) (ap or_none is.found) holds in
-    let y : worlds.Site MemDisk = record x { version = versions.New; process = Down d.votes made } in
+    let y : Node MemDisk = record x { version = versions.New; process = Down d.votes made } in
     let at : MigratesAt {Why = Refusal} (ViewAt old) x x.version d.votes disk (Answer.Migrated n) y =
     subst (λ (v : FileVersion). MigratesAt {Why = Refusal} (ViewAt old) x v d.votes disk (Answer.Migrated n) y) (sym (h.version ∙ version)) (ToNew is.votes made, (found, held), (ap (λ (k : ℕ). Answer.Migrated k) is.many, refl)) in
     let due : (faults_of made).due ≡ (faults_of disk).due = ap (λ (z : Faults). z.due) faults ∙ m.due in
     let on_made : IsWorldDisk versions.New old.due made = record { cap = cap ∙ begins.cap ∙ empty.cap; faults = subst (IsDue old.due) (sym due) on.faults } in
-    let site : IsSite (record old { version = versions.New; disk = Some made }) y = record { version = refl; process = down_is (record old { version = versions.New; disk = Some made }) made d.votes down refl (sym d.many) on_made; due = h.due } in
+    let site : HasNode (record old { version = versions.New; disk = Some made }) y = record { version = refl; process = down_is (record old { version = versions.New; disk = Some made }) made d.votes down refl (sym d.many) on_made; due = h.due } in
     (y, [], Answer.Migrated n, refl, (d.votes, disk, d.process, at, refl), site, no_bytes old.game sent messages b)
 
 -- the old disk after a migration that failed
@@ -186,8 +186,8 @@ faulty old new disk moved fresh begun left made last why answer result version d
         let l = returned old disk moved fresh begun left made last why m r in
         let faults = calm_faults old disk moved fresh begun left made last why m r n in
         let stays = stays_down old disk last old.due x down h d l.cap (subst (λ (z : Faults). IsDue old.due z.due) (sym faults) on.faults) in
-        let y : worlds.Site MemDisk = record x { process = Down d.votes last } in
-        let site : IsSite new y = subst (λ (z : Site). IsSite z y) (sym e) (record { version = h.version; process = stays.process; due = h.due }) in
+        let y : Node MemDisk = record x { process = Down d.votes last } in
+        let site : HasNode new y = subst (λ (z : Site). HasNode z y) (sym e) (record { version = h.version; process = stays.process; due = h.due }) in
         let none : votes_shown (contents version_1) old.name old.game (file_of disk) ≡ None = ap (λ (file : List ℕ). votes_shown (contents version_1) old.name old.game file) (sym here.file) ∙ ap where_sound fault in
         let at : MigratesAt {Why = Refusal} (ViewAt old) x x.version d.votes disk answer y = subst (λ (v : FileVersion). MigratesAt {Why = Refusal} (ViewAt old) x v d.votes disk answer y) (sym (h.version ∙ version)) (NotSound last, (none, l.may versions.Old), (which, refl)) in
         (y, [], answer, says, (d.votes, disk, d.process, at, refl), site, no_bytes old.game sent messages b)

@@ -34,45 +34,45 @@ use Rattle.schedule_replay.specs.declared.seen.WorldRefusal.TheVariants as refus
 use Rattle.schedule_replay.specs.declared.site.Site.{Site}
 use Rattle.headline.specs.declared.version.FileVersion.{FileVersion}
 use Rattle.schedule_replay.specs.declared.world_desk.WorldDesk.{WorldDesk}
-use Rattle.headline.specs.Worlds as worlds
-use Rattle.headline.specs.Worlds.{Process, Running, Down}
-use Rattle.headline.specs.Steps.{Answer, StaysDown}
-use Rattle.headline.specs.Match.{match_of}
+use Rattle.headline.specs.Configurations.{Process, Running, Down, Node, process_disk, with_disk}
+use Rattle.headline.specs.Answers.{Answer}
+use Rattle.headline.specs.DeskFaults.{StaysDown}
+use Rattle.headline.specs.Match.{Setting, match_of}
 use Rattle.schedule_replay.specs.Answers.{answer_of, is_failing, wants_memory}
-use Rattle.schedule_replay.specs.inner.Sites.{BreaksDown, IsDue, IsProcess, IsSite, IsWorldDisk, NotFoundBy, SameSite, SiteSteps, SyncsSite}
+use Rattle.schedule_replay.specs.inner.Sites.{BreaksDown, IsDue, IsProcess, HasNode, IsWorldDisk, NotFoundBy, SameSite, SiteSteps, SyncsSite}
 use Rattle.schedule_replay.specs.WorldDesks.{IsOf, disk_of, state_of}
 use Rattle.schedule_replay.proofs.SiteLemmas.{HasDisk, broken_same, down_is, no_bytes, put_down_is, sets_plan_stays}
 
 -- a site whose desk is down
-pub record IsDown (site : Site) (disk : MemDisk) (x : worlds.Site MemDisk) : Type 0 where
+pub record IsDown (site : Site) (disk : MemDisk) (x : Node MemDisk) : Type 0 where
   pub votes : List Ballot
   pub many : length votes ≡ site.votes
   pub process : x.process ≡ Down votes disk
   pub on_disk : IsWorldDisk site.version site.due disk
 
-pub down_at : (site : Site) (disk : MemDisk) (x : worlds.Site MemDisk) → site.desk ≡ None → site.disk ≡ Some disk → IsSite site x → IsDown site disk x
+pub down_at : (site : Site) (disk : MemDisk) (x : Node MemDisk) → site.desk ≡ None → site.disk ≡ Some disk → HasNode site x → IsDown site disk x
 down_at site disk x down there h =
     let p : IsProcess site None (Some disk) x.process = subst (λ (o : Option MemDisk). IsProcess site None o x.process) there (subst (λ (o : Option WorldDesk). IsProcess site o site.disk x.process) down h.process) in
     let votes = p.1 in
     record { votes = votes.0; many = votes.1; process = votes.2; on_disk = p.0 }
 
 -- it stays down on this disk
-pub stays_down : (site : Site) (disk left : MemDisk) (due : Option Fault) (x : worlds.Site MemDisk) → site.desk ≡ None → IsSite site x → (d : IsDown site disk x) → cap_of left ≡ cap_of disk → IsDue due (faults_of left).due → IsSite (record site { disk = Some left; due = due }) (record x { process = Down d.votes left; due = due })
+pub stays_down : (site : Site) (disk left : MemDisk) (due : Option Fault) (x : Node MemDisk) → site.desk ≡ None → HasNode site x → (d : IsDown site disk x) → cap_of left ≡ cap_of disk → IsDue due (faults_of left).due → HasNode (record site { disk = Some left; due = due }) (record x { process = Down d.votes left; due = due })
 stays_down site disk left due x down h d cap faults =
     let on = d.on_disk in
     let on_left : IsWorldDisk site.version due left = record { cap = cap ∙ on.cap; faults = faults } in
     record { version = h.version; process = down_is (record site { disk = Some left; due = due }) left d.votes down refl (sym d.many) on_left; due = refl }
 
 -- a device call has failed at a desk that is down, by the fault that was due
-pub broken_down : (old new : Site) (disk left : MemDisk) (x : worlds.Site MemDisk) (v : FileVersion) (cause : Cause) (seen : Seen) (due : Option Fault) → old.due ≡ due → old.desk ≡ None → IsSite old x → (d : IsDown old disk x) → cap_of left ≡ cap_of disk → ((faults_of disk).due ≡ Never → ⊥) → (IsOnce (faults_of disk).due → (faults_of left).due ≡ Never) → answer_of (seens.Refused cause) ≡ Some Answer.DeviceFailed → BreaksDown due cause (record old { disk = Some left }) seen new → (y : worlds.Site MemDisk) × (answer : Answer Refusal) × (answer_of seen ≡ Some answer) × StaysDown ((match_of old.game old.innings_a_side).view old.name v) x d.votes left answer y × IsSite new y
+pub broken_down : (old new : Site) (disk left : MemDisk) (x : Node MemDisk) (v : FileVersion) (cause : Cause) (seen : Seen) (due : Option Fault) → old.due ≡ due → old.desk ≡ None → HasNode old x → (d : IsDown old disk x) → cap_of left ≡ cap_of disk → ((faults_of disk).due ≡ Never → ⊥) → (IsOnce (faults_of disk).due → (faults_of left).due ≡ Never) → answer_of (seens.Refused cause) ≡ Some Answer.DeviceFailed → BreaksDown due cause (record old { disk = Some left }) seen new → (y : Node MemDisk) × (answer : Answer Refusal) × (answer_of seen ≡ Some answer) × StaysDown ((match_of old.game old.innings_a_side).view old.name v) x d.votes left answer y × HasNode new y
 broken_down old new disk left x v cause seen None q down h d cap calm spent told b =
     let on = d.on_disk in
     absurd (calm (subst (λ (z : Option Fault). IsDue z (faults_of disk).due) q on.faults))
 broken_down old new disk left x v cause seen (Some Fail) q down h d cap calm spent told b =
     let on = d.on_disk in
     let once : IsOnce (faults_of disk).due = subst (λ (z : Option Fault). IsDue z (faults_of disk).due) q on.faults in
-    let y : worlds.Site MemDisk = record x { process = Down d.votes left; due = None } in
-    let is : IsSite new y = subst (λ (z : Site). IsSite z y) (sym b.1) (stays_down old disk left None x down h d cap (spent once)) in
+    let y : Node MemDisk = record x { process = Down d.votes left; due = None } in
+    let is : HasNode new y = subst (λ (z : Site). HasNode z y) (sym b.1) (stays_down old disk left None x down h d cap (spent once)) in
     (y, Answer.DeviceFailed, ap answer_of b.0 ∙ told, (Fail, h.due ∙ q, (refl, refl)), is)
 broken_down old new disk left x v cause seen (Some Stop) q down h d cap calm spent told b =
     let on = d.on_disk in
@@ -85,8 +85,8 @@ broken_down old new disk left x v cause seen (Some Stop) q down h d cap calm spe
       cap = cap ∙ on.cap;
     } in
     let lowered = put_down_is site new p has refl put in
-    let y : worlds.Site MemDisk = record x { process = Down d.votes lowered.0; due = None } in
-    let is : IsSite new y = record { version = h.version ∙ sym put.version; process = lowered.3; due = sym put.due } in
+    let y : Node MemDisk = record x { process = Down d.votes lowered.0; due = None } in
+    let is : HasNode new y = record { version = h.version ∙ sym put.version; process = lowered.3; due = sym put.due } in
     (y, Answer.Stopped, ap answer_of b.0, (Stop, h.due ∙ q, (lowered.0, refl, sets_plan_stays old.name v old.game Calm left lowered.0 lowered.2, refl)), is)
 
 -- what comes of opening or migrating: a step of the definitions, or the want of memory
@@ -105,10 +105,10 @@ pub memory_is : (Steps : List Datagram → Site → Seen → Site → Type 0) (o
 memory_is Steps old new result e h = subst (λ (z : Result Seen WorldRefusal). Outcome Steps old z new) (sym e) (tt, (refl, h))
 
 abbrev pub ViewAt : Site → FileVersion → FileView MemDisk
-ViewAt site version = (λ (s : worlds.Setting MemDisk Refusal). s.view site.name version) (match_of site.game site.innings_a_side)
+ViewAt site version = (λ (s : Setting MemDisk Refusal). s.view site.name version) (match_of site.game site.innings_a_side)
 
 abbrev pub RulesAt : Site → Rules Refusal
-RulesAt site = (λ (s : worlds.Setting MemDisk Refusal). s.rules) (match_of site.game site.innings_a_side)
+RulesAt site = (λ (s : Setting MemDisk Refusal). s.rules) (match_of site.game site.innings_a_side)
 
 -- the desk is opened
 pub opened : (old : Site) (l : WorldDesk) (disk : MemDisk) (left : Option MemDisk) (n : ℕ) (sent : List Datagram) → left ≡ None → old.desk ≡ None → old.disk ≡ Some disk → Opens (ViewAt old old.version) (RulesAt old) old.name disk (Opened (state_of l)) → IsOf old.name old.version old.game old.innings_a_side l → cap_of (disk_of l) ≡ cap_of disk → faults_of (disk_of l) ≡ faults_of disk → n ≡ length ((λ (s : DeskState MemDisk). s.book) (state_of l)) → SiteSteps (events.Open old.name) old sent (seens.Opened n) (record old { desk = Some l; disk = left }) sent
@@ -116,8 +116,8 @@ opened old l disk left n sent none down there opens own cap faults many x messag
     let d = down_at old disk x down there h in
     let on = d.on_disk in
     let now = subst (λ (v : FileVersion). Opens (ViewAt old v) (RulesAt old) old.name disk (Opened (state_of l))) (sym h.version) opens in
-    let y : worlds.Site MemDisk = record x { process = Running (state_of l) } in
-    let is : IsSite (record old { desk = Some l; disk = left }) y = record {
+    let y : Node MemDisk = record x { process = Running (state_of l) } in
+    let is : HasNode (record old { desk = Some l; disk = left }) y = record {
       version = h.version;
       process = (
         record {
@@ -134,10 +134,10 @@ opened old l disk left n sent none down there opens own cap faults many x messag
 -- a site that stays
 pub stays_so : (old : Site) → SyncsSite old old
 stays_so old x h =
-    let y : worlds.Site MemDisk = record x { process = worlds.with_disk x.process (worlds.disk_of x.process) } in
-    (worlds.disk_of x.process, inl (refl, λ image. (λ i. i, λ i. i)), subst (IsSite old) (ap (λ (p : Process MemDisk). record x { process = p }) (sym (same_disk x.process))) h)
+    let y : Node MemDisk = record x { process = with_disk x.process (process_disk x.process) } in
+    (process_disk x.process, inl (refl, λ image. (λ i. i, λ i. i)), subst (HasNode old) (ap (λ (p : Process MemDisk). record x { process = p }) (sym (same_disk x.process))) h)
   where
-    same_disk : (p : Process MemDisk) → worlds.with_disk p (worlds.disk_of p) ≡ p
+    same_disk : (p : Process MemDisk) → with_disk p (process_disk p) ≡ p
     same_disk (Running k) = refl
     same_disk (Down votes disk) = refl
 
@@ -147,18 +147,18 @@ syncs old new disk left down there may cap faults e x h =
     let d = down_at old disk x down there h in
     let on = d.on_disk in
     let stays = stays_down old disk left old.due x down h d cap (subst (λ (z : Faults). IsDue old.due z.due) (sym faults) on.faults) in
-    let same : worlds.with_disk x.process left ≡ Down d.votes left = ap (λ (z : Process MemDisk). worlds.with_disk z left) d.process in
-    let y : worlds.Site MemDisk = record x { process = worlds.with_disk x.process left } in
+    let same : with_disk x.process left ≡ Down d.votes left = ap (λ (z : Process MemDisk). with_disk z left) d.process in
+    let y : Node MemDisk = record x { process = with_disk x.process left } in
     let q : record x { process = Down d.votes left } ≡ y = ap (λ (z : Process MemDisk). record x { process = z }) (sym same) in
-    let is : IsSite (record old { disk = Some left }) (record x { process = Down d.votes left }) = record { version = h.version; process = stays.process; due = h.due } in
+    let is : HasNode (record old { disk = Some left }) (record x { process = Down d.votes left }) = record { version = h.version; process = stays.process; due = h.due } in
     let now = subst (λ (v : FileVersion). MaySync (ViewAt old v) disk left) (sym h.version) may in (
       left,
-      subst (λ (z : Process MemDisk). MaySync (ViewAt old x.version) (worlds.disk_of z) left) (sym d.process) now,
-      subst (λ (z : Site). IsSite z y) (sym e) (subst (IsSite (record old { disk = Some left })) q is),
+      subst (λ (z : Process MemDisk). MaySync (ViewAt old x.version) (process_disk z) left) (sym d.process) now,
+      subst (λ (z : Site). HasNode z y) (sym e) (subst (HasNode (record old { disk = Some left })) q is),
     )
 
 -- because of what is in the file
-not_sound : (old new : Site) (disk left : MemDisk) (why : OpenRefusal) (told : openings.OpenRefusal) (answer : Answer Refusal) (result : Result Seen WorldRefusal) → old.desk ≡ None → old.disk ≡ Some disk → Opens (ViewAt old old.version) (RulesAt old) old.name disk (NotOpened told left) → ((x : worlds.Site MemDisk) (votes : List Ballot) → Rattle.headline.specs.Steps.AfterOpen (ViewAt old x.version) x votes (NotOpened told left) answer (record x { process = Down votes left })) → cap_of left ≡ cap_of disk → faults_of left ≡ faults_of disk → answer_of (seens.Refused (causes.Open why)) ≡ Some answer → (result ≡ Ok (seens.Refused (causes.Open why))) × (new ≡ record old { disk = Some left }) → Outcome OpenSteps old result new
+not_sound : (old new : Site) (disk left : MemDisk) (why : OpenRefusal) (told : openings.OpenRefusal) (answer : Answer Refusal) (result : Result Seen WorldRefusal) → old.desk ≡ None → old.disk ≡ Some disk → Opens (ViewAt old old.version) (RulesAt old) old.name disk (NotOpened told left) → ((x : Node MemDisk) (votes : List Ballot) → Rattle.headline.specs.DeskSteps.AfterOpen (ViewAt old x.version) x votes (NotOpened told left) answer (record x { process = Down votes left })) → cap_of left ≡ cap_of disk → faults_of left ≡ faults_of disk → answer_of (seens.Refused (causes.Open why)) ≡ Some answer → (result ≡ Ok (seens.Refused (causes.Open why))) × (new ≡ record old { disk = Some left }) → Outcome OpenSteps old result new
 not_sound old new disk left why told answer result down there opens after cap faults says (r, e) = seen_is OpenSteps old new result (seens.Refused (causes.Open why)) r steps
   where
     steps : (sent : List Datagram) → OpenSteps sent old (seens.Refused (causes.Open why)) new
@@ -166,8 +166,8 @@ not_sound old new disk left why told answer result down there opens after cap fa
         let d = down_at old disk x down there h in
         let on = d.on_disk in
         let stays = stays_down old disk left old.due x down h d cap (subst (λ (z : Faults). IsDue old.due z.due) (sym faults) on.faults) in
-        let y : worlds.Site MemDisk = record x { process = Down d.votes left } in
-        let is : IsSite new y = subst (λ (z : Site). IsSite z y) (sym e) (record { version = h.version; process = stays.process; due = h.due }) in
+        let y : Node MemDisk = record x { process = Down d.votes left } in
+        let is : HasNode new y = subst (λ (z : Site). HasNode z y) (sym e) (record { version = h.version; process = stays.process; due = h.due }) in
         let now = subst (λ (v : FileVersion). Opens (ViewAt old v) (RulesAt old) old.name disk (NotOpened told left)) (sym h.version) opens in
         (y, [], answer, says, (d.votes, disk, NotOpened told left, d.process, now, after x d.votes, refl), is, no_bytes old.game sent messages b)
 

@@ -4,20 +4,19 @@ use Rattle.entry_log.specs.Format.{contents}
 use Rattle.entry_log.specs.MemDisk.{file_of}
 use Rattle.entry_log.specs.declared.mem_disk.MemDisk.{MemDisk}
 use Rattle.agree_core.specs.declared.messages.DeskId.{DeskId}
-use Rattle.agree_core.specs.Ballots.{Ballot, oldest}
-use Rattle.agree_core.specs.Ballots as ballots
+use Rattle.agree_core.specs.Ballots.{Ballot, oldest, votes_of}
 use Rattle.agree_core.specs.Readers.{other}
 use Rattle.agree_core.specs.Books.{book_of}
 use Rattle.vote_store.specs.View.{votes_shown}
 use Rattle.schedule_replay.specs.declared.site.Site.{Site}
 use Rattle.schedule_replay.specs.declared.world.World.{World}
-use Rattle.headline.specs.Worlds as worlds
+use Rattle.headline.specs.Configurations.{Node, Configuration, node, process_disk, process_votes, all_votes}
 use Rattle.headline.specs.Match.{format_of, match_of}
-use Rattle.schedule_replay.specs.inner.Sites.{IsSite, PutsDown}
-use Rattle.schedule_replay.specs.CodeWorlds.{IsWorld, code_site}
+use Rattle.schedule_replay.specs.inner.Sites.{HasNode, PutsDown}
+use Rattle.schedule_replay.specs.CodeWorlds.{HasConfiguration, code_site}
 use Rattle.schedule_replay.specs.inner.VotesFiles.{FilesRead, SiteReads}
 use Rattle.agree_core.specs.Keeping.{ShowsMore}
-use Rattle.headline.proofs.Keeping.{Fine, process_disk, site_fine}
+use Rattle.headline.proofs.Keeping.{Fine, fine_disk, node_fine}
 use Rattle.schedule_replay.proofs.SiteLemmas.{has_disk}
 
 one_left : (b : Ballot) (bs : List Ballot) → (c : Ballot) × (drop (length bs) (b ∷ bs) ≡ c ∷ [])
@@ -51,42 +50,42 @@ same_votes : (a b : List Ballot) → Some a ≡ Some b → a ≡ b
 same_votes a b e = cc
 
 -- a desk that is put down still reads so
-pub put_down_reads : (old new : Site) (disk : MemDisk) (x : worlds.Site MemDisk) → IsSite old x → SiteReads old.game old.innings_a_side old.name x → PutsDown old new → new.disk ≡ Some disk → (later : List Ballot) × (votes_shown (contents (format_of new.version)) new.name new.game (file_of disk) ≡ Some (later ++ worlds.votes_of x.process))
+pub put_down_reads : (old new : Site) (disk : MemDisk) (x : Node MemDisk) → HasNode old x → SiteReads old.game old.innings_a_side old.name x → PutsDown old new → new.disk ≡ Some disk → (later : List Ballot) × (votes_shown (contents (format_of new.version)) new.name new.game (file_of disk) ≡ Some (later ++ process_votes x.process))
 put_down_reads old new disk x h reads put there =
     let has = has_disk old old.desk old.disk x.process refl refl h.process in
     let d = put.disk in
     let same = put.same in
     let plan = d.4 in
-    let before : d.0 ≡ worlds.disk_of x.process = same_disk d.0 (worlds.disk_of x.process) (sym d.2 ∙ has.disk) in
+    let before : d.0 ≡ process_disk x.process = same_disk d.0 (process_disk x.process) (sym d.2 ∙ has.disk) in
     let after : disk ≡ d.1 = same_disk disk d.1 (sym there ∙ d.3) in
-    let file : file_of disk ≡ file_of (worlds.disk_of x.process) = ap file_of after ∙ plan.file ∙ ap file_of before in
+    let file : file_of disk ≡ file_of (process_disk x.process) = ap file_of after ∙ plan.file ∙ ap file_of before in
     let version : new.version ≡ x.version = put.version ∙ sym h.version in
     (reads.0, (λ i. votes_shown (contents (format_of (version i))) (same.name i) (same.same_game i) (file i)) ∙ reads.1)
 
 -- and the first of the votes found are the desk's
-pub put_down_votes : (old new : Site) (disk : MemDisk) (x : worlds.Site MemDisk) (found : List Ballot) → IsSite old x → SiteReads old.game old.innings_a_side old.name x → PutsDown old new → new.disk ≡ Some disk → votes_shown (contents (format_of new.version)) new.name new.game (file_of disk) ≡ Some found → (new.votes ≤ length found) × (oldest new.votes found ≡ worlds.votes_of x.process)
+pub put_down_votes : (old new : Site) (disk : MemDisk) (x : Node MemDisk) (found : List Ballot) → HasNode old x → SiteReads old.game old.innings_a_side old.name x → PutsDown old new → new.disk ≡ Some disk → votes_shown (contents (format_of new.version)) new.name new.game (file_of disk) ≡ Some found → (new.votes ≤ length found) × (oldest new.votes found ≡ process_votes x.process)
 put_down_votes old new disk x found h reads put there shows =
     let has = has_disk old old.desk old.disk x.process refl refl h.process in
     let read = put_down_reads old new disk x h reads put there in
-    let votes = worlds.votes_of x.process in
+    let votes = process_votes x.process in
     let e : found ≡ read.0 ++ votes = same_votes found (read.0 ++ votes) (sym shows ∙ read.1) in
     let size : new.votes ≡ length votes = put.counted ∙ has.votes in
     (no_more read.0 votes found new.votes e size, first_are read.0 votes found new.votes e size)
 
 -- what the match's file of a desk shows, its site reads by its own names
-pub of_names : (code : World) (d : DeskId) (w : worlds.World MemDisk) → IsWorld code w → FilesRead code.game code.innings_a_side w → SiteReads (code_site code d).game (code_site code d).innings_a_side (code_site code d).name (worlds.site w d)
+pub of_names : (code : World) (d : DeskId) (w : Configuration MemDisk) → HasConfiguration code w → FilesRead code.game code.innings_a_side w → SiteReads (code_site code d).game (code_site code d).innings_a_side (code_site code d).name (node w d)
 of_names code d w h reads =
     let names = h.named d in
     let r = reads d in
-    (r.0, (λ i. votes_shown (contents (format_of (worlds.site w d).version)) (names.same_name i) (names.same_game i) (file_of (worlds.disk_of (worlds.site w d).process))) ∙ r.1)
+    (r.0, (λ i. votes_shown (contents (format_of (node w d).version)) (names.same_name i) (names.same_game i) (file_of (process_disk (node w d).process))) ∙ r.1)
 
 -- in a run what is read has the votes, and perhaps one more
-pub files_read : (game innings : ℕ) (w : worlds.World MemDisk) → Fine (match_of game innings) w → FilesRead game innings w
+pub files_read : (game innings : ℕ) (w : Configuration MemDisk) → Fine (match_of game innings) w → FilesRead game innings w
 files_read game innings w f d =
     let s = match_of game innings in
-    let x = worlds.site w d in
-    let theirs = ballots.votes_of (worlds.votes_in w) (other d) in
-    more theirs (worlds.votes_of x.process) ((s.view d x.version).reads (worlds.disk_of x.process)) (process_disk s x.version d theirs x.process (site_fine s w d f)).0
+    let x = node w d in
+    let theirs = votes_of (all_votes w) (other d) in
+    more theirs (process_votes x.process) ((s.view d x.version).reads (process_disk x.process)) (fine_disk s x.version d theirs x.process (node_fine s w d f)).0
   where
     more : (theirs votes : List Ballot) (shown : Option (List Ballot)) → ShowsMore theirs votes shown → (later : List Ballot) × (shown ≡ Some (later ++ votes))
     more theirs votes shown (these, e, inl h) = ([], e ∙ ap Some h)

@@ -21,15 +21,15 @@ use Rattle.schedule_replay.specs.declared.seen.WorldRefusal.{WorldRefusal}
 use Rattle.schedule_replay.specs.declared.seen.WorldRefusal.TheVariants.{NoMemory}
 use Rattle.headline.specs.declared.version.FileVersion.{FileVersion}
 use Rattle.schedule_replay.specs.declared.world.World.{World}
-use Rattle.headline.specs.Worlds as worlds
-use Rattle.headline.specs.Worlds.{fresh_boards, votes_in, with_board, with_site}
+use Rattle.headline.specs.Configurations.{Configuration, all_votes, with_board}
 use Rattle.headline.specs.Events.{station_of}
-use Rattle.headline.specs.Steps.{Answer, Step, StepAt}
+use Rattle.headline.specs.Answers.{Answer}
+use Rattle.headline.specs.Steps.{Step, StepAt}
 use Rattle.headline.specs.Runs.{AtEachMoment, AtSomeMoment, Begins, Moment, Run, Shows, answers_of, events_of, last_of}
 use Rattle.headline.specs.Match.{match_of}
 use Rattle.schedule_replay.specs.Answers.{answer_of}
 use Rattle.schedule_replay.specs.Refusals.{RefusesEvent}
-use Rattle.schedule_replay.specs.CodeWorlds.{BeginsWorld, IsNew, boards_of, version_of, IsWorld, RefusesTo, SameMatch, StepsTo}
+use Rattle.schedule_replay.specs.CodeWorlds.{BeginsWorld, IsNew, boards_of, version_of, HasConfiguration, RefusesTo, KeepsMatch, StepsTo}
 use Rattle.headline.specs.Headline.{ShowsScore}
 use Rattle.schedule_replay.specs.Replays.{AreSeen, EndsAt, EndsOrNeverBegins, IsReplay, IsRunOf, MatchRun, ShowScores, StandOnce}
 use Rattle.schedule_replay.specs.inner.RunsSoFar.{HasTaken, IsAt}
@@ -49,22 +49,22 @@ with_board_many boards zero k = refl
 with_board_many boards (suc n) k = length-set boards n k
 
 module _ (game innings : ℕ) where
-  step_many : (w : worlds.World MemDisk) (event : Event) (t : Station) (answer : Answer Refusal) (new : worlds.World MemDisk) → StepAt (match_of game innings) w event t answer new → length new.boards ≡ length w.boards
-  step_many w event (stations.Desk A) answer new p = ap (λ (v : worlds.World MemDisk). length v.boards) p.3
-  step_many w event (stations.Desk B) answer new p = ap (λ (v : worlds.World MemDisk). length v.boards) p.3
-  step_many w event (stations.Board n) answer new p = ap (λ (v : worlds.World MemDisk). length v.boards) p.5 ∙ with_board_many w.boards n p.1
+  step_many : (w : Configuration MemDisk) (event : Event) (t : Station) (answer : Answer Refusal) (new : Configuration MemDisk) → StepAt (match_of game innings) w event t answer new → length new.boards ≡ length w.boards
+  step_many w event (stations.Desk A) answer new p = ap (λ (v : Configuration MemDisk). length v.boards) p.3
+  step_many w event (stations.Desk B) answer new p = ap (λ (v : Configuration MemDisk). length v.boards) p.3
+  step_many w event (stations.Board n) answer new p = ap (λ (v : Configuration MemDisk). length v.boards) p.5 ∙ with_board_many w.boards n p.1
 
-  pub run_many : (version : FileVersion) (boards : ℕ) (w : worlds.World MemDisk) (ms : MatchRun) → Begins (match_of game innings) version boards w → Run (match_of game innings) w ms → length (last_of w ms).boards ≡ boards
+  pub run_many : (version : FileVersion) (boards : ℕ) (w : Configuration MemDisk) (ms : MatchRun) → Begins (match_of game innings) version boards w → Run (match_of game innings) w ms → length (last_of w ms).boards ≡ boards
   run_many version boards w [] b r = ap length b.boards_are_fresh ∙ fresh_many boards
   run_many version boards w (m ∷ ms) b r = step_many (last_of w ms) m.event (station_of m.event) m.answer m.after r.1 ∙ run_many version boards w ms b r.0
 
 -- a run over the first events ends with what the code's world shows, and all that was shown is noted
 pub record IsAfter (game innings : ℕ) (version : FileVersion) (boards : ℕ) (events : List Event) (number : ℕ) (world : World) (outcomes : List Seen) (seen : List Shown) : Type 0 where
-  pub at : (w : worlds.World MemDisk) × (ms : MatchRun) × IsAt game innings version boards events number world outcomes w ms × AreSeen innings w ms seen × AtEachMoment w ms (ShowScores innings)
+  pub at : (w : Configuration MemDisk) × (ms : MatchRun) × IsAt game innings version boards events number world outcomes w ms × AreSeen innings w ms seen × AtEachMoment w ms (ShowScores innings)
 
 -- such a run before its last event, whose outcome is the last one
 pub record IsNext (game innings : ℕ) (version : FileVersion) (boards : ℕ) (events : List Event) (number : ℕ) (world : World) (outcomes : List Seen) (seen : List Shown) : Type 0 where
-  pub at : (w : worlds.World MemDisk) × (ms : MatchRun) × (m : Moment MemDisk Refusal) × IsAt game innings version boards events number world outcomes w (m ∷ ms) × AreSeen innings w ms seen × AtEachMoment w ms (ShowScores innings)
+  pub at : (w : Configuration MemDisk) × (ms : MatchRun) × (m : Moment MemDisk Refusal) × IsAt game innings version boards events number world outcomes w (m ∷ ms) × AreSeen innings w ms seen × AtEachMoment w ms (ShowScores innings)
 
 take_next : (events : List Event) (n : ℕ) (d : Event) → n < length events → take (suc n) events ≡ take n events ++ slice_index_or events n d ∷ []
 take_next [] n d h = absurd (omega (arith, h))
@@ -81,20 +81,20 @@ pub own_match : (world : World) → IsNew world → BeginsWorld world.game world
 own_match world h = record { is_new = h; same_game = refl; same_innings = refl; same_version = refl; same_boards = refl }
 
 module _ (game innings : ℕ) (version : FileVersion) (boards : ℕ) (events : List Event) where
-  pub begins_at : (world : World) → BeginsWorld game innings version boards world → (w : worlds.World MemDisk) × IsAt game innings version boards events 0 world [] w []
+  pub begins_at : (world : World) → BeginsWorld game innings version boards world → (w : Configuration MemDisk) × IsAt game innings version boards events 0 world [] w []
   begins_at world h =
       let start = h.is_new in
       let begins : Begins (match_of game innings) version boards start.0 = rw (h.same_game, h.same_innings, h.same_version, h.same_boards) at start.2 in
-      (start.0, record { run = record { begins = begins; run = tt; over = refl; answered = refl; planned = tt; counted = tt }; is_world = start.1; same_game = h.same_game; same_innings = h.same_innings })
+      (start.0, record { run = record { begins = begins; run = tt; over = refl; answered = refl; planned = tt; counted = tt }; has_configuration = start.1; same_game = h.same_game; same_innings = h.same_innings })
 
   -- what is noted of a world that shows the last one of a run has one score
-  notable_at : (number : ℕ) (world : World) (outcomes : List Seen) (seen : List Shown) (w : worlds.World MemDisk) (ms : MatchRun) → boards ≤ 4 → IsAt game innings version boards events number world outcomes w ms → ((t : Station) (n : ℕ) (score : Standing) → Contains seen (t, n, score) → AtSomeMoment w ms (λ v. ShowsScore innings v t n score)) → ((t : Station) (n : ℕ) (score : Standing) → ShowsScore innings (last_of w ms) t n score → AtSomeMoment w ms (λ v. ShowsScore innings v t n score)) → (v : worlds.World MemDisk) × IsNotable world seen v
+  notable_at : (number : ℕ) (world : World) (outcomes : List Seen) (seen : List Shown) (w : Configuration MemDisk) (ms : MatchRun) → boards ≤ 4 → IsAt game innings version boards events number world outcomes w ms → ((t : Station) (n : ℕ) (score : Standing) → Contains seen (t, n, score) → AtSomeMoment w ms (λ v. ShowsScore innings v t n score)) → ((t : Station) (n : ℕ) (score : Standing) → ShowsScore innings (last_of w ms) t n score → AtSomeMoment w ms (λ v. ShowsScore innings v t n score)) → (v : Configuration MemDisk) × IsNotable world seen v
   notable_at number world outcomes seen w ms few h was now =
       let run = h.run in
       let many = run_many game innings version boards w ms run.begins run.run in (
         last_of w ms,
         record {
-          is_world = h.is_world;
+          has_configuration = h.has_configuration;
           few_boards = omega (arith, few, many);
           one_score = λ t n score other c shows.
               one_score (match_of game innings) innings version boards w ms run.begins run.run t t n other score (was t n other c) (now t n score (subst (λ (i : ℕ). ShowsScore i (last_of w ms) t n score) h.same_innings shows));
@@ -104,12 +104,12 @@ module _ (game innings : ℕ) (version : FileVersion) (boards : ℕ) (events : L
   nothing_noted : (x : Shown) → Contains {X = Shown} [] x → ⊥
   nothing_noted x c = absurd (omega (arith, c.1))
 
-  pub first_notable : (world : World) (seen : List Shown) → boards ≤ 4 → BeginsWorld game innings version boards world → seen ≡ [] → (v : worlds.World MemDisk) × IsNotable world seen v
+  pub first_notable : (world : World) (seen : List Shown) → boards ≤ 4 → BeginsWorld game innings version boards world → seen ≡ [] → (v : Configuration MemDisk) × IsNotable world seen v
   first_notable world seen few h none =
       let b = begins_at world h in
       notable_at 0 world [] seen b.0 [] few b.1 (λ t n score c. absurd (nothing_noted (t, n, score) (subst (λ (xs : List Shown). Contains xs (t, n, score)) none c))) (λ t n score s. s)
 
-  pub next_notable : (number : ℕ) (world : World) (outcomes : List Seen) (seen : List Shown) → boards ≤ 4 → IsNext game innings version boards events number world outcomes seen → (v : worlds.World MemDisk) × IsNotable world seen v
+  pub next_notable : (number : ℕ) (world : World) (outcomes : List Seen) (seen : List Shown) → boards ≤ 4 → IsNext game innings version boards events number world outcomes seen → (v : Configuration MemDisk) × IsNotable world seen v
   next_notable number world outcomes seen few h =
       let at = h.at in
       notable_at number world outcomes seen at.0 (at.2 ∷ at.1) few at.3 (λ t n score c. inr ((at.4 t n score).0 c)) (λ t n score s. inl s)
@@ -126,11 +126,11 @@ module _ (game innings : ℕ) (version : FileVersion) (boards : ℕ) (events : L
           [],
           at,
           λ t n score.
-              let k = noted b.0 at.is_world t n score in (
+              let k = noted b.0 at.has_configuration t n score in (
                 λ c. ⊎_elim (λ (o : Contains old (t, n, score)). absurd (nothing_noted (t, n, score) (subst (λ (xs : List Shown). Contains xs (t, n, score)) none o))) (λ s. subst (λ (i : ℕ). ShowsScore i b.0 t n score) same s) (k.0 c),
                 λ s. k.1 (inr (subst (λ (i : ℕ). ShowsScore i b.0 t n score) (sym same) s)),
               ),
-          subst (λ (i : ℕ). ShowScores i b.0) same (code_scored world b.0 have at.is_world),
+          subst (λ (i : ℕ). ShowScores i b.0) same (code_scored world b.0 have at.has_configuration),
         );
       }
 
@@ -146,23 +146,23 @@ module _ (game innings : ℕ) (version : FileVersion) (boards : ℕ) (events : L
           m ∷ p.1,
           at,
           λ t n score.
-              let k = noted m.after at.is_world t n score in (
+              let k = noted m.after at.has_configuration t n score in (
                 λ c. ⊎_elim (λ (o : Contains old (t, n, score)). inr ((p.4 t n score).0 o)) (λ s. inl (subst (λ (i : ℕ). ShowsScore i m.after t n score) same s)) (k.0 c),
                 λ s. k.1 (⊎_elim (λ (q : ShowsScore innings m.after t n score). inr (subst (λ (i : ℕ). ShowsScore i m.after t n score) (sym same) q)) (λ q. inl ((p.4 t n score).1 q)) s),
               ),
-          (subst (λ (i : ℕ). ShowScores i m.after) same (code_scored world m.after have at.is_world), p.5),
+          (subst (λ (i : ℕ). ShowScores i m.after) same (code_scored world m.after have at.has_configuration), p.5),
         );
       }
 
   -- the match that the world was made for
-  of_world : (world : World) (w after : worlds.World MemDisk) (event : Event) (answer : Answer Refusal) → world.game ≡ game → world.innings_a_side ≡ innings → Step (match_of world.game world.innings_a_side) w event answer after → Step (match_of game innings) w event answer after
+  of_world : (world : World) (w after : Configuration MemDisk) (event : Event) (answer : Answer Refusal) → world.game ≡ game → world.innings_a_side ≡ innings → Step (match_of world.game world.innings_a_side) w event answer after → Step (match_of game innings) w event answer after
   of_world world w after event answer e f p = subst (λ (n : ℕ). Step (match_of game n) w event answer after) f (subst (λ (n : ℕ). Step (match_of n world.innings_a_side) w event answer after) e p)
 
   -- one event more
-  pub steps_on : (number : ℕ) (event : Event) (world new : World) (outcomes : List Seen) (seen : Seen) (w : worlds.World MemDisk) (ms : MatchRun) → number < length events → event ≡ slice_index_or events number event → IsAt game innings version boards events number world outcomes w ms → StepsTo event world seen new → SameMatch world new → (m : Moment MemDisk Refusal) × IsAt game innings version boards events (number + 1) new (outcomes ++ seen ∷ []) w (m ∷ ms)
+  pub steps_on : (number : ℕ) (event : Event) (world new : World) (outcomes : List Seen) (seen : Seen) (w : Configuration MemDisk) (ms : MatchRun) → number < length events → event ≡ slice_index_or events number event → IsAt game innings version boards events number world outcomes w ms → StepsTo event world seen new → KeepsMatch world new → (m : Moment MemDisk Refusal) × IsAt game innings version boards events (number + 1) new (outcomes ++ seen ∷ []) w (m ∷ ms)
   steps_on number event world new outcomes seen w ms less here at steps same =
       let run = at.run in
-      let s = (steps (last_of w ms) at.is_world).1 in
+      let s = (steps (last_of w ms) at.has_configuration).1 in
       let step = of_world world (last_of w ms) s.1 event s.0 at.same_game at.same_innings s.3 in
       let m : Moment MemDisk Refusal = record { event = event; answer = s.0; after = s.1 } in
       let next : take (number + 1) events ≡ take number events ++ event ∷ [] =
@@ -172,19 +172,19 @@ module _ (game innings : ℕ) (version : FileVersion) (boards : ℕ) (events : L
       let answered : map answer_of (outcomes ++ seen ∷ []) ≡ map Some (answers_of ms ++ s.0 ∷ []) =
       map-append answer_of outcomes (seen ∷ []) ∙ (λ i. run.answered i ++ s.2 i ∷ []) ∙ sym (map-append Some (answers_of ms) (s.0 ∷ [])) in (
         m,
-        record { run = record { begins = run.begins; run = (run.run, step); over = over; answered = answered; planned = (run.planned, s.5); counted = (run.counted, s.6) }; is_world = s.4; same_game = same.same_game ∙ at.same_game; same_innings = same.same_innings ∙ at.same_innings },
+        record { run = record { begins = run.begins; run = (run.run, step); over = over; answered = answered; planned = (run.planned, s.5); counted = (run.counted, s.6) }; has_configuration = s.4; same_game = same.same_game ∙ at.same_game; same_innings = same.same_innings ∙ at.same_innings },
       )
 
-  pub goes_on : (number : ℕ) (event : Event) (world new : World) (outcomes : List Seen) (seen : Seen) (shown : List Shown) → number < length events → event ≡ slice_index_or events number event → IsAfter game innings version boards events number world outcomes shown → StepsTo event world seen new → SameMatch world new → IsNext game innings version boards events (number + 1) new (outcomes ++ seen ∷ []) shown
+  pub goes_on : (number : ℕ) (event : Event) (world new : World) (outcomes : List Seen) (seen : Seen) (shown : List Shown) → number < length events → event ≡ slice_index_or events number event → IsAfter game innings version boards events number world outcomes shown → StepsTo event world seen new → KeepsMatch world new → IsNext game innings version boards events (number + 1) new (outcomes ++ seen ∷ []) shown
   goes_on number event world new outcomes seen shown less here h steps same =
       let p = h.at in
       let n = steps_on number event world new outcomes seen p.0 p.1 less here p.2 steps same in
       record { at = (p.0, p.1, n.0, n.1, p.3, p.4) }
 
   -- an event isn't taken
-  pub refuses_at : (number : ℕ) (event : Event) (world new : World) (outcomes : List Seen) (why : WorldRefusal) (w : worlds.World MemDisk) (ms : MatchRun) → number < length events → event ≡ slice_index_or events number event → IsAt game innings version boards events number world outcomes w ms → RefusesTo event world why new → (v : worlds.World MemDisk) × (slice_get events number ≡ Some event) × RefusesEvent (match_of game innings) (last_of w ms) event why v
+  pub refuses_at : (number : ℕ) (event : Event) (world new : World) (outcomes : List Seen) (why : WorldRefusal) (w : Configuration MemDisk) (ms : MatchRun) → number < length events → event ≡ slice_index_or events number event → IsAt game innings version boards events number world outcomes w ms → RefusesTo event world why new → (v : Configuration MemDisk) × (slice_get events number ≡ Some event) × RefusesEvent (match_of game innings) (last_of w ms) event why v
   refuses_at number event world new outcomes why w ms less here at refuses =
-      let s = refuses (last_of w ms) at.is_world in
+      let s = refuses (last_of w ms) at.has_configuration in
       let refused = subst (λ (n : ℕ). RefusesEvent (match_of game n) (last_of w ms) event why s.0) at.same_innings (subst (λ (n : ℕ). RefusesEvent (match_of n world.innings_a_side) (last_of w ms) event why s.0) at.same_game s.1) in
       (s.0, event_at events number event less ∙ ap Some (sym here), refused)
 
@@ -195,7 +195,7 @@ module _ (game innings : ℕ) (version : FileVersion) (boards : ℕ) (events : L
   pub has_taken : (number : ℕ) (world : World) (outcomes : List Seen) (shown : List Shown) → IsAfter game innings version boards events number world outcomes shown → HasTaken game innings version boards events number world
   has_taken number world outcomes shown h = let p = h.at in (outcomes, p.0, p.1, p.2)
 
-  pub takes_on : (number : ℕ) (event : Event) (world new : World) (seen : Seen) → number < length events → event ≡ slice_index_or events number event → HasTaken game innings version boards events number world → StepsTo event world seen new → SameMatch world new → HasTaken game innings version boards events (number + 1) new
+  pub takes_on : (number : ℕ) (event : Event) (world new : World) (seen : Seen) → number < length events → event ≡ slice_index_or events number event → HasTaken game innings version boards events number world → StepsTo event world seen new → KeepsMatch world new → HasTaken game innings version boards events (number + 1) new
   takes_on number event world new seen less here h steps same =
       let n = steps_on number event world new h.0 seen h.1 h.2 less here h.3 steps same in
       (h.0 ++ seen ∷ [], h.1, n.0 ∷ h.2, n.1)
@@ -217,18 +217,18 @@ module _ (game innings : ℕ) (version : FileVersion) (boards : ℕ) (events : L
       inl (refl, refl, (p.0, p.1, p.2, subst (λ (es : List Event). IsRunOf game innings version boards es p.0 p.1 p.2) all run, holds_in_run (match_of game innings) innings version boards p.1 p.2 run.begins run.run))
 
   -- a read of each file gives its desk's votes, and perhaps later ones
-  read_at : (number : ℕ) (world : World) (outcomes : List Seen) (w : worlds.World MemDisk) (ms : MatchRun) → IsAt game innings version boards events number world outcomes w ms → FilesRead world.game world.innings_a_side (last_of w ms)
+  read_at : (number : ℕ) (world : World) (outcomes : List Seen) (w : Configuration MemDisk) (ms : MatchRun) → IsAt game innings version boards events number world outcomes w ms → FilesRead world.game world.innings_a_side (last_of w ms)
   read_at number world outcomes w ms at =
       let run = at.run in
       let s = match_of game innings in
       let r = files_read game innings (last_of w ms) (run_keeps s w ms (begins_fine s version boards w run.begins) run.run) in
       subst (λ (n : ℕ). FilesRead n world.innings_a_side (last_of w ms)) (sym at.same_game) (subst (λ (n : ℕ). FilesRead game n (last_of w ms)) (sym at.same_innings) r)
 
-  pub all_read : (number : ℕ) (world : World) (outcomes : List Seen) (shown : List Shown) → IsAfter game innings version boards events number world outcomes shown → (w : worlds.World MemDisk) × IsWorld world w × FilesRead world.game world.innings_a_side w
+  pub all_read : (number : ℕ) (world : World) (outcomes : List Seen) (shown : List Shown) → IsAfter game innings version boards events number world outcomes shown → (w : Configuration MemDisk) × HasConfiguration world w × FilesRead world.game world.innings_a_side w
   all_read number world outcomes shown h =
       let p = h.at in
       let at = p.2 in
-      (last_of p.0 p.1, at.is_world, read_at number world outcomes p.0 p.1 at)
+      (last_of p.0 p.1, at.has_configuration, read_at number world outcomes p.0 p.1 at)
 
   take_front : (xs rest : List Entry) → take (length xs) (xs ++ rest) ≡ xs
   take_front [] rest = refl
@@ -241,7 +241,7 @@ module _ (game innings : ℕ) (version : FileVersion) (boards : ℕ) (events : L
       (omega (arith, e, long, length-append book b.0), sym (take_front book b.0) ∙ (λ i. take (sym e i) (b.1 i)))
 
   -- what is reported of the whole run
-  pub reported : (number : ℕ) (world : World) (report : Report) → number ≡ length events → IsAfter game innings version boards events number world report.outcomes.items report.seen.items → StandOnce report.seen.items → ((w : worlds.World MemDisk) → IsWorld world w → FilesRead world.game world.innings_a_side w → IsAgreedByFiles (votes_in w).a (votes_in w).b report.agreed.items) → IsReplay game innings version boards events report
+  pub reported : (number : ℕ) (world : World) (report : Report) → number ≡ length events → IsAfter game innings version boards events number world report.outcomes.items report.seen.items → StandOnce report.seen.items → ((w : Configuration MemDisk) → HasConfiguration world w → FilesRead world.game world.innings_a_side w → IsAgreedByFiles (all_votes w).a (all_votes w).b report.agreed.items) → IsReplay game innings version boards events report
   reported number world report e h once files =
       let p = h.at in
       let w = p.0 in
@@ -251,8 +251,8 @@ module _ (game innings : ℕ) (version : FileVersion) (boards : ℕ) (events : L
       let s = match_of game innings in
       let all : take number events ≡ events = ap (λ (n : ℕ). take n events) e ∙ take-length events in
       let holds = holds_in_run s innings version boards w ms run.begins run.run in
-      let agreed : IsAgreedList (votes_in (last_of w ms)) report.agreed.items =
-      holds.by_files report.agreed.items (files (last_of w ms) at.is_world (read_at number world report.outcomes.items w ms at)) in (
+      let agreed : IsAgreedList (all_votes (last_of w ms)) report.agreed.items =
+      holds.by_files report.agreed.items (files (last_of w ms) at.has_configuration (read_at number world report.outcomes.items w ms at)) in (
         w,
         ms,
         record {
@@ -266,12 +266,12 @@ module _ (game innings : ℕ) (version : FileVersion) (boards : ℕ) (events : L
         },
       )
     where
-      some_book : (w : worlds.World MemDisk) (ms : MatchRun) (t : Station) (n : ℕ) (score : Standing) → AtSomeMoment w ms (λ v. ShowsScore innings v t n score) → (book : List Entry) × AtSomeMoment w ms (λ v. Shows v t book) × (n ≡ length book) × IsScoreOf score innings book
+      some_book : (w : Configuration MemDisk) (ms : MatchRun) (t : Station) (n : ℕ) (score : Standing) → AtSomeMoment w ms (λ v. ShowsScore innings v t n score) → (book : List Entry) × AtSomeMoment w ms (λ v. Shows v t book) × (n ≡ length book) × IsScoreOf score innings book
       some_book w [] t n score h = (h.0, h.1, h.2, h.3)
       some_book w (m ∷ ms) t n score (inl h) = (h.0, inl h.1, h.2, h.3)
       some_book w (m ∷ ms) t n score (inr h) = let b = some_book w ms t n score h in (b.0, inr b.1, b.2, b.3)
 
-      score_at : (w : worlds.World MemDisk) (ms : MatchRun) (t : Station) (n : ℕ) (score : Standing) → AtSomeMoment w ms (λ v. ShowsScore innings v t n score) → ((u : Station) (book : List Entry) → AtSomeMoment w ms (λ v. Shows v u book) → BeginsWith report.agreed.items book) → (n ≤ length report.agreed.items) × IsScoreOf score innings (take n report.agreed.items)
+      score_at : (w : Configuration MemDisk) (ms : MatchRun) (t : Station) (n : ℕ) (score : Standing) → AtSomeMoment w ms (λ v. ShowsScore innings v t n score) → ((u : Station) (book : List Entry) → AtSomeMoment w ms (λ v. Shows v u book) → BeginsWith report.agreed.items book) → (n ≤ length report.agreed.items) × IsScoreOf score innings (take n report.agreed.items)
       score_at w ms t n score h prefixes =
           let b = some_book w ms t n score h in
           let f = front_is report.agreed.items b.0 n b.2 (prefixes t b.0 b.1) in

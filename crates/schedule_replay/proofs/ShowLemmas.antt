@@ -18,10 +18,10 @@ use Rattle.headline.specs.declared.event.Station.TheVariants as stations
 use Rattle.schedule_replay.specs.declared.site.Site.{Site}
 use Rattle.schedule_replay.specs.declared.world.World.{World}
 use Rattle.schedule_replay.specs.declared.world_desk.WorldDesk.{WorldDesk}
-use Rattle.headline.specs.Worlds as worlds
+use Rattle.headline.specs.Configurations.{Process, Configuration, node}
 use Rattle.headline.specs.Runs.{process_shows}
 use Rattle.schedule_replay.specs.inner.Sites.{IsProcess}
-use Rattle.schedule_replay.specs.CodeWorlds.{IsBoardOf, IsWorld, MatchBoard, board_innings, board_state, code_site}
+use Rattle.schedule_replay.specs.CodeWorlds.{IsBoardOf, HasConfiguration, MatchBoard, board_innings, board_state, code_site}
 use Rattle.headline.specs.Headline.{ShowsScore}
 use Rattle.schedule_replay.specs.Replays.{ShowScores}
 use Rattle.schedule_replay.specs.inner.ShownScores.{Adds, BoardHasScore, BoardShows, CodeShows, DeskHasScore, DeskShows, HaveScores, IsBookScore, IsNotable, Notes, station_number}
@@ -47,20 +47,20 @@ pub adds_none : (u : Station) (old : List Shown) → Adds u (λ n s. ⊥) old ol
 adds_none u old t n s = (inl, ⊎_elim (λ c. c) (λ e. absurd e.1))
 
 -- at a desk's place
-abbrev ProcessScore : ℕ → worlds.Process MemDisk → ℕ → Standing → Type 0
+abbrev ProcessScore : ℕ → Process MemDisk → ℕ → Standing → Type 0
 ProcessScore innings p n score = (book : List Entry) × process_shows p book × (n ≡ length book) × IsScoreOf score innings book
 
-desk_shows : (site : Site) (innings : ℕ) (desk : Option WorldDesk) (disk : Option MemDisk) (p : worlds.Process MemDisk) (n : ℕ) (score : Standing) → site.innings_a_side ≡ innings → IsProcess site desk disk p → ProcessScore innings p n score ↔ DeskShows desk n score
+desk_shows : (site : Site) (innings : ℕ) (desk : Option WorldDesk) (disk : Option MemDisk) (p : Process MemDisk) (n : ℕ) (score : Standing) → site.innings_a_side ≡ innings → IsProcess site desk disk p → ProcessScore innings p n score ↔ DeskShows desk n score
 desk_shows site innings (Some k) disk p n score e h =
     let own = h.0.owner in
     let same : innings ≡ innings_of k = sym (own.same_innings ∙ e) in
     let book = (λ (s : DeskState MemDisk). s.book) (state_of k) in (
-      λ c. let d = subst (λ (q : worlds.Process MemDisk). ProcessScore innings q n score) h.2 c in subst (λ (i : ℕ). IsBookScore i book n score) same (subst (λ (b : List Entry). IsBookScore innings b n score) (sym d.1) (d.2, d.3)),
-      λ c. subst (λ (q : worlds.Process MemDisk). ProcessScore innings q n score) (sym h.2) (let d = subst (λ (i : ℕ). IsBookScore i book n score) (sym same) c in (book, refl, d.0, d.1)),
+      λ c. let d = subst (λ (q : Process MemDisk). ProcessScore innings q n score) h.2 c in subst (λ (i : ℕ). IsBookScore i book n score) same (subst (λ (b : List Entry). IsBookScore innings b n score) (sym d.1) (d.2, d.3)),
+      λ c. subst (λ (q : Process MemDisk). ProcessScore innings q n score) (sym h.2) (let d = subst (λ (i : ℕ). IsBookScore i book n score) (sym same) c in (book, refl, d.0, d.1)),
     )
 desk_shows site innings None (Some disk) p n score e h =
     let down = h.1.2 in
-    (λ c. let d = subst (λ (q : worlds.Process MemDisk). ProcessScore innings q n score) down c in absurd d.1, λ c. absurd c)
+    (λ c. let d = subst (λ (q : Process MemDisk). ProcessScore innings q n score) down c in absurd d.1, λ c. absurd c)
 desk_shows site innings None None p n score e h = absurd h
 
 -- at a board
@@ -89,12 +89,12 @@ turned : {P Q R : Type 0} → P ↔ Q → R ↔ Q → P ↔ R
 turned f g = (λ p. g.1 (f.0 p), λ r. f.1 (g.0 r))
 
 -- what a station of a world shows
-pub code_shows : (code : World) (w : worlds.World MemDisk) (t : Station) (n : ℕ) (score : Standing) → IsWorld code w → ShowsScore code.innings_a_side w t n score ↔ CodeShows code t n score
+pub code_shows : (code : World) (w : Configuration MemDisk) (t : Station) (n : ℕ) (score : Standing) → HasConfiguration code w → ShowsScore code.innings_a_side w t n score ↔ CodeShows code t n score
 code_shows code w (stations.Desk d) n score h =
     let site = code_site code d in
     let is = h.sites d in
     let own = h.named d in
-    desk_shows site code.innings_a_side site.desk site.disk (worlds.site w d).process n score own.same_innings is.process
+    desk_shows site code.innings_a_side site.desk site.disk (node w d).process n score own.same_innings is.process
 code_shows code w (stations.Board zero) n score h = (λ c. absurd (let e = c.1.1 in cc), λ c. absurd c)
 code_shows code w (stations.Board (suc i)) n score h =
     let items = code.boards.items in
@@ -104,12 +104,12 @@ code_shows code w (stations.Board (suc i)) n score h =
     subst (λ (o : Option BoardState). BoardScore code.innings_a_side o n score ↔ BoardShows (slice_get items i) n score) (sym there) shows
 
 -- what has a score shows it
-scored_desk : (site : Site) (innings : ℕ) (desk : Option WorldDesk) (disk : Option MemDisk) (p : worlds.Process MemDisk) (book : List Entry) → site.innings_a_side ≡ innings → IsProcess site desk disk p → DeskHasScore desk → process_shows p book → (score : Standing) × ProcessScore innings p (length book) score
+scored_desk : (site : Site) (innings : ℕ) (desk : Option WorldDesk) (disk : Option MemDisk) (p : Process MemDisk) (book : List Entry) → site.innings_a_side ≡ innings → IsProcess site desk disk p → DeskHasScore desk → process_shows p book → (score : Standing) × ProcessScore innings p (length book) score
 scored_desk site innings (Some k) disk p book e h d s =
     let own = h.0.owner in
-    let here : (λ (s : DeskState MemDisk). s.book) (state_of k) ≡ book = subst (λ (q : worlds.Process MemDisk). process_shows q book) h.2 s in
+    let here : (λ (s : DeskState MemDisk). s.book) (state_of k) ≡ book = subst (λ (q : Process MemDisk). process_shows q book) h.2 s in
     (d.0, (book, s, refl, subst (λ (i : ℕ). IsScoreOf d.0 i book) (own.same_innings ∙ e) (subst (IsScoreOf d.0 (innings_of k)) here d.1)))
-scored_desk site innings None (Some disk) p book e h d s = absurd (subst (λ (q : worlds.Process MemDisk). process_shows q book) h.1.2 s)
+scored_desk site innings None (Some disk) p book e h d s = absurd (subst (λ (q : Process MemDisk). process_shows q book) h.1.2 s)
 scored_desk site innings None None p book e h d s = absurd h
 
 scored_board : (innings : ℕ) (o : Option MatchBoard) (book : List Entry) → ((k : MatchBoard) → o ≡ Some k → board_innings k ≡ innings) → BoardHasScore o → (k : BoardState) × (option_map board_state o ≡ Some k) × (k.book ≡ book) → (score : Standing) × BoardScore innings (option_map board_state o) (length book) score
@@ -118,7 +118,7 @@ scored_board innings (Some k) book h d s =
     let here : (λ (s : BoardState). s.book) (board_state k) ≡ book = ap (λ (s : BoardState). s.book) (same_state (board_state k) s.0 s.1) ∙ s.2 in
     (d.0, (book, s, refl, subst (λ (i : ℕ). IsScoreOf d.0 i book) (h k refl) (subst (IsScoreOf d.0 (board_innings k)) here d.1)))
 
-pub code_scored : (code : World) (w : worlds.World MemDisk) → HaveScores code → IsWorld code w → ShowScores code.innings_a_side w
+pub code_scored : (code : World) (w : Configuration MemDisk) → HaveScores code → HasConfiguration code w → ShowScores code.innings_a_side w
 code_scored code w d h (stations.Desk A) book s = let is = h.sites A in let own = h.named A in scored_desk code.a code.innings_a_side code.a.desk code.a.disk w.a.process book own.same_innings is.process d.a_desk s
 code_scored code w d h (stations.Desk B) book s = let is = h.sites B in let own = h.named B in scored_desk code.b code.innings_a_side code.b.desk code.b.disk w.b.process book own.same_innings is.process d.b_desk s
 code_scored code w d h (stations.Board zero) book s = absurd (let e = s.1 in cc)
@@ -201,10 +201,10 @@ noted_next code k u old mid new f number h a t n score = (
         (e, subst (λ (x : Station). CodeShows code x n score) e c)
 
 -- what stands there of a station that is to be noted has the score that it shows
-pub one_noted : (code : World) (w : worlds.World MemDisk) (k : ℕ) (u : Station) (old mid : List Shown) → IsNotable code old w → NotedBelow code k old mid → (n : ℕ) (score other : Standing) → Contains mid (u, n, other) → CodeShows code u n score → other ≡ score
+pub one_noted : (code : World) (w : Configuration MemDisk) (k : ℕ) (u : Station) (old mid : List Shown) → IsNotable code old w → NotedBelow code k old mid → (n : ℕ) (score other : Standing) → Contains mid (u, n, other) → CodeShows code u n score → other ≡ score
 one_noted code w k u old mid h noted n score other c shows =
     ⊎_elim
-    (λ (o : Contains old (u, n, other)). h.one_score u n score other o ((code_shows code w u n score h.is_world).1 shows))
+    (λ (o : Contains old (u, n, other)). h.one_score u n score other o ((code_shows code w u n score h.has_configuration).1 shows))
     (λ (e : CodeShows code u n other × (station_number u < k)). code_one code u n score other shows e.0)
     ((noted u n other).0 c)
 
@@ -212,9 +212,9 @@ map_length : {X Y : Type 0} (f : X → Y) (xs : List X) → length (map f xs) �
 map_length f [] = refl
 map_length f (x ∷ xs) = ap suc (map_length f xs)
 
-pub few_boards : (code : World) (old : List Shown) (w : worlds.World MemDisk) → IsNotable code old w → length code.boards.items ≤ 4
+pub few_boards : (code : World) (old : List Shown) (w : Configuration MemDisk) → IsNotable code old w → length code.boards.items ≤ 4
 few_boards code old w h =
-    let is = h.is_world in
+    let is = h.has_configuration in
     let few = h.few_boards in
     let same = ap length is.board_states ∙ map_length board_state code.boards.items in
     omega (arith, few, same)
@@ -238,14 +238,14 @@ all_noted code k old new enough h w is t n score = (
     small (stations.Board (suc i)) n score p = let l = within code.boards.items i n score p in omega (arith, enough, l)
 
 -- the place of a desk is noted by its own name
-desk_name : (code : World) (old : List Shown) (w : worlds.World MemDisk) (d : DeskId) → IsNotable code old w → stations.Desk (code_site code d).name ≡ stations.Desk d
-desk_name code old w d h = let is = h.is_world in let own = is.named d in ap stations.Desk own.same_name
+desk_name : (code : World) (old : List Shown) (w : Configuration MemDisk) (d : DeskId) → IsNotable code old w → stations.Desk (code_site code d).name ≡ stations.Desk d
+desk_name code old w d h = let is = h.has_configuration in let own = is.named d in ap stations.Desk own.same_name
 
-pub desk_one_noted : (code : World) (w : worlds.World MemDisk) (k : ℕ) (d : DeskId) (old mid : List Shown) → IsNotable code old w → NotedBelow code k old mid → (n : ℕ) (score other : Standing) → Contains mid (stations.Desk (code_site code d).name, n, other) → DeskShows (code_site code d).desk n score → other ≡ score
+pub desk_one_noted : (code : World) (w : Configuration MemDisk) (k : ℕ) (d : DeskId) (old mid : List Shown) → IsNotable code old w → NotedBelow code k old mid → (n : ℕ) (score other : Standing) → Contains mid (stations.Desk (code_site code d).name, n, other) → DeskShows (code_site code d).desk n score → other ≡ score
 desk_one_noted code w k d old mid h noted n score other c shows =
     one_noted code w k (stations.Desk d) old mid h noted n score other (subst (λ (t : Station). Contains mid (t, n, other)) (desk_name code old w d h) c) shows
 
-pub desk_noted_next : (code : World) (w : worlds.World MemDisk) (k : ℕ) (d : DeskId) (old mid new : List Shown) → IsNotable code old w → station_number (stations.Desk d) ≡ k → NotedBelow code k old mid → Adds (stations.Desk (code_site code d).name) (DeskShows (code_site code d).desk) mid new → NotedBelow code (k + 1) old new
+pub desk_noted_next : (code : World) (w : Configuration MemDisk) (k : ℕ) (d : DeskId) (old mid new : List Shown) → IsNotable code old w → station_number (stations.Desk d) ≡ k → NotedBelow code k old mid → Adds (stations.Desk (code_site code d).name) (DeskShows (code_site code d).desk) mid new → NotedBelow code (k + 1) old new
 desk_noted_next code w k d old mid new h number noted adds =
     noted_next code k (stations.Desk d) old mid new tt number noted (subst (λ (t : Station). Adds t (DeskShows (code_site code d).desk) mid new) (desk_name code old w d h) adds)
 
@@ -256,7 +256,7 @@ board_number i = let e : suc i ≡ i + 1 = omega arith in ap stations.Board e
 board_scores : (code : World) (i : ℕ) (k : MatchBoard) (m : ℕ) (score : Standing) → slice_get code.boards.items i ≡ Some k → IsBookScore (board_innings k) ((λ (s : BoardState). s.book) (board_state k)) m score → CodeShows code (stations.Board (suc i)) m score
 board_scores code i k m score e h = subst (λ (o : Option MatchBoard). BoardShows o m score) (sym e) h
 
-pub board_one_noted : (code : World) (w : worlds.World MemDisk) (i : ℕ) (k : MatchBoard) (m : ℕ) (score : Standing) (old mid : List Shown) → IsNotable code old w → slice_get code.boards.items i ≡ Some k → IsBookScore (board_innings k) ((λ (s : BoardState). s.book) (board_state k)) m score → NotedBelow code (i + 2) old mid → (other : Standing) → Contains mid (stations.Board (i + 1), m, other) → other ≡ score
+pub board_one_noted : (code : World) (w : Configuration MemDisk) (i : ℕ) (k : MatchBoard) (m : ℕ) (score : Standing) (old mid : List Shown) → IsNotable code old w → slice_get code.boards.items i ≡ Some k → IsBookScore (board_innings k) ((λ (s : BoardState). s.book) (board_state k)) m score → NotedBelow code (i + 2) old mid → (other : Standing) → Contains mid (stations.Board (i + 1), m, other) → other ≡ score
 board_one_noted code w i k m score old mid h e b noted other c =
     one_noted code w (i + 2) (stations.Board (suc i)) old mid h noted m score other (subst (λ (t : Station). Contains mid (t, m, other)) (sym (board_number i)) c) (board_scores code i k m score e b)
 

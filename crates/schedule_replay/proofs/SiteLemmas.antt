@@ -29,12 +29,12 @@ use Rattle.schedule_replay.specs.declared.site.Site.{Site}
 use Rattle.headline.specs.declared.version.FileVersion.{FileVersion}
 use Rattle.headline.specs.declared.version.FileVersion.TheVariants as versions
 use Rattle.schedule_replay.specs.declared.world_desk.WorldDesk.{WorldDesk}
-use Rattle.headline.specs.Worlds as worlds
-use Rattle.headline.specs.Worlds.{Process, Running, Down}
-use Rattle.headline.specs.Steps.{Answer, Breaks}
+use Rattle.headline.specs.Configurations.{Process, Running, Down, Node, process_disk, process_votes}
+use Rattle.headline.specs.Answers.{Answer}
+use Rattle.headline.specs.DeskFaults.{Breaks}
 use Rattle.headline.specs.Match.{format_of, match_of, most_bytes}
 use Rattle.schedule_replay.specs.Answers.{AreBytesOf, answer_of}
-use Rattle.schedule_replay.specs.inner.Sites.{BreaksDown, IsDue, IsProcess, IsSite, IsWorldDisk, PutsDown, SameSite, disk_at, votes_at}
+use Rattle.schedule_replay.specs.inner.Sites.{BreaksDown, IsDue, IsProcess, HasNode, IsWorldDisk, PutsDown, SameSite, disk_at, votes_at}
 use Rattle.schedule_replay.specs.WorldDesks.{IsOf, SameOwner, disk_of, game_of, innings_of, rules_of, state_of, version_of, view_of}
 
 abbrev pub votes_of : WorldDesk → List Ballot
@@ -54,13 +54,13 @@ pub still_of : (name : DeskId) (version : FileVersion) (game innings : ℕ) (k l
 still_of name version game innings k l own o = record { same_name = o.name ∙ own.same_name; same_version = o.version ∙ own.same_version; same_game = o.same_game ∙ own.same_game; same_innings = o.innings ∙ own.same_innings }
 
 -- a site whose desk runs
-pub record Runs (site : Site) (k : WorldDesk) (x : worlds.Site MemDisk) : Type 0 where
+pub record Runs (site : Site) (k : WorldDesk) (x : Node MemDisk) : Type 0 where
   pub owner : IsOf site.name x.version site.game site.innings_a_side k
   pub on_disk : IsWorldDisk site.version site.due (disk_of k)
   pub no_disk : site.disk ≡ None
   pub process : x.process ≡ Running (state_of k)
 
-pub running_is : (site : Site) (k : WorldDesk) (x : worlds.Site MemDisk) → site.desk ≡ Some k → IsSite site x → Runs site k x
+pub running_is : (site : Site) (k : WorldDesk) (x : Node MemDisk) → site.desk ≡ Some k → HasNode site x → Runs site k x
 running_is site k x here h =
     let p : IsProcess site (Some k) site.disk x.process = subst (λ (o : Option WorldDesk). IsProcess site o site.disk x.process) here h.process in
     let own = p.0.owner in
@@ -72,7 +72,7 @@ running_is site k x here h =
     }
 
 -- the site with its desk after a call, whatever is due now
-pub runs_again : (site : Site) (k l : WorldDesk) (due : Option Fault) (x : worlds.Site MemDisk) → site.desk ≡ Some k → IsSite site x → SameOwner k l → IsDue due (faults_of (disk_of l)).due → IsSite (record site { desk = Some l; due = due }) (record x { process = Running (state_of l); due = due })
+pub runs_again : (site : Site) (k l : WorldDesk) (due : Option Fault) (x : Node MemDisk) → site.desk ≡ Some k → HasNode site x → SameOwner k l → IsDue due (faults_of (disk_of l)).due → HasNode (record site { desk = Some l; due = due }) (record x { process = Running (state_of l); due = due })
 runs_again site k l due x here h o f =
     let r = running_is site k x here h in
     let own = still_of site.name x.version site.game site.innings_a_side k l r.owner o in
@@ -91,7 +91,7 @@ runs_again site k l due x here h o f =
     }
 
 -- after a call that didn't fail at its device
-pub runs_on : (site : Site) (k l : WorldDesk) (x : worlds.Site MemDisk) → site.desk ≡ Some k → IsSite site x → SameOwner k l → faults_of (disk_of l) ≡ faults_of (disk_of k) → IsSite (record site { desk = Some l }) (record x { process = Running (state_of l) })
+pub runs_on : (site : Site) (k l : WorldDesk) (x : Node MemDisk) → site.desk ≡ Some k → HasNode site x → SameOwner k l → faults_of (disk_of l) ≡ faults_of (disk_of k) → HasNode (record site { desk = Some l }) (record x { process = Running (state_of l) })
 runs_on site k l x here h o f =
     let r = running_is site k x here h in
     let disk = r.on_disk in
@@ -136,23 +136,23 @@ down_is site disk votes d l v on =
 
 -- the disk and the votes of a site, whether its desk runs or is down
 pub record HasDisk (site : Site) (p : Process MemDisk) : Type 0 where
-  pub disk : disk_at site.desk site.disk ≡ Some (worlds.disk_of p)
-  pub votes : votes_at site.desk site.votes ≡ length (worlds.votes_of p)
-  pub cap : cap_of (worlds.disk_of p) ≡ most_bytes site.version
+  pub disk : disk_at site.desk site.disk ≡ Some (process_disk p)
+  pub votes : votes_at site.desk site.votes ≡ length (process_votes p)
+  pub cap : cap_of (process_disk p) ≡ most_bytes site.version
 
 pub has_disk : (site : Site) (desk : Option WorldDesk) (disk : Option MemDisk) (p : Process MemDisk) → site.desk ≡ desk → site.disk ≡ disk → IsProcess site desk disk p → HasDisk site p
 has_disk site (Some k) disk p d l (own, none, is) =
     let on = own.on_disk in
     record {
-      disk = ap (λ (o : Option WorldDesk). disk_at o site.disk) d ∙ ap (λ (q : Process MemDisk). Some (worlds.disk_of q)) (sym is);
-      votes = ap (λ (o : Option WorldDesk). votes_at o site.votes) d ∙ ap (λ (q : Process MemDisk). length (worlds.votes_of q)) (sym is);
-      cap = ap (λ (q : Process MemDisk). cap_of (worlds.disk_of q)) is ∙ on.cap;
+      disk = ap (λ (o : Option WorldDesk). disk_at o site.disk) d ∙ ap (λ (q : Process MemDisk). Some (process_disk q)) (sym is);
+      votes = ap (λ (o : Option WorldDesk). votes_at o site.votes) d ∙ ap (λ (q : Process MemDisk). length (process_votes q)) (sym is);
+      cap = ap (λ (q : Process MemDisk). cap_of (process_disk q)) is ∙ on.cap;
     }
 has_disk site None (Some disk) p d l (on, (votes, n, is)) =
     record {
-      disk = (λ i. disk_at (d i) (l i)) ∙ ap (λ (q : Process MemDisk). Some (worlds.disk_of q)) (sym is);
-      votes = ap (λ (o : Option WorldDesk). votes_at o site.votes) d ∙ sym n ∙ ap (λ (q : Process MemDisk). length (worlds.votes_of q)) (sym is);
-      cap = ap (λ (q : Process MemDisk). cap_of (worlds.disk_of q)) is ∙ on.cap;
+      disk = (λ i. disk_at (d i) (l i)) ∙ ap (λ (q : Process MemDisk). Some (process_disk q)) (sym is);
+      votes = ap (λ (o : Option WorldDesk). votes_at o site.votes) d ∙ sym n ∙ ap (λ (q : Process MemDisk). length (process_votes q)) (sym is);
+      cap = ap (λ (q : Process MemDisk). cap_of (process_disk q)) is ∙ on.cap;
     }
 has_disk site None None p d l h = absurd h
 
@@ -160,19 +160,19 @@ same_some : (a b : MemDisk) → Some a ≡ Some b → b ≡ a
 same_some a b e = cc
 
 -- a desk that is put down keeps its votes and its disk
-pub put_down_is : (old new : Site) (p : Process MemDisk) → HasDisk old p → old.due ≡ None → PutsDown old new → (after : MemDisk) × (new.disk ≡ Some after) × SetsPlan Calm (worlds.disk_of p) after × IsProcess new new.desk new.disk (Down (worlds.votes_of p) after)
+pub put_down_is : (old new : Site) (p : Process MemDisk) → HasDisk old p → old.due ≡ None → PutsDown old new → (after : MemDisk) × (new.disk ≡ Some after) × SetsPlan Calm (process_disk p) after × IsProcess new new.desk new.disk (Down (process_votes p) after)
 put_down_is old new p h due put =
     let d = put.disk in
-    let there : d.0 ≡ worlds.disk_of p = same_some (worlds.disk_of p) d.0 (sym h.disk ∙ d.2) in
+    let there : d.0 ≡ process_disk p = same_some (process_disk p) d.0 (sym h.disk ∙ d.2) in
     let plan = subst (λ (z : MemDisk). SetsPlan Calm z d.1) there d.4 in
     let none : new.due ≡ None = put.due ∙ due in
     let never : (faults_of d.1).due ≡ Never = calm_plan d.1 plan.plan in
     let faults : IsDue new.due (faults_of d.1).due = subst (λ (o : Option Fault). IsDue o (faults_of d.1).due) (sym none) never in
     let on : IsWorldDisk new.version new.due d.1 = record { cap = plan.cap ∙ h.cap ∙ ap most_bytes (sym put.version); faults = faults } in
-    (d.1, d.3, plan, down_is new d.1 (worlds.votes_of p) put.desk d.3 (put.counted ∙ h.votes) on)
+    (d.1, d.3, plan, down_is new d.1 (process_votes p) put.desk d.3 (put.counted ∙ h.votes) on)
 
 -- the site's desk has failed, or is down, by the fault that was due
-pub broken_site : (old new : Site) (k l : WorldDesk) (x : worlds.Site MemDisk) (cause : Cause) (seen : Seen) (due : Option Fault) → old.due ≡ due → old.desk ≡ Some k → IsSite old x → SameOwner k l → ((faults_of (disk_of k)).due ≡ Never → ⊥) → (IsOnce (faults_of (disk_of k)).due → (faults_of (disk_of l)).due ≡ Never) → answer_of (seens.Refused cause) ≡ Some Answer.DeviceFailed → BreaksDown due cause (record old { desk = Some l }) seen new → (y : worlds.Site MemDisk) × (answer : Answer Refusal) × (answer_of seen ≡ Some answer) × Breaks ((match_of old.game old.innings_a_side).view old.name x.version) x (state_of l) answer y × IsSite new y
+pub broken_site : (old new : Site) (k l : WorldDesk) (x : Node MemDisk) (cause : Cause) (seen : Seen) (due : Option Fault) → old.due ≡ due → old.desk ≡ Some k → HasNode old x → SameOwner k l → ((faults_of (disk_of k)).due ≡ Never → ⊥) → (IsOnce (faults_of (disk_of k)).due → (faults_of (disk_of l)).due ≡ Never) → answer_of (seens.Refused cause) ≡ Some Answer.DeviceFailed → BreaksDown due cause (record old { desk = Some l }) seen new → (y : Node MemDisk) × (answer : Answer Refusal) × (answer_of seen ≡ Some answer) × Breaks ((match_of old.game old.innings_a_side).view old.name x.version) x (state_of l) answer y × HasNode new y
 broken_site old new k l x cause seen None d here h o calm spent told q =
     let r = running_is old k x here h in
     let disk = r.on_disk in
@@ -181,8 +181,8 @@ broken_site old new k l x cause seen (Some Fail) d here h o calm spent told q =
     let r = running_is old k x here h in
     let disk = r.on_disk in
     let once : IsOnce (faults_of (disk_of k)).due = subst (λ (z : Option Fault). IsDue z (faults_of (disk_of k)).due) d disk.faults in
-    let y : worlds.Site MemDisk = record x { process = Running (state_of l); due = None } in
-    let is : IsSite new y = subst (λ (z : Site). IsSite z y) (sym q.1) (runs_again old k l None x here h o (spent once)) in
+    let y : Node MemDisk = record x { process = Running (state_of l); due = None } in
+    let is : HasNode new y = subst (λ (z : Site). HasNode z y) (sym q.1) (runs_again old k l None x here h o (spent once)) in
     (y, Answer.DeviceFailed, ap answer_of q.0 ∙ told, (Fail, h.due ∙ d, (refl, refl)), is)
 broken_site old new k l x cause seen (Some Stop) d here h o calm spent told q =
     let r = running_is old k x here h in
@@ -191,8 +191,8 @@ broken_site old new k l x cause seen (Some Stop) d here h o calm spent told q =
     let p : Process MemDisk = Running (state_of l) in
     let has : HasDisk (record old { desk = Some l; due = None }) p = record { disk = refl; votes = refl; cap = o.cap ∙ disk.cap } in
     let down = put_down_is (record old { desk = Some l; due = None }) new p has refl put in
-    let y : worlds.Site MemDisk = record x { process = Down (votes_of l) down.0; due = None } in
-    let is : IsSite new y = record { version = h.version ∙ sym put.version; process = down.3; due = sym put.due } in
+    let y : Node MemDisk = record x { process = Down (votes_of l) down.0; due = None } in
+    let is : HasNode new y = record { version = h.version ∙ sym put.version; process = down.3; due = sym put.due } in
     (y, Answer.Stopped, ap answer_of q.0, (Stop, h.due ∙ d, (down.0, refl, sets_plan_stays old.name x.version old.game Calm (disk_of l) down.0 down.2, refl)), is)
 
 -- the site after that is of the same match

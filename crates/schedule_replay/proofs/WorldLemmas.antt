@@ -20,17 +20,18 @@ use Rattle.schedule_replay.specs.declared.seen.WorldRefusal.{WorldRefusal}
 use Rattle.schedule_replay.specs.declared.site.Site.{Site}
 use Rattle.schedule_replay.specs.declared.world.World.{World}
 use Rattle.schedule_replay.specs.declared.world_desk.WorldDesk.{WorldDesk}
-use Rattle.headline.specs.Worlds as worlds
-use Rattle.headline.specs.Worlds.{Process}
+use Rattle.headline.specs.Configurations.{Process, Node, Configuration, node, process_disk, with_disk, with_node}
 use Rattle.headline.specs.Events.{station_of}
-use Rattle.headline.specs.Steps.{Answer, AtDesk, StepAt}
+use Rattle.headline.specs.Answers.{Answer}
+use Rattle.headline.specs.DeskSteps.{AtDesk}
+use Rattle.headline.specs.Steps.{StepAt}
 use Rattle.schedule_replay.specs.Refusals.{LeftByWant, RefusesEvent, down_at, first_cause, is_down, no_station, refusal_of}
 use Rattle.headline.specs.Match.{match_of}
 use Rattle.schedule_replay.specs.Answers.{AreBytesOf, answer_of}
-use Rattle.schedule_replay.specs.Plans.{HasPlan, PlansFault, StaysDue, due_on, plan_by}
-use Rattle.schedule_replay.specs.inner.Sites.{IsProcess, IsSite, KeepsDue, SiteLeft, SiteSteps, SiteTakes, SyncsSite, disk_at, site_cause}
+use Rattle.schedule_replay.specs.Plans.{HasPlan, LeavesPlan, StaysDue, asks_fault, due_on}
+use Rattle.schedule_replay.specs.inner.Sites.{IsProcess, HasNode, KeepsDue, SiteLeft, SiteSteps, SiteTakes, SyncsSite, disk_at, site_cause}
 use Rattle.schedule_replay.specs.inner.Sites as sites
-use Rattle.schedule_replay.specs.CodeWorlds.{IsBoardOf, IsSiteOf, IsWorld, RefusesTo, StepsTo, board_state, code_site}
+use Rattle.schedule_replay.specs.CodeWorlds.{IsBoardOf, IsSiteOf, HasConfiguration, RefusesTo, StepsTo, board_state, code_site}
 use Rattle.schedule_replay.proofs.SiteLemmas.{HasDisk, has_disk}
 
 down_is : (site : Site) (desk : Option WorldDesk) (disk : Option MemDisk) (p : Process MemDisk) → IsProcess site desk disk p → is_down p ≡ is_none desk
@@ -62,10 +63,10 @@ pub record Changes (d : DeskId) (old new : World) (site : Site) : Type 0 where
   pub boards : new.boards.items ≡ old.boards.items
   pub same : sites.SameSite (code_site old d) site
 
-site_there : (d c : DeskId) (old new : World) (w : worlds.World MemDisk) (y : worlds.Site MemDisk) (out : List Message) → code_site new (other d) ≡ code_site old (other d) → IsSite (code_site new d) y → ((e : DeskId) → IsSite (code_site old e) (worlds.site w e)) → IsSite (code_site new c) (worlds.site (worlds.with_site w d y out) c)
+site_there : (d c : DeskId) (old new : World) (w : Configuration MemDisk) (y : Node MemDisk) (out : List Message) → code_site new (other d) ≡ code_site old (other d) → HasNode (code_site new d) y → ((e : DeskId) → HasNode (code_site old e) (node w e)) → HasNode (code_site new c) (node (with_node w d y out) c)
 site_there A A old new w y out q i h = i
-site_there A B old new w y out q i h = subst (λ (z : Site). IsSite z w.b) (sym q) (h B)
-site_there B A old new w y out q i h = subst (λ (z : Site). IsSite z w.a) (sym q) (h A)
+site_there A B old new w y out q i h = subst (λ (z : Site). HasNode z w.b) (sym q) (h B)
+site_there B A old new w y out q i h = subst (λ (z : Site). HasNode z w.a) (sym q) (h A)
 site_there B B old new w y out q i h = i
 
 name_there : (d c : DeskId) (old new : World) (game innings : ℕ) → code_site new (other d) ≡ code_site old (other d) → IsSiteOf d game innings (code_site new d) → ((e : DeskId) → IsSiteOf e game innings (code_site old e)) → IsSiteOf c game innings (code_site new c)
@@ -74,23 +75,23 @@ name_there A B old new game innings q i h = subst (IsSiteOf B game innings) (sym
 name_there B A old new game innings q i h = subst (IsSiteOf A game innings) (sym q) (h A)
 name_there B B old new game innings q i h = i
 
-with_site_boards : (w : worlds.World MemDisk) (d : DeskId) (y : worlds.Site MemDisk) (out : List Message) → (λ (v : worlds.World MemDisk). v.boards) (worlds.with_site w d y out) ≡ w.boards
-with_site_boards w A y out = refl
-with_site_boards w B y out = refl
+with_node_boards : (w : Configuration MemDisk) (d : DeskId) (y : Node MemDisk) (out : List Message) → (λ (v : Configuration MemDisk). v.boards) (with_node w d y out) ≡ w.boards
+with_node_boards w A y out = refl
+with_node_boards w B y out = refl
 
-with_site_sent : (w : worlds.World MemDisk) (d : DeskId) (y : worlds.Site MemDisk) (out : List Message) → (λ (v : worlds.World MemDisk). v.sent) (worlds.with_site w d y out) ≡ w.sent ++ out
-with_site_sent w A y out = refl
-with_site_sent w B y out = refl
+with_node_sent : (w : Configuration MemDisk) (d : DeskId) (y : Node MemDisk) (out : List Message) → (λ (v : Configuration MemDisk). v.sent) (with_node w d y out) ≡ w.sent ++ out
+with_node_sent w A y out = refl
+with_node_sent w B y out = refl
 
 -- the world after one of its sites has changed
-put : (d : DeskId) (old new : World) (site : Site) (w : worlds.World MemDisk) (y : worlds.Site MemDisk) (out : List Message) → Changes d old new site → IsWorld old w → IsSite site y → AreBytesOf old.game new.sent.items (w.sent ++ out) → IsWorld new (worlds.with_site w d y out)
+put : (d : DeskId) (old new : World) (site : Site) (w : Configuration MemDisk) (y : Node MemDisk) (out : List Message) → Changes d old new site → HasConfiguration old w → HasNode site y → AreBytesOf old.game new.sent.items (w.sent ++ out) → HasConfiguration new (with_node w d y out)
 put d old new site w y out c h i b =
     let named : IsSiteOf d new.game new.innings_a_side (code_site new d) =
     let n = h.named d in
     let s = c.same in
     subst (IsSiteOf d new.game new.innings_a_side) (sym c.here) (record { same_name = s.name ∙ n.same_name; same_game = s.same_game ∙ n.same_game ∙ sym c.same_game; same_innings = s.innings ∙ n.same_innings ∙ sym c.same_innings }) in
     let others : (e : DeskId) → IsSiteOf e new.game new.innings_a_side (code_site old e) = λ e. let n = h.named e in record { same_name = n.same_name; same_game = n.same_game ∙ sym c.same_game; same_innings = n.same_innings ∙ sym c.same_innings } in
-    let here : IsSite (code_site new d) y = subst (λ (z : Site). IsSite z y) (sym c.here) i in
+    let here : HasNode (code_site new d) y = subst (λ (z : Site). HasNode z y) (sym c.here) i in
     let boards_game : All (IsBoardOf new.game new.innings_a_side) new.boards.items =
     subst (λ (n : ℕ). All (IsBoardOf n new.innings_a_side) new.boards.items) (sym c.same_game)
     (subst (λ (n : ℕ). All (IsBoardOf old.game n) new.boards.items) (sym c.same_innings) (subst (All (IsBoardOf old.game old.innings_a_side)) (sym c.boards) h.boards_are)) in
@@ -98,92 +99,92 @@ put d old new site w y out c h i b =
       sites = λ e. site_there d e old new w y out c.there here h.sites;
       named = λ e. name_there d e old new new.game new.innings_a_side c.there named others;
       boards_are = boards_game;
-      board_states = with_site_boards w d y out ∙ h.board_states ∙ ap (map board_state) (sym c.boards);
-      bytes = subst (λ (n : ℕ). AreBytesOf n new.sent.items ((λ (v : worlds.World MemDisk). v.sent) (worlds.with_site w d y out))) (sym c.same_game) (subst (AreBytesOf old.game new.sent.items) (sym (with_site_sent w d y out)) b);
+      board_states = with_node_boards w d y out ∙ h.board_states ∙ ap (map board_state) (sym c.boards);
+      bytes = subst (λ (n : ℕ). AreBytesOf n new.sent.items ((λ (v : Configuration MemDisk). v.sent) (with_node w d y out))) (sym c.same_game) (subst (AreBytesOf old.game new.sent.items) (sym (with_node_sent w d y out)) b);
     }
 
-unmoved : (d : DeskId) (w : worlds.World MemDisk) → worlds.with_site w d (worlds.site w d) [] ≡ w
+unmoved : (d : DeskId) (w : Configuration MemDisk) → with_node w d (node w d) [] ≡ w
 unmoved A w = λ i. record { a = w.a; b = w.b; boards = w.boards; sent = append-nil w.sent i }
 unmoved B w = λ i. record { a = w.a; b = w.b; boards = w.boards; sent = append-nil w.sent i }
 
-no_bytes : (d : DeskId) (old new : World) (w : worlds.World MemDisk) → new.sent.items ≡ old.sent.items → IsWorld old w → AreBytesOf old.game new.sent.items (w.sent ++ [])
+no_bytes : (d : DeskId) (old new : World) (w : Configuration MemDisk) → new.sent.items ≡ old.sent.items → HasConfiguration old w → AreBytesOf old.game new.sent.items (w.sent ++ [])
 no_bytes d old new w e h = rw (append-nil, e) h.bytes
 
 -- the world stays
-stays : (d : DeskId) (old new : World) (site : Site) (w : worlds.World MemDisk) → Changes d old new site → site ≡ code_site old d → new.sent.items ≡ old.sent.items → IsWorld old w → IsWorld new w
+stays : (d : DeskId) (old new : World) (site : Site) (w : Configuration MemDisk) → Changes d old new site → site ≡ code_site old d → new.sent.items ≡ old.sent.items → HasConfiguration old w → HasConfiguration new w
 stays d old new site w c e items h =
-    subst (IsWorld new) (unmoved d w) (put d old new site w (worlds.site w d) [] c h (subst (λ (z : Site). IsSite z (worlds.site w d)) (sym e) (h.sites d)) (no_bytes d old new w items h))
+    subst (HasConfiguration new) (unmoved d w) (put d old new site w (node w d) [] c h (subst (λ (z : Site). HasNode z (node w d)) (sym e) (h.sites d)) (no_bytes d old new w items h))
 
 -- the first cause at the site is that of the world
-cause_is : (d : DeskId) (old : World) (w : worlds.World MemDisk) (event : Event) → station_of event ≡ stations.Desk d → IsWorld old w → refusal_of w event ≡ site_cause (code_site old d) old.sent.items event
+cause_is : (d : DeskId) (old : World) (w : Configuration MemDisk) (event : Event) → station_of event ≡ stations.Desk d → HasConfiguration old w → refusal_of w event ≡ site_cause (code_site old d) old.sent.items event
 cause_is d old w event e h =
     let site = code_site old d in
     let i = h.sites d in
-    let down : is_down (worlds.site w d).process ≡ is_none site.desk = down_is site site.desk site.disk (worlds.site w d).process i.process in
+    let down : is_down (node w d).process ≡ is_none site.desk = down_is site site.desk site.disk (node w d).process i.process in
     let many = sent_length old.game old.sent.items w.sent h.bytes in
     (λ j. first_cause (no_station w (e j)) (down_at w (e j)) (length w.sent) event) ∙ (λ j. first_cause false (down j) (many j) event)
 
 -- all that a step at a site gives, by the match's names
-abbrev SiteGives : worlds.Site MemDisk → List Message → Event → Seen → Site → List Datagram → DeskId → ℕ → ℕ → Type 0
+abbrev SiteGives : Node MemDisk → List Message → Event → Seen → Site → List Datagram → DeskId → ℕ → ℕ → Type 0
 SiteGives x messages event seen new after name game innings =
-    (y : worlds.Site MemDisk) × (out : List Message) × (answer : Answer Refusal) × (answer_of seen ≡ Some answer)
-    × AtDesk (match_of game innings) messages name event x answer y out × IsSite new y × AreBytesOf game after (messages ++ out)
+    (y : Node MemDisk) × (out : List Message) × (answer : Answer Refusal) × (answer_of seen ≡ Some answer)
+    × AtDesk (match_of game innings) messages name event x answer y out × HasNode new y × AreBytesOf game after (messages ++ out)
 
 desk_eq : (c d : DeskId) → stations.Desk c ≡ stations.Desk d → d ≡ c
 desk_eq c d q = cc
 
 -- what the site plans is planned in the world
-plans : (d : DeskId) (w : worlds.World MemDisk) (site : Site) (y : worlds.Site MemDisk) (out : List Message) (event : Event) → station_of event ≡ stations.Desk d → IsSite site y → HasPlan event (disk_at site.desk site.disk) → PlansFault event (worlds.with_site w d y out)
+plans : (d : DeskId) (w : Configuration MemDisk) (site : Site) (y : Node MemDisk) (out : List Message) (event : Event) → station_of event ≡ stations.Desk d → HasNode site y → HasPlan event (disk_at site.desk site.disk) → LeavesPlan event (with_node w d y out)
 plans d w site y out event e i h c q =
     let has : HasDisk site y.process = has_disk site site.desk site.disk y.process refl refl i.process in
-    let here : worlds.site (worlds.with_site w d y out) c ≡ y = ap (worlds.site (worlds.with_site w d y out)) (desk_eq d c (sym e ∙ q)) ∙ changed d in
-    subst (λ (x : worlds.Site MemDisk). HasPlan event (Some (worlds.disk_of x.process))) (sym here) (subst (HasPlan event) has.disk h)
+    let here : node (with_node w d y out) c ≡ y = ap (node (with_node w d y out)) (desk_eq d c (sym e ∙ q)) ∙ changed d in
+    subst (λ (x : Node MemDisk). HasPlan event (Some (process_disk x.process))) (sym here) (subst (HasPlan event) has.disk h)
   where
-    changed : (d : DeskId) → worlds.site (worlds.with_site w d y out) d ≡ y
+    changed : (d : DeskId) → node (with_node w d y out) d ≡ y
     changed A = refl
     changed B = refl
 
 -- what stays due at the site stays so in the world
-stays_due : (old new : Site) (x y : worlds.Site MemDisk) → IsSite old x → IsSite new y → KeepsDue old new → StaysDue y.due (Some (worlds.disk_of x.process)) (Some (worlds.disk_of y.process))
+stays_due : (old new : Site) (x y : Node MemDisk) → HasNode old x → HasNode new y → KeepsDue old new → StaysDue y.due (Some (process_disk x.process)) (Some (process_disk y.process))
 stays_due old new x y h i keeps fault due =
     let before : HasDisk old x.process = has_disk old old.desk old.disk x.process refl refl h.process in
     let after : HasDisk new y.process = has_disk new new.desk new.disk y.process refl refl i.process in
     ap due_on (sym after.disk) ∙ keeps fault (sym i.due ∙ due) ∙ ap due_on before.disk
 
-counts : (d : DeskId) (w : worlds.World MemDisk) (y : worlds.Site MemDisk) (out : List Message) → StaysDue y.due (Some (worlds.disk_of (worlds.site w d).process)) (Some (worlds.disk_of y.process)) → (c : DeskId) → StaysDue (worlds.site (worlds.with_site w d y out) c).due (Some (worlds.disk_of (worlds.site w c).process)) (Some (worlds.disk_of (worlds.site (worlds.with_site w d y out) c).process))
+counts : (d : DeskId) (w : Configuration MemDisk) (y : Node MemDisk) (out : List Message) → StaysDue y.due (Some (process_disk (node w d).process)) (Some (process_disk y.process)) → (c : DeskId) → StaysDue (node (with_node w d y out) c).due (Some (process_disk (node w c).process)) (Some (process_disk (node (with_node w d y out) c).process))
 counts A w y out h A = h
 counts A w y out h B = λ fault due. refl
 counts B w y out h A = λ fault due. refl
 counts B w y out h B = h
 
 -- an event that a site has taken
-pub desk_steps : (d : DeskId) (old new : World) (site : Site) (event : Event) (seen : Seen) → station_of event ≡ stations.Desk d → Changes d old new site → SiteTakes event (code_site old d) old.sent.items (Ok seen) site new.sent.items → HasPlan event (disk_at site.desk site.disk) → (plan_by event ≡ None → KeepsDue (code_site old d) site) → StepsTo event old seen new
+pub desk_steps : (d : DeskId) (old new : World) (site : Site) (event : Event) (seen : Seen) → station_of event ≡ stations.Desk d → Changes d old new site → SiteTakes event (code_site old d) old.sent.items (Ok seen) site new.sent.items → HasPlan event (disk_at site.desk site.disk) → (asks_fault event ≡ false → KeepsDue (code_site old d) site) → StepsTo event old seen new
 desk_steps d old new site event seen e c takes planned counted w h =
     let names = h.named d in
     let here = code_site old d in
     let own : AreBytesOf here.game old.sent.items w.sent = subst (λ (n : ℕ). AreBytesOf n old.sent.items w.sent) (sym names.same_game) h.bytes in
-    let given = at_site d old.game old.innings_a_side here names (λ n g i. SiteGives (worlds.site w d) w.sent event seen site new.sent.items n g i) (takes.1 (worlds.site w d) w.sent (h.sites d) own) in
-    let after : worlds.World MemDisk = worlds.with_site w d given.0 given.1 in
+    let given = at_site d old.game old.innings_a_side here names (λ n g i. SiteGives (node w d) w.sent event seen site new.sent.items n g i) (takes.1 (node w d) w.sent (h.sites d) own) in
+    let after : Configuration MemDisk = with_node w d given.0 given.1 in
     let step : StepAt (match_of old.game old.innings_a_side) w event (station_of event) given.2 after =
     subst (λ (t : Station). StepAt (match_of old.game old.innings_a_side) w event t given.2 after) (sym e) (given.0, given.1, given.4, refl) in
-    (cause_is d old w event e h ∙ takes.0, (given.2, after, given.3, step, put d old new site w given.0 given.1 c h given.5 given.6, plans d w site given.0 given.1 event e given.5 planned, λ none. counts d w given.0 given.1 (stays_due here site (worlds.site w d) given.0 (h.sites d) given.5 (counted none))))
+    (cause_is d old w event e h ∙ takes.0, (given.2, after, given.3, step, put d old new site w given.0 given.1 c h given.5 given.6, plans d w site given.0 given.1 event e given.5 planned, λ none. counts d w given.0 given.1 (stays_due here site (node w d) given.0 (h.sites d) given.5 (counted none))))
 
 -- the disk of a site may have been synced
-synced : (d c : DeskId) (old new : World) (site : Site) (w : worlds.World MemDisk) → c ≡ d → Changes d old new site → SyncsSite (code_site old d) site → new.sent.items ≡ old.sent.items → IsWorld old w → (v : worlds.World MemDisk) × Rattle.schedule_replay.specs.Refusals.MaySyncAt (match_of old.game old.innings_a_side) w c v × IsWorld new v
+synced : (d c : DeskId) (old new : World) (site : Site) (w : Configuration MemDisk) → c ≡ d → Changes d old new site → SyncsSite (code_site old d) site → new.sent.items ≡ old.sent.items → HasConfiguration old w → (v : Configuration MemDisk) × Rattle.schedule_replay.specs.Refusals.MaySyncAt (match_of old.game old.innings_a_side) w c v × HasConfiguration new v
 synced d c old new site w q change syncs items h =
     let names = h.named d in
     let here = code_site old d in
-    let k = syncs (worlds.site w d) (h.sites d) in
-    let x : worlds.Site MemDisk = worlds.site w d in
-    let may = at_site d old.game old.innings_a_side here names (λ n g i. MaySync ((match_of g i).view n x.version) (worlds.disk_of x.process) k.0) k.1 in
-    let y : worlds.Site MemDisk = record x { process = worlds.with_disk x.process k.0 } in (
-      worlds.with_site w d y [],
-      subst (λ (e : DeskId). Rattle.schedule_replay.specs.Refusals.MaySyncAt (match_of old.game old.innings_a_side) w e (worlds.with_site w d y [])) (sym q) (k.0, may, refl),
+    let k = syncs (node w d) (h.sites d) in
+    let x : Node MemDisk = node w d in
+    let may = at_site d old.game old.innings_a_side here names (λ n g i. MaySync ((match_of g i).view n x.version) (process_disk x.process) k.0) k.1 in
+    let y : Node MemDisk = record x { process = with_disk x.process k.0 } in (
+      with_node w d y [],
+      subst (λ (e : DeskId). Rattle.schedule_replay.specs.Refusals.MaySyncAt (match_of old.game old.innings_a_side) w e (with_node w d y [])) (sym q) (k.0, may, refl),
       put d old new site w y [] change h k.2 (no_bytes d old new w items h),
     )
 
 -- what the want of memory leaves
-left : (d : DeskId) (old new : World) (site : Site) (event : Event) (w : worlds.World MemDisk) → station_of event ≡ stations.Desk d → Changes d old new site → SiteLeft event (code_site old d) site → new.sent.items ≡ old.sent.items → IsWorld old w → (v : worlds.World MemDisk) × LeftByWant (match_of old.game old.innings_a_side) w event v × IsWorld new v
+left : (d : DeskId) (old new : World) (site : Site) (event : Event) (w : Configuration MemDisk) → station_of event ≡ stations.Desk d → Changes d old new site → SiteLeft event (code_site old d) site → new.sent.items ≡ old.sent.items → HasConfiguration old w → (v : Configuration MemDisk) × LeftByWant (match_of old.game old.innings_a_side) w event v × HasConfiguration new v
 left d old new site (events.Open c) w e change l items h = synced d c old new site w (sym (desk_eq c d e)) change l items h
 left d old new site (events.Migrate c) w e change l items h = synced d c old new site w (sym (desk_eq c d e)) change l items h
 left d old new site (events.Pen c n) w e change l items h = (w, refl, stays d old new site w change l items h)
@@ -202,7 +203,7 @@ desk_refuses d old new site event why e c (items, inr (none, want, grows, l)) w 
     let k = left d old new site event w e c l items h in
     (k.0, inr (cause_is d old w event e h ∙ none, want, grows, k.1), k.2)
 
-pub at_desk_ok : (d : DeskId) (old new : World) (site : Site) (event : Event) (result : Result Seen WorldRefusal) → station_of event ≡ stations.Desk d → Changes d old new site → SiteTakes event (code_site old d) old.sent.items result site new.sent.items → OnOk result (HasPlan event (disk_at site.desk site.disk)) → OnOk result (plan_by event ≡ None → KeepsDue (code_site old d) site) → IfOk result (λ seen. StepsTo event old seen new)
+pub at_desk_ok : (d : DeskId) (old new : World) (site : Site) (event : Event) (result : Result Seen WorldRefusal) → station_of event ≡ stations.Desk d → Changes d old new site → SiteTakes event (code_site old d) old.sent.items result site new.sent.items → OnOk result (HasPlan event (disk_at site.desk site.disk)) → OnOk result (asks_fault event ≡ false → KeepsDue (code_site old d) site) → IfOk result (λ seen. StepsTo event old seen new)
 at_desk_ok d old new site event (Ok seen) e c t planned counted = desk_steps d old new site event seen e c t planned counted
 at_desk_ok d old new site event (Err why) e c t planned counted = tt
 

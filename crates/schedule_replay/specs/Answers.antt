@@ -18,7 +18,7 @@ use Rattle.schedule_replay.specs.declared.seen.Cause.{Cause}
 use Rattle.schedule_replay.specs.declared.seen.Cause.TheVariants as causes
 use Rattle.schedule_replay.specs.declared.seen.Seen.{Seen}
 use Rattle.schedule_replay.specs.declared.seen.Seen.TheVariants as seens
-use Rattle.headline.specs.Steps.{Answer}
+use Rattle.headline.specs.Answers.{Answer}
 
 -- what a pen answers
 abbrev pub told_to_pen : PenAnswer Refusal → Answer Refusal

@@ -1,4 +1,4 @@
--- A world as the definitions of a run see it.
+-- The configuration that a world has.
 use Rattle.std.specs.Prelude.{◌≡◌, ℕ, length, map, All, Some, None, Result, Ok, Err}
 use Rattle.corrections.specs.Book.{Contents}
 use Rattle.corrections.specs.declared.checked_book.CheckedBook.{CheckedBook}
@@ -19,14 +19,15 @@ use Rattle.schedule_replay.specs.declared.seen.WorldRefusal.{WorldRefusal}
 use Rattle.schedule_replay.specs.declared.site.Site.{Site}
 use Rattle.headline.specs.declared.version.FileVersion.{FileVersion}
 use Rattle.schedule_replay.specs.declared.world.World.{World}
-use Rattle.headline.specs.Worlds as worlds
-use Rattle.headline.specs.Steps.{Answer, Step}
+use Rattle.headline.specs.Configurations.{Configuration, node}
+use Rattle.headline.specs.Answers.{Answer}
+use Rattle.headline.specs.Steps.{Step}
 use Rattle.headline.specs.Runs.{Begins}
 use Rattle.schedule_replay.specs.Refusals.{RefusesEvent, refusal_of}
 use Rattle.headline.specs.Match.{match_of}
 use Rattle.schedule_replay.specs.Answers.{AreBytesOf, answer_of, given_seen}
-use Rattle.schedule_replay.specs.Plans.{CountsDown, PlansFault}
-use Rattle.schedule_replay.specs.inner.Sites.{IsSite}
+use Rattle.schedule_replay.specs.Plans.{CountsDown, LeavesPlan}
+use Rattle.schedule_replay.specs.inner.Sites.{HasNode}
 
 abbrev pub code_site : World → DeskId → Site
 code_site code A = code.a
@@ -61,16 +62,16 @@ pub record IsSiteOf (name : DeskId) (game innings : ℕ) (site : Site) : Type 0 
   pub same_game : site.game ≡ game
   pub same_innings : site.innings_a_side ≡ innings
 
--- what the definitions of a run see of a world
-pub record IsWorld (code : World) (w : worlds.World MemDisk) : Type 0 where
-  pub sites : (d : DeskId) → IsSite (code_site code d) (worlds.site w d)
+-- the world has this configuration
+pub record HasConfiguration (code : World) (w : Configuration MemDisk) : Type 0 where
+  pub sites : (d : DeskId) → HasNode (code_site code d) (node w d)
   pub named : (d : DeskId) → IsSiteOf d code.game code.innings_a_side (code_site code d)
   pub boards_are : All (IsBoardOf code.game code.innings_a_side) code.boards.items
   pub board_states : w.boards ≡ map board_state code.boards.items
   pub bytes : AreBytesOf code.game code.sent.items w.sent
 
 -- it is a world of the same match
-pub record SameMatch (old new : World) : Type 0 where
+pub record KeepsMatch (old new : World) : Type 0 where
   pub same_game : new.game ≡ old.game
   pub same_innings : new.innings_a_side ≡ old.innings_a_side
 
@@ -85,7 +86,7 @@ boards_of world = length world.boards.items
 -- it is at the start of its match
 abbrev pub IsNew : World → Type 0
 IsNew world =
-    (w : worlds.World MemDisk) × IsWorld world w
+    (w : Configuration MemDisk) × HasConfiguration world w
     × Begins (match_of world.game world.innings_a_side) (version_of world) (boards_of world) w
 
 -- it is at the start of this match, with files of this version and so many boards
@@ -97,18 +98,18 @@ pub record BeginsWorld (game innings : ℕ) (version : FileVersion) (boards : �
   pub same_boards : boards_of world ≡ boards
 
 -- the event is taken: it is a step of the definitions, this is what is seen of its answer, a fault that it asks for
--- is planned, and one that was due before is counted down
+-- is planned, none is after a kill or a power loss, and one that was due before is counted down
 abbrev pub StepsTo : Event → World → Seen → World → Type 0
 StepsTo event old seen new =
-    (w : worlds.World MemDisk) → IsWorld old w
+    (w : Configuration MemDisk) → HasConfiguration old w
     → (refusal_of w event ≡ None)
-    × ((answer : Answer Refusal) × (after : worlds.World MemDisk) × (answer_of seen ≡ Some answer)
-    × Step (match_of old.game old.innings_a_side) w event answer after × IsWorld new after
-    × PlansFault event after × CountsDown event w after)
+    × ((answer : Answer Refusal) × (after : Configuration MemDisk) × (answer_of seen ≡ Some answer)
+    × Step (match_of old.game old.innings_a_side) w event answer after × HasConfiguration new after
+    × LeavesPlan event after × CountsDown event w after)
 
 -- the event isn't taken
 abbrev pub RefusesTo : Event → World → WorldRefusal → World → Type 0
 RefusesTo event old why new =
-    (w : worlds.World MemDisk) → IsWorld old w
-    → (v : worlds.World MemDisk) × RefusesEvent (match_of old.game old.innings_a_side) w event why v
-    × IsWorld new v
+    (w : Configuration MemDisk) → HasConfiguration old w
+    → (v : Configuration MemDisk) × RefusesEvent (match_of old.game old.innings_a_side) w event why v
+    × HasConfiguration new v

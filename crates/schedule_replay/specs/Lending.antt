@@ -7,10 +7,9 @@ use Rattle.schedule_replay.specs.declared.any_desk.AnyDesk.TheVariants as lent
 use Rattle.schedule_replay.specs.declared.world.World.{World}
 use Rattle.schedule_replay.specs.declared.world_desk.WorldDesk.{WorldDesk}
 use Rattle.schedule_replay.specs.declared.world_desk.WorldDesk.TheVariants as desks
-use Rattle.headline.specs.Worlds as worlds
-use Rattle.headline.specs.Worlds.{Process, Running, Down}
+use Rattle.headline.specs.Configurations.{Process, Running, Down, Configuration}
 use Rattle.schedule_replay.specs.WorldDesks.{game_of, innings_of, state_of}
-use Rattle.schedule_replay.specs.CodeWorlds.{IsBoardOf, IsWorld, MatchBoard, board_state}
+use Rattle.schedule_replay.specs.CodeWorlds.{IsBoardOf, HasConfiguration, MatchBoard, board_state}
 
 -- the desk itself
 abbrev pub lent_desk : AnyDesk → WorldDesk
@@ -27,14 +26,14 @@ pub record LendsDesk (game innings : ℕ) (process : Process MemDisk) (k : Optio
   pub state : option_map (λ d. state_of (lent_desk d)) k ≡ running_of process
   pub of_match : IfSome k (λ d. (game_of (lent_desk d) ≡ game) × (innings_of (lent_desk d) ≡ innings))
 
--- the desks that run and the boards of a world of the definitions
+-- the desks that run and the boards of a configuration
 pub record Lends
-    (world : World) (w : worlds.World MemDisk) (a b : Option AnyDesk) (boards : List MatchBoard) : Type 0 where
+    (world : World) (w : Configuration MemDisk) (a b : Option AnyDesk) (boards : List MatchBoard) : Type 0 where
   pub desk_a : LendsDesk world.game world.innings_a_side w.a.process a
   pub desk_b : LendsDesk world.game world.innings_a_side w.b.process b
   pub states : map board_state boards ≡ w.boards
   pub of_match : All (IsBoardOf world.game world.innings_a_side) boards
 
--- those of each that the definitions of a run see of this world
+-- those of the configuration that the world has
 abbrev pub LendsStations : World → Option AnyDesk → Option AnyDesk → List MatchBoard → Type 0
-LendsStations world a b boards = (w : worlds.World MemDisk) → IsWorld world w → Lends world w a b boards
+LendsStations world a b boards = (w : Configuration MemDisk) → HasConfiguration world w → Lends world w a b boards

@@ -1,31 +1,40 @@
 -- Which device calls are to fail, on disks in memory.
-use Rattle.std.specs.Prelude.{◌≡◌, ◌-◌, IfSome, option_map, Option, Some, None}
+use Rattle.std.specs.Prelude.{◌≡◌, ◌-◌, Bool, true, false, IfSome, option_map, Option, Some, None}
 use Rattle.entry_log.specs.Disk.{Due}
 use Rattle.entry_log.specs.MemDisk.{faults_of, plan_of}
 use Rattle.entry_log.specs.declared.mem_disk.MemDisk.{MemDisk}
 use Rattle.entry_log.specs.declared.mem_disk.plan.Plan.{Plan}
-use Rattle.entry_log.specs.declared.mem_disk.plan.Plan.TheVariants.{Fail, Stop}
+use Rattle.entry_log.specs.declared.mem_disk.plan.Plan.TheVariants.{Calm, Fail, Stop}
 use Rattle.agree_core.specs.declared.messages.DeskId.{DeskId}
 use Rattle.headline.specs.declared.event.Event.{Event}
 use Rattle.headline.specs.declared.event.Event.TheVariants as events
 use Rattle.headline.specs.declared.event.Station.TheVariants as stations
 use Rattle.headline.specs.declared.fault.Fault.{Fault}
 use Rattle.headline.specs.Events.{station_of}
-use Rattle.headline.specs.Worlds.{World, disk_of, site}
+use Rattle.headline.specs.Configurations.{Configuration, node, process_disk}
 
--- what an event asks of its desk's disk: n - 1 calls pass, and then one fails, or each
+-- the plan that an event leaves on its desk's disk: n - 1 calls pass, and then one fails, or each; after a kill or a
+-- power loss no call is to fail
 abbrev pub plan_by : Event → Option Plan
 plan_by (events.FailAt d n) = Some (Fail (n - 1))
 plan_by (events.StopAt d n) = Some (Stop (n - 1))
+plan_by (events.Kill d) = Some Calm
+plan_by (events.Power d choice) = Some Calm
 plan_by _ = None
 
--- where it asks that, the disk has just this plan, by which each of its calls goes
+-- whether it asks for a fault
+abbrev pub asks_fault : Event → Bool
+asks_fault (events.FailAt d n) = true
+asks_fault (events.StopAt d n) = true
+asks_fault _ = false
+
+-- where it leaves one, the disk has just this plan, by which each of its calls goes
 abbrev pub HasPlan : Event → Option MemDisk → Type 0
 HasPlan event disk = IfSome (plan_by event) (λ plan. option_map plan_of disk ≡ Some plan)
 
--- so it is at the desk that the event is for
-abbrev pub PlansFault : Event → World MemDisk → Type 0
-PlansFault event w = (d : DeskId) → station_of event ≡ stations.Desk d → HasPlan event (Some (disk_of (site w d).process))
+-- it leaves that on the disk of the desk that it is for
+abbrev pub LeavesPlan : Event → Configuration MemDisk → Type 0
+LeavesPlan event w = (d : DeskId) → station_of event ≡ stations.Desk d → HasPlan event (Some (process_disk (node w d).process))
 
 -- which call of a disk is to fail, by its number
 abbrev pub due_on : Option MemDisk → Option Due
@@ -36,7 +45,7 @@ abbrev pub StaysDue : Option Fault → Option MemDisk → Option MemDisk → Typ
 StaysDue due old new = (fault : Fault) → due ≡ Some fault → due_on new ≡ due_on old
 
 -- so it is at each desk after an event that asks for no fault
-abbrev pub CountsDown : Event → World MemDisk → World MemDisk → Type 0
+abbrev pub CountsDown : Event → Configuration MemDisk → Configuration MemDisk → Type 0
 CountsDown event w v =
-    plan_by event ≡ None
-    → (d : DeskId) → StaysDue (site v d).due (Some (disk_of (site w d).process)) (Some (disk_of (site v d).process))
+    asks_fault event ≡ false
+    → (d : DeskId) → StaysDue (node v d).due (Some (process_disk (node w d).process)) (Some (process_disk (node v d).process))

@@ -10,13 +10,14 @@ use Rattle.headline.specs.declared.event.Station.{Station}
 use Rattle.headline.specs.declared.event.Station.TheVariants as stations
 use Rattle.schedule_replay.specs.declared.seen.WorldRefusal.{WorldRefusal}
 use Rattle.schedule_replay.specs.declared.seen.WorldRefusal.TheVariants.{NoMessage, NoStation, WorldFull, Down, Up, NoMemory}
-use Rattle.headline.specs.Worlds as worlds
-use Rattle.headline.specs.Worlds.{Process, Setting, World, board_at, disk_of, site, with_disk, with_site}
+use Rattle.headline.specs.Configurations as configurations
+use Rattle.headline.specs.Match.{Setting}
+use Rattle.headline.specs.Configurations.{Process, Configuration, board_at, node, process_disk, with_disk, with_node}
 use Rattle.headline.specs.Events.{station_of}
 
 abbrev pub is_down : {Disk : Type 0} → Process Disk → Bool
-is_down (worlds.Running k) = false
-is_down (worlds.Down votes disk) = true
+is_down (configurations.Running k) = false
+is_down (configurations.Down votes disk) = true
 
 abbrev pub is_desk : Station → Bool
 is_desk (stations.Desk d) = true
@@ -28,12 +29,12 @@ no_board boards zero = true
 no_board boards (suc n) = nat_le boards n
 
 -- there is no such board
-abbrev pub no_station : {Disk : Type 0} → World Disk → Station → Bool
+abbrev pub no_station : {Disk : Type 0} → Configuration Disk → Station → Bool
 no_station w (stations.Desk d) = false
 no_station w (stations.Board n) = is_none (board_at w.boards n)
 
-abbrev pub down_at : {Disk : Type 0} → World Disk → Station → Bool
-down_at w (stations.Desk d) = is_down (site w d).process
+abbrev pub down_at : {Disk : Type 0} → Configuration Disk → Station → Bool
+down_at w (stations.Desk d) = is_down (node w d).process
 down_at w (stations.Board n) = false
 
 -- the event asks that the desk runs
@@ -88,20 +89,20 @@ first_cause missing down sent event =
     ∷ (NoMessage, no_message sent event) ∷ (WorldFull, may_send event && nat_lt most_sent sent) ∷ [])
 
 -- the first cause against an event, but for being out of memory
-abbrev pub refusal_of : {Disk : Type 0} → World Disk → Event → Option WorldRefusal
+abbrev pub refusal_of : {Disk : Type 0} → Configuration Disk → Event → Option WorldRefusal
 refusal_of w event =
     first_cause (no_station w (station_of event)) (down_at w (station_of event)) (length w.sent) event
 
 -- the disk of this desk may be synced, and all else stays
-abbrev pub MaySyncAt : {Disk Why : Type 0} → Setting Disk Why → World Disk → DeskId → World Disk → Type 0
+abbrev pub MaySyncAt : {Disk Why : Type 0} → Setting Disk Why → Configuration Disk → DeskId → Configuration Disk → Type 0
 MaySyncAt s w d v =
-    (disk : _) × MaySync (s.view d (site w d).version) (disk_of (site w d).process) disk
-    × (v ≡ with_site w d (record (site w d) { process = with_disk (site w d).process disk }) [])
+    (disk : _) × MaySync (s.view d (node w d).version) (process_disk (node w d).process) disk
+    × (v ≡ with_node w d (record (node w d) { process = with_disk (node w d).process disk }) [])
 
--- the world after it was out of memory: as it was, but that the disk of a desk that was to be opened, or its file
+-- the configuration after it was out of memory: as it was, but that the disk of a desk that was to be opened, or its file
 -- to be migrated, may be synced
 abbrev pub LeftByWant :
-    {Disk Why : Type 0} → Setting Disk Why → World Disk → Event → World Disk → Type 0
+    {Disk Why : Type 0} → Setting Disk Why → Configuration Disk → Event → Configuration Disk → Type 0
 LeftByWant s w (events.Open d) v = MaySyncAt s w d v
 LeftByWant s w (events.Migrate d) v = MaySyncAt s w d v
 LeftByWant s w _ v = v ≡ w
@@ -109,7 +110,7 @@ LeftByWant s w _ v = v ≡ w
 -- the world doesn't take this event, and goes on so: it stays, where a cause stands against the event; where
 -- none does, memory was wanted, for an event that may take it
 abbrev pub RefusesEvent :
-    {Disk Why : Type 0} → Setting Disk Why → World Disk → Event → WorldRefusal → World Disk → Type 0
+    {Disk Why : Type 0} → Setting Disk Why → Configuration Disk → Event → WorldRefusal → Configuration Disk → Type 0
 RefusesEvent s w event why v =
     ((refusal_of w event ≡ Some why) × (v ≡ w))
     ⊎ ((refusal_of w event ≡ None) × (why ≡ NoMemory) × (may_grow event ≡ true)

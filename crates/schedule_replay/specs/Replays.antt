@@ -14,12 +14,12 @@ use Rattle.schedule_replay.specs.declared.seen.WorldRefusal.{WorldRefusal}
 use Rattle.schedule_replay.specs.declared.seen.WorldRefusal.TheVariants.{NoMemory}
 use Rattle.headline.specs.declared.version.FileVersion.{FileVersion}
 use Rattle.headline.specs.Laws.{HoldsInRun}
-use Rattle.headline.specs.Worlds.{World, votes_in}
+use Rattle.headline.specs.Configurations.{Configuration, all_votes}
 use Rattle.headline.specs.Runs.{AtEachMoment, AtSomeMoment, Begins, Moment, Run, Shows, answers_of, events_of, last_of}
 use Rattle.headline.specs.Headline.{AtEachEvent, ShowsScore}
 use Rattle.schedule_replay.specs.Refusals.{RefusesEvent}
 use Rattle.headline.specs.Match.{match_of}
-use Rattle.schedule_replay.specs.Plans.{CountsDown, PlansFault}
+use Rattle.schedule_replay.specs.Plans.{CountsDown, LeavesPlan}
 use Rattle.schedule_replay.specs.Answers.{answer_of}
 
 -- a run of a match on disks in memory
@@ -28,34 +28,34 @@ MatchRun = List (Moment MemDisk Refusal)
 
 -- just what stations have shown: a station, the length of its book and its score stand here exactly where
 -- the station has shown them at the start or after some event
-abbrev pub AreSeen : ℕ → World MemDisk → MatchRun → List (Station × ℕ × Standing) → Type 0
+abbrev pub AreSeen : ℕ → Configuration MemDisk → MatchRun → List (Station × ℕ × Standing) → Type 0
 AreSeen innings w ms seen =
     (t : Station) (n : ℕ) (score : Standing)
     → Contains seen (t, n, score) ↔ AtSomeMoment w ms (λ v. ShowsScore innings v t n score)
 
 -- each station that isn't down shows a score of its book
-abbrev pub ShowScores : ℕ → World MemDisk → Type 0
+abbrev pub ShowScores : ℕ → Configuration MemDisk → Type 0
 ShowScores innings v =
     (t : Station) (book : List Entry) → Shows v t book → (score : Standing) × ShowsScore innings v t (length book) score
 
 -- a run of the match over these events, whose answers are seen so, and in which each fault is planned that is asked
--- for, and then counted down
+-- for, and then counted down, and none stays planned after a kill or a power loss
 pub record IsRunOf
     (game innings : ℕ) (version : FileVersion) (boards : ℕ) (events : List Event) (outcomes : List Seen)
-    (w : World MemDisk) (ms : MatchRun) : Type 0 where
+    (w : Configuration MemDisk) (ms : MatchRun) : Type 0 where
   pub begins : Begins (match_of game innings) version boards w
   pub run : Run (match_of game innings) w ms
   pub over : events_of ms ≡ events
   pub answered : map answer_of outcomes ≡ map Some (answers_of ms)
-  pub planned : AtEachEvent w ms (λ v m. PlansFault m.event m.after)
+  pub planned : AtEachEvent w ms (λ v m. LeavesPlan m.event m.after)
   pub counted : AtEachEvent w ms (λ v m. CountsDown m.event v m.after)
 
 -- event k, counted from 1, isn't taken after such a run over those before it
 abbrev pub RefusedAt :
     ℕ → ℕ → FileVersion → ℕ → List Event → ℕ → WorldRefusal → Type 0
 RefusedAt game innings version boards events k why =
-    (outcomes : List Seen) × (w : World MemDisk) × (ms : MatchRun) × (before : ℕ) × (event : Event)
-    × (v : World MemDisk)
+    (outcomes : List Seen) × (w : Configuration MemDisk) × (ms : MatchRun) × (before : ℕ) × (event : Event)
+    × (v : Configuration MemDisk)
     × IsRunOf game innings version boards (take before events) outcomes w ms × HoldsInRun (match_of game innings) innings w ms
     × (k ≡ before + 1)
     × (slice_get events before ≡ Some event) × RefusesEvent (match_of game innings) (last_of w ms) event why v
@@ -63,7 +63,7 @@ RefusedAt game innings version boards events k why =
 -- all the events are taken
 abbrev pub TakesEach : ℕ → ℕ → FileVersion → ℕ → List Event → Type 0
 TakesEach game innings version boards events =
-    (outcomes : List Seen) × (w : World MemDisk) × (ms : MatchRun)
+    (outcomes : List Seen) × (w : Configuration MemDisk) × (ms : MatchRun)
     × IsRunOf game innings version boards events outcomes w ms × HoldsInRun (match_of game innings) innings w ms
 
 -- why a replay has no report: an event isn't taken; or all are, and memory was wanted for the report alone
@@ -92,12 +92,12 @@ StandOnce seen =
 -- the report of a run of the match over these events
 pub record IsReportOf
     (game innings : ℕ) (version : FileVersion) (boards : ℕ) (events : List Event) (report : Report)
-    (w : World MemDisk) (ms : MatchRun) : Type 0 where
+    (w : Configuration MemDisk) (ms : MatchRun) : Type 0 where
   -- it is a run over all the events, with these outcomes, and what holds in every run holds in it
   pub run : IsRunOf game innings version boards events report.outcomes.items w ms
   pub holds : HoldsInRun (match_of game innings) innings w ms
   -- the agreed list is that of the last votes
-  pub agreed : IsAgreedList (votes_in (last_of w ms)) report.agreed.items
+  pub agreed : IsAgreedList (all_votes (last_of w ms)) report.agreed.items
   -- each station that isn't down shows a score; a station, a length and a score are seen exactly where the run
   -- shows them, once each; and each score is the Laws' score of so many first entries of the agreed list
   pub scored : AtEachMoment w ms (ShowScores innings)
@@ -108,4 +108,4 @@ pub record IsReportOf
 -- there is a run of which it is the report
 abbrev pub IsReplay : ℕ → ℕ → FileVersion → ℕ → List Event → Report → Type 0
 IsReplay game innings version boards events report =
-    (w : World MemDisk) × (ms : MatchRun) × IsReportOf game innings version boards events report w ms
+    (w : Configuration MemDisk) × (ms : MatchRun) × IsReportOf game innings version boards events report w ms

@@ -17,8 +17,7 @@ use Rattle.headline.specs.declared.version.FileVersion.{FileVersion}
 use Rattle.headline.specs.declared.version.FileVersion.TheVariants as versions
 use Rattle.schedule_replay.specs.declared.world_desk.WorldDesk.{WorldDesk}
 use Rattle.schedule_replay.specs.declared.world_desk.WorldDesk.TheVariants.{Old, New}
-use Rattle.headline.specs.Match.{format_of, match_of}
-use Rattle.headline.specs.Worlds.{Setting}
+use Rattle.headline.specs.Match.{Setting, format_of, match_of}
 
 abbrev pub version_of : WorldDesk → FileVersion
 version_of (Old k) = versions.Old
@@ -73,8 +72,8 @@ pub record SameOwner (old new : WorldDesk) : Type 0 where
   pub cap : cap_of (disk_of new) ≡ cap_of (disk_of old)
 
 -- of its file there is room for one vote more
-abbrev pub HasRoom : WorldDesk → Type 0
-HasRoom k = room (format_of (version_of k)) (length ((λ (s : DeskState MemDisk). s.votes) (state_of k)) + 1) ≤ cap_of (disk_of k)
+abbrev pub FitsOneMore : WorldDesk → Type 0
+FitsOneMore k = room (format_of (version_of k)) (length ((λ (s : DeskState MemDisk). s.votes) (state_of k)) + 1) ≤ cap_of (disk_of k)
 
 -- what comes of opening a file
 abbrev pub opening : Result WorldDesk (OpenRefusal × MemDisk) → Opening MemDisk

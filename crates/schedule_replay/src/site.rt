@@ -1,6 +1,6 @@
 //! A desk's place in the world.
 
-ghost use Rattle.std.specs.Prelude.{◌≡◌, ◌+◌, ◌≤◌, ◌<◌, ◌++◌, IfOk, OnErr, OnOk, IsSome, None, Some, Err, List, length, map, vec_capacity, vec_len, true};
+ghost use Rattle.std.specs.Prelude.{◌≡◌, ◌+◌, ◌≤◌, ◌<◌, ◌++◌, IfOk, OnErr, OnOk, IsSome, None, Some, Err, List, length, map, vec_capacity, vec_len, false, true};
 ghost use Rattle.headline.specs.Events.{IsEvent};
 ghost use Rattle.schedule_replay.specs.Refusals.{is_desk};
 ghost use Rattle.headline.specs.Events.{station_of};
@@ -112,7 +112,7 @@ fn lose_power(disk: &mut MemDisk, choice: Choice)
 impl Site {
     ghost use Rattle.std.specs.Prelude.{option_map};
     ghost use Rattle.schedule_replay.specs.Lending.{lent_desk};
-    ghost use Rattle.schedule_replay.specs.Plans.{HasPlan, plan_by};
+    ghost use Rattle.schedule_replay.specs.Plans.{HasPlan, asks_fault};
     ghost use Rattle.schedule_replay.specs.inner.Sites.{AfterRefusal, BeginsSite, BreaksDown, IsWhole, KeepsDue, NotFoundBy, PutsDown, SameSite, SiteSteps, SiteTakes, SyncsSite, disk_at};
 
     /// A desk that is just created, on a file of this version.
@@ -157,7 +157,7 @@ impl Site {
         requires desk { is_desk (station_of event.now) ≡ true }
         ensures takes { SiteTakes event.now self.old sent.old.items result self.new sent.new.items }
         ensures planned { OnOk result (HasPlan event.now (disk_at self.new.desk self.new.disk)) }
-        ensures counted { OnOk result (plan_by event.now ≡ None → KeepsDue self.old self.new) }
+        ensures counted { OnOk result (asks_fault event.now ≡ false → KeepsDue self.old self.new) }
         ensures same { SameSite self.old self.new }
         ensures whole { IsWhole self.new }
     {
@@ -250,6 +250,7 @@ impl Site {
         ensures step { (sent : List Datagram) → SiteSteps (events.Kill self.old.name)
             self.old sent result self.new sent }
         ensures ended { self.new.due ≡ None }
+        ensures planned { HasPlan (events.Kill self.old.name) (disk_at self.new.desk self.new.disk) }
         ensures same { SameSite self.old self.new }
         ensures whole { IsWhole self.new }
     {
@@ -264,6 +265,7 @@ impl Site {
         ensures step { (sent : List Datagram) → SiteSteps (events.Power self.old.name choice)
             self.old sent result self.new sent }
         ensures ended { self.new.due ≡ None }
+        ensures planned { HasPlan (events.Power self.old.name choice) (disk_at self.new.desk self.new.disk) }
         ensures same { SameSite self.old self.new }
         ensures whole { IsWhole self.new }
     {

@@ -38,7 +38,7 @@ pub struct World {
 
 impl World {
     ghost use Rattle.schedule_replay.specs.Lending.{LendsStations};
-    ghost use Rattle.schedule_replay.specs.CodeWorlds.{BeginsWorld, RefusesTo, SameMatch, StepsTo};
+    ghost use Rattle.schedule_replay.specs.CodeWorlds.{BeginsWorld, RefusesTo, KeepsMatch, StepsTo};
 
     /// Two desks that were just created, each on a disk of its own with a file of version 2, and so many boards.
     pub fn new(
@@ -99,7 +99,7 @@ impl World {
         requires event { IsEvent event.now }
         ensures step { IfOk result (λ seen. StepsTo event.now self.old seen self.new) }
         ensures refused { IfErr result (λ why. RefusesTo event.now self.old why self.new) }
-        ensures same { SameMatch self.old self.new }
+        ensures same { KeepsMatch self.old self.new }
     {
         match event.station() {
             Station::Desk(desk) => self.at_desk(desk, event),
@@ -126,7 +126,7 @@ impl World {
         requires here { station_of event.now ≡ stations.Desk desk }
         ensures step { IfOk result (λ seen. StepsTo event.now self.old seen self.new) }
         ensures refused { IfErr result (λ why. RefusesTo event.now self.old why self.new) }
-        ensures same { SameMatch self.old self.new }
+        ensures same { KeepsMatch self.old self.new }
     {
         match desk {
             DeskId::A => self.a.take(&mut self.sent, event),
@@ -140,7 +140,7 @@ impl World {
         requires here { station_of event.now ≡ stations.Board number }
         ensures step { IfOk result (λ seen. StepsTo event.now self.old seen self.new) }
         ensures refused { IfErr result (λ why. RefusesTo event.now self.old why self.new) }
-        ensures same { SameMatch self.old self.new }
+        ensures same { KeepsMatch self.old self.new }
     {
         let missing = no_board(self.boards.len(), number);
         match admit(event, missing, false, &mut self.sent) {

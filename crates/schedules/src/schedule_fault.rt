@@ -4,6 +4,7 @@ ghost use Rattle.std.specs.Prelude.{◌≡◌, Some};
 ghost use Rattle.schedules.specs.ScheduleFault.{name_of, number_of};
 
 use notation::LineFault;
+use std::alloc::AllocError;
 use std::error::Error;
 use std::fmt;
 
@@ -28,6 +29,16 @@ impl ScheduleFault {
             ScheduleFault::BadEvent { .. } => Some(85),
             ScheduleFault::BadEntry { .. } => Some(86),
         }
+    }
+}
+
+impl From<AllocError> for ScheduleFault {
+    ghost use Rattle.schedules.specs.declared.schedule_fault.ScheduleFault.TheVariants.{NoMemory};
+
+    ghost from_gives = { λ _ fault. fault ≡ NoMemory };
+
+    fn from(_why: AllocError) -> Self {
+        ScheduleFault::NoMemory
     }
 }
 

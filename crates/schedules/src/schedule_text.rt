@@ -21,14 +21,9 @@ fn take_line(events: &mut Vec<Event>, line: &[u8], number: u64) -> Result<(), Sc
     ensures wrong { IfErr result (λ why. (why ≡ NoMemory) ⊎ (line_says number line.now ≡ Err why)) }
     ensures stays { OnErr result (events.new.items ≡ events.old.items) }
 {
-    let event = match read_event(line, number) {
-        Ok(event) => event,
-        Err(fault) => return Err(fault),
-    };
-    match events.extend_from_slice(&[event]) {
-        Ok(()) => Ok(()),
-        Err(_) => Err(ScheduleFault::NoMemory),
-    }
+    let event = read_event(line, number)?;
+    events.extend_from_slice(&[event])?;
+    Ok(())
 }
 
 /// Takes all lines of a schedule, up to the first fault.

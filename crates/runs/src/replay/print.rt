@@ -4,10 +4,10 @@ ghost use Rattle.std.specs.Prelude.{◌++◌, option_map, OnOk};
 ghost use Rattle.entry_log.specs.declared.mem_disk.MemDisk.{MemDisk};
 ghost use Rattle.match_laws.specs.Stands.{ForEachHistory};
 ghost use Rattle.cards.specs.Watched.{IsHandedOn, Prints, TellsFailure};
-ghost use Rattle.schedule_replay.specs.CodeWorlds.{IsWorld, board_state};
+ghost use Rattle.schedule_replay.specs.CodeWorlds.{HasConfiguration, board_state};
 ghost use Rattle.schedule_replay.specs.Lending.{lent_desk};
 ghost use Rattle.schedule_replay.specs.WorldDesks.{state_of};
-ghost use Rattle.headline.specs.Worlds as worlds;
+ghost use Rattle.headline.specs.Configurations.{Configuration};
 ghost use Rattle.runs.specs.Replay as texts;
 
 use board::Board;
@@ -109,7 +109,7 @@ fn print_boards<W: Write>(
 
 /// Prints the lines of both desks and the boards of a world.
 fn print_stations<W: Write>(out: &mut Watched<W>, world: &World) -> Result<(), WriteFailed>
-    ensures text { (w : worlds.World MemDisk) → IsWorld world.now w →
+    ensures text { (w : Configuration MemDisk) → HasConfiguration world.now w →
         OnOk result (Prints W.contents out.old out.new (texts.station_lines w)) }
     ensures failed { TellsFailure result out.old out.new }
 {
@@ -143,7 +143,7 @@ pub fn print_whole<W: Write>(
     agreed: usize,
     world: &World,
 ) -> Result<(), WriteFailed>
-    ensures text { (w : worlds.World MemDisk) → IsWorld world.now w →
+    ensures text { (w : Configuration MemDisk) → HasConfiguration world.now w →
         OnOk result (Prints W.contents out.old out.new
         (texts.event_lines outcomes.now ++ texts.last_lines agreed w)) }
     ensures handed_on { OnOk result (IsHandedOn out.new) }

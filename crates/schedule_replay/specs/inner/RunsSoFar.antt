@@ -3,24 +3,24 @@ use Rattle.std.specs.Prelude.{◌≡◌, ℕ, List, take}
 use Rattle.entry_log.specs.declared.mem_disk.MemDisk.{MemDisk}
 use Rattle.headline.specs.declared.event.Event.{Event}
 use Rattle.headline.specs.declared.version.FileVersion.{FileVersion}
-use Rattle.headline.specs.Worlds as worlds
+use Rattle.headline.specs.Configurations.{Configuration}
 use Rattle.headline.specs.Runs.{last_of}
 use Rattle.schedule_replay.specs.declared.seen.Seen.{Seen}
 use Rattle.schedule_replay.specs.declared.world.World.{World}
-use Rattle.schedule_replay.specs.CodeWorlds.{IsWorld}
+use Rattle.schedule_replay.specs.CodeWorlds.{HasConfiguration}
 use Rattle.schedule_replay.specs.Replays.{IsRunOf, MatchRun}
 
 -- a run of the match over the first events, with these outcomes, that ends with what the code's world shows
 pub record IsAt
     (game innings : ℕ) (version : FileVersion) (boards : ℕ) (events : List Event) (number : ℕ) (world : World)
-    (outcomes : List Seen) (w : worlds.World MemDisk) (ms : MatchRun) : Type 0 where
+    (outcomes : List Seen) (w : Configuration MemDisk) (ms : MatchRun) : Type 0 where
   pub run : IsRunOf game innings version boards (take number events) outcomes w ms
-  pub is_world : IsWorld world (last_of w ms)
+  pub has_configuration : HasConfiguration world (last_of w ms)
   pub same_game : world.game ≡ game
   pub same_innings : world.innings_a_side ≡ innings
 
 -- there is such a run
 abbrev pub HasTaken : ℕ → ℕ → FileVersion → ℕ → List Event → ℕ → World → Type 0
 HasTaken game innings version boards events number world =
-    (outcomes : List Seen) × (w : worlds.World MemDisk) × (ms : MatchRun)
+    (outcomes : List Seen) × (w : Configuration MemDisk) × (ms : MatchRun)
     × IsAt game innings version boards events number world outcomes w ms

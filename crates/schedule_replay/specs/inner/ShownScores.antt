@@ -11,11 +11,11 @@ use Rattle.headline.specs.declared.event.Station.TheVariants as stations
 use Rattle.schedule_replay.specs.declared.shown_scores.ShownScores.{ShownScores}
 use Rattle.schedule_replay.specs.declared.world.World.{World}
 use Rattle.schedule_replay.specs.declared.world_desk.WorldDesk.{WorldDesk}
-use Rattle.schedule_replay.specs.CodeWorlds.{IsWorld, MatchBoard, board_innings, board_state, code_site}
+use Rattle.schedule_replay.specs.CodeWorlds.{HasConfiguration, MatchBoard, board_innings, board_state, code_site}
 use Rattle.headline.specs.Headline.{ShowsScore}
 use Rattle.schedule_replay.specs.Replays.{StandOnce}
 use Rattle.schedule_replay.specs.WorldDesks.{innings_of, state_of}
-use Rattle.headline.specs.Worlds as worlds
+use Rattle.headline.specs.Configurations.{Configuration}
 use Rattle.entry_log.specs.declared.mem_disk.MemDisk.{MemDisk}
 
 -- desks have numbers 0 and 1, and the boards those from 2 on
@@ -89,11 +89,11 @@ pub record HaveScores (world : World) : Type 0 where
   pub b_desk : DeskHasScore world.b.desk
   pub of_boards : (i : ℕ) → BoardHasScore (slice_get world.boards.items i)
 
--- a world shows these definitions' world, with at most four boards, and what it shows of a station and a length
+-- a world has this configuration, with at most four boards, and what it shows of a station and a length
 -- that stand among these scores has that score
 pub record IsNotable
-    (world : World) (seen : List (Station × ℕ × Standing)) (w : worlds.World MemDisk) : Type 0 where
-  pub is_world : IsWorld world w
+    (world : World) (seen : List (Station × ℕ × Standing)) (w : Configuration MemDisk) : Type 0 where
+  pub has_configuration : HasConfiguration world w
   pub few_boards : length w.boards ≤ 4
   pub one_score : (t : Station) (n : ℕ) (score other : Standing) → Contains seen (t, n, other)
       → ShowsScore world.innings_a_side w t n score → other ≡ score
@@ -101,5 +101,5 @@ pub record IsNotable
 -- just what the world shows is added
 abbrev pub Notes : World → List (Station × ℕ × Standing) → List (Station × ℕ × Standing) → Type 0
 Notes world old new =
-    (w : worlds.World MemDisk) → IsWorld world w → (t : Station) (n : ℕ) (score : Standing)
+    (w : Configuration MemDisk) → HasConfiguration world w → (t : Station) (n : ℕ) (score : Standing)
     → Contains new (t, n, score) ↔ (Contains old (t, n, score) ⊎ ShowsScore world.innings_a_side w t n score)

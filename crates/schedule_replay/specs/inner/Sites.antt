@@ -1,4 +1,4 @@
--- A site as the definitions of a run see it.
+-- The node that a site has.
 use Rattle.std.specs.Prelude.{◌≡◌, ◌⊎◌, ◌≤◌, ℕ, List, ◌++◌, length, Option, Some, None, Bool, true, false, Result, Ok, Err}
 use Rattle.std.specs.Option.{is_none, is_some}
 use Rattle.corrections.specs.declared.refusal.Refusal.{Refusal}
@@ -27,8 +27,9 @@ use Rattle.headline.specs.declared.fault.Fault.TheVariants.{Fail, Stop}
 use Rattle.headline.specs.declared.version.FileVersion.{FileVersion}
 use Rattle.schedule_replay.specs.declared.world_desk.WorldDesk.{WorldDesk}
 use Rattle.schedule_replay.specs.declared.site.Site.{Site}
-use Rattle.headline.specs.Worlds as worlds
-use Rattle.headline.specs.Steps.{Answer, AtDesk}
+use Rattle.headline.specs.Configurations.{Process, Running, Down, Node, process_disk, with_disk}
+use Rattle.headline.specs.Answers.{Answer}
+use Rattle.headline.specs.DeskSteps.{AtDesk}
 use Rattle.schedule_replay.specs.Refusals.{first_cause, may_grow}
 use Rattle.headline.specs.Match.{match_of, most_bytes}
 use Rattle.schedule_replay.specs.Plans.{StaysDue}
@@ -53,15 +54,15 @@ pub record IsWorldDesk (site : Site) (k : WorldDesk) : Type 0 where
 
 -- what runs at a site: the desk, or, of a desk that is down, its disk alone; of the votes of the latter the
 -- site keeps the number
-abbrev pub IsProcess : Site → Option WorldDesk → Option MemDisk → worlds.Process MemDisk → Type 0
-IsProcess site (Some k) disk p = IsWorldDesk site k × (disk ≡ None) × (p ≡ worlds.Running (state_of k))
+abbrev pub IsProcess : Site → Option WorldDesk → Option MemDisk → Process MemDisk → Type 0
+IsProcess site (Some k) disk p = IsWorldDesk site k × (disk ≡ None) × (p ≡ Running (state_of k))
 IsProcess site None (Some disk) p =
     IsWorldDisk site.version site.due disk
-    × ((ballots : List Ballot) × (length ballots ≡ site.votes) × (p ≡ worlds.Down ballots disk))
+    × ((ballots : List Ballot) × (length ballots ≡ site.votes) × (p ≡ Down ballots disk))
 IsProcess site None None p = ⊥
 
--- what the definitions see of a site
-pub record IsSite (site : Site) (x : worlds.Site MemDisk) : Type 0 where
+-- the site has this node
+pub record HasNode (site : Site) (x : Node MemDisk) : Type 0 where
   pub version : x.version ≡ site.version
   pub process : IsProcess site site.desk site.disk x.process
   pub due : x.due ≡ site.due
@@ -93,20 +94,20 @@ pub record BeginsSite (version : FileVersion) (name : DeskId) (game innings : �
 -- out are added to those that were sent
 abbrev pub SiteSteps : Event → Site → List Datagram → Seen → Site → List Datagram → Type 0
 SiteSteps event old sent seen new sent' =
-    (x : worlds.Site MemDisk) (messages : List Message) → IsSite old x
+    (x : Node MemDisk) (messages : List Message) → HasNode old x
     → AreBytesOf old.game sent messages
-    → (y : worlds.Site MemDisk) × (out : List Message) × (answer : Answer Refusal)
+    → (y : Node MemDisk) × (out : List Message) × (answer : Answer Refusal)
     × (answer_of seen ≡ Some answer)
     × AtDesk (match_of old.game old.innings_a_side) messages old.name event x answer y out
-    × IsSite new y × AreBytesOf old.game sent' (messages ++ out)
+    × HasNode new y × AreBytesOf old.game sent' (messages ++ out)
 
 -- the disk of the desk may be synced, and all else that the definitions see stays
 abbrev pub SyncsSite : Site → Site → Type 0
 SyncsSite old new =
-    (x : worlds.Site MemDisk) → IsSite old x
+    (x : Node MemDisk) → HasNode old x
     → (disk : MemDisk)
-    × MaySync ((match_of old.game old.innings_a_side).view old.name x.version) (worlds.disk_of x.process) disk
-    × IsSite new (record x { process = worlds.with_disk x.process disk })
+    × MaySync ((match_of old.game old.innings_a_side).view old.name x.version) (process_disk x.process) disk
+    × HasNode new (record x { process = with_disk x.process disk })
 
 -- the site after it was out of memory
 abbrev pub SiteLeft : Event → Site → Site → Type 0

@@ -5,8 +5,9 @@ use Rattle.agree_core.specs.declared.messages.Message.{Message}
 use Rattle.wire.specs.declared.datagram.Datagram.{Datagram}
 use Rattle.headline.specs.declared.event.Event.{Event}
 use Rattle.schedule_replay.specs.declared.seen.Seen.{Seen}
-use Rattle.headline.specs.Worlds.{fresh_boards}
-use Rattle.headline.specs.Steps.{Answer, AtBoard}
+use Rattle.headline.specs.Configurations.{fresh_boards}
+use Rattle.headline.specs.Answers.{Answer}
+use Rattle.headline.specs.BoardSteps.{AtBoard}
 use Rattle.headline.specs.Match.{match_of}
 use Rattle.schedule_replay.specs.Answers.{AreBytesOf, answer_of}
 use Rattle.schedule_replay.specs.CodeWorlds.{IsBoardOf, MatchBoard, board_game, board_innings, board_state}

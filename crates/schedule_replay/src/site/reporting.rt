@@ -6,9 +6,9 @@ ghost use Rattle.agree_core.specs.Ballots.{oldest};
 ghost use Rattle.match_laws.specs.declared.standing.Standing.{Standing};
 ghost use Rattle.headline.specs.declared.event.Station.TheVariants as stations;
 ghost use Rattle.schedule_replay.specs.inner.ShownScores.{Adds, DeskHasScore, DeskShows, IsKept};
-ghost use Rattle.schedule_replay.specs.inner.Sites.{IsSite, IsWhole};
+ghost use Rattle.schedule_replay.specs.inner.Sites.{HasNode, IsWhole};
 ghost use Rattle.schedule_replay.specs.inner.VotesFiles.{SiteReads, votes_of};
-ghost use Rattle.headline.specs.Worlds as worlds;
+ghost use Rattle.headline.specs.Configurations.{Node, process_votes};
 
 use crate::shown_scores::ShownScores;
 use crate::site::Site;
@@ -38,12 +38,12 @@ impl Site {
     /// them are the desk's.
     pub fn into_votes(mut self) -> Result<(VotesFile, u32), AllocError>
         requires whole { IsWhole self }
-        requires read { (x : worlds.Site MemDisk) × IsSite self x
+        requires read { (x : Node MemDisk) × HasNode self x
             × SiteReads self.game self.innings_a_side self.name x }
         ensures counted { IfOk result (λ found. found.1 ≤ length (votes_of found.0)) }
-        ensures votes { IfOk result (λ found. (x : worlds.Site MemDisk) → IsSite self x →
+        ensures votes { IfOk result (λ found. (x : Node MemDisk) → HasNode self x →
             SiteReads self.game self.innings_a_side self.name x →
-            oldest found.1 (votes_of found.0) ≡ worlds.votes_of x.process) }
+            oldest found.1 (votes_of found.0) ≡ process_votes x.process) }
     {
         self.put_down();
         let disk = self.disk.take().unwrap();

@@ -2,11 +2,10 @@
 
 ghost use Rattle.std.specs.Prelude.{◌≡◌, ◌≤◌, IfOk, OnOk};
 ghost use Rattle.agree_core.specs.Books.{IsAgreedByFiles};
-ghost use Rattle.schedule_replay.specs.CodeWorlds.{IsWorld};
+ghost use Rattle.schedule_replay.specs.CodeWorlds.{HasConfiguration};
 ghost use Rattle.schedule_replay.specs.inner.ShownScores.{HaveScores, IsKept, IsNotable, Notes};
 ghost use Rattle.schedule_replay.specs.inner.VotesFiles.{FilesRead};
-ghost use Rattle.headline.specs.Worlds as worlds;
-ghost use Rattle.headline.specs.Worlds.{votes_in};
+ghost use Rattle.headline.specs.Configurations.{Configuration, all_votes};
 ghost use Rattle.entry_log.specs.declared.mem_disk.MemDisk.{MemDisk};
 
 use crate::shown_scores::ShownScores;
@@ -21,7 +20,7 @@ impl World {
     /// Notes the score of each station that isn't down.
     pub fn note(&self, shown: &mut ShownScores) -> Result<(), AllocError>
         requires kept { IsKept shown.old }
-        requires notable { (w : worlds.World MemDisk) × IsNotable self.now shown.old.seen.items w }
+        requires notable { (w : Configuration MemDisk) × IsNotable self.now shown.old.seen.items w }
         ensures noted { OnOk result (Notes self.now shown.old.seen.items shown.new.seen.items) }
         ensures scored { OnOk result (HaveScores self.now) }
         ensures kept { IsKept shown.new }
@@ -37,11 +36,11 @@ impl World {
 
     /// The agreed list of all votes, as both files tell it.
     pub fn agreed(self) -> Result<Vec<Entry>, AllocError>
-        requires read { (w : worlds.World MemDisk) × IsWorld self w
+        requires read { (w : Configuration MemDisk) × HasConfiguration self w
             × FilesRead self.game self.innings_a_side w }
-        ensures { IfOk result (λ list. (w : worlds.World MemDisk) → IsWorld self w
+        ensures { IfOk result (λ list. (w : Configuration MemDisk) → HasConfiguration self w
             → FilesRead self.game self.innings_a_side w
-            → IsAgreedByFiles (votes_in w).a (votes_in w).b list.items) }
+            → IsAgreedByFiles (all_votes w).a (all_votes w).b list.items) }
     {
         let alloc = self.alloc;
         let (a, a_count) = self.a.into_votes()?;
