@@ -1,5 +1,9 @@
 -- What the words on the command line ask for, and what is told where they ask for nothing.
 use Rattle.std.specs.Prelude.{ℕ, ◌≤◌, ◌++◌, ⊤, List, codes}
+use Rattle.clap.specs.declared.error.kind.ErrorKind as clap
+use Rattle.clap.specs.declared.error.kind.ErrorKind.TheVariants as claps
+use Rattle.std.specs.declared.io.ErrorKind as host
+use Rattle.std.specs.declared.io.ErrorKind.TheVariants as hosts
 use Rattle.ground.specs.declared.status.Status.{Status}
 use Rattle.ground.specs.declared.status.Status.TheVariants as statuses
 use Rattle.ground.specs.declared.words.Task.{Task}
@@ -16,6 +20,16 @@ abbrev pub IsTask : Task → Type 0
 IsTask (Check innings) = (1 ≤ innings) × (innings ≤ 2)
 IsTask (Replay sheet schedule boards is_old) = boards ≤ 4
 IsTask task = ⊤
+
+-- why the words can't be had from the host: out of memory, or they are no text
+abbrev pub of_host : host.ErrorKind → WordsFault
+of_host hosts.OutOfMemory = NoMemory
+of_host kind = NotUnderstood
+
+-- why `clap` doesn't take them: out of memory, or they are none of the program's forms
+abbrev pub of_parse : clap.ErrorKind → WordsFault
+of_parse claps.OutOfMemory = NoMemory
+of_parse kind = NotUnderstood
 
 abbrev pub words_status : WordsFault → Status
 words_status NotUnderstood = statuses.Words
