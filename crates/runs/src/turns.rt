@@ -22,10 +22,10 @@ ghost use Rattle.runs.specs.inner.Turns.{AreCalm, AreLevel, InTurn, IsCalm, IsLe
 use crate::post::Post;
 use agree_core::{Asker, DeskId};
 use board::Board;
-use books::{Refusal, Rejected, RunFault};
+use books::{Refusal, Rejected, RunFault, TURNS};
 use cards::{MatchSheet, Watched, WriteFailed};
 use corrections::{BookOf, CheckedBook};
-use desk::{Desk, OpenRefusal};
+use desk::Desk;
 use entry_log::{Disk, Slots, SlotsOf};
 use host::{Link, ROOM};
 use notation::{Entry, read_line};
@@ -35,19 +35,6 @@ use wire::What;
 
 /// How many datagrams a station takes in a turn at most.
 const MOST_TAKEN: usize = 8;
-
-/// How many turns each station has for an entry at most.
-const TURNS: usize = 50;
-
-/// The fault of a run where a desk isn't made on a new file.
-fn open_fault(why: OpenRefusal) -> RunFault
-    ensures { result ≡ turns.open_fault why }
-{
-    match why {
-        OpenRefusal::Votes(why) => RunFault::from(why),
-        OpenRefusal::BadVotes { place } => RunFault::BadVotes { place },
-    }
-}
 
 /// A desk with a new file on an empty disk, and with an empty book.
 fn new_desk<D: Disk + Drop>(
@@ -74,7 +61,7 @@ fn new_desk<D: Disk + Drop>(
 {
     match Desk::create(alloc, disk, desk, game, book) {
         Ok(desk) => Ok(desk),
-        Err((why, disk)) => Err((open_fault(why), disk)),
+        Err((why, disk)) => Err((RunFault::from(why), disk)),
     }
 }
 
@@ -281,7 +268,7 @@ pub fn new_stations<D: Disk + Drop>(
 {
     let (book_a, book_b, book) = match empty_books(alloc, sheet.innings()) {
         Ok(books) => books,
-        Err(_) => return Err((RunFault::NoMemory, a, b)),
+        Err(why) => return Err((RunFault::from(why), a, b)),
     };
     let a = match new_desk(alloc, sheet.game(), a, DeskId::A, book_a) {
         Ok(desk) => desk,

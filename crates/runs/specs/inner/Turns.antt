@@ -14,16 +14,13 @@ use Rattle.agree_core.specs.Seats.{SeatState}
 use Rattle.wire.specs.declared.what.What.{What}
 use Rattle.wire.specs.declared.what.What.TheVariants as whats
 use Rattle.desk.specs.declared.desk.Desk.{Desk}
-use Rattle.desk.specs.declared.refusal.OpenRefusal.{OpenRefusal}
-use Rattle.desk.specs.declared.refusal.OpenRefusal.TheVariants as openings
 use Rattle.desk.specs.declared.refusal.Refusal.{Refusal as PenRefusal}
 use Rattle.desk.specs.declared.refusal.Refusal.TheVariants as pens
 use Rattle.desk.specs.Desk.{SameOwner, book_of, desk_of, disk_of, game_of, state_of, view_of}
 use Rattle.board.specs.declared.board.Board.{Board}
 use Rattle.board.specs.Board as boards
 use Rattle.books.specs.declared.fault.RunFault.{RunFault}
-use Rattle.books.specs.declared.fault.RunFault.TheVariants.{Device, Write, BadVotes, Line, NotAgreed}
-use Rattle.books.specs.Fault.{of_votes}
+use Rattle.books.specs.declared.fault.RunFault.TheVariants.{Device, Write, Line, NotAgreed}
 use Rattle.books.specs.declared.rejected.Refusal.TheVariants.{PlacesFull, Book}
 use Rattle.books.specs.declared.rejected.Rejected.{Rejected}
 use Rattle.books.specs.declared.rejected.Rejected.TheVariants.{Refused}
@@ -54,11 +51,6 @@ WhyNotAgreed answer book n (Line number why) = (number ≡ n) × (answer ≡ Err
 WhyNotAgreed answer book n (NotAgreed place) = place ≡ length book
 WhyNotAgreed answer book n Device = Unit {0}
 WhyNotAgreed answer book n _ = ⊥
-
--- the fault of a run where a desk isn't made on a new file
-abbrev pub open_fault : OpenRefusal → RunFault
-open_fault (openings.Votes why) = of_votes why
-open_fault (openings.BadVotes place) = BadVotes place
 
 -- a desk's disk has failed, in this call or before
 abbrev pub is_failing : What → Bool
