@@ -17,7 +17,8 @@ pub use laws::{
     votes_follow,
 };
 pub use messages::{Ask, Asker, DeskId, Message, Vote};
-pub use position::{PLACES, Position, ROUNDS};
+pub use notation::PLACES;
+pub use position::{Position, ROUNDS};
 pub use reader::Reader;
 pub use seat::{Heard, Seat, Settled};
 pub use step_laws::{

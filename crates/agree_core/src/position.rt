@@ -3,8 +3,7 @@
 ghost use Rattle.std.specs.Prelude.{◌≡◌, IsTrue, ◌↔◌};
 ghost use Rattle.agree_core.specs.Positions.{Before, InRange, IsFull, next_position};
 
-/// How many places a book has.
-pub const PLACES: u32 = 8192;
+use notation::PLACES;
 
 /// How many rounds of voting a place has.
 pub const ROUNDS: u32 = 256;

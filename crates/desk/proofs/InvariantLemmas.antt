@@ -8,7 +8,8 @@ use Rattle.corrections.specs.Refusal.{book_refusal}
 use Rattle.agree_core.specs.declared.messages.DeskId.{DeskId}
 use Rattle.agree_core.specs.declared.messages.Vote.{Vote}
 use Rattle.agree_core.specs.declared.position.Position.{Position}
-use Rattle.agree_core.specs.declared.position.TheConstants.{PLACES, ROUNDS}
+use Rattle.notation.specs.declared.entry.TheConstants.{PLACES}
+use Rattle.agree_core.specs.declared.position.TheConstants.{ROUNDS}
 use Rattle.agree_core.specs.declared.seat.Heard.{Heard}
 use Rattle.agree_core.specs.declared.seat.Settled.{Settled}
 use Rattle.agree_core.specs.Ballots.{Ballot, ComesNext}

@@ -22,7 +22,8 @@ use Rattle.agree_core.specs.declared.position.Position.{Position}
 use Rattle.agree_core.specs.declared.seat.Heard.{Heard}
 use Rattle.agree_core.specs.declared.seat.Settled.{Settled}
 use Rattle.agree_core.specs.Ballots.{Ballot, In, ballot_at, vote_of}
-use Rattle.agree_core.specs.declared.position.TheConstants.{PLACES, ROUNDS}
+use Rattle.notation.specs.declared.entry.TheConstants.{PLACES}
+use Rattle.agree_core.specs.declared.position.TheConstants.{ROUNDS}
 use Rattle.agree_core.specs.Desks.{CastsAndStores, DeskState, Pens, Receives, Replies, Ticks, ask_other, asker, book_after, book_heard, next_ballot, own_vote}
 use Rattle.agree_core.specs.Desks as desks
 use Rattle.agree_core.specs.FileView.{FileView, Holds, MayHold, Stays}

@@ -18,7 +18,8 @@ use Rattle.agree_core.specs.declared.messages.Message.{Message}
 use Rattle.agree_core.specs.declared.messages.Message.TheVariants.{Vote, Ask}
 use Rattle.agree_core.specs.declared.messages.Vote.{Vote as AVote}
 use Rattle.agree_core.specs.declared.position.Position.{Position}
-use Rattle.agree_core.specs.declared.position.TheConstants.{PLACES, ROUNDS}
+use Rattle.notation.specs.declared.entry.TheConstants.{PLACES}
+use Rattle.agree_core.specs.declared.position.TheConstants.{ROUNDS}
 use Rattle.agree_core.specs.Positions.{InRange, IsFull}
 use Rattle.agree_core.proofs.Order.{compare}
 use Rattle.wire.specs.Layout.{IsMessage, Says, asker_number, body, desk_number, is_at, written}
