@@ -27,11 +27,11 @@ impl<'a> TextFile<'a> {
 }
 
 impl Replaces for TextFile<'_> {
-    /// Writes the text to the file beside it, and then renames that over it.
+    /// Writes the text to the file beside it, and then renames that over it. It isn't synced: a board that begins
+    /// again writes it anew.
     fn replace(&mut self, text: &[u8]) -> io::Result<()> {
         let mut file = File::create(self.rt, self.beside.as_str())?;
         file.write_all(text)?;
-        file.sync_all()?;
         fs::rename(self.rt, self.beside.as_str(), self.path)
     }
 }

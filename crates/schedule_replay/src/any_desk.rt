@@ -4,6 +4,7 @@ ghost use Rattle.std.specs.Prelude.{◌≡◌};
 ghost use Rattle.corrections.specs.Legal.{IsScoreOf};
 ghost use Rattle.schedule_replay.specs.WorldDesks.{book_of, innings_of, state_of};
 
+use crate::versions::whichever;
 use corrections::CheckedBook;
 use desk::Desk;
 use entry_log::{MemDisk, OldSlots, Slots};
@@ -23,10 +24,7 @@ impl<'a> AnyDesk<'a> {
     pub fn book(self) -> &'a CheckedBook
         ensures { result.now ≡ book_of (lent_desk self.entry) }
     {
-        match self {
-            AnyDesk::Old(desk) => desk.book(),
-            AnyDesk::New(desk) => desk.book(),
-        }
+        whichever!(AnyDesk, self, desk => desk.book())
     }
 
     /// The score of its book: the Laws' score of the book's clean list.
@@ -34,9 +32,6 @@ impl<'a> AnyDesk<'a> {
         ensures { IsScoreOf result.now (innings_of (lent_desk self.entry))
             (state_of (lent_desk self.entry)).book }
     {
-        match self {
-            AnyDesk::Old(desk) => desk.shown(),
-            AnyDesk::New(desk) => desk.shown(),
-        }
+        whichever!(AnyDesk, self, desk => desk.shown())
     }
 }

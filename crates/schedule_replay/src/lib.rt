@@ -9,6 +9,7 @@ mod seen;
 mod seen_words;
 mod shown_scores;
 mod site;
+mod versions;
 mod votes_file;
 mod world;
 mod world_desk;
