@@ -34,7 +34,9 @@ fn report_of(
     ensures reported { IfOk result (IsReplay sheet.now.game sheet.now.innings version boards events.now) }
     ensures only { IfErr result (λ fault. fault ≡ RunFault.NoMemory) }
 {
-    let world = begin(alloc, sheet, version, boards)?;
+    let Ok(world) = begin(alloc, sheet, version, boards) else {
+        return Err(RunFault::NoMemory);
+    };
     match replay_in(alloc, world, events) {
         Ok(report) => Ok(report),
         Err(_) => Err(RunFault::NoMemory),
@@ -106,6 +108,9 @@ pub fn replay_run<R: Read, W: Write>(
     ensures unwritten { IfErr result (λ fault. fault ≢ RunFault.Write → writer.new ≡ writer.old) }
 {
     let input = read_all(alloc, reader)?;
-    let events = read_schedule(alloc, input.as_slice())?;
+    let events = match read_schedule(alloc, input.as_slice()) {
+        Ok(events) => events,
+        Err(why) => return Err(RunFault::from(why)),
+    };
     print_run(alloc, sheet, version, boards, events.as_slice(), writer)
 }
