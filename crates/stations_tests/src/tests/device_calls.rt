@@ -40,8 +40,8 @@ fn file_of_two(rt: &impl Abort, alloc: Global, n: u32) -> MemDisk
     a.into_disk()
 }
 
-// A pen makes four device calls, a create three, and an open of two votes six: a sync, the length, the header, the
-// gates of a page, its records, and those again for the book.
+// A pen makes four device calls, a create three, and an open of two votes four: a sync, the length, the header and a
+// page.
 #[test]
 fn calls_that_fail(rt: HostRuntime) {
     for n in 1..6 {
@@ -83,7 +83,7 @@ fn desks_that_are_not_made(rt: HostRuntime) {
         disk.kill();
         disk.fail_at(n);
         let answer = open::<Version2>(&rt, rt.alloc(), disk, DeskId::A);
-        assert_eq!(rt; is_made(&rt, answer), n > 6, "{n}");
+        assert_eq!(rt; is_made(&rt, answer), n > 4, "{n}");
     }
 }
 
