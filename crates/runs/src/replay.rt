@@ -34,9 +34,7 @@ fn report_of(
     ensures reported { IfOk result (IsReplay sheet.now.game sheet.now.innings version boards events.now) }
     ensures only { IfErr result (λ fault. fault ≡ RunFault.NoMemory) }
 {
-    let Ok(world) = begin(alloc, sheet, version, boards) else {
-        return Err(RunFault::NoMemory);
-    };
+    let world = begin(alloc, sheet, version, boards)?;
     match replay_in(alloc, world, events) {
         Ok(report) => Ok(report),
         Err(_) => Err(RunFault::NoMemory),
@@ -108,9 +106,6 @@ pub fn replay_run<R: Read, W: Write>(
     ensures unwritten { IfErr result (λ fault. fault ≢ RunFault.Write → writer.new ≡ writer.old) }
 {
     let input = read_all(alloc, reader)?;
-    let events = match read_schedule(alloc, input.as_slice()) {
-        Ok(events) => events,
-        Err(why) => return Err(RunFault::from(why)),
-    };
+    let events = read_schedule(alloc, input.as_slice())?;
     print_run(alloc, sheet, version, boards, events.as_slice(), writer)
 }

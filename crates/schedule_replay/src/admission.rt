@@ -79,9 +79,7 @@ pub fn admit(
         return Err(why);
     }
     if may_send(event) {
-        if let Err(_) = sent.reserve(2) {
-            return Err(WorldRefusal::NoMemory);
-        }
+        sent.reserve(2)?;
     }
     Ok(())
 }

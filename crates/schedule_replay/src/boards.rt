@@ -101,9 +101,6 @@ pub fn wipe_board(
     ensures owner { OnOk result (IsBoardOf game innings_a_side board.new) }
     ensures refused { IfErr result (λ why. (why ≡ WorldRefusal.NoMemory) × (board.new ≡ board.old)) }
 {
-    let Ok(empty) = empty_board(alloc, game, innings_a_side) else {
-        return Err(WorldRefusal::NoMemory);
-    };
-    *board = empty;
+    *board = empty_board(alloc, game, innings_a_side)?;
     Ok(Seen::Done)
 }

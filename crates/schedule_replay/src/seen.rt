@@ -1,6 +1,9 @@
 //! What an event is answered, and why a world doesn't take one.
 
+ghost use Rattle.std.specs.Prelude.{◌≡◌};
+
 use agree_core::{Heard, Settled};
+use std::alloc::AllocError;
 use wire::WireFault;
 
 /// Why a desk doesn't do what it is told.
@@ -56,4 +59,14 @@ pub enum WorldRefusal {
     Up,
     /// An allocation failed.
     NoMemory,
+}
+
+impl From<AllocError> for WorldRefusal {
+    ghost use Rattle.schedule_replay.specs.declared.seen.WorldRefusal.TheVariants.{NoMemory};
+
+    ghost from_gives = { λ _ why. why ≡ NoMemory };
+
+    fn from(_why: AllocError) -> Self {
+        WorldRefusal::NoMemory
+    }
 }

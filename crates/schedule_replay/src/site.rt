@@ -380,9 +380,7 @@ impl Site {
         ensures same { SameSite self.old self.new }
         ensures whole { IsWhole self.new }
     {
-        let Ok(mut new) = MemDisk::new(self.alloc, most_bytes(FileVersion::New)) else {
-            return Err(WorldRefusal::NoMemory);
-        };
+        let mut new = MemDisk::new(self.alloc, most_bytes(FileVersion::New))?;
         let mut old = self.disk.take().unwrap();
         old.move_fault(&mut new);
         match migrate(self.alloc, old, new, self.name, self.game) {

@@ -20,7 +20,7 @@ of_input contents old new s version boards events items (Some bytes) (Ok refused
 
 pub returns-clause-written : goal.returns-clause-written
 returns-clause-written g c =
-    let events = c.in-Ok.events.items in
-    let found = subst (λ i. IsScheduleOf (lines_of i) events) c.as_slice.ensures.value c.in-Ok.ensures.found in
+    let events = c.in_ok-events.events.items in
+    let found = subst (λ i. IsScheduleOf (lines_of i) events) c.as_slice.ensures.value c.in_ok-events.ensures.found in
     let written = subst (λ es. IfOk c.print_run.result (PrintsRun g.W.Write.contents c.args.writer.now c.print_run.new.out c.args.sheet.now c.args.version c.args.boards es)) c.as_slice-2.ensures.value c.print_run.ensures.written in
     of_input g.W.Write.contents c.args.writer.now c.print_run.new.out c.args.sheet.now c.args.version c.args.boards events c.in_ok-input.input.items (g.R.Read.remaining (stream_of c.args.reader.now)) c.print_run.result c.in_ok-input.ensures.whole found written

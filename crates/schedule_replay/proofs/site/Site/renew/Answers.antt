@@ -8,34 +8,34 @@ use Rattle.schedule_replay.proofs.site.Site.renew.Goals as goal
 use Rattle.std.proofs.Common.{ap}
 use Rattle.schedule_replay.proofs.DueLemmas.{keeps_down, keeps_migrated, keeps_not_found, no_failure}
 
-pub returns-in_default-clause-refused : goal.returns-in_default-clause-refused
-returns-in_default-clause-refused c = (refl, stays_so c.args.self.now)
+pub returns-in_err-new-clause-refused : goal.returns-in_err-new-clause-refused
+returns-in_err-new-clause-refused c = (refl, stays_so c.args.self.now)
 
-pub returns-in-Ok-migrate-clause-step : goal.returns-in-Ok-migrate-clause-step
-returns-in-Ok-migrate-clause-step c = λ sent.
-    let fresh = subst (λ (n : ℕ). IsFresh [] n c.in-Ok.new) c.most_bytes.ensures c.in-Ok.ensures in
-    let same = c.in-Ok-migrate.ensures.blame.same (λ q. (cc)) in
-    migrated c.args.self.now c.unwrap-old.result c.move_fault.new.self c.in-Ok.new c.move_fault.new.other c.in-Ok-migrate.migrated.new c.in-Ok-migrate.migrated.votes sent c.requires.version c.requires.down
+pub returns-in-Ok-clause-step : goal.returns-in-Ok-clause-step
+returns-in-Ok-clause-step c = λ sent.
+    let fresh = subst (λ (n : ℕ). IsFresh [] n c.in_ok-new.new) c.most_bytes.ensures c.in_ok-new.ensures in
+    let same = c.in-Ok.ensures.blame.same (λ q. (cc)) in
+    migrated c.args.self.now c.unwrap-old.result c.move_fault.new.self c.in_ok-new.new c.move_fault.new.other c.in-Ok.migrated.new c.in-Ok.migrated.votes sent c.requires.version c.requires.down
     (sym c.take.ensures.value ∙ c.unwrap-old.ensures) (record { fresh_is = fresh; here = c.move_fault.ensures.here; there = c.move_fault.ensures.there; due = c.move_fault.ensures.due })
-    c.in-Ok-migrate.ensures.found c.in-Ok-migrate.ensures.holds c.in-Ok-migrate.ensures.new_cap same.1
+    c.in-Ok.ensures.found c.in-Ok.ensures.holds c.in-Ok.ensures.new_cap same.1
 
 pub returns-in-Err-clause-step : goal.returns-in-Err-clause-step
 returns-in-Err-clause-step c =
-    let fresh = subst (λ (n : ℕ). IsFresh [] n c.in-Ok.new) c.most_bytes.ensures c.in-Ok.ensures in
-    let moved : IsMoved c.args.self.now c.unwrap-old.result c.move_fault.new.self c.in-Ok.new c.move_fault.new.other = record { fresh_is = fresh; here = c.move_fault.ensures.here; there = c.move_fault.ensures.there; due = c.move_fault.ensures.due } in
+    let fresh = subst (λ (n : ℕ). IsFresh [] n c.in_ok-new.new) c.most_bytes.ensures c.in_ok-new.ensures in
+    let moved : IsMoved c.args.self.now c.unwrap-old.result c.move_fault.new.self c.in_ok-new.new c.move_fault.new.other = record { fresh_is = fresh; here = c.move_fault.ensures.here; there = c.move_fault.ensures.there; due = c.move_fault.ensures.due } in
     let e = c.in-Err.ensures in
     let back : IsReturned c.args.self.now c.unwrap-old.result c.move_fault.new.self c.move_fault.new.other c.in-Err.old c.in-Err.new c.move_fault-in-Err.new.other c.in-Err.why =
     record { seen = e.old_seen; images = e.old_images; cap = e.old_cap; blame = e.blame; back = c.move_fault-in-Err.ensures.there; due = c.move_fault-in-Err.ensures.due } in
-    (not_migrated c.args.self.now c.not_found.new.self c.unwrap-old.result c.move_fault.new.self c.in-Ok.new c.move_fault.new.other c.in-Err.old c.in-Err.new c.move_fault-in-Err.new.other c.in-Err.why c.not_found.result c.requires.version c.requires.down (sym c.take.ensures.value ∙ c.unwrap-old.ensures) moved back (refused_for c.args.self.now c.unwrap-old.result c.move_fault.new.self c.in-Ok.new c.move_fault.new.other c.in-Err.why moved e.not_empty e.refused) c.not_found.ensures.refused).0
+    (not_migrated c.args.self.now c.not_found.new.self c.unwrap-old.result c.move_fault.new.self c.in_ok-new.new c.move_fault.new.other c.in-Err.old c.in-Err.new c.move_fault-in-Err.new.other c.in-Err.why c.not_found.result c.requires.version c.requires.down (sym c.take.ensures.value ∙ c.unwrap-old.ensures) moved back (refused_for c.args.self.now c.unwrap-old.result c.move_fault.new.self c.in_ok-new.new c.move_fault.new.other c.in-Err.why moved e.not_empty e.refused) c.not_found.ensures.refused).0
 
 pub returns-in-Err-clause-refused : goal.returns-in-Err-clause-refused
 returns-in-Err-clause-refused c =
-    let fresh = subst (λ (n : ℕ). IsFresh [] n c.in-Ok.new) c.most_bytes.ensures c.in-Ok.ensures in
-    let moved : IsMoved c.args.self.now c.unwrap-old.result c.move_fault.new.self c.in-Ok.new c.move_fault.new.other = record { fresh_is = fresh; here = c.move_fault.ensures.here; there = c.move_fault.ensures.there; due = c.move_fault.ensures.due } in
+    let fresh = subst (λ (n : ℕ). IsFresh [] n c.in_ok-new.new) c.most_bytes.ensures c.in_ok-new.ensures in
+    let moved : IsMoved c.args.self.now c.unwrap-old.result c.move_fault.new.self c.in_ok-new.new c.move_fault.new.other = record { fresh_is = fresh; here = c.move_fault.ensures.here; there = c.move_fault.ensures.there; due = c.move_fault.ensures.due } in
     let e = c.in-Err.ensures in
     let back : IsReturned c.args.self.now c.unwrap-old.result c.move_fault.new.self c.move_fault.new.other c.in-Err.old c.in-Err.new c.move_fault-in-Err.new.other c.in-Err.why =
     record { seen = e.old_seen; images = e.old_images; cap = e.old_cap; blame = e.blame; back = c.move_fault-in-Err.ensures.there; due = c.move_fault-in-Err.ensures.due } in
-    (not_migrated c.args.self.now c.not_found.new.self c.unwrap-old.result c.move_fault.new.self c.in-Ok.new c.move_fault.new.other c.in-Err.old c.in-Err.new c.move_fault-in-Err.new.other c.in-Err.why c.not_found.result c.requires.version c.requires.down (sym c.take.ensures.value ∙ c.unwrap-old.ensures) moved back (refused_for c.args.self.now c.unwrap-old.result c.move_fault.new.self c.in-Ok.new c.move_fault.new.other c.in-Err.why moved e.not_empty e.refused) c.not_found.ensures.refused).1
+    (not_migrated c.args.self.now c.not_found.new.self c.unwrap-old.result c.move_fault.new.self c.in_ok-new.new c.move_fault.new.other c.in-Err.old c.in-Err.new c.move_fault-in-Err.new.other c.in-Err.why c.not_found.result c.requires.version c.requires.down (sym c.take.ensures.value ∙ c.unwrap-old.ensures) moved back (refused_for c.args.self.now c.unwrap-old.result c.move_fault.new.self c.in_ok-new.new c.move_fault.new.other c.in-Err.why moved e.not_empty e.refused) c.not_found.ensures.refused).1
 
 pub returns-in-Err-clause-same : goal.returns-in-Err-clause-same
 returns-in-Err-clause-same c =
@@ -59,11 +59,11 @@ invariant_of-new c =
       synced_image = disk.synced_image;
     }
 
-pub returns-in-Ok-migrate-clause-counted : goal.returns-in-Ok-migrate-clause-counted
-returns-in-Ok-migrate-clause-counted c =
+pub returns-in-Ok-clause-counted : goal.returns-in-Ok-clause-counted
+returns-in-Ok-clause-counted c =
     let there = sym c.take.ensures.value ∙ c.unwrap-old.ensures in
-    let same = c.in-Ok-migrate.ensures.blame.same (λ q. (cc)) in
-    keeps_migrated c.args.self.now c.unwrap-old.result c.in-Ok-migrate.migrated.new c.requires.down there (ap (λ z. z.due) same.1 ∙ c.move_fault.ensures.due)
+    let same = c.in-Ok.ensures.blame.same (λ q. (cc)) in
+    keeps_migrated c.args.self.now c.unwrap-old.result c.in-Ok.migrated.new c.requires.down there (ap (λ z. z.due) same.1 ∙ c.move_fault.ensures.due)
 
 pub returns-in-Err-clause-counted : goal.returns-in-Err-clause-counted
 returns-in-Err-clause-counted c =
