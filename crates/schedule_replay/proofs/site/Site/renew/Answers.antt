@@ -5,11 +5,16 @@ use Rattle.schedule_replay.specs.Answers.{is_failing, wants_memory}
 use Rattle.schedule_replay.proofs.MigrateLemmas.{IsMoved, IsReturned, migrated, not_migrated, refused_for}
 use Rattle.schedule_replay.proofs.OpenLemmas.{not_found_same, stays_so}
 use Rattle.schedule_replay.proofs.site.Site.renew.Goals as goal
-use Rattle.std.proofs.Common.{ap}
+use Rattle.std.proofs.Common.{◌≡◌, Err, ap}
+use Rattle.std.proofs.lemmas.Result.{err_from_is_err_and}
+use Rattle.schedule_replay.specs.declared.seen.WorldRefusal.TheVariants as refuses
 use Rattle.schedule_replay.proofs.DueLemmas.{keeps_down, keeps_migrated, keeps_not_found, no_failure}
 
 pub returns-in_err-new-clause-refused : goal.returns-in_err-new-clause-refused
-returns-in_err-new-clause-refused c = (refl, stays_so c.args.self.now)
+returns-in_err-new-clause-refused c =
+    let why = err_from_is_err_and c.from_residual.result c.from_residual.ensures.1 in
+    let e : c.from_residual.result ≡ Err refuses.NoMemory = why.1 ∙ ap Err why.2 in
+    rw e (refl, stays_so c.args.self.now)
 
 pub returns-in-Ok-clause-step : goal.returns-in-Ok-clause-step
 returns-in-Ok-clause-step c = λ sent.
