@@ -1,0 +1,183 @@
+"""Lives of the program under shim.c: a desk whose scorer and other desk are played here, a board, and words that end by
+themselves. Each answers how the process ended and leaves a record of its calls."""
+import os, select, signal, socket, subprocess, time
+from record import TOP, Wrong, bytes_at
+
+SHEET = f"{TOP}/examples/sheet.toml"
+MATCH = 20260822
+BOOK = ["innings home", "in 1", "in 2", "ball 7 bat 1"]
+DIFFERS = {2: "in 3"}
+BOARD = "Alder 1 for 0\nOvers 0.1\nStriker Baker 0 (0)\nOther Amin 1 (1)\nTarget -\nResult -\n"
+LONGEST = 20
+
+
+def code(line):
+    """The 24 bytes of an entry, of those that are used here."""
+    words = line.split()
+    tags = {"innings": [1, 0, 0, 0, 0, 0, 1], "in": [2, 0, 0, 0, 0, 0], "ball": [3, 0, 0, 0, 0, 0]}
+    front = tags[words[0]] + ([int(words[1])] if words[0] != "innings" else []) + ([1, int(words[3])] if words[0] == "ball" else [])
+    return bytes(front + [0] * (24 - len(front)))
+
+
+def vote(desk, place, round_, line):
+    """A vote's datagram."""
+    head = b"CB\x02\x01" + MATCH.to_bytes(8, "big") + bytes([desk]) + place.to_bytes(4, "big") + round_.to_bytes(2, "big")
+    return head + code(line) + bytes(5)
+
+
+def position(data):
+    """The kind of a datagram, and its place and round."""
+    return data[3], int.from_bytes(data[13:17], "big"), int.from_bytes(data[17:19], "big")
+
+
+class Tools:
+    """The program, the compiled shim, and addresses of this worker's own on loopback."""
+
+    program, shim, count = None, None, 0
+
+    def socket(self):
+        self.count += 1
+        it = socket.socket(socket.AF_INET, socket.SOCK_DGRAM)
+        it.bind((f"127.{1 + os.getpid() % 199}.{self.count // 200 % 200}.{1 + self.count % 200}", 0))
+        it.setblocking(False)
+        return it
+
+    def free_address(self):
+        with self.socket() as it:
+            return "%s:%d" % it.getsockname()
+
+    def environment(self, log, fail, wrong):
+        return {"LD_PRELOAD": self.shim, "SHIM_LOG": log, "SHIM_FAIL": fail, "SHIM_WRONG": wrong, "PATH": os.environ["PATH"]}
+
+    def run(self, words, folder, fail="", wrong="", given=b"", log="record", out=subprocess.PIPE):
+        """Runs words that end by themselves, and answers their status and texts."""
+        where = self.environment(f"{folder}/../{log}", fail, wrong) if log else None
+        pipes = {"stdout": out, "stderr": subprocess.PIPE}
+        ran = subprocess.run([self.program, *words], input=given, env=where, timeout=LONGEST, **pipes)
+        return ran.returncode, ran.stdout.decode() if ran.stdout is not None else None, ran.stderr.decode()
+
+
+TOOLS = Tools()
+
+
+class Process:
+    """A running program with pipes and a socket of a station that is played here."""
+
+    def __init__(self, words, folder, fail, wrong):
+        where, pipe = TOOLS.environment(f"{folder}/../record", fail, wrong), subprocess.PIPE
+        self.ran = subprocess.Popen([TOOLS.program, *words], stdin=pipe, stdout=pipe, stderr=pipe, env=where)
+        self.out, self.lines, self.is_open = "", [], True
+        os.set_blocking(self.ran.stdout.fileno(), False)
+
+    def say(self, line):
+        try:
+            os.write(self.ran.stdin.fileno(), f"{line}\n".encode())
+        except BrokenPipeError:
+            pass
+
+    def wait(self, sockets, seconds):
+        """Waits for lines or datagrams. It answers the lines, and the sockets that have datagrams."""
+        ready, _, _ = select.select([*sockets, *([self.ran.stdout] if self.is_open else [])], [], [], seconds)
+        came = []
+        if self.ran.stdout in ready:
+            data = os.read(self.ran.stdout.fileno(), 65536)
+            self.is_open = bool(data)
+            self.out += data.decode()
+            came = self.out.split("\n")[len(self.lines) : -1]
+            self.lines += came
+        return came, [it for it in ready if it is not self.ran.stdout]
+
+    def end(self, is_stopped=False):
+        """Its status and texts; `None` for the status of one that goes on, and is stopped here."""
+        if is_stopped:
+            self.ran.send_signal(signal.SIGTERM)
+        self.ran.stdin.close()
+        self.ran.stdin = None
+        try:
+            _, error = self.ran.communicate(timeout=2)
+        except subprocess.TimeoutExpired:
+            self.ran.kill()
+            self.ran.communicate()
+            raise Wrong(f"it went on for {LONGEST} seconds, after {self.lines[-8:]}") from None
+        return None if self.ran.returncode == -signal.SIGTERM else self.ran.returncode, self.out, error.decode()
+
+
+class OtherDesk:
+    """Desk B, which votes as desk A does, but first for another entry at some places."""
+
+    def __init__(self):
+        self.socket, self.cast = TOOLS.socket(), {}
+
+    def address(self):
+        return "%s:%d" % self.socket.getsockname()
+
+    def hear(self, place, round_):
+        """Votes where desk A has."""
+        line = DIFFERS[place] if place in DIFFERS and round_ == 0 else BOOK[place]
+        self.cast[place, round_] = vote(2, place, round_, line)
+
+    def answer(self):
+        """Takes what came, and answers it. It answers the places and rounds of the votes that came."""
+        came = []
+        while True:
+            try:
+                data, sender = self.socket.recvfrom(100)
+            except OSError:
+                return came
+            kind, place, round_ = position(data)
+            if kind == 1:
+                came.append((place, round_))
+                self.hear(place, round_)
+            if (place, round_) in self.cast:
+                self.socket.sendto(self.cast[place, round_], sender)
+
+
+def next_line(place, what, until):
+    """What the scorer types at what the desk says."""
+    if what == "differs":
+        return f"again {BOOK[place]}"
+    place += what == "agreed"
+    return BOOK[place] if place < until else "quit"
+
+
+def desk(folder, other, fail="", wrong="", until=len(BOOK), disturb=None):
+    """A desk's life from its start until so many entries are agreed and its scorer quits, or until it ends before. It
+    answers its status and texts, the votes that came from it, and its address."""
+    at = TOOLS.free_address()
+    words = ["desk", "--sheet", SHEET, "--desk", "a", "--file", f"{folder}/a.votes", "--at", at, "--other", other.address()]
+    it, end, heard = Process(words, folder, fail, wrong), time.time() + LONGEST, set()
+    while it.is_open and time.time() < end:
+        lines, ready = it.wait([other.socket], 0.002 if disturb else 0.5)
+        for line in lines:
+            place, _, what = line.partition(" ")
+            if place.isdigit() and what in ("next", "agreed", "differs"):
+                it.say(next_line(int(place), what, until))
+        if ready:
+            heard.update(other.answer())
+        if disturb:
+            disturb(it.ran)
+    ended = it.end()
+    heard.update(other.answer())
+    return ended, heard, at
+
+
+def board(folder, fail="", wrong="", disturb=None):
+    """A board's life until its text has the book, with both desks played here. It answers its status and texts, and its
+    address."""
+    at, desks, text = TOOLS.free_address(), [TOOLS.socket(), TOOLS.socket()], f"{folder}/board.txt"
+    where = ["%s:%d" % it.getsockname() for it in desks]
+    words = ["board", "--sheet", SHEET, "--at", at, "--desk-a", where[0], "--desk-b", where[1], "--text", text]
+    it, end = Process(words, folder, fail, wrong), time.time() + LONGEST
+    while it.is_open and time.time() < end and not (it.out.endswith(BOARD) and bytes_at(text) == BOARD.encode()):
+        _, ready = it.wait(desks, 0.005)
+        for which in ready:
+            data, sender = which.recvfrom(100)
+            _, place, round_ = position(data)
+            if place < len(BOOK) and round_ == 0:
+                which.sendto(vote(1 + desks.index(which), place, 0, BOOK[place]), sender)
+        if disturb:
+            disturb(it.ran)
+        shown = bytes_at(text)
+        if shown is not None and shown.count(b"\n") != 6:
+            raise Wrong(f"the board's file has {shown!r}, which isn't six lines")
+    return it.end(is_stopped=it.is_open), at

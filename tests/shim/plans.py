@@ -1,0 +1,134 @@
+"""Which calls fail and how, and how the program must end then: its status and what standard error is told."""
+import errno, itertools
+from lives import SHEET
+
+EINTR, EIO, FULL = errno.EINTR, errno.EIO, errno.ENOSPC
+WRITES = (EIO, FULL, EINTR, "short", "torn", "made")
+HOWS = {
+    "open": (EIO, errno.EACCES, EINTR),
+    "close": (EIO,),
+    "read": (EIO, EINTR, "short"),
+    "write": WRITES,
+    "pwrite": WRITES,
+    "fsync": (EIO, FULL, EINTR),
+    "ftruncate": (EIO, FULL, EINTR),
+    "lseek": (errno.EINVAL,),
+    "statx": (EIO,),
+    "fchmod": (EIO,),
+    "flock": (errno.EWOULDBLOCK, errno.ENOLCK, EINTR),
+    "realpath": (EIO,),
+    "rename": (EIO, FULL, "made"),
+    "unlink": (EIO,),
+    "socket": (errno.EMFILE,),
+    "bind": (errno.EADDRINUSE,),
+    "setsockopt": (errno.ENOBUFS,),
+    "getsockname": (errno.ENOBUFS,),
+    "sendto": (errno.ENETUNREACH, errno.EAGAIN, EINTR),
+    "recvfrom": (errno.ECONNREFUSED, EINTR),
+    "fcntl": (errno.EMFILE,),
+    "ioctl": (errno.ENOTTY,),
+}
+# Of what is called as often as time will have it, the first few.
+AT_ANY_TIME = {("sendto", "socket"): 4, ("recvfrom", "socket"): 4, ("getsockname", "socket"): 4, ("read", "stdin"): 5}
+STREAMS = ("stdin", "stdout", "stderr", "null")
+HARMLESS = (EINTR, "short")
+CANNOT_WRITE, LATE = (3, "cannot write\n"), (3, "cannot write\nstart the same command again\n")
+
+
+class Plan:
+    """The N-th such call fails so; 0: the first and each third one behind it do."""
+
+    def __init__(self, call, label, count, how):
+        self.call, self.label, self.count, self.how = call, label, count, how
+
+    def text(self):
+        return f"{self.call},{self.label},{self.count},{self.how}"
+
+    def __str__(self):
+        which = f"{self.call} {self.count}" if self.count else f"each third {self.call}"
+        return f"{which} of {self.label} fails by {errno.errorcode.get(self.how, self.how)}"
+
+    def met(self, calls):
+        """The index of the first call that failed, if there was one."""
+        found = [at for at, it in enumerate(calls) if (it.name, it.label) == (self.call, self.label)]
+        return found[max(self.count, 1) - 1] if len(found) >= max(self.count, 1) else None
+
+    def is_traffic(self):
+        return self.label == "socket" and self.call in ("sendto", "recvfrom", "getsockname")
+
+
+def plans(calls):
+    """A plan for each of these calls, and each way in which it can fail."""
+    counts = {}
+    for call in calls:
+        at = call.name, call.label
+        counts[at] = min(counts.get(at, 0) + 1, AT_ANY_TIME.get(at, 1000))
+    found = []
+    for (name, label), count in counts.items():
+        hows = HOWS.get(name, ()) + (errno.EPIPE,) * (label == "stdout" and name == "write")
+        found += [Plan(name, label, n, how) for n, how in itertools.product(range(1, count + 1), hows)]
+        found += [Plan(name, label, 0, EINTR)] * (EINTR in hows)
+    return found
+
+
+def cannot_read(path):
+    return 3, f"cannot read {path}\n"
+
+
+def goes_on(plan):
+    """Whether nothing changes where this fails. A failed `close` has nothing to lose: all was synced before, or read. A
+    stream may have no place, and no copy. A call that a signal interrupted is made again, and so is the rest of a short
+    one."""
+    if plan.call in ("close", "fcntl") or plan.call == "lseek" and plan.label in STREAMS:
+        return True
+    return plan.how in HARMLESS
+
+
+def ends_of_desk(plan, file, at, is_greeted):
+    """The ends that a desk may have where this fails: its status and standard error. `None` stands for any text."""
+    if plan.is_traffic():
+        return [(0, None)]
+    if plan.call == "read" and plan.how == EINTR and plan.label == "sheet.toml":
+        return [(0, ""), cannot_read(SHEET)]
+    if plan.label in ("stdin", "null") and plan.call != "close" and plan.how not in HARMLESS:
+        return [(0, ""), cannot_read("-")]
+    if goes_on(plan):
+        return [(0, "")]
+    if plan.label == "sheet.toml":
+        return [cannot_read(SHEET)]
+    if plan.label == "socket":
+        return [(3, f"cannot listen at {at}\n")]
+    if plan.label == "stdout":
+        return [CANNOT_WRITE]
+    return [LATE] if is_greeted else [CANNOT_WRITE, cannot_read(file)]
+
+
+def ends_of_board(plan, at):
+    """The same of a board, which has no status where it goes on."""
+    if plan.is_traffic():
+        return [(None, None)]
+    if plan.call == "read" and plan.how == EINTR:
+        return [(None, ""), cannot_read(SHEET), CANNOT_WRITE]
+    if goes_on(plan):
+        return [(None, "")]
+    if plan.label == "sheet.toml":
+        return [cannot_read(SHEET)] if plan.call in ("open", "read") else [(None, ""), CANNOT_WRITE]
+    if plan.label == "socket":
+        return [(3, f"cannot listen at {at}\n")]
+    if plan.label == "board.txt" and plan.call == "flock" and plan.how != errno.EWOULDBLOCK:
+        return [(None, ""), CANNOT_WRITE]
+    return [CANNOT_WRITE]
+
+
+def ends_of_words(plan, good, reads):
+    """The same of a match, a migration or a run that only reads. `good` is how it ends where nothing fails, `reads` has
+    the paths of the files that it reads by their labels."""
+    if plan.call == "read" and plan.how == EINTR:
+        return [good, cannot_read(reads[plan.label])]
+    if goes_on(plan) or plan.is_traffic():
+        return [good]
+    if plan.label == "old-a.votes":
+        return [cannot_read(reads[plan.label]), CANNOT_WRITE]
+    if plan.label in reads:
+        return [cannot_read(reads[plan.label])]
+    return [good, CANNOT_WRITE] if plan.call == "statx" or plan.label == "null" else [CANNOT_WRITE]

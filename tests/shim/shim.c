@@ -1,0 +1,380 @@
+/* Stands between a program and the kernel (LD_PRELOAD): notes each call that reaches a file, a stream or the network,
+   has one fail, and can play a program whose calls are wrong. It needs no header, and only 64-bit Linux on a PC.
+
+   SHIM_LOG   the file that gets a line a call:
+                  CALL LABEL RESULT ERRNO INODE OFFSET DATA
+              What isn't known of a call is `-`. LABEL is the last name of the path, or `stdin`, `stdout`, `stderr`,
+              `socket`. DATA is what was written or sent, in hexadecimal; of `open` the path, and `new:` before it
+              where it made the file, `empty:` where it emptied it; of `rename` both paths.
+   SHIM_FAIL  CALL,LABEL,N,HOW: the N-th such call fails (0: the first and each third one behind it). HOW is an errno's number; `short`: half
+              of the bytes are taken; `torn`: half of them are, and it answers EIO; `made`: it is made, and answers EIO.
+   SHIM_WRONG plays a wrong program: what it doesn't do isn't noted.
+                  no-sync         a file's sync does nothing
+                  one-sync        each second sync of a file does nothing
+                  late-sync       a file's sync is made after the next datagram was sent
+                  no-folder-sync  a folder's sync does nothing
+                  half-offset     a file is written at half the offset
+                  swallow         a failure of SHIM_FAIL isn't told to the program */
+
+typedef unsigned long word;
+typedef long number;
+
+enum { READ = 0, WRITE = 1, OPEN = 2, CLOSE = 3, FSTAT = 5, LSEEK = 8, PREAD = 17, PWRITE = 18, IOCTL = 16, SOCKET = 41,
+       SENDTO = 44, RECVFROM = 45, BIND = 49, GETSOCKNAME = 51, SETSOCKOPT = 54, FCNTL = 72, FLOCK = 73, FSYNC = 74,
+       FDATASYNC = 75, FTRUNCATE = 77, RENAME = 82, UNLINK = 87, READLINK = 89, FCHMOD = 91, STATX = 332 };
+enum { EINTR = 4, EIO = 5, CREATE = 0100, TRUNCATE = 01000, REGULAR = 0100000, FOLDER = 0040000, KIND = 0170000 };
+
+extern char **environ;
+extern int *__errno_location(void);
+extern void *dlsym(void *, const char *);
+
+static number call(number which, number a, number b, number c, number d, number e, number f) {
+    register number r10 __asm__("r10") = d, r8 __asm__("r8") = e, r9 __asm__("r9") = f;
+    number result;
+    __asm__ volatile("syscall" : "=a"(result) : "a"(which), "D"(a), "S"(b), "d"(c), "r"(r10), "r"(r8), "r"(r9)
+                     : "rcx", "r11", "memory");
+    return result;
+}
+
+/* ---- the plan, from the environment ---- */
+
+static const char *log_path, *plan, *wrong;
+static int log_file = -1;
+static int is_ready, calls_met, syncs_met, owed_sync = -1;
+
+static const char *named(const char *name) {
+    for (char **it = environ; it && *it; it++) {
+        int at = 0;
+        while (name[at] && (*it)[at] == name[at]) at++;
+        if (!name[at] && (*it)[at] == '=') return *it + at + 1;
+    }
+    return 0;
+}
+
+static int same(const char *a, const char *b) {
+    while (*a && *a == *b) a++, b++;
+    return *a == *b;
+}
+
+static int is_wrong(const char *how) { return wrong && same(wrong, how); }
+
+static void put(const char *text);
+static void put_line(void);
+
+static void ready(void) {
+    if (is_ready) return;
+    is_ready = 1;
+    log_path = named("SHIM_LOG"), plan = named("SHIM_FAIL"), wrong = named("SHIM_WRONG");
+    if (!log_path) return;
+    number opened = call(OPEN, (number)log_path, 02002101, 0600, 0, 0, 0); /* write, create, append, close on exec */
+    log_file = call(FCNTL, opened, 1030, 700, 0, 0, 0);                     /* out of the program's way */
+    call(CLOSE, opened, 0, 0, 0, 0, 0);
+    put("start - 0 0 - - -");
+    put_line();
+}
+
+__attribute__((constructor)) static void begin(void) { ready(); }
+
+/* Whether the field at `at` of the plan is this text; `at` goes behind it. */
+static int takes(const char **at, const char *text) {
+    const char *it = *at;
+    while (*text && *it == *text) it++, text++;
+    if (*text || (*it && *it != ',')) return 0;
+    *at = *it ? it + 1 : it;
+    return 1;
+}
+
+static number digits(const char **at) {
+    number n = 0;
+    while (**at >= '0' && **at <= '9') n = 10 * n + (*(*at)++ - '0');
+    return n;
+}
+
+/* How this call is to fail: 0 where it isn't, an errno, or one of these. */
+enum { SHORT = 1001, TORN = 1002, MADE = 1003 };
+
+static int how_planned(const char *name, const char *label) {
+    ready();
+    const char *at = plan;
+    if (!at || !takes(&at, name) || !takes(&at, label)) return 0;
+    number which = digits(&at);
+    calls_met++;
+    if (which ? calls_met != which : calls_met % 3 != 1) return 0;
+    at++;
+    if (same(at, "short")) return SHORT;
+    if (same(at, "torn")) return TORN;
+    if (same(at, "made")) return MADE;
+    return digits(&at);
+}
+
+/* ---- the log ---- */
+
+static char line[1 << 21];
+static int used;
+
+static void put(const char *text) {
+    while (*text && used < (int)sizeof line - 8) line[used++] = *text++;
+}
+
+static void put_number(number n) {
+    char text[24];
+    int at = 23;
+    word left = n < 0 ? -(word)n : (word)n;
+    text[at] = 0;
+    do text[--at] = '0' + left % 10; while (left /= 10);
+    if (n < 0) text[--at] = '-';
+    put(text + at);
+}
+
+static void put_line(void) {
+    line[used++] = '\n';
+    if (log_file >= 0) call(WRITE, log_file, (number)line, used, 0, 0, 0);
+    used = 0;
+}
+
+static void put_bytes(const unsigned char *bytes, number count) {
+    if (count <= 0) put("-");
+    for (number at = 0; at < count && used < (int)sizeof line - 8; at++) {
+        line[used++] = "0123456789abcdef"[bytes[at] >> 4];
+        line[used++] = "0123456789abcdef"[bytes[at] & 15];
+    }
+}
+
+/* CALL LABEL RESULT ERRNO INODE OFFSET and a space, of a kernel's answer. */
+static void put_call(const char *name, const char *label, number answer, number inode, number offset) {
+    put(name), put(" "), put(label), put(" "), put_number(answer < 0 ? -1 : answer), put(" ");
+    put_number(answer < 0 ? -answer : 0), put(" ");
+    if (inode < 0) put("-"); else put_number(inode);
+    put(" ");
+    if (offset < 0) put("-"); else put_number(offset);
+    put(" ");
+}
+
+static void note(const char *name, const char *label, number answer, number inode) {
+    put_call(name, label, answer, inode, -1), put("-"), put_line();
+}
+
+/* What the program gets for a kernel's answer. */
+static number told(number answer) {
+    if (answer >= 0) return answer;
+    *__errno_location() = -answer;
+    return -1;
+}
+
+/* ---- what a descriptor is ---- */
+
+struct file { number inode; unsigned mode; char label[256]; };
+
+static const char *last_name(const char *path) {
+    const char *name = path;
+    for (; *path; path++)
+        if (*path == '/' && path[1]) name = path + 1;
+    return name;
+}
+
+static void copy_label(char *to, const char *from) {
+    int at = 0;
+    for (; from[at] && at < 255; at++) to[at] = from[at] == ' ' ? '_' : from[at];
+    to[at] = 0;
+}
+
+static const char *label_of_path(const char *path) { return same(path, "/dev/stdin") ? "stdin" : last_name(path); }
+
+static struct file file_of(int fd) {
+    struct file it = { -1, 0, "-" };
+    word stat[32] = { 0 };
+    char proc[40] = "/proc/self/fd/", path[4096];
+    if (call(FSTAT, fd, (number)stat, 0, 0, 0, 0) == 0) it.inode = stat[1], it.mode = (unsigned)stat[3];
+    int at = 14, left = fd;
+    char text[12];
+    int count = 0;
+    do text[count++] = '0' + left % 10; while (left /= 10);
+    while (count) proc[at++] = text[--count];
+    proc[at] = 0;
+    number length = call(READLINK, (number)proc, (number)path, sizeof path - 1, 0, 0, 0);
+    path[length > 0 ? length : 0] = 0;
+    unsigned kind = it.mode & KIND;
+    if (fd <= 2) copy_label(it.label, fd == 0 ? "stdin" : fd == 1 ? "stdout" : "stderr");
+    else if (kind == 0140000) copy_label(it.label, "socket");
+    else if (kind == 0010000 || kind == 0020000) copy_label(it.label, same(path, "/dev/null") ? "null" : "stdin");
+    else copy_label(it.label, last_name(path));
+    return it;
+}
+
+static int is_regular(const struct file *it) { return (it->mode & KIND) == REGULAR; }
+
+/* A call that does nothing but succeed or fail. */
+static number simple(const char *name, int which, int fd, number b, number c, number d, number e) {
+    struct file it = file_of(fd);
+    int how = how_planned(name, it.label);
+    number answer = how && how < SHORT ? -how : call(which, fd, b, c, d, e, 0);
+    if (how >= SHORT) answer = -EIO;
+    note(name, it.label, answer, it.inode);
+    return told(answer);
+}
+
+/* ---- files ---- */
+
+int open(const char *path, int flags, unsigned mode) {
+    const char *label = label_of_path(path);
+    int how = how_planned("open", label);
+    word stat[32];
+    int was = call(4, (number)path, (number)stat, 0, 0, 0, 0) == 0;
+    number answer = how && how < SHORT ? -how : call(OPEN, (number)path, flags, mode, 0, 0, 0);
+    struct file it = { -1, 0, "" };
+    if (answer >= 0) it = file_of((int)answer);
+    put_call("open", label, answer, it.inode, -1);
+    if (answer >= 0 && (flags & CREATE) && !was) put("new:");
+    else if (answer >= 0 && (flags & TRUNCATE)) put("empty:");
+    put(path), put_line();
+    return (int)told(answer);
+}
+
+int open64(const char *path, int flags, unsigned mode) { return open(path, flags, mode); }
+
+static number write_once(const char *name, int which, int fd, const void *bytes, number count, number offset) {
+    struct file it = file_of(fd);
+    int how = how_planned(name, it.label);
+    int is_placed = is_regular(&it);
+    number at = offset >= 0 ? offset : is_placed ? call(LSEEK, fd, 0, 1, 0, 0, 0) : -1;
+    if (is_placed && is_wrong("half-offset")) {
+        at = at / 2;
+        if (which == WRITE) call(LSEEK, fd, at, 0, 0, 0, 0);
+    }
+    number most = how == SHORT || how == TORN ? (count + 1) / 2 : count;
+    number made = how && how < SHORT ? 0 : call(which, fd, (number)bytes, most, at, 0, 0);
+    number answer = how && how < SHORT ? -how : how == TORN || how == MADE ? -EIO : made;
+    put_call(name, it.label, answer, it.inode, at), put_bytes(bytes, made), put_line();
+    return how && how != SHORT && is_wrong("swallow") ? count : told(answer);
+}
+
+number write(int fd, const void *bytes, word count) { return write_once("write", WRITE, fd, bytes, count, -1); }
+number __write(int fd, const void *bytes, word count) { return write_once("write", WRITE, fd, bytes, count, -1); }
+number pwrite(int fd, const void *bytes, word count, number at) {
+    return write_once("write", PWRITE, fd, bytes, count, at);
+}
+number pwrite64(int fd, const void *bytes, word count, number at) { return pwrite(fd, bytes, count, at); }
+
+static number read_once(int which, int fd, void *bytes, number count, number at) {
+    struct file it = file_of(fd);
+    int how = how_planned("read", it.label);
+    number answer = how && how < SHORT ? -how : call(which, fd, (number)bytes, how == SHORT ? 1 : count, at, 0, 0);
+    note("read", it.label, how == TORN || how == MADE ? -EIO : answer, it.inode);
+    return told(how == TORN || how == MADE ? -EIO : answer);
+}
+
+number read(int fd, void *bytes, word count) { return read_once(READ, fd, bytes, count, 0); }
+number pread(int fd, void *bytes, word count, number at) { return read_once(PREAD, fd, bytes, count, at); }
+number pread64(int fd, void *bytes, word count, number at) { return pread(fd, bytes, count, at); }
+
+static int sync_once(const char *name, int which, int fd) {
+    struct file it = file_of(fd);
+    ready();
+    if (is_regular(&it)) {
+        if (is_wrong("no-sync") || (is_wrong("one-sync") && ++syncs_met % 2)) return 0;
+        if (is_wrong("late-sync")) return owed_sync = fd, 0;
+    } else if (is_wrong("no-folder-sync")) {
+        return 0;
+    }
+    int how = how_planned(name, it.label);
+    number made = how && how < SHORT ? -how : call(which, fd, 0, 0, 0, 0, 0);
+    number answer = how >= SHORT ? -EIO : made;
+    note(name, it.label, answer, it.inode);
+    return how && is_wrong("swallow") ? 0 : (int)told(answer);
+}
+
+int fsync(int fd) { return sync_once("fsync", FSYNC, fd); }
+int fdatasync(int fd) { return sync_once("fsync", FDATASYNC, fd); }
+
+int ftruncate(int fd, number length) {
+    struct file it = file_of(fd);
+    int how = how_planned("ftruncate", it.label);
+    number made = how && how < SHORT ? 0 : call(FTRUNCATE, fd, length, 0, 0, 0, 0);
+    put_call("ftruncate", it.label, how && how < SHORT ? -how : how ? -EIO : made, it.inode, length), put("-"), put_line();
+    return how ? (int)told(how < SHORT ? -how : -EIO) : (int)told(made);
+}
+
+int ftruncate64(int fd, number length) { return ftruncate(fd, length); }
+
+number lseek(int fd, number offset, int whence) { return simple("lseek", LSEEK, fd, offset, whence, 0, 0); }
+number lseek64(int fd, number offset, int whence) { return lseek(fd, offset, whence); }
+int flock(int fd, int operation) { return (int)simple("flock", FLOCK, fd, operation, 0, 0, 0); }
+int fchmod(int fd, unsigned mode) { return (int)simple("fchmod", FCHMOD, fd, mode, 0, 0, 0); }
+int close(int fd) {
+    if (fd == log_file && fd >= 0) return 0;
+    return (int)simple("close", CLOSE, fd, 0, 0, 0, 0);
+}
+
+int statx(int fd, const char *path, int flags, unsigned mask, void *found) {
+    struct file it = { -1, 0, "" };
+    if (path && *path) copy_label(it.label, label_of_path(path)); else it = file_of(fd);
+    int how = how_planned("statx", it.label);
+    number answer = how ? -(how < SHORT ? how : EIO) : call(STATX, fd, (number)path, flags, mask, (number)found, 0);
+    note("statx", it.label, answer, it.inode);
+    return (int)told(answer);
+}
+
+static int change_name(const char *name, int which, const char *path, const char *to) {
+    const char *label = last_name(to ? to : path);
+    int how = how_planned(name, label);
+    number made = how && how < SHORT ? -how : call(which, (number)path, (number)to, 0, 0, 0, 0);
+    number answer = how >= SHORT ? -EIO : made;
+    put_call(name, label, answer, -1, made == 0 ? 1 : 0), put(path);
+    if (to) put(" "), put(to);
+    put_line();
+    return (int)told(answer);
+}
+
+int rename(const char *from, const char *to) { return change_name("rename", RENAME, from, to); }
+int unlink(const char *path) { return change_name("unlink", UNLINK, path, 0); }
+
+char *realpath(const char *path, char *whole) {
+    static char *(*next)(const char *, char *);
+    if (!next) next = (char *(*)(const char *, char *))dlsym((void *)-1L, "realpath");
+    int how = how_planned("realpath", last_name(path));
+    note("realpath", last_name(path), how ? -(how < SHORT ? how : EIO) : 0, -1);
+    if (!how) return next(path, whole);
+    told(-(how < SHORT ? how : EIO));
+    return 0;
+}
+
+int fcntl(int fd, int what, number value) { return (int)simple("fcntl", FCNTL, fd, what, value, 0, 0); }
+int fcntl64(int fd, int what, number value) { return fcntl(fd, what, value); }
+int ioctl(int fd, word what, number value) { return (int)simple("ioctl", IOCTL, fd, what, value, 0, 0); }
+
+/* ---- the network ---- */
+
+int socket(int family, int kind, int protocol) {
+    int how = how_planned("socket", "socket");
+    number answer = how ? -(how < SHORT ? how : EIO) : call(SOCKET, family, kind, protocol, 0, 0, 0);
+    note("socket", "socket", answer, -1);
+    return (int)told(answer);
+}
+
+int bind(int fd, const void *to, unsigned length) { return (int)simple("bind", BIND, fd, (number)to, length, 0, 0); }
+int getsockname(int fd, void *to, unsigned *length) {
+    return (int)simple("getsockname", GETSOCKNAME, fd, (number)to, (number)length, 0, 0);
+}
+int setsockopt(int fd, int level, int name, const void *value, unsigned length) {
+    return (int)simple("setsockopt", SETSOCKOPT, fd, level, name, (number)value, length);
+}
+
+number sendto(int fd, const void *bytes, word count, int flags, const void *to, unsigned length) {
+    int how = how_planned("sendto", "socket");
+    number answer = how ? -(how < SHORT ? how : EIO) : call(SENDTO, fd, (number)bytes, count, flags, (number)to, length);
+    put_call("sendto", "socket", answer, -1, -1), put_bytes(bytes, count), put_line();
+    if (owed_sync >= 0) {
+        struct file it = file_of(owed_sync);
+        note("fsync", it.label, call(FSYNC, owed_sync, 0, 0, 0, 0, 0), it.inode);
+        owed_sync = -1;
+    }
+    return told(answer);
+}
+
+number recvfrom(int fd, void *bytes, word count, int flags, void *from, unsigned *length) {
+    int how = how_planned("recvfrom", "socket");
+    number answer =
+        how ? -(how < SHORT ? how : EIO) : call(RECVFROM, fd, (number)bytes, count, flags, (number)from, (number)length);
+    note("recvfrom", "socket", answer, -1);
+    return told(answer);
+}
