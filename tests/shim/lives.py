@@ -94,11 +94,11 @@ class Process:
         self.ran.stdin.close()
         self.ran.stdin = None
         try:
-            _, error = self.ran.communicate(timeout=2)
+            _, error = self.ran.communicate(timeout=LONGEST)
         except subprocess.TimeoutExpired:
             self.ran.kill()
             self.ran.communicate()
-            raise Wrong(f"it went on for {LONGEST} seconds, after {self.lines[-8:]}") from None
+            raise Wrong(f"it doesn't end, after {self.lines[-8:]}") from None
         return None if self.ran.returncode == -signal.SIGTERM else self.ran.returncode, self.out, error.decode()
 
 

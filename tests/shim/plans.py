@@ -54,7 +54,13 @@ class Plan:
         return found[max(self.count, 1) - 1] if len(found) >= max(self.count, 1) else None
 
     def is_traffic(self):
+        """Whether a datagram is lost."""
         return self.label == "socket" and self.call in ("sendto", "recvfrom", "getsockname")
+
+
+    def is_lost_sync(self):
+        """Whether a file's sync fails, so that what was written before may be lost however often it is synced."""
+        return self.call == "fsync" and self.label.startswith("a.votes") and self.how != EINTR
 
 
 def plans(calls):

@@ -219,10 +219,19 @@ def fail_board(plan, had=None):
         calls = ground.calls()
         met = plan.met(calls) is not None
         expect((end[0], end[2]), ends_of_board(plan, at) if met else [(None, "")])
+        if end[0] is None:
+            shows_board(ground, end)
         end, _ = board(ground.folder)
-        if (end[0], end[2]) != (None, "") or bytes_at(ground.file("board.txt")) != BOARD.encode():
-            raise Wrong(f"the same command, started again, ended with {end}")
+        expect((end[0], end[2]), [(None, "")])
+        shows_board(ground, end)
         return met
+
+
+def shows_board(ground, end):
+    """The screen and the file must show the book."""
+    shown = bytes_at(ground.file("board.txt"))
+    if not end[1].endswith(BOARD) or shown != BOARD.encode():
+        raise Wrong(f"the screen shows {end[1]!r}, and the file {shown!r}")
 
 
 def recorded_board(had=None, disturb=None):
@@ -232,6 +241,7 @@ def recorded_board(had=None, disturb=None):
             ground.put("board.txt", had)
         end, _ = board(ground.folder, disturb=disturb)
         expect((end[0], end[2]), [(None, "")])
+        shows_board(ground, end)
         return ground.calls()
 
 
