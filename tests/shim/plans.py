@@ -36,17 +36,19 @@ CANNOT_WRITE, LATE = (3, "cannot write\n"), (3, "cannot write\nstart the same co
 
 
 class Plan:
-    """The N-th such call fails so; 0: the first and each third one behind it do."""
+    """The N-th such call fails so; 0: the first and each third one behind it do. `wrong` is how the program's calls are
+    wrong, if they are."""
 
-    def __init__(self, call, label, count, how):
-        self.call, self.label, self.count, self.how = call, label, count, how
+    def __init__(self, call, label, count, how, wrong=""):
+        self.call, self.label, self.count, self.how, self.wrong = call, label, count, how, wrong
 
     def text(self):
         return f"{self.call},{self.label},{self.count},{self.how}"
 
     def __str__(self):
         which = f"{self.call} {self.count}" if self.count else f"each third {self.call}"
-        return f"{which} of {self.label} fails by {errno.errorcode.get(self.how, self.how)}"
+        fails = f"{which} of {self.label} fails by {errno.errorcode.get(self.how, self.how)}"
+        return f"{fails}, {self.wrong}" if self.wrong else fails
 
     def met(self, calls):
         """The index of the first call that failed, if there was one."""
@@ -61,6 +63,11 @@ class Plan:
     def is_lost_sync(self):
         """Whether a file's sync fails, so that what was written before may be lost however often it is synced."""
         return self.call == "fsync" and self.label.startswith("a.votes") and self.how != EINTR
+
+
+def only(wrong):
+    """No call fails, but the program's are wrong so."""
+    return Plan("none", "-", 1, 0, wrong)
 
 
 def plans(calls):

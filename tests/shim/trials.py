@@ -1,7 +1,7 @@
 """What is tried: lives in which a call fails, each followed by another, and programs whose calls are wrong."""
 import errno, os, shutil, signal, tempfile
 from lives import BOARD, BOOK, SHEET, TOOLS, OtherDesk, board, desk, vote
-from plans import EIO, FULL, Plan, ends_of_board, ends_of_desk, ends_of_words
+from plans import EIO, FULL, Plan, ends_of_board, ends_of_desk, ends_of_words, only
 from record import TOP, Call, Judge, Wrong, bytes_at, calls_in, stored_before_sent, votes_in
 
 AGREED = {(place, 0): line for place, line in enumerate(BOOK)}
@@ -37,9 +37,9 @@ class Ground:
     def judge(self, letters, scorer=None, kept=(), is_stern=False):
         return Judge(self.folder, {it: self.file(f"{it}.votes") for it in letters}, scorer, kept, is_stern)
 
-    def run(self, words, plan=None, wrong="", given=b""):
+    def run(self, words, plan=None, given=b""):
         """Runs words that end by themselves, and answers their status and texts."""
-        return TOOLS.run(words, self.folder, plan.text() if plan else "", wrong, given)
+        return TOOLS.run(words, self.folder, plan.text() if plan else "", plan.wrong if plan else "", given)
 
 
 def expect(end, ends):
@@ -100,7 +100,7 @@ def fail_desk(plan, begun=None, is_stern=False):
     """A desk's life in which a call fails, and the next one's. It answers whether the call was met."""
     with Ground() as ground:
         judge, other = begin(ground, begun, is_stern)
-        end, heard, at = desk(ground.folder, other, plan.text())
+        end, heard, at = desk(ground.folder, other, plan.text(), plan.wrong)
         calls = look_at_desk(ground, judge, heard)
         met = plan.met(calls)
         is_greeted = any(it.label == "stdout" and it.name == "write" for it in calls[:met])
@@ -120,11 +120,12 @@ def begun_file():
         return bytes_at(ground.file("a.votes"))
 
 
-def recorded_desk(begun=None, wrong="", fail="", disturb=None):
+def recorded_desk(begun=None, plan=None, disturb=None):
     """A desk's life that goes well, judged. It answers the calls."""
     with Ground() as ground:
         judge, other = begin(ground, begun)
-        end, heard, _ = desk(ground.folder, other, fail, wrong, disturb=disturb)
+        plan = plan or only("")
+        end, heard, _ = desk(ground.folder, other, plan.text(), plan.wrong, disturb=disturb)
         calls = look_at_desk(ground, judge, heard)
         expect((end[0], end[2]), [(0, "")])
         judge.whole("a", DIFFERED)
@@ -215,7 +216,7 @@ def fail_board(plan, had=None):
     with Ground() as ground:
         if had:
             ground.put("board.txt", had)
-        end, at = board(ground.folder, plan.text())
+        end, at = board(ground.folder, plan.text(), plan.wrong)
         calls = ground.calls()
         met = plan.met(calls) is not None
         expect((end[0], end[2]), ends_of_board(plan, at) if met else [(None, "")])
@@ -309,36 +310,36 @@ def stopped(what):
 
 # ---- programs whose calls are wrong ----
 
+ALWAYS = ("no-sync", "one-sync", "late-sync", "no-folder-sync", "half-offset")
+
+
+def passed_over(call, label, count, how=EIO):
+    """A program that passes over that a call failed."""
+    return Plan(call, label, count, how, "swallow")
+
+
 WRONGS = [
-    *[(wrong, "") for wrong in ("no-sync", "one-sync", "late-sync", "no-folder-sync", "half-offset")],
-    *[("swallow", Plan("write", "a.votes", n, how).text()) for n in (2, 6) for how in (EIO, FULL, "torn")],
-    *[("swallow", Plan("write", "a.votes", n, EIO).text()) for n in (3, 7)],
-    *[("swallow", Plan("fsync", "a.votes", n, EIO).text()) for n in (2, 3, 4, 7)],
+    *[(recorded_desk, None, only(wrong)) for wrong in ALWAYS],
+    *[(recorded_desk, None, passed_over("write", "a.votes", n, how)) for n in (2, 6) for how in (EIO, FULL, "torn")],
+    *[(recorded_desk, None, passed_over("write", "a.votes", n)) for n in (3, 7)],
+    *[(recorded_desk, None, passed_over("fsync", "a.votes", n)) for n in (2, 3, 4, 7)],
+    *[(trial, only(wrong)) for trial in (fail_match, fail_migration) for wrong in ("no-sync", "no-folder-sync", "half-offset")],
+    *[(fail_match, passed_over(call, label, 2)) for call in ("write", "fsync") for label in ("a.votes", "b.votes")],
+    *[(fail_migration, passed_over(call, "a.votes", 2)) for call in ("write", "fsync")],
+    *[(trial, passed_over("write", "stdout", 1)) for trial in (fail_match, fail_migration, fail_board)],
+    (fail_desk, passed_over("write", "stdout", 2)),
+    *[(fail_reading, word, passed_over("write", "stdout", 1)) for word in READING],
+    (fail_board, passed_over("write", "board.txt.new", 1)),
 ]
 
 
-def notice(wrong, fail):
-    """A desk whose calls are wrong must be found so."""
+def noticed(trial, *values):
+    """What a program does whose calls are wrong must be found so."""
     try:
-        recorded_desk(wrong=wrong, fail=fail)
+        trial(*values)
     except Wrong:
         return
     raise Wrong("it wasn't noticed")
-
-
-def notice_in_words(word, wrong):
-    """A match or a migration whose calls are wrong must be found so."""
-    with Ground() as ground:
-        words = match_words(ground) if word == "match" else migrate_words(ground)
-        judge = ground.judge("ab" if word == "match" else "a")
-        end = ground.run(words, wrong=wrong)
-        try:
-            judge.take(ground.calls())
-            for letter in judge.paths:
-                judge.whole(letter, MATCH_VOTES if word == "match" else votes_in(bytes_at(OLD)))
-        except Wrong:
-            return
-        raise Wrong(f"it wasn't noticed, and ended with {end}")
 
 
 def copied(begun, without):
