@@ -9,7 +9,6 @@ HOWS = {
     "close": (EIO,),
     "read": (EIO, EINTR, "short"),
     "write": WRITES,
-    "pwrite": WRITES,
     "fsync": (EIO, FULL, EINTR),
     "ftruncate": (EIO, FULL, EINTR),
     "lseek": (errno.EINVAL,),

@@ -82,34 +82,30 @@ class File:
         del self.now[length:]
 
     def sync(self):
-        self.sure, self.doubtful = self.image(lambda it: self.sure[it : it + 1]), set()
+        """All is certain but what stuck, which is as it was."""
+        sure = bytearray(self.now)
+        for at in self.stuck:
+            sure[at : at + 1] = self.sure[at : at + 1] or b"\0"
+        self.sure, self.doubtful = bytes(sure), set()
 
     def fail_sync(self):
         """The system may hold such bytes as clean from now on: a further sync then does nothing for them."""
         self.stuck |= self.doubtful
 
-    def image(self, stuck):
-        """The bytes, with what stuck as this says of an index."""
-        data = bytearray(self.now)
-        for at in sorted(self.stuck):
-            if at < len(data):
-                data[at : at + 1] = stuck(at) or b"\0"
-        return bytes(data)
-
     def images(self):
         """Some of the byte lists that a power loss may leave, the worst of them."""
-        spoilt = sorted(self.doubtful | self.stuck)
-        if not spoilt:
+        doubtful = sorted(self.doubtful | self.stuck)
+        if not doubtful:
             return [bytes(self.now)]
-        found = [bytes(self.now), self.sure]
-        for kept in (0, len(spoilt) // 2):
-            for byte in SPOILS:
-                data = bytearray(self.now)
-                for at in spoilt[kept:]:
-                    if at < len(data):
-                        data[at] = byte
-                found.append(bytes(data))
-        return found
+        late = doubtful[len(doubtful) // 2 :]
+        return [bytes(self.now), self.sure] + [self.spoilt(some, byte) for some in (doubtful, late) for byte in SPOILS]
+
+    def spoilt(self, some, byte):
+        """The bytes, where these are another one."""
+        data = bytearray(self.now)
+        for at in some:
+            data[at : at + 1] = bytes([byte] * (at < len(data)))
+        return bytes(data)
 
 
 class Disk:
@@ -131,9 +127,9 @@ class Disk:
             self.names[call.data[4:]] = self.names.get(call.data[4:], [None]) + [call.inode]
         elif call.name == "open" and call.data.startswith("empty:") and file:
             file.cut(0)
-        elif call.name in ("write", "pwrite") and file and call.data:
+        elif call.name == "write" and file and call.data:
             file.write(call.offset, call.bytes())
-        elif call.name == "ftruncate" and file:
+        elif call.name == "ftruncate" and file and call.offset is not None:
             file.cut(call.offset)
         elif call.name == "fsync":
             self.sync(call, file)
@@ -194,7 +190,7 @@ class Judge:
             self.look_at_name(call)
             self.disk.take(call)
             self.note(call)
-            if call.name in ("write", "pwrite", "fsync", "open", "rename", "unlink", "ftruncate", "sendto"):
+            if call.name in ("write", "fsync", "open", "rename", "unlink", "ftruncate", "sendto"):
                 self.look(call)
 
     def note(self, call):

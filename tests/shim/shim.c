@@ -19,10 +19,11 @@
 typedef unsigned long word;
 typedef long number;
 
-enum { READ = 0, WRITE = 1, OPEN = 2, CLOSE = 3, FSTAT = 5, LSEEK = 8, PREAD = 17, PWRITE = 18, IOCTL = 16, SOCKET = 41,
+enum { READ = 0, WRITE = 1, OPEN = 2, CLOSE = 3, STAT = 4, FSTAT = 5, LSEEK = 8, PREAD = 17, PWRITE = 18, IOCTL = 16, SOCKET = 41,
        SENDTO = 44, RECVFROM = 45, BIND = 49, GETSOCKNAME = 51, SETSOCKOPT = 54, FCNTL = 72, FLOCK = 73, FSYNC = 74,
        FDATASYNC = 75, FTRUNCATE = 77, RENAME = 82, UNLINK = 87, READLINK = 89, FCHMOD = 91, STATX = 332 };
-enum { EINTR = 4, EIO = 5, CREATE = 0100, TRUNCATE = 01000, REGULAR = 0100000, FOLDER = 0040000, KIND = 0170000 };
+enum { EIO = 5, CREATE = 0100, TRUNCATE = 01000, KIND = 0170000, REGULAR = 0100000, SOCKETS = 0140000, PIPES = 0010000,
+       DEVICES = 0020000 };
 
 extern char **environ;
 extern int *__errno_location(void);
@@ -107,6 +108,12 @@ static int how_planned(const char *name, const char *label) {
     return digits(&at);
 }
 
+/* Whether a call that fails so isn't made at all. */
+static int is_left_out(int how) { return how && how < SHORT; }
+
+/* What the kernel would answer to a call that fails so; else this is what it answered. */
+static number failed(int how, number answer) { return is_left_out(how) ? -how : how == TORN || how == MADE ? -EIO : answer; }
+
 /* ---- the log ---- */
 
 static char line[1 << 21];
@@ -116,14 +123,18 @@ static void put(const char *text) {
     while (*text && used < (int)sizeof line - 8) line[used++] = *text++;
 }
 
-static void put_number(number n) {
-    char text[24];
+static const char *digits_of(number n, char *text) {
     int at = 23;
     word left = n < 0 ? -(word)n : (word)n;
     text[at] = 0;
     do text[--at] = '0' + left % 10; while (left /= 10);
     if (n < 0) text[--at] = '-';
-    put(text + at);
+    return text + at;
+}
+
+static void put_number(number n) {
+    char text[24];
+    put(digits_of(n, text));
 }
 
 static void put_line(void) {
@@ -140,14 +151,17 @@ static void put_bytes(const unsigned char *bytes, number count) {
     }
 }
 
+static void put_known(number n) {
+    if (n < 0) put("-");
+    else put_number(n);
+    put(" ");
+}
+
 /* CALL LABEL RESULT ERRNO INODE OFFSET and a space, of a kernel's answer. */
 static void put_call(const char *name, const char *label, number answer, number inode, number offset) {
-    put(name), put(" "), put(label), put(" "), put_number(answer < 0 ? -1 : answer), put(" ");
-    put_number(answer < 0 ? -answer : 0), put(" ");
-    if (inode < 0) put("-"); else put_number(inode);
-    put(" ");
-    if (offset < 0) put("-"); else put_number(offset);
-    put(" ");
+    put(name), put(" "), put(label), put(" ");
+    put_number(answer < 0 ? -1 : answer), put(" "), put_number(answer < 0 ? -answer : 0), put(" ");
+    put_known(inode), put_known(offset);
 }
 
 static void note(const char *name, const char *label, number answer, number inode) {
@@ -180,35 +194,35 @@ static void copy_label(char *to, const char *from) {
 
 static const char *label_of_path(const char *path) { return same(path, "/dev/stdin") ? "stdin" : last_name(path); }
 
+static const char *label_of(int fd, unsigned kind, const char *path) {
+    if (fd <= 2) return fd == 0 ? "stdin" : fd == 1 ? "stdout" : "stderr";
+    if (kind == SOCKETS) return "socket";
+    if (kind == PIPES || kind == DEVICES) return same(path, "/dev/null") ? "null" : "stdin";
+    return last_name(path);
+}
+
+/* A descriptor's inode, kind and label. */
 static struct file file_of(int fd) {
     struct file it = { -1, 0, "-" };
     word stat[32] = { 0 };
     char proc[40] = "/proc/self/fd/", path[4096];
     if (call(FSTAT, fd, (number)stat, 0, 0, 0, 0) == 0) it.inode = stat[1], it.mode = (unsigned)stat[3];
-    int at = 14, left = fd;
-    char text[12];
-    int count = 0;
-    do text[count++] = '0' + left % 10; while (left /= 10);
-    while (count) proc[at++] = text[--count];
-    proc[at] = 0;
+    char text[24];
+    const char *name = digits_of(fd, text);
+    for (int at = 14; (proc[at] = *name); at++) name++;
     number length = call(READLINK, (number)proc, (number)path, sizeof path - 1, 0, 0, 0);
     path[length > 0 ? length : 0] = 0;
-    unsigned kind = it.mode & KIND;
-    if (fd <= 2) copy_label(it.label, fd == 0 ? "stdin" : fd == 1 ? "stdout" : "stderr");
-    else if (kind == 0140000) copy_label(it.label, "socket");
-    else if (kind == 0010000 || kind == 0020000) copy_label(it.label, same(path, "/dev/null") ? "null" : "stdin");
-    else copy_label(it.label, last_name(path));
+    copy_label(it.label, label_of(fd, it.mode & KIND, path));
     return it;
 }
 
 static int is_regular(const struct file *it) { return (it->mode & KIND) == REGULAR; }
 
-/* A call that does nothing but succeed or fail. */
+/* A call of a descriptor that does nothing but succeed or fail. */
 static number simple(const char *name, int which, int fd, number b, number c, number d, number e) {
     struct file it = file_of(fd);
     int how = how_planned(name, it.label);
-    number answer = how && how < SHORT ? -how : call(which, fd, b, c, d, e, 0);
-    if (how >= SHORT) answer = -EIO;
+    number answer = failed(how, is_left_out(how) ? 0 : call(which, fd, b, c, d, e, 0));
     note(name, it.label, answer, it.inode);
     return told(answer);
 }
@@ -216,15 +230,12 @@ static number simple(const char *name, int which, int fd, number b, number c, nu
 /* ---- files ---- */
 
 int open(const char *path, int flags, unsigned mode) {
-    const char *label = label_of_path(path);
-    int how = how_planned("open", label);
+    int how = how_planned("open", label_of_path(path));
     word stat[32];
-    int was = call(4, (number)path, (number)stat, 0, 0, 0, 0) == 0;
-    number answer = how && how < SHORT ? -how : call(OPEN, (number)path, flags, mode, 0, 0, 0);
-    struct file it = { -1, 0, "" };
-    if (answer >= 0) it = file_of((int)answer);
-    put_call("open", label, answer, it.inode, -1);
-    if (answer >= 0 && (flags & CREATE) && !was) put("new:");
+    int was_there = call(STAT, (number)path, (number)stat, 0, 0, 0, 0) == 0;
+    number answer = failed(how, is_left_out(how) ? 0 : call(OPEN, (number)path, flags, mode, 0, 0, 0));
+    put_call("open", label_of_path(path), answer, answer < 0 ? -1 : file_of((int)answer).inode, -1);
+    if (answer >= 0 && (flags & CREATE) && !was_there) put("new:");
     else if (answer >= 0 && (flags & TRUNCATE)) put("empty:");
     put(path), put_line();
     return (int)told(answer);
@@ -232,66 +243,68 @@ int open(const char *path, int flags, unsigned mode) {
 
 int open64(const char *path, int flags, unsigned mode) { return open(path, flags, mode); }
 
-static number write_once(const char *name, int which, int fd, const void *bytes, number count, number offset) {
+/* A write at an offset, or where the file stands. */
+static number write_once(int which, int fd, const void *bytes, number count, number offset) {
     struct file it = file_of(fd);
-    int how = how_planned(name, it.label);
-    int is_placed = is_regular(&it);
-    number at = offset >= 0 ? offset : is_placed ? call(LSEEK, fd, 0, 1, 0, 0, 0) : -1;
+    int how = how_planned("write", it.label), is_placed = is_regular(&it);
+    number at = which == PWRITE ? offset : is_placed ? call(LSEEK, fd, 0, 1, 0, 0, 0) : -1;
     if (is_placed && is_wrong("half-offset")) {
         at = at / 2;
         if (which == WRITE) call(LSEEK, fd, at, 0, 0, 0, 0);
     }
     number most = how == SHORT || how == TORN ? (count + 1) / 2 : count;
-    number made = how && how < SHORT ? 0 : call(which, fd, (number)bytes, most, at, 0, 0);
-    number answer = how && how < SHORT ? -how : how == TORN || how == MADE ? -EIO : made;
-    put_call(name, it.label, answer, it.inode, at), put_bytes(bytes, made), put_line();
-    return how && how != SHORT && is_wrong("swallow") ? count : told(answer);
+    number made = is_left_out(how) ? 0 : call(which, fd, (number)bytes, most, at, 0, 0);
+    number answer = failed(how, made);
+    put_call("write", it.label, answer, it.inode, at), put_bytes(bytes, made), put_line();
+    return answer < 0 && how && is_wrong("swallow") ? count : told(answer);
 }
 
-number write(int fd, const void *bytes, word count) { return write_once("write", WRITE, fd, bytes, count, -1); }
-number __write(int fd, const void *bytes, word count) { return write_once("write", WRITE, fd, bytes, count, -1); }
-number pwrite(int fd, const void *bytes, word count, number at) {
-    return write_once("write", PWRITE, fd, bytes, count, at);
-}
-number pwrite64(int fd, const void *bytes, word count, number at) { return pwrite(fd, bytes, count, at); }
+number write(int fd, const void *bytes, word count) { return write_once(WRITE, fd, bytes, count, -1); }
+number __write(int fd, const void *bytes, word count) { return write_once(WRITE, fd, bytes, count, -1); }
+number pwrite(int fd, const void *bytes, word count, number at) { return write_once(PWRITE, fd, bytes, count, at); }
+number pwrite64(int fd, const void *bytes, word count, number at) { return write_once(PWRITE, fd, bytes, count, at); }
 
 static number read_once(int which, int fd, void *bytes, number count, number at) {
     struct file it = file_of(fd);
     int how = how_planned("read", it.label);
-    number answer = how && how < SHORT ? -how : call(which, fd, (number)bytes, how == SHORT ? 1 : count, at, 0, 0);
-    note("read", it.label, how == TORN || how == MADE ? -EIO : answer, it.inode);
-    return told(how == TORN || how == MADE ? -EIO : answer);
+    number most = how == SHORT ? 1 : count;
+    number answer = failed(how, is_left_out(how) ? 0 : call(which, fd, (number)bytes, most, at, 0, 0));
+    note("read", it.label, answer, it.inode);
+    return told(answer);
 }
 
 number read(int fd, void *bytes, word count) { return read_once(READ, fd, bytes, count, 0); }
 number pread(int fd, void *bytes, word count, number at) { return read_once(PREAD, fd, bytes, count, at); }
-number pread64(int fd, void *bytes, word count, number at) { return pread(fd, bytes, count, at); }
+number pread64(int fd, void *bytes, word count, number at) { return read_once(PREAD, fd, bytes, count, at); }
 
-static int sync_once(const char *name, int which, int fd) {
+/* Whether a wrong program leaves out this sync, or puts it off. */
+static int skips_sync(int fd) {
     struct file it = file_of(fd);
     ready();
-    if (is_regular(&it)) {
-        if (is_wrong("no-sync") || (is_wrong("one-sync") && ++syncs_met % 2)) return 0;
-        if (is_wrong("late-sync")) return owed_sync = fd, 0;
-    } else if (is_wrong("no-folder-sync")) {
-        return 0;
-    }
-    int how = how_planned(name, it.label);
-    number made = how && how < SHORT ? -how : call(which, fd, 0, 0, 0, 0, 0);
-    number answer = how >= SHORT ? -EIO : made;
-    note(name, it.label, answer, it.inode);
+    if (!is_regular(&it)) return is_wrong("no-folder-sync");
+    if (is_wrong("late-sync")) owed_sync = fd;
+    return is_wrong("no-sync") || is_wrong("late-sync") || (is_wrong("one-sync") && ++syncs_met % 2);
+}
+
+static int sync_once(int which, int fd) {
+    if (skips_sync(fd)) return 0;
+    struct file it = file_of(fd);
+    int how = how_planned("fsync", it.label);
+    number answer = failed(how, is_left_out(how) ? 0 : call(which, fd, 0, 0, 0, 0, 0));
+    note("fsync", it.label, answer, it.inode);
     return how && is_wrong("swallow") ? 0 : (int)told(answer);
 }
 
-int fsync(int fd) { return sync_once("fsync", FSYNC, fd); }
-int fdatasync(int fd) { return sync_once("fsync", FDATASYNC, fd); }
+int fsync(int fd) { return sync_once(FSYNC, fd); }
+int fdatasync(int fd) { return sync_once(FDATASYNC, fd); }
 
+/* Its offset is the length, where the file was cut. */
 int ftruncate(int fd, number length) {
     struct file it = file_of(fd);
     int how = how_planned("ftruncate", it.label);
-    number made = how && how < SHORT ? 0 : call(FTRUNCATE, fd, length, 0, 0, 0, 0);
-    put_call("ftruncate", it.label, how && how < SHORT ? -how : how ? -EIO : made, it.inode, length), put("-"), put_line();
-    return how ? (int)told(how < SHORT ? -how : -EIO) : (int)told(made);
+    number made = is_left_out(how) ? -how : call(FTRUNCATE, fd, length, 0, 0, 0, 0);
+    put_call("ftruncate", it.label, failed(how, made), it.inode, made ? -1 : length), put("-"), put_line();
+    return (int)told(failed(how, made));
 }
 
 int ftruncate64(int fd, number length) { return ftruncate(fd, length); }
@@ -300,53 +313,47 @@ number lseek(int fd, number offset, int whence) { return simple("lseek", LSEEK, 
 number lseek64(int fd, number offset, int whence) { return lseek(fd, offset, whence); }
 int flock(int fd, int operation) { return (int)simple("flock", FLOCK, fd, operation, 0, 0, 0); }
 int fchmod(int fd, unsigned mode) { return (int)simple("fchmod", FCHMOD, fd, mode, 0, 0, 0); }
-int close(int fd) {
-    if (fd == log_file && fd >= 0) return 0;
-    return (int)simple("close", CLOSE, fd, 0, 0, 0, 0);
-}
+int close(int fd) { return fd >= 0 && fd == log_file ? 0 : (int)simple("close", CLOSE, fd, 0, 0, 0, 0); }
+int fcntl(int fd, int what, number value) { return (int)simple("fcntl", FCNTL, fd, what, value, 0, 0); }
+int fcntl64(int fd, int what, number value) { return fcntl(fd, what, value); }
+int ioctl(int fd, word what, number value) { return (int)simple("ioctl", IOCTL, fd, what, value, 0, 0); }
 
 int statx(int fd, const char *path, int flags, unsigned mask, void *found) {
     struct file it = { -1, 0, "" };
-    if (path && *path) copy_label(it.label, label_of_path(path)); else it = file_of(fd);
+    if (*path) copy_label(it.label, label_of_path(path));
+    else it = file_of(fd);
     int how = how_planned("statx", it.label);
-    number answer = how ? -(how < SHORT ? how : EIO) : call(STATX, fd, (number)path, flags, mask, (number)found, 0);
+    number answer = failed(how, is_left_out(how) ? 0 : call(STATX, fd, (number)path, flags, mask, (number)found, 0));
     note("statx", it.label, answer, it.inode);
     return (int)told(answer);
 }
 
+/* Its offset is 1 where the name was changed. */
 static int change_name(const char *name, int which, const char *path, const char *to) {
     const char *label = last_name(to ? to : path);
     int how = how_planned(name, label);
-    number made = how && how < SHORT ? -how : call(which, (number)path, (number)to, 0, 0, 0, 0);
-    number answer = how >= SHORT ? -EIO : made;
-    put_call(name, label, answer, -1, made == 0 ? 1 : 0), put(path);
+    number made = is_left_out(how) ? -how : call(which, (number)path, (number)to, 0, 0, 0, 0);
+    put_call(name, label, failed(how, made), -1, made == 0), put(path);
     if (to) put(" "), put(to);
     put_line();
-    return (int)told(answer);
+    return (int)told(failed(how, made));
 }
 
 int rename(const char *from, const char *to) { return change_name("rename", RENAME, from, to); }
 int unlink(const char *path) { return change_name("unlink", UNLINK, path, 0); }
 
 char *realpath(const char *path, char *whole) {
-    static char *(*next)(const char *, char *);
-    if (!next) next = (char *(*)(const char *, char *))dlsym((void *)-1L, "realpath");
+    char *(*next)(const char *, char *) = (char *(*)(const char *, char *))dlsym((void *)-1L, "realpath");
     int how = how_planned("realpath", last_name(path));
-    note("realpath", last_name(path), how ? -(how < SHORT ? how : EIO) : 0, -1);
-    if (!how) return next(path, whole);
-    told(-(how < SHORT ? how : EIO));
-    return 0;
+    note("realpath", last_name(path), failed(how, 0), -1);
+    return told(failed(how, 0)) < 0 ? 0 : next(path, whole);
 }
-
-int fcntl(int fd, int what, number value) { return (int)simple("fcntl", FCNTL, fd, what, value, 0, 0); }
-int fcntl64(int fd, int what, number value) { return fcntl(fd, what, value); }
-int ioctl(int fd, word what, number value) { return (int)simple("ioctl", IOCTL, fd, what, value, 0, 0); }
 
 /* ---- the network ---- */
 
 int socket(int family, int kind, int protocol) {
     int how = how_planned("socket", "socket");
-    number answer = how ? -(how < SHORT ? how : EIO) : call(SOCKET, family, kind, protocol, 0, 0, 0);
+    number answer = failed(how, is_left_out(how) ? 0 : call(SOCKET, family, kind, protocol, 0, 0, 0));
     note("socket", "socket", answer, -1);
     return (int)told(answer);
 }
@@ -359,22 +366,25 @@ int setsockopt(int fd, int level, int name, const void *value, unsigned length) 
     return (int)simple("setsockopt", SETSOCKOPT, fd, level, name, (number)value, length);
 }
 
+/* Makes the sync that a wrong program put off. */
+static void sync_late(void) {
+    if (owed_sync < 0) return;
+    struct file it = file_of(owed_sync);
+    note("fsync", it.label, call(FSYNC, owed_sync, 0, 0, 0, 0, 0), it.inode);
+    owed_sync = -1;
+}
+
 number sendto(int fd, const void *bytes, word count, int flags, const void *to, unsigned length) {
     int how = how_planned("sendto", "socket");
-    number answer = how ? -(how < SHORT ? how : EIO) : call(SENDTO, fd, (number)bytes, count, flags, (number)to, length);
-    put_call("sendto", "socket", answer, -1, -1), put_bytes(bytes, count), put_line();
-    if (owed_sync >= 0) {
-        struct file it = file_of(owed_sync);
-        note("fsync", it.label, call(FSYNC, owed_sync, 0, 0, 0, 0, 0), it.inode);
-        owed_sync = -1;
-    }
-    return told(answer);
+    number made = is_left_out(how) ? 0 : call(SENDTO, fd, (number)bytes, count, flags, (number)to, length);
+    put_call("sendto", "socket", failed(how, made), -1, -1), put_bytes(bytes, count), put_line();
+    sync_late();
+    return told(failed(how, made));
 }
 
 number recvfrom(int fd, void *bytes, word count, int flags, void *from, unsigned *length) {
     int how = how_planned("recvfrom", "socket");
-    number answer =
-        how ? -(how < SHORT ? how : EIO) : call(RECVFROM, fd, (number)bytes, count, flags, (number)from, (number)length);
-    note("recvfrom", "socket", answer, -1);
-    return told(answer);
+    number most = is_left_out(how) ? 0 : call(RECVFROM, fd, (number)bytes, count, flags, (number)from, (number)length);
+    note("recvfrom", "socket", failed(how, most), -1);
+    return told(failed(how, most));
 }
