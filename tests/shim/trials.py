@@ -116,8 +116,12 @@ def fail_desk(plan, begun=None, is_stern=False):
 def begun_file():
     """What a desk's file has after three entries, of which the last is agreed."""
     with Ground() as ground:
-        desk(ground.folder, OtherDesk(), until=3)
-        return bytes_at(ground.file("a.votes"))
+        end, _, _ = desk(ground.folder, OtherDesk(), until=3)
+        expect((end[0], end[2]), [(0, "")])
+        data = bytes_at(ground.file("a.votes"))
+        if data is None or list(votes_in(data)) != [(0, 0), (1, 0), (2, 0), (2, 1)]:
+            raise Wrong(f"a desk ended with {end}, and its file has {data}")
+        return data
 
 
 def recorded_desk(begun=None, plan=None, disturb=None):
