@@ -136,7 +136,7 @@ def ends_of_words(plan, good, reads):
     """The same of a match, a migration or a run that only reads. `good` is how it ends where nothing fails, `reads` has
     the paths of the files that it reads by their labels."""
     if plan.call == "read" and plan.how == EINTR:
-        return [good, cannot_read(reads[plan.label])]
+        return [good, cannot_read(reads.get(plan.label, "-"))]
     if goes_on(plan) or plan.is_traffic():
         return [good]
     if plan.label == "old-a.votes":
