@@ -61,13 +61,21 @@ TOOLS = Tools()
 
 
 class Process:
-    """A running program with pipes and a socket of a station that is played here."""
+    """A running program with pipes. It is killed where the block that it serves ends before it."""
 
     def __init__(self, words, folder, fail, wrong):
         where, pipe = TOOLS.environment(f"{folder}/../record", fail, wrong), subprocess.PIPE
         self.ran = subprocess.Popen([TOOLS.program, *words], stdin=pipe, stdout=pipe, stderr=pipe, env=where)
         self.out, self.lines, self.is_open = "", [], True
         os.set_blocking(self.ran.stdout.fileno(), False)
+
+    def __enter__(self):
+        return self
+
+    def __exit__(self, *_):
+        if self.ran.poll() is None:
+            self.ran.kill()
+            self.ran.communicate()
 
     def say(self, line):
         try:
@@ -145,20 +153,31 @@ def desk(folder, other, fail="", wrong="", until=len(BOOK), disturb=None):
     answers its status and texts, the votes that came from it, and its address."""
     at = TOOLS.free_address()
     words = ["desk", "--sheet", SHEET, "--desk", "a", "--file", f"{folder}/a.votes", "--at", at, "--other", other.address()]
-    it, end, heard = Process(words, folder, fail, wrong), time.time() + LONGEST, set()
+    with Process(words, folder, fail, wrong) as it:
+        heard = score(it, other, until, disturb)
+        ended = it.end()
+    return ended, heard.union(other.answer()), at
+
+
+def score(it, other, until, disturb):
+    """Plays a desk's scorer and the other desk until the desk ends. It answers the votes that came."""
+    end, heard = time.time() + LONGEST, set()
     while it.is_open and time.time() < end:
         lines, ready = it.wait([other.socket], 0.002 if disturb else 0.5)
-        for line in lines:
-            place, _, what = line.partition(" ")
+        for place, what in map(told, lines):
             if place.isdigit() and what in ("next", "agreed", "differs"):
                 it.say(next_line(int(place), what, until))
         if ready:
             heard.update(other.answer())
         if disturb:
             disturb(it.ran)
-    ended = it.end()
-    heard.update(other.answer())
-    return ended, heard, at
+    return heard
+
+
+def told(line):
+    """What a scorer is told: the place, and what of it."""
+    place, _, what = line.partition(" ")
+    return place, what
 
 
 def board(folder, fail="", wrong="", disturb=None):
@@ -167,17 +186,23 @@ def board(folder, fail="", wrong="", disturb=None):
     at, desks, text = TOOLS.free_address(), [TOOLS.socket(), TOOLS.socket()], f"{folder}/board.txt"
     where = ["%s:%d" % it.getsockname() for it in desks]
     words = ["board", "--sheet", SHEET, "--at", at, "--desk-a", where[0], "--desk-b", where[1], "--text", text]
-    it, end = Process(words, folder, fail, wrong), time.time() + LONGEST
-    while it.is_open and time.time() < end and not (it.out.endswith(BOARD) and bytes_at(text) == BOARD.encode()):
-        _, ready = it.wait(desks, 0.005)
-        for which in ready:
-            data, sender = which.recvfrom(100)
-            _, place, round_ = position(data)
-            if place < len(BOOK) and round_ == 0:
-                which.sendto(vote(1 + desks.index(which), place, 0, BOOK[place]), sender)
-        if disturb:
-            disturb(it.ran)
-        shown = bytes_at(text)
-        if shown is not None and shown.count(b"\n") != 6:
-            raise Wrong(f"the board's file has {shown!r}, which isn't six lines")
-    return it.end(is_stopped=it.is_open), at
+    with Process(words, folder, fail, wrong) as it:
+        end = time.time() + LONGEST
+        while it.is_open and time.time() < end and not (it.out.endswith(BOARD) and bytes_at(text) == BOARD.encode()):
+            _, ready = it.wait(desks, 0.005)
+            answer_board(desks, ready)
+            if disturb:
+                disturb(it.ran)
+            shown = bytes_at(text)
+            if shown is not None and shown.count(b"\n") != 6:
+                raise Wrong(f"the board's file has {shown!r}, which isn't six lines")
+        return it.end(is_stopped=it.is_open), at
+
+
+def answer_board(desks, ready):
+    """Answers what a board asks these desks for."""
+    for which in ready:
+        data, sender = which.recvfrom(100)
+        _, place, round_ = position(data)
+        if place < len(BOOK) and round_ == 0:
+            which.sendto(vote(1 + desks.index(which), place, 0, BOOK[place]), sender)
