@@ -2,8 +2,8 @@
 use Rattle.std.specs.Prelude.{ℕ, List, Option}
 use Rattle.notation.specs.declared.entry.Entry.{Entry}
 use Rattle.cards.specs.Sheet.{Sheet}
-use Rattle.cards.specs.declared.watched.Watched.{Watched}
-use Rattle.cards.specs.Watched.{Prints}
+use Rattle.streams.specs.declared.watched.Watched.{Watched}
+use Rattle.streams.specs.Watched.{Prints}
 use Rattle.books.specs.declared.card.Source.{Source}
 use Rattle.books.specs.CardBook.{IsBookFrom}
 use Rattle.export.specs.Value.{export_text}

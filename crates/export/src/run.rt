@@ -3,20 +3,20 @@
 ghost use Rattle.std.specs.Prelude.{◌≡◌, ◌≢◌, ◌≤◌, ◌<◌, ◌⊎◌, ◌++◌, length, string_bytes, codes, Err, IfOk, IfErr, IfSome, OnOk};
 ghost use Rattle.json.specs.Layout.{pretty};
 ghost use Rattle.json.specs.Tree.{json_tokens};
-ghost use Rattle.cards.specs.Watched.{IsHandedOn, MeetsFailure, Prints, TellsFailure, failures, stream_of};
+ghost use Rattle.streams.specs.Watched.{IsHandedOn, MeetsFailure, Prints, TellsFailure, failures, stream_of};
 ghost use Rattle.books.specs.CardBook.{WhyNoCard};
 ghost use Rattle.export.specs.Run.{PrintsExport};
 ghost use Rattle.export.specs.Value.{export_of};
 
 use crate::notes::notes_of;
 use crate::value::put_export;
-use books::{RunFault, Source, book_from, read_all};
-use cards::{MatchSheet, Watched, WriteFailed};
+use books::{RunFault, Source, book_from};
+use cards::MatchSheet;
 use corrections::{BookOf, CheckedBook};
-use host::LONGEST_INPUT;
 use json::Pretty;
 use std::alloc::{AllocError, Global};
 use std::io::{Read, Write};
+use streams::{LONGEST_INPUT, Watched, WriteFailed, read_all};
 
 /// The text of a book as one JSON value, without its newline.
 fn text_of<B: BookOf>(alloc: Global, sheet: &MatchSheet, book: &B) -> Result<String, AllocError>

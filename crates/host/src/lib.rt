@@ -4,12 +4,10 @@
 
 mod file_disk;
 mod host_file;
-mod limit;
 mod link;
 mod udp;
 
 pub use file_disk::{FileDisk, OpenFault};
 pub use host_file::Host;
-pub use limit::LONGEST_INPUT;
 pub use link::{Link, LinkFault, ROOM};
 pub use udp::Sockets;

@@ -1,20 +1,21 @@
 //! Opening files, standard output and sockets. Each fault names the file or the address that was at work.
 
 ghost use Rattle.std.specs.Prelude.{◌≡◌, ◌≤◌, IfOk, vec_len};
-ghost use Rattle.host.specs.declared.limit.TheConstants.{LONGEST_INPUT};
+ghost use Rattle.streams.specs.declared.limit.TheConstants.{LONGEST_INPUT};
 ghost use Rattle.laptop.specs.inner.Opening as texts;
 
 use crate::address::{Address, MOST_PEERS};
 use crate::peers::Peers;
 use crate::stopped::{StopFault, Stopped};
 use agree_core::DeskId;
-use books::{RunFault, read_all, sheet_run};
-use cards::{MatchSheet, Watched};
+use books::{RunFault, sheet_run};
+use cards::MatchSheet;
 use entry_log::{LONGEST_FILE, OldSlots};
 use host::{FileDisk, OpenFault};
 use std::fs::{self, File, OpenOptions};
 use std::io::{self, BufWriter, Printer};
 use std::net::SocketAddr;
+use streams::{Watched, read_all};
 use vote_store::{Refusal, Votes};
 
 /// Standard output, a buffer at a time.
@@ -64,7 +65,7 @@ pub fn bytes_at<'a>(rt: &HostRuntime, path: &'a str) -> Result<Vec<u8>, Stopped<
     let mut reader = open_input(rt, path)?;
     match read_all(rt.alloc(), &mut reader) {
         Ok(bytes) => Ok(bytes),
-        Err(fault) => Err(Stopped::at(path, fault)),
+        Err(fault) => Err(Stopped::at(path, RunFault::from(fault))),
     }
 }
 

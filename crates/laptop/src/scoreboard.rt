@@ -8,11 +8,12 @@ use crate::text_file::TextFile;
 use crate::watch::Watch;
 use board::Board;
 use books::RunFault;
-use cards::{MatchSheet, Watched, WriteFailed};
+use cards::MatchSheet;
 use corrections::CheckedBook;
 use live::{Clock, Link, run_board};
 use std::io::{BufWriter, Printer, Write};
 use std::net::SocketAddr;
+use streams::{Watched, WriteFailed};
 
 /// What a board shows: its text at standard output, and in a file.
 type Shown<'a> = Watched<Sign<BufWriter<Printer<'a, HostRuntime>>, TextFile<'a>>>;

@@ -10,7 +10,7 @@ use crate::stopped::{StopFault, Stopped};
 use crate::watch::Watch;
 use agree_core::DeskId;
 use books::RunFault;
-use cards::{MatchSheet, Watched};
+use cards::MatchSheet;
 use corrections::{BookOf, CheckedBook};
 use desk::Desk;
 use entry_log::{Slots, SlotsOf};
@@ -19,6 +19,7 @@ use live::{Clock, DeskEnd, Keys, Link, begin_desk, run_desk};
 use std::fs::File;
 use std::io::Write;
 use std::net::SocketAddr;
+use streams::Watched;
 
 /// A desk whose votes are in a file.
 type FileDesk = Desk<Slots<FileDisk<File>>, CheckedBook>;

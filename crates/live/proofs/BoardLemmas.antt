@@ -2,7 +2,7 @@
 use Rattle.std.proofs.Common.{◌≡◌, ◌<◌, ◌+◌, ℕ, List, [], ◌∷◌, ◌++◌, Option, None, refl, sym, ap, ◌∙◌, subst, append-nil, Result, Bool, true, false, nat_eq, arith, inl, inr}
 use Rattle.std.proofs.lemmas.Bool.Decides.{eqb_tells, nat_tests}
 use Rattle.std.proofs.lemmas.List.Elements.{All-nil}
-use Rattle.cards.proofs.Appending.{appends_kept, appends_none}
+use Rattle.streams.proofs.Appending.{appends_kept, appends_none}
 use Rattle.wire.specs.Layout.{IsMessage}
 use Rattle.std.specs.Prelude.{Ok, Err, IsErrAnd, OnOk}
 use Rattle.std.specs.Io.KnownBytes.{Appends, Keeps}

@@ -4,9 +4,9 @@ use Rattle.std.specs.Prelude.{IsErrOf, IsErrAnd, nat_lt}
 use Rattle.std.specs.Bool.{⊤}
 use Rattle.std.specs.Io.KnownBytes.{Appends, Keeps}
 use Rattle.std.proofs.lemmas.List.Elements.{All-nil}
-use Rattle.cards.proofs.Appending.{appends_kept, appends_none}
+use Rattle.streams.proofs.Appending.{appends_kept, appends_none}
 use Rattle.cards.specs.Sheet.{Sheet}
-use Rattle.cards.specs.declared.watched.WriteFailed.{WriteFailed}
+use Rattle.streams.specs.declared.watched.WriteFailed.{WriteFailed}
 use Rattle.notation.specs.declared.entry.Entry.{Entry}
 use Rattle.corrections.specs.declared.book_of.BookOf.{Ghosts as Books}
 use Rattle.entry_log.specs.Blame.{BlamesDisk}

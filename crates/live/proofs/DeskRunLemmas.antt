@@ -3,7 +3,7 @@ use Rattle.std.proofs.Common.{◌≡◌, ℕ, List, [], Option, Result, Ok, Err,
 use Rattle.std.specs.Prelude.{IsErrAnd, is_some}
 use Rattle.std.specs.Io.KnownBytes.{Appends, Keeps}
 use Rattle.cards.specs.Sheet.{Sheet}
-use Rattle.cards.specs.declared.watched.WriteFailed.{WriteFailed}
+use Rattle.streams.specs.declared.watched.WriteFailed.{WriteFailed}
 use Rattle.corrections.specs.declared.book_of.BookOf.{Ghosts as Books}
 use Rattle.entry_log.specs.Blame.{BlamesDisk}
 use Rattle.entry_log.specs.declared.disk.Disk.{Ghosts as Disks}

@@ -2,7 +2,7 @@
 
 ghost use Rattle.std.specs.Prelude.{◌≡◌, ◌<◌, ◌+◌, ℕ, true, false, Option, List, [], ◌∷◌, ◌++◌, OnErr};
 ghost use Rattle.cards.specs.Sheet.{Sheet};
-ghost use Rattle.cards.specs.Watched.{has_failed, stream_of};
+ghost use Rattle.streams.specs.Watched.{has_failed, stream_of};
 ghost use Rattle.live.specs.Boards.{BoardGoes, BoardRuns, at_turn, in_turn};
 ghost use Rattle.live.specs.Passed.{Came, Passed};
 ghost use Rattle.live.specs.declared.link.TheConstants.{MOST_TAKEN};
@@ -13,9 +13,10 @@ use crate::link::{Link, MOST_TAKEN, ROOM};
 use crate::pace::Pace;
 use crate::sending::send_each;
 use board::Board;
-use cards::{MatchSheet, Watched, WriteFailed};
+use cards::MatchSheet;
 use corrections::BookOf;
 use std::io::Write;
+use streams::{Watched, WriteFailed};
 
 /// Has a board say what it says unasked, where that is due.
 fn tick<B: BookOf, L: Link>(board: &Board<B>, link: &mut L, is_due: bool)

@@ -1,16 +1,17 @@
 //! What a desk's scorer is told.
 
 ghost use Rattle.std.specs.Prelude.{◌≡◌, ◌++◌, true, codes, OnErr, OnOk};
-ghost use Rattle.cards.specs.Watched.{Prints, has_failed};
+ghost use Rattle.streams.specs.Watched.{Prints, has_failed};
 ghost use Rattle.live.specs.Texts as texts;
 
 use crate::said::Said;
 use crate::warned::Warned;
 use agree_core::{Heard, Position, Settled};
-use cards::{MatchSheet, Watched, WriteFailed, board_lines, last_entries};
+use cards::{MatchSheet, board_lines, last_entries};
 use corrections::BookOf;
 use desk::Refusal;
 use std::io::Write;
+use streams::{Watched, WriteFailed};
 use wire::What;
 
 /// How many entries `list` shows at most.

@@ -11,7 +11,7 @@ use Rattle.agree_core.specs.Boards.{fresh_board}
 use Rattle.agree_core.specs.Openings.{Creates, Opens}
 use Rattle.headline.specs.Configurations.{Running}
 use Rattle.cards.specs.Sheet.{Sheet}
-use Rattle.cards.specs.declared.watched.WriteFailed.{WriteFailed}
+use Rattle.streams.specs.declared.watched.WriteFailed.{WriteFailed}
 use Rattle.board.specs.declared.board.Board.{Board}
 use Rattle.board.specs.Board as board
 use Rattle.desk.specs.declared.desk.Desk.{Desk}

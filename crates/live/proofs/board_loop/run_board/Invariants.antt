@@ -1,4 +1,4 @@
-use Rattle.cards.specs.Watched.{stream_of}
+use Rattle.streams.specs.Watched.{stream_of}
 use Rattle.live.specs.Boards.{BoardGoes, at_turn}
 use Rattle.live.proofs.board_loop.run_board.Given as goal
 

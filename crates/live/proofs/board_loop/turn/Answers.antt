@@ -1,6 +1,6 @@
 use Rattle.std.proofs.Common.{◌≡◌, ◌∙◌, ap, length, refl, sym}
 use Rattle.board.specs.Board.{book_of}
-use Rattle.cards.specs.Watched.{stream_of}
+use Rattle.streams.specs.Watched.{stream_of}
 use Rattle.live.proofs.BoardLemmas.{finished, kept, no_more, silent, some_more, stopped, then, turn_over}
 use Rattle.live.proofs.board_loop.turn.Goals as goal
 

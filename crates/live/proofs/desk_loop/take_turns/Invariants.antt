@@ -1,4 +1,4 @@
-use Rattle.cards.specs.Watched.{stream_of}
+use Rattle.streams.specs.Watched.{stream_of}
 use Rattle.live.specs.Desks.{DeskGoes, process_of}
 use Rattle.live.specs.Ends.{further}
 use Rattle.live.specs.declared.warned.Warned.TheVariants.{Nothing}

@@ -1,7 +1,7 @@
 use Rattle.std.proofs.Common.{◌≡◌, ◌≤◌, ◌-◌, vec_len, List, ℕ, Option}
 use Rattle.std.specs.Io.KnownBytes.{Consumes}
-use Rattle.cards.specs.Watched.{failures, stream_of}
-use Rattle.books.proofs.input.read_all.Given as goal
+use Rattle.streams.specs.Watched.{failures, stream_of}
+use Rattle.streams.proofs.input.read_all.Given as goal
 
 -- what was read is what the reader gave
 pub record SoFar (before after : Option (List ℕ)) (items : List ℕ) (count : ℕ) : Type 0 where

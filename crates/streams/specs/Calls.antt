@@ -1,8 +1,8 @@
 -- How the calls on a stream ended.
 use Rattle.std.specs.Prelude.{ℕ, zero, suc, Bool, true, false}
-use Rattle.cards.specs.declared.calls.Calls.{Calls, NoneYet, Done', Failed', HandedOn'}
-use Rattle.cards.specs.declared.watched.Health.{Health}
-use Rattle.cards.specs.declared.watched.Health.TheVariants.{Sound, Failed}
+use Rattle.streams.specs.declared.calls.Calls.{Calls, NoneYet, Done', Failed', HandedOn'}
+use Rattle.streams.specs.declared.watched.Health.{Health}
+use Rattle.streams.specs.declared.watched.Health.TheVariants.{Sound, Failed}
 
 -- how many have failed
 abbrev pub failure_count : Calls → ℕ

@@ -14,7 +14,7 @@ pub enum Calls {
 }
 
 impl Calls {
-    ghost use Rattle.cards.specs.Calls.{failure_count, is_handed_on};
+    ghost use Rattle.streams.specs.Calls.{failure_count, is_handed_on};
 
     /// These, and a read or a write that was done.
     pub fn done(&self) -> Calls
