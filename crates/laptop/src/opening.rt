@@ -4,14 +4,12 @@ ghost use Rattle.std.specs.Prelude.{◌≡◌, ◌≤◌, IfOk, vec_len};
 ghost use Rattle.streams.specs.declared.limit.TheConstants.{LONGEST_INPUT};
 ghost use Rattle.laptop.specs.inner.Opening as texts;
 
-use crate::address::{Address, MOST_PEERS};
-use crate::peers::Peers;
 use crate::stopped::{StopFault, Stopped};
 use agree_core::DeskId;
 use books::{RunFault, sheet_run};
 use cards::MatchSheet;
 use entry_log::{LONGEST_FILE, OldSlots};
-use host::{FileDisk, OpenFault};
+use machine::{Address, FileDisk, MOST_PEERS, OpenFault, Peers};
 use std::fs::{self, File, OpenOptions};
 use std::io::{self, BufWriter, Printer};
 use std::net::SocketAddr;

@@ -1,16 +1,14 @@
 //! `ground board`: a scoreboard.
 
-use crate::address::{Address, MOST_PEERS};
 use crate::opening::{peers_at, printer, sheet_at};
 use crate::sign::Sign;
 use crate::stopped::Stopped;
-use crate::text_file::TextFile;
-use crate::watch::Watch;
 use board::Board;
 use books::RunFault;
 use cards::MatchSheet;
 use corrections::CheckedBook;
 use live::{Clock, Link, run_board};
+use machine::{Address, MOST_PEERS, MonotonicClock, TextFile};
 use std::io::{BufWriter, Printer, Write};
 use std::net::SocketAddr;
 use streams::{Watched, WriteFailed};
@@ -59,7 +57,7 @@ pub fn board_run<'a>(
     ))?;
     let mut board = Board::new(sheet.game(), book);
     let mut link = peers_at(rt, at, peers)?;
-    let mut clock = Watch::new(rt);
+    let mut clock = MonotonicClock::new(rt);
     match show(&mut board, &sheet, &mut link, &mut clock, &mut out) {
         Ok(()) => Ok(false),
         Err(_) => Err(Stopped::at("-", RunFault::Write)),

@@ -3,19 +3,16 @@
 ghost use Rattle.std.specs.Prelude.{IfOk};
 ghost use Rattle.desk.specs.Desk.{IsOf};
 
-use crate::address::{Address, MOST_PEERS};
-use crate::keyboard::Keyboard;
 use crate::opening::{kept_disk_at, output, peers_at, sheet_at};
 use crate::stopped::{StopFault, Stopped};
-use crate::watch::Watch;
 use agree_core::DeskId;
 use books::RunFault;
 use cards::MatchSheet;
 use corrections::{BookOf, CheckedBook};
 use desk::Desk;
 use entry_log::{Slots, SlotsOf};
-use host::FileDisk;
 use live::{Clock, DeskEnd, Keys, Link, begin_desk, run_desk};
+use machine::{Address, FileDisk, Keyboard, MOST_PEERS, MonotonicClock};
 use std::fs::File;
 use std::io::Write;
 use std::net::SocketAddr;
@@ -83,7 +80,7 @@ pub fn desk_run<'a>(
     let desk = desk_at(rt, &sheet, desk, file)?;
     let mut link = peers_at(rt, at, peers)?;
     let mut keys = keyboard(rt)?;
-    let mut clock = Watch::new(rt);
+    let mut clock = MonotonicClock::new(rt);
     match keep(desk, &sheet, &mut link, &mut keys, &mut clock, &mut writer) {
         Ok(()) | Err(DeskEnd::Quit | DeskEnd::NoMoreLines) => Ok(false),
         Err(DeskEnd::Write) => Err(Stopped::at("-", RunFault::Write)),

@@ -19,7 +19,7 @@ use crate::turns::{Stations, new_stations};
 use books::RunFault;
 use cards::MatchSheet;
 use entry_log::{Disk, Refusal as FileRefusal, SlotsOf};
-use host::Link;
+use machine::Link;
 use notation::Lines;
 use std::alloc::Global;
 use std::io::Write;

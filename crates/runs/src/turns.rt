@@ -27,7 +27,7 @@ use cards::MatchSheet;
 use corrections::{BookOf, CheckedBook};
 use desk::Desk;
 use entry_log::{Disk, Slots, SlotsOf};
-use host::{Link, ROOM};
+use machine::{Link, ROOM};
 use notation::{Entry, read_line};
 use std::alloc::{AllocError, Global};
 use std::io::Write;

@@ -1,7 +1,7 @@
 -- The fault of a run over a file of which no disk is made.
 use Rattle.vote_store.specs.Refusal.{not_empty}
-use Rattle.host.specs.declared.file_disk.OpenFault.{OpenFault}
-use Rattle.host.specs.declared.file_disk.OpenFault.TheVariants.{NoMemory, Host, TooLong}
+use Rattle.machine.specs.declared.file_disk.OpenFault.{OpenFault}
+use Rattle.machine.specs.declared.file_disk.OpenFault.TheVariants.{NoMemory, Host, TooLong}
 use Rattle.books.specs.declared.fault.RunFault.{RunFault}
 use Rattle.books.specs.declared.fault.RunFault.TheVariants as faults
 

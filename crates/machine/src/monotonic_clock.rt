@@ -4,19 +4,19 @@ use live::Clock;
 
 /// The machine's clock, as it was last read.
 #[derive(Drop)]
-pub struct Watch<'a, R> {
+pub struct MonotonicClock<'a, R> {
     machine: &'a R,
     last: u64,
 }
 
-impl<'a, R: std::time::Clock> Watch<'a, R> {
+impl<'a, R: std::time::Clock> MonotonicClock<'a, R> {
     /// A clock that wasn't read yet.
-    pub fn new(machine: &'a R) -> Watch<'a, R> {
-        Watch { machine, last: 0 }
+    pub fn new(machine: &'a R) -> MonotonicClock<'a, R> {
+        MonotonicClock { machine, last: 0 }
     }
 }
 
-impl<R: std::time::Clock> Clock for Watch<'_, R> {
+impl<R: std::time::Clock> Clock for MonotonicClock<'_, R> {
     /// Where the machine's clock can't be read, the time of the last read.
     fn millis(&mut self) -> u64 {
         if let Ok(time) = self.machine.monotonic() {

@@ -3,8 +3,8 @@
 use Rattle.std.specs.Prelude.{ℕ, List, Option}
 use Rattle.entry_log.specs.Disk.{Images, Faults, Ever}
 use Rattle.entry_log.specs.MemDisk as mirror
-use Rattle.host.specs.declared.file_disk.FileDisk.{FileDisk}
-use Rattle.host.specs.Calls.{Call}
+use Rattle.machine.specs.declared.file_disk.FileDisk.{FileDisk}
+use Rattle.machine.specs.Calls.{Call}
 
 abbrev pub file_of : {F : Type 0} → FileDisk F → List ℕ
 file_of disk = mirror.file_of disk.mirror

@@ -1,7 +1,7 @@
 //! A file of the host.
 
 ghost use Rattle.std.specs.Prelude.{◌≡◌, List, None, Option};
-ghost use Rattle.host.specs.Calls.{Answers, Call, CutTo, Sync, WriteAt};
+ghost use Rattle.machine.specs.Calls.{Answers, Call, CutTo, Sync, WriteAt};
 
 use std::fs::{File, OpenFile};
 use std::io::{self, Read, Seek, SeekFrom, Write};
