@@ -1,7 +1,7 @@
 //! A file of the host.
 
 ghost use Rattle.std.specs.Prelude.{◌≡◌, List, None, Option};
-ghost use Rattle.host.specs.Calls.{Answers, Call, CutTo, Sync, WriteAt};
+ghost use Rattle.host.specs.Calls.{Answers, Call, CutTo, Sync, TakeName, WriteAt};
 
 use std::fs::{File, OpenFile};
 use std::io::{self, Read, Seek, SeekFrom, Write};
@@ -30,6 +30,13 @@ pub trait Host {
     /// Waits until all that was written is kept.
     fn sync(&mut self) -> io::Result<()>
         ensures { Answers result Sync (calls self.old) (calls self.new) };
+}
+
+/// A new file that is to take the name of another.
+pub trait Successor: Host {
+    /// Takes the name, and waits until the folder keeps that.
+    fn take_name(&mut self) -> io::Result<()>
+        ensures { Answers result TakeName (Self.calls self.old) (Self.calls self.new) };
 }
 
 impl Host for File {
