@@ -11,17 +11,17 @@ mod scorer;
 mod sign;
 mod stopped;
 mod text_file;
+mod votes_file;
 mod watch;
 
 pub use address::{Address, MOST_PEERS, address_in, peers_in};
 pub use keyboard::Keyboard;
-pub use opening::{
-    Output, bytes_at, new_disk_at, new_disk_in, old_votes_at, open_input, output, sheet_at,
-};
+pub use opening::{Output, bytes_at, old_votes_at, open_input, output, sheet_at};
 pub use peers::Peers;
 pub use scoreboard::board_run;
 pub use scorer::desk_run;
 pub use sign::Sign;
 pub use stopped::{StopFault, Stopped, print_stopped};
 pub use text_file::{Replaces, TextFile};
+pub use votes_file::{VotesDisk, new_disk_at, new_disk_in};
 pub use watch::Watch;

@@ -16,3 +16,9 @@ abbrev pub fault_of_new : OpenFault → RunFault
 fault_of_new NoMemory = faults.NoMemory
 fault_of_new Host = faults.Device
 fault_of_new TooLong = faults.Votes not_empty
+
+-- and where it is to be written anew
+abbrev pub fault_of_copy : OpenFault → RunFault
+fault_of_copy NoMemory = faults.NoMemory
+fault_of_copy Host = faults.Write
+fault_of_copy TooLong = faults.Write
