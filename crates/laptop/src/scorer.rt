@@ -52,10 +52,10 @@ fn judge<'a>(
     path: &'a str,
 ) -> Result<(), Stopped<'a>> {
     match MemDisk::of(rt.alloc(), bytes, bytes.len()) {
-        Ok(disk) => {
-            desk_on(rt, sheet, desk, disk, path)?;
-            Ok(())
-        }
+        Ok(disk) => match desk_on(rt, sheet, desk, disk, path) {
+            Ok(_desk) => Ok(()),
+            Err(stopped) => Err(stopped),
+        },
         Err(why) => Err(Stopped::at(path, RunFault::from(why))),
     }
 }
