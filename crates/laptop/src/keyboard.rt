@@ -2,12 +2,12 @@
 
 ghost use Rattle.std.specs.Prelude.{◌≡◌, ◌<◌, ◌≤◌, IfSome};
 
+use libc::net::{POLLIN, poll};
+use libc::types::pollfd;
 use live::{InputLog, Keys, LINE_ROOM, Typed};
-use std::fs::File;
 use std::io::{self, ErrorKind, Read};
-use std::net::UdpSocket;
-use std::os::fd::AsFd;
-use std::rt::Files;
+use std::os::fd::AsRawFd;
+use std::rt::Stdin;
 
 /// A scorer's lines, from a reader that answers `WouldBlock` where nothing was typed. A line ends with its newline:
 /// what stands behind the last one is none. Of a line that is too long the front is given, and the rest passed over.
@@ -19,18 +19,45 @@ pub struct Keyboard<R> {
     /// Whether the rest of a line that was too long is passed over.
     skips: bool,
     ended: bool,
+    /// Whether a read failed, which ends the lines too.
+    failed: bool,
     given: InputLog,
     ghost within: { len ≤ 128 },
 }
 
-impl Keyboard<File> {
-    /// Standard input, opened anew, so that nothing changes for other programs that read it. A read never waits: the
-    /// standard library has that call for sockets alone, so it is made on another handle of the same open file.
-    pub fn open<F: Files<File = File>>(files: &F) -> io::Result<Keyboard<File>> {
-        let file = File::open(files, "/dev/stdin")?;
-        let handle = UdpSocket::from(file.as_fd().try_clone_to_owned()?);
-        handle.set_nonblocking(true)?;
-        Ok(Keyboard::new(file))
+/// Standard input, of which a read never waits: it answers `WouldBlock` where nothing is there.
+#[derive(Drop)]
+pub struct StandardInput {
+    stream: Stdin,
+}
+
+impl StandardInput {
+    /// Whether a read answers at once.
+    fn is_ready(&self) -> bool {
+        let mut asked = [pollfd {
+            fd: self.stream.as_raw_fd(),
+            events: POLLIN,
+            revents: 0,
+        }];
+        poll(&mut asked, 0) > 0
+    }
+}
+
+impl Read for StandardInput {
+    fn read(&mut self, buffer: &mut [u8]) -> io::Result<usize> {
+        if self.is_ready() {
+            self.stream.read(buffer)
+        } else {
+            Err(io::Error::from(ErrorKind::WouldBlock))
+        }
+    }
+}
+
+impl Keyboard<StandardInput> {
+    /// Standard input, from where it stands. It isn't opened anew and none of its flags is changed: so it may be a file, a
+    /// pipe, a terminal or a socket of whomever, and stays as it is for other programs.
+    pub fn of_standard_input(rt: &HostRuntime) -> Keyboard<StandardInput> {
+        Keyboard::new(StandardInput { stream: rt.stdin() })
     }
 }
 
@@ -43,6 +70,7 @@ impl<R: Read> Keyboard<R> {
             len: 0,
             skips: false,
             ended: false,
+            failed: false,
             given: InputLog::Empty,
         }
     }
@@ -56,7 +84,10 @@ impl<R: Read> Keyboard<R> {
             Ok(count) => self.len += count,
             Err(error) => match error.kind() {
                 ErrorKind::WouldBlock | ErrorKind::Interrupted => {}
-                _ => self.ended = true,
+                _ => {
+                    self.ended = true;
+                    self.failed = true;
+                }
             },
         }
     }
@@ -115,6 +146,11 @@ impl<R: Read> Keyboard<R> {
             None if self.len == LINE_ROOM => self.take_front(buffer),
             None => None,
         }
+    }
+
+    /// Whether the lines ended with a read that failed.
+    pub fn has_failed(&self) -> bool {
+        self.failed
     }
 
     /// Whether all lines were given.

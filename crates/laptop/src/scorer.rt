@@ -50,11 +50,6 @@ fn desk_at<'a>(
     }
 }
 
-/// Standard input as a scorer's keyboard.
-fn keyboard(rt: &HostRuntime) -> Result<Keyboard<File>, Stopped<'static>> {
-    Keyboard::open(rt).map_err(|_| Stopped::at("-", RunFault::Read))
-}
-
 /// Runs a desk until its scorer stops, or its disk or a write fails.
 fn keep<S: SlotsOf + Drop, B: BookOf + Drop, L: Link, K: Keys, C: Clock, W: Write>(
     mut desk: Desk<S, B>,
@@ -81,9 +76,10 @@ pub fn desk_run<'a>(
     let mut writer = output(rt)?;
     let desk = desk_at(rt, &sheet, desk, file)?;
     let mut link = peers_at(rt, at, peers)?;
-    let mut keys = keyboard(rt)?;
+    let mut keys = Keyboard::of_standard_input(rt);
     let mut clock = Watch::new(rt);
     match keep(desk, &sheet, &mut link, &mut keys, &mut clock, &mut writer) {
+        Err(DeskEnd::NoMoreLines) if keys.has_failed() => Err(Stopped::at("-", RunFault::Read)),
         Ok(()) | Err(DeskEnd::Quit | DeskEnd::NoMoreLines) => Ok(false),
         Err(DeskEnd::Write) => Err(Stopped::at("-", RunFault::Write)),
         Err(DeskEnd::Device) => Err(Stopped {
