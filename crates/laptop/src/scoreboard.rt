@@ -17,12 +17,30 @@ use std::net::SocketAddr;
 /// What a board shows: its text at standard output, and in a file.
 type Shown<'a> = Watched<Sign<BufWriter<Printer<'a, HostRuntime>>, TextFile<'a>>>;
 
+/// The file of a board's text, if both it and the one beside it may be written.
+fn text_file<'a>(
+    rt: &'a HostRuntime,
+    path: &'a str,
+    sheet: &'a str,
+) -> Result<TextFile<'a>, Stopped<'a>> {
+    let file = TextFile::new(rt, path, sheet).map_err(|why| Stopped::at(
+        path,
+        RunFault::from(why),
+    ))?;
+    match file.expect_room() {
+        Ok(()) => Ok(file),
+        Err(_) => Err(Stopped::at(path, RunFault::Write)),
+    }
+}
+
 /// Standard output and the file of a board's text, where there is one.
-fn shown<'a>(rt: &'a HostRuntime, text: Option<&'a str>) -> Result<Shown<'a>, Stopped<'a>> {
+fn shown<'a>(
+    rt: &'a HostRuntime,
+    text: Option<&'a str>,
+    sheet: &'a str,
+) -> Result<Shown<'a>, Stopped<'a>> {
     let file = match text {
-        Some(path) => {
-            Some(TextFile::new(rt, path).map_err(|why| Stopped::at(path, RunFault::from(why)))?)
-        }
+        Some(path) => Some(text_file(rt, path, sheet)?),
         None => None,
     };
     Ok(Watched::new(Sign::new(rt.alloc(), printer(rt)?, file)))
@@ -45,13 +63,13 @@ fn show<L: Link, C: Clock, W: Write>(
 /// change.
 pub fn board_run<'a>(
     rt: &'a HostRuntime,
-    sheet: &'a str,
+    sheet_path: &'a str,
     at: Address<'a>,
     peers: [Option<SocketAddr>; MOST_PEERS],
     text: Option<&'a str>,
 ) -> Result<bool, Stopped<'a>> {
-    let sheet = sheet_at(rt, sheet)?;
-    let mut out = shown(rt, text)?;
+    let sheet = sheet_at(rt, sheet_path)?;
+    let mut out = shown(rt, text, sheet_path)?;
     let book = CheckedBook::new(rt.alloc(), sheet.innings()).map_err(|why| Stopped::at(
         "-",
         RunFault::from(why),
