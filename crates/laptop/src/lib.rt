@@ -4,6 +4,7 @@
 
 mod address;
 mod keyboard;
+mod match_files;
 mod opening;
 mod peers;
 mod scoreboard;
@@ -15,9 +16,8 @@ mod watch;
 
 pub use address::{Address, MOST_PEERS, address_in, peers_in};
 pub use keyboard::Keyboard;
-pub use opening::{
-    Output, bytes_at, new_disk_at, new_disk_in, old_votes_at, open_input, output, sheet_at,
-};
+pub use match_files::MatchFiles;
+pub use opening::{Output, bytes_at, new_disk_at, old_votes_at, open_input, output, sheet_at};
 pub use peers::Peers;
 pub use scoreboard::board_run;
 pub use scorer::desk_run;

@@ -133,22 +133,6 @@ pub fn kept_disk_at<'a>(rt: &HostRuntime, path: &'a str) -> Result<FileDisk<File
     ))
 }
 
-/// A disk on a new file of this name in a folder.
-pub fn new_disk_in<'a>(
-    rt: &HostRuntime,
-    folder: &'a str,
-    name: &str,
-) -> Result<FileDisk<File>, Stopped<'a>> {
-    let path = format!(in rt.alloc(); "{folder}/{name}").map_err(|why| Stopped::at(
-        folder,
-        RunFault::from(why),
-    ))?;
-    new_disk_at(rt, path.as_str()).map_err(|stopped| Stopped {
-        path: folder,
-        fault: stopped.fault,
-    })
-}
-
 /// Standard output, a buffer at a time.
 pub fn printer(rt: &HostRuntime) -> Result<BufWriter<Printer<'_, HostRuntime>>, Stopped<'static>> {
     BufWriter::new(rt.alloc(), io::writer(rt)).map_err(|_| Stopped::at("-", RunFault::NoMemory))
