@@ -11,6 +11,7 @@ mod scoreboard;
 mod scorer;
 mod sign;
 mod stopped;
+mod streams;
 mod text_file;
 mod watch;
 
@@ -23,5 +24,6 @@ pub use scoreboard::board_run;
 pub use scorer::desk_run;
 pub use sign::Sign;
 pub use stopped::{StopFault, Stopped, print_stopped};
+pub use streams::{Gaps, fill_gaps};
 pub use text_file::{Replaces, TextFile};
 pub use watch::Watch;
