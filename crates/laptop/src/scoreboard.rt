@@ -61,6 +61,7 @@ fn show<L: Link, C: Clock, W: Write>(
 
 /// `ground board`: keeps a board that listens at an address, and shows its six lines at the start and whenever they
 /// change.
+#[inline(never)]
 pub fn board_run<'a>(
     rt: &'a HostRuntime,
     sheet_path: &'a str,

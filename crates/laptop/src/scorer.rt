@@ -64,6 +64,7 @@ fn keep<S: SlotsOf + Drop, B: BookOf + Drop, L: Link, K: Keys, C: Clock, W: Writ
 
 /// `ground desk`: keeps a scorer's desk with its votes in a file, listening at an address, until the scorer types
 /// `quit` or no more.
+#[inline(never)]
 pub fn desk_run<'a>(
     rt: &HostRuntime,
     sheet: &'a str,
