@@ -4,6 +4,7 @@
 
 mod address;
 mod keyboard;
+mod notes;
 mod opening;
 mod peers;
 mod scoreboard;

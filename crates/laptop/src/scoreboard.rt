@@ -1,6 +1,7 @@
 //! `ground board`: a scoreboard.
 
 use crate::address::{Address, MOST_PEERS};
+use crate::notes::Notes;
 use crate::opening::{peers_at, printer, sheet_at};
 use crate::sign::Sign;
 use crate::stopped::Stopped;
@@ -10,7 +11,7 @@ use board::Board;
 use books::RunFault;
 use cards::{MatchSheet, Watched, WriteFailed};
 use corrections::CheckedBook;
-use live::{Clock, Link, run_board};
+use live::{Clock, Link, Notices, run_board};
 use std::io::{BufWriter, Printer, Write};
 use std::net::SocketAddr;
 
@@ -29,20 +30,21 @@ fn shown<'a>(rt: &'a HostRuntime, text: Option<&'a str>) -> Result<Shown<'a>, St
 }
 
 /// Shows the six lines, and then runs the board without an end.
-fn show<L: Link, C: Clock, W: Write>(
+fn show<L: Link, C: Clock, N: Notices, W: Write>(
     board: &mut Board<CheckedBook>,
     sheet: &MatchSheet,
     link: &mut L,
     clock: &mut C,
+    notices: &mut N,
     out: &mut Watched<W>,
 ) -> Result<(), WriteFailed> {
     board.lines(sheet, out)?;
     out.flush()?;
-    run_board(board, sheet, link, clock, out, u64::MAX)
+    run_board(board, sheet, link, clock, notices, out, u64::MAX)
 }
 
-/// `ground board`: keeps a board that listens at an address, and shows its six lines at the start and whenever they
-/// change.
+/// `ground board`: keeps a board that listens at an address, shows its six lines at the start and whenever they
+/// change, and tells standard error what it can't take.
 pub fn board_run<'a>(
     rt: &'a HostRuntime,
     sheet: &'a str,
@@ -59,7 +61,11 @@ pub fn board_run<'a>(
     let mut board = Board::new(sheet.game(), book);
     let mut link = peers_at(rt, at, peers)?;
     let mut clock = Watch::new(rt);
-    match show(&mut board, &sheet, &mut link, &mut clock, &mut out) {
+    let mut notes = Notes::new(rt.stderr());
+    let ended = show(
+        &mut board, &sheet, &mut link, &mut clock, &mut notes, &mut out,
+    );
+    match ended {
         Ok(()) => Ok(false),
         Err(_) => Err(Stopped::at("-", RunFault::Write)),
     }

@@ -253,7 +253,7 @@ fn take_turns<S: SlotsOf, B: BookOf + Drop, L: Link, K: Keys, C: Clock, W: Write
     greet(desk, sheet, out)?;
     let mut between = Between {
         pace: Pace::new(),
-        warned: Warned::Nothing,
+        warned: Warned::NOTHING,
     };
     for number in 0..turns {
         turn(desk, sheet, link, keys, clock, out, &mut between)?;
