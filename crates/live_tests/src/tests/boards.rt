@@ -220,27 +220,24 @@ fn bytes_that_a_board_cannot_take(rt: HostRuntime) {
 #[test]
 fn votes_that_a_board_refuses(rt: HostRuntime) {
     let alloc = rt.alloc();
-    let mut datagrams = [[0; 48]; 8];
-    for (index, (desk, place, round, line)) in [
-        (DeskId::A, 0, 0, "void"),
-        (DeskId::B, 0, 0, "void"),
-        (DeskId::A, 1, 0, "in 1"),
-        (DeskId::B, 1, 0, "in 1"),
-        (DeskId::B, 1, 0, "in 1"),
-        (DeskId::B, 1, 0, "void"),
-        (DeskId::A, 1, 1, "innings home"),
-        (DeskId::B, 1, 1, "innings home"),
-    ]
-    .into_iter()
-    .enumerate()
-    {
-        datagrams[index] = vote(&rt, desk, place, round, line);
+    let first = "void";
+    let refused = "in 1";
+    let last = "innings home";
+    let votes = [
+        vote(&rt, DeskId::A, 0, 0, first),
+        vote(&rt, DeskId::B, 0, 0, first),
+        vote(&rt, DeskId::A, 1, 0, refused),
+        vote(&rt, DeskId::B, 1, 0, refused),
+        vote(&rt, DeskId::B, 1, 0, refused),
+        vote(&rt, DeskId::B, 1, 0, first),
+        vote(&rt, DeskId::A, 1, 1, last),
+        vote(&rt, DeskId::B, 1, 1, last),
+    ];
+    let mut datagrams: Vec<&[u8]> = Vec::new(alloc);
+    for vote in votes.iter() {
+        datagrams.push(vote.as_slice()).expect(&rt, "room");
     }
-    let mut parts: Vec<&[u8]> = Vec::new(alloc);
-    for datagram in datagrams.iter() {
-        parts.push(datagram.as_slice()).expect(&rt, "room");
-    }
-    let (told, shown) = notices(&rt, alloc, parts.as_slice());
+    let (told, shown) = notices(&rt, alloc, datagrams.as_slice());
     assert_eq!(rt; told.as_slice(), [Notice::BadVotes { place: 1 }].as_slice());
     assert_eq!(rt; shown.as_slice(), NO_PLAY.as_bytes());
 }

@@ -1,5 +1,4 @@
 use Rattle.std.proofs.Common.{◌≡◌, Bool, nat_lt, subst}
-use Rattle.std.specs.Prelude.{is_some}
 use Rattle.notation.specs.Written.{IsEntry, text_of}
 use Rattle.agree_core.specs.declared.position.Position.{Position}
 use Rattle.desk.specs.Desk.{state_of}
