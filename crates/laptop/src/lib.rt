@@ -14,7 +14,7 @@ mod stopped;
 mod text_file;
 mod watch;
 
-pub use address::{Address, MOST_PEERS, address_in, peers_in};
+pub use address::{Address, MOST_PEERS, addresses_in};
 pub use keyboard::Keyboard;
 pub use opening::{
     Output, bytes_at, new_disk_at, new_disk_in, old_votes_at, open_input, output, sheet_at,

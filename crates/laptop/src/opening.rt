@@ -1,12 +1,10 @@
-//! Opening files, standard output and sockets. Each fault names the file or the address that was at work.
+//! Opening files and standard output. Each fault names the file that was at work.
 
 ghost use Rattle.std.specs.Prelude.{◌≡◌, ◌≤◌, IfOk, vec_len};
 ghost use Rattle.host.specs.declared.limit.TheConstants.{LONGEST_INPUT};
 ghost use Rattle.laptop.specs.inner.Opening as texts;
 
-use crate::address::{Address, MOST_PEERS};
-use crate::peers::Peers;
-use crate::stopped::{StopFault, Stopped};
+use crate::stopped::Stopped;
 use agree_core::DeskId;
 use books::{RunFault, read_all, sheet_run};
 use cards::{MatchSheet, Watched};
@@ -14,7 +12,6 @@ use entry_log::{LONGEST_FILE, OldSlots};
 use host::{FileDisk, OpenFault};
 use std::fs::{self, File, OpenOptions};
 use std::io::{self, BufWriter, Printer};
-use std::net::SocketAddr;
 use vote_store::{Refusal, Votes};
 
 /// Standard output, a buffer at a time.
@@ -157,16 +154,4 @@ pub fn printer(rt: &HostRuntime) -> Result<BufWriter<Printer<'_, HostRuntime>>, 
 /// Standard output, watched.
 pub fn output(rt: &HostRuntime) -> Result<Output<'_>, Stopped<'static>> {
     Ok(Watched::new(printer(rt)?))
-}
-
-/// A station's socket at its address.
-pub fn peers_at<'a>(
-    rt: &HostRuntime,
-    at: Address<'a>,
-    peers: [Option<SocketAddr>; MOST_PEERS],
-) -> Result<Peers, Stopped<'a>> {
-    Peers::new(rt, at.socket, peers).map_err(|_| Stopped {
-        path: at.text,
-        fault: StopFault::Listen,
-    })
 }

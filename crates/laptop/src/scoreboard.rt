@@ -2,7 +2,8 @@
 
 use crate::address::{Address, MOST_PEERS};
 use crate::notes::Notes;
-use crate::opening::{peers_at, printer, sheet_at};
+use crate::opening::{printer, sheet_at};
+use crate::peers::peers_at;
 use crate::sign::Sign;
 use crate::stopped::Stopped;
 use crate::text_file::TextFile;
@@ -59,7 +60,7 @@ pub fn board_run<'a>(
         RunFault::from(why),
     ))?;
     let mut board = Board::new(sheet.game(), book);
-    let mut link = peers_at(rt, at, peers)?;
+    let mut link = peers_at(rt, at, peers, sheet.game(), rt.stderr())?;
     let mut clock = Watch::new(rt);
     let mut notes = Notes::new(rt.stderr());
     let ended = show(

@@ -5,7 +5,8 @@ ghost use Rattle.desk.specs.Desk.{IsOf};
 
 use crate::address::{Address, MOST_PEERS};
 use crate::keyboard::Keyboard;
-use crate::opening::{kept_disk_at, output, peers_at, sheet_at};
+use crate::opening::{kept_disk_at, output, sheet_at};
+use crate::peers::peers_at;
 use crate::stopped::{StopFault, Stopped};
 use crate::watch::Watch;
 use agree_core::DeskId;
@@ -80,7 +81,7 @@ pub fn desk_run<'a>(
     let sheet = sheet_at(rt, sheet)?;
     let mut writer = output(rt)?;
     let desk = desk_at(rt, &sheet, desk, file)?;
-    let mut link = peers_at(rt, at, peers)?;
+    let mut link = peers_at(rt, at, peers, sheet.game(), rt.stderr())?;
     let mut keys = keyboard(rt)?;
     let mut clock = Watch::new(rt);
     match keep(desk, &sheet, &mut link, &mut keys, &mut clock, &mut writer) {
