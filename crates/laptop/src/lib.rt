@@ -12,6 +12,7 @@ mod scorer;
 mod sign;
 mod stopped;
 mod text_file;
+mod twins;
 mod watch;
 
 pub use address::{Address, MOST_PEERS, addresses_in};
@@ -25,4 +26,5 @@ pub use scorer::desk_run;
 pub use sign::Sign;
 pub use stopped::{StopFault, Stopped, print_stopped};
 pub use text_file::{Replaces, TextFile};
+pub use twins::told_sheet_at;
 pub use watch::Watch;

@@ -2,11 +2,12 @@
 
 use crate::address::{Address, MOST_PEERS};
 use crate::notes::Notes;
-use crate::opening::{printer, sheet_at};
+use crate::opening::printer;
 use crate::peers::peers_at;
 use crate::sign::Sign;
 use crate::stopped::Stopped;
 use crate::text_file::TextFile;
+use crate::twins::told_sheet_at;
 use crate::watch::Watch;
 use board::Board;
 use books::RunFault;
@@ -53,7 +54,7 @@ pub fn board_run<'a>(
     peers: [Option<SocketAddr>; MOST_PEERS],
     text: Option<&'a str>,
 ) -> Result<bool, Stopped<'a>> {
-    let sheet = sheet_at(rt, sheet)?;
+    let sheet = told_sheet_at(rt, sheet)?;
     let mut out = shown(rt, text)?;
     let book = CheckedBook::new(rt.alloc(), sheet.innings()).map_err(|why| Stopped::at(
         "-",

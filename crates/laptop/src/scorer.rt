@@ -5,9 +5,10 @@ ghost use Rattle.desk.specs.Desk.{IsOf};
 
 use crate::address::{Address, MOST_PEERS};
 use crate::keyboard::Keyboard;
-use crate::opening::{kept_disk_at, output, sheet_at};
+use crate::opening::{kept_disk_at, output};
 use crate::peers::peers_at;
 use crate::stopped::{StopFault, Stopped};
+use crate::twins::told_sheet_at;
 use crate::watch::Watch;
 use agree_core::DeskId;
 use books::RunFault;
@@ -78,7 +79,7 @@ pub fn desk_run<'a>(
     at: Address<'a>,
     peers: [Option<SocketAddr>; MOST_PEERS],
 ) -> Result<bool, Stopped<'a>> {
-    let sheet = sheet_at(rt, sheet)?;
+    let sheet = told_sheet_at(rt, sheet)?;
     let mut writer = output(rt)?;
     let desk = desk_at(rt, &sheet, desk, file)?;
     let mut link = peers_at(rt, at, peers, sheet.game(), rt.stderr())?;
