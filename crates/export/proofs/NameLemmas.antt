@@ -1,10 +1,14 @@
 -- The names of the sides in an export.
-use Rattle.std.proofs.Common.{◌≡◌, ℕ, List, ◌++◌, Bool, true, false, if◌then◌else◌, bytes_eq, codes, refl, sym, ap, ◌∙◌, subst}
+use Rattle.std.proofs.Common.{◌≡◌, ℕ, List, ◌∷◌, ◌++◌, nat_eq, Bool, true, false, if◌then◌else◌, bytes_eq, codes, refl, sym, ap, ◌∙◌, subst}
 use Rattle.std.proofs.lemmas.List.{append_cancel_left}
 use Rattle.std.proofs.lemmas.Slice.Eq.{bytes_eq-Decides}
 
+abbrev is_homes : List ℕ → Bool
+is_homes (a ∷ b ∷ c ∷ cs) = nat_eq c 104
+is_homes cs = false
+
 marks_differ : codes " (home)" ≡ codes " (away)" → ⊥
-marks_differ e = cc
+marks_differ e = let clash : true ≡ false = ap is_homes e in (cc)
 
 -- told apart by a mark where they are one, and two anyhow else
 apart : (b : Bool) (x y : List ℕ) → bytes_eq x y ≡ b → (if b then x ++ codes " (home)" else x) ≡ (if b then y ++ codes " (away)" else y) → ⊥
