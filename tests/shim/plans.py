@@ -103,7 +103,7 @@ def ends_of_desk(plan, file, at, is_greeted):
     if plan.call == "read" and plan.how == EINTR and plan.label == "sheet.toml":
         return [(0, ""), cannot_read(SHEET)]
     if plan.label in ("stdin", "null") and plan.call != "close" and plan.how not in HARMLESS:
-        return [(0, ""), cannot_read("-")]
+        return [cannot_read("-")] if (plan.call, plan.label) == ("read", "stdin") else [(0, ""), cannot_read("-")]
     if goes_on(plan):
         return [(0, "")]
     if plan.label == "sheet.toml":

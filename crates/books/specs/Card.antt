@@ -8,8 +8,8 @@ use Rattle.cards.specs.Sheet.{Sheet}
 use Rattle.cards.specs.Batting.{batting_card}
 use Rattle.cards.specs.Bowling.{bowling_card}
 use Rattle.cards.specs.Page.{book_page}
-use Rattle.cards.specs.declared.watched.Watched.{Watched}
-use Rattle.cards.specs.Watched.{Prints}
+use Rattle.streams.specs.declared.watched.Watched.{Watched}
+use Rattle.streams.specs.Watched.{Prints}
 use Rattle.books.specs.declared.card.Source.{Source}
 use Rattle.books.specs.CardBook.{IsBookFrom}
 

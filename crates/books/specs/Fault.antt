@@ -1,5 +1,7 @@
 -- What a run's fault is called, and the line that standard error has of it.
 use Rattle.std.specs.Prelude.{ℕ, List, ◌++◌, codes, decimal, Bool, true, false, Option, Some, None}
+use Rattle.streams.specs.declared.input.InputFault.{InputFault}
+use Rattle.streams.specs.declared.input.InputFault.TheVariants as inputs
 use Rattle.cards.specs.SheetFault as sheet
 use Rattle.cards.specs.declared.fault.SheetFault.{SheetFault}
 use Rattle.cards.specs.declared.fault.SheetFault.TheVariants as sheets
@@ -16,6 +18,11 @@ use Rattle.books.specs.declared.fault.RunFault.{RunFault}
 use Rattle.books.specs.declared.fault.RunFault.TheVariants.{NoMemory, Read, Write, Device, Sheet, Schedule, Votes, BadVotes, Line, NotAgreed}
 use Rattle.books.specs.declared.fault.TheConstants.{TURNS}
 use Rattle.books.specs.Rejected.{rejection_line}
+
+-- the fault of a run over an input that isn't read to its end
+abbrev pub of_input : InputFault → RunFault
+of_input inputs.NoMemory = NoMemory
+of_input inputs.Read = Read
 
 -- the fault of a run over a sheet that is refused: being out of memory is its own
 abbrev pub of_sheet : SheetFault → RunFault

@@ -1,7 +1,7 @@
 //! `ground card`: the cards of a book, which is made of pen lines or of a desk's votes file.
 
 ghost use Rattle.std.specs.Prelude.{◌≡◌, ◌≢◌, ◌≤◌, ◌<◌, ◌⊎◌, length, Err, IfOk, IfErr, IfSome, OnOk};
-ghost use Rattle.cards.specs.Watched.{IsHandedOn, MeetsFailure, failures, stream_of};
+ghost use Rattle.streams.specs.Watched.{IsHandedOn, MeetsFailure, failures, stream_of};
 ghost use Rattle.books.specs.Card.{PrintsCard};
 ghost use Rattle.books.specs.CardBook.{IsBookFrom, WhyNoBook, WhyNoCard};
 
@@ -10,15 +10,14 @@ mod print;
 mod votes_file;
 
 use crate::fault::RunFault;
-use crate::input::read_all;
 use agree_core::DeskId;
-use cards::{MatchSheet, Watched};
+use cards::MatchSheet;
 use corrections::CheckedBook;
-use host::LONGEST_INPUT;
 use pen_lines::book_of_lines;
 use print::print_card;
 use std::alloc::Global;
 use std::io::{Read, Write};
+use streams::{LONGEST_INPUT, Watched, read_all};
 use votes_file::book_of_file;
 
 /// What a book is made of.

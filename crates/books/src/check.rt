@@ -2,22 +2,21 @@
 
 ghost use Rattle.std.specs.Prelude.{◌≡◌, ◌≢◌, ◌≤◌, ◌<◌, ◌⊎◌, [], length, not, true};
 ghost use Rattle.std.specs.Prelude.{Err, IfOk, IfErr, IfSome, OnOk};
-ghost use Rattle.cards.specs.Watched.{IsHandedOn, MeetsFailure, Prints, TellsFailure, failures, stream_of};
+ghost use Rattle.streams.specs.Watched.{IsHandedOn, MeetsFailure, Prints, TellsFailure, failures, stream_of};
 ghost use Rattle.notation.specs.Lines.{lines_of};
 ghost use Rattle.books.specs.Table.{IsInStep, agreed_in, innings_in};
 ghost use Rattle.books.specs.Output as output;
 ghost use Rattle.books.specs.Output.{answer_to, with_taken, printed, is_rejected, has_rejected, output_of};
 
 use crate::fault::RunFault;
-use crate::input::read_all;
 use crate::rejected::print_rejected;
 use crate::table::Table;
-use cards::{MatchSheet, Watched, WriteFailed, board_lines, plain_sheet};
+use cards::{MatchSheet, board_lines, plain_sheet};
 use corrections::BookOf;
-use host::LONGEST_INPUT;
 use notation::Lines;
 use std::alloc::Global;
 use std::io::{Read, Write};
+use streams::{LONGEST_INPUT, Watched, WriteFailed, read_all};
 
 /// Takes one line, or prints why it isn't taken. The answer is whether it was taken.
 fn take_line<W: Write>(

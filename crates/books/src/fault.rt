@@ -1,15 +1,16 @@
 //! Why a run ends before its end, and the line that standard error has of it.
 
 ghost use Rattle.std.specs.Prelude.{◌≡◌, OnOk};
-ghost use Rattle.cards.specs.Watched.{Prints, TellsFailure};
+ghost use Rattle.streams.specs.Watched.{Prints, TellsFailure};
 ghost use Rattle.books.specs.Fault as texts;
 
 use crate::rejected::{Rejected, print_rejected};
-use cards::{SheetFault, Watched, WriteFailed};
+use cards::SheetFault;
 use desk::OpenRefusal;
 use schedules::ScheduleFault;
 use std::alloc::AllocError;
 use std::io::Write;
+use streams::{InputFault, Watched, WriteFailed};
 
 /// How many turns each station of a match has for a place at most.
 pub const TURNS: usize = 50;
@@ -64,6 +65,19 @@ impl From<AllocError> for RunFault {
 
     fn from(_why: AllocError) -> Self {
         RunFault::NoMemory
+    }
+}
+
+impl From<InputFault> for RunFault {
+    ghost use Rattle.books.specs.Fault.{of_input};
+
+    ghost from_gives = { λ why fault. fault ≡ of_input why };
+
+    fn from(why: InputFault) -> Self {
+        match why {
+            InputFault::NoMemory => RunFault::NoMemory,
+            InputFault::Read => RunFault::Read,
+        }
     }
 }
 

@@ -5,7 +5,6 @@
 mod card;
 mod check;
 mod fault;
-mod input;
 mod rejected;
 mod seats;
 mod sheet;
@@ -14,6 +13,5 @@ mod table;
 pub use card::{Source, book_from, card_run};
 pub use check::check_run;
 pub use fault::{RunFault, TURNS, print_fault};
-pub use input::read_all;
 pub use rejected::{Refusal, Rejected, print_rejected};
 pub use sheet::sheet_run;

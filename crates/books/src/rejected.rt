@@ -1,13 +1,13 @@
 //! Why a line isn't taken.
 
 ghost use Rattle.std.specs.Prelude.{◌≡◌, Some, OnOk};
-ghost use Rattle.cards.specs.Watched.{Prints, TellsFailure};
+ghost use Rattle.streams.specs.Watched.{Prints, TellsFailure};
 ghost use Rattle.books.specs.Rejected.{later_line, name_of, number_of, rejection_line};
 
-use cards::{Watched, WriteFailed};
 use notation::LineFault;
 use std::fmt;
 use std::io::Write;
+use streams::{Watched, WriteFailed};
 use thiserror::Error;
 
 /// Why an entry is refused.

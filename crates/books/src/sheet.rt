@@ -1,15 +1,14 @@
 //! Reading a match sheet from a file.
 
 ghost use Rattle.std.specs.Prelude.{◌≡◌, ◌<◌, ◌⊎◌, length, Err, IfErr, IfSome};
-ghost use Rattle.cards.specs.Watched.{MeetsFailure, stream_of};
+ghost use Rattle.streams.specs.Watched.{MeetsFailure, stream_of};
 ghost use Rattle.books.specs.SheetText.{IsSheetFault, Tells};
 
 use crate::fault::RunFault;
-use crate::input::read_all;
-use cards::{MatchSheet, Watched, read_sheet};
-use host::LONGEST_INPUT;
+use cards::{MatchSheet, read_sheet};
 use std::alloc::Global;
 use std::io::Read;
+use streams::{LONGEST_INPUT, Watched, read_all};
 
 /// Reads a match sheet to the end of its file. A sheet that is refused is `Sheet` with its first fault.
 pub fn sheet_run<R: Read>(alloc: Global, reader: &mut Watched<R>) -> Result<MatchSheet, RunFault>

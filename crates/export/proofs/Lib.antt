@@ -2,3 +2,4 @@ pub mod Putting
 pub mod Noting
 pub mod LawLemmas
 pub mod EntryLemmas
+pub mod NameLemmas

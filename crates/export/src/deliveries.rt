@@ -6,11 +6,11 @@ ghost use Rattle.ball_laws.specs.Runs.{all_runs};
 ghost use Rattle.export.specs.Values.{PutsFields, PutsValues};
 ghost use Rattle.export.specs.Deliveries as deliveries;
 
+use crate::named::NamedSheet;
 use crate::notes::Noted;
 use crate::put::{begin_field, begin_object, end_object, put_count, put_figure, put_text};
 use crate::wickets::{put_batter, put_departures, put_wickets};
 use ball_laws::{Ends, Split, runs_of};
-use cards::MatchSheet;
 use json::Pretty;
 use match_laws::opponent;
 use notation::{Ball, Leave, Plain, Player, Side};
@@ -70,7 +70,7 @@ fn put_extras(out: &mut Pretty, split: &Split) -> Result<(), AllocError>
 /// Puts who bats and who bowls.
 fn put_players(
     out: &mut Pretty,
-    sheet: &MatchSheet,
+    sheet: &NamedSheet<'_>,
     side: Side,
     ends: &Ends,
     bowler: Player,
@@ -85,7 +85,7 @@ fn put_players(
 /// Puts a delivery.
 fn put_delivery(
     out: &mut Pretty,
-    sheet: &MatchSheet,
+    sheet: &NamedSheet<'_>,
     side: Side,
     ends: &Ends,
     place: u32,
@@ -107,7 +107,7 @@ fn put_delivery(
 /// Puts a wicket between deliveries, or a batter retired hurt.
 fn put_gone(
     out: &mut Pretty,
-    sheet: &MatchSheet,
+    sheet: &NamedSheet<'_>,
     side: Side,
     place: u32,
     way: Leave,
@@ -132,7 +132,12 @@ fn put_penalty(out: &mut Pretty) -> Result<(), AllocError>
 }
 
 /// Puts five penalty runs to a team.
-fn put_award(out: &mut Pretty, sheet: &MatchSheet, place: u32, side: Side) -> Result<(), AllocError>
+fn put_award(
+    out: &mut Pretty,
+    sheet: &NamedSheet<'_>,
+    place: u32,
+    side: Side,
+) -> Result<(), AllocError>
     ensures { PutsValues result out.old out.new (deliveries.award_of sheet.now place side ∷ []) }
 {
     begin_object(out)?;
@@ -145,7 +150,7 @@ fn put_award(out: &mut Pretty, sheet: &MatchSheet, place: u32, side: Side) -> Re
 /// Puts what is listed of an item.
 fn put_listed(
     out: &mut Pretty,
-    sheet: &MatchSheet,
+    sheet: &NamedSheet<'_>,
     side: Side,
     noted: &Noted,
 ) -> Result<(), AllocError>
@@ -169,7 +174,7 @@ fn put_listed(
 /// Puts what is listed of an item, where it stands in this over of this innings.
 fn put_listed_in(
     out: &mut Pretty,
-    sheet: &MatchSheet,
+    sheet: &NamedSheet<'_>,
     side: Side,
     innings: usize,
     over: u32,
@@ -209,7 +214,7 @@ fn noted_at(notes: &[Noted], index: usize) -> Noted
 /// Puts what is listed of the items of an over.
 pub fn put_deliveries(
     out: &mut Pretty,
-    sheet: &MatchSheet,
+    sheet: &NamedSheet<'_>,
     side: Side,
     innings: usize,
     over: u32,

@@ -6,17 +6,17 @@ ghost use Rattle.match_laws.specs.Stands.{StandsFor};
 ghost use Rattle.export.specs.Values.{PutsFields, PutsValues};
 ghost use Rattle.export.specs.Info as laws;
 
+use crate::named::NamedSheet;
 use crate::put::{
     begin_array, begin_field, end_array, end_object, put_figure, put_number, put_string, put_text,
 };
-use cards::MatchSheet;
 use json::Pretty;
 use match_laws::{Match, Outcome};
 use notation::{Player, Side};
 use std::alloc::AllocError;
 
 /// Puts what is said of the file.
-pub fn put_meta(out: &mut Pretty, sheet: &MatchSheet) -> Result<(), AllocError>
+pub fn put_meta(out: &mut Pretty, sheet: &NamedSheet<'_>) -> Result<(), AllocError>
     ensures { PutsFields result out.old out.new (laws.meta_field sheet.now ∷ []) }
 {
     begin_field(out, "meta")?;
@@ -27,7 +27,7 @@ pub fn put_meta(out: &mut Pretty, sheet: &MatchSheet) -> Result<(), AllocError>
 }
 
 /// Puts the title.
-fn put_event(out: &mut Pretty, sheet: &MatchSheet) -> Result<(), AllocError>
+fn put_event(out: &mut Pretty, sheet: &NamedSheet<'_>) -> Result<(), AllocError>
     ensures { PutsFields result out.old out.new (laws.event_field sheet.now ∷ []) }
 {
     begin_field(out, "event")?;
@@ -36,14 +36,14 @@ fn put_event(out: &mut Pretty, sheet: &MatchSheet) -> Result<(), AllocError>
 }
 
 /// Puts the names of both sides.
-fn put_sides(out: &mut Pretty, sheet: &MatchSheet) -> Result<(), AllocError>
+fn put_sides(out: &mut Pretty, sheet: &NamedSheet<'_>) -> Result<(), AllocError>
     ensures { PutsValues result out.old out.new (laws.sides_of sheet.now) }
 {
     put_string(out, sheet.name(Side::Home))?;
     put_string(out, sheet.name(Side::Away))
 }
 
-fn put_teams(out: &mut Pretty, sheet: &MatchSheet) -> Result<(), AllocError>
+fn put_teams(out: &mut Pretty, sheet: &NamedSheet<'_>) -> Result<(), AllocError>
     ensures { PutsFields result out.old out.new (laws.teams_field sheet.now ∷ []) }
 {
     begin_array(out, "teams")?;
@@ -60,7 +60,7 @@ fn player_at(index: u8) -> Player
 }
 
 /// Puts the names of a side's players.
-fn put_names(out: &mut Pretty, sheet: &MatchSheet, side: Side) -> Result<(), AllocError>
+fn put_names(out: &mut Pretty, sheet: &NamedSheet<'_>, side: Side) -> Result<(), AllocError>
     ensures { PutsValues result out.old out.new (laws.names_of sheet.now side) }
 {
     for index in 0..11 {
@@ -70,7 +70,7 @@ fn put_names(out: &mut Pretty, sheet: &MatchSheet, side: Side) -> Result<(), All
 }
 
 /// Puts a side's name with the names of its players.
-fn put_team(out: &mut Pretty, sheet: &MatchSheet, side: Side) -> Result<(), AllocError>
+fn put_team(out: &mut Pretty, sheet: &NamedSheet<'_>, side: Side) -> Result<(), AllocError>
     ensures { PutsFields result out.old out.new (laws.team_field sheet.now side ∷ []) }
 {
     begin_array(out, sheet.name(side))?;
@@ -79,7 +79,7 @@ fn put_team(out: &mut Pretty, sheet: &MatchSheet, side: Side) -> Result<(), Allo
 }
 
 /// Puts both sides with their players.
-fn put_players(out: &mut Pretty, sheet: &MatchSheet) -> Result<(), AllocError>
+fn put_players(out: &mut Pretty, sheet: &NamedSheet<'_>) -> Result<(), AllocError>
     ensures { PutsFields result out.old out.new (laws.players_field sheet.now ∷ []) }
 {
     begin_field(out, "players")?;
@@ -110,7 +110,7 @@ fn put_innings_margin(out: &mut Pretty, runs: u32) -> Result<(), AllocError>
 /// Puts that a side has won by so many runs or wickets.
 fn put_win(
     out: &mut Pretty,
-    sheet: &MatchSheet,
+    sheet: &NamedSheet<'_>,
     side: Side,
     unit: &str,
     count: u32,
@@ -127,7 +127,7 @@ fn put_win(
 /// Puts that a side has won by an innings and so many runs.
 fn put_innings_win(
     out: &mut Pretty,
-    sheet: &MatchSheet,
+    sheet: &NamedSheet<'_>,
     side: Side,
     runs: u32,
 ) -> Result<(), AllocError>
@@ -143,7 +143,7 @@ fn put_innings_win(
 /// Puts that a side has won by a method that is no play.
 fn put_method_win(
     out: &mut Pretty,
-    sheet: &MatchSheet,
+    sheet: &NamedSheet<'_>,
     side: Side,
     method: &str,
 ) -> Result<(), AllocError>
@@ -166,7 +166,7 @@ fn put_result(out: &mut Pretty, word: &str) -> Result<(), AllocError>
 }
 
 /// Puts the result of a match, where it has one.
-fn put_outcome(out: &mut Pretty, sheet: &MatchSheet, outcome: Outcome) -> Result<(), AllocError>
+fn put_outcome(out: &mut Pretty, sheet: &NamedSheet<'_>, outcome: Outcome) -> Result<(), AllocError>
     ensures { PutsFields result out.old out.new (laws.outcome_fields sheet.now outcome) }
 {
     match outcome {
@@ -181,7 +181,7 @@ fn put_outcome(out: &mut Pretty, sheet: &MatchSheet, outcome: Outcome) -> Result
 }
 
 /// Puts what is said of the match.
-pub fn put_info(out: &mut Pretty, sheet: &MatchSheet, game: &Match) -> Result<(), AllocError>
+pub fn put_info(out: &mut Pretty, sheet: &NamedSheet<'_>, game: &Match) -> Result<(), AllocError>
     ensures { (h : History) → StandsFor game.now sheet.now.innings h
         → PutsFields result out.old out.new (laws.info_field sheet.now h ∷ []) }
 {

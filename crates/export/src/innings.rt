@@ -7,11 +7,11 @@ ghost use Rattle.export.specs.Values.{PutsFields, PutsValues, up_to};
 ghost use Rattle.export.specs.Innings as laws;
 
 use crate::deliveries::{is_listed, is_within, put_deliveries};
+use crate::named::NamedSheet;
 use crate::notes::Noted;
 use crate::put::{
     begin_array, begin_field, begin_object, end_array, end_object, put_figure, put_flag, put_text,
 };
-use cards::MatchSheet;
 use json::Pretty;
 use match_laws::{Match, opponent};
 use notation::{Cause, Plain, Side};
@@ -20,7 +20,7 @@ use std::alloc::AllocError;
 /// Puts what the book has in an over.
 fn put_listing(
     out: &mut Pretty,
-    sheet: &MatchSheet,
+    sheet: &NamedSheet<'_>,
     side: Side,
     notes: &[Noted],
     innings: usize,
@@ -37,7 +37,7 @@ fn put_listing(
 /// Puts an over.
 fn put_over(
     out: &mut Pretty,
-    sheet: &MatchSheet,
+    sheet: &NamedSheet<'_>,
     side: Side,
     notes: &[Noted],
     innings: usize,
@@ -62,7 +62,7 @@ fn has_over(notes: &[Noted], innings: usize, over: u32) -> bool
 /// Puts an over, unless nothing is listed in it.
 fn put_over_if(
     out: &mut Pretty,
-    sheet: &MatchSheet,
+    sheet: &NamedSheet<'_>,
     side: Side,
     notes: &[Noted],
     innings: usize,
@@ -80,7 +80,7 @@ fn put_over_if(
 /// Puts so many overs.
 fn put_overs(
     out: &mut Pretty,
-    sheet: &MatchSheet,
+    sheet: &NamedSheet<'_>,
     side: Side,
     notes: &[Noted],
     innings: usize,
@@ -132,7 +132,7 @@ fn needed_in(game: &Match, innings: usize) -> u32
 /// Puts the target, in the last innings of a match.
 fn put_target(
     out: &mut Pretty,
-    sheet: &MatchSheet,
+    sheet: &NamedSheet<'_>,
     game: &Match,
     innings: usize,
 ) -> Result<(), AllocError>
@@ -153,7 +153,7 @@ fn put_target(
 /// Puts the side, and whether its captain declared or forfeited the innings.
 fn put_head(
     out: &mut Pretty,
-    sheet: &MatchSheet,
+    sheet: &NamedSheet<'_>,
     game: &Match,
     notes: &[Noted],
     innings: usize,
@@ -178,7 +178,7 @@ fn penalty_runs(game: &Match, innings: usize) -> u32
 /// Puts the figures of an innings.
 fn put_figures(
     out: &mut Pretty,
-    sheet: &MatchSheet,
+    sheet: &NamedSheet<'_>,
     game: &Match,
     innings: usize,
 ) -> Result<(), AllocError>
@@ -195,7 +195,7 @@ fn put_figures(
 /// Puts the overs of an innings.
 fn put_overs_field(
     out: &mut Pretty,
-    sheet: &MatchSheet,
+    sheet: &NamedSheet<'_>,
     game: &Match,
     notes: &[Noted],
     innings: usize,
@@ -214,7 +214,7 @@ fn put_overs_field(
 /// Puts an innings.
 fn put_innings(
     out: &mut Pretty,
-    sheet: &MatchSheet,
+    sheet: &NamedSheet<'_>,
     game: &Match,
     notes: &[Noted],
     innings: usize,
@@ -233,7 +233,7 @@ fn put_innings(
 /// Puts each innings that has begun.
 fn put_each(
     out: &mut Pretty,
-    sheet: &MatchSheet,
+    sheet: &NamedSheet<'_>,
     game: &Match,
     notes: &[Noted],
 ) -> Result<(), AllocError>
@@ -249,7 +249,7 @@ fn put_each(
 /// Puts the field of all innings that have begun.
 pub fn put_all_innings(
     out: &mut Pretty,
-    sheet: &MatchSheet,
+    sheet: &NamedSheet<'_>,
     game: &Match,
     notes: &[Noted],
 ) -> Result<(), AllocError>

@@ -7,11 +7,12 @@ mod entries;
 mod info;
 mod innings;
 mod laws;
+mod named;
 mod notes;
 mod put;
 mod run;
 mod value;
 mod wickets;
 
-pub use laws::exports_add_up;
+pub use laws::{exports_add_up, exports_name_two_sides};
 pub use run::export_run;

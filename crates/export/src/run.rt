@@ -3,31 +3,34 @@
 ghost use Rattle.std.specs.Prelude.{◌≡◌, ◌≢◌, ◌≤◌, ◌<◌, ◌⊎◌, ◌++◌, length, string_bytes, codes, Err, IfOk, IfErr, IfSome, OnOk};
 ghost use Rattle.json.specs.Layout.{pretty};
 ghost use Rattle.json.specs.Tree.{json_tokens};
-ghost use Rattle.cards.specs.Watched.{IsHandedOn, MeetsFailure, Prints, TellsFailure, failures, stream_of};
+ghost use Rattle.streams.specs.Watched.{IsHandedOn, MeetsFailure, Prints, TellsFailure, failures, stream_of};
 ghost use Rattle.books.specs.CardBook.{WhyNoCard};
+ghost use Rattle.export.specs.Names.{told_apart};
 ghost use Rattle.export.specs.Run.{PrintsExport};
 ghost use Rattle.export.specs.Value.{export_of};
 
+use crate::named::NamedSheet;
 use crate::notes::notes_of;
 use crate::value::put_export;
-use books::{RunFault, Source, book_from, read_all};
-use cards::{MatchSheet, Watched, WriteFailed};
+use books::{RunFault, Source, book_from};
+use cards::MatchSheet;
 use corrections::{BookOf, CheckedBook};
-use host::LONGEST_INPUT;
 use json::Pretty;
 use std::alloc::{AllocError, Global};
 use std::io::{Read, Write};
+use streams::{LONGEST_INPUT, Watched, WriteFailed, read_all};
 
 /// The text of a book as one JSON value, without its newline.
 fn text_of<B: BookOf>(alloc: Global, sheet: &MatchSheet, book: &B) -> Result<String, AllocError>
     requires { B.innings_a_side book.now ≡ sheet.now.innings }
     ensures { IfOk result (λ text.
-        string_bytes text ≡ pretty (json_tokens (export_of sheet.now (B.content book.now)))) }
+        string_bytes text ≡ pretty (json_tokens (export_of (told_apart sheet.now) (B.content book.now)))) }
 {
     let game = book.score();
     let notes = notes_of(alloc, sheet.innings(), book)?;
+    let named = NamedSheet::new(alloc, sheet)?;
     let mut out = Pretty::new(alloc);
-    put_export(&mut out, sheet, game, book, notes.as_slice())?;
+    put_export(&mut out, &named, game, book, notes.as_slice())?;
     match String::from_utf8(out.into_inner()) {
         Ok(text) => Ok(text),
         Err(_) => unreachable!(),

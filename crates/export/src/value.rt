@@ -10,9 +10,9 @@ ghost use Rattle.export.specs.Value.{export_of};
 use crate::entries::put_entries;
 use crate::info::{put_info, put_meta};
 use crate::innings::put_all_innings;
+use crate::named::NamedSheet;
 use crate::notes::Noted;
 use crate::put::{begin_object, end_object};
-use cards::MatchSheet;
 use corrections::BookOf;
 use json::Pretty;
 use match_laws::Match;
@@ -22,7 +22,7 @@ use std::alloc::AllocError;
 /// where each item stands.
 pub fn put_export<B: BookOf>(
     out: &mut Pretty,
-    sheet: &MatchSheet,
+    sheet: &NamedSheet<'_>,
     game: &Match,
     book: &B,
     noted: &[Noted],

@@ -5,9 +5,9 @@ ghost use Rattle.cards.specs.Dismissals.{fielder_name};
 ghost use Rattle.export.specs.Values.{PutsFields, PutsValues};
 ghost use Rattle.export.specs.Wickets as wickets;
 
+use crate::named::NamedSheet;
 use crate::put::{begin_array, begin_object, end_array, end_object, put_null, put_text};
 use ball_laws::Ends;
-use cards::MatchSheet;
 use json::Pretty;
 use match_laws::opponent;
 use notation::{How, Leave, Out, Player, Side};
@@ -40,7 +40,7 @@ fn leave_words(way: Leave) -> &'static str
 }
 
 /// The name of a fielder of the side: `sub` for a substitute.
-fn fielder_name(sheet: &MatchSheet, side: Side, fielder: u8) -> &str
+fn fielder_name<'a>(sheet: &'a NamedSheet<'_>, side: Side, fielder: u8) -> &'a str
     requires { fielder ≢ 0 }
     ensures { result.now ≡ fielder_name sheet.now side fielder }
 {
@@ -54,7 +54,7 @@ fn fielder_name(sheet: &MatchSheet, side: Side, fielder: u8) -> &str
 pub fn put_batter(
     out: &mut Pretty,
     name: &str,
-    sheet: &MatchSheet,
+    sheet: &NamedSheet<'_>,
     side: Side,
     batter: Option<Player>,
 ) -> Result<(), AllocError>
@@ -70,7 +70,7 @@ pub fn put_batter(
 /// Puts a fielder.
 fn put_fielder(
     out: &mut Pretty,
-    sheet: &MatchSheet,
+    sheet: &NamedSheet<'_>,
     side: Side,
     fielder: u8,
 ) -> Result<(), AllocError>
@@ -85,7 +85,7 @@ fn put_fielder(
 /// Puts the fielder, where one is recorded.
 fn put_fielders(
     out: &mut Pretty,
-    sheet: &MatchSheet,
+    sheet: &NamedSheet<'_>,
     side: Side,
     fielder: u8,
 ) -> Result<(), AllocError>
@@ -102,7 +102,7 @@ fn put_fielders(
 /// Puts a dismissal off a delivery.
 fn put_wicket(
     out: &mut Pretty,
-    sheet: &MatchSheet,
+    sheet: &NamedSheet<'_>,
     side: Side,
     ends: &Ends,
     dismissal: &Out,
@@ -126,7 +126,7 @@ fn put_wicket(
 /// Puts the dismissal off a delivery, where there is one.
 pub fn put_wickets(
     out: &mut Pretty,
-    sheet: &MatchSheet,
+    sheet: &NamedSheet<'_>,
     side: Side,
     ends: &Ends,
     dismissal: Option<Out>,
@@ -145,7 +145,7 @@ pub fn put_wickets(
 /// Puts who left between deliveries.
 fn put_departure(
     out: &mut Pretty,
-    sheet: &MatchSheet,
+    sheet: &NamedSheet<'_>,
     side: Side,
     way: Leave,
     player: Player,
@@ -161,7 +161,7 @@ fn put_departure(
 /// Puts a wicket between deliveries, or a batter retired hurt.
 pub fn put_departures(
     out: &mut Pretty,
-    sheet: &MatchSheet,
+    sheet: &NamedSheet<'_>,
     side: Side,
     way: Leave,
     player: Player,

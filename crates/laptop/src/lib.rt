@@ -1,27 +1,24 @@
-//! A station on a machine of its own: its socket, its keyboard, its clock and its files, and the runs of a desk and of
-//! a board on them. Nothing is known of what the machine does with what it is given.
+//! A station on a machine of its own: the runs of a desk and of a board on its socket, keyboard, clock and files, and
+//! the files that each word of the program opens.
 #![tactic(auto)]
 
-mod address;
-mod keyboard;
+mod gaps;
+mod match_files;
+mod notes;
 mod opening;
-mod peers;
 mod scoreboard;
 mod scorer;
 mod sign;
 mod stopped;
-mod text_file;
-mod watch;
+mod twins;
+mod votes_file;
 
-pub use address::{Address, MOST_PEERS, address_in, peers_in};
-pub use keyboard::Keyboard;
-pub use opening::{
-    Output, bytes_at, new_disk_at, new_disk_in, old_votes_at, open_input, output, sheet_at,
-};
-pub use peers::Peers;
+pub use gaps::{Gaps, fill_gaps};
+pub use match_files::MatchFiles;
+pub use opening::{Output, bytes_at, old_votes_at, open_input, output, sheet_at};
 pub use scoreboard::board_run;
 pub use scorer::desk_run;
 pub use sign::Sign;
 pub use stopped::{StopFault, Stopped, print_stopped};
-pub use text_file::{Replaces, TextFile};
-pub use watch::Watch;
+pub use twins::told_sheet_at;
+pub use votes_file::{VotesDisk, new_disk_at};

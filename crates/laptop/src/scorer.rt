@@ -3,56 +3,80 @@
 ghost use Rattle.std.specs.Prelude.{IfOk};
 ghost use Rattle.desk.specs.Desk.{IsOf};
 
-use crate::address::{Address, MOST_PEERS};
-use crate::keyboard::Keyboard;
-use crate::opening::{kept_disk_at, output, peers_at, sheet_at};
+use crate::opening::{output, peers_at};
 use crate::stopped::{StopFault, Stopped};
-use crate::watch::Watch;
+use crate::twins::told_sheet_at;
+use crate::votes_file::{VotesDisk, empty_disk, kept_votes, renewed_disk};
 use agree_core::DeskId;
 use books::RunFault;
-use cards::{MatchSheet, Watched};
+use cards::MatchSheet;
 use corrections::{BookOf, CheckedBook};
 use desk::Desk;
-use entry_log::{Slots, SlotsOf};
-use host::FileDisk;
+use entry_log::{Disk, MemDisk, Slots, SlotsOf};
 use live::{Clock, DeskEnd, Keys, Link, begin_desk, run_desk};
-use std::fs::File;
+use machine::{Address, Keyboard, MOST_PEERS, MonotonicClock};
 use std::io::Write;
 use std::net::SocketAddr;
+use streams::Watched;
 
-/// A desk whose votes are in a file.
-type FileDesk = Desk<Slots<FileDisk<File>>, CheckedBook>;
+/// A desk whose votes are on this disk.
+type DeskOn<D> = Desk<Slots<D>, CheckedBook>;
 
-/// The desk whose votes are in this file, or that begins with a new one.
-fn desk_at<'a>(
+/// The desk whose votes are on this disk, or that begins on one without a byte. A file that is refused is at this path.
+fn desk_on<'a, D: Disk + Drop>(
     rt: &HostRuntime,
     sheet: &MatchSheet,
     desk: DeskId,
-    file: &'a str,
-) -> Result<FileDesk, Stopped<'a>>
+    disk: D,
+    path: &'a str,
+) -> Result<DeskOn<D>, Stopped<'a>>
     ensures owner { IfOk result (IsOf desk sheet.now.game sheet.now.innings) }
 {
-    let disk = kept_disk_at(rt, file)?;
     let book = CheckedBook::new(rt.alloc(), sheet.innings()).map_err(|why| Stopped::at(
-        file,
+        path,
         RunFault::from(why),
     ))?;
-    let begun = begin_desk::<Slots<FileDisk<File>>, CheckedBook>(
-        rt.alloc(),
-        disk,
-        desk,
-        sheet.game(),
-        book,
-    );
-    match begun {
+    match begin_desk::<Slots<D>, CheckedBook>(rt.alloc(), disk, desk, sheet.game(), book) {
         Ok(desk) => Ok(desk),
-        Err((why, _disk)) => Err(Stopped::at(file, RunFault::from(why))),
+        Err((why, _disk)) => Err(Stopped::at(path, RunFault::from(why))),
     }
 }
 
-/// Standard input as a scorer's keyboard.
-fn keyboard(rt: &HostRuntime) -> Result<Keyboard<File>, Stopped<'static>> {
-    Keyboard::open(rt).map_err(|_| Stopped::at("-", RunFault::Read))
+/// Refuses bytes that aren't the desk's votes, or are no legal book, as the desk would that begins on them.
+fn judge<'a>(
+    rt: &HostRuntime,
+    sheet: &MatchSheet,
+    desk: DeskId,
+    bytes: &[u8],
+    path: &'a str,
+) -> Result<(), Stopped<'a>> {
+    match MemDisk::of(rt.alloc(), bytes, bytes.len()) {
+        Ok(disk) => match desk_on(rt, sheet, desk, disk, path) {
+            Ok(_desk) => Ok(()),
+            Err(stopped) => Err(stopped),
+        },
+        Err(why) => Err(Stopped::at(path, RunFault::from(why))),
+    }
+}
+
+/// The desk whose votes are in this file, or that begins with a new one. One that has votes is written anew first, so
+/// that they are on the disk whatever became of what was written before; one that is refused stays as it was.
+fn desk_at<'r, 'a>(
+    rt: &'r HostRuntime,
+    sheet: &MatchSheet,
+    desk: DeskId,
+    path: &'a str,
+) -> Result<DeskOn<VotesDisk<'r>>, Stopped<'a>>
+    ensures owner { IfOk result (IsOf desk sheet.now.game sheet.now.innings) }
+{
+    let (file, bytes) = kept_votes(rt, path)?;
+    let disk = if bytes.is_empty() {
+        empty_disk(rt, path, file)?
+    } else {
+        judge(rt, sheet, desk, bytes.as_slice(), path)?;
+        renewed_disk(rt, path, file, bytes.as_slice())?
+    };
+    desk_on(rt, sheet, desk, disk, path)
 }
 
 /// Runs a desk until its scorer stops, or its disk or a write fails.
@@ -69,6 +93,7 @@ fn keep<S: SlotsOf + Drop, B: BookOf + Drop, L: Link, K: Keys, C: Clock, W: Writ
 
 /// `ground desk`: keeps a scorer's desk with its votes in a file, listening at an address, until the scorer types
 /// `quit` or no more.
+#[inline(never)]
 pub fn desk_run<'a>(
     rt: &HostRuntime,
     sheet: &'a str,
@@ -77,13 +102,14 @@ pub fn desk_run<'a>(
     at: Address<'a>,
     peers: [Option<SocketAddr>; MOST_PEERS],
 ) -> Result<bool, Stopped<'a>> {
-    let sheet = sheet_at(rt, sheet)?;
+    let sheet = told_sheet_at(rt, sheet)?;
     let mut writer = output(rt)?;
     let desk = desk_at(rt, &sheet, desk, file)?;
-    let mut link = peers_at(rt, at, peers)?;
-    let mut keys = keyboard(rt)?;
-    let mut clock = Watch::new(rt);
+    let mut link = peers_at(rt, at, peers, sheet.game(), rt.stderr())?;
+    let mut keys = Keyboard::of_standard_input(rt);
+    let mut clock = MonotonicClock::new(rt);
     match keep(desk, &sheet, &mut link, &mut keys, &mut clock, &mut writer) {
+        Err(DeskEnd::NoMoreLines) if keys.has_failed() => Err(Stopped::at("-", RunFault::Read)),
         Ok(()) | Err(DeskEnd::Quit | DeskEnd::NoMoreLines) => Ok(false),
         Err(DeskEnd::Write) => Err(Stopped::at("-", RunFault::Write)),
         Err(DeskEnd::Device) => Err(Stopped {

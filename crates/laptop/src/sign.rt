@@ -1,6 +1,6 @@
 //! What a board shows: on its screen, and in a file.
 
-use crate::text_file::Replaces;
+use machine::Replaces;
 use std::alloc::Global;
 use std::io::{self, Write};
 

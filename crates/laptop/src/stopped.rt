@@ -1,12 +1,12 @@
 //! Why a task ends before its end, and what standard error is told of it.
 
 ghost use Rattle.std.specs.Prelude.{◌≡◌, OnOk};
-ghost use Rattle.cards.specs.Watched.{Prints, TellsFailure};
+ghost use Rattle.streams.specs.Watched.{Prints, TellsFailure};
 ghost use Rattle.laptop.specs.Stopped as texts;
 
 use books::{RunFault, print_fault};
-use cards::{Watched, WriteFailed};
 use std::io::Write;
+use streams::{Watched, WriteFailed};
 
 /// Why a task ends.
 #[derive(Clone, Copy, Debug, PartialEq, Eq)]

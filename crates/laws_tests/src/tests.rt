@@ -4,3 +4,4 @@ mod books;
 mod deliveries;
 mod entries;
 mod matches;
+mod short_lines;

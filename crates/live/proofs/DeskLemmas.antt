@@ -1,12 +1,12 @@
 -- Runs of a desk.
 use Rattle.std.proofs.Common.{◌≡◌, ◌≤◌, ◌+◌, ℕ, List, [], ◌∷◌, ◌++◌, None, Option, Result, Ok, Err, Bool, true, false, refl, sym, ap, ◌∙◌, subst, append-nil, append_assoc, arith, length}
-use Rattle.std.specs.Prelude.{IsErrOf, IsErrAnd, nat_lt}
+use Rattle.std.specs.Prelude.{IsErrOf, IsErrAnd, is_some, nat_lt}
 use Rattle.std.specs.Bool.{⊤}
 use Rattle.std.specs.Io.KnownBytes.{Appends, Keeps}
 use Rattle.std.proofs.lemmas.List.Elements.{All-nil}
-use Rattle.cards.proofs.Appending.{appends_kept, appends_none}
+use Rattle.streams.proofs.Appending.{appends_kept, appends_none}
 use Rattle.cards.specs.Sheet.{Sheet}
-use Rattle.cards.specs.declared.watched.WriteFailed.{WriteFailed}
+use Rattle.streams.specs.declared.watched.WriteFailed.{WriteFailed}
 use Rattle.notation.specs.declared.entry.Entry.{Entry}
 use Rattle.corrections.specs.declared.book_of.BookOf.{Ghosts as Books}
 use Rattle.entry_log.specs.Blame.{BlamesDisk}
@@ -59,15 +59,16 @@ blamed r device course old new to from room b = record {
 }
 
 -- a line that says no entry ends nothing for the disk
-no_blame : (differs : Bool) (line : List ℕ) (answer : Said) → ComesTo differs line answer → IsErrOf (end_of answer) ends.Device → ⊥
-no_blame differs line said.Quit h e = cc
-no_blame differs line said.List h e = cc
-no_blame differs line said.Help h e = cc
-no_blame differs line (said.Fault fault) h e = cc
-no_blame differs line said.SayAgain h e = cc
-no_blame differs line said.NoneDiffers h e = cc
-no_blame differs line (said.Refused why) h e = h
-no_blame differs line (said.Penned settled) h e = h
+no_blame : (differs is_cast : Bool) (line : List ℕ) (answer : Said) → ComesTo differs is_cast line answer → IsErrOf (end_of answer) ends.Device → ⊥
+no_blame differs is_cast line said.Quit h e = cc
+no_blame differs is_cast line said.List h e = cc
+no_blame differs is_cast line said.Help h e = cc
+no_blame differs is_cast line (said.Fault fault) h e = cc
+no_blame differs is_cast line said.SayAgain h e = cc
+no_blame differs is_cast line said.NoneDiffers h e = cc
+no_blame differs is_cast line said.Waiting h e = cc
+no_blame differs is_cast line (said.Refused why) h e = h
+no_blame differs is_cast line (said.Penned settled) h e = h
 
 -- the kind of a desk's runs, by what it depends on
 abbrev kind_with : {D : Type 0} → (DeskId → ℕ → FileView D) → (D → Faults) → (ℕ → ℕ) → Sheet → DeskId → ℕ → ℕ → ℕ → Kind (DeskProcess D) DeskCall
@@ -169,7 +170,7 @@ module _ {S B D : Type 0} {g : Files S D} {h : Disks D} {b : Books B} where
   -- ---- the calls themselves
 
   -- a line that says no entry
-  nothing_said : (k : Desk S B D g h b) (line : List ℕ) (answer : Said) → ComesTo (nat_lt 0 (state_of k).seat.position.round) line answer →
+  nothing_said : (k : Desk S B D g h b) (line : List ℕ) (answer : Said) → ComesTo (nat_lt 0 (state_of k).seat.position.round) (is_some (state_of k).seat.mine) line answer →
       DeskStep (view_of k) (game_of k) (innings_of k) (state_of k) (Typed line answer) [] (state_of k)
   nothing_said k line said.Quit w = (w, refl, refl)
   nothing_said k line said.List w = (w, refl, refl)
@@ -177,11 +178,12 @@ module _ {S B D : Type 0} {g : Files S D} {h : Disks D} {b : Books B} where
   nothing_said k line (said.Fault fault) w = (w, refl, refl)
   nothing_said k line said.SayAgain w = (w, refl, refl)
   nothing_said k line said.NoneDiffers w = (w, refl, refl)
+  nothing_said k line said.Waiting w = (w, refl, refl)
   nothing_said k line (said.Refused why) w = absurd w
   nothing_said k line (said.Penned settled) w = absurd w
 
-  pub unpenned : (k : Desk S B D g h b) (line : List ℕ) (answer : Said) (log : List Passed) → ComesTo (nat_lt 0 (state_of k).seat.position.round) line answer → Calls k k (Typed line answer) log log
-  unpenned k line answer log w = unmoved k (Typed line answer) log (nothing_said k line answer w) (no_blame _ line answer w)
+  pub unpenned : (k : Desk S B D g h b) (line : List ℕ) (answer : Said) (log : List Passed) → ComesTo (nat_lt 0 (state_of k).seat.position.round) (is_some (state_of k).seat.mine) line answer → Calls k k (Typed line answer) log log
+  unpenned k line answer log w = unmoved k (Typed line answer) log (nothing_said k line answer w) (no_blame _ _ line answer w)
 
   abbrev PenStep : Desk S B D g h b → Entry → Result Penned Refusal → Desk S B D g h b → Type 0
   PenStep k e r l = AreSent (game_of k) (sent r) (λ out. Pens (view_of k) (rules_of k) (state_of k) e (pen_answer r) (state_of l) out)

@@ -3,7 +3,7 @@ use Rattle.std.proofs.Common.{◌≡◌, ℕ, List, [], Option, Result, Ok, Err,
 use Rattle.std.specs.Prelude.{IsErrAnd, is_some}
 use Rattle.std.specs.Io.KnownBytes.{Appends, Keeps}
 use Rattle.cards.specs.Sheet.{Sheet}
-use Rattle.cards.specs.declared.watched.WriteFailed.{WriteFailed}
+use Rattle.streams.specs.declared.watched.WriteFailed.{WriteFailed}
 use Rattle.corrections.specs.declared.book_of.BookOf.{Ghosts as Books}
 use Rattle.entry_log.specs.Blame.{BlamesDisk}
 use Rattle.entry_log.specs.declared.disk.Disk.{Ghosts as Disks}
@@ -14,11 +14,10 @@ use Rattle.desk.specs.Desk.{disk_of, game_of, state_of, view_of}
 use Rattle.live.specs.Passed.{Passed}
 use Rattle.live.specs.Runs.{with_text}
 use Rattle.live.specs.Typing.{Input}
-use Rattle.live.specs.Texts.{greeting}
+use Rattle.live.specs.Texts.{greeting, unwarned}
 use Rattle.live.specs.Ends.{Course, end_told, ending, further, known_to, written}
 use Rattle.live.specs.Desks.{DeskGoes, DeskProcess, DeskRuns, Ended, FitsLongest, disks_of, innings_of, process_of}
 use Rattle.live.specs.declared.warned.Warned.{Warned}
-use Rattle.live.specs.declared.warned.Warned.TheVariants.{Nothing}
 use Rattle.live.specs.declared.ends.DeskEnd.{DeskEnd}
 use Rattle.live.specs.declared.ends.DeskEnd.TheVariants as ends
 use Rattle.live.proofs.DeskLemmas.{kept, muted, rests, same_here, silent, then}
@@ -48,9 +47,9 @@ module _ {S B D : Type 0} {g : Files S D} {h : Disks D} {b : Books B} where
 
   -- all turns are over
   pub all_over : (sheet : Sheet) (k l : Desk S B D g h b) (warned : Warned) (turns : ℕ) (a b' : List Passed) (x y : List Input) (s t u : Option (List ℕ)) → Appends s t (greeting_of sheet k) →
-      DeskGoes sheet k l (process_of k Nothing 0 further) (process_of l warned turns further) a b' x y t u → DeskRuns sheet k l a b' x y s u turns (Ok tt)
+      DeskGoes sheet k l (process_of k unwarned 0 further) (process_of l warned turns further) a b' x y t u → DeskRuns sheet k l a b' x y s u turns (Ok tt)
   all_over sheet k l warned turns a b' x y s t u first v =
-      let p = process_of k Nothing 0 further in
+      let p = process_of k unwarned 0 further in
       let q = process_of l warned turns further in
       record {
         last = q;
@@ -64,17 +63,17 @@ module _ {S B D : Type 0} {g : Files S D} {h : Disks D} {b : Books B} where
       DeskRuns sheet k k a a x x s t turns r
   not_greeted (Ok done) met sheet k turns a x s t e w = absurd e
   not_greeted (Err end) met sheet k turns a x s t e w =
-      let p = process_of k Nothing 0 further in
+      let p = process_of k unwarned 0 further in
       let failed : DeskRuns sheet k k a a x x s t turns (Err ends.Write) = record { last = p; is = refl; goes = rests sheet k p a x Option.None; ended = λ q. (cc) } in
       subst (λ (d : DeskEnd). DeskRuns sheet k k a a x x s t turns (Err d)) (sym (e ∙ w)) failed
 
   -- a turn ended the process
   pub cut_short : (r : Result (Unit {0}) DeskEnd) (met : DeskEnd) (sheet : Sheet) (k l m : Desk S B D g h b) (warned later : Warned) (turns n o : ℕ) (a b' c : List Passed) (x y z : List Input) (s t u v : Option (List ℕ)) →
-      IsErrAnd r (λ end. end ≡ met) → Appends s t (greeting_of sheet k) → DeskGoes sheet k l (process_of k Nothing 0 further) (process_of l warned n further) a b' x y t u →
+      IsErrAnd r (λ end. end ≡ met) → Appends s t (greeting_of sheet k) → DeskGoes sheet k l (process_of k unwarned 0 further) (process_of l warned n further) a b' x y t u →
       DeskGoes sheet l m (process_of l warned n further) (process_of m later o (ending met)) b' c y z (known_to met u) (known_to met v) → DeskRuns sheet k m a c x z s v turns r
   cut_short (Ok done) met sheet k l m warned later turns n o a b' c x y z s t u v e first w1 w2 = absurd e
   cut_short (Err end) met sheet k l m warned later turns n o a b' c x y z s t u v e first w1 w2 =
-      let p = process_of k Nothing 0 further in
+      let p = process_of k unwarned 0 further in
       let q = process_of l warned n further in
       let last = process_of m later o (ending met) in
       let told = then sheet k k l p p q a a b' x x y (with_text s (greeting_of sheet k)) t u (greeted sheet k p a x s t (greeting_of sheet k) first) w1 in
@@ -93,7 +92,7 @@ module _ {S B D : Type 0} {g : Files S D} {h : Disks D} {b : Books B} where
       BlamesDisk ends.Device (FitsLongest g.room (h.cap (disk_of k))) r (h.faults (disk_of k)) (h.faults (disk_of l))
   blames sheet k l a b' x y s t turns r runs sound =
       let m = runs.goes.goes in
-      let last = run_blames sheet (view_of k) (disks_of k) (game_of k) (innings_of k) (process_of k Nothing 0 further) runs.last m.moments refl sound m.run m.last in
+      let last = run_blames sheet (view_of k) (disks_of k) (game_of k) (innings_of k) (process_of k unwarned 0 further) runs.last m.moments refl sound m.run m.last in
       let here = subst (λ (d : DeskState D). BlamesDisk ends.Device (FitsLongest g.room (h.cap (disk_of k))) runs.last.course (h.faults (disk_of k)) (h.faults d.disk)) runs.is last in
       answer_blames turns r runs.last (h.faults (disk_of k)) (h.faults (disk_of l)) runs.ended here
 

@@ -42,6 +42,7 @@ module _ {Disk : Type 0} (view : FileView Disk) (game innings : ℕ) (k l : Desk
   runs_on (Typed line (said.Fault fault)) r e = same_desk r.1
   runs_on (Typed line said.SayAgain) r e = same_desk r.1
   runs_on (Typed line said.NoneDiffers) r e = same_desk r.1
+  runs_on (Typed line said.Waiting) r e = same_desk r.1
   runs_on (Typed line (said.Penned settled)) r e = r.2.1.2
   runs_on (Typed line (said.Refused refusals.Device)) r e = absurd (cc)
   runs_on (Typed line (said.Refused refusals.Failed)) r e = absurd (cc)

@@ -4,7 +4,7 @@ use Rattle.std.specs.Prelude.{All}
 use Rattle.std.specs.Io.KnownBytes.{Appends}
 use Rattle.agree_core.specs.declared.messages.Message.{Message}
 use Rattle.wire.specs.Layout.{IsMessage}
-use Rattle.cards.proofs.Appending.{appends_both, appends_none}
+use Rattle.streams.proofs.Appending.{appends_both, appends_none}
 use Rattle.live.specs.Passed.{Passed}
 use Rattle.live.specs.Typing.{Input}
 use Rattle.live.specs.Runs.{Goes, Kind, Moment, Run, last_of, passed_at, passed_in, printed_in, typed_in}

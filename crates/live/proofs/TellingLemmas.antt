@@ -2,9 +2,9 @@
 use Rattle.std.proofs.Common.{◌≡◌, ℕ, List, [], ◌++◌, Result, Ok, Err, Option, Some, None, refl, sym, ap, ◌∙◌, subst, append-nil}
 use Rattle.std.specs.Prelude.{OnOk}
 use Rattle.std.specs.Io.KnownBytes.{Appends}
-use Rattle.cards.proofs.Appending.{appends_none}
+use Rattle.streams.proofs.Appending.{appends_none}
 use Rattle.cards.specs.Sheet.{Sheet}
-use Rattle.cards.specs.declared.watched.WriteFailed.{WriteFailed}
+use Rattle.streams.specs.declared.watched.WriteFailed.{WriteFailed}
 use Rattle.notation.specs.declared.entry.Entry.{Entry}
 use Rattle.wire.specs.declared.what.What.{What}
 use Rattle.wire.specs.declared.what.What.TheVariants as whats
@@ -31,6 +31,7 @@ said_no_write said.Help end e w = cc
 said_no_write (said.Fault fault) end e w = cc
 said_no_write said.SayAgain end e w = cc
 said_no_write said.NoneDiffers end e w = cc
+said_no_write said.Waiting end e w = cc
 said_no_write (said.Penned settled) end e w = cc
 said_no_write (said.Refused refusals.Failed) end e w = cc
 said_no_write (said.Refused refusals.Waiting) end e w = cc
@@ -62,6 +63,7 @@ said_nothing sheet innings place book said.Help end s e = absurd (cc)
 said_nothing sheet innings place book (said.Fault fault) end s e = absurd (cc)
 said_nothing sheet innings place book said.SayAgain end s e = absurd (cc)
 said_nothing sheet innings place book said.NoneDiffers end s e = absurd (cc)
+said_nothing sheet innings place book said.Waiting end s e = absurd (cc)
 said_nothing sheet innings place book (said.Penned settled) end s e = absurd (cc)
 said_nothing sheet innings place book (said.Refused refusals.Failed) end s e = appends_none s
 said_nothing sheet innings place book (said.Refused refusals.Waiting) end s e = absurd (cc)

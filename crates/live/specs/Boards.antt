@@ -12,9 +12,12 @@ use Rattle.board.specs.declared.refusal.BoardRefusal.{BoardRefusal}
 use Rattle.board.specs.declared.board.Board.{Board}
 use Rattle.board.specs.Board.{SameMatch, book_of, game_of, state_of}
 use Rattle.board.specs.Takes.{Takes}
+use Rattle.live.specs.Notices.{notices_after, telling_after}
 use Rattle.live.specs.Passed.{Passed, Came}
 use Rattle.live.specs.Runs.{Goes, Kind, known}
 use Rattle.live.specs.declared.link.TheConstants.{MOST_TAKEN}
+use Rattle.live.specs.declared.notices.Notice.{Notice}
+use Rattle.live.specs.declared.notices.Telling.{Telling}
 
 -- a call of a board: it is given bytes, it ticks, or its turn ends
 pub data BoardCall : Type 0 where
@@ -28,17 +31,20 @@ BoardStep game innings k (Given bytes answer) out l = Takes (book_refusal inning
 BoardStep game innings k Ticked out l = BoardTicks k out × (l ≡ k)
 BoardStep game innings k TurnEnded out l = (l ≡ k) × (out ≡ [])
 
--- a board in a turn: how many turns are over, how many entries its book had as this one began, and how many
--- datagrams were taken in it
+-- a board in a turn: how many turns are over, how many entries its book had as this one began, how many datagrams were
+-- taken in it, and what it has told of what it can't take, all notices the oldest first
 pub record BoardTurn : Type 0 where
   pub board : BoardState
   pub turns : ℕ
   pub had : ℕ
   pub taken : ℕ
+  pub telling : Telling
+  pub notices : List Notice
 
 -- a turn begins
-abbrev pub begun : BoardState → ℕ → BoardTurn
-begun k turns = record { board = k; turns = turns; had = length k.book; taken = 0 }
+abbrev pub begun : BoardState → ℕ → Telling → List Notice → BoardTurn
+begun k turns telling notices =
+    record { board = k; turns = turns; had = length k.book; taken = 0; telling = telling; notices = notices }
 
 -- in a turn a board takes eight datagrams at most
 abbrev pub MayCall : BoardTurn → BoardCall → Type 0
@@ -46,9 +52,16 @@ MayCall k (Given bytes answer) = k.taken < MOST_TAKEN
 MayCall k call = Unit {0}
 
 abbrev pub after_call : BoardTurn → BoardCall → BoardState → BoardTurn
-after_call k (Given bytes answer) l = record { board = l; turns = k.turns; had = k.had; taken = k.taken + 1 }
-after_call k Ticked l = record { board = l; turns = k.turns; had = k.had; taken = k.taken }
-after_call k TurnEnded l = begun l (k.turns + 1)
+after_call k (Given bytes answer) l = record {
+  board = l;
+  turns = k.turns;
+  had = k.had;
+  taken = k.taken + 1;
+  telling = telling_after k.telling answer;
+  notices = notices_after k.telling k.notices answer;
+}
+after_call k Ticked l = record k { board = l }
+after_call k TurnEnded l = begun l (k.turns + 1) k.telling k.notices
 
 abbrev pub TurnStep : ℕ → ℕ → BoardTurn → BoardCall → List Message → BoardTurn → Type 0
 TurnStep game innings k call out l =
@@ -63,10 +76,16 @@ abbrev pub grown : Bool → List ℕ → List ℕ
 grown true text = []
 grown false text = text
 
+-- the text, unless both desks' votes were refused: what the book shows may be wrong then
+abbrev pub unless_stopped : Bool → List ℕ → List ℕ
+unless_stopped true text = []
+unless_stopped false text = text
+
 -- at the end of a turn the six lines of the book, where it has grown in the turn
 abbrev pub shown : Sheet → ℕ → BoardTurn → BoardCall → BoardTurn → List ℕ
 shown sheet innings k TurnEnded l =
-    grown (nat_eq (length k.board.book) k.had) (board_text sheet innings (history_of k.board.book))
+    unless_stopped k.telling.is_stopped
+    (grown (nat_eq (length k.board.book) k.had) (board_text sheet innings (history_of k.board.book)))
 shown sheet innings k call l = []
 
 abbrev pub board_kind : Sheet → ℕ → ℕ → Kind BoardTurn BoardCall
@@ -75,12 +94,20 @@ board_kind sheet game innings =
 
 module _ {B : Type 0} {g : _} (content : B → List Entry) where
   -- a board in a turn
-  abbrev pub in_turn : Board B g → ℕ → ℕ → ℕ → BoardTurn
-  in_turn k turns had taken = record { board = state_of content k; turns = turns; had = had; taken = taken }
+  abbrev pub in_turn : Board B g → ℕ → ℕ → ℕ → Telling → List Notice → BoardTurn
+  in_turn k turns had taken telling notices =
+      record {
+        board = state_of content k;
+        turns = turns;
+        had = had;
+        taken = taken;
+        telling = telling;
+        notices = notices;
+      }
 
   -- at the beginning of a turn
-  abbrev pub at_turn : Board B g → ℕ → BoardTurn
-  at_turn k turns = begun (state_of content k) turns
+  abbrev pub at_turn : Board B g → ℕ → Telling → List Notice → BoardTurn
+  at_turn k turns telling notices = begun (state_of content k) turns telling notices
 
 module _ {B : Type 0} {g : _} (content : B → List Entry) (innings_of : B → ℕ) where
   -- from a board's turn on there is a run to another turn of the board of the same match
@@ -90,12 +117,15 @@ module _ {B : Type 0} {g : _} (content : B → List Entry) (innings_of : B → �
     pub same : SameMatch innings_of old new
     pub goes : Goes (board_kind sheet (game_of old) (innings_of (book_of old))) k l before after [] [] told tells
 
-  -- A board's process from the beginning of a turn to that of another one. Unless a write failed, all turns between
-  -- them are over, and the six lines were printed at the end of each in which the book has grown.
+  -- A board's process from the beginning of a turn, at which it has told this, to that of another one. Unless a write
+  -- failed, all turns between them are over, and the six lines were printed at the end of each in which the book has
+  -- grown. What it told of what it can't take are just the notices that were handed on.
   pub record BoardRuns
       {E : Type 0} (sheet : Sheet) (old new : Board B g) (before after : List Passed) (told tells : Option (List ℕ))
-      (from to : ℕ) (result : Result (Unit {0}) E) : Type 0 where
+      (from to : ℕ) (telling : Telling) (noted notes : List Notice) (result : Result (Unit {0}) E) : Type 0 where
     pub last : BoardTurn
     pub is : last.board ≡ state_of content new
-    pub goes : BoardGoes sheet old new (at_turn content old from) last before after (known result told) (known result tells)
-    pub whole : OnOk result (last ≡ at_turn content new to)
+    pub noticed : last.notices ≡ notes
+    pub goes : BoardGoes sheet old new (at_turn content old from telling noted) last before after
+        (known result told) (known result tells)
+    pub whole : OnOk result (last ≡ at_turn content new to last.telling notes)

@@ -19,12 +19,11 @@ use Rattle.live.specs.declared.ends.DeskEnd.{DeskEnd}
 use Rattle.live.specs.declared.ends.DeskEnd.TheVariants.{NoMoreLines, Device, Write}
 use Rattle.live.specs.declared.said.Said.{Said}
 use Rattle.live.specs.declared.warned.Warned.{Warned}
-use Rattle.live.specs.declared.warned.Warned.TheVariants.{Nothing}
 use Rattle.live.specs.Ends.{Course, end_at, end_of, further, known_at}
 use Rattle.live.specs.Passed.{Passed, Came, sends}
 use Rattle.live.specs.Runs.{Goes, Kind, with_text}
 use Rattle.live.specs.Saying.{Types}
-use Rattle.live.specs.Texts.{came_text, greeting, said_text, warned_after}
+use Rattle.live.specs.Texts.{came_text, greeting, said_text, unwarned, warned_after}
 use Rattle.live.specs.Typing.{Input, Line, End}
 
 -- a call of a desk: its scorer's line, the end of its scorer's lines, bytes that it is given, a tick, or the end of a
@@ -63,7 +62,7 @@ abbrev pub Blames : {Disk : Type 0} → DiskView Disk → DeskState Disk → Des
 Blames disks k call l =
     k.failed ≡ false → BlamesDisk Device disks.FitsLongest (course_after call) (disks.faults k.disk) (disks.faults l.disk)
 
--- a desk's process: the desk, what its scorer was told of a peer since something right came, how many turns are
+-- a desk's process: the desk, what its scorer was told of a peer since a vote of the other desk came, how many turns are
 -- over, and how it goes on
 pub record DeskProcess (Disk : Type 0) : Type 0 where
   pub desk : DeskState Disk
@@ -163,7 +162,7 @@ module _ {S B D : Type 0} {g : Files S D} {h : Disks D} {b : Books B} where
       (told tells : Option (List ℕ)) (turns : ℕ) (result : Result (Unit {0}) DeskEnd) : Type 0 where
     pub last : DeskProcess D
     pub is : last.desk ≡ state_of new
-    pub goes : DeskGoes sheet old new (process_of old Nothing 0 further) last before after typed types
+    pub goes : DeskGoes sheet old new (process_of old unwarned 0 further) last before after typed types
         (known_at result (with_text told
         (greeting sheet (innings_of old) (state_of old).book (state_of old).seat.position
         (is_some (state_of old).seat.mine))))

@@ -3,7 +3,7 @@ use Rattle.std.specs.Prelude.{◌+◌, ℕ, List, Option, None, Result, Ok, Err}
 use Rattle.wire.specs.declared.what.What.{What}
 use Rattle.wire.specs.declared.what.What.TheVariants as whats
 use Rattle.desk.specs.declared.refusal.Refusal.TheVariants as refusals
-use Rattle.cards.specs.declared.watched.WriteFailed.{WriteFailed}
+use Rattle.streams.specs.declared.watched.WriteFailed.{WriteFailed}
 use Rattle.live.specs.declared.ends.DeskEnd.{DeskEnd}
 use Rattle.live.specs.declared.ends.DeskEnd.TheVariants.{Quit, Device, Write}
 use Rattle.live.specs.declared.said.Said.{Said}

@@ -3,6 +3,9 @@ use Rattle.std.specs.Prelude.{List, [], ◌∷◌, ◌++◌, take}
 use Rattle.live.specs.declared.log.InputLog.{InputLog}
 use Rattle.live.specs.declared.log.InputLog as inputs
 use Rattle.live.specs.declared.log.Log.{Log, Empty, Sent', Came'}
+use Rattle.live.specs.declared.log.NoticeLog.{NoticeLog}
+use Rattle.live.specs.declared.log.NoticeLog as noticed
+use Rattle.live.specs.declared.notices.Notice.{Notice}
 use Rattle.live.specs.Passed.{Passed, Sent, Came}
 use Rattle.live.specs.Typing.{Input, Line, End}
 
@@ -15,3 +18,7 @@ abbrev pub inputs_of : InputLog → List Input
 inputs_of inputs.Empty = []
 inputs_of (inputs.Line' marker before buffer count) = inputs_of before ++ Line (take count.value buffer.value) ∷ []
 inputs_of (inputs.End' marker before) = inputs_of before ++ End ∷ []
+
+abbrev pub notices_of : NoticeLog → List Notice
+notices_of noticed.Empty = []
+notices_of (noticed.Told' marker before notice) = notices_of before ++ notice.value ∷ []

@@ -21,7 +21,6 @@ use Rattle.cards.specs.Page.{last_entries}
 use Rattle.live.specs.declared.said.Said.{Said}
 use Rattle.live.specs.declared.said.Said.TheVariants as said
 use Rattle.live.specs.declared.warned.Warned.{Warned}
-use Rattle.live.specs.declared.warned.Warned.TheVariants.{Nothing, OfBytes, OfDesk}
 use Rattle.live.specs.Help.{help}
 
 -- a place and what is told of it
@@ -60,14 +59,14 @@ said_text sheet innings place book (said.Fault fault) =
     numbered (codes "fault") (fault_number fault) (fault_name fault)
 said_text sheet innings place book said.SayAgain = at_place place (codes "differs: begin the line with again")
 said_text sheet innings place book said.NoneDiffers = at_place place (codes "doesn't differ: leave out again")
+said_text sheet innings place book said.Waiting = refused_text refusals.Waiting
 said_text sheet innings place book (said.Refused why) = refused_text why
 said_text sheet innings place book (said.Penned settled) = settled_text sheet innings place book settled
 
--- of a peer, once until something right comes
-abbrev pub warning : Warned → List ℕ → List ℕ
-warning Nothing text = text
-warning OfBytes text = []
-warning OfDesk text = []
+-- of a peer, unless it was told
+abbrev pub warning : Bool → List ℕ → List ℕ
+warning false text = text
+warning true text = []
 
 -- why bytes are no message of the match
 abbrev pub bad_text : WireFault → List ℕ
@@ -78,35 +77,28 @@ abbrev pub heard_text : Sheet → ℕ → ℕ → List Entry → Warned → Hear
 heard_text sheet innings place book warned Heard.Noted = at_place place (codes "the other has written")
 heard_text sheet innings place book warned Heard.Agreed = agreed sheet innings place book
 heard_text sheet innings place book warned Heard.Differ = at_place place (codes "differs")
-heard_text sheet innings place book warned Heard.Mine = warning warned (codes "peer: the same desk\n")
-heard_text sheet innings place book warned Heard.TwoVotes = warning warned (codes "peer: two votes\n")
+heard_text sheet innings place book warned Heard.Mine = warning warned.of_desk (codes "peer: the same desk\n")
+heard_text sheet innings place book warned Heard.TwoVotes = warning warned.of_votes (codes "peer: two votes\n")
 heard_text sheet innings place book warned heard = []
 
 -- of what came at this place, with the book after it
 abbrev pub came_text : Sheet → ℕ → ℕ → List Entry → Warned → What → List ℕ
-came_text sheet innings place book warned (whats.Bad fault) = warning warned (bad_text fault)
+came_text sheet innings place book warned (whats.Bad fault) = warning warned.of_bytes (bad_text fault)
 came_text sheet innings place book warned (whats.Heard heard) = heard_text sheet innings place book warned heard
 came_text sheet innings place book warned what = []
 
--- what was told of a peer already, once this was told
-abbrev pub once : Warned → Warned → Warned
-once Nothing warned = warned
-once OfBytes warned = OfBytes
-once OfDesk warned = OfDesk
+-- nothing was told of a peer
+abbrev pub unwarned : Warned
+unwarned = record { of_bytes = false; of_desk = false; of_votes = false }
 
--- an ask is right, but the same desk asks too
-abbrev pub asked : Warned → Warned
-asked Nothing = Nothing
-asked OfBytes = Nothing
-asked OfDesk = OfDesk
-
--- what was told of a peer since something right came, after the answer to what came
+-- what was told of a peer since a vote of the other desk came, after the answer to what came; anyone's asks are as any
+-- desk's, so that they are no sign that all is right
 abbrev pub warned_after : Warned → What → Warned
-warned_after warned (whats.Bad fault) = once warned OfBytes
-warned_after warned (whats.Heard Heard.TwoVotes) = once warned OfBytes
-warned_after warned (whats.Heard Heard.Mine) = once warned OfDesk
-warned_after warned (whats.Heard heard) = Nothing
-warned_after warned whats.Asked = asked warned
+warned_after warned (whats.Bad fault) = record warned { of_bytes = true }
+warned_after warned (whats.Heard Heard.Mine) = record warned { of_desk = true }
+warned_after warned (whats.Heard Heard.TwoVotes) = record warned { of_votes = true }
+warned_after warned (whats.Heard heard) = unwarned
+warned_after warned whats.Asked = warned
 warned_after warned whats.Device = warned
 warned_after warned whats.Failed = warned
 

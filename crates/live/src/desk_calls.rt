@@ -22,7 +22,7 @@ pub fn pen<S: SlotsOf, B: BookOf + Drop, L: Link>(
     ensures { Calls desk.old desk.new (Typed line.now result) (L.log link.old) (L.log link.new) }
 {
     let differs = desk.position().round > 0;
-    let entry = match entry_said(line, differs) {
+    let entry = match entry_said(line, differs, desk.has_voted()) {
         Ok(entry) => entry,
         Err(said) => return said,
     };

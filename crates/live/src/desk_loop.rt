@@ -3,7 +3,7 @@
 ghost use Rattle.std.specs.Prelude.{◌≡◌, ◌++◌, ◌∷◌, [], ℕ, List, Option, true, false, Err, IfErr, OnErr, OnOk, is_some};
 ghost use Rattle.entry_log.specs.Blame.{BlamesDisk};
 ghost use Rattle.cards.specs.Sheet.{Sheet};
-ghost use Rattle.cards.specs.Watched.{Prints, has_failed, stream_of};
+ghost use Rattle.streams.specs.Watched.{Prints, has_failed, stream_of};
 ghost use Rattle.desk.specs.Desk.{disk_of, state_of};
 ghost use Rattle.live.specs.Desks.{DeskGoes, DeskRuns, FitsLongest, innings_of, process_of};
 ghost use Rattle.live.specs.Ends as ends;
@@ -21,11 +21,12 @@ use crate::link::{Link, MOST_TAKEN, ROOM};
 use crate::pace::Pace;
 use crate::texts::{print_came, print_greeting, print_said};
 use crate::warned::Warned;
-use cards::{MatchSheet, Watched, WriteFailed};
+use cards::MatchSheet;
 use corrections::BookOf;
 use desk::Desk;
 use entry_log::SlotsOf;
 use std::io::Write;
+use streams::{Watched, WriteFailed};
 
 /// What a desk's process keeps between its calls.
 #[derive(Clone, Copy, Debug, PartialEq, Eq)]
@@ -253,7 +254,7 @@ fn take_turns<S: SlotsOf, B: BookOf + Drop, L: Link, K: Keys, C: Clock, W: Write
     greet(desk, sheet, out)?;
     let mut between = Between {
         pace: Pace::new(),
-        warned: Warned::Nothing,
+        warned: Warned::NOTHING,
     };
     for number in 0..turns {
         turn(desk, sheet, link, keys, clock, out, &mut between)?;

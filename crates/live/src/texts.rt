@@ -1,16 +1,17 @@
 //! What a desk's scorer is told.
 
 ghost use Rattle.std.specs.Prelude.{◌≡◌, ◌++◌, true, codes, OnErr, OnOk};
-ghost use Rattle.cards.specs.Watched.{Prints, has_failed};
+ghost use Rattle.streams.specs.Watched.{Prints, has_failed};
 ghost use Rattle.live.specs.Texts as texts;
 
 use crate::said::Said;
 use crate::warned::Warned;
 use agree_core::{Heard, Position, Settled};
-use cards::{MatchSheet, Watched, WriteFailed, board_lines, last_entries};
+use cards::{MatchSheet, board_lines, last_entries};
 use corrections::BookOf;
 use desk::Refusal;
 use std::io::Write;
+use streams::{Watched, WriteFailed};
 use wire::What;
 
 /// How many entries `list` shows at most.
@@ -134,6 +135,7 @@ fn print_answer<B: BookOf, W: Write>(
         }
         Said::SayAgain => print_at(out, place, "differs: begin the line with again"),
         Said::NoneDiffers => print_at(out, place, "doesn't differ: leave out again"),
+        Said::Waiting => print_refused(out, Refusal::Waiting),
         Said::Refused(why) => print_refused(out, why),
         Said::Penned(settled) => print_settled(out, sheet, place, settled, book),
     }
@@ -155,36 +157,36 @@ pub fn print_said<B: BookOf, W: Write>(
     out.flush()
 }
 
-/// Prints a text of a peer, once until something right comes.
+/// Prints a text of a peer, unless it was told.
 fn print_warning<W: Write>(
     out: &mut Watched<W>,
-    warned: Warned,
+    is_told: bool,
     text: &str,
 ) -> Result<(), WriteFailed>
-    ensures text { OnOk result (Prints W.contents out.old out.new (texts.warning warned text.now)) }
+    ensures text { OnOk result (Prints W.contents out.old out.new (texts.warning is_told text.now)) }
     ensures failed { OnErr result (has_failed out.new ≡ true) }
 {
-    match warned {
-        Warned::Nothing => write!(out, "{text}"),
-        Warned::OfBytes | Warned::OfDesk => Ok(()),
+    if is_told {
+        return Ok(());
     }
+    write!(out, "{text}")
 }
 
-/// Prints why bytes that came are no message of the match, once until something right comes.
+/// Prints why bytes that came are no message of the match, unless it was told.
 fn print_bad<W: Write>(
     out: &mut Watched<W>,
-    warned: Warned,
+    is_told: bool,
     fault: wire::WireFault,
 ) -> Result<(), WriteFailed>
     ensures text { OnOk result (Prints W.contents out.old out.new
-        (texts.warning warned (texts.bad_text fault))) }
+        (texts.warning is_told (texts.bad_text fault))) }
     ensures failed { OnErr result (has_failed out.new ≡ true) }
 {
-    let code = fault.number();
-    match warned {
-        Warned::Nothing => writeln!(out, "peer: {code} {fault}"),
-        Warned::OfBytes | Warned::OfDesk => Ok(()),
+    if is_told {
+        return Ok(());
     }
+    let code = fault.number();
+    writeln!(out, "peer: {code} {fault}")
 }
 
 /// Prints what a vote that came at this place came to, where it is news.
@@ -204,8 +206,8 @@ fn print_heard<B: BookOf, W: Write>(
         Heard::Noted => print_at(out, place, "the other has written"),
         Heard::Agreed => print_agreed(out, sheet, place, book),
         Heard::Differ => print_at(out, place, "differs"),
-        Heard::Mine => print_warning(out, warned, "peer: the same desk\n"),
-        Heard::TwoVotes => print_warning(out, warned, "peer: two votes\n"),
+        Heard::Mine => print_warning(out, warned.of_desk, "peer: the same desk\n"),
+        Heard::TwoVotes => print_warning(out, warned.of_votes, "peer: two votes\n"),
         Heard::Old | Heard::Ahead | Heard::Again => Ok(()),
     }
 }
@@ -224,7 +226,7 @@ fn print_news<B: BookOf, W: Write>(
     ensures failed { OnErr result (has_failed out.new ≡ true) }
 {
     match what {
-        What::Bad(fault) => print_bad(out, warned, fault),
+        What::Bad(fault) => print_bad(out, warned.of_bytes, fault),
         What::Heard(heard) => print_heard(out, sheet, place, warned, heard, book),
         What::Asked | What::Device | What::Failed => Ok(()),
     }

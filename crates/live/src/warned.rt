@@ -6,37 +6,44 @@ ghost use Rattle.live.specs.Texts as texts;
 use agree_core::Heard;
 use wire::What;
 
-/// What a desk's scorer was told of a peer since something right came.
+/// What a desk's scorer was told of a peer since a vote of the other desk came. Anyone's asks are as any desk's, so
+/// that only such a vote is a sign that all is right.
 #[derive(Clone, Copy, Debug, PartialEq, Eq)]
-pub enum Warned {
-    /// Nothing.
-    Nothing,
-    /// Of bytes that can't be right.
-    OfBytes,
-    /// That the peer is the same desk. Its asks are as any desk's, so that only the other desk's vote is right.
-    OfDesk,
-}
-
-/// What was told already, once this was told.
-fn once(warned: Warned, told: Warned) -> Warned
-    ensures { result ≡ texts.once warned told }
-{
-    match warned {
-        Warned::Nothing => told,
-        Warned::OfBytes | Warned::OfDesk => warned,
-    }
+pub struct Warned {
+    /// That bytes came that are no message of the match.
+    pub of_bytes: bool,
+    /// That the peer is the same desk.
+    pub of_desk: bool,
+    /// That two votes of the other desk came for one position.
+    pub of_votes: bool,
 }
 
 impl Warned {
+    /// Nothing was told.
+    pub const NOTHING: Warned = Warned {
+        of_bytes: false,
+        of_desk: false,
+        of_votes: false,
+    };
+
     /// What was told after the answer to bytes that came.
     pub fn after(self, what: What) -> Warned
         ensures { result ≡ texts.warned_after self what }
     {
         match what {
-            What::Bad(_) | What::Heard(Heard::TwoVotes) => once(self, Warned::OfBytes),
-            What::Heard(Heard::Mine) => once(self, Warned::OfDesk),
-            What::Heard(_) => Warned::Nothing,
-            What::Asked if self == Warned::OfBytes => Warned::Nothing,
+            What::Bad(_) => Warned {
+                of_bytes: true,
+                ..self
+            },
+            What::Heard(Heard::Mine) => Warned {
+                of_desk: true,
+                ..self
+            },
+            What::Heard(Heard::TwoVotes) => Warned {
+                of_votes: true,
+                ..self
+            },
+            What::Heard(_) => Warned::NOTHING,
             What::Asked | What::Device | What::Failed => self,
         }
     }

@@ -3,7 +3,7 @@ ghost use Rattle.std.specs.Prelude.{◌≡◌, ◌<◌, []};
 ghost use Rattle.notation.specs.Written.{IsEntry};
 
 use agree_core::{Ask, Asker, DeskId, Message, Vote};
-use cards::{MatchSheet, Watched, plain_sheet};
+use cards::{MatchSheet, plain_sheet};
 use corrections::{Book, BookOf};
 use desk::{Desk, OpenRefusal};
 use entry_log::{MemDisk, Slots};
@@ -12,6 +12,7 @@ use memory::{Lines, Queue, Ticking};
 use notation::{Entry, read_line};
 use std::alloc::Global;
 use std::process::Abort;
+use streams::Watched;
 use wire::bytes_of;
 
 mod begins;

@@ -3,6 +3,7 @@ use Rattle.std.proofs.Common.{◌≡◌, ℕ, List, [], ◌∷◌, refl, sym, su
 use Rattle.agree_core.specs.Boards.{BoardState, fresh_board}
 use Rattle.live.specs.Boards as boards
 use Rattle.live.specs.Boards.{BoardCall, BoardStep, BoardTurn}
+use Rattle.live.specs.Notices.{untold}
 use Rattle.live.specs.Runs as own
 use Rattle.processes.specs.Happenings.{BoardBegun, BoardCalled, DeskBegun, DeskCalled, DeskEnded, FileMigrated, Happening, PowerLost}
 use Rattle.processes.specs.Lives.{BoardRuns, IsBoardLife, board_calls, board_happens}
@@ -31,11 +32,11 @@ module _ (Disk : Type 0) (game innings : ℕ) where
   abbrev pub board_after : BoardState → List (Happening Disk) → BoardState
   board_after = nexts next_board MayBoard
 
-  calls : (n : ℕ) (ms : List (own.Moment BoardTurn BoardCall)) → BoardRuns game innings ms → BoardLocal fresh_board (board_calls n ms) × (board_after fresh_board (board_calls n ms) ≡ (λ (k : BoardTurn). k.board) (own.last_of (boards.begun fresh_board 0) ms))
+  calls : (n : ℕ) (ms : List (own.Moment BoardTurn BoardCall)) (r : BoardRuns game innings ms) → BoardLocal fresh_board (board_calls n ms) × (board_after fresh_board (board_calls n ms) ≡ (λ (k : BoardTurn). k.board) (own.last_of (boards.begun fresh_board 0 untold r.1) ms))
   calls n [] r = (tt, refl)
   calls n (m ∷ ms) r =
-      let before = calls n ms (r.0, r.1.0) in
-      ((before.0, subst (λ (k : BoardState). BoardStep game innings k m.call m.out ((λ (t : BoardTurn). t.board) m.after)) (sym before.1) r.1.2.1), refl)
+      let before = calls n ms (r.0, r.1, r.2.0) in
+      ((before.0, subst (λ (k : BoardState). BoardStep game innings k m.call m.out ((λ (t : BoardTurn). t.board) m.after)) (sym before.1) r.2.2.1), refl)
 
   pub board_life : (n : ℕ) (k : BoardState) (rs : List (List (own.Moment BoardTurn BoardCall))) → IsBoardLife game innings rs → BoardLocal k (board_happens n rs)
   board_life n k [] h = tt

@@ -30,7 +30,7 @@ use Rattle.headline.specs.Steps.{StepAt}
 use Rattle.headline.specs.Events.{station_of}
 use Rattle.live.specs.Desks as desks
 use Rattle.live.specs.Desks.{DeskCall, DeskStep}
-use Rattle.live.specs.declared.said.Said.TheVariants.{Quit, List as Listed, Help, Fault as LineFaulty, SayAgain, NoneDiffers, Refused, Penned}
+use Rattle.live.specs.declared.said.Said.TheVariants.{Quit, List as Listed, Help, Fault as LineFaulty, SayAgain, NoneDiffers, Waiting, Refused, Penned}
 use Rattle.processes.specs.Happenings.{WasSent, DeskCame, Happening, DeskCalled, with_process}
 use Rattle.processes.proofs.Going.{Fits, Leads, TypedAs, none, one, two}
 
@@ -165,6 +165,7 @@ module _ {Disk : Type 0} (s : Setting Disk Refusal) (game innings : ℕ) (rules 
   desk_moment k l (desks.Typed line (LineFaulty fault)) out at came h = still k l out at (desks.Typed line (LineFaulty fault)) h.1 h.2
   desk_moment k l (desks.Typed line SayAgain) out at came h = still k l out at (desks.Typed line SayAgain) h.1 h.2
   desk_moment k l (desks.Typed line NoneDiffers) out at came h = still k l out at (desks.Typed line NoneDiffers) h.1 h.2
+  desk_moment k l (desks.Typed line Waiting) out at came h = still k l out at (desks.Typed line Waiting) h.1 h.2
   desk_moment k l (desks.Typed line (Penned settled)) out at came h = pens_entry k l out at line settled h
   desk_moment k l (desks.Typed line (Refused refusals.Failed)) out at came h = refuses k l out at line refusals.Failed PenRefusal.Failed h
   desk_moment k l (desks.Typed line (Refused refusals.Waiting)) out at came h = refuses k l out at line refusals.Waiting core.Waiting h

@@ -13,6 +13,7 @@ use Rattle.desk.specs.declared.refusal.OpenRefusal.{OpenRefusal}
 use Rattle.headline.specs.Configurations.{Running}
 use Rattle.live.specs.Boards as boards
 use Rattle.live.specs.Boards.{BoardTurn, board_kind}
+use Rattle.live.specs.Notices.{untold}
 use Rattle.live.specs.Runs as own
 use Rattle.live.specs.Desks.{DeskProcess}
 use Rattle.processes.specs.Stations.{BeginningIsStage, BoardRunIsLife, DeskRunIsStage}
@@ -34,11 +35,11 @@ module _ {S B D : Type 0} {g : Files S D} {h : Disks D} {b : Books B} where
 
 module _ {B : Type 0} {g : _} (content : B → List Entry) (innings_of : B → ℕ) where
   pub board_run : (old new : Board B g) → BoardRunIsLife content innings_of old new
-  board_run old new sheet before after told tells turns result new_board r =
+  board_run old new sheet before after told tells noted notes turns result new_board r =
       let goes = r.goes.goes in
       let kind = board_kind sheet (board.game_of old) (innings_of (board.book_of old)) in (
         goes.moments,
-        (sheet, subst (λ (k : BoardState). own.Run kind (boards.begun k 0) goes.moments) new_board goes.run),
-        subst (λ (k : BoardState). (λ (t : BoardTurn). t.board) (own.last_of (boards.begun k 0) goes.moments) ≡ board.state_of content new) new_board (ap (λ (t : BoardTurn). t.board) goes.last ∙ r.is),
+        (sheet, noted, subst (λ (k : BoardState). own.Run kind (boards.begun k 0 untold noted) goes.moments) new_board goes.run),
+        subst (λ (k : BoardState). (λ (t : BoardTurn). t.board) (own.last_of (boards.begun k 0 untold noted) goes.moments) ≡ board.state_of content new) new_board (ap (λ (t : BoardTurn). t.board) goes.last ∙ r.is),
         goes.passed,
       )

@@ -18,9 +18,11 @@ use Rattle.live.specs.Boards as boards
 use Rattle.live.specs.Boards.{BoardCall, BoardTurn, board_kind}
 use Rattle.live.specs.Desks.{DeskCall, DeskProcess, DeskStep, FitsLongest, course_after, desk_kind}
 use Rattle.live.specs.Ends.{further}
+use Rattle.live.specs.Notices.{untold}
 use Rattle.live.specs.Runs as own
 use Rattle.live.specs.declared.ends.DeskEnd.TheVariants.{Device}
-use Rattle.live.specs.declared.warned.Warned.TheVariants.{Nothing}
+use Rattle.live.specs.declared.notices.Notice.{Notice}
+use Rattle.live.specs.Texts.{unwarned}
 use Rattle.processes.specs.Happenings.{BoardBegun, BoardCalled, DeskBegun, DeskCalled, DeskEnded, FileMigrated, Happening, PowerLost, begun, migrated}
 
 -- A stage of a desk's life: its process makes these calls, from its beginning on; it is cut off amid a call, which has
@@ -36,7 +38,7 @@ pub data Stage (Disk : Type 0) : Type 0 where
 
 -- the process of this desk, at its beginning
 abbrev pub fresh : {Disk : Type 0} → DeskState Disk → DeskProcess Disk
-fresh k = record { desk = k; warned = Nothing; turns = 0; course = further }
+fresh k = record { desk = k; warned = unwarned; turns = 0; course = further }
 
 abbrev pub after_calls :
     {Disk : Type 0} → Process Disk → List (own.Moment (DeskProcess Disk) DeskCall) → Process Disk
@@ -126,10 +128,12 @@ abbrev pub life_happens : {Disk : Type 0} → DeskId → List (Stage Disk) → L
 life_happens d [] = []
 life_happens d (x ∷ xs) = stage_happens d x ++ life_happens d xs
 
--- the moments are a run of a board's process from its beginning on, with an empty book
+-- the moments are a run of a board's process from its beginning on, with an empty book, behind any notices of earlier
+-- ones
 abbrev pub BoardRuns : ℕ → ℕ → List (own.Moment BoardTurn BoardCall) → Type 0
 BoardRuns game innings ms =
-    (sheet : Sheet) × own.Run (board_kind sheet game innings) (boards.begun fresh_board 0) ms
+    (sheet : Sheet) × (notices : List Notice)
+    × own.Run (board_kind sheet game innings) (boards.begun fresh_board 0 untold notices) ms
 
 -- so are those of each of its processes, the newest first
 abbrev pub IsBoardLife : ℕ → ℕ → List (List (own.Moment BoardTurn BoardCall)) → Type 0

@@ -11,7 +11,7 @@ use Rattle.agree_core.specs.Boards.{fresh_board}
 use Rattle.agree_core.specs.Openings.{Creates, Opens}
 use Rattle.headline.specs.Configurations.{Running}
 use Rattle.cards.specs.Sheet.{Sheet}
-use Rattle.cards.specs.declared.watched.WriteFailed.{WriteFailed}
+use Rattle.streams.specs.declared.watched.WriteFailed.{WriteFailed}
 use Rattle.board.specs.declared.board.Board.{Board}
 use Rattle.board.specs.Board as board
 use Rattle.desk.specs.declared.desk.Desk.{Desk}
@@ -20,10 +20,12 @@ use Rattle.desk.specs.declared.refusal.OpenRefusal.{OpenRefusal}
 use Rattle.live.specs.Boards as boards
 use Rattle.live.specs.Boards.{BoardCall, BoardTurn, board_kind}
 use Rattle.live.specs.Desks.{DeskCall, DeskProcess, DeskRuns, innings_of, kind_of}
+use Rattle.live.specs.Notices.{untold}
 use Rattle.live.specs.Passed.{Passed}
 use Rattle.live.specs.Runs as own
 use Rattle.live.specs.Typing.{Input}
 use Rattle.live.specs.declared.ends.DeskEnd.{DeskEnd}
+use Rattle.live.specs.declared.notices.Notice.{Notice}
 use Rattle.processes.specs.Lives.{BeginsOn, BoardRuns, RunsFrom, after_calls}
 
 module _ {S B D : Type 0} {g : Files S D} {h : Disks D} {b : Books B} where
@@ -53,10 +55,10 @@ module _ {B : Type 0} {g : _} (content : B → List Entry) (innings_of : B → �
   -- the same from a new board on, by what `run_board` ensures
   abbrev pub BoardRunIsLife : (old new : Board B g) → Type 0
   BoardRunIsLife old new =
-      (sheet : Sheet) (before after : List Passed) (told tells : Option (List ℕ))
+      (sheet : Sheet) (before after : List Passed) (told tells : Option (List ℕ)) (noted notes : List Notice)
       (turns : ℕ) (result : Result (Unit {0}) WriteFailed) → board.state_of content old ≡ fresh_board
-      → boards.BoardRuns content innings_of sheet old new before after told tells 0 turns result
+      → boards.BoardRuns content innings_of sheet old new before after told tells 0 turns untold noted notes result
       → (ms : List (own.Moment BoardTurn BoardCall))
       × BoardRuns (board.game_of old) (innings_of (board.book_of old)) ms
-      × ((λ (k : BoardTurn). k.board) (own.last_of (boards.begun fresh_board 0) ms) ≡ board.state_of content new)
+      × ((λ (k : BoardTurn). k.board) (own.last_of (boards.begun fresh_board 0 untold noted) ms) ≡ board.state_of content new)
       × (after ≡ before ++ own.passed_in (board_kind sheet (board.game_of old) (innings_of (board.book_of old))) ms)

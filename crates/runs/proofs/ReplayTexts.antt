@@ -2,7 +2,7 @@
 use Rattle.std.proofs.Common.{◌≡◌, ℕ, zero, suc, ◌+◌, ◌<◌, List, [], ◌∷◌, ◌++◌, length, take, map, slice_index_or, Option, Result, Ok, Err, refl, sym, ap, ◌∙◌, arith, append-nil, append_assoc}
 use Rattle.std.specs.Prelude.{OnOk}
 use Rattle.std.specs.Io.KnownBytes.{Appends, Keeps}
-use Rattle.cards.proofs.Appending.{appends_kept}
+use Rattle.streams.proofs.Appending.{appends_kept}
 use Rattle.runs.specs.Replay.{numbered}
 
 module _ {X : Type 0} (text : ℕ → X → List ℕ) where

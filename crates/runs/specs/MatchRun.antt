@@ -17,8 +17,8 @@ use Rattle.vote_store.specs.Refusal.{not_empty}
 use Rattle.vote_store.specs.View.{file_view}
 use Rattle.cards.specs.Board.{board}
 use Rattle.cards.specs.Sheet.{Sheet}
-use Rattle.cards.specs.Watched.{Prints}
-use Rattle.cards.specs.declared.watched.Watched.{Watched}
+use Rattle.streams.specs.Watched.{Prints}
+use Rattle.streams.specs.declared.watched.Watched.{Watched}
 use Rattle.books.specs.declared.fault.RunFault.{RunFault}
 use Rattle.books.specs.declared.fault.RunFault.TheVariants.{NoMemory, Write, Device, Votes, Line, NotAgreed}
 use Rattle.books.specs.CardBook.{IsBookOfLines, NamesFirstRejected}

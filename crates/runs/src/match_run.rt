@@ -3,7 +3,7 @@
 ghost use Rattle.std.specs.Prelude.{◌≡◌, ◌≢◌, ◌≤◌, ◌<◌, ◌⊎◌, List, [], length, Err, IfErr, IfOk, OnOk};
 ghost use Rattle.corrections.specs.CleanList.{history_of};
 ghost use Rattle.cards.specs.Board.{board as board_text};
-ghost use Rattle.cards.specs.Watched.{IsHandedOn, MeetsFailure, Prints};
+ghost use Rattle.streams.specs.Watched.{IsHandedOn, MeetsFailure, Prints};
 ghost use Rattle.desk.specs.Desk.{SameOwner, game_of};
 ghost use Rattle.board.specs.Board.{book_of};
 ghost use Rattle.vote_store.specs.Migrated.{answer_of};
@@ -17,12 +17,13 @@ ghost use Rattle.runs.specs.inner.Turns.{AreCalm, AreLevel, LinesLeave, board_at
 use crate::post::Post;
 use crate::turns::{Stations, new_stations};
 use books::RunFault;
-use cards::{MatchSheet, Watched};
+use cards::MatchSheet;
 use entry_log::{Disk, Refusal as FileRefusal, SlotsOf};
-use host::{LONGEST_INPUT, Link};
+use machine::Link;
 use notation::Lines;
 use std::alloc::Global;
 use std::io::Write;
+use streams::{LONGEST_INPUT, Watched};
 use vote_store::Refusal;
 
 /// Has the stations take the lines of an input, one after the other.

@@ -1,7 +1,7 @@
 //! `ground migrate`: a new file with the votes of an old one.
 
 ghost use Rattle.std.specs.Prelude.{◌≡◌, ◌≢◌, ◌≤◌, length, Err, IfOk, IfErr, OnOk};
-ghost use Rattle.cards.specs.Watched.{IsHandedOn, MeetsFailure, Prints, TellsFailure, failures};
+ghost use Rattle.streams.specs.Watched.{IsHandedOn, MeetsFailure, Prints, TellsFailure, failures};
 ghost use Rattle.entry_log.specs.Disk.{Never};
 ghost use Rattle.entry_log.specs.Format.{room};
 ghost use Rattle.entry_log.specs.Version2.{version_2};
@@ -12,10 +12,10 @@ ghost use Rattle.runs.specs.Migrate.{WhyNotMigrated, migrated_line};
 
 use agree_core::DeskId;
 use books::RunFault;
-use cards::{Watched, WriteFailed};
 use entry_log::Disk;
 use std::alloc::Global;
 use std::io::Write;
+use streams::{Watched, WriteFailed};
 use vote_store::{Migrated, migrate};
 
 /// Prints how many votes the new file has.

@@ -5,8 +5,8 @@ ghost use Rattle.live.specs.Passed.{Came, Sent, sent_bytes};
 ghost use Rattle.runs.specs.MatchRun.{passed_at};
 
 use agree_core::Asker;
-use host::{Link, LinkFault, ROOM};
 use live::Log;
+use machine::{Link, LinkFault, ROOM};
 use wire::Datagram;
 
 /// A link that drops the first datagrams that are sent, so many. It logs what a station says to the others, once for

@@ -1,7 +1,7 @@
 //! `ground replay`: a schedule's events in, what each is answered and what the stations show out.
 
 ghost use Rattle.std.specs.Prelude.{◌≡◌, ◌≢◌, ◌≤◌, ◌<◌, ◌⊎◌, All, Err, IfErr, IfOk, IfSome, OnOk, length};
-ghost use Rattle.cards.specs.Watched.{IsHandedOn, MeetsFailure, failures, stream_of};
+ghost use Rattle.streams.specs.Watched.{IsHandedOn, MeetsFailure, failures, stream_of};
 ghost use Rattle.headline.specs.Events.{IsEvent};
 ghost use Rattle.schedule_replay.specs.Replays.{IsReplay};
 ghost use Rattle.runs.specs.ReplayRun.{PrintsReplay, PrintsRun, WhyNoReplay};
@@ -9,16 +9,16 @@ ghost use Rattle.runs.specs.ReplayRun.{PrintsReplay, PrintsRun, WhyNoReplay};
 mod print;
 mod step;
 
-use books::{RunFault, read_all};
-use cards::{MatchSheet, Watched};
+use books::RunFault;
+use cards::MatchSheet;
 use headline::{Event, FileVersion};
-use host::LONGEST_INPUT;
 use print::{print_refused, print_whole};
 use schedule_replay::{Report, replay_in};
 use schedules::read_schedule;
 use std::alloc::Global;
 use std::io::{Read, Write};
 use step::{Stepped, begin, step_all};
+use streams::{LONGEST_INPUT, Watched, read_all};
 
 /// What a replay of the events reports, which the world of a run has taken. Where it has no report, memory is
 /// told to be wanted.

@@ -10,7 +10,7 @@ ghost use Rattle.desk.specs.Desk.{IsOf, SameOwner, disk_of, game_of};
 ghost use Rattle.board.specs.Board.{SameMatch};
 ghost use Rattle.board.specs.Board as boards;
 ghost use Rattle.cards.specs.Board.{board as board_text};
-ghost use Rattle.cards.specs.Watched.{IsHandedOn, Prints, TellsFailure};
+ghost use Rattle.streams.specs.Watched.{IsHandedOn, Prints, TellsFailure};
 ghost use Rattle.live.specs.Passed.{Passed};
 ghost use Rattle.runs.specs.MatchRun.{IsQuiet, Leaves, Stays, passed_at};
 ghost use Rattle.books.specs.Output.{answer_to, with_taken};
@@ -23,14 +23,15 @@ use crate::post::Post;
 use agree_core::{Asker, DeskId};
 use board::Board;
 use books::{Refusal, Rejected, RunFault, TURNS};
-use cards::{MatchSheet, Watched, WriteFailed};
+use cards::MatchSheet;
 use corrections::{BookOf, CheckedBook};
 use desk::Desk;
 use entry_log::{Disk, Slots, SlotsOf};
-use host::{Link, ROOM};
+use machine::{Link, ROOM};
 use notation::{Entry, read_line};
 use std::alloc::{AllocError, Global};
 use std::io::Write;
+use streams::{Watched, WriteFailed};
 use wire::What;
 
 /// How many datagrams a station takes in a turn at most.

@@ -9,9 +9,9 @@ ghost use Rattle.books.specs.CardBook.{IsBookOfLines, NamesFirstRejected, WhyNoB
 use crate::fault::RunFault;
 use crate::table::Table;
 use corrections::CheckedBook;
-use host::LONGEST_INPUT;
 use notation::Lines;
 use std::alloc::Global;
+use streams::LONGEST_INPUT;
 
 /// Takes the lines of an input up to the first that isn't taken.
 fn take_lines(table: &mut Table, input: &[u8]) -> Result<(), RunFault>

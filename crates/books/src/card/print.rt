@@ -3,13 +3,14 @@
 ghost use Rattle.std.specs.Prelude.{◌<◌, OnOk};
 ghost use Rattle.match_laws.specs.History.{begun};
 ghost use Rattle.match_laws.specs.Stands.{ForEachHistory, begun_in};
-ghost use Rattle.cards.specs.Watched.{IsHandedOn, Prints, TellsFailure};
+ghost use Rattle.streams.specs.Watched.{IsHandedOn, Prints, TellsFailure};
 ghost use Rattle.books.specs.Card.{both_cards, card_text, cards_of};
 
-use cards::{MatchSheet, Watched, WriteFailed, batting_card, book_page, bowling_card};
+use cards::{MatchSheet, batting_card, book_page, bowling_card};
 use corrections::BookOf;
 use match_laws::Match;
 use std::io::Write;
+use streams::{Watched, WriteFailed};
 
 /// Prints both cards of an innings.
 fn print_both<W: Write>(

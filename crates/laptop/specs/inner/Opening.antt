@@ -1,7 +1,7 @@
 -- The fault of a run over a file of which no disk is made.
 use Rattle.vote_store.specs.Refusal.{not_empty}
-use Rattle.host.specs.declared.file_disk.OpenFault.{OpenFault}
-use Rattle.host.specs.declared.file_disk.OpenFault.TheVariants.{NoMemory, Host, TooLong}
+use Rattle.machine.specs.declared.file_disk.OpenFault.{OpenFault}
+use Rattle.machine.specs.declared.file_disk.OpenFault.TheVariants.{NoMemory, Host, TooLong}
 use Rattle.books.specs.declared.fault.RunFault.{RunFault}
 use Rattle.books.specs.declared.fault.RunFault.TheVariants as faults
 
@@ -16,3 +16,9 @@ abbrev pub fault_of_new : OpenFault → RunFault
 fault_of_new NoMemory = faults.NoMemory
 fault_of_new Host = faults.Device
 fault_of_new TooLong = faults.Votes not_empty
+
+-- and where it is to be written anew
+abbrev pub fault_of_copy : OpenFault → RunFault
+fault_of_copy NoMemory = faults.NoMemory
+fault_of_copy Host = faults.Write
+fault_of_copy TooLong = faults.Write

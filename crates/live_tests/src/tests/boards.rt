@@ -1,15 +1,32 @@
 //! What a board prints, when it asks, and how it catches up.
 ghost use Rattle.std.specs.Prelude.{◌≡◌, ◌≤◌, IfSome};
 
-use super::memory::Failing;
+use super::desks::ELSEWHERE;
+use super::memory::{Failing, Notes};
 use super::*;
 use board::Board;
-use live::{Link, Log, run_board};
+use live::{Link, Log, Notice, run_board};
 use notation::Plain;
-use wire::message_of;
+use std::io::Write;
+use streams::WriteFailed;
+use wire::{WireFault, message_of};
 
 fn new_board(rt: &impl Abort, alloc: Global) -> Board<Book> {
     Board::new(7, empty_book(rt, alloc))
+}
+
+/// A board's process over a link, whose notices aren't looked at.
+fn run<L: Link, W: Write>(
+    alloc: Global,
+    board: &mut Board<Book>,
+    sheet: &MatchSheet,
+    link: &mut L,
+    out: &mut Watched<W>,
+    turns: u64,
+) -> Result<(), WriteFailed> {
+    let mut clock = Ticking::new();
+    let mut notes = Notes::new(alloc);
+    run_board(board, sheet, link, &mut clock, &mut notes, out, turns)
 }
 
 const TWO: &str = "No play\nOvers -\nStriker -\nOther -\nTarget -\nResult -\n\
@@ -31,8 +48,7 @@ fn printed_once_a_turn(rt: HostRuntime) {
     }
     let mut board = new_board(&rt, alloc);
     let mut out = Watched::new(Vec::new(alloc));
-    let mut clock = Ticking::new();
-    let answer = run_board(&mut board, &sheet, &mut link, &mut clock, &mut out, 9);
+    let answer = run(alloc, &mut board, &sheet, &mut link, &mut out, 9);
     assert!(rt; answer.is_ok());
     assert_eq!(rt; out.into_inner().as_slice(), TWO.as_bytes());
 }
@@ -55,8 +71,7 @@ fn asks_that_nobody_answers(rt: HostRuntime) {
             let mut link = Queue::new(alloc);
             let mut board = new_board(&rt, alloc);
             let mut out = Watched::new(Failing { calls: 0 });
-            let mut clock = Ticking::new();
-            let answer = run_board(&mut board, &sheet, &mut link, &mut clock, &mut out, turns);
+            let answer = run(alloc, &mut board, &sheet, &mut link, &mut out, turns);
             assert!(rt; answer.is_ok());
             assert_eq!(rt; link.sent.len(), wanted, "{turns}");
         }
@@ -129,8 +144,7 @@ fn a_thousand_entries(rt: HostRuntime) {
     };
     let mut board = new_board(&rt, alloc);
     let mut out = Watched::new(Vec::new(alloc));
-    let mut clock = Ticking::new();
-    let answer = run_board(&mut board, &sheet, &mut link, &mut clock, &mut out, 502);
+    let answer = run(alloc, &mut board, &sheet, &mut link, &mut out, 502);
     assert!(rt; answer.is_ok());
     assert_eq!(rt; board.book().len(), 1000);
 }
@@ -145,8 +159,85 @@ fn a_writer_of_a_board_that_fails(rt: HostRuntime) {
         link.bring(&rt, &vote(&rt, DeskId::B, 0, 0, "void"));
         let mut board = new_board(&rt, alloc);
         let mut out = Watched::new(Failing { calls });
-        let mut clock = Ticking::new();
-        let answer = run_board(&mut board, &sheet, &mut link, &mut clock, &mut out, 9);
+        let answer = run(alloc, &mut board, &sheet, &mut link, &mut out, 9);
         assert!(rt; answer.is_err());
     }
+}
+
+/// What a new board of match 7, with one innings a side, tells over these datagrams, each in a turn of its own, and what
+/// it prints.
+fn notices(rt: &impl Abort, alloc: Global, datagrams: &[&[u8]]) -> (Vec<Notice>, Vec<u8>) {
+    let sheet = sheet(rt, alloc);
+    let mut link = Queue::new(alloc);
+    for datagram in datagrams {
+        link.bring(rt, *datagram);
+        link.pause(rt);
+    }
+    let mut board = new_board(rt, alloc);
+    let mut out = Watched::new(Vec::new(alloc));
+    let mut clock = Ticking::new();
+    let mut notes = Notes::new(alloc);
+    let answer = run_board(
+        &mut board, &sheet, &mut link, &mut clock, &mut notes, &mut out, 99,
+    );
+    assert!(rt; answer.is_ok());
+    (notes.told, out.into_inner())
+}
+
+// Bytes that are no message of the match are told once until a vote of it comes, and two votes of one desk too.
+#[test]
+fn bytes_that_a_board_cannot_take(rt: HostRuntime) {
+    let alloc = rt.alloc();
+    let first = vote(&rt, DeskId::A, 0, 0, "void");
+    let second = vote(&rt, DeskId::A, 0, 0, "innings home");
+    let datagrams = [
+        [0; 64].as_slice(),
+        ELSEWHERE.as_slice(),
+        first.as_slice(),
+        ELSEWHERE.as_slice(),
+        &ask(Asker::A),
+        ELSEWHERE.as_slice(),
+        second.as_slice(),
+        second.as_slice(),
+        first.as_slice(),
+        second.as_slice(),
+        &first[..47],
+    ];
+    let (told, shown) = notices(&rt, alloc, &datagrams);
+    let wanted = [
+        Notice::Bytes(WireFault::Length),
+        Notice::Bytes(WireFault::OtherMatch),
+        Notice::TwoVotes,
+        Notice::TwoVotes,
+        Notice::Bytes(WireFault::Length),
+    ];
+    assert_eq!(rt; told.as_slice(), wanted.as_slice());
+    assert!(rt; shown.is_empty());
+}
+
+// No batter comes in before an innings begins. Both desks' votes for that are refused and told once, and from then on
+// nothing is shown, though the book grows.
+#[test]
+fn votes_that_a_board_refuses(rt: HostRuntime) {
+    let alloc = rt.alloc();
+    let first = "void";
+    let refused = "in 1";
+    let last = "innings home";
+    let votes = [
+        vote(&rt, DeskId::A, 0, 0, first),
+        vote(&rt, DeskId::B, 0, 0, first),
+        vote(&rt, DeskId::A, 1, 0, refused),
+        vote(&rt, DeskId::B, 1, 0, refused),
+        vote(&rt, DeskId::B, 1, 0, refused),
+        vote(&rt, DeskId::B, 1, 0, first),
+        vote(&rt, DeskId::A, 1, 1, last),
+        vote(&rt, DeskId::B, 1, 1, last),
+    ];
+    let mut datagrams: Vec<&[u8]> = Vec::new(alloc);
+    for vote in votes.iter() {
+        datagrams.push(vote.as_slice()).expect(&rt, "room");
+    }
+    let (told, shown) = notices(&rt, alloc, datagrams.as_slice());
+    assert_eq!(rt; told.as_slice(), [Notice::BadVotes { place: 1 }].as_slice());
+    assert_eq!(rt; shown.as_slice(), NO_PLAY.as_bytes());
 }

@@ -65,7 +65,7 @@ fn lines_and_rounds(rt: HostRuntime) {
     let mut link = Queue::new(alloc);
     for (place, round, line, pauses) in [
         (0, 0, "innings home", 1),
-        (1, 0, "in 2", 5),
+        (1, 0, "in 2", 8),
         (1, 1, "in 1", 1),
         (2, 0, "in 2", 2),
         (3, 0, "ball 7 bat 2", 1),
@@ -83,6 +83,9 @@ fn lines_and_rounds(rt: HostRuntime) {
         "in 1",
         "again in 1",
         "again in 1",
+        "in 1",
+        "again bogus",
+        "bogus",
         "",
         "in 2",
         "ball 7 bat 1",
@@ -101,7 +104,8 @@ fn lines_and_rounds(rt: HostRuntime) {
         "0 next\n0 pending\n0 agreed\n",
         OPENED,
         "1 the other has written\n1 doesn't differ: leave out again\n1 differs\n",
-        "1 differs: begin the line with again\n1 pending\nrefused 61 Waiting\n1 agreed\n",
+        "1 differs: begin the line with again\n1 pending\nrefused 61 Waiting\n",
+        "refused 61 Waiting\nfault 2 UnknownWord\nfault 2 UnknownWord\n1 agreed\n",
         FIRST_IN,
         "2 the other has written\n2 agreed\n",
         BOTH_IN,
@@ -115,7 +119,7 @@ fn lines_and_rounds(rt: HostRuntime) {
 }
 
 /// The same vote in another match.
-const ELSEWHERE: [u8; 48] = [
+pub const ELSEWHERE: [u8; 48] = [
     0x43, 0x42, 2, 1, 0, 0, 0, 0, 0, 0, 0, 8, 2, 0, 0, 0, 0, 0, 0, 0, 0, 0, 0, 0, 0, 0, 0, 0, 0, 0,
     0, 0, 0, 0, 0, 0, 0, 0, 0, 0, 0, 0, 0, 0, 0, 0, 0, 0,
 ];
@@ -149,7 +153,31 @@ fn what_cannot_be_right(rt: HostRuntime) {
     let texts = [
         NO_PLAY,
         "0 next\npeer: 50 Length\n0 the other has written\npeer: 54 OtherMatch\n",
-        "peer: the same desk\npeer: two votes\npeer: 50 Length\nfault 2 UnknownWord\n",
+        "peer: the same desk\npeer: two votes\npeer: two votes\n",
+        "peer: 54 OtherMatch\npeer: 50 Length\nfault 2 UnknownWord\n",
+    ];
+    is_told(&rt, alloc, &lines, &mut link, &texts);
+}
+
+// A station of another match asks and asks, and so does a board of this one.
+#[test]
+fn a_station_of_another_match(rt: HostRuntime) {
+    let alloc = rt.alloc();
+    let mut link = Queue::new(alloc);
+    for vote in [
+        vote(&rt, DeskId::B, 0, 0, "void"),
+        vote(&rt, DeskId::B, 0, 0, "void"),
+    ] {
+        for _ in 0..3 {
+            link.bring(&rt, &ELSEWHERE);
+            link.bring(&rt, &ask(Asker::Board));
+        }
+        link.bring(&rt, &vote);
+    }
+    let lines = ["", "", "quit"];
+    let texts = [
+        NO_PLAY,
+        "0 next\npeer: 54 OtherMatch\n0 the other has written\npeer: 54 OtherMatch\n",
     ];
     is_told(&rt, alloc, &lines, &mut link, &texts);
 }

@@ -2,7 +2,7 @@
 ghost use Rattle.std.specs.Prelude.{◌≡◌, ◌≤◌, IfSome};
 
 use super::*;
-use live::{Clock, InputLog, Keys, Link, Log, Typed};
+use live::{Clock, InputLog, Keys, Link, Log, Notice, NoticeLog, Notices, Typed};
 use std::io::{self, Error, ErrorKind, Write};
 
 /// A clock of which each reading is a millisecond later. A turn in which nothing comes reads it twice.
@@ -178,5 +178,32 @@ impl Write for Failing {
 
     fn flush(&mut self) -> io::Result<()> {
         self.call()
+    }
+}
+
+/// The notices of a board.
+#[derive(Drop)]
+pub struct Notes {
+    pub told: Vec<Notice>,
+    log: NoticeLog,
+}
+
+impl Notes {
+    pub fn new(alloc: Global) -> Notes {
+        Notes {
+            told: Vec::new(alloc),
+            log: NoticeLog::Empty,
+        }
+    }
+}
+
+impl Notices for Notes {
+    ghost use Rattle.live.specs.Logs.{notices_of};
+
+    ghost told = { λ notes. notices_of notes.log };
+
+    fn tell(&mut self, notice: Notice) {
+        let _ = self.told.push(notice);
+        self.log = self.log.told(notice);
     }
 }

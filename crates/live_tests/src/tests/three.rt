@@ -1,5 +1,5 @@
 //! Two desks and a board in turns, over a link that loses every third datagram.
-use super::memory::Failing;
+use super::memory::{Failing, Notes};
 use super::*;
 use board::Board;
 use entry_log::SlotsOf;
@@ -65,7 +65,8 @@ fn board_turn(rt: &impl Abort, alloc: Global, board: &mut Board<Book>, link: &mu
     let sheet = sheet(rt, alloc);
     let mut out = Watched::new(Failing { calls: usize::MAX });
     let mut clock = Ticking::new();
-    let answer = run_board(board, &sheet, link, &mut clock, &mut out, 1);
+    let mut notes = Notes::new(alloc);
+    let answer = run_board(board, &sheet, link, &mut clock, &mut notes, &mut out, 1);
     assert!(rt; answer.is_ok());
 }
 

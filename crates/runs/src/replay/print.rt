@@ -3,7 +3,7 @@
 ghost use Rattle.std.specs.Prelude.{◌++◌, option_map, OnOk};
 ghost use Rattle.entry_log.specs.declared.mem_disk.MemDisk.{MemDisk};
 ghost use Rattle.match_laws.specs.Stands.{ForEachHistory};
-ghost use Rattle.cards.specs.Watched.{IsHandedOn, Prints, TellsFailure};
+ghost use Rattle.streams.specs.Watched.{IsHandedOn, Prints, TellsFailure};
 ghost use Rattle.schedule_replay.specs.CodeWorlds.{HasConfiguration, board_state};
 ghost use Rattle.schedule_replay.specs.Lending.{lent_desk};
 ghost use Rattle.schedule_replay.specs.WorldDesks.{state_of};
@@ -11,11 +11,11 @@ ghost use Rattle.headline.specs.Configurations.{Configuration};
 ghost use Rattle.runs.specs.Replay as texts;
 
 use board::Board;
-use cards::{Watched, WriteFailed};
 use corrections::{BookOf, CheckedBook};
 use match_laws::Match;
 use schedule_replay::{AnyDesk, Seen, World};
 use std::io::Write;
+use streams::{Watched, WriteFailed};
 
 /// Prints what the event of this number is answered.
 fn print_event<W: Write>(

@@ -4,9 +4,10 @@ ghost use Rattle.std.specs.Prelude.{◌≤◌};
 use super::*;
 use agree_core::Heard;
 use board::{Board, BoardRefusal};
-use cards::{MatchSheet, Watched, plain_sheet};
+use cards::{MatchSheet, plain_sheet};
 use corrections::BookOf;
 use std::io::{self, Error, ErrorKind, Write};
+use streams::Watched;
 use wire::{What, WireFault};
 
 /// A board's ask for the votes at place 0, round 0, in match 7.

@@ -2,14 +2,15 @@
 //! What takes memory is done again where an allocation failed, so that the tests pass with any one refused.
 
 use cards::{
-    MatchSheet, SheetFault, Watched, WriteFailed, batting_card, board_lines, book_page,
-    bowling_card, plain_sheet, read_sheet,
+    MatchSheet, SheetFault, batting_card, board_lines, book_page, bowling_card, plain_sheet,
+    read_sheet,
 };
 use corrections::{Book, BookOf};
 use notation::{Player, Side, read_line};
 use std::alloc::{AllocError, Global};
 use std::io::{self, Error, ErrorKind, Write};
 use std::process::Abort;
+use streams::{Watched, WriteFailed};
 
 const SHEET: &str = "title = \"T\"\nnumber = 7\ninnings = 2\nother = 1\n\
     home = {name = \"Alder\", players = [\"H1\", \"H2\", \"H3\", \"H4\", \"H5\", \"H6\", \"H7\", \"H8\", \"H9\", \"H10\", \"H11\"]}\n\

@@ -3,11 +3,11 @@ use Rattle.std.specs.Io.KnownBytes.{Appends}
 use Rattle.books.specs.declared.table.Table.{Table}
 use Rattle.corrections.specs.CleanList.{history_of}
 use Rattle.notation.specs.Lines.{lines_of}
-use Rattle.cards.specs.Watched.{stream_of}
+use Rattle.streams.specs.Watched.{stream_of}
 use Rattle.cards.specs.Board.{board}
 use Rattle.books.specs.Table.{IsInStep, agreed_in, innings_in}
 use Rattle.books.specs.Output.{answer_to, with_taken, printed, is_rejected, rejections, has_rejected, book_after, board_of_book, output_of, sheet}
-use Rattle.cards.proofs.Appending.{appends_none, appends_both, appends_kept}
+use Rattle.streams.proofs.Appending.{appends_none, appends_both, appends_kept}
 use Rattle.notation.proofs.Cuts.{length-lines_of}
 use Rattle.books.proofs.check.check_lines.Invariants.{Midway}
 use Rattle.books.proofs.check.check_lines.Goals as goal

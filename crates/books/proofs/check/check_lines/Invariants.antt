@@ -2,7 +2,7 @@ use Rattle.std.proofs.Common.{◌≡◌, ◌+◌, ℕ, List, [], ◌++◌, lengt
 use Rattle.std.specs.Io.KnownBytes.{Appends}
 use Rattle.books.specs.declared.table.Table.{Table}
 use Rattle.notation.specs.Lines.{lines_of}
-use Rattle.cards.specs.Watched.{stream_of, failures}
+use Rattle.streams.specs.Watched.{stream_of, failures}
 use Rattle.books.specs.Table.{IsInStep, agreed_in, innings_in}
 use Rattle.books.specs.Output.{rejections, has_rejected, book_after}
 use Rattle.books.proofs.check.check_lines.Given as goal

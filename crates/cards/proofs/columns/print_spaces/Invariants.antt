@@ -1,6 +1,6 @@
 use Rattle.std.proofs.Common.{◌≡◌}
 use Rattle.cards.specs.Columns.{spaces}
-use Rattle.cards.specs.Watched.{Prints, failures}
+use Rattle.streams.specs.Watched.{Prints, failures}
 use Rattle.cards.proofs.columns.print_spaces.Given as goal
 
 abbrev pub invariant-loop : goal.invariant-loop

@@ -1,5 +1,5 @@
 use Rattle.std.proofs.Common.{◌∙◌}
-use Rattle.cards.proofs.Appending.{appends_both}
+use Rattle.streams.proofs.Appending.{appends_both}
 use Rattle.cards.proofs.Pages.{copies_next}
 use Rattle.cards.proofs.page.last_entries.Goals as goal
 

@@ -1,5 +1,5 @@
 use Rattle.std.proofs.Common.{◌≡◌, ◌-◌}
-use Rattle.cards.specs.Watched.{stream_of, failures}
+use Rattle.streams.specs.Watched.{stream_of, failures}
 use Rattle.cards.specs.Page.{entry_line}
 use Rattle.cards.proofs.Pages.{CopiedFrom}
 use Rattle.cards.proofs.page.last_entries.Given as goal

@@ -3,5 +3,5 @@ use Rattle.live.proofs.board_loop.give.Goals as goal
 
 pub returns : goal.returns
 returns g c =
-    λ sheet told log turns had taken few. given_to _ _ sheet c.args.board.now c.receive-answer.new.self c.args.bytes.now c.receive-answer.result log told turns had taken few
-    c.receive-answer.ensures.same c.receive-answer.ensures.step
+    λ sheet shown log turns had taken few. given_to _ _ sheet c.args.board.now c.receive-answer.new.self c.args.bytes.now c.receive-answer.result log shown turns had taken _ _ _ _ few
+    c.receive-answer.ensures.same c.receive-answer.ensures.step c.after-between.ensures c.tell.ensures

@@ -6,5 +6,6 @@ use Rattle.live.proofs.board_loop.take_all.Given as goal
 abbrev pub invariant-loop-taken : goal.invariant-loop-taken
 invariant-loop-taken g l =
     (sheet : Sheet) (told : Option (List ℕ)) (turns had : ℕ) → BoardGoes g.B.BookOf.content g.B.BookOf.innings_a_side sheet l.initial.board l.board
-    (in_turn g.B.BookOf.content l.initial.board turns had 0) (in_turn g.B.BookOf.content l.board turns had l.taken)
+    (in_turn g.B.BookOf.content l.initial.board turns had 0 l.initial.between.telling (g.N.Notices.told l.initial.notices))
+    (in_turn g.B.BookOf.content l.board turns had l.taken l.between.telling (g.N.Notices.told l.notices))
     (g.L.Link.log l.initial.link) (g.L.Link.log l.link) told told

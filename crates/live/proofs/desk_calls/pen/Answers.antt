@@ -1,6 +1,7 @@
-use Rattle.std.proofs.Common.{◌≡◌, nat_lt, subst}
+use Rattle.std.proofs.Common.{◌≡◌, Bool, nat_lt, subst}
 use Rattle.notation.specs.Written.{IsEntry, text_of}
 use Rattle.agree_core.specs.declared.position.Position.{Position}
+use Rattle.desk.specs.Desk.{state_of}
 use Rattle.live.specs.Saying.{ComesTo, says_again}
 use Rattle.live.proofs.DeskLemmas.{penned, refused, unpenned}
 use Rattle.live.proofs.desk_calls.pen.Goals as goal
@@ -8,7 +9,8 @@ use Rattle.live.proofs.desk_calls.pen.Goals as goal
 pub returns-in-Err : goal.returns-in-Err
 returns-in-Err g c =
     unpenned c.args.desk.now c.args.line.now c.in-Err.said _
-    (subst (λ (p : Position). ComesTo (nat_lt 0 p.round) c.args.line.now c.in-Err.said) c.position-differs.ensures c.in-Err.ensures.none)
+    (subst (λ (b : Bool). ComesTo (nat_lt 0 (state_of c.args.desk.now).seat.position.round) b c.args.line.now c.in-Err.said) c.has_voted.ensures
+    (subst (λ (p : Position). ComesTo (nat_lt 0 p.round) c.has_voted.result c.args.line.now c.in-Err.said) c.position-differs.ensures c.in-Err.ensures.none))
 
 pub returns-in-Ok-pen : goal.returns-in-Ok-pen
 returns-in-Ok-pen g c =

@@ -1,5 +1,5 @@
 use Rattle.std.proofs.Common.{List, Option, ℕ}
-use Rattle.cards.specs.Watched.{stream_of}
+use Rattle.streams.specs.Watched.{stream_of}
 use Rattle.live.specs.Desks.{DeskGoes, process_of}
 use Rattle.live.specs.Ends.{Course, further}
 use Rattle.live.proofs.DeskLemmas.{muted, passed_on, then}

@@ -1,5 +1,5 @@
 use Rattle.std.proofs.Common.{◌≡◌, ℕ, Ok, arith, subst}
-use Rattle.cards.specs.Watched.{stream_of}
+use Rattle.streams.specs.Watched.{stream_of}
 use Rattle.live.specs.Desks.{DeskRuns}
 use Rattle.live.proofs.DeskLemmas.{rests, then}
 use Rattle.live.proofs.DeskRunLemmas.{all_over, cut_short, not_greeted}

@@ -1,4 +1,4 @@
-use Rattle.cards.proofs.Appending.{appends_last}
+use Rattle.streams.proofs.Appending.{appends_last}
 use Rattle.live.proofs.texts.print_greeting.Goals as goal
 
 pub returns-clause-text : goal.returns-clause-text

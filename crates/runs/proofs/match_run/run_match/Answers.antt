@@ -7,7 +7,7 @@ use Rattle.vote_store.specs.View.{file_view}
 use Rattle.desk.specs.Desk.{disk_of, game_of}
 use Rattle.board.specs.Board.{book_of}
 use Rattle.cards.specs.Board.{board}
-use Rattle.cards.specs.Watched.{Prints}
+use Rattle.streams.specs.Watched.{Prints}
 use Rattle.books.specs.CardBook.{IsBookOfLines}
 use Rattle.runs.specs.MatchRun.{KeepsBook, passed_at}
 use Rattle.runs.specs.inner.Turns.{DiskHolds, LinesLeave, board_at, book_at}

@@ -1,6 +1,6 @@
 use Rattle.std.proofs.Common.{◌≡◌, ◌++◌, ◌∙◌, length, subst}
 use Rattle.std.specs.Io.KnownBytes.{Appends}
-use Rattle.cards.specs.Watched.{stream_of}
+use Rattle.streams.specs.Watched.{stream_of}
 use Rattle.runs.specs.Replay.{event_lines, last_lines}
 use Rattle.runs.specs.ReplayRun.{IsStepped}
 use Rattle.runs.proofs.replay.print_run.Goals as goal

@@ -1,8 +1,8 @@
 use Rattle.std.proofs.Common.{◌≡◌, ℕ, Bool, List, Option, Some, None, Result, Ok, Err, subst}
 use Rattle.std.specs.Prelude.{IfOk, IfSome}
 use Rattle.cards.specs.Sheet.{Sheet}
-use Rattle.cards.specs.declared.watched.Watched.{Watched}
-use Rattle.cards.specs.Watched.{stream_of}
+use Rattle.streams.specs.declared.watched.Watched.{Watched}
+use Rattle.streams.specs.Watched.{stream_of}
 use Rattle.notation.specs.Lines.{lines_of}
 use Rattle.schedules.specs.ScheduleLines.{IsScheduleOf}
 use Rattle.headline.specs.declared.event.Event.{Event}

@@ -1,4 +1,4 @@
-use Rattle.cards.proofs.Appending.{appends_last}
+use Rattle.streams.proofs.Appending.{appends_last}
 use Rattle.books.proofs.card.print.print_both.Goals as goal
 
 pub returns-clause-text : goal.returns-clause-text

@@ -1,5 +1,5 @@
 use Rattle.std.proofs.Common.{◌∙◌, add-one}
-use Rattle.cards.proofs.Appending.{appends_both}
+use Rattle.streams.proofs.Appending.{appends_both}
 use Rattle.books.proofs.card.print.print_innings.Goals as goal
 
 pub loop-innings-preserved : goal.loop-innings-preserved

@@ -1,7 +1,7 @@
 use Rattle.std.proofs.Common.{◌≡◌}
 use Rattle.std.specs.Io.KnownBytes.{Appends}
 use Rattle.match_laws.specs.Stands.{ForEachHistory}
-use Rattle.cards.specs.Watched.{stream_of, failures}
+use Rattle.streams.specs.Watched.{stream_of, failures}
 use Rattle.books.specs.Card.{cards_of}
 use Rattle.books.proofs.card.print.print_innings.Given as goal
 

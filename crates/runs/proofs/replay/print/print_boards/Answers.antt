@@ -1,5 +1,5 @@
 use Rattle.std.proofs.Common.{◌∙◌}
-use Rattle.cards.proofs.Appending.{appends_both}
+use Rattle.streams.proofs.Appending.{appends_both}
 use Rattle.schedule_replay.specs.CodeWorlds.{board_state}
 use Rattle.runs.specs.Replay.{board_line}
 use Rattle.runs.proofs.ReplayTexts.{numbered_next}

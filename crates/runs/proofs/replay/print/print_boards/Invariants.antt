@@ -1,6 +1,6 @@
 use Rattle.std.proofs.Common.{◌≡◌, take}
 use Rattle.std.specs.Io.KnownBytes.{Appends}
-use Rattle.cards.specs.Watched.{stream_of, failures}
+use Rattle.streams.specs.Watched.{stream_of, failures}
 use Rattle.schedule_replay.specs.CodeWorlds.{board_state}
 use Rattle.runs.specs.Replay.{board_line, numbered}
 use Rattle.runs.proofs.replay.print.print_boards.Given as goal

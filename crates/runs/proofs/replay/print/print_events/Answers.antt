@@ -1,6 +1,6 @@
 use Rattle.std.proofs.Common.{◌∙◌, refl, slice_index_or}
 use Rattle.agree_core.specs.declared.seat.Settled.TheVariants.{Pending}
-use Rattle.cards.proofs.Appending.{appends_both}
+use Rattle.streams.proofs.Appending.{appends_both}
 use Rattle.schedule_replay.specs.declared.seen.Seen.TheVariants.{Penned}
 use Rattle.runs.specs.Replay.{event_line}
 use Rattle.runs.proofs.ReplayTexts.{numbered_next}

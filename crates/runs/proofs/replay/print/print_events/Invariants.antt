@@ -1,6 +1,6 @@
 use Rattle.std.proofs.Common.{◌≡◌, take}
 use Rattle.std.specs.Io.KnownBytes.{Appends}
-use Rattle.cards.specs.Watched.{stream_of, failures}
+use Rattle.streams.specs.Watched.{stream_of, failures}
 use Rattle.runs.specs.Replay.{event_lines}
 use Rattle.runs.proofs.replay.print.print_events.Given as goal
 

@@ -1,4 +1,4 @@
-use Rattle.cards.proofs.Appending.{appends_both}
+use Rattle.streams.proofs.Appending.{appends_both}
 use Rattle.runs.proofs.ReplayTexts.{kept_last}
 use Rattle.runs.proofs.replay.print.print_refused.Goals as goal
 

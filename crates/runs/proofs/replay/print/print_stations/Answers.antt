@@ -1,4 +1,4 @@
-use Rattle.cards.proofs.Appending.{appends_both, appends_last}
+use Rattle.streams.proofs.Appending.{appends_both, appends_last}
 use Rattle.schedule_replay.specs.CodeWorlds.{board_state}
 use Rattle.runs.specs.Replay.{board_line}
 use Rattle.runs.proofs.ReplayTexts.{numbered_map}

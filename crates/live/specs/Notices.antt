@@ -1,0 +1,39 @@
+-- What a board tells of what it can't take.
+use Rattle.std.specs.Prelude.{ℕ, Bool, true, false, List, [], ◌∷◌, ◌++◌, codes, Result, Ok, Err}
+use Rattle.agree_core.specs.declared.seat.Heard.TheVariants as heards
+use Rattle.wire.specs.declared.what.What.{What}
+use Rattle.wire.specs.declared.what.What.TheVariants as whats
+use Rattle.board.specs.declared.refusal.BoardRefusal.{BoardRefusal}
+use Rattle.board.specs.declared.refusal.BoardRefusal.TheVariants as refusals
+use Rattle.live.specs.Texts.{at_place, bad_text, unwarned, warned_after}
+use Rattle.live.specs.declared.notices.Notice.{Notice}
+use Rattle.live.specs.declared.notices.Notice.TheVariants.{Bytes, TwoVotes, BadVotes}
+use Rattle.live.specs.declared.notices.Telling.{Telling}
+
+-- the line of a notice
+abbrev pub notice_text : Notice → List ℕ
+notice_text (Bytes fault) = bad_text fault
+notice_text TwoVotes = codes "peer: two votes\n"
+notice_text (BadVotes place) = at_place place (codes "refused 64 BadVotes: no score is shown from here on")
+
+-- nothing was told
+abbrev pub untold : Telling
+untold = record { warned = unwarned; is_stopped = false }
+
+-- these notices, and then this one, unless it was told
+abbrev pub noted : Bool → List Notice → Notice → List Notice
+noted true notices notice = notices
+noted false notices notice = notices ++ notice ∷ []
+
+-- the notices after the answer to bytes that came: of bytes that are no message of the match and of two votes of one
+-- desk one each, until a vote that it takes comes, and of refused votes one
+abbrev pub notices_after : Telling → List Notice → Result What BoardRefusal → List Notice
+notices_after k notices (Ok (whats.Bad fault)) = noted k.warned.of_bytes notices (Bytes fault)
+notices_after k notices (Ok (whats.Heard heards.TwoVotes)) = noted k.warned.of_votes notices TwoVotes
+notices_after k notices (Ok what) = notices
+notices_after k notices (Err (refusals.BadVotes place)) = noted k.is_stopped notices (BadVotes place)
+
+-- what was told after that answer
+abbrev pub telling_after : Telling → Result What BoardRefusal → Telling
+telling_after k (Ok what) = record k { warned = warned_after k.warned what }
+telling_after k (Err refusal) = record k { is_stopped = true }

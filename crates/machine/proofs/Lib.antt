@@ -1,0 +1,2 @@
+-- Lemmas on the calls of a file.
+mod CallLemmas

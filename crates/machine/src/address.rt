@@ -1,0 +1,65 @@
+//! Addresses of stations.
+
+use std::net::{IpAddr, SocketAddr};
+
+/// How many peers a station has at most: the other desk and four boards, or both desks.
+pub const MOST_PEERS: usize = 5;
+
+/// Where a station listens, and the text that says so.
+#[derive(Clone, Copy, Debug, PartialEq, Eq)]
+pub struct Address<'a> {
+    pub text: &'a str,
+    pub socket: SocketAddr,
+}
+
+/// Whether a station can be found at an address: its port isn't 0, and it isn't everybody's.
+fn is_a_place(socket: SocketAddr) -> bool {
+    let is_everybodys = match socket.ip() {
+        IpAddr::V4(address) => address.is_broadcast(),
+        IpAddr::V6(_) => false,
+    };
+    socket.port() != 0 && !is_everybodys
+}
+
+/// The address that a text is: numbers, a colon and a port.
+fn address_in(text: &str) -> Option<Address<'_>> {
+    match text.parse::<SocketAddr>() {
+        Ok(socket) if is_a_place(socket) => Some(Address { text, socket }),
+        _ => None,
+    }
+}
+
+/// The address of a peer of a station at this address, if the text is one, and of the same family: no socket reaches
+/// both.
+fn peer_in(text: &str, at: SocketAddr) -> Option<SocketAddr> {
+    let peer = address_in(text)?.socket;
+    (peer.is_ipv4() == at.is_ipv4()).then_some(peer)
+}
+
+/// The address that one of these texts is, if there are so many.
+fn peer_of(texts: &[&str], index: usize, at: SocketAddr) -> Option<Option<SocketAddr>> {
+    match texts.get(index) {
+        Some(text) => Some(Some(peer_in(*text, at)?)),
+        None => Some(None),
+    }
+}
+
+/// Where a station listens, and the addresses of its peers, if these texts are addresses of one family and not too many.
+pub fn addresses_in<'a>(
+    at: &'a str,
+    first: &str,
+    others: &[&str],
+) -> Option<(Address<'a>, [Option<SocketAddr>; MOST_PEERS])> {
+    if others.len() >= MOST_PEERS {
+        return None;
+    }
+    let at = address_in(at)?;
+    let peers = [
+        Some(peer_in(first, at.socket)?),
+        peer_of(others, 0, at.socket)?,
+        peer_of(others, 1, at.socket)?,
+        peer_of(others, 2, at.socket)?,
+        peer_of(others, 3, at.socket)?,
+    ];
+    Some((at, peers))
+}

@@ -1,0 +1,27 @@
+//! The machine: disks on real files, sockets, a scorer's keyboard, a clock, and a text file that others read. Nothing
+//! is known of what the machine does with what it is given; it stands behind traits.
+#![tactic(auto)]
+
+mod address;
+mod file_disk;
+mod host_file;
+mod keyboard;
+mod link;
+mod monotonic_clock;
+mod named_file;
+mod peers;
+mod renewal;
+mod text_file;
+mod udp;
+
+pub use address::{Address, MOST_PEERS, addresses_in};
+pub use file_disk::{FileDisk, OpenFault};
+pub use host_file::{Host, Successor};
+pub use keyboard::Keyboard;
+pub use link::{Link, LinkFault, ROOM};
+pub use monotonic_clock::MonotonicClock;
+pub use named_file::NamedFile;
+pub use peers::Peers;
+pub use renewal::{bytes_of, renewed};
+pub use text_file::{Replaces, TextFile};
+pub use udp::Sockets;

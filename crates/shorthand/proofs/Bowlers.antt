@@ -1,0 +1,50 @@
+-- Who bowls and bats by what stands, and by the Laws' history of the book.
+use Rattle.std.proofs.Common.{◌≡◌, ◌⊎◌, Bool, true, false, List, [], ◌∷◌, inl, inr, refl, ap, ◌∙◌}
+use Rattle.notation.specs.declared.entry.Plain.{Plain}
+use Rattle.notation.specs.declared.entry.Plain.TheVariants as plains
+use Rattle.notation.specs.declared.entry.Entry.{Entry}
+use Rattle.ball_laws.specs.History.{History, open_over}
+use Rattle.match_laws.specs.History.{is_void, last_side}
+use Rattle.corrections.specs.declared.placed.Placed.{Placed}
+use Rattle.corrections.specs.CleanList.{history_of, kept, standing_of}
+use Rattle.corrections.specs.inner.Scoring.{history_after}
+use Rattle.corrections.proofs.LegalLemmas.{history_of-standing}
+use Rattle.corrections.proofs.ScoringLemmas.{kept_first, kept_not}
+use Rattle.shorthand.specs.declared.point.Belongs.TheVariants.{Last}
+use Rattle.shorthand.specs.Points.{history_to, point_at, point_of}
+
+-- two histories with one open over and one side batting
+record AreAlike (g h : History) : Type 0 where
+  over : open_over g ≡ open_over h
+  side : last_side g ≡ last_side h
+
+alike_more : (g h : History) (x : Plain) → AreAlike g h → AreAlike (x ∷ g) (x ∷ h)
+alike_more g h (plains.Innings s) e = record { over = refl; side = refl }
+alike_more g h (plains.Ball b) e = record { over = ap (λ bs. b ∷ bs) e.over; side = e.side }
+alike_more g h plains.Over e = record { over = refl; side = e.side }
+alike_more g h (plains.End c) e = record { over = refl; side = e.side }
+alike_more g h _ e = record { over = e.over; side = e.side }
+
+-- a `void` adds nothing
+alike_void : (g h : History) (x : Plain) → is_void x ≡ true → AreAlike g h → AreAlike (x ∷ g) h
+alike_void g h plains.Void v e = record { over = e.over; side = e.side }
+alike_void g h _ v e = absurd (cc)
+
+either_way : (b : Bool) → (b ≡ true) ⊎ (b ≡ false)
+either_way true = inl refl
+either_way false = inr refl
+
+walked : (g h : History) (xs : List Placed) → AreAlike g h → AreAlike (history_to Last g xs) (history_after h (kept xs))
+walked g h [] e = e
+walked g h (x ∷ xs) e = elim (either_way (is_void x.item)) [
+  | inl v ↦ rw (kept_not x xs v) (walked (x.item ∷ g) h xs (alike_void g h x.item v e))
+  | inr v ↦ rw (kept_first x xs v) (walked (x.item ∷ g) (x.item ∷ h) xs (alike_more g h x.item e))
+]
+
+alike_point : (g h : History) → AreAlike g h → point_of g ≡ point_of h
+alike_point g h e = rw (e.over, e.side) refl
+
+pub point_at-last : (book : List Entry) → point_at book Last ≡ point_of (history_of book)
+point_at-last book =
+    alike_point _ _ (walked [] [] (standing_of book) (record { over = refl; side = refl }))
+    ∙ ap point_of (history_of-standing book)

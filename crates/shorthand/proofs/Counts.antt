@@ -1,0 +1,52 @@
+-- How many players fit.
+use Rattle.std.proofs.Common.{◌≡◌, ℕ, zero, suc, ◌+◌, ◌≤◌, ◌<◌, Bool, true, false, List, [], ◌∷◌, filter, drop, length, get_or, Some, refl, ap, ◌∙◌, arith, lit≤}
+use Rattle.std.specs.Prelude.{slice_get}
+use Rattle.std.proofs.lemmas.List.{drop_all}
+use Rattle.ball_laws.specs.Over.{numbers}
+use Rattle.cards.proofs.Slots.{next}
+use Rattle.shorthand.specs.declared.names.Found.{Found}
+use Rattle.shorthand.specs.declared.names.Found.TheVariants.{NoOne, Several}
+use Rattle.shorthand.specs.Names.{found_in}
+use Rattle.shorthand.specs.inner.Writing.{and_one}
+
+abbrev pub with_all : Found → List ℕ → Found
+with_all found [] = found
+with_all found (n ∷ ns) = with_all (and_one found n) ns
+
+several : (ns : List ℕ) → with_all Several ns ≡ Several
+several [] = refl
+several (n ∷ ns) = several ns
+
+pub with_all-none : (ns : List ℕ) → with_all NoOne ns ≡ found_in ns
+with_all-none [] = refl
+with_all-none (n ∷ []) = refl
+with_all-none (n ∷ m ∷ ns) = several ns
+
+-- a player more is looked at, who fits or doesn't
+pub fitting_one : (p : ℕ → Bool) (found : Found) (items : List ℕ) (k n : ℕ) → slice_get items k ≡ Some n → p n ≡ true → with_all (and_one found n) (filter p (drop (k + 1) items)) ≡ with_all found (filter p (drop k items))
+fitting_one p found items k n here fits =
+    let all : filter p (drop k items) ≡ n ∷ filter p (drop (k + 1) items) = ap (filter p) (next items k n here) ∙ rw fits refl in
+    rw all refl
+
+pub fitting_not : (p : ℕ → Bool) (found : Found) (items : List ℕ) (k n : ℕ) → slice_get items k ≡ Some n → p n ≡ false → with_all found (filter p (drop (k + 1) items)) ≡ with_all found (filter p (drop k items))
+fitting_not p found items k n here not =
+    let all : filter p (drop k items) ≡ filter p (drop (k + 1) items) = ap (filter p) (next items k n here) ∙ rw not refl in
+    rw all refl
+
+pub fitting_all : (p : ℕ → Bool) (found : Found) (items : List ℕ) (k : ℕ) → length items ≤ k → with_all found (filter p (drop k items)) ≡ found
+fitting_all p found items k end = rw (drop_all k items end) refl
+
+-- a player's number
+pub number_in_range : (k : ℕ) → k < 11 → (1 ≤ get_or numbers k 0) × (get_or numbers k 0 ≤ 11)
+number_in_range zero lt = (lit≤ tt, lit≤ tt)
+number_in_range (suc zero) lt = (lit≤ tt, lit≤ tt)
+number_in_range (suc (suc zero)) lt = (lit≤ tt, lit≤ tt)
+number_in_range (suc (suc (suc zero))) lt = (lit≤ tt, lit≤ tt)
+number_in_range (suc (suc (suc (suc zero)))) lt = (lit≤ tt, lit≤ tt)
+number_in_range (suc (suc (suc (suc (suc zero))))) lt = (lit≤ tt, lit≤ tt)
+number_in_range (suc (suc (suc (suc (suc (suc zero)))))) lt = (lit≤ tt, lit≤ tt)
+number_in_range (suc (suc (suc (suc (suc (suc (suc zero))))))) lt = (lit≤ tt, lit≤ tt)
+number_in_range (suc (suc (suc (suc (suc (suc (suc (suc zero)))))))) lt = (lit≤ tt, lit≤ tt)
+number_in_range (suc (suc (suc (suc (suc (suc (suc (suc (suc zero))))))))) lt = (lit≤ tt, lit≤ tt)
+number_in_range (suc (suc (suc (suc (suc (suc (suc (suc (suc (suc zero)))))))))) lt = (lit≤ tt, lit≤ tt)
+number_in_range (suc (suc (suc (suc (suc (suc (suc (suc (suc (suc (suc k))))))))))) lt = absurd (omega (arith, lt))

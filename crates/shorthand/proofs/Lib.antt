@@ -1,0 +1,5 @@
+pub mod Walks
+pub mod Cuts
+pub mod Counts
+pub mod Standing
+pub mod Bowlers

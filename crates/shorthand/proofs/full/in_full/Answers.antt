@@ -1,0 +1,12 @@
+use Rattle.std.proofs.Common.{◌≡◌, ◌∙◌, true, false, sym}
+use Rattle.shorthand.proofs.Standing.{other_fault, stands_whole}
+use Rattle.shorthand.proofs.full.in_full.Goals as goal
+
+pub returns-in_err-text-in-Err : goal.returns-in_err-text-in-Err
+returns-in_err-text-in-Err g c =
+    let fault = other_fault c.args.line.now c.in-Err.fault (sym c.in-Err.ensures.exact) c.in_err-text-in-Err.ensures.none in
+    let never : false ≡ true = sym c.if-is_of_line.false ∙ (c.is_of_line.ensures ∙ fault) in
+    absurd (cc)
+
+pub returns-in-Ok : goal.returns-in-Ok
+returns-in-Ok g c = stands_whole c.args.sheet.now (g.B.BookOf.content c.args.book.now) c.args.line.now c.in-Ok.field-0 c.as_it_stands.result (sym c.in-Ok.ensures.exact) c.as_it_stands.ensures.text c.as_it_stands.ensures.none

@@ -1,0 +1,48 @@
+-- What holds of all lines.
+use Rattle.std.specs.Prelude.{◌≡◌, ◌⊎◌, ◌≤◌, ℕ, Some, None, List, [], ◌∷◌, length, Ok, Err}
+use Rattle.notation.specs.declared.entry.Ball.{Ball}
+use Rattle.notation.specs.declared.entry.Side.{Side}
+use Rattle.notation.specs.declared.entry.Cause.{Cause}
+use Rattle.notation.specs.declared.entry.Plain.TheVariants as plains
+use Rattle.notation.specs.declared.entry.Entry.{Entry}
+use Rattle.notation.specs.declared.fault.LineFault.{LineFault}
+use Rattle.notation.specs.Written.{IsEntry, Token, text_of}
+use Rattle.notation.specs.Reading.{line_answer}
+use Rattle.ball_laws.specs.History.{History}
+use Rattle.corrections.specs.CleanList.{history_of}
+use Rattle.cards.specs.Sheet.{Sheet, Team}
+use Rattle.shorthand.specs.declared.names.Fit.TheVariants.{LastWord, Beginning}
+use Rattle.shorthand.specs.declared.names.Found.TheVariants.{One}
+use Rattle.shorthand.specs.declared.point.Belongs.TheVariants.{Last}
+use Rattle.shorthand.specs.Names.{fitting, meant_by}
+use Rattle.shorthand.specs.Points.{point_of, point_at}
+use Rattle.shorthand.specs.Full.{in_full}
+
+-- an entry's line is itself in full, whatever the book and the sheet
+abbrev pub FullLinesStand : Type 0
+FullLinesStand = (s : Sheet) (book : List Entry) (e : Entry) → IsEntry e → in_full s book (text_of e) ≡ Ok (text_of e)
+
+-- the text is an entry's, with its numbers in their ranges, or whoever reads it finds its fault
+abbrev pub IsReadOrRefused : List ℕ → Type 0
+IsReadOrRefused text =
+    ((e : Entry) × IsEntry e × (text ≡ text_of e)) ⊎ ((f : LineFault) × (line_answer text ≡ Err f))
+
+-- a line that is put in full has at most 96 bytes, and is an entry's or refused by its own fault
+pub record TakenLinesAreRead : Type 0 where
+  pub fits : (s : Sheet) (book : List Entry) (line text : List ℕ) → in_full s book line ≡ Ok text → length text ≤ 96
+  pub read : (s : Sheet) (book : List Entry) (line text : List ℕ) → in_full s book line ≡ Ok text → IsReadOrRefused text
+
+-- behind all that stands, the bowler who is left out is that of the last delivery of the over that is open by the Laws'
+-- history of the book: there is none after `over`, where an innings begins or has ended, and before the first delivery
+pub record BowlerLeftOutIsTheLast : Type 0 where
+  pub of_book : (book : List Entry) → point_at book Last ≡ point_of (history_of book)
+  pub delivery : (h : History) (b : Ball) → (point_of (plains.Ball b ∷ h)).bowler ≡ Some b.bowler
+  pub over : (h : History) → (point_of (plains.Over ∷ h)).bowler ≡ None
+  pub innings : (h : History) (side : Side) → (point_of (plains.Innings side ∷ h)).bowler ≡ None
+  pub ended : (h : History) (cause : Cause) → (point_of (plains.End cause ∷ h)).bowler ≡ None
+  pub nothing : (point_of []).bowler ≡ None
+
+-- a name means the one player of the team whose last word it is, or the one who has a word that begins so
+abbrev pub NamesMeanOne : Type 0
+NamesMeanOne = (team : Team) (name : Token) (n : ℕ) → meant_by team name ≡ One n
+    → (fitting LastWord team name ≡ n ∷ []) ⊎ (fitting Beginning team name ≡ n ∷ [])

@@ -1,0 +1,10 @@
+-- What is claimed: Full, and what it stands on: Points, Names, Marks, Lines. Worked computes examples, Laws says
+-- what holds of all lines.
+pub mod Points
+pub mod Names
+pub mod Marks
+pub mod Lines
+pub mod Full
+pub mod Laws
+pub mod Worked
+pub mod inner

@@ -1,0 +1,52 @@
+-- A line that is written word by word: its text, or what isn't clear in it.
+use Rattle.std.specs.Prelude.{ℕ, nat_le, length, if◌then◌else◌, List, [], ◌∷◌, ◌++◌, map, Result, Ok, Err}
+use Rattle.notation.specs.Written.{Token}
+use Rattle.notation.specs.declared.fault.LineFault.{LineFault}
+use Rattle.notation.specs.declared.fault.LineFault.TheVariants.{TooLong}
+use Rattle.notation.specs.declared.entry.Side.{Side}
+use Rattle.shorthand.specs.declared.unclear.Unclear.{Unclear}
+use Rattle.shorthand.specs.declared.unclear.Unclear.TheVariants as unclear
+
+-- what isn't clear in a line: its words, who bowls, or which player of a side a name means
+pub data Reason : Type 0 where
+  Fault : LineFault → Reason
+  WhoBowls : Reason
+  NoSuchPlayer : Token → Reason
+  WhichPlayer : Side → Token → Reason
+
+abbrev pub reason_of : Unclear → Reason
+reason_of (unclear.Fault f) = Fault f
+reason_of unclear.WhoBowls = WhoBowls
+reason_of (unclear.NoSuchPlayer t) = NoSuchPlayer t.bytes
+reason_of (unclear.WhichPlayer side t) = WhichPlayer side t.bytes
+
+-- a word of the line, or why there is none
+abbrev pub Word : Type 0
+Word = Result Token Reason
+
+-- the tokens as they stand
+abbrev pub as_typed : List Token → List Word
+as_typed ts = map Ok ts
+
+-- a text with a word more, behind a space where it isn't the first
+abbrev pub spaced : List ℕ → Token → List ℕ
+spaced [] w = w
+spaced (b ∷ bs) w = (b ∷ bs) ++ 32 ∷ w
+
+-- at most 96 bytes
+abbrev pub within : List ℕ → Result (List ℕ) Reason
+within text = if nat_le (length text) 96 then Ok text else Err (Fault TooLong)
+
+-- a line with a word more: the first reason stays
+abbrev pub plus : Result (List ℕ) Reason → Word → Result (List ℕ) Reason
+plus (Ok text) (Ok w) = within (spaced text w)
+plus (Ok text) (Err reason) = Err reason
+plus (Err reason) w = Err reason
+
+abbrev pub plus_all : Result (List ℕ) Reason → List Word → Result (List ℕ) Reason
+plus_all line [] = line
+plus_all line (w ∷ ws) = plus_all (plus line w) ws
+
+-- the words with one space between them, in at most 96 bytes; or the first reason why not
+abbrev pub joined : List Word → Result (List ℕ) Reason
+joined ws = plus_all (Ok []) ws

@@ -1,0 +1,43 @@
+-- Who bowls and who bats where a line belongs.
+use Rattle.std.specs.Prelude.{ℕ, ◌==◌, nat_lt, Bool, false, if◌then◌else◌, Option, Some, None, List, [], ◌∷◌, unwrap_or}
+use Rattle.notation.specs.declared.entry.Ball.{Ball}
+use Rattle.notation.specs.declared.entry.Side.TheVariants.{Home}
+use Rattle.notation.specs.declared.entry.Entry.{Entry}
+use Rattle.ball_laws.specs.History.{History, open_over}
+use Rattle.match_laws.specs.History.{last_side}
+use Rattle.corrections.specs.declared.placed.Placed.{Placed}
+use Rattle.corrections.specs.CleanList.{standing_of}
+use Rattle.shorthand.specs.declared.point.Belongs.{Belongs}
+use Rattle.shorthand.specs.declared.point.Belongs.TheVariants.{At, After}
+use Rattle.shorthand.specs.declared.point.Point.{Point}
+
+-- the bowler of the first of these deliveries, if there is one
+abbrev pub bowler_of : List Ball → Option ℕ
+bowler_of [] = None
+bowler_of (b ∷ bs) = Some b.bowler
+
+-- the bowler of the last delivery of the open over, and the side that began to bat last (home, before any)
+abbrev pub point_of : History → Point
+point_of h = record { bowler = bowler_of (open_over h); batting = unwrap_or (last_side h) Home }
+
+-- the item is the one that a line corrects
+abbrev pub is_corrected : Belongs → Placed → Bool
+is_corrected (At p) x = x.place == p
+is_corrected _ x = false
+
+-- the item stands behind all that belongs to the place that a late line names
+abbrev pub is_beyond : Belongs → Placed → Bool
+is_beyond (After p) x = nat_lt p x.anchor
+is_beyond _ x = false
+
+-- what stands up to where a line belongs, the newest first, behind h: all, or up to what it corrects and with it,
+-- or up to the last that belongs to a place
+abbrev pub history_to : Belongs → History → List Placed → History
+history_to place h [] = h
+history_to place h (x ∷ xs) =
+    if is_beyond place x then h
+    else if is_corrected place x then x.item ∷ h
+    else history_to place (x.item ∷ h) xs
+
+abbrev pub point_at : List Entry → Belongs → Point
+point_at book place = point_of (history_to place [] (standing_of book))

@@ -1,0 +1,17 @@
+-- A line that is being written, and the players that were found so far.
+use Rattle.std.specs.Prelude.{ℕ, List, Option, Some, None, Result, Ok, Err}
+use Rattle.shorthand.specs.declared.unclear.Unclear.{Unclear}
+use Rattle.shorthand.specs.declared.names.Found.{Found}
+use Rattle.shorthand.specs.declared.names.Found.TheVariants.{NoOne, One, Several}
+use Rattle.shorthand.specs.Lines.{Reason, reason_of}
+
+-- a text, unless there is a reason why not
+abbrev pub text_or_reason : List ℕ → Option Unclear → Result (List ℕ) Reason
+text_or_reason text None = Ok text
+text_or_reason text (Some unclear) = Err (reason_of unclear)
+
+-- the players found, with one more
+abbrev pub and_one : Found → ℕ → Found
+and_one NoOne n = One n
+and_one (One m) n = Several
+and_one Several n = Several

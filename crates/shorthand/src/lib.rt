@@ -1,0 +1,21 @@
+//! Short lines: what a scorer types, in full.
+#![tactic(auto)]
+
+mod delivery;
+mod full;
+mod laws;
+mod line;
+mod marks;
+mod names;
+mod outs;
+mod point;
+mod unclear;
+mod words;
+mod worked;
+
+pub use full::in_full;
+pub use laws::{
+    bowler_left_out_is_the_last, full_lines_stand, names_mean_one, taken_lines_are_read,
+};
+pub use unclear::Unclear;
+pub use worked::table_is_worked;

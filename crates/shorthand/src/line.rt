@@ -1,0 +1,117 @@
+//! A line that is written word by word.
+
+ghost use Rattle.std.specs.Prelude.{◌≡◌, ◌≤◌, [], decimal, Ok, Err, MatchResult};
+ghost use Rattle.shorthand.specs.Lines.{as_typed, plus, plus_all, reason_of};
+
+use crate::unclear::Unclear;
+use crate::words::Words;
+use arrayvec::ArrayString;
+use notation::LineFault;
+use std::marker::Model;
+
+/// A line of at most 96 bytes, or why there is none.
+#[derive(Drop)]
+pub struct Line {
+    text: ArrayString<96>,
+    unclear: Option<Unclear>,
+}
+
+impl Model for Line {
+    ghost use Rattle.std.specs.Prelude.{List, ℕ, Result};
+    ghost use Rattle.shorthand.specs.Lines.{Reason};
+    ghost use Rattle.shorthand.specs.inner.Writing.{text_or_reason};
+
+    ghost Value = { Result (List ℕ) Reason };
+
+    ghost view = { λ l. text_or_reason (l.text).bytes l.unclear };
+}
+
+/// The digits of a player's or a substitute's number.
+fn digits(number: u8) -> &'static str
+    requires { number ≤ 12 }
+    ensures { result.now ≡ decimal number }
+{
+    match number {
+        0 => "0",
+        1 => "1",
+        2 => "2",
+        3 => "3",
+        4 => "4",
+        5 => "5",
+        6 => "6",
+        7 => "7",
+        8 => "8",
+        9 => "9",
+        10 => "10",
+        11 => "11",
+        _ => "12",
+    }
+}
+
+impl Line {
+    /// A line without a word.
+    pub fn new() -> Line
+        ensures { result ≡ Ok [] }
+    {
+        Line {
+            text: ArrayString::new(),
+            unclear: None,
+        }
+    }
+
+    /// Adds a word.
+    pub fn word(&mut self, word: &str)
+        ensures { self.new ≡ plus self.old (Ok word.now) }
+    {
+        if self.unclear.is_some() {
+            return;
+        }
+        let space = if self.text.is_empty() { 0 } else { 1 };
+        if self.text.len() + space + word.len() > 96 {
+            self.unclear = Some(Unclear::Fault(LineFault::TooLong));
+            return;
+        }
+        if !self.text.is_empty() {
+            self.text.push(' ');
+        }
+        self.text.push_str(word);
+    }
+
+    /// Notes why there is no line, unless that was known.
+    pub fn fail(&mut self, unclear: Unclear)
+        ensures { self.new ≡ plus self.old (Err (reason_of unclear)) }
+    {
+        if self.unclear.is_none() {
+            self.unclear = Some(unclear);
+        }
+    }
+
+    /// Adds a player's number.
+    pub fn number(&mut self, number: u8)
+        requires { number ≤ 12 }
+        ensures { self.new ≡ plus self.old (Ok (decimal number)) }
+    {
+        self.word(digits(number));
+    }
+
+    /// Adds the words that are left as they stand.
+    pub fn rest(&mut self, words: &mut Words<'_>)
+        ensures { self.new ≡ plus_all self.old (as_typed words.old) }
+    {
+        if let Some(word) = words.next() {
+            self.word(word);
+            self.rest(words);
+        }
+    }
+
+    /// The line, or why there is none.
+    pub fn done(self) -> Result<ArrayString<96>, Unclear>
+        ensures { MatchResult result (λ text. self ≡ Ok text.bytes)
+            (λ unclear. self ≡ Err (reason_of unclear)) }
+    {
+        match self.unclear {
+            Some(unclear) => Err(unclear),
+            None => Ok(self.text),
+        }
+    }
+}

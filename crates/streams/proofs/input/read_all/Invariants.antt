@@ -1,0 +1,18 @@
+use Rattle.std.proofs.Common.{◌≡◌, ◌≤◌, ◌-◌, vec_len, List, ℕ, Option}
+use Rattle.std.specs.Io.KnownBytes.{Consumes}
+use Rattle.streams.specs.Watched.{failures, stream_of}
+use Rattle.streams.proofs.input.read_all.Given as goal
+
+-- what was read is what the reader gave
+pub record SoFar (before after : Option (List ℕ)) (items : List ℕ) (count : ℕ) : Type 0 where
+  pub read : Consumes before after items
+  pub bound : count ≤ 16777216
+
+abbrev pub invariant-loop-count : goal.invariant-loop-count
+invariant-loop-count g l =
+    SoFar (g.R.Read.remaining (stream_of l.initial.reader)) (g.R.Read.remaining (stream_of l.reader)) l.input.items (vec_len l.input)
+    × (failures l.reader ≡ failures l.initial.reader)
+
+-- the bytes that may still come
+abbrev pub decreases-loop-count : goal.decreases-loop-count
+decreases-loop-count g l = 16777217 - vec_len l.input

@@ -1,0 +1,11 @@
+//! Streams: readers and writers that remember how the calls on them ended, and reading to the end within a limit.
+#![tactic(auto)]
+
+mod calls;
+mod input;
+mod limit;
+mod watched;
+
+pub use input::{InputFault, read_all};
+pub use limit::LONGEST_INPUT;
+pub use watched::{ReadFailed, Watched, WriteFailed};
