@@ -27,8 +27,8 @@ impl Position {
         self.place >= PLACES || self.round >= ROUNDS
     }
 
-    // Whether this position comes before the other.
-    pub(crate) fn is_before(self, other: Position) -> bool
+    /// Whether this position comes before the other.
+    pub fn is_before(self, other: Position) -> bool
         ensures { IsTrue result ↔ Before self other }
     {
         self < other

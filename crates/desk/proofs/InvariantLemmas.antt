@@ -125,15 +125,6 @@ heard_kept n book s t votes v Heard.Noted k h = subst (λ (x : SeatState). IsKep
 heard_kept n book s t votes v Heard.Agreed k h = settled_kept n book s t votes v.entry k.as_long (k.cast v.entry h.2).last h.3
 heard_kept n book s t votes v Heard.Differ k h = differed_kept n book s t votes h.2.0 k.as_long (k.cast h.2.0 h.2.1).last h.3
 
--- the vote for its position comes next, where there is a place and a round for it
-pub vote_is_next : (s : SeatState) (votes : List Ballot) (e : Entry) → IsNext s votes → s.mine ≡ None → InRange s.position
-    → ComesNext (record { at = s.position; entry = e }) votes
-vote_is_next s votes e next none range =
-    (may_follow-true (record { at = s.position; entry = e }) votes
-    (and_from (nat_lt s.position.place PLACES && nat_lt s.position.round ROUNDS) (comes_next s.position (last_position votes))
-    (and_from (nat_lt s.position.place PLACES) (nat_lt s.position.round ROUNDS) (lt-ltb s.position.place PLACES range.0) (lt-ltb s.position.round ROUNDS range.1))
-    (next none))).1
-
 pub seat_desk : (d : DeskId) (votes : List Ballot) → (seat_of d votes).desk ≡ d
 seat_desk d [] = refl
 seat_desk d (b ∷ rest) = refl

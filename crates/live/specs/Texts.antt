@@ -91,16 +91,16 @@ came_text sheet innings place book warned what = []
 abbrev pub unwarned : Warned
 unwarned = record { of_bytes = false; of_desk = false; of_votes = false }
 
--- what was told of a peer since a vote of the other desk came, after the answer to what came; anyone's asks are as any
--- desk's, so that they are no sign that all is right
+-- what was told of a peer since a vote that is news came, after the answer to what came; anyone's asks are as any
+-- desk's, and a vote is repeated until it is answered, so that they are no sign that all is right
 abbrev pub warned_after : Warned → What → Warned
 warned_after warned (whats.Bad fault) = record warned { of_bytes = true }
 warned_after warned (whats.Heard Heard.Mine) = record warned { of_desk = true }
 warned_after warned (whats.Heard Heard.TwoVotes) = record warned { of_votes = true }
-warned_after warned (whats.Heard heard) = unwarned
-warned_after warned whats.Asked = warned
-warned_after warned whats.Device = warned
-warned_after warned whats.Failed = warned
+warned_after warned (whats.Heard Heard.Noted) = unwarned
+warned_after warned (whats.Heard Heard.Agreed) = unwarned
+warned_after warned (whats.Heard Heard.Differ) = unwarned
+warned_after warned what = warned
 
 -- of a desk's position as it begins: its vote is cast, or the scorers differed there, or neither
 abbrev pub standing : Position → Bool → List ℕ

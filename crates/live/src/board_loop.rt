@@ -44,7 +44,6 @@ fn tick<B: BookOf, L: Link>(board: &Board<B>, link: &mut L, is_due: bool)
 /// A board takes bytes that came at its position, and tells what it can't take.
 fn give<B: BookOf, N: Notices>(
     board: &mut Board<B>,
-    game: u64,
     bytes: &[u8],
     notices: &mut N,
     between: &mut Between,
@@ -61,7 +60,7 @@ fn give<B: BookOf, N: Notices>(
     let telling = between.telling;
     telling.tell(answer, notices);
     between.telling = telling.after(answer);
-    let may_come = answer.is_ok_and(|what| promises_more(what, game, bytes, at));
+    let may_come = answer.is_ok_and(promises_more);
     between.pace.note(board.position() != at, may_come, now);
 }
 
@@ -69,7 +68,6 @@ fn give<B: BookOf, N: Notices>(
 /// taken.
 fn take_next<B: BookOf, L: Link, C: Clock, N: Notices>(
     board: &mut Board<B>,
-    game: u64,
     link: &mut L,
     clock: &mut C,
     notices: &mut N,
@@ -96,7 +94,7 @@ fn take_next<B: BookOf, L: Link, C: Clock, N: Notices>(
     let mut buffer = [0; ROOM];
     match link.take(&mut buffer) {
         Some(count) => {
-            give(board, game, &buffer[..count], notices, between, now);
+            give(board, &buffer[..count], notices, between, now);
             true
         }
         None => false,
@@ -106,7 +104,6 @@ fn take_next<B: BookOf, L: Link, C: Clock, N: Notices>(
 /// Takes what came in a turn.
 fn take_all<B: BookOf, L: Link, C: Clock, N: Notices>(
     board: &mut Board<B>,
-    game: u64,
     link: &mut L,
     clock: &mut C,
     notices: &mut N,
@@ -120,7 +117,7 @@ fn take_all<B: BookOf, L: Link, C: Clock, N: Notices>(
 {
     between.pace.begin_turn(clock.millis());
     for taken in 0..MOST_TAKEN {
-        if !take_next(board, game, link, clock, notices, between) {
+        if !take_next(board, link, clock, notices, between) {
             break;
         }
     }
@@ -145,7 +142,7 @@ fn turn<B: BookOf, L: Link, C: Clock, N: Notices, W: Write>(
     ensures failed { OnErr result (has_failed out.new ≡ true) }
 {
     let before = board.book().len();
-    take_all(board, sheet.game(), link, clock, notices, between);
+    take_all(board, link, clock, notices, between);
     if between.telling.is_stopped {
         return Ok(());
     }

@@ -93,8 +93,7 @@ fn hear<S: SlotsOf, B: BookOf + Drop, L: Link, W: Write>(
 {
     let at = desk.position();
     let what = give(desk, bytes, link);
-    let may_come = promises_more(what, sheet.game(), bytes, at);
-    between.pace.note(desk.position() != at, may_come, now);
+    between.pace.note(desk.position() != at, promises_more(what), now);
     let warned = between.warned;
     between.warned = warned.after(what);
     if let Err(end) = end_at(what) {

@@ -1,23 +1,10 @@
 //! What tells a station that an answer may come soon.
 
-use agree_core::{Heard, Message, Position};
-use wire::{What, message_of};
+use agree_core::Heard;
+use wire::What;
 
-/// Whether bytes that came are from a station that is further ahead.
-fn is_from_ahead(game: u64, bytes: &[u8], at: Position) -> bool {
-    let theirs = match message_of(game, bytes) {
-        Ok(Message::Vote(vote)) => vote.position(),
-        Ok(Message::Ask(ask)) => Position {
-            place: ask.place,
-            round: ask.round,
-        },
-        Err(_) => return false,
-    };
-    theirs > at
-}
-
-/// Whether a station at this position may have an answer soon: what came is the first vote of its position, or is
-/// from further ahead.
-pub fn promises_more(what: What, game: u64, bytes: &[u8], at: Position) -> bool {
-    what == What::Heard(Heard::Noted) || is_from_ahead(game, bytes, at)
+/// Whether a station may have an answer soon: what came is the first vote of its position, or a vote of a station that
+/// is further ahead.
+pub fn promises_more(what: What) -> bool {
+    matches!(what, What::Heard(Heard::Noted | Heard::Ahead))
 }

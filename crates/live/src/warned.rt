@@ -6,8 +6,8 @@ ghost use Rattle.live.specs.Texts as texts;
 use agree_core::Heard;
 use wire::What;
 
-/// What a desk's scorer was told of a peer since a vote of the other desk came. Anyone's asks are as any desk's, so
-/// that only such a vote is a sign that all is right.
+/// What a desk's scorer was told of a peer since a vote that is news came. Anyone's asks are as any desk's, and a desk
+/// that waits repeats its vote four times a second, so that only a vote that is news is a sign that all is right.
 #[derive(Clone, Copy, Debug, PartialEq, Eq)]
 pub struct Warned {
     /// That bytes came that are no message of the match.
@@ -43,7 +43,8 @@ impl Warned {
                 of_votes: true,
                 ..self
             },
-            What::Heard(_) => Warned::NOTHING,
+            What::Heard(Heard::Noted | Heard::Agreed | Heard::Differ) => Warned::NOTHING,
+            What::Heard(Heard::Old | Heard::Ahead | Heard::Again) => self,
             What::Asked | What::Device | What::Failed => self,
         }
     }

@@ -83,10 +83,6 @@ board_ticks k t n out before after sent long added messages b =
       more_bytes (board_game k) before after messages sent.0 (map (λ (d : Datagram). d.bytes) out) b sent.1 said (ap (map (λ (d : Datagram). d.bytes)) added ∙ map-append (λ (d : Datagram). d.bytes) before out),
     )
 
--- the board begins empty
-pub board_empties : (k l : MatchBoard) (n : ℕ) (sent : List Datagram) → board_state l ≡ fresh_board → BoardSteps (events.Wipe n) k sent seens.Done l sent
-board_empties k l n sent fresh messages b = ([], Answer.Done, refl, (fresh, refl, refl), no_bytes (board_game k) sent messages b)
-
 -- the world has this board in the place of that number
 pub record PutsBoard (n : ℕ) (old new : World) (l : MatchBoard) : Type 0 where
   pub there : new.boards.items ≡ slice_set old.boards.items (n - 1) l

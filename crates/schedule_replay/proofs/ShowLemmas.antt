@@ -43,9 +43,6 @@ adds_book u innings book m score old new p h t n s = (
   λ c. (h t n s).1 (⊎_elim inl (λ e. inr (e.0, book_score_one innings book m n score s p e.1)) c),
 )
 
-pub adds_none : (u : Station) (old : List Shown) → Adds u (λ n s. ⊥) old old
-adds_none u old t n s = (inl, ⊎_elim (λ c. c) (λ e. absurd e.1))
-
 -- at a desk's place
 abbrev ProcessScore : ℕ → Process MemDisk → ℕ → Standing → Type 0
 ProcessScore innings p n score = (book : List Entry) × process_shows p book × (n ≡ length book) × IsScoreOf score innings book

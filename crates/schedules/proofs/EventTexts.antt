@@ -11,8 +11,8 @@ use Rattle.notation.specs.declared.entry.Entry.{Entry}
 use Rattle.notation.specs.declared.entry.Entry.TheVariants as entries
 use Rattle.notation.specs.declared.fault.LineFault.TheVariants.{TooLong, Spaces}
 use Rattle.notation.specs.Reading.{line_answer}
-use Rattle.notation.specs.inner.TokenReading.{all_of, found_number}
-use Rattle.notation.specs.Written.{is_number, is_spaced, text_of, tokens, IsEntry}
+use Rattle.notation.specs.inner.TokenReading.{all_of}
+use Rattle.notation.specs.Written.{is_number, is_spaced, text_of, tokens, IsEntry, found_number}
 use Rattle.notation.proofs.Joined.{words_are}
 use Rattle.notation.proofs.SpacedLines.{spaced_is_ascii}
 use Rattle.notation.proofs.Numbers.{own, parts, written}

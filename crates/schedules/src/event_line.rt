@@ -1,36 +1,15 @@
 //! One line of a schedule.
 
 ghost use Rattle.std.specs.Prelude.{◌≡◌, ◌≤◌, IfSome, MatchOption, Some, None};
-ghost use Rattle.notation.specs.inner.TokenReading.{found_number};
+ghost use Rattle.notation.specs.Written.{found_number};
 ghost use Rattle.schedules.specs.inner.ScheduleReading.{board_at, choice_at, cut, count_at, desk_at, event_at, fill_at, give_at, line_says, pen_at, pick, power_at, readers, station_at};
 
 use crate::schedule_fault::ScheduleFault;
 use agree_core::DeskId;
 use entry_log::Choice;
 use headline::{Event, Station};
-use notation::read_line;
+use notation::{number_in, read_line};
 use std::str;
-
-/// The number that the word is, if it has no needless zero or sign and lies in the range.
-fn number(word: &str, low: u16, high: u16) -> Option<u16>
-    ensures value { result ≡ found_number low high word.now }
-    ensures range { IfSome result (λ n. (low ≤ n) × (n ≤ high)) }
-{
-    let bytes = word.as_bytes();
-    if bytes.len() > 1 && bytes[0] <= b'0' {
-        return None;
-    }
-    match word.parse::<u16>() {
-        Ok(number) => {
-            if low <= number && number <= high {
-                Some(number)
-            } else {
-                None
-            }
-        }
-        Err(_) => None,
-    }
-}
 
 /// What stands before the first space, and after it.
 fn cut(words: &str) -> Option<(&str, &str)>
@@ -55,7 +34,7 @@ fn desk(word: &str) -> Option<DeskId>
 fn board(word: &str) -> Option<u8>
     ensures { result ≡ board_at word.now }
 {
-    let number = number(word, 1, 4)?;
+    let number = number_in(word, 1, 4)?;
     Some(number as u8)
 }
 
@@ -81,7 +60,7 @@ fn fill(words: &str) -> Option<Choice>
     if first != "fill" {
         return None;
     }
-    let value = number(value, 0, 255)?;
+    let value = number_in(value, 0, 255)?;
     Some(Choice::Fill(value as u8))
 }
 
@@ -103,7 +82,7 @@ fn give(words: &str) -> Option<Event>
     ensures { result ≡ give_at words.now }
 {
     let (message, to) = cut(words)?;
-    let message = number(message, 0, 65_535)?;
+    let message = number_in(message, 0, 65_535)?;
     let to = station(to)?;
     Some(Event::Give(u32::from(message), to))
 }
@@ -126,7 +105,7 @@ fn count(words: &str) -> Option<(DeskId, u32)>
 {
     let (at, calls) = cut(words)?;
     let desk = desk(at)?;
-    let calls = number(calls, 1, 1000)?;
+    let calls = number_in(calls, 1, 1000)?;
     Some((desk, u32::from(calls)))
 }
 

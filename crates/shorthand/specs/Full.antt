@@ -3,9 +3,8 @@
 use Rattle.std.specs.Prelude.{ℕ, ◌==◌, nat_lt, length, Bool, true, false, ◌||◌, ◌&&◌, if◌then◌else◌, Option, Some, None, List, [], ◌∷◌, map, codes, decimal, is_some, Result, Ok, Err}
 use Rattle.std.specs.List.{list_any, position_or_len, before_first, after_first}
 use Rattle.std.specs.Str.{bytes_eq}
-use Rattle.notation.specs.Written.{Token, tokens, how_text, all_hows, who_text, all_whos, kind_text, all_kinds}
+use Rattle.notation.specs.Written.{Token, tokens, how_text, all_hows, who_text, all_whos, kind_text, all_kinds, found_number}
 use Rattle.notation.specs.Reading.{line_answer}
-use Rattle.notation.specs.inner.TokenReading.{found_number}
 use Rattle.notation.specs.declared.fault.LineFault.{LineFault}
 use Rattle.notation.specs.declared.fault.LineFault.TheVariants.{TooLong, Spaces}
 use Rattle.notation.specs.declared.entry.Entry.{Entry}

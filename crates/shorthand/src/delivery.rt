@@ -8,12 +8,11 @@ use crate::line::Line;
 use crate::marks::mark;
 use crate::names::is_digit_first;
 use crate::outs::{behind_runs, behind_runs_from, is_behind_runs};
-use crate::words::Words;
 use cards::MatchSheet;
-use notation::Side;
+use notation::{Side, Tokens};
 
 /// Writes the runs off a No ball, and what stands behind them.
-fn behind_nb(line: &mut Line, sheet: &MatchSheet, side: Side, rest: &mut Words<'_>)
+fn behind_nb(line: &mut Line, sheet: &MatchSheet, side: Side, rest: &mut Tokens<'_>)
     ensures { line.new ≡ plus_all line.old (full.behind_nb sheet.now side rest.old) }
 {
     match rest.next() {
@@ -28,7 +27,7 @@ fn behind_nb(line: &mut Line, sheet: &MatchSheet, side: Side, rest: &mut Words<'
 }
 
 /// Writes what a delivery brought, where the token is no mark with a figure.
-fn unmarked_from(line: &mut Line, sheet: &MatchSheet, side: Side, token: &str, rest: &mut Words<'_>)
+fn unmarked_from(line: &mut Line, sheet: &MatchSheet, side: Side, token: &str, rest: &mut Tokens<'_>)
     ensures { line.new ≡ plus_all line.old (full.marked sheet.now side None token.now rest.old) }
 {
     if token == "wd" {
@@ -48,7 +47,7 @@ fn unmarked_from(line: &mut Line, sheet: &MatchSheet, side: Side, token: &str, r
 }
 
 /// Writes what a delivery brought, from a token on.
-pub fn runs_from(line: &mut Line, sheet: &MatchSheet, side: Side, token: &str, rest: &mut Words<'_>)
+pub fn runs_from(line: &mut Line, sheet: &MatchSheet, side: Side, token: &str, rest: &mut Tokens<'_>)
     ensures { line.new ≡ plus_all line.old (full.runs sheet.now side (token.now ∷ rest.old)) }
 {
     match mark(token) {
@@ -62,7 +61,7 @@ pub fn runs_from(line: &mut Line, sheet: &MatchSheet, side: Side, token: &str, r
 }
 
 /// Writes what a delivery brought.
-pub fn runs(line: &mut Line, sheet: &MatchSheet, side: Side, rest: &mut Words<'_>)
+pub fn runs(line: &mut Line, sheet: &MatchSheet, side: Side, rest: &mut Tokens<'_>)
     ensures { line.new ≡ plus_all line.old (full.runs sheet.now side rest.old) }
 {
     if let Some(token) = rest.next() {
@@ -76,7 +75,7 @@ pub fn runs_behind_colon(
     sheet: &MatchSheet,
     side: Side,
     token: &str,
-    rest: &mut Words<'_>,
+    rest: &mut Tokens<'_>,
 )
     ensures { line.new ≡ plus_all line.old (full.runs sheet.now side (full.behind_colon token.now rest.old)) }
 {

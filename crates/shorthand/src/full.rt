@@ -11,16 +11,15 @@ use crate::line::Line;
 use crate::names::player;
 use crate::point::{Belongs, Point, point_at};
 use crate::unclear::Unclear;
-use crate::words::{Words, number_of};
 use arrayvec::ArrayString;
 use cards::MatchSheet;
 use corrections::BookOf;
 use match_laws::opponent;
-use notation::{LineFault, Player, Side, read_line};
+use notation::{LineFault, Player, Side, Tokens, number_in, read_line};
 use std::str;
 
 /// Writes a batter's number, and the rest.
-fn batter_first(line: &mut Line, sheet: &MatchSheet, side: Side, rest: &mut Words<'_>)
+fn batter_first(line: &mut Line, sheet: &MatchSheet, side: Side, rest: &mut Tokens<'_>)
     ensures { line.new ≡ plus_all line.old (full.batter_first sheet.now side rest.old) }
 {
     if let Some(token) = rest.next() {
@@ -30,7 +29,7 @@ fn batter_first(line: &mut Line, sheet: &MatchSheet, side: Side, rest: &mut Word
 }
 
 /// Writes a bowler's number, and what the delivery brought.
-fn bowler_first(line: &mut Line, sheet: &MatchSheet, side: Side, rest: &mut Words<'_>)
+fn bowler_first(line: &mut Line, sheet: &MatchSheet, side: Side, rest: &mut Tokens<'_>)
     ensures { line.new ≡ plus_all line.old (full.bowler_first sheet.now side rest.old) }
 {
     if let Some(token) = rest.next() {
@@ -40,7 +39,7 @@ fn bowler_first(line: &mut Line, sheet: &MatchSheet, side: Side, rest: &mut Word
 }
 
 /// Writes how a batter leaves, and his number.
-fn left_so(line: &mut Line, sheet: &MatchSheet, side: Side, rest: &mut Words<'_>)
+fn left_so(line: &mut Line, sheet: &MatchSheet, side: Side, rest: &mut Tokens<'_>)
     ensures { line.new ≡ plus_all line.old (full.left_so sheet.now side rest.old) }
 {
     if let Some(token) = rest.next() {
@@ -74,7 +73,7 @@ fn named_bowler(token: &str) -> Option<(&str, &str)>
 }
 
 /// Writes a delivery that isn't begun by `ball`, or another line.
-fn unnamed(line: &mut Line, sheet: &MatchSheet, at: Point, token: &str, rest: &mut Words<'_>)
+fn unnamed(line: &mut Line, sheet: &MatchSheet, at: Point, token: &str, rest: &mut Tokens<'_>)
     ensures { line.new ≡ plus_all line.old (full.unnamed sheet.now at token.now rest.old) }
 {
     let fielding = opponent(at.batting);
@@ -94,7 +93,7 @@ fn unnamed(line: &mut Line, sheet: &MatchSheet, at: Point, token: &str, rest: &m
 
 /// Writes a line but `fix` and `late`, where it belongs, from a token on.
 #[tactic(auto, unfolding(crate::specs::Full::item_from))]
-fn item_from(line: &mut Line, sheet: &MatchSheet, at: Point, token: &str, rest: &mut Words<'_>)
+fn item_from(line: &mut Line, sheet: &MatchSheet, at: Point, token: &str, rest: &mut Tokens<'_>)
     ensures { line.new ≡ plus_all line.old (full.item sheet.now at (token.now ∷ rest.old)) }
 {
     match token {
@@ -135,7 +134,7 @@ fn placed<B: BookOf>(
     sheet: &MatchSheet,
     book: &B,
     is_late: bool,
-    rest: &mut Words<'_>,
+    rest: &mut Tokens<'_>,
 )
     ensures { line.new
         ≡ plus_all line.old (full.placed sheet.now (B.content book.now) is_late rest.old) }
@@ -144,7 +143,7 @@ fn placed<B: BookOf>(
         return;
     };
     line.word(token);
-    match number_of(token, 8191) {
+    match number_in(token, 0, 8191) {
         Some(place) => {
             if let Some(first) = rest.next() {
                 let at = point_at(book, belonging(is_late, place));
@@ -156,7 +155,7 @@ fn placed<B: BookOf>(
 }
 
 /// Writes the words of a line in full.
-fn words_in_full<B: BookOf>(line: &mut Line, sheet: &MatchSheet, book: &B, rest: &mut Words<'_>)
+fn words_in_full<B: BookOf>(line: &mut Line, sheet: &MatchSheet, book: &B, rest: &mut Tokens<'_>)
     ensures { line.new
         ≡ plus_all line.old (full.words_in_full sheet.now (B.content book.now) rest.old) }
 {
@@ -221,7 +220,7 @@ pub fn in_full<B: BookOf>(
             }
             let text = text_of(line)?;
             let mut full = Line::new();
-            words_in_full(&mut full, sheet, book, &mut Words::new(text));
+            words_in_full(&mut full, sheet, book, &mut Tokens::new(text));
             full.done()
         }
     }

@@ -10,7 +10,6 @@ mod names;
 mod outs;
 mod point;
 mod unclear;
-mod words;
 mod worked;
 
 pub use full::in_full;

@@ -4,9 +4,8 @@ ghost use Rattle.std.specs.Prelude.{◌≡◌, ◌≤◌, [], decimal, Ok, Err, 
 ghost use Rattle.shorthand.specs.Lines.{as_typed, plus, plus_all, reason_of};
 
 use crate::unclear::Unclear;
-use crate::words::Words;
 use arrayvec::ArrayString;
-use notation::LineFault;
+use notation::{LineFault, Tokens};
 use std::marker::Model;
 
 /// A line of at most 96 bytes, or why there is none.
@@ -95,7 +94,7 @@ impl Line {
     }
 
     /// Adds the words that are left as they stand.
-    pub fn rest(&mut self, words: &mut Words<'_>)
+    pub fn rest(&mut self, words: &mut Tokens<'_>)
         ensures { self.new ≡ plus_all self.old (as_typed words.old) }
     {
         if let Some(word) = words.next() {

@@ -10,10 +10,9 @@ ghost use Rattle.shorthand.specs.inner.Writing.{and_one};
 
 use crate::line::Line;
 use crate::unclear::Unclear;
-use crate::words::Words;
 use arrayvec::ArrayString;
 use cards::MatchSheet;
-use notation::{LineFault, Player, Side};
+use notation::{LineFault, Player, Side, Tokens};
 
 /// How a token fits a name.
 #[derive(Clone, Copy, Debug, PartialEq, Eq)]
@@ -50,7 +49,7 @@ fn begins_with(word: &[u8], token: &[u8]) -> bool
 }
 
 /// Whether the last of these words is the token.
-fn ends_in(word: &str, more: &mut Words<'_>, token: &str) -> bool
+fn ends_in(word: &str, more: &mut Tokens<'_>, token: &str) -> bool
     ensures { result ≡ names.ends_in word.now more.old token.now }
 {
     match more.next() {
@@ -60,7 +59,7 @@ fn ends_in(word: &str, more: &mut Words<'_>, token: &str) -> bool
 }
 
 /// Whether one of these words begins with the token.
-fn any_begins(words: &mut Words<'_>, token: &str) -> bool
+fn any_begins(words: &mut Tokens<'_>, token: &str) -> bool
     ensures { result ≡ list_any (λ w. names.begins_with w token.now) words.old }
 {
     match words.next() {
@@ -73,7 +72,7 @@ fn any_begins(words: &mut Words<'_>, token: &str) -> bool
 fn fits(fit: Fit, name: &str, token: &str) -> bool
     ensures { result ≡ names.fits fit (tokens name.now) token.now }
 {
-    let mut words = Words::new(name);
+    let mut words = Tokens::new(name);
     match fit {
         Fit::LastWord => match words.next() {
             Some(word) => ends_in(word, &mut words, token),

@@ -6,9 +6,8 @@ ghost use Rattle.shorthand.specs.Full as full;
 
 use crate::line::Line;
 use crate::names::fielder;
-use crate::words::Words;
 use cards::MatchSheet;
-use notation::Side;
+use notation::{Side, Tokens};
 
 /// Whether the token is a way of being out.
 fn is_how(token: &str) -> bool
@@ -42,7 +41,7 @@ fn needs_who(how: &str) -> bool
 }
 
 /// Writes the fielder from a token on.
-fn fielder_from(line: &mut Line, sheet: &MatchSheet, side: Side, token: &str, rest: &mut Words<'_>)
+fn fielder_from(line: &mut Line, sheet: &MatchSheet, side: Side, token: &str, rest: &mut Tokens<'_>)
     ensures { line.new ≡ plus_all line.old (full.by_fielder sheet.now side (token.now ∷ rest.old)) }
 {
     if token == "crossed" {
@@ -55,7 +54,7 @@ fn fielder_from(line: &mut Line, sheet: &MatchSheet, side: Side, token: &str, re
 }
 
 /// Writes the fielder.
-fn by_fielder(line: &mut Line, sheet: &MatchSheet, side: Side, rest: &mut Words<'_>)
+fn by_fielder(line: &mut Line, sheet: &MatchSheet, side: Side, rest: &mut Tokens<'_>)
     ensures { line.new ≡ plus_all line.old (full.by_fielder sheet.now side rest.old) }
 {
     match rest.next() {
@@ -71,7 +70,7 @@ fn who_from(
     side: Side,
     how: &str,
     token: &str,
-    rest: &mut Words<'_>,
+    rest: &mut Tokens<'_>,
 )
     ensures { line.new
         ≡ plus_all line.old (full.who_is_out sheet.now side how.now (token.now ∷ rest.old)) }
@@ -89,7 +88,7 @@ fn who_from(
 }
 
 /// Writes how a batter is out, who and by which fielder.
-fn dismissal_from(line: &mut Line, sheet: &MatchSheet, side: Side, how: &str, rest: &mut Words<'_>)
+fn dismissal_from(line: &mut Line, sheet: &MatchSheet, side: Side, how: &str, rest: &mut Tokens<'_>)
     ensures { line.new ≡ plus_all line.old (full.dismissal sheet.now side (how.now ∷ rest.old)) }
 {
     line.word(how);
@@ -105,7 +104,7 @@ fn dismissal_from(line: &mut Line, sheet: &MatchSheet, side: Side, how: &str, re
 }
 
 /// Writes what follows `out`.
-fn dismissal(line: &mut Line, sheet: &MatchSheet, side: Side, rest: &mut Words<'_>)
+fn dismissal(line: &mut Line, sheet: &MatchSheet, side: Side, rest: &mut Tokens<'_>)
     ensures { line.new ≡ plus_all line.old (full.dismissal sheet.now side rest.old) }
 {
     if let Some(how) = rest.next() {
@@ -119,7 +118,7 @@ pub fn behind_runs_from(
     sheet: &MatchSheet,
     side: Side,
     token: &str,
-    rest: &mut Words<'_>,
+    rest: &mut Tokens<'_>,
 )
     ensures { line.new ≡ plus_all line.old (full.behind_runs sheet.now side (token.now ∷ rest.old)) }
 {
@@ -138,7 +137,7 @@ pub fn behind_runs_from(
 }
 
 /// Writes what stands behind the runs.
-pub fn behind_runs(line: &mut Line, sheet: &MatchSheet, side: Side, rest: &mut Words<'_>)
+pub fn behind_runs(line: &mut Line, sheet: &MatchSheet, side: Side, rest: &mut Tokens<'_>)
     ensures { line.new ≡ plus_all line.old (full.behind_runs sheet.now side rest.old) }
 {
     if let Some(token) = rest.next() {

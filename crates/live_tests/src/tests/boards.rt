@@ -184,12 +184,13 @@ fn notices(rt: &impl Abort, alloc: Global, datagrams: &[&[u8]]) -> (Vec<Notice>,
     (notes.told, out.into_inner())
 }
 
-// Bytes that are no message of the match are told once until a vote of it comes, and two votes of one desk too.
+// Bytes that are no message of the match are told once until a vote comes that is news, and two votes of one desk too.
 #[test]
 fn bytes_that_a_board_cannot_take(rt: HostRuntime) {
     let alloc = rt.alloc();
     let first = vote(&rt, DeskId::A, 0, 0, "void");
     let second = vote(&rt, DeskId::A, 0, 0, "innings home");
+    let differs = vote(&rt, DeskId::B, 0, 0, "innings home");
     let datagrams = [
         [0; 64].as_slice(),
         ELSEWHERE.as_slice(),
@@ -202,12 +203,13 @@ fn bytes_that_a_board_cannot_take(rt: HostRuntime) {
         first.as_slice(),
         second.as_slice(),
         &first[..47],
+        differs.as_slice(),
+        &first[..47],
     ];
     let (told, shown) = notices(&rt, alloc, &datagrams);
     let wanted = [
         Notice::Bytes(WireFault::Length),
         Notice::Bytes(WireFault::OtherMatch),
-        Notice::TwoVotes,
         Notice::TwoVotes,
         Notice::Bytes(WireFault::Length),
     ];

@@ -53,10 +53,6 @@ unfoldable pub word_at :
 word_at text all [] = Err Missing
 word_at text all (t ∷ ts) = found_word (find_word text all t) ts
 
--- the number that the token is, if it is one in the range
-abbrev pub found_number : ℕ → ℕ → Token → Option ℕ
-found_number low high t = if is_number low high t then Some (digits_value 10 t) else None
-
 unfoldable pub number_at : ℕ → ℕ → List Token → Result (ℕ × List Token) LineFault
 number_at low high [] = Err Missing
 number_at low high (t ∷ ts) = if is_number low high t then Ok (digits_value 10 t, ts) else Err BadNumber

@@ -5,7 +5,7 @@ use Rattle.std.specs.Str.{bytes_eq}
 use Rattle.notation.specs.declared.entry.Entry.{Entry}
 use Rattle.notation.specs.declared.fault.LineFault.{LineFault}
 use Rattle.notation.specs.Reading.{line_answer}
-use Rattle.notation.specs.inner.TokenReading.{found_number}
+use Rattle.notation.specs.Written.{found_number}
 use Rattle.agree_core.specs.declared.messages.DeskId.{DeskId}
 use Rattle.agree_core.specs.declared.messages.DeskId.TheVariants.{A, B}
 use Rattle.entry_log.specs.declared.mem_disk.choice.Choice.{Choice}
