@@ -6,6 +6,9 @@ use books::RunFault;
 use std::fs::{self, File};
 use std::io;
 
+/// How many bytes a votes file without a vote has at most: a header and a gate.
+const LONGEST_VOTELESS: u64 = 65;
+
 /// The votes file of one desk of a match.
 #[derive(Drop)]
 struct VotesFile {
@@ -33,11 +36,11 @@ fn file_in<'a>(rt: &HostRuntime, folder: &'a str, name: &str) -> Result<VotesFil
     }
 }
 
-/// Takes away a file without a byte, unless another process has it to itself.
-fn remove_empty(rt: &HostRuntime, path: &str) -> io::Result<()> {
+/// Takes away a file without a vote, unless another process has it to itself.
+fn remove_voteless(rt: &HostRuntime, path: &str) -> io::Result<()> {
     let file = File::open(rt, path)?;
     file.try_lock()?;
-    if file.metadata()?.len() == 0 {
+    if file.metadata()?.len() <= LONGEST_VOTELESS {
         fs::remove_file(rt, path)?;
     }
     Ok(())
@@ -56,10 +59,10 @@ impl VotesFile {
         })
     }
 
-    /// Takes it away, where it wasn't there before and still has no byte.
+    /// Takes it away, where it wasn't there before and still has no vote.
     fn take_back(&self, rt: &HostRuntime) {
         if !self.was_there {
-            let _ = remove_empty(rt, self.path.as_str());
+            let _ = remove_voteless(rt, self.path.as_str());
         }
     }
 }
@@ -89,8 +92,8 @@ impl<'a> MatchFiles<'a> {
         self.b.disk(rt, self.folder)
     }
 
-    /// Takes away what a match that ended before its first byte has left: each file that wasn't there before and has no
-    /// byte. Both disks have to be closed.
+    /// Takes away what a match that ended before its first vote has left: each file that wasn't there before and has no
+    /// vote. Both disks have to be closed.
     pub fn take_back(&self, rt: &HostRuntime) {
         self.a.take_back(rt);
         self.b.take_back(rt);
