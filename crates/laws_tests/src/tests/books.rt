@@ -188,40 +188,126 @@ fn step_and_take_count_the_same(rt: HostRuntime) {
     assert!(rt; after == Ok(game));
 }
 
-const ITEMS: [&str; 12] = [
-    "ball 7 bat 0",
-    "ball 7 bat 1",
-    "ball 8 bat 2",
-    "ball 8 bat 3",
-    "ball 7 bat 0 four",
-    "ball 8 nb 1",
-    "ball 7 wide 0",
-    "ball 7 bye 1",
-    "over",
-    "swap",
-    "void",
-    "penalty away 41 3",
+/// Deliveries that count or not, behind the bowler, and what may stand between any two of them.
+const DELIVERIES: [&str; 8] = [
+    "bat 0",
+    "bat 1",
+    "bat 2",
+    "bat 3",
+    "bat 0 four",
+    "nb 1",
+    "wide 0",
+    "bye 1",
 ];
+
+const OTHERS: [&str; 3] = ["swap", "void", "penalty away 41 3"];
 
 const OPENED: [&str; 3] = ["innings home", "in 1", "in 2"];
 
-/// The opening; then, of 500 commands, 60 are corrections and 60 late entries, a third of
-/// each of the places 63, 64 or 65.
-fn command(alloc: Global, number: u32, dice: u32, len: u32) -> Result<String, AllocError>
-    requires { len ≤ 8192 }
-{
-    if number < 3 {
-        return String::from_str(alloc, OPENED[number as usize]);
+/// A delivery of this bowler, or three times of eleven something else.
+fn item(alloc: Global, bowler: u32, dice: u32) -> Result<String, AllocError> {
+    let kind = (dice % 11) as usize;
+    if kind < 8 {
+        let delivery = DELIVERIES[kind];
+        format!(in alloc; "ball {bowler} {delivery}")
+    } else {
+        String::from_str(alloc, OTHERS[kind - 8])
     }
-    let item = ITEMS[(dice % 12) as usize];
-    let near = 63 + number / 25 % 3;
-    let any = (dice / 12 % (len + 1)).min(8191);
+}
+
+/// What was entered so far: who bowled at each place, and how many overs ended. Four bowlers bowl in turn.
+#[derive(Drop)]
+struct Course {
+    bowlers: Vec<u32>,
+    overs: u32,
+    /// Whether the last delivery was refused, since the over had its six.
+    is_over: bool,
+}
+
+/// What a command is, by its number.
+#[derive(Clone, Copy, PartialEq, Eq)]
+enum Aim {
+    Item,
+    /// A correction or a late entry of place 63, 64 or 65.
+    FixNear,
+    LateNear,
+    FixAny,
+    LateAny,
+}
+
+fn aim_of(number: u32) -> Aim {
     match number % 25 {
-        4 => format!(in alloc; "fix {near} {item}"),
-        7 => format!(in alloc; "late {near} {item}"),
-        11 | 19 => format!(in alloc; "fix {any} {item}"),
-        15 | 23 => format!(in alloc; "late {any} {item}"),
-        _ => String::from_str(alloc, item),
+        4 => Aim::FixNear,
+        7 => Aim::LateNear,
+        11 | 19 => Aim::FixAny,
+        15 | 23 => Aim::LateAny,
+        _ => Aim::Item,
+    }
+}
+
+impl Course {
+    fn new(alloc: Global) -> Course {
+        Course {
+            bowlers: Vec::new(alloc),
+            overs: 0,
+            is_over: false,
+        }
+    }
+
+    /// Who bowls now.
+    fn bowler(&self) -> u32 {
+        7 + self.overs % 4
+    }
+
+    /// An item for a place that was entered, by who bowled there.
+    fn item_at(&self, alloc: Global, place: u32, dice: u32) -> Result<String, AllocError> {
+        let bowler = match self.bowlers.get(place as usize) {
+            Some(bowler) => *bowler,
+            None => 7,
+        };
+        item(alloc, bowler, dice)
+    }
+
+    /// The opening; then, of 500 commands, 60 are corrections and 60 late entries, a third of each of the places 63,
+    /// 64 or 65.
+    fn command(&self, alloc: Global, number: u32, dice: u32) -> Result<String, AllocError> {
+        if number < 3 {
+            return String::from_str(alloc, OPENED[number as usize]);
+        }
+        let near = 63 + number / 25 % 3;
+        let any = dice / 11 % (self.bowlers.len() as u32 % 8192 + 1);
+        let aim = aim_of(number);
+        let place = if matches!(aim, Aim::FixNear | Aim::LateNear) {
+            near
+        } else {
+            any
+        };
+        match aim {
+            Aim::Item if self.is_over => String::from_str(alloc, "over"),
+            Aim::Item => item(alloc, self.bowler(), dice),
+            Aim::FixNear | Aim::FixAny => {
+                let item = self.item_at(alloc, place, dice)?;
+                format!(in alloc; "fix {place} {item}")
+            }
+            Aim::LateNear | Aim::LateAny => {
+                let item = self.item_at(alloc, place, dice)?;
+                format!(in alloc; "late {place} {item}")
+            }
+        }
+    }
+
+    /// A command of this aim was taken or refused.
+    fn note(&mut self, aim: Aim, is_taken: bool) -> Result<(), AllocError> {
+        if is_taken {
+            self.bowlers.push(self.bowler())?;
+        }
+        if aim == Aim::Item {
+            if self.is_over && is_taken {
+                self.overs = self.overs.wrapping_add(1);
+            }
+            self.is_over = !self.is_over && !is_taken;
+        }
+        Ok(())
     }
 }
 
@@ -257,12 +343,13 @@ fn enter_in_place(
     }
 }
 
-/// All books answer the line alike.
-fn enter_in_all(rt: &impl Abort, books: &mut Books, line: &str) {
+/// All books answer the line alike. Whether they take it.
+fn enter_in_all(rt: &impl Abort, books: &mut Books, line: &str) -> bool {
     let answer = enter(rt, &mut books.book, line);
     let by_points = enter(rt, &mut books.checked, line);
     let in_place = enter_in_place(rt, &mut books.entered, &mut books.entered_checked, line);
     assert!(rt; [answer; 2] == in_place && by_points == answer);
+    answer.is_none()
 }
 
 /// A book has the score and the standing of another kind of book.
@@ -277,16 +364,49 @@ fn expect_alike(rt: &impl Abort, books: &Books) {
     expect_same(rt, &books.book, &books.entered_checked);
 }
 
+/// How many commands were taken: all, and corrections and late entries of the places 63 to 65.
+#[derive(Clone, Copy, PartialEq, Eq)]
+struct Taken {
+    all: u32,
+    fixes_near: u32,
+    lates_near: u32,
+}
+
+impl Taken {
+    /// With one more of this aim.
+    fn and(self, aim: Aim) -> Taken {
+        let fix = if aim == Aim::FixNear { 1 } else { 0 };
+        let late = if aim == Aim::LateNear { 1 } else { 0 };
+        Taken {
+            all: self.all.wrapping_add(1),
+            fixes_near: self.fixes_near.wrapping_add(fix),
+            lates_near: self.lates_near.wrapping_add(late),
+        }
+    }
+}
+
 /// All books answer each command alike, and then have one score.
 fn compare_books(rt: &impl Abort, alloc: Global) -> Result<(), AllocError> {
     let mut books = four_books(alloc)?;
+    let mut course = Course::new(alloc);
+    let mut taken = Taken {
+        all: 0,
+        fixes_near: 0,
+        lates_near: 0,
+    };
     let mut dice: u32 = 1;
     for number in 0..503 {
         dice = dice.wrapping_mul(1103515245).wrapping_add(12345);
-        let line = command(alloc, number, dice >> 16, books.book.len())?;
-        enter_in_all(rt, &mut books, line.as_str());
+        let line = course.command(alloc, number, dice >> 16)?;
+        let is_taken = enter_in_all(rt, &mut books, line.as_str());
         expect_alike(rt, &books);
+        course.note(aim_of(number), is_taken)?;
+        if is_taken {
+            taken = taken.and(aim_of(number));
+        }
     }
+    assert!(rt; taken.all >= 400);
+    assert!(rt; taken.fixes_near >= 8 && taken.lates_near >= 4);
     Ok(())
 }
 

@@ -1,0 +1,12 @@
+//! Datagrams that only those make who have the match's key and its sheet.
+#![tactic(auto)]
+
+mod authentic;
+mod datagram;
+mod laws;
+mod sheets;
+
+pub use authentic::hmac;
+pub use datagram::{SEALED, Seal};
+pub use laws::{sealed_share_no_bytes, sheets_share_no_form, what_opens_was_sent, worked_tags};
+pub use sheets::digest_of;
