@@ -22,7 +22,7 @@ use Rattle.headline.specs.DeskFaults.{Breaks, LosesPower, StaysDownBy}
 use Rattle.headline.specs.Migrations.{AfterMigration, Failed, Migrates, MigratesAt, Migration, NotSound, ToNew}
 use Rattle.headline.specs.DeskSteps.{AfterOpen, AfterPen, AfterReceive, AtDesk}
 use Rattle.headline.specs.Steps.{Step}
-use Rattle.headline.specs.Runs.{Begins, BeginsAt, Moment, Run, WasPenned, last_of}
+use Rattle.headline.specs.Runs.{Begins, BeginsAt, MayStore, Moment, Run, WasPenned, last_of}
 use Rattle.headline.specs.Headline.{AfterEach, ArePenned}
 
 module _ {Disk Why : Type 0} (s : Setting Disk Why) where
@@ -74,13 +74,19 @@ module _ {Disk Why : Type 0} (s : Setting Disk Why) where
   fails : (Q : List Ballot → Type 0) (view : FileView Disk) (k l : DeskState Disk) → HeldBy Q view k.votes l.disk → Fails k l → DeskHolds Q view l
   fails Q view k l h u = subst (DeskHolds Q view) (sym u) h
 
-  pen_holds : (Q : List Ballot → Type 0) (view : FileView Disk) (k l : DeskState Disk) (e : Entry) (told : PenAnswer Why) (out : List Message) → (MayPen s.rules k e → Q k.votes → Q (next_ballot k e ∷ k.votes)) → DeskHolds Q view k → Pens view s.rules k e told l out → DeskHolds Q view l
+  -- a pen that was told so may have stored its vote
+  abbrev Stores : PenAnswer Why → Type 0
+  Stores (PenAnswer.Penned settled) = Unit {0}
+  Stores (PenAnswer.Refused why) = ⊥
+  Stores PenAnswer.DeviceFailed = Unit {0}
+
+  pen_holds : (Q : List Ballot → Type 0) (view : FileView Disk) (k l : DeskState Disk) (e : Entry) (told : PenAnswer Why) (out : List Message) → (Stores told → MayPen s.rules k e → Q k.votes → Q (next_ballot k e ∷ k.votes)) → DeskHolds Q view k → Pens view s.rules k e told l out → DeskHolds Q view l
   pen_holds Q view k l e (PenAnswer.Penned settled) out f h p =
       let c = p.1 in
-      let q = f p.0 h.of_votes in
+      let q = f tt p.0 h.of_votes in
       rw c.3 (on_disk Q view (next_ballot k e ∷ k.votes) (next_ballot k e ∷ k.votes) l.disk q q c.4)
   pen_holds Q view k l e (PenAnswer.Refused why) out f h p = unchanged Q view k l h p.1
-  pen_holds Q view k l e PenAnswer.DeviceFailed out f h p = fails Q view k l (may_on_disk Q view k.votes (next_ballot k e) l.disk h.of_votes (f p.0 h.of_votes) p.1) p.2
+  pen_holds Q view k l e PenAnswer.DeviceFailed out f h p = fails Q view k l (may_on_disk Q view k.votes (next_ballot k e) l.disk h.of_votes (f tt p.0 h.of_votes) p.1) p.2
 
   receive_holds : (Q : List Ballot → Type 0) (view : FileView Disk) (k l : DeskState Disk) (m : Message) (told : ReceiveAnswer) (out : List Message) → DeskHolds Q view k → Receives view k m told l out → DeskHolds Q view l
   receive_holds Q view k l m ReceiveAnswer.Failed out h p = unchanged Q view k l h p.1
@@ -102,6 +108,16 @@ module _ {Disk Why : Type 0} (s : Setting Disk Why) where
   after_pen Q view x l (PenAnswer.Penned settled) answer y h p = subst (NodeHolds Q view) (sym p.1) h
   after_pen Q view x l (PenAnswer.Refused why) answer y h p = subst (NodeHolds Q view) (sym p.1) h
   after_pen Q view x l PenAnswer.DeviceFailed answer y h p = broken Q view x l answer y h p
+
+  -- what it is answered then
+  stored : (view : FileVersion → FileView Disk) (x : Node Disk) (l : DeskState Disk) (told : PenAnswer Why) (answer : Answer Why) (y : Node Disk) → AfterPen (view x.version) x told l answer y → Stores told → MayStore answer
+  stored view x l (PenAnswer.Penned settled) answer y p t = subst MayStore (sym p.0) tt
+  stored view x l (PenAnswer.Refused why) answer y p t = absurd t
+  stored view x l PenAnswer.DeviceFailed answer y p t = cut_off p
+    where
+      cut_off : Breaks (view x.version) x l answer y → MayStore answer
+      cut_off (Fail, u, q) = subst MayStore (sym q.0) tt
+      cut_off (Stop, u, q) = subst MayStore (sym q.1) tt
 
   after_receive : (Q : List Ballot → Type 0) (view : FileVersion → FileView Disk) (x : Node Disk) (l : DeskState Disk) (told : ReceiveAnswer) (out : List Message) (answer : Answer Why) (y : Node Disk) → DeskHolds Q (view x.version) l → AfterReceive (view x.version) x told l out answer y → NodeHolds Q view y
   after_receive Q view x l ReceiveAnswer.Failed out answer y h p = subst (NodeHolds Q view) (sym p.1) h
@@ -147,15 +163,15 @@ module _ {Disk Why : Type 0} (s : Setting Disk Why) where
     of_images = λ vs i. h.of_images vs (subst (view.Image old) (sym (p.1 (Some vs) i)) p.0);
   }
 
-  abbrev pub PenKeeps : (List Ballot → Type 0) → Event → Node Disk → Type 0
-  PenKeeps Q event x = (c : DeskId) (k : DeskState Disk) (e : Entry) → event ≡ events.Pen c e → x.process ≡ Running k → MayPen s.rules k e → Q k.votes → Q (next_ballot k e ∷ k.votes)
+  abbrev pub PenKeeps : (List Ballot → Type 0) → Event → Answer Why → Node Disk → Type 0
+  PenKeeps Q event answer x = (c : DeskId) (k : DeskState Disk) (e : Entry) → event ≡ events.Pen c e → MayStore answer → x.process ≡ Running k → MayPen s.rules k e → Q k.votes → Q (next_ballot k e ∷ k.votes)
 
   here : (Q : List Ballot → Type 0) (view : FileView Disk) (x : Process Disk) (k : DeskState Disk) → x ≡ Running k → ProcessHolds Q view x → DeskHolds Q view k
   here Q view x k e h = subst (ProcessHolds Q view) e h
 
-  desk_holds : (Q : List Ballot → Type 0) (sent : List Message) (d : DeskId) (event : Event) (x : Node Disk) (answer : Answer Why) (y : Node Disk) (out : List Message) → PenKeeps Q event x → NodeHolds Q (s.view d) x → AtDesk s sent d event x answer y out → NodeHolds Q (s.view d) y
+  desk_holds : (Q : List Ballot → Type 0) (sent : List Message) (d : DeskId) (event : Event) (x : Node Disk) (answer : Answer Why) (y : Node Disk) (out : List Message) → PenKeeps Q event answer x → NodeHolds Q (s.view d) x → AtDesk s sent d event x answer y out → NodeHolds Q (s.view d) y
   desk_holds Q sent d (events.Pen c e) x answer y out f h p =
-      after_pen Q (s.view d) x p.1 p.2 answer y (pen_holds Q (s.view d x.version) p.0 p.1 e p.2 out (f c p.0 e refl p.3) (here Q (s.view d x.version) x.process p.0 p.3 h) p.4) p.5
+      after_pen Q (s.view d) x p.1 p.2 answer y (pen_holds Q (s.view d x.version) p.0 p.1 e p.2 out (λ t. f c p.0 e refl (stored (s.view d) x p.1 p.2 answer y p.5 t) p.3) (here Q (s.view d x.version) x.process p.0 p.3 h) p.4) p.5
   desk_holds Q sent d (events.Give n t) x answer y out f h p =
       after_receive Q (s.view d) x p.1 p.3 out answer y (receive_holds Q (s.view d x.version) p.0 p.1 p.2 p.3 out (here Q (s.view d x.version) x.process p.0 p.4 h) p.6) p.7
   desk_holds Q sent d (events.Tick t) x answer y out f h p = subst (NodeHolds Q (s.view d)) (sym p.4) h
@@ -177,15 +193,15 @@ module _ {Disk Why : Type 0} (s : Setting Disk Why) where
   put Q w B y out h k B = k
 
   -- each pen of this event keeps it
-  abbrev pub PensKeep : (DeskId → List Ballot → Type 0) → Configuration Disk → Event → Type 0
-  PensKeep Q w event =
-      (d : DeskId) (k : DeskState Disk) (e : Entry) → event ≡ events.Pen d e → (node w d).process ≡ Running k
-      → MayPen s.rules k e → Q d k.votes → Q d (next_ballot k e ∷ k.votes)
+  abbrev pub PensKeep : (DeskId → List Ballot → Type 0) → Configuration Disk → Event → Answer Why → Type 0
+  PensKeep Q w event answer =
+      (d : DeskId) (k : DeskState Disk) (e : Entry) → event ≡ events.Pen d e → MayStore answer
+      → (node w d).process ≡ Running k → MayPen s.rules k e → Q d k.votes → Q d (next_ballot k e ∷ k.votes)
 
-  no_pen : (Q : List Ballot → Type 0) (event : Event) (x : Node Disk) → ((c : DeskId) (e : Entry) → event ≡ events.Pen c e → ⊥) → PenKeeps Q event x
-  no_pen Q event x n c k e q i m h = absurd (n c e q)
+  no_pen : (Q : List Ballot → Type 0) (event : Event) (answer : Answer Why) (x : Node Disk) → ((c : DeskId) (e : Entry) → event ≡ events.Pen c e → ⊥) → PenKeeps Q event answer x
+  no_pen Q event answer x n c k e q t i m h = absurd (n c e q)
 
-  by_desk : (Q : DeskId → List Ballot → Type 0) (w : Configuration Disk) (event : Event) (d : DeskId) (answer : Answer Why) (new : Configuration Disk) → PenKeeps (Q d) event (node w d) → BothHold Q w → (y : Node Disk) (out : List Message) → AtDesk s w.sent d event (node w d) answer y out → new ≡ with_node w d y out → BothHold Q new
+  by_desk : (Q : DeskId → List Ballot → Type 0) (w : Configuration Disk) (event : Event) (d : DeskId) (answer : Answer Why) (new : Configuration Disk) → PenKeeps (Q d) event answer (node w d) → BothHold Q w → (y : Node Disk) (out : List Message) → AtDesk s w.sent d event (node w d) answer y out → new ≡ with_node w d y out → BothHold Q new
   by_desk Q w event d answer new f h y out p e = subst (BothHold Q) (sym e) (put Q w d y out h (desk_holds (Q d) w.sent d event (node w d) answer y out f (h d) p))
 
   same_nodes : (Q : DeskId → List Ballot → Type 0) (w new : Configuration Disk) → new.a ≡ w.a → new.b ≡ w.b → BothHold Q w → BothHold Q new
@@ -195,19 +211,19 @@ module _ {Disk Why : Type 0} (s : Setting Disk Why) where
   pen_entry : (d c : DeskId) (e f : Entry) → events.Pen d e ≡ events.Pen c f → e ≡ f
   pen_entry d c e f q = cc
 
-  pub step_holds : (Q : DeskId → List Ballot → Type 0) (w : Configuration Disk) (event : Event) (answer : Answer Why) (new : Configuration Disk) → PensKeep Q w event → BothHold Q w → Step s w event answer new → BothHold Q new
+  pub step_holds : (Q : DeskId → List Ballot → Type 0) (w : Configuration Disk) (event : Event) (answer : Answer Why) (new : Configuration Disk) → PensKeep Q w event answer → BothHold Q w → Step s w event answer new → BothHold Q new
   step_holds Q w (events.Pen d e) answer new f h p =
       by_desk Q w (events.Pen d e) d answer new
-      (λ c k g q i m v. f d k g (ap (events.Pen d) (pen_entry d c e g q)) i m v)
+      (λ c k g q t i m v. f d k g (ap (events.Pen d) (pen_entry d c e g q)) t i m v)
       h p.0 p.1 p.2 p.3
-  step_holds Q w (events.Give n (stations.Desk d)) answer new f h p = by_desk Q w (events.Give n (stations.Desk d)) d answer new (no_pen (Q d) _ (node w d) (λ c e q. (cc))) h p.0 p.1 p.2 p.3
-  step_holds Q w (events.Tick (stations.Desk d)) answer new f h p = by_desk Q w (events.Tick (stations.Desk d)) d answer new (no_pen (Q d) _ (node w d) (λ c e q. (cc))) h p.0 p.1 p.2 p.3
-  step_holds Q w (events.Kill d) answer new f h p = by_desk Q w (events.Kill d) d answer new (no_pen (Q d) _ (node w d) (λ c e q. (cc))) h p.0 p.1 p.2 p.3
-  step_holds Q w (events.Power d choice) answer new f h p = by_desk Q w (events.Power d choice) d answer new (no_pen (Q d) _ (node w d) (λ c e q. (cc))) h p.0 p.1 p.2 p.3
-  step_holds Q w (events.FailAt d n) answer new f h p = by_desk Q w (events.FailAt d n) d answer new (no_pen (Q d) _ (node w d) (λ c e q. (cc))) h p.0 p.1 p.2 p.3
-  step_holds Q w (events.StopAt d n) answer new f h p = by_desk Q w (events.StopAt d n) d answer new (no_pen (Q d) _ (node w d) (λ c e q. (cc))) h p.0 p.1 p.2 p.3
-  step_holds Q w (events.Open d) answer new f h p = by_desk Q w (events.Open d) d answer new (no_pen (Q d) _ (node w d) (λ c e q. (cc))) h p.0 p.1 p.2 p.3
-  step_holds Q w (events.Migrate d) answer new f h p = by_desk Q w (events.Migrate d) d answer new (no_pen (Q d) _ (node w d) (λ c e q. (cc))) h p.0 p.1 p.2 p.3
+  step_holds Q w (events.Give n (stations.Desk d)) answer new f h p = by_desk Q w (events.Give n (stations.Desk d)) d answer new (no_pen (Q d) _ answer (node w d) (λ c e q. (cc))) h p.0 p.1 p.2 p.3
+  step_holds Q w (events.Tick (stations.Desk d)) answer new f h p = by_desk Q w (events.Tick (stations.Desk d)) d answer new (no_pen (Q d) _ answer (node w d) (λ c e q. (cc))) h p.0 p.1 p.2 p.3
+  step_holds Q w (events.Kill d) answer new f h p = by_desk Q w (events.Kill d) d answer new (no_pen (Q d) _ answer (node w d) (λ c e q. (cc))) h p.0 p.1 p.2 p.3
+  step_holds Q w (events.Power d choice) answer new f h p = by_desk Q w (events.Power d choice) d answer new (no_pen (Q d) _ answer (node w d) (λ c e q. (cc))) h p.0 p.1 p.2 p.3
+  step_holds Q w (events.FailAt d n) answer new f h p = by_desk Q w (events.FailAt d n) d answer new (no_pen (Q d) _ answer (node w d) (λ c e q. (cc))) h p.0 p.1 p.2 p.3
+  step_holds Q w (events.StopAt d n) answer new f h p = by_desk Q w (events.StopAt d n) d answer new (no_pen (Q d) _ answer (node w d) (λ c e q. (cc))) h p.0 p.1 p.2 p.3
+  step_holds Q w (events.Open d) answer new f h p = by_desk Q w (events.Open d) d answer new (no_pen (Q d) _ answer (node w d) (λ c e q. (cc))) h p.0 p.1 p.2 p.3
+  step_holds Q w (events.Migrate d) answer new f h p = by_desk Q w (events.Migrate d) d answer new (no_pen (Q d) _ answer (node w d) (λ c e q. (cc))) h p.0 p.1 p.2 p.3
   step_holds Q w (events.Give n (stations.Board b)) answer new f h p = same_nodes Q w new (ap (λ (z : Configuration Disk). z.a) p.5) (ap (λ (z : Configuration Disk). z.b) p.5) h
   step_holds Q w (events.Tick (stations.Board b)) answer new f h p = same_nodes Q w new (ap (λ (z : Configuration Disk). z.a) p.5) (ap (λ (z : Configuration Disk). z.b) p.5) h
   step_holds Q w (events.Wipe n) answer new f h p = same_nodes Q w new (ap (λ (z : Configuration Disk). z.a) p.5) (ap (λ (z : Configuration Disk). z.b) p.5) h
@@ -238,11 +254,11 @@ module _ {Disk Why : Type 0} (s : Setting Disk Why) where
       let wide : BothHold (ThesePenned w (m ∷ ms)) (last_of w ms) = λ d. weaker (ThesePenned w ms d) (ThesePenned w (m ∷ ms) d) (λ vs q b i. inr (q b i)) (s.view d (node (last_of w ms) d).version) (node (last_of w ms) d).process (before d) in
       step_holds (ThesePenned w (m ∷ ms)) (last_of w ms) m.event m.answer m.after (now m ms) wide r.1
     where
-      now : (m : Moment Disk Why) (ms : List (Moment Disk Why)) → PensKeep (ThesePenned w (m ∷ ms)) (last_of w ms) m.event
-      now m ms d k g q i may old b (inl j) =
+      now : (m : Moment Disk Why) (ms : List (Moment Disk Why)) → PensKeep (ThesePenned w (m ∷ ms)) (last_of w ms) m.event m.answer
+      now m ms d k g q t i may old b (inl j) =
           let entry : b.entry ≡ g = ap (λ (c : Ballot). c.entry) j in
-          inl (q ∙ ap (events.Pen d) (sym entry), (k, i, ap (λ (c : Ballot). c.at) (sym j)))
-      now m ms d k g q i may old b (inr j) = old b j
+          inl (q ∙ ap (events.Pen d) (sym entry), (k, i, ap (λ (c : Ballot). c.at) (sym j)), t)
+      now m ms d k g q t i may old b (inr j) = old b j
 
   votes_at : (w : Configuration Disk) (d : DeskId) → process_votes (node w d).process ≡ votes_of (all_votes w) d
   votes_at w A = refl

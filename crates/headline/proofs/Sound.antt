@@ -106,8 +106,8 @@ module _ {Disk Why : Type 0} (s : Setting Disk Why) where
   justified_other w B f = (all_justified s w f).0
 
   -- each pen is lawful
-  lawful_pens : (w : Configuration Disk) (event : Event) → Fine s w → PensKeep s (λ d. Lawful s.rules) w event
-  lawful_pens w event f d k e q i may old =
+  lawful_pens : (w : Configuration Disk) (event : Event) (answer : Answer Why) → Fine s w → PensKeep s (λ d. Lawful s.rules) w event answer
+  lawful_pens w event answer f d k e q t i may old =
       let fine = running s (node w d).version d (votes_of (all_votes w) (other d)) (node w d).process k i (node_fine s w d f) in
       let seat = fine.seat in
       let m : MineFine (votes_of (all_votes w) (other d)) k.votes k.book k.seat.position None = subst (MineFine (votes_of (all_votes w) (other d)) k.votes k.book k.seat.position) may.0.1 seat.mine in
@@ -119,7 +119,7 @@ module _ {Disk Why : Type 0} (s : Setting Disk Why) where
   lawful_run version n w [] e r = begins_hold s (λ d. Lawful s.rules) (λ d. tt) version n w e
   lawful_run version n w (m ∷ ms) e r =
       step_holds s (λ d. Lawful s.rules) (last_of w ms) m.event m.answer m.after
-      (lawful_pens (last_of w ms) m.event (run_keeps s w ms (begins_fine s version n w e) r.0)) (lawful_run version n w ms e r.0) r.1
+      (lawful_pens (last_of w ms) m.event m.answer (run_keeps s w ms (begins_fine s version n w e) r.0)) (lawful_run version n w ms e r.0) r.1
 
   lawful_votes : (w : Configuration Disk) (d : DeskId) → BothHold s (λ d. Lawful s.rules) w → Lawful s.rules (votes_of (all_votes w) d)
   lawful_votes w A l = let h = l A in h.of_votes

@@ -66,7 +66,7 @@ ByBoth v =
     (t : Station) (xs : List Entry) (place : ℕ) (e : Entry) → Shows v t xs → slice_get xs place ≡ Some e
     → (round : ℕ) × EqualVotes (all_votes v) place round e
 
--- each vote that a desk now has was penned by its scorer, unchanged
+-- each vote that a desk now has was penned by its scorer, unchanged, by a pen that was taken or cut off
 abbrev pub ArePenned : {Disk Why : Type 0} → Configuration Disk → List (Moment Disk Why) → Type 0
 ArePenned w ms =
     (d : DeskId) (b : Ballot) → In b (votes_of (all_votes (last_of w ms)) d) → WasPenned w ms d b

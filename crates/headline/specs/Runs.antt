@@ -78,14 +78,23 @@ abbrev pub Shows : {Disk : Type 0} → Configuration Disk → Station → List E
 Shows w (stations.Desk d) book = process_shows (node w d).process book
 Shows w (stations.Board n) book = (k : BoardState) × (board_at w.boards n ≡ Some k) × (k.book ≡ book)
 
--- the desk runs, at the ballot's position, and its scorer pens the ballot's entry
-abbrev pub PensBallot : {Disk : Type 0} → Configuration Disk → Event → DeskId → Ballot → Type 0
-PensBallot w event d b =
+-- a pen that was so answered may have stored its vote: it was taken, or cut off
+abbrev pub MayStore : {Why : Type 0} → Answer Why → Type 0
+MayStore (Answer.Penned settled) = Unit {0}
+MayStore Answer.DeviceFailed = Unit {0}
+MayStore Answer.Stopped = Unit {0}
+MayStore _ = ⊥
+
+-- the desk runs, at the ballot's position, and its scorer pens the ballot's entry, which isn't refused
+abbrev pub PensBallot :
+    {Disk Why : Type 0} → Configuration Disk → Event → Answer Why → DeskId → Ballot → Type 0
+PensBallot w event answer d b =
     (event ≡ events.Pen d b.entry)
     × ((k : DeskState _) × ((node w d).process ≡ Running k) × (k.seat.position ≡ b.at))
+    × MayStore answer
 
 -- in one of these events the desk's scorer penned this ballot
 abbrev pub WasPenned :
     {Disk Why : Type 0} → Configuration Disk → List (Moment Disk Why) → DeskId → Ballot → Type 0
 WasPenned w [] d b = ⊥
-WasPenned w (m ∷ ms) d b = PensBallot (last_of w ms) m.event d b ⊎ WasPenned w ms d b
+WasPenned w (m ∷ ms) d b = PensBallot (last_of w ms) m.event m.answer d b ⊎ WasPenned w ms d b
