@@ -144,103 +144,103 @@ module _ {Disk Why : Type 0} (s : Setting Disk Why) where
       turned w A book h = h
       turned w B book h = both_turned (all_votes w).b (all_votes w).a 0 book h
 
-  told_sound : (h : Heard) → (h ≡ Heard.TwoVotes → ⊥) → IsSoundAnswer {Why = Why} (Answer.Told h)
-  told_sound Heard.TwoVotes n = n refl
-  told_sound Heard.Mine n = tt
-  told_sound Heard.Old n = tt
-  told_sound Heard.Ahead n = tt
-  told_sound Heard.Again n = tt
-  told_sound Heard.Noted n = tt
-  told_sound Heard.Agreed n = tt
-  told_sound Heard.Differ n = tt
+  told_sound : (event : Event) (h : Heard) → (h ≡ Heard.TwoVotes → ⊥) → IsSoundAnswer {Why = Why} event (Answer.Told h)
+  told_sound event Heard.TwoVotes n = n refl
+  told_sound event Heard.Mine n = tt
+  told_sound event Heard.Old n = tt
+  told_sound event Heard.Ahead n = tt
+  told_sound event Heard.Again n = tt
+  told_sound event Heard.Noted n = tt
+  told_sound event Heard.Agreed n = tt
+  told_sound event Heard.Differ n = tt
 
-  sound_as : (answer told : Answer Why) → answer ≡ told → IsSoundAnswer told → IsSoundAnswer answer
-  sound_as answer told e h = subst IsSoundAnswer (sym e) h
+  sound_as : (event : Event) (answer told : Answer Why) → answer ≡ told → IsSoundAnswer event told → IsSoundAnswer event answer
+  sound_as event answer told e h = subst (IsSoundAnswer event) (sym e) h
 
-  broken_sound : (d : DeskId) (x : Node Disk) (l : DeskState Disk) (answer : Answer Why) (y : Node Disk) → Breaks (s.view d x.version) x l answer y → IsSoundAnswer answer
-  broken_sound d x l answer y (Fail, u, p) = sound_as answer Answer.DeviceFailed p.0 tt
-  broken_sound d x l answer y (Stop, u, p) = sound_as answer Answer.Stopped p.1 tt
+  broken_sound : (event : Event) (d : DeskId) (x : Node Disk) (l : DeskState Disk) (answer : Answer Why) (y : Node Disk) → Breaks (s.view d x.version) x l answer y → IsSoundAnswer event answer
+  broken_sound event d x l answer y (Fail, u, p) = sound_as event answer Answer.DeviceFailed p.0 tt
+  broken_sound event d x l answer y (Stop, u, p) = sound_as event answer Answer.Stopped p.1 tt
 
-  pen_sound : (d : DeskId) (x : Node Disk) (told : PenAnswer Why) (l : DeskState Disk) (answer : Answer Why) (y : Node Disk) → AfterPen (s.view d x.version) x told l answer y → IsSoundAnswer answer
-  pen_sound d x (PenAnswer.Penned settled) l answer y p = sound_as answer (Answer.Penned settled) p.0 tt
-  pen_sound d x (PenAnswer.Refused why) l answer y p = sound_as answer (Answer.NotPenned why) p.0 tt
-  pen_sound d x PenAnswer.DeviceFailed l answer y p = broken_sound d x l answer y p
+  pen_sound : (event : Event) (d : DeskId) (x : Node Disk) (told : PenAnswer Why) (l : DeskState Disk) (answer : Answer Why) (y : Node Disk) → AfterPen (s.view d x.version) x told l answer y → IsSoundAnswer event answer
+  pen_sound event d x (PenAnswer.Penned settled) l answer y p = sound_as event answer (Answer.Penned settled) p.0 tt
+  pen_sound event d x (PenAnswer.Refused why) l answer y p = sound_as event answer (Answer.NotPenned why) p.0 tt
+  pen_sound event d x PenAnswer.DeviceFailed l answer y p = broken_sound event d x l answer y p
 
   two_at_desk : (w : Configuration Disk) (d : DeskId) (k : DeskState Disk) (v : Vote) (t : SeatState) → Fine s w → SeatFine d k.votes (votes_of (all_votes w) (other d)) k.seat k.book → MessageFine (all_votes w) (Message.Vote v) → Hears k.seat v Heard.TwoVotes t → ⊥
   two_at_desk w d k v t f g m h =
       let i = their_message s (all_votes w) d (Message.Vote v) m (λ e. h.0.0 (e ∙ sym g.desk)) in
       two_entries (votes_of (all_votes w) d) (votes_of (all_votes w) (other d)) k.seat.theirs v h.1.0 k.seat.position (justified_other w d f) g.noted h.1.1 i h.0.1 h.1.2
 
-  receive_sound : (w : Configuration Disk) (d : DeskId) (x : Node Disk) (k l : DeskState Disk) (m : Message) (told : ReceiveAnswer) (out : List Message) (answer : Answer Why) (y : Node Disk) → Fine s w → SeatFine d k.votes (votes_of (all_votes w) (other d)) k.seat k.book → MessageFine (all_votes w) m → Receives (s.view d x.version) k m told l out → AfterReceive (s.view d x.version) x told l out answer y → IsSoundAnswer answer
-  receive_sound w d x k l m ReceiveAnswer.Failed out answer y f g i r p = sound_as answer Answer.HasFailed p.0 tt
-  receive_sound w d x k l m ReceiveAnswer.Asked out answer y f g i r p = sound_as answer (Answer.Asked _) p.0 tt
-  receive_sound w d x k l m ReceiveAnswer.DeviceFailed out answer y f g i r p = broken_sound d x l answer y p
-  receive_sound w d x k l (Message.Ask q) (ReceiveAnswer.Told h) out answer y f g i r p = absurd r
-  receive_sound w d x k l (Message.Vote v) (ReceiveAnswer.Told h) out answer y f g i r p =
-      sound_as answer (Answer.Told h) p.0 (told_sound h (λ e. two_at_desk w d k v l.seat f g i (subst (λ (z : Heard). Hears k.seat v z l.seat) e r.1)))
+  receive_sound : (event : Event) (w : Configuration Disk) (d : DeskId) (x : Node Disk) (k l : DeskState Disk) (m : Message) (told : ReceiveAnswer) (out : List Message) (answer : Answer Why) (y : Node Disk) → Fine s w → SeatFine d k.votes (votes_of (all_votes w) (other d)) k.seat k.book → MessageFine (all_votes w) m → Receives (s.view d x.version) k m told l out → AfterReceive (s.view d x.version) x told l out answer y → IsSoundAnswer event answer
+  receive_sound event w d x k l m ReceiveAnswer.Failed out answer y f g i r p = sound_as event answer Answer.HasFailed p.0 tt
+  receive_sound event w d x k l m ReceiveAnswer.Asked out answer y f g i r p = sound_as event answer (Answer.Asked _) p.0 tt
+  receive_sound event w d x k l m ReceiveAnswer.DeviceFailed out answer y f g i r p = broken_sound event d x l answer y p
+  receive_sound event w d x k l (Message.Ask q) (ReceiveAnswer.Told h) out answer y f g i r p = absurd r
+  receive_sound event w d x k l (Message.Vote v) (ReceiveAnswer.Told h) out answer y f g i r p =
+      sound_as event answer (Answer.Told h) p.0 (told_sound event h (λ e. two_at_desk w d k v l.seat f g i (subst (λ (z : Heard). Hears k.seat v z l.seat) e r.1)))
 
   some_or_none : (o : Option (List Ballot)) (vs : List Ballot) → o ≡ Some vs → o ≡ None → ⊥
   some_or_none o vs e n = cc
 
-  stays_down_sound : (view : FileView Disk) (x : Node Disk) (fault : Fault) (votes : List Ballot) (left : Disk) (answer : Answer Why) (y : Node Disk) → StaysDownBy view x fault votes left answer y → IsSoundAnswer answer
-  stays_down_sound view x Fail votes left answer y p = sound_as answer Answer.DeviceFailed p.0 tt
-  stays_down_sound view x Stop votes left answer y p = sound_as answer Answer.Stopped p.1 tt
+  stays_down_sound : (event : Event) (view : FileView Disk) (x : Node Disk) (fault : Fault) (votes : List Ballot) (left : Disk) (answer : Answer Why) (y : Node Disk) → StaysDownBy view x fault votes left answer y → IsSoundAnswer event answer
+  stays_down_sound event view x Fail votes left answer y p = sound_as event answer Answer.DeviceFailed p.0 tt
+  stays_down_sound event view x Stop votes left answer y p = sound_as event answer Answer.Stopped p.1 tt
 
-  open_sound : (d : DeskId) (theirs : List Ballot) (x : Node Disk) (votes : List Ballot) (old : Disk) (opening : Opening Disk) (answer : Answer Why) (y : Node Disk) → ProcessFine s x.version d theirs (Down votes old) → HeldBy s (Lawful s.rules) (s.view d x.version) votes old → Opens (s.view d x.version) s.rules d old opening → AfterOpen (s.view d x.version) x votes opening answer y → IsSoundAnswer answer
-  open_sound d theirs x votes old (Opening.Opened k) answer y f h o p = sound_as answer (Answer.Opened _) p.0 tt
-  open_sound d theirs x votes old (Opening.NotOpened OpenRefusal.Unsound left) answer y f h o p =
+  open_sound : (event : Event) (d : DeskId) (theirs : List Ballot) (x : Node Disk) (votes : List Ballot) (old : Disk) (opening : Opening Disk) (answer : Answer Why) (y : Node Disk) → ProcessFine s x.version d theirs (Down votes old) → HeldBy s (Lawful s.rules) (s.view d x.version) votes old → Opens (s.view d x.version) s.rules d old opening → AfterOpen (s.view d x.version) x votes opening answer y → IsSoundAnswer event answer
+  open_sound event d theirs x votes old (Opening.Opened k) answer y f h o p = sound_as event answer (Answer.Opened _) p.0 tt
+  open_sound event d theirs x votes old (Opening.NotOpened OpenRefusal.Unsound left) answer y f h o p =
       let g = f.1.0 in absurd (some_or_none ((s.view d x.version).reads old) g.0 g.1 o.0)
-  open_sound d theirs x votes old (Opening.NotOpened (OpenRefusal.BadVotes place) left) answer y f h o p =
+  open_sound event d theirs x votes old (Opening.NotOpened (OpenRefusal.BadVotes place) left) answer y f h o p =
       absurd (not_both s.rules [] (voted_list o.0) place (lawful_list s.rules o.0 (h.of_reads o.0 o.1)) o.2)
-  open_sound d theirs x votes old (Opening.NotOpened OpenRefusal.NoMemory left) answer y f h o p = absurd p
-  open_sound d theirs x votes old (Opening.NotOpened OpenRefusal.DeviceFailed left) answer y f h o p = stays_down_sound (s.view d x.version) x p.0 votes left answer y p.2
+  open_sound event d theirs x votes old (Opening.NotOpened OpenRefusal.NoMemory left) answer y f h o p = absurd p
+  open_sound event d theirs x votes old (Opening.NotOpened OpenRefusal.DeviceFailed left) answer y f h o p = stays_down_sound event (s.view d x.version) x p.0 votes left answer y p.2
 
   -- a file that is migrated is sound
-  migration_sound : (d : DeskId) (theirs : List Ballot) (x : Node Disk) (votes : List Ballot) (old : Disk) (migration : Migration Disk) (answer : Answer Why) (y : Node Disk) → ProcessFine s Old d theirs (Down votes old) → Migrates (s.view d) old migration → AfterMigration (s.view d) x votes migration answer y → IsSoundAnswer answer
-  migration_sound d theirs x votes old (ToNew found new) answer y f m p = sound_as answer (Answer.Migrated _) p.0 tt
-  migration_sound d theirs x votes old (NotSound left) answer y f m p = let g = f.1.0 in absurd (some_or_none ((s.view d Old).reads old) g.0 g.1 m.0)
-  migration_sound d theirs x votes old (Failed left) answer y f m p = stays_down_sound (s.view d Old) x p.0 votes left answer y p.2
+  migration_sound : (c d : DeskId) (theirs : List Ballot) (x : Node Disk) (votes : List Ballot) (old : Disk) (migration : Migration Disk) (answer : Answer Why) (y : Node Disk) → ProcessFine s Old d theirs (Down votes old) → Migrates (s.view d) old migration → AfterMigration (s.view d) x votes migration answer y → IsSoundAnswer (events.Migrate c) answer
+  migration_sound c d theirs x votes old (ToNew found new) answer y f m p = sound_as (events.Migrate c) answer (Answer.Migrated _) p.0 tt
+  migration_sound c d theirs x votes old (NotSound left) answer y f m p = let g = f.1.0 in absurd (some_or_none ((s.view d Old).reads old) g.0 g.1 m.0)
+  migration_sound c d theirs x votes old (Failed left) answer y f m p = stays_down_sound (events.Migrate c) (s.view d Old) x p.0 votes left answer y p.2
 
-  migrates_sound : (d : DeskId) (theirs : List Ballot) (x : Node Disk) (version : FileVersion) (votes : List Ballot) (old : Disk) (answer : Answer Why) (y : Node Disk) → ProcessFine s version d theirs (Down votes old) → MigratesAt (s.view d) x version votes old answer y → IsSoundAnswer answer
-  migrates_sound d theirs x Old votes old answer y f p = migration_sound d theirs x votes old p.0 answer y f p.1 p.2
-  migrates_sound d theirs x New votes old answer y f p = sound_as answer Answer.OtherVersion p.0 tt
+  migrates_sound : (c d : DeskId) (theirs : List Ballot) (x : Node Disk) (version : FileVersion) (votes : List Ballot) (old : Disk) (answer : Answer Why) (y : Node Disk) → ProcessFine s version d theirs (Down votes old) → MigratesAt (s.view d) x version votes old answer y → IsSoundAnswer (events.Migrate c) answer
+  migrates_sound c d theirs x Old votes old answer y f p = migration_sound c d theirs x votes old p.0 answer y f p.1 p.2
+  migrates_sound c d theirs x New votes old answer y f p = sound_as (events.Migrate c) answer Answer.OtherVersion p.0 tt
 
   -- what an event at a desk is answered
-  desk_sound : (w : Configuration Disk) (d : DeskId) (event : Event) (answer : Answer Why) (y : Node Disk) (out : List Message) → Fine s w → BothHold s (λ d. Lawful s.rules) w → AtDesk s w.sent d event (node w d) answer y out → IsSoundAnswer answer
-  desk_sound w d (events.Pen c e) answer y out f l p = pen_sound d (node w d) p.2 p.1 answer y p.5
+  desk_sound : (w : Configuration Disk) (d : DeskId) (event : Event) (answer : Answer Why) (y : Node Disk) (out : List Message) → Fine s w → BothHold s (λ d. Lawful s.rules) w → AtDesk s w.sent d event (node w d) answer y out → IsSoundAnswer event answer
+  desk_sound w d (events.Pen c e) answer y out f l p = pen_sound (events.Pen c e) d (node w d) p.2 p.1 answer y p.5
   desk_sound w d (events.Give n t) answer y out f l p =
       let fine = running s (node w d).version d (votes_of (all_votes w) (other d)) (node w d).process p.0 p.4 (node_fine s w d f) in
-      receive_sound w d (node w d) p.0 p.1 p.2 p.3 out answer y f fine.seat (item_at (MessageFine (all_votes w)) w.sent n p.2 p.5 f.on_sent) p.6 p.7
-  desk_sound w d (events.Tick t) answer y out f l p = sound_as answer (Answer.Ticked _) p.3 tt
-  desk_sound w d (events.Kill c) answer y out f l p = sound_as answer Answer.Done p.3 tt
-  desk_sound w d (events.Power c choice) answer y out f l p = sound_as answer Answer.Done p.3 tt
-  desk_sound w d (events.FailAt c n) answer y out f l p = sound_as answer Answer.Done p.1 tt
-  desk_sound w d (events.StopAt c n) answer y out f l p = sound_as answer Answer.Done p.1 tt
+      receive_sound (events.Give n t) w d (node w d) p.0 p.1 p.2 p.3 out answer y f fine.seat (item_at (MessageFine (all_votes w)) w.sent n p.2 p.5 f.on_sent) p.6 p.7
+  desk_sound w d (events.Tick t) answer y out f l p = sound_as (events.Tick t) answer (Answer.Ticked _) p.3 tt
+  desk_sound w d (events.Kill c) answer y out f l p = sound_as (events.Kill c) answer Answer.Done p.3 tt
+  desk_sound w d (events.Power c choice) answer y out f l p = sound_as (events.Power c choice) answer Answer.Done p.3 tt
+  desk_sound w d (events.FailAt c n) answer y out f l p = sound_as (events.FailAt c n) answer Answer.Done p.1 tt
+  desk_sound w d (events.StopAt c n) answer y out f l p = sound_as (events.StopAt c n) answer Answer.Done p.1 tt
   desk_sound w d (events.Open c) answer y out f l p =
-      open_sound d (votes_of (all_votes w) (other d)) (node w d) p.0 p.1 p.2 answer y
+      open_sound (events.Open c) d (votes_of (all_votes w) (other d)) (node w d) p.0 p.1 p.2 answer y
       (subst (ProcessFine s (node w d).version d (votes_of (all_votes w) (other d))) p.3 (node_fine s w d f))
       (subst (λ (z : Process Disk). HeldBy s (Lawful s.rules) (s.view d (node w d).version) (process_votes z) (process_disk z)) p.3 (l d)) p.4 p.5
   desk_sound w d (events.Migrate c) answer y out f l p =
-      migrates_sound d (votes_of (all_votes w) (other d)) (node w d) (node w d).version p.0 p.1 answer y
+      migrates_sound c d (votes_of (all_votes w) (other d)) (node w d) (node w d).version p.0 p.1 answer y
       (subst (ProcessFine s (node w d).version d (votes_of (all_votes w) (other d))) p.2 (node_fine s w d f)) p.3
   desk_sound w d (events.Wipe n) answer y out f l p = absurd p
 
-  board_told_sound : (w : Configuration Disk) (k l : BoardState) (m : Message) (told : BoardAnswer) → Fine s w → BothHold s (λ d. Lawful s.rules) w → BoardFine (all_votes w) k → MessageFine (all_votes w) m → BoardReceives s.rules k m told l → IsSoundAnswer {Why = Why} (board_told told)
-  board_told_sound w k l m BoardAnswer.Asked f h b i p = tt
-  board_told_sound w k l (Message.Ask q) (BoardAnswer.Told x) f h b i p = absurd p
-  board_told_sound w k l (Message.Ask q) (BoardAnswer.BadVotes place) f h b i p = absurd p
-  board_told_sound w k l (Message.Vote v) (BoardAnswer.BadVotes place) f h b i p = absurd (p.1 (board_takes w k v p.0.0 f h b i p.0.1))
-  board_told_sound w k l (Message.Vote v) (BoardAnswer.Told x) f h b i p =
-      told_sound x (λ e. two (subst (λ (z : Heard). Listens k.reader v z l.reader) e p.0))
+  board_told_sound : (event : Event) (w : Configuration Disk) (k l : BoardState) (m : Message) (told : BoardAnswer) → Fine s w → BothHold s (λ d. Lawful s.rules) w → BoardFine (all_votes w) k → MessageFine (all_votes w) m → BoardReceives s.rules k m told l → IsSoundAnswer {Why = Why} event (board_told told)
+  board_told_sound event w k l m BoardAnswer.Asked f h b i p = tt
+  board_told_sound event w k l (Message.Ask q) (BoardAnswer.Told x) f h b i p = absurd p
+  board_told_sound event w k l (Message.Ask q) (BoardAnswer.BadVotes place) f h b i p = absurd p
+  board_told_sound event w k l (Message.Vote v) (BoardAnswer.BadVotes place) f h b i p = absurd (p.1 (board_takes w k v p.0.0 f h b i p.0.1))
+  board_told_sound event w k l (Message.Vote v) (BoardAnswer.Told x) f h b i p =
+      told_sound event x (λ e. two (subst (λ (z : Heard). Listens k.reader v z l.reader) e p.0))
     where
       two : Listens k.reader v Heard.TwoVotes l.reader → ⊥
       two c = two_entries (votes_of (all_votes w) (other v.desk)) (votes_of (all_votes w) v.desk) (noted_of k.reader v.desk) v c.1.0 k.reader.position (justified_of w v.desk f) (b.noted v.desk) c.1.1 i c.0 c.1.2
 
-  board_sound : (w : Configuration Disk) (event : Event) (k : BoardState) (answer : Answer Why) (l : BoardState) (out : List Message) → Fine s w → BothHold s (λ d. Lawful s.rules) w → BoardFine (all_votes w) k → AtBoard s w.sent event k answer l out → IsSoundAnswer answer
+  board_sound : (w : Configuration Disk) (event : Event) (k : BoardState) (answer : Answer Why) (l : BoardState) (out : List Message) → Fine s w → BothHold s (λ d. Lawful s.rules) w → BoardFine (all_votes w) k → AtBoard s w.sent event k answer l out → IsSoundAnswer event answer
   board_sound w (events.Give n t) k answer l out f h b p =
-      sound_as answer (board_told p.1) p.4 (board_told_sound w k l p.0 p.1 f h b (item_at (MessageFine (all_votes w)) w.sent n p.0 p.2 f.on_sent) p.3)
-  board_sound w (events.Tick t) k answer l out f h b p = sound_as answer (Answer.Ticked _) p.1 tt
-  board_sound w (events.Wipe n) k answer l out f h b p = sound_as answer Answer.Done p.1 tt
+      sound_as (events.Give n t) answer (board_told p.1) p.4 (board_told_sound (events.Give n t) w k l p.0 p.1 f h b (item_at (MessageFine (all_votes w)) w.sent n p.0 p.2 f.on_sent) p.3)
+  board_sound w (events.Tick t) k answer l out f h b p = sound_as (events.Tick t) answer (Answer.Ticked _) p.1 tt
+  board_sound w (events.Wipe n) k answer l out f h b p = sound_as (events.Wipe n) answer Answer.Done p.1 tt
   board_sound w (events.Pen d e) k answer l out f h b p = absurd p
   board_sound w (events.Kill d) k answer l out f h b p = absurd p
   board_sound w (events.Power d choice) k answer l out f h b p = absurd p
@@ -249,11 +249,11 @@ module _ {Disk Why : Type 0} (s : Setting Disk Why) where
   board_sound w (events.Open d) k answer l out f h b p = absurd p
   board_sound w (events.Migrate d) k answer l out f h b p = absurd p
 
-  station_sound : (w : Configuration Disk) (event : Event) (t : Station) (answer : Answer Why) (new : Configuration Disk) → Fine s w → BothHold s (λ d. Lawful s.rules) w → StepAt s w event t answer new → IsSoundAnswer answer
+  station_sound : (w : Configuration Disk) (event : Event) (t : Station) (answer : Answer Why) (new : Configuration Disk) → Fine s w → BothHold s (λ d. Lawful s.rules) w → StepAt s w event t answer new → IsSoundAnswer event answer
   station_sound w event (stations.Desk d) answer new f l p = desk_sound w d event answer p.0 p.1 f l p.2
   station_sound w event (stations.Board n) answer new f l p = board_sound w event p.0 answer p.1 p.2 f l (board_fine_at (all_votes w) w.boards n p.0 p.3 f.on_boards) p.4
 
-  pub sound_answers : (version : FileVersion) (n : ℕ) (w : Configuration Disk) (ms : List (Moment Disk Why)) → Begins s version n w → Run s w ms → AtEachEvent w ms (λ v m. IsSoundAnswer m.answer)
+  pub sound_answers : (version : FileVersion) (n : ℕ) (w : Configuration Disk) (ms : List (Moment Disk Why)) → Begins s version n w → Run s w ms → AtEachEvent w ms (λ v m. IsSoundAnswer m.event m.answer)
   sound_answers version n w [] e r = tt
   sound_answers version n w (m ∷ ms) e r =
       (sound_answers version n w ms e r.0, station_sound (last_of w ms) m.event (station_of m.event) m.answer m.after (run_keeps s w ms (begins_fine s version n w e) r.0) (lawful_run version n w ms e r.0) r.1)

@@ -12,6 +12,8 @@ use Rattle.agree_core.specs.Agreed.{BeginsWith, EqualVotes, IsAgreedList}
 use Rattle.agree_core.specs.Ballots.{AllVotes, Ballot, In, VotesGrow, Within, ballot_of, votes_of}
 use Rattle.agree_core.specs.Laws.{OneVoteEach, PlacesSettled, RoundsDiffer}
 use Rattle.agree_core.specs.Readers.{other}
+use Rattle.headline.specs.declared.event.Event.{Event}
+use Rattle.headline.specs.declared.event.Event.TheVariants as events
 use Rattle.headline.specs.declared.event.Station.{Station}
 use Rattle.headline.specs.Match.{Setting}
 use Rattle.headline.specs.Configurations.{Configuration, node, process_disk, all_votes}
@@ -99,13 +101,19 @@ pub record VotesStand (v : AllVotes) : Type 0 where
   pub rounds : RoundsDiffer v
   pub places : PlacesSettled v
 
--- neither two votes of one desk for a position, nor votes that are no book, nor a file that isn't sound
-abbrev pub IsSoundAnswer : {Why : Type 0} → Answer Why → Type 0
-IsSoundAnswer (Answer.Told Heard.TwoVotes) = ⊥
-IsSoundAnswer Answer.BadVotes = ⊥
-IsSoundAnswer Answer.Unsound = ⊥
-IsSoundAnswer Answer.NoBook = ⊥
-IsSoundAnswer _ = Unit {0}
+abbrev pub IsMigration : Event → Type 0
+IsMigration (events.Migrate d) = Unit {0}
+IsMigration _ = ⊥
+
+-- neither two votes of one desk for a position, nor votes that are no book, nor a file that isn't sound; and that a
+-- file is of another version answers a migration alone
+abbrev pub IsSoundAnswer : {Why : Type 0} → Event → Answer Why → Type 0
+IsSoundAnswer event (Answer.Told Heard.TwoVotes) = ⊥
+IsSoundAnswer event Answer.BadVotes = ⊥
+IsSoundAnswer event Answer.Unsound = ⊥
+IsSoundAnswer event Answer.NoBook = ⊥
+IsSoundAnswer event Answer.OtherVersion = IsMigration event
+IsSoundAnswer event _ = Unit {0}
 
 -- the headline, of a run of a match with so many innings a side
 pub record Headline

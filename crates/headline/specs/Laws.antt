@@ -32,7 +32,7 @@ pub record HoldsInRun
   -- no vote is lost; how the votes stand and are kept at each moment; and which answers never come
   pub votes_kept : AtEachEvent w ms KeepsVotes
   pub stands_fast : AtEachMoment w ms (StandsFast s)
-  pub sound : AtEachEvent w ms (λ v m. IsSoundAnswer m.answer)
+  pub sound : AtEachEvent w ms (λ v m. IsSoundAnswer m.event m.answer)
 
 module _ {Disk : Type 0} (seen : Disk → List ℕ) (images : Disk → Images) where
   -- it holds in each run of a match on such disks, whatever a file of either version shows of its bytes
