@@ -18,10 +18,10 @@ use Rattle.vote_store.specs.View.{file_view}
 use Rattle.cards.specs.Sheet.{Sheet}
 use Rattle.desk.specs.declared.desk.Desk.{Desk}
 use Rattle.desk.specs.Desk.{desk_of, disk_of, game_of}
-use Rattle.books.specs.declared.fault.RunFault.{RunFault}
-use Rattle.books.specs.declared.fault.RunFault.TheVariants as faults
+use Rattle.commands.specs.declared.match_run.fault.MatchFault.{MatchFault}
+use Rattle.commands.specs.declared.match_run.fault.MatchFault.TheVariants as faults
 use Rattle.books.specs.CardBook.{IsBookOfLines}
-use Rattle.books.specs.Output.{book_after}
+use Rattle.books.specs.Taking.{book_after}
 use Rattle.vote_store.specs.Migrated.{answer_of}
 use Rattle.commands.specs.MatchRun.{HoldsBook, HoldsEither, KeepsBook, Leaves, Stays, entries_of_first, left_at_a, left_at_b}
 use Rattle.commands.specs.inner.Turns.{DiskHolds, LinesLeave}
@@ -32,10 +32,10 @@ all_first innings input book b = ap (λ (ls : List (List ℕ)). book_after innin
 
 module _ {D : Type 0} (seen : D → List ℕ) (images : D → Images) (s : Sheet) (input : List ℕ) where
   -- the second desk wasn't made
-  pub second_not_made : (a b x y : D) (fault : RunFault) → (fault ≡ faults.NoMemory) ⊎ (fault ≡ faults.Device) → (fault ≡ faults.NoMemory → Stays seen images b y) → StaysOrBegins seen images (room version_2 0) b y →
+  pub second_not_made : (a b x y : D) (fault : MatchFault) → (fault ≡ faults.NoMemory) ⊎ (fault ≡ faults.Device) → (fault ≡ faults.NoMemory → Stays seen images b y) → StaysOrBegins seen images (room version_2 0) b y →
       KeepsBook seen images s desks.A x [] → Leaves seen images s input fault a b x y
-  second_not_made a b x y fault (inl is) stays left keeps = subst (λ (f : RunFault). Leaves seen images s input f a b x y) (sym is) (inr keeps, stays is)
-  second_not_made a b x y fault (inr is) stays left keeps = subst (λ (f : RunFault). Leaves seen images s input f a b x y) (sym is) (inl (inr keeps, left))
+  second_not_made a b x y fault (inl is) stays left keeps = subst (λ (f : MatchFault). Leaves seen images s input f a b x y) (sym is) (inr keeps, stays is)
+  second_not_made a b x y fault (inr is) stays left keeps = subst (λ (f : MatchFault). Leaves seen images s input f a b x y) (sym is) (inl (inr keeps, left))
 
   stays_from : (a b x : D) → Stays seen images a b → Stays seen images b x → Stays seen images a x
   stays_from a b x s t = (t.0 ∙ s.0, t.1 ∙ s.1)
@@ -49,26 +49,22 @@ module _ {D : Type 0} (seen : D → List ℕ) (images : D → Images) (s : Sheet
   or_from P Q f (inr q) = inr q
 
   -- both disks stayed before
-  pub leaves_from : (a b a' b' x y : D) (fault : RunFault) → Stays seen images a a' → Stays seen images b b' → Leaves seen images s input fault a' b' x y → Leaves seen images s input fault a b x y
+  pub leaves_from : (a b a' b' x y : D) (fault : MatchFault) → Stays seen images a a' → Stays seen images b b' → Leaves seen images s input fault a' b' x y → Leaves seen images s input fault a b x y
   leaves_from a b a' b' x y (faults.Line number why) p q l = l
   leaves_from a b a' b' x y (faults.NotAgreed place) p q l = l
   leaves_from a b a' b' x y faults.Write p q l = l
   leaves_from a b a' b' x y faults.Device p q (inl l) = inl (or_from _ _ (begins_from (room version_2 0) a a' x p) l.0, begins_from (room version_2 0) b b' y q l.1)
   leaves_from a b a' b' x y faults.Device p q (inr l) = inr l
   leaves_from a b a' b' x y faults.NoMemory p q l = (or_from _ _ (stays_from a a' x p) l.0, stays_from b b' y q l.1)
-  leaves_from a b a' b' x y faults.Read p q l = (stays_from a a' x p l.0, stays_from b b' y q l.1)
-  leaves_from a b a' b' x y (faults.Sheet why) p q l = (stays_from a a' x p l.0, stays_from b b' y q l.1)
-  leaves_from a b a' b' x y (faults.Schedule why) p q l = (stays_from a a' x p l.0, stays_from b b' y q l.1)
-  leaves_from a b a' b' x y (faults.Votes why) p q l = (stays_from a a' x p l.0, stays_from b b' y q l.1)
-  leaves_from a b a' b' x y (faults.BadVotes place) p q l = (stays_from a a' x p l.0, stays_from b b' y q l.1)
+  leaves_from a b a' b' x y faults.NotEmpty p q l = (stays_from a a' x p l.0, stays_from b b' y q l.1)
 
   -- the answer that was met
-  pub met_left : (a b : D) (r : Result (D × D) (RunFault × D × D)) (met : RunFault × D × D) → IsErrAnd r (λ e. e ≡ met) → Leaves seen images s input met.0 a b met.1 met.2 →
+  pub met_left : (a b : D) (r : Result (D × D) (MatchFault × D × D)) (met : MatchFault × D × D) → IsErrAnd r (λ e. e ≡ met) → Leaves seen images s input met.0 a b met.1 met.2 →
       IfErr (answer_of r) (λ fault. Leaves seen images s input fault a b (left_at_a r) (left_at_b r))
   met_left a b (Ok disks) met is l = tt
-  met_left a b (Err e) met is l = subst (λ (m : RunFault × D × D). Leaves seen images s input m.0 a b m.1 m.2) (sym is) l
+  met_left a b (Err e) met is l = subst (λ (m : MatchFault × D × D). Leaves seen images s input m.0 a b m.1 m.2) (sym is) l
 
-abbrev pub LeavesOf : {D : Type 0} (view : DeskId → FileView D) → ℕ → List ℕ → RunFault → D → D → Type 0
+abbrev pub LeavesOf : {D : Type 0} (view : DeskId → FileView D) → ℕ → List ℕ → MatchFault → D → D → Type 0
 LeavesOf view innings input (faults.Line number why) x y =
     (n : ℕ) × (number ≡ n + 1) × (HoldsBook (view desks.A) x (entries_of_first n innings input) × HoldsBook (view desks.B) y (entries_of_first n innings input))
 LeavesOf view innings input (faults.NotAgreed place) x y =
@@ -87,7 +83,7 @@ module _ {S B D : Type 0} {g : Files S D} {h : Disks D} {b : Books B} (x y : Des
   at_b : (n : ℕ) → DiskHolds y (entries_of_first n innings input) → HoldsBook (file_view g.contents h.seen h.images desks.B game) (disk_of y) (entries_of_first n innings input)
   at_b n held = keeps_book y desks.B game (entries_of_first n innings input) is_b game_b held
 
-  pub lines_left : (fault : RunFault) → LinesLeave innings input fault x y → LeavesOf (λ d. file_view g.contents h.seen h.images d game) innings input fault (disk_of x) (disk_of y)
+  pub lines_left : (fault : MatchFault) → LinesLeave innings input fault x y → LeavesOf (λ d. file_view g.contents h.seen h.images d game) innings input fault (disk_of x) (disk_of y)
   lines_left (faults.Line number why) l = (l.0, l.1, (at_a l.0 l.2, at_b l.0 l.3))
   lines_left (faults.NotAgreed place) l = (at_a (place + 1) l.0, at_b (place + 1) l.1)
   lines_left faults.Write l = (at_a (length (lines_of input)) l.0, at_b (length (lines_of input)) l.1)
@@ -97,22 +93,14 @@ module _ {S B D : Type 0} {g : Files S D} {h : Disks D} {b : Books B} (x y : Des
     keeps_either y desks.B game (entries_of_first l.0 innings input) (entries_of_first (l.0 + 1) innings input) is_b game_b l.2,
   )
   lines_left faults.NoMemory l = absurd l
-  lines_left faults.Read l = absurd l
-  lines_left (faults.Sheet why) l = absurd l
-  lines_left (faults.Schedule why) l = absurd l
-  lines_left (faults.Votes why) l = absurd l
-  lines_left (faults.BadVotes place) l = absurd l
+  lines_left faults.NotEmpty l = absurd l
 
 -- what the desks leave is what the run does
-pub run_leaves : {D : Type 0} (seen : D → List ℕ) (images : D → Images) (s : Sheet) (input : List ℕ) (a b x y : D) (fault : RunFault) →
+pub run_leaves : {D : Type 0} (seen : D → List ℕ) (images : D → Images) (s : Sheet) (input : List ℕ) (a b x y : D) (fault : MatchFault) →
     LeavesOf (λ d. file_view (contents version_2) seen images d s.game) s.innings input fault x y → Leaves seen images s input fault a b x y
 run_leaves seen images s input a b x y (faults.Line number why) l = l
 run_leaves seen images s input a b x y (faults.NotAgreed place) l = l
 run_leaves seen images s input a b x y faults.Write l = l
 run_leaves seen images s input a b x y faults.Device l = inr l
 run_leaves seen images s input a b x y faults.NoMemory l = absurd l
-run_leaves seen images s input a b x y faults.Read l = absurd l
-run_leaves seen images s input a b x y (faults.Sheet why) l = absurd l
-run_leaves seen images s input a b x y (faults.Schedule why) l = absurd l
-run_leaves seen images s input a b x y (faults.Votes why) l = absurd l
-run_leaves seen images s input a b x y (faults.BadVotes place) l = absurd l
+run_leaves seen images s input a b x y faults.NotEmpty l = absurd l

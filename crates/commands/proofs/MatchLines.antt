@@ -9,32 +9,27 @@ use Rattle.entry_log.specs.declared.slots_of.SlotsOf.{Ghosts as Files}
 use Rattle.desk.specs.declared.desk.Desk.{Desk}
 use Rattle.notation.specs.Lines.{lines_of}
 use Rattle.books.specs.declared.rejected.Rejected.{Rejected}
-use Rattle.books.specs.Output.{book_after, with_taken}
+use Rattle.books.specs.Taking.{answer_to, book_after, with_taken}
 use Rattle.notation.specs.declared.entry.Entry.{Entry}
-use Rattle.books.specs.declared.fault.RunFault.{RunFault}
-use Rattle.books.specs.declared.fault.RunFault.TheVariants as faults
-use Rattle.books.specs.Output.{answer_to}
+use Rattle.commands.specs.declared.match_run.fault.MatchFault.{MatchFault}
+use Rattle.commands.specs.declared.match_run.fault.MatchFault.TheVariants as faults
 use Rattle.books.proofs.TakenLines.{Midway, first_refused}
 use Rattle.commands.specs.MatchRun.{WhyNoMatch, entries_of_first}
 use Rattle.commands.specs.inner.Turns.{DiskHolds, LineLeaves, LinesLeave, WhyNotAgreed}
 
 module _ (innings : ℕ) (input line : List ℕ) (rest : List (List ℕ)) (number : ℕ) (book : List Entry) (m : Midway innings input (line ∷ rest) number book) where
-  pub refused : (n k : ℕ) (fault : RunFault) → n ≡ innings → k ≡ number + 1 → WhyNotAgreed (answer_to n book line) book k fault → WhyNoMatch innings input [] [] fault
+  pub refused : (n k : ℕ) (fault : MatchFault) → n ≡ innings → k ≡ number + 1 → WhyNotAgreed (answer_to n book line) book k fault → WhyNoMatch innings input [] [] fault
   refused n k (faults.Line at why) same numbered w =
       let is : at ≡ number + 1 = w.0 ∙ numbered in
       rw is (first_refused innings input line rest number book m n why same w.1)
   refused n k (faults.NotAgreed place) same numbered w = let l = m.numbered in let b = m.long in omega (arith, w)
   refused n k faults.Device same numbered w = tt
   refused n k faults.NoMemory same numbered w = absurd w
-  refused n k faults.Read same numbered w = absurd w
   refused n k faults.Write same numbered w = absurd w
-  refused n k (faults.Sheet why) same numbered w = absurd w
-  refused n k (faults.Schedule why) same numbered w = absurd w
-  refused n k (faults.Votes why) same numbered w = absurd w
-  refused n k (faults.BadVotes place) same numbered w = absurd w
+  refused n k faults.NotEmpty same numbered w = absurd w
 
 -- the error that is passed on is the one that was met
-pub same_error : {T : Type 0} (r : Result T RunFault) (met fault : RunFault) → IsErrAnd r (λ e. e ≡ met) → r ≡ Err fault → ◌≡◌ {A = Result T RunFault} (Err met) (Err fault)
+pub same_error : {T : Type 0} (r : Result T MatchFault) (met fault : MatchFault) → IsErrAnd r (λ e. e ≡ met) → r ≡ Err fault → ◌≡◌ {A = Result T MatchFault} (Err met) (Err fault)
 same_error (Ok x) met fault h e = absurd (cc)
 same_error (Err why) met fault h e = rw (← h) e
 
@@ -67,7 +62,7 @@ module _ (innings : ℕ) (input : List ℕ) where
       ap (λ (ls : List (List ℕ)). book_after innings [] ls) seam ∙ sym r.is
 
 module _ {S B D : Type 0} {g : Files S D} {h : Disks D} {b : Books B} (x y : Desk S B D g h b) (innings : ℕ) (input : List ℕ) where
-  left_by : (book more : List Entry) (number k : ℕ) (answer : Result Entry Rejected) (fault : RunFault) → entries_of_first number innings input ≡ book → entries_of_first (number + 1) innings input ≡ more → length book ≡ number → k ≡ number + 1 →
+  left_by : (book more : List Entry) (number k : ℕ) (answer : Result Entry Rejected) (fault : MatchFault) → entries_of_first number innings input ≡ book → entries_of_first (number + 1) innings input ≡ more → length book ≡ number → k ≡ number + 1 →
       WhyNotAgreed answer book k fault → LineLeaves book more fault x y → LinesLeave innings input fault x y
   left_by book more number k answer (faults.Line at why) e f long n w l =
       (number, w.0 ∙ n, subst (DiskHolds x) (sym e) l.0, subst (DiskHolds y) (sym e) l.1)
@@ -77,15 +72,11 @@ module _ {S B D : Type 0} {g : Files S D} {h : Disks D} {b : Books B} (x y : Des
   left_by book more number k answer faults.Device e f long n w l =
       (number, rw (e, f) l.0, rw (e, f) l.1)
   left_by book more number k answer faults.NoMemory e f long n w l = absurd w
-  left_by book more number k answer faults.Read e f long n w l = absurd w
   left_by book more number k answer faults.Write e f long n w l = absurd w
-  left_by book more number k answer (faults.Sheet why) e f long n w l = absurd w
-  left_by book more number k answer (faults.Schedule why) e f long n w l = absurd w
-  left_by book more number k answer (faults.Votes why) e f long n w l = absurd w
-  left_by book more number k answer (faults.BadVotes place) e f long n w l = absurd w
+  left_by book more number k answer faults.NotEmpty e f long n w l = absurd w
 
   -- what both disks hold where the line that comes next isn't agreed
-  pub line_left : (line : List ℕ) (rest : List (List ℕ)) (number k n : ℕ) (book : List Entry) (fault : RunFault) → Reached innings input (line ∷ rest) number book → n ≡ innings → length book ≡ number → k ≡ number + 1 →
+  pub line_left : (line : List ℕ) (rest : List (List ℕ)) (number k n : ℕ) (book : List Entry) (fault : MatchFault) → Reached innings input (line ∷ rest) number book → n ≡ innings → length book ≡ number → k ≡ number + 1 →
       WhyNotAgreed (answer_to n book line) book k fault → LineLeaves book (with_taken (answer_to n book line) book) fault x y → LinesLeave innings input fault x y
   line_left line rest number k n book fault r same long e w l =
       let more : entries_of_first (number + 1) innings input ≡ with_taken (answer_to n book line) book =

@@ -42,15 +42,14 @@ use Rattle.desk.specs.Desk.{IsOf, SameOwner, desk_of, disk_of, game_of, rules_of
 use Rattle.desk.specs.Takes.{Takes}
 use Rattle.vote_store.specs.View.{file_view, votes_shown}
 use Rattle.commands.specs.MatchRun.{HoldsBook, HoldsEither, votes_for}
-use Rattle.books.specs.Taking.{is_full, taking}
-use Rattle.books.specs.declared.fault.RunFault.{RunFault}
-use Rattle.books.specs.declared.fault.RunFault.TheVariants as faults
+use Rattle.books.specs.Taking.{answer_to, is_full, taking, with_taken}
+use Rattle.commands.specs.declared.match_run.fault.MatchFault.{MatchFault}
+use Rattle.commands.specs.declared.match_run.fault.MatchFault.TheVariants as faults
 use Rattle.live.specs.Passed.{Passed, Sent, sent_bytes}
 use Rattle.agree_core.specs.Boards.{BoardState}
 use Rattle.board.specs.declared.board.Board.{Board}
 use Rattle.board.specs.Board as boards
 use Rattle.board.specs.Board.{SameMatch}
-use Rattle.books.specs.Output.{answer_to, with_taken}
 use Rattle.commands.specs.inner.Online.{IsOnline, SpeaksOf, StaysOnline}
 use Rattle.commands.specs.inner.Turns.{AreCalm, AreLevel, DiskHolds, DiskHoldsEither, GoesWith, InTurn, IsCalm, IsInTurn, IsLevel, KeepsDisk, KeepsOnline, KeepsTurn, LineLeaves, PenLeaves, VotesFor, WhyNotAgreed, board_at, book_at, innings_at, is_failing, pen_fault}
 use Rattle.commands.proofs.OnlineLemmas.{more, out_said, says_more}
@@ -415,7 +414,7 @@ module _ {S B D : Type 0} {g : Files S D} {h : Disks D} {b : Books B} where
   level_at book desk t same = subst (λ (es : List Entry). InTurn es desk) (sym same) t
 
   -- both desks have penned a line, and all three stations have agreed it
-  pub agreed : (r : Result (Unit {0}) RunFault) (a a1 a2 b0 b1 b2 : Desk S B D g h b) (k l : Board B b) (e : Entry) (place : ℕ) → AreLevel a b0 k → VotesFor e a a1 → VotesFor e b0 b1 → SameOwner a a1 → SameOwner b0 b1 → place ≡ length (book_at a) →
+  pub agreed : (r : Result (Unit {0}) MatchFault) (a a1 a2 b0 b1 b2 : Desk S B D g h b) (k l : Board B b) (e : Entry) (place : ℕ) → AreLevel a b0 k → VotesFor e a a1 → VotesFor e b0 b1 → SameOwner a a1 → SameOwner b0 b1 → place ≡ length (book_at a) →
       KeepsDisk a1 a2 → KeepsDisk b1 b2 → OnOk r (KeepsTurn a1 a2) → OnOk r (KeepsTurn b1 b2) → OnOk r (SameMatch b.innings_a_side k l) →
       OnOk r (place < length (book_at a2)) → OnOk r (place < length (book_at b2)) → OnOk r (place < length (b.content (boards.book_of l))) →
       OnOk r (AreLevel a2 b2 l × (book_at a2 ≡ book_at a ++ e ∷ []) × (AreCalm a b0 → AreCalm a2 b2))
@@ -444,23 +443,19 @@ module _ {S B D : Type 0} {g : Files S D} {h : Disks D} {b : Books B} where
       )
 
   -- the first desk hasn't penned the line's entry
-  pub first_left : (a a1 b0 : Desk S B D g h b) (line : List ℕ) (e : Entry) (fault : RunFault) → answer_to (innings_at a) (book_at a) line ≡ taking (innings_at a) (book_at a) e → PenLeaves e fault a a1 → DiskHolds b0 (book_at a) →
+  pub first_left : (a a1 b0 : Desk S B D g h b) (line : List ℕ) (e : Entry) (fault : MatchFault) → answer_to (innings_at a) (book_at a) line ≡ taking (innings_at a) (book_at a) e → PenLeaves e fault a a1 → DiskHolds b0 (book_at a) →
       LineLeaves (book_at a) (with_taken (answer_to (innings_at a) (book_at a) line) (book_at a)) fault a1 b0
   first_left a a1 b0 line e (faults.Line number why) is p d = (p, d)
   first_left a a1 b0 line e faults.Device is p d =
       let more : with_taken (answer_to (innings_at a) (book_at a) line) (book_at a) ≡ book_at a ++ e ∷ [] = ap (λ r. with_taken r (book_at a)) (is ∙ p.0) in
       (subst (DiskHoldsEither a1 (book_at a)) (sym more) p.1, either_book b0 (book_at a) (with_taken (answer_to (innings_at a) (book_at a) line) (book_at a)) d)
   first_left a a1 b0 line e faults.NoMemory is p d = absurd p
-  first_left a a1 b0 line e faults.Read is p d = absurd p
   first_left a a1 b0 line e faults.Write is p d = absurd p
-  first_left a a1 b0 line e (faults.Sheet why) is p d = absurd p
-  first_left a a1 b0 line e (faults.Schedule why) is p d = absurd p
-  first_left a a1 b0 line e (faults.Votes why) is p d = absurd p
-  first_left a a1 b0 line e (faults.BadVotes place) is p d = absurd p
+  first_left a a1 b0 line e faults.NotEmpty is p d = absurd p
   first_left a a1 b0 line e (faults.NotAgreed place) is p d = absurd p
 
   -- the first desk has penned it, and the second hasn't
-  pub second_left : (a1 b0 b1 : Desk S B D g h b) (book more : List Entry) (number : ℕ) (e : Entry) (fault : RunFault) → more ≡ book ++ e ∷ [] → book_at b0 ≡ book → taking (innings_at b0) (book_at b0) e ≡ Ok e →
+  pub second_left : (a1 b0 b1 : Desk S B D g h b) (book more : List Entry) (number : ℕ) (e : Entry) (fault : MatchFault) → more ≡ book ++ e ∷ [] → book_at b0 ≡ book → taking (innings_at b0) (book_at b0) e ≡ Ok e →
       WhyNotAgreed (taking (innings_at b0) (book_at b0) e) (book_at b0) number fault → PenLeaves e fault b0 b1 → DiskHolds a1 (book ++ e ∷ []) → LineLeaves book more fault a1 b1
   second_left a1 b0 b1 book more number e (faults.Line at why) is same taken w p d = absurd (let both : Ok e ≡ Err why = sym taken ∙ w.1 in cc)
   second_left a1 b0 b1 book more number e faults.Device is same taken w p d =
@@ -468,25 +463,21 @@ module _ {S B D : Type 0} {g : Files S D} {h : Disks D} {b : Books B} where
       let here = subst (λ (es : List Entry). DiskHoldsEither b1 es (es ++ e ∷ [])) same p.1 in
       (either_more a1 book more there, subst (DiskHoldsEither b1 book) (sym is) here)
   second_left a1 b0 b1 book more number e faults.NoMemory is same taken w p d = absurd p
-  second_left a1 b0 b1 book more number e faults.Read is same taken w p d = absurd p
   second_left a1 b0 b1 book more number e faults.Write is same taken w p d = absurd p
-  second_left a1 b0 b1 book more number e (faults.Sheet why) is same taken w p d = absurd p
-  second_left a1 b0 b1 book more number e (faults.Schedule why) is same taken w p d = absurd p
-  second_left a1 b0 b1 book more number e (faults.Votes why) is same taken w p d = absurd p
-  second_left a1 b0 b1 book more number e (faults.BadVotes place) is same taken w p d = absurd p
+  second_left a1 b0 b1 book more number e faults.NotEmpty is same taken w p d = absurd p
   second_left a1 b0 b1 book more number e (faults.NotAgreed place) is same taken w p d = absurd p
 
   -- both have penned it, and it isn't agreed
-  pub third_left : (r : Result (Unit {0}) RunFault) (a1 a2 b1 b2 : Desk S B D g h b) (book more : List Entry) (place : ℕ) → IfErr r (λ fault. (fault ≡ faults.Device) ⊎ (fault ≡ faults.NotAgreed place)) →
+  pub third_left : (r : Result (Unit {0}) MatchFault) (a1 a2 b1 b2 : Desk S B D g h b) (book more : List Entry) (place : ℕ) → IfErr r (λ fault. (fault ≡ faults.Device) ⊎ (fault ≡ faults.NotAgreed place)) →
       KeepsDisk a1 a2 → KeepsDisk b1 b2 → DiskHolds a1 more → DiskHolds b1 more → IfErr r (λ fault. LineLeaves book more fault a2 b2)
   third_left (Ok done) a1 a2 b1 b2 book more place only da db x y = tt
   third_left (Err fault) a1 a2 b1 b2 book more place (inl is) da db x y =
-      subst (λ (f : RunFault). LineLeaves book more f a2 b2) (sym is) (either_more a2 book more (still_holds a1 a2 more da x), either_more b2 book more (still_holds b1 b2 more db y))
+      subst (λ (f : MatchFault). LineLeaves book more f a2 b2) (sym is) (either_more a2 book more (still_holds a1 a2 more da x), either_more b2 book more (still_holds b1 b2 more db y))
   third_left (Err fault) a1 a2 b1 b2 book more place (inr is) da db x y =
-      subst (λ (f : RunFault). LineLeaves book more f a2 b2) (sym is) (still_holds a1 a2 more da x, still_holds b1 b2 more db y)
+      subst (λ (f : MatchFault). LineLeaves book more f a2 b2) (sym is) (still_holds a1 a2 more da x, still_holds b1 b2 more db y)
 
   -- and the board follows
-  pub agreed_online : (r : Result (Unit {0}) RunFault) (a a1 a2 b0 b1 : Desk S B D g h b) (k l : Board B b) (e : Entry) (log new : List Passed) → AreLevel a b0 k → VotesFor e a a1 → VotesFor e b0 b1 → SameOwner a a1 → SameOwner b0 b1 →
+  pub agreed_online : (r : Result (Unit {0}) MatchFault) (a a1 a2 b0 b1 : Desk S B D g h b) (k l : Board B b) (e : Entry) (log new : List Passed) → AreLevel a b0 k → VotesFor e a a1 → VotesFor e b0 b1 → SameOwner a a1 → SameOwner b0 b1 →
       OnOk r (KeepsOnline a1 b1 k l log new) → OnOk r (book_at a2 ≡ book_at a ++ e ∷ []) →
       OnOk r ((start : List Passed) → IsOnline (game_of a) start (book_at a) log (board_at k) → IsOnline (game_of a) start (book_at a2) new (board_at l))
   agreed_online (Err why) a a1 a2 b0 b1 k l e log new level va vb oa ob keeps book = tt

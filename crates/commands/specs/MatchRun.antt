@@ -19,12 +19,15 @@ use Rattle.cards.specs.Board.{board}
 use Rattle.cards.specs.Sheet.{Sheet}
 use Rattle.streams.specs.Watched.{Prints}
 use Rattle.streams.specs.declared.watched.Watched.{Watched}
-use Rattle.books.specs.declared.fault.RunFault.{RunFault}
-use Rattle.books.specs.declared.fault.RunFault.TheVariants.{NoMemory, Write, Device, Votes, Line, NotAgreed}
+use Rattle.books.specs.declared.fault.BookFault.TheVariants as books
 use Rattle.books.specs.CardBook.{IsBookOfLines, NamesFirstRejected}
-use Rattle.books.specs.Output.{book_after}
+use Rattle.books.specs.Taking.{book_after}
 use Rattle.live.specs.Passed.{Passed, Sent, Came}
 use Rattle.live.specs.Logs.{passed_of}
+use Rattle.commands.specs.declared.fault.StopFault.{StopFault}
+use Rattle.commands.specs.declared.fault.StopFault.TheVariants as stops
+use Rattle.commands.specs.declared.match_run.fault.MatchFault.{MatchFault}
+use Rattle.commands.specs.declared.match_run.fault.MatchFault.TheVariants.{NoMemory, Write, Device, NotEmpty, Line, NotAgreed}
 use Rattle.commands.specs.declared.match_run.post.Post.{Post}
 
 -- these votes, and then one for each entry, in the first round of its place; the newest first
@@ -101,7 +104,7 @@ module _
 
     -- What both disks hold after a fault: the entries of the lines before the first that isn't taken; those up to the
     -- place that isn't agreed; those of all lines. A disk that failed may hold one vote more, or has no whole file yet.
-    abbrev pub Leaves : RunFault → D → D → D → D → Type 0
+    abbrev pub Leaves : MatchFault → D → D → D → D → Type 0
     Leaves (Line number why) a b new_a new_b = (n : ℕ) × (number ≡ n + 1) × KeepFirst n new_a new_b
     Leaves (NotAgreed place) a b new_a new_b = KeepFirst (place + 1) new_a new_b
     Leaves Write a b new_a new_b = KeepFirst (length (lines_of input)) new_a new_b
@@ -109,7 +112,7 @@ module _
         MayBegin a b new_a new_b ⊎ ((n : ℕ) × KeepsOneMore n A new_a × KeepsOneMore n B new_b)
     Leaves NoMemory a b new_a new_b =
         (Stays seen images a new_a ⊎ KeepsBook seen images s A new_a []) × Stays seen images b new_b
-    Leaves fault a b new_a new_b = Stays seen images a new_a × Stays seen images b new_b
+    Leaves NotEmpty a b new_a new_b = Stays seen images a new_a × Stays seen images b new_b
 
 module _
     {S D : Type 0} (bytes : S → Option (List ℕ)) (old new : Watched S) (seen : D → List ℕ) (images : D → Images)
@@ -131,20 +134,28 @@ module _
 
 module _ {D : Type 0} where
   -- the disks of A and of B, which come back with either answer
-  abbrev pub left_at_a : Result (D × D) (RunFault × D × D) → D
+  abbrev pub left_at_a : Result (D × D) (MatchFault × D × D) → D
   left_at_a (Ok disks) = disks.0
   left_at_a (Err ended) = ended.1
 
-  abbrev pub left_at_b : Result (D × D) (RunFault × D × D) → D
+  abbrev pub left_at_b : Result (D × D) (MatchFault × D × D) → D
   left_at_b (Ok disks) = disks.1
   left_at_b (Err ended) = ended.2
 
 -- the first line that isn't taken; that a disk has a file; or which line isn't agreed, its place counted from 0
-abbrev pub WhyNoMatch : ℕ → List ℕ → List ℕ → List ℕ → RunFault → Type 0
-WhyNoMatch innings input a b (Line number why) = NamesFirstRejected innings input (Line number why)
-WhyNoMatch innings input a b (Votes why) = (why ≡ not_empty) × ((0 < length a) ⊎ (0 < length b))
+abbrev pub WhyNoMatch : ℕ → List ℕ → List ℕ → List ℕ → MatchFault → Type 0
+WhyNoMatch innings input a b (Line number why) = NamesFirstRejected innings input (books.Line number why)
+WhyNoMatch innings input a b NotEmpty = (0 < length a) ⊎ (0 < length b)
 WhyNoMatch innings input a b (NotAgreed place) = place < length (lines_of input)
 WhyNoMatch innings input a b NoMemory = Unit {0}
 WhyNoMatch innings input a b Device = Unit {0}
 WhyNoMatch innings input a b Write = Unit {0}
-WhyNoMatch innings input a b _ = ⊥
+
+-- what standard error is told, and the status, go by
+abbrev pub stop_of : MatchFault → StopFault
+stop_of NoMemory = stops.NoMemory
+stop_of Write = stops.Write
+stop_of Device = stops.Write
+stop_of NotEmpty = stops.Votes not_empty
+stop_of (Line number why) = stops.Line number why
+stop_of (NotAgreed place) = stops.NotAgreed place

@@ -19,8 +19,14 @@ use Rattle.headline.specs.Runs.{last_of}
 use Rattle.schedules.specs.ScheduleLines.{HasFault, IsScheduleOf}
 use Rattle.schedule_replay.specs.SeenWords.{refusal_number}
 use Rattle.headline.specs.Configurations.{Configuration}
-use Rattle.books.specs.declared.fault.RunFault.{RunFault}
-use Rattle.books.specs.declared.fault.RunFault.TheVariants.{NoMemory, Read, Write, Schedule}
+use Rattle.schedules.specs.declared.schedule_fault.ScheduleFault.{ScheduleFault}
+use Rattle.schedules.specs.declared.schedule_fault.ScheduleFault.TheVariants as schedules
+use Rattle.streams.specs.declared.input.InputFault.{InputFault}
+use Rattle.streams.specs.declared.input.InputFault.TheVariants as inputs
+use Rattle.commands.specs.declared.fault.StopFault.{StopFault}
+use Rattle.commands.specs.declared.fault.StopFault.TheVariants as stops
+use Rattle.commands.specs.declared.replay.ReplayFault.{ReplayFault}
+use Rattle.commands.specs.declared.replay.ReplayFault.TheVariants.{NoMemory, Read, Write, Schedule}
 use Rattle.commands.specs.declared.replay.step.Stepped.{Stepped}
 use Rattle.commands.specs.declared.replay.step.Stepped.TheVariants.{Whole, Refused}
 use Rattle.commands.specs.Replay.{event_lines, last_lines, refusal_line}
@@ -83,12 +89,28 @@ PrintsReplay contents old new s version boards input refused =
     × PrintsRun contents old new s version boards events refused
 
 -- a read or a write failed, memory was wanted, or the input is no schedule, for this reason
-abbrev pub WhyNoReplay : List ℕ → RunFault → Type 0
+abbrev pub WhyNoReplay : List ℕ → ReplayFault → Type 0
 WhyNoReplay input NoMemory = ⊤
 WhyNoReplay input Read = ⊤
 WhyNoReplay input Write = ⊤
 WhyNoReplay input (Schedule why) = HasFault (lines_of input) why
-WhyNoReplay input _ = ⊥
+
+-- the fault of an input that isn't read to its end
+abbrev pub of_input : InputFault → ReplayFault
+of_input inputs.NoMemory = NoMemory
+of_input inputs.Read = Read
+
+-- the fault of a schedule that is refused: being out of memory is its own
+abbrev pub of_schedule : ScheduleFault → ReplayFault
+of_schedule schedules.NoMemory = NoMemory
+of_schedule why = Schedule why
+
+-- what standard error is told, and the status, go by
+abbrev pub stop_of : ReplayFault → StopFault
+stop_of NoMemory = stops.NoMemory
+stop_of Read = stops.Read
+stop_of Write = stops.Write
+stop_of (Schedule why) = stops.Schedule why
 
 -- ---- for private functions
 

@@ -3,11 +3,10 @@
 mod notes;
 mod sign;
 
+use crate::fault::{StopFault, Stopped};
 use crate::opening::{peers_at, printer};
-use crate::stopped::Stopped;
 use crate::twins::told_sheet_at;
 use board::Board;
-use books::RunFault;
 use cards::MatchSheet;
 use corrections::CheckedBook;
 use live::{Clock, Link, Notices, run_board};
@@ -29,11 +28,11 @@ fn text_file<'a>(
 ) -> Result<TextFile<'a>, Stopped<'a>> {
     let file = TextFile::new(rt, path, sheet).map_err(|why| Stopped::at(
         path,
-        RunFault::from(why),
+        StopFault::from(why),
     ))?;
     match file.expect_room() {
         Ok(()) => Ok(file),
-        Err(_) => Err(Stopped::at(path, RunFault::Write)),
+        Err(_) => Err(Stopped::at(path, StopFault::Write)),
     }
 }
 
@@ -67,7 +66,7 @@ fn show<L: Link, C: Clock, N: Notices, W: Write>(
 /// `ground board`: keeps a board that listens at an address, shows its six lines at the start and whenever they
 /// change, and tells standard error what it can't take.
 #[inline(never)]
-pub fn board_run<'a>(
+pub fn start_board<'a>(
     rt: &'a HostRuntime,
     sheet_path: &'a str,
     at: Address<'a>,
@@ -78,7 +77,7 @@ pub fn board_run<'a>(
     let mut out = shown(rt, text, sheet_path)?;
     let book = CheckedBook::new(rt.alloc(), sheet.innings()).map_err(|why| Stopped::at(
         "-",
-        RunFault::from(why),
+        StopFault::from(why),
     ))?;
     let mut board = Board::new(sheet.game(), book);
     let mut link = peers_at(rt, at, peers, sheet.game(), rt.stderr())?;
@@ -89,6 +88,6 @@ pub fn board_run<'a>(
     );
     match ended {
         Ok(()) => Ok(false),
-        Err(_) => Err(Stopped::at("-", RunFault::Write)),
+        Err(_) => Err(Stopped::at("-", StopFault::Write)),
     }
 }

@@ -3,12 +3,11 @@
 ghost use Rattle.std.specs.Prelude.{IfOk};
 ghost use Rattle.desk.specs.Desk.{IsOf};
 
+use crate::fault::{StopFault, Stopped};
 use crate::opening::{output, peers_at};
-use crate::stopped::{StopFault, Stopped};
 use crate::twins::told_sheet_at;
 use crate::votes_file::{VotesDisk, empty_disk, kept_votes, renewed_disk};
 use agree_core::DeskId;
-use books::RunFault;
 use cards::MatchSheet;
 use corrections::{BookOf, CheckedBook};
 use desk::Desk;
@@ -34,11 +33,11 @@ fn desk_on<'a, D: Disk + Drop>(
 {
     let book = CheckedBook::new(rt.alloc(), sheet.innings()).map_err(|why| Stopped::at(
         path,
-        RunFault::from(why),
+        StopFault::from(why),
     ))?;
     match begin_desk::<Slots<D>, CheckedBook>(rt.alloc(), disk, desk, sheet.game(), book) {
         Ok(desk) => Ok(desk),
-        Err((why, _disk)) => Err(Stopped::at(path, RunFault::from(why))),
+        Err((why, _disk)) => Err(Stopped::at(path, StopFault::from(why))),
     }
 }
 
@@ -55,7 +54,7 @@ fn judge<'a>(
             Ok(_desk) => Ok(()),
             Err(stopped) => Err(stopped),
         },
-        Err(why) => Err(Stopped::at(path, RunFault::from(why))),
+        Err(why) => Err(Stopped::at(path, StopFault::from(why))),
     }
 }
 
@@ -94,7 +93,7 @@ fn keep<S: SlotsOf + Drop, B: BookOf + Drop, L: Link, K: Keys, C: Clock, W: Writ
 /// `ground desk`: keeps a scorer's desk with its votes in a file, listening at an address, until the scorer types
 /// `quit` or no more.
 #[inline(never)]
-pub fn desk_run<'a>(
+pub fn start_desk<'a>(
     rt: &HostRuntime,
     sheet: &'a str,
     desk: DeskId,
@@ -109,9 +108,9 @@ pub fn desk_run<'a>(
     let mut keys = Keyboard::of_standard_input(rt);
     let mut clock = MonotonicClock::new(rt);
     match keep(desk, &sheet, &mut link, &mut keys, &mut clock, &mut writer) {
-        Err(DeskEnd::NoMoreLines) if keys.has_failed() => Err(Stopped::at("-", RunFault::Read)),
+        Err(DeskEnd::NoMoreLines) if keys.has_failed() => Err(Stopped::at("-", StopFault::Read)),
         Ok(()) | Err(DeskEnd::Quit | DeskEnd::NoMoreLines) => Ok(false),
-        Err(DeskEnd::Write) => Err(Stopped::at("-", RunFault::Write)),
+        Err(DeskEnd::Write) => Err(Stopped::at("-", StopFault::Write)),
         Err(DeskEnd::Device) => Err(Stopped {
             path: file,
             fault: StopFault::Disk,

@@ -1,7 +1,6 @@
 //! The three standard streams of a program that may have been started without some of them.
 
-use crate::stopped::Stopped;
-use books::RunFault;
+use crate::fault::{StopFault, Stopped};
 use std::fs::{File, OpenOptions};
 use std::os::fd::AsFd;
 
@@ -34,7 +33,7 @@ fn fill(
     }
     match how.open(rt, NULL) {
         Ok(file) => Ok(Some(file)),
-        Err(_) => Err(Stopped::at(NULL, RunFault::Read)),
+        Err(_) => Err(Stopped::at(NULL, StopFault::Read)),
     }
 }
 

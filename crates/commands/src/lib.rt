@@ -1,25 +1,33 @@
-//! The commands of the program, a module each: `replay`, `migrate`, `match`, and a desk and a board on a machine of their
-//! own. Beside them stands what they share: the files that a command opens, and why one ends before its end.
+//! The commands of the program, a module each: what a command does, over any reader, writer, disk or link, with a fault of
+//! its own; and how it is started on this machine. Beside them stands what they share: the files that a command opens, and
+//! why one ends before its end.
 #![tactic(auto)]
 
 mod board;
+mod card;
+mod check;
 mod desk;
+mod export;
+mod fault;
 mod gaps;
 mod match_run;
 mod migrate;
 mod opening;
+mod printing;
 mod replay;
-mod stopped;
+mod sheet;
 mod twins;
 mod votes_file;
 
-pub use crate::board::board_run;
-pub use crate::desk::desk_run;
-pub use gaps::{Gaps, fill_gaps};
-pub use match_run::{MatchFiles, Post, run_match};
-pub use migrate::migrate_run;
-pub use opening::{Output, bytes_at, old_votes_at, open_input, output, sheet_at};
-pub use replay::replay_run;
-pub use stopped::{StopFault, Stopped, print_stopped};
-pub use twins::told_sheet_at;
-pub use votes_file::{VotesDisk, new_disk_at};
+pub use crate::board::start_board;
+pub use crate::card::{card_run, start_card};
+pub use crate::check::{CheckFault, check_run, start_check};
+pub use crate::desk::start_desk;
+pub use crate::export::{export_run, start_export};
+pub use crate::fault::{StopFault, Stopped, print_fault};
+pub use crate::gaps::{Gaps, fill_gaps};
+pub use crate::match_run::{MatchFault, Post, run_match, start_match};
+pub use crate::migrate::{MigrateFault, migrate_run, start_migrate};
+pub use crate::printing::PrintFault;
+pub use crate::replay::{ReplayFault, replay_run, start_replay};
+pub use crate::sheet::{NoSheet, sheet_run};

@@ -7,37 +7,38 @@ ghost use Rattle.streams.specs.Watched.{IsHandedOn, MeetsFailure, Prints};
 ghost use Rattle.desk.specs.Desk.{SameOwner, game_of};
 ghost use Rattle.board.specs.Board.{book_of};
 ghost use Rattle.vote_store.specs.Migrated.{answer_of};
-ghost use Rattle.vote_store.specs.Refusal.{not_empty};
 ghost use Rattle.books.specs.CardBook.{IsBookOfLines};
 ghost use Rattle.live.specs.Passed.{Passed};
 ghost use Rattle.commands.specs.MatchRun.{AgreesLines, IsQuiet, Leaves, Stays, WhyNoMatch, left_at_a, left_at_b, passed_at};
 ghost use Rattle.commands.specs.inner.Online.{IsOnline};
 ghost use Rattle.commands.specs.inner.Turns.{AreCalm, AreLevel, LinesLeave, board_at, book_at, innings_at};
 
+mod fault;
 mod files;
 mod post;
 mod turns;
 
-pub use files::MatchFiles;
-pub use post::Post;
-
-use books::RunFault;
+use crate::fault::{StopFault, Stopped};
+use crate::opening::{Output, bytes_at, output, sheet_at};
+use crate::votes_file::VotesDisk;
 use cards::MatchSheet;
-use entry_log::{Disk, Refusal as FileRefusal, SlotsOf};
-use machine::Link;
+use entry_log::{Disk, SlotsOf};
+pub use fault::MatchFault;
+use files::MatchFiles;
+use machine::{Link, Sockets};
 use notation::Lines;
+pub use post::Post;
 use std::alloc::Global;
 use std::io::Write;
 use streams::{LONGEST_INPUT, Watched};
 use turns::{Stations, new_stations};
-use vote_store::Refusal;
 
 /// Has the stations take the lines of an input, one after the other.
 fn take_lines<S: SlotsOf, L: Link>(
     stations: &mut Stations<S>,
     input: &[u8],
     post: &mut Post<L>,
-) -> Result<(), RunFault>
+) -> Result<(), MatchFault>
     requires short { length input.now ≤ LONGEST_INPUT }
     requires level { AreLevel stations.old.a stations.old.b stations.old.board }
     requires empty { book_at stations.old.a ≡ [] }
@@ -53,8 +54,8 @@ fn take_lines<S: SlotsOf, L: Link>(
     ensures left { IfErr result (λ fault.
         LinesLeave (innings_at stations.old.a) input.now fault stations.new.a stations.new.b) }
     ensures why { IfErr result (WhyNoMatch (innings_at stations.old.a) input.now [] []) }
-    ensures no_write { result ≢ Err RunFault.Write }
-    ensures calm { AreCalm stations.old.a stations.old.b → result ≢ Err RunFault.Device }
+    ensures no_write { result ≢ Err MatchFault.Write }
+    ensures calm { AreCalm stations.old.a stations.old.b → result ≢ Err MatchFault.Device }
 {
     let mut lines = Lines::new(input);
     let mut number = 0;
@@ -66,30 +67,30 @@ fn take_lines<S: SlotsOf, L: Link>(
 }
 
 /// Whether a disk has no file. The answer is a fault where it has one, or where the disk fails.
-fn expect_empty<D: Disk>(disk: &mut D) -> Result<(), RunFault>
+fn expect_empty<D: Disk>(disk: &mut D) -> Result<(), MatchFault>
     ensures empty { OnOk result (length (D.seen disk.old) ≡ 0) }
     ensures stays { Stays D.seen D.images disk.old disk.new }
     ensures calm { IsQuiet D.faults D.cap disk.old →
-        IsQuiet D.faults D.cap disk.new × (result ≢ Err RunFault.Device) }
-    ensures why { IfErr result (λ fault. (fault ≡ RunFault.Device)
-        ⊎ ((fault ≡ RunFault.Votes not_empty) × (0 < length (D.seen disk.old)))) }
+        IsQuiet D.faults D.cap disk.new × (result ≢ Err MatchFault.Device) }
+    ensures why { IfErr result (λ fault. (fault ≡ MatchFault.Device)
+        ⊎ ((fault ≡ MatchFault.NotEmpty) × (0 < length (D.seen disk.old)))) }
 {
     match disk.len() {
         Ok(0) => Ok(()),
-        Ok(_) => Err(RunFault::Votes(Refusal::File(FileRefusal::NotEmpty))),
-        Err(_) => Err(RunFault::Device),
+        Ok(_) => Err(MatchFault::NotEmpty),
+        Err(_) => Err(MatchFault::Device),
     }
 }
 
 /// Whether neither disk has a file.
-fn expect_both_empty<D: Disk>(a: &mut D, b: &mut D) -> Result<(), RunFault>
+fn expect_both_empty<D: Disk>(a: &mut D, b: &mut D) -> Result<(), MatchFault>
     ensures empty { OnOk result ((length (D.seen a.old) ≡ 0) × (length (D.seen b.old) ≡ 0)) }
     ensures stays_a { Stays D.seen D.images a.old a.new }
     ensures stays_b { Stays D.seen D.images b.old b.new }
     ensures calm { IsQuiet D.faults D.cap a.old → IsQuiet D.faults D.cap b.old →
-        IsQuiet D.faults D.cap a.new × IsQuiet D.faults D.cap b.new × (result ≢ Err RunFault.Device) }
-    ensures why { IfErr result (λ fault. (fault ≡ RunFault.Device)
-        ⊎ ((fault ≡ RunFault.Votes not_empty)
+        IsQuiet D.faults D.cap a.new × IsQuiet D.faults D.cap b.new × (result ≢ Err MatchFault.Device) }
+    ensures why { IfErr result (λ fault. (fault ≡ MatchFault.Device)
+        ⊎ ((fault ≡ MatchFault.NotEmpty)
         × ((0 < length (D.seen a.old)) ⊎ (0 < length (D.seen b.old))))) }
 {
     expect_empty(a)?;
@@ -103,7 +104,7 @@ fn play<S: SlotsOf, L: Link, W: Write>(
     input: &[u8],
     post: &mut Post<L>,
     writer: &mut Watched<W>,
-) -> Result<(), RunFault>
+) -> Result<(), MatchFault>
     requires short { length input.now ≤ LONGEST_INPUT }
     requires level { AreLevel stations.old.a stations.old.b stations.old.board }
     requires empty { book_at stations.old.a ≡ [] }
@@ -122,15 +123,15 @@ fn play<S: SlotsOf, L: Link, W: Write>(
         (board_text sheet.now (innings_at stations.old.a)
         (history_of (book_of stations.new.board).entries))) }
     ensures why { IfErr result (WhyNoMatch (innings_at stations.old.a) input.now [] []) }
-    ensures calm { AreCalm stations.old.a stations.old.b → result ≢ Err RunFault.Device }
+    ensures calm { AreCalm stations.old.a stations.old.b → result ≢ Err MatchFault.Device }
     ensures handed_on { OnOk result (IsHandedOn writer.new) }
-    ensures write { result ≡ Err RunFault.Write → MeetsFailure writer.old writer.new }
-    ensures unwritten { IfErr result (λ fault. fault ≢ RunFault.Write → writer.new ≡ writer.old) }
+    ensures write { result ≡ Err MatchFault.Write → MeetsFailure writer.old writer.new }
+    ensures unwritten { IfErr result (λ fault. fault ≢ MatchFault.Write → writer.new ≡ writer.old) }
 {
     take_lines(stations, input, post)?;
     match stations.print_board(sheet, writer) {
         Ok(()) => Ok(()),
-        Err(_) => Err(RunFault::Write),
+        Err(_) => Err(MatchFault::Write),
     }
 }
 
@@ -150,7 +151,7 @@ pub fn run_match<D: Disk + Drop, L: Link, W: Write>(
     mut b: D,
     post: &mut Post<L>,
     writer: &mut Watched<W>,
-) -> Result<(D, D), (RunFault, D, D)>
+) -> Result<(D, D), (MatchFault, D, D)>
     requires { length input.now ≤ LONGEST_INPUT }
     ensures agreed { IfOk result (λ disks.
         AgreesLines W.contents writer.old writer.new D.seen D.images sheet.now input.now
@@ -166,12 +167,12 @@ pub fn run_match<D: Disk + Drop, L: Link, W: Write>(
         Stays D.seen D.images a (left_at_a result) × Stays D.seen D.images b (left_at_b result) }
     // Where no fault is due at either disk, and both have room, none is met.
     ensures calm { IsQuiet D.faults D.cap a → IsQuiet D.faults D.cap b →
-        answer_of result ≢ Err RunFault.Device }
+        answer_of result ≢ Err MatchFault.Device }
     ensures handed_on { OnOk result (IsHandedOn writer.new) }
-    ensures write { answer_of result ≡ Err RunFault.Write → MeetsFailure writer.old writer.new }
+    ensures write { answer_of result ≡ Err MatchFault.Write → MeetsFailure writer.old writer.new }
     // With any other fault nothing was written.
     ensures unwritten { IfErr (answer_of result) (λ fault.
-        fault ≢ RunFault.Write → writer.new ≡ writer.old) }
+        fault ≢ MatchFault.Write → writer.new ≡ writer.old) }
 {
     if let Err(why) = expect_both_empty(&mut a, &mut b) {
         return Err((why, a, b));
@@ -182,5 +183,62 @@ pub fn run_match<D: Disk + Drop, L: Link, W: Write>(
     match answer {
         Ok(()) => Ok((a, b)),
         Err(why) => Err((why, a, b)),
+    }
+}
+
+/// Closes a votes file.
+fn close_disk(_disk: VotesDisk<'_>) {}
+
+/// Has two desks on these files agree the lines of a book.
+fn play_match<'a>(
+    rt: &HostRuntime,
+    sheet: &MatchSheet,
+    lines: &[u8],
+    files: &MatchFiles<'a>,
+    post: &mut Post<Sockets>,
+    writer: &mut Output<'_>,
+) -> Result<(), Stopped<'a>>
+    requires { length lines.now ≤ LONGEST_INPUT }
+{
+    let a = files.disk_a(rt)?;
+    let b = files.disk_b(rt)?;
+    match run_match(rt.alloc(), sheet, lines, a, b, post, writer) {
+        Ok((a, b)) => {
+            close_disk(a);
+            close_disk(b);
+            Ok(())
+        }
+        Err((fault, a, b)) => {
+            close_disk(a);
+            close_disk(b);
+            Err(Stopped::at(files.folder(), StopFault::from(fault)))
+        }
+    }
+}
+
+/// Runs `match` over the lines of a book, with votes files in a folder. Where it ends before its first vote, no file
+/// stays that wasn't there before.
+#[inline(never)]
+pub fn start_match<'a>(
+    rt: &HostRuntime,
+    sheet: &'a str,
+    book: &'a str,
+    folder: &'a str,
+    drop: u16,
+) -> Result<bool, Stopped<'a>> {
+    let sheet = sheet_at(rt, sheet)?;
+    let lines = bytes_at(rt, book)?;
+    let mut writer = output(rt)?;
+    let mut post = match Sockets::new(rt) {
+        Ok(sockets) => Post::new(sockets, drop),
+        Err(_) => return Err(Stopped::at(folder, StopFault::Write)),
+    };
+    let files = MatchFiles::in_folder(rt, folder)?;
+    match play_match(rt, &sheet, lines.as_slice(), &files, &mut post, &mut writer) {
+        Ok(()) => Ok(false),
+        Err(stopped) => {
+            files.take_back(rt);
+            Err(stopped)
+        }
     }
 }

@@ -4,9 +4,9 @@ ghost use Rattle.std.specs.Prelude.{◌≡◌, ◌≤◌, IfOk, vec_len};
 ghost use Rattle.streams.specs.declared.limit.TheConstants.{LONGEST_INPUT};
 ghost use Rattle.commands.specs.inner.Opening as texts;
 
-use crate::stopped::{StopFault, Stopped};
+use crate::fault::{StopFault, Stopped};
+use crate::sheet::sheet_run;
 use agree_core::DeskId;
-use books::{RunFault, sheet_run};
 use cards::MatchSheet;
 use entry_log::OldSlots;
 use machine::{Address, FileDisk, MOST_PEERS, OpenFault, Peers};
@@ -20,18 +20,18 @@ use vote_store::Votes;
 pub type Output<'a> = Watched<BufWriter<Printer<'a, HostRuntime>>>;
 
 /// The fault of a run that wants to read a file of which no disk is made.
-pub fn fault_of_old(fault: OpenFault) -> RunFault
+pub fn fault_of_old(fault: OpenFault) -> StopFault
     ensures { result ≡ texts.fault_of_old fault }
 {
     match fault {
-        OpenFault::NoMemory => RunFault::NoMemory,
-        OpenFault::Host | OpenFault::TooLong => RunFault::Read,
+        OpenFault::NoMemory => StopFault::NoMemory,
+        OpenFault::Host | OpenFault::TooLong => StopFault::Read,
     }
 }
 
 /// A file that is only read.
 fn file_at<'a>(rt: &HostRuntime, path: &'a str) -> Result<File, Stopped<'a>> {
-    File::open(rt, path).map_err(|_| Stopped::at(path, RunFault::Read))
+    File::open(rt, path).map_err(|_| Stopped::at(path, StopFault::Read))
 }
 
 /// Opens a file that is read from its front to its end.
@@ -42,7 +42,7 @@ pub fn open_input<'a>(rt: &HostRuntime, path: &'a str) -> Result<Watched<File>, 
 /// The match sheet in a file.
 pub fn sheet_at<'a>(rt: &HostRuntime, path: &'a str) -> Result<MatchSheet, Stopped<'a>> {
     let mut reader = open_input(rt, path)?;
-    sheet_run(rt.alloc(), &mut reader).map_err(|fault| Stopped::at(path, fault))
+    sheet_run(rt.alloc(), &mut reader).map_err(|fault| Stopped::at(path, StopFault::from(fault)))
 }
 
 /// All bytes of a file.
@@ -52,7 +52,7 @@ pub fn bytes_at<'a>(rt: &HostRuntime, path: &'a str) -> Result<Vec<u8>, Stopped<
     let mut reader = open_input(rt, path)?;
     match read_all(rt.alloc(), &mut reader) {
         Ok(bytes) => Ok(bytes),
-        Err(fault) => Err(Stopped::at(path, RunFault::from(fault))),
+        Err(fault) => Err(Stopped::at(path, StopFault::from(fault))),
     }
 }
 
@@ -72,13 +72,13 @@ pub fn old_votes_at<'a>(
     let disk = reading_disk(rt, path)?;
     match Votes::<OldSlots<FileDisk<File>>>::open(rt.alloc(), disk, desk, game) {
         Ok(votes) => Ok(votes.into_disk()),
-        Err((why, _disk)) => Err(Stopped::at(path, RunFault::from(why))),
+        Err((why, _disk)) => Err(Stopped::at(path, StopFault::from(why))),
     }
 }
 
 /// Standard output, a buffer at a time.
 pub fn printer(rt: &HostRuntime) -> Result<BufWriter<Printer<'_, HostRuntime>>, Stopped<'static>> {
-    BufWriter::new(rt.alloc(), io::writer(rt)).map_err(|_| Stopped::at("-", RunFault::NoMemory))
+    BufWriter::new(rt.alloc(), io::writer(rt)).map_err(|_| Stopped::at("-", StopFault::NoMemory))
 }
 
 /// Standard output, watched.

@@ -1,7 +1,7 @@
 //! Names of a sheet that two bear. Such a sheet is taken: standard error is told, and the match goes on.
 
+use crate::fault::Stopped;
 use crate::opening::sheet_at;
-use crate::stopped::Stopped;
 use cards::MatchSheet;
 use notation::{Player, Side};
 use std::io::{self, Write};

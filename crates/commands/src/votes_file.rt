@@ -3,9 +3,8 @@
 ghost use Rattle.std.specs.Prelude.{◌≡◌};
 ghost use Rattle.commands.specs.inner.Opening as texts;
 
+use crate::fault::{StopFault, Stopped};
 use crate::opening::fault_of_old;
-use crate::stopped::Stopped;
-use books::RunFault;
 use entry_log::LONGEST_FILE;
 use machine::{FileDisk, NamedFile, OpenFault, bytes_of, renewed};
 use vote_store::Refusal;
@@ -14,31 +13,31 @@ use vote_store::Refusal;
 pub type VotesDisk<'a> = FileDisk<NamedFile<'a>>;
 
 /// The fault of a run that wants a file without a byte: one that is too long isn't empty.
-fn fault_of_new(fault: OpenFault) -> RunFault
+fn fault_of_new(fault: OpenFault) -> StopFault
     ensures { result ≡ texts.fault_of_new fault }
 {
     match fault {
-        OpenFault::NoMemory => RunFault::NoMemory,
-        OpenFault::Host => RunFault::Device,
-        OpenFault::TooLong => RunFault::Votes(Refusal::File(entry_log::Refusal::NotEmpty)),
+        OpenFault::NoMemory => StopFault::NoMemory,
+        OpenFault::Host => StopFault::Write,
+        OpenFault::TooLong => StopFault::Votes(Refusal::File(entry_log::Refusal::NotEmpty)),
     }
 }
 
 /// The fault of a run whose file can't be written anew.
-fn fault_of_copy(fault: OpenFault) -> RunFault
+fn fault_of_copy(fault: OpenFault) -> StopFault
     ensures { result ≡ texts.fault_of_copy fault }
 {
     match fault {
-        OpenFault::NoMemory => RunFault::NoMemory,
-        OpenFault::Host | OpenFault::TooLong => RunFault::Write,
+        OpenFault::NoMemory => StopFault::NoMemory,
+        OpenFault::Host | OpenFault::TooLong => StopFault::Write,
     }
 }
 
 /// A disk on a file that is to have votes, which is made where there is none.
-fn new_disk<'r>(rt: &'r HostRuntime, path: &str) -> Result<VotesDisk<'r>, RunFault> {
+fn new_disk<'r>(rt: &'r HostRuntime, path: &str) -> Result<VotesDisk<'r>, StopFault> {
     match NamedFile::open(rt, path) {
         Ok(file) => FileDisk::new(rt.alloc(), file, LONGEST_FILE).map_err(fault_of_new),
-        Err(_) => Err(RunFault::Write),
+        Err(_) => Err(StopFault::Write),
     }
 }
 
@@ -57,7 +56,7 @@ pub fn kept_votes<'r, 'a>(
     path: &'a str,
 ) -> Result<(NamedFile<'r>, Vec<u8>), Stopped<'a>> {
     let Ok(mut file) = NamedFile::open(rt, path) else {
-        return Err(Stopped::at(path, RunFault::Write));
+        return Err(Stopped::at(path, StopFault::Write));
     };
     match bytes_of(rt.alloc(), &mut file) {
         Ok(bytes) => Ok((file, bytes)),
@@ -86,7 +85,7 @@ pub fn renewed_disk<'r, 'a>(
     bytes: &[u8],
 ) -> Result<VotesDisk<'r>, Stopped<'a>> {
     let Ok(beside) = file.beside() else {
-        return Err(Stopped::at(path, RunFault::Write));
+        return Err(Stopped::at(path, StopFault::Write));
     };
     let room = LONGEST_FILE.max(bytes.len());
     match renewed(rt.alloc(), beside, bytes, room) {

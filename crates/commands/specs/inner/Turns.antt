@@ -16,16 +16,20 @@ use Rattle.wire.specs.declared.what.What.TheVariants as whats
 use Rattle.desk.specs.declared.desk.Desk.{Desk}
 use Rattle.desk.specs.declared.refusal.Refusal.{Refusal as PenRefusal}
 use Rattle.desk.specs.declared.refusal.Refusal.TheVariants as pens
+use Rattle.desk.specs.declared.refusal.OpenRefusal.{OpenRefusal}
+use Rattle.desk.specs.declared.refusal.OpenRefusal.TheVariants as openings
+use Rattle.vote_store.specs.declared.refusal.Refusal.TheVariants as votes
 use Rattle.desk.specs.Desk.{SameOwner, book_of, desk_of, disk_of, game_of, state_of, view_of}
 use Rattle.board.specs.declared.board.Board.{Board}
 use Rattle.board.specs.Board as boards
-use Rattle.books.specs.declared.fault.RunFault.{RunFault}
-use Rattle.books.specs.declared.fault.RunFault.TheVariants.{Device, Write, Line, NotAgreed}
 use Rattle.books.specs.declared.rejected.Refusal.TheVariants.{PlacesFull, Book}
 use Rattle.books.specs.declared.rejected.Rejected.{Rejected}
 use Rattle.books.specs.declared.rejected.Rejected.TheVariants.{Refused}
 use Rattle.books.specs.Taking.{taking}
 use Rattle.live.specs.Passed.{Passed}
+use Rattle.commands.specs.declared.match_run.fault.MatchFault.{MatchFault}
+use Rattle.commands.specs.declared.match_run.fault.MatchFault.TheVariants as faults
+use Rattle.commands.specs.declared.match_run.fault.MatchFault.TheVariants.{Device, Write, Line, NotAgreed}
 use Rattle.commands.specs.inner.Online.{IsOnline}
 use Rattle.commands.specs.MatchRun.{HoldsEither, Stays, entries_of_first, votes_for}
 
@@ -46,7 +50,7 @@ pub record IsInTurn {Disk : Type 0} (view : FileView Disk) (entries : List Entry
   pub goes : GoesWith entries k.seat k.book
 
 -- why the stations don't agree line n, of which the table with this book would answer so
-abbrev pub WhyNotAgreed : Result Entry Rejected → List Entry → ℕ → RunFault → Type 0
+abbrev pub WhyNotAgreed : Result Entry Rejected → List Entry → ℕ → MatchFault → Type 0
 WhyNotAgreed answer book n (Line number why) = (number ≡ n) × (answer ≡ Err why)
 WhyNotAgreed answer book n (NotAgreed place) = place ≡ length book
 WhyNotAgreed answer book n Device = Unit {0}
@@ -59,12 +63,17 @@ is_failing whats.Failed = true
 is_failing what = false
 
 -- the fault of a run where a desk refuses to pen the entry of a line, at this place
-abbrev pub pen_fault : ℕ → ℕ → PenRefusal → RunFault
+abbrev pub pen_fault : ℕ → ℕ → PenRefusal → MatchFault
 pen_fault number place pens.PlacesFull = Line number (Refused PlacesFull)
 pen_fault number place (pens.Book why) = Line number (Refused (Book why))
 pen_fault number place pens.Device = Device
 pen_fault number place pens.Failed = Device
 pen_fault number place _ = NotAgreed place
+
+-- The fault of a run where no desk is made on an empty disk: out of memory, or the disk's. No other refusal comes.
+abbrev pub creation_fault : OpenRefusal → MatchFault
+creation_fault (openings.Votes votes.NoMemory) = faults.NoMemory
+creation_fault why = Device
 
 -- the board as the definitions of its calls see it
 abbrev pub board_at : {B : Type 0} {b : Books B} → Board B b → BoardState
@@ -115,21 +124,21 @@ module _ {S B D : Type 0} {g : Files S D} {h : Disks D} {b : Books B} where
   DiskHoldsEither desk book more = HoldsEither (view_of desk) (disk_of desk) book more
 
   -- what a desk's disk holds where this entry isn't penned
-  abbrev pub PenLeaves : Entry → RunFault → Desk S B D g h b → Desk S B D g h b → Type 0
+  abbrev pub PenLeaves : Entry → MatchFault → Desk S B D g h b → Desk S B D g h b → Type 0
   PenLeaves e (Line number why) old new = DiskHolds new (book_at old)
   PenLeaves e Device old new =
       (taking (innings_at old) (book_at old) e ≡ Ok e) × DiskHoldsEither new (book_at old) (book_at old ++ e ∷ [])
   PenLeaves e fault old new = ⊥
 
   -- what both disks hold where a line isn't agreed after this book, and it would be so with it
-  abbrev pub LineLeaves : List Entry → List Entry → RunFault → Desk S B D g h b → Desk S B D g h b → Type 0
+  abbrev pub LineLeaves : List Entry → List Entry → MatchFault → Desk S B D g h b → Desk S B D g h b → Type 0
   LineLeaves book more (Line number why) a b' = DiskHolds a book × DiskHolds b' book
   LineLeaves book more (NotAgreed place) a b' = DiskHolds a more × DiskHolds b' more
   LineLeaves book more Device a b' = DiskHoldsEither a book more × DiskHoldsEither b' book more
   LineLeaves book more fault a b' = ⊥
 
   -- what both disks hold where the lines of an input aren't agreed, in a match of so many innings
-  abbrev pub LinesLeave : ℕ → List ℕ → RunFault → Desk S B D g h b → Desk S B D g h b → Type 0
+  abbrev pub LinesLeave : ℕ → List ℕ → MatchFault → Desk S B D g h b → Desk S B D g h b → Type 0
   LinesLeave innings input (Line number why) a b' =
       (n : ℕ) × (number ≡ n + 1)
       × DiskHolds a (entries_of_first n innings input) × DiskHolds b' (entries_of_first n innings input)

@@ -1,8 +1,7 @@
 //! The votes files of a match in a folder.
 
-use crate::stopped::Stopped;
+use crate::fault::{StopFault, Stopped};
 use crate::votes_file::{VotesDisk, new_disk_at};
-use books::RunFault;
 use std::fs::{self, File};
 use std::io;
 
@@ -29,7 +28,7 @@ fn file_in<'a>(rt: &HostRuntime, folder: &'a str, name: &str) -> Result<VotesFil
             let was_there = fs::symlink_metadata(rt, path.as_str()).is_ok();
             Ok(VotesFile { path, was_there })
         }
-        Err(why) => Err(Stopped::at(folder, RunFault::from(why))),
+        Err(why) => Err(Stopped::at(folder, StopFault::from(why))),
     }
 }
 

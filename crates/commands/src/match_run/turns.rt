@@ -13,19 +13,20 @@ ghost use Rattle.cards.specs.Board.{board as board_text};
 ghost use Rattle.streams.specs.Watched.{IsHandedOn, Prints, TellsFailure};
 ghost use Rattle.live.specs.Passed.{Passed};
 ghost use Rattle.commands.specs.MatchRun.{IsQuiet, Leaves, Stays, passed_at};
-ghost use Rattle.books.specs.Output.{answer_to, with_taken};
-ghost use Rattle.books.specs.Taking.{taking};
+ghost use Rattle.books.specs.Taking.{answer_to, taking, with_taken};
 ghost use Rattle.commands.specs.inner.Online.{IsOnline, StaysOnline};
 ghost use Rattle.commands.specs.inner.Turns as turns;
 ghost use Rattle.commands.specs.inner.Turns.{AreCalm, AreLevel, InTurn, IsCalm, IsLevel, KeepsDisk, KeepsOnline, KeepsTurn, LineLeaves, PenLeaves, VotesFor, WhyNotAgreed, board_at, book_at, innings_at};
 
+use crate::fault::TURNS;
+use crate::match_run::fault::MatchFault;
 use crate::match_run::post::Post;
 use agree_core::{Asker, DeskId};
 use board::Board;
-use books::{Refusal, Rejected, RunFault, TURNS};
+use books::{Refusal, Rejected};
 use cards::MatchSheet;
 use corrections::{BookOf, CheckedBook};
-use desk::Desk;
+use desk::{Desk, OpenRefusal};
 use entry_log::{Disk, Slots, SlotsOf};
 use machine::{Link, ROOM};
 use notation::{Entry, read_line};
@@ -37,6 +38,16 @@ use wire::What;
 /// How many datagrams a station takes in a turn at most.
 const MOST_TAKEN: usize = 8;
 
+/// Why no desk is made on an empty disk.
+fn creation_fault(why: OpenRefusal) -> MatchFault
+    ensures { result ≡ turns.creation_fault why }
+{
+    match why {
+        OpenRefusal::Votes(vote_store::Refusal::NoMemory) => MatchFault::NoMemory,
+        OpenRefusal::Votes(_) | OpenRefusal::BadVotes { .. } => MatchFault::Device,
+    }
+}
+
 /// A desk with a new file on an empty disk, and with an empty book.
 fn new_desk<D: Disk + Drop>(
     alloc: Global,
@@ -44,7 +55,7 @@ fn new_desk<D: Disk + Drop>(
     disk: D,
     desk: DeskId,
     book: CheckedBook,
-) -> Result<Desk<Slots<D>, CheckedBook>, (RunFault, D)>
+) -> Result<Desk<Slots<D>, CheckedBook>, (MatchFault, D)>
     requires disk { length (D.seen disk) ≡ 0 }
     requires book { book.entries ≡ [] }
     ensures owner { IfOk result (IsOf desk game book.innings_a_side) }
@@ -52,37 +63,37 @@ fn new_desk<D: Disk + Drop>(
     ensures empty { IfOk result (λ made. book_at made ≡ []) }
     ensures calm { IsQuiet D.faults D.cap disk → IfOk result (λ made. IsCalm made) }
     ensures why { IfErr result (λ refused.
-        (refused.0 ≡ RunFault.NoMemory) ⊎ (refused.0 ≡ RunFault.Device)) }
+        (refused.0 ≡ MatchFault.NoMemory) ⊎ (refused.0 ≡ MatchFault.Device)) }
     ensures left { IfErr result (λ refused.
         StaysOrBegins D.seen D.images (room version_2 0) disk refused.1) }
     // Want of memory leaves the disk as it was.
     ensures stays { IfErr result (λ refused.
-        refused.0 ≡ RunFault.NoMemory → Stays D.seen D.images disk refused.1) }
-    ensures blame { IsQuiet D.faults D.cap disk → IfErr result (λ refused. refused.0 ≢ RunFault.Device) }
+        refused.0 ≡ MatchFault.NoMemory → Stays D.seen D.images disk refused.1) }
+    ensures blame { IsQuiet D.faults D.cap disk → IfErr result (λ refused. refused.0 ≢ MatchFault.Device) }
 {
     match Desk::create(alloc, disk, desk, game, book) {
         Ok(desk) => Ok(desk),
-        Err((why, disk)) => Err((RunFault::from(why), disk)),
+        Err((why, disk)) => Err((creation_fault(why), disk)),
     }
 }
 
 /// Why an entry of a line isn't penned. A desk that waits, or has used up its rounds or slots, can't agree the
 /// place.
-fn pen_fault(number: u64, place: u32, why: desk::Refusal) -> RunFault
+fn pen_fault(number: u64, place: u32, why: desk::Refusal) -> MatchFault
     ensures { result ≡ turns.pen_fault number place why }
 {
     match why {
-        desk::Refusal::PlacesFull => RunFault::Line {
+        desk::Refusal::PlacesFull => MatchFault::Line {
             number,
             why: Rejected::Refused(Refusal::PlacesFull),
         },
-        desk::Refusal::Book(why) => RunFault::Line {
+        desk::Refusal::Book(why) => MatchFault::Line {
             number,
             why: Rejected::Refused(Refusal::Book(why)),
         },
-        desk::Refusal::Device | desk::Refusal::Failed => RunFault::Device,
+        desk::Refusal::Device | desk::Refusal::Failed => MatchFault::Device,
         desk::Refusal::Waiting | desk::Refusal::RoundsFull | desk::Refusal::SlotsFull => {
-            RunFault::NotAgreed { place }
+            MatchFault::NotAgreed { place }
         }
     }
 }
@@ -92,7 +103,7 @@ fn pen<S: SlotsOf>(
     desk: &mut Desk<S, CheckedBook>,
     number: u64,
     entry: &Entry,
-) -> Result<(), RunFault>
+) -> Result<(), MatchFault>
     requires { IsEntry entry.now }
     ensures owner { SameOwner desk.old desk.new }
     ensures voted { IsLevel desk.old → OnOk result (VotesFor entry.now desk.old desk.new) }
@@ -100,7 +111,7 @@ fn pen<S: SlotsOf>(
         IfErr result (WhyNotAgreed (taking (innings_at desk.old) (book_at desk.old) entry.now)
         (book_at desk.old) number) }
     ensures left { IsLevel desk.old → IfErr result (λ fault. PenLeaves entry.now fault desk.old desk.new) }
-    ensures calm { IsCalm desk.old → result ≢ Err RunFault.Device }
+    ensures calm { IsCalm desk.old → result ≢ Err MatchFault.Device }
 {
     let place = desk.book().len();
     match desk.pen(entry) {
@@ -122,17 +133,17 @@ fn reply<S: SlotsOf, L: Link>(
     at: Asker,
     post: &mut Post<L>,
     bytes: &[u8],
-) -> Result<(), RunFault>
+) -> Result<(), MatchFault>
     ensures disk { KeepsDisk desk.old desk.new }
     ensures kept { OnOk result (KeepsTurn desk.old desk.new) }
     ensures online { OnOk result ((entries : List Entry) → InTurn entries desk.old →
         StaysOnline (game_of desk.old) entries (passed_at post.old) (passed_at post.new)) }
-    ensures only { IfErr result (λ fault. fault ≡ RunFault.Device) }
-    ensures calm { IsCalm desk.old → result ≢ Err RunFault.Device }
+    ensures only { IfErr result (λ fault. fault ≡ MatchFault.Device) }
+    ensures calm { IsCalm desk.old → result ≢ Err MatchFault.Device }
 {
     let received = desk.receive(bytes);
     if is_failing(received.what) {
-        return Err(RunFault::Device);
+        return Err(MatchFault::Device);
     }
     if let Some(reply) = received.reply {
         post.send(at, &reply);
@@ -145,13 +156,13 @@ fn take_next<S: SlotsOf, L: Link>(
     desk: &mut Desk<S, CheckedBook>,
     at: Asker,
     post: &mut Post<L>,
-) -> Result<bool, RunFault>
+) -> Result<bool, MatchFault>
     ensures disk { KeepsDisk desk.old desk.new }
     ensures kept { OnOk result (KeepsTurn desk.old desk.new) }
     ensures online { OnOk result ((entries : List Entry) → InTurn entries desk.old →
         StaysOnline (game_of desk.old) entries (passed_at post.old) (passed_at post.new)) }
-    ensures only { IfErr result (λ fault. fault ≡ RunFault.Device) }
-    ensures calm { IsCalm desk.old → result ≢ Err RunFault.Device }
+    ensures only { IfErr result (λ fault. fault ≡ MatchFault.Device) }
+    ensures calm { IsCalm desk.old → result ≢ Err MatchFault.Device }
 {
     let mut buffer = [0; ROOM];
     match post.take(at, &mut buffer) {
@@ -169,13 +180,13 @@ fn desk_turn<S: SlotsOf, L: Link>(
     desk: &mut Desk<S, CheckedBook>,
     at: Asker,
     post: &mut Post<L>,
-) -> Result<(), RunFault>
+) -> Result<(), MatchFault>
     ensures disk { KeepsDisk desk.old desk.new }
     ensures kept { OnOk result (KeepsTurn desk.old desk.new) }
     ensures online { OnOk result ((entries : List Entry) → InTurn entries desk.old →
         StaysOnline (game_of desk.old) entries (passed_at post.old) (passed_at post.new)) }
-    ensures only { IfErr result (λ fault. fault ≡ RunFault.Device) }
-    ensures calm { IsCalm desk.old → result ≢ Err RunFault.Device }
+    ensures only { IfErr result (λ fault. fault ≡ MatchFault.Device) }
+    ensures calm { IsCalm desk.old → result ≢ Err MatchFault.Device }
 {
     post.send_each(at, desk.tick().as_slice());
     for _ in 0..MOST_TAKEN {
@@ -249,7 +260,7 @@ pub fn new_stations<D: Disk + Drop>(
     sheet: &MatchSheet,
     a: D,
     b: D,
-) -> Result<Stations<Slots<D>>, (RunFault, D, D)>
+) -> Result<Stations<Slots<D>>, (MatchFault, D, D)>
     requires a { length (D.seen a) ≡ 0 }
     requires b { length (D.seen b) ≡ 0 }
     ensures level { IfOk result (λ made. AreLevel made.a made.b made.board) }
@@ -259,17 +270,17 @@ pub fn new_stations<D: Disk + Drop>(
     ensures online { IfOk result (λ made. (log : List Passed) →
         IsOnline (game_of made.a) log [] log (board_at made.board)) }
     ensures why { IfErr result (λ refused.
-        (refused.0 ≡ RunFault.NoMemory) ⊎ (refused.0 ≡ RunFault.Device)) }
+        (refused.0 ≡ MatchFault.NoMemory) ⊎ (refused.0 ≡ MatchFault.Device)) }
     ensures left { IfErr result (λ refused. (input : List ℕ) →
         Leaves D.seen D.images sheet.now input refused.0 a b refused.1 refused.2) }
     ensures calm { IsQuiet D.faults D.cap a → IsQuiet D.faults D.cap b →
         IfOk result (λ made. IsCalm made.a × IsCalm made.b) }
     ensures blame { IsQuiet D.faults D.cap a → IsQuiet D.faults D.cap b →
-        IfErr result (λ refused. refused.0 ≢ RunFault.Device) }
+        IfErr result (λ refused. refused.0 ≢ MatchFault.Device) }
 {
     let (book_a, book_b, book) = match empty_books(alloc, sheet.innings()) {
         Ok(books) => books,
-        Err(why) => return Err((RunFault::from(why), a, b)),
+        Err(why) => return Err((MatchFault::from(why), a, b)),
     };
     let a = match new_desk(alloc, sheet.game(), a, DeskId::A, book_a) {
         Ok(desk) => desk,
@@ -294,7 +305,7 @@ impl<S: SlotsOf> Stations<S> {
     }
 
     /// Has the stations take turns until all three books have the entry of this place.
-    fn agree<L: Link>(&mut self, place: u32, post: &mut Post<L>) -> Result<(), RunFault>
+    fn agree<L: Link>(&mut self, place: u32, post: &mut Post<L>) -> Result<(), MatchFault>
         ensures disk_a { KeepsDisk self.old.a self.new.a }
         ensures disk_b { KeepsDisk self.old.b self.new.b }
         ensures online { OnOk result (KeepsOnline self.old.a self.old.b self.old.board self.new.board
@@ -306,8 +317,8 @@ impl<S: SlotsOf> Stations<S> {
         ensures at_b { OnOk result (place < length (book_at self.new.b)) }
         ensures at_board { OnOk result (place < length (boards.book_of self.new.board).entries) }
         ensures only { IfErr result (λ fault.
-            (fault ≡ RunFault.Device) ⊎ (fault ≡ RunFault.NotAgreed place)) }
-        ensures calm { AreCalm self.old.a self.old.b → result ≢ Err RunFault.Device }
+            (fault ≡ MatchFault.Device) ⊎ (fault ≡ MatchFault.NotAgreed place)) }
+        ensures calm { AreCalm self.old.a self.old.b → result ≢ Err MatchFault.Device }
     {
         for _ in 0..TURNS {
             desk_turn(&mut self.a, Asker::A, post)?;
@@ -317,7 +328,7 @@ impl<S: SlotsOf> Stations<S> {
                 return Ok(());
             }
         }
-        Err(RunFault::NotAgreed { place })
+        Err(MatchFault::NotAgreed { place })
     }
 
     /// Has both desks pen the entry of a line, and all three stations agree it.
@@ -326,7 +337,7 @@ impl<S: SlotsOf> Stations<S> {
         number: u64,
         line: &[u8],
         post: &mut Post<L>,
-    ) -> Result<(), RunFault>
+    ) -> Result<(), MatchFault>
         requires level { AreLevel self.old.a self.old.b self.old.board }
         ensures level { OnOk result (AreLevel self.new.a self.new.b self.new.board) }
         ensures taken { OnOk result
@@ -345,13 +356,13 @@ impl<S: SlotsOf> Stations<S> {
             (WhyNotAgreed (answer_to (innings_at self.old.a) (book_at self.old.a) line.now)
             (book_at self.old.a) number) }
         ensures calm_still { OnOk result (AreCalm self.old.a self.old.b → AreCalm self.new.a self.new.b) }
-        ensures calm { AreCalm self.old.a self.old.b → result ≢ Err RunFault.Device }
+        ensures calm { AreCalm self.old.a self.old.b → result ≢ Err MatchFault.Device }
     {
         let entry = match read_line(line) {
             Ok(entry) => entry,
             Err(fault) => {
                 let why = Rejected::Fault(fault);
-                return Err(RunFault::Line { number, why });
+                return Err(MatchFault::Line { number, why });
             }
         };
         let place = self.a.book().len();

@@ -1,11 +1,10 @@
 //! The events of a schedule in a world.
 
-ghost use Rattle.std.specs.Prelude.{◌≡◌, ◌≤◌, All, IfErr, IfOk};
+ghost use Rattle.std.specs.Prelude.{◌≡◌, ◌≤◌, All, IfOk};
 ghost use Rattle.schedule_replay.specs.CodeWorlds.{BeginsWorld};
 ghost use Rattle.headline.specs.Events.{IsEvent};
 ghost use Rattle.commands.specs.ReplayRun.{IsStepped};
 
-use books::RunFault;
 use cards::MatchSheet;
 use headline::{Event, FileVersion};
 use schedule_replay::{Seen, World};
@@ -44,11 +43,10 @@ pub fn step_all(
     version: FileVersion,
     boards: u8,
     events: &[Event],
-) -> Result<Stepped, RunFault>
+) -> Result<Stepped, AllocError>
     requires boards { boards ≤ 4 }
     requires events { All IsEvent events.now }
     ensures stepped { IfOk result (IsStepped sheet.now version boards events.now) }
-    ensures only { IfErr result (λ fault. fault ≡ RunFault.NoMemory) }
 {
     let mut world = begin(alloc, sheet, version, boards)?;
     let mut outcomes = Vec::with_capacity(alloc, events.len())?;
@@ -57,7 +55,7 @@ pub fn step_all(
             Ok(seen) => outcomes.push(seen).unwrap(),
             Err(refusal) => {
                 let Some(why) = refusal.number() else {
-                    return Err(RunFault::NoMemory);
+                    return Err(AllocError);
                 };
                 return Ok(Stepped::Refused(outcomes, before as u64 + 1, why));
             }

@@ -6,7 +6,7 @@ use Rattle.desk.specs.Desk.{game_of}
 use Rattle.commands.specs.MatchRun.{passed_at}
 use Rattle.commands.specs.inner.Online.{IsOnline}
 use Rattle.commands.specs.inner.Turns.{board_at, book_at, innings_at}
-use Rattle.books.specs.Output.{answer_to, with_taken}
+use Rattle.books.specs.Taking.{answer_to, with_taken}
 use Rattle.books.proofs.TakenLines.{Midway, begins, ends, goes_on}
 use Rattle.commands.proofs.MatchLines.{Reached, line_left, none_reached, one_reached, refused, same_error}
 use Rattle.commands.proofs.TurnLemmas.{both_owners, same_desk}

@@ -7,11 +7,11 @@ use Rattle.notation.specs.Lines.{lines_of}
 use Rattle.schedules.specs.ScheduleLines.{IsScheduleOf}
 use Rattle.headline.specs.declared.event.Event.{Event}
 use Rattle.headline.specs.declared.version.FileVersion.{FileVersion}
-use Rattle.books.specs.declared.fault.RunFault.{RunFault}
+use Rattle.commands.specs.declared.replay.ReplayFault.{ReplayFault}
 use Rattle.commands.specs.ReplayRun.{PrintsReplay, PrintsRun}
 use Rattle.commands.proofs.replay.replay_run.Goals as goal
 
-of_input : {S : Type 0} (contents : S → Option (List ℕ)) (old new : Watched S) (s : Sheet) (version : FileVersion) (boards : ℕ) (events : List Event) (items : List ℕ) (o : Option (List ℕ)) (r : Result Bool RunFault) → IfSome o (λ bytes. items ≡ bytes) → IsScheduleOf (lines_of items) events
+of_input : {S : Type 0} (contents : S → Option (List ℕ)) (old new : Watched S) (s : Sheet) (version : FileVersion) (boards : ℕ) (events : List Event) (items : List ℕ) (o : Option (List ℕ)) (r : Result Bool ReplayFault) → IfSome o (λ bytes. items ≡ bytes) → IsScheduleOf (lines_of items) events
     → IfOk r (PrintsRun contents old new s version boards events) → IfOk r (λ refused. IfSome o (λ input. PrintsReplay contents old new s version boards input refused))
 of_input contents old new s version boards events items None (Ok refused) whole found written = tt
 of_input contents old new s version boards events items None (Err fault) whole found written = tt

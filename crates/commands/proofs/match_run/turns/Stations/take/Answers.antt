@@ -1,8 +1,7 @@
 use Rattle.std.proofs.Common.{sym, ap, ◌∙◌, subst, ◌≡◌, ◌++◌, ◌∷◌, [], List, ℕ, Ok, length}
 use Rattle.notation.specs.declared.entry.Entry.{Entry}
 use Rattle.desk.proofs.RestoreLemmas.{error_of}
-use Rattle.books.specs.Output.{answer_to, with_taken}
-use Rattle.books.specs.Taking.{answer, taking}
+use Rattle.books.specs.Taking.{answer, answer_to, taking, with_taken}
 use Rattle.commands.specs.inner.Turns.{DiskHolds, book_at, innings_at}
 use Rattle.commands.proofs.SameTurn.{ok_map}
 use Rattle.commands.proofs.TurnLemmas.{agreed, agreed_online, first_left, second_left, third_left}
