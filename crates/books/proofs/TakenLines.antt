@@ -5,7 +5,7 @@ use Rattle.notation.specs.declared.entry.Entry.{Entry}
 use Rattle.notation.specs.Lines.{lines_of}
 use Rattle.books.specs.declared.rejected.Rejected.{Rejected}
 use Rattle.books.specs.CardBook.{IsBookOfLines, first_rejected}
-use Rattle.books.specs.Output.{answer_to, book_after, with_taken}
+use Rattle.books.specs.Taking.{answer_to, book_after, with_taken}
 
 -- what the lines that are left make of the entries taken so far is what the whole input makes
 pub record Midway (innings : ℕ) (input : List ℕ) (lines : List (List ℕ)) (number : ℕ) (book : List Entry) : Type 0 where

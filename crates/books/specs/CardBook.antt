@@ -1,4 +1,4 @@
--- The book that `card` makes of its input, or why it makes none.
+-- The book of an input, or why it has none.
 use Rattle.std.specs.Prelude.{◌≡◌, ℕ, ◌+◌, ◌==◌, if◌then◌else◌, List, [], ◌∷◌, ◌++◌, Option, Some, None, Result, Ok, Err, slice_get, unwrap_or}
 use Rattle.notation.specs.declared.entry.Entry.{Entry}
 use Rattle.corrections.specs.Refusal.{book_refusal}
@@ -12,14 +12,17 @@ use Rattle.vote_store.specs.declared.refusal.Refusal.{Refusal}
 use Rattle.vote_store.specs.Sequence.{file_votes}
 use Rattle.vote_store.specs.View.{desk_code}
 use Rattle.cards.specs.Sheet.{Sheet}
-use Rattle.books.specs.declared.fault.RunFault.{RunFault}
-use Rattle.books.specs.declared.fault.RunFault.TheVariants.{NoMemory, Read, Write, Line, Votes, BadVotes}
+use Rattle.vote_store.specs.declared.refusal.Refusal.TheVariants as votes
+use Rattle.desk.specs.declared.refusal.OpenRefusal.{OpenRefusal}
+use Rattle.desk.specs.declared.refusal.OpenRefusal.TheVariants as openings
+use Rattle.books.specs.declared.fault.BookFault.{BookFault}
+use Rattle.books.specs.declared.fault.BookFault.TheVariants.{NoMemory, Line, Votes, BadVotes}
 use Rattle.books.specs.declared.rejected.Rejected.{Rejected}
-use Rattle.books.specs.declared.card.Source.{Source}
-use Rattle.books.specs.declared.card.Source.TheVariants as source
-use Rattle.books.specs.declared.card.Source.TheVariants.{Lines}
+use Rattle.books.specs.declared.source.Source.{Source}
+use Rattle.books.specs.declared.source.Source.TheVariants as source
+use Rattle.books.specs.declared.source.Source.TheVariants.{Lines}
 use Rattle.notation.specs.Lines.{lines_of}
-use Rattle.books.specs.Output.{answer_to, book_after}
+use Rattle.books.specs.Taking.{answer_to, book_after}
 
 -- the number of the first of these lines that isn't taken, and why: they are numbered from n, after the entries
 -- taken before
@@ -36,11 +39,11 @@ pub record IsBookOfLines (innings : ℕ) (input : List ℕ) (book : List Entry) 
   pub entries : book ≡ book_after innings [] (lines_of input)
 
 -- the fault names the first line that isn't taken, and why
-abbrev pub NamesFirstRejected : ℕ → List ℕ → RunFault → Type 0
+abbrev pub NamesFirstRejected : ℕ → List ℕ → BookFault → Type 0
 NamesFirstRejected innings input (Line number why) = first_rejected innings 1 [] (lines_of input) ≡ Some (number, why)
 NamesFirstRejected innings input _ = ⊥
 
-abbrev pub WhyNoBookOfLines : ℕ → List ℕ → RunFault → Type 0
+abbrev pub WhyNoBookOfLines : ℕ → List ℕ → BookFault → Type 0
 WhyNoBookOfLines innings input NoMemory = Unit {0}
 WhyNoBookOfLines innings input fault = NamesFirstRejected innings input fault
 
@@ -62,12 +65,12 @@ IsBookOfVotes innings (Ok votes) book = IsBookOf innings votes book
 IsBookOfVotes innings (Err why) book = ⊥
 
 -- the fault names the first place at which the last votes of all places are no legal book
-abbrev pub NamesBadVotes : {Why : Type 0} → Rules Why → List Ballot → RunFault → Type 0
+abbrev pub NamesBadVotes : {Why : Type 0} → Rules Why → List Ballot → BookFault → Type 0
 NamesBadVotes rules votes (BadVotes place) = FirstRefused rules [] (voted_list votes) place
 NamesBadVotes rules votes _ = ⊥
 
 -- the fault of the file that was read, or the first place at which its votes are no legal book
-abbrev pub WhyNoBookOfVotes : ℕ → Result (List Ballot) Refusal → RunFault → Type 0
+abbrev pub WhyNoBookOfVotes : ℕ → Result (List Ballot) Refusal → BookFault → Type 0
 WhyNoBookOfVotes innings shown NoMemory = Unit {0}
 WhyNoBookOfVotes innings (Err why) fault = fault ≡ Votes why
 WhyNoBookOfVotes innings (Ok votes) fault = NamesBadVotes (book_refusal innings) votes fault
@@ -77,12 +80,16 @@ abbrev pub IsBookFrom : Source → Sheet → List ℕ → List Entry → Type 0
 IsBookFrom Lines s input book = IsBookOfLines s.innings input book
 IsBookFrom (source.Votes desk) s input book = IsBookOfVotes s.innings (votes_in_file desk s.game input) book
 
-abbrev pub WhyNoBook : Source → Sheet → List ℕ → RunFault → Type 0
+abbrev pub WhyNoBook : Source → Sheet → List ℕ → BookFault → Type 0
 WhyNoBook Lines s input fault = WhyNoBookOfLines s.innings input fault
 WhyNoBook (source.Votes desk) s input fault = WhyNoBookOfVotes s.innings (votes_in_file desk s.game input) fault
 
--- a read or a write failed, or the input has no book
-abbrev pub WhyNoCard : Source → Sheet → List ℕ → RunFault → Type 0
-WhyNoCard from s input Read = Unit {0}
-WhyNoCard from s input Write = Unit {0}
-WhyNoCard from s input fault = WhyNoBook from s input fault
+-- the fault of a votes file that is refused: being out of memory is its own
+abbrev pub of_votes : Refusal → BookFault
+of_votes votes.NoMemory = NoMemory
+of_votes why = Votes why
+
+-- the same of a file whose votes are no legal book
+abbrev pub of_opening : OpenRefusal → BookFault
+of_opening (openings.Votes why) = of_votes why
+of_opening (openings.BadVotes place) = BadVotes place

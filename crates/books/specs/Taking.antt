@@ -1,8 +1,9 @@
 -- Which entries are taken: what the entries taken so far make of a line, in a match of so many innings a side.
-use Rattle.std.specs.Prelude.{ℕ, Bool, nat_le, if◌then◌else◌, List, length}
+use Rattle.std.specs.Prelude.{ℕ, Bool, nat_le, if◌then◌else◌, List, [], ◌∷◌, ◌++◌, length}
 use Rattle.std.specs.Prelude.{Option, Some, None, Result, Ok, Err}
 use Rattle.notation.specs.declared.entry.Entry.{Entry}
 use Rattle.notation.specs.declared.fault.LineFault.{LineFault}
+use Rattle.notation.specs.Reading.{line_answer}
 use Rattle.corrections.specs.declared.refusal.Refusal.{Refusal as BookRefusal}
 use Rattle.corrections.specs.Refusal.{book_refusal}
 use Rattle.books.specs.declared.rejected.Refusal.TheVariants.{PlacesFull, Book}
@@ -27,3 +28,17 @@ taking innings book e =
 abbrev pub answer : ℕ → List Entry → Result Entry LineFault → Result Entry Rejected
 answer innings book (Err fault) = Err (Fault fault)
 answer innings book (Ok e) = taking innings book e
+
+-- what the entries taken so far make of a line
+abbrev pub answer_to : ℕ → List Entry → List ℕ → Result Entry Rejected
+answer_to innings book line = answer innings book (line_answer line)
+
+-- the entries taken after this answer
+abbrev pub with_taken : Result Entry Rejected → List Entry → List Entry
+with_taken (Ok e) book = book ++ e ∷ []
+with_taken (Err why) book = book
+
+-- the entries that are taken of these lines, after those taken before
+abbrev pub book_after : ℕ → List Entry → List (List ℕ) → List Entry
+book_after innings book [] = book
+book_after innings book (line ∷ lines) = book_after innings (with_taken (answer_to innings book line) book) lines

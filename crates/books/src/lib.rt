@@ -1,17 +1,16 @@
-//! Books of pen lines and of votes files: the table with both seats, what isn't taken and why, the board and the
-//! cards; and why a run of the program ends.
+//! Books of pen lines and of votes files: the table with both seats, what isn't taken and why, the book of an input, and
+//! its printed cards.
 #![tactic(auto)]
 
 mod card;
-mod check;
 mod fault;
 mod rejected;
 mod seats;
-mod sheet;
+mod source;
 mod table;
 
-pub use card::{Source, book_from, card_run};
-pub use check::check_run;
-pub use fault::{RunFault, TURNS, print_fault};
+pub use card::print_card;
+pub use fault::BookFault;
 pub use rejected::{Refusal, Rejected, print_rejected};
-pub use sheet::sheet_run;
+pub use source::{Source, book_from};
+pub use table::Table;

@@ -1,7 +1,7 @@
 //! The table of a match in memory: two seats, and the book that both have agreed.
 
 ghost use Rattle.std.specs.Prelude.{◌≡◌, ◌≤◌, [], IfOk, OnOk};
-ghost use Rattle.books.specs.Output.{answer_to, with_taken};
+ghost use Rattle.books.specs.Taking.{answer_to, with_taken};
 
 use crate::rejected::{Refusal, Rejected};
 use crate::seats::agree;

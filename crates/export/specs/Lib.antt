@@ -1,5 +1,5 @@
 -- What the public calls claim: Value with all that it cites (Notes, Wickets, Deliveries, Innings, Info, Entries, and
--- Values but for its last part), Names, Run and Laws.
+-- Values but for its last part), Names and Laws.
 pub mod Values
 pub mod Notes
 pub mod Wickets
@@ -9,5 +9,4 @@ pub mod Info
 pub mod Entries
 pub mod Value
 pub mod Names
-pub mod Run
 pub mod Laws

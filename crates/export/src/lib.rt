@@ -10,9 +10,9 @@ mod laws;
 mod named;
 mod notes;
 mod put;
-mod run;
+mod text;
 mod value;
 mod wickets;
 
 pub use laws::{exports_add_up, exports_name_two_sides};
-pub use run::export_run;
+pub use text::text_of;

@@ -1,0 +1,13 @@
+use Rattle.std.proofs.Common.{◌∙◌}
+use Rattle.streams.proofs.Appending.{appends_both}
+use Rattle.schedule_replay.specs.CodeWorlds.{board_state}
+use Rattle.commands.specs.Replay.{board_line}
+use Rattle.commands.proofs.ReplayTexts.{numbered_next}
+use Rattle.commands.proofs.replay.print.print_boards.Goals as goal
+
+pub loop-before-preserved : goal.loop-before-preserved
+loop-before-preserved g c = record {
+  written = rw (numbered_next (λ n k. board_line n (board_state k)) 1 c.args.boards.now c.loop-before.before c.index-boards-before.result c.index-boards-before.result c.loop-before-test.true c.index-boards-before.is)
+      (appends_both _ _ _ _ _ c.loop-before.invariant.written c.in_ok-print_board.ensures.text);
+  sound = c.in_ok-print_board.ensures.failed.1 ∙ c.loop-before.invariant.sound;
+}

@@ -1,0 +1,40 @@
+-- What a migration prints, and why one isn't made.
+use Rattle.std.specs.Prelude.{◌≡◌, ◌<◌, ◌⊎◌, ℕ, List, ◌++◌, codes, decimal, length, Err, IsOk}
+use Rattle.entry_log.specs.Format.{contents}
+use Rattle.entry_log.specs.Version1.{version_1}
+use Rattle.vote_store.specs.Refusal.{not_empty}
+use Rattle.vote_store.specs.Sequence.{file_votes}
+use Rattle.vote_store.specs.declared.refusal.Refusal.{Refusal}
+use Rattle.vote_store.specs.declared.refusal.Refusal.TheVariants as votes
+use Rattle.entry_log.specs.declared.refusal.Refusal.TheVariants as files
+use Rattle.commands.specs.declared.fault.StopFault.{StopFault}
+use Rattle.commands.specs.declared.fault.StopFault.TheVariants as stops
+use Rattle.commands.specs.declared.migrate.MigrateFault.{MigrateFault}
+use Rattle.commands.specs.declared.migrate.MigrateFault.TheVariants.{NoMemory, Write, Device, Votes}
+
+-- the line that says how many votes the new file has
+abbrev pub migrated_line : ℕ → List ℕ
+migrated_line votes = codes "migrated " ++ decimal votes ++ codes "\n"
+
+-- The fault of a migration, by the desk's number, the match and the bytes of both disks: the first fault of the
+-- old file, or that the old file is sound and the new disk isn't empty. Memory is wanted only for a sound file.
+abbrev pub WhyNotMigrated : ℕ → ℕ → List ℕ → List ℕ → MigrateFault → Type 0
+WhyNotMigrated desk game old new (Votes why) =
+    (file_votes (contents version_1) desk game old ≡ Err why)
+    ⊎ ((why ≡ not_empty) × (0 < length new) × IsOk (file_votes (contents version_1) desk game old))
+WhyNotMigrated desk game old new NoMemory = IsOk (file_votes (contents version_1) desk game old)
+WhyNotMigrated desk game old new Device = Unit {0}
+WhyNotMigrated desk game old new Write = Unit {0}
+
+-- the fault of a votes file that is refused: being out of memory and a failing disk are their own
+abbrev pub of_votes : Refusal → MigrateFault
+of_votes votes.NoMemory = NoMemory
+of_votes (votes.File files.Device) = Device
+of_votes why = Votes why
+
+-- what standard error is told, and the status, go by
+abbrev pub stop_of : MigrateFault → StopFault
+stop_of NoMemory = stops.NoMemory
+stop_of Write = stops.Write
+stop_of Device = stops.Write
+stop_of (Votes why) = stops.Votes why

@@ -1,0 +1,4 @@
+-- What serves private functions and proofs only.
+pub mod Online
+pub mod Opening
+pub mod Turns

@@ -1,0 +1,79 @@
+//! `ground export`: the book of a match as JSON.
+
+ghost use Rattle.std.specs.Prelude.{◌≡◌, ◌≢◌, ◌<◌, ◌⊎◌, ◌++◌, length, codes, Err, IfErr, IfSome, OnOk};
+ghost use Rattle.streams.specs.Watched.{IsHandedOn, MeetsFailure, Prints, TellsFailure, failures, stream_of};
+ghost use Rattle.commands.specs.Export.{PrintsExport};
+ghost use Rattle.commands.specs.PrintFault.{WhyNotPrinted};
+
+use crate::fault::{StopFault, Stopped};
+use crate::opening::{open_input, output};
+use crate::printing::PrintFault;
+use crate::twins::told_sheet_at;
+use books::{Source, book_from};
+use cards::MatchSheet;
+use export::text_of;
+use std::alloc::Global;
+use std::io::{Read, Write};
+use streams::{LONGEST_INPUT, Watched, WriteFailed, read_all};
+
+/// Prints a book as one JSON value. It fails only where a write fails; how much was written then isn't said.
+fn print_text<W: Write>(text: &str, out: &mut Watched<W>) -> Result<(), WriteFailed>
+    ensures text { OnOk result (Prints W.contents out.old out.new (text.now ++ codes "\n")) }
+    ensures failed { TellsFailure result out.old out.new }
+    ensures handed_on { OnOk result (IsHandedOn out.new) }
+{
+    writeln!(out, "{text}")?;
+    out.flush()
+}
+
+/// `ground export`: reads pen lines or a votes file to the end, and prints their book as one JSON value: what happened
+/// ball by ball with the results of the Laws, and each entry as it was penned. Where a line isn't taken, or the file
+/// or its votes are refused, nothing is written.
+pub fn export_run<R: Read, W: Write>(
+    alloc: Global,
+    sheet: &MatchSheet,
+    source: Source,
+    reader: &mut Watched<R>,
+    writer: &mut Watched<W>,
+) -> Result<(), PrintFault>
+    ensures written { OnOk result (IfSome (R.remaining (stream_of reader.old)) (λ input.
+        PrintsExport W.contents writer.old writer.new source sheet.now input)) }
+    ensures why { IfErr result (λ fault. IfSome (R.remaining (stream_of reader.old)) (λ input.
+        WhyNotPrinted source sheet.now input fault)) }
+
+    // A read fault comes only where a read failed or the input is too long, and a write fault only where a
+    // write failed.
+    ensures read { result ≡ Err PrintFault.Read → MeetsFailure reader.old reader.new
+        ⊎ IfSome (R.remaining (stream_of reader.old)) (λ input. LONGEST_INPUT < length input) }
+    ensures write { result ≡ Err PrintFault.Write → MeetsFailure writer.old writer.new }
+    ensures sound { OnOk result (failures writer.new ≡ failures writer.old) }
+    ensures handed_on { OnOk result (IsHandedOn writer.new) }
+
+    // With any other fault nothing was written.
+    ensures unwritten { IfErr result (λ fault. fault ≢ PrintFault.Write → writer.new ≡ writer.old) }
+{
+    let input = read_all(alloc, reader)?;
+    let book = book_from(alloc, sheet, source, input.as_slice())?;
+    let text = text_of(alloc, sheet, &book)?;
+    match print_text(text.as_str(), writer) {
+        Ok(()) => Ok(()),
+        Err(_) => Err(PrintFault::Write),
+    }
+}
+
+/// Runs `export` over a file.
+#[inline(never)]
+pub fn start_export<'a>(
+    rt: &HostRuntime,
+    sheet: &'a str,
+    from: &'a str,
+    source: Source,
+) -> Result<bool, Stopped<'a>> {
+    let sheet = told_sheet_at(rt, sheet)?;
+    let mut reader = open_input(rt, from)?;
+    let mut writer = output(rt)?;
+    match export_run(rt.alloc(), &sheet, source, &mut reader, &mut writer) {
+        Ok(()) => Ok(false),
+        Err(fault) => Err(Stopped::at(from, StopFault::from(fault))),
+    }
+}

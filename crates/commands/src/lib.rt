@@ -1,0 +1,33 @@
+//! The commands of the program, a module each: what a command does, over any reader, writer, disk or link, with a fault of
+//! its own; and how it is started on this machine. Beside them stands what they share: the files that a command opens, and
+//! why one ends before its end.
+#![tactic(auto)]
+
+mod board;
+mod card;
+mod check;
+mod desk;
+mod export;
+mod fault;
+mod gaps;
+mod match_run;
+mod migrate;
+mod opening;
+mod printing;
+mod replay;
+mod sheet;
+mod twins;
+mod votes_file;
+
+pub use crate::board::start_board;
+pub use crate::card::{card_run, start_card};
+pub use crate::check::{CheckFault, check_run, start_check};
+pub use crate::desk::start_desk;
+pub use crate::export::{export_run, start_export};
+pub use crate::fault::{StopFault, Stopped, print_fault};
+pub use crate::gaps::{Gaps, fill_gaps};
+pub use crate::match_run::{MatchFault, Post, run_match, start_match};
+pub use crate::migrate::{MigrateFault, migrate_run, start_migrate};
+pub use crate::printing::PrintFault;
+pub use crate::replay::{ReplayFault, replay_run, start_replay};
+pub use crate::sheet::{NoSheet, sheet_run};

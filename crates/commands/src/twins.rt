@@ -1,0 +1,61 @@
+//! Names of a sheet that two bear. Such a sheet is taken: standard error is told, and the match goes on.
+
+use crate::fault::Stopped;
+use crate::opening::sheet_at;
+use cards::MatchSheet;
+use notation::{Player, Side};
+use std::io::{self, Write};
+use std::ops::Range;
+
+/// Whether one of these players of the side, by their numbers, is called so.
+fn is_borne(sheet: &MatchSheet, side: Side, name: &str, numbers: Range<u8>) -> bool {
+    for number in numbers {
+        match Player::new(number) {
+            Some(player) if sheet.player(side, player) == name => return true,
+            _ => {}
+        }
+    }
+    false
+}
+
+/// Tells that two players of the side are called so, where this is the first of them.
+fn tell_player<W: Write>(
+    errors: &mut W,
+    sheet: &MatchSheet,
+    side: Side,
+    player: Player,
+) -> io::Result<()> {
+    let name = sheet.player(side, player);
+    let number = player.number();
+    if is_borne(sheet, side, name, 1..number) || !is_borne(sheet, side, name, number + 1..12) {
+        return Ok(());
+    }
+    writeln!(errors, "sheet: two players are called {name}")
+}
+
+/// Tells of each name that two players of the side bear.
+fn tell_players<W: Write>(errors: &mut W, sheet: &MatchSheet, side: Side) -> io::Result<()> {
+    for number in 1..12 {
+        if let Some(player) = Player::new(number) {
+            tell_player(errors, sheet, side, player)?;
+        }
+    }
+    Ok(())
+}
+
+/// Tells of each name that two teams, or two players of a team, bear.
+fn tell_twins<W: Write>(errors: &mut W, sheet: &MatchSheet) -> io::Result<()> {
+    let name = sheet.name(Side::Home);
+    if name == sheet.name(Side::Away) {
+        writeln!(errors, "sheet: two teams are called {name}")?;
+    }
+    tell_players(errors, sheet, Side::Home)?;
+    tell_players(errors, sheet, Side::Away)
+}
+
+/// The match sheet in a file. Standard error is told of each name that two bear; that it can't be told is no fault.
+pub fn told_sheet_at<'a>(rt: &HostRuntime, path: &'a str) -> Result<MatchSheet, Stopped<'a>> {
+    let sheet = sheet_at(rt, path)?;
+    let _ = tell_twins(&mut rt.stderr(), &sheet);
+    Ok(sheet)
+}

@@ -1,7 +1,0 @@
--- What the public calls claim: MatchRun, Migrate, Replay, ReplayRun.
--- inner: for private functions only.
-pub mod MatchRun
-pub mod Migrate
-pub mod Replay
-pub mod ReplayRun
-pub mod inner

@@ -1,3 +1,0 @@
--- What serves private functions and proofs only.
-pub mod Online
-pub mod Turns
