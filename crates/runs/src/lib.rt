@@ -4,11 +4,9 @@
 
 mod match_run;
 mod migrate;
-mod post;
 mod replay;
 mod turns;
 
 pub use match_run::run_match;
 pub use migrate::migrate_run;
-pub use post::Post;
 pub use replay::replay_run;

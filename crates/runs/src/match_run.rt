@@ -10,16 +10,15 @@ ghost use Rattle.vote_store.specs.Migrated.{answer_of};
 ghost use Rattle.vote_store.specs.Refusal.{not_empty};
 ghost use Rattle.books.specs.CardBook.{IsBookOfLines};
 ghost use Rattle.live.specs.Passed.{Passed};
-ghost use Rattle.runs.specs.MatchRun.{AgreesLines, IsQuiet, Leaves, Stays, WhyNoMatch, left_at_a, left_at_b, passed_at};
+ghost use Rattle.runs.specs.MatchRun.{AgreesLines, IsQuiet, Leaves, Stays, WhyNoMatch, left_at_a, left_at_b};
 ghost use Rattle.runs.specs.inner.Online.{IsOnline};
 ghost use Rattle.runs.specs.inner.Turns.{AreCalm, AreLevel, LinesLeave, board_at, book_at, innings_at};
 
-use crate::post::Post;
 use crate::turns::{Stations, new_stations};
 use books::RunFault;
 use cards::MatchSheet;
 use entry_log::{Disk, Refusal as FileRefusal, SlotsOf};
-use machine::Link;
+use live::SharedLink;
 use notation::Lines;
 use std::alloc::Global;
 use std::io::Write;
@@ -27,10 +26,10 @@ use streams::{LONGEST_INPUT, Watched};
 use vote_store::Refusal;
 
 /// Has the stations take the lines of an input, one after the other.
-fn take_lines<S: SlotsOf, L: Link>(
+fn take_lines<S: SlotsOf, L: SharedLink>(
     stations: &mut Stations<S>,
     input: &[u8],
-    post: &mut Post<L>,
+    link: &mut L,
 ) -> Result<(), RunFault>
     requires short { length input.now ≤ LONGEST_INPUT }
     requires level { AreLevel stations.old.a stations.old.b stations.old.board }
@@ -41,8 +40,8 @@ fn take_lines<S: SlotsOf, L: Link>(
     ensures owner_a { SameOwner stations.old.a stations.new.a }
     ensures owner_b { SameOwner stations.old.b stations.new.b }
     ensures online { OnOk result ((start : List Passed) →
-        IsOnline (game_of stations.old.a) start [] (passed_at post.old) (board_at stations.old.board) →
-        IsOnline (game_of stations.old.a) start (book_at stations.new.a) (passed_at post.new)
+        IsOnline (game_of stations.old.a) start [] (L.log link.old) (board_at stations.old.board) →
+        IsOnline (game_of stations.old.a) start (book_at stations.new.a) (L.log link.new)
         (board_at stations.new.board)) }
     ensures left { IfErr result (λ fault.
         LinesLeave (innings_at stations.old.a) input.now fault stations.new.a stations.new.b) }
@@ -54,7 +53,7 @@ fn take_lines<S: SlotsOf, L: Link>(
     let mut number = 0;
     while let Some(line) = lines.next() {
         number += 1;
-        stations.take(number, line, post)?;
+        stations.take(number, line, link)?;
     }
     Ok(())
 }
@@ -91,11 +90,11 @@ fn expect_both_empty<D: Disk>(a: &mut D, b: &mut D) -> Result<(), RunFault>
 }
 
 /// Has the stations take the lines of an input, and prints the board's six lines.
-fn play<S: SlotsOf, L: Link, W: Write>(
+fn play<S: SlotsOf, L: SharedLink, W: Write>(
     stations: &mut Stations<S>,
     sheet: &MatchSheet,
     input: &[u8],
-    post: &mut Post<L>,
+    link: &mut L,
     writer: &mut Watched<W>,
 ) -> Result<(), RunFault>
     requires short { length input.now ≤ LONGEST_INPUT }
@@ -107,8 +106,8 @@ fn play<S: SlotsOf, L: Link, W: Write>(
     ensures owner_a { SameOwner stations.old.a stations.new.a }
     ensures owner_b { SameOwner stations.old.b stations.new.b }
     ensures online { OnOk result ((start : List Passed) →
-        IsOnline (game_of stations.old.a) start [] (passed_at post.old) (board_at stations.old.board) →
-        IsOnline (game_of stations.old.a) start (book_at stations.new.a) (passed_at post.new)
+        IsOnline (game_of stations.old.a) start [] (L.log link.old) (board_at stations.old.board) →
+        IsOnline (game_of stations.old.a) start (book_at stations.new.a) (L.log link.new)
         (board_at stations.new.board)) }
     ensures left { IfErr result (λ fault.
         LinesLeave (innings_at stations.old.a) input.now fault stations.new.a stations.new.b) }
@@ -121,7 +120,7 @@ fn play<S: SlotsOf, L: Link, W: Write>(
     ensures write { result ≡ Err RunFault.Write → MeetsFailure writer.old writer.new }
     ensures unwritten { IfErr result (λ fault. fault ≢ RunFault.Write → writer.new ≡ writer.old) }
 {
-    take_lines(stations, input, post)?;
+    take_lines(stations, input, link)?;
     match stations.print_board(sheet, writer) {
         Ok(()) => Ok(()),
         Err(_) => Err(RunFault::Write),
@@ -136,19 +135,19 @@ fn play<S: SlotsOf, L: Link, W: Write>(
 /// stay as they were. Both disks come back. At `Ok`, whatever the link loses, changes or makes up, they hold just the
 /// book of the lines, which a power loss doesn't take away; and where the link gives only what was sent, lost,
 /// repeated or in another order, the board's book is the same.
-pub fn run_match<D: Disk + Drop, L: Link, W: Write>(
+pub fn run_match<D: Disk + Drop, L: SharedLink, W: Write>(
     alloc: Global,
     sheet: &MatchSheet,
     input: &[u8],
     mut a: D,
     mut b: D,
-    post: &mut Post<L>,
+    link: &mut L,
     writer: &mut Watched<W>,
 ) -> Result<(D, D), (RunFault, D, D)>
     requires { length input.now ≤ LONGEST_INPUT }
     ensures agreed { IfOk result (λ disks.
         AgreesLines W.contents writer.old writer.new D.seen D.images sheet.now input.now
-        (passed_at post.old) (passed_at post.new) disks.0 disks.1) }
+        (L.log link.old) (L.log link.new) disks.0 disks.1) }
     ensures only_empty { OnOk result ((length (D.seen a) ≡ 0) × (length (D.seen b) ≡ 0)) }
     ensures why { IfErr (answer_of result)
         (WhyNoMatch sheet.now.innings input.now (D.seen a) (D.seen b)) }
@@ -171,7 +170,7 @@ pub fn run_match<D: Disk + Drop, L: Link, W: Write>(
         return Err((why, a, b));
     }
     let mut stations = new_stations(alloc, sheet, a, b)?;
-    let answer = play(&mut stations, sheet, input, post, writer);
+    let answer = play(&mut stations, sheet, input, link, writer);
     let (a, b) = stations.into_disks();
     match answer {
         Ok(()) => Ok((a, b)),
