@@ -1,6 +1,6 @@
 -- What passes between the stations, and what a board makes of it.
 use Rattle.std.proofs.Common.{◌≡◌, ◌≤◌, ℕ, ◌+◌, Option, Some, List, [], ◌∷◌, ◌++◌, length, map, refl, sym, ap, ◌∙◌, subst, inl, inr, arith, append-nil, append_assoc, length-append, Result, Ok, Err}
-use Rattle.std.specs.Prelude.{IfSome, slice_get}
+use Rattle.std.specs.Prelude.{slice_get}
 use Rattle.std.specs.List.{All}
 use Rattle.std.proofs.lemmas.List.{nil_from_length}
 use Rattle.std.proofs.lemmas.List.Elements.{All-append, All-cons, All-contains, All-map, All-nil}
@@ -24,12 +24,14 @@ use Rattle.agree_core.specs.Readers.{Listens, ReaderState, noted_of, noting, oth
 use Rattle.wire.specs.declared.what.What.{What}
 use Rattle.wire.specs.declared.what.What.TheVariants as whats
 use Rattle.wire.specs.Layout.{IsMessage, Says, written}
-use Rattle.wire.specs.Sent.{AreSent}
 use Rattle.wire.proofs.MessageLemmas.{says_once}
 use Rattle.board.specs.declared.refusal.BoardRefusal.{BoardRefusal}
 use Rattle.board.specs.declared.refusal.BoardRefusal.TheVariants.{BadVotes}
+use Rattle.board.specs.declared.board.Board.{Board}
+use Rattle.board.specs.Board.{game_of, state_of}
 use Rattle.board.specs.Takes.{Takes}
-use Rattle.live.specs.Passed.{Passed, Came, Sent, sent_bytes}
+use Rattle.live.specs.Boards.{Asks}
+use Rattle.live.specs.Passed.{Passed, Came, Sent, sends}
 use Rattle.commands.specs.MatchRun.{GivesOnlySent}
 use Rattle.commands.specs.inner.Online.{Follows, IsOnline, IsSaid, SpeaksOf, StaysOnline}
 
@@ -172,11 +174,10 @@ module _ (game : ℕ) (start : List Passed) where
         board_takes entries rules game k l bytes answer sent.0 sent.1 sent.2 (o.follows (gave_before o.passed (Came bytes ∷ []) g)) t;
   }
 
--- these messages are handed out as bytes
-pub out_said : (game : ℕ) (entries : List Entry) (bytes : List (List ℕ)) (out : List Message) → All IsMessage out → bytes ≡ map (written game) out → All (SpeaksOf entries) out → All (IsSaid game entries) (sent_bytes bytes)
-out_said game entries bytes out fine is speak =
-    subst (λ (bs : List (List ℕ)). All (IsSaid game entries) (sent_bytes bs)) (sym is)
-    (All-map (IsSaid game entries) Sent (map (written game) out) (All-map (λ bs. IsSaid game entries (Sent bs)) (written game) out (λ k d lt. (_, (fine k d lt, refl), speak k d lt))))
+-- these messages are handed out
+pub out_said : (game : ℕ) (entries : List Entry) (out : List Message) → All IsMessage out → All (SpeaksOf entries) out → All (IsSaid game entries) (sends game out)
+out_said game entries out fine speak =
+    All-map (IsSaid game entries) Sent (map (written game) out) (All-map (λ bs. IsSaid game entries (Sent bs)) (written game) out (λ k d lt. (_, (fine k d lt, refl), speak k d lt)))
 
 one_came : (game : ℕ) (entries : List Entry) (bytes : List ℕ) → All (IsSaid game entries) (Came bytes ∷ [])
 one_came game entries bytes = All-cons (IsSaid game entries) (Came bytes) [] tt (All-nil (IsSaid game entries))
@@ -197,9 +198,11 @@ same_book entries k f long =
     sym (f.book ∙ (ap (λ (es : List Entry). k.book ++ es) none ∙ append-nil k.book))
 
 -- a board has asked
-pub asked_online : (game : ℕ) (start : List Passed) (entries : List Entry) (bytes : List (List ℕ)) (log new : List Passed) (k : BoardState) → AreSent game bytes (boards.BoardTicks k) → new ≡ log ++ sent_bytes bytes → IsOnline game start entries log k → IsOnline game start entries new k
-asked_online game start entries bytes log new k sends is o =
-    says_more game start entries (sent_bytes bytes) log new k (out_said game entries bytes sends.0 sends.1 sends.2 (asks_speak entries k sends.0 sends.3)) is o
+pub asked_online : {B : Type 0} {g : _} (content : B → List Entry) (board : Board B g) (start : List Passed) (entries : List Entry) (log new : List Passed) → Asks content board log new →
+    IsOnline (game_of board) start entries log (state_of content board) → IsOnline (game_of board) start entries new (state_of content board)
+asked_online content board start entries log new asks o =
+    let said = out_said (game_of board) entries asks.out asks.fine (asks_speak entries (state_of content board) asks.out asks.step) in
+    says_more (game_of board) start entries (sends (game_of board) asks.out) log new (state_of content board) said asks.passed o
 
 none_noted : (d : DeskId) (e : Entry) → noted_of (reading first) d ≡ Some e → slice_get [] 0 ≡ Some e
 none_noted A e m = absurd (cc)
@@ -214,6 +217,3 @@ fresh_online game log k e =
       said = All-nil (IsSaid game []);
       follows = λ g. record { rest = []; book = refl; position = refl; noted = none_noted };
     })
-
-pub some_of : {X : Type 0} (o : Option X) (x : X) (P : X → Type 0) → o ≡ Some x → IfSome o P → P x
-some_of o x P e p = subst (λ got. IfSome got P) e p

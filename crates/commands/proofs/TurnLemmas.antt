@@ -34,10 +34,9 @@ use Rattle.wire.specs.declared.what.What.TheVariants as whats
 use Rattle.wire.specs.Sent.{AreSent}
 use Rattle.desk.specs.declared.desk.Desk.{Desk}
 use Rattle.desk.specs.declared.desk.Penned.{Penned}
-use Rattle.desk.specs.declared.desk.Received.{Received}
 use Rattle.desk.specs.declared.refusal.Refusal.{Refusal as PenRefusal}
 use Rattle.desk.specs.declared.refusal.Refusal.TheVariants as refusals
-use Rattle.desk.specs.Answers.{device_answer, pen_answer, replied, sent}
+use Rattle.desk.specs.Answers.{pen_answer, sent}
 use Rattle.desk.specs.Desk.{IsOf, SameOwner, desk_of, disk_of, game_of, rules_of, state_of, view_of, votes_of}
 use Rattle.desk.specs.Takes.{Takes}
 use Rattle.vote_store.specs.View.{file_view, votes_shown}
@@ -45,13 +44,17 @@ use Rattle.commands.specs.MatchRun.{HoldsBook, HoldsEither, votes_for}
 use Rattle.books.specs.Taking.{answer_to, is_full, taking, with_taken}
 use Rattle.commands.specs.declared.match_run.fault.MatchFault.{MatchFault}
 use Rattle.commands.specs.declared.match_run.fault.MatchFault.TheVariants as faults
-use Rattle.live.specs.Passed.{Passed, Sent, sent_bytes}
+use Rattle.live.specs.Desks.{Calls, DeskCall, Given, Ticked}
+use Rattle.live.specs.Ends.{end_at, further}
+use Rattle.live.specs.Passed.{Passed, sends}
+use Rattle.live.specs.declared.ends.DeskEnd.{DeskEnd}
+use Rattle.live.specs.declared.ends.DeskEnd.TheVariants as ends
 use Rattle.agree_core.specs.Boards.{BoardState}
 use Rattle.board.specs.declared.board.Board.{Board}
 use Rattle.board.specs.Board as boards
 use Rattle.board.specs.Board.{SameMatch}
 use Rattle.commands.specs.inner.Online.{IsOnline, SpeaksOf, StaysOnline}
-use Rattle.commands.specs.inner.Turns.{AreCalm, AreLevel, DiskHolds, DiskHoldsEither, GoesWith, InTurn, IsCalm, IsInTurn, IsLevel, KeepsDisk, KeepsOnline, KeepsTurn, LineLeaves, PenLeaves, VotesFor, WhyNotAgreed, board_at, book_at, innings_at, is_failing, pen_fault}
+use Rattle.commands.specs.inner.Turns.{AreCalm, AreLevel, DiskHolds, DiskHoldsEither, GoesWith, InTurn, IsCalm, IsInTurn, IsLevel, KeepsDisk, KeepsOnline, KeepsTurn, LineLeaves, PenLeaves, VotesFor, WhyNotAgreed, board_at, book_at, innings_at, pen_fault}
 use Rattle.commands.proofs.OnlineLemmas.{more, out_said, says_more}
 use Rattle.commands.proofs.VoteLists.{voted_votes, votes_in, votes_last, votes_length}
 
@@ -179,7 +182,7 @@ module _ {Disk : Type 0} (view : FileView Disk) where
   asked entries k l (Message.Ask q) out t r = unchanged entries k l t r.1
 
   -- bytes are taken, and no device call failed
-  pub takes : (entries : List Entry) (game : ℕ) (k l : DeskState Disk) (bytes : List ℕ) (what : What) (out : List Message) → is_failing what ≡ false → IsInTurn view entries k → Takes view game k bytes what l out → IsInTurn view entries l
+  pub takes : (entries : List Entry) (game : ℕ) (k l : DeskState Disk) (bytes : List ℕ) (what : What) (out : List Message) → end_at what ≡ further → IsInTurn view entries k → Takes view game k bytes what l out → IsInTurn view entries l
   takes entries game k l bytes (whats.Bad fault) out n t r = subst (IsInTurn view entries) (sym r.2) t
   takes entries game k l bytes (whats.Heard h) out n t r = receives entries k l r.0 h out t r.2
   takes entries game k l bytes whats.Asked out n t r = asked entries k l r.0 out t r.2
@@ -198,7 +201,7 @@ module _ {Disk : Type 0} (view : FileView Disk) where
   asked_runs k l (Message.Ask q) out n r = same_failed k l (record k { disk = l.disk }) n r.1.1 refl
 
   -- and the desk still runs
-  pub still_runs : (game : ℕ) (k l : DeskState Disk) (bytes : List ℕ) (what : What) (out : List Message) → is_failing what ≡ false → k.failed ≡ false → Takes view game k bytes what l out → l.failed ≡ false
+  pub still_runs : (game : ℕ) (k l : DeskState Disk) (bytes : List ℕ) (what : What) (out : List Message) → end_at what ≡ further → k.failed ≡ false → Takes view game k bytes what l out → l.failed ≡ false
   still_runs game k l bytes (whats.Bad fault) out f n r = same_failed k l k n r.2 refl
   still_runs game k l bytes (whats.Heard h) out f n r = told_runs k l r.0 h out n r.2
   still_runs game k l bytes whats.Asked out f n r = asked_runs k l r.0 out n r.2
@@ -220,7 +223,7 @@ module _ {Disk : Type 0} (view : FileView Disk) where
   asked_speaks entries k l (Message.Ask q) out t r = replies entries k q out t r.2
 
   -- what it replies is of its entries
-  pub takes_speaks : (entries : List Entry) (game : ℕ) (k l : DeskState Disk) (bytes : List ℕ) (what : What) (out : List Message) → is_failing what ≡ false → IsInTurn view entries k → Takes view game k bytes what l out → All (SpeaksOf entries) out
+  pub takes_speaks : (entries : List Entry) (game : ℕ) (k l : DeskState Disk) (bytes : List ℕ) (what : What) (out : List Message) → end_at what ≡ further → IsInTurn view entries k → Takes view game k bytes what l out → All (SpeaksOf entries) out
   takes_speaks entries game k l bytes (whats.Bad fault) out n t r = subst (All (SpeaksOf entries)) (sym r.3) (All-nil (SpeaksOf entries))
   takes_speaks entries game k l bytes (whats.Heard h) out n t r = told_speaks entries k l r.0 h out r.2
   takes_speaks entries game k l bytes whats.Asked out n t r = asked_speaks entries k l r.0 out t r.2
@@ -238,12 +241,15 @@ module _ {Disk : Type 0} (view : FileView Disk) where
 not_full : (book : List Entry) → length book < PLACES → is_full book ≡ false
 not_full book l = grind (arith, nat_tests)
 
-not_device : (what : What) → is_failing what ≡ false → IsErrOf (device_answer what) whats.Device → ⊥
-not_device whats.Device n e = cc
-not_device whats.Failed n e = cc
-not_device whats.Asked n e = cc
-not_device (whats.Bad fault) n e = cc
-not_device (whats.Heard heard) n e = cc
+not_device : (what : What) → end_at what ≡ further → IsErrOf (end_at what) ends.Device → ⊥
+not_device what n e = subst (λ course. IsErrOf course ends.Device) n e
+
+pub at_device : (what : What) (end : DeskEnd) → end_at what ≡ Err end → IsErrOf (end_at what) ends.Device
+at_device whats.Device end e = refl
+at_device whats.Failed end e = refl
+at_device whats.Asked end e = cc
+at_device (whats.Bad fault) end e = cc
+at_device (whats.Heard heard) end e = cc
 
 free : (book : List Entry) (seat : SeatState) (m : Option Entry) → GoesWith book seat book → seat.mine ≡ m → seat.mine ≡ None
 free book seat None g e = e
@@ -295,35 +301,30 @@ module _ {S B D : Type 0} {g : Files S D} {h : Disks D} {b : Books B} where
   calm_still : (old new : Desk S B D g h b) → SameOwner old new → (state_of new).failed ≡ false → h.faults (disk_of new) ≡ h.faults (disk_of old) → IsCalm old → IsCalm new
   calm_still old new o runs f c = record { running = runs; never = ap (λ x. x.due) f ∙ c.never; room = λ n l. subst (λ (m : ℕ). g.room n ≤ m) (sym o.cap) (c.room n l) }
 
-  abbrev GiveSteps : Desk S B D g h b → List ℕ → Received → Desk S B D g h b → Type 0
-  GiveSteps old bytes r new =
-      AreSent (game_of old) (replied r.reply) (λ out. Takes (view_of old) (game_of old) (state_of old) bytes r.what (state_of new) out)
-
-  abbrev GiveBlame : Desk S B D g h b → Received → Desk S B D g h b → Type 0
-  GiveBlame old r new = BlamesDisk whats.Device ⊤ (device_answer r.what) (h.faults (disk_of old)) (h.faults (disk_of new))
-
-  -- it was given bytes, and no device call failed
-  pub kept : (old new : Desk S B D g h b) (bytes : List ℕ) (r : Received) → SameOwner old new → is_failing r.what ≡ false → GiveSteps old bytes r new → GiveBlame old r new → KeepsTurn old new
-  kept old new bytes r o n step blame = record {
-    turn = λ entries t. in_view entries old new o (takes (view_of old) entries (game_of old) (state_of old) (state_of new) bytes r.what step.0 n t step.3);
-    calm = λ c. calm_still old new o (still_runs (view_of old) (game_of old) (state_of old) (state_of new) bytes r.what step.0 n c.running step.3) (blame.same (not_device r.what n)) c;
+  -- it was given bytes, and goes on
+  pub kept : (old new : Desk S B D g h b) (bytes : List ℕ) (what : What) (before after : List Passed) → Calls old new (Given bytes what) before after → end_at what ≡ further → KeepsTurn old new
+  kept old new bytes what before after c n = record {
+    turn = λ entries t. in_view entries old new c.same (takes (view_of old) entries (game_of old) (state_of old) (state_of new) bytes what c.out n t c.step);
+    calm = λ q. calm_still old new c.same (still_runs (view_of old) (game_of old) (state_of old) (state_of new) bytes what c.out n q.running c.step) ((c.blame q.running).same (not_device what n)) q;
   }
 
+  -- no fault is met at a calm disk
+  pub meets_none : (old new : Desk S B D g h b) (bytes : List ℕ) (what : What) (before after : List Passed) (end : DeskEnd) → Calls old new (Given bytes what) before after → end_at what ≡ Err end → IsCalm old → ⊥
+  meets_none old new bytes what before after end c e q = (c.blame q.running).calm q.never q.room (at_device what end e)
+
+  called_online : (old new : Desk S B D g h b) (call : DeskCall) (entries : List Entry) (before after : List Passed) (c : Calls old new call before after) → All (SpeaksOf entries) c.out → StaysOnline (game_of old) entries before after
+  called_online old new call entries before after c speak start k o =
+      says_more (game_of old) start entries (sends (game_of old) c.out) before after k (out_said (game_of old) entries c.out c.fine speak) c.passed o
+
   -- what it replied is of its entries
-  pub replied_online : (old new : Desk S B D g h b) (bytes : List ℕ) (r : Received) (reply : List ℕ) (entries : List Entry) (log sent_log : List Passed) → r.reply ≡ Some reply → is_failing r.what ≡ false → GiveSteps old bytes r new →
-      sent_log ≡ log ++ Sent reply ∷ [] → InTurn entries old → StaysOnline (game_of old) entries log sent_log
-  replied_online old new bytes r reply entries log sent_log is n step passed t start k o =
-      let speak = takes_speaks (view_of old) entries (game_of old) (state_of old) (state_of new) bytes r.what step.0 n t step.3 in
-      let said = out_said (game_of old) entries (replied r.reply) step.0 step.1 step.2 speak in
-      let grown : sent_log ≡ log ++ sent_bytes (replied r.reply) = subst (λ (told : Option (List ℕ)). sent_log ≡ log ++ sent_bytes (replied told)) (sym is) passed in
-      says_more (game_of old) start entries (sent_bytes (replied r.reply)) log sent_log k said grown o
+  pub replied_online : (old new : Desk S B D g h b) (bytes : List ℕ) (what : What) (entries : List Entry) (before after : List Passed) → Calls old new (Given bytes what) before after → end_at what ≡ further → InTurn entries old → StaysOnline (game_of old) entries before after
+  replied_online old new bytes what entries before after c n t =
+      called_online old new (Given bytes what) entries before after c (takes_speaks (view_of old) entries (game_of old) (state_of old) (state_of new) bytes what c.out n t c.step)
 
   -- what it said unasked too
-  pub ticked_online : (desk : Desk S B D g h b) (bytes : List (List ℕ)) (entries : List Entry) (log sent_log : List Passed) → AreSent (game_of desk) bytes (Ticks (state_of desk)) →
-      sent_log ≡ log ++ sent_bytes bytes → InTurn entries desk → StaysOnline (game_of desk) entries log sent_log
-  ticked_online desk bytes entries log sent_log sends passed t start k o =
-      let said = out_said (game_of desk) entries bytes sends.0 sends.1 sends.2 (ticks_speak (view_of desk) entries (state_of desk) sends.0 t sends.3) in
-      says_more (game_of desk) start entries (sent_bytes bytes) log sent_log k said passed o
+  pub ticked_online : (desk : Desk S B D g h b) (entries : List Entry) (before after : List Passed) → Calls desk desk Ticked before after → InTurn entries desk → StaysOnline (game_of desk) entries before after
+  ticked_online desk entries before after c t =
+      called_online desk desk Ticked entries before after c (ticks_speak (view_of desk) entries (state_of desk) c.out t c.step.0)
 
   -- it was just made
   pub first_turn : (desk : DeskId) (game innings : ℕ) (made : Desk S B D g h b) → IsOf desk game innings made → Creates (file_view g.contents h.seen h.images desk game) desk (state_of made) → InTurn [] made

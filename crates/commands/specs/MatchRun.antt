@@ -23,12 +23,10 @@ use Rattle.books.specs.declared.fault.BookFault.TheVariants as books
 use Rattle.books.specs.CardBook.{IsBookOfLines, NamesFirstRejected}
 use Rattle.books.specs.Taking.{book_after}
 use Rattle.live.specs.Passed.{Passed, Sent, Came}
-use Rattle.live.specs.Logs.{passed_of}
 use Rattle.commands.specs.declared.fault.StopFault.{StopFault}
 use Rattle.commands.specs.declared.fault.StopFault.TheVariants as stops
 use Rattle.commands.specs.declared.match_run.fault.MatchFault.{MatchFault}
 use Rattle.commands.specs.declared.match_run.fault.MatchFault.TheVariants.{NoMemory, Write, Device, NotEmpty, Line, NotAgreed}
-use Rattle.commands.specs.declared.match_run.post.Post.{Post}
 
 -- these votes, and then one for each entry, in the first round of its place; the newest first
 abbrev pub with_votes_for : List Entry → List Ballot → List Ballot
@@ -53,10 +51,6 @@ pub record HoldsEither {Disk : Type 0} (view : FileView Disk) (disk : Disk) (boo
 -- no fault is due at this disk, and it has room for the longest file of version 2
 abbrev pub IsQuiet : {D : Type 0} → (D → Faults) → (D → ℕ) → D → Type 0
 IsQuiet faults cap disk = ((faults disk).due ≡ Never) × (room version_2 MAX_SLOTS ≤ cap disk)
-
--- what passed at the link of all three stations, the oldest first
-abbrev pub passed_at : {L : Type 0} → Post L → List Passed
-passed_at post = passed_of post.log
 
 -- each datagram that came is one that was sent before
 abbrev pub GivesOnlySent : List Passed → Type 0

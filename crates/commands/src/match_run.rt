@@ -9,13 +9,12 @@ ghost use Rattle.board.specs.Board.{book_of};
 ghost use Rattle.vote_store.specs.Migrated.{answer_of};
 ghost use Rattle.books.specs.CardBook.{IsBookOfLines};
 ghost use Rattle.live.specs.Passed.{Passed};
-ghost use Rattle.commands.specs.MatchRun.{AgreesLines, IsQuiet, Leaves, Stays, WhyNoMatch, left_at_a, left_at_b, passed_at};
+ghost use Rattle.commands.specs.MatchRun.{AgreesLines, IsQuiet, Leaves, Stays, WhyNoMatch, left_at_a, left_at_b};
 ghost use Rattle.commands.specs.inner.Online.{IsOnline};
 ghost use Rattle.commands.specs.inner.Turns.{AreCalm, AreLevel, LinesLeave, board_at, book_at, innings_at};
 
 mod fault;
 mod files;
-mod post;
 mod turns;
 
 use crate::fault::{StopFault, Stopped};
@@ -25,19 +24,19 @@ use cards::MatchSheet;
 use entry_log::{Disk, SlotsOf};
 pub use fault::MatchFault;
 use files::MatchFiles;
-use machine::{Link, Sockets};
+use live::SharedLink;
+use machine::Sockets;
 use notation::Lines;
-pub use post::Post;
 use std::alloc::Global;
 use std::io::Write;
 use streams::{LONGEST_INPUT, Watched};
 use turns::{Stations, new_stations};
 
 /// Has the stations take the lines of an input, one after the other.
-fn take_lines<S: SlotsOf, L: Link>(
+fn take_lines<S: SlotsOf, L: SharedLink>(
     stations: &mut Stations<S>,
     input: &[u8],
-    post: &mut Post<L>,
+    link: &mut L,
 ) -> Result<(), MatchFault>
     requires short { length input.now ≤ LONGEST_INPUT }
     requires level { AreLevel stations.old.a stations.old.b stations.old.board }
@@ -48,8 +47,8 @@ fn take_lines<S: SlotsOf, L: Link>(
     ensures owner_a { SameOwner stations.old.a stations.new.a }
     ensures owner_b { SameOwner stations.old.b stations.new.b }
     ensures online { OnOk result ((start : List Passed) →
-        IsOnline (game_of stations.old.a) start [] (passed_at post.old) (board_at stations.old.board) →
-        IsOnline (game_of stations.old.a) start (book_at stations.new.a) (passed_at post.new)
+        IsOnline (game_of stations.old.a) start [] (L.log link.old) (board_at stations.old.board) →
+        IsOnline (game_of stations.old.a) start (book_at stations.new.a) (L.log link.new)
         (board_at stations.new.board)) }
     ensures left { IfErr result (λ fault.
         LinesLeave (innings_at stations.old.a) input.now fault stations.new.a stations.new.b) }
@@ -61,7 +60,7 @@ fn take_lines<S: SlotsOf, L: Link>(
     let mut number = 0;
     while let Some(line) = lines.next() {
         number += 1;
-        stations.take(number, line, post)?;
+        stations.take(number, line, link)?;
     }
     Ok(())
 }
@@ -98,11 +97,11 @@ fn expect_both_empty<D: Disk>(a: &mut D, b: &mut D) -> Result<(), MatchFault>
 }
 
 /// Has the stations take the lines of an input, and prints the board's six lines.
-fn play<S: SlotsOf, L: Link, W: Write>(
+fn play<S: SlotsOf, L: SharedLink, W: Write>(
     stations: &mut Stations<S>,
     sheet: &MatchSheet,
     input: &[u8],
-    post: &mut Post<L>,
+    link: &mut L,
     writer: &mut Watched<W>,
 ) -> Result<(), MatchFault>
     requires short { length input.now ≤ LONGEST_INPUT }
@@ -114,8 +113,8 @@ fn play<S: SlotsOf, L: Link, W: Write>(
     ensures owner_a { SameOwner stations.old.a stations.new.a }
     ensures owner_b { SameOwner stations.old.b stations.new.b }
     ensures online { OnOk result ((start : List Passed) →
-        IsOnline (game_of stations.old.a) start [] (passed_at post.old) (board_at stations.old.board) →
-        IsOnline (game_of stations.old.a) start (book_at stations.new.a) (passed_at post.new)
+        IsOnline (game_of stations.old.a) start [] (L.log link.old) (board_at stations.old.board) →
+        IsOnline (game_of stations.old.a) start (book_at stations.new.a) (L.log link.new)
         (board_at stations.new.board)) }
     ensures left { IfErr result (λ fault.
         LinesLeave (innings_at stations.old.a) input.now fault stations.new.a stations.new.b) }
@@ -128,7 +127,7 @@ fn play<S: SlotsOf, L: Link, W: Write>(
     ensures write { result ≡ Err MatchFault.Write → MeetsFailure writer.old writer.new }
     ensures unwritten { IfErr result (λ fault. fault ≢ MatchFault.Write → writer.new ≡ writer.old) }
 {
-    take_lines(stations, input, post)?;
+    take_lines(stations, input, link)?;
     match stations.print_board(sheet, writer) {
         Ok(()) => Ok(()),
         Err(_) => Err(MatchFault::Write),
@@ -143,19 +142,19 @@ fn play<S: SlotsOf, L: Link, W: Write>(
 /// stay as they were. Both disks come back. At `Ok`, whatever the link loses, changes or makes up, they hold just the
 /// book of the lines, which a power loss doesn't take away; and where the link gives only what was sent, lost,
 /// repeated or in another order, the board's book is the same.
-pub fn run_match<D: Disk + Drop, L: Link, W: Write>(
+pub fn run_match<D: Disk + Drop, L: SharedLink, W: Write>(
     alloc: Global,
     sheet: &MatchSheet,
     input: &[u8],
     mut a: D,
     mut b: D,
-    post: &mut Post<L>,
+    link: &mut L,
     writer: &mut Watched<W>,
 ) -> Result<(D, D), (MatchFault, D, D)>
     requires { length input.now ≤ LONGEST_INPUT }
     ensures agreed { IfOk result (λ disks.
         AgreesLines W.contents writer.old writer.new D.seen D.images sheet.now input.now
-        (passed_at post.old) (passed_at post.new) disks.0 disks.1) }
+        (L.log link.old) (L.log link.new) disks.0 disks.1) }
     ensures only_empty { OnOk result ((length (D.seen a) ≡ 0) × (length (D.seen b) ≡ 0)) }
     ensures why { IfErr (answer_of result)
         (WhyNoMatch sheet.now.innings input.now (D.seen a) (D.seen b)) }
@@ -178,7 +177,7 @@ pub fn run_match<D: Disk + Drop, L: Link, W: Write>(
         return Err((why, a, b));
     }
     let mut stations = new_stations(alloc, sheet, a, b)?;
-    let answer = play(&mut stations, sheet, input, post, writer);
+    let answer = play(&mut stations, sheet, input, link, writer);
     let (a, b) = stations.into_disks();
     match answer {
         Ok(()) => Ok((a, b)),
@@ -195,14 +194,14 @@ fn play_match<'a>(
     sheet: &MatchSheet,
     lines: &[u8],
     files: &MatchFiles<'a>,
-    post: &mut Post<Sockets>,
+    sockets: &mut Sockets,
     writer: &mut Output<'_>,
 ) -> Result<(), Stopped<'a>>
     requires { length lines.now ≤ LONGEST_INPUT }
 {
     let a = files.disk_a(rt)?;
     let b = files.disk_b(rt)?;
-    match run_match(rt.alloc(), sheet, lines, a, b, post, writer) {
+    match run_match(rt.alloc(), sheet, lines, a, b, sockets, writer) {
         Ok((a, b)) => {
             close_disk(a);
             close_disk(b);
@@ -229,12 +228,19 @@ pub fn start_match<'a>(
     let sheet = sheet_at(rt, sheet)?;
     let lines = bytes_at(rt, book)?;
     let mut writer = output(rt)?;
-    let mut post = match Sockets::new(rt) {
-        Ok(sockets) => Post::new(sockets, drop),
+    let mut sockets = match Sockets::new(rt, drop) {
+        Ok(sockets) => sockets,
         Err(_) => return Err(Stopped::at(folder, StopFault::Write)),
     };
     let files = MatchFiles::in_folder(rt, folder)?;
-    match play_match(rt, &sheet, lines.as_slice(), &files, &mut post, &mut writer) {
+    match play_match(
+        rt,
+        &sheet,
+        lines.as_slice(),
+        &files,
+        &mut sockets,
+        &mut writer,
+    ) {
         Ok(()) => Ok(false),
         Err(stopped) => {
             files.take_back(rt);

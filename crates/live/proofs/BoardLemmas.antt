@@ -16,9 +16,9 @@ use Rattle.board.specs.declared.refusal.BoardRefusal.{BoardRefusal}
 use Rattle.board.specs.declared.board.Board.{Board}
 use Rattle.board.specs.Board.{SameMatch, book_of, game_of, state_of}
 use Rattle.board.specs.Takes.{Takes}
-use Rattle.live.specs.Passed.{Passed, Came, sent_bytes}
+use Rattle.live.specs.Passed.{Passed, Came, sends, sent_bytes}
 use Rattle.live.specs.Runs.{Goes}
-use Rattle.live.specs.Boards.{BoardGoes, BoardRuns, BoardTurn, Given, Ticked, TurnEnded, at_turn, board_kind, grown, in_turn, shown, unless_stopped}
+use Rattle.live.specs.Boards.{Asks, BoardGoes, BoardRuns, BoardTurn, Given, Ticked, TurnEnded, at_turn, board_kind, grown, in_turn, shown, unless_stopped}
 use Rattle.live.specs.Notices.{notices_after, telling_after}
 use Rattle.live.specs.declared.notices.Notice.{Notice}
 use Rattle.live.specs.declared.notices.Telling.{Telling}
@@ -47,6 +47,10 @@ stopped_none text b s e = rw e (appends_none s)
 
 pub goes_on : (text : List ℕ) (b : Bool) (s t : Option (List ℕ)) → b ≡ false → Appends s t text → Appends s t (unless_stopped b text)
 goes_on text b s t e a = rw e a
+
+-- what it says unasked
+pub asks : {B : Type 0} {g : _} (content : B → List Entry) (k : Board B g) (bytes : List (List ℕ)) (log after : List Passed) → AreSent (game_of k) bytes (BoardTicks (state_of content k)) → after ≡ log ++ sent_bytes bytes → Asks content k log after
+asks content k bytes log after ticks passed = record { out = ticks.0; fine = ticks.1; passed = passed ∙ ap (λ (xs : List (List ℕ)). log ++ sent_bytes xs) ticks.2; step = ticks.3 }
 
 module _ {B : Type 0} {g : _} (content : B → List Entry) (innings_of : B → ℕ) (sheet : Sheet) where
   same_here : (k : Board B g) → SameMatch innings_of k k
@@ -85,13 +89,13 @@ module _ {B : Type 0} {g : _} (content : B → List Entry) (innings_of : B → �
   }
 
   -- it has ticked
-  pub ticked : (k : Board B g) (out : List (List ℕ)) (log : List Passed) (s : Option (List ℕ)) (turns had taken : ℕ) (telling : Telling) (noted : List Notice) → AreSent (game_of k) out (BoardTicks (state_of content k)) →
-      BoardGoes content innings_of sheet k k (in_turn content k turns had taken telling noted) (in_turn content k turns had taken telling noted) log (log ++ sent_bytes out) s s
-  ticked k out log s turns had taken telling noted ticks =
+  pub ticked : (k : Board B g) (log after : List Passed) (s : Option (List ℕ)) (turns had taken : ℕ) (telling : Telling) (noted : List Notice) → Asks content k log after →
+      BoardGoes content innings_of sheet k k (in_turn content k turns had taken telling noted) (in_turn content k turns had taken telling noted) log after s s
+  ticked k log after s turns had taken telling noted ticks =
       let kind = board_kind sheet (game_of k) (innings_of (book_of k)) in
       let p = in_turn content k turns had taken telling noted in
-      let x = one kind p Ticked ticks.0 p log [] s s ticks.1 (tt, (ticks.3, refl), refl) (appends_none s) in
-      record { same = same_here k; goes = subst (λ xs. Goes kind p p log (log ++ sent_bytes xs) [] [] s s) (sym ticks.2) x }
+      let x = one kind p Ticked ticks.out p log [] s s ticks.fine (tt, (ticks.step, refl), refl) (appends_none s) in
+      logged k k p p log (log ++ sends (game_of k) ticks.out) after s s (sym ticks.passed) (record { same = same_here k; goes = x })
 
   -- its turn is over
   pub turn_over : (k : Board B g) (log : List Passed) (s t : Option (List ℕ)) (turns had taken : ℕ) (telling : Telling) (noted : List Notice) →

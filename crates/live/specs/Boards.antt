@@ -1,10 +1,11 @@
 -- A board's process, turn by turn.
-use Rattle.std.specs.Prelude.{◌≡◌, ◌<◌, ◌+◌, ℕ, Bool, true, false, nat_eq, List, [], ◌∷◌, length, Option, Result, OnOk}
+use Rattle.std.specs.Prelude.{◌≡◌, ◌<◌, ◌+◌, ℕ, Bool, true, false, nat_eq, List, [], ◌∷◌, ◌++◌, All, length, Option, Result, OnOk}
 use Rattle.notation.specs.declared.entry.Entry.{Entry}
 use Rattle.corrections.specs.CleanList.{history_of}
 use Rattle.corrections.specs.Refusal.{book_refusal}
 use Rattle.agree_core.specs.declared.messages.Message.{Message}
 use Rattle.agree_core.specs.Boards.{BoardState, BoardTicks}
+use Rattle.wire.specs.Layout.{IsMessage}
 use Rattle.wire.specs.declared.what.What.{What}
 use Rattle.cards.specs.Sheet.{Sheet}
 use Rattle.cards.specs.Board.{board as board_text}
@@ -13,7 +14,7 @@ use Rattle.board.specs.declared.board.Board.{Board}
 use Rattle.board.specs.Board.{SameMatch, book_of, game_of, state_of}
 use Rattle.board.specs.Takes.{Takes}
 use Rattle.live.specs.Notices.{notices_after, telling_after}
-use Rattle.live.specs.Passed.{Passed, Came}
+use Rattle.live.specs.Passed.{Passed, Came, sends}
 use Rattle.live.specs.Runs.{Goes, Kind, known}
 use Rattle.live.specs.declared.link.TheConstants.{MOST_TAKEN}
 use Rattle.live.specs.declared.notices.Notice.{Notice}
@@ -93,6 +94,13 @@ board_kind sheet game innings =
     record { game = game; Step = TurnStep game innings; given = given; typed = λ call. []; prints = shown sheet innings }
 
 module _ {B : Type 0} {g : _} (content : B → List Entry) where
+  -- what a board says unasked is what the link's log grew by
+  pub record Asks (k : Board B g) (before after : List Passed) : Type 0 where
+    pub out : List Message
+    pub fine : All IsMessage out
+    pub passed : after ≡ before ++ sends (game_of k) out
+    pub step : BoardTicks (state_of content k) out
+
   -- a board in a turn
   abbrev pub in_turn : Board B g → ℕ → ℕ → ℕ → Telling → List Notice → BoardTurn
   in_turn k turns had taken telling notices =

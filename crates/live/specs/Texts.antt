@@ -103,10 +103,10 @@ warned_after warned (whats.Heard Heard.Differ) = unwarned
 warned_after warned what = warned
 
 -- of a desk's position as it begins: its vote is cast, or the scorers differed there, or neither
-abbrev pub standing : Position → Bool → List ℕ
-standing at true = codes "pending"
-standing at false = if nat_lt 0 at.round then codes "differs" else codes "next"
+abbrev pub place_state : Position → Bool → List ℕ
+place_state at true = codes "pending"
+place_state at false = if nat_lt 0 at.round then codes "differs" else codes "next"
 
 -- as a desk begins
 abbrev pub greeting : Sheet → ℕ → List Entry → Position → Bool → List ℕ
-greeting sheet innings book at is_cast = score sheet innings book ++ at_place at.place (standing at is_cast)
+greeting sheet innings book at is_cast = score sheet innings book ++ at_place at.place (place_state at is_cast)

@@ -9,12 +9,12 @@ ghost use Rattle.live.specs.Passed.{Came, Passed};
 ghost use Rattle.live.specs.declared.link.TheConstants.{MOST_TAKEN};
 ghost use Rattle.live.specs.declared.notices.Notice.{Notice};
 
+use crate::board_calls;
 use crate::clock::Clock;
 use crate::hearing::promises_more;
-use crate::link::{Link, MOST_TAKEN, ROOM};
+use crate::link::{Link, MOST_TAKEN, ROOM, Taken};
 use crate::notices::{Notices, Telling};
 use crate::pace::Pace;
-use crate::sending::send_each;
 use board::Board;
 use cards::MatchSheet;
 use corrections::BookOf;
@@ -37,7 +37,7 @@ fn tick<B: BookOf, L: Link>(board: &Board<B>, link: &mut L, is_due: bool)
         (L.log link.old) (L.log link.new) shown shown }
 {
     if is_due {
-        send_each(link, board.tick().as_slice());
+        board_calls::tick(board, link);
     }
 }
 
@@ -93,11 +93,11 @@ fn take_next<B: BookOf, L: Link, C: Clock, N: Notices>(
     }
     let mut buffer = [0; ROOM];
     match link.take(&mut buffer) {
-        Some(count) => {
+        Taken::Datagram(count) => {
             give(board, &buffer[..count], notices, between, now);
             true
         }
-        None => false,
+        Taken::Nothing | Taken::Lost => false,
     }
 }
 

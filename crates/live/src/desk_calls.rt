@@ -1,7 +1,7 @@
 //! The calls of a desk at its link.
 
 ghost use Rattle.std.specs.Prelude.{◌≡◌, ◌++◌, ◌∷◌, [], List};
-ghost use Rattle.desk.specs.Desk.{state_of};
+ghost use Rattle.desk.specs.Desk.{disk_of, state_of};
 ghost use Rattle.live.specs.Desks.{Calls, Given, Ticked, Typed};
 ghost use Rattle.live.specs.Passed.{Passed};
 
@@ -41,7 +41,10 @@ pub fn give<S: SlotsOf, B: BookOf + Drop, L: Link>(
     bytes: &[u8],
     link: &mut L,
 ) -> What
-    ensures { Calls desk.old desk.new (Given bytes.now result) (L.log link.old) (L.log link.new) }
+    ensures calls { Calls desk.old desk.new (Given bytes.now result) (L.log link.old) (L.log link.new) }
+    // Nothing is written.
+    ensures reads { (S.Disk.seen (disk_of desk.new) ≡ S.Disk.seen (disk_of desk.old))
+        × (S.Disk.images (disk_of desk.new) ≡ S.Disk.images (disk_of desk.old)) }
 {
     let received = desk.receive(bytes);
     if let Some(reply) = received.reply {

@@ -17,7 +17,7 @@ use crate::desk_calls::{give, pen, tick};
 use crate::ends::{DeskEnd, end_at, end_of};
 use crate::hearing::promises_more;
 use crate::keys::{Keys, LINE_ROOM, Typed};
-use crate::link::{Link, MOST_TAKEN, ROOM};
+use crate::link::{Link, MOST_TAKEN, ROOM, Taken};
 use crate::pace::Pace;
 use crate::texts::{print_came, print_greeting, print_said};
 use crate::warned::Warned;
@@ -93,7 +93,9 @@ fn hear<S: SlotsOf, B: BookOf + Drop, L: Link, W: Write>(
 {
     let at = desk.position();
     let what = give(desk, bytes, link);
-    between.pace.note(desk.position() != at, promises_more(what), now);
+    between
+        .pace
+        .note(desk.position() != at, promises_more(what), now);
     let warned = between.warned;
     between.warned = warned.after(what);
     if let Err(end) = end_at(what) {
@@ -138,11 +140,11 @@ fn take_next<S: SlotsOf, B: BookOf + Drop, L: Link, C: Clock, W: Write>(
     }
     let mut buffer = [0; ROOM];
     match link.take(&mut buffer) {
-        Some(count) => {
+        Taken::Datagram(count) => {
             hear(desk, sheet, &buffer[..count], link, out, between, now)?;
             Ok(true)
         }
-        None => Ok(false),
+        Taken::Nothing | Taken::Lost => Ok(false),
     }
 }
 

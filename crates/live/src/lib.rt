@@ -3,9 +3,10 @@
 #![tactic(auto)]
 
 mod begin;
+pub mod board_calls;
 mod board_loop;
 mod clock;
-mod desk_calls;
+pub mod desk_calls;
 mod desk_loop;
 mod ends;
 mod hearing;
@@ -23,9 +24,9 @@ pub use begin::begin_desk;
 pub use board_loop::run_board;
 pub use clock::Clock;
 pub use desk_loop::run_desk;
-pub use ends::DeskEnd;
+pub use ends::{DeskEnd, end_at};
 pub use keys::{Keys, LINE_ROOM, Typed};
-pub use link::{Link, MOST_TAKEN, ROOM};
+pub use link::{Link, MOST_TAKEN, ROOM, SharedLink, Taken};
 pub use log::{InputLog, Log, NoticeLog};
 pub use notices::{Notice, Notices, Telling, print_notice};
 pub use said::Said;

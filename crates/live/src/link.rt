@@ -1,13 +1,23 @@
-//! What carries datagrams between a station and its peers.
+//! What carries datagrams between stations.
 
-ghost use Rattle.std.specs.Prelude.{◌≡◌, ◌≤◌, ◌∷◌, ◌++◌, List, [], None, IfSome, take};
-ghost use Rattle.live.specs.Passed.{Passed, Sent, Came};
+ghost use Rattle.std.specs.Prelude.{◌≡◌, ◌∷◌, ◌++◌, List, []};
+ghost use Rattle.live.specs.Passed.{Passed, Sent, IsTaken};
+
+use agree_core::Asker;
 
 /// How many bytes of a datagram are taken at most: more than a message has, so that a longer one is seen as such.
 pub const ROOM: usize = 64;
 
 /// How many datagrams a station takes in a turn at most.
 pub const MOST_TAKEN: usize = 8;
+
+/// What was taken: a datagram of so many bytes, none that came in time, or one that was lost.
+#[derive(Clone, Copy, Debug, PartialEq, Eq)]
+pub enum Taken {
+    Datagram(usize),
+    Nothing,
+    Lost,
+}
 
 /// Carries datagrams between a station and its peers. Nothing is known of what it loses, changes or makes up;
 /// only what was handed to it and what it gave is told.
@@ -19,10 +29,15 @@ pub trait Link {
     fn send(&mut self, bytes: &[u8; 48])
         ensures { log self.new ≡ log self.old ++ Sent bytes.now ∷ [] };
 
-    /// Takes the next datagram that came from a peer, and tells how many bytes it has; `None` where none came in
-    /// time. Others' datagrams aren't taken.
-    fn take(&mut self, buffer: &mut [u8; 64]) -> Option<usize>
-        ensures came { IfSome result (λ count. (count ≤ 64)
-            × (log self.new ≡ log self.old ++ Came (take count buffer.new) ∷ [])) }
-        ensures none { result ≡ None → log self.new ≡ log self.old };
+    /// Takes the next datagram that came from a peer: the front of the buffer. Others' datagrams, and those whose
+    /// taking fails, are lost.
+    fn take(&mut self, buffer: &mut [u8; 64]) -> Taken
+        ensures { IsTaken result buffer.new (log self.old) (log self.new) };
+}
+
+/// A link that several stations share, each the others' peer, in turns.
+pub trait SharedLink: Link {
+    /// From here on it is this station's turn: it sends, and what came to it is taken.
+    fn turn_to(&mut self, station: Asker)
+        ensures { Self.log self.new ≡ Self.log self.old };
 }

@@ -250,8 +250,8 @@ pub fn print_came<B: BookOf, W: Write>(
 }
 
 /// Where a desk stands at its position.
-fn standing(at: Position, is_cast: bool) -> &'static str
-    ensures { result.now ≡ texts.standing at is_cast }
+fn place_state(at: Position, is_cast: bool) -> &'static str
+    ensures { result.now ≡ texts.place_state at is_cast }
 {
     if is_cast {
         "pending"
@@ -275,5 +275,5 @@ pub fn print_greeting<B: BookOf, W: Write>(
     ensures failed { OnErr result (has_failed out.new ≡ true) }
 {
     print_score(out, sheet, book)?;
-    print_at(out, at.place, standing(at, is_cast))
+    print_at(out, at.place, place_state(at, is_cast))
 }

@@ -1,30 +1,24 @@
 //! A station's socket, and the addresses of its peers.
 
-ghost use Rattle.std.specs.Prelude.{◌≤◌, IfSome};
+ghost use Rattle.std.specs.Prelude.{◌≡◌, ◌≤◌, ℕ};
 
 use crate::address::MOST_PEERS;
-use live::{Link, Log, ROOM};
+use crate::port::{Port, is_late, missed};
+use live::{Link, Log, Taken};
 use std::io::{self, ErrorKind, Write};
-use std::net::{Net, SocketAddr, UdpSocket};
-use std::time::Duration;
+use std::net::{Net, SocketAddr};
 use wire::message_of;
-
-/// How long a call waits at most, in milliseconds.
-const LIMIT: u64 = 10;
 
 /// Whether a send was refused by the machine, and not held up for a moment.
 fn is_refusal(error: &io::Error) -> bool {
-    !matches!(
-        error.kind(),
-        ErrorKind::WouldBlock | ErrorKind::TimedOut | ErrorKind::Interrupted
-    )
+    !is_late(error) && error.kind() != ErrorKind::Interrupted
 }
 
 /// A socket, the addresses of its peers, and what standard error was told of them. That it can't be told anything is
 /// no fault.
 #[derive(Drop)]
 struct Mail<E> {
-    socket: UdpSocket,
+    port: Port,
     peers: [Option<SocketAddr>; MOST_PEERS],
     /// The match's number.
     game: u64,
@@ -43,7 +37,7 @@ impl<E: Write + Drop> Mail<E> {
 
     /// Sends bytes to a peer. That the machine refuses it is told once.
     fn send_to(&mut self, bytes: &[u8; 48], address: SocketAddr, is_told: bool) -> bool {
-        match self.socket.send_to(bytes.as_slice(), address) {
+        match self.port.send(bytes, address) {
             Err(error) if !is_told && is_refusal(&error) => {
                 let _ = writeln!(self.errors, "cannot send to {address}");
                 true
@@ -70,16 +64,18 @@ impl<E: Write + Drop> Mail<E> {
     }
 
     /// The next datagram, if it is a peer's and comes in time. That of a stranger is passed over, one a call.
-    fn receive(&mut self, buffer: &mut [u8; 64]) -> Option<usize>
-        ensures { IfSome result (λ count. count ≤ 64) }
+    fn receive(&mut self, buffer: &mut [u8; 64]) -> Taken
+        ensures { (count : ℕ) → result ≡ Taken.Datagram count → count ≤ 64 }
     {
-        let (count, from) = self.socket.recv_from(buffer.as_mut_slice()).ok()?;
-        let count = count.min(ROOM);
+        let (count, from) = match self.port.receive(buffer) {
+            Ok(came) => came,
+            Err(error) => return missed(&error),
+        };
         if self.knows(from) {
-            return Some(count);
+            return Taken::Datagram(count);
         }
         self.pass_over(&buffer[..count], from);
-        None
+        Taken::Lost
     }
 }
 
@@ -100,13 +96,10 @@ impl<E: Write + Drop> Peers<E> {
         game: u64,
         errors: E,
     ) -> io::Result<Peers<E>> {
-        let socket = UdpSocket::bind(net, at)?;
-        let limit = Some(Duration::from_millis(LIMIT));
-        socket.set_read_timeout(limit)?;
-        socket.set_write_timeout(limit)?;
+        let port = Port::new(net, at)?;
         Ok(Peers {
             mail: Mail {
-                socket,
+                port,
                 peers,
                 game,
                 errors,
@@ -129,9 +122,14 @@ impl<E: Write + Drop> Link for Peers<E> {
     }
 
     /// Waits 10 ms at most.
-    fn take(&mut self, buffer: &mut [u8; 64]) -> Option<usize> {
-        let count = self.mail.receive(buffer)?;
-        self.log = self.log.came(buffer, count);
-        Some(count)
+    fn take(&mut self, buffer: &mut [u8; 64]) -> Taken {
+        match self.mail.receive(buffer) {
+            Taken::Datagram(count) => {
+                self.log = self.log.came(buffer, count);
+                Taken::Datagram(count)
+            }
+            Taken::Nothing => Taken::Nothing,
+            Taken::Lost => Taken::Lost,
+        }
     }
 }

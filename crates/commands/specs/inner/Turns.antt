@@ -1,5 +1,5 @@
 -- The desks and the board of a match between their turns.
-use Rattle.std.specs.Prelude.{◌≡◌, ◌+◌, ◌<◌, ◌≤◌, ◌⊎◌, ℕ, Bool, true, false, None, Some, List, [], ◌∷◌, ◌++◌, length, Result, Ok, Err}
+use Rattle.std.specs.Prelude.{◌≡◌, ◌+◌, ◌<◌, ◌≤◌, ◌⊎◌, ℕ, false, None, Some, List, [], ◌∷◌, ◌++◌, length, Result, Ok, Err}
 use Rattle.notation.specs.declared.entry.Entry.{Entry}
 use Rattle.notation.specs.Lines.{lines_of}
 use Rattle.corrections.specs.declared.book_of.BookOf.{Ghosts as Books}
@@ -11,8 +11,6 @@ use Rattle.agree_core.specs.Boards.{BoardState}
 use Rattle.agree_core.specs.Desks.{DeskState, most_votes}
 use Rattle.agree_core.specs.FileView.{FileView, Holds}
 use Rattle.agree_core.specs.Seats.{SeatState}
-use Rattle.wire.specs.declared.what.What.{What}
-use Rattle.wire.specs.declared.what.What.TheVariants as whats
 use Rattle.desk.specs.declared.desk.Desk.{Desk}
 use Rattle.desk.specs.declared.refusal.Refusal.{Refusal as PenRefusal}
 use Rattle.desk.specs.declared.refusal.Refusal.TheVariants as pens
@@ -55,12 +53,6 @@ WhyNotAgreed answer book n (Line number why) = (number ≡ n) × (answer ≡ Err
 WhyNotAgreed answer book n (NotAgreed place) = place ≡ length book
 WhyNotAgreed answer book n Device = Unit {0}
 WhyNotAgreed answer book n _ = ⊥
-
--- a desk's disk has failed, in this call or before
-abbrev pub is_failing : What → Bool
-is_failing whats.Device = true
-is_failing whats.Failed = true
-is_failing what = false
 
 -- the fault of a run where a desk refuses to pen the entry of a line, at this place
 abbrev pub pen_fault : ℕ → ℕ → PenRefusal → MatchFault

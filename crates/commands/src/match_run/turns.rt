@@ -12,7 +12,7 @@ ghost use Rattle.board.specs.Board as boards;
 ghost use Rattle.cards.specs.Board.{board as board_text};
 ghost use Rattle.streams.specs.Watched.{IsHandedOn, Prints, TellsFailure};
 ghost use Rattle.live.specs.Passed.{Passed};
-ghost use Rattle.commands.specs.MatchRun.{IsQuiet, Leaves, Stays, passed_at};
+ghost use Rattle.commands.specs.MatchRun.{IsQuiet, Leaves, Stays};
 ghost use Rattle.books.specs.Taking.{answer_to, taking, with_taken};
 ghost use Rattle.commands.specs.inner.Online.{IsOnline, StaysOnline};
 ghost use Rattle.commands.specs.inner.Turns as turns;
@@ -20,7 +20,6 @@ ghost use Rattle.commands.specs.inner.Turns.{AreCalm, AreLevel, InTurn, IsCalm, 
 
 use crate::fault::TURNS;
 use crate::match_run::fault::MatchFault;
-use crate::match_run::post::Post;
 use agree_core::{Asker, DeskId};
 use board::Board;
 use books::{Refusal, Rejected};
@@ -28,15 +27,12 @@ use cards::MatchSheet;
 use corrections::{BookOf, CheckedBook};
 use desk::{Desk, OpenRefusal};
 use entry_log::{Disk, Slots, SlotsOf};
-use machine::{Link, ROOM};
+use live::desk_calls::{give, tick};
+use live::{Link, MOST_TAKEN, ROOM, SharedLink, Taken, board_calls, end_at};
 use notation::{Entry, read_line};
 use std::alloc::{AllocError, Global};
 use std::io::Write;
 use streams::{Watched, WriteFailed};
-use wire::What;
-
-/// How many datagrams a station takes in a turn at most.
-const MOST_TAKEN: usize = 8;
 
 /// Why no desk is made on an empty disk.
 fn creation_fault(why: OpenRefusal) -> MatchFault
@@ -120,77 +116,66 @@ fn pen<S: SlotsOf>(
     }
 }
 
-/// Whether a desk's disk has failed, in this call or before.
-fn is_failing(what: What) -> bool
-    ensures { result ≡ turns.is_failing what }
-{
-    matches!(what, What::Device | What::Failed)
-}
-
 /// A desk takes bytes that came, and sends its reply.
 fn reply<S: SlotsOf, L: Link>(
     desk: &mut Desk<S, CheckedBook>,
-    at: Asker,
-    post: &mut Post<L>,
     bytes: &[u8],
+    link: &mut L,
 ) -> Result<(), MatchFault>
     ensures disk { KeepsDisk desk.old desk.new }
     ensures kept { OnOk result (KeepsTurn desk.old desk.new) }
     ensures online { OnOk result ((entries : List Entry) → InTurn entries desk.old →
-        StaysOnline (game_of desk.old) entries (passed_at post.old) (passed_at post.new)) }
+        StaysOnline (game_of desk.old) entries (L.log link.old) (L.log link.new)) }
     ensures only { IfErr result (λ fault. fault ≡ MatchFault.Device) }
     ensures calm { IsCalm desk.old → result ≢ Err MatchFault.Device }
 {
-    let received = desk.receive(bytes);
-    if is_failing(received.what) {
-        return Err(MatchFault::Device);
+    let what = give(desk, bytes, link);
+    match end_at(what) {
+        Ok(()) => Ok(()),
+        Err(_) => Err(MatchFault::Device),
     }
-    if let Some(reply) = received.reply {
-        post.send(at, &reply);
-    }
-    Ok(())
 }
 
 /// A desk takes the next datagram. It answers whether another may come.
 fn take_next<S: SlotsOf, L: Link>(
     desk: &mut Desk<S, CheckedBook>,
-    at: Asker,
-    post: &mut Post<L>,
+    link: &mut L,
 ) -> Result<bool, MatchFault>
     ensures disk { KeepsDisk desk.old desk.new }
     ensures kept { OnOk result (KeepsTurn desk.old desk.new) }
     ensures online { OnOk result ((entries : List Entry) → InTurn entries desk.old →
-        StaysOnline (game_of desk.old) entries (passed_at post.old) (passed_at post.new)) }
+        StaysOnline (game_of desk.old) entries (L.log link.old) (L.log link.new)) }
     ensures only { IfErr result (λ fault. fault ≡ MatchFault.Device) }
     ensures calm { IsCalm desk.old → result ≢ Err MatchFault.Device }
 {
     let mut buffer = [0; ROOM];
-    match post.take(at, &mut buffer) {
-        Ok(Some(count)) => match reply(desk, at, post, &buffer[..count]) {
+    match link.take(&mut buffer) {
+        Taken::Datagram(count) => match reply(desk, &buffer[..count], link) {
             Ok(()) => Ok(true),
             Err(fault) => Err(fault),
         },
-        Ok(None) => Ok(false),
-        Err(_) => Ok(true),
+        Taken::Nothing => Ok(false),
+        Taken::Lost => Ok(true),
     }
 }
 
 /// A desk's turn: it sends what it says unasked, and takes what came.
-fn desk_turn<S: SlotsOf, L: Link>(
+fn desk_turn<S: SlotsOf, L: SharedLink>(
     desk: &mut Desk<S, CheckedBook>,
     at: Asker,
-    post: &mut Post<L>,
+    link: &mut L,
 ) -> Result<(), MatchFault>
     ensures disk { KeepsDisk desk.old desk.new }
     ensures kept { OnOk result (KeepsTurn desk.old desk.new) }
     ensures online { OnOk result ((entries : List Entry) → InTurn entries desk.old →
-        StaysOnline (game_of desk.old) entries (passed_at post.old) (passed_at post.new)) }
+        StaysOnline (game_of desk.old) entries (L.log link.old) (L.log link.new)) }
     ensures only { IfErr result (λ fault. fault ≡ MatchFault.Device) }
     ensures calm { IsCalm desk.old → result ≢ Err MatchFault.Device }
 {
-    post.send_each(at, desk.tick().as_slice());
+    link.turn_to(at);
+    tick(desk, link);
     for _ in 0..MOST_TAKEN {
-        if !take_next(desk, at, post)? {
+        if !take_next(desk, link)? {
             break;
         }
     }
@@ -198,33 +183,34 @@ fn desk_turn<S: SlotsOf, L: Link>(
 }
 
 /// The board takes the next datagram. It answers whether another may come. Votes that are no legal book are ignored.
-fn board_next<L: Link>(board: &mut Board<CheckedBook>, post: &mut Post<L>) -> bool
+fn board_next<L: Link>(board: &mut Board<CheckedBook>, link: &mut L) -> bool
     ensures same { SameMatch (λ book. book.innings_a_side) board.old board.new }
     ensures online { (start : List Passed) (entries : List Entry) →
-        IsOnline (boards.game_of board.old) start entries (passed_at post.old) (board_at board.old) →
-        IsOnline (boards.game_of board.old) start entries (passed_at post.new) (board_at board.new) }
+        IsOnline (boards.game_of board.old) start entries (L.log link.old) (board_at board.old) →
+        IsOnline (boards.game_of board.old) start entries (L.log link.new) (board_at board.new) }
 {
     let mut buffer = [0; ROOM];
-    match post.take(Asker::Board, &mut buffer) {
-        Ok(Some(count)) => {
+    match link.take(&mut buffer) {
+        Taken::Datagram(count) => {
             let _ = board.receive(&buffer[..count]);
             true
         }
-        Ok(None) => false,
-        Err(_) => true,
+        Taken::Nothing => false,
+        Taken::Lost => true,
     }
 }
 
 /// The board's turn: it asks, and takes what came.
-fn board_turn<L: Link>(board: &mut Board<CheckedBook>, post: &mut Post<L>)
+fn board_turn<L: SharedLink>(board: &mut Board<CheckedBook>, link: &mut L)
     ensures same { SameMatch (λ book. book.innings_a_side) board.old board.new }
     ensures online { (start : List Passed) (entries : List Entry) →
-        IsOnline (boards.game_of board.old) start entries (passed_at post.old) (board_at board.old) →
-        IsOnline (boards.game_of board.old) start entries (passed_at post.new) (board_at board.new) }
+        IsOnline (boards.game_of board.old) start entries (L.log link.old) (board_at board.old) →
+        IsOnline (boards.game_of board.old) start entries (L.log link.new) (board_at board.new) }
 {
-    post.send_each(Asker::Board, board.tick().as_slice());
+    link.turn_to(Asker::Board);
+    board_calls::tick(board, link);
     for _ in 0..MOST_TAKEN {
-        if !board_next(board, post) {
+        if !board_next(board, link) {
             break;
         }
     }
@@ -305,11 +291,11 @@ impl<S: SlotsOf> Stations<S> {
     }
 
     /// Has the stations take turns until all three books have the entry of this place.
-    fn agree<L: Link>(&mut self, place: u32, post: &mut Post<L>) -> Result<(), MatchFault>
+    fn agree<L: SharedLink>(&mut self, place: u32, link: &mut L) -> Result<(), MatchFault>
         ensures disk_a { KeepsDisk self.old.a self.new.a }
         ensures disk_b { KeepsDisk self.old.b self.new.b }
         ensures online { OnOk result (KeepsOnline self.old.a self.old.b self.old.board self.new.board
-            (passed_at post.old) (passed_at post.new)) }
+            (L.log link.old) (L.log link.new)) }
         ensures kept_a { OnOk result (KeepsTurn self.old.a self.new.a) }
         ensures kept_b { OnOk result (KeepsTurn self.old.b self.new.b) }
         ensures board { OnOk result (SameMatch (λ book. book.innings_a_side) self.old.board self.new.board) }
@@ -321,9 +307,9 @@ impl<S: SlotsOf> Stations<S> {
         ensures calm { AreCalm self.old.a self.old.b → result ≢ Err MatchFault.Device }
     {
         for _ in 0..TURNS {
-            desk_turn(&mut self.a, Asker::A, post)?;
-            desk_turn(&mut self.b, Asker::B, post)?;
-            board_turn(&mut self.board, post);
+            desk_turn(&mut self.a, Asker::A, link)?;
+            desk_turn(&mut self.b, Asker::B, link)?;
+            board_turn(&mut self.board, link);
             if self.have_more(place) {
                 return Ok(());
             }
@@ -332,11 +318,11 @@ impl<S: SlotsOf> Stations<S> {
     }
 
     /// Has both desks pen the entry of a line, and all three stations agree it.
-    pub fn take<L: Link>(
+    pub fn take<L: SharedLink>(
         &mut self,
         number: u64,
         line: &[u8],
-        post: &mut Post<L>,
+        link: &mut L,
     ) -> Result<(), MatchFault>
         requires level { AreLevel self.old.a self.old.b self.old.board }
         ensures level { OnOk result (AreLevel self.new.a self.new.b self.new.board) }
@@ -347,8 +333,8 @@ impl<S: SlotsOf> Stations<S> {
         ensures owner_a { SameOwner self.old.a self.new.a }
         ensures owner_b { SameOwner self.old.b self.new.b }
         ensures online { OnOk result ((start : List Passed) →
-            IsOnline (game_of self.old.a) start (book_at self.old.a) (passed_at post.old) (board_at self.old.board) →
-            IsOnline (game_of self.old.a) start (book_at self.new.a) (passed_at post.new) (board_at self.new.board)) }
+            IsOnline (game_of self.old.a) start (book_at self.old.a) (L.log link.old) (board_at self.old.board) →
+            IsOnline (game_of self.old.a) start (book_at self.new.a) (L.log link.new) (board_at self.new.board)) }
         ensures left { IfErr result (λ fault. LineLeaves (book_at self.old.a)
             (with_taken (answer_to (innings_at self.old.a) (book_at self.old.a) line.now) (book_at self.old.a))
             fault self.new.a self.new.b) }
@@ -368,7 +354,7 @@ impl<S: SlotsOf> Stations<S> {
         let place = self.a.book().len();
         pen(&mut self.a, number, &entry)?;
         pen(&mut self.b, number, &entry)?;
-        self.agree(place, post)
+        self.agree(place, link)
     }
 
     /// Prints the six lines of the board.

@@ -5,7 +5,7 @@ use super::desks::ELSEWHERE;
 use super::memory::{Failing, Notes};
 use super::*;
 use board::Board;
-use live::{Link, Log, Notice, run_board};
+use live::{Link, Log, Notice, Taken, run_board};
 use notation::Plain;
 use std::io::Write;
 use streams::WriteFailed;
@@ -126,10 +126,14 @@ impl Link for Archive {
         self.log = self.log.sent(bytes);
     }
 
-    fn take(&mut self, buffer: &mut [u8; 64]) -> Option<usize> {
-        let count = self.answer(buffer)?;
-        self.log = self.log.came(buffer, count);
-        Some(count)
+    fn take(&mut self, buffer: &mut [u8; 64]) -> Taken {
+        match self.answer(buffer) {
+            Some(count) => {
+                self.log = self.log.came(buffer, count);
+                Taken::Datagram(count)
+            }
+            None => Taken::Nothing,
+        }
     }
 }
 

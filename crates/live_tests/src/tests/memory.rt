@@ -2,7 +2,7 @@
 ghost use Rattle.std.specs.Prelude.{◌≡◌, ◌≤◌, IfSome};
 
 use super::*;
-use live::{Clock, InputLog, Keys, Link, Log, Notice, NoticeLog, Notices, Typed};
+use live::{Clock, InputLog, Keys, Link, Log, Notice, NoticeLog, Notices, Taken, Typed};
 use std::io::{self, Error, ErrorKind, Write};
 
 /// A clock of which each reading is a millisecond later. A turn in which nothing comes reads it twice.
@@ -96,10 +96,14 @@ impl Link for Queue {
         self.log = self.log.sent(bytes);
     }
 
-    fn take(&mut self, buffer: &mut [u8; 64]) -> Option<usize> {
-        let count = self.fill(buffer)?;
-        self.log = self.log.came(buffer, count);
-        Some(count)
+    fn take(&mut self, buffer: &mut [u8; 64]) -> Taken {
+        match self.fill(buffer) {
+            Some(count) => {
+                self.log = self.log.came(buffer, count);
+                Taken::Datagram(count)
+            }
+            None => Taken::Nothing,
+        }
     }
 }
 

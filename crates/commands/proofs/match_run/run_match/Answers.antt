@@ -9,7 +9,7 @@ use Rattle.board.specs.Board.{book_of}
 use Rattle.cards.specs.Board.{board}
 use Rattle.streams.specs.Watched.{Prints}
 use Rattle.books.specs.CardBook.{IsBookOfLines}
-use Rattle.commands.specs.MatchRun.{KeepsBook, passed_at}
+use Rattle.commands.specs.MatchRun.{KeepsBook}
 use Rattle.commands.specs.inner.Turns.{DiskHolds, LinesLeave, board_at, book_at}
 use Rattle.commands.proofs.MatchLeft.{LeavesOf, leaves_from, lines_left, met_left, run_leaves}
 use Rattle.commands.proofs.OnlineLemmas.{same_book}
@@ -25,7 +25,7 @@ returns-in-Ok-clause-agreed g c =
     let book = book_at at.a in
     let shown = (book_of at.board).entries in
     let game : game_of at.a ≡ s.game = ended.owner_a.game ∙ made.game in
-    let online = ended.online (passed_at c.args.post.now) (made.online (passed_at c.args.post.now)) in
+    let online = ended.online (g.L.Link.log c.args.link.now) (made.online (g.L.Link.log c.args.link.now)) in
     let seen = g.D.Disk.seen in
     let images = g.D.Disk.images in
     record {

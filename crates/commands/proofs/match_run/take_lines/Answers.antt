@@ -3,7 +3,6 @@ use Rattle.notation.specs.declared.entry.Entry.{Entry}
 use Rattle.notation.proofs.Cuts.{length-lines_of}
 use Rattle.desk.proofs.RestoreLemmas.{error_of}
 use Rattle.desk.specs.Desk.{game_of}
-use Rattle.commands.specs.MatchRun.{passed_at}
 use Rattle.commands.specs.inner.Online.{IsOnline}
 use Rattle.commands.specs.inner.Turns.{board_at, book_at, innings_at}
 use Rattle.books.specs.Taking.{answer_to, with_taken}
@@ -23,7 +22,7 @@ loop-line-init g c = (
   same_desk c.args.stations.now.b,
   λ calm. calm,
   none_reached _ c.args.input.now c.new-lines.result (book_at c.args.stations.now.a) c.new-lines.ensures c.requires.empty,
-  λ start o. subst (λ (book : List Entry). IsOnline (game_of c.args.stations.now.a) start book (passed_at c.args.post.now) (board_at c.args.stations.now.board)) (sym c.requires.empty) o,
+  λ start o. subst (λ (book : List Entry). IsOnline (game_of c.args.stations.now.a) start book (g.L.Link.log c.args.link.now) (board_at c.args.stations.now.board)) (sym c.requires.empty) o,
 )
 
 pub take-requires : goal.take-requires
@@ -45,8 +44,8 @@ loop-line-preserved g c =
       λ calm. c.in_ok-take.ensures.calm_still (m.4 calm),
       one_reached (innings_at old.a) c.args.input.now _ _ c.loop-line.number (book_at now.a) (book_at new.a) taken reached,
       λ start o.
-          subst (λ (n : ℕ). IsOnline n start (book_at new.a) (passed_at c.take.new.post) (board_at new.board)) m.2.game
-          (c.in_ok-take.ensures.online start (subst (λ (n : ℕ). IsOnline n start (book_at now.a) (passed_at c.loop-line.post) (board_at now.board)) (sym m.2.game) (m.6 start o))),
+          subst (λ (n : ℕ). IsOnline n start (book_at new.a) (g.L.Link.log c.take.new.link) (board_at new.board)) m.2.game
+          (c.in_ok-take.ensures.online start (subst (λ (n : ℕ). IsOnline n start (book_at now.a) (g.L.Link.log c.loop-line.link) (board_at now.board)) (sym m.2.game) (m.6 start o))),
     )
 
 pub returns-in_err-take-clause-why : goal.returns-in_err-take-clause-why

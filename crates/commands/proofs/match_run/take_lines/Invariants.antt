@@ -1,7 +1,6 @@
 use Rattle.std.proofs.Common.{List, [], length}
 use Rattle.desk.specs.Desk.{SameOwner, game_of}
 use Rattle.live.specs.Passed.{Passed}
-use Rattle.commands.specs.MatchRun.{passed_at}
 use Rattle.commands.specs.inner.Online.{IsOnline}
 use Rattle.commands.specs.inner.Turns.{AreCalm, AreLevel, board_at, book_at, innings_at}
 use Rattle.books.proofs.TakenLines.{Midway}
@@ -16,7 +15,7 @@ invariant-loop-line g l =
     × SameOwner l.initial.stations.b l.stations.b
     × (AreCalm l.initial.stations.a l.initial.stations.b → AreCalm l.stations.a l.stations.b)
     × Reached (innings_at l.initial.stations.a) l.input l.lines l.number (book_at l.stations.a)
-    × ((start : List Passed) → IsOnline (game_of l.initial.stations.a) start [] (passed_at l.initial.post) (board_at l.initial.stations.board) → IsOnline (game_of l.initial.stations.a) start (book_at l.stations.a) (passed_at l.post) (board_at l.stations.board))
+    × ((start : List Passed) → IsOnline (game_of l.initial.stations.a) start [] (g.L.Link.log l.initial.link) (board_at l.initial.stations.board) → IsOnline (game_of l.initial.stations.a) start (book_at l.stations.a) (g.L.Link.log l.link) (board_at l.stations.board))
 
 abbrev pub decreases-loop-line : goal.decreases-loop-line
 decreases-loop-line g l = length l.lines

@@ -2,8 +2,8 @@ use Rattle.std.proofs.Common.{sym}
 use Rattle.live.proofs.BoardLemmas.{logged, then}
 use Rattle.live.proofs.board_loop.take_next.Goals as goal
 
-pub returns-in-Some-clause-taken : goal.returns-in-Some-clause-taken
-returns-in-Some-clause-taken g c =
+pub returns-in-Datagram-clause-taken : goal.returns-in-Datagram-clause-taken
+returns-in-Datagram-clause-taken g c =
     λ is sheet told turns had taken few.
-    let came = logged _ _ sheet _ _ _ _ _ _ _ _ _ (sym c.in-Some.ensures.came.1) (c.give.ensures sheet told (g.L.Link.log c.tick.new.link) turns had taken few) in
+    let came = logged _ _ sheet _ _ _ _ _ _ _ _ _ (sym c.in-Datagram.ensures.1) (c.give.ensures sheet told (g.L.Link.log c.tick.new.link) turns had taken few) in
     then _ _ sheet _ _ _ _ _ _ _ _ _ _ _ _ (c.tick.ensures sheet told turns had taken _ _) came

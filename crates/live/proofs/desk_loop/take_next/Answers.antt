@@ -5,18 +5,18 @@ use Rattle.live.specs.Ends.{Course, further}
 use Rattle.live.proofs.DeskLemmas.{passed_on, then}
 use Rattle.live.proofs.desk_loop.take_next.Goals as goal
 
-pub returns-in_err-hear-in-Some-clause-goes : goal.returns-in_err-hear-in-Some-clause-goes
-returns-in_err-hear-in-Some-clause-goes g c =
+pub returns-in_err-hear-in-Datagram-clause-goes : goal.returns-in_err-hear-in-Datagram-clause-goes
+returns-in_err-hear-in-Datagram-clause-goes g c =
     let sheet = c.args.sheet.now in
     let warned = c.args.between.now.warned in
-    λ typed turns. passed_on c.from_residual.result c.in_err-hear-in-Some.field-0.0
+    λ typed turns. passed_on c.from_residual.result c.in_err-hear-in-Datagram.field-0.0
     (λ (course : Course) (known : Option (List ℕ) → Option (List ℕ)). DeskGoes sheet c.args.desk.now c.hear.new.desk (process_of c.args.desk.now warned turns further)
     (process_of c.hear.new.desk c.hear.new.between.warned turns course) (g.L.Link.log c.args.link.now) (g.L.Link.log c.hear.new.link) typed typed
     (known (g.W.Write.contents (stream_of c.args.out.now))) (known (g.W.Write.contents (stream_of c.hear.new.out))))
     c.from_residual.ensures.1
-    (then sheet _ _ _ _ _ _ _ _ _ typed typed typed _ _ _ (c.say.ensures sheet typed warned turns _) (c.in_err-hear-in-Some.ensures.goes _ typed turns c.in-Some.ensures.came.1))
+    (then sheet _ _ _ _ _ _ _ _ _ typed typed typed _ _ _ (c.say.ensures sheet typed warned turns _) (c.in_err-hear-in-Datagram.ensures.goes _ typed turns c.in-Datagram.ensures.1))
 
-pub returns-in_ok-hear-in-Some-clause-goes : goal.returns-in_ok-hear-in-Some-clause-goes
-returns-in_ok-hear-in-Some-clause-goes g c =
+pub returns-in_ok-hear-in-Datagram-clause-goes : goal.returns-in_ok-hear-in-Datagram-clause-goes
+returns-in_ok-hear-in-Datagram-clause-goes g c =
     let sheet = c.args.sheet.now in
-    λ typed turns. then sheet _ _ _ _ _ _ _ _ _ typed typed typed _ _ _ (c.say.ensures sheet typed c.args.between.now.warned turns _) (c.in_ok-hear-in-Some.ensures.goes _ typed turns c.in-Some.ensures.came.1)
+    λ typed turns. then sheet _ _ _ _ _ _ _ _ _ typed typed typed _ _ _ (c.say.ensures sheet typed c.args.between.now.warned turns _) (c.in_ok-hear-in-Datagram.ensures.goes _ typed turns c.in-Datagram.ensures.1)

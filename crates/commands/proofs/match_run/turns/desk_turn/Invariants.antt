@@ -1,7 +1,6 @@
 use Rattle.desk.specs.Desk.{game_of}
 use Rattle.notation.specs.declared.entry.Entry.{Entry}
 use Rattle.std.proofs.Common.{List}
-use Rattle.commands.specs.MatchRun.{passed_at}
 use Rattle.commands.specs.inner.Online.{StaysOnline}
 use Rattle.commands.specs.inner.Turns.{InTurn, KeepsDisk, KeepsTurn}
 use Rattle.commands.proofs.match_run.turns.desk_turn.Given as goal
@@ -9,4 +8,4 @@ use Rattle.commands.proofs.match_run.turns.desk_turn.Given as goal
 abbrev pub invariant-loop : goal.invariant-loop
 invariant-loop g l =
     KeepsTurn l.initial.desk l.desk × KeepsDisk l.initial.desk l.desk
-    × ((entries : List Entry) → InTurn entries l.fn.desk → StaysOnline (game_of l.fn.desk) entries (passed_at l.fn.post) (passed_at l.post))
+    × ((entries : List Entry) → InTurn entries l.fn.desk → StaysOnline (game_of l.fn.desk) entries (g.L.Link.log l.fn.link) (g.L.Link.log l.link))

@@ -1,7 +1,7 @@
 use Rattle.desk.specs.Desk.{game_of}
-use Rattle.commands.proofs.OnlineLemmas.{came_to_desk, some_of}
+use Rattle.commands.proofs.OnlineLemmas.{came_to_desk}
 use Rattle.commands.proofs.match_run.turns.take_next.Goals as goal
 
 pub returns-in-Ok-clause-online : goal.returns-in-Ok-clause-online
 returns-in-Ok-clause-online g c = λ entries t start k o.
-    c.in-Ok.ensures.online entries t start k (came_to_desk (game_of c.args.desk.now) entries _ _ _ (some_of c.in-Ok-Some.field-0 c.in-Ok-Some.count _ c.in-Ok-Some.field-0-is c.in-Ok-Some.ensures.came).1 start k o)
+    c.in-Ok.ensures.online entries t start k (came_to_desk (game_of c.args.desk.now) entries _ _ _ c.in-Datagram.ensures.1 start k o)

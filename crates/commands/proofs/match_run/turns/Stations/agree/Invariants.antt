@@ -1,5 +1,4 @@
 use Rattle.board.specs.Board.{SameMatch}
-use Rattle.commands.specs.MatchRun.{passed_at}
 use Rattle.commands.specs.inner.Turns.{KeepsDisk, KeepsOnline, KeepsTurn}
 use Rattle.commands.proofs.match_run.turns.Stations.agree.Given as goal
 
@@ -8,4 +7,4 @@ invariant-loop g l =
     KeepsTurn l.initial.self.a l.self.a × KeepsTurn l.initial.self.b l.self.b
     × SameMatch (λ book. book.innings_a_side) l.initial.self.board l.self.board
     × KeepsDisk l.initial.self.a l.self.a × KeepsDisk l.initial.self.b l.self.b
-    × KeepsOnline l.initial.self.a l.initial.self.b l.initial.self.board l.self.board (passed_at l.initial.post) (passed_at l.post)
+    × KeepsOnline l.initial.self.a l.initial.self.b l.initial.self.board l.self.board (g.L.Link.log l.initial.link) (g.L.Link.log l.link)

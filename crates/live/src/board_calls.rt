@@ -1,0 +1,16 @@
+//! The calls of a board at its link.
+
+ghost use Rattle.board.specs.Board.{state_of};
+ghost use Rattle.live.specs.Boards.{Asks};
+
+use crate::link::Link;
+use crate::sending::send_each;
+use board::Board;
+use corrections::BookOf;
+
+/// Has a board say what it says unasked.
+pub fn tick<B: BookOf, L: Link>(board: &Board<B>, link: &mut L)
+    ensures { Asks B.content board.now (L.log link.old) (L.log link.new) }
+{
+    send_each(link, board.tick().as_slice());
+}

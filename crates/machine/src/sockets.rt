@@ -1,0 +1,113 @@
+//! The link of a match on loopback.
+
+use crate::port::{Port, missed};
+use agree_core::Asker;
+use live::{Link, Log, SharedLink, Taken};
+use std::io;
+use std::net::{Ipv4Addr, Net, SocketAddr, SocketAddrV4};
+
+/// The other two stations.
+fn others(station: Asker) -> [Asker; 2] {
+    match station {
+        Asker::A => [Asker::B, Asker::Board],
+        Asker::B => [Asker::A, Asker::Board],
+        Asker::Board => [Asker::A, Asker::B],
+    }
+}
+
+/// A socket of a port of its own.
+fn port(net: &impl Net) -> io::Result<Port> {
+    let anywhere = SocketAddrV4::new(Ipv4Addr::LOCALHOST, 0);
+    Port::new(net, SocketAddr::V4(anywhere))
+}
+
+/// A socket on loopback for each station, of which the first datagrams are dropped, so many.
+#[derive(Drop)]
+struct Ports {
+    a: Port,
+    b: Port,
+    board: Port,
+    to_drop: u16,
+}
+
+impl Ports {
+    /// The socket of a station.
+    fn of(&self, station: Asker) -> &Port {
+        match station {
+            Asker::A => &self.a,
+            Asker::B => &self.b,
+            Asker::Board => &self.board,
+        }
+    }
+
+    fn carry(&self, from: Asker, to: Asker, bytes: &[u8; 48]) -> io::Result<usize> {
+        let address = self.of(to).address()?;
+        self.of(from).send(bytes, address)
+    }
+
+    /// Sends bytes to the two other stations. What can't be sent is lost.
+    fn send(&mut self, from: Asker, bytes: &[u8; 48]) {
+        for to in others(from) {
+            if self.to_drop > 0 {
+                self.to_drop -= 1;
+            } else {
+                let _ = self.carry(from, to, bytes);
+            }
+        }
+    }
+}
+
+/// Three sockets on loopback, of two desks and a board that take turns.
+#[derive(Drop)]
+pub struct Sockets {
+    ports: Ports,
+    turn: Asker,
+    log: Log,
+}
+
+impl Sockets {
+    /// Three sockets, each of a port of its own, of which the first `to_drop` datagrams are dropped.
+    pub fn new(net: &impl Net, to_drop: u16) -> io::Result<Sockets> {
+        let a = port(net)?;
+        let b = port(net)?;
+        let board = port(net)?;
+        Ok(Sockets {
+            ports: Ports {
+                a,
+                b,
+                board,
+                to_drop,
+            },
+            turn: Asker::A,
+            log: Log::Empty,
+        })
+    }
+}
+
+impl Link for Sockets {
+    ghost use Rattle.live.specs.Logs.{passed_of};
+
+    ghost log = { λ sockets. passed_of sockets.log };
+
+    fn send(&mut self, bytes: &[u8; 48]) {
+        self.ports.send(self.turn, bytes);
+        self.log = self.log.sent(bytes);
+    }
+
+    /// Waits 10 ms at most.
+    fn take(&mut self, buffer: &mut [u8; 64]) -> Taken {
+        match self.ports.of(self.turn).receive(buffer) {
+            Ok((count, _)) => {
+                self.log = self.log.came(buffer, count);
+                Taken::Datagram(count)
+            }
+            Err(error) => missed(&error),
+        }
+    }
+}
+
+impl SharedLink for Sockets {
+    fn turn_to(&mut self, station: Asker) {
+        self.turn = station;
+    }
+}
