@@ -14,6 +14,7 @@ mod link;
 mod log;
 mod notices;
 mod pace;
+mod questions;
 mod said;
 mod sending;
 mod texts;
