@@ -210,6 +210,7 @@ class Judge:
         self.text = lines.pop()
         for line in lines:
             place, _, what = line.partition(" ")
+            what = what.partition(":")[0]
             if place.isdigit() and what in ("next", "pending", "agreed"):
                 self.was_greeted = True
                 if what != "next":

@@ -41,6 +41,7 @@ use Rattle.desk.specs.Desk.{IsOf, SameOwner, desk_of, disk_of, game_of, rules_of
 use Rattle.desk.specs.Takes.{Takes}
 use Rattle.vote_store.specs.View.{file_view, votes_shown}
 use Rattle.commands.specs.MatchRun.{HoldsBook, HoldsEither, votes_for}
+use Rattle.cards.specs.Sheet.{Sheet, plain_sheet}
 use Rattle.books.specs.Taking.{answer_to, is_full, taking, with_taken}
 use Rattle.commands.specs.declared.match_run.fault.MatchFault.{MatchFault}
 use Rattle.commands.specs.declared.match_run.fault.MatchFault.TheVariants as faults
@@ -302,29 +303,31 @@ module _ {S B D : Type 0} {g : Files S D} {h : Disks D} {b : Books B} where
   calm_still old new o runs f c = record { running = runs; never = ap (λ x. x.due) f ∙ c.never; room = λ n l. subst (λ (m : ℕ). g.room n ≤ m) (sym o.cap) (c.room n l) }
 
   -- it was given bytes, and goes on
-  pub kept : (old new : Desk S B D g h b) (bytes : List ℕ) (what : What) (before after : List Passed) → Calls old new (Given bytes what) before after → end_at what ≡ further → KeepsTurn old new
-  kept old new bytes what before after c n = record {
+  pub kept : (old new : Desk S B D g h b) (bytes : List ℕ) (what : What) (before after : List Passed) → ((s : Sheet) → Calls s old new (Given bytes what) before after) → end_at what ≡ further → KeepsTurn old new
+  kept old new bytes what before after f n = let c = f (plain_sheet 0 1) in record {
     turn = λ entries t. in_view entries old new c.same (takes (view_of old) entries (game_of old) (state_of old) (state_of new) bytes what c.out n t c.step);
     calm = λ q. calm_still old new c.same (still_runs (view_of old) (game_of old) (state_of old) (state_of new) bytes what c.out n q.running c.step) ((c.blame q.running).same (not_device what n)) q;
   }
 
   -- no fault is met at a calm disk
-  pub meets_none : (old new : Desk S B D g h b) (bytes : List ℕ) (what : What) (before after : List Passed) (end : DeskEnd) → Calls old new (Given bytes what) before after → end_at what ≡ Err end → IsCalm old → ⊥
-  meets_none old new bytes what before after end c e q = (c.blame q.running).calm q.never q.room (at_device what end e)
+  pub meets_none : (old new : Desk S B D g h b) (bytes : List ℕ) (what : What) (before after : List Passed) (end : DeskEnd) → ((s : Sheet) → Calls s old new (Given bytes what) before after) → end_at what ≡ Err end → IsCalm old → ⊥
+  meets_none old new bytes what before after end f e q = let c = f (plain_sheet 0 1) in (c.blame q.running).calm q.never q.room (at_device what end e)
 
-  called_online : (old new : Desk S B D g h b) (call : DeskCall) (entries : List Entry) (before after : List Passed) (c : Calls old new call before after) → All (SpeaksOf entries) c.out → StaysOnline (game_of old) entries before after
-  called_online old new call entries before after c speak start k o =
+  called_online : (s : Sheet) (old new : Desk S B D g h b) (call : DeskCall) (entries : List Entry) (before after : List Passed) (c : Calls s old new call before after) → All (SpeaksOf entries) c.out → StaysOnline (game_of old) entries before after
+  called_online s old new call entries before after c speak start k o =
       says_more (game_of old) start entries (sends (game_of old) c.out) before after k (out_said (game_of old) entries c.out c.fine speak) c.passed o
 
   -- what it replied is of its entries
-  pub replied_online : (old new : Desk S B D g h b) (bytes : List ℕ) (what : What) (entries : List Entry) (before after : List Passed) → Calls old new (Given bytes what) before after → end_at what ≡ further → InTurn entries old → StaysOnline (game_of old) entries before after
-  replied_online old new bytes what entries before after c n t =
-      called_online old new (Given bytes what) entries before after c (takes_speaks (view_of old) entries (game_of old) (state_of old) (state_of new) bytes what c.out n t c.step)
+  pub replied_online : (old new : Desk S B D g h b) (bytes : List ℕ) (what : What) (entries : List Entry) (before after : List Passed) → ((s : Sheet) → Calls s old new (Given bytes what) before after) → end_at what ≡ further → InTurn entries old → StaysOnline (game_of old) entries before after
+  replied_online old new bytes what entries before after f n t =
+      let c = f (plain_sheet 0 1) in
+      called_online (plain_sheet 0 1) old new (Given bytes what) entries before after c (takes_speaks (view_of old) entries (game_of old) (state_of old) (state_of new) bytes what c.out n t c.step)
 
   -- what it said unasked too
-  pub ticked_online : (desk : Desk S B D g h b) (entries : List Entry) (before after : List Passed) → Calls desk desk Ticked before after → InTurn entries desk → StaysOnline (game_of desk) entries before after
-  ticked_online desk entries before after c t =
-      called_online desk desk Ticked entries before after c (ticks_speak (view_of desk) entries (state_of desk) c.out t c.step.0)
+  pub ticked_online : (desk : Desk S B D g h b) (entries : List Entry) (before after : List Passed) → ((s : Sheet) → Calls s desk desk Ticked before after) → InTurn entries desk → StaysOnline (game_of desk) entries before after
+  ticked_online desk entries before after f t =
+      let c = f (plain_sheet 0 1) in
+      called_online (plain_sheet 0 1) desk desk Ticked entries before after c (ticks_speak (view_of desk) entries (state_of desk) c.out t c.step.0)
 
   -- it was just made
   pub first_turn : (desk : DeskId) (game innings : ℕ) (made : Desk S B D g h b) → IsOf desk game innings made → Creates (file_view g.contents h.seen h.images desk game) desk (state_of made) → InTurn [] made

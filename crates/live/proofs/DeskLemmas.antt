@@ -59,16 +59,18 @@ blamed r device course old new to from room b = record {
 }
 
 -- a line that says no entry ends nothing for the disk
-no_blame : (differs is_cast : Bool) (line : List ℕ) (answer : Said) → ComesTo differs is_cast line answer → IsErrOf (end_of answer) ends.Device → ⊥
-no_blame differs is_cast line said.Quit h e = cc
-no_blame differs is_cast line said.List h e = cc
-no_blame differs is_cast line said.Help h e = cc
-no_blame differs is_cast line (said.Fault fault) h e = cc
-no_blame differs is_cast line said.SayAgain h e = cc
-no_blame differs is_cast line said.NoneDiffers h e = cc
-no_blame differs is_cast line said.Waiting h e = cc
-no_blame differs is_cast line (said.Refused why) h e = h
-no_blame differs is_cast line (said.Penned settled) h e = h
+no_blame : (sheet : Sheet) (book : List Entry) (differs is_cast : Bool) (line : List ℕ) (answer : Said) → ComesTo sheet book differs is_cast line answer → IsErrOf (end_of answer) ends.Device → ⊥
+no_blame sheet book differs is_cast line said.Quit h e = cc
+no_blame sheet book differs is_cast line said.List h e = cc
+no_blame sheet book differs is_cast line said.Help h e = cc
+no_blame sheet book differs is_cast line said.HelpShort h e = cc
+no_blame sheet book differs is_cast line (said.Unclear unclear) h e = cc
+no_blame sheet book differs is_cast line (said.Fault fault) h e = cc
+no_blame sheet book differs is_cast line said.SayAgain h e = cc
+no_blame sheet book differs is_cast line said.NoneDiffers h e = cc
+no_blame sheet book differs is_cast line said.Waiting h e = cc
+no_blame sheet book differs is_cast line (said.Refused why) h e = h
+no_blame sheet book differs is_cast line (said.Penned entry settled) h e = h
 
 -- the kind of a desk's runs, by what it depends on
 abbrev kind_with : {D : Type 0} → (DeskId → ℕ → FileView D) → (D → Faults) → (ℕ → ℕ) → Sheet → DeskId → ℕ → ℕ → ℕ → Kind (DeskProcess D) DeskCall
@@ -114,12 +116,12 @@ module _ {S B D : Type 0} {g : Files S D} {h : Disks D} {b : Books B} where
 
   -- one call
   called : (sheet : Sheet) (k l : Desk S B D g h b) (call : DeskCall) (warned : Warned) (turns : ℕ) (q : DeskProcess D) (log before after : List Passed) (x y : List Input) (s t : Option (List ℕ)) →
-      Calls k l call before after → before ≡ log ++ given call → y ≡ x ++ typed call → q ≡ after_call (process_of k warned turns further) call (state_of l) →
+      Calls sheet k l call before after → before ≡ log ++ given call → y ≡ x ++ typed call → q ≡ after_call (process_of k warned turns further) call (state_of l) →
       Appends s t (told_of sheet (innings_of k) (process_of k warned turns further) call q) → DeskGoes sheet k l (process_of k warned turns further) q log after x y s t
   called sheet k l call warned turns q log before after x y s t c came types is text =
       let kind = kind_of sheet k in
       let p = process_of k warned turns further in
-      let step : DeskStep (view_of k) (game_of k) (innings_of k) (state_of k) call c.out q.desk = subst (λ (d : DeskProcess D). DeskStep (view_of k) (game_of k) (innings_of k) (state_of k) call c.out d.desk) (sym is) c.step in
+      let step : DeskStep sheet (view_of k) (game_of k) (innings_of k) (state_of k) call c.out q.desk = subst (λ (d : DeskProcess D). DeskStep sheet (view_of k) (game_of k) (innings_of k) (state_of k) call c.out d.desk) (sym is) c.step in
       let blame : Blames (disks_of k) (state_of k) call q.desk = subst (λ (d : DeskProcess D). Blames (disks_of k) (state_of k) call d.desk) (sym is) c.blame in
       let whole : q ≡ after_call p call q.desk = subst (λ (d : DeskProcess D). d ≡ after_call p call d.desk) (sym is) refl in
       let m = one kind p call c.out q log x s t c.fine (refl, step, blame, whole) text in
@@ -129,7 +131,7 @@ module _ {S B D : Type 0} {g : Files S D} {h : Disks D} {b : Books B} where
 
   -- its scorer typed a line
   pub says : (sheet : Sheet) (k l : Desk S B D g h b) (line : List ℕ) (answer : Said) (course : Course) (warned : Warned) (turns : ℕ) (before after : List Passed) (x y : List Input) (s t : Option (List ℕ)) →
-      Calls k l (Typed line answer) before after → y ≡ x ++ Line line ∷ [] → course ≡ end_of answer →
+      Calls sheet k l (Typed line answer) before after → y ≡ x ++ Line line ∷ [] → course ≡ end_of answer →
       Appends s t (said_text sheet (innings_of k) (state_of k).seat.position.place (state_of l).book answer) →
       DeskGoes sheet k l (process_of k warned turns further) (process_of l warned turns course) before after x y s t
   says sheet k l line answer course warned turns before after x y s t c types is text =
@@ -138,31 +140,31 @@ module _ {S B D : Type 0} {g : Files S D} {h : Disks D} {b : Books B} where
 
   -- bytes came
   pub hears : (sheet : Sheet) (k l : Desk S B D g h b) (bytes : List ℕ) (what : What) (course : Course) (warned later : Warned) (turns : ℕ) (log before after : List Passed) (x : List Input) (s t : Option (List ℕ)) →
-      Calls k l (Given bytes what) before after → before ≡ log ++ Came bytes ∷ [] → later ≡ warned_after warned what → course ≡ end_at what →
+      Calls sheet k l (Given bytes what) before after → before ≡ log ++ Came bytes ∷ [] → later ≡ warned_after warned what → course ≡ end_at what →
       Appends s t (came_text sheet (innings_of k) (state_of k).seat.position.place (state_of l).book warned what) →
       DeskGoes sheet k l (process_of k warned turns further) (process_of l later turns course) log after x x s t
   hears sheet k l bytes what course warned later turns log before after x s t c came after_warning is text =
       called sheet k l (Given bytes what) warned turns (process_of l later turns course) log before after x x s t c came (sym (append-nil x))
       (ap (λ (w : Warned). process_of l w turns course) after_warning ∙ ap (λ (o : Course). process_of l (warned_after warned what) turns o) is) text
 
-  unmoved : (k : Desk S B D g h b) (call : DeskCall) (log : List Passed) → DeskStep (view_of k) (game_of k) (innings_of k) (state_of k) call [] (state_of k) → (IsErrOf (course_after call) ends.Device → ⊥) → Calls k k call log log
-  unmoved k call log step n =
+  unmoved : (sheet : Sheet) (k : Desk S B D g h b) (call : DeskCall) (log : List Passed) → DeskStep sheet (view_of k) (game_of k) (innings_of k) (state_of k) call [] (state_of k) → (IsErrOf (course_after call) ends.Device → ⊥) → Calls sheet k k call log log
+  unmoved sheet k call log step n =
       record { same = same_here k; out = []; fine = All-nil IsMessage; passed = sym (append-nil log); step = step; blame = λ runs. blameless (course_after call) _ _ n refl }
 
   -- its scorer types no more
   pub typing_over : (sheet : Sheet) (k : Desk S B D g h b) (warned : Warned) (turns : ℕ) (log : List Passed) (x y : List Input) (s : Option (List ℕ)) → y ≡ x ++ End ∷ [] →
       DeskGoes sheet k k (process_of k warned turns further) (process_of k warned turns (Err ends.NoMoreLines)) log log x y s s
   typing_over sheet k warned turns log x y s types =
-      called sheet k k TypingEnded warned turns (process_of k warned turns (Err ends.NoMoreLines)) log log log x y s s (unmoved k TypingEnded log (refl, refl) (λ e. (cc))) (sym (append-nil log)) types refl (appends_none s)
+      called sheet k k TypingEnded warned turns (process_of k warned turns (Err ends.NoMoreLines)) log log log x y s s (unmoved sheet k TypingEnded log (refl, refl) (λ e. (cc))) (sym (append-nil log)) types refl (appends_none s)
 
   -- its turn is over
   pub turn_over : (sheet : Sheet) (k : Desk S B D g h b) (warned : Warned) (turns : ℕ) (log : List Passed) (x : List Input) (s : Option (List ℕ)) →
       DeskGoes sheet k k (process_of k warned turns further) (process_of k warned (turns + 1) further) log log x x s s
   turn_over sheet k warned turns log x s =
-      called sheet k k TurnEnded warned turns (process_of k warned (turns + 1) further) log log log x x s s (unmoved k TurnEnded log (refl, refl) (λ e. (cc))) (sym (append-nil log)) (sym (append-nil x)) refl (appends_none s)
+      called sheet k k TurnEnded warned turns (process_of k warned (turns + 1) further) log log log x x s s (unmoved sheet k TurnEnded log (refl, refl) (λ e. (cc))) (sym (append-nil log)) (sym (append-nil x)) refl (appends_none s)
 
   -- it has ticked
-  pub ticks : (sheet : Sheet) (k : Desk S B D g h b) (warned : Warned) (turns : ℕ) (before after : List Passed) (x : List Input) (s : Option (List ℕ)) → Calls k k Ticked before after →
+  pub ticks : (sheet : Sheet) (k : Desk S B D g h b) (warned : Warned) (turns : ℕ) (before after : List Passed) (x : List Input) (s : Option (List ℕ)) → Calls sheet k k Ticked before after →
       DeskGoes sheet k k (process_of k warned turns further) (process_of k warned turns further) before after x x s s
   ticks sheet k warned turns before after x s c =
       called sheet k k Ticked warned turns (process_of k warned turns further) before before after x x s s c (sym (append-nil before)) (sym (append-nil x)) refl (appends_none s)
@@ -170,20 +172,22 @@ module _ {S B D : Type 0} {g : Files S D} {h : Disks D} {b : Books B} where
   -- ---- the calls themselves
 
   -- a line that says no entry
-  nothing_said : (k : Desk S B D g h b) (line : List ℕ) (answer : Said) → ComesTo (nat_lt 0 (state_of k).seat.position.round) (is_some (state_of k).seat.mine) line answer →
-      DeskStep (view_of k) (game_of k) (innings_of k) (state_of k) (Typed line answer) [] (state_of k)
-  nothing_said k line said.Quit w = (w, refl, refl)
-  nothing_said k line said.List w = (w, refl, refl)
-  nothing_said k line said.Help w = (w, refl, refl)
-  nothing_said k line (said.Fault fault) w = (w, refl, refl)
-  nothing_said k line said.SayAgain w = (w, refl, refl)
-  nothing_said k line said.NoneDiffers w = (w, refl, refl)
-  nothing_said k line said.Waiting w = (w, refl, refl)
-  nothing_said k line (said.Refused why) w = absurd w
-  nothing_said k line (said.Penned settled) w = absurd w
+  nothing_said : (sheet : Sheet) (k : Desk S B D g h b) (line : List ℕ) (answer : Said) → ComesTo sheet (state_of k).book (nat_lt 0 (state_of k).seat.position.round) (is_some (state_of k).seat.mine) line answer →
+      DeskStep sheet (view_of k) (game_of k) (innings_of k) (state_of k) (Typed line answer) [] (state_of k)
+  nothing_said sheet k line said.Quit w = (w, refl, refl)
+  nothing_said sheet k line said.List w = (w, refl, refl)
+  nothing_said sheet k line said.Help w = (w, refl, refl)
+  nothing_said sheet k line said.HelpShort w = (w, refl, refl)
+  nothing_said sheet k line (said.Unclear unclear) w = (w, refl, refl)
+  nothing_said sheet k line (said.Fault fault) w = (w, refl, refl)
+  nothing_said sheet k line said.SayAgain w = (w, refl, refl)
+  nothing_said sheet k line said.NoneDiffers w = (w, refl, refl)
+  nothing_said sheet k line said.Waiting w = (w, refl, refl)
+  nothing_said sheet k line (said.Refused why) w = absurd w
+  nothing_said sheet k line (said.Penned e settled) w = absurd w
 
-  pub unpenned : (k : Desk S B D g h b) (line : List ℕ) (answer : Said) (log : List Passed) → ComesTo (nat_lt 0 (state_of k).seat.position.round) (is_some (state_of k).seat.mine) line answer → Calls k k (Typed line answer) log log
-  unpenned k line answer log w = unmoved k (Typed line answer) log (nothing_said k line answer w) (no_blame _ _ line answer w)
+  pub unpenned : (sheet : Sheet) (k : Desk S B D g h b) (line : List ℕ) (answer : Said) (log : List Passed) → ComesTo sheet (state_of k).book (nat_lt 0 (state_of k).seat.position.round) (is_some (state_of k).seat.mine) line answer → Calls sheet k k (Typed line answer) log log
+  unpenned sheet k line answer log w = unmoved sheet k (Typed line answer) log (nothing_said sheet k line answer w) (no_blame sheet (state_of k).book _ _ line answer w)
 
   abbrev PenStep : Desk S B D g h b → Entry → Result Penned Refusal → Desk S B D g h b → Type 0
   PenStep k e r l = AreSent (game_of k) (sent r) (λ out. Pens (view_of k) (rules_of k) (state_of k) e (pen_answer r) (state_of l) out)
@@ -192,15 +196,15 @@ module _ {S B D : Type 0} {g : Files S D} {h : Disks D} {b : Books B} where
   PenBlame k r l = BlamesDisk refusals.Device (g.room (length (votes_of k) + 1) ≤ h.cap (disk_of k)) r (h.faults (disk_of k)) (h.faults (disk_of l))
 
   -- the entry is penned
-  pub penned : (k l : Desk S B D g h b) (line : List ℕ) (e : Entry) (p : Penned) (before after : List Passed) → SameOwner k l → SaysEntry (state_of k).seat.position.round line e →
-      PenStep k e (Ok p) l → PenBlame k (Ok p) l → after ≡ before ++ Sent p.send ∷ [] → Calls k l (Typed line (said.Penned p.settled)) before after
-  penned k l line e p before after same says step blame sent' = record {
+  pub penned : (sheet : Sheet) (k l : Desk S B D g h b) (line : List ℕ) (e : Entry) (p : Penned) (before after : List Passed) → SameOwner k l → SaysEntry sheet (state_of k).book (state_of k).seat.position.round line e →
+      PenStep k e (Ok p) l → PenBlame k (Ok p) l → after ≡ before ++ Sent p.send ∷ [] → Calls sheet k l (Typed line (said.Penned e p.settled)) before after
+  penned sheet k l line e p before after same says step blame sent' = record {
     same = same;
     out = step.0;
     fine = step.1;
     passed = sent' ∙ ap (λ (xs : List (List ℕ)). before ++ sent_bytes xs) step.2;
-    step = (e, says, step.3);
-    blame = λ runs. blameless (end_of (said.Penned p.settled)) _ _ (λ q. (cc)) (blame.same (λ q. (cc)));
+    step = (says, step.3);
+    blame = λ runs. blameless (end_of (said.Penned e p.settled)) _ _ (λ q. (cc)) (blame.same (λ q. (cc)));
   }
 
   -- a refusal blames the disk as the pen did
@@ -216,9 +220,9 @@ module _ {S B D : Type 0} {g : Files S D} {h : Disks D} {b : Books B} where
   refuses k l e refusals.SlotsFull out runs r blame = blameless further _ _ (λ q. (cc)) (blame.same (λ q. (cc)))
   refuses k l e (refusals.Book why) out runs r blame = blameless further _ _ (λ q. (cc)) (blame.same (λ q. (cc)))
 
-  pub refused : (k l : Desk S B D g h b) (line : List ℕ) (e : Entry) (why : Refusal) (log : List Passed) → SameOwner k l → SaysEntry (state_of k).seat.position.round line e →
-      PenStep k e (Err why) l → PenBlame k (Err why) l → Calls k l (Typed line (said.Refused why)) log log
-  refused k l line e why log same says step blame = record {
+  pub refused : (sheet : Sheet) (k l : Desk S B D g h b) (line : List ℕ) (e : Entry) (why : Refusal) (log : List Passed) → SameOwner k l → SaysEntry sheet (state_of k).book (state_of k).seat.position.round line e →
+      PenStep k e (Err why) l → PenBlame k (Err why) l → Calls sheet k l (Typed line (said.Refused why)) log log
+  refused sheet k l line e why log same says step blame = record {
     same = same;
     out = step.0;
     fine = step.1;
@@ -237,10 +241,10 @@ module _ {S B D : Type 0} {g : Files S D} {h : Disks D} {b : Books B} where
   answers k l bytes (whats.Heard heard) out runs r blame = blameless further _ _ (λ q. (cc)) (blame.same (λ q. (cc)))
   answers k l bytes whats.Asked out runs r blame = blameless further _ _ (λ q. (cc)) (blame.same (λ q. (cc)))
 
-  pub taken : (k l : Desk S B D g h b) (bytes : List ℕ) (what : What) (reply : Option (List ℕ)) (before after : List Passed) → SameOwner k l →
+  pub taken : (sheet : Sheet) (k l : Desk S B D g h b) (bytes : List ℕ) (what : What) (reply : Option (List ℕ)) (before after : List Passed) → SameOwner k l →
       AreSent (game_of k) (replied reply) (λ out. Takes (view_of k) (game_of k) (state_of k) bytes what (state_of l) out) →
-      BlamesDisk whats.Device ⊤ (device_answer what) (h.faults (disk_of k)) (h.faults (disk_of l)) → after ≡ before ++ sent_bytes (replied reply) → Calls k l (Given bytes what) before after
-  taken k l bytes what reply before after same step blame sent' = record {
+      BlamesDisk whats.Device ⊤ (device_answer what) (h.faults (disk_of k)) (h.faults (disk_of l)) → after ≡ before ++ sent_bytes (replied reply) → Calls sheet k l (Given bytes what) before after
+  taken sheet k l bytes what reply before after same step blame sent' = record {
     same = same;
     out = step.0;
     fine = step.1;
@@ -249,8 +253,8 @@ module _ {S B D : Type 0} {g : Files S D} {h : Disks D} {b : Books B} where
     blame = λ runs. answers k l bytes what step.0 runs step.3 blame;
   }
 
-  pub ticked : (k : Desk S B D g h b) (bytes : List (List ℕ)) (before after : List Passed) → AreSent (game_of k) bytes (Ticks (state_of k)) → after ≡ before ++ sent_bytes bytes → Calls k k Ticked before after
-  ticked k bytes before after step sent' = record {
+  pub ticked : (sheet : Sheet) (k : Desk S B D g h b) (bytes : List (List ℕ)) (before after : List Passed) → AreSent (game_of k) bytes (Ticks (state_of k)) → after ≡ before ++ sent_bytes bytes → Calls sheet k k Ticked before after
+  ticked sheet k bytes before after step sent' = record {
     same = same_here k;
     out = step.0;
     fine = step.1;

@@ -19,7 +19,7 @@ use Rattle.live.specs.declared.ends.DeskEnd.{DeskEnd}
 use Rattle.live.specs.declared.ends.DeskEnd.TheVariants as ends
 use Rattle.live.proofs.DeskLemmas.{blameless}
 
-module _ {Disk : Type 0} (view : FileView Disk) (game innings : ℕ) (k l : DeskState Disk) (out : List Message) (runs : k.failed ≡ false) where
+module _ {Disk : Type 0} (sheet : Sheet) (view : FileView Disk) (game innings : ℕ) (k l : DeskState Disk) (out : List Message) (runs : k.failed ≡ false) where
   same_desk : l ≡ k → l.failed ≡ false
   same_desk e = ap (λ (x : DeskState Disk). x.failed) e ∙ runs
 
@@ -35,15 +35,17 @@ module _ {Disk : Type 0} (view : FileView Disk) (game innings : ℕ) (k l : Desk
   asked (Message.Ask q) r = unchanged r.1
 
   -- a call that doesn't end the process leaves its desk running
-  pub runs_on : (call : DeskCall) → DeskStep view game innings k call out l → course_after call ≡ further → l.failed ≡ false
+  pub runs_on : (call : DeskCall) → DeskStep sheet view game innings k call out l → course_after call ≡ further → l.failed ≡ false
   runs_on (Typed line said.Quit) r e = same_desk r.1
   runs_on (Typed line said.List) r e = same_desk r.1
   runs_on (Typed line said.Help) r e = same_desk r.1
+  runs_on (Typed line said.HelpShort) r e = same_desk r.1
+  runs_on (Typed line (said.Unclear unclear)) r e = same_desk r.1
   runs_on (Typed line (said.Fault fault)) r e = same_desk r.1
   runs_on (Typed line said.SayAgain) r e = same_desk r.1
   runs_on (Typed line said.NoneDiffers) r e = same_desk r.1
   runs_on (Typed line said.Waiting) r e = same_desk r.1
-  runs_on (Typed line (said.Penned settled)) r e = r.2.1.2
+  runs_on (Typed line (said.Penned entry settled)) r e = r.1.1.2
   runs_on (Typed line (said.Refused refusals.Device)) r e = absurd (cc)
   runs_on (Typed line (said.Refused refusals.Failed)) r e = absurd (cc)
   runs_on (Typed line (said.Refused refusals.Waiting)) r e = unchanged r.2.1
@@ -86,7 +88,7 @@ module _ {Disk : Type 0} (sheet : Sheet) (view : FileView Disk) (disks : DiskVie
       record {
         blame = later (course_after m.call) m.after.course (disks.faults p.desk.disk) (disks.faults q.desk.disk) (disks.faults m.after.desk.disk)
             (so_far.blame.same (not_ended q.course step.0)) (sym is) (step.2 sound);
-        running = λ x. runs_on view game innings q.desk m.after.desk m.out sound m.call step.1 (sym is ∙ x);
+        running = λ x. runs_on sheet view game innings q.desk m.after.desk m.out sound m.call step.1 (sym is ∙ x);
       }
 
   -- a run blames the disk where its last call does

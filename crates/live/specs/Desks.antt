@@ -35,15 +35,15 @@ pub data DeskCall : Type 0 where
   Ticked : DeskCall
   TurnEnded : DeskCall
 
--- in a match of this number and innings a side
+-- with this sheet, in a match of this number and innings a side
 abbrev pub DeskStep :
-    {Disk : Type 0} → FileView Disk → ℕ → ℕ
+    {Disk : Type 0} → Sheet → FileView Disk → ℕ → ℕ
     → DeskState Disk → DeskCall → List Message → DeskState Disk → Type 0
-DeskStep view game innings k (Typed line said) out l = Types view (book_refusal innings) k line said l out
-DeskStep view game innings k TypingEnded out l = (l ≡ k) × (out ≡ [])
-DeskStep view game innings k (Given bytes what) out l = Takes view game k bytes what l out
-DeskStep view game innings k Ticked out l = Ticks k out × (l ≡ k)
-DeskStep view game innings k TurnEnded out l = (l ≡ k) × (out ≡ [])
+DeskStep s view game innings k (Typed line said) out l = Types s view (book_refusal innings) k line said l out
+DeskStep s view game innings k TypingEnded out l = (l ≡ k) × (out ≡ [])
+DeskStep s view game innings k (Given bytes what) out l = Takes view game k bytes what l out
+DeskStep s view game innings k Ticked out l = Ticks k out × (l ≡ k)
+DeskStep s view game innings k TurnEnded out l = (l ≡ k) × (out ≡ [])
 
 -- how the process goes on after a call
 abbrev pub course_after : DeskCall → Course
@@ -84,10 +84,10 @@ after_call k call l =
 
 -- a process that hasn't ended makes a call
 abbrev pub ProcessStep :
-    {Disk : Type 0} → FileView Disk → DiskView Disk → ℕ → ℕ
+    {Disk : Type 0} → Sheet → FileView Disk → DiskView Disk → ℕ → ℕ
     → DeskProcess Disk → DeskCall → List Message → DeskProcess Disk → Type 0
-ProcessStep view disks game innings k call out l =
-    (k.course ≡ further) × DeskStep view game innings k.desk call out l.desk
+ProcessStep s view disks game innings k call out l =
+    (k.course ≡ further) × DeskStep s view game innings k.desk call out l.desk
     × Blames disks k.desk call l.desk × (l ≡ after_call k call l.desk)
 
 abbrev pub given : DeskCall → List Passed
@@ -109,7 +109,7 @@ told_of sheet innings k call l = []
 abbrev pub desk_kind : {Disk : Type 0} → Sheet → FileView Disk → DiskView Disk → ℕ → ℕ → Kind (DeskProcess Disk) DeskCall
 desk_kind sheet view disks game innings = record {
   game = game;
-  Step = ProcessStep view disks game innings;
+  Step = ProcessStep sheet view disks game innings;
   given = given;
   typed = typed;
   prints = told_of sheet innings;
@@ -140,13 +140,14 @@ module _ {S B D : Type 0} {g : Files S D} {h : Disks D} {b : Books B} where
   process_of desk warned turns course =
       record { desk = state_of desk; warned = warned; turns = turns; course = course }
 
-  -- a call of a desk with its answer: what it handed out is what the link's log grew by
-  pub record Calls (old new : Desk S B D g h b) (call : DeskCall) (before after : List Passed) : Type 0 where
+  -- a call of a desk that has this sheet, with its answer: what it handed out is what the link's log grew by
+  pub record Calls
+      (sheet : Sheet) (old new : Desk S B D g h b) (call : DeskCall) (before after : List Passed) : Type 0 where
     pub same : SameOwner old new
     pub out : List Message
     pub fine : All IsMessage out
     pub passed : after ≡ before ++ sends (game_of old) out
-    pub step : DeskStep (view_of old) (game_of old) (innings_of old) (state_of old) call out (state_of new)
+    pub step : DeskStep sheet (view_of old) (game_of old) (innings_of old) (state_of old) call out (state_of new)
     pub blame : Blames (disks_of old) (state_of old) call (state_of new)
 
   -- from a desk's process on there is a run to another one of the same desk

@@ -1,5 +1,6 @@
--- What a scorer's line comes to, by cases of the answer.
-use Rattle.std.specs.Prelude.{◌≡◌, ◌≢◌, ◌⊎◌, ℕ, Bool, true, false, nat_lt, is_some, List, [], ◌++◌, Err, codes}
+-- What a scorer's line comes to, by cases of the answer. Every line is first put in full, by the sheet that the desk has
+-- and by the book at which it stands.
+use Rattle.std.specs.Prelude.{◌≡◌, ◌≢◌, ◌⊎◌, ℕ, Bool, true, false, nat_lt, is_some, List, [], ◌++◌, Ok, Err, codes}
 use Rattle.notation.specs.declared.entry.Entry.{Entry}
 use Rattle.notation.specs.Written.{IsEntry, text_of}
 use Rattle.notation.specs.Reading.{line_answer}
@@ -10,21 +11,41 @@ use Rattle.agree_core.specs.Desks as desks
 use Rattle.agree_core.specs.Desks.{DeskState, Pens}
 use Rattle.agree_core.specs.FileView.{FileView}
 use Rattle.desk.specs.Answers.{pen_answer}
+use Rattle.cards.specs.Sheet.{Sheet}
+use Rattle.shorthand.specs.Full.{in_full}
+use Rattle.shorthand.specs.Lines.{reason_of}
 use Rattle.live.specs.declared.said.Said.{Said}
-use Rattle.live.specs.declared.said.Said.TheVariants.{Quit, List as Listed, Help, Fault, SayAgain, NoneDiffers, Waiting, Refused, Penned}
+use Rattle.live.specs.declared.said.Said.TheVariants.{Quit, List as Listed, Help, HelpShort, Unclear, Fault, SayAgain, NoneDiffers, Waiting, Refused, Penned}
 
 -- a line of a round: behind `again ` in every round but the first
 abbrev pub says_again : Bool → List ℕ → List ℕ
 says_again true text = codes "again " ++ text
 says_again false text = text
 
--- the line is the entry's, in this round
-abbrev pub SaysEntry : ℕ → List ℕ → Entry → Type 0
-SaysEntry round line e = IsEntry e × (line ≡ says_again (nat_lt 0 round) (text_of e))
+-- the text is in full the entry's
+abbrev pub MeansEntry : Sheet → List Entry → List ℕ → Entry → Type 0
+MeansEntry s book text e = IsEntry e × (in_full s book text ≡ Ok (text_of e))
+
+-- a text that is in full the entry's, behind `again ` where the two scorers differed
+abbrev pub LineMeans : Sheet → List Entry → Bool → List ℕ → Entry → Type 0
+LineMeans s book differs line e =
+    (text : List ℕ) × (line ≡ says_again differs text) × MeansEntry s book text e
+
+-- the line says the entry in this round
+abbrev pub SaysEntry : Sheet → List Entry → ℕ → List ℕ → Entry → Type 0
+SaysEntry s book round line e = LineMeans s book (nat_lt 0 round) line e
+
+-- the text means no entry: something isn't clear in it, or in full it has a fault
+abbrev pub MeansNone : Sheet → List Entry → List ℕ → Said → Type 0
+MeansNone s book text (Unclear unclear) = in_full s book text ≡ Err (reason_of unclear)
+MeansNone s book text (Fault fault) =
+    (full : List ℕ) × (in_full s book text ≡ Ok full) × (line_answer full ≡ Err fault)
+MeansNone s book text said = ⊥
 
 -- the line is none of the words that are no entry's
 abbrev pub IsNoWord : List ℕ → Type 0
-IsNoWord line = (line ≢ codes "quit") × (line ≢ codes "list") × (line ≢ codes "help")
+IsNoWord line =
+    (line ≢ codes "quit") × (line ≢ codes "list") × (line ≢ codes "help") × (line ≢ codes "help short")
 
 -- the line doesn't begin with `again `
 abbrev pub IsNotAgain : List ℕ → Type 0
@@ -41,28 +62,37 @@ abbrev pub IsReadAs : Bool → Bool → List ℕ → List ℕ → Type 0
 IsReadAs differs false line text = IsTextOf differs line text
 IsReadAs differs true line text = IsTextOf differs line text ⊎ IsTextOf false line text
 
--- the line comes to this, and no entry is penned, at a place at which the two scorers differed or not, where the desk's
--- vote of the round is cast or not
-abbrev pub ComesTo : Bool → Bool → List ℕ → Said → Type 0
-ComesTo differs is_cast line Quit = line ≡ codes "quit"
-ComesTo differs is_cast line Listed = line ≡ codes "list"
-ComesTo differs is_cast line Help = line ≡ codes "help"
-ComesTo differs is_cast line (Fault fault) =
-    IsNoWord line × ((text : List ℕ) × IsReadAs differs is_cast line text × (line_answer text ≡ Err fault))
-ComesTo differs is_cast line SayAgain = IsNoWord line × (differs ≡ true) × (is_cast ≡ false) × IsNotAgain line
-ComesTo differs is_cast line NoneDiffers = (differs ≡ false) × ((text : List ℕ) × (line ≡ codes "again " ++ text))
-ComesTo differs is_cast line Waiting =
-    (differs ≡ true) × (is_cast ≡ true) × IsNotAgain line × ((e : Entry) × IsEntry e × (line ≡ text_of e))
-ComesTo differs is_cast line (Refused why) = ⊥
-ComesTo differs is_cast line (Penned settled) = ⊥
+-- a text that is looked at as an entry's means none
+abbrev pub ReadsNone : Sheet → List Entry → Bool → Bool → List ℕ → Said → Type 0
+ReadsNone s book differs is_cast line said =
+    (text : List ℕ) × IsReadAs differs is_cast line text × MeansNone s book text said
 
--- a desk is given a scorer's line: it answers, goes on as the second desk, and hands out these messages
+-- the line comes to this, and no entry is penned, by the sheet and the book, at a place at which the two scorers differed
+-- or not, where the desk's vote of the round is cast or not
+abbrev pub ComesTo : Sheet → List Entry → Bool → Bool → List ℕ → Said → Type 0
+ComesTo s book differs is_cast line Quit = line ≡ codes "quit"
+ComesTo s book differs is_cast line Listed = line ≡ codes "list"
+ComesTo s book differs is_cast line Help = line ≡ codes "help"
+ComesTo s book differs is_cast line HelpShort = line ≡ codes "help short"
+ComesTo s book differs is_cast line (Unclear unclear) =
+    IsNoWord line × ReadsNone s book differs is_cast line (Unclear unclear)
+ComesTo s book differs is_cast line (Fault fault) =
+    IsNoWord line × ReadsNone s book differs is_cast line (Fault fault)
+ComesTo s book differs is_cast line SayAgain = IsNoWord line × (differs ≡ true) × (is_cast ≡ false) × IsNotAgain line
+ComesTo s book differs is_cast line NoneDiffers = (differs ≡ false) × ((text : List ℕ) × (line ≡ codes "again " ++ text))
+ComesTo s book differs is_cast line Waiting =
+    (differs ≡ true) × (is_cast ≡ true) × IsNotAgain line × ((e : Entry) × MeansEntry s book line e)
+ComesTo s book differs is_cast line (Refused why) = ⊥
+ComesTo s book differs is_cast line (Penned e settled) = ⊥
+
+-- a desk that has this sheet is given a scorer's line: it answers, goes on as the second desk, and hands out these
+-- messages
 abbrev pub Types :
-    {Disk : Type 0} → FileView Disk → Rules BookRefusal
+    {Disk : Type 0} → Sheet → FileView Disk → Rules BookRefusal
     → DeskState Disk → List ℕ → Said → DeskState Disk → List Message → Type 0
-Types view rules k line (Penned settled) l out =
-    (e : Entry) × SaysEntry k.seat.position.round line e × Pens view rules k e (desks.Penned settled) l out
-Types view rules k line (Refused why) l out =
-    (e : Entry) × SaysEntry k.seat.position.round line e × Pens view rules k e (pen_answer (Err why)) l out
-Types view rules k line said l out =
-    ComesTo (nat_lt 0 k.seat.position.round) (is_some k.seat.mine) line said × (l ≡ k) × (out ≡ [])
+Types s view rules k line (Penned e settled) l out =
+    SaysEntry s k.book k.seat.position.round line e × Pens view rules k e (desks.Penned settled) l out
+Types s view rules k line (Refused why) l out =
+    (e : Entry) × SaysEntry s k.book k.seat.position.round line e × Pens view rules k e (pen_answer (Err why)) l out
+Types s view rules k line said l out =
+    ComesTo s k.book (nat_lt 0 k.seat.position.round) (is_some k.seat.mine) line said × (l ≡ k) × (out ≡ [])

@@ -1,7 +1,7 @@
 -- What a desk's scorer is told.
 use Rattle.std.specs.Prelude.{ℕ, Bool, true, false, if◌then◌else◌, nat_lt, List, [], ◌++◌, codes, decimal}
 use Rattle.notation.specs.declared.entry.Entry.{Entry}
-use Rattle.notation.specs.LineFault.{number_of as fault_number, name_of as fault_name}
+use Rattle.notation.specs.Written.{text_of}
 use Rattle.match_laws.specs.LawRefusal.{number_of as law_number}
 use Rattle.corrections.specs.declared.refusal.Refusal.TheVariants.{Later}
 use Rattle.corrections.specs.CleanList.{history_of}
@@ -21,7 +21,8 @@ use Rattle.cards.specs.Page.{last_entries}
 use Rattle.live.specs.declared.said.Said.{Said}
 use Rattle.live.specs.declared.said.Said.TheVariants as said
 use Rattle.live.specs.declared.warned.Warned.{Warned}
-use Rattle.live.specs.Help.{help}
+use Rattle.live.specs.Help.{help, help_short}
+use Rattle.live.specs.Questions.{fault_text, numbered, unclear_text}
 
 -- a place and what is told of it
 abbrev pub at_place : ℕ → List ℕ → List ℕ
@@ -34,9 +35,6 @@ score sheet innings book = board sheet innings (history_of book)
 abbrev pub agreed : Sheet → ℕ → ℕ → List Entry → List ℕ
 agreed sheet innings place book = at_place place (codes "agreed") ++ score sheet innings book
 
-abbrev pub numbered : List ℕ → ℕ → List ℕ → List ℕ
-numbered word number name = word ++ codes " " ++ decimal number ++ codes " " ++ name ++ codes "\n"
-
 -- of a correction, the first place that it leaves refused, and why
 abbrev pub refused_text : Refusal → List ℕ
 refused_text refusals.Failed = []
@@ -45,23 +43,28 @@ refused_text (refusals.Book (Later place why)) =
     codes "refused 32 Later " ++ decimal place ++ codes " " ++ decimal (law_number why) ++ codes "\n"
 refused_text why = numbered (codes "refused") (number_of why) (name_of why)
 
-abbrev pub settled_text : Sheet → ℕ → ℕ → List Entry → Settled → List ℕ
-settled_text sheet innings place book Settled.Pending = at_place place (codes "pending")
-settled_text sheet innings place book Settled.Agreed = agreed sheet innings place book
-settled_text sheet innings place book Settled.Differ = at_place place (codes "differs")
+-- the entry that was penned stands in full behind `pending`
+abbrev pub pending : ℕ → Entry → List ℕ
+pending place e = at_place place (codes "pending: " ++ text_of e)
+
+abbrev pub settled_text : Sheet → ℕ → ℕ → List Entry → Entry → Settled → List ℕ
+settled_text sheet innings place book e Settled.Pending = pending place e
+settled_text sheet innings place book e Settled.Agreed = agreed sheet innings place book
+settled_text sheet innings place book e Settled.Differ = at_place place (codes "differs")
 
 -- of a line at this place, with the book after it
 abbrev pub said_text : Sheet → ℕ → ℕ → List Entry → Said → List ℕ
 said_text sheet innings place book said.Quit = []
 said_text sheet innings place book said.List = last_entries 12 book
 said_text sheet innings place book said.Help = help
-said_text sheet innings place book (said.Fault fault) =
-    numbered (codes "fault") (fault_number fault) (fault_name fault)
+said_text sheet innings place book said.HelpShort = help_short
+said_text sheet innings place book (said.Unclear unclear) = unclear_text sheet unclear
+said_text sheet innings place book (said.Fault fault) = fault_text fault
 said_text sheet innings place book said.SayAgain = at_place place (codes "differs: begin the line with again")
 said_text sheet innings place book said.NoneDiffers = at_place place (codes "doesn't differ: leave out again")
 said_text sheet innings place book said.Waiting = refused_text refusals.Waiting
 said_text sheet innings place book (said.Refused why) = refused_text why
-said_text sheet innings place book (said.Penned settled) = settled_text sheet innings place book settled
+said_text sheet innings place book (said.Penned e settled) = settled_text sheet innings place book e settled
 
 -- of a peer, unless it was told
 abbrev pub warning : Bool → List ℕ → List ℕ

@@ -1,6 +1,7 @@
 //! The calls of a desk at its link.
 
 ghost use Rattle.std.specs.Prelude.{◌≡◌, ◌++◌, ◌∷◌, [], List};
+ghost use Rattle.cards.specs.Sheet.{Sheet};
 ghost use Rattle.desk.specs.Desk.{disk_of, state_of};
 ghost use Rattle.live.specs.Desks.{Calls, Given, Ticked, Typed};
 ghost use Rattle.live.specs.Passed.{Passed};
@@ -8,28 +9,30 @@ ghost use Rattle.live.specs.Passed.{Passed};
 use crate::link::Link;
 use crate::said::{Said, entry_said};
 use crate::sending::send_each;
+use cards::MatchSheet;
 use corrections::BookOf;
 use desk::Desk;
 use entry_log::SlotsOf;
 use wire::What;
 
-/// Has a desk pen the entry of a line, and sends its vote.
+/// Has a desk pen the entry that a line says in full, by the desk's book and its sheet, and sends its vote.
 pub fn pen<S: SlotsOf, B: BookOf + Drop, L: Link>(
     desk: &mut Desk<S, B>,
+    sheet: &MatchSheet,
     line: &[u8],
     link: &mut L,
 ) -> Said
-    ensures { Calls desk.old desk.new (Typed line.now result) (L.log link.old) (L.log link.new) }
+    ensures { Calls sheet.now desk.old desk.new (Typed line.now result) (L.log link.old) (L.log link.new) }
 {
     let differs = desk.position().round > 0;
-    let entry = match entry_said(line, differs, desk.has_voted()) {
+    let entry = match entry_said(line, desk.book(), sheet, differs, desk.has_voted()) {
         Ok(entry) => entry,
         Err(said) => return said,
     };
     match desk.pen(&entry) {
         Ok(penned) => {
             link.send(&penned.send);
-            Said::Penned(penned.settled)
+            Said::Penned(entry, penned.settled)
         }
         Err(why) => Said::Refused(why),
     }
@@ -41,7 +44,7 @@ pub fn give<S: SlotsOf, B: BookOf + Drop, L: Link>(
     bytes: &[u8],
     link: &mut L,
 ) -> What
-    ensures calls { Calls desk.old desk.new (Given bytes.now result) (L.log link.old) (L.log link.new) }
+    ensures calls { (s : Sheet) → Calls s desk.old desk.new (Given bytes.now result) (L.log link.old) (L.log link.new) }
     // Nothing is written.
     ensures reads { (S.Disk.seen (disk_of desk.new) ≡ S.Disk.seen (disk_of desk.old))
         × (S.Disk.images (disk_of desk.new) ≡ S.Disk.images (disk_of desk.old)) }
@@ -55,7 +58,7 @@ pub fn give<S: SlotsOf, B: BookOf + Drop, L: Link>(
 
 /// Has a desk say what it says unasked.
 pub fn tick<S: SlotsOf, B: BookOf + Drop, L: Link>(desk: &Desk<S, B>, link: &mut L)
-    ensures { Calls desk.now desk.now Ticked (L.log link.old) (L.log link.new) }
+    ensures { (s : Sheet) → Calls s desk.now desk.now Ticked (L.log link.old) (L.log link.new) }
 {
     send_each(link, desk.tick().as_slice());
 }

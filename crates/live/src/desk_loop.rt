@@ -66,11 +66,11 @@ fn take_line<S: SlotsOf, B: BookOf + Drop, L: Link, K: Keys, W: Write>(
         Typed::Line(count) => count,
     };
     let place = desk.position().place;
-    let said = pen(desk, &buffer[..count], link);
-    if let Err(end) = end_of(said) {
+    let said = pen(desk, sheet, &buffer[..count], link);
+    if let Err(end) = end_of(&said) {
         return Err(end);
     }
-    told(print_said(out, sheet, place, said, desk.book()))
+    told(print_said(out, sheet, place, &said, desk.book()))
 }
 
 /// Takes bytes that came, and tells the scorer what is news.

@@ -21,8 +21,8 @@ pub enum DeskEnd {
 }
 
 /// How the process goes on after what a line came to.
-pub fn end_of(said: Said) -> Result<(), DeskEnd>
-    ensures { result ≡ ends.end_of said }
+pub fn end_of(said: &Said) -> Result<(), DeskEnd>
+    ensures { result ≡ ends.end_of said.now }
 {
     match said {
         Said::Quit => Err(DeskEnd::Quit),

@@ -15,6 +15,7 @@ mod link;
 mod log;
 mod notices;
 mod pace;
+mod questions;
 mod said;
 mod sending;
 mod texts;

@@ -2,14 +2,18 @@
 
 ghost use Rattle.std.specs.Prelude.{◌≡◌, ◌++◌, true, codes, OnErr, OnOk};
 ghost use Rattle.streams.specs.Watched.{Prints, has_failed};
+ghost use Rattle.notation.specs.Written.{IsEntry};
+ghost use Rattle.live.specs.inner.Telling.{IsFine};
 ghost use Rattle.live.specs.Texts as texts;
 
+use crate::questions::{print_fault, print_unclear};
 use crate::said::Said;
 use crate::warned::Warned;
 use agree_core::{Heard, Position, Settled};
 use cards::{MatchSheet, board_lines, last_entries};
 use corrections::BookOf;
 use desk::Refusal;
+use notation::{Entry, line_of};
 use std::io::Write;
 use streams::{Watched, WriteFailed};
 use wire::What;
@@ -37,7 +41,34 @@ late p E        E, any line above, belongs after place p
 again E         E, where you two differ
 list            the last twelve entries, with their places
 help            this
+help short      short lines, which stand for these
 quit            ends; the same command goes on
+";
+
+/// What `help short` shows.
+const HELP_SHORT: &str = "\
+A delivery:  [B:] [RUNS] [OPTIONS] [OUT]   with one of the last three at least
+B: bowls, by number or name, as 10: or usher:   Left out, it is who bowled the
+   last delivery of this over: so the first of each over names the bowler.
+RUNS: letters and a figure with no space between them, as 1 or lb4
+   none bat       .  0
+   b    bye       1  1
+   lb   leg       2  2
+   wd   wide      3  3
+   nb   nb        4  0 four
+   nbb  nbbye     5  5
+   nblb nbleg     6  0 six
+   wd is wide 0, and nb is nb 0.   nb 4 is four all run, and nb4 a four.
+   K r stands as in a full line: bat 4 is four all run.   Left out: bat 0
+OPTIONS: short s, overthrow, dead
+OUT: [out] H [W] [f] [crossed]
+   W left out is striker, but never for runout and obstructing
+   f left out is 0; it is a number, a name or sub, any substitute
+/  is over.
+Names: in n, gone L n, ball b, B: and f take a name of that side, in letters of
+   any case: the last word of one player's name, or the beginning of a word in
+   the name of one player.
+fix p, late p and again: short lines stand behind them too.
 ";
 
 /// Prints a place, and what is told of it.
@@ -94,20 +125,37 @@ fn print_refused<W: Write>(out: &mut Watched<W>, why: Refusal) -> Result<(), Wri
     }
 }
 
-/// Prints what became of a vote that was cast at this place.
+/// Prints that the entry was penned at this place, in full.
+fn print_pending<W: Write>(
+    out: &mut Watched<W>,
+    place: u32,
+    entry: &Entry,
+) -> Result<(), WriteFailed>
+    requires { IsEntry entry.now }
+    ensures text { OnOk result (Prints W.contents out.old out.new (texts.pending place entry.now)) }
+    ensures failed { OnErr result (has_failed out.new ≡ true) }
+{
+    let line = line_of(entry);
+    let words = line.as_str();
+    writeln!(out, "{place} pending: {words}")
+}
+
+/// Prints what became of a vote for the entry that was cast at this place.
 fn print_settled<B: BookOf, W: Write>(
     out: &mut Watched<W>,
     sheet: &MatchSheet,
     place: u32,
+    entry: &Entry,
     settled: Settled,
     book: &B,
 ) -> Result<(), WriteFailed>
+    requires { IsEntry entry.now }
     ensures text { OnOk result (Prints W.contents out.old out.new
-        (texts.settled_text sheet.now (B.innings_a_side book.now) place (B.content book.now) settled)) }
+        (texts.settled_text sheet.now (B.innings_a_side book.now) place (B.content book.now) entry.now settled)) }
     ensures failed { OnErr result (has_failed out.new ≡ true) }
 {
     match settled {
-        Settled::Pending => print_at(out, place, "pending"),
+        Settled::Pending => print_pending(out, place, entry),
         Settled::Agreed => print_agreed(out, sheet, place, book),
         Settled::Differ => print_at(out, place, "differs"),
     }
@@ -118,26 +166,26 @@ fn print_answer<B: BookOf, W: Write>(
     out: &mut Watched<W>,
     sheet: &MatchSheet,
     place: u32,
-    said: Said,
+    said: &Said,
     book: &B,
 ) -> Result<(), WriteFailed>
+    requires { IsFine said.now }
     ensures text { OnOk result (Prints W.contents out.old out.new
-        (texts.said_text sheet.now (B.innings_a_side book.now) place (B.content book.now) said)) }
+        (texts.said_text sheet.now (B.innings_a_side book.now) place (B.content book.now) said.now)) }
     ensures failed { OnErr result (has_failed out.new ≡ true) }
 {
     match said {
         Said::Quit => Ok(()),
         Said::List => last_entries(book, LISTED, out),
         Said::Help => write!(out, "{HELP}"),
-        Said::Fault(fault) => {
-            let code = fault.number();
-            writeln!(out, "fault {code} {fault}")
-        }
+        Said::HelpShort => write!(out, "{HELP_SHORT}"),
+        Said::Unclear(unclear) => print_unclear(out, sheet, unclear),
+        Said::Fault(fault) => print_fault(out, *fault),
         Said::SayAgain => print_at(out, place, "differs: begin the line with again"),
         Said::NoneDiffers => print_at(out, place, "doesn't differ: leave out again"),
         Said::Waiting => print_refused(out, Refusal::Waiting),
-        Said::Refused(why) => print_refused(out, why),
-        Said::Penned(settled) => print_settled(out, sheet, place, settled, book),
+        Said::Refused(why) => print_refused(out, *why),
+        Said::Penned(entry, settled) => print_settled(out, sheet, place, entry, *settled, book),
     }
 }
 
@@ -146,11 +194,12 @@ pub fn print_said<B: BookOf, W: Write>(
     out: &mut Watched<W>,
     sheet: &MatchSheet,
     place: u32,
-    said: Said,
+    said: &Said,
     book: &B,
 ) -> Result<(), WriteFailed>
+    requires { IsFine said.now }
     ensures text { OnOk result (Prints W.contents out.old out.new
-        (texts.said_text sheet.now (B.innings_a_side book.now) place (B.content book.now) said)) }
+        (texts.said_text sheet.now (B.innings_a_side book.now) place (B.content book.now) said.now)) }
     ensures failed { OnErr result (has_failed out.new ≡ true) }
 {
     print_answer(out, sheet, place, said, book)?;

@@ -20,6 +20,7 @@ mod boards;
 mod desks;
 mod ends;
 mod memory;
+mod short;
 mod three;
 
 type Station = Desk<Slots<MemDisk>, Book>;

@@ -14,7 +14,7 @@ module _ {Disk : Type 0} where
   abbrev pub next_board : BoardState → Happening Disk → BoardState
   next_board k (BoardCalled n call out l) = l
   next_board k (BoardBegun n) = fresh_board
-  next_board k (DeskCalled d call out l) = k
+  next_board k (DeskCalled d s call out l) = k
   next_board k (DeskEnded d disk) = k
   next_board k (PowerLost d disk) = k
   next_board k (DeskBegun d opening) = k

@@ -1,6 +1,7 @@
 -- A desk's life, step by step.
 use Rattle.std.proofs.Common.{◌≡◌, ℕ, List, [], ◌∷◌, refl, sym, ap, ◌∙◌, subst}
 use Rattle.entry_log.specs.Disk.{Faults}
+use Rattle.cards.specs.Sheet.{Sheet}
 use Rattle.agree_core.specs.declared.messages.DeskId.{DeskId}
 use Rattle.agree_core.specs.Ballots.{Ballot}
 use Rattle.agree_core.specs.Desks.{DeskState}
@@ -19,7 +20,7 @@ use Rattle.processes.proofs.Local.{Local, local-append, nexts, nexts-append}
 module _ {Disk : Type 0} where
   -- a desk after something that happens there
   abbrev pub next_desk : Node Disk → Happening Disk → Node Disk
-  next_desk x (DeskCalled c call out l) = record x { process = Running l }
+  next_desk x (DeskCalled c s call out l) = record x { process = Running l }
   next_desk x (DeskEnded c disk) = record x { process = Down (process_votes x.process) disk }
   next_desk x (PowerLost c disk) = record x { process = Down (process_votes x.process) disk }
   next_desk x (DeskBegun c opening) = record x { process = begun (process_votes x.process) opening }
@@ -30,8 +31,8 @@ module _ {Disk : Type 0} where
 module _ {Disk : Type 0} (view : FileVersion → FileView Disk) (seen : Disk → List ℕ) (d : DeskId) (game innings : ℕ) where
   -- it may happen at this desk, but for what came
   abbrev pub MayDesk : Node Disk → Happening Disk → Type 0
-  MayDesk x (DeskCalled c call out l) =
-      (k : DeskState Disk) × (x.process ≡ Running k) × DeskStep (view x.version) game innings k call out l
+  MayDesk x (DeskCalled c s call out l) =
+      (k : DeskState Disk) × (x.process ≡ Running k) × DeskStep s (view x.version) game innings k call out l
   MayDesk x (DeskEnded c disk) =
       (k : DeskState Disk) × (x.process ≡ Running k) × Stays (view x.version) k.disk disk
   MayDesk x (PowerLost c disk) = LosesPower (view x.version) (process_disk x.process) disk
@@ -57,20 +58,20 @@ module _ {Disk : Type 0} (view : FileVersion → FileView Disk) (seen : Disk →
   abbrev with_run : Node Disk → Process Disk → Node Disk
   with_run x p = record x { process = p }
 
-  calls : (x : Node Disk) (k : DeskState Disk) (ms : List (own.Moment (DeskProcess Disk) DeskCall)) → RunsFrom (view x.version) faults game innings k ms → Goes (with_run x (Running k)) (calls_of d ms) (with_run x (after_calls (Running k) ms))
-  calls x k [] r = (tt, refl)
-  calls x k (m ∷ ms) r =
-      let before = calls x k ms (r.0, r.1, r.2, r.3.0) in
+  calls : (x : Node Disk) (s : Sheet) (k : DeskState Disk) (ms : List (own.Moment (DeskProcess Disk) DeskCall)) → RunsFrom s (view x.version) faults game innings k ms → Goes (with_run x (Running k)) (calls_of d s ms) (with_run x (after_calls (Running k) ms))
+  calls x s k [] r = (tt, refl)
+  calls x s k (m ∷ ms) r =
+      let before = calls x s k ms (r.0, r.1, r.2.0) in
       let last : DeskState Disk = (λ (p : DeskProcess Disk). p.desk) (own.last_of (fresh k) ms) in
-      let may : MayDesk view seen d game innings (with_run x (Running last)) (DeskCalled d m.call m.out ((λ (p : DeskProcess Disk). p.desk) m.after)) = (last, refl, r.3.2.1) in (
-        (before.0, subst (λ (y : Node Disk). MayDesk view seen d game innings y (DeskCalled d m.call m.out ((λ (p : DeskProcess Disk). p.desk) m.after))) (sym before.1) may),
-        ap (λ (y : Node Disk). next_desk y (DeskCalled d m.call m.out ((λ (p : DeskProcess Disk). p.desk) m.after))) before.1,
+      let may : MayDesk view seen d game innings (with_run x (Running last)) (DeskCalled d s m.call m.out ((λ (p : DeskProcess Disk). p.desk) m.after)) = (last, refl, r.2.2.1) in (
+        (before.0, subst (λ (y : Node Disk). MayDesk view seen d game innings y (DeskCalled d s m.call m.out ((λ (p : DeskProcess Disk). p.desk) m.after))) (sym before.1) may),
+        ap (λ (y : Node Disk). next_desk y (DeskCalled d s m.call m.out ((λ (p : DeskProcess Disk). p.desk) m.after))) before.1,
       )
 
   one_stage : (x : Node Disk) (stage : Stage Disk) → IsNextStage view seen faults d game innings x stage → Goes x (stage_happens d stage) (after_stage x stage)
-  one_stage x (CallsMade ms) h =
-      subst (λ (p : Process Disk). Goes (with_run x p) (calls_of d ms) (with_run x (after_calls p ms))) (sym h.1) (calls x h.0 ms h.2)
-  one_stage x (CutOff call l) h = ((tt, (h.0, h.1, h.3)), refl)
+  one_stage x (CallsMade s ms) h =
+      subst (λ (p : Process Disk). Goes (with_run x p) (calls_of d s ms) (with_run x (after_calls p ms))) (sym h.1) (calls x s h.0 ms h.2)
+  one_stage x (CutOff s call l) h = ((tt, (h.0, h.1, h.3)), refl)
   one_stage x (ProcessEnd disk) h = ((tt, h), refl)
   one_stage x (PowerLoss disk) h = ((tt, h), refl)
   one_stage x (Beginning opening) h = ((tt, h), refl)

@@ -114,7 +114,7 @@ module _ {Disk : Type 0} where
 
   -- so it stays
   pub calm_after : (v : Configuration Disk) → IsCalm v → (what : Happening Disk) → IsCalm (after_one v what)
-  calm_after v c (DeskCalled d call out l) = calm_put v c d (Running l) out
+  calm_after v c (DeskCalled d sheet call out l) = calm_put v c d (Running l) out
   calm_after v c (DeskEnded d disk) = calm_put v c d (Down (process_votes (node v d).process) disk) []
   calm_after v c (PowerLost d disk) = calm_put v c d (Down (process_votes (node v d).process) disk) []
   calm_after v c (DeskBegun d opening) = calm_put v c d (begun (process_votes (node v d).process) opening) []
@@ -129,7 +129,7 @@ module _ {Disk : Type 0} (s : Setting Disk Refusal) (game innings : ℕ) (rules 
       (opened s v what d (calm d) votes disk opening at (subst (λ r. Opens (s.view d (node v d).version) r d disk opening) (sym rules) h))
 
   pub happening : (what : Happening Disk) → Happens s.view game innings v what → Leads s (Fits what v) v (after_one v what)
-  happening (DeskCalled d call out l) h = desk_moment s game innings rules v d (calm d) h.0 l call out h.1 h.2 h.3
+  happening (DeskCalled d sheet call out l) h = desk_moment s game innings rules v d (calm d) sheet h.0 l call out h.1 h.2 h.3
   happening (DeskEnded d disk) h = ended s v (DeskEnded d disk) d (calm d) h.0 disk h.1 h.2
   happening (PowerLost d disk) h = power_lost s v (PowerLost d disk) d (calm d) disk h
   happening (DeskBegun d opening) h = opens (DeskBegun d opening) d h.0 h.1 opening h.2 h.3

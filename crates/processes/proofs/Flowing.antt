@@ -1,6 +1,7 @@
 -- A flow of processes is a run, and what is so after some change is so at some moment.
 use Rattle.std.proofs.Common.{◌≡◌, ◌⊎◌, ℕ, List, [], ◌∷◌, ◌++◌, refl, sym, ◌∙◌, subst, inl, inr}
 use Rattle.corrections.specs.Refusal.{book_refusal}
+use Rattle.cards.specs.Sheet.{Sheet}
 use Rattle.corrections.specs.declared.refusal.Refusal.{Refusal}
 use Rattle.agree_core.specs.declared.messages.DeskId.{DeskId}
 use Rattle.agree_core.specs.declared.messages.DeskId.TheVariants.{A, B}
@@ -29,21 +30,21 @@ module _ {Disk : Type 0} where
   same_desk : (k l : DeskState Disk) (p : Process Disk) → p ≡ Running k → p ≡ Running l → k ≡ l
   same_desk k l p e f = cc
 
-  typed_is : (v u : Configuration Disk) (c d : DeskId) (line : List ℕ) (said : Said) (out : List Message) (l : DeskState Disk) (b : Ballot) (k : DeskState Disk) → TypedAs (DeskCalled d (desks.Typed line said) out l) v u c b.entry → (node u c).process ≡ Running k → k.seat.position ≡ b.at → (c ≡ d) × (j : DeskState Disk) × ((node v d).process ≡ Running j) × (j.seat.position ≡ b.at) × SaysEntry b.at.round line b.entry
-  typed_is v u c d line said out l b k h at pos =
+  typed_is : (v u : Configuration Disk) (c d : DeskId) (s : Sheet) (line : List ℕ) (said : Said) (out : List Message) (l : DeskState Disk) (b : Ballot) (k : DeskState Disk) → TypedAs (DeskCalled d s (desks.Typed line said) out l) v u c b.entry → (node u c).process ≡ Running k → k.seat.position ≡ b.at → (c ≡ d) × (j : DeskState Disk) × ((node v d).process ≡ Running j) × (j.seat.position ≡ b.at) × SaysEntry s j.book b.at.round line b.entry
+  typed_is v u c d s line said out l b k h at pos =
       let here : (node u d).process ≡ Running k = subst (λ (z : DeskId). (node u z).process ≡ Running k) h.0 at in
       let same : k ≡ h.1 = same_desk k h.1 (node u d).process here h.3 in
       let there : (λ (j : DeskState Disk). j.seat.position) h.1 ≡ b.at = subst (λ (j : DeskState Disk). j.seat.position ≡ b.at) same pos in
-      (h.0, h.1, h.2, there, subst (λ (z : Position). SaysEntry z.round line b.entry) there h.4)
+      (h.0, h.1, h.2, there, subst (λ (z : Position). SaysEntry s ((λ (j : DeskState Disk). j.book) h.1) z.round line b.entry) there h.4)
 
   -- an event that pens a ballot, in what happened
   types : (what : Happening Disk) (v u : Configuration Disk) (c : DeskId) (b : Ballot) (k : DeskState Disk) → TypedAs what v u c b.entry → (node u c).process ≡ Running k → k.seat.position ≡ b.at → TypesBallot v what c b
-  types (DeskCalled A (desks.Typed line said) out l) v u c b k h at pos = typed_is v u c A line said out l b k h at pos
-  types (DeskCalled B (desks.Typed line said) out l) v u c b k h at pos = typed_is v u c B line said out l b k h at pos
-  types (DeskCalled d (desks.Given bytes answer) out l) v u c b k h at pos = absurd h
-  types (DeskCalled d desks.TypingEnded out l) v u c b k h at pos = absurd h
-  types (DeskCalled d desks.Ticked out l) v u c b k h at pos = absurd h
-  types (DeskCalled d desks.TurnEnded out l) v u c b k h at pos = absurd h
+  types (DeskCalled A s (desks.Typed line said) out l) v u c b k h at pos = typed_is v u c A s line said out l b k h at pos
+  types (DeskCalled B s (desks.Typed line said) out l) v u c b k h at pos = typed_is v u c B s line said out l b k h at pos
+  types (DeskCalled d s (desks.Given bytes answer) out l) v u c b k h at pos = absurd h
+  types (DeskCalled d s desks.TypingEnded out l) v u c b k h at pos = absurd h
+  types (DeskCalled d s desks.Ticked out l) v u c b k h at pos = absurd h
+  types (DeskCalled d s desks.TurnEnded out l) v u c b k h at pos = absurd h
   types (DeskEnded d disk) v u c b k h at pos = absurd h
   types (PowerLost d disk) v u c b k h at pos = absurd h
   types (DeskBegun d opening) v u c b k h at pos = absurd h

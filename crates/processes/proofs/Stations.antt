@@ -27,7 +27,7 @@ module _ {S B D : Type 0} {g : Files S D} {h : Disks D} {b : Books B} where
   desk_run old new sheet before after typed types told tells turns result r =
       let goes = r.goes.goes in (
         goes.moments,
-        (sheet, g.room, h.cap (disk_of old), goes.run),
+        (g.room, h.cap (disk_of old), goes.run),
         ap (λ (p : DeskProcess D). Running p.desk) goes.last ∙ ap Running r.is,
         goes.passed,
         goes.inputs,

@@ -16,6 +16,6 @@ module _ {Disk : Type 0} (seen : Disk → List ℕ) (images : Disk → Images) w
       goes_from s (Fits (BoardCalled n call out l) v) w ms v (with_it v n l out) e r (board_moment s game innings refl v (BoardCalled n call out l) n k l call out at came h)
 
   pub desks_step : DeskStepsInRun seen images
-  desks_step contents game innings w ms r v e d k l call out at calm came h =
+  desks_step contents game innings w ms r v e d sheet k l call out at calm came h =
       let s = setting_of contents seen images game innings in
-      goes_from s (Fits (DeskCalled d call out l) v) w ms v (with_process v d (Running l) out) e r (desk_moment s game innings refl v d calm k l call out at came h)
+      goes_from s (Fits (DeskCalled d sheet call out l) v) w ms v (with_process v d (Running l) out) e r (desk_moment s game innings refl v d calm sheet k l call out at came h)

@@ -113,12 +113,12 @@ module _ {Disk : Type 0} (view : DeskId → FileVersion → FileView Disk) (seen
       × Stands (after_one v h) (with_one (is_at_desk A h) h xs) (with_one (is_at_desk B h) h ys) (λ n. with_one (is_at_board n h) h (bs n))
 
   moves : (h : Happening Disk) → Moves h
-  moves (DeskCalled A call out l) v xs ys bs s a b t o f c =
-      let m = may_a v xs ys bs s (DeskCalled A call out l) a in
-      ((m.0, m.1, c, m.2), stands_a v xs ys bs s (DeskCalled A call out l) out)
-  moves (DeskCalled B call out l) v xs ys bs s a b t o f c =
-      let m = may_b v xs ys bs s (DeskCalled B call out l) b in
-      ((m.0, m.1, c, m.2), stands_b v xs ys bs s (DeskCalled B call out l) out)
+  moves (DeskCalled A sheet call out l) v xs ys bs s a b t o f c =
+      let m = may_a v xs ys bs s (DeskCalled A sheet call out l) a in
+      ((m.0, m.1, c, m.2), stands_a v xs ys bs s (DeskCalled A sheet call out l) out)
+  moves (DeskCalled B sheet call out l) v xs ys bs s a b t o f c =
+      let m = may_b v xs ys bs s (DeskCalled B sheet call out l) b in
+      ((m.0, m.1, c, m.2), stands_b v xs ys bs s (DeskCalled B sheet call out l) out)
   moves (DeskEnded A disk) v xs ys bs s a b t o f c = (may_a v xs ys bs s (DeskEnded A disk) a, stands_a v xs ys bs s (DeskEnded A disk) [])
   moves (DeskEnded B disk) v xs ys bs s a b t o f c = (may_b v xs ys bs s (DeskEnded B disk) b, stands_b v xs ys bs s (DeskEnded B disk) [])
   moves (PowerLost A disk) v xs ys bs s a b t o f c = (may_a v xs ys bs s (PowerLost A disk) a, stands_a v xs ys bs s (PowerLost A disk) [])

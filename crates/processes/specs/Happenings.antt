@@ -1,6 +1,7 @@
 -- What happens to the processes of two desks and of boards, in one order, and the configuration that it leaves.
 use Rattle.std.specs.Prelude.{◌≡◌, ℕ, List, [], ◌∷◌, ◌++◌, Some, slice_get}
 use Rattle.corrections.specs.Refusal.{book_refusal}
+use Rattle.cards.specs.Sheet.{Sheet}
 use Rattle.agree_core.specs.declared.messages.DeskId.{DeskId}
 use Rattle.agree_core.specs.declared.messages.Message.{Message}
 use Rattle.agree_core.specs.Ballots.{Ballot}
@@ -19,12 +20,12 @@ use Rattle.live.specs.Boards.{BoardCall, BoardStep}
 use Rattle.live.specs.Desks as desks
 use Rattle.live.specs.Desks.{DeskCall, DeskStep}
 
--- What happens: a call of a desk, with what it handed out and the desk after it; the end of its process, with the
+-- What happens: a call of a desk, whose process was begun with this sheet, with what it handed out and the desk after it; the end of its process, with the
 -- disk left; power lost at its laptop, with the disk left; its beginning on its file; the migration of that file, with
 -- the votes that it shows and the disk with the new one; a call of a board; a board's beginning. A process that is
 -- killed amid a call has made a call whose disk failed, and then ended.
 pub data Happening (Disk : Type 0) : Type 0 where
-  DeskCalled : DeskId → DeskCall → List Message → DeskState Disk → Happening Disk
+  DeskCalled : DeskId → Sheet → DeskCall → List Message → DeskState Disk → Happening Disk
   DeskEnded : DeskId → Disk → Happening Disk
   PowerLost : DeskId → Disk → Happening Disk
   DeskBegun : DeskId → Opening Disk → Happening Disk
@@ -47,7 +48,7 @@ migrated x new = record x { version = New; process = Down (process_votes x.proce
 
 -- the configuration after a happening
 abbrev pub after_one : {Disk : Type 0} → Configuration Disk → Happening Disk → Configuration Disk
-after_one w (DeskCalled d call out l) = with_process w d (Running l) out
+after_one w (DeskCalled d s call out l) = with_process w d (Running l) out
 after_one w (DeskEnded d disk) = with_process w d (Down (process_votes (node w d).process) disk) []
 after_one w (PowerLost d disk) = with_process w d (Down (process_votes (node w d).process) disk) []
 after_one w (DeskBegun d opening) = with_process w d (begun (process_votes (node w d).process) opening) []
@@ -78,9 +79,9 @@ BoardCame game sent call = Unit {0}
 module _ {Disk : Type 0} (view : DeskId → FileVersion → FileView Disk) (game innings : ℕ) where
   -- it may happen in this configuration
   abbrev pub Happens : Configuration Disk → Happening Disk → Type 0
-  Happens w (DeskCalled d call out l) =
+  Happens w (DeskCalled d s call out l) =
       (k : DeskState Disk) × ((node w d).process ≡ Running k) × DeskCame game w.sent call
-      × DeskStep (view d (node w d).version) game innings k call out l
+      × DeskStep s (view d (node w d).version) game innings k call out l
   Happens w (DeskEnded d disk) =
       (k : DeskState Disk) × ((node w d).process ≡ Running k)
       × Stays (view d (node w d).version) k.disk disk

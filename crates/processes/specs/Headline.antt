@@ -24,11 +24,12 @@ abbrev pub AtEachTime : {Disk : Type 0} → Configuration Disk → List (Happeni
 AtEachTime w [] P = P w
 AtEachTime w (h ∷ hs) P = P (after w (h ∷ hs)) × AtEachTime w hs P
 
--- the desk's scorer typed a line that says the ballot's entry, at the ballot's position
+-- the desk's scorer typed a line at the ballot's position that says the ballot's entry: put in full, by the sheet of the
+-- desk's process and the book of the desk, it is the entry's line
 abbrev pub TypesBallot : {Disk : Type 0} → Configuration Disk → Happening Disk → DeskId → Ballot → Type 0
-TypesBallot w (DeskCalled c (desks.Typed line said) out l) d b =
+TypesBallot w (DeskCalled c s (desks.Typed line said) out l) d b =
     (d ≡ c) × (k : DeskState _) × ((node w c).process ≡ Running k) × (k.seat.position ≡ b.at)
-    × SaysEntry b.at.round line b.entry
+    × SaysEntry s k.book b.at.round line b.entry
 TypesBallot w what d b = ⊥
 
 -- in something that happened the desk's scorer typed this ballot
@@ -43,7 +44,8 @@ pub record ProcessHeadline {Disk : Type 0} (innings : ℕ) (w : Configuration Di
       → AtSomeTime w hs (λ v. Shows v u ys) → BeginsWith ys xs ⊎ BeginsWith xs ys
   -- both desks have voted in one round for each entry of a book that a process shows
   pub by_both : AtEachTime w hs ByBoth
-  -- each vote of a desk was typed there, at its position, as a line that says its entry
+  -- each vote of a desk was typed there, at its position, as a line that in full is its entry's, behind `again ` in every
+  -- round but the first
   pub typed : (d : DeskId) (b : Ballot) → In b (votes_of (all_votes (after w hs)) d) → WasTyped w hs d b
   -- books of one length have one score by the Laws, whichever processes show them at whatever times
   pub scores : (t u : Station) (n : ℕ) (score other : Standing)

@@ -1,6 +1,7 @@
 -- What happens to processes is a run of the definitions, and so the headline holds of it.
 use Rattle.std.specs.Prelude.{◌≡◌, ◌≤◌, ℕ, List, [], ◌∷◌, ◌++◌, length, Some, None}
 use Rattle.corrections.specs.declared.refusal.Refusal.{Refusal}
+use Rattle.cards.specs.Sheet.{Sheet}
 use Rattle.entry_log.specs.Disk.{Images}
 use Rattle.entry_log.specs.Slots.{Contents}
 use Rattle.vote_store.specs.View.{file_view}
@@ -44,14 +45,15 @@ module _ {Disk : Type 0} (seen : Disk → List ℕ) (images : Disk → Images) w
       → GoesOn (setting_of contents seen images game innings) w ms
       (record v { boards = with_board v.boards n l; sent = v.sent ++ out })
 
-  -- the same of a desk's process, where no fault is due on its disk
+  -- the same of a desk's process, with whatever sheet, where no fault is due on its disk
   abbrev pub DeskStepsInRun : Type 0
   DeskStepsInRun =
       (contents : FileVersion → Contents) (game innings : ℕ) (w : Configuration Disk) (ms : List (Moment Disk Refusal))
       → Run (setting_of contents seen images game innings) w ms → (v : Configuration Disk) → v ≡ last_of w ms
-      → (d : DeskId) (k l : DeskState Disk) (call : DeskCall) (out : List Message) → (node v d).process ≡ Running k
+      → (d : DeskId) (s : Sheet) (k l : DeskState Disk) (call : DeskCall) (out : List Message)
+      → (node v d).process ≡ Running k
       → (node v d).due ≡ None → DeskCame game v.sent call
-      → DeskStep (file_view (contents (node v d).version) seen images d game) game innings k call out l
+      → DeskStep s (file_view (contents (node v d).version) seen images d game) game innings k call out l
       → GoesOn (setting_of contents seen images game innings) w ms (with_process v d (Running l) out)
 
   -- Of all that happens to the processes of two desks that were just created and of boards:

@@ -25,12 +25,12 @@ use Rattle.live.specs.declared.notices.Notice.{Notice}
 use Rattle.live.specs.Texts.{unwarned}
 use Rattle.processes.specs.Happenings.{BoardBegun, BoardCalled, DeskBegun, DeskCalled, DeskEnded, FileMigrated, Happening, PowerLost, begun, migrated}
 
--- A stage of a desk's life: its process makes these calls, from its beginning on; it is cut off amid a call, which has
--- then done what one does whose disk fails; it has ended or was killed, with the disk left; its laptop has lost power,
+-- A stage of a desk's life: its process, begun with this sheet, makes these calls, from its beginning on; it is cut off
+-- amid a call, which has then done what one does whose disk fails; it has ended or was killed, with the disk left; its laptop has lost power,
 -- with the disk left; the next process begins on its file; its file is migrated, with these votes, to this disk.
 pub data Stage (Disk : Type 0) : Type 0 where
-  CallsMade : List (own.Moment (DeskProcess Disk) DeskCall) → Stage Disk
-  CutOff : DeskCall → DeskState Disk → Stage Disk
+  CallsMade : Sheet → List (own.Moment (DeskProcess Disk) DeskCall) → Stage Disk
+  CutOff : Sheet → DeskCall → DeskState Disk → Stage Disk
   ProcessEnd : Disk → Stage Disk
   PowerLoss : Disk → Stage Disk
   Beginning : Opening Disk → Stage Disk
@@ -47,8 +47,8 @@ after_calls (Down votes disk) ms = Down votes disk
 
 -- the desk after a stage
 abbrev pub after_stage : {Disk : Type 0} → Node Disk → Stage Disk → Node Disk
-after_stage x (CallsMade ms) = record x { process = after_calls x.process ms }
-after_stage x (CutOff call l) = record x { process = Running l }
+after_stage x (CallsMade s ms) = record x { process = after_calls x.process ms }
+after_stage x (CutOff s call l) = record x { process = Running l }
 after_stage x (ProcessEnd disk) = record x { process = Down (process_votes x.process) disk }
 after_stage x (PowerLoss disk) = record x { process = Down (process_votes x.process) disk }
 after_stage x (Beginning opening) = record x { process = begun (process_votes x.process) opening }
@@ -77,13 +77,13 @@ abbrev pub BeginsFirst : {Disk : Type 0} → FileView Disk → (Disk → List �
 BeginsFirst view seen innings d k =
     (disk : _) × BeginsOn view seen innings d disk (Opened k) × (k.votes ≡ [])
 
--- the moments are a run of a desk's process from its beginning on, where this is what a disk shows of its file, and
+-- the moments are a run of a desk's process, with this sheet, from its beginning on, where this is what a disk shows of its file, and
 -- what is told of the disk's failures
 abbrev pub RunsFrom :
-    {Disk : Type 0} → FileView Disk → (Disk → Faults) → ℕ → ℕ
+    {Disk : Type 0} → Sheet → FileView Disk → (Disk → Faults) → ℕ → ℕ
     → DeskState Disk → List (own.Moment (DeskProcess Disk) DeskCall) → Type 0
-RunsFrom view faults game innings k ms =
-    (sheet : Sheet) × (room : ℕ → ℕ) × (cap : ℕ)
+RunsFrom sheet view faults game innings k ms =
+    (room : ℕ → ℕ) × (cap : ℕ)
     × own.Run (desk_kind sheet view (record { faults = faults; FitsLongest = FitsLongest room cap }) game innings) (fresh k) ms
 
 -- the desk of this letter in a match of this number and innings a side, where this is what a disk shows of a file of
@@ -93,11 +93,11 @@ module _
     (game innings : ℕ) where
   -- the stage may come next
   abbrev pub IsNextStage : Node Disk → Stage Disk → Type 0
-  IsNextStage x (CallsMade ms) =
-      (k : DeskState Disk) × (x.process ≡ Running k) × RunsFrom (view x.version) faults game innings k ms
-  IsNextStage x (CutOff call l) =
+  IsNextStage x (CallsMade s ms) =
+      (k : DeskState Disk) × (x.process ≡ Running k) × RunsFrom s (view x.version) faults game innings k ms
+  IsNextStage x (CutOff s call l) =
       (k : DeskState Disk) × (x.process ≡ Running k) × (course_after call ≡ Err Device)
-      × DeskStep (view x.version) game innings k call [] l
+      × DeskStep s (view x.version) game innings k call [] l
   IsNextStage x (ProcessEnd disk) = (k : DeskState Disk) × (x.process ≡ Running k) × Stays (view x.version) k.disk disk
   IsNextStage x (PowerLoss disk) = LosesPower (view x.version) (process_disk x.process) disk
   IsNextStage x (Beginning opening) =
@@ -112,13 +112,13 @@ module _
   IsLife x (stage ∷ stages) = IsLife x stages × IsNextStage (after_life x stages) stage
 
 -- what happens at a desk in a stage, and in its life
-abbrev pub calls_of : {Disk : Type 0} → DeskId → List (own.Moment (DeskProcess Disk) DeskCall) → List (Happening Disk)
-calls_of d [] = []
-calls_of d (m ∷ ms) = DeskCalled d m.call m.out ((λ (p : DeskProcess _). p.desk) m.after) ∷ calls_of d ms
+abbrev pub calls_of : {Disk : Type 0} → DeskId → Sheet → List (own.Moment (DeskProcess Disk) DeskCall) → List (Happening Disk)
+calls_of d s [] = []
+calls_of d s (m ∷ ms) = DeskCalled d s m.call m.out ((λ (p : DeskProcess _). p.desk) m.after) ∷ calls_of d s ms
 
 abbrev pub stage_happens : {Disk : Type 0} → DeskId → Stage Disk → List (Happening Disk)
-stage_happens d (CallsMade ms) = calls_of d ms
-stage_happens d (CutOff call l) = DeskCalled d call [] l ∷ []
+stage_happens d (CallsMade s ms) = calls_of d s ms
+stage_happens d (CutOff s call l) = DeskCalled d s call [] l ∷ []
 stage_happens d (ProcessEnd disk) = DeskEnded d disk ∷ []
 stage_happens d (PowerLoss disk) = PowerLost d disk ∷ []
 stage_happens d (Beginning opening) = DeskBegun d opening ∷ []

@@ -47,7 +47,7 @@ module _ {S B D : Type 0} {g : Files S D} {h : Disks D} {b : Books B} where
       (turns : ℕ) (result : Result (Unit {0}) DeskEnd)
       → DeskRuns sheet old new before after typed types told tells turns result
       → (ms : List (own.Moment (DeskProcess D) DeskCall))
-      × RunsFrom (view_of old) h.faults (game_of old) (innings_of old) (state_of old) ms
+      × RunsFrom sheet (view_of old) h.faults (game_of old) (innings_of old) (state_of old) ms
       × (after_calls (Running (state_of old)) ms ≡ Running (state_of new))
       × (after ≡ before ++ own.passed_in (kind_of sheet old) ms) × (types ≡ typed ++ own.typed_in (kind_of sheet old) ms)
 

@@ -25,7 +25,7 @@ same_desk B A = false
 same_desk B B = true
 
 abbrev pub is_at_desk : {Disk : Type 0} → DeskId → Happening Disk → Bool
-is_at_desk d (DeskCalled c call out l) = same_desk d c
+is_at_desk d (DeskCalled c s call out l) = same_desk d c
 is_at_desk d (DeskEnded c disk) = same_desk d c
 is_at_desk d (PowerLost c disk) = same_desk d c
 is_at_desk d (DeskBegun c opening) = same_desk d c
@@ -40,7 +40,7 @@ is_at_board n what = false
 
 -- where a datagram came and reads as a message of the match, a station had sent it
 abbrev pub Came : {Disk : Type 0} → ℕ → Configuration Disk → Happening Disk → Type 0
-Came game w (DeskCalled d call out l) = DeskCame game w.sent call
+Came game w (DeskCalled d s call out l) = DeskCame game w.sent call
 Came game w (BoardCalled n call out l) = BoardCame game w.sent call
 Came game w what = Unit {0}
 

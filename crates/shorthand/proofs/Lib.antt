@@ -3,3 +3,4 @@ pub mod Cuts
 pub mod Counts
 pub mod Standing
 pub mod Bowlers
+pub mod Meant

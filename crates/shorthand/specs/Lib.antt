@@ -1,7 +1,8 @@
 -- What is claimed: Full, and what it stands on: Points, Names, Marks, Lines. Worked computes examples, Laws says
--- what holds of all lines.
+-- what holds of all lines, Candidates whom a name may mean.
 pub mod Points
 pub mod Names
+pub mod Candidates
 pub mod Marks
 pub mod Lines
 pub mod Full

@@ -16,5 +16,6 @@ pub use full::in_full;
 pub use laws::{
     bowler_left_out_is_the_last, full_lines_stand, names_mean_one, taken_lines_are_read,
 };
+pub use names::has_beginning;
 pub use unclear::Unclear;
 pub use worked::table_is_worked;

@@ -4,6 +4,7 @@ ghost use Rattle.std.specs.Prelude.{◌≡◌, ◌∷◌};
 ghost use Rattle.std.specs.List.{list_any};
 ghost use Rattle.notation.specs.Written.{tokens};
 ghost use Rattle.cards.specs.Sheet.{team_of};
+ghost use Rattle.shorthand.specs.Candidates.{has_beginning};
 ghost use Rattle.shorthand.specs.Lines.{plus, reason_of};
 ghost use Rattle.shorthand.specs.Names as names;
 ghost use Rattle.shorthand.specs.inner.Writing.{and_one};
@@ -80,6 +81,13 @@ fn fits(fit: Fit, name: &str, token: &str) -> bool
         },
         Fit::Beginning => any_begins(&mut words, token),
     }
+}
+
+/// Whether a word of the player's name begins so, in letters of any case.
+pub fn has_beginning(sheet: &MatchSheet, side: Side, player: Player, beginning: &str) -> bool
+    ensures { result ≡ has_beginning (team_of sheet.now side) beginning.now player }
+{
+    fits(Fit::Beginning, sheet.player(side, player), beginning)
 }
 
 /// The players found, with one more.

@@ -28,7 +28,33 @@ late p E        E, any line above, belongs after place p
 again E         E, where you two differ
 list            the last twelve entries, with their places
 help            this
+help short      short lines, which stand for these
 quit            ends; the same command goes on
+";
+
+const HELP_SHORT: &str = "\
+A delivery:  [B:] [RUNS] [OPTIONS] [OUT]   with one of the last three at least
+B: bowls, by number or name, as 10: or usher:   Left out, it is who bowled the
+   last delivery of this over: so the first of each over names the bowler.
+RUNS: letters and a figure with no space between them, as 1 or lb4
+   none bat       .  0
+   b    bye       1  1
+   lb   leg       2  2
+   wd   wide      3  3
+   nb   nb        4  0 four
+   nbb  nbbye     5  5
+   nblb nbleg     6  0 six
+   wd is wide 0, and nb is nb 0.   nb 4 is four all run, and nb4 a four.
+   K r stands as in a full line: bat 4 is four all run.   Left out: bat 0
+OPTIONS: short s, overthrow, dead
+OUT: [out] H [W] [f] [crossed]
+   W left out is striker, but never for runout and obstructing
+   f left out is 0; it is a number, a name or sub, any substitute
+/  is over.
+Names: in n, gone L n, ball b, B: and f take a name of that side, in letters of
+   any case: the last word of one player's name, or the beginning of a word in
+   the name of one player.
+fix p, late p and again: short lines stand behind them too.
 ";
 
 const BOTH_IN: &str =
@@ -97,23 +123,25 @@ fn lines_and_rounds(rt: HostRuntime) {
         "again over",
         "list",
         "help",
+        "help short",
         "quit",
     ];
     let texts = [
         NO_PLAY,
-        "0 next\n0 pending\n0 agreed\n",
+        "0 next\n0 pending: innings home\n0 agreed\n",
         OPENED,
         "1 the other has written\n1 doesn't differ: leave out again\n1 differs\n",
-        "1 differs: begin the line with again\n1 pending\nrefused 61 Waiting\n",
+        "1 differs: begin the line with again\n1 pending: in 1\nrefused 61 Waiting\n",
         "refused 61 Waiting\nfault 2 UnknownWord\nfault 2 UnknownWord\n1 agreed\n",
         FIRST_IN,
         "2 the other has written\n2 agreed\n",
         BOTH_IN,
-        "3 pending\n3 differs\n3 differs: begin the line with again\n",
+        "3 pending: ball 7 bat 1\n3 differs\n3 differs: begin the line with again\n",
         "3 differs: begin the line with again\n3 differs: begin the line with again\n",
         "fault 3 BadNumber\nrefused 32 Later 1 20\nrefused 10 NoBall\n",
         "   0 innings home\n   1 in 1\n   2 in 2\n",
         HELP,
+        HELP_SHORT,
     ];
     is_told(&rt, alloc, &lines, &mut link, &texts);
 }

@@ -31,7 +31,7 @@ fn turns_and_lines_that_end(rt: HostRuntime) {
         let mut desk = new_desk(&rt, alloc, DeskId::A);
         let (answer, told) = one_line(&rt, alloc, &mut desk, turns);
         assert_eq!(rt; answer, end);
-        is_text(&rt, told.as_slice(), "0 next\n0 pending\n");
+        is_text(&rt, told.as_slice(), "0 next\n0 pending: void\n");
     }
 }
 
@@ -69,7 +69,7 @@ fn a_disk_that_fails(rt: HostRuntime) {
         for stops in [false, true] {
             let disk = failed_disk(&rt, alloc, n, stops);
             let last = if n < 4 {
-                "0 next\n0 pending\n"
+                "0 next\n0 pending: void\n"
             } else {
                 "0 pending\nrefused 61 Waiting\n"
             };

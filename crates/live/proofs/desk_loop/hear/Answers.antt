@@ -14,7 +14,7 @@ pub returns-in-Err-clause-goes : goal.returns-in-Err-clause-goes
 returns-in-Err-clause-goes g c =
     let what = c.give-what.result in
     let ended = sym c.end_at.ensures ∙ c.in-Err.is in
-    λ log typed turns came. hears c.args.sheet.now c.args.desk.now c.give-what.new.desk c.args.bytes.now what _ c.args.between.now.warned _ turns log _ _ typed _ _ c.give-what.ensures.calls came c.after-between.ensures
+    λ log typed turns came. hears c.args.sheet.now c.args.desk.now c.give-what.new.desk c.args.bytes.now what _ c.args.between.now.warned _ turns log _ _ typed _ _ (c.give-what.ensures.calls c.args.sheet.now) came c.after-between.ensures
     (came_course what c.in-Err.end ended) (came_nothing _ _ _ _ _ what c.in-Err.end _ ended)
 
 pub returns-clause-goes : goal.returns-clause-goes
@@ -26,8 +26,8 @@ returns-clause-goes g c =
     let content = g.B.BookOf.content in
     let further = sym c.end_at.ensures ∙ c.in_default.is in
     let path = ap (λ b. came_text sheet (g.B.BookOf.innings_a_side b) c.position-at.result.place (content b) warned what) c.book.ensures
-    ∙ (ap (λ (n : ℕ). came_text sheet n c.position-at.result.place (content (book_of new)) warned what) c.give-what.ensures.calls.same.innings_a_side
+    ∙ (ap (λ (n : ℕ). came_text sheet n c.position-at.result.place (content (book_of new)) warned what) (c.give-what.ensures.calls c.args.sheet.now).same.innings_a_side
     ∙ ap (λ (p : Position). came_text sheet (innings_of c.args.desk.now) p.place (content (book_of new)) warned what) c.position-at.ensures) in
     let text = subst (λ (t : List ℕ). OnOk c.print_came.result (Appends (g.W.Write.contents (stream_of c.args.out.now)) (g.W.Write.contents (stream_of c.print_came.new.out)) t)) path c.print_came.ensures.text in
-    λ log typed turns came. hears sheet c.args.desk.now new c.args.bytes.now what _ warned _ turns log _ _ typed _ _ c.give-what.ensures.calls came c.after-between.ensures
+    λ log typed turns came. hears sheet c.args.desk.now new c.args.bytes.now what _ warned _ turns log _ _ typed _ _ (c.give-what.ensures.calls c.args.sheet.now) came c.after-between.ensures
     (goes_further c.print_came.result c.told.result c.told.ensures ∙ sym further) (tells c.print_came.result c.told.result _ _ _ c.told.ensures text)

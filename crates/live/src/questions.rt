@@ -1,0 +1,132 @@
+//! What a scorer is told of a line that isn't clear or has a fault.
+
+ghost use Rattle.std.specs.Prelude.{◌≡◌, ◌++◌, codes, true, filter, OnErr, OnOk};
+ghost use Rattle.std.specs.List.{list_all};
+ghost use Rattle.cards.specs.Sheet.{team_of};
+ghost use Rattle.shorthand.specs.Candidates.{candidates, has_beginning};
+ghost use Rattle.streams.specs.Watched.{Prints, has_failed};
+ghost use Rattle.live.specs.Questions as questions;
+ghost use Rattle.live.specs.inner.Telling.{is_number};
+
+use cards::MatchSheet;
+use notation::{LineFault, Player, Side};
+use shorthand::{Unclear, has_beginning};
+use std::io::Write;
+use streams::{Watched, WriteFailed};
+
+/// Prints a line's fault.
+pub fn print_fault<W: Write>(out: &mut Watched<W>, fault: LineFault) -> Result<(), WriteFailed>
+    ensures text { OnOk result (Prints W.contents out.old out.new (questions.fault_text fault)) }
+    ensures failed { OnErr result (has_failed out.new ≡ true) }
+{
+    let code = fault.number();
+    writeln!(out, "fault {code} {fault}")
+}
+
+/// Prints a player by number and name, behind a comma unless he is the first.
+fn print_player<W: Write>(
+    out: &mut Watched<W>,
+    sheet: &MatchSheet,
+    side: Side,
+    player: Player,
+    is_first: bool,
+) -> Result<(), WriteFailed>
+    ensures text { OnOk result (Prints W.contents out.old out.new
+        (questions.comma is_first ++ questions.player_text (team_of sheet.now side) player)) }
+    ensures failed { OnErr result (has_failed out.new ≡ true) }
+{
+    let number = player.number();
+    let name = sheet.player(side, player);
+    if is_first {
+        write!(out, "{number} {name}")
+    } else {
+        write!(out, ", {number} {name}")
+    }
+}
+
+/// Prints those of these players who have a word that begins so.
+fn print_those<W: Write>(
+    out: &mut Watched<W>,
+    sheet: &MatchSheet,
+    side: Side,
+    beginning: &str,
+    numbers: &[u8],
+    is_first: bool,
+) -> Result<(), WriteFailed>
+    requires { list_all is_number numbers.now ≡ true }
+    ensures text { OnOk result (Prints W.contents out.old out.new
+        (questions.listed (team_of sheet.now side) is_first
+        (filter (λ n. has_beginning (team_of sheet.now side) beginning.now n) numbers.now))) }
+    ensures failed { OnErr result (has_failed out.new ≡ true) }
+{
+    let Some((number, more)) = numbers.split_first() else {
+        return Ok(());
+    };
+    let Some(player) = Player::new(*number) else {
+        return Ok(());
+    };
+    if !has_beginning(sheet, side, player, beginning) {
+        return print_those(out, sheet, side, beginning, more, is_first);
+    }
+    print_player(out, sheet, side, player, is_first)?;
+    print_those(out, sheet, side, beginning, more, false)
+}
+
+/// Prints all players of a side who have a word that begins so.
+fn print_all<W: Write>(
+    out: &mut Watched<W>,
+    sheet: &MatchSheet,
+    side: Side,
+    name: &str,
+) -> Result<(), WriteFailed>
+    ensures text { OnOk result (Prints W.contents out.old out.new
+        (questions.listed (team_of sheet.now side) true (candidates (team_of sheet.now side) name.now))) }
+    ensures failed { OnErr result (has_failed out.new ≡ true) }
+{
+    let numbers = [1, 2, 3, 4, 5, 6, 7, 8, 9, 10, 11];
+    print_those(out, sheet, side, name, &numbers, true)
+}
+
+/// Prints whom of a side a name may mean.
+fn print_candidates<W: Write>(
+    out: &mut Watched<W>,
+    sheet: &MatchSheet,
+    side: Side,
+    name: &str,
+) -> Result<(), WriteFailed>
+    ensures text { OnOk result (Prints W.contents out.old out.new
+        (codes "which one? "
+        ++ questions.listed (team_of sheet.now side) true (candidates (team_of sheet.now side) name.now)
+        ++ codes "\n")) }
+    ensures failed { OnErr result (has_failed out.new ≡ true) }
+{
+    write!(out, "which one? ")?;
+    print_all(out, sheet, side, name)?;
+    writeln!(out)
+}
+
+/// Prints that no player has such a name.
+fn print_no_such<W: Write>(out: &mut Watched<W>, name: &str) -> Result<(), WriteFailed>
+    ensures text { OnOk result (Prints W.contents out.old out.new
+        (codes "no such player: " ++ name.now ++ codes "\n")) }
+    ensures failed { OnErr result (has_failed out.new ≡ true) }
+{
+    writeln!(out, "no such player: {name}")
+}
+
+/// Prints what isn't clear in a line.
+pub fn print_unclear<W: Write>(
+    out: &mut Watched<W>,
+    sheet: &MatchSheet,
+    unclear: &Unclear,
+) -> Result<(), WriteFailed>
+    ensures text { OnOk result (Prints W.contents out.old out.new (questions.unclear_text sheet.now unclear.now)) }
+    ensures failed { OnErr result (has_failed out.new ≡ true) }
+{
+    match unclear {
+        Unclear::Fault(fault) => print_fault(out, *fault),
+        Unclear::WhoBowls => writeln!(out, "who bowls? begin with the bowler, as 10: ."),
+        Unclear::NoSuchPlayer(name) => print_no_such(out, name.as_str()),
+        Unclear::WhichPlayer(side, name) => print_candidates(out, sheet, *side, name.as_str()),
+    }
+}
