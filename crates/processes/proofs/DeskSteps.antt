@@ -147,7 +147,7 @@ module _ {Disk : Type 0} (s : Setting Disk Refusal) (game innings : ℕ) (rules 
     pens_entry : (line : List ℕ) (e : Entry) (settled : Settled) → SaysEntry sheet k.book k.seat.position.round line e × Pens (s.view d (node v d).version) (book_refusal innings) k e (PenAnswer.Penned settled) l out → Moves (desks.Typed line (Penned e settled))
     pens_entry line e settled h =
         penned s v d (DeskCalled d sheet (desks.Typed line (Penned e settled)) out l) k l e (PenAnswer.Penned settled) (answers.Penned settled) out at (λ u x. (refl, k, at, x, h.0))
-        (pens line (PenAnswer.Penned settled) (e, h)) (refl, refl)
+        (pens line (PenAnswer.Penned settled) (e, h.0, h.1)) (refl, refl)
 
     refuses : (line : List ℕ) (why : desk_refusals.Refusal) (cause : PenRefusal Refusal) → SaysAndPens line (PenAnswer.Refused cause) → Moves (desks.Typed line (Refused why))
     refuses line why cause h =
