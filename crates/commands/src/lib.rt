@@ -3,11 +3,11 @@
 //! why one ends before its end.
 #![tactic(auto)]
 
-mod board;
+mod board_command;
 mod card;
 mod check;
-mod desk;
-mod export;
+mod desk_command;
+mod export_command;
 mod fault;
 mod gaps;
 mod match_run;
@@ -19,14 +19,14 @@ mod sheet;
 mod twins;
 mod votes_file;
 
-pub use crate::board::start_board;
+pub use crate::board_command::start_board;
 pub use crate::card::{card_run, start_card};
 pub use crate::check::{CheckFault, check_run, start_check};
-pub use crate::desk::start_desk;
-pub use crate::export::{export_run, start_export};
+pub use crate::desk_command::start_desk;
+pub use crate::export_command::{export_run, start_export};
 pub use crate::fault::{StopFault, Stopped, print_fault};
 pub use crate::gaps::{Gaps, fill_gaps};
-pub use crate::match_run::{MatchFault, Post, run_match, start_match};
+pub use crate::match_run::{MatchFault, run_match, start_match};
 pub use crate::migrate::{MigrateFault, migrate_run, start_migrate};
 pub use crate::printing::PrintFault;
 pub use crate::replay::{ReplayFault, replay_run, start_replay};
