@@ -243,7 +243,7 @@ not_full : (book : List Entry) → length book < PLACES → is_full book ≡ fal
 not_full book l = grind (arith, nat_tests)
 
 not_device : (what : What) → end_at what ≡ further → IsErrOf (end_at what) ends.Device → ⊥
-not_device what n e = subst (λ course. IsErrOf course ends.Device) n e
+not_device what n e = cc
 
 pub at_device : (what : What) (end : DeskEnd) → end_at what ≡ Err end → IsErrOf (end_at what) ends.Device
 at_device whats.Device end e = refl

@@ -1,6 +1,13 @@
 use Rattle.std.proofs.Common.{sym, ◌∙◌}
+use Rattle.cards.specs.Sheet.{plain_sheet}
 use Rattle.commands.proofs.TurnLemmas.{kept, meets_none, replied_online}
 use Rattle.commands.proofs.match_run.turns.reply.Goals as goal
+
+pub returns-in-Ok-clause-disk : goal.returns-in-Ok-clause-disk
+returns-in-Ok-clause-disk g c = record { owner = (c.give-what.ensures.calls (plain_sheet 0 1)).same; disk = c.give-what.ensures.reads }
+
+pub returns-in-Err-clause-disk : goal.returns-in-Err-clause-disk
+returns-in-Err-clause-disk g c = record { owner = (c.give-what.ensures.calls (plain_sheet 0 1)).same; disk = c.give-what.ensures.reads }
 
 pub returns-in-Ok-clause-kept : goal.returns-in-Ok-clause-kept
 returns-in-Ok-clause-kept g c = kept c.args.desk.now c.give-what.new.desk c.args.bytes.now c.give-what.result _ _ c.give-what.ensures.calls (sym c.in-Ok.ensures)
