@@ -27,7 +27,13 @@ fn behind_nb(line: &mut Line, sheet: &MatchSheet, side: Side, rest: &mut Tokens<
 }
 
 /// Writes what a delivery brought, where the token is no mark with a figure.
-fn unmarked_from(line: &mut Line, sheet: &MatchSheet, side: Side, token: &str, rest: &mut Tokens<'_>)
+fn unmarked_from(
+    line: &mut Line,
+    sheet: &MatchSheet,
+    side: Side,
+    token: &str,
+    rest: &mut Tokens<'_>,
+)
     ensures { line.new ≡ plus_all line.old (full.marked sheet.now side None token.now rest.old) }
 {
     if token == "wd" {
@@ -47,7 +53,13 @@ fn unmarked_from(line: &mut Line, sheet: &MatchSheet, side: Side, token: &str, r
 }
 
 /// Writes what a delivery brought, from a token on.
-pub fn runs_from(line: &mut Line, sheet: &MatchSheet, side: Side, token: &str, rest: &mut Tokens<'_>)
+pub fn runs_from(
+    line: &mut Line,
+    sheet: &MatchSheet,
+    side: Side,
+    token: &str,
+    rest: &mut Tokens<'_>,
+)
     ensures { line.new ≡ plus_all line.old (full.runs sheet.now side (token.now ∷ rest.old)) }
 {
     match mark(token) {
