@@ -3,4 +3,4 @@ use Rattle.commands.proofs.replay.report_of.Goals as goal
 pub returns-in-Ok : goal.returns-in-Ok
 returns-in-Ok c =
     let begun = c.in_ok-world.ensures in
-    rw (begun.same_game, begun.same_innings, begun.same_version, begun.same_boards) at c.in-Ok.ensures.reported
+    record { reported = rw (begun.same_game, begun.same_innings, begun.same_version, begun.same_boards) at c.in-Ok.ensures.reported }

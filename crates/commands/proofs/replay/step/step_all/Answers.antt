@@ -26,10 +26,12 @@ loop-before-preserved c =
 pub returns-in-Err : goal.returns-in-Err
 returns-in-Err c =
     let numbered : refusal_number c.in-Err.refusal ≡ Some c.in-Some.why = let a = c.number.ensures in let b = c.in-Some.is in cc in
-    refuses_one c.args.sheet.now c.args.version c.args.boards c.args.events.now c.loop-before.before (c.loop-before.before + 1) c.in-Some.why c.index-events-before.result c.loop-before.world c.step.new.self c.loop-before.outcomes.items c.in-Err.refusal
-    c.loop-before-test.true c.index-events-before.is refl numbered c.loop-before.invariant.0 c.in-Err.ensures.refused
+    let stepped = refuses_one c.args.sheet.now c.args.version c.args.boards c.args.events.now c.loop-before.before (c.loop-before.before + 1) c.in-Some.why c.index-events-before.result c.loop-before.world c.step.new.self c.loop-before.outcomes.items c.in-Err.refusal
+    c.loop-before-test.true c.index-events-before.is refl numbered c.loop-before.invariant.0 c.in-Err.ensures.refused in
+    record { stepped = stepped }
 
 pub returns : goal.returns
 returns c =
-    takes_all c.args.sheet.now c.args.version c.args.boards c.args.events.now c.loop-before.before c.loop-before.world c.loop-before.outcomes.items
-    (let most = c.loop-before.invariant.3 in let least = c.loop-before-test.false in omega arith) c.loop-before.invariant.0
+    let stepped = takes_all c.args.sheet.now c.args.version c.args.boards c.args.events.now c.loop-before.before c.loop-before.world c.loop-before.outcomes.items
+    (let most = c.loop-before.invariant.3 in let least = c.loop-before-test.false in omega arith) c.loop-before.invariant.0 in
+    record { stepped = stepped }
