@@ -275,7 +275,7 @@ impl Course {
             return String::from_str(alloc, OPENED[number as usize]);
         }
         let near = 63 + number / 25 % 3;
-        let any = dice / 11 % (self.bowlers.len() as u32 % 8192 + 1);
+        let any = dice / 11 % ((self.bowlers.len() % 8192) as u32 + 1);
         let aim = aim_of(number);
         let place = if matches!(aim, Aim::FixNear | Aim::LateNear) {
             near
@@ -299,7 +299,8 @@ impl Course {
     /// A command of this aim was taken or refused.
     fn note(&mut self, aim: Aim, is_taken: bool) -> Result<(), AllocError> {
         if is_taken {
-            self.bowlers.push(self.bowler())?;
+            let bowler = self.bowler();
+            self.bowlers.push(bowler)?;
         }
         if aim == Aim::Item {
             if self.is_over && is_taken {
