@@ -102,8 +102,20 @@ fn told(
     turns: u64,
 ) -> (Result<(), DeskEnd>, Vec<u8>) {
     let sheet = sheet(rt, alloc);
+    told_by(alloc, &sheet, desk, lines, link, turns)
+}
+
+/// The same with this sheet.
+fn told_by(
+    alloc: Global,
+    sheet: &MatchSheet,
+    desk: &mut Station,
+    lines: &mut Lines,
+    link: &mut Queue,
+    turns: u64,
+) -> (Result<(), DeskEnd>, Vec<u8>) {
     let mut out = Watched::new(Vec::new(alloc));
     let mut clock = Ticking::new();
-    let answer = run_desk(desk, &sheet, link, lines, &mut clock, &mut out, turns);
+    let answer = run_desk(desk, sheet, link, lines, &mut clock, &mut out, turns);
     (answer, out.into_inner())
 }

@@ -151,27 +151,19 @@ fn written(rt: &impl Abort, alloc: Global, turns: &[Turn]) -> Vec<u8> {
     }
     typed.type_line(rt, "quit");
     let mut desk = new_desk(rt, alloc, DeskId::A);
-    let mut out = Watched::new(Vec::new(alloc));
-    let mut clock = Ticking::new();
-    let answer = run_desk(
-        &mut desk, &sheet, &mut link, &mut typed, &mut clock, &mut out, 200,
-    );
+    let (answer, told) = told_by(alloc, &sheet, &mut desk, &mut typed, &mut link, 200);
     assert_eq!(rt; answer, Err(DeskEnd::Quit));
-    out.into_inner()
+    told
 }
 
 /// What stands behind the text, which begins at the start of a line; it must stand there.
 fn behind<'a>(rt: &impl Abort, written: &'a [u8], text: &str) -> &'a [u8] {
-    let mut left = written;
-    loop {
-        if let Some(rest) = left.strip_prefix(text.as_bytes()) {
+    for at in 0..written.len() {
+        if let Some(rest) = written[at..].strip_prefix(text.as_bytes()) {
             return rest;
         }
-        match left.split_first() {
-            Some((_, rest)) => left = rest,
-            None => panic!(rt; "not told: {text}"),
-        }
     }
+    panic!(rt; "not told: {text}")
 }
 
 #[test]
