@@ -1,28 +1,19 @@
 """Lives of the program under shim.c: a desk whose scorer and other desk are played here, a board, and words that end by
 themselves. Each answers how the process ended and leaves a record of its calls."""
 import os, select, signal, socket, subprocess, time
-from record import TOP, Wrong, bytes_at
+import messages
+from record import SEAL, SHEET, TOP, Wrong, bytes_at
 
-SHEET = f"{TOP}/examples/sheet.toml"
-MATCH = 20260822
 BOOK = ["innings home", "in 1", "in 2", "ball 7 bat 1"]
 DIFFERS = {2: "in 3"}
 BOARD = "Alder 1 for 0\nOvers 0.1\nStriker Baker 0 (0)\nOther Amin 1 (1)\nTarget -\nResult -\n"
+FINGERPRINTS = "".join(f"{it}\n" for it in SEAL.fingerprints(False))
 LONGEST = 20
-
-
-def code(line):
-    """The 24 bytes of an entry, of those that are used here."""
-    words = line.split()
-    tags = {"innings": [1, 0, 0, 0, 0, 0, 1], "in": [2, 0, 0, 0, 0, 0], "ball": [3, 0, 0, 0, 0, 0]}
-    front = tags[words[0]] + ([int(words[1])] if words[0] != "innings" else []) + ([1, int(words[3])] if words[0] == "ball" else [])
-    return bytes(front + [0] * (24 - len(front)))
 
 
 def vote(desk, place, round_, line):
     """A vote's datagram."""
-    head = b"CB\x02\x01" + MATCH.to_bytes(8, "big") + bytes([desk]) + place.to_bytes(4, "big") + round_.to_bytes(2, "big")
-    return head + code(line) + bytes(5)
+    return SEAL.sealed(messages.vote(desk, place, round_, line))
 
 
 def position(data):
@@ -107,7 +98,8 @@ class Process:
             self.ran.kill()
             self.ran.communicate()
             raise Wrong(f"it doesn't end, after {self.lines[-8:]}") from None
-        return None if self.ran.returncode == -signal.SIGTERM else self.ran.returncode, self.out, error.decode()
+        told = error.decode().removeprefix(FINGERPRINTS)
+        return None if self.ran.returncode == -signal.SIGTERM else self.ran.returncode, self.out, told
 
 
 class OtherDesk:

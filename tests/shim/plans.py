@@ -98,7 +98,7 @@ def goes_on(plan):
 
 def ends_of_desk(plan, file, at, is_greeted):
     """The ends that a desk may have where this fails: its status and standard error. `None` stands for any text."""
-    if plan.is_traffic():
+    if plan.is_traffic() or plan.label == "stderr":
         return [(0, None)]
     if plan.call == "read" and plan.how == EINTR and plan.label == "sheet.toml":
         return [(0, ""), cannot_read(SHEET)]
@@ -117,7 +117,7 @@ def ends_of_desk(plan, file, at, is_greeted):
 
 def ends_of_board(plan, at):
     """The same of a board, which has no status where it goes on."""
-    if plan.is_traffic():
+    if plan.is_traffic() or plan.label == "stderr":
         return [(None, None)]
     if plan.call == "read" and plan.how == EINTR:
         return [(None, ""), cannot_read(SHEET), CANNOT_WRITE]

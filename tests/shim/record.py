@@ -3,6 +3,7 @@ whatever isn't synced. A vote that was handed out must be in each file that a po
 import errno, functools, importlib.util, os
 
 TOP = os.path.dirname(os.path.dirname(os.path.dirname(os.path.realpath(__file__))))
+SHEET = f"{TOP}/examples/sheet.toml"
 SPOILS = (0x00, 0xA5, 0xFF)
 
 
@@ -10,15 +11,16 @@ class Wrong(Exception):
     """What happened isn't what must happen."""
 
 
-def reader():
-    """The reader of votes files and datagrams that was written from docs/FORMATS.md alone."""
-    spec = importlib.util.spec_from_file_location("read_votes", f"{TOP}/examples/read_votes.py")
+def example(name):
+    """What was written from docs/FORMATS.md alone: the reader of votes files, and the seals of datagrams."""
+    spec = importlib.util.spec_from_file_location(name, f"{TOP}/examples/{name}.py")
     module = importlib.util.module_from_spec(spec)
     spec.loader.exec_module(module)
     return module
 
 
-READER = reader()
+READER = example("read_votes")
+SEAL = example("sealing").Seal(SHEET)
 
 
 @functools.lru_cache(maxsize=100_000)
@@ -48,8 +50,8 @@ class Call:
 
     def vote(self):
         """Of a datagram that is a vote: the desk's letter, place, round and line."""
-        data = self.bytes() if self.name == "sendto" else b""
-        if len(data) != 48 or data[3] != 1:
+        data = SEAL.opened(self.bytes()) if self.name == "sendto" else None
+        if data is None or data[3] != 1:
             return None
         line = READER.entry(data[19:43])
         return "ab"[data[12] - 1], (READER.number(data, 13, 16), READER.number(data, 17, 18)), line

@@ -252,10 +252,12 @@ def recorded_board(had=None, disturb=None):
 
 # ---- words that only read, and write to standard output ----
 
+BOTH = f"{TOP}/tests/rows/cards/both-the-last-entry-too"
 READING = {
     "check": (["check"], b"innings home\nin 1\nin 2\nball 7 bat 1\n"),
     "card": (["card", "--sheet", SHEET, "--from", f"{TOP}/examples/innings.txt", "--kind", "book"], b""),
     "export": (["export", "--sheet", SHEET, "--from", f"{TOP}/examples/innings.txt", "--kind", "book"], b""),
+    "card of both files": (["card", "--sheet", f"{BOTH}/sheet.toml", "--kind", "both", "--from", f"{BOTH}/a.votes", "--with", f"{BOTH}/b.votes"], b""),
     "replay": (["replay", "--sheet", SHEET, "--schedule", f"{TOP}/examples/schedule.txt", "--boards", "1"], b""),
 }
 REFUSED = {
@@ -358,7 +360,7 @@ def copied(begun, without):
             "sync": "fsync a.votes.new 0 0 1 - -",
             "rename": f"rename a.votes 0 0 - 1 {name}.new {name}",
             "folder": f"fsync ground 0 0 {os.stat(ground.folder).st_ino} - -",
-            "send": f"sendto socket 48 0 - - {vote(1, *last, BOOK[last[0]]).hex()}",
+            "send": f"sendto socket 64 0 - - {vote(1, *last, BOOK[last[0]]).hex()}",
         }
         if without == "last byte":
             steps["write"] = steps["write"][:-2]

@@ -7,6 +7,11 @@ use Rattle.agree_core.specs.declared.messages.Vote.{Vote}
 use Rattle.agree_core.specs.declared.position.Position.{Position}
 use Rattle.agree_core.specs.Positions.{InRange, first, next_place, next_round, position_of}
 
+-- a desk's number on files and in datagrams
+abbrev pub desk_number : DeskId → ℕ
+desk_number A = 1
+desk_number B = 2
+
 -- an entry that a desk voted for at a position
 pub record Ballot : Type 0 where
   pub at : Position

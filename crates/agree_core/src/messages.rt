@@ -2,6 +2,7 @@
 
 ghost use Rattle.std.specs.Prelude.{◌≡◌};
 ghost use Rattle.agree_core.specs.Positions.{position_of};
+ghost use Rattle.agree_core.specs.Ballots.{desk_number};
 
 use crate::position::Position;
 use notation::Entry;
@@ -11,6 +12,18 @@ use notation::Entry;
 pub enum DeskId {
     A,
     B,
+}
+
+impl DeskId {
+    /// Its number on files and in datagrams: 1 for A, 2 for B.
+    pub fn number(self) -> u8
+        ensures { result ≡ desk_number self }
+    {
+        match self {
+            DeskId::A => 1,
+            DeskId::B => 2,
+        }
+    }
 }
 
 /// A desk's vote: what it wrote for a place, in a round of that place. `place` is below 8,192, `round`

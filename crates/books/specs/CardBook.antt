@@ -3,14 +3,13 @@ use Rattle.std.specs.Prelude.{◌≡◌, ℕ, ◌+◌, ◌==◌, if◌then◌els
 use Rattle.notation.specs.declared.entry.Entry.{Entry}
 use Rattle.corrections.specs.Refusal.{book_refusal}
 use Rattle.agree_core.specs.declared.messages.DeskId.{DeskId}
-use Rattle.agree_core.specs.Ballots.{Ballot}
+use Rattle.agree_core.specs.Ballots.{Ballot, desk_number}
 use Rattle.agree_core.specs.Books.{AllTaken, FirstRefused, Rules, book_of, voted_list}
 use Rattle.entry_log.specs.Format.{contents}
 use Rattle.entry_log.specs.Version1.{version_1}
 use Rattle.entry_log.specs.Version2.{version_2}
 use Rattle.vote_store.specs.declared.refusal.Refusal.{Refusal}
 use Rattle.vote_store.specs.Sequence.{file_votes}
-use Rattle.vote_store.specs.View.{desk_code}
 use Rattle.cards.specs.Sheet.{Sheet}
 use Rattle.vote_store.specs.declared.refusal.Refusal.TheVariants as votes
 use Rattle.desk.specs.declared.refusal.OpenRefusal.{OpenRefusal}
@@ -51,8 +50,8 @@ WhyNoBookOfLines innings input fault = NamesFirstRejected innings input fault
 abbrev pub votes_in_file : DeskId → ℕ → List ℕ → Result (List Ballot) Refusal
 votes_in_file desk game file =
     if unwrap_or (slice_get file 7) 0 == 1
-    then file_votes (contents version_1) (desk_code desk) game file
-    else file_votes (contents version_2) (desk_code desk) game file
+    then file_votes (contents version_1) (desk_number desk) game file
+    else file_votes (contents version_2) (desk_number desk) game file
 
 -- the last votes of all places, the last voted one included, are a legal book, and the book has all but that one
 pub record IsBookOf (innings : ℕ) (votes : List Ballot) (book : List Entry) : Type 0 where

@@ -1,7 +1,9 @@
--- What the public calls claim: Card, CardBook, Rejected, Table, Taking.
+-- What the public calls claim: BothFiles, Card, CardBook, DeskVotes, Rejected, Table, Taking.
 -- inner: for private functions only.
+pub mod BothFiles
 pub mod Card
 pub mod CardBook
+pub mod DeskVotes
 pub mod Rejected
 pub mod Table
 pub mod Taking

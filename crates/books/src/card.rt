@@ -15,31 +15,31 @@ use streams::{Watched, WriteFailed};
 /// Prints both cards of an innings.
 fn print_both<W: Write>(
     sheet: &MatchSheet,
-    game: &Match,
+    score: &Match,
     innings: usize,
     out: &mut Watched<W>,
 ) -> Result<(), WriteFailed>
-    requires { innings < begun_in game.now }
-    ensures text { ForEachHistory game.now (λ n h.
+    requires { innings < begun_in score.now }
+    ensures text { ForEachHistory score.now (λ n h.
         OnOk result (Prints W.contents out.old out.new (both_cards sheet.now h innings))) }
     ensures failed { TellsFailure result out.old out.new }
 {
-    batting_card(sheet, game, innings, out)?;
-    bowling_card(sheet, game, innings, out)
+    batting_card(sheet, score, innings, out)?;
+    bowling_card(sheet, score, innings, out)
 }
 
 /// Prints both cards of each innings.
 fn print_innings<W: Write>(
     sheet: &MatchSheet,
-    game: &Match,
+    score: &Match,
     out: &mut Watched<W>,
 ) -> Result<(), WriteFailed>
-    ensures text { ForEachHistory game.now (λ n h.
+    ensures text { ForEachHistory score.now (λ n h.
         OnOk result (Prints W.contents out.old out.new (cards_of sheet.now h (begun h)))) }
     ensures failed { TellsFailure result out.old out.new }
 {
-    for innings in 0..game.begun() {
-        print_both(sheet, game, innings, out)?;
+    for innings in 0..score.begun() {
+        print_both(sheet, score, innings, out)?;
     }
     Ok(())
 }

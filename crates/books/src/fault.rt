@@ -3,6 +3,7 @@
 ghost use Rattle.std.specs.Prelude.{◌≡◌};
 
 use crate::rejected::Rejected;
+use agree_core::DeskId;
 use desk::OpenRefusal;
 use std::alloc::AllocError;
 
@@ -52,5 +53,45 @@ impl From<OpenRefusal> for BookFault {
             OpenRefusal::Votes(why) => BookFault::from(why),
             OpenRefusal::BadVotes { place } => BookFault::BadVotes { place },
         }
+    }
+}
+
+/// Why both desks' votes files have no book.
+#[derive(Clone, Copy, Debug, PartialEq, Eq)]
+pub enum BothFault {
+    /// Memory was refused.
+    NoMemory,
+    /// The votes file of this desk is refused.
+    Votes {
+        desk: DeskId,
+        why: vote_store::Refusal,
+    },
+    /// The agreed list of both files is no legal book: this is the first place that is refused.
+    BadVotes {
+        place: u32,
+    },
+}
+
+impl BothFault {
+    ghost use Rattle.books.specs.BothFiles.{of_file};
+
+    /// The fault of a desk's votes file that is refused: being out of memory is its own.
+    pub fn of(desk: DeskId, why: vote_store::Refusal) -> BothFault
+        ensures { result ≡ of_file desk why }
+    {
+        match why {
+            vote_store::Refusal::NoMemory => BothFault::NoMemory,
+            _ => BothFault::Votes { desk, why },
+        }
+    }
+}
+
+impl From<AllocError> for BothFault {
+    ghost use Rattle.books.specs.declared.fault.BothFault.TheVariants.{NoMemory};
+
+    ghost from_gives = { λ _ fault. fault ≡ NoMemory };
+
+    fn from(_why: AllocError) -> Self {
+        BothFault::NoMemory
     }
 }

@@ -2,15 +2,21 @@
 //! its printed cards.
 #![tactic(auto)]
 
+mod both;
 mod card;
+mod desk_votes;
 mod fault;
+mod laws;
 mod rejected;
 mod seats;
 mod source;
 mod table;
 
+pub use both::{agreed_list, book_of_both, open_both};
 pub use card::print_card;
-pub use fault::BookFault;
+pub use desk_votes::DeskVotes;
+pub use fault::{BookFault, BothFault};
+pub use laws::both_begin_with_each;
 pub use rejected::{Refusal, Rejected, print_rejected};
 pub use source::{Source, book_from};
 pub use table::Table;

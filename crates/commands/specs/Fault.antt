@@ -18,7 +18,7 @@ use Rattle.books.specs.declared.fault.BookFault.{BookFault}
 use Rattle.books.specs.declared.fault.BookFault.TheVariants as books
 use Rattle.books.specs.Rejected.{rejection_line}
 use Rattle.commands.specs.declared.fault.StopFault.{StopFault}
-use Rattle.commands.specs.declared.fault.StopFault.TheVariants.{NoMemory, Read, Write, Sheet, Schedule, Votes, BadVotes, Line, NotAgreed, Listen, Disk}
+use Rattle.commands.specs.declared.fault.StopFault.TheVariants.{NoMemory, Read, Write, Sheet, Schedule, Votes, VotesNamed, BadVotes, Line, NotAgreed, Listen, Disk}
 use Rattle.commands.specs.declared.fault.TheConstants.{TURNS}
 
 -- an input isn't read to its end
@@ -44,6 +44,12 @@ of_book (books.Votes why) = Votes why
 of_book (books.BadVotes place) = BadVotes place
 of_book (books.Line number why) = Line number why
 
+-- whether a votes file is refused for what it holds, and no memory or disk is to blame
+abbrev pub is_file_refusal : Refusal → Bool
+is_file_refusal votes.NoMemory = false
+is_file_refusal (votes.File files.Device) = false
+is_file_refusal why = true
+
 -- whether a sheet, a schedule, a votes file or a line is refused for what it holds, and no memory, stream, socket or disk
 -- is to blame
 abbrev pub is_refusal : StopFault → Bool
@@ -51,9 +57,8 @@ is_refusal (Sheet sheets.NoMemory) = false
 is_refusal (Sheet why) = true
 is_refusal (Schedule schedules.NoMemory) = false
 is_refusal (Schedule why) = true
-is_refusal (Votes votes.NoMemory) = false
-is_refusal (Votes (votes.File files.Device)) = false
-is_refusal (Votes why) = true
+is_refusal (Votes why) = is_file_refusal why
+is_refusal (VotesNamed why) = is_file_refusal why
 is_refusal (BadVotes place) = true
 is_refusal (Line number why) = true
 is_refusal fault = false
@@ -78,6 +83,11 @@ abbrev pub votes_line : Refusal → List ℕ
 votes_line (votes.File files.Device) = codes "cannot write\n"
 votes_line why = numbered_line (codes "votes") (number why) (name why)
 
+-- the same of one of two files, which is named
+abbrev pub named_votes_line : List ℕ → Refusal → List ℕ
+named_votes_line path (votes.File files.Device) = codes "cannot write\n"
+named_votes_line path why = numbered_line (codes "votes " ++ path) (number why) (name why)
+
 -- the line of a place that so many turns of each station didn't agree
 abbrev pub turns_line : ℕ → ℕ → List ℕ
 turns_line place turns = codes "place " ++ decimal place ++ codes " not agreed in " ++ decimal turns ++ codes " turns\n"
@@ -90,6 +100,7 @@ fault_line path Write = codes "cannot write\n"
 fault_line path (Sheet why) = sheet_line why
 fault_line path (Schedule why) = schedule_line why
 fault_line path (Votes why) = votes_line why
+fault_line path (VotesNamed why) = named_votes_line path why
 fault_line path (BadVotes place) = codes "votes: 64 BadVotes\n"
 fault_line path (Line number why) = rejection_line number why
 fault_line path (NotAgreed place) = turns_line place TURNS

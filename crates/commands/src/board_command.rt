@@ -4,7 +4,8 @@ mod notes;
 mod sign;
 
 use crate::fault::{StopFault, Stopped};
-use crate::opening::{peers_at, printer};
+use crate::opening::printer;
+use crate::sealing::Sealing;
 use crate::twins::told_sheet_at;
 use board::Board;
 use cards::MatchSheet;
@@ -64,7 +65,8 @@ fn show<L: Link, C: Clock, N: Notices, W: Write>(
 }
 
 /// `ground board`: keeps a board that listens at an address, shows its six lines at the start and whenever they
-/// change, and tells standard error what it can't take.
+/// change, and tells standard error what it can't take. Its datagrams are sealed with the sheet and the key in a file,
+/// where one is named.
 #[inline(never)]
 pub fn start_board<'a>(
     rt: &'a HostRuntime,
@@ -72,15 +74,18 @@ pub fn start_board<'a>(
     at: Address<'a>,
     peers: [Option<SocketAddr>; MOST_PEERS],
     text: Option<&'a str>,
+    key: Option<&'a str>,
 ) -> Result<bool, Stopped<'a>> {
     let sheet = told_sheet_at(rt, sheet_path)?;
+    let sealing = Sealing::of(rt, &sheet, key)?;
     let mut out = shown(rt, text, sheet_path)?;
     let book = CheckedBook::new(rt.alloc(), sheet.innings()).map_err(|why| Stopped::at(
         "-",
         StopFault::from(why),
     ))?;
     let mut board = Board::new(sheet.game(), book);
-    let mut link = peers_at(rt, at, peers, sheet.game(), rt.stderr())?;
+    let mut link = sealing.link_at(rt, at, peers, rt.stderr())?;
+    let _ = sealing.tell_fingerprints(&mut rt.stderr());
     let mut clock = MonotonicClock::new(rt);
     let mut notes = Notes::new(rt.stderr());
     let ended = show(

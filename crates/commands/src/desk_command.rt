@@ -4,7 +4,8 @@ ghost use Rattle.std.specs.Prelude.{IfOk};
 ghost use Rattle.desk.specs.Desk.{IsOf};
 
 use crate::fault::{StopFault, Stopped};
-use crate::opening::{output, peers_at};
+use crate::opening::output;
+use crate::sealing::Sealing;
 use crate::twins::told_sheet_at;
 use crate::votes_file::{VotesDisk, empty_disk, kept_votes, renewed_disk};
 use agree_core::DeskId;
@@ -91,7 +92,7 @@ fn keep<S: SlotsOf + Drop, B: BookOf + Drop, L: Link, K: Keys, C: Clock, W: Writ
 }
 
 /// `ground desk`: keeps a scorer's desk with its votes in a file, listening at an address, until the scorer types
-/// `quit` or no more.
+/// `quit` or no more. Its datagrams are sealed with the sheet and the key in a file, where one is named.
 #[inline(never)]
 pub fn start_desk<'a>(
     rt: &HostRuntime,
@@ -100,11 +101,14 @@ pub fn start_desk<'a>(
     file: &'a str,
     at: Address<'a>,
     peers: [Option<SocketAddr>; MOST_PEERS],
+    key: Option<&'a str>,
 ) -> Result<bool, Stopped<'a>> {
     let sheet = told_sheet_at(rt, sheet)?;
+    let sealing = Sealing::of(rt, &sheet, key)?;
     let mut writer = output(rt)?;
     let desk = desk_at(rt, &sheet, desk, file)?;
-    let mut link = peers_at(rt, at, peers, sheet.game(), rt.stderr())?;
+    let mut link = sealing.link_at(rt, at, peers, rt.stderr())?;
+    let _ = sealing.tell_fingerprints(&mut rt.stderr());
     let mut keys = Keyboard::of_standard_input(rt);
     let mut clock = MonotonicClock::new(rt);
     match keep(desk, &sheet, &mut link, &mut keys, &mut clock, &mut writer) {

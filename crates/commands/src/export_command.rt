@@ -17,7 +17,7 @@ use std::io::{Read, Write};
 use streams::{LONGEST_INPUT, Watched, WriteFailed, read_all};
 
 /// Prints a book as one JSON value. It fails only where a write fails; how much was written then isn't said.
-fn print_text<W: Write>(text: &str, out: &mut Watched<W>) -> Result<(), WriteFailed>
+pub fn print_text<W: Write>(text: &str, out: &mut Watched<W>) -> Result<(), WriteFailed>
     ensures text { OnOk result (Prints W.contents out.old out.new (text.now ++ codes "\n")) }
     ensures failed { TellsFailure result out.old out.new }
     ensures handed_on { OnOk result (IsHandedOn out.new) }

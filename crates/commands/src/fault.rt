@@ -31,6 +31,8 @@ pub enum StopFault {
     Schedule(ScheduleFault),
     /// A votes file is refused.
     Votes(vote_store::Refusal),
+    /// One of two votes files is refused, and named.
+    VotesNamed(vote_store::Refusal),
     /// The votes of a file are no legal book: this is the first place whose last vote is refused.
     BadVotes { place: u32 },
     /// A pen line isn't taken. Lines are numbered from 1.
@@ -43,6 +45,16 @@ pub enum StopFault {
     Disk,
 }
 
+/// Whether a votes file is refused for what it holds, and no memory or disk is to blame.
+fn is_file_refusal(why: vote_store::Refusal) -> bool
+    ensures { result ≡ texts.is_file_refusal why }
+{
+    !matches!(
+        why,
+        vote_store::Refusal::NoMemory | vote_store::Refusal::File(entry_log::Refusal::Device)
+    )
+}
+
 impl StopFault {
     /// Whether a sheet, a schedule, a votes file or a line is refused for what it holds, and no memory, stream, socket or
     /// disk is to blame.
@@ -51,10 +63,9 @@ impl StopFault {
     {
         match self {
             StopFault::Sheet(SheetFault::NoMemory) => false,
-            StopFault::Votes(vote_store::Refusal::NoMemory) => false,
-            StopFault::Votes(vote_store::Refusal::File(entry_log::Refusal::Device)) => false,
+            StopFault::Votes(why) | StopFault::VotesNamed(why) => is_file_refusal(why),
             StopFault::Schedule(ScheduleFault::NoMemory) => false,
-            StopFault::Sheet(_) | StopFault::Schedule(_) | StopFault::Votes(_) => true,
+            StopFault::Sheet(_) | StopFault::Schedule(_) => true,
             StopFault::BadVotes { .. } | StopFault::Line { .. } => true,
             _ => false,
         }
@@ -181,6 +192,23 @@ fn print_votes_fault<W: Write>(
     }
 }
 
+fn print_named_votes_fault<W: Write>(
+    out: &mut Watched<W>,
+    path: &str,
+    why: vote_store::Refusal,
+) -> Result<(), WriteFailed>
+    ensures text { OnOk result (Prints W.contents out.old out.new (texts.named_votes_line path.now why)) }
+    ensures failed { TellsFailure result out.old out.new }
+{
+    if let vote_store::Refusal::File(entry_log::Refusal::Device) = why {
+        return writeln!(out, "cannot write");
+    }
+    match why.number() {
+        Some(number) => writeln!(out, "votes {path}: {number} {why}"),
+        None => writeln!(out, "no memory"),
+    }
+}
+
 fn print_not_agreed<W: Write>(
     out: &mut Watched<W>,
     place: u32,
@@ -209,6 +237,7 @@ pub fn print_fault<W: Write>(
         StopFault::Sheet(why) => print_sheet_fault(out, why),
         StopFault::Schedule(why) => print_schedule_fault(out, why),
         StopFault::Votes(why) => print_votes_fault(out, why),
+        StopFault::VotesNamed(why) => print_named_votes_fault(out, path, why),
         StopFault::BadVotes { .. } => writeln!(out, "votes: 64 BadVotes"),
         StopFault::Line { number, why } => print_rejected(out, number, why),
         StopFault::NotAgreed { place } => print_not_agreed(out, place, TURNS),

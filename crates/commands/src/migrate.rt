@@ -6,7 +6,7 @@ ghost use Rattle.entry_log.specs.Disk.{Never};
 ghost use Rattle.entry_log.specs.Format.{room};
 ghost use Rattle.entry_log.specs.Version2.{version_2};
 ghost use Rattle.entry_log.specs.declared.slot.TheConstants.{MAX_SLOTS};
-ghost use Rattle.vote_store.specs.View.{desk_code};
+ghost use Rattle.agree_core.specs.Ballots.{desk_number};
 ghost use Rattle.vote_store.specs.Migrated.{IsMigrated};
 ghost use Rattle.commands.specs.Migrate.{WhyNotMigrated, migrated_line};
 
@@ -85,12 +85,12 @@ pub fn migrate_run<D: Disk + Drop, E: Disk + Drop, W: Write>(
     out: &mut Watched<W>,
 ) -> Result<Migrated<D, E>, MigrateFault>
     ensures migrated { IfOk result (λ migrated.
-        IsMigrated (desk_code desk) game (D.seen old) (E.images migrated.new) migrated.votes) }
+        IsMigrated (desk_number desk) game (D.seen old) (E.images migrated.new) migrated.votes) }
     ensures written { IfOk result (λ migrated.
         Prints W.contents out.old out.new (migrated_line migrated.votes)) }
     ensures old_stays { IfOk result (λ migrated. D.seen migrated.old ≡ D.seen old) }
     ensures only_empty { OnOk result (length (E.seen new) ≡ 0) }
-    ensures why { IfErr result (WhyNotMigrated (desk_code desk) game (D.seen old) (E.seen new)) }
+    ensures why { IfErr result (WhyNotMigrated (desk_number desk) game (D.seen old) (E.seen new)) }
     // Where no fault is due at either disk, and the new one has room, none is met.
     ensures calm { (D.faults old).due ≡ Never → (E.faults new).due ≡ Never
         → room version_2 MAX_SLOTS ≤ E.cap new → result ≢ Err MigrateFault.Device }

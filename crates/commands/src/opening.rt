@@ -10,6 +10,7 @@ use agree_core::DeskId;
 use cards::MatchSheet;
 use entry_log::OldSlots;
 use machine::{Address, FileDisk, MOST_PEERS, OpenFault, Peers};
+use seal::Seal;
 use std::fs::File;
 use std::io::{self, BufWriter, Printer, Write};
 use std::net::{Net, SocketAddr};
@@ -86,15 +87,15 @@ pub fn output(rt: &HostRuntime) -> Result<Output<'_>, Stopped<'static>> {
     Ok(Watched::new(printer(rt)?))
 }
 
-/// A station's socket at its address.
+/// A station's socket at its address, in the match with this seal.
 pub fn peers_at<'a, E: Write + Drop>(
     net: &impl Net,
     at: Address<'a>,
     peers: [Option<SocketAddr>; MOST_PEERS],
-    game: u64,
+    seal: Seal,
     errors: E,
 ) -> Result<Peers<E>, Stopped<'a>> {
-    Peers::new(net, at.socket, peers, game, errors).map_err(|_| Stopped {
+    Peers::new(net, at.socket, peers, seal, errors).map_err(|_| Stopped {
         path: at.text,
         fault: StopFault::Listen,
     })

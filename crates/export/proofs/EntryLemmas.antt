@@ -6,10 +6,10 @@ use Rattle.std.proofs.lemmas.Option.{slice_get_cases, slice_get_within}
 use Rattle.notation.specs.declared.entry.Entry.{Entry}
 use Rattle.corrections.proofs.LegalLemmas.{slice_get-append_left, slice_get-last}
 use Rattle.json.specs.Json.{Json}
-use Rattle.export.specs.Values.{up_to}
+use Rattle.json_fields.specs.Values.{up_to}
 use Rattle.export.specs.Entries.{entry_at, entry_of}
 use Rattle.export.specs.Laws.{HasEachEntry}
-use Rattle.export.proofs.Putting.{up_to-zero, up_to-suc}
+use Rattle.json_fields.proofs.Putting.{up_to-zero, up_to-suc}
 
 abbrev at : List Entry → ℕ → List Json
 at book p = entry_at book p (slice_get book p)

@@ -1,4 +1,3 @@
-pub mod Putting
 pub mod Noting
 pub mod LawLemmas
 pub mod EntryLemmas

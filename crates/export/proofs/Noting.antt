@@ -11,7 +11,7 @@ use Rattle.match_laws.specs.History.{is_void}
 use Rattle.match_laws.specs.Refusals.{refusal}
 use Rattle.match_laws.specs.Stands.{StandsFor, IsStep, answer_with}
 use Rattle.corrections.specs.declared.placed.Placed.{Placed}
-use Rattle.corrections.specs.CleanList.{clean, kept, standing_of}
+use Rattle.corrections.specs.CleanList.{clean, kept, clean_items_of}
 use Rattle.corrections.specs.Refusal.{first_refused}
 use Rattle.corrections.specs.Legal.{IsLegalBook}
 use Rattle.corrections.proofs.LegalLemmas.{scored_legal}
@@ -21,15 +21,15 @@ use Rattle.export.specs.declared.notes.Noted.{Noted}
 use Rattle.export.specs.Notes.{note, notes}
 
 -- what was noted of the first k items of what stands, none of which is refused, and the match after them
-pub record Noting (standing : List Placed) (n : ℕ) (game : Standing) (noted : List Noted) (k : ℕ) : Type 0 where
+pub record Noting (clean_items : List Placed) (n : ℕ) (score : Standing) (noted : List Noted) (k : ℕ) : Type 0 where
   pub history : History
-  pub stands : StandsFor game n history
-  pub taken : first_refused n history (kept (drop k standing)) ≡ None
-  pub whole : noted ++ notes history (kept (drop k standing)) ≡ notes [] (kept standing)
+  pub stands : StandsFor score n history
+  pub taken : first_refused n history (kept (drop k clean_items)) ≡ None
+  pub whole : noted ++ notes history (kept (drop k clean_items)) ≡ notes [] (kept clean_items)
 
-pub notes_none : (book : List Entry) (standing : List Placed) (n : ℕ) (game : Standing) → IsLegalBook n book → standing ≡ standing_of book → StandsFor game n [] → Noting standing n game [] 0
+pub notes_none : (book : List Entry) (clean_items : List Placed) (n : ℕ) (score : Standing) → IsLegalBook n book → clean_items ≡ clean_items_of book → StandsFor score n [] → Noting clean_items n score [] 0
 unfolding clean
-notes_none book standing n game legal is s = record {
+notes_none book clean_items n score legal is s = record {
   history = [];
   stands = s;
   taken = ap (λ xs. first_refused n [] (kept xs)) is ∙ scored_legal n book legal;
@@ -42,13 +42,13 @@ stepped T (Ok _) n h x later none s = s.1
 stepped T (Err why) n h x later none s = absurd cc
 
 -- one item more
-pub notes_one : {T : Type 0} (r : Result T LawRefusal) (standing : List Placed) (n k : ℕ) (game later : Standing) (noted more : List Noted) (x : Placed) (y : Noted)
-    → (m : Noting standing n game noted k) → slice_get standing k ≡ Some x → is_void x.item ≡ false → y ≡ note m.history x → more ≡ noted ++ y ∷ []
-    → IsStep (answer_with r later) n m.history x.item → Noting standing n later more (k + 1)
-notes_one {T = T} r standing n k game later noted more x y m here stays noted_so added step =
-    let split : kept (drop k standing) ≡ x ∷ kept (drop (k + 1) standing) = ap kept (next standing k x here) ∙ kept_first x (drop (k + 1) standing) stays in
-    let both = first_refused-cons n m.history x (kept (drop (k + 1) standing)) (ap (first_refused n m.history) (sym split) ∙ m.taken) in
-    let rest = notes (x.item ∷ m.history) (kept (drop (k + 1) standing)) in record {
+pub notes_one : {T : Type 0} (r : Result T LawRefusal) (clean_items : List Placed) (n k : ℕ) (score later : Standing) (noted more : List Noted) (x : Placed) (y : Noted)
+    → (m : Noting clean_items n score noted k) → slice_get clean_items k ≡ Some x → is_void x.item ≡ false → y ≡ note m.history x → more ≡ noted ++ y ∷ []
+    → IsStep (answer_with r later) n m.history x.item → Noting clean_items n later more (k + 1)
+notes_one {T = T} r clean_items n k score later noted more x y m here stays noted_so added step =
+    let split : kept (drop k clean_items) ≡ x ∷ kept (drop (k + 1) clean_items) = ap kept (next clean_items k x here) ∙ kept_first x (drop (k + 1) clean_items) stays in
+    let both = first_refused-cons n m.history x (kept (drop (k + 1) clean_items)) (ap (first_refused n m.history) (sym split) ∙ m.taken) in
+    let rest = notes (x.item ∷ m.history) (kept (drop (k + 1) clean_items)) in record {
       history = x.item ∷ m.history;
       stands = stepped T r n m.history x.item later both.0 step;
       taken = both.1;
@@ -56,16 +56,16 @@ notes_one {T = T} r standing n k game later noted more x y m here stays noted_so
           ∙ (ap (λ z. noted ++ z ∷ rest) noted_so ∙ (ap (λ xs. noted ++ notes m.history xs) (sym split) ∙ m.whole)));
     }
 
-pub notes_not : (standing : List Placed) (n k : ℕ) (game : Standing) (noted : List Noted) (x : Placed) → Noting standing n game noted k → slice_get standing k ≡ Some x → is_void x.item ≡ true → Noting standing n game noted (k + 1)
-notes_not standing n k game noted x m here void =
-    let same : kept (drop k standing) ≡ kept (drop (k + 1) standing) = ap kept (next standing k x here) ∙ kept_not x (drop (k + 1) standing) void in record {
+pub notes_not : (clean_items : List Placed) (n k : ℕ) (score : Standing) (noted : List Noted) (x : Placed) → Noting clean_items n score noted k → slice_get clean_items k ≡ Some x → is_void x.item ≡ true → Noting clean_items n score noted (k + 1)
+notes_not clean_items n k score noted x m here void =
+    let same : kept (drop k clean_items) ≡ kept (drop (k + 1) clean_items) = ap kept (next clean_items k x here) ∙ kept_not x (drop (k + 1) clean_items) void in record {
       history = m.history;
       stands = m.stands;
       taken = ap (first_refused n m.history) (sym same) ∙ m.taken;
       whole = ap (λ xs. noted ++ notes m.history xs) (sym same) ∙ m.whole;
     }
 
-pub notes_all : (book : List Entry) (standing : List Placed) (n k : ℕ) (game : Standing) (noted : List Noted) → Noting standing n game noted k → length standing ≤ k → standing ≡ standing_of book → noted ≡ notes [] (clean book)
+pub notes_all : (book : List Entry) (clean_items : List Placed) (n k : ℕ) (score : Standing) (noted : List Noted) → Noting clean_items n score noted k → length clean_items ≤ k → clean_items ≡ clean_items_of book → noted ≡ notes [] (clean book)
 unfolding clean
-notes_all book standing n k game noted m end is =
-    sym (append-nil noted) ∙ (sym (ap (λ xs. noted ++ notes m.history (kept xs)) (drop_all k standing end)) ∙ (m.whole ∙ ap (λ xs. notes [] (kept xs)) is))
+notes_all book clean_items n k score noted m end is =
+    sym (append-nil noted) ∙ (sym (ap (λ xs. noted ++ notes m.history (kept xs)) (drop_all k clean_items end)) ∙ (m.whole ∙ ap (λ xs. notes [] (kept xs)) is))

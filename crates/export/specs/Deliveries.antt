@@ -13,7 +13,7 @@ use Rattle.match_laws.specs.History.{opponent}
 use Rattle.cards.specs.Sheet.{Sheet, name_of, player_of}
 use Rattle.json.specs.Json.{Json}
 use Rattle.export.specs.declared.notes.Noted.{Noted}
-use Rattle.export.specs.Values.{Field, object_of, text_field, number_field, count_field}
+use Rattle.json_fields.specs.Values.{Field, object_of, text_field, number_field, count_field}
 use Rattle.export.specs.Wickets.{batter_value, wickets_fields, departures_fields}
 
 abbrev pub extra_runs : Split → ℕ

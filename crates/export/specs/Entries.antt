@@ -4,7 +4,7 @@ use Rattle.notation.specs.declared.entry.Entry.{Entry}
 use Rattle.notation.specs.declared.entry.Entry.TheVariants.{Fix}
 use Rattle.notation.specs.Written.{text_of}
 use Rattle.json.specs.Json.{Json}
-use Rattle.export.specs.Values.{Field, array_of, object_of, text_field, number_field, number_value, up_to}
+use Rattle.json_fields.specs.Values.{Field, array_of, object_of, text_field, number_field, number_value, up_to}
 
 -- place k, where the entry there is a `fix` of place p
 abbrev pub fix_at : ℕ → ℕ → Option Entry → List Json

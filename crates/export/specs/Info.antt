@@ -8,7 +8,7 @@ use Rattle.match_laws.specs.declared.outcome.Outcome.TheVariants.{Undecided, Dra
 use Rattle.match_laws.specs.Result.{outcome}
 use Rattle.cards.specs.Sheet.{Sheet, name_of, player_of}
 use Rattle.json.specs.Json.{Json, string}
-use Rattle.export.specs.Values.{Field, array_of, object_of, text_field, number_field, up_to}
+use Rattle.json_fields.specs.Values.{Field, array_of, object_of, text_field, number_field, up_to}
 
 -- the version of the field names, the program, and the match
 abbrev pub meta_field : Sheet → Field

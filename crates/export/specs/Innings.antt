@@ -12,7 +12,7 @@ use Rattle.match_laws.specs.Result.{side_total}
 use Rattle.cards.specs.Sheet.{Sheet, name_of}
 use Rattle.json.specs.Json.{Json}
 use Rattle.export.specs.declared.notes.Noted.{Noted}
-use Rattle.export.specs.Values.{Field, array_of, object_of, text_field, number_field, flag_if, up_to}
+use Rattle.json_fields.specs.Values.{Field, array_of, object_of, text_field, number_field, flag_if, up_to}
 use Rattle.export.specs.Deliveries.{is_listed, is_within, listed_in}
 
 -- what the book has in over k of innings i

@@ -1,6 +1,5 @@
 -- What the public calls claim: Value with all that it cites (Notes, Wickets, Deliveries, Innings, Info, Entries, and
 -- Values but for its last part), Names and Laws.
-pub mod Values
 pub mod Notes
 pub mod Wickets
 pub mod Deliveries

@@ -6,7 +6,7 @@ use Rattle.cards.specs.Sheet.{Sheet}
 use Rattle.json.specs.Json.{Json}
 use Rattle.json.specs.Tree.{json_tokens}
 use Rattle.json.specs.Layout.{pretty}
-use Rattle.export.specs.Values.{object_of}
+use Rattle.json_fields.specs.Values.{object_of}
 use Rattle.export.specs.Notes.{notes}
 use Rattle.export.specs.Info.{meta_field, info_field}
 use Rattle.export.specs.Innings.{innings_field}

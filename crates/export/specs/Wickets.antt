@@ -12,7 +12,7 @@ use Rattle.match_laws.specs.History.{opponent}
 use Rattle.cards.specs.Sheet.{Sheet, player_of}
 use Rattle.cards.specs.Dismissals.{fielder_name}
 use Rattle.json.specs.Json.{Json, null, string}
-use Rattle.export.specs.Values.{Field, array_of, object_of, text_field}
+use Rattle.json_fields.specs.Values.{Field, array_of, object_of, text_field}
 
 abbrev pub how_words : How → List ℕ
 how_words how.Bowled = codes "bowled"

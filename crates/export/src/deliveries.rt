@@ -3,15 +3,15 @@
 ghost use Rattle.std.specs.Prelude.{◌≡◌, ◌≤◌, ◌<◌, ◌∷◌, [], Some, length, slice_get};
 ghost use Rattle.std.specs.List.{flat_map};
 ghost use Rattle.ball_laws.specs.Runs.{all_runs};
-ghost use Rattle.export.specs.Values.{PutsFields, PutsValues};
+ghost use Rattle.json_fields.specs.Values.{PutsFields, PutsValues};
 ghost use Rattle.export.specs.Deliveries as deliveries;
 
 use crate::named::NamedSheet;
 use crate::notes::Noted;
-use crate::put::{begin_field, begin_object, end_object, put_count, put_figure, put_text};
 use crate::wickets::{put_batter, put_departures, put_wickets};
 use ball_laws::{Ends, Split, runs_of};
 use json::Pretty;
+use json_fields::{begin_field, begin_object, end_object, put_count, put_figure, put_text};
 use match_laws::opponent;
 use notation::{Ball, Leave, Plain, Player, Side};
 use std::alloc::AllocError;

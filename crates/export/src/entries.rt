@@ -2,14 +2,14 @@
 
 ghost use Rattle.std.specs.Prelude.{◌∷◌, [], Some};
 ghost use Rattle.notation.specs.Written.{IsEntry};
-ghost use Rattle.export.specs.Values.{PutsFields, PutsValues};
+ghost use Rattle.json_fields.specs.Values.{PutsFields, PutsValues};
 ghost use Rattle.export.specs.Entries as laws;
 
-use crate::put::{
-    begin_array, begin_object, end_array, end_object, put_figure, put_integer, put_text,
-};
 use corrections::BookOf;
 use json::Pretty;
+use json_fields::{
+    begin_array, begin_object, end_array, end_object, put_figure, put_integer, put_text,
+};
 use notation::{Entry, line_of};
 use std::alloc::AllocError;
 

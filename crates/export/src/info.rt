@@ -3,14 +3,14 @@
 ghost use Rattle.std.specs.Prelude.{◌≡◌, ◌+◌, ◌<◌, ◌∷◌, []};
 ghost use Rattle.ball_laws.specs.History.{History};
 ghost use Rattle.match_laws.specs.Stands.{StandsFor};
-ghost use Rattle.export.specs.Values.{PutsFields, PutsValues};
+ghost use Rattle.json_fields.specs.Values.{PutsFields, PutsValues};
 ghost use Rattle.export.specs.Info as laws;
 
 use crate::named::NamedSheet;
-use crate::put::{
+use json::Pretty;
+use json_fields::{
     begin_array, begin_field, end_array, end_object, put_figure, put_number, put_string, put_text,
 };
-use json::Pretty;
 use match_laws::{Match, Outcome};
 use notation::{Player, Side};
 use std::alloc::AllocError;
@@ -181,8 +181,8 @@ fn put_outcome(out: &mut Pretty, sheet: &NamedSheet<'_>, outcome: Outcome) -> Re
 }
 
 /// Puts what is said of the match.
-pub fn put_info(out: &mut Pretty, sheet: &NamedSheet<'_>, game: &Match) -> Result<(), AllocError>
-    ensures { (h : History) → StandsFor game.now sheet.now.innings h
+pub fn put_info(out: &mut Pretty, sheet: &NamedSheet<'_>, score: &Match) -> Result<(), AllocError>
+    ensures { (h : History) → StandsFor score.now sheet.now.innings h
         → PutsFields result out.old out.new (laws.info_field sheet.now h ∷ []) }
 {
     begin_field(out, "info")?;
@@ -191,6 +191,6 @@ pub fn put_info(out: &mut Pretty, sheet: &NamedSheet<'_>, game: &Match) -> Resul
     put_players(out, sheet)?;
     put_figure(out, "balls_per_over", 6)?;
     put_figure(out, "innings_a_side", sheet.innings())?;
-    put_outcome(out, sheet, game.result())?;
+    put_outcome(out, sheet, score.result())?;
     end_object(out)
 }

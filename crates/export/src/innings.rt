@@ -3,16 +3,16 @@
 ghost use Rattle.std.specs.Prelude.{◌≡◌, ◌<◌, ◌≤◌, ◌∷◌, []};
 ghost use Rattle.match_laws.specs.Figures as figures;
 ghost use Rattle.match_laws.specs.Stands.{ForEachHistory, begun_in};
-ghost use Rattle.export.specs.Values.{PutsFields, PutsValues, up_to};
+ghost use Rattle.json_fields.specs.Values.{PutsFields, PutsValues, up_to};
 ghost use Rattle.export.specs.Innings as laws;
 
 use crate::deliveries::{is_listed, is_within, put_deliveries};
 use crate::named::NamedSheet;
 use crate::notes::Noted;
-use crate::put::{
+use json::Pretty;
+use json_fields::{
     begin_array, begin_field, begin_object, end_array, end_object, put_figure, put_flag, put_text,
 };
-use json::Pretty;
 use match_laws::{Match, opponent};
 use notation::{Cause, Plain, Side};
 use std::alloc::AllocError;
@@ -120,33 +120,33 @@ fn is_forfeited(notes: &[Noted], innings: usize) -> bool
 }
 
 /// What the side that bats in the innings has to reach there.
-fn needed_in(game: &Match, innings: usize) -> u32
-    requires { innings < begun_in game.now }
-    ensures { ForEachHistory game.now (λ n h. result ≡ laws.needed_in h innings) }
+fn needed_in(score: &Match, innings: usize) -> u32
+    requires { innings < begun_in score.now }
+    ensures { ForEachHistory score.now (λ n h. result ≡ laws.needed_in h innings) }
 {
-    let side = game.side(innings);
-    let before = game.side_total(side).saturating_sub(game.total(innings));
-    (game.side_total(opponent(side)) + 1).saturating_sub(before)
+    let side = score.side(innings);
+    let before = score.side_total(side).saturating_sub(score.total(innings));
+    (score.side_total(opponent(side)) + 1).saturating_sub(before)
 }
 
 /// Puts the target, in the last innings of a match.
 fn put_target(
     out: &mut Pretty,
     sheet: &NamedSheet<'_>,
-    game: &Match,
+    score: &Match,
     innings: usize,
 ) -> Result<(), AllocError>
-    requires { innings < begun_in game.now }
-    ensures { ForEachHistory game.now (λ n h.
+    requires { innings < begun_in score.now }
+    ensures { ForEachHistory score.now (λ n h.
         PutsFields result out.old out.new (laws.target_fields sheet.now h innings)) }
 {
-    let begun = game.begun();
+    let begun = score.begun();
     prove!(innings < begun);
     if innings as u32 + 1 != 2 * sheet.innings() {
         return Ok(());
     }
     begin_field(out, "target")?;
-    put_figure(out, "runs", needed_in(game, innings))?;
+    put_figure(out, "runs", needed_in(score, innings))?;
     end_object(out)
 }
 
@@ -154,58 +154,58 @@ fn put_target(
 fn put_head(
     out: &mut Pretty,
     sheet: &NamedSheet<'_>,
-    game: &Match,
+    score: &Match,
     notes: &[Noted],
     innings: usize,
 ) -> Result<(), AllocError>
-    requires { innings < begun_in game.now }
-    ensures { ForEachHistory game.now (λ n h.
+    requires { innings < begun_in score.now }
+    ensures { ForEachHistory score.now (λ n h.
         PutsFields result out.old out.new (laws.head_fields sheet.now h notes.now innings)) }
 {
-    put_text(out, "team", sheet.name(game.side(innings)))?;
+    put_text(out, "team", sheet.name(score.side(innings)))?;
     put_flag(out, "declared", is_declared(notes, innings))?;
     put_flag(out, "forfeited", is_forfeited(notes, innings))
 }
 
 /// The penalty runs in the total of an innings.
-fn penalty_runs(game: &Match, innings: usize) -> u32
-    requires { innings < begun_in game.now }
-    ensures { ForEachHistory game.now (λ n h. result ≡ figures.penalty_runs h innings) }
+fn penalty_runs(score: &Match, innings: usize) -> u32
+    requires { innings < begun_in score.now }
+    ensures { ForEachHistory score.now (λ n h. result ≡ figures.penalty_runs h innings) }
 {
-    game.extras(innings).penalty
+    score.extras(innings).penalty
 }
 
 /// Puts the figures of an innings.
 fn put_figures(
     out: &mut Pretty,
     sheet: &NamedSheet<'_>,
-    game: &Match,
+    score: &Match,
     innings: usize,
 ) -> Result<(), AllocError>
-    requires { innings < begun_in game.now }
-    ensures { ForEachHistory game.now (λ n h.
+    requires { innings < begun_in score.now }
+    ensures { ForEachHistory score.now (λ n h.
         PutsFields result out.old out.new (laws.figures_fields sheet.now h innings)) }
 {
-    put_figure(out, "penalty_runs", penalty_runs(game, innings))?;
-    put_target(out, sheet, game, innings)?;
-    put_figure(out, "total", game.total(innings))?;
-    put_figure(out, "wickets", game.wickets(innings))
+    put_figure(out, "penalty_runs", penalty_runs(score, innings))?;
+    put_target(out, sheet, score, innings)?;
+    put_figure(out, "total", score.total(innings))?;
+    put_figure(out, "wickets", score.wickets(innings))
 }
 
 /// Puts the overs of an innings.
 fn put_overs_field(
     out: &mut Pretty,
     sheet: &NamedSheet<'_>,
-    game: &Match,
+    score: &Match,
     notes: &[Noted],
     innings: usize,
 ) -> Result<(), AllocError>
-    requires { innings < begun_in game.now }
-    ensures { ForEachHistory game.now (λ n h.
+    requires { innings < begun_in score.now }
+    ensures { ForEachHistory score.now (λ n h.
         PutsFields result out.old out.new (laws.overs_field sheet.now h notes.now innings ∷ [])) }
 {
-    let (called, _) = game.overs(innings);
-    let side = game.side(innings);
+    let (called, _) = score.overs(innings);
+    let side = score.side(innings);
     begin_array(out, "overs")?;
     put_overs(out, sheet, side, notes, innings, called + 1)?;
     end_array(out)
@@ -215,18 +215,18 @@ fn put_overs_field(
 fn put_innings(
     out: &mut Pretty,
     sheet: &NamedSheet<'_>,
-    game: &Match,
+    score: &Match,
     notes: &[Noted],
     innings: usize,
 ) -> Result<(), AllocError>
-    requires { innings < begun_in game.now }
-    ensures { ForEachHistory game.now (λ n h.
+    requires { innings < begun_in score.now }
+    ensures { ForEachHistory score.now (λ n h.
         PutsValues result out.old out.new (laws.innings_of sheet.now h notes.now innings ∷ [])) }
 {
     begin_object(out)?;
-    put_head(out, sheet, game, notes, innings)?;
-    put_overs_field(out, sheet, game, notes, innings)?;
-    put_figures(out, sheet, game, innings)?;
+    put_head(out, sheet, score, notes, innings)?;
+    put_overs_field(out, sheet, score, notes, innings)?;
+    put_figures(out, sheet, score, innings)?;
     end_object(out)
 }
 
@@ -234,14 +234,14 @@ fn put_innings(
 fn put_each(
     out: &mut Pretty,
     sheet: &NamedSheet<'_>,
-    game: &Match,
+    score: &Match,
     notes: &[Noted],
 ) -> Result<(), AllocError>
-    ensures { ForEachHistory game.now (λ n h.
+    ensures { ForEachHistory score.now (λ n h.
         PutsValues result out.old out.new (laws.all_innings sheet.now h notes.now)) }
 {
-    for innings in 0..game.begun() {
-        put_innings(out, sheet, game, notes, innings)?;
+    for innings in 0..score.begun() {
+        put_innings(out, sheet, score, notes, innings)?;
     }
     Ok(())
 }
@@ -250,13 +250,13 @@ fn put_each(
 pub fn put_all_innings(
     out: &mut Pretty,
     sheet: &NamedSheet<'_>,
-    game: &Match,
+    score: &Match,
     notes: &[Noted],
 ) -> Result<(), AllocError>
-    ensures { ForEachHistory game.now (λ n h.
+    ensures { ForEachHistory score.now (λ n h.
         PutsFields result out.old out.new (laws.innings_field sheet.now h notes.now ∷ [])) }
 {
     begin_array(out, "innings")?;
-    put_each(out, sheet, game, notes)?;
+    put_each(out, sheet, score, notes)?;
     end_array(out)
 }

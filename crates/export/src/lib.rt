@@ -1,6 +1,6 @@
 //! The book of a match as JSON, for archives and leagues: what happened ball by ball, with the results of the Laws,
 //! and each entry as it was penned.
-#![tactic(auto, unfolding(crate::specs::Values::fields_tokens, crate::specs::Values::values_tokens))]
+#![tactic(auto, unfolding(json_fields::specs::Values::fields_tokens, json_fields::specs::Values::values_tokens))]
 
 mod deliveries;
 mod entries;
@@ -9,7 +9,6 @@ mod innings;
 mod laws;
 mod named;
 mod notes;
-mod put;
 mod text;
 mod value;
 mod wickets;

@@ -28,35 +28,35 @@ pub struct Noted {
 ghost use Rattle.export.specs.Notes as laws;
 
 /// How many overs were called in the innings that began last.
-fn overs_called(game: &Match) -> u32
-    ensures { ForEachHistory game.now (λ n h. result ≡ laws.overs_called h) }
+fn overs_called(score: &Match) -> u32
+    ensures { ForEachHistory score.now (λ n h. result ≡ laws.overs_called h) }
 {
-    let begun = game.begun();
+    let begun = score.begun();
     if begun == 0 {
         return 0;
     }
-    game.overs(begun - 1).0
+    score.overs(begun - 1).0
 }
 
 /// The item with where it stands, by the match before it.
-fn note(game: &Match, placed: &Placed) -> Noted
-    ensures { ForEachHistory game.now (λ n h. result ≡ laws.note h placed.now) }
+fn note(score: &Match, placed: &Placed) -> Noted
+    ensures { ForEachHistory score.now (λ n h. result ≡ laws.note h placed.now) }
 {
     Noted {
-        innings: game.begun().saturating_sub(1),
-        over: overs_called(game),
-        ends: game.ends(),
+        innings: score.begun().saturating_sub(1),
+        over: overs_called(score),
+        ends: score.ends(),
         place: placed.place,
         item: placed.item,
     }
 }
 
 /// What stands at an index.
-fn placed_at(standing: &[Placed], index: usize) -> Placed
-    requires { index < length standing.now }
-    ensures { slice_get standing.now index ≡ Some result }
+fn placed_at(clean_items: &[Placed], index: usize) -> Placed
+    requires { index < length clean_items.now }
+    ensures { slice_get clean_items.now index ≡ Some result }
 {
-    standing[index]
+    clean_items[index]
 }
 
 /// The clean list of a book of one or two innings a side, each item with where it stands in the match.
@@ -69,15 +69,15 @@ pub fn notes_of<B: BookOf>(
     requires legal { IsLegalBook innings_a_side (B.content book.now) }
     ensures { IfOk result (λ notes. notes.items ≡ laws.notes [] (clean (B.content book.now))) }
 {
-    let mut game = start(innings_a_side);
+    let mut score = start(innings_a_side);
     let mut notes = Vec::new(alloc);
-    let standing = book.standing();
-    for index in 0..standing.len() {
-        let placed = placed_at(standing, index);
+    let clean_items = book.clean_items();
+    for index in 0..clean_items.len() {
+        let placed = placed_at(clean_items, index);
         if !is_void(&placed.item) {
-            notes.push(note(&game, &placed))?;
+            notes.push(note(&score, &placed))?;
             // What stands in a book is refused nowhere.
-            let _ = game.take(&placed.item);
+            let _ = score.take(&placed.item);
         }
     }
     Ok(notes)

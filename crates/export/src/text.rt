@@ -21,11 +21,11 @@ pub fn text_of<B: BookOf>(alloc: Global, sheet: &MatchSheet, book: &B) -> Result
     ensures { IfOk result (λ text.
         string_bytes text ≡ pretty (json_tokens (export_of (told_apart sheet.now) (B.content book.now)))) }
 {
-    let game = book.score();
+    let score = book.score();
     let notes = notes_of(alloc, sheet.innings(), book)?;
     let named = NamedSheet::new(alloc, sheet)?;
     let mut out = Pretty::new(alloc);
-    put_export(&mut out, &named, game, book, notes.as_slice())?;
+    put_export(&mut out, &named, score, book, notes.as_slice())?;
     match String::from_utf8(out.into_inner()) {
         Ok(text) => Ok(text),
         Err(_) => unreachable!(),

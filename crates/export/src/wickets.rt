@@ -2,13 +2,13 @@
 
 ghost use Rattle.std.specs.Prelude.{◌≡◌, ◌∷◌, ◌≢◌, []};
 ghost use Rattle.cards.specs.Dismissals.{fielder_name};
-ghost use Rattle.export.specs.Values.{PutsFields, PutsValues};
+ghost use Rattle.json_fields.specs.Values.{PutsFields, PutsValues};
 ghost use Rattle.export.specs.Wickets as wickets;
 
 use crate::named::NamedSheet;
-use crate::put::{begin_array, begin_object, end_array, end_object, put_null, put_text};
 use ball_laws::Ends;
 use json::Pretty;
+use json_fields::{begin_array, begin_object, end_array, end_object, put_null, put_text};
 use match_laws::opponent;
 use notation::{How, Leave, Out, Player, Side};
 use std::alloc::AllocError;

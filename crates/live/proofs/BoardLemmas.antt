@@ -18,8 +18,8 @@ use Rattle.board.specs.Board.{SameMatch, book_of, game_of, state_of}
 use Rattle.board.specs.Takes.{Takes}
 use Rattle.live.specs.Passed.{Passed, Came, sends, sent_bytes}
 use Rattle.live.specs.Runs.{Goes}
-use Rattle.live.specs.Boards.{Asks, BoardGoes, BoardRuns, BoardTurn, Given, Ticked, TurnEnded, at_turn, board_kind, grown, in_turn, shown, unless_stopped}
-use Rattle.live.specs.Notices.{notices_after, telling_after}
+use Rattle.live.specs.Boards.{Asks, BoardGoes, BoardRuns, BoardTurn, Given, Ticked, TurnEnded, Unopened, at_turn, board_kind, grown, in_turn, shown, unless_stopped}
+use Rattle.live.specs.Notices.{notices_after, notices_unopened, telling_after, telling_unopened}
 use Rattle.live.specs.declared.notices.Notice.{Notice}
 use Rattle.live.specs.declared.notices.Telling.{Telling}
 use Rattle.live.specs.declared.link.TheConstants.{MOST_TAKEN}
@@ -87,6 +87,16 @@ module _ {B : Type 0} {g : _} (content : B → List Entry) (innings_of : B → �
     goes = one (board_kind sheet (game_of k) (innings_of (book_of k))) (in_turn content k turns had taken telling noted) (Given bytes answer) []
         (in_turn content l turns had (taken + 1) later notes) log [] s s (All-nil IsMessage) (few, (takes, refl), λ i. in_turn content l turns had (taken + 1) (tells i) (notices i)) (appends_none s);
   }
+
+  -- bytes came that don't open
+  pub passed_over : (k : Board B g) (log after : List Passed) (s : Option (List ℕ)) (turns had taken : ℕ) (telling later : Telling) (noted notes : List Notice) → taken < MOST_TAKEN →
+      later ≡ telling_unopened telling → notes ≡ notices_unopened telling noted → after ≡ log →
+      BoardGoes content innings_of sheet k k (in_turn content k turns had taken telling noted) (in_turn content k turns had (taken + 1) later notes) log after s s
+  passed_over k log after s turns had taken telling later noted notes few tells notices is =
+      let q = in_turn content k turns had (taken + 1) later notes in
+      let x = one (board_kind sheet (game_of k) (innings_of (book_of k))) (in_turn content k turns had taken telling noted) Unopened [] q log [] s s (All-nil IsMessage)
+      (few, (refl, refl), λ i. in_turn content k turns had (taken + 1) (tells i) (notices i)) (appends_none s) in
+      logged k k (in_turn content k turns had taken telling noted) q log (log ++ []) after s s (append-nil log ∙ sym is) (record { same = same_here k; goes = x })
 
   -- it has ticked
   pub ticked : (k : Board B g) (log after : List Passed) (s : Option (List ℕ)) (turns had taken : ℕ) (telling : Telling) (noted : List Notice) → Asks content k log after →

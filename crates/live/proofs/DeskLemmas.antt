@@ -15,6 +15,7 @@ use Rattle.entry_log.specs.declared.disk.Disk.{Ghosts as Disks}
 use Rattle.entry_log.specs.declared.slots_of.SlotsOf.{Ghosts as Files}
 use Rattle.agree_core.specs.declared.messages.DeskId.{DeskId}
 use Rattle.agree_core.specs.declared.messages.Message.{Message}
+use Rattle.agree_core.specs.Ballots.{Ballot}
 use Rattle.agree_core.specs.Desks.{Pens, Ticks}
 use Rattle.agree_core.specs.FileView.{FileView}
 use Rattle.vote_store.specs.View.{file_view}
@@ -33,9 +34,9 @@ use Rattle.live.specs.Passed.{Passed, Came, Sent, sends, sent_bytes}
 use Rattle.live.specs.Runs.{Goes, Kind}
 use Rattle.live.specs.Saying.{ComesTo, SaysEntry}
 use Rattle.live.specs.Typing.{Input, Line, End}
-use Rattle.live.specs.Texts.{came_text, said_text, warned_after}
+use Rattle.live.specs.Texts.{came_text, said_text, unopened_text, warned_after, warned_unopened}
 use Rattle.live.specs.Ends.{Course, course_of, end_at, end_of, ending, further, known_at, known_to, turns_after, written as answer_of}
-use Rattle.live.specs.Desks.{Blames, Calls, DeskCall, DeskGoes, DeskProcess, DeskStep, Given, FitsLongest, Ticked, TurnEnded, Typed, TypingEnded, after_call, course_after, desk_kind, disks_of, given, innings_of, kind_of, process_of, told_of, typed}
+use Rattle.live.specs.Desks.{Blames, Calls, DeskCall, DeskGoes, DeskProcess, DeskStep, Given, FitsLongest, Ticked, TurnEnded, Typed, TypingEnded, Unopened, after_call, course_after, desk_kind, disks_of, given, innings_of, kind_of, process_of, told_of, typed}
 use Rattle.live.specs.declared.said.Said.{Said}
 use Rattle.live.specs.declared.said.Said.TheVariants as said
 use Rattle.live.specs.declared.warned.Warned.{Warned}
@@ -59,18 +60,18 @@ blamed r device course old new to from room b = record {
 }
 
 -- a line that says no entry ends nothing for the disk
-no_blame : (sheet : Sheet) (book : List Entry) (differs is_cast : Bool) (line : List ℕ) (answer : Said) → ComesTo sheet book differs is_cast line answer → IsErrOf (end_of answer) ends.Device → ⊥
-no_blame sheet book differs is_cast line said.Quit h e = cc
-no_blame sheet book differs is_cast line said.List h e = cc
-no_blame sheet book differs is_cast line said.Help h e = cc
-no_blame sheet book differs is_cast line said.HelpShort h e = cc
-no_blame sheet book differs is_cast line (said.Unclear unclear) h e = cc
-no_blame sheet book differs is_cast line (said.Fault fault) h e = cc
-no_blame sheet book differs is_cast line said.SayAgain h e = cc
-no_blame sheet book differs is_cast line said.NoneDiffers h e = cc
-no_blame sheet book differs is_cast line said.Waiting h e = cc
-no_blame sheet book differs is_cast line (said.Refused why) h e = h
-no_blame sheet book differs is_cast line (said.Penned entry settled) h e = h
+no_blame : (sheet : Sheet) (book : List Entry) (votes : List Ballot) (differs is_cast : Bool) (line : List ℕ) (answer : Said) → ComesTo sheet book votes differs is_cast line answer → IsErrOf (end_of answer) ends.Device → ⊥
+no_blame sheet book votes differs is_cast line said.Quit h e = cc
+no_blame sheet book votes differs is_cast line said.List h e = cc
+no_blame sheet book votes differs is_cast line said.Help h e = cc
+no_blame sheet book votes differs is_cast line said.HelpShort h e = cc
+no_blame sheet book votes differs is_cast line (said.Unclear unclear) h e = cc
+no_blame sheet book votes differs is_cast line (said.Fault fault) h e = cc
+no_blame sheet book votes differs is_cast line said.SayAgain h e = cc
+no_blame sheet book votes differs is_cast line said.NoneDiffers h e = cc
+no_blame sheet book votes differs is_cast line said.Waiting h e = cc
+no_blame sheet book votes differs is_cast line (said.Refused why) h e = h
+no_blame sheet book votes differs is_cast line (said.Penned entry settled) h e = h
 
 -- the kind of a desk's runs, by what it depends on
 abbrev kind_with : {D : Type 0} → (DeskId → ℕ → FileView D) → (D → Faults) → (ℕ → ℕ) → Sheet → DeskId → ℕ → ℕ → ℕ → Kind (DeskProcess D) DeskCall
@@ -151,6 +152,15 @@ module _ {S B D : Type 0} {g : Files S D} {h : Disks D} {b : Books B} where
   unmoved sheet k call log step n =
       record { same = same_here k; out = []; fine = All-nil IsMessage; passed = sym (append-nil log); step = step; blame = λ runs. blameless (course_after call) _ _ n refl }
 
+  -- bytes came that don't open
+  pub passes : (sheet : Sheet) (k : Desk S B D g h b) (warned later : Warned) (turns : ℕ) (course : Course) (log : List Passed) (x : List Input) (s t : Option (List ℕ)) →
+      later ≡ warned_unopened warned → course ≡ further → Appends s t (unopened_text warned) →
+      DeskGoes sheet k k (process_of k warned turns further) (process_of k later turns course) log log x x s t
+  passes sheet k warned later turns course log x s t tells is text =
+      called sheet k k Unopened warned turns (process_of k later turns course) log log log x x s t
+      (unmoved sheet k Unopened log (refl, refl) (λ e. (cc))) (sym (append-nil log)) (sym (append-nil x))
+      (ap (λ (w : Warned). process_of k w turns course) tells ∙ ap (λ (o : Course). process_of k (warned_unopened warned) turns o) is) text
+
   -- its scorer types no more
   pub typing_over : (sheet : Sheet) (k : Desk S B D g h b) (warned : Warned) (turns : ℕ) (log : List Passed) (x y : List Input) (s : Option (List ℕ)) → y ≡ x ++ End ∷ [] →
       DeskGoes sheet k k (process_of k warned turns further) (process_of k warned turns (Err ends.NoMoreLines)) log log x y s s
@@ -172,7 +182,7 @@ module _ {S B D : Type 0} {g : Files S D} {h : Disks D} {b : Books B} where
   -- ---- the calls themselves
 
   -- a line that says no entry
-  nothing_said : (sheet : Sheet) (k : Desk S B D g h b) (line : List ℕ) (answer : Said) → ComesTo sheet (state_of k).book (nat_lt 0 (state_of k).seat.position.round) (is_some (state_of k).seat.mine) line answer →
+  nothing_said : (sheet : Sheet) (k : Desk S B D g h b) (line : List ℕ) (answer : Said) → ComesTo sheet (state_of k).book (state_of k).votes (nat_lt 0 (state_of k).seat.position.round) (is_some (state_of k).seat.mine) line answer →
       DeskStep sheet (view_of k) (game_of k) (innings_of k) (state_of k) (Typed line answer) [] (state_of k)
   nothing_said sheet k line said.Quit w = (w, refl, refl)
   nothing_said sheet k line said.List w = (w, refl, refl)
@@ -186,8 +196,8 @@ module _ {S B D : Type 0} {g : Files S D} {h : Disks D} {b : Books B} where
   nothing_said sheet k line (said.Refused why) w = absurd w
   nothing_said sheet k line (said.Penned e settled) w = absurd w
 
-  pub unpenned : (sheet : Sheet) (k : Desk S B D g h b) (line : List ℕ) (answer : Said) (log : List Passed) → ComesTo sheet (state_of k).book (nat_lt 0 (state_of k).seat.position.round) (is_some (state_of k).seat.mine) line answer → Calls sheet k k (Typed line answer) log log
-  unpenned sheet k line answer log w = unmoved sheet k (Typed line answer) log (nothing_said sheet k line answer w) (no_blame sheet (state_of k).book _ _ line answer w)
+  pub unpenned : (sheet : Sheet) (k : Desk S B D g h b) (line : List ℕ) (answer : Said) (log : List Passed) → ComesTo sheet (state_of k).book (state_of k).votes (nat_lt 0 (state_of k).seat.position.round) (is_some (state_of k).seat.mine) line answer → Calls sheet k k (Typed line answer) log log
+  unpenned sheet k line answer log w = unmoved sheet k (Typed line answer) log (nothing_said sheet k line answer w) (no_blame sheet (state_of k).book _ _ _ line answer w)
 
   abbrev PenStep : Desk S B D g h b → Entry → Result Penned Refusal → Desk S B D g h b → Type 0
   PenStep k e r l = AreSent (game_of k) (sent r) (λ out. Pens (view_of k) (rules_of k) (state_of k) e (pen_answer r) (state_of l) out)
@@ -196,7 +206,7 @@ module _ {S B D : Type 0} {g : Files S D} {h : Disks D} {b : Books B} where
   PenBlame k r l = BlamesDisk refusals.Device (g.room (length (votes_of k) + 1) ≤ h.cap (disk_of k)) r (h.faults (disk_of k)) (h.faults (disk_of l))
 
   -- the entry is penned
-  pub penned : (sheet : Sheet) (k l : Desk S B D g h b) (line : List ℕ) (e : Entry) (p : Penned) (before after : List Passed) → SameOwner k l → SaysEntry sheet (state_of k).book (state_of k).seat.position.round line e →
+  pub penned : (sheet : Sheet) (k l : Desk S B D g h b) (line : List ℕ) (e : Entry) (p : Penned) (before after : List Passed) → SameOwner k l → SaysEntry sheet (state_of k).book (state_of k).votes (state_of k).seat.position.round line e →
       PenStep k e (Ok p) l → PenBlame k (Ok p) l → after ≡ before ++ Sent p.send ∷ [] → Calls sheet k l (Typed line (said.Penned e p.settled)) before after
   penned sheet k l line e p before after same says step blame sent' = record {
     same = same;
@@ -220,7 +230,7 @@ module _ {S B D : Type 0} {g : Files S D} {h : Disks D} {b : Books B} where
   refuses k l e refusals.SlotsFull out runs r blame = blameless further _ _ (λ q. (cc)) (blame.same (λ q. (cc)))
   refuses k l e (refusals.Book why) out runs r blame = blameless further _ _ (λ q. (cc)) (blame.same (λ q. (cc)))
 
-  pub refused : (sheet : Sheet) (k l : Desk S B D g h b) (line : List ℕ) (e : Entry) (why : Refusal) (log : List Passed) → SameOwner k l → SaysEntry sheet (state_of k).book (state_of k).seat.position.round line e →
+  pub refused : (sheet : Sheet) (k l : Desk S B D g h b) (line : List ℕ) (e : Entry) (why : Refusal) (log : List Passed) → SameOwner k l → SaysEntry sheet (state_of k).book (state_of k).votes (state_of k).seat.position.round line e →
       PenStep k e (Err why) l → PenBlame k (Err why) l → Calls sheet k l (Typed line (said.Refused why)) log log
   refused sheet k l line e why log same says step blame = record {
     same = same;

@@ -13,7 +13,7 @@ use Rattle.wire.specs.declared.what.What.TheVariants as whats
 use Rattle.desk.specs.declared.refusal.Refusal.TheVariants as refusals
 use Rattle.live.specs.Ends.{Course, further}
 use Rattle.live.specs.Runs.{Moment, Run, last_of}
-use Rattle.live.specs.Desks.{DeskCall, DeskProcess, DeskStep, DiskView, Ended, Given, Ticked, TurnEnded, Typed, TypingEnded, course_after, desk_kind}
+use Rattle.live.specs.Desks.{DeskCall, DeskProcess, DeskStep, DiskView, Ended, Given, Ticked, TurnEnded, Typed, TypingEnded, Unopened, course_after, desk_kind}
 use Rattle.live.specs.declared.said.Said.TheVariants as said
 use Rattle.live.specs.declared.ends.DeskEnd.{DeskEnd}
 use Rattle.live.specs.declared.ends.DeskEnd.TheVariants as ends
@@ -54,6 +54,7 @@ module _ {Disk : Type 0} (sheet : Sheet) (view : FileView Disk) (game innings : 
   runs_on (Typed line (said.Refused refusals.SlotsFull)) r e = unchanged r.2.1
   runs_on (Typed line (said.Refused (refusals.Book why))) r e = unchanged r.2.1
   runs_on TypingEnded r e = same_desk r.0
+  runs_on Unopened r e = same_desk r.0
   runs_on (Given bytes (whats.Bad fault)) r e = same_desk r.2
   runs_on (Given bytes (whats.Heard h)) r e = hears r.0 h r.2
   runs_on (Given bytes whats.Asked) r e = asked r.0 r.2

@@ -13,22 +13,25 @@ use Rattle.board.specs.declared.refusal.BoardRefusal.{BoardRefusal}
 use Rattle.board.specs.declared.board.Board.{Board}
 use Rattle.board.specs.Board.{SameMatch, book_of, game_of, state_of}
 use Rattle.board.specs.Takes.{Takes}
-use Rattle.live.specs.Notices.{notices_after, telling_after}
+use Rattle.live.specs.Notices.{notices_after, notices_unopened, telling_after, telling_unopened}
 use Rattle.live.specs.Passed.{Passed, Came, sends}
 use Rattle.live.specs.Runs.{Goes, Kind, known}
 use Rattle.live.specs.declared.link.TheConstants.{MOST_TAKEN}
 use Rattle.live.specs.declared.notices.Notice.{Notice}
 use Rattle.live.specs.declared.notices.Telling.{Telling}
 
--- a call of a board: it is given bytes, it ticks, or its turn ends
+-- a call of a board: it is given bytes, bytes came that don't open, of which it is given nothing, it ticks, or its turn
+-- ends
 pub data BoardCall : Type 0 where
   Given : List ℕ → Result What BoardRefusal → BoardCall
+  Unopened : BoardCall
   Ticked : BoardCall
   TurnEnded : BoardCall
 
 -- in a match of this number and innings a side
 abbrev pub BoardStep : ℕ → ℕ → BoardState → BoardCall → List Message → BoardState → Type 0
 BoardStep game innings k (Given bytes answer) out l = Takes (book_refusal innings) game k bytes answer l × (out ≡ [])
+BoardStep game innings k Unopened out l = (l ≡ k) × (out ≡ [])
 BoardStep game innings k Ticked out l = BoardTicks k out × (l ≡ k)
 BoardStep game innings k TurnEnded out l = (l ≡ k) × (out ≡ [])
 
@@ -50,6 +53,7 @@ begun k turns telling notices =
 -- in a turn a board takes eight datagrams at most
 abbrev pub MayCall : BoardTurn → BoardCall → Type 0
 MayCall k (Given bytes answer) = k.taken < MOST_TAKEN
+MayCall k Unopened = k.taken < MOST_TAKEN
 MayCall k call = Unit {0}
 
 abbrev pub after_call : BoardTurn → BoardCall → BoardState → BoardTurn
@@ -60,6 +64,14 @@ after_call k (Given bytes answer) l = record {
   taken = k.taken + 1;
   telling = telling_after k.telling answer;
   notices = notices_after k.telling k.notices answer;
+}
+after_call k Unopened l = record {
+  board = l;
+  turns = k.turns;
+  had = k.had;
+  taken = k.taken + 1;
+  telling = telling_unopened k.telling;
+  notices = notices_unopened k.telling k.notices;
 }
 after_call k Ticked l = record k { board = l }
 after_call k TurnEnded l = begun l (k.turns + 1) k.telling k.notices

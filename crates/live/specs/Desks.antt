@@ -23,15 +23,16 @@ use Rattle.live.specs.Ends.{Course, end_at, end_of, further, known_at}
 use Rattle.live.specs.Passed.{Passed, Came, sends}
 use Rattle.live.specs.Runs.{Goes, Kind, with_text}
 use Rattle.live.specs.Saying.{Types}
-use Rattle.live.specs.Texts.{came_text, greeting, said_text, unwarned, warned_after}
+use Rattle.live.specs.Texts.{came_text, greeting, said_text, unopened_text, unwarned, warned_after, warned_unopened}
 use Rattle.live.specs.Typing.{Input, Line, End}
 
--- a call of a desk: its scorer's line, the end of its scorer's lines, bytes that it is given, a tick, or the end of a
--- turn
+-- a call of a desk: its scorer's line, the end of its scorer's lines, bytes that it is given, bytes that don't open, of
+-- which it is given nothing, a tick, or the end of a turn
 pub data DeskCall : Type 0 where
   Typed : List ℕ → Said → DeskCall
   TypingEnded : DeskCall
   Given : List ℕ → What → DeskCall
+  Unopened : DeskCall
   Ticked : DeskCall
   TurnEnded : DeskCall
 
@@ -42,6 +43,7 @@ abbrev pub DeskStep :
 DeskStep s view game innings k (Typed line said) out l = Types s view (book_refusal innings) k line said l out
 DeskStep s view game innings k TypingEnded out l = (l ≡ k) × (out ≡ [])
 DeskStep s view game innings k (Given bytes what) out l = Takes view game k bytes what l out
+DeskStep s view game innings k Unopened out l = (l ≡ k) × (out ≡ [])
 DeskStep s view game innings k Ticked out l = Ticks k out × (l ≡ k)
 DeskStep s view game innings k TurnEnded out l = (l ≡ k) × (out ≡ [])
 
@@ -72,6 +74,7 @@ pub record DeskProcess (Disk : Type 0) : Type 0 where
 
 abbrev pub warned_at : Warned → DeskCall → Warned
 warned_at warned (Given bytes what) = warned_after warned what
+warned_at warned Unopened = warned_unopened warned
 warned_at warned call = warned
 
 abbrev pub turns_at : ℕ → DeskCall → ℕ
@@ -104,6 +107,7 @@ abbrev pub told_of : {Disk : Type 0} → Sheet → ℕ → DeskProcess Disk → 
 told_of sheet innings k (Typed line said) l = said_text sheet innings k.desk.seat.position.place l.desk.book said
 told_of sheet innings k (Given bytes what) l =
     came_text sheet innings k.desk.seat.position.place l.desk.book k.warned what
+told_of sheet innings k Unopened l = unopened_text k.warned
 told_of sheet innings k call l = []
 
 abbrev pub desk_kind : {Disk : Type 0} → Sheet → FileView Disk → DiskView Disk → ℕ → ℕ → Kind (DeskProcess Disk) DeskCall

@@ -1,5 +1,7 @@
 -- What a log tells.
 use Rattle.std.specs.Prelude.{List, [], ◌∷◌, ◌++◌, take}
+use Rattle.live.specs.declared.log.CarriedLog.{CarriedLog}
+use Rattle.live.specs.declared.log.CarriedLog as carried
 use Rattle.live.specs.declared.log.InputLog.{InputLog}
 use Rattle.live.specs.declared.log.InputLog as inputs
 use Rattle.live.specs.declared.log.Log.{Log, Empty, Sent', Came'}
@@ -13,6 +15,11 @@ abbrev pub passed_of : Log → List Passed
 passed_of Empty = []
 passed_of (Sent' marker before bytes) = passed_of before ++ Sent bytes.value ∷ []
 passed_of (Came' marker before buffer count) = passed_of before ++ Came (take count.value buffer.value) ∷ []
+
+abbrev pub carried_of : CarriedLog → List Passed
+carried_of carried.Empty = []
+carried_of (carried.Sent' marker before bytes) = carried_of before ++ Sent bytes.value ∷ []
+carried_of (carried.Came' marker before buffer count) = carried_of before ++ Came (take count.value buffer.value) ∷ []
 
 abbrev pub inputs_of : InputLog → List Input
 inputs_of inputs.Empty = []

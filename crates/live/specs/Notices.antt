@@ -5,14 +5,15 @@ use Rattle.wire.specs.declared.what.What.{What}
 use Rattle.wire.specs.declared.what.What.TheVariants as whats
 use Rattle.board.specs.declared.refusal.BoardRefusal.{BoardRefusal}
 use Rattle.board.specs.declared.refusal.BoardRefusal.TheVariants as refusals
-use Rattle.live.specs.Texts.{at_place, bad_text, unwarned, warned_after}
+use Rattle.live.specs.Texts.{at_place, bad_text, unopened_line, unwarned, warned_after, warned_unopened}
 use Rattle.live.specs.declared.notices.Notice.{Notice}
-use Rattle.live.specs.declared.notices.Notice.TheVariants.{Bytes, TwoVotes, BadVotes}
+use Rattle.live.specs.declared.notices.Notice.TheVariants.{Bytes, Unopened, TwoVotes, BadVotes}
 use Rattle.live.specs.declared.notices.Telling.{Telling}
 
 -- the line of a notice
 abbrev pub notice_text : Notice → List ℕ
 notice_text (Bytes fault) = bad_text fault
+notice_text Unopened = unopened_line
 notice_text TwoVotes = codes "peer: two votes\n"
 notice_text (BadVotes place) = at_place place (codes "refused 64 BadVotes: no score is shown from here on")
 
@@ -32,6 +33,13 @@ notices_after k notices (Ok (whats.Bad fault)) = noted k.warned.of_bytes notices
 notices_after k notices (Ok (whats.Heard heards.TwoVotes)) = noted k.warned.of_votes notices TwoVotes
 notices_after k notices (Ok what) = notices
 notices_after k notices (Err (refusals.BadVotes place)) = noted k.is_stopped notices (BadVotes place)
+
+-- the notices once bytes came that don't open: one, until a vote that it takes comes
+abbrev pub notices_unopened : Telling → List Notice → List Notice
+notices_unopened k notices = noted k.warned.of_seal notices Unopened
+
+abbrev pub telling_unopened : Telling → Telling
+telling_unopened k = record k { warned = warned_unopened k.warned }
 
 -- what was told after that answer
 abbrev pub telling_after : Telling → Result What BoardRefusal → Telling

@@ -75,6 +75,13 @@ warning true text = []
 abbrev pub bad_text : WireFault → List ℕ
 bad_text fault = numbered (codes "peer:") (wire_number fault) (wire_name fault)
 
+-- of bytes that came and don't open
+abbrev pub unopened_line : List ℕ
+unopened_line = codes "peer: another sheet or another key\n"
+
+abbrev pub unopened_text : Warned → List ℕ
+unopened_text warned = warning warned.of_seal unopened_line
+
 -- of a vote that came at this place, with the book after it
 abbrev pub heard_text : Sheet → ℕ → ℕ → List Entry → Warned → Heard → List ℕ
 heard_text sheet innings place book warned Heard.Noted = at_place place (codes "the other has written")
@@ -92,7 +99,7 @@ came_text sheet innings place book warned what = []
 
 -- nothing was told of a peer
 abbrev pub unwarned : Warned
-unwarned = record { of_bytes = false; of_desk = false; of_votes = false }
+unwarned = record { of_bytes = false; of_seal = false; of_desk = false; of_votes = false }
 
 -- what was told of a peer since a vote that is news came, after the answer to what came; anyone's asks are as any
 -- desk's, and a vote is repeated until it is answered, so that they are no sign that all is right
@@ -104,6 +111,10 @@ warned_after warned (whats.Heard Heard.Noted) = unwarned
 warned_after warned (whats.Heard Heard.Agreed) = unwarned
 warned_after warned (whats.Heard Heard.Differ) = unwarned
 warned_after warned what = warned
+
+-- once bytes came that don't open
+abbrev pub warned_unopened : Warned → Warned
+warned_unopened warned = record warned { of_seal = true }
 
 -- of a desk's position as it begins: its vote is cast, or the scorers differed there, or neither
 abbrev pub place_state : Position → Bool → List ℕ

@@ -97,6 +97,10 @@ fn take_next<B: BookOf, L: Link, C: Clock, N: Notices>(
             give(board, &buffer[..count], notices, between, now);
             true
         }
+        Taken::Unopened => {
+            between.telling = between.telling.unopened(notices);
+            true
+        }
         Taken::Nothing | Taken::Lost => false,
     }
 }

@@ -25,7 +25,8 @@ pub fn pen<S: SlotsOf, B: BookOf + Drop, L: Link>(
     ensures { Calls sheet.now desk.old desk.new (Typed line.now result) (L.log link.old) (L.log link.new) }
 {
     let differs = desk.position().round > 0;
-    let entry = match entry_said(line, desk.book(), sheet, differs, desk.has_voted()) {
+    let last = desk.last_entry();
+    let entry = match entry_said(line, desk.book(), sheet, last, differs, desk.has_voted()) {
         Ok(entry) => entry,
         Err(said) => return said,
     };

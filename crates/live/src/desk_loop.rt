@@ -1,6 +1,7 @@
 //! A desk's process.
 
 ghost use Rattle.std.specs.Prelude.{◌≡◌, ◌++◌, ◌∷◌, [], ℕ, List, Option, true, false, Err, IfErr, OnErr, OnOk, is_some};
+ghost use Rattle.std.specs.Io.KnownBytes.{Appends};
 ghost use Rattle.entry_log.specs.Blame.{BlamesDisk};
 ghost use Rattle.cards.specs.Sheet.{Sheet};
 ghost use Rattle.streams.specs.Watched.{Prints, has_failed, stream_of};
@@ -9,7 +10,7 @@ ghost use Rattle.live.specs.Desks.{DeskGoes, DeskRuns, FitsLongest, innings_of, 
 ghost use Rattle.live.specs.Ends as ends;
 ghost use Rattle.live.specs.Ends.{course_of, further, known_at, turns_after, written};
 ghost use Rattle.live.specs.Passed.{Came, Passed};
-ghost use Rattle.live.specs.Texts.{greeting};
+ghost use Rattle.live.specs.Texts.{greeting, unopened_text, warned_unopened};
 ghost use Rattle.live.specs.Typing.{Input};
 
 use crate::clock::Clock;
@@ -19,7 +20,7 @@ use crate::hearing::promises_more;
 use crate::keys::{Keys, LINE_ROOM, Typed};
 use crate::link::{Link, MOST_TAKEN, ROOM, Taken};
 use crate::pace::Pace;
-use crate::texts::{print_came, print_greeting, print_said};
+use crate::texts::{print_came, print_greeting, print_said, print_unopened};
 use crate::warned::Warned;
 use cards::MatchSheet;
 use corrections::BookOf;
@@ -104,6 +105,19 @@ fn hear<S: SlotsOf, B: BookOf + Drop, L: Link, W: Write>(
     told(print_came(out, sheet, at.place, warned, what, desk.book()))
 }
 
+/// Tells the scorer that bytes came that don't open, unless it was told since a vote that is news came.
+fn pass_over<W: Write>(out: &mut Watched<W>, between: &mut Between) -> Result<(), DeskEnd>
+    ensures warned { between.new.warned ≡ warned_unopened between.old.warned }
+    ensures text { Appends (known_at result (W.contents (stream_of out.old)))
+        (known_at result (W.contents (stream_of out.new))) (unopened_text between.old.warned) }
+    ensures course { course_of result ≡ further }
+    ensures failed { result ≡ Err DeskEnd.Write → has_failed out.new ≡ true }
+{
+    let warned = between.warned;
+    between.warned = warned.after_unopened();
+    told(print_unopened(out, warned))
+}
+
 /// Has a desk say what it says unasked, where that is due.
 fn say<S: SlotsOf, B: BookOf + Drop, L: Link>(desk: &Desk<S, B>, link: &mut L, is_due: bool)
     ensures { (sheet : Sheet) (typed : List Input) (warned : Warned) (turns : ℕ) (told : Option (List ℕ)) →
@@ -142,6 +156,10 @@ fn take_next<S: SlotsOf, B: BookOf + Drop, L: Link, C: Clock, W: Write>(
     match link.take(&mut buffer) {
         Taken::Datagram(count) => {
             hear(desk, sheet, &buffer[..count], link, out, between, now)?;
+            Ok(true)
+        }
+        Taken::Unopened => {
+            pass_over(out, between)?;
             Ok(true)
         }
         Taken::Nothing | Taken::Lost => Ok(false),

@@ -16,6 +16,8 @@ use wire::{What, WireFault};
 pub enum Notice {
     /// Bytes that are no message of the match.
     Bytes(WireFault),
+    /// Bytes that don't open.
+    Unopened,
     /// Two votes of one desk for one position.
     TwoVotes,
     /// Both desks' votes of this place for an entry that its book refuses. What it has shown may be wrong.
@@ -44,6 +46,7 @@ pub fn print_notice<W: Write>(out: &mut Watched<W>, notice: Notice) -> Result<()
             let code = fault.number();
             writeln!(out, "peer: {code} {fault}")
         }
+        Notice::Unopened => writeln!(out, "peer: another sheet or another key"),
         Notice::TwoVotes => writeln!(out, "peer: two votes"),
         Notice::BadVotes { place } => {
             writeln!(
@@ -91,6 +94,18 @@ impl Telling {
             Err(BoardRefusal::BadVotes { place }) => {
                 note(notices, self.is_stopped, Notice::BadVotes { place });
             }
+        }
+    }
+
+    /// Tells that bytes came that don't open, unless it was told, and answers what was told then.
+    pub fn unopened<N: Notices>(self, notices: &mut N) -> Telling
+        ensures told { N.told notices.new ≡ texts.notices_unopened self (N.told notices.old) }
+        ensures after { result ≡ texts.telling_unopened self }
+    {
+        note(notices, self.warned.of_seal, Notice::Unopened);
+        Telling {
+            warned: self.warned.after_unopened(),
+            ..self
         }
     }
 

@@ -38,7 +38,7 @@ close
 void
 fix p E         place p is to read E, any line above
 late p E        E, any line above, belongs after place p
-again E         E, where you two differ
+again [E]       E, or what you wrote before, where you two differ
 list            the last twelve entries, with their places
 help            this
 help short      short lines, which stand for these
@@ -295,6 +295,15 @@ pub fn print_came<B: BookOf, W: Write>(
     ensures failed { OnErr result (has_failed out.new ≡ true) }
 {
     print_news(out, sheet, place, warned, what, book)?;
+    out.flush()
+}
+
+/// Tells the scorer at once that bytes came that don't open, unless it was told.
+pub fn print_unopened<W: Write>(out: &mut Watched<W>, warned: Warned) -> Result<(), WriteFailed>
+    ensures text { OnOk result (Prints W.contents out.old out.new (texts.unopened_text warned)) }
+    ensures failed { OnErr result (has_failed out.new ≡ true) }
+{
+    print_warning(out, warned.of_seal, "peer: another sheet or another key\n")?;
     out.flush()
 }
 

@@ -12,6 +12,8 @@ use wire::What;
 pub struct Warned {
     /// That bytes came that are no message of the match.
     pub of_bytes: bool,
+    /// That bytes came that don't open.
+    pub of_seal: bool,
     /// That the peer is the same desk.
     pub of_desk: bool,
     /// That two votes of the other desk came for one position.
@@ -22,9 +24,20 @@ impl Warned {
     /// Nothing was told.
     pub const NOTHING: Warned = Warned {
         of_bytes: false,
+        of_seal: false,
         of_desk: false,
         of_votes: false,
     };
+
+    /// What was told once bytes came that don't open.
+    pub fn after_unopened(self) -> Warned
+        ensures { result ≡ texts.warned_unopened self }
+    {
+        Warned {
+            of_seal: true,
+            ..self
+        }
+    }
 
     /// What was told after the answer to bytes that came.
     pub fn after(self, what: What) -> Warned

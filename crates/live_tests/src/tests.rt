@@ -2,17 +2,18 @@
 ghost use Rattle.std.specs.Prelude.{◌≡◌, ◌<◌, []};
 ghost use Rattle.notation.specs.Written.{IsEntry};
 
-use agree_core::{Ask, Asker, DeskId, Message, Vote};
+use agree_core::{Ask, Asker, DeskId, Message};
 use cards::{MatchSheet, plain_sheet};
 use corrections::{Book, BookOf};
 use desk::{Desk, OpenRefusal};
 use entry_log::{MemDisk, Slots};
 use live::{DeskEnd, begin_desk, run_desk};
 use memory::{Lines, Queue, Ticking};
-use notation::{Entry, read_line};
+use notation::Entry;
 use std::alloc::Global;
 use std::process::Abort;
 use streams::Watched;
+use tests_support::{entry_in, vote_of};
 use wire::bytes_of;
 
 mod begins;
@@ -62,9 +63,9 @@ fn new_desk(rt: &impl Abort, alloc: Global, desk: DeskId) -> Station {
 fn entry(rt: &impl Abort, line: &str) -> Entry
     ensures { IsEntry result }
 {
-    match read_line(line.as_bytes()) {
-        Ok(entry) => entry,
-        Err(_) => panic!(rt; "no entry: {line}"),
+    match entry_in(line) {
+        Some(entry) => entry,
+        None => panic!(rt; "no entry: {line}"),
     }
 }
 
@@ -73,13 +74,7 @@ fn vote(rt: &impl Abort, desk: DeskId, place: u32, round: u32, line: &str) -> [u
     requires place { place < 8192 }
     requires round { round < 256 }
 {
-    let vote = Vote {
-        desk,
-        place,
-        round,
-        entry: entry(rt, line),
-    };
-    bytes_of(7, &Message::Vote(vote))
+    vote_of(desk, place, round, entry(rt, line))
 }
 
 /// An ask for the votes of the first position.

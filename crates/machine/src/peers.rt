@@ -4,10 +4,10 @@ ghost use Rattle.std.specs.Prelude.{◌≡◌, ◌≤◌, ℕ};
 
 use crate::address::MOST_PEERS;
 use crate::port::{Port, is_late, missed};
-use live::{Link, Log, Taken};
+use live::{CarriedLog, SealedCarrier, Taken};
+use seal::Seal;
 use std::io::{self, ErrorKind, Write};
 use std::net::{Net, SocketAddr};
-use wire::message_of;
 
 /// Whether a send was refused by the machine, and not held up for a moment.
 fn is_refusal(error: &io::Error) -> bool {
@@ -20,12 +20,12 @@ fn is_refusal(error: &io::Error) -> bool {
 struct Mail<E> {
     port: Port,
     peers: [Option<SocketAddr>; MOST_PEERS],
-    /// The match's number.
-    game: u64,
+    /// What the match's datagrams are sealed with.
+    seal: Seal,
     errors: E,
     /// Of which peers it was told that nothing can be sent to them.
     refused: [bool; MOST_PEERS],
-    /// Whether it was told of a message of the match that came from no peer.
+    /// Whether it was told of a datagram of the match that came from no peer.
     is_stranger_told: bool,
 }
 
@@ -36,8 +36,8 @@ impl<E: Write + Drop> Mail<E> {
     }
 
     /// Sends bytes to a peer. That the machine refuses it is told once.
-    fn send_to(&mut self, bytes: &[u8; 48], address: SocketAddr, is_told: bool) -> bool {
-        match self.port.send(bytes, address) {
+    fn send_to(&mut self, bytes: &[u8; 64], address: SocketAddr, is_told: bool) -> bool {
+        match self.port.send(bytes.as_slice(), address) {
             Err(error) if !is_told && is_refusal(&error) => {
                 let _ = writeln!(self.errors, "cannot send to {address}");
                 true
@@ -47,7 +47,7 @@ impl<E: Write + Drop> Mail<E> {
     }
 
     /// Sends bytes to every peer.
-    fn send(&mut self, bytes: &[u8; 48]) {
+    fn send(&mut self, bytes: &[u8; 64]) {
         for index in 0..MOST_PEERS {
             if let Some(address) = self.peers[index] {
                 self.refused[index] = self.send_to(bytes, address, self.refused[index]);
@@ -55,19 +55,19 @@ impl<E: Write + Drop> Mail<E> {
         }
     }
 
-    /// Tells once that a message of the match came from an address that isn't a peer's.
+    /// Tells once that a datagram of the match, which opens, came from an address that isn't a peer's.
     fn pass_over(&mut self, bytes: &[u8], from: SocketAddr) {
-        if !self.is_stranger_told && message_of(self.game, bytes).is_ok() {
+        if !self.is_stranger_told && self.seal.opened(bytes).is_some() {
             let _ = writeln!(self.errors, "not a peer: {from}");
             self.is_stranger_told = true;
         }
     }
 
     /// The next datagram, if it is a peer's and comes in time. That of a stranger is passed over, one a call.
-    fn receive(&mut self, buffer: &mut [u8; 64]) -> Taken
-        ensures { (count : ℕ) → result ≡ Taken.Datagram count → count ≤ 64 }
+    fn receive(&mut self, buffer: &mut [u8; 65]) -> Taken
+        ensures { (count : ℕ) → result ≡ Taken.Datagram count → count ≤ 65 }
     {
-        let (count, from) = match self.port.receive(buffer) {
+        let (count, from) = match self.port.receive(buffer.as_mut_slice()) {
             Ok(came) => came,
             Err(error) => return missed(&error),
         };
@@ -80,20 +80,20 @@ impl<E: Write + Drop> Mail<E> {
 }
 
 /// A socket at an address, which sends to its peers and takes what they sent. Standard error is told once of each
-/// peer to which the machine sends nothing, and once of a message of the match that comes from elsewhere.
+/// peer to which the machine sends nothing, and once of a datagram of the match that comes from elsewhere.
 #[derive(Drop)]
 pub struct Peers<E> {
     mail: Mail<E>,
-    log: Log,
+    log: CarriedLog,
 }
 
 impl<E: Write + Drop> Peers<E> {
-    /// A socket at this address, in the match of this number, of which no call waits without a limit.
+    /// A socket at this address, in the match with this seal, of which no call waits without a limit.
     pub fn new(
         net: &impl Net,
         at: SocketAddr,
         peers: [Option<SocketAddr>; MOST_PEERS],
-        game: u64,
+        seal: Seal,
         errors: E,
     ) -> io::Result<Peers<E>> {
         let port = Port::new(net, at)?;
@@ -101,35 +101,34 @@ impl<E: Write + Drop> Peers<E> {
             mail: Mail {
                 port,
                 peers,
-                game,
+                seal,
                 errors,
                 refused: [false; MOST_PEERS],
                 is_stranger_told: false,
             },
-            log: Log::Empty,
+            log: CarriedLog::Empty,
         })
     }
 }
 
-impl<E: Write + Drop> Link for Peers<E> {
-    ghost use Rattle.live.specs.Logs.{passed_of};
+impl<E: Write + Drop> SealedCarrier for Peers<E> {
+    ghost use Rattle.live.specs.Logs.{carried_of};
 
-    ghost log = { λ peers. passed_of peers.log };
+    ghost carried = { λ peers. carried_of peers.log };
 
-    fn send(&mut self, bytes: &[u8; 48]) {
+    fn carry(&mut self, bytes: &[u8; 64]) {
         self.mail.send(bytes);
         self.log = self.log.sent(bytes);
     }
 
     /// Waits 10 ms at most.
-    fn take(&mut self, buffer: &mut [u8; 64]) -> Taken {
+    fn bring(&mut self, buffer: &mut [u8; 65]) -> Taken {
         match self.mail.receive(buffer) {
             Taken::Datagram(count) => {
                 self.log = self.log.came(buffer, count);
                 Taken::Datagram(count)
             }
-            Taken::Nothing => Taken::Nothing,
-            Taken::Lost => Taken::Lost,
+            missed => missed,
         }
     }
 }

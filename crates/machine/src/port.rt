@@ -1,8 +1,8 @@
 //! A socket of which no call waits long.
 
-ghost use Rattle.std.specs.Prelude.{◌≡◌, ◌≤◌, ◌⊎◌, IfOk};
+ghost use Rattle.std.specs.Prelude.{◌≡◌, ◌≤◌, ◌⊎◌, IfOk, length};
 
-use live::{ROOM, Taken};
+use live::Taken;
 use std::io::{self, ErrorKind};
 use std::net::{Net, SocketAddr, UdpSocket};
 use std::time::Duration;
@@ -37,16 +37,17 @@ impl Port {
     }
 
     /// Sends bytes to an address.
-    pub fn send(&self, bytes: &[u8; 48], to: SocketAddr) -> io::Result<usize> {
-        self.socket.send_to(bytes.as_slice(), to)
+    pub fn send(&self, bytes: &[u8], to: SocketAddr) -> io::Result<usize> {
+        self.socket.send_to(bytes, to)
     }
 
-    /// The next datagram, of so many bytes, and where it came from.
-    pub fn receive(&self, buffer: &mut [u8; 64]) -> io::Result<(usize, SocketAddr)>
-        ensures { IfOk result (λ came. came.0 ≤ 64) }
+    /// The next datagram, of so many bytes, as far as there is room, and where it came from.
+    pub fn receive(&self, buffer: &mut [u8]) -> io::Result<(usize, SocketAddr)>
+        ensures { IfOk result (λ came. came.0 ≤ length buffer.old) }
     {
-        let (count, from) = self.socket.recv_from(buffer.as_mut_slice())?;
-        Ok((count.min(ROOM), from))
+        let room = buffer.len();
+        let (count, from) = self.socket.recv_from(buffer)?;
+        Ok((count.min(room), from))
     }
 }
 

@@ -42,7 +42,7 @@ impl Ports {
 
     fn carry(&self, from: Asker, to: Asker, bytes: &[u8; 48]) -> io::Result<usize> {
         let address = self.of(to).address()?;
-        self.of(from).send(bytes, address)
+        self.of(from).send(bytes.as_slice(), address)
     }
 
     /// Sends bytes to the two other stations. What can't be sent is lost.
@@ -96,7 +96,7 @@ impl Link for Sockets {
 
     /// Waits 10 ms at most.
     fn take(&mut self, buffer: &mut [u8; 64]) -> Taken {
-        match self.ports.of(self.turn).receive(buffer) {
+        match self.ports.of(self.turn).receive(buffer.as_mut_slice()) {
             Ok((count, _)) => {
                 self.log = self.log.came(buffer, count);
                 Taken::Datagram(count)

@@ -51,6 +51,7 @@ module _ {Disk : Type 0} (s : Setting Disk Refusal) (game innings : ℕ) (rules 
   board_moment n k l (boards.Given bytes (Ok Device)) out at came h = absurd h.0
   board_moment n k l (boards.Given bytes (Ok Failed)) out at came h = absurd h.0
   board_moment n k l (boards.Given bytes (Err (BadVotes p))) out at came h = let t = h.0 in received n k l bytes t.0 (BoardAnswer.BadVotes p) out at came t.1 t.2 h.1
+  board_moment n k l boards.Unopened out at came h = unmoved n k l out at h.0 h.1
   board_moment n k l boards.Ticked out at came h =
       one s (Fits what v) v (events.Tick (stations.Board n)) (answers.Ticked (length out)) (with_it v n l out) tt
       (k, l, out, at, (h.0, refl, h.1), refl)

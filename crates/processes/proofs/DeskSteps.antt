@@ -138,13 +138,13 @@ module _ {Disk : Type 0} (s : Setting Disk Refusal) (game innings : ℕ) (rules 
     -- the desk's scorer types a line that says an entry, and it is penned with this answer
     abbrev SaysAndPens : List ℕ → PenAnswer Refusal → Type 0
     SaysAndPens line told =
-        (e : Entry) × SaysEntry sheet k.book k.seat.position.round line e
+        (e : Entry) × SaysEntry sheet k.book k.votes k.seat.position.round line e
         × Pens (s.view d (node v d).version) (book_refusal innings) k e told l out
 
     pens : (line : List ℕ) (told : PenAnswer Refusal) (h : SaysAndPens line told) → Pens (s.view d (node v d).version) s.rules k h.0 told l out
     pens line told h = subst (λ r. Pens (s.view d (node v d).version) r k h.0 told l out) (sym rules) h.2
 
-    pens_entry : (line : List ℕ) (e : Entry) (settled : Settled) → SaysEntry sheet k.book k.seat.position.round line e × Pens (s.view d (node v d).version) (book_refusal innings) k e (PenAnswer.Penned settled) l out → Moves (desks.Typed line (Penned e settled))
+    pens_entry : (line : List ℕ) (e : Entry) (settled : Settled) → SaysEntry sheet k.book k.votes k.seat.position.round line e × Pens (s.view d (node v d).version) (book_refusal innings) k e (PenAnswer.Penned settled) l out → Moves (desks.Typed line (Penned e settled))
     pens_entry line e settled h =
         penned s v d (DeskCalled d sheet (desks.Typed line (Penned e settled)) out l) k l e (PenAnswer.Penned settled) (answers.Penned settled) out at (λ u x. (refl, k, at, x, h.0))
         (pens line (PenAnswer.Penned settled) (e, h.0, h.1)) (refl, refl)
@@ -185,6 +185,7 @@ module _ {Disk : Type 0} (s : Setting Disk Refusal) (game innings : ℕ) (rules 
       received s v d (DeskCalled d sheet (desks.Given bytes whats.Asked) out l) k l bytes h.0 ReceiveAnswer.Asked (answers.Asked (has_any out)) out game at came h.1 h.2 (refl, refl)
   desk_moment sheet k l (desks.Given bytes whats.Device) out at came h =
       ask_failed s v d (DeskCalled d sheet (desks.Given bytes whats.Device) out l) calm k l bytes h.0 out game at came h.1 h.2
+  desk_moment sheet k l desks.Unopened out at came h = still sheet k l out at desks.Unopened h.0 h.1
   desk_moment sheet k l desks.Ticked out at came h =
       let e : (node v d).process ≡ Running l = at ∙ ap Running (sym h.1) in
       at_desk s v d (DeskCalled d sheet desks.Ticked out l) (events.Tick (stations.Desk d)) (answers.Ticked (length out)) (runs_on (node v d) l (node v d).due) out refl tt (k, at, h.0, refl, itself (node v d) l e)

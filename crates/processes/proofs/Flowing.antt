@@ -30,12 +30,12 @@ module _ {Disk : Type 0} where
   same_desk : (k l : DeskState Disk) (p : Process Disk) → p ≡ Running k → p ≡ Running l → k ≡ l
   same_desk k l p e f = cc
 
-  typed_is : (v u : Configuration Disk) (c d : DeskId) (s : Sheet) (line : List ℕ) (said : Said) (out : List Message) (l : DeskState Disk) (b : Ballot) (k : DeskState Disk) → TypedAs (DeskCalled d s (desks.Typed line said) out l) v u c b.entry → (node u c).process ≡ Running k → k.seat.position ≡ b.at → (c ≡ d) × (j : DeskState Disk) × ((node v d).process ≡ Running j) × (j.seat.position ≡ b.at) × SaysEntry s j.book b.at.round line b.entry
+  typed_is : (v u : Configuration Disk) (c d : DeskId) (s : Sheet) (line : List ℕ) (said : Said) (out : List Message) (l : DeskState Disk) (b : Ballot) (k : DeskState Disk) → TypedAs (DeskCalled d s (desks.Typed line said) out l) v u c b.entry → (node u c).process ≡ Running k → k.seat.position ≡ b.at → (c ≡ d) × (j : DeskState Disk) × ((node v d).process ≡ Running j) × (j.seat.position ≡ b.at) × SaysEntry s j.book j.votes b.at.round line b.entry
   typed_is v u c d s line said out l b k h at pos =
       let here : (node u d).process ≡ Running k = subst (λ (z : DeskId). (node u z).process ≡ Running k) h.0 at in
       let same : k ≡ h.1 = same_desk k h.1 (node u d).process here h.3 in
       let there : (λ (j : DeskState Disk). j.seat.position) h.1 ≡ b.at = subst (λ (j : DeskState Disk). j.seat.position ≡ b.at) same pos in
-      (h.0, h.1, h.2, there, subst (λ (z : Position). SaysEntry s ((λ (j : DeskState Disk). j.book) h.1) z.round line b.entry) there h.4)
+      (h.0, h.1, h.2, there, subst (λ (z : Position). SaysEntry s ((λ (j : DeskState Disk). j.book) h.1) ((λ (j : DeskState Disk). j.votes) h.1) z.round line b.entry) there h.4)
 
   -- an event that pens a ballot, in what happened
   types : (what : Happening Disk) (v u : Configuration Disk) (c : DeskId) (b : Ballot) (k : DeskState Disk) → TypedAs what v u c b.entry → (node u c).process ≡ Running k → k.seat.position ≡ b.at → TypesBallot v what c b
@@ -43,6 +43,7 @@ module _ {Disk : Type 0} where
   types (DeskCalled B s (desks.Typed line said) out l) v u c b k h at pos = typed_is v u c B s line said out l b k h at pos
   types (DeskCalled d s (desks.Given bytes answer) out l) v u c b k h at pos = absurd h
   types (DeskCalled d s desks.TypingEnded out l) v u c b k h at pos = absurd h
+  types (DeskCalled d s desks.Unopened out l) v u c b k h at pos = absurd h
   types (DeskCalled d s desks.Ticked out l) v u c b k h at pos = absurd h
   types (DeskCalled d s desks.TurnEnded out l) v u c b k h at pos = absurd h
   types (DeskEnded d disk) v u c b k h at pos = absurd h

@@ -11,8 +11,8 @@ use Rattle.agree_core.specs.declared.messages.Message.{Message}
 use Rattle.agree_core.specs.FileView.{FileView}
 use Rattle.headline.specs.declared.version.FileVersion.{FileVersion}
 use Rattle.headline.specs.Configurations.{Process, Node, Configuration, board_at, node, process_disk, with_board, with_node}
-use Rattle.processes.specs.Happenings.{BoardBegun, BoardCalled, DeskBegun, DeskCalled, DeskEnded, FileMigrated, Flow, Happening, Happens, PowerLost, after, after_one}
-use Rattle.processes.specs.Weaving.{Came, NothingComesEarly, is_at_board, is_at_desk}
+use Rattle.processes.specs.Happenings.{BoardBegun, BoardCalled, BoardCame, DeskBegun, DeskCalled, DeskCame, DeskEnded, FileMigrated, Flow, Happening, Happens, PowerLost, after, after_one}
+use Rattle.processes.specs.Weaving.{is_at_board, is_at_desk}
 use Rattle.processes.proofs.BoardLives.{BoardLocal, MayBoard, board_after, next_board}
 use Rattle.processes.proofs.Local.{Local}
 use Rattle.processes.proofs.DeskLives.{DeskLocal, MayDesk, desk_after, next_desk}
@@ -37,8 +37,18 @@ board_set xs (suc n) (suc m) k l e = tested k l (slice_get (slice_set xs n l) m)
 no_item : {X : Type 0} (x : X) (xs : List X) → x ∷ xs ≡ [] → ⊥
 no_item x xs e = absurd (cc)
 
+-- where a message came, a station had sent it
+abbrev pub Came : {Disk : Type 0} → ℕ → Configuration Disk → Happening Disk → Type 0
+Came game w (DeskCalled d s call out l) = DeskCame game w.sent call
+Came game w (BoardCalled n call out l) = BoardCame game w.sent call
+Came game w what = Unit {0}
+
+abbrev pub NothingComesEarly : {Disk : Type 0} → ℕ → Configuration Disk → List (Happening Disk) → Type 0
+NothingComesEarly game w [] = Unit {0}
+NothingComesEarly game w (h ∷ hs) = NothingComesEarly game w hs × Came game (after w hs) h
+
 -- what happened, with this before it where it is for the station
-abbrev with_one : {X : Type 0} → Bool → X → List X → List X
+abbrev pub with_one : {X : Type 0} → Bool → X → List X → List X
 with_one test x xs = cond test (x ∷ xs) xs
 
 tail : {State What : Type 0} (next : State → What → State) (May : State → What → Type 0) (s : State) (test : Bool) (x : What) (xs : List What) → Local next May s (with_one test x xs) → Local next May s xs

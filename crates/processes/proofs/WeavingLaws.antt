@@ -15,6 +15,7 @@ use Rattle.processes.proofs.BoardLives.{BoardLocal, board_life}
 use Rattle.processes.proofs.DeskLives.{DeskLocal, life}
 use Rattle.processes.proofs.FlowLaws.{begins_calm, flows_have_headline}
 use Rattle.processes.proofs.Flowing.{at_each, flow_runs}
+use Rattle.processes.proofs.Authentic.{EachSends, all_send, board_life_sends, life_sends, nothing_early}
 use Rattle.processes.proofs.Weaving.{woven}
 use Rattle.processes.specs.Happenings.{Happening, after}
 use Rattle.processes.specs.Laws.{IsFlow}
@@ -67,11 +68,16 @@ module _ {Disk : Type 0} (seen : Disk → List ℕ) (images : Disk → Images) (
       by_bytes (b ∷ file) votes z e = omega arith
 
   pub woven_lives_flow : WovenLivesFlow seen images faults
-  woven_lives_flow contents game innings version boards a b hs none begin w =
+  woven_lives_flow seal contents game innings version boards a b hs none begin w =
       let here = file_view (contents version) seen images in
       let view : DeskId → FileVersion → FileView Disk = λ d z. file_view (contents z) seen images d game in
       let x = w.desks A in
       let y = w.desks B in
+      let sends : EachSends hs = all_send hs
+      (subst EachSends (sym x.2) (life_sends (view A) seen faults A game innings _ x.0 x.1))
+      (subst EachSends (sym y.2) (life_sends (view B) seen faults B game innings _ y.0 y.1))
+      (λ n. let z = w.boards n in subst EachSends (sym z.2) (board_life_sends Disk game innings n z.0 z.1)) in
+      let early = nothing_early seal game (start version boards a b) hs refl sends w.order in
       let begins : Begins (setting_of contents seen images game innings) version boards (start version boards a b) =
       record {
         a = (a, refl, first (here A game) seen innings A a begin.0);
@@ -80,7 +86,7 @@ module _ {Disk : Type 0} (seen : Disk → List ℕ) (images : Disk → Images) (
         nothing_sent = refl;
       } in (
         begins,
-        woven view seen game innings (start version boards a b) hs w.order
+        woven view seen game innings (start version boards a b) hs early
             (subst (DeskLocal (view A) seen A game innings _) (sym x.2) (life (view A) seen faults A game innings _ x.0 x.1).0)
             (subst (DeskLocal (view B) seen B game innings _) (sym y.2) (life (view B) seen faults B game innings _ y.0 y.1).0)
             (λ n k e. let z = w.boards n in subst (BoardLocal Disk game innings k) (sym z.2) (board_life Disk game innings n k z.0 z.1))
@@ -89,5 +95,5 @@ module _ {Disk : Type 0} (seen : Disk → List ℕ) (images : Disk → Images) (
       )
 
   pub woven_lives_have_headline : WovenLivesHaveHeadline seen images faults
-  woven_lives_have_headline contents game innings version boards a b hs none begin w =
-      flows_have_headline seen images contents game innings version boards (start version boards a b) hs (woven_lives_flow contents game innings version boards a b hs none begin w)
+  woven_lives_have_headline seal contents game innings version boards a b hs none begin w =
+      flows_have_headline seen images contents game innings version boards (start version boards a b) hs (woven_lives_flow seal contents game innings version boards a b hs none begin w)

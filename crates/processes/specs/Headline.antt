@@ -25,11 +25,11 @@ AtEachTime w [] P = P w
 AtEachTime w (h ∷ hs) P = P (after w (h ∷ hs)) × AtEachTime w hs P
 
 -- the desk's scorer typed a line at the ballot's position that says the ballot's entry: put in full, by the sheet of the
--- desk's process and the book of the desk, it is the entry's line
+-- desk's process and the book of the desk, it is the entry's line, or it says once more what this scorer wrote last
 abbrev pub TypesBallot : {Disk : Type 0} → Configuration Disk → Happening Disk → DeskId → Ballot → Type 0
 TypesBallot w (DeskCalled c s (desks.Typed line said) out l) d b =
     (d ≡ c) × (k : DeskState _) × ((node w c).process ≡ Running k) × (k.seat.position ≡ b.at)
-    × SaysEntry s k.book b.at.round line b.entry
+    × SaysEntry s k.book k.votes b.at.round line b.entry
 TypesBallot w what d b = ⊥
 
 -- in something that happened the desk's scorer typed this ballot
@@ -45,7 +45,7 @@ pub record ProcessHeadline {Disk : Type 0} (innings : ℕ) (w : Configuration Di
   -- both desks have voted in one round for each entry of a book that a process shows
   pub by_both : AtEachTime w hs ByBoth
   -- each vote of a desk was typed there, at its position, as a line that in full is its entry's, behind `again ` in every
-  -- round but the first
+  -- round but the first, or there as `again` alone, for the entry of the round before
   pub typed : (d : DeskId) (b : Ballot) → In b (votes_of (all_votes (after w hs)) d) → WasTyped w hs d b
   -- books of one length have one score by the Laws, whichever processes show them at whatever times
   pub scores : (t u : Station) (n : ℕ) (score other : Standing)

@@ -5,5 +5,6 @@ pub mod Headline
 pub mod Laws
 pub mod Lives
 pub mod Files
+pub mod Sealing
 pub mod Weaving
 pub mod Stations

@@ -11,11 +11,12 @@ use Rattle.headline.specs.declared.version.FileVersion.{FileVersion}
 use Rattle.headline.specs.Configurations.{Running, Configuration, board_at, fresh_boards, node}
 use Rattle.live.specs.Boards.{BoardCall, BoardTurn}
 use Rattle.live.specs.Runs as own
-use Rattle.processes.specs.Happenings.{BoardBegun, BoardCalled, BoardCame, DeskBegun, DeskCalled, DeskCame, DeskEnded, FileMigrated, Happening, PowerLost, after}
+use Rattle.processes.specs.Happenings.{BoardBegun, BoardCalled, DeskBegun, DeskCalled, DeskEnded, FileMigrated, Happening, PowerLost, after}
 use Rattle.processes.specs.Lives.{BeginsFirst, IsBoardLife, IsLife, Stage, board_happens, life_happens}
 use Rattle.processes.specs.Files.{NoneShowNone}
 use Rattle.processes.specs.Headline.{ProcessHeadline}
 use Rattle.processes.specs.Laws.{IsFlow}
+use Rattle.processes.specs.Sealing.{BoardAuthentic, DeskAuthentic}
 
 -- it happens at this desk; at this board
 abbrev pub same_desk : DeskId → DeskId → Bool
@@ -38,15 +39,15 @@ is_at_board n (BoardCalled m call out l) = nat_eq n m
 is_at_board n (BoardBegun m) = nat_eq n m
 is_at_board n what = false
 
--- where a datagram came and reads as a message of the match, a station had sent it
-abbrev pub Came : {Disk : Type 0} → ℕ → Configuration Disk → Happening Disk → Type 0
-Came game w (DeskCalled d s call out l) = DeskCame game w.sent call
-Came game w (BoardCalled n call out l) = BoardCame game w.sent call
-Came game w what = Unit {0}
+-- where sealed bytes came and opened, a station had sealed them before
+abbrev pub Came : {Disk : Type 0} → List ℕ → ℕ → Configuration Disk → Happening Disk → Type 0
+Came seal game w (DeskCalled d s call out l) = DeskAuthentic seal game w.sent call
+Came seal game w (BoardCalled n call out l) = BoardAuthentic seal game w.sent call
+Came seal game w what = Unit {0}
 
-abbrev pub NothingComesEarly : {Disk : Type 0} → ℕ → Configuration Disk → List (Happening Disk) → Type 0
-NothingComesEarly game w [] = Unit {0}
-NothingComesEarly game w (h ∷ hs) = NothingComesEarly game w hs × Came game (after w hs) h
+abbrev pub NothingIsForged : {Disk : Type 0} → List ℕ → ℕ → Configuration Disk → List (Happening Disk) → Type 0
+NothingIsForged seal game w [] = Unit {0}
+NothingIsForged seal game w (h ∷ hs) = NothingIsForged seal game w hs × Came seal game (after w hs) h
 
 -- two desks at the beginning of their first processes, and so many boards
 abbrev pub start : {Disk : Type 0} → FileVersion → ℕ → DeskState Disk → DeskState Disk → Configuration Disk
@@ -59,10 +60,10 @@ start version boards a b =
     }
 
 module _ {Disk : Type 0} (seen : Disk → List ℕ) (images : Disk → Images) (faults : Disk → Faults) where
-  -- All that happened to the processes of a match, the newest first: nothing came before it was sent; what happened at
-  -- each desk and at each board is its life; and there are no other boards.
-  pub record IsWoven (contents : FileVersion → Contents) (game innings : ℕ) (w : Configuration Disk) (hs : List (Happening Disk)) : Type 0 where
-    pub order : NothingComesEarly game w hs
+  -- All that happened to the processes of a match with this seal, the newest first: what opened at a station, one of them
+  -- had sealed before; what happened at each desk and at each board is its life; and there are no other boards.
+  pub record IsWoven (seal : List ℕ) (contents : FileVersion → Contents) (game innings : ℕ) (w : Configuration Disk) (hs : List (Happening Disk)) : Type 0 where
+    pub order : NothingIsForged seal game w hs
     pub desks : (d : DeskId) → (life : List (Stage Disk))
         × IsLife (λ version. file_view (contents version) seen images d game) seen faults d game innings (node w d) life
         × (filter (is_at_desk d) hs ≡ life_happens d life)
@@ -76,20 +77,20 @@ module _ {Disk : Type 0} (seen : Disk → List ℕ) (images : Disk → Images) (
       BeginsFirst (file_view contents seen images A game) seen innings A a
       × BeginsFirst (file_view contents seen images B game) seen innings B b
 
-  -- the lives of all stations, put into one order in which nothing comes before it was sent, are a flow
+  -- the lives of all stations of one seal, put into one order in which nothing opens that none had sealed, are a flow
   abbrev pub WovenLivesFlow : Type 0
   WovenLivesFlow =
-      (contents : FileVersion → Contents) (game innings : ℕ) (version : FileVersion) (boards : ℕ)
+      (seal : List ℕ) (contents : FileVersion → Contents) (game innings : ℕ) (version : FileVersion) (boards : ℕ)
       (a b : DeskState Disk) (hs : List (Happening Disk)) → NoneShowNone contents game
       → BothBegin (contents version) game innings a b
-      → IsWoven contents game innings (start version boards a b) hs
+      → IsWoven seal contents game innings (start version boards a b) hs
       → IsFlow seen images contents game innings version boards (start version boards a b) hs
 
   -- and so the headline holds of them
   abbrev pub WovenLivesHaveHeadline : Type 0
   WovenLivesHaveHeadline =
-      (contents : FileVersion → Contents) (game innings : ℕ) (version : FileVersion) (boards : ℕ)
+      (seal : List ℕ) (contents : FileVersion → Contents) (game innings : ℕ) (version : FileVersion) (boards : ℕ)
       (a b : DeskState Disk) (hs : List (Happening Disk)) → NoneShowNone contents game
       → BothBegin (contents version) game innings a b
-      → IsWoven contents game innings (start version boards a b) hs
+      → IsWoven seal contents game innings (start version boards a b) hs
       → ProcessHeadline innings (start version boards a b) hs

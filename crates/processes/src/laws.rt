@@ -24,8 +24,8 @@ pub fn every_flow_is_sound<D: Disk>()
     ensures headline { FlowsHaveHeadline D.seen D.images }
 {}
 
-/// The lives of two desks and some boards, each process from its beginning to its end, put into one order in which
-/// nothing comes before it was sent, are such moments.
+/// The lives of two desks and some boards that take sealed datagrams alone, each process from its beginning to its end,
+/// put into one order, are such moments, where what opened at a station was sealed by one of them before.
 pub fn woven_lives_are_a_flow<D: Disk>()
     ensures flow { WovenLivesFlow D.seen D.images D.faults }
     ensures headline { WovenLivesHaveHeadline D.seen D.images D.faults }

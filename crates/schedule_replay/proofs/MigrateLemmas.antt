@@ -13,7 +13,7 @@ use Rattle.entry_log.specs.Plan.{due_of}
 use Rattle.entry_log.specs.declared.mem_disk.MemDisk.{MemDisk}
 use Rattle.entry_log.specs.declared.mem_disk.plan.Plan.TheVariants.{Calm}
 use Rattle.entry_log.specs.declared.refusal.Refusal.TheVariants as files
-use Rattle.agree_core.specs.Ballots.{Ballot}
+use Rattle.agree_core.specs.Ballots.{Ballot, desk_number}
 use Rattle.agree_core.specs.FileView.{Holds, MaySync}
 use Rattle.vote_store.specs.declared.migration.Migrated.{Migrated}
 use Rattle.vote_store.specs.declared.refusal.Refusal.{Refusal as VotesRefusal}
@@ -21,7 +21,7 @@ use Rattle.vote_store.specs.declared.refusal.Refusal.TheVariants as votes
 use Rattle.vote_store.specs.Migrated.{BlamesEither, HasFailed, IsMigrated, old_votes}
 use Rattle.vote_store.specs.Refusal.{device}
 use Rattle.vote_store.specs.Sequence.{file_votes, or_none}
-use Rattle.vote_store.specs.View.{desk_code, file_view, votes_shown, where_sound}
+use Rattle.vote_store.specs.View.{file_view, votes_shown, where_sound}
 use Rattle.wire.specs.declared.datagram.Datagram.{Datagram}
 use Rattle.headline.specs.declared.event.Event.TheVariants as events
 use Rattle.schedule_replay.specs.declared.seen.Cause.TheVariants as causes
@@ -58,7 +58,7 @@ pub record IsMoved (old : Site) (disk moved fresh new : MemDisk) : Type 0 where
   pub due : (faults_of new).due ≡ (faults_of disk).due
 
 -- the file is migrated
-pub migrated : (old : Site) (disk moved fresh begun made : MemDisk) (n : ℕ) (sent : List Datagram) → old.version ≡ versions.Old → old.desk ≡ None → old.disk ≡ Some disk → IsMoved old disk moved fresh begun → IsMigrated (desk_code old.name) old.game (file_of moved) (images_of made) n → Holds (file_view (contents version_2) file_of images_of old.name old.game) made (old_votes (desk_code old.name) old.game (file_of moved)) → cap_of made ≡ cap_of begun → faults_of made ≡ faults_of begun → SiteSteps (events.Migrate old.name) old sent (seens.Migrated n) (record old { version = versions.New; disk = Some made }) sent
+pub migrated : (old : Site) (disk moved fresh begun made : MemDisk) (n : ℕ) (sent : List Datagram) → old.version ≡ versions.Old → old.desk ≡ None → old.disk ≡ Some disk → IsMoved old disk moved fresh begun → IsMigrated (desk_number old.name) old.game (file_of moved) (images_of made) n → Holds (file_view (contents version_2) file_of images_of old.name old.game) made (old_votes (desk_number old.name) old.game (file_of moved)) → cap_of made ≡ cap_of begun → faults_of made ≡ faults_of begun → SiteSteps (events.Migrate old.name) old sent (seens.Migrated n) (record old { version = versions.New; disk = Some made }) sent
 migrated old disk moved fresh begun made n sent version down there m is holds cap faults x messages h b =
     let d = down_at old disk x down there h in
     let on = d.on_disk in
@@ -175,7 +175,7 @@ failing old new disk moved fresh begun left made last result version down there 
         (broken.0, [], broken.1, broken.2, (d.votes, disk, d.process, at, refl), broken.4, no_bytes old.game sent messages b)
 
 -- the old file isn't sound
-faulty : (old new : Site) (disk moved fresh begun left made last : MemDisk) (why : VotesRefusal) (answer : Answer Refusal) (result : Result Seen WorldRefusal) → old.version ≡ versions.Old → old.desk ≡ None → old.disk ≡ Some disk → IsMoved old disk moved fresh begun → IsReturned old disk moved begun left made last why → why ≢ device → file_votes (contents version_1) (desk_code old.name) old.game (file_of moved) ≡ Err why → answer_of (seens.Refused (causes.Migrate why)) ≡ Some answer → (answer ≡ Answer.Unsound) ⊎ (answer ≡ Answer.OtherVersion) → (result ≡ Ok (seens.Refused (causes.Migrate why))) × (new ≡ record old { disk = Some last }) → Outcome MigrateSteps old result new
+faulty : (old new : Site) (disk moved fresh begun left made last : MemDisk) (why : VotesRefusal) (answer : Answer Refusal) (result : Result Seen WorldRefusal) → old.version ≡ versions.Old → old.desk ≡ None → old.disk ≡ Some disk → IsMoved old disk moved fresh begun → IsReturned old disk moved begun left made last why → why ≢ device → file_votes (contents version_1) (desk_number old.name) old.game (file_of moved) ≡ Err why → answer_of (seens.Refused (causes.Migrate why)) ≡ Some answer → (answer ≡ Answer.Unsound) ⊎ (answer ≡ Answer.OtherVersion) → (result ≡ Ok (seens.Refused (causes.Migrate why))) × (new ≡ record old { disk = Some last }) → Outcome MigrateSteps old result new
 faulty old new disk moved fresh begun left made last why answer result version down there m r n fault says which (is, e) = seen_is MigrateSteps old new result (seens.Refused (causes.Migrate why)) is steps
   where
     steps : (sent : List Datagram) → MigrateSteps sent old (seens.Refused (causes.Migrate why)) new
@@ -195,9 +195,9 @@ faulty old new disk moved fresh begun left made last why answer result version d
 -- why it isn't migrated
 abbrev pub RefusedFor : Site → MemDisk → VotesRefusal → Type 0
 RefusedFor old moved why =
-    (why ≡ device) ⊎ ((why ≡ votes.NoMemory) ⊎ (file_votes (contents version_1) (desk_code old.name) old.game (file_of moved) ≡ Err why))
+    (why ≡ device) ⊎ ((why ≡ votes.NoMemory) ⊎ (file_votes (contents version_1) (desk_number old.name) old.game (file_of moved) ≡ Err why))
 
-fault_of : (old : Site) (moved : MemDisk) (why : VotesRefusal) → why ≢ device → why ≢ votes.NoMemory → RefusedFor old moved why → file_votes (contents version_1) (desk_code old.name) old.game (file_of moved) ≡ Err why
+fault_of : (old : Site) (moved : MemDisk) (why : VotesRefusal) → why ≢ device → why ≢ votes.NoMemory → RefusedFor old moved why → file_votes (contents version_1) (desk_number old.name) old.game (file_of moved) ≡ Err why
 fault_of old moved why n k (inl e) = absurd (n e)
 fault_of old moved why n k (inr (inl e)) = absurd (k e)
 fault_of old moved why n k (inr (inr e)) = e
@@ -225,7 +225,7 @@ not_migrated old new disk moved fresh begun left made last (votes.NotASequence s
     faulty old new disk moved fresh begun left made last (votes.NotASequence slot) Answer.Unsound result version down there m r (λ q. (cc)) (fault_of old moved _ (λ q. (cc)) (λ q. (cc)) f) refl (inl refl) n
 
 -- a migration that found the new disk not empty, which it was
-pub refused_for : (old : Site) (disk moved fresh begun : MemDisk) (why : VotesRefusal) → IsMoved old disk moved fresh begun → (IsErrOf {T = Migrated MemDisk MemDisk} (Err why) Rattle.vote_store.specs.Refusal.not_empty → 0 < length (file_of begun)) → (why ≡ device) ⊎ ((why ≡ votes.NoMemory) ⊎ ((why ≡ Rattle.vote_store.specs.Refusal.not_empty) ⊎ (file_votes (contents version_1) (desk_code old.name) old.game (file_of moved) ≡ Err why))) → RefusedFor old moved why
+pub refused_for : (old : Site) (disk moved fresh begun : MemDisk) (why : VotesRefusal) → IsMoved old disk moved fresh begun → (IsErrOf {T = Migrated MemDisk MemDisk} (Err why) Rattle.vote_store.specs.Refusal.not_empty → 0 < length (file_of begun)) → (why ≡ device) ⊎ ((why ≡ votes.NoMemory) ⊎ ((why ≡ Rattle.vote_store.specs.Refusal.not_empty) ⊎ (file_votes (contents version_1) (desk_number old.name) old.game (file_of moved) ≡ Err why))) → RefusedFor old moved why
 refused_for old disk moved fresh begun why m n (inl e) = inl e
 refused_for old disk moved fresh begun why m n (inr (inl e)) = inr (inl e)
 refused_for old disk moved fresh begun why m n (inr (inr (inl e))) =

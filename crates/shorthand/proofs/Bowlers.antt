@@ -6,9 +6,9 @@ use Rattle.notation.specs.declared.entry.Entry.{Entry}
 use Rattle.ball_laws.specs.History.{History, open_over}
 use Rattle.match_laws.specs.History.{is_void, last_side}
 use Rattle.corrections.specs.declared.placed.Placed.{Placed}
-use Rattle.corrections.specs.CleanList.{history_of, kept, standing_of}
+use Rattle.corrections.specs.CleanList.{history_of, kept, clean_items_of}
 use Rattle.corrections.specs.inner.Scoring.{history_after}
-use Rattle.corrections.proofs.LegalLemmas.{history_of-standing}
+use Rattle.corrections.proofs.LegalLemmas.{history_of-clean_items}
 use Rattle.corrections.proofs.ScoringLemmas.{kept_first, kept_not}
 use Rattle.shorthand.specs.declared.point.Belongs.TheVariants.{Last}
 use Rattle.shorthand.specs.Points.{history_to, point_at, point_of}
@@ -46,5 +46,5 @@ alike_point g h e = rw (e.over, e.side) refl
 
 pub point_at-last : (book : List Entry) → point_at book Last ≡ point_of (history_of book)
 point_at-last book =
-    alike_point _ _ (walked [] [] (standing_of book) (record { over = refl; side = refl }))
-    ∙ ap point_of (history_of-standing book)
+    alike_point _ _ (walked [] [] (clean_items_of book) (record { over = refl; side = refl }))
+    ∙ ap point_of (history_of-clean_items book)

@@ -6,7 +6,7 @@ use Rattle.notation.specs.declared.entry.Entry.{Entry}
 use Rattle.ball_laws.specs.History.{History, open_over}
 use Rattle.match_laws.specs.History.{last_side}
 use Rattle.corrections.specs.declared.placed.Placed.{Placed}
-use Rattle.corrections.specs.CleanList.{standing_of}
+use Rattle.corrections.specs.CleanList.{clean_items_of}
 use Rattle.shorthand.specs.declared.point.Belongs.{Belongs}
 use Rattle.shorthand.specs.declared.point.Belongs.TheVariants.{At, After}
 use Rattle.shorthand.specs.declared.point.Point.{Point}
@@ -40,4 +40,4 @@ history_to place h (x ∷ xs) =
     else history_to place (x.item ∷ h) xs
 
 abbrev pub point_at : List Entry → Belongs → Point
-point_at book place = point_of (history_to place [] (standing_of book))
+point_at book place = point_of (history_to place [] (clean_items_of book))

@@ -78,7 +78,7 @@ pub fn point_at<B: BookOf>(book: &B, belongs: Belongs) -> Point
         bowler: None,
         batting: Side::Home,
     };
-    for item in book.standing() {
+    for item in book.clean_items() {
         if belongs.is_beyond(item) {
             return point;
         }

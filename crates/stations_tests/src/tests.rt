@@ -3,11 +3,12 @@
 ghost use Rattle.std.specs.Prelude.{◌≡◌, ◌<◌, []};
 ghost use Rattle.notation.specs.Written.{IsEntry};
 
-use agree_core::{Ask, Asker, DeskId, Message, Vote};
+use agree_core::{Ask, Asker, DeskId, Message};
 use corrections::Book;
-use notation::{Entry, read_line};
+use notation::Entry;
 use std::alloc::Global;
 use std::process::Abort;
+use tests_support::{entry_in, vote_of};
 use wire::bytes_of;
 
 mod boards;
@@ -35,9 +36,9 @@ fn empty_book(rt: &impl Abort, alloc: Global) -> Book
 fn entry(rt: &impl Abort, line: &str) -> Entry
     ensures { IsEntry result }
 {
-    match read_line(line.as_bytes()) {
-        Ok(entry) => entry,
-        Err(_) => panic!(rt; "no entry: {line}"),
+    match entry_in(line) {
+        Some(entry) => entry,
+        None => panic!(rt; "no entry: {line}"),
     }
 }
 
@@ -46,13 +47,7 @@ fn vote(rt: &impl Abort, desk: DeskId, place: u32, round: u32, line: &str) -> [u
     requires place { place < 8192 }
     requires round { round < 256 }
 {
-    let vote = Vote {
-        desk,
-        place,
-        round,
-        entry: entry(rt, line),
-    };
-    bytes_of(7, &Message::Vote(vote))
+    vote_of(desk, place, round, entry(rt, line))
 }
 
 /// An ask for the votes of a position, in bytes.

@@ -22,7 +22,8 @@ use Rattle.notation.specs.declared.entry.TheConstants.{PLACES}
 use Rattle.agree_core.specs.declared.position.TheConstants.{ROUNDS}
 use Rattle.agree_core.specs.Positions.{InRange, IsFull}
 use Rattle.agree_core.proofs.Order.{compare}
-use Rattle.wire.specs.Layout.{IsMessage, Says, asker_number, body, desk_number, is_at, written}
+use Rattle.agree_core.specs.Ballots.{desk_number}
+use Rattle.wire.specs.Layout.{IsMessage, Says, asker_number, body, is_at, written}
 use Rattle.wire.specs.inner.Fields.{asker_numbered, desk_numbered, place_in, round_in}
 
 out_length : (o : Option Out) → length (out_code o) ≡ 4

@@ -155,7 +155,7 @@ fn take_next<S: SlotsOf, L: Link>(
             Err(fault) => Err(fault),
         },
         Taken::Nothing => Ok(false),
-        Taken::Lost => Ok(true),
+        Taken::Lost | Taken::Unopened => Ok(true),
     }
 }
 
@@ -196,7 +196,7 @@ fn board_next<L: Link>(board: &mut Board<CheckedBook>, link: &mut L) -> bool
             true
         }
         Taken::Nothing => false,
-        Taken::Lost => true,
+        Taken::Lost | Taken::Unopened => true,
     }
 }
 

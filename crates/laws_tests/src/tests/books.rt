@@ -90,9 +90,9 @@ fn enter_late<B: BookOf>(rt: &impl Abort, book: &mut B) {
     let why = enter(rt, book, "late 2 over").map(|why| why.number());
     assert!(rt; why == Some(32));
     let places = [(0, 0), (1, 1), (2, 2), (3, 3), (5, 3), (4, 4)];
-    assert!(rt; book.standing().len() == 6);
+    assert!(rt; book.clean_items().len() == 6);
     for index in 0..6 {
-        let stands = book.standing()[index];
+        let stands = book.clean_items()[index];
         assert!(rt; (stands.place, stands.anchor) == places[index]);
     }
 }
@@ -353,10 +353,10 @@ fn enter_in_all(rt: &impl Abort, books: &mut Books, line: &str) -> bool {
     answer.is_none()
 }
 
-/// A book has the score and the standing of another kind of book.
+/// A book has the score and the clean items of another kind of book.
 fn expect_same<A: BookOf, B: BookOf>(rt: &impl Abort, book: &A, other: &B) {
     assert!(rt; *book.score() == *other.score());
-    assert!(rt; book.standing() == other.standing());
+    assert!(rt; book.clean_items() == other.clean_items());
 }
 
 fn expect_alike(rt: &impl Abort, books: &Books) {

@@ -2,13 +2,14 @@
 ghost use Rattle.std.specs.Prelude.{◌≡◌, ◌≤◌, IfSome};
 
 use super::desks::ELSEWHERE;
-use super::memory::{Failing, Notes};
+use super::memory::Notes;
 use super::*;
 use board::Board;
 use live::{Link, Log, Notice, Taken, run_board};
 use notation::Plain;
 use std::io::Write;
 use streams::WriteFailed;
+use tests_support::Failing;
 use wire::{WireFault, message_of};
 
 fn new_board(rt: &impl Abort, alloc: Global) -> Board<Book> {
@@ -102,13 +103,7 @@ impl Archive {
             DeskId::B
         };
         self.answers += 1;
-        let vote = Vote {
-            desk,
-            place,
-            round: 0,
-            entry: Entry::Write(Plain::Void),
-        };
-        buffer[..48].copy_from_slice(&bytes_of(7, &Message::Vote(vote)));
+        buffer[..48].copy_from_slice(&vote_of(desk, place, 0, Entry::Write(Plain::Void)));
         Some(48)
     }
 }

@@ -25,7 +25,7 @@ close
 void
 fix p E         place p is to read E, any line above
 late p E        E, any line above, belongs after place p
-again E         E, where you two differ
+again [E]       E, or what you wrote before, where you two differ
 list            the last twelve entries, with their places
 help            this
 help short      short lines, which stand for these
@@ -91,7 +91,7 @@ fn lines_and_rounds(rt: HostRuntime) {
     let mut link = Queue::new(alloc);
     for (place, round, line, pauses) in [
         (0, 0, "innings home", 1),
-        (1, 0, "in 2", 8),
+        (1, 0, "in 2", 9),
         (1, 1, "in 1", 1),
         (2, 0, "in 2", 2),
         (3, 0, "ball 7 bat 2", 1),
@@ -103,11 +103,12 @@ fn lines_and_rounds(rt: HostRuntime) {
     }
     let lines = [
         "innings home",
-        "",
+        "again",
         "again in 1",
         "in 1",
         "in 1",
-        "again in 1",
+        "again",
+        "again",
         "again in 1",
         "in 1",
         "again bogus",
@@ -130,9 +131,10 @@ fn lines_and_rounds(rt: HostRuntime) {
         NO_PLAY,
         "0 next\n0 pending: innings home\n0 agreed\n",
         OPENED,
-        "1 the other has written\n1 doesn't differ: leave out again\n1 differs\n",
+        "1 doesn't differ: leave out again\n1 the other has written\n",
+        "1 doesn't differ: leave out again\n1 differs\n",
         "1 differs: begin the line with again\n1 pending: in 1\nrefused 61 Waiting\n",
-        "refused 61 Waiting\nfault 2 UnknownWord\nfault 2 UnknownWord\n1 agreed\n",
+        "refused 61 Waiting\nrefused 61 Waiting\nfault 2 UnknownWord\nfault 2 UnknownWord\n1 agreed\n",
         FIRST_IN,
         "2 the other has written\n2 agreed\n",
         BOTH_IN,

@@ -1,8 +1,8 @@
 //! How a desk's process ends, and what it leaves.
 ghost use Rattle.std.specs.Prelude.{◌≤◌};
 
-use super::memory::Failing;
 use super::*;
+use tests_support::Failing;
 
 /// A new desk A whose scorer types one line, with nothing to take.
 fn one_line(

@@ -1,9 +1,10 @@
 //! Two desks and a board in turns, over a link that loses every third datagram.
-use super::memory::{Failing, Notes};
+use super::memory::Notes;
 use super::*;
 use board::Board;
 use entry_log::SlotsOf;
 use live::run_board;
+use tests_support::Failing;
 
 /// How many entries are agreed.
 const ENTRIES: u32 = 100;

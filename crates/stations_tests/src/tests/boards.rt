@@ -85,7 +85,7 @@ fn expect_lines(rt: &impl Abort, alloc: Global, board: &Board<Book>, text: &str)
 }
 
 /// The length of its book, and its position.
-fn standing(board: &Board<Book>) -> (u32, (u32, u32)) {
+fn stands_at(board: &Board<Book>) -> (u32, (u32, u32)) {
     let at = board.position();
     (board.book().len(), (at.place, at.round))
 }
@@ -103,12 +103,15 @@ fn a_single(rt: HostRuntime) {
         let from_b = vote(&rt, DeskId::B, place, 0, line);
         assert!(rt; give(&rt, &mut board, &from_b) == What::Heard(Heard::Noted));
         assert!(rt; give(&rt, &mut board, &from_b) == What::Heard(Heard::Again));
-        assert_eq!(rt; standing(&board), (place, (place, 0)));
+        assert_eq!(rt; stands_at(&board), (place, (place, 0)));
         assert!(rt; give(&rt, &mut board, &from_a) == What::Heard(Heard::Agreed));
         assert!(rt; give(&rt, &mut board, &from_a) == What::Heard(Heard::Old));
     }
     assert!(rt; give(&rt, &mut board, &ASK) == What::Asked);
-    assert_eq!(rt; (standing(&board), board.shown().begun()), ((4, (4, 0)), 1));
+    assert_eq!(rt;
+        (stands_at(&board), board.shown().begun()),
+        ((4, (4, 0)), 1)
+    );
     let text = "home 1 for 0\nOvers 0.1\nStriker 2 0 (0)\nOther 1 1 (1)\nTarget -\nResult -\n";
     expect_lines(&rt, rt.alloc(), &board, text);
 }
@@ -128,11 +131,11 @@ fn votes_of_no_book(rt: HostRuntime) {
                 assert_eq!(rt; refusal.number(), 64);
             }
         }
-        assert_eq!(rt; standing(&board), (0, (0, 0)));
+        assert_eq!(rt; stands_at(&board), (0, (0, 0)));
     }
     let other = vote(&rt, DeskId::B, 0, 0, "innings home");
     assert!(rt; give(&rt, &mut board, &other) == What::Heard(Heard::Differ));
-    assert_eq!(rt; standing(&board), (0, (0, 1)));
+    assert_eq!(rt; stands_at(&board), (0, (0, 1)));
 }
 
 #[test]
@@ -149,5 +152,5 @@ fn bytes_that_are_no_message(rt: HostRuntime) {
         assert!(rt; give(&rt, &mut board, &bytes) == What::Bad(fault));
     }
     assert!(rt; give(&rt, &mut board, &ASK[..47]) == What::Bad(WireFault::Length));
-    assert_eq!(rt; standing(&board), (0, (0, 0)));
+    assert_eq!(rt; stands_at(&board), (0, (0, 0)));
 }

@@ -2,7 +2,7 @@
 ghost use Rattle.std.specs.Prelude.{◌<◌};
 
 use super::*;
-use agree_core::{Heard, Settled};
+use agree_core::{Heard, Settled, Vote};
 use corrections::BookOf;
 use desk::{Desk, OpenRefusal};
 use entry_log::{GatedSlots, MemDisk, Version, Version1, Version2};
@@ -84,7 +84,7 @@ pub fn settle<V: Version>(rt: &impl Abort, a: &mut Station<V>, line: &str, other
 }
 
 /// Its length, its position and the number of its votes.
-pub fn standing<V: Version>(desk: &Station<V>) -> (u32, (u32, u32), u32) {
+pub fn stands_at<V: Version>(desk: &Station<V>) -> (u32, (u32, u32), u32) {
     let at = desk.position();
     (desk.book().len(), (at.place, at.round), desk.votes())
 }
@@ -112,20 +112,20 @@ fn four_entries<V: Version>(rt: &impl Abort, alloc: Global, length: usize) -> Me
     for line in LINES {
         assert!(rt; settle::<V>(rt, &mut a, line, line) == Heard::Agreed);
     }
-    assert_eq!(rt; standing::<V>(&a), (4, (4, 0), 4));
+    assert_eq!(rt; stands_at::<V>(&a), (4, (4, 0), 4));
     answers::<V>(rt, &mut a);
     let mut disk = a.into_disk();
     assert_eq!(rt; disk.bytes().len(), length);
     disk.kill();
     let mut a = made(rt, open::<V>(rt, alloc, disk, DeskId::A));
-    assert_eq!(rt; standing::<V>(&a), (3, (3, 0), 4));
+    assert_eq!(rt; stands_at::<V>(&a), (3, (3, 0), 4));
     assert_eq!(rt; refused::<V>(rt, &mut a, "void"), Some(61));
     let sent = a.tick();
     assert_eq!(rt; sent.len(), 2);
     assert!(rt; (sent[0].bytes, sent[1].bytes) == (VOTE, ask(Asker::A, 3, 0)));
     let from_b = vote(rt, DeskId::B, 3, 0, "ball 7 bat 1");
     assert!(rt; give::<V>(rt, &mut a, &from_b) == Heard::Agreed);
-    assert_eq!(rt; standing::<V>(&a), (4, (4, 0), 4));
+    assert_eq!(rt; stands_at::<V>(&a), (4, (4, 0), 4));
     assert!(rt; 0 < a.shown().begun());
     assert_eq!(rt; (a.shown().total(0), a.shown().wickets(0)), (1, 0));
     a.into_disk()
@@ -221,7 +221,7 @@ fn damaged_bytes(rt: HostRuntime) {
         assert!(rt; received.what == damaged(i), "{i}");
         assert!(rt; received.reply.is_none());
     }
-    assert_eq!(rt; standing::<Version2>(&b), (3, (3, 0), 3));
+    assert_eq!(rt; stands_at::<Version2>(&b), (3, (3, 0), 3));
     assert!(rt; give::<Version2>(&rt, &mut b, &VOTE) == Heard::Noted);
     assert!(rt; give::<Version2>(&rt, &mut b, &VOTE) == Heard::Again);
     let mine = vote(&rt, DeskId::B, 3, 0, "void");

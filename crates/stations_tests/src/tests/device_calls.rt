@@ -2,7 +2,7 @@
 ghost use Rattle.std.specs.Prelude.{◌≤◌};
 
 use super::desks::{
-    Made, Station, create, desk_within, empty_disk, let_go, made, open, refused, settle, standing,
+    Made, Station, create, desk_within, empty_disk, let_go, made, open, refused, settle, stands_at,
 };
 use super::*;
 use agree_core::Heard;
@@ -21,7 +21,7 @@ fn has_failed(rt: &impl Abort, a: &mut Station<Version2>, stood: (u32, (u32, u32
         assert!(rt; a.receive(&bytes) == silent);
     }
     assert!(rt; a.tick().is_empty());
-    assert!(rt; standing::<Version2>(a) == stood);
+    assert!(rt; stands_at::<Version2>(a) == stood);
 }
 
 /// A file of two votes, the second one pending, after a pen of which no device call failed but the n-th, if at all.
@@ -49,7 +49,7 @@ fn calls_that_fail(rt: HostRuntime) {
         disk.kill();
         let a = made(&rt, open::<Version2>(&rt, rt.alloc(), disk, DeskId::A));
         assert_eq!(rt;
-            standing::<Version2>(&a).2,
+            stands_at::<Version2>(&a).2,
             if n < 4 { 1 } else { 2 },
             "{n}"
         );

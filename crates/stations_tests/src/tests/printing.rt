@@ -8,9 +8,10 @@ use cards::{
 use corrections::{Book, BookOf};
 use notation::{Player, Side, read_line};
 use std::alloc::{AllocError, Global};
-use std::io::{self, Error, ErrorKind, Write};
+use std::io::Write;
 use std::process::Abort;
 use streams::{Watched, WriteFailed};
+use tests_support::Failing;
 
 const SHEET: &str = "title = \"T\"\nnumber = 7\ninnings = 2\nother = 1\n\
     home = {name = \"Alder\", players = [\"H1\", \"H2\", \"H3\", \"H4\", \"H5\", \"H6\", \"H7\", \"H8\", \"H9\", \"H10\", \"H11\"]}\n\
@@ -146,33 +147,6 @@ fn the_plain_sheet(rt: HostRuntime) {
     assert!(rt; sheet.name(Side::Home) == "home" && sheet.name(Side::Away) == "away");
     let eleven = Player::new(11).expect(&rt, "a player");
     assert!(rt; sheet.player(Side::Away, eleven) == "11");
-}
-
-/// Takes this many writes and flushes, and fails the next.
-#[derive(Drop)]
-struct Failing {
-    calls: usize,
-}
-
-impl Failing {
-    fn call(&mut self) -> io::Result<()> {
-        if self.calls == 0 {
-            return Err(Error::from(ErrorKind::Other));
-        }
-        self.calls -= 1;
-        Ok(())
-    }
-}
-
-impl Write for Failing {
-    fn write(&mut self, buffer: &[u8]) -> io::Result<usize> {
-        self.call()?;
-        Ok(buffer.len())
-    }
-
-    fn flush(&mut self) -> io::Result<()> {
-        self.call()
-    }
 }
 
 /// How many of the writes of a text fail it, each in turn: a fault tells that the writer failed.

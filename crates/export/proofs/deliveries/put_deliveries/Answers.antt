@@ -1,5 +1,5 @@
 use Rattle.export.specs.Deliveries.{listed_in}
-use Rattle.export.proofs.Putting.{adds_each, begins_each, ends_each}
+use Rattle.json_fields.proofs.Putting.{adds_each, begins_each, ends_each}
 use Rattle.export.proofs.deliveries.put_deliveries.Goals as goal
 
 pub loop-index-init : goal.loop-index-init

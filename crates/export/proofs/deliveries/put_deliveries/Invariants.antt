@@ -1,6 +1,6 @@
 use Rattle.std.proofs.Common.{◌≡◌, ◌++◌, take}
 use Rattle.std.specs.List.{flat_map}
-use Rattle.export.specs.Values.{values_tokens}
+use Rattle.json_fields.specs.Values.{values_tokens}
 use Rattle.export.specs.Deliveries.{listed_in}
 use Rattle.export.proofs.deliveries.put_deliveries.Given as goal
 

@@ -1,4 +1,4 @@
-use Rattle.export.proofs.Putting.{adds, begins, is_object}
+use Rattle.json_fields.proofs.Putting.{adds, begins, is_object}
 use Rattle.export.proofs.deliveries.put_gone.Goals as goal
 
 pub returns : goal.returns

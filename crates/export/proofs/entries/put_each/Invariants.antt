@@ -1,6 +1,6 @@
 use Rattle.std.proofs.Common.{◌≡◌, ◌++◌}
 use Rattle.std.specs.Prelude.{slice_get}
-use Rattle.export.specs.Values.{up_to, values_tokens}
+use Rattle.json_fields.specs.Values.{up_to, values_tokens}
 use Rattle.export.specs.Entries.{entry_at}
 use Rattle.export.proofs.entries.put_each.Given as goal
 

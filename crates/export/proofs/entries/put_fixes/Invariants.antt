@@ -1,6 +1,6 @@
 use Rattle.std.proofs.Common.{◌≡◌, ◌++◌}
 use Rattle.std.specs.Prelude.{slice_get}
-use Rattle.export.specs.Values.{up_to, values_tokens}
+use Rattle.json_fields.specs.Values.{up_to, values_tokens}
 use Rattle.export.specs.Entries.{fix_at}
 use Rattle.export.proofs.entries.put_fixes.Given as goal
 

@@ -1,4 +1,4 @@
-use Rattle.export.proofs.Putting.{is_array_field}
+use Rattle.json_fields.proofs.Putting.{is_array_field}
 use Rattle.export.proofs.entries.put_fixes_field.Goals as goal
 
 pub returns : goal.returns

@@ -1,7 +1,7 @@
 use Rattle.std.proofs.Common.{◌≡◌, ◌+◌, ◌++◌, ◌∷◌, []}
 use Rattle.json.specs.Json.{string}
 use Rattle.cards.specs.Sheet.{player_of}
-use Rattle.export.specs.Values.{up_to, values_tokens}
+use Rattle.json_fields.specs.Values.{up_to, values_tokens}
 use Rattle.export.proofs.info.put_names.Given as goal
 
 -- the names so far are put

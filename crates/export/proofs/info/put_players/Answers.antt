@@ -1,4 +1,4 @@
-use Rattle.export.proofs.Putting.{adds, begins, is_object_field}
+use Rattle.json_fields.proofs.Putting.{adds, begins, is_object_field}
 use Rattle.export.proofs.info.put_players.Goals as goal
 
 pub returns : goal.returns

@@ -1,5 +1,5 @@
 use Rattle.std.proofs.Common.{arith}
-use Rattle.export.proofs.Putting.{adds_up_to, begins_up_to, ends_up_to}
+use Rattle.json_fields.proofs.Putting.{adds_up_to, begins_up_to, ends_up_to}
 use Rattle.export.proofs.innings.put_each.Goals as goal
 
 pub loop-innings-init : goal.loop-innings-init

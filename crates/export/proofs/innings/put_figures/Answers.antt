@@ -1,4 +1,4 @@
-use Rattle.export.proofs.Putting.{adds, ends, starts}
+use Rattle.json_fields.proofs.Putting.{adds, ends, starts}
 use Rattle.export.proofs.innings.put_figures.Goals as goal
 
 pub returns : goal.returns

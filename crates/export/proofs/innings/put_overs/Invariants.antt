@@ -1,5 +1,5 @@
 use Rattle.std.proofs.Common.{◌≡◌, ◌++◌}
-use Rattle.export.specs.Values.{up_to, values_tokens}
+use Rattle.json_fields.specs.Values.{up_to, values_tokens}
 use Rattle.export.specs.Innings.{over_if}
 use Rattle.export.proofs.innings.put_overs.Given as goal
 

@@ -1,4 +1,4 @@
-use Rattle.export.proofs.Putting.{is_array_field}
+use Rattle.json_fields.proofs.Putting.{is_array_field}
 use Rattle.export.proofs.innings.put_overs_field.Goals as goal
 
 pub returns : goal.returns

@@ -15,7 +15,7 @@ returns-in-Err-clause-goes g c =
     let what = c.give-what.result in
     let ended = sym c.end_at.ensures ∙ c.in-Err.is in
     λ log typed turns came. hears c.args.sheet.now c.args.desk.now c.give-what.new.desk c.args.bytes.now what _ c.args.between.now.warned _ turns log _ _ typed _ _ (c.give-what.ensures.calls c.args.sheet.now) came c.after-between.ensures
-    (came_course what c.in-Err.end ended) (came_nothing _ _ _ _ _ what c.in-Err.end _ ended)
+    (came_course what c.in-Err.end ended) (came_nothing _ _ _ _ c.args.between.now.warned what c.in-Err.end _ ended)
 
 pub returns-clause-goes : goal.returns-clause-goes
 returns-clause-goes g c =

@@ -1,8 +1,8 @@
-use Rattle.std.proofs.Common.{List, Option, ℕ}
+use Rattle.std.proofs.Common.{List, Option, sym, ℕ}
 use Rattle.streams.specs.Watched.{stream_of}
 use Rattle.live.specs.Desks.{DeskGoes, process_of}
 use Rattle.live.specs.Ends.{Course, further}
-use Rattle.live.proofs.DeskLemmas.{passed_on, then}
+use Rattle.live.proofs.DeskLemmas.{logged, passed_on, passes, then}
 use Rattle.live.proofs.desk_loop.take_next.Goals as goal
 
 pub returns-in_err-hear-in-Datagram-clause-goes : goal.returns-in_err-hear-in-Datagram-clause-goes
@@ -20,3 +20,24 @@ pub returns-in_ok-hear-in-Datagram-clause-goes : goal.returns-in_ok-hear-in-Data
 returns-in_ok-hear-in-Datagram-clause-goes g c =
     let sheet = c.args.sheet.now in
     λ typed turns. then sheet _ _ _ _ _ _ _ _ _ typed typed typed _ _ _ (c.say.ensures sheet typed c.args.between.now.warned turns _) (c.in_ok-hear-in-Datagram.ensures.goes _ typed turns c.in-Datagram.ensures.1)
+
+pub returns-in_err-pass_over-in-Unopened-clause-goes : goal.returns-in_err-pass_over-in-Unopened-clause-goes
+returns-in_err-pass_over-in-Unopened-clause-goes g c =
+    let sheet = c.args.sheet.now in
+    let warned = c.args.between.now.warned in
+    let passed = c.in_err-pass_over-in-Unopened.ensures in
+    λ typed turns. passed_on c.from_residual-in_err-pass_over-in-Unopened.result c.in_err-pass_over-in-Unopened.field-0.0
+    (λ (course : Course) (known : Option (List ℕ) → Option (List ℕ)). DeskGoes sheet c.args.desk.now c.args.desk.now (process_of c.args.desk.now warned turns further)
+    (process_of c.args.desk.now c.pass_over.new.between.warned turns course) (g.L.Link.log c.args.link.now) (g.L.Link.log c.take.new.self) typed typed
+    (known (g.W.Write.contents (stream_of c.args.out.now))) (known (g.W.Write.contents (stream_of c.pass_over.new.out))))
+    c.from_residual-in_err-pass_over-in-Unopened.ensures.1
+    (then sheet _ _ _ _ _ _ _ _ _ typed typed typed _ _ _ (c.say.ensures sheet typed warned turns _)
+    (logged sheet _ _ _ _ _ _ _ typed typed _ _ (sym c.in-Unopened.ensures) (passes sheet c.args.desk.now warned _ turns _ _ typed _ _ passed.warned passed.course passed.text)))
+
+pub returns-in_ok-pass_over-in-Unopened-clause-goes : goal.returns-in_ok-pass_over-in-Unopened-clause-goes
+returns-in_ok-pass_over-in-Unopened-clause-goes g c =
+    let sheet = c.args.sheet.now in
+    let warned = c.args.between.now.warned in
+    let passed = c.in_ok-pass_over-in-Unopened.ensures in
+    λ typed turns. then sheet _ _ _ _ _ _ _ _ _ typed typed typed _ _ _ (c.say.ensures sheet typed warned turns _)
+    (logged sheet _ _ _ _ _ _ _ typed typed _ _ (sym c.in-Unopened.ensures) (passes sheet c.args.desk.now warned _ turns _ _ typed _ _ passed.warned passed.course passed.text))

@@ -1,11 +1,11 @@
 use Rattle.std.proofs.Common.{refl}
 use Rattle.std.specs.Fmt.{digits}
-use Rattle.corrections.specs.CleanList.{standing_of}
+use Rattle.corrections.specs.CleanList.{clean_items_of}
 use Rattle.shorthand.specs.Full.{item_from}
 use Rattle.shorthand.proofs.worked.table_is_worked.Goals as goal
 
 pub returns-clause-marks : goal.returns-clause-marks
-unfolding standing_of digits item_from
+unfolding clean_items_of digits item_from
 returns-clause-marks c = λ s. record {
   dot_ball = refl;
   one = refl;
@@ -33,7 +33,7 @@ returns-clause-marks c = λ s. record {
 }
 
 pub returns-clause-outs : goal.returns-clause-outs
-unfolding standing_of digits item_from
+unfolding clean_items_of digits item_from
 returns-clause-outs c = λ s. record {
   lbw = refl;
   caught = refl;
@@ -48,7 +48,7 @@ returns-clause-outs c = λ s. record {
 }
 
 pub returns-clause-names : goal.returns-clause-names
-unfolding standing_of digits item_from
+unfolding clean_items_of digits item_from
 returns-clause-names c = record {
   last_word = refl;
   beginning = refl;
@@ -72,7 +72,7 @@ returns-clause-names c = record {
 }
 
 pub returns-clause-places : goal.returns-clause-places
-unfolding standing_of digits item_from
+unfolding clean_items_of digits item_from
 returns-clause-places c = λ s. record {
   no_delivery = refl;
   after_over = refl;

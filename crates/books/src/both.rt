@@ -1,0 +1,109 @@
+//! The book of both desks' votes files.
+
+ghost use Rattle.std.specs.Prelude.{◌≡◌, ◌≤◌, ◌++◌, ◌∷◌, [], All, ◌↔◌, IfErr, IfOk, IsTrue, OnOk, length, vec_len};
+ghost use Rattle.notation.specs.Written.{IsEntry};
+ghost use Rattle.corrections.specs.Refusal.{book_refusal};
+ghost use Rattle.agree_core.specs.Agreed.{IsAgreedList};
+ghost use Rattle.agree_core.specs.Ballots.{In, ballot_of};
+ghost use Rattle.agree_core.specs.Books.{AllTaken};
+ghost use Rattle.books.specs.BothFiles.{HaveVotes, IsBookOfBoth, WhyNoBookOfBoth, WhyNotOpened};
+ghost use Rattle.books.specs.DeskVotes.{votes_of, votes_of_both};
+ghost use Rattle.books.specs.inner.Both.{NamesRefused};
+
+use crate::desk_votes::DeskVotes;
+use crate::fault::BothFault;
+use agree_core::{DeskId, Vote};
+use cards::MatchSheet;
+use corrections::{BookOf, CheckedBook};
+use notation::Entry;
+use std::alloc::{AllocError, Global};
+
+/// The votes of both desks' files of a match. It is refused as the first votes file that is refused, A's before B's.
+pub fn open_both(
+    alloc: Global,
+    game: u64,
+    a: &[u8],
+    b: &[u8],
+) -> Result<(DeskVotes, DeskVotes), BothFault>
+    ensures votes { IfOk result (λ found. HaveVotes game a.now b.now (votes_of_both found.0 found.1)) }
+    ensures why { IfErr result (WhyNotOpened game a.now b.now) }
+{
+    let a_votes = match DeskVotes::of_file(alloc, DeskId::A, game, a) {
+        Ok(votes) => votes,
+        Err(why) => return Err(BothFault::of(DeskId::A, why)),
+    };
+    match DeskVotes::of_file(alloc, DeskId::B, game, b) {
+        Ok(b_votes) => Ok((a_votes, b_votes)),
+        Err(why) => Err(BothFault::of(DeskId::B, why)),
+    }
+}
+
+/// Adds a copy of a value at the end.
+fn add<T: Copy + Drop>(list: &mut Vec<T>, value: &T) -> Result<(), AllocError>
+    ensures { OnOk result (list.new.items ≡ list.old.items ++ value.now ∷ []) }
+{
+    list.push(*value)?;
+    Ok(())
+}
+
+/// Whether a vote is for this place, and the other desk has it too.
+fn settles(vote: &Vote, place: usize, other: &DeskVotes) -> bool
+    ensures { IsTrue result ↔ ((vote.now.place ≡ place) × In (ballot_of vote.now) (votes_of other.now)) }
+{
+    vote.place as usize == place && other.has(vote)
+}
+
+/// The agreed list of both desks' votes: a vote of A is for its next entry where it is of the next place, and B has it
+/// too.
+pub fn agreed_list(alloc: Global, a: &DeskVotes, b: &DeskVotes) -> Result<Vec<Entry>, AllocError>
+    ensures agreed { IfOk result (λ list.
+        IsAgreedList (votes_of_both a.now b.now) list.items) }
+    ensures entries { IfOk result (λ list. All IsEntry list.items) }
+    ensures places { IfOk result (λ list. vec_len list ≤ 8192) }
+{
+    let mut list = Vec::new(alloc);
+    for i in 0..a.count() {
+        let vote = a.nth(i);
+        if settles(&vote, list.len(), b) {
+            add(&mut list, &vote.entry)?;
+        }
+    }
+    Ok(list)
+}
+
+/// The book of these entries.
+fn book_of_entries(alloc: Global, innings: u32, entries: &[Entry]) -> Result<CheckedBook, BothFault>
+    requires innings { (1 ≤ innings) × (innings ≤ 2) }
+    requires entries { All IsEntry entries.now }
+    requires places { length entries.now ≤ 8192 }
+    ensures book { IfOk result (λ book. book.entries ≡ entries.now) }
+    ensures taken { IfOk result (λ book. AllTaken (book_refusal innings) [] book.entries) }
+    ensures same_match { IfOk result (λ book. book.innings_a_side ≡ innings) }
+    ensures why { IfErr result (NamesRefused (book_refusal innings) entries.now) }
+{
+    let mut book = CheckedBook::new(alloc, innings)?;
+    for i in 0..entries.len() {
+        if book.enter(&entries[i]).is_err() {
+            return Err(BothFault::BadVotes { place: book.len() });
+        }
+    }
+    Ok(book)
+}
+
+/// The book of both desks' votes files: the agreed list of their votes, the last entry too. Byte 7 of a file says which
+/// version it is of. It is refused as the first votes file that is refused, A's before B's, and then `BadVotes` where the
+/// agreed list is no legal book.
+pub fn book_of_both(
+    alloc: Global,
+    sheet: &MatchSheet,
+    a: &[u8],
+    b: &[u8],
+) -> Result<CheckedBook, BothFault>
+    ensures book { IfOk result (λ book. IsBookOfBoth sheet.now a.now b.now book.entries) }
+    ensures same_match { IfOk result (λ book. book.innings_a_side ≡ sheet.now.innings) }
+    ensures why { IfErr result (WhyNoBookOfBoth sheet.now a.now b.now) }
+{
+    let (a_votes, b_votes) = open_both(alloc, sheet.game(), a, b)?;
+    let list = agreed_list(alloc, &a_votes, &b_votes)?;
+    book_of_entries(alloc, sheet.innings(), list.as_slice())
+}

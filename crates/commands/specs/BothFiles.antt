@@ -1,0 +1,65 @@
+-- What `card` and `export` print of both desks' votes files, and why they don't: s is the sheet, a and b are the files.
+use Rattle.std.specs.Prelude.{ℕ, Bool, true, false, List, Option}
+use Rattle.notation.specs.declared.entry.Entry.{Entry}
+use Rattle.agree_core.specs.declared.messages.DeskId.{DeskId}
+use Rattle.agree_core.specs.declared.messages.DeskId.TheVariants.{A, B}
+use Rattle.cards.specs.Sheet.{Sheet}
+use Rattle.streams.specs.declared.input.InputFault.{InputFault}
+use Rattle.streams.specs.declared.input.InputFault.TheVariants as inputs
+use Rattle.streams.specs.declared.watched.Watched.{Watched}
+use Rattle.streams.specs.Watched.{Prints}
+use Rattle.books.specs.BothFiles.{IsBookOfBoth, WhyNoBookOfBoth}
+use Rattle.books.specs.Card.{card_text}
+use Rattle.books.specs.declared.fault.BothFault.{BothFault}
+use Rattle.books.specs.declared.fault.BothFault.TheVariants as both
+use Rattle.export.specs.Names.{told_apart}
+use Rattle.export.specs.Value.{export_text}
+use Rattle.commands.specs.declared.fault.StopFault.{StopFault}
+use Rattle.commands.specs.declared.fault.StopFault.TheVariants as stops
+use Rattle.commands.specs.declared.both_files.BothPrintFault.{BothPrintFault}
+use Rattle.commands.specs.declared.both_files.BothPrintFault.TheVariants.{NoMemory, Read, Write, Book}
+
+module _ {S : Type 0} (contents : S → Option (List ℕ)) (old new : Watched S) (s : Sheet) (a b : List ℕ) where
+  -- the cards of both files' book are written
+  pub record PrintsCardOfBoth : Type 0 where
+    pub book : List Entry
+    pub made : IsBookOfBoth s a b book
+    pub written : Prints contents old new (card_text s book)
+
+  -- the value of both files' book is written, with the sides told apart
+  pub record PrintsExportOfBoth : Type 0 where
+    pub book : List Entry
+    pub made : IsBookOfBoth s a b book
+    pub written : Prints contents old new (export_text (told_apart s) book)
+
+-- a desk's file isn't read to its end
+abbrev pub of_input : DeskId → InputFault → BothPrintFault
+of_input desk inputs.NoMemory = NoMemory
+of_input desk inputs.Read = Read desk
+
+-- both files have no book: being out of memory is its own
+abbrev pub of_book : BothFault → BothPrintFault
+of_book both.NoMemory = NoMemory
+of_book why = Book why
+
+-- memory was wanted, a read or a write failed, or both files have no book for this reason
+abbrev pub WhyNotBoth : Sheet → List ℕ → List ℕ → BothPrintFault → Type 0
+WhyNotBoth s a b NoMemory = Unit {0}
+WhyNotBoth s a b (Read desk) = Unit {0}
+WhyNotBoth s a b Write = Unit {0}
+WhyNotBoth s a b (Book why) = WhyNoBookOfBoth s a b why
+
+-- the file of desk B is at fault
+abbrev pub is_of_second : BothPrintFault → Bool
+is_of_second (Read B) = true
+is_of_second (Book (both.Votes B why)) = true
+is_of_second fault = false
+
+-- what standard error is told, and the status, go by
+abbrev pub stop_of : BothPrintFault → StopFault
+stop_of NoMemory = stops.NoMemory
+stop_of (Read desk) = stops.Read
+stop_of Write = stops.Write
+stop_of (Book both.NoMemory) = stops.NoMemory
+stop_of (Book (both.Votes desk why)) = stops.VotesNamed why
+stop_of (Book (both.BadVotes place)) = stops.BadVotes place

@@ -1,0 +1,247 @@
+//! The record of a match from both desks' votes files: `ground card` and `ground export` of their agreed list.
+
+ghost use Rattle.std.specs.Prelude.{◌≡◌, ◌≢◌, ◌<◌, ◌⊎◌, length, Err, IfErr, IfOk, IfSome, OnOk};
+ghost use Rattle.agree_core.specs.declared.messages.DeskId.TheVariants.{A, B};
+ghost use Rattle.streams.specs.Watched.{IsHandedOn, MeetsFailure, failures, stream_of};
+ghost use Rattle.books.specs.BothFiles.{IsBookOfBoth};
+ghost use Rattle.commands.specs.BothFiles.{PrintsCardOfBoth, PrintsExportOfBoth, WhyNotBoth};
+
+use crate::export_command::print_text;
+use crate::fault::{StopFault, Stopped};
+use crate::opening::{open_input, output};
+use crate::twins::told_sheet_at;
+use agree_core::DeskId;
+use books::{BothFault, book_of_both, print_card};
+use cards::MatchSheet;
+use corrections::CheckedBook;
+use export::text_of;
+use std::alloc::{AllocError, Global};
+use std::io::{Read, Write};
+use streams::{InputFault, LONGEST_INPUT, Watched, read_all};
+
+/// Why `card` and `export` of both files end before their end.
+#[derive(Clone, Copy, Debug, PartialEq, Eq)]
+pub enum BothPrintFault {
+    /// Memory was refused.
+    NoMemory,
+    /// A read of this desk's file failed or was interrupted, or the file is longer than 16,777,216 bytes.
+    Read(DeskId),
+    /// A write failed.
+    Write,
+    /// Both files have no book.
+    Book(BothFault),
+}
+
+impl BothPrintFault {
+    ghost use Rattle.commands.specs.BothFiles.{stop_of, of_input, is_of_second};
+
+    /// The fault of a desk's file that isn't read to its end.
+    pub fn of_input(desk: DeskId, why: InputFault) -> BothPrintFault
+        ensures { result ≡ of_input desk why }
+    {
+        match why {
+            InputFault::NoMemory => BothPrintFault::NoMemory,
+            InputFault::Read => BothPrintFault::Read(desk),
+        }
+    }
+
+    /// Whether the file of desk B is at fault.
+    pub fn is_of_second(self) -> bool
+        ensures { result ≡ is_of_second self }
+    {
+        match self {
+            BothPrintFault::Read(DeskId::B) => true,
+            BothPrintFault::Book(
+                BothFault::Votes {
+                    desk: DeskId::B,
+                    ..
+                },
+            ) => true,
+            _ => false,
+        }
+    }
+}
+
+impl From<AllocError> for BothPrintFault {
+    ghost use Rattle.commands.specs.declared.both_files.BothPrintFault.TheVariants.{NoMemory};
+
+    ghost from_gives = { λ _ fault. fault ≡ NoMemory };
+
+    fn from(_why: AllocError) -> Self {
+        BothPrintFault::NoMemory
+    }
+}
+
+impl From<BothFault> for BothPrintFault {
+    ghost use Rattle.commands.specs.BothFiles.{of_book};
+
+    ghost from_gives = { λ why fault. fault ≡ of_book why };
+
+    fn from(why: BothFault) -> Self {
+        match why {
+            BothFault::NoMemory => BothPrintFault::NoMemory,
+            _ => BothPrintFault::Book(why),
+        }
+    }
+}
+
+impl From<BothPrintFault> for StopFault {
+    ghost use Rattle.commands.specs.BothFiles.{stop_of};
+
+    ghost from_gives = { λ why fault. fault ≡ stop_of why };
+
+    fn from(why: BothPrintFault) -> Self {
+        match why {
+            BothPrintFault::NoMemory | BothPrintFault::Book(BothFault::NoMemory) => {
+                StopFault::NoMemory
+            }
+            BothPrintFault::Read(_) => StopFault::Read,
+            BothPrintFault::Write => StopFault::Write,
+            BothPrintFault::Book(BothFault::Votes { why, .. }) => StopFault::VotesNamed(why),
+            BothPrintFault::Book(BothFault::BadVotes { place }) => StopFault::BadVotes { place },
+        }
+    }
+}
+
+/// The book of both files, each read to its end, A's first.
+fn book_of_readers<R: Read>(
+    alloc: Global,
+    sheet: &MatchSheet,
+    a: &mut Watched<R>,
+    b: &mut Watched<R>,
+) -> Result<CheckedBook, BothPrintFault>
+    ensures book { IfOk result (λ book. IfSome (R.remaining (stream_of a.old)) (λ first.
+        IfSome (R.remaining (stream_of b.old)) (λ second.
+        IsBookOfBoth sheet.now first second book.entries))) }
+    ensures same_match { IfOk result (λ book. book.innings_a_side ≡ sheet.now.innings) }
+    ensures why { IfErr result (λ fault. IfSome (R.remaining (stream_of a.old)) (λ first.
+        IfSome (R.remaining (stream_of b.old)) (λ second. WhyNotBoth sheet.now first second fault))) }
+    ensures read_first { result ≡ Err (BothPrintFault.Read A) → MeetsFailure a.old a.new
+        ⊎ IfSome (R.remaining (stream_of a.old)) (λ input. LONGEST_INPUT < length input) }
+    ensures read_second { result ≡ Err (BothPrintFault.Read B) → MeetsFailure b.old b.new
+        ⊎ IfSome (R.remaining (stream_of b.old)) (λ input. LONGEST_INPUT < length input) }
+    ensures unwritten { IfErr result (λ fault. fault ≢ BothPrintFault.Write) }
+{
+    let first = match read_all(alloc, a) {
+        Ok(bytes) => bytes,
+        Err(why) => return Err(BothPrintFault::of_input(DeskId::A, why)),
+    };
+    let second = match read_all(alloc, b) {
+        Ok(bytes) => bytes,
+        Err(why) => return Err(BothPrintFault::of_input(DeskId::B, why)),
+    };
+    Ok(book_of_both(alloc, sheet, first.as_slice(), second.as_slice())?)
+}
+
+/// `ground card` of both files: reads both desks' votes files to the end, and prints both cards of each innings of the
+/// agreed list of their votes, the last entry too, and then its page. Where a file is refused, or the agreed list is no
+/// legal book, nothing is written.
+pub fn card_both_run<R: Read, W: Write>(
+    alloc: Global,
+    sheet: &MatchSheet,
+    a: &mut Watched<R>,
+    b: &mut Watched<R>,
+    writer: &mut Watched<W>,
+) -> Result<(), BothPrintFault>
+    ensures written { OnOk result (IfSome (R.remaining (stream_of a.old)) (λ first.
+        IfSome (R.remaining (stream_of b.old)) (λ second.
+        PrintsCardOfBoth W.contents writer.old writer.new sheet.now first second))) }
+    ensures why { IfErr result (λ fault. IfSome (R.remaining (stream_of a.old)) (λ first.
+        IfSome (R.remaining (stream_of b.old)) (λ second. WhyNotBoth sheet.now first second fault))) }
+
+    // A read fault comes only where a read of that file failed or it is too long, and a write fault only where a
+    // write failed.
+    ensures read_first { result ≡ Err (BothPrintFault.Read A) → MeetsFailure a.old a.new
+        ⊎ IfSome (R.remaining (stream_of a.old)) (λ input. LONGEST_INPUT < length input) }
+    ensures read_second { result ≡ Err (BothPrintFault.Read B) → MeetsFailure b.old b.new
+        ⊎ IfSome (R.remaining (stream_of b.old)) (λ input. LONGEST_INPUT < length input) }
+    ensures write { result ≡ Err BothPrintFault.Write → MeetsFailure writer.old writer.new }
+    ensures sound { OnOk result (failures writer.new ≡ failures writer.old) }
+    ensures handed_on { OnOk result (IsHandedOn writer.new) }
+
+    // With any other fault nothing was written.
+    ensures unwritten { IfErr result (λ fault. fault ≢ BothPrintFault.Write → writer.new ≡ writer.old) }
+{
+    let book = book_of_readers(alloc, sheet, a, b)?;
+    match print_card(sheet, &book, writer) {
+        Ok(()) => Ok(()),
+        Err(_) => Err(BothPrintFault::Write),
+    }
+}
+
+/// `ground export` of both files: as `card_both_run`, but the agreed list as one JSON value.
+pub fn export_both_run<R: Read, W: Write>(
+    alloc: Global,
+    sheet: &MatchSheet,
+    a: &mut Watched<R>,
+    b: &mut Watched<R>,
+    writer: &mut Watched<W>,
+) -> Result<(), BothPrintFault>
+    ensures written { OnOk result (IfSome (R.remaining (stream_of a.old)) (λ first.
+        IfSome (R.remaining (stream_of b.old)) (λ second.
+        PrintsExportOfBoth W.contents writer.old writer.new sheet.now first second))) }
+    ensures why { IfErr result (λ fault. IfSome (R.remaining (stream_of a.old)) (λ first.
+        IfSome (R.remaining (stream_of b.old)) (λ second. WhyNotBoth sheet.now first second fault))) }
+
+    // A read fault comes only where a read of that file failed or it is too long, and a write fault only where a
+    // write failed.
+    ensures read_first { result ≡ Err (BothPrintFault.Read A) → MeetsFailure a.old a.new
+        ⊎ IfSome (R.remaining (stream_of a.old)) (λ input. LONGEST_INPUT < length input) }
+    ensures read_second { result ≡ Err (BothPrintFault.Read B) → MeetsFailure b.old b.new
+        ⊎ IfSome (R.remaining (stream_of b.old)) (λ input. LONGEST_INPUT < length input) }
+    ensures write { result ≡ Err BothPrintFault.Write → MeetsFailure writer.old writer.new }
+    ensures sound { OnOk result (failures writer.new ≡ failures writer.old) }
+    ensures handed_on { OnOk result (IsHandedOn writer.new) }
+
+    // With any other fault nothing was written.
+    ensures unwritten { IfErr result (λ fault. fault ≢ BothPrintFault.Write → writer.new ≡ writer.old) }
+{
+    let book = book_of_readers(alloc, sheet, a, b)?;
+    let text = text_of(alloc, sheet, &book)?;
+    match print_text(text.as_str(), writer) {
+        Ok(()) => Ok(()),
+        Err(_) => Err(BothPrintFault::Write),
+    }
+}
+
+/// Why a command on both files ended, and which of them was at work.
+fn stopped_at<'a>(fault: BothPrintFault, a: &'a str, b: &'a str) -> Stopped<'a> {
+    let path = if fault.is_of_second() { b } else { a };
+    Stopped::at(path, StopFault::from(fault))
+}
+
+/// Runs `card` over both desks' votes files.
+#[inline(never)]
+pub fn start_card_of_both<'a>(
+    rt: &HostRuntime,
+    sheet: &'a str,
+    a: &'a str,
+    b: &'a str,
+) -> Result<bool, Stopped<'a>> {
+    let sheet = told_sheet_at(rt, sheet)?;
+    let mut first = open_input(rt, a)?;
+    let mut second = open_input(rt, b)?;
+    let mut writer = output(rt)?;
+    match card_both_run(rt.alloc(), &sheet, &mut first, &mut second, &mut writer) {
+        Ok(()) => Ok(false),
+        Err(fault) => Err(stopped_at(fault, a, b)),
+    }
+}
+
+/// Runs `export` over both desks' votes files.
+#[inline(never)]
+pub fn start_export_of_both<'a>(
+    rt: &HostRuntime,
+    sheet: &'a str,
+    a: &'a str,
+    b: &'a str,
+) -> Result<bool, Stopped<'a>> {
+    let sheet = told_sheet_at(rt, sheet)?;
+    let mut first = open_input(rt, a)?;
+    let mut second = open_input(rt, b)?;
+    let mut writer = output(rt)?;
+    match export_both_run(rt.alloc(), &sheet, &mut first, &mut second, &mut writer) {
+        Ok(()) => Ok(false),
+        Err(fault) => Err(stopped_at(fault, a, b)),
+    }
+}

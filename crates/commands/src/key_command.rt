@@ -1,0 +1,56 @@
+//! `ground key`: a new key.
+
+ghost use Rattle.std.specs.Prelude.{◌≡◌};
+ghost use Rattle.commands.specs.Keys as keys;
+
+use crate::fault::{StopFault, Stopped};
+use hex::encode_to_slice;
+use std::fs::{self, File, OpenOptions};
+use std::io::{self, Write};
+use std::os::unix::fs::OpenOptionsExt;
+use std::random::RandomSource;
+
+/// The text of a new key's file: 64 hex digits and the end of a line.
+pub fn key_text(key: &[u8; 32]) -> [u8; 65]
+    ensures { result ≡ keys.key_line key.now }
+{
+    let mut text = [b'\n'; 65];
+    let _ = encode_to_slice(key.as_slice(), &mut text[..64]);
+    text
+}
+
+/// A file that wasn't there, which its owner alone may read.
+fn own_file(rt: &HostRuntime, path: &str) -> io::Result<File> {
+    OpenOptions::new()
+        .write(true)
+        .create_new(true)
+        .mode(0o600)
+        .open(rt, path)
+}
+
+/// Writes a text, and waits until it is kept.
+fn keep(file: &mut File, text: &[u8]) -> io::Result<()> {
+    file.write_all(text)?;
+    file.sync_all()
+}
+
+/// Makes the file of a new key. Where it can't be written whole, it is taken away again.
+fn write_key(rt: &HostRuntime, path: &str) -> io::Result<()> {
+    let mut key = [0; 32];
+    rt.fill_bytes(&mut key[..])?;
+    let mut file = own_file(rt, path)?;
+    let kept = keep(&mut file, key_text(&key).as_slice());
+    if kept.is_err() {
+        let _ = fs::remove_file(rt, path);
+    }
+    kept
+}
+
+/// `ground key`: writes a key of the system's randomness to a new file. A file that is there is refused, and stays.
+#[inline(never)]
+pub fn start_key<'a>(rt: &HostRuntime, to: &'a str) -> Result<bool, Stopped<'a>> {
+    match write_key(rt, to) {
+        Ok(()) => Ok(false),
+        Err(_) => Err(Stopped::at(to, StopFault::Write)),
+    }
+}

@@ -1,0 +1,118 @@
+-- An innings with its cards. s is the sheet, h the history and i the innings, numbered from 0.
+use Rattle.std.specs.Prelude.{ℕ, ◌+◌, ◌==◌, Bool, not, ◌&&◌, List, [], ◌∷◌, ◌++◌, map, codes, decimal}
+use Rattle.notation.specs.declared.entry.Side.{Side}
+use Rattle.ball_laws.specs.History.{History}
+use Rattle.match_laws.specs.declared.score.Extras.{Extras}
+use Rattle.match_laws.specs.declared.rows.BattingRow.{BattingRow}
+use Rattle.match_laws.specs.declared.rows.BowlingRow.{BowlingRow}
+use Rattle.match_laws.specs.declared.rows.Fall.{Fall}
+use Rattle.match_laws.specs.History.{begun, side_of, opponent, is_open}
+use Rattle.match_laws.specs.Figures.{total, wickets, overs, balls, batting_order, bowling_order, falls}
+use Rattle.match_laws.specs.Parts.{extras_of, batting_row_of, bowling_row_of}
+use Rattle.cards.specs.Sheet.{Sheet, name_of, player_of}
+use Rattle.cards.specs.Dismissals.{fate_text}
+use Rattle.cards.specs.Bowling.{fielding}
+use Rattle.json.specs.Json.{Json, boolean}
+use Rattle.json_fields.specs.Values.{Field, array_of, object_of, text_field, number_field, up_to}
+
+-- so many overs, and so many balls of another
+abbrev pub overs_text : ℕ → ℕ → List ℕ
+overs_text whole odd = decimal whole ++ codes "." ++ decimal odd
+
+-- the innings is over: it isn't the one that is in play
+abbrev pub is_closed : History → ℕ → Bool
+is_closed h i = not (is_open h && (begun h == i + 1))
+
+-- byes, leg byes, wide runs, no balls and penalty runs
+abbrev pub extras_value : Extras → Json
+extras_value x =
+    object_of (number_field (codes "byes") x.byes ∷ []
+    ++ number_field (codes "legbyes") x.legs ∷ []
+    ++ number_field (codes "wides") x.wides ∷ []
+    ++ number_field (codes "noballs") x.noballs ∷ []
+    ++ number_field (codes "penalty") x.penalty ∷ [])
+
+abbrev pub player_field : ℕ → Field
+player_field p = number_field (codes "number") p
+
+-- what became of a batter, in the words of the batting card
+abbrev pub fate_field : Sheet → Side → BattingRow → Field
+fate_field s side row = text_field (codes "how") (fate_text s (opponent side) row.fate)
+
+-- a batter of the side, by his row
+abbrev pub batter_value : Sheet → Side → ℕ → BattingRow → Json
+batter_value s side p row =
+    object_of (player_field p ∷ []
+    ++ text_field (codes "name") (player_of s side p) ∷ []
+    ++ fate_field s side row ∷ []
+    ++ number_field (codes "runs") row.runs ∷ []
+    ++ number_field (codes "balls") row.faced ∷ []
+    ++ number_field (codes "fours") row.fours ∷ []
+    ++ number_field (codes "sixes") row.sixes ∷ [])
+
+-- a bowler of the side, by his row
+abbrev pub bowler_value : Sheet → Side → ℕ → BowlingRow → Json
+bowler_value s side p row =
+    object_of (player_field p ∷ []
+    ++ text_field (codes "name") (player_of s side p) ∷ []
+    ++ text_field (codes "overs") (overs_text row.overs row.balls) ∷ []
+    ++ number_field (codes "maidens") row.maidens ∷ []
+    ++ number_field (codes "runs") row.runs ∷ []
+    ++ number_field (codes "wickets") row.wickets ∷ []
+    ++ number_field (codes "wides") row.wides ∷ []
+    ++ number_field (codes "noballs") row.noballs ∷ [])
+
+-- the n-th fall of a side's wickets, at this total
+abbrev pub fall_value : Sheet → Side → ℕ → Fall → Json
+fall_value s side n fall =
+    object_of (number_field (codes "wicket") n ∷ []
+    ++ number_field (codes "runs") fall.total ∷ []
+    ++ player_field fall.player ∷ []
+    ++ text_field (codes "name") (player_of s side fall.player) ∷ [])
+
+-- the value of each of these, with its number from n on
+abbrev pub values_from : {X : Type 0} → (ℕ → X → Json) → ℕ → List X → List Json
+values_from value n [] = []
+values_from value n (x ∷ xs) = value n x ∷ values_from value (n + 1) xs
+
+-- players p of innings i
+abbrev pub batter_of : Sheet → History → ℕ → ℕ → Json
+batter_of s h i p = batter_value s (side_of h i) p (batting_row_of h i p)
+
+abbrev pub bowler_of : Sheet → History → ℕ → ℕ → Json
+bowler_of s h i p = bowler_value s (fielding h i) p (bowling_row_of h i p)
+
+-- who came in or was timed out, in that order
+abbrev pub batting : Sheet → History → ℕ → List Json
+batting s h i = map (batter_of s h i) (batting_order h i)
+
+-- who bowled, in the order of the first delivery
+abbrev pub bowling : Sheet → History → ℕ → List Json
+bowling s h i = map (bowler_of s h i) (bowling_order h i)
+
+abbrev pub falls_values : Sheet → History → ℕ → List Json
+falls_values s h i = values_from (fall_value s (side_of h i)) 1 (falls h i)
+
+abbrev pub overs_field : History → ℕ → Field
+overs_field h i = text_field (codes "overs") (overs_text (overs h i) (balls h i))
+
+-- the side with its score
+abbrev pub score_fields : Sheet → History → ℕ → List Field
+score_fields s h i =
+    text_field (codes "team") (name_of s (side_of h i)) ∷ []
+    ++ number_field (codes "runs") (total h i) ∷ []
+    ++ number_field (codes "wickets") (wickets h i) ∷ []
+    ++ overs_field h i ∷ []
+    ++ (codes "closed", boolean (is_closed h i)) ∷ []
+    ++ (codes "extras", extras_value (extras_of h i)) ∷ []
+
+abbrev pub innings_value : Sheet → History → ℕ → Json
+innings_value s h i =
+    object_of (score_fields s h i
+    ++ (codes "batting", array_of (batting s h i)) ∷ []
+    ++ (codes "bowling", array_of (bowling s h i)) ∷ []
+    ++ (codes "falls", array_of (falls_values s h i)) ∷ [])
+
+-- each innings that has begun
+abbrev pub all_innings : Sheet → History → List Json
+all_innings s h = up_to (λ i. innings_value s h i ∷ []) (begun h)

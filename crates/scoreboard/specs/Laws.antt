@@ -1,0 +1,18 @@
+-- What a board's value tells of its match, in a looker's words.
+use Rattle.std.specs.Prelude.{◌≡◌, ℕ, true, length}
+use Rattle.ball_laws.specs.History.{History}
+use Rattle.ball_laws.specs.Laws.{state_after}
+use Rattle.ball_laws.specs.Over.{counting}
+use Rattle.match_laws.specs.History.{is_open}
+use Rattle.match_laws.specs.Figures.{wickets, balls, falls}
+use Rattle.match_laws.specs.Result.{current}
+use Rattle.match_laws.specs.Totals.{AddsUp as RunsAddUp}
+
+-- In innings i the `runs` are those of the batters and the `extras`; there are as many `falls` as `wickets`.
+pub record AddsUp (h : History) (i : ℕ) : Type 0 where
+  pub runs : RunsAddUp h i
+  pub wickets : length (falls h i) ≡ wickets h i
+
+-- While an innings is in play, as many deliveries of `this_over` count as its `overs` has balls behind the point.
+abbrev pub CountsThisOver : History → Type 0
+CountsThisOver h = is_open h ≡ true → counting (state_after h).this_over ≡ balls h (current h)

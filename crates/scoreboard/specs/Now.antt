@@ -1,0 +1,67 @@
+-- What is going on: who bats and who bowls, this over and the last one, what is needed, and the result. s is the
+-- sheet, n the innings a side and h the history.
+use Rattle.std.specs.Prelude.{ℕ, ◌-◌, ◌==◌, if◌then◌else◌, List, [], ◌∷◌, ◌++◌, Option, Some, None, map, option_map, reverse, codes}
+use Rattle.notation.specs.declared.entry.Ball.{Ball}
+use Rattle.ball_laws.specs.History.{History}
+use Rattle.ball_laws.specs.Laws.{state_after}
+use Rattle.match_laws.specs.History.{or_else, begun}
+use Rattle.match_laws.specs.Figures.{total}
+use Rattle.match_laws.specs.Result.{current, target, outcome}
+use Rattle.cards.specs.Sheet.{Sheet}
+use Rattle.cards.specs.Results.{result_text}
+use Rattle.json.specs.Json.{Json, null, string}
+use Rattle.json_fields.specs.Values.{Field, array_of, object_of, number_value}
+use Rattle.scoreboard.specs.Marks.{mark_of}
+
+-- a number, if there is one
+abbrev pub number_or_null : Option ℕ → Json
+number_or_null None = null
+number_or_null (Some n) = number_value n
+
+-- a text, if there is one
+abbrev pub text_or_null : Option (List ℕ) → Json
+text_or_null None = null
+text_or_null (Some text) = string text
+
+-- who bowled the newest of some deliveries, the newest first
+abbrev pub newest_bowler : List Ball → Option ℕ
+newest_bowler [] = None
+newest_bowler (b ∷ bs) = Some b.bowler
+
+-- who bowls: who bowled the last delivery of this over, else of the one called last
+abbrev pub bowler_now : History → Option ℕ
+bowler_now h = or_else (newest_bowler (state_after h).this_over) (newest_bowler (state_after h).last_over)
+
+-- the deliveries of an over, the oldest first
+abbrev pub over_value : List Ball → Json
+over_value over = array_of (map (λ b. string (mark_of b)) over)
+
+-- what the side that bats last needs yet to win (Law 16)
+abbrev pub needs : ℕ → History → Option ℕ
+needs n h = if begun h == 0 then None else option_map (λ runs. runs - total h (current h)) (target n h)
+
+abbrev pub players_fields : History → List Field
+players_fields h =
+    (codes "striker", number_or_null (state_after h).ends.striker) ∷ []
+    ++ (codes "other", number_or_null (state_after h).ends.other) ∷ []
+    ++ (codes "bowler", number_or_null (bowler_now h)) ∷ []
+
+-- this over and the last one, each the oldest delivery first
+abbrev pub overs_fields : List Ball → List Ball → List Field
+overs_fields this last = (codes "this_over", over_value this) ∷ [] ++ (codes "last_over", over_value last) ∷ []
+
+-- this over and the one called last, where an innings is open
+abbrev pub both_overs : History → List Field
+both_overs h = overs_fields (reverse (state_after h).this_over) (reverse (state_after h).last_over)
+
+abbrev pub result_field : Sheet → ℕ → History → Field
+result_field s n h = (codes "result", text_or_null (result_text s (outcome n h)))
+
+abbrev pub result_fields : Sheet → ℕ → History → List Field
+result_fields s n h =
+    (codes "target", number_or_null (target n h)) ∷ []
+    ++ (codes "needs", number_or_null (needs n h)) ∷ []
+    ++ result_field s n h ∷ []
+
+abbrev pub now_value : Sheet → ℕ → History → Json
+now_value s n h = object_of (players_fields h ++ both_overs h ++ result_fields s n h)

@@ -1,0 +1,34 @@
+-- The state of a board as one JSON value: a function of the sheet s and of the book.
+use Rattle.std.specs.Prelude.{ℕ, List, [], ◌∷◌, ◌++◌, length, codes, decimal}
+use Rattle.notation.specs.declared.entry.Entry.{Entry}
+use Rattle.corrections.specs.CleanList.{history_of}
+use Rattle.ball_laws.specs.History.{History}
+use Rattle.cards.specs.Sheet.{Sheet}
+use Rattle.json.specs.Json.{Json}
+use Rattle.json.specs.Tree.{json_tokens}
+use Rattle.json.specs.Print.{print}
+use Rattle.json_fields.specs.Values.{Field, array_of, object_of, text_field, number_field}
+use Rattle.scoreboard.specs.Innings.{all_innings}
+use Rattle.scoreboard.specs.Now.{now_value}
+
+-- The match number is a text, since a reader's numbers may not go so far.
+abbrev pub head_fields : Sheet → ℕ → List Field
+head_fields s entries =
+    text_field (codes "format") (codes "yermudosh board 1") ∷ []
+    ++ text_field (codes "match") (decimal s.game) ∷ []
+    ++ text_field (codes "title") s.title ∷ []
+    ++ number_field (codes "entries") entries ∷ []
+
+-- of so many entries, by the history that the Laws see of them, with n innings a side
+abbrev pub value_of : Sheet → ℕ → ℕ → History → Json
+value_of s n entries h =
+    object_of (head_fields s entries
+    ++ (codes "innings", array_of (all_innings s h)) ∷ []
+    ++ (codes "now", now_value s n h) ∷ [])
+
+abbrev pub board_value : Sheet → ℕ → List Entry → Json
+board_value s n book = value_of s n (length book) (history_of book)
+
+-- its text, as the library writes it, and a newline
+abbrev pub board_text : Sheet → ℕ → List Entry → List ℕ
+board_text s n book = print (json_tokens (board_value s n book)) ++ codes "\n"

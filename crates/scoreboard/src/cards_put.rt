@@ -1,0 +1,232 @@
+//! The rows of an innings' cards.
+
+ghost use Rattle.std.specs.Prelude.{◌≡◌, ◌<◌, ◌∷◌, [], IfOk, Some, codes, length, slice_get, string_bytes};
+ghost use Rattle.match_laws.specs.Stands.{ForEachHistory, begun_in};
+ghost use Rattle.json_fields.specs.Values.{PutsFields, PutsValues, text_field};
+ghost use Rattle.scoreboard.specs.Innings as laws;
+
+use cards::{MatchSheet, fate_text};
+use itoa::Buffer;
+use json_fields::{Compact, begin_object, end_object, put_figure, put_text};
+use match_laws::{BattingRow, BowlingRow, Fall, Match, opponent};
+use notation::{Player, Side};
+use std::alloc::{AllocError, Global};
+
+/// What stands at a place of a table.
+pub fn place_of<T: Copy>(places: &[T], place: usize) -> T
+    requires { place < length places.now }
+    ensures { slice_get places.now place ≡ Some result }
+{
+    places[place]
+}
+
+/// So many overs, and so many balls of another.
+fn overs_text(alloc: Global, whole: u32, odd: u32) -> Result<String, AllocError>
+    ensures { IfOk result (λ text. string_bytes text ≡ laws.overs_text whole odd) }
+{
+    let mut buffer = Buffer::new();
+    let mut text = String::from_str(alloc, buffer.format(whole))?;
+    text.push_str(".")?;
+    text.push_str(buffer.format(odd))?;
+    Ok(text)
+}
+
+/// Puts so many overs, and so many balls of another.
+pub fn put_overs(out: &mut Compact, alloc: Global, whole: u32, odd: u32) -> Result<(), AllocError>
+    ensures { PutsFields result out.old out.new
+        (text_field (codes "overs") (laws.overs_text whole odd) ∷ []) }
+{
+    let text = overs_text(alloc, whole, odd)?;
+    put_text(out, "overs", text.as_str())
+}
+
+/// Puts what became of a batter.
+fn put_fate(
+    out: &mut Compact,
+    alloc: Global,
+    sheet: &MatchSheet,
+    side: Side,
+    row: &BattingRow,
+) -> Result<(), AllocError>
+    ensures { PutsFields result out.old out.new (laws.fate_field sheet.now side row.now ∷ []) }
+{
+    let text = fate_text(alloc, sheet, opponent(side), row.fate)?;
+    put_text(out, "how", text.as_str())
+}
+
+/// Puts a player's number.
+fn put_number_of(out: &mut Compact, player: Player) -> Result<(), AllocError>
+    ensures { PutsFields result out.old out.new (laws.player_field player ∷ []) }
+{
+    put_figure(out, "number", u32::from(player.number()))
+}
+
+/// Puts a batter of a side, by his row.
+fn put_batter(
+    out: &mut Compact,
+    alloc: Global,
+    sheet: &MatchSheet,
+    side: Side,
+    player: Player,
+    row: &BattingRow,
+) -> Result<(), AllocError>
+    ensures { PutsValues result out.old out.new
+        (laws.batter_value sheet.now side player row.now ∷ []) }
+{
+    begin_object(out)?;
+    put_number_of(out, player)?;
+    put_text(out, "name", sheet.player(side, player))?;
+    put_fate(out, alloc, sheet, side, row)?;
+    put_figure(out, "runs", row.runs)?;
+    put_figure(out, "balls", row.faced)?;
+    put_figure(out, "fours", row.fours)?;
+    put_figure(out, "sixes", row.sixes)?;
+    end_object(out)
+}
+
+/// Puts a bowler of a side, by his row.
+fn put_bowler(
+    out: &mut Compact,
+    alloc: Global,
+    sheet: &MatchSheet,
+    side: Side,
+    player: Player,
+    row: &BowlingRow,
+) -> Result<(), AllocError>
+    ensures { PutsValues result out.old out.new
+        (laws.bowler_value sheet.now side player row.now ∷ []) }
+{
+    begin_object(out)?;
+    put_number_of(out, player)?;
+    put_text(out, "name", sheet.player(side, player))?;
+    put_overs(out, alloc, row.overs, row.balls)?;
+    put_figure(out, "maidens", row.maidens)?;
+    put_figure(out, "runs", row.runs)?;
+    put_figure(out, "wickets", row.wickets)?;
+    put_figure(out, "wides", row.wides)?;
+    put_figure(out, "noballs", row.noballs)?;
+    end_object(out)
+}
+
+/// Puts the fall of a side's wicket, by its number from 1.
+fn put_fall(
+    out: &mut Compact,
+    sheet: &MatchSheet,
+    side: Side,
+    number: u32,
+    fall: &Fall,
+) -> Result<(), AllocError>
+    ensures { PutsValues result out.old out.new
+        (laws.fall_value sheet.now side number fall.now ∷ []) }
+{
+    begin_object(out)?;
+    put_figure(out, "wicket", number)?;
+    put_figure(out, "runs", fall.total)?;
+    put_number_of(out, fall.player)?;
+    put_text(out, "name", sheet.player(side, fall.player))?;
+    end_object(out)
+}
+
+/// Puts a batter of an innings.
+fn put_batter_of(
+    out: &mut Compact,
+    alloc: Global,
+    sheet: &MatchSheet,
+    score: &Match,
+    innings: usize,
+    player: Player,
+) -> Result<(), AllocError>
+    requires { innings < begun_in score.now }
+    ensures { ForEachHistory score.now (λ n h.
+        PutsValues result out.old out.new (laws.batter_of sheet.now h innings player ∷ [])) }
+{
+    let row = score.batting_row(innings, player);
+    put_batter(out, alloc, sheet, score.side(innings), player, &row)
+}
+
+/// Puts a bowler of an innings.
+fn put_bowler_of(
+    out: &mut Compact,
+    alloc: Global,
+    sheet: &MatchSheet,
+    score: &Match,
+    innings: usize,
+    player: Player,
+) -> Result<(), AllocError>
+    requires { innings < begun_in score.now }
+    ensures { ForEachHistory score.now (λ n h.
+        PutsValues result out.old out.new (laws.bowler_of sheet.now h innings player ∷ [])) }
+{
+    let row = score.bowling_row(innings, player);
+    put_bowler(
+        out,
+        alloc,
+        sheet,
+        opponent(score.side(innings)),
+        player,
+        &row,
+    )
+}
+
+/// Puts who came in or was timed out, in that order.
+pub fn put_batters(
+    out: &mut Compact,
+    alloc: Global,
+    sheet: &MatchSheet,
+    score: &Match,
+    innings: usize,
+) -> Result<(), AllocError>
+    requires { innings < begun_in score.now }
+    ensures { ForEachHistory score.now (λ n h.
+        PutsValues result out.old out.new (laws.batting sheet.now h innings)) }
+{
+    let order = score.batting_order(innings);
+    for place in 0..order.len() {
+        if let Some(player) = place_of(&order, place) {
+            put_batter_of(out, alloc, sheet, score, innings, player)?;
+        }
+    }
+    Ok(())
+}
+
+/// Puts who bowled, in the order of the first delivery.
+pub fn put_bowlers(
+    out: &mut Compact,
+    alloc: Global,
+    sheet: &MatchSheet,
+    score: &Match,
+    innings: usize,
+) -> Result<(), AllocError>
+    requires { innings < begun_in score.now }
+    ensures { ForEachHistory score.now (λ n h.
+        PutsValues result out.old out.new (laws.bowling sheet.now h innings)) }
+{
+    let order = score.bowling_order(innings);
+    for place in 0..order.len() {
+        if let Some(player) = place_of(&order, place) {
+            put_bowler_of(out, alloc, sheet, score, innings, player)?;
+        }
+    }
+    Ok(())
+}
+
+/// Puts the falls of an innings.
+pub fn put_falls(
+    out: &mut Compact,
+    sheet: &MatchSheet,
+    score: &Match,
+    innings: usize,
+) -> Result<(), AllocError>
+    requires { innings < begun_in score.now }
+    ensures { ForEachHistory score.now (λ n h.
+        PutsValues result out.old out.new (laws.falls_values sheet.now h innings)) }
+{
+    let side = score.side(innings);
+    let falls = score.falls(innings);
+    for place in 0..falls.len() {
+        if let Some(fall) = place_of(&falls, place) {
+            put_fall(out, sheet, side, place as u32 + 1, &fall)?;
+        }
+    }
+    Ok(())
+}

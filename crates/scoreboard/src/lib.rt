@@ -1,0 +1,15 @@
+//! The state of a board as one JSON value, for a screen, a telephone or a stream: the score, who bats and bowls, the
+//! over, what is needed, and the cards.
+#![tactic(auto, unfolding(json_fields::specs::Values::fields_tokens, json_fields::specs::Values::values_tokens))]
+
+mod cards_put;
+mod innings;
+mod laws;
+mod marks;
+mod now;
+mod overs;
+mod text;
+mod value;
+
+pub use laws::boards_add_up;
+pub use text::board_text;

@@ -1,0 +1,127 @@
+//! What is going on.
+
+ghost use Rattle.std.specs.Prelude.{◌≡◌, ◌∷◌, [], codes, option_map, string_bytes};
+ghost use Rattle.match_laws.specs.Stands.{ForEachHistory};
+ghost use Rattle.json_fields.specs.Values.{PutsFields};
+ghost use Rattle.scoreboard.specs.Now as laws;
+ghost use Rattle.scoreboard.specs.inner.Overs.{Are};
+
+use crate::marks::put_marks;
+use crate::overs::Overs;
+use cards::{MatchSheet, result_text};
+use json_fields::{
+    Compact, begin_array, begin_field, end_array, end_object, put_figure, put_null, put_text,
+};
+use match_laws::Match;
+use notation::{Ball, Player};
+use std::alloc::{AllocError, Global};
+
+/// Puts a number, if there is one.
+fn put_number_or_null(out: &mut Compact, name: &str, number: Option<u32>) -> Result<(), AllocError>
+    ensures { PutsFields result out.old out.new ((name.now, laws.number_or_null number) ∷ []) }
+{
+    match number {
+        Some(number) => put_figure(out, name, number),
+        None => put_null(out, name),
+    }
+}
+
+/// Puts a player's number, if there is one.
+fn put_player(out: &mut Compact, name: &str, player: Option<Player>) -> Result<(), AllocError>
+    ensures { PutsFields result out.old out.new ((name.now, laws.number_or_null player) ∷ []) }
+{
+    match player {
+        Some(player) => put_figure(out, name, u32::from(player.number())),
+        None => put_null(out, name),
+    }
+}
+
+/// Puts who bats and who bowls.
+fn put_players(out: &mut Compact, score: &Match, overs: &Overs) -> Result<(), AllocError>
+    ensures { ForEachHistory score.now (λ n h. Are overs.now h →
+        PutsFields result out.old out.new (laws.players_fields h)) }
+{
+    let ends = score.ends();
+    put_player(out, "striker", ends.striker)?;
+    put_player(out, "other", ends.other)?;
+    put_player(out, "bowler", overs.bowler())
+}
+
+/// Puts the deliveries of an over.
+fn put_over(out: &mut Compact, alloc: Global, name: &str, over: &[Ball]) -> Result<(), AllocError>
+    ensures { PutsFields result out.old out.new ((name.now, laws.over_value over.now) ∷ []) }
+{
+    begin_array(out, name)?;
+    put_marks(out, alloc, over)?;
+    end_array(out)
+}
+
+/// Puts this over and the last one.
+fn put_overs(out: &mut Compact, alloc: Global, overs: &Overs) -> Result<(), AllocError>
+    ensures { PutsFields result out.old out.new
+        (laws.overs_fields overs.now.this.items overs.now.last.items) }
+{
+    put_over(out, alloc, "this_over", overs.this.as_slice())?;
+    put_over(out, alloc, "last_over", overs.last.as_slice())
+}
+
+/// What the side that bats last needs yet to win.
+fn needs(score: &Match) -> Option<u32>
+    ensures { ForEachHistory score.now (λ n h. result ≡ laws.needs n h) }
+{
+    let begun = score.begun();
+    if begun == 0 {
+        return None;
+    }
+    let runs = score.target()?;
+    Some(runs.saturating_sub(score.total(begun - 1)))
+}
+
+/// Puts the result, where there is one.
+fn put_result(
+    out: &mut Compact,
+    alloc: Global,
+    sheet: &MatchSheet,
+    score: &Match,
+) -> Result<(), AllocError>
+    ensures { ForEachHistory score.now (λ n h.
+        PutsFields result out.old out.new (laws.result_field sheet.now n h ∷ [])) }
+{
+    match result_text(alloc, sheet, score.result())? {
+        Some(text) => put_text(out, "result", text.as_str()),
+        None => put_null(out, "result"),
+    }
+}
+
+/// Puts what is to be reached, what is needed, and the result.
+fn put_aim(
+    out: &mut Compact,
+    alloc: Global,
+    sheet: &MatchSheet,
+    score: &Match,
+) -> Result<(), AllocError>
+    ensures { ForEachHistory score.now (λ n h.
+        PutsFields result out.old out.new (laws.result_fields sheet.now n h)) }
+{
+    put_number_or_null(out, "target", score.target())?;
+    put_number_or_null(out, "needs", needs(score))?;
+    put_result(out, alloc, sheet, score)
+}
+
+/// Puts what is going on.
+pub fn put_now(
+    out: &mut Compact,
+    alloc: Global,
+    sheet: &MatchSheet,
+    score: &Match,
+    overs: &Overs,
+) -> Result<(), AllocError>
+    ensures { ForEachHistory score.now (λ n h. Are overs.now h →
+        PutsFields result out.old out.new ((codes "now", laws.now_value sheet.now n h) ∷ [])) }
+{
+    begin_field(out, "now")?;
+    put_players(out, score, overs)?;
+    put_overs(out, alloc, overs)?;
+    put_aim(out, alloc, sheet, score)?;
+    end_object(out)
+}

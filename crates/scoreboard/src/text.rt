@@ -1,0 +1,29 @@
+//! The text of a board's state.
+
+ghost use Rattle.std.specs.Prelude.{◌≡◌, IfOk};
+ghost use Rattle.scoreboard.specs.Value.{board_text};
+
+use crate::overs::overs_of;
+use crate::value::put_board;
+use cards::MatchSheet;
+use corrections::BookOf;
+use json_fields::Compact;
+use std::alloc::{AllocError, Global};
+
+/// The state of a board with this book as one JSON value, and a newline: the score of each innings with its cards, who
+/// bats and who bowls, this over and the last, what is needed, and the result. It fails only where memory is refused.
+pub fn board_text<B: BookOf>(
+    alloc: Global,
+    sheet: &MatchSheet,
+    book: &B,
+) -> Result<Vec<u8>, AllocError>
+    ensures { IfOk result (λ text.
+        text.items ≡ board_text sheet.now (B.innings_a_side book.now) (B.content book.now)) }
+{
+    let overs = overs_of(alloc, book)?;
+    let mut out = Compact::new(alloc);
+    put_board(&mut out, alloc, sheet, book.len(), book.score(), &overs)?;
+    let mut text = out.into_inner();
+    text.push(b'\n')?;
+    Ok(text)
+}

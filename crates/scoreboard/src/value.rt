@@ -1,0 +1,46 @@
+//! The state of a board as one JSON value.
+
+ghost use Rattle.std.specs.Prelude.{◌∷◌, []};
+ghost use Rattle.match_laws.specs.Stands.{ForEachHistory};
+ghost use Rattle.json_fields.specs.Values.{PutsFields, PutsValues};
+ghost use Rattle.scoreboard.specs.Value as laws;
+ghost use Rattle.scoreboard.specs.inner.Overs.{Are};
+
+use crate::innings::put_all_innings;
+use crate::now::put_now;
+use crate::overs::Overs;
+use cards::MatchSheet;
+use itoa::Buffer;
+use json_fields::{Compact, begin_object, end_object, put_figure, put_text};
+use match_laws::Match;
+use std::alloc::{AllocError, Global};
+
+/// Puts what is said of the file and of the match, with so many entries.
+fn put_head(out: &mut Compact, sheet: &MatchSheet, entries: u32) -> Result<(), AllocError>
+    ensures { PutsFields result out.old out.new (laws.head_fields sheet.now entries) }
+{
+    let mut buffer = Buffer::new();
+    put_text(out, "format", "yermudosh board 1")?;
+    put_text(out, "match", buffer.format(sheet.game()))?;
+    put_text(out, "title", sheet.title())?;
+    put_figure(out, "entries", entries)
+}
+
+/// Puts the state of a board whose book has so many entries and this score, and these overs.
+pub fn put_board(
+    out: &mut Compact,
+    alloc: Global,
+    sheet: &MatchSheet,
+    entries: u32,
+    score: &Match,
+    overs: &Overs,
+) -> Result<(), AllocError>
+    ensures { ForEachHistory score.now (λ n h. Are overs.now h →
+        PutsValues result out.old out.new (laws.value_of sheet.now n entries h ∷ [])) }
+{
+    begin_object(out)?;
+    put_head(out, sheet, entries)?;
+    put_all_innings(out, alloc, sheet, score)?;
+    put_now(out, alloc, sheet, score, overs)?;
+    end_object(out)
+}

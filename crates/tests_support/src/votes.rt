@@ -1,0 +1,63 @@
+//! Entries and votes.
+
+ghost use Rattle.std.specs.Prelude.{◌≡◌, ◌<◌, List, IfSome, MatchOption};
+ghost use Rattle.notation.specs.Written.{IsEntry};
+ghost use Rattle.notation.specs.declared.entry.Entry.{Entry as AnEntry};
+ghost use Rattle.agree_core.specs.declared.messages.DeskId.{DeskId as ADesk};
+ghost use Rattle.agree_core.specs.Ballots.{Ballot, ComesNext};
+ghost use Rattle.agree_core.specs.Positions.{InRange, first, next_position, position_of};
+ghost use Rattle.vote_store.specs.VoteList.{last_vote};
+
+use agree_core::{DeskId, Message, Position, Vote};
+use notation::{Entry, read_line};
+use wire::bytes_of;
+
+/// The entry of a line, where it is one's.
+pub fn entry_in(line: &str) -> Option<Entry>
+    ensures { IfSome result IsEntry }
+{
+    match read_line(line.as_bytes()) {
+        Ok(entry) => Some(entry),
+        Err(_) => None,
+    }
+}
+
+/// A desk's vote for an entry, in the bytes of a datagram of match 7.
+pub fn vote_of(desk: DeskId, place: u32, round: u32, entry: Entry) -> [u8; 48]
+    requires place { place < 8192 }
+    requires round { round < 256 }
+    requires entry { IsEntry entry }
+{
+    let vote = Vote {
+        desk,
+        place,
+        round,
+        entry,
+    };
+    bytes_of(7, &Message::Vote(vote))
+}
+
+/// Where the vote after this one is cast: at the next place, or in the next round of its own.
+pub fn next_position(last: &Option<Vote>, agreed: bool) -> Position
+    requires { IfSome last.now (λ vote. InRange (position_of vote)) }
+    ensures value { MatchOption last.now (result ≡ first) (λ vote. result ≡ next_position agreed (position_of vote)) }
+    ensures next { (desk : ADesk) → (votes : List Ballot) → last.now ≡ last_vote desk votes
+        → (e : AnEntry) → ComesNext (record { at = result; entry = e }) votes }
+{
+    match *last {
+        None => Position::FIRST,
+        Some(Vote { place, round, .. }) => {
+            if agreed {
+                Position {
+                    place: place + 1,
+                    round: 0,
+                }
+            } else {
+                Position {
+                    place,
+                    round: round + 1,
+                }
+            }
+        }
+    }
+}

@@ -1,0 +1,65 @@
+#!/usr/bin/env python3
+"""Seals and opens datagrams with a match sheet and a key, from docs/FORMATS.md alone.
+
+usage: examples/sealing.py SHEET KEY [DATAGRAM]
+
+KEY is a file, or - for no key. It prints the fingerprints that stations print at the begin, and, of a datagram in hexadecimal,
+its sealed form, or the message of a sealed one.
+"""
+import hashlib, hmac, sys, tomllib
+
+
+def digest_of(sheet):
+    """The digest of a sheet, of which this is the file."""
+    with open(sheet, "rb") as it:
+        told = tomllib.load(it)
+    text = lambda words: len(words.encode()).to_bytes(8, "big") + words.encode()
+    side = lambda name: text(told[name]["name"]) + b"".join(map(text, told[name]["players"]))
+    front = text(told["title"]) + told["number"].to_bytes(8, "big") + bytes([told["innings"]])
+    return hashlib.sha256(front + side("home") + side("away")).digest()
+
+
+def key_in(file):
+    """The key in a file."""
+    with open(file, "rb") as it:
+        key = it.read().rstrip(b" \t\n\f\r")
+    if not 16 <= len(key) <= 1024:
+        raise ValueError(f"{file} has no key")
+    return key
+
+
+class Seal:
+    """What a match's datagrams are sealed with."""
+
+    def __init__(self, sheet, key=b""):
+        self.digest = digest_of(sheet)
+        self.key = hmac.digest(self.digest, key, "sha256")
+
+    def tag(self, message):
+        return hmac.digest(self.key, message, "sha256")[:16]
+
+    def sealed(self, message):
+        """The sealed form of a message."""
+        return message + self.tag(message)
+
+    def opened(self, data):
+        """The message of which these bytes are the sealed form, or `None`."""
+        message = data[:48]
+        return message if len(data) == 64 and hmac.compare_digest(data, self.sealed(message)) else None
+
+    def fingerprints(self, has_key):
+        """The lines that stations print at the begin."""
+        fingerprint = lambda name, data: f"{name} {data[:2].hex()}-{data[2:4].hex()}"
+        return [fingerprint("sheet", self.digest)] + ([fingerprint("key", self.tag(b""))] if has_key else [])
+
+
+def main(sheet, key, *datagrams):
+    seal = Seal(sheet, b"" if key == "-" else key_in(key))
+    print("\n".join(seal.fingerprints(key != "-")))
+    for data in map(bytes.fromhex, datagrams):
+        message = seal.sealed(data) if len(data) == 48 else seal.opened(data)
+        print(message.hex() if message is not None else "doesn't open")
+
+
+if __name__ == "__main__":
+    main(*sys.argv[1:])
