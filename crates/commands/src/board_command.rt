@@ -43,7 +43,10 @@ fn file_at<'a>(
 }
 
 /// Asks that the text and the state aren't written to one file.
-fn expect_two<'a>(text: &Option<TextFile<'a>>, state: &Option<TextFile<'a>>) -> Result<(), Stopped<'a>> {
+fn expect_two<'a>(
+    text: &Option<TextFile<'a>>,
+    state: &Option<TextFile<'a>>,
+) -> Result<(), Stopped<'a>> {
     let (Some(text), Some(state)) = (text, state) else {
         return Ok(());
     };

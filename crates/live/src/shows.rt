@@ -12,11 +12,6 @@ pub trait Shows {
     ghost failed: { Self → Bool };
 
     /// Shows the state of a board with this book, at this time in milliseconds since some moment, where that is due.
-    fn show<B: BookOf>(
-        &mut self,
-        sheet: &MatchSheet,
-        book: &B,
-        now: u64,
-    ) -> Result<(), WriteFailed>
+    fn show<B: BookOf>(&mut self, sheet: &MatchSheet, book: &B, now: u64) -> Result<(), WriteFailed>
         ensures { OnErr result (failed self.new ≡ true) };
 }

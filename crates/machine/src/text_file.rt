@@ -50,7 +50,9 @@ fn names_meet(one: &str, other: &str) -> bool {
     let (Some(one), Some(other)) = (one, other) else {
         return false;
     };
-    one == other || one.strip_suffix(".new") == Some(other) || other.strip_suffix(".new") == Some(one)
+    one == other
+        || one.strip_suffix(".new") == Some(other)
+        || other.strip_suffix(".new") == Some(one)
 }
 
 /// Whether a file begins as a votes file.

@@ -30,7 +30,11 @@ impl Written {
     /// Whether a book of so many entries is to be written at this time: it is another one, or the file grows old.
     fn is_over(self, entries: u32, now: u64) -> bool {
         let age = now.saturating_sub(self.at);
-        age >= if self.entries == entries { LONGEST } else { SHORTEST }
+        age >= if self.entries == entries {
+            LONGEST
+        } else {
+            SHORTEST
+        }
     }
 }
 
