@@ -16,8 +16,9 @@ use streams::WriteFailed;
 /// writes ten a second.
 const SHORTEST: u64 = 100;
 
-/// How long at most: whoever sees when the file was written knows whether its board lives.
-const LONGEST: u64 = 10_000;
+/// How long at most: less than ten seconds, by more than a turn takes. Whoever sees when the file was written knows
+/// whether its board lives.
+const LONGEST: u64 = 9_900;
 
 /// A state that was written: how many entries its book had, and when that was.
 #[derive(Clone, Copy, Debug, PartialEq, Eq)]
@@ -27,14 +28,14 @@ struct Written {
 }
 
 impl Written {
-    /// Whether a book of so many entries is to be written at this time: it is another one, or the file grows old.
-    fn is_over(self, entries: u32, now: u64) -> bool {
-        let age = now.saturating_sub(self.at);
-        age >= if self.entries == entries {
+    /// Whether a book of so many entries is to be written at this time: it has grown, or the file becomes old.
+    fn is_past(self, entries: u32, now: u64) -> bool {
+        let wait = if self.entries == entries {
             LONGEST
         } else {
             SHORTEST
-        }
+        };
+        now.saturating_sub(self.at) >= wait
     }
 }
 
@@ -75,7 +76,7 @@ impl<T: Replaces> State<T> {
     /// Whether a book of so many entries is to be written at this time.
     fn is_due(&self, entries: u32, now: u64) -> bool {
         match self.written {
-            Some(written) => written.is_over(entries, now),
+            Some(written) => written.is_past(entries, now),
             None => true,
         }
     }
@@ -85,7 +86,7 @@ impl<T: Replaces> Shows for State<T> {
     ghost failed = { λ state. state.has_failed };
 
     /// Writes the state at the first call, then where the book has grown, at most ten times a second, and else anew
-    /// after ten seconds.
+    /// before ten seconds are over.
     fn show<B: BookOf>(
         &mut self,
         sheet: &MatchSheet,
