@@ -4,6 +4,7 @@
 
 mod both;
 mod card;
+mod compare;
 mod desk_votes;
 mod fault;
 mod laws;
@@ -14,6 +15,7 @@ mod table;
 
 pub use both::{agreed_list, book_of_both, open_both};
 pub use card::print_card;
+pub use compare::{Comparison, Difference, compare_files, print_comparison};
 pub use desk_votes::DeskVotes;
 pub use fault::{BookFault, BothFault};
 pub use laws::both_begin_with_each;
