@@ -16,46 +16,47 @@ At place round = record { place = place; round = round }
 at_head : (b : Ballot) (bs : List Ballot) (place round : ℕ) (t : Bool) → is_at b.at (At place round) ≡ t → entry_at (b ∷ bs) place round ≡ (if t then Some b.entry else entry_at bs place round)
 at_head b bs place round t e = ap (λ (x : Bool). if x then Some b.entry else entry_at bs place round) e
 
+module _ (b : Ballot) (bs : List Ballot) (place round : ℕ) (e : Entry) where
+  found_head : (t : Bool) → is_at b.at (At place round) ≡ t → entry_at (b ∷ bs) place round ≡ Some e → (entry_at bs place round ≡ Some e → In (ballot_at place round e) bs) → In (ballot_at place round e) (b ∷ bs)
+  found_head true h f behind =
+      let at : b.at ≡ At place round = is_at-true b.at (At place round) h in
+      let entry : b.entry ≡ e = (let g : Some b.entry ≡ Some e = sym (at_head b bs place round true h) ∙ f in cc) in
+      inl (λ i. record { at = sym at i; entry = sym entry i })
+  found_head false h f behind = inr (behind (sym (at_head b bs place round false h) ∙ f))
+
+  missed_head : (t : Bool) → is_at b.at (At place round) ≡ t → entry_at (b ∷ bs) place round ≡ None → (entry_at bs place round ≡ None → ⊥) → ⊥
+  missed_head true h n behind = let some : Some b.entry ≡ None = sym (at_head b bs place round true h) ∙ n in absurd (cc)
+  missed_head false h n behind = behind (sym (at_head b bs place round false h) ∙ n)
+
 -- what is found there is a vote
 pub found_in : (votes : List Ballot) (place round : ℕ) (e : Entry) → entry_at votes place round ≡ Some e → In (ballot_at place round e) votes
 found_in [] place round e f = absurd (cc)
-found_in (b ∷ bs) place round e f = here (is_at b.at (At place round)) refl
-  where
-    here : (t : Bool) → is_at b.at (At place round) ≡ t → In (ballot_at place round e) (b ∷ bs)
-    here true h =
-        let at : b.at ≡ At place round = is_at-true b.at (At place round) h in
-        let entry : b.entry ≡ e = (let g = sym (at_head b bs place round true h) ∙ f in cc) in
-        inl (λ i. record { at = sym at i; entry = sym entry i })
-    here false h = inr (found_in bs place round e (sym (at_head b bs place round false h) ∙ f))
+found_in (b ∷ bs) place round e f = found_head b bs place round e (is_at b.at (At place round)) refl f (found_in bs place round e)
+
+missed : (votes : List Ballot) (place round : ℕ) (e : Entry) → In (ballot_at place round e) votes → entry_at votes place round ≡ None → ⊥
+missed [] place round e i n = i
+missed (b ∷ bs) place round e (inl p) n =
+    let at = is_at-same b.at (At place round) (sym (ap (λ (x : Ballot). x.at) p)) in
+    let some : Some b.entry ≡ None = sym (at_head b bs place round true at) ∙ n in absurd (cc)
+missed (b ∷ bs) place round e (inr k) n = missed_head b bs place round e (is_at b.at (At place round)) refl n (missed bs place round e k)
+
+by_option : (votes : List Ballot) (place round : ℕ) (o : Option Entry) → entry_at votes place round ≡ o → ((e : Entry) → In (ballot_at place round e) votes → ⊥) → entry_at votes place round ≡ None
+by_option votes place round None h none = h
+by_option votes place round (Some e) h none = absurd (none e (found_in votes place round e h))
 
 -- a position without a vote has nothing
 pub none_at : (votes : List Ballot) (place round : ℕ) → ((e : Entry) → In (ballot_at place round e) votes → ⊥) → entry_at votes place round ≡ None
-none_at votes place round none = whichever (entry_at votes place round) refl
-  where
-    whichever : (o : Option Entry) → entry_at votes place round ≡ o → entry_at votes place round ≡ None
-    whichever None h = h
-    whichever (Some e) h = absurd (none e (found_in votes place round e h))
+none_at votes place round none = by_option votes place round (entry_at votes place round) refl none
+
+by_vote : (votes : List Ballot) → IsSequence votes → (place round : ℕ) (e : Entry) → In (ballot_at place round e) votes → (o : Option Entry) → entry_at votes place round ≡ o → entry_at votes place round ≡ Some e
+by_vote votes s place round e i None h = absurd (missed votes place round e i h)
+by_vote votes s place round e i (Some f) h =
+    let same = one_vote votes s (ballot_at place round f) (ballot_at place round e) (found_in votes place round f h) i refl in
+    h ∙ ap (λ (x : Ballot). Some x.entry) same
 
 -- a vote is found at its position
 pub some_at : (votes : List Ballot) → IsSequence votes → (place round : ℕ) (e : Entry) → In (ballot_at place round e) votes → entry_at votes place round ≡ Some e
-some_at votes s place round e i = whichever (entry_at votes place round) refl
-  where
-    missed : (bs : List Ballot) → In (ballot_at place round e) bs → entry_at bs place round ≡ None → ⊥
-    missed [] i n = i
-    missed (b ∷ bs) (inl p) n =
-        let at = is_at-same b.at (At place round) (sym (ap (λ (x : Ballot). x.at) p)) in
-        let some = sym (at_head b bs place round true at) ∙ n in absurd (cc)
-    missed (b ∷ bs) (inr k) n = behind (is_at b.at (At place round)) refl
-      where
-        behind : (t : Bool) → is_at b.at (At place round) ≡ t → ⊥
-        behind true h = let some = sym (at_head b bs place round true h) ∙ n in absurd (cc)
-        behind false h = missed bs k (sym (at_head b bs place round false h) ∙ n)
-
-    whichever : (o : Option Entry) → entry_at votes place round ≡ o → entry_at votes place round ≡ Some e
-    whichever None h = absurd (missed votes i h)
-    whichever (Some f) h =
-        let same = one_vote votes s (ballot_at place round f) (ballot_at place round e) (found_in votes place round f h) i refl in
-        h ∙ ap (λ (x : Ballot). Some x.entry) same
+some_at votes s place round e i = by_vote votes s place round e i (entry_at votes place round) refl
 
 -- what a look at a position answers
 pub is_entry_at : (votes : List Ballot) → IsSequence votes → (place round : ℕ) (o : Option Entry) → IfSome o (λ e. In (ballot_at place round e) votes) → IfNone o ((e : Entry) → In (ballot_at place round e) votes → ⊥) → o ≡ entry_at votes place round

@@ -57,10 +57,12 @@ abbrev pub vote_text : Option Entry → List ℕ
 vote_text None = codes "nothing"
 vote_text (Some e) = text_of e
 
+abbrev pub position_text : ℕ → ℕ → List ℕ
+position_text place round = decimal place ++ codes " round " ++ decimal round
+
 abbrev pub difference_line : Difference → List ℕ
 difference_line d =
-    decimal d.place ++ codes " round " ++ decimal d.round
-    ++ codes ": a " ++ vote_text d.a ++ codes ", b " ++ vote_text d.b ++ codes "\n"
+    position_text d.place d.round ++ codes ": a " ++ vote_text d.a ++ codes ", b " ++ vote_text d.b ++ codes "\n"
 
 -- both desks wrote, or one of them alone
 abbrev pub is_of_both : Difference → Bool

@@ -1,6 +1,6 @@
 //! What both desks' votes files have in common, and where they differ.
 
-ghost use Rattle.std.specs.Prelude.{◌≡◌, ◌++◌, All, IfErr, IfOk, IfSome, OnOk, None, count_by, false};
+ghost use Rattle.std.specs.Prelude.{◌≡◌, ◌++◌, All, IfErr, IfOk, IfSome, OnOk, None, false};
 ghost use Rattle.std.specs.List.{flat_map};
 ghost use Rattle.notation.specs.Written.{IsEntry};
 ghost use Rattle.agree_core.specs.declared.position.TheConstants.{ROUNDS};
@@ -9,6 +9,7 @@ ghost use Rattle.books.specs.BothFiles.{WhyNotOpened};
 ghost use Rattle.books.specs.Comparing as texts;
 ghost use Rattle.books.specs.Comparing.{HasEntries, IsComparison, difference_at, differences, in_rounds};
 ghost use Rattle.books.specs.DeskVotes.{entry_at, votes_of, votes_of_both};
+ghost use Rattle.books.specs.inner.Tally as inner;
 
 use crate::both::{add, agreed_list, open_both};
 use crate::desk_votes::DeskVotes;
@@ -27,6 +28,17 @@ pub struct Difference {
     pub round: u32,
     pub a: Option<Entry>,
     pub b: Option<Entry>,
+}
+
+impl Difference {
+    ghost use Rattle.books.specs.Comparing.{is_of_both};
+
+    /// Whether both desks wrote something there.
+    fn is_of_both(&self) -> bool
+        ensures { result ≡ is_of_both self.now }
+    {
+        self.a.is_some() && self.b.is_some()
+    }
 }
 
 /// How many entries the votes of both desks have agreed, and where they differ, in the order of places and rounds.
@@ -166,6 +178,18 @@ fn print_vote<W: Write>(out: &mut Watched<W>, vote: &Option<Entry>) -> Result<()
     }
 }
 
+/// Prints a place and a round.
+fn print_position<W: Write>(
+    out: &mut Watched<W>,
+    place: u32,
+    round: u32,
+) -> Result<(), WriteFailed>
+    ensures text { OnOk result (Prints W.contents out.old out.new (texts.position_text place round)) }
+    ensures failed { TellsFailure result out.old out.new }
+{
+    write!(out, "{place} round {round}")
+}
+
 /// Prints the line of a difference.
 fn print_difference<W: Write>(
     out: &mut Watched<W>,
@@ -175,8 +199,8 @@ fn print_difference<W: Write>(
     ensures text { OnOk result (Prints W.contents out.old out.new (texts.difference_line difference.now)) }
     ensures failed { TellsFailure result out.old out.new }
 {
-    let (place, round) = (difference.place, difference.round);
-    write!(out, "{place} round {round}: a ")?;
+    print_position(out, difference.place, difference.round)?;
+    write!(out, ": a ")?;
     print_vote(out, &difference.a)?;
     write!(out, ", b ")?;
     print_vote(out, &difference.b)?;
@@ -199,28 +223,29 @@ fn print_differences<W: Write>(
     Ok(())
 }
 
-/// At how many of these both desks wrote.
-fn differed(differences: &[Difference]) -> usize
-    ensures { result ≡ count_by texts.is_of_both differences.now }
-{
-    differences
-        .iter()
-        .filter(|d| d.a.is_some() && d.b.is_some())
-        .count()
+/// How many differences there are of each kind.
+struct Tally {
+    differed: usize,
+    only_a: usize,
+    only_b: usize,
 }
 
-/// At how many of these A alone wrote.
-fn only_a(differences: &[Difference]) -> usize
-    ensures { result ≡ count_by texts.is_of_a_alone differences.now }
+/// How many of these differences there are of each kind.
+fn tally_of(differences: &[Difference]) -> Tally
+    ensures { result ≡ inner.tally_of differences.now }
 {
-    differences.iter().filter(|d| d.b.is_none()).count()
-}
-
-/// At how many of these B alone wrote.
-fn only_b(differences: &[Difference]) -> usize
-    ensures { result ≡ count_by texts.is_of_b_alone differences.now }
-{
-    differences.iter().filter(|d| d.a.is_none()).count()
+    let mut tally = Tally {
+        differed: 0,
+        only_a: 0,
+        only_b: 0,
+    };
+    for i in 0..differences.len() {
+        let difference = &differences[i];
+        tally.differed += usize::from(difference.is_of_both());
+        tally.only_a += usize::from(difference.b.is_none());
+        tally.only_b += usize::from(difference.a.is_none());
+    }
+    tally
 }
 
 /// Prints how many entries are agreed, and how many differences there are of each kind.
@@ -232,9 +257,12 @@ fn print_sum<W: Write>(
     ensures text { OnOk result (Prints W.contents out.old out.new (texts.sum_of agreed differences.now)) }
     ensures failed { TellsFailure result out.old out.new }
 {
-    let differed = differed(differences);
-    let (a, b) = (only_a(differences), only_b(differences));
-    writeln!(out, "agreed {agreed}, differed {differed}, only a {a}, only b {b}")
+    let Tally {
+        differed,
+        only_a,
+        only_b,
+    } = tally_of(differences);
+    writeln!(out, "agreed {agreed}, differed {differed}, only a {only_a}, only b {only_b}")
 }
 
 /// Prints a line for each place and round at which the desks differ, and then how many entries are agreed, and how many
