@@ -4,5 +4,6 @@ pub mod Differences
 pub mod EnteredSoFar
 pub mod EntriesAt
 pub mod OneList
+pub mod SameVotes
 pub mod SoundVotes
 pub mod TakenLines

@@ -62,10 +62,7 @@ fn is_alike(a: &Option<Entry>, b: &Option<Entry>) -> bool
 }
 
 /// Adds what both desks wrote there, unless it is alike.
-fn add_unless_alike(
-    found: &mut Vec<Difference>,
-    difference: &Difference,
-) -> Result<(), AllocError>
+fn add_unless_alike(found: &mut Vec<Difference>, difference: &Difference) -> Result<(), AllocError>
     requires entries { HasEntries difference.now }
     requires all_entries { All HasEntries found.old.items }
     ensures found { OnOk result (found.new.items ≡ found.old.items
@@ -126,11 +123,7 @@ fn compare_place(
 }
 
 /// Where both desks' votes differ, in the order of places and rounds.
-fn differences(
-    alloc: Global,
-    a: &DeskVotes,
-    b: &DeskVotes,
-) -> Result<Vec<Difference>, AllocError>
+fn differences(alloc: Global, a: &DeskVotes, b: &DeskVotes) -> Result<Vec<Difference>, AllocError>
     ensures found { IfOk result (λ found. found.items ≡ differences (votes_of_both a.now b.now)) }
     ensures all_entries { IfOk result (λ found. All HasEntries found.items) }
 {
@@ -143,12 +136,7 @@ fn differences(
 
 /// The comparison of both desks' votes files of a match. It is refused as the first votes file that is refused, A's before
 /// B's, and never as `BadVotes`: nothing is scored.
-pub fn compare_files(
-    alloc: Global,
-    game: u64,
-    a: &[u8],
-    b: &[u8],
-) -> Result<Comparison, BothFault>
+pub fn compare_files(alloc: Global, game: u64, a: &[u8], b: &[u8]) -> Result<Comparison, BothFault>
     ensures comparison { IfOk result (IsComparison game a.now b.now) }
     ensures all_entries { IfOk result (λ comparison. All HasEntries comparison.differences.items) }
     ensures why { IfErr result (WhyNotOpened game a.now b.now) }
@@ -179,11 +167,7 @@ fn print_vote<W: Write>(out: &mut Watched<W>, vote: &Option<Entry>) -> Result<()
 }
 
 /// Prints a place and a round.
-fn print_position<W: Write>(
-    out: &mut Watched<W>,
-    place: u32,
-    round: u32,
-) -> Result<(), WriteFailed>
+fn print_position<W: Write>(out: &mut Watched<W>, place: u32, round: u32) -> Result<(), WriteFailed>
     ensures text { OnOk result (Prints W.contents out.old out.new (texts.position_text place round)) }
     ensures failed { TellsFailure result out.old out.new }
 {
@@ -262,7 +246,10 @@ fn print_sum<W: Write>(
         only_a,
         only_b,
     } = tally_of(differences);
-    writeln!(out, "agreed {agreed}, differed {differed}, only a {only_a}, only b {only_b}")
+    writeln!(
+        out,
+        "agreed {agreed}, differed {differed}, only a {only_a}, only b {only_b}"
+    )
 }
 
 /// Prints a line for each place and round at which the desks differ, and then how many entries are agreed, and how many

@@ -19,6 +19,6 @@ returns-then-not-branch-clause-found c =
 pub loop-round-preserved : goal.loop-round-preserved
 loop-round-preserved c = (
   added_next (votes_of_both c.args.a.now c.args.b.now) c.args.place c.loop-round.round c.args.found.now.items c.loop-round.found.items c.compare_round.new.found.items
-  c.loop-round.invariant.0 c.in_ok-compare_round.ensures.found,
+      c.loop-round.invariant.0 c.in_ok-compare_round.ensures.found,
   c.in_ok-compare_round.ensures.all_entries,
 )
