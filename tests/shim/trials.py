@@ -261,6 +261,7 @@ READING = {
     "check": (["check"], b"innings home\nin 1\nin 2\nball 7 bat 1\n"),
     "card": (["card", "--sheet", SHEET, "--from", f"{TOP}/examples/innings.txt", "--kind", "book"], b""),
     "export": (["export", "--sheet", SHEET, "--from", f"{TOP}/examples/innings.txt", "--kind", "book"], b""),
+    "compare": (["compare", "--sheet", f"{BOTH}/sheet.toml", "--a", f"{BOTH}/a.votes", "--b", f"{BOTH}/b.votes"], b""),
     "card of both files": (["card", "--sheet", f"{BOTH}/sheet.toml", "--kind", "both", "--from", f"{BOTH}/a.votes", "--with", f"{BOTH}/b.votes"], b""),
     "replay": (["replay", "--sheet", SHEET, "--schedule", f"{TOP}/examples/schedule.txt", "--boards", "1"], b""),
 }
