@@ -21,6 +21,7 @@ mod boards;
 mod desks;
 mod ends;
 mod memory;
+mod sealed;
 mod short;
 mod three;
 

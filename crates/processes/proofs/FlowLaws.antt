@@ -15,6 +15,7 @@ use Rattle.corrections.specs.declared.refusal.Refusal.{Refusal}
 use Rattle.processes.specs.Laws.{FlowsAreRuns, FlowsHaveHeadline}
 use Rattle.processes.proofs.FlowSteps.{IsCalm}
 use Rattle.processes.proofs.Flowing.{at_each, at_some, flow_runs}
+use Rattle.processes.proofs.SecondVotes.{each_takes_second}
 
 module _ {Disk : Type 0} where
   -- at the start no fault is due
@@ -43,5 +44,6 @@ module _ {Disk : Type 0} (seen : Disk → List ℕ) (images : Disk → Images) w
         by_both = at_each ByBoth w hs p.0 p.2 h.by_both.0;
         typed = λ d b i. p.4 d b (now_penned w p.0 h.by_both.1 d b (subst (λ (v : Configuration Disk). In b (votes_of (all_votes v) d)) (sym p.3) i));
         scores = λ t u n score other x y. h.scores t u n score other (at_some (λ v. ShowsScore innings v t n score) w hs p.0 p.2 x) (at_some (λ v. ShowsScore innings v u n other) w hs p.0 p.2 y);
+        takes_second = each_takes_second s game innings refl version boards w f.0 (begins_calm s version boards w f.0) hs f.1;
         none_waits = at_each NoneKeepsBoth w hs p.0 p.2 (each_moment s w p.0 NoneKeepsBoth (none_keeps_both s) (begins_fine s version boards w f.0) p.1);
       }

@@ -13,6 +13,7 @@ use Rattle.headline.specs.Headline.{ByBoth, NoneKeepsBoth, ShowsScore}
 use Rattle.live.specs.Desks as desks
 use Rattle.live.specs.Saying.{SaysEntry}
 use Rattle.processes.specs.Happenings.{Happening, DeskCalled, after}
+use Rattle.processes.specs.SecondVotes.{AtEachHappening, TakesSecond}
 
 -- at the start, or after something that happened, the configuration was so
 abbrev pub AtSomeTime : {Disk : Type 0} → Configuration Disk → List (Happening Disk) → (Configuration Disk → Type 0) → Type 0
@@ -37,8 +38,8 @@ abbrev pub WasTyped : {Disk : Type 0} → Configuration Disk → List (Happening
 WasTyped w [] d b = ⊥
 WasTyped w (h ∷ hs) d b = TypesBallot (after w hs) h d b ⊎ WasTyped w hs d b
 
--- the headline for processes of a match with so many innings a side
-pub record ProcessHeadline {Disk : Type 0} (innings : ℕ) (w : Configuration Disk) (hs : List (Happening Disk)) : Type 0 where
+-- the headline for processes of a match of this number and innings a side
+pub record ProcessHeadline {Disk : Type 0} (game innings : ℕ) (w : Configuration Disk) (hs : List (Happening Disk)) : Type 0 where
   -- of any two books that any two processes show at any two times, one is a prefix of the other
   pub prefixes : (t u : Station) (xs ys : List Entry) → AtSomeTime w hs (λ v. Shows v t xs)
       → AtSomeTime w hs (λ v. Shows v u ys) → BeginsWith ys xs ⊎ BeginsWith xs ys
@@ -51,5 +52,7 @@ pub record ProcessHeadline {Disk : Type 0} (innings : ℕ) (w : Configuration Di
   pub scores : (t u : Station) (n : ℕ) (score other : Standing)
       → AtSomeTime w hs (λ v. ShowsScore innings v t n score)
       → AtSomeTime w hs (λ v. ShowsScore innings v u n other) → score ≡ other
-  -- no process keeps both votes of its position: it has the entry, where they are equal
+  -- what brings the second of two equal votes to a process that keeps the first makes its book longer by their entry
+  pub takes_second : AtEachHappening w hs (TakesSecond game)
+  -- and no process keeps both votes of its position
   pub none_waits : AtEachTime w hs NoneKeepsBoth

@@ -75,4 +75,4 @@ module _ {Disk : Type 0} (seen : Disk → List ℕ) (images : Disk → Images) w
   abbrev pub FlowsHaveHeadline : Type 0
   FlowsHaveHeadline =
       (contents : FileVersion → Contents) (game innings : ℕ) (version : FileVersion) (boards : ℕ) (w : Configuration Disk)
-      (hs : List (Happening Disk)) → IsFlow contents game innings version boards w hs → ProcessHeadline innings w hs
+      (hs : List (Happening Disk)) → IsFlow contents game innings version boards w hs → ProcessHeadline game innings w hs

@@ -7,4 +7,5 @@ pub mod Lives
 pub mod Files
 pub mod Sealing
 pub mod Weaving
+pub mod SecondVotes
 pub mod Stations

@@ -93,4 +93,4 @@ module _ {Disk : Type 0} (seen : Disk → List ℕ) (images : Disk → Images) (
       (a b : DeskState Disk) (hs : List (Happening Disk)) → NoneShowNone contents game
       → BothBegin (contents version) game innings a b
       → IsWoven seal contents game innings (start version boards a b) hs
-      → ProcessHeadline innings (start version boards a b) hs
+      → ProcessHeadline game innings (start version boards a b) hs

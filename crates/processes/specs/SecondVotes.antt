@@ -1,0 +1,60 @@
+-- What brings the second of two equal votes to a station that keeps the first.
+use Rattle.std.specs.Prelude.{◌≡◌, ◌≢◌, ℕ, List, [], ◌∷◌, ◌++◌, Some, Ok}
+use Rattle.notation.specs.declared.entry.Entry.{Entry}
+use Rattle.agree_core.specs.declared.messages.DeskId.{DeskId}
+use Rattle.agree_core.specs.declared.messages.Message.{Message}
+use Rattle.agree_core.specs.declared.seat.Heard as hearing
+use Rattle.agree_core.specs.declared.seat.Settled.{Settled}
+use Rattle.agree_core.specs.Ballots.{Ballot, vote_of}
+use Rattle.agree_core.specs.Readers.{other}
+use Rattle.wire.specs.declared.what.What.TheVariants.{Heard}
+use Rattle.wire.specs.Layout.{Says}
+use Rattle.headline.specs.declared.event.Station.{Station}
+use Rattle.headline.specs.declared.event.Station.TheVariants as stations
+use Rattle.headline.specs.Configurations.{Configuration}
+use Rattle.headline.specs.Noted.{kept_at, position_at}
+use Rattle.headline.specs.Runs.{Shows}
+use Rattle.live.specs.Boards as boards
+use Rattle.live.specs.Boards.{BoardCall}
+use Rattle.live.specs.Desks as desks
+use Rattle.live.specs.Desks.{DeskCall}
+use Rattle.live.specs.declared.said.Said.TheVariants.{Penned}
+use Rattle.processes.specs.Happenings.{BoardCalled, DeskCalled, Happening, after, after_one}
+
+-- the bytes that came say a desk's vote for this ballot
+abbrev pub SayVote : ℕ → List ℕ → DeskId → Ballot → Type 0
+SayVote game bytes c b = Says game bytes (Message.Vote (vote_of c b))
+
+-- a call of the desk brings it a desk's vote: its own scorer's line is penned, or the other's vote comes and is told
+abbrev pub DeskBrings : ℕ → DeskId → DeskCall → DeskId → Ballot → Type 0
+DeskBrings game d (desks.Typed line said) c b = (settled : Settled) × (said ≡ Penned b.entry settled) × (d ≡ c)
+DeskBrings game d (desks.Given bytes what) c b =
+    (heard : hearing.Heard) × (what ≡ Heard heard) × (d ≢ c) × SayVote game bytes c b
+DeskBrings game d call c b = ⊥
+
+-- a call of a board brings it a desk's vote: it comes and is told
+abbrev pub BoardBrings : ℕ → BoardCall → DeskId → Ballot → Type 0
+BoardBrings game (boards.Given bytes answer) c b =
+    (heard : hearing.Heard) × (answer ≡ Ok (Heard heard)) × SayVote game bytes c b
+BoardBrings game call c b = ⊥
+
+-- what happened brings the station a desk's vote for this ballot
+abbrev pub Brings : {Disk : Type 0} → ℕ → Happening Disk → Station → DeskId → Ballot → Type 0
+Brings game (DeskCalled d s call out l) t c b = (t ≡ stations.Desk d) × DeskBrings game d call c b
+Brings game (BoardCalled n call out l) t c b = (t ≡ stations.Board n) × BoardBrings game call c b
+Brings game what t c b = ⊥
+
+-- where it brings the second of two equal votes of its position to a station that keeps the first, that station's book
+-- is longer by their entry
+abbrev pub TakesSecond : {Disk : Type 0} → ℕ → Configuration Disk → Happening Disk → Type 0
+TakesSecond game w what =
+    (t : Station) (book : List Entry) (b : Ballot) (c : DeskId) → Shows w t book → (position_at w t ≡ Some b.at)
+    → (kept_at w t c ≡ Some b.entry) → Brings game what t (other c) b
+    → Shows (after_one w what) t (book ++ b.entry ∷ [])
+
+-- all that happened was so, in the configuration in which it happened
+abbrev pub AtEachHappening :
+    {Disk : Type 0} → Configuration Disk → List (Happening Disk)
+    → (Configuration Disk → Happening Disk → Type 0) → Type 0
+AtEachHappening w [] P = Unit {0}
+AtEachHappening w (h ∷ hs) P = AtEachHappening w hs P × P (after w hs) h
