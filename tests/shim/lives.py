@@ -173,14 +173,17 @@ def told(line):
 
 
 def board(folder, fail="", wrong="", disturb=None):
-    """A board's life until its text has the book, with both desks played here. It answers its status and texts, and its
-    address."""
-    at, desks, text = TOOLS.free_address(), [TOOLS.socket(), TOOLS.socket()], f"{folder}/board.txt"
+    """A board's life until its text and its state have the book, with both desks played here. It answers its status and
+    texts, and its address."""
+    at, desks = TOOLS.free_address(), [TOOLS.socket(), TOOLS.socket()]
+    text, json = f"{folder}/board.txt", f"{folder}/board.json"
     where = ["%s:%d" % it.getsockname() for it in desks]
-    words = ["board", "--sheet", SHEET, "--at", at, "--desk-a", where[0], "--desk-b", where[1], "--text", text]
+    words = ["board", "--sheet", SHEET, "--at", at, "--desk-a", where[0], "--desk-b", where[1]]
+    words += ["--text", text, "--json", json]
     with Process(words, folder, fail, wrong) as it:
         end = time.time() + LONGEST
-        while it.is_open and time.time() < end and not (it.out.endswith(BOARD) and bytes_at(text) == BOARD.encode()):
+        shows = lambda: it.out.endswith(BOARD) and bytes_at(text) == BOARD.encode() and has_book(json)
+        while it.is_open and time.time() < end and not shows():
             _, ready = it.wait(desks, 0.005)
             answer_board(desks, ready)
             if disturb:
@@ -189,6 +192,14 @@ def board(folder, fail="", wrong="", disturb=None):
             if shown is not None and shown.count(b"\n") != 6:
                 raise Wrong(f"the board's file has {shown!r}, which isn't six lines")
         return it.end(is_stopped=it.is_open), at
+
+
+def has_book(json):
+    """Whether a board's state has the book. It is whole, or isn't there."""
+    state = bytes_at(json)
+    if state is not None and not (state.startswith(b"{") and state.endswith(b"}\n")):
+        raise Wrong(f"the board's state is {state!r}")
+    return state is not None and f'"entries":{len(BOOK)},'.encode() in state
 
 
 def answer_board(desks, ready):

@@ -127,7 +127,7 @@ def ends_of_board(plan, at):
         return [cannot_read(SHEET)] if plan.call in ("open", "read") else [(None, ""), CANNOT_WRITE]
     if plan.label == "socket":
         return [(3, f"cannot listen at {at}\n")]
-    if plan.label == "board.txt" and plan.call == "flock" and plan.how != errno.EWOULDBLOCK:
+    if plan.label in ("board.txt", "board.json") and plan.call == "flock" and plan.how != errno.EWOULDBLOCK:
         return [(None, ""), CANNOT_WRITE]
     return [CANNOT_WRITE]
 

@@ -1,6 +1,6 @@
 """What is tried: lives in which a call fails, each followed by another, and programs whose calls are wrong."""
 import errno, os, shutil, signal, tempfile
-from lives import BOARD, BOOK, SHEET, TOOLS, OtherDesk, board, desk, vote
+from lives import BOARD, BOOK, SHEET, TOOLS, OtherDesk, board, desk, has_book, vote
 from plans import EIO, FULL, Plan, ends_of_board, ends_of_desk, ends_of_words, only
 from record import TOP, Call, Judge, Wrong, bytes_at, calls_in, stored_before_sent, votes_in
 
@@ -216,10 +216,11 @@ def fail_migration(plan):
 
 
 def fail_board(plan, had=None):
-    """A board's life in which a call fails, and the next one's. `had` is what its text has before."""
+    """A board's life in which a call fails, and the next one's. `had` is what its text and its state have before."""
     with Ground() as ground:
         if had:
-            ground.put("board.txt", had)
+            ground.put("board.txt", had[0])
+            ground.put("board.json", had[1])
         end, at = board(ground.folder, plan.text(), plan.wrong)
         calls = ground.calls()
         met = plan.met(calls) is not None
@@ -233,17 +234,20 @@ def fail_board(plan, had=None):
 
 
 def shows_board(ground, end):
-    """The screen and the file must show the book."""
+    """The screen and the files must show the book."""
     shown = bytes_at(ground.file("board.txt"))
     if not end[1].endswith(BOARD) or shown != BOARD.encode():
         raise Wrong(f"the screen shows {end[1]!r}, and the file {shown!r}")
+    if not has_book(ground.file("board.json")):
+        raise Wrong("the board's state hasn't the book")
 
 
 def recorded_board(had=None, disturb=None):
     """A board's life that goes well. It answers the calls."""
     with Ground() as ground:
         if had:
-            ground.put("board.txt", had)
+            ground.put("board.txt", had[0])
+            ground.put("board.json", had[1])
         end, _ = board(ground.folder, disturb=disturb)
         expect((end[0], end[2]), [(None, "")])
         shows_board(ground, end)
@@ -257,6 +261,7 @@ READING = {
     "check": (["check"], b"innings home\nin 1\nin 2\nball 7 bat 1\n"),
     "card": (["card", "--sheet", SHEET, "--from", f"{TOP}/examples/innings.txt", "--kind", "book"], b""),
     "export": (["export", "--sheet", SHEET, "--from", f"{TOP}/examples/innings.txt", "--kind", "book"], b""),
+    "compare": (["compare", "--sheet", f"{BOTH}/sheet.toml", "--a", f"{BOTH}/a.votes", "--b", f"{BOTH}/b.votes"], b""),
     "card of both files": (["card", "--sheet", f"{BOTH}/sheet.toml", "--kind", "both", "--from", f"{BOTH}/a.votes", "--with", f"{BOTH}/b.votes"], b""),
     "replay": (["replay", "--sheet", SHEET, "--schedule", f"{TOP}/examples/schedule.txt", "--boards", "1"], b""),
 }
@@ -336,6 +341,7 @@ WRONGS = [
     (fail_desk, passed_over("write", "stdout", 2)),
     *[(fail_reading, word, passed_over("write", "stdout", 1)) for word in READING],
     (fail_board, passed_over("write", "board.txt.new", 1)),
+    (fail_board, passed_over("write", "board.json.new", 1)),
 ]
 
 

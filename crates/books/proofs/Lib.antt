@@ -1,6 +1,9 @@
 pub mod AgreedSoFar
 pub mod BothBooks
+pub mod Differences
 pub mod EnteredSoFar
+pub mod EntriesAt
 pub mod OneList
+pub mod SameVotes
 pub mod SoundVotes
 pub mod TakenLines

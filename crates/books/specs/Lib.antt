@@ -1,8 +1,9 @@
--- What the public calls claim: BothFiles, Card, CardBook, DeskVotes, Rejected, Table, Taking.
+-- What the public calls claim: BothFiles, Card, CardBook, Comparing, DeskVotes, Rejected, Table, Taking.
 -- inner: for private functions only.
 pub mod BothFiles
 pub mod Card
 pub mod CardBook
+pub mod Comparing
 pub mod DeskVotes
 pub mod Rejected
 pub mod Table

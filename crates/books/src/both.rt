@@ -39,7 +39,7 @@ pub fn open_both(
 }
 
 /// Adds a copy of a value at the end.
-fn add<T: Copy + Drop>(list: &mut Vec<T>, value: &T) -> Result<(), AllocError>
+pub fn add<T: Copy + Drop>(list: &mut Vec<T>, value: &T) -> Result<(), AllocError>
     ensures { OnOk result (list.new.items ≡ list.old.items ++ value.now ∷ []) }
 {
     list.push(*value)?;

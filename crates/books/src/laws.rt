@@ -1,12 +1,16 @@
-//! What the agreed list of both desks' files has to do with each of them. This function does nothing: it stands for the
-//! laws that it ensures.
+//! What the agreed list of both desks' files has to do with each of them, and what their comparison tells. These functions
+//! do nothing: they stand for the laws that they ensure.
 
-ghost use Rattle.std.specs.Prelude.{◌≡◌, List};
+ghost use Rattle.std.specs.Prelude.{◌≡◌, ◌↔◌, ℕ, List, [], length};
 ghost use Rattle.notation.specs.declared.entry.Entry.{Entry};
 ghost use Rattle.agree_core.specs.declared.messages.DeskId.{DeskId};
 ghost use Rattle.agree_core.specs.Agreed.{BeginsWith, IsAgreedList};
-ghost use Rattle.agree_core.specs.Ballots.{AllJustified, AllVotes, IsSequence, votes_of};
+ghost use Rattle.agree_core.specs.Ballots.{AllJustified, AllVotes, Ballot, In, IsSequence, votes_of};
 ghost use Rattle.agree_core.specs.Books.{book_of};
+ghost use Rattle.cards.specs.Sheet.{Sheet};
+ghost use Rattle.books.specs.BothFiles.{HaveVotes, IsBookOfBoth};
+ghost use Rattle.books.specs.Comparing.{IsComparison, differences};
+ghost use Rattle.books.specs.declared.compare.Comparison.{Comparison};
 
 /// Two sound files have one agreed list, whatever their votes are (that A's file is a sequence suffices). Where each vote follows the one before it by the other
 /// desk's votes, as in every run of two desks, that list begins with the book that either file alone shows.
@@ -15,4 +19,13 @@ pub fn both_begin_with_each()
         → IsAgreedList v xs → IsAgreedList v ys → xs ≡ ys }
     ensures begins { (v : AllVotes) (agreed : List Entry) (d : DeskId) → AllJustified v
         → IsAgreedList v agreed → BeginsWith agreed (book_of (votes_of v d)) }
+{}
+
+/// The entries that a comparison of both files counts as agreed are those of the book that both have, where it is legal.
+/// It tells nothing exactly where both files have the same votes.
+pub fn comparisons_tell_all()
+    ensures counted { (s : Sheet) (a b : List ℕ) (c : Comparison) (book : List Entry)
+        → IsComparison s.game a b c → IsBookOfBoth s a b book → c.agreed ≡ length book }
+    ensures nothing_told { (game : ℕ) (a b : List ℕ) (v : AllVotes) → HaveVotes game a b v
+        → (differences v ≡ []) ↔ ((x : Ballot) → In x v.a ↔ In x v.b) }
 {}

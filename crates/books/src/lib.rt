@@ -4,6 +4,7 @@
 
 mod both;
 mod card;
+mod compare;
 mod desk_votes;
 mod fault;
 mod laws;
@@ -14,9 +15,10 @@ mod table;
 
 pub use both::{agreed_list, book_of_both, open_both};
 pub use card::print_card;
+pub use compare::{Comparison, Difference, compare_files, print_comparison};
 pub use desk_votes::DeskVotes;
 pub use fault::{BookFault, BothFault};
-pub use laws::both_begin_with_each;
+pub use laws::{both_begin_with_each, comparisons_tell_all};
 pub use rejected::{Refusal, Rejected, print_rejected};
 pub use source::{Source, book_from};
 pub use table::Table;

@@ -1,4 +1,4 @@
--- What `card` and `export` print of both desks' votes files, and why they don't: s is the sheet, a and b are the files.
+-- What `card`, `export` and `compare` print of both desks' votes files, and why they don't: s is the sheet, a and b are the files.
 use Rattle.std.specs.Prelude.{ℕ, Bool, true, false, List, Option}
 use Rattle.notation.specs.declared.entry.Entry.{Entry}
 use Rattle.agree_core.specs.declared.messages.DeskId.{DeskId}
@@ -8,8 +8,10 @@ use Rattle.streams.specs.declared.input.InputFault.{InputFault}
 use Rattle.streams.specs.declared.input.InputFault.TheVariants as inputs
 use Rattle.streams.specs.declared.watched.Watched.{Watched}
 use Rattle.streams.specs.Watched.{Prints}
-use Rattle.books.specs.BothFiles.{IsBookOfBoth, WhyNoBookOfBoth}
+use Rattle.books.specs.BothFiles.{IsBookOfBoth, WhyNoBookOfBoth, WhyNotOpened}
 use Rattle.books.specs.Card.{card_text}
+use Rattle.books.specs.Comparing.{IsComparison, comparison_text}
+use Rattle.books.specs.declared.compare.Comparison.{Comparison}
 use Rattle.books.specs.declared.fault.BothFault.{BothFault}
 use Rattle.books.specs.declared.fault.BothFault.TheVariants as both
 use Rattle.export.specs.Names.{told_apart}
@@ -25,6 +27,12 @@ module _ {S : Type 0} (contents : S → Option (List ℕ)) (old new : Watched S)
     pub book : List Entry
     pub made : IsBookOfBoth s a b book
     pub written : Prints contents old new (card_text s book)
+
+  -- the comparison of both files is written
+  pub record PrintsComparison : Type 0 where
+    pub comparison : Comparison
+    pub made : IsComparison s.game a b comparison
+    pub written : Prints contents old new (comparison_text comparison.agreed comparison.differences.items)
 
   -- the value of both files' book is written, with the sides told apart
   pub record PrintsExportOfBoth : Type 0 where
@@ -42,12 +50,26 @@ abbrev pub of_book : BothFault → BothPrintFault
 of_book both.NoMemory = NoMemory
 of_book why = Book why
 
+-- memory was wanted, or a read failed
+abbrev pub IsOfReading : BothPrintFault → Type 0
+IsOfReading NoMemory = Unit {0}
+IsOfReading (Read desk) = Unit {0}
+IsOfReading Write = ⊥
+IsOfReading (Book why) = ⊥
+
 -- memory was wanted, a read or a write failed, or both files have no book for this reason
 abbrev pub WhyNotBoth : Sheet → List ℕ → List ℕ → BothPrintFault → Type 0
 WhyNotBoth s a b NoMemory = Unit {0}
 WhyNotBoth s a b (Read desk) = Unit {0}
 WhyNotBoth s a b Write = Unit {0}
 WhyNotBoth s a b (Book why) = WhyNoBookOfBoth s a b why
+
+-- the same where no book is wanted: what is refused is a file
+abbrev pub WhyNotCompared : Sheet → List ℕ → List ℕ → BothPrintFault → Type 0
+WhyNotCompared s a b NoMemory = Unit {0}
+WhyNotCompared s a b (Read desk) = Unit {0}
+WhyNotCompared s a b Write = Unit {0}
+WhyNotCompared s a b (Book why) = WhyNotOpened s.game a b why
 
 -- the file of desk B is at fault
 abbrev pub is_of_second : BothPrintFault → Bool

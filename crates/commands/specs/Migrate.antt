@@ -1,7 +1,10 @@
 -- What a migration prints, and why one isn't made.
-use Rattle.std.specs.Prelude.{◌≡◌, ◌<◌, ◌⊎◌, ℕ, List, ◌++◌, codes, decimal, length, Err, IsOk}
+use Rattle.std.specs.Prelude.{◌≡◌, ◌<◌, ◌⊎◌, ℕ, List, ◌++◌, codes, decimal, length, Result, Ok, Err, IsOk}
+use Rattle.entry_log.specs.Disk.{Images}
 use Rattle.entry_log.specs.Format.{contents}
 use Rattle.entry_log.specs.Version1.{version_1}
+use Rattle.vote_store.specs.Migrated.{IsMigrated}
+use Rattle.vote_store.specs.declared.migration.Migrated.{Migrated}
 use Rattle.vote_store.specs.Refusal.{not_empty}
 use Rattle.vote_store.specs.Sequence.{file_votes}
 use Rattle.vote_store.specs.declared.refusal.Refusal.{Refusal}
@@ -25,6 +28,18 @@ WhyNotMigrated desk game old new (Votes why) =
 WhyNotMigrated desk game old new NoMemory = IsOk (file_votes (contents version_1) desk game old)
 WhyNotMigrated desk game old new Device = Unit {0}
 WhyNotMigrated desk game old new Write = Unit {0}
+
+-- What a migration that ended so leaves of the new disk: after a failed write the whole new file, after a refusal what
+-- was there. A disk that failed may have a part of it.
+abbrev pub Leaves : {E : Type 0} → ℕ → ℕ → List ℕ → (E → List ℕ) → (E → Images) → E → MigrateFault → E → Type 0
+Leaves desk game old seen images new Device left = Unit {0}
+Leaves desk game old seen images new Write left = (votes : ℕ) × IsMigrated desk game old (images left) votes
+Leaves desk game old seen images new fault left = (seen left ≡ seen new) × (images left ≡ images new)
+
+-- the old disk, which comes back with either answer
+abbrev pub old_left : {D E : Type 0} → Result (Migrated D E) (MigrateFault × D × E) → D
+old_left (Ok migrated) = migrated.old
+old_left (Err ended) = ended.1
 
 -- the fault of a votes file that is refused: being out of memory and a failing disk are their own
 abbrev pub of_votes : Refusal → MigrateFault

@@ -2,6 +2,7 @@
 
 mod notes;
 mod sign;
+mod state;
 
 use crate::fault::{StopFault, Stopped};
 use crate::opening::printer;
@@ -10,63 +11,84 @@ use crate::twins::told_sheet_at;
 use board::Board;
 use cards::MatchSheet;
 use corrections::CheckedBook;
-use live::{Clock, Link, Notices, run_board};
+use live::{Clock, Link, Notices, Shows, run_board};
 use machine::{Address, MOST_PEERS, MonotonicClock, TextFile};
 use notes::Notes;
 use sign::Sign;
+use state::State;
 use std::io::{BufWriter, Printer, Write};
 use std::net::SocketAddr;
 use streams::{Watched, WriteFailed};
 
-/// What a board shows: its text at standard output, and in a file.
-type Shown<'a> = Watched<Sign<BufWriter<Printer<'a, HostRuntime>>, TextFile<'a>>>;
+/// What a board's lines are written to: standard output, and the file of its text.
+type Lines<'a> = Watched<Sign<BufWriter<Printer<'a, HostRuntime>>, TextFile<'a>>>;
 
-/// The file of a board's text, if both it and the one beside it may be written.
-fn text_file<'a>(
+/// The file of this name, where there is one, if both it and the one beside it may be written.
+fn file_at<'a>(
     rt: &'a HostRuntime,
-    path: &'a str,
+    path: Option<&'a str>,
     sheet: &'a str,
-) -> Result<TextFile<'a>, Stopped<'a>> {
+) -> Result<Option<TextFile<'a>>, Stopped<'a>> {
+    let Some(path) = path else {
+        return Ok(None);
+    };
     let file = TextFile::new(rt, path, sheet).map_err(|why| Stopped::at(
         path,
         StopFault::from(why),
     ))?;
     match file.expect_room() {
-        Ok(()) => Ok(file),
+        Ok(()) => Ok(Some(file)),
         Err(_) => Err(Stopped::at(path, StopFault::Write)),
     }
 }
 
-/// Standard output and the file of a board's text, where there is one.
+/// Asks that the text and the state aren't written to one file.
+fn expect_two<'a>(
+    text: &Option<TextFile<'a>>,
+    state: &Option<TextFile<'a>>,
+) -> Result<(), Stopped<'a>> {
+    let (Some(text), Some(state)) = (text, state) else {
+        return Ok(());
+    };
+    match text.meets(state) {
+        Ok(false) => Ok(()),
+        Ok(true) | Err(_) => Err(Stopped::at("-", StopFault::Write)),
+    }
+}
+
+/// What a board's lines are written to, and the file of its state, where these are named.
 fn shown<'a>(
     rt: &'a HostRuntime,
     text: Option<&'a str>,
+    json: Option<&'a str>,
     sheet: &'a str,
-) -> Result<Shown<'a>, Stopped<'a>> {
-    let file = match text {
-        Some(path) => Some(text_file(rt, path, sheet)?),
-        None => None,
-    };
-    Ok(Watched::new(Sign::new(rt.alloc(), printer(rt)?, file)))
+) -> Result<(Lines<'a>, State<TextFile<'a>>), Stopped<'a>> {
+    let text = file_at(rt, text, sheet)?;
+    let json = file_at(rt, json, sheet)?;
+    expect_two(&text, &json)?;
+    let lines = Watched::new(Sign::new(rt.alloc(), printer(rt)?, text));
+    Ok((lines, State::new(rt.alloc(), json)))
 }
 
-/// Shows the six lines, and then runs the board without an end.
-fn show<L: Link, C: Clock, N: Notices, W: Write>(
+/// Shows the six lines and the state, and then runs the board without an end.
+fn show<L: Link, C: Clock, N: Notices, W: Write, S: Shows>(
     board: &mut Board<CheckedBook>,
     sheet: &MatchSheet,
     link: &mut L,
     clock: &mut C,
     notices: &mut N,
     out: &mut Watched<W>,
+    state: &mut S,
 ) -> Result<(), WriteFailed> {
     board.lines(sheet, out)?;
     out.flush()?;
-    run_board(board, sheet, link, clock, notices, out, u64::MAX)
+    state.show(sheet, board.book(), clock.millis())?;
+    run_board(board, sheet, link, clock, notices, out, state, u64::MAX)
 }
 
 /// `ground board`: keeps a board that listens at an address, shows its six lines at the start and whenever they
-/// change, and tells standard error what it can't take. Its datagrams are sealed with the sheet and the key in a file,
-/// where one is named.
+/// change, and tells standard error what it can't take. Its text is also put into a file, and its state as JSON into
+/// another one, where they are named. Its datagrams are sealed with the sheet and the key in a file, where one is named.
 #[inline(never)]
 pub fn start_board<'a>(
     rt: &'a HostRuntime,
@@ -74,11 +96,12 @@ pub fn start_board<'a>(
     at: Address<'a>,
     peers: [Option<SocketAddr>; MOST_PEERS],
     text: Option<&'a str>,
+    json: Option<&'a str>,
     key: Option<&'a str>,
 ) -> Result<bool, Stopped<'a>> {
     let sheet = told_sheet_at(rt, sheet_path)?;
     let sealing = Sealing::of(rt, &sheet, key)?;
-    let mut out = shown(rt, text, sheet_path)?;
+    let (mut out, mut state) = shown(rt, text, json, sheet_path)?;
     let book = CheckedBook::new(rt.alloc(), sheet.innings()).map_err(|why| Stopped::at(
         "-",
         StopFault::from(why),
@@ -89,7 +112,7 @@ pub fn start_board<'a>(
     let mut clock = MonotonicClock::new(rt);
     let mut notes = Notes::new(rt.stderr());
     let ended = show(
-        &mut board, &sheet, &mut link, &mut clock, &mut notes, &mut out,
+        &mut board, &sheet, &mut link, &mut clock, &mut notes, &mut out, &mut state,
     );
     match ended {
         Ok(()) => Ok(false),

@@ -4,7 +4,7 @@ ghost use Rattle.std.specs.Prelude.{◌≡◌, ◌≢◌, ◌<◌, ◌⊎◌, le
 ghost use Rattle.agree_core.specs.declared.messages.DeskId.TheVariants.{A, B};
 ghost use Rattle.streams.specs.Watched.{IsHandedOn, MeetsFailure, failures, stream_of};
 ghost use Rattle.books.specs.BothFiles.{IsBookOfBoth};
-ghost use Rattle.commands.specs.BothFiles.{PrintsCardOfBoth, PrintsExportOfBoth, WhyNotBoth};
+ghost use Rattle.commands.specs.BothFiles.{IsOfReading, PrintsCardOfBoth, PrintsExportOfBoth, WhyNotBoth};
 
 use crate::export_command::print_text;
 use crate::fault::{StopFault, Stopped};
@@ -19,7 +19,7 @@ use std::alloc::{AllocError, Global};
 use std::io::{Read, Write};
 use streams::{InputFault, LONGEST_INPUT, Watched, read_all};
 
-/// Why `card` and `export` of both files end before their end.
+/// Why `card`, `export` and `compare` of both files end before their end.
 #[derive(Clone, Copy, Debug, PartialEq, Eq)]
 pub enum BothPrintFault {
     /// Memory was refused.
@@ -28,7 +28,7 @@ pub enum BothPrintFault {
     Read(DeskId),
     /// A write failed.
     Write,
-    /// Both files have no book.
+    /// A votes file is refused, or both files have no book.
     Book(BothFault),
 }
 
@@ -103,6 +103,31 @@ impl From<BothPrintFault> for StopFault {
     }
 }
 
+/// All bytes of both files, A's first.
+pub fn read_both<R: Read>(
+    alloc: Global,
+    a: &mut Watched<R>,
+    b: &mut Watched<R>,
+) -> Result<(Vec<u8>, Vec<u8>), BothPrintFault>
+    ensures first { IfOk result (λ files. IfSome (R.remaining (stream_of a.old)) (λ first. files.0.items ≡ first)) }
+    ensures second { IfOk result (λ files. IfSome (R.remaining (stream_of b.old)) (λ second. files.1.items ≡ second)) }
+    ensures why { IfErr result IsOfReading }
+    ensures read_first { result ≡ Err (BothPrintFault.Read A) → MeetsFailure a.old a.new
+        ⊎ IfSome (R.remaining (stream_of a.old)) (λ input. LONGEST_INPUT < length input) }
+    ensures read_second { result ≡ Err (BothPrintFault.Read B) → MeetsFailure b.old b.new
+        ⊎ IfSome (R.remaining (stream_of b.old)) (λ input. LONGEST_INPUT < length input) }
+{
+    let first = match read_all(alloc, a) {
+        Ok(bytes) => bytes,
+        Err(why) => return Err(BothPrintFault::of_input(DeskId::A, why)),
+    };
+    let second = match read_all(alloc, b) {
+        Ok(bytes) => bytes,
+        Err(why) => return Err(BothPrintFault::of_input(DeskId::B, why)),
+    };
+    Ok((first, second))
+}
+
 /// The book of both files, each read to its end, A's first.
 fn book_of_readers<R: Read>(
     alloc: Global,
@@ -122,14 +147,7 @@ fn book_of_readers<R: Read>(
         ⊎ IfSome (R.remaining (stream_of b.old)) (λ input. LONGEST_INPUT < length input) }
     ensures unwritten { IfErr result (λ fault. fault ≢ BothPrintFault.Write) }
 {
-    let first = match read_all(alloc, a) {
-        Ok(bytes) => bytes,
-        Err(why) => return Err(BothPrintFault::of_input(DeskId::A, why)),
-    };
-    let second = match read_all(alloc, b) {
-        Ok(bytes) => bytes,
-        Err(why) => return Err(BothPrintFault::of_input(DeskId::B, why)),
-    };
+    let (first, second) = read_both(alloc, a, b)?;
     Ok(book_of_both(alloc, sheet, first.as_slice(), second.as_slice())?)
 }
 
@@ -205,7 +223,7 @@ pub fn export_both_run<R: Read, W: Write>(
 }
 
 /// Why a command on both files ended, and which of them was at work.
-fn stopped_at<'a>(fault: BothPrintFault, a: &'a str, b: &'a str) -> Stopped<'a> {
+pub fn stopped_at<'a>(fault: BothPrintFault, a: &'a str, b: &'a str) -> Stopped<'a> {
     let path = if fault.is_of_second() { b } else { a };
     Stopped::at(path, StopFault::from(fault))
 }

@@ -7,6 +7,7 @@ mod board_command;
 mod both_files;
 mod card;
 mod check;
+mod compare_command;
 mod desk_command;
 mod export_command;
 mod fault;
@@ -28,6 +29,7 @@ pub use crate::both_files::{
 };
 pub use crate::card::{card_run, start_card};
 pub use crate::check::{CheckFault, check_run, start_check};
+pub use crate::compare_command::{compare_run, start_compare};
 pub use crate::desk_command::start_desk;
 pub use crate::export_command::{export_run, start_export};
 pub use crate::fault::{StopFault, Stopped, print_fault};

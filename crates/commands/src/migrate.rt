@@ -1,14 +1,14 @@
 //! `ground migrate`: a new file with the votes of an old one.
 
-ghost use Rattle.std.specs.Prelude.{◌≡◌, ◌≢◌, ◌≤◌, length, Err, IfOk, IfErr, OnOk};
+ghost use Rattle.std.specs.Prelude.{◌≡◌, ◌≢◌, ◌≤◌, ◌⊎◌, length, Err, IfOk, IfErr, OnOk};
 ghost use Rattle.streams.specs.Watched.{IsHandedOn, MeetsFailure, Prints, TellsFailure, failures};
-ghost use Rattle.entry_log.specs.Disk.{Never};
+ghost use Rattle.entry_log.specs.Disk.{Never, only};
 ghost use Rattle.entry_log.specs.Format.{room};
 ghost use Rattle.entry_log.specs.Version2.{version_2};
 ghost use Rattle.entry_log.specs.declared.slot.TheConstants.{MAX_SLOTS};
 ghost use Rattle.agree_core.specs.Ballots.{desk_number};
-ghost use Rattle.vote_store.specs.Migrated.{IsMigrated};
-ghost use Rattle.commands.specs.Migrate.{WhyNotMigrated, migrated_line};
+ghost use Rattle.vote_store.specs.Migrated.{IsMigrated, answer_of};
+ghost use Rattle.commands.specs.Migrate.{Leaves, WhyNotMigrated, migrated_line, old_left};
 
 use crate::fault::{StopFault, Stopped};
 use crate::opening::{old_votes_at, output, sheet_at};
@@ -74,8 +74,9 @@ fn print_migrated<W: Write>(out: &mut Watched<W>, votes: u32) -> Result<(), Writ
 }
 
 /// `ground migrate`: writes the votes of a desk's old file, of version 1, to a new file of version 2 on another
-/// disk that has none, and prints how many. Both disks come back. It is refused as opening the old file is, and
-/// then where the new disk has a file. After `Device` the new file isn't to be used.
+/// disk that has none, and prints how many. It is refused as opening the old file is, and then where the new disk has a
+/// file. Both disks come back with either answer: the old one reads as it did, and a refused new one is as it was. After
+/// `Device` the new file isn't to be used; after `Write` it is whole, and only the line about it is missing.
 pub fn migrate_run<D: Disk + Drop, E: Disk + Drop, W: Write>(
     alloc: Global,
     desk: DeskId,
@@ -83,34 +84,38 @@ pub fn migrate_run<D: Disk + Drop, E: Disk + Drop, W: Write>(
     old: D,
     new: E,
     out: &mut Watched<W>,
-) -> Result<Migrated<D, E>, MigrateFault>
+) -> Result<Migrated<D, E>, (MigrateFault, D, E)>
     ensures migrated { IfOk result (λ migrated.
         IsMigrated (desk_number desk) game (D.seen old) (E.images migrated.new) migrated.votes) }
     ensures written { IfOk result (λ migrated.
         Prints W.contents out.old out.new (migrated_line migrated.votes)) }
-    ensures old_stays { IfOk result (λ migrated. D.seen migrated.old ≡ D.seen old) }
     ensures only_empty { OnOk result (length (E.seen new) ≡ 0) }
-    ensures why { IfErr result (WhyNotMigrated (desk_number desk) game (D.seen old) (E.seen new)) }
+    ensures old_seen { D.seen (old_left result) ≡ D.seen old }
+    ensures old_images { (D.images (old_left result) ≡ D.images old)
+        ⊎ (D.images (old_left result) ≡ only (D.seen old)) }
+    ensures left { IfErr result (λ ended. Leaves (desk_number desk) game (D.seen old) E.seen E.images new
+        ended.0 ended.2) }
+    ensures why { IfErr (answer_of result) (WhyNotMigrated (desk_number desk) game (D.seen old) (E.seen new)) }
     // Where no fault is due at either disk, and the new one has room, none is met.
     ensures calm { (D.faults old).due ≡ Never → (E.faults new).due ≡ Never
-        → room version_2 MAX_SLOTS ≤ E.cap new → result ≢ Err MigrateFault.Device }
-    ensures write { result ≡ Err MigrateFault.Write → MeetsFailure out.old out.new }
+        → room version_2 MAX_SLOTS ≤ E.cap new → answer_of result ≢ Err MigrateFault.Device }
+    ensures write { answer_of result ≡ Err MigrateFault.Write → MeetsFailure out.old out.new }
     ensures sound { OnOk result (failures out.new ≡ failures out.old) }
     ensures handed_on { OnOk result (IsHandedOn out.new) }
-    ensures unwritten { IfErr result (λ fault. fault ≢ MigrateFault.Write → out.new ≡ out.old) }
+    ensures unwritten { IfErr (answer_of result) (λ fault. fault ≢ MigrateFault.Write → out.new ≡ out.old) }
 {
     let migrated = match migrate(alloc, old, new, desk, game) {
         Ok(migrated) => migrated,
-        Err((why, _old, _new)) => return Err(MigrateFault::from(why)),
+        Err((why, old, new)) => return Err((MigrateFault::from(why), old, new)),
     };
     match print_migrated(out, migrated.votes) {
         Ok(()) => Ok(migrated),
-        Err(_) => Err(MigrateFault::Write),
+        Err(_) => Err((MigrateFault::Write, migrated.old, migrated.new)),
     }
 }
 
 /// Closes both files of a migration.
-fn close(_files: Migrated<FileDisk<File>, VotesDisk<'_>>) {}
+fn close(_old: FileDisk<File>, _new: VotesDisk<'_>) {}
 
 /// Runs `migrate` from an old votes file to a new one.
 #[inline(never)]
@@ -126,10 +131,13 @@ pub fn start_migrate<'a>(
     let old = old_votes_at(rt, from, desk, game)?;
     let new = new_disk_at(rt, to)?;
     match migrate_run(rt.alloc(), desk, game, old, new, &mut writer) {
-        Ok(migrated) => {
-            close(migrated);
+        Ok(Migrated { old, new, .. }) => {
+            close(old, new);
             Ok(false)
         }
-        Err(fault) => Err(Stopped::at(to, StopFault::from(fault))),
+        Err((fault, old, new)) => {
+            close(old, new);
+            Err(Stopped::at(to, StopFault::from(fault)))
+        }
     }
 }

@@ -1,6 +1,6 @@
 //! A board's process.
 
-ghost use Rattle.std.specs.Prelude.{◌≡◌, ◌<◌, ◌+◌, ℕ, true, false, Option, List, [], ◌∷◌, ◌++◌, OnErr};
+ghost use Rattle.std.specs.Prelude.{◌≡◌, ◌<◌, ◌+◌, ℕ, true, false, Option, List, [], ◌∷◌, ◌++◌, ◌⊎◌, OnErr};
 ghost use Rattle.cards.specs.Sheet.{Sheet};
 ghost use Rattle.streams.specs.Watched.{has_failed, stream_of};
 ghost use Rattle.live.specs.Boards.{BoardGoes, BoardRuns, at_turn, in_turn};
@@ -15,6 +15,7 @@ use crate::hearing::promises_more;
 use crate::link::{Link, MOST_TAKEN, ROOM, Taken};
 use crate::notices::{Notices, Telling};
 use crate::pace::Pace;
+use crate::shows::Shows;
 use board::Board;
 use cards::MatchSheet;
 use corrections::BookOf;
@@ -157,24 +158,41 @@ fn turn<B: BookOf, L: Link, C: Clock, N: Notices, W: Write>(
     out.flush()
 }
 
-/// A board's process, for so many turns: it asks, takes what its link gives, tells what it can't take, and prints its
-/// six lines at the end of each turn in which its book has grown. It is a run of the definitions of a board: its
-/// datagrams are just those that passed at the link, its texts just those that were written, its notices just those
-/// that were handed on.
-pub fn run_board<B: BookOf, L: Link, C: Clock, N: Notices, W: Write>(
+/// Shows the state of a board at the end of a turn, unless it has refused both desks' votes.
+fn show<B: BookOf, C: Clock, S: Shows>(
+    board: &Board<B>,
+    sheet: &MatchSheet,
+    clock: &mut C,
+    state: &mut S,
+    telling: Telling,
+) -> Result<(), WriteFailed>
+    ensures { OnErr result (S.failed state.new ≡ true) }
+{
+    if telling.is_stopped {
+        return Ok(());
+    }
+    state.show(sheet, board.book(), clock.millis())
+}
+
+/// A board's process, for so many turns: it asks, takes what its link gives, tells what it can't take, prints its six
+/// lines at the end of each turn in which its book has grown, and has its state shown at the end of each turn. It is a
+/// run of the definitions of a board: its datagrams are just those that passed at the link, its texts just those that
+/// were written, its notices just those that were handed on.
+pub fn run_board<B: BookOf, L: Link, C: Clock, N: Notices, W: Write, S: Shows>(
     board: &mut Board<B>,
     sheet: &MatchSheet,
     link: &mut L,
     clock: &mut C,
     notices: &mut N,
     out: &mut Watched<W>,
+    state: &mut S,
     turns: u64,
 ) -> Result<(), WriteFailed>
     ensures runs { BoardRuns B.content B.innings_a_side sheet.now board.old board.new
         (L.log link.old) (L.log link.new)
         (W.contents (stream_of out.old)) (W.contents (stream_of out.new)) 0 turns
         untold (N.told notices.old) (N.told notices.new) result }
-    ensures failed { OnErr result (has_failed out.new ≡ true) }
+    ensures failed { OnErr result (has_failed out.new ≡ true ⊎ S.failed state.new ≡ true) }
 {
     let mut between = Between {
         pace: Pace::new(),
@@ -182,6 +200,7 @@ pub fn run_board<B: BookOf, L: Link, C: Clock, N: Notices, W: Write>(
     };
     for number in 0..turns {
         turn(board, sheet, link, clock, notices, out, &mut between)?;
+        show(board, sheet, clock, state, between.telling)?;
     }
     Ok(())
 }

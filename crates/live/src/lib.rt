@@ -19,6 +19,7 @@ mod questions;
 mod said;
 mod sealed;
 mod sending;
+mod shows;
 mod texts;
 mod warned;
 
@@ -33,4 +34,5 @@ pub use log::{CarriedLog, InputLog, Log, NoticeLog};
 pub use notices::{Notice, Notices, Telling, print_notice};
 pub use said::Said;
 pub use sealed::{Sealed, what_is_given_was_brought};
+pub use shows::Shows;
 pub use warned::Warned;

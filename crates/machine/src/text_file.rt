@@ -1,17 +1,24 @@
 //! A file that others read while it is replaced.
 
+ghost use Rattle.std.specs.Prelude.{◌≡◌, IfSome, List, None, OnOk, Option, ℕ};
+
 use std::alloc::AllocError;
 use std::fs::{self, File, Metadata, TryLockError};
 use std::io::{self, ErrorKind, Read, Write};
 use std::os::unix::fs::MetadataExt;
+use std::path::Path;
 
 /// What each votes file begins with.
 const MARK: &[u8; 7] = b"CBVOTES";
 
-/// What a text is put into.
+/// What a text is put into. Nothing is known of what it holds, only of what it was given.
 pub trait Replaces {
-    /// Has it hold this text and nothing else. Nothing is known of what it holds.
-    fn replace(&mut self, text: &[u8]) -> io::Result<()>;
+    /// The text that it was given last; `None` where that isn't known.
+    ghost given: { Self → Option (List ℕ) };
+
+    /// Has it hold this text and nothing else.
+    fn replace(&mut self, text: &[u8]) -> io::Result<()>
+        ensures { OnOk result (IfSome (given self.new) (λ given. given ≡ text.now)) };
 }
 
 /// A file that always holds a whole text, and the name of the file beside it that the next one is written to. Neither
@@ -27,6 +34,25 @@ pub struct TextFile<'a> {
 /// Whether both are one file.
 fn is_same(one: &Metadata, other: &Metadata) -> bool {
     one.dev() == other.dev() && one.ino() == other.ino()
+}
+
+/// The folder that a file of this path is in.
+fn folder_of(rt: &HostRuntime, path: &str) -> io::Result<Metadata> {
+    match Path::new(path).parent() {
+        Some(folder) if !folder.as_str().is_empty() => fs::metadata(rt, folder.as_str()),
+        _ => fs::metadata(rt, "."),
+    }
+}
+
+/// Whether one of two paths ends in the name that the other ends in, or in that of the file beside it.
+fn names_meet(one: &str, other: &str) -> bool {
+    let (one, other) = (Path::new(one).file_name(), Path::new(other).file_name());
+    let (Some(one), Some(other)) = (one, other) else {
+        return false;
+    };
+    one == other
+        || one.strip_suffix(".new") == Some(other)
+        || other.strip_suffix(".new") == Some(one)
 }
 
 /// Whether a file begins as a votes file.
@@ -97,9 +123,21 @@ impl<'a> TextFile<'a> {
         self.finds(self.beside.as_str())?;
         Ok(())
     }
+
+    /// Whether two of these would be written to one file: they are in one folder, and the name of the one, or of the
+    /// file beside it, is one of the other's.
+    pub fn meets(&self, other: &TextFile<'_>) -> io::Result<bool> {
+        if !names_meet(self.path, other.path) {
+            return Ok(false);
+        }
+        let one = folder_of(self.rt, self.path)?;
+        Ok(is_same(&one, &folder_of(other.rt, other.path)?))
+    }
 }
 
 impl Replaces for TextFile<'_> {
+    ghost given = { λ _. None };
+
     /// Writes the text to a new file beside it, and then renames that over it. What a board left there whose process was
     /// killed is taken away before. It isn't synced: a board that begins again writes it anew.
     fn replace(&mut self, text: &[u8]) -> io::Result<()> {

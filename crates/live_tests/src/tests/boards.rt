@@ -2,7 +2,7 @@
 ghost use Rattle.std.specs.Prelude.{◌≡◌, ◌≤◌, IfSome};
 
 use super::desks::ELSEWHERE;
-use super::memory::Notes;
+use super::memory::{Notes, States};
 use super::*;
 use board::Board;
 use live::{Link, Log, Notice, Taken, run_board};
@@ -16,7 +16,7 @@ fn new_board(rt: &impl Abort, alloc: Global) -> Board<Book> {
     Board::new(7, empty_book(rt, alloc))
 }
 
-/// A board's process over a link, whose notices aren't looked at.
+/// A board's process over a link, whose notices and states aren't looked at.
 fn run<L: Link, W: Write>(
     alloc: Global,
     board: &mut Board<Book>,
@@ -27,7 +27,17 @@ fn run<L: Link, W: Write>(
 ) -> Result<(), WriteFailed> {
     let mut clock = Ticking::new();
     let mut notes = Notes::new(alloc);
-    run_board(board, sheet, link, &mut clock, &mut notes, out, turns)
+    let mut states = States::new(alloc, usize::MAX);
+    run_board(
+        board,
+        sheet,
+        link,
+        &mut clock,
+        &mut notes,
+        out,
+        &mut states,
+        turns,
+    )
 }
 
 const TWO: &str = "No play\nOvers -\nStriker -\nOther -\nTarget -\nResult -\n\
@@ -54,19 +64,19 @@ fn printed_once_a_turn(rt: HostRuntime) {
     assert_eq!(rt; out.into_inner().as_slice(), TWO.as_bytes());
 }
 
-// Nothing comes: it asks at once, then 20, 40, 80, 160 and 250 ms later, and 250 ms after that; a turn takes 2 ms here.
+// Nothing comes: it asks at once, then 20, 40, 80, 160 and 250 ms later, and 250 ms after that; a turn takes 3 ms here.
 #[test]
 fn asks_that_nobody_answers(rt: HostRuntime) {
     let alloc = rt.alloc();
     let sheet = sheet(&rt, alloc);
     for (first, asks) in [
         (1, 1),
-        (11, 2),
-        (31, 3),
-        (71, 4),
-        (151, 5),
-        (276, 6),
-        (401, 7),
+        (8, 2),
+        (22, 3),
+        (49, 4),
+        (103, 5),
+        (187, 6),
+        (271, 7),
     ] {
         for (turns, wanted) in [(first, asks), (first - 1, asks - 1)] {
             let mut link = Queue::new(alloc);
@@ -163,9 +173,9 @@ fn a_writer_of_a_board_that_fails(rt: HostRuntime) {
     }
 }
 
-/// What a new board of match 7, with one innings a side, tells over these datagrams, each in a turn of its own, and what
-/// it prints.
-fn notices(rt: &impl Abort, alloc: Global, datagrams: &[&[u8]]) -> (Vec<Notice>, Vec<u8>) {
+/// What a new board of match 7, with one innings a side, tells over these datagrams, each in a turn of its own, what it
+/// prints, and how many entries each state has that it shows.
+fn told(rt: &impl Abort, alloc: Global, datagrams: &[&[u8]]) -> (Vec<Notice>, Vec<u8>, Vec<u32>) {
     let sheet = sheet(rt, alloc);
     let mut link = Queue::new(alloc);
     for datagram in datagrams {
@@ -176,11 +186,19 @@ fn notices(rt: &impl Abort, alloc: Global, datagrams: &[&[u8]]) -> (Vec<Notice>,
     let mut out = Watched::new(Vec::new(alloc));
     let mut clock = Ticking::new();
     let mut notes = Notes::new(alloc);
+    let mut states = States::new(alloc, usize::MAX);
     let answer = run_board(
-        &mut board, &sheet, &mut link, &mut clock, &mut notes, &mut out, 99,
+        &mut board,
+        &sheet,
+        &mut link,
+        &mut clock,
+        &mut notes,
+        &mut out,
+        &mut states,
+        99,
     );
     assert!(rt; answer.is_ok());
-    (notes.told, out.into_inner())
+    (notes.told, out.into_inner(), states.shown)
 }
 
 // Bytes that are no message of the match are told once until a vote comes that is news, and two votes of one desk too.
@@ -205,7 +223,7 @@ fn bytes_that_a_board_cannot_take(rt: HostRuntime) {
         differs.as_slice(),
         &first[..47],
     ];
-    let (told, shown) = notices(&rt, alloc, &datagrams);
+    let (told, shown, _) = told(&rt, alloc, &datagrams);
     let wanted = [
         Notice::Bytes(WireFault::Length),
         Notice::Bytes(WireFault::OtherMatch),
@@ -217,7 +235,7 @@ fn bytes_that_a_board_cannot_take(rt: HostRuntime) {
 }
 
 // No batter comes in before an innings begins. Both desks' votes for that are refused and told once, and from then on
-// nothing is shown, though the book grows.
+// nothing is shown, though the book grows. Until then a state is shown at the end of each turn.
 #[test]
 fn votes_that_a_board_refuses(rt: HostRuntime) {
     let alloc = rt.alloc();
@@ -238,7 +256,34 @@ fn votes_that_a_board_refuses(rt: HostRuntime) {
     for vote in votes.iter() {
         datagrams.push(vote.as_slice()).expect(&rt, "room");
     }
-    let (told, shown) = notices(&rt, alloc, datagrams.as_slice());
+    let (told, shown, states) = told(&rt, alloc, datagrams.as_slice());
     assert_eq!(rt; told.as_slice(), [Notice::BadVotes { place: 1 }].as_slice());
     assert_eq!(rt; shown.as_slice(), NO_PLAY.as_bytes());
+    assert_eq!(rt; states.as_slice(), [0, 1, 1].as_slice());
+}
+
+#[test]
+fn a_state_of_a_board_that_fails(rt: HostRuntime) {
+    let alloc = rt.alloc();
+    let sheet = sheet(&rt, alloc);
+    for calls in 0..3 {
+        let mut link = Queue::new(alloc);
+        let mut board = new_board(&rt, alloc);
+        let mut out = Watched::new(Failing { calls: 0 });
+        let mut clock = Ticking::new();
+        let mut notes = Notes::new(alloc);
+        let mut states = States::new(alloc, calls);
+        let answer = run_board(
+            &mut board,
+            &sheet,
+            &mut link,
+            &mut clock,
+            &mut notes,
+            &mut out,
+            &mut states,
+            3,
+        );
+        assert!(rt; answer.is_err());
+        assert_eq!(rt; states.shown.len(), calls);
+    }
 }

@@ -2,10 +2,12 @@
 ghost use Rattle.std.specs.Prelude.{◌≡◌, ◌≤◌, IfSome};
 
 use super::*;
-use live::{Clock, InputLog, Keys, Link, Log, Notice, NoticeLog, Notices, Taken, Typed};
+use live::{Clock, InputLog, Keys, Link, Log, Notice, NoticeLog, Notices, Shows, Taken, Typed};
 use std::io::{self, Error, ErrorKind, Write};
+use streams::WriteFailed;
 
-/// A clock of which each reading is a millisecond later. A turn in which nothing comes reads it twice.
+/// A clock of which each reading is a millisecond later. A turn in which nothing comes reads it twice, and that of a board
+/// once more.
 #[derive(Drop)]
 pub struct Ticking {
     now: u64,
@@ -182,5 +184,40 @@ impl Notices for Notes {
     fn tell(&mut self, notice: Notice) {
         let _ = self.told.push(notice);
         self.log = self.log.told(notice);
+    }
+}
+
+/// How many entries the book of a board had, at each call that showed its state. So many calls go well.
+#[derive(Drop)]
+pub struct States {
+    pub shown: Vec<u32>,
+    calls: usize,
+    has_failed: bool,
+}
+
+impl States {
+    pub fn new(alloc: Global, calls: usize) -> States {
+        States {
+            shown: Vec::new(alloc),
+            calls,
+            has_failed: false,
+        }
+    }
+}
+
+impl Shows for States {
+    ghost failed = { λ states. states.has_failed };
+
+    fn show<B: BookOf>(
+        &mut self,
+        _sheet: &MatchSheet,
+        book: &B,
+        _now: u64,
+    ) -> Result<(), WriteFailed> {
+        if self.shown.len() >= self.calls || self.shown.push(book.len()).is_err() {
+            self.has_failed = true;
+            return Err(WriteFailed);
+        }
+        Ok(())
     }
 }

@@ -1,5 +1,5 @@
 //! Two desks and a board in turns, over a link that loses every third datagram.
-use super::memory::Notes;
+use super::memory::{Notes, States};
 use super::*;
 use board::Board;
 use entry_log::SlotsOf;
@@ -67,7 +67,17 @@ fn board_turn(rt: &impl Abort, alloc: Global, board: &mut Board<Book>, link: &mu
     let mut out = Watched::new(Failing { calls: usize::MAX });
     let mut clock = Ticking::new();
     let mut notes = Notes::new(alloc);
-    let answer = run_board(board, &sheet, link, &mut clock, &mut notes, &mut out, 1);
+    let mut states = States::new(alloc, 1);
+    let answer = run_board(
+        board,
+        &sheet,
+        link,
+        &mut clock,
+        &mut notes,
+        &mut out,
+        &mut states,
+        1,
+    );
     assert!(rt; answer.is_ok());
 }
 

@@ -21,6 +21,12 @@ returns-in_err-turn-clause-runs g c =
     (stopped _ _ c.args.sheet.now c.from_residual.result c.in_err-turn.field-0.0 _ _ _ _ _ _ _ _ _ _ _ _ c.from_residual.ensures.1 runs.is runs.noticed
     (then _ _ c.args.sheet.now _ _ _ _ _ _ _ _ _ _ _ _ (silent _ _ c.args.sheet.now _ _ _ _ _ _ _ _ c.loop-number.invariant) runs.goes)).0
 
+pub returns-in_err-show-clause-runs : goal.returns-in_err-show-clause-runs
+returns-in_err-show-clause-runs g c =
+    let last = c.in_ok-turn.ensures.runs c.loop-number.number in
+    (stopped _ _ c.args.sheet.now c.from_residual-in_err-show.result c.in_err-show.field-0.0 _ _ _ _ _ _ _ _ _ _ _ _ c.from_residual-in_err-show.ensures.1 last.0.is last.0.noticed
+    (then _ _ c.args.sheet.now _ _ _ _ _ _ _ _ _ _ _ _ (silent _ _ c.args.sheet.now _ _ _ _ _ _ _ _ c.loop-number.invariant) (silent _ _ c.args.sheet.now _ _ _ _ _ _ _ _ last.0.goes))).0
+
 pub returns-clause-runs : goal.returns-clause-runs
 returns-clause-runs g c =
     let over : c.loop-number.number ≡ c.args.turns = omega (arith, c.loop-number.auto.number-end, c.loop-number-test.false) in

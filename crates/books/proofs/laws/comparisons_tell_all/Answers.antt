@@ -1,0 +1,27 @@
+use Rattle.std.proofs.Common.{◌≡◌, ◌∙◌, List, Result, Ok, length, sym, ap, subst}
+use Rattle.agree_core.specs.declared.messages.DeskId.TheVariants.{A, B}
+use Rattle.agree_core.specs.Agreed.{IsAgreedList}
+use Rattle.agree_core.specs.Ballots.{AllVotes, Ballot}
+use Rattle.vote_store.specs.declared.refusal.Refusal.{Refusal}
+use Rattle.books.proofs.OneList.{one_list}
+use Rattle.books.proofs.SameVotes.{no_difference, same_votes}
+use Rattle.books.proofs.SoundVotes.{in_file}
+use Rattle.books.proofs.laws.comparisons_tell_all.Goals as goal
+
+same_ok : (xs ys : List Ballot) (r : Result (List Ballot) Refusal) → r ≡ Ok xs → r ≡ Ok ys → xs ≡ ys
+same_ok xs ys r e f = let both : Ok xs ≡ Ok ys = sym e ∙ f in cc
+
+pub returns-clause-counted : goal.returns-clause-counted
+returns-clause-counted _ = λ s a b c book compared made.
+    let first = same_ok made.votes.a compared.votes.a _ made.read.first compared.read.first in
+    let second = same_ok made.votes.b compared.votes.b _ made.read.second compared.read.second in
+    let votes : made.votes ≡ compared.votes = λ i. record { a = first i; b = second i } in
+    let sound = (in_file A s.game a compared.votes.a compared.read.first).sequence in
+    let same = one_list compared.votes sound compared.list book compared.agreed_list (subst (λ (v : AllVotes). IsAgreedList v book) votes made.agreed) in
+    compared.agreed ∙ ap length same
+
+pub returns-clause-nothing_told : goal.returns-clause-nothing_told
+returns-clause-nothing_told _ = λ game a b v read.
+    let first = in_file A game a v.a read.first in
+    let second = in_file B game b v.b read.second in
+    (same_votes v first second, no_difference v first second)
