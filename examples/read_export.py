@@ -1,31 +1,256 @@
 #!/usr/bin/env python3
-"""Reads a book that `ground export` has printed, with Python's own json.
+"""Reads a book that `ground export` has printed, with Python's own json: strictly by the format of published ball-by-ball
+archives, 1.1.0, with `yermudosh` beside it.
 
-usage: read_export.py EXPORT CARD    adds up each innings from its deliveries, and compares with the totals of `ground card`
+usage: read_export.py EXPORT CARD    checks every key and type, adds up innings, batters and bowlers from the deliveries,
+                                     and compares them with the lines of `ground card`
        read_export.py --lines EXPORT prints the lines of the book, for `ground check` or `ground card`
 """
 import json
 import re
 import sys
 
+KINDS = {
+    "bowled", "caught", "caught and bowled", "lbw", "stumped", "run out", "hit wicket", "hit the ball twice",
+    "obstructing the field", "timed out", "retired hurt", "retired out", "retired not out", "handled the ball",
+}
+# the kinds of which a bowler has credit
+CREDITED = {"bowled", "caught", "caught and bowled", "lbw", "stumped", "hit wicket"}
+
+
+class Wrong(Exception):
+    """What is read isn't of the format, or doesn't add up."""
+
+
+def wants(holds, what):
+    if not holds:
+        raise Wrong(what)
+
+
+def is_number(value):
+    return isinstance(value, int) and not isinstance(value, bool) and value >= 0
+
+
+def is_text(value):
+    return isinstance(value, str) and value != ""
+
+
+def is_true(value):
+    return value is True
+
+
+def is_list_of(test):
+    return lambda value: isinstance(value, list) and all(test(item) for item in value)
+
+
+def is_mapping_of(needed, others=None):
+    """A mapping that has the needed keys and otherwise none but the others, each with a value that passes its test."""
+    others = others or {}
+
+    def test(value):
+        if not isinstance(value, dict):
+            return False
+        for key, item in value.items():
+            tests = needed.get(key) or others.get(key)
+            wants(tests is not None, f"the key {key}")
+            wants(tests(item), f"{key}: {json.dumps(item)}")
+        for key in needed:
+            wants(key in value, f"no {key}")
+        return True
+
+    return test
+
+
+FIELDER = is_mapping_of({"name": is_text}, {"substitute": is_true})
+WICKET = is_mapping_of({"player_out": is_text, "kind": lambda kind: kind in KINDS}, {"fielders": is_list_of(FIELDER)})
+RUNS = is_mapping_of({"batter": is_number, "extras": is_number, "total": is_number}, {"non_boundary": is_true})
+EXTRAS = is_mapping_of({}, dict.fromkeys(["wides", "noballs", "byes", "legbyes", "penalty"], is_number))
+DELIVERY = is_mapping_of(
+    {"batter": is_text, "bowler": is_text, "non_striker": is_text, "runs": RUNS},
+    {"extras": EXTRAS, "wickets": lambda listed: listed != [] and is_list_of(WICKET)(listed)},
+)
+OVER = is_mapping_of({"over": is_number, "deliveries": lambda listed: listed != [] and is_list_of(DELIVERY)(listed)})
+MISCOUNTED = is_mapping_of({"balls": is_number}, {"umpire": is_text})
+INNINGS = is_mapping_of(
+    {"team": is_text, "overs": is_list_of(OVER)},
+    {
+        "penalty_runs": is_mapping_of({}, {"pre": is_number, "post": is_number}),
+        "declared": is_true,
+        "forfeited": is_true,
+        "miscounted_overs": lambda overs: isinstance(overs, dict) and all(
+            key.isdigit() and MISCOUNTED(value) for key, value in overs.items()
+        ),
+        "target": is_mapping_of({"runs": is_number}, {"overs": is_number}),
+    },
+)
+OUTCOME = is_mapping_of(
+    {},
+    {
+        "winner": is_text,
+        "by": is_mapping_of({}, {"runs": is_number, "wickets": is_number, "innings": lambda count: count == 1}),
+        "result": lambda word: word in ("draw", "tie"),
+        "method": is_text,
+    },
+)
+
+
+def is_players(value):
+    return isinstance(value, dict) and all(is_list_of(is_text)(names) for names in value.values())
+
+
+INFO = is_mapping_of(
+    {
+        "teams": lambda names: len(names) == 2 and is_list_of(is_text)(names),
+        "players": is_players,
+        "balls_per_over": lambda count: count == 6,
+    },
+    {"event": is_mapping_of({"name": is_text}), "outcome": OUTCOME},
+)
+META = is_mapping_of({"data_version": lambda version: version == "1.1.0", "revision": is_number})
+ENTRY = is_mapping_of({"place": is_number, "line": is_text, "corrected_by": is_list_of(is_number)})
+OURS = is_mapping_of(
+    {"program": is_text, "match_number": is_number, "innings_a_side": lambda count: count in (1, 2), "book": is_list_of(ENTRY)}
+)
+MATCH = is_mapping_of({"meta": META, "info": INFO, "innings": is_list_of(INNINGS), "yermudosh": OURS})
+
+
+def check_delivery(delivery, batting, fielding):
+    """The sums of a delivery, and that each name is of its team."""
+    runs, extras = delivery["runs"], delivery.get("extras", {})
+    wants(runs["extras"] == sum(extras.values()), "the extras of a delivery")
+    wants(runs["total"] == runs["batter"] + runs["extras"], "the total of a delivery")
+    wants(all(extras.values()), "extras of 0")
+    wants(not runs.get("non_boundary") or runs["batter"] in (4, 6), "non_boundary")
+    wants(delivery["batter"] in batting and delivery["non_striker"] in batting, "a batter of the other team")
+    wants(delivery["bowler"] in fielding, "a bowler of the other team")
+    for wicket in delivery.get("wickets", []):
+        wants(wicket["player_out"] in batting, "who is out")
+        if wicket["kind"] == "caught and bowled":
+            wants([fielder["name"] for fielder in wicket["fielders"]] == [delivery["bowler"]], "who caught and bowled")
+
+
+def deliveries_of(innings):
+    return [delivery for over in innings["overs"] for delivery in over["deliveries"]]
+
 
 def added_up(innings):
-    """The runs and the wickets of an innings, by its deliveries, its wickets between them and its penalty runs."""
-    listed = [item for over in innings["overs"] for item in over["deliveries"]]
-    runs = sum(item["runs"]["total"] for item in listed if "runs" in item)
-    wickets = [wicket for item in listed for wicket in item.get("wickets", [])]
-    return runs + innings["penalty_runs"], sum(wicket["kind"] != "retired hurt" for wicket in wickets)
+    """The runs and the wickets of an innings, by its deliveries and its penalty runs."""
+    listed = deliveries_of(innings)
+    runs = sum(delivery["runs"]["total"] for delivery in listed) + sum(innings.get("penalty_runs", {}).values())
+    wickets = [wicket for delivery in listed for wicket in delivery.get("wickets", [])]
+    return runs, sum(wicket["kind"] != "retired hurt" for wicket in wickets)
 
 
-def totals_of(card):
-    """The totals that a card prints, innings by innings."""
-    return [(int(runs), int(wickets)) for runs, wickets in re.findall(r"^Total (\d+) for (\d+) ", card, re.MULTILINE)]
+def batters_of(innings):
+    """Each batter's runs, balls, fours and sixes."""
+    rows = {}
+    for delivery in deliveries_of(innings):
+        runs, extras = delivery["runs"], delivery.get("extras", {})
+        row = rows.setdefault(delivery["batter"], [0, 0, 0, 0])
+        row[0] += runs["batter"]
+        row[1] += "wides" not in extras
+        row[2] += runs["batter"] == 4 and "non_boundary" not in runs
+        row[3] += runs["batter"] == 6 and "non_boundary" not in runs
+    return rows
+
+
+def bowlers_of(innings):
+    """Each bowler's balls, runs, wickets, wides and no-balls."""
+    rows = {}
+    for delivery in deliveries_of(innings):
+        runs, extras = delivery["runs"], delivery.get("extras", {})
+        row = rows.setdefault(delivery["bowler"], [0, 0, 0, 0, 0])
+        row[0] += "wides" not in extras and "noballs" not in extras
+        row[1] += runs["batter"] + extras.get("wides", 0) + extras.get("noballs", 0)
+        row[2] += sum(wicket["kind"] in CREDITED for wicket in delivery.get("wickets", []))
+        row[3] += extras.get("wides", 0)
+        row[4] += extras.get("noballs", 0)
+    return rows
+
+
+def miscounted(innings, has_dead):
+    """How many overs were miscounted, each with as many fair deliveries as it says. One that was called dead is listed, and
+    doesn't count."""
+    overs = {str(over["over"]): over["deliveries"] for over in innings["overs"]}
+    listed = innings.get("miscounted_overs", {})
+    for number, over in listed.items():
+        fair = sum(not {"wides", "noballs"} & set(delivery.get("extras", {})) for delivery in overs.get(number, []))
+        wants(over["balls"] != 6, f"over {number} of six")
+        wants(over["balls"] == fair or has_dead and over["balls"] < fair, f"over {number}: {over} and {fair} fair deliveries")
+    return len(listed)
+
+
+class Card:
+    """What `ground card` prints of each innings."""
+
+    def __init__(self, text):
+        self.totals = [(int(runs), int(wickets)) for runs, wickets in re.findall(r"^Total (\d+) for (\d+) ", text, re.MULTILINE)]
+        self.batters, self.bowlers, self.miscounted, rows = [], [], [], None
+        for line in text.split("\n"):
+            if re.fullmatch(r".*, innings \d+", line):
+                self.batters.append({})
+                rows = self.batters[-1]
+            elif re.match(r"Extras \d+ \(", line):
+                rows = None
+            elif line.endswith(" bowling"):
+                self.bowlers.append({})
+                rows = self.bowlers[-1]
+            elif re.match(r"Overs not of six \d+", line):
+                self.miscounted.append(int(line.split()[-1]))
+                rows = None
+            elif rows is not None and rows is (self.bowlers or [None])[-1]:
+                self.add_bowler(rows, line)
+            elif rows is not None:
+                self.add_batter(rows, line)
+
+    @staticmethod
+    def add_batter(rows, line):
+        figures = [int(figure) for figure in line[55:].split()]
+        rows[line[:16].rstrip()] = figures
+
+    @staticmethod
+    def add_bowler(rows, line):
+        overs, _, runs, wickets, wides, noballs = line[17:].split()
+        rows[line[:16].rstrip()] = [overs] + [int(figure) for figure in (runs, wickets, wides, noballs)]
+
+
+def compare(match, card):
+    """The first thing at which the deliveries and the card differ."""
+    listed = match["innings"]
+    has_dead = any(" dead" in entry["line"] for entry in match["yermudosh"]["book"])
+    wants(len(listed) == len(card.totals), "how many innings there are")
+    for number, innings in enumerate(listed):
+        runs, wickets = added_up(innings)
+        # an innings with no delivery has no place for a wicket
+        found = (runs, wickets if deliveries_of(innings) else card.totals[number][1])
+        wants(found == card.totals[number], f"innings {number}: {found} and {card.totals[number]}")
+        found = miscounted(innings, has_dead)
+        wants(found == card.miscounted[number], f"innings {number}: {found} miscounted overs and {card.miscounted[number]}")
+        for name, row in batters_of(innings).items():
+            printed = card.batters[number].get(name[:16].rstrip())
+            wants(row == printed, f"innings {number}: {name} {row} and {printed}")
+        for name, row in bowlers_of(innings).items():
+            printed = card.bowlers[number].get(name[:16].rstrip())
+            wants(printed is not None and row[1:] == printed[1:], f"innings {number}: {name} {row} and {printed}")
+
+
+def check(match):
+    wants(MATCH(match), "no mapping")
+    players = match["info"]["players"]
+    wants(list(players) == match["info"]["teams"], "the teams of the players")
+    for innings in match["innings"]:
+        wants(innings["team"] in players, "the team of an innings")
+        (fielding,) = [names for team, names in players.items() if team != innings["team"]]
+        numbers = [over["over"] for over in innings["overs"]]
+        wants(numbers == sorted(set(numbers)), "the numbers of the overs")
+        for delivery in deliveries_of(innings):
+            check_delivery(delivery, players[innings["team"]], fielding)
 
 
 def main(words):
     if len(words) == 2 and words[0] == "--lines":
         with open(words[1], encoding="utf-8") as file:
-            for entry in json.load(file)["book"]:
+            for entry in json.load(file)["yermudosh"]["book"]:
                 print(entry["line"])
         return 0
     if len(words) != 2:
@@ -34,14 +259,17 @@ def main(words):
     with open(words[0], encoding="utf-8") as file:
         match = json.load(file)
     with open(words[1], encoding="utf-8") as file:
-        totals = totals_of(file.read())
-    right = len(totals) == len(match["innings"])
-    for innings, total in zip(match["innings"], totals):
+        card = Card(file.read())
+    try:
+        check(match)
+        compare(match, card)
+    except Wrong as why:
+        print(f"wrong: {why}")
+        return 1
+    for innings in match["innings"]:
         runs, wickets = added_up(innings)
-        same = (runs, wickets) == total == (innings["total"], innings["wickets"])
-        print(f"{innings['team']} {runs} for {wickets}" + ("" if same else f", and not {total[0]} for {total[1]}"))
-        right = right and same
-    return 0 if right else 1
+        print(f"{innings['team']} {runs} for {wickets}")
+    return 0
 
 
 if __name__ == "__main__":

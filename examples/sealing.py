@@ -3,7 +3,7 @@
 
 usage: examples/sealing.py SHEET KEY [DATAGRAM]
 
-KEY is a file, or - for no key. It prints the fingerprints that stations print at the begin, and, of a datagram in hexadecimal,
+KEY is a file, or - for no key. It prints the fingerprints that stations print as they begin and, of a datagram in hexadecimal,
 its sealed form, or the message of a sealed one.
 """
 import hashlib, hmac, sys, tomllib
@@ -48,7 +48,7 @@ class Seal:
         return message if len(data) == 64 and hmac.compare_digest(data, self.sealed(message)) else None
 
     def fingerprints(self, has_key):
-        """The lines that stations print at the begin."""
+        """The lines that stations print as they begin."""
         fingerprint = lambda name, data: f"{name} {data[:2].hex()}-{data[2:4].hex()}"
         return [fingerprint("sheet", self.digest)] + ([fingerprint("key", self.tag(b""))] if has_key else [])
 

@@ -167,9 +167,9 @@ def score(it, other, until, disturb):
 
 
 def told(line):
-    """What a scorer is told: the place, and what of it."""
+    """What a scorer is told: the place, and what of it, without the entry."""
     place, _, what = line.partition(" ")
-    return place, what
+    return place, what.partition(":")[0]
 
 
 def board(folder, fail="", wrong="", disturb=None):

@@ -24,11 +24,13 @@ HOWS = {
     "getsockname": (errno.ENOBUFS,),
     "sendto": (errno.ENETUNREACH, errno.EAGAIN, EINTR),
     "recvfrom": (errno.ECONNREFUSED, EINTR),
+    "poll": (errno.ENOMEM, EINTR),
     "fcntl": (errno.EMFILE,),
     "ioctl": (errno.ENOTTY,),
 }
 # Of what is called as often as time will have it, the first few.
-AT_ANY_TIME = {("sendto", "socket"): 4, ("recvfrom", "socket"): 4, ("getsockname", "socket"): 4, ("read", "stdin"): 5}
+AT_ANY_TIME = {("sendto", "socket"): 4, ("recvfrom", "socket"): 4, ("getsockname", "socket"): 4, ("read", "stdin"): 5,
+               ("poll", "socket"): 4, ("poll", "stdin"): 4}
 STREAMS = ("stdin", "stdout", "stderr", "null")
 HARMLESS = (EINTR, "short")
 CANNOT_WRITE, LATE = (3, "cannot write\n"), (3, "cannot write\nstart the same command again\n")
@@ -89,9 +91,9 @@ def cannot_read(path):
 
 def goes_on(plan):
     """Whether nothing changes where this fails. A failed `close` has nothing to lose: all was synced before, or read. A
-    stream may have no place, and no copy. A call that a signal interrupted is made again, and so is the rest of a short
-    one."""
-    if plan.call in ("close", "fcntl") or plan.call == "lseek" and plan.label in STREAMS:
+    stream may have no place, and no copy. After a wait that fails, what is there is taken. A call that a signal interrupted
+    is made again, and so is the rest of a short one."""
+    if plan.call in ("close", "fcntl", "poll") or plan.call == "lseek" and plan.label in STREAMS:
         return True
     return plan.how in HARMLESS
 

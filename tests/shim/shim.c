@@ -19,13 +19,13 @@
 typedef unsigned long word;
 typedef long number;
 
-enum { READ = 0, WRITE = 1, OPEN = 2, CLOSE = 3, STAT = 4, FSTAT = 5, LSEEK = 8, PREAD = 17, PWRITE = 18, IOCTL = 16, SOCKET = 41,
+enum { READ = 0, WRITE = 1, OPEN = 2, CLOSE = 3, STAT = 4, FSTAT = 5, POLL = 7, LSEEK = 8, PREAD = 17, PWRITE = 18, IOCTL = 16, SOCKET = 41,
        SENDTO = 44, RECVFROM = 45, BIND = 49, GETSOCKNAME = 51, SETSOCKOPT = 54, FCNTL = 72, FLOCK = 73, FSYNC = 74,
        FDATASYNC = 75, FTRUNCATE = 77, RENAME = 82, UNLINK = 87, READLINK = 89, FCHMOD = 91, STATX = 332 };
 enum { EIO = 5, CREATE = 0100, TRUNCATE = 01000, KIND = 0170000, REGULAR = 0100000, SOCKETS = 0140000, PIPES = 0010000,
        DEVICES = 0020000 };
 
-extern char **environ;
+#include "environment.h"
 extern int *__errno_location(void);
 extern void *dlsym(void *, const char *);
 
@@ -42,15 +42,6 @@ static number call(number which, number a, number b, number c, number d, number 
 static const char *log_path, *plan, *wrong;
 static int log_file = -1;
 static int is_ready, calls_met, syncs_met, owed_sync = -1;
-
-static const char *named(const char *name) {
-    for (char **it = environ; it && *it; it++) {
-        int at = 0;
-        while (name[at] && (*it)[at] == name[at]) at++;
-        if (!name[at] && (*it)[at] == '=') return *it + at + 1;
-    }
-    return 0;
-}
 
 static int same(const char *a, const char *b) {
     while (*a && *a == *b) a++, b++;
@@ -364,6 +355,15 @@ int getsockname(int fd, void *to, unsigned *length) {
 }
 int setsockopt(int fd, int level, int name, const void *value, unsigned length) {
     return (int)simple("setsockopt", SETSOCKOPT, fd, level, name, (number)value, length);
+}
+
+/* A wait for a descriptor alone is one for the keyboard. */
+int poll(void *asked, word count, int wait) {
+    const char *label = count == 1 ? "stdin" : "socket";
+    int how = how_planned("poll", label);
+    number answer = failed(how, is_left_out(how) ? 0 : call(POLL, (number)asked, count, wait, 0, 0, 0));
+    note("poll", label, answer, -1);
+    return (int)told(answer);
 }
 
 /* Makes the sync that a wrong program put off. */

@@ -1,6 +1,7 @@
 //! The book of both desks' votes files.
 
 ghost use Rattle.std.specs.Prelude.{◌≡◌, ◌≤◌, ◌++◌, ◌∷◌, [], All, ◌↔◌, IfErr, IfOk, IsTrue, OnOk, length, vec_len};
+ghost use Rattle.notation.specs.declared.entry.TheConstants.{PLACES};
 ghost use Rattle.notation.specs.Written.{IsEntry};
 ghost use Rattle.corrections.specs.Refusal.{book_refusal};
 ghost use Rattle.agree_core.specs.Agreed.{IsAgreedList};
@@ -59,7 +60,7 @@ pub fn agreed_list(alloc: Global, a: &DeskVotes, b: &DeskVotes) -> Result<Vec<En
     ensures agreed { IfOk result (λ list.
         IsAgreedList (votes_of_both a.now b.now) list.items) }
     ensures entries { IfOk result (λ list. All IsEntry list.items) }
-    ensures places { IfOk result (λ list. vec_len list ≤ 8192) }
+    ensures places { IfOk result (λ list. vec_len list ≤ PLACES) }
 {
     let mut list = Vec::new(alloc);
     for i in 0..a.count() {
@@ -75,7 +76,7 @@ pub fn agreed_list(alloc: Global, a: &DeskVotes, b: &DeskVotes) -> Result<Vec<En
 fn book_of_entries(alloc: Global, innings: u32, entries: &[Entry]) -> Result<CheckedBook, BothFault>
     requires innings { (1 ≤ innings) × (innings ≤ 2) }
     requires entries { All IsEntry entries.now }
-    requires places { length entries.now ≤ 8192 }
+    requires places { length entries.now ≤ PLACES }
     ensures book { IfOk result (λ book. book.entries ≡ entries.now) }
     ensures taken { IfOk result (λ book. AllTaken (book_refusal innings) [] book.entries) }
     ensures same_match { IfOk result (λ book. book.innings_a_side ≡ innings) }

@@ -1,6 +1,7 @@
 //! Two desks at one table.
 
 ghost use Rattle.std.specs.Prelude.{◌≡◌, ◌+◌, ◌<◌, true};
+ghost use Rattle.notation.specs.declared.entry.TheConstants.{PLACES};
 ghost use Rattle.agree_core.specs.declared.messages.DeskId.TheVariants.{A, B};
 ghost use Rattle.books.specs.inner.Seats.{free_at};
 
@@ -21,7 +22,7 @@ fn first_vote(desk: DeskId, place: u32, entry: Entry) -> Vote
 
 /// Has both desks vote for an entry, each hearing the other's vote: both answer that it is agreed.
 pub fn agree(a: &mut Seat, b: &mut Seat, entry: &Entry, place: u32) -> bool
-    requires places { place < 8192 }
+    requires places { place < PLACES }
     requires first { a.old ≡ free_at A place }
     requires second { b.old ≡ free_at B place }
     ensures agreed { result ≡ true }

@@ -16,8 +16,8 @@ use Rattle.books.specs.declared.fault.BothFault.{BothFault}
 use Rattle.books.specs.declared.fault.BothFault.TheVariants as both
 use Rattle.export.specs.Names.{told_apart}
 use Rattle.export.specs.Value.{export_text}
-use Rattle.commands.specs.declared.fault.StopFault.{StopFault}
-use Rattle.commands.specs.declared.fault.StopFault.TheVariants as stops
+use Rattle.setup.specs.declared.fault.StopFault.{StopFault}
+use Rattle.setup.specs.declared.fault.StopFault.TheVariants as stops
 use Rattle.commands.specs.declared.both_files.BothPrintFault.{BothPrintFault}
 use Rattle.commands.specs.declared.both_files.BothPrintFault.TheVariants.{NoMemory, Read, Write, Book}
 
@@ -50,14 +50,14 @@ abbrev pub of_book : BothFault → BothPrintFault
 of_book both.NoMemory = NoMemory
 of_book why = Book why
 
--- memory was wanted, or a read failed
+-- out of memory, or a read failed
 abbrev pub IsOfReading : BothPrintFault → Type 0
 IsOfReading NoMemory = Unit {0}
 IsOfReading (Read desk) = Unit {0}
 IsOfReading Write = ⊥
 IsOfReading (Book why) = ⊥
 
--- memory was wanted, a read or a write failed, or both files have no book for this reason
+-- out of memory, a read or a write failed, or both files have no book for this reason
 abbrev pub WhyNotBoth : Sheet → List ℕ → List ℕ → BothPrintFault → Type 0
 WhyNotBoth s a b NoMemory = Unit {0}
 WhyNotBoth s a b (Read desk) = Unit {0}

@@ -10,8 +10,8 @@ use Rattle.books.specs.Taking.{answer_to, book_after, with_taken}
 use Rattle.books.specs.Rejected.{rejection_line}
 use Rattle.streams.specs.declared.input.InputFault.{InputFault}
 use Rattle.streams.specs.declared.input.InputFault.TheVariants as inputs
-use Rattle.commands.specs.declared.fault.StopFault.{StopFault}
-use Rattle.commands.specs.declared.fault.StopFault.TheVariants as stops
+use Rattle.setup.specs.declared.fault.StopFault.{StopFault}
+use Rattle.setup.specs.declared.fault.StopFault.TheVariants as stops
 use Rattle.commands.specs.declared.check.CheckFault.{CheckFault}
 use Rattle.commands.specs.declared.check.CheckFault.TheVariants.{NoMemory, Read, Write}
 

@@ -10,8 +10,8 @@ use Rattle.vote_store.specs.Sequence.{file_votes}
 use Rattle.vote_store.specs.declared.refusal.Refusal.{Refusal}
 use Rattle.vote_store.specs.declared.refusal.Refusal.TheVariants as votes
 use Rattle.entry_log.specs.declared.refusal.Refusal.TheVariants as files
-use Rattle.commands.specs.declared.fault.StopFault.{StopFault}
-use Rattle.commands.specs.declared.fault.StopFault.TheVariants as stops
+use Rattle.setup.specs.declared.fault.StopFault.{StopFault}
+use Rattle.setup.specs.declared.fault.StopFault.TheVariants as stops
 use Rattle.commands.specs.declared.migrate.MigrateFault.{MigrateFault}
 use Rattle.commands.specs.declared.migrate.MigrateFault.TheVariants.{NoMemory, Write, Device, Votes}
 
@@ -20,7 +20,7 @@ abbrev pub migrated_line : ℕ → List ℕ
 migrated_line votes = codes "migrated " ++ decimal votes ++ codes "\n"
 
 -- The fault of a migration, by the desk's number, the match and the bytes of both disks: the first fault of the
--- old file, or that the old file is sound and the new disk isn't empty. Memory is wanted only for a sound file.
+-- old file, or that the old file is sound and the new disk isn't empty. It can be out of memory only for a sound file.
 abbrev pub WhyNotMigrated : ℕ → ℕ → List ℕ → List ℕ → MigrateFault → Type 0
 WhyNotMigrated desk game old new (Votes why) =
     (file_votes (contents version_1) desk game old ≡ Err why)

@@ -7,9 +7,9 @@ use Rattle.books.specs.declared.fault.BookFault.{BookFault}
 use Rattle.books.specs.declared.fault.BookFault.TheVariants as books
 use Rattle.books.specs.declared.source.Source.{Source}
 use Rattle.books.specs.CardBook.{WhyNoBook}
-use Rattle.commands.specs.Fault.{of_book as stop_of_book}
-use Rattle.commands.specs.declared.fault.StopFault.{StopFault}
-use Rattle.commands.specs.declared.fault.StopFault.TheVariants as stops
+use Rattle.setup.specs.Fault.{of_book as stop_of_book}
+use Rattle.setup.specs.declared.fault.StopFault.{StopFault}
+use Rattle.setup.specs.declared.fault.StopFault.TheVariants as stops
 use Rattle.commands.specs.declared.printing.PrintFault.{PrintFault}
 use Rattle.commands.specs.declared.printing.PrintFault.TheVariants.{NoMemory, Read, Write, Book}
 
@@ -23,7 +23,7 @@ abbrev pub of_book : BookFault → PrintFault
 of_book books.NoMemory = NoMemory
 of_book why = Book why
 
--- memory was wanted, a read or a write failed, or the input has no book for this reason
+-- out of memory, a read or a write failed, or the input has no book for this reason
 abbrev pub WhyNotPrinted : Source → Sheet → List ℕ → PrintFault → Type 0
 WhyNotPrinted from s input NoMemory = Unit {0}
 WhyNotPrinted from s input Read = Unit {0}

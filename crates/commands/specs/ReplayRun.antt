@@ -23,8 +23,8 @@ use Rattle.schedules.specs.declared.schedule_fault.ScheduleFault.{ScheduleFault}
 use Rattle.schedules.specs.declared.schedule_fault.ScheduleFault.TheVariants as schedules
 use Rattle.streams.specs.declared.input.InputFault.{InputFault}
 use Rattle.streams.specs.declared.input.InputFault.TheVariants as inputs
-use Rattle.commands.specs.declared.fault.StopFault.{StopFault}
-use Rattle.commands.specs.declared.fault.StopFault.TheVariants as stops
+use Rattle.setup.specs.declared.fault.StopFault.{StopFault}
+use Rattle.setup.specs.declared.fault.StopFault.TheVariants as stops
 use Rattle.commands.specs.declared.replay.ReplayFault.{ReplayFault}
 use Rattle.commands.specs.declared.replay.ReplayFault.TheVariants.{NoMemory, Read, Write, Schedule}
 use Rattle.commands.specs.declared.replay.step.Stepped.{Stepped}
@@ -88,7 +88,7 @@ PrintsReplay contents old new s version boards input refused =
     (events : List Event) × IsScheduleOf (lines_of input) events
     × PrintsRun contents old new s version boards events refused
 
--- a read or a write failed, memory was wanted, or the input is no schedule, for this reason
+-- a read or a write failed, out of memory, or the input is no schedule, for this reason
 abbrev pub WhyNoReplay : List ℕ → ReplayFault → Type 0
 WhyNoReplay input NoMemory = ⊤
 WhyNoReplay input Read = ⊤

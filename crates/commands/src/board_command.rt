@@ -4,21 +4,17 @@ mod notes;
 mod sign;
 mod state;
 
-use crate::fault::{StopFault, Stopped};
-use crate::opening::printer;
-use crate::sealing::Sealing;
-use crate::twins::told_sheet_at;
 use board::Board;
-use cards::MatchSheet;
 use corrections::CheckedBook;
-use live::{Clock, Link, Notices, Shows, run_board};
+use live::keep_board;
 use machine::{Address, MOST_PEERS, MonotonicClock, TextFile};
 use notes::Notes;
+use setup::{Sealing, StopFault, Stopped, printer, told_sheet_at};
 use sign::Sign;
 use state::State;
-use std::io::{BufWriter, Printer, Write};
+use std::io::{BufWriter, Printer};
 use std::net::SocketAddr;
-use streams::{Watched, WriteFailed};
+use streams::Watched;
 
 /// What a board's lines are written to: standard output, and the file of its text.
 type Lines<'a> = Watched<Sign<BufWriter<Printer<'a, HostRuntime>>, TextFile<'a>>>;
@@ -70,22 +66,6 @@ fn shown<'a>(
     Ok((lines, State::new(rt.alloc(), json)))
 }
 
-/// Shows the six lines and the state, and then runs the board without an end.
-fn show<L: Link, C: Clock, N: Notices, W: Write, S: Shows>(
-    board: &mut Board<CheckedBook>,
-    sheet: &MatchSheet,
-    link: &mut L,
-    clock: &mut C,
-    notices: &mut N,
-    out: &mut Watched<W>,
-    state: &mut S,
-) -> Result<(), WriteFailed> {
-    board.lines(sheet, out)?;
-    out.flush()?;
-    state.show(sheet, board.book(), clock.millis())?;
-    run_board(board, sheet, link, clock, notices, out, state, u64::MAX)
-}
-
 /// `ground board`: keeps a board that listens at an address, shows its six lines at the start and whenever they
 /// change, and tells standard error what it can't take. Its text is also put into a file, and its state as JSON into
 /// another one, where they are named. Its datagrams are sealed with the sheet and the key in a file, where one is named.
@@ -107,12 +87,19 @@ pub fn start_board<'a>(
         StopFault::from(why),
     ))?;
     let mut board = Board::new(sheet.game(), book);
-    let mut link = sealing.link_at(rt, at, peers, rt.stderr())?;
+    let mut link = sealing.link_at(rt, at, peers, None, rt.stderr())?;
     let _ = sealing.tell_fingerprints(&mut rt.stderr());
     let mut clock = MonotonicClock::new(rt);
     let mut notes = Notes::new(rt.stderr());
-    let ended = show(
-        &mut board, &sheet, &mut link, &mut clock, &mut notes, &mut out, &mut state,
+    let ended = keep_board(
+        &mut board,
+        &sheet,
+        &mut link,
+        &mut clock,
+        &mut notes,
+        &mut out,
+        &mut state,
+        u64::MAX,
     );
     match ended {
         Ok(()) => Ok(false),

@@ -7,14 +7,12 @@ ghost use Rattle.books.specs.BothFiles.{IsBookOfBoth};
 ghost use Rattle.commands.specs.BothFiles.{IsOfReading, PrintsCardOfBoth, PrintsExportOfBoth, WhyNotBoth};
 
 use crate::export_command::print_text;
-use crate::fault::{StopFault, Stopped};
-use crate::opening::{open_input, output};
-use crate::twins::told_sheet_at;
 use agree_core::DeskId;
 use books::{BothFault, book_of_both, print_card};
 use cards::MatchSheet;
 use corrections::CheckedBook;
 use export::text_of;
+use setup::{StopFault, Stopped, open_input, output, told_sheet_at};
 use std::alloc::{AllocError, Global};
 use std::io::{Read, Write};
 use streams::{InputFault, LONGEST_INPUT, Watched, read_all};

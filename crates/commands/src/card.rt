@@ -5,12 +5,10 @@ ghost use Rattle.streams.specs.Watched.{IsHandedOn, MeetsFailure, failures, stre
 ghost use Rattle.commands.specs.Card.{PrintsCard};
 ghost use Rattle.commands.specs.PrintFault.{WhyNotPrinted};
 
-use crate::fault::{StopFault, Stopped};
-use crate::opening::{open_input, output};
 use crate::printing::PrintFault;
-use crate::twins::told_sheet_at;
 use books::{Source, book_from, print_card};
 use cards::MatchSheet;
+use setup::{StopFault, Stopped, open_input, output, told_sheet_at};
 use std::alloc::Global;
 use std::io::{Read, Write};
 use streams::{LONGEST_INPUT, Watched, read_all};

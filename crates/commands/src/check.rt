@@ -9,12 +9,11 @@ ghost use Rattle.books.specs.Taking.{answer_to, with_taken};
 ghost use Rattle.commands.specs.Check as texts;
 ghost use Rattle.commands.specs.Check.{printed, is_rejected, has_rejected, output_of};
 
-use crate::fault::{StopFault, Stopped};
-use crate::opening::output;
 use books::{Table, print_rejected};
 use cards::{MatchSheet, board_lines, plain_sheet};
 use corrections::BookOf;
 use notation::Lines;
+use setup::{StopFault, Stopped, output};
 use std::alloc::{AllocError, Global};
 use std::io::{Read, Write};
 use streams::{InputFault, LONGEST_INPUT, Watched, WriteFailed, read_all};

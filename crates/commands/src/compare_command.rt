@@ -6,10 +6,9 @@ ghost use Rattle.streams.specs.Watched.{IsHandedOn, MeetsFailure, failures, stre
 ghost use Rattle.commands.specs.BothFiles.{PrintsComparison, WhyNotCompared};
 
 use crate::both_files::{BothPrintFault, read_both, stopped_at};
-use crate::fault::Stopped;
-use crate::opening::{open_input, output, sheet_at};
 use books::{compare_files, print_comparison};
 use cards::MatchSheet;
+use setup::{Stopped, open_input, output, sheet_at};
 use std::alloc::Global;
 use std::io::{Read, Write};
 use streams::{LONGEST_INPUT, Watched};

@@ -1,48 +1,46 @@
 //! `ground desk`: a scorer's desk.
 
-ghost use Rattle.std.specs.Prelude.{IfOk};
-ghost use Rattle.desk.specs.Desk.{IsOf};
+ghost use Rattle.std.specs.Prelude.{◌≡◌, [], false, IfErr, IfOk, None, Some};
+ghost use Rattle.commands.specs.DeskCommand as ends;
 
-use crate::fault::{StopFault, Stopped};
-use crate::opening::output;
-use crate::sealing::Sealing;
-use crate::twins::told_sheet_at;
-use crate::votes_file::{VotesDisk, empty_disk, kept_votes, renewed_disk};
 use agree_core::DeskId;
 use cards::MatchSheet;
-use corrections::{BookOf, CheckedBook};
-use desk::Desk;
-use entry_log::{Disk, MemDisk, Slots, SlotsOf};
-use live::{Clock, DeskEnd, Keys, Link, begin_desk, run_desk};
+use corrections::CheckedBook;
+use entry_log::{Disk, MemDisk, Slots};
+use live::{DeskEnd, LifeEnd, begin_desk, keep_desk};
 use machine::{Address, Keyboard, MOST_PEERS, MonotonicClock};
-use std::io::Write;
+use setup::{
+    Sealing, StopFault, Stopped, VotesDisk, empty_disk, kept_votes, output, renewed_disk,
+    told_sheet_at,
+};
 use std::net::SocketAddr;
-use streams::Watched;
 
-/// A desk whose votes are on this disk.
-type DeskOn<D> = Desk<Slots<D>, CheckedBook>;
+/// An empty book of the sheet's match.
+fn empty_book(rt: &HostRuntime, sheet: &MatchSheet) -> Result<CheckedBook, Stopped<'static>>
+    ensures { IfOk result (λ book. (book.entries ≡ []) × (book.innings_a_side ≡ sheet.now.innings)) }
+{
+    CheckedBook::new(rt.alloc(), sheet.innings()).map_err(|why| Stopped::at(
+        "-",
+        StopFault::from(why),
+    ))
+}
 
-/// The desk whose votes are on this disk, or that begins on one without a byte. A file that is refused is at this path.
-fn desk_on<'a, D: Disk + Drop>(
+/// Refuses votes on a disk that aren't the desk's, or are no legal book, as the desk would that begins on them.
+fn judge_on<'a, D: Disk + Drop>(
     rt: &HostRuntime,
     sheet: &MatchSheet,
     desk: DeskId,
     disk: D,
     path: &'a str,
-) -> Result<DeskOn<D>, Stopped<'a>>
-    ensures owner { IfOk result (IsOf desk sheet.now.game sheet.now.innings) }
-{
-    let book = CheckedBook::new(rt.alloc(), sheet.innings()).map_err(|why| Stopped::at(
-        path,
-        StopFault::from(why),
-    ))?;
+) -> Result<(), Stopped<'a>> {
+    let book = empty_book(rt, sheet)?;
     match begin_desk::<Slots<D>, CheckedBook>(rt.alloc(), disk, desk, sheet.game(), book) {
-        Ok(desk) => Ok(desk),
+        Ok(_desk) => Ok(()),
         Err((why, _disk)) => Err(Stopped::at(path, StopFault::from(why))),
     }
 }
 
-/// Refuses bytes that aren't the desk's votes, or are no legal book, as the desk would that begins on them.
+/// Refuses bytes that aren't the desk's votes, or are no legal book.
 fn judge<'a>(
     rt: &HostRuntime,
     sheet: &MatchSheet,
@@ -51,44 +49,63 @@ fn judge<'a>(
     path: &'a str,
 ) -> Result<(), Stopped<'a>> {
     match MemDisk::of(rt.alloc(), bytes, bytes.len()) {
-        Ok(disk) => match desk_on(rt, sheet, desk, disk, path) {
-            Ok(_desk) => Ok(()),
-            Err(stopped) => Err(stopped),
-        },
+        Ok(disk) => judge_on(rt, sheet, desk, disk, path),
         Err(why) => Err(Stopped::at(path, StopFault::from(why))),
     }
 }
 
-/// The desk whose votes are in this file, or that begins with a new one. One that has votes is written anew first, so
-/// that they are on the disk whatever became of what was written before; one that is refused stays as it was.
-fn desk_at<'r, 'a>(
+/// A disk on this file of the desk's votes, or on a new one. One that has votes is written anew first, so that they are on
+/// the disk whatever became of what was written before; one that is refused stays as it was.
+fn disk_at<'r, 'a>(
     rt: &'r HostRuntime,
     sheet: &MatchSheet,
     desk: DeskId,
     path: &'a str,
-) -> Result<DeskOn<VotesDisk<'r>>, Stopped<'a>>
-    ensures owner { IfOk result (IsOf desk sheet.now.game sheet.now.innings) }
-{
+) -> Result<VotesDisk<'r>, Stopped<'a>> {
     let (file, bytes) = kept_votes(rt, path)?;
-    let disk = if bytes.is_empty() {
-        empty_disk(rt, path, file)?
-    } else {
-        judge(rt, sheet, desk, bytes.as_slice(), path)?;
-        renewed_disk(rt, path, file, bytes.as_slice())?
-    };
-    desk_on(rt, sheet, desk, disk, path)
+    if bytes.is_empty() {
+        return empty_disk(rt, path, file);
+    }
+    judge(rt, sheet, desk, bytes.as_slice(), path)?;
+    renewed_disk(rt, path, file, bytes.as_slice())
 }
 
-/// Runs a desk until its scorer stops, or its disk or a write fails.
-fn keep<S: SlotsOf + Drop, B: BookOf + Drop, L: Link, K: Keys, C: Clock, W: Write>(
-    mut desk: Desk<S, B>,
-    sheet: &MatchSheet,
-    link: &mut L,
-    keys: &mut K,
-    clock: &mut C,
-    out: &mut Watched<W>,
-) -> Result<(), DeskEnd> {
-    run_desk(&mut desk, sheet, link, keys, clock, out, u64::MAX)
+/// Why the command ends with a fault, by how its desk's process ended and whether its keyboard failed. Where its scorer
+/// stopped, there is none.
+fn stop_of(ended: Result<(), LifeEnd>, keyboard_failed: bool) -> Option<StopFault>
+    ensures { result ≡ ends.stop_of ended keyboard_failed }
+{
+    match ended {
+        Ok(()) => None,
+        Err(LifeEnd::NotBegun(why)) => Some(StopFault::from(why)),
+        Err(LifeEnd::Ended(DeskEnd::Quit)) => None,
+        Err(LifeEnd::Ended(DeskEnd::NoMoreLines)) => {
+            if keyboard_failed {
+                Some(StopFault::Read)
+            } else {
+                None
+            }
+        }
+        Err(LifeEnd::Ended(DeskEnd::Write)) => Some(StopFault::Write),
+        Err(LifeEnd::Ended(DeskEnd::Device)) => Some(StopFault::Disk),
+    }
+}
+
+/// The command's answer: nothing is refused, or a fault, which names the votes file where that was at work, and otherwise
+/// a standard stream.
+fn answer<'a>(
+    ended: Result<(), LifeEnd>,
+    keyboard_failed: bool,
+    file: &'a str,
+) -> Result<bool, Stopped<'a>>
+    ensures ended { IfOk result (λ refused. (refused ≡ false) × (ends.stop_of ended keyboard_failed ≡ None)) }
+    ensures stopped { IfErr result (λ stopped. ends.stop_of ended keyboard_failed ≡ Some stopped.fault) }
+{
+    match stop_of(ended, keyboard_failed) {
+        None => Ok(false),
+        Some(fault @ (StopFault::Read | StopFault::Write)) => Err(Stopped::at("-", fault)),
+        Some(fault) => Err(Stopped { path: file, fault }),
+    }
 }
 
 /// `ground desk`: keeps a scorer's desk with its votes in a file, listening at an address, until the scorer types
@@ -106,18 +123,23 @@ pub fn start_desk<'a>(
     let sheet = told_sheet_at(rt, sheet)?;
     let sealing = Sealing::of(rt, &sheet, key)?;
     let mut writer = output(rt)?;
-    let desk = desk_at(rt, &sheet, desk, file)?;
-    let mut link = sealing.link_at(rt, at, peers, rt.stderr())?;
-    let _ = sealing.tell_fingerprints(&mut rt.stderr());
     let mut keys = Keyboard::of_standard_input(rt);
+    let mut link = sealing.link_at(rt, at, peers, Some(keys.descriptor()), rt.stderr())?;
+    let disk = disk_at(rt, &sheet, desk, file)?;
+    let book = empty_book(rt, &sheet)?;
+    let _ = sealing.tell_fingerprints(&mut rt.stderr());
     let mut clock = MonotonicClock::new(rt);
-    match keep(desk, &sheet, &mut link, &mut keys, &mut clock, &mut writer) {
-        Err(DeskEnd::NoMoreLines) if keys.has_failed() => Err(Stopped::at("-", StopFault::Read)),
-        Ok(()) | Err(DeskEnd::Quit | DeskEnd::NoMoreLines) => Ok(false),
-        Err(DeskEnd::Write) => Err(Stopped::at("-", StopFault::Write)),
-        Err(DeskEnd::Device) => Err(Stopped {
-            path: file,
-            fault: StopFault::Disk,
-        }),
-    }
+    let ended = keep_desk::<Slots<VotesDisk<'_>>, CheckedBook, _, _, _, _>(
+        rt.alloc(),
+        disk,
+        desk,
+        book,
+        &sheet,
+        &mut link,
+        &mut keys,
+        &mut clock,
+        &mut writer,
+        u64::MAX,
+    );
+    answer(ended, keys.has_failed(), file)
 }

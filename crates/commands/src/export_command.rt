@@ -5,13 +5,11 @@ ghost use Rattle.streams.specs.Watched.{IsHandedOn, MeetsFailure, Prints, TellsF
 ghost use Rattle.commands.specs.Export.{PrintsExport};
 ghost use Rattle.commands.specs.PrintFault.{WhyNotPrinted};
 
-use crate::fault::{StopFault, Stopped};
-use crate::opening::{open_input, output};
 use crate::printing::PrintFault;
-use crate::twins::told_sheet_at;
 use books::{Source, book_from};
 use cards::MatchSheet;
 use export::text_of;
+use setup::{StopFault, Stopped, open_input, output, told_sheet_at};
 use std::alloc::Global;
 use std::io::{Read, Write};
 use streams::{LONGEST_INPUT, Watched, WriteFailed, read_all};

@@ -1,10 +1,10 @@
 //! `ground key`: a new key.
 
 ghost use Rattle.std.specs.Prelude.{◌≡◌};
-ghost use Rattle.commands.specs.Keys as keys;
+ghost use Rattle.setup.specs.Keys as keys;
 
-use crate::fault::{StopFault, Stopped};
 use hex::encode_to_slice;
+use setup::{StopFault, Stopped};
 use std::fs::{self, File, OpenOptions};
 use std::io::{self, Write};
 use std::os::unix::fs::OpenOptionsExt;

@@ -10,12 +10,10 @@ ghost use Rattle.agree_core.specs.Ballots.{desk_number};
 ghost use Rattle.vote_store.specs.Migrated.{IsMigrated, answer_of};
 ghost use Rattle.commands.specs.Migrate.{Leaves, WhyNotMigrated, migrated_line, old_left};
 
-use crate::fault::{StopFault, Stopped};
-use crate::opening::{old_votes_at, output, sheet_at};
-use crate::votes_file::{VotesDisk, new_disk_at};
 use agree_core::DeskId;
 use entry_log::Disk;
 use machine::FileDisk;
+use setup::{StopFault, Stopped, VotesDisk, new_disk_at, old_votes_at, output, sheet_at};
 use std::alloc::Global;
 use std::fs::File;
 use std::io::Write;

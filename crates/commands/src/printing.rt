@@ -2,8 +2,8 @@
 
 ghost use Rattle.std.specs.Prelude.{◌≡◌};
 
-use crate::fault::StopFault;
 use books::BookFault;
+use setup::StopFault;
 use std::alloc::AllocError;
 use streams::InputFault;
 

@@ -9,13 +9,12 @@ ghost use Rattle.commands.specs.ReplayRun.{PrintsReplay, PrintsRun, WhyNoReplay}
 mod print;
 mod step;
 
-use crate::fault::{StopFault, Stopped};
-use crate::opening::{open_input, output, sheet_at};
 use cards::MatchSheet;
 use headline::{Event, FileVersion};
 use print::{print_refused, print_whole};
 use schedule_replay::{Report, replay_in};
 use schedules::{ScheduleFault, read_schedule};
+use setup::{StopFault, Stopped, open_input, output, sheet_at};
 use std::alloc::{AllocError, Global};
 use std::io::{Read, Write};
 use step::{Stepped, begin, step_all};

@@ -1,4 +1,10 @@
 pub mod Noting
-pub mod LawLemmas
+pub mod Sifting
 pub mod EntryLemmas
 pub mod NameLemmas
+pub mod ReadLemmas
+pub mod LawLemmas
+pub mod MiscountLemmas
+pub mod WicketLemmas
+pub mod OverLemmas
+pub mod CorrectionLemmas

@@ -1,44 +1,59 @@
--- What the book has in an over: deliveries, wickets between deliveries, and penalty runs. s is the sheet, and side
--- the side that bats.
-use Rattle.std.specs.Prelude.{ℕ, ◌+◌, ◌==◌, Bool, true, false, ◌&&◌, if◌then◌else◌, List, [], ◌∷◌, ◌++◌, codes}
+-- Deliveries, each with what it carries. s is the sheet, side the side that bats in innings i, f which innings each side
+-- began first, early the items before the first delivery of the innings, and late those up to the next delivery.
+use Rattle.std.specs.Prelude.{ℕ, ◌+◌, ◌*◌, ◌==◌, Bool, not, ◌&&◌, ◌||◌, if◌then◌else◌, List, [], ◌∷◌, ◌++◌, length, filter, codes}
 use Rattle.notation.specs.declared.entry.Side.{Side}
 use Rattle.notation.specs.declared.entry.Ball.{Ball}
-use Rattle.notation.specs.declared.entry.Leave.{Leave}
 use Rattle.notation.specs.declared.entry.Plain.{Plain}
 use Rattle.notation.specs.declared.entry.Plain.TheVariants as plain
 use Rattle.ball_laws.specs.declared.ends.Ends.{Ends}
 use Rattle.ball_laws.specs.declared.runs.Split.{Split}
-use Rattle.ball_laws.specs.Runs.{all_runs, split_of_ball}
+use Rattle.ball_laws.specs.Runs.{all_runs, split_of_ball, is_six}
 use Rattle.match_laws.specs.History.{opponent}
-use Rattle.cards.specs.Sheet.{Sheet, name_of, player_of}
+use Rattle.match_laws.specs.Figures.{is_four}
+use Rattle.cards.specs.Sheet.{Sheet, player_of}
 use Rattle.json.specs.Json.{Json}
+use Rattle.json_fields.specs.Values.{Field, object_of, text_field, number_field, count_field, flag_if}
+use Rattle.export.specs.declared.begun.Begun.{Begun}
 use Rattle.export.specs.declared.notes.Noted.{Noted}
-use Rattle.json_fields.specs.Values.{Field, object_of, text_field, number_field, count_field}
-use Rattle.export.specs.Wickets.{batter_value, wickets_fields, departures_fields}
+use Rattle.export.specs.Notes.{is_awarded}
+use Rattle.export.specs.Wickets.{batter_value, wickets_fields}
+
+-- the penalty runs that these items award to innings i
+abbrev pub penalties : Begun → ℕ → List Noted → ℕ
+penalties f i xs = 5 * length (filter (is_awarded f i) xs)
 
 abbrev pub extra_runs : Split → ℕ
 extra_runs x = x.byes + x.legs + x.wides + x.noballs
 
-abbrev pub runs_field : Split → Field
-runs_field x = (
+-- four or six runs off the bat, but no boundary
+abbrev pub is_run : Ball → Bool
+is_run b =
+    let runs = (split_of_ball b).striker in
+    ((runs == 4) && not (is_four b.bound)) || ((runs == 6) && not (is_six b.bound))
+
+-- the runs of a delivery, with the penalty runs that it carries
+abbrev pub runs_field : Split → Bool → ℕ → Field
+runs_field x run penalty = (
   codes "runs",
   object_of (number_field (codes "batter") x.striker ∷ []
-      ++ number_field (codes "extras") (extra_runs x) ∷ []
-      ++ number_field (codes "total") (all_runs x) ∷ []),
+      ++ number_field (codes "extras") (extra_runs x + penalty) ∷ []
+      ++ number_field (codes "total") (all_runs x + penalty) ∷ []
+      ++ flag_if run (codes "non_boundary")),
 )
 
-abbrev pub extras_field : Split → Field
-extras_field x = (
+abbrev pub extras_field : Split → ℕ → Field
+extras_field x penalty = (
   codes "extras",
   object_of (count_field (codes "wides") x.wides
       ++ count_field (codes "noballs") x.noballs
       ++ count_field (codes "byes") x.byes
-      ++ count_field (codes "legbyes") x.legs),
+      ++ count_field (codes "legbyes") x.legs
+      ++ count_field (codes "penalty") penalty),
 )
 
 -- the extras, where there are any
-abbrev pub extras_fields : Split → List Field
-extras_fields x = if extra_runs x == 0 then [] else extras_field x ∷ []
+abbrev pub extras_fields : Split → ℕ → List Field
+extras_fields x penalty = if extra_runs x + penalty == 0 then [] else extras_field x penalty ∷ []
 
 -- who bats and who bowls
 abbrev pub players_fields : Sheet → Side → Ends → ℕ → List Field
@@ -47,47 +62,17 @@ players_fields s side ends bowler =
     ++ text_field (codes "bowler") (player_of s (opponent side) bowler) ∷ []
     ++ (codes "non_striker", batter_value s side ends.other) ∷ []
 
-abbrev pub delivery_of : Sheet → Side → Ends → ℕ → Ball → Json
-delivery_of s side ends place b =
+abbrev pub delivery_of : Sheet → Side → ℕ → List Noted → Ends → Ball → List Noted → Json
+delivery_of s side penalty early ends b late =
     object_of (players_fields s side ends b.bowler
-    ++ runs_field (split_of_ball b) ∷ []
-    ++ extras_fields (split_of_ball b)
-    ++ wickets_fields s side ends b.out
-    ++ number_field (codes "place") place ∷ [])
+    ++ runs_field (split_of_ball b) (is_run b) penalty ∷ []
+    ++ wickets_fields s side early ends b late
+    ++ extras_fields (split_of_ball b) penalty)
 
--- a wicket between deliveries, or a batter retired hurt
-abbrev pub gone_of : Sheet → Side → ℕ → Leave → ℕ → Json
-gone_of s side place way p =
-    object_of (departures_fields s side way p
-    ++ number_field (codes "place") place ∷ [])
+-- what is listed of an item: a delivery
+abbrev pub listed_of : Sheet → Side → Begun → ℕ → List Noted → Plain → Ends → List Noted → List Json
+listed_of s side f i early (plain.Ball b) ends late = delivery_of s side (penalties f i late) early ends b late ∷ []
+listed_of s side f i early _ ends late = []
 
-abbrev pub penalty_field : Field
-penalty_field = (codes "extras", object_of (number_field (codes "penalty") 5 ∷ []))
-
--- five penalty runs to a team
-abbrev pub award_of : Sheet → ℕ → Side → Json
-award_of s place side =
-    object_of (penalty_field ∷ []
-    ++ text_field (codes "team") (name_of s side) ∷ []
-    ++ number_field (codes "place") place ∷ [])
-
--- what is listed of an item: nothing of those that are no delivery, wicket or award
-abbrev pub listed : Sheet → Side → Ends → ℕ → Plain → List Json
-listed s side ends place (plain.Ball b) = delivery_of s side ends place b ∷ []
-listed s side ends place (plain.Gone way p) = gone_of s side place way p ∷ []
-listed s side ends place (plain.Penalty to law part) = award_of s place to ∷ []
-listed s side ends place _ = []
-
-abbrev pub is_listed : Plain → Bool
-is_listed (plain.Ball b) = true
-is_listed (plain.Gone way p) = true
-is_listed (plain.Penalty to law part) = true
-is_listed _ = false
-
--- the item stands in this over of this innings
-abbrev pub is_within : ℕ → ℕ → Noted → Bool
-is_within i k x = (x.innings == i) && (x.over == k)
-
--- what is listed of an item in this over of this innings
-abbrev pub listed_in : Sheet → Side → ℕ → ℕ → Noted → List Json
-listed_in s side i k x = if is_within i k x then listed s side x.ends x.place x.item else []
+abbrev pub listed : Sheet → Side → Begun → ℕ → List Noted → Noted → List Noted → List Json
+listed s side f i early x late = listed_of s side f i early x.item x.ends late

@@ -10,13 +10,12 @@ use Rattle.cards.specs.Sheet.{Sheet, name_of, player_of}
 use Rattle.json.specs.Json.{Json, string}
 use Rattle.json_fields.specs.Values.{Field, array_of, object_of, text_field, number_field, up_to}
 
--- the version of the field names, the program, and the match
-abbrev pub meta_field : Sheet → Field
-meta_field s = (
+-- the version of the format, and which version of the file it is
+abbrev pub meta_field : Field
+meta_field = (
   codes "meta",
   object_of (text_field (codes "data_version") (codes "1.1.0") ∷ []
-      ++ text_field (codes "program") (codes "yermudosh 1") ∷ []
-      ++ number_field (codes "match_number") s.game ∷ []),
+      ++ number_field (codes "revision") 1 ∷ []),
 )
 
 abbrev pub event_field : Sheet → Field
@@ -78,6 +77,5 @@ info_field s h = (
       ++ teams_field s ∷ []
       ++ players_field s ∷ []
       ++ number_field (codes "balls_per_over") 6 ∷ []
-      ++ number_field (codes "innings_a_side") s.innings ∷ []
       ++ outcome_fields s (outcome s.innings h)),
 )

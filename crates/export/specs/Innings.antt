@@ -1,44 +1,50 @@
--- An innings over by over, with its figures. s is the sheet, h the history, and xs its items with where they stand.
-use Rattle.std.specs.Prelude.{ℕ, ◌+◌, ◌-◌, ◌*◌, ◌==◌, Bool, false, true, ◌&&◌, if◌then◌else◌, List, [], ◌∷◌, ◌++◌, codes}
-use Rattle.std.specs.List.{list_any, flat_map}
+-- An innings over by over. s is the sheet, h the history, f which innings each side began first, i the innings, and xs
+-- the items of all innings with where they stand.
+use Rattle.std.specs.Prelude.{ℕ, ◌+◌, ◌-◌, ◌*◌, ◌==◌, nat_lt, Bool, false, true, not, ◌&&◌, if◌then◌else◌, List, [], ◌∷◌, ◌++◌, filter, Option, Some, None, codes}
+use Rattle.std.specs.List.{list_any}
 use Rattle.notation.specs.declared.entry.Side.{Side}
 use Rattle.notation.specs.declared.entry.Cause.TheVariants as cause
 use Rattle.notation.specs.declared.entry.Plain.{Plain}
 use Rattle.notation.specs.declared.entry.Plain.TheVariants as plain
 use Rattle.ball_laws.specs.History.{History}
-use Rattle.match_laws.specs.History.{begun, side_of, opponent}
-use Rattle.match_laws.specs.Figures.{total, wickets, overs, penalty_runs}
+use Rattle.match_laws.specs.History.{begun, side_of, opponent, is_at}
+use Rattle.match_laws.specs.Figures.{total}
 use Rattle.match_laws.specs.Result.{side_total}
 use Rattle.cards.specs.Sheet.{Sheet, name_of}
 use Rattle.json.specs.Json.{Json}
+use Rattle.json_fields.specs.Values.{Field, array_of, object_of, text_field, number_field, count_field, flag_if, up_to}
+use Rattle.export.specs.declared.begun.Begun.{Begun}
 use Rattle.export.specs.declared.notes.Noted.{Noted}
-use Rattle.json_fields.specs.Values.{Field, array_of, object_of, text_field, number_field, flag_if, up_to}
-use Rattle.export.specs.Deliveries.{is_listed, is_within, listed_in}
+use Rattle.export.specs.Notes.{begun_of, items_in, is_ball, carried}
+use Rattle.export.specs.Miscounts.{miscounted_fields}
+use Rattle.export.specs.Deliveries.{listed, penalties}
 
--- what the book has in over k of innings i
-abbrev pub deliveries_field : Sheet → Side → List Noted → ℕ → ℕ → Field
-deliveries_field s side xs i k = (codes "deliveries", array_of (flat_map (listed_in s side i k) xs))
+module _ (s : Sheet) (side : Side) (f : Begun) (i : ℕ) where
+  -- the deliveries of over k, up to the first one of another over
+  abbrev pub deliveries_from : ℕ → List Noted → List Noted → List Json
+  deliveries_from k early [] = []
+  deliveries_from k early (x ∷ xs) =
+      if is_ball x.item
+      then (if k == x.over then listed s side f i early x (carried xs) ++ deliveries_from k [] xs else [])
+      else deliveries_from k early xs
 
--- an over, numbered from 0
-abbrev pub over_of : Sheet → Side → List Noted → ℕ → ℕ → Json
-over_of s side xs i k =
-    object_of (number_field (codes "over") k ∷ []
-    ++ deliveries_field s side xs i k ∷ [])
+  -- an over, numbered from 0
+  abbrev pub over_of : ℕ → List Noted → List Noted → Json
+  over_of k early xs =
+      object_of (number_field (codes "over") k ∷ []
+      ++ (codes "deliveries", array_of (deliveries_from k early xs)) ∷ [])
 
--- something is listed in over k of innings i
-abbrev pub has_over : List Noted → ℕ → ℕ → Bool
-has_over xs i k = list_any (λ x. is_within i k x && is_listed x.item) xs
+  -- an over begins at each delivery that isn't of the over before it
+  abbrev pub overs_from : Option ℕ → List Noted → List Noted → List Json
+  overs_from before early [] = []
+  overs_from before early (x ∷ xs) =
+      if is_ball x.item && not (is_at before x.over)
+      then over_of x.over early (x ∷ xs) ∷ overs_from (Some x.over) [] xs
+      else overs_from before early xs
 
--- the over, unless nothing is listed in it
-abbrev pub over_if : Sheet → Side → List Noted → ℕ → ℕ → List Json
-over_if s side xs i k = if has_over xs i k then over_of s side xs i k ∷ [] else []
-
--- the called overs, and what follows the last call
-abbrev pub overs_of : Sheet → History → List Noted → ℕ → List Json
-overs_of s h xs i = up_to (over_if s (side_of h i) xs i) (overs h i + 1)
-
-abbrev pub overs_field : Sheet → History → List Noted → ℕ → Field
-overs_field s h xs i = (codes "overs", array_of (overs_of s h xs i))
+  -- the overs of an innings with these items: what stands before its first delivery is carried by that
+  abbrev pub overs_of : List Noted → List Json
+  overs_of xs = overs_from None (carried xs) xs
 
 abbrev pub is_declaration : Plain → Bool
 is_declaration (plain.End cause.Declared) = true
@@ -48,11 +54,30 @@ abbrev pub is_forfeiture : Plain → Bool
 is_forfeiture (plain.End cause.Forfeited) = true
 is_forfeiture _ = false
 
-abbrev pub is_declared : List Noted → ℕ → Bool
-is_declared xs i = list_any (λ x. (x.innings == i) && is_declaration x.item) xs
+-- these items have the captain's declaration, or his forfeiture
+abbrev pub is_declared : List Noted → Bool
+is_declared xs = list_any (λ x. is_declaration x.item) xs
 
-abbrev pub is_forfeited : List Noted → ℕ → Bool
-is_forfeited xs i = list_any (λ x. (x.innings == i) && is_forfeiture x.item) xs
+abbrev pub is_forfeited : List Noted → Bool
+is_forfeited xs = list_any (λ x. is_forfeiture x.item) xs
+
+-- penalty runs that count in innings i and were awarded before its first delivery
+abbrev pub runs_before : Begun → ℕ → List Noted → ℕ
+runs_before f i xs =
+    penalties f i (filter (λ x. nat_lt x.innings i) xs) + penalties f i (carried (items_in i xs))
+
+-- and after a later innings had begun
+abbrev pub runs_after : Begun → ℕ → List Noted → ℕ
+runs_after f i xs = penalties f i (filter (λ x. nat_lt i x.innings) xs)
+
+-- penalty runs that no delivery carries
+abbrev pub penalty_field : ℕ → ℕ → Field
+penalty_field before after =
+    (codes "penalty_runs", object_of (count_field (codes "pre") before ++ count_field (codes "post") after))
+
+-- the same, where there are any
+abbrev pub penalty_fields : ℕ → ℕ → List Field
+penalty_fields before after = if before + after == 0 then [] else penalty_field before after ∷ []
 
 -- what the side that bats in innings i has to reach there, by what all other innings have
 abbrev pub needed_in : History → ℕ → ℕ
@@ -67,26 +92,23 @@ target_fields s h i =
     then (codes "target", object_of (number_field (codes "runs") (needed_in h i) ∷ [])) ∷ []
     else []
 
--- the side, and whether its captain declared or forfeited the innings
-abbrev pub head_fields : Sheet → History → List Noted → ℕ → List Field
-head_fields s h xs i =
-    text_field (codes "team") (name_of s (side_of h i)) ∷ []
-    ++ flag_if (is_declared xs i) (codes "declared")
-    ++ flag_if (is_forfeited xs i) (codes "forfeited")
+abbrev pub overs_field : Sheet → History → List Noted → ℕ → Field
+overs_field s h xs i = (codes "overs", array_of (overs_of s (side_of h i) (begun_of h) i (items_in i xs)))
 
--- the figures of an innings
-abbrev pub figures_fields : Sheet → History → ℕ → List Field
-figures_fields s h i =
-    number_field (codes "penalty_runs") (penalty_runs h i) ∷ []
+-- how an innings ended, and what it has beside its overs
+abbrev pub rest_fields : Sheet → History → List Noted → ℕ → List Field
+rest_fields s h xs i =
+    penalty_fields (runs_before (begun_of h) i xs) (runs_after (begun_of h) i xs)
+    ++ flag_if (is_declared (items_in i xs)) (codes "declared")
+    ++ flag_if (is_forfeited (items_in i xs)) (codes "forfeited")
     ++ target_fields s h i
-    ++ number_field (codes "total") (total h i) ∷ []
-    ++ number_field (codes "wickets") (wickets h i) ∷ []
+    ++ miscounted_fields (items_in i xs)
 
 abbrev pub innings_of : Sheet → History → List Noted → ℕ → Json
 innings_of s h xs i =
-    object_of (head_fields s h xs i
+    object_of (text_field (codes "team") (name_of s (side_of h i)) ∷ []
     ++ overs_field s h xs i ∷ []
-    ++ figures_fields s h i)
+    ++ rest_fields s h xs i)
 
 -- each innings that has begun
 abbrev pub all_innings : Sheet → History → List Noted → List Json

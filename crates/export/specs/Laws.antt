@@ -1,42 +1,90 @@
--- What an export tells of its match, in a reader's words.
-use Rattle.std.specs.Prelude.{◌≡◌, ℕ, ◌+◌, ◌≤◌, ◌==◌, ◌&&◌, if◌then◌else◌, List, [], length, All, Some, slice_get}
-use Rattle.notation.specs.declared.entry.Plain.{Plain}
-use Rattle.notation.specs.declared.entry.Plain.TheVariants as plain
+-- What an export tells of its match, in a reader's words: what is looked up in its value.
+use Rattle.std.specs.Prelude.{◌≡◌, ◌≢◌, ℕ, ◌+◌, Bool, false, not, bytes_eq, if◌then◌else◌, List, [], ◌∷◌, length, map, codes, Some, slice_get}
+use Rattle.std.specs.List.{flat_map}
 use Rattle.notation.specs.declared.entry.Entry.{Entry}
-use Rattle.ball_laws.specs.History.{is_wicket}
 use Rattle.ball_laws.specs.Sums.{tally, count_of}
-use Rattle.ball_laws.specs.Runs.{all_runs, split_of_ball}
-use Rattle.match_laws.specs.Figures.{total, wickets, overs, penalty_runs}
+use Rattle.match_laws.specs.Figures.{total, wickets}
 use Rattle.corrections.specs.CleanList.{clean, history_of}
+use Rattle.cards.specs.Sheet.{Sheet}
+use Rattle.json.specs.Json.{Json, null, string, array, object, Items, no_items, item, Members, no_members, member}
+use Rattle.json_fields.specs.Values.{number_value}
 use Rattle.export.specs.declared.notes.Noted.{Noted}
 use Rattle.export.specs.Notes.{notes}
+use Rattle.export.specs.Innings.{innings_of}
 use Rattle.export.specs.Entries.{entries_of, entry_of}
 
--- the `total` of the `runs` of an item, where it is a delivery
-abbrev pub total_of : Plain → ℕ
-total_of (plain.Ball b) = all_runs (split_of_ball b)
-total_of _ = 0
+-- what stands under a key of members: null, where it doesn't
+abbrev pub member_at : List ℕ → Members → Json
+member_at name no_members = null
+member_at name (member key value more) = if bytes_eq name key then value else member_at name more
 
--- the sum of the `total`s of what stands in innings i
-abbrev pub runs_listed : List Noted → ℕ → ℕ
-runs_listed xs i = tally (λ x. if x.innings == i then total_of x.item else 0) xs
+abbrev pub at : List ℕ → Json → Json
+at name (object more) = member_at name more
+at name _ = null
 
--- how many `wickets` stand in innings i, but those of kind `retired hurt`
-abbrev pub wickets_listed : List Noted → ℕ → ℕ
-wickets_listed xs i = count_of (λ x. is_wicket x.item && (x.innings == i)) xs
+abbrev pub elements : Items → List Json
+elements no_items = []
+elements (item value more) = value ∷ elements more
+
+-- the values of an array: none, where it is none
+abbrev pub values_of : Json → List Json
+values_of (array more) = elements more
+values_of _ = []
+
+-- the deliveries of an innings, over by over
+abbrev pub deliveries_in : Json → List Json
+deliveries_in innings = flat_map (λ over. values_of (at (codes "deliveries") over)) (values_of (at (codes "overs") innings))
+
+-- the total of a delivery
+abbrev pub total_in : Json → Json
+total_in delivery = at (codes "total") (at (codes "runs") delivery)
+
+-- the number under a key is n, or nothing stands there and n is 0
+abbrev pub IsCount : ℕ → Json → Type 0
+IsCount n null = n ≡ 0
+IsCount n value = value ≡ number_value n
 
 -- the items of a book's export
 abbrev pub items_of : List Entry → List Noted
 items_of book = notes [] (clean book)
 
--- each innings' deliveries and penalty runs add up to its total, and as many wickets stand there as have fallen
-pub record AddsUp (book : List Entry) (i : ℕ) : Type 0 where
-  pub runs : runs_listed (items_of book) i + penalty_runs (history_of book) i ≡ total (history_of book) i
-  pub wickets : wickets_listed (items_of book) i ≡ wickets (history_of book) i
+-- the totals of the deliveries of an innings, and its penalty runs before and after, add up to n
+pub record AddsUpTo (innings : Json) (n : ℕ) : Type 0 where
+  pub totals : List ℕ
+  pub before : ℕ
+  pub after : ℕ
+  pub each : map total_in (deliveries_in innings) ≡ map number_value totals
+  pub pre : IsCount before (at (codes "pre") (at (codes "penalty_runs") innings))
+  pub post : IsCount after (at (codes "post") (at (codes "penalty_runs") innings))
+  pub sum : tally (λ k. k) totals + before + after ≡ n
 
--- each item stands in an over of its innings that is looked at: none is left out
-abbrev pub AllStand : List Entry → Type 0
-AllStand book = All (λ x. x.over ≤ overs (history_of book) x.innings) (items_of book)
+-- the innings of a book, as it stands in its export
+abbrev pub innings_at : Sheet → List Entry → ℕ → Json
+innings_at s book i = innings_of s (history_of book) (items_of book) i
+
+-- what stands of an innings adds up to its total
+abbrev pub TotalsAddUp : Sheet → List Entry → Type 0
+TotalsAddUp s book = (i : ℕ) → AddsUpTo (innings_at s book i) (total (history_of book) i)
+
+-- the wickets of a delivery
+abbrev pub wickets_of : Json → List Json
+wickets_of delivery = values_of (at (codes "wickets") delivery)
+
+abbrev pub is_text : List ℕ → Json → Bool
+is_text text (string other) = bytes_eq text other
+is_text text _ = false
+
+-- a wicket that has fallen: nobody is retired hurt
+abbrev pub has_fallen : Json → Bool
+has_fallen wicket = not (is_text (codes "retired hurt") (at (codes "kind") wicket))
+
+-- how many wickets of the deliveries of an innings have fallen
+abbrev pub fallen_in : Json → ℕ
+fallen_in innings = tally (λ delivery. count_of has_fallen (wickets_of delivery)) (deliveries_in innings)
+
+-- as many as fell in an innings that has a delivery: one without any has no place for a wicket
+abbrev pub WicketsAddUp : Sheet → List Entry → Type 0
+WicketsAddUp s book = (i : ℕ) → deliveries_in (innings_at s book i) ≢ [] → fallen_in (innings_at s book i) ≡ wickets (history_of book) i
 
 -- each entry stands once, at its place
 pub record HasEachEntry (book : List Entry) : Type 0 where

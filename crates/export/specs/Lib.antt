@@ -1,11 +1,13 @@
 -- What the public calls claim: Value with all that it cites (Notes, Wickets, Deliveries, Innings, Info, Entries, and
--- Values but for its last part), Names and Laws.
+-- Values but for its last part), Names and Laws. inner: for private functions only.
 pub mod Notes
 pub mod Wickets
 pub mod Deliveries
+pub mod Miscounts
 pub mod Innings
 pub mod Info
 pub mod Entries
 pub mod Value
 pub mod Names
 pub mod Laws
+pub mod inner

@@ -1,22 +1,63 @@
-//! What the book has in an over: deliveries, wickets between deliveries, and penalty runs.
+//! Deliveries, each with what it carries.
 
-ghost use Rattle.std.specs.Prelude.{◌≡◌, ◌≤◌, ◌<◌, ◌∷◌, [], Some, length, slice_get};
-ghost use Rattle.std.specs.List.{flat_map};
-ghost use Rattle.ball_laws.specs.Runs.{all_runs};
-ghost use Rattle.json_fields.specs.Values.{PutsFields, PutsValues};
+ghost use Rattle.std.specs.Prelude.{◌≡◌, ◌+◌, ◌*◌, ◌≤◌, ◌∷◌, [], IfOk, filter, length};
+ghost use Rattle.ball_laws.specs.Runs.{all_runs, is_six, split_of_ball};
+ghost use Rattle.match_laws.specs.Figures.{is_four};
+ghost use Rattle.json_fields.specs.Values.{PutsFields, PutsValues, count_field};
 ghost use Rattle.export.specs.Deliveries as deliveries;
+ghost use Rattle.export.specs.Notes as notes;
 
+use crate::begun::Begun;
 use crate::named::NamedSheet;
-use crate::notes::Noted;
-use crate::wickets::{put_batter, put_departures, put_wickets};
+use crate::notes::{Noted, is_awarded};
+use crate::wickets::{put_batter, put_wickets};
 use ball_laws::{Ends, Split, runs_of};
 use json::Pretty;
-use json_fields::{begin_field, begin_object, end_object, put_count, put_figure, put_text};
+use json_fields::{
+    begin_field, begin_object, end_object, put_count, put_figure, put_flag, put_number, put_text,
+};
 use match_laws::opponent;
-use notation::{Ball, Leave, Plain, Player, Side};
+use notation::{Ball, Bound, Plain, Player, Side};
 use std::alloc::AllocError;
 
-/// The extras of a delivery.
+/// How many of these items award penalty runs to an innings.
+fn awards(begun: &Begun, innings: usize, items: &[Noted]) -> usize
+    ensures { result ≡ length (filter (notes.is_awarded begun.now innings) items.now) }
+{
+    items
+        .iter()
+        .filter(|noted| is_awarded(begun, innings, noted))
+        .count()
+}
+
+/// The runs of so many awards. So many that 64 bits don't hold them would not have fitted into memory.
+pub fn award_runs(count: usize) -> Result<u64, AllocError>
+    ensures { IfOk result (λ runs. runs ≡ 5 * count) }
+{
+    match (count as u64).checked_mul(5) {
+        Some(runs) => Ok(runs),
+        None => Err(AllocError),
+    }
+}
+
+/// Both together, in 64 bits.
+pub fn plus(runs: u64, penalty: u64) -> Result<u64, AllocError>
+    ensures { IfOk result (λ sum. sum ≡ runs + penalty) }
+{
+    match runs.checked_add(penalty) {
+        Some(sum) => Ok(sum),
+        None => Err(AllocError),
+    }
+}
+
+/// The penalty runs that these items award to an innings.
+pub fn penalties(begun: &Begun, innings: usize, items: &[Noted]) -> Result<u64, AllocError>
+    ensures { IfOk result (λ runs. runs ≡ deliveries.penalties begun.now innings items.now) }
+{
+    award_runs(awards(begun, innings, items))
+}
+
+/// The extras of a delivery, but penalty runs.
 fn extra_runs(split: &Split) -> u32
     requires { all_runs split.now ≤ 260 }
     ensures { result ≡ deliveries.extra_runs split.now }
@@ -24,7 +65,7 @@ fn extra_runs(split: &Split) -> u32
     split.byes + split.legs + split.wides + split.noballs
 }
 
-/// All runs of a delivery.
+/// All runs of a delivery, but penalty runs.
 fn total_runs(split: &Split) -> u32
     requires { all_runs split.now ≤ 260 }
     ensures { result ≡ all_runs split.now }
@@ -32,39 +73,89 @@ fn total_runs(split: &Split) -> u32
     split.striker + split.byes + split.legs + split.wides + split.noballs
 }
 
-/// Puts the runs of a delivery.
-fn put_runs(out: &mut Pretty, split: &Split) -> Result<(), AllocError>
-    requires { all_runs split.now ≤ 260 }
-    ensures { PutsFields result out.old out.new (deliveries.runs_field split.now ∷ []) }
+fn is_four(bound: Bound) -> bool
+    ensures { result ≡ is_four bound }
 {
+    bound == Bound::Four
+}
+
+fn is_six(bound: Bound) -> bool
+    ensures { result ≡ is_six bound }
+{
+    bound == Bound::Six
+}
+
+/// Whether a delivery has four or six runs off the bat, but is no boundary.
+fn is_run(ball: &Ball, split: &Split) -> bool
+    requires { split.now ≡ split_of_ball ball.now }
+    ensures { result ≡ deliveries.is_run ball.now }
+{
+    (split.striker == 4 && !is_four(ball.bound)) || (split.striker == 6 && !is_six(ball.bound))
+}
+
+/// All extras of a delivery.
+fn all_extras(split: &Split, penalty: u64) -> Result<u64, AllocError>
+    requires { all_runs split.now ≤ 260 }
+    ensures { IfOk result (λ runs. runs ≡ deliveries.extra_runs split.now + penalty) }
+{
+    plus(u64::from(extra_runs(split)), penalty)
+}
+
+/// All runs of a delivery.
+fn whole_total(split: &Split, penalty: u64) -> Result<u64, AllocError>
+    requires { all_runs split.now ≤ 260 }
+    ensures { IfOk result (λ runs. runs ≡ all_runs split.now + penalty) }
+{
+    plus(u64::from(total_runs(split)), penalty)
+}
+
+/// Puts the runs of a delivery, with the penalty runs that it carries.
+fn put_runs(out: &mut Pretty, split: &Split, run: bool, penalty: u64) -> Result<(), AllocError>
+    requires { all_runs split.now ≤ 260 }
+    ensures { PutsFields result out.old out.new (deliveries.runs_field split.now run penalty ∷ []) }
+{
+    let extras = all_extras(split, penalty)?;
+    let total = whole_total(split, penalty)?;
     begin_field(out, "runs")?;
     put_figure(out, "batter", split.striker)?;
-    put_figure(out, "extras", extra_runs(split))?;
-    put_figure(out, "total", total_runs(split))?;
+    put_number(out, "extras", extras)?;
+    put_number(out, "total", total)?;
+    put_flag(out, "non_boundary", run)?;
     end_object(out)
 }
 
+/// Puts penalty runs, unless there are none.
+pub fn put_awarded(out: &mut Pretty, name: &str, runs: u64) -> Result<(), AllocError>
+    ensures { PutsFields result out.old out.new (count_field name.now runs) }
+{
+    if runs == 0 {
+        return Ok(());
+    }
+    put_number(out, name, runs)
+}
+
 /// Puts the extras of a delivery, each kind that it has.
-fn put_kinds(out: &mut Pretty, split: &Split) -> Result<(), AllocError>
-    ensures { PutsFields result out.old out.new (deliveries.extras_field split.now ∷ []) }
+fn put_kinds(out: &mut Pretty, split: &Split, penalty: u64) -> Result<(), AllocError>
+    ensures { PutsFields result out.old out.new (deliveries.extras_field split.now penalty ∷ []) }
 {
     begin_field(out, "extras")?;
     put_count(out, "wides", split.wides)?;
     put_count(out, "noballs", split.noballs)?;
     put_count(out, "byes", split.byes)?;
     put_count(out, "legbyes", split.legs)?;
+    put_awarded(out, "penalty", penalty)?;
     end_object(out)
 }
 
 /// Puts the extras of a delivery, where there are any.
-fn put_extras(out: &mut Pretty, split: &Split) -> Result<(), AllocError>
+fn put_extras(out: &mut Pretty, split: &Split, penalty: u64) -> Result<(), AllocError>
     requires { all_runs split.now ≤ 260 }
-    ensures { PutsFields result out.old out.new (deliveries.extras_fields split.now) }
+    ensures { PutsFields result out.old out.new (deliveries.extras_fields split.now penalty) }
 {
-    if extra_runs(split) == 0 {
+    if all_extras(split, penalty)? == 0 {
         return Ok(());
     }
-    put_kinds(out, split)
+    put_kinds(out, split, penalty)
 }
 
 /// Puts who bats and who bowls.
@@ -82,150 +173,56 @@ fn put_players(
     put_batter(out, "non_striker", sheet, side, ends.other)
 }
 
-/// Puts a delivery.
+/// Puts a delivery, with what it carries: these penalty runs, and who went before it and behind it.
 fn put_delivery(
     out: &mut Pretty,
     sheet: &NamedSheet<'_>,
     side: Side,
+    penalty: u64,
+    early: &[Noted],
     ends: &Ends,
-    place: u32,
     ball: &Ball,
+    late: &[Noted],
 ) -> Result<(), AllocError>
     ensures { PutsValues result out.old out.new
-        (deliveries.delivery_of sheet.now side ends.now place ball.now ∷ []) }
+        (deliveries.delivery_of sheet.now side penalty early.now ends.now ball.now late.now ∷ []) }
 {
     let split = runs_of(ball);
     begin_object(out)?;
     put_players(out, sheet, side, ends, ball.bowler)?;
-    put_runs(out, &split)?;
-    put_extras(out, &split)?;
-    put_wickets(out, sheet, side, ends, ball.out)?;
-    put_figure(out, "place", place)?;
+    put_runs(out, &split, is_run(ball, &split), penalty)?;
+    put_wickets(out, sheet, side, early, ends, ball, late)?;
+    put_extras(out, &split, penalty)?;
     end_object(out)
 }
 
-/// Puts a wicket between deliveries, or a batter retired hurt.
-fn put_gone(
+/// Puts what is listed of an item: a delivery.
+pub fn put_listed(
     out: &mut Pretty,
     sheet: &NamedSheet<'_>,
     side: Side,
-    place: u32,
-    way: Leave,
-    player: Player,
-) -> Result<(), AllocError>
-    ensures { PutsValues result out.old out.new
-        (deliveries.gone_of sheet.now side place way player ∷ []) }
-{
-    begin_object(out)?;
-    put_departures(out, sheet, side, way, player)?;
-    put_figure(out, "place", place)?;
-    end_object(out)
-}
-
-/// Puts the runs of an award.
-fn put_penalty(out: &mut Pretty) -> Result<(), AllocError>
-    ensures { PutsFields result out.old out.new (deliveries.penalty_field ∷ []) }
-{
-    begin_field(out, "extras")?;
-    put_figure(out, "penalty", 5)?;
-    end_object(out)
-}
-
-/// Puts five penalty runs to a team.
-fn put_award(
-    out: &mut Pretty,
-    sheet: &NamedSheet<'_>,
-    place: u32,
-    side: Side,
-) -> Result<(), AllocError>
-    ensures { PutsValues result out.old out.new (deliveries.award_of sheet.now place side ∷ []) }
-{
-    begin_object(out)?;
-    put_penalty(out)?;
-    put_text(out, "team", sheet.name(side))?;
-    put_figure(out, "place", place)?;
-    end_object(out)
-}
-
-/// Puts what is listed of an item.
-fn put_listed(
-    out: &mut Pretty,
-    sheet: &NamedSheet<'_>,
-    side: Side,
+    begun: &Begun,
+    innings: usize,
+    early: &[Noted],
     noted: &Noted,
+    late: &[Noted],
 ) -> Result<(), AllocError>
     ensures { PutsValues result out.old out.new
-        (deliveries.listed sheet.now side noted.now.ends noted.now.place noted.now.item) }
+        (deliveries.listed sheet.now side begun.now innings early.now noted.now late.now) }
 {
     match &noted.item {
-        Plain::Ball(ball) => put_delivery(out, sheet, side, &noted.ends, noted.place, ball),
-        Plain::Gone(way, player) => put_gone(out, sheet, side, noted.place, *way, *player),
-        Plain::Penalty(to, _, _) => put_award(out, sheet, noted.place, *to),
+        Plain::Ball(ball) => {
+            let penalty = penalties(begun, innings, late)?;
+            put_delivery(out, sheet, side, penalty, early, &noted.ends, ball, late)
+        },
         Plain::Innings(_)
         | Plain::Come(_)
+        | Plain::Gone(..)
         | Plain::Over
+        | Plain::Penalty(..)
         | Plain::Swap
         | Plain::End(_)
         | Plain::Close
         | Plain::Void => Ok(()),
     }
-}
-
-/// Puts what is listed of an item, where it stands in this over of this innings.
-fn put_listed_in(
-    out: &mut Pretty,
-    sheet: &NamedSheet<'_>,
-    side: Side,
-    innings: usize,
-    over: u32,
-    noted: &Noted,
-) -> Result<(), AllocError>
-    ensures { PutsValues result out.old out.new
-        (deliveries.listed_in sheet.now side innings over noted.now) }
-{
-    if is_within(noted, innings, over) {
-        return put_listed(out, sheet, side, noted);
-    }
-    Ok(())
-}
-
-/// Whether the item stands in this over of this innings.
-pub fn is_within(noted: &Noted, innings: usize, over: u32) -> bool
-    ensures { result ≡ deliveries.is_within innings over noted.now }
-{
-    noted.innings == innings && noted.over == over
-}
-
-/// Whether an item is a delivery, a wicket between deliveries or penalty runs.
-pub fn is_listed(item: &Plain) -> bool
-    ensures { result ≡ deliveries.is_listed item.now }
-{
-    matches!(item, Plain::Ball(_) | Plain::Gone(..) | Plain::Penalty(..))
-}
-
-/// The item at an index.
-fn noted_at(notes: &[Noted], index: usize) -> Noted
-    requires { index < length notes.now }
-    ensures { slice_get notes.now index ≡ Some result }
-{
-    notes[index]
-}
-
-/// Puts what is listed of the items of an over.
-pub fn put_deliveries(
-    out: &mut Pretty,
-    sheet: &NamedSheet<'_>,
-    side: Side,
-    innings: usize,
-    over: u32,
-    notes: &[Noted],
-) -> Result<(), AllocError>
-    ensures { PutsValues result out.old out.new
-        (flat_map (deliveries.listed_in sheet.now side innings over) notes.now) }
-{
-    for index in 0..notes.len() {
-        let noted = noted_at(notes, index);
-        put_listed_in(out, sheet, side, innings, over, &noted)?;
-    }
-    Ok(())
 }

@@ -1,9 +1,10 @@
 //! The entries of a book, each as it was penned.
 
-ghost use Rattle.std.specs.Prelude.{◌∷◌, [], Some};
+ghost use Rattle.std.specs.Prelude.{◌≡◌, ◌∷◌, [], length, IfOk, Some};
 ghost use Rattle.notation.specs.Written.{IsEntry};
 ghost use Rattle.json_fields.specs.Values.{PutsFields, PutsValues};
 ghost use Rattle.export.specs.Entries as laws;
+ghost use Rattle.export.specs.inner.Corrections.{fix_places};
 
 use corrections::BookOf;
 use json::Pretty;
@@ -11,7 +12,7 @@ use json_fields::{
     begin_array, begin_object, end_array, end_object, put_figure, put_integer, put_text,
 };
 use notation::{Entry, line_of};
-use std::alloc::AllocError;
+use std::alloc::{AllocError, Global};
 
 /// Puts the place of an entry, where it corrects another place.
 fn put_fix(out: &mut Pretty, place: u32, at: u32, entry: &Entry) -> Result<(), AllocError>
@@ -23,23 +24,48 @@ fn put_fix(out: &mut Pretty, place: u32, at: u32, entry: &Entry) -> Result<(), A
     }
 }
 
-/// Puts the places of the entries that correct a place.
-fn put_fixes<B: BookOf>(out: &mut Pretty, book: &B, place: u32) -> Result<(), AllocError>
+/// The places of a book's corrections: all that is looked at for what corrects a place.
+fn corrections_of<B: BookOf>(alloc: Global, book: &B) -> Result<Vec<u32>, AllocError>
+    ensures { IfOk result (λ places. places.items ≡ fix_places (B.content book.now) (length (B.content book.now))) }
+{
+    let mut places = Vec::new(alloc);
+    for at in 0..book.len() {
+        if let Entry::Fix(..) = book.entry(at) {
+            places.push(at)?;
+        }
+    }
+    Ok(places)
+}
+
+/// Puts the places of the entries that correct a place, by the places of all corrections.
+fn put_fixes<B: BookOf>(
+    out: &mut Pretty,
+    book: &B,
+    place: u32,
+    corrections: &[u32],
+) -> Result<(), AllocError>
+    requires all { corrections.now ≡ fix_places (B.content book.now) (length (B.content book.now)) }
     ensures { PutsValues result out.old out.new (laws.fixes_of (B.content book.now) place) }
 {
-    for at in 0..book.len() {
-        put_fix(out, place, at, &book.entry(at))?;
+    for at in corrections {
+        put_fix(out, place, *at, &book.entry(*at))?;
     }
     Ok(())
 }
 
 /// Puts the field of the places that correct a place.
-fn put_fixes_field<B: BookOf>(out: &mut Pretty, book: &B, place: u32) -> Result<(), AllocError>
+fn put_fixes_field<B: BookOf>(
+    out: &mut Pretty,
+    book: &B,
+    place: u32,
+    corrections: &[u32],
+) -> Result<(), AllocError>
+    requires all { corrections.now ≡ fix_places (B.content book.now) (length (B.content book.now)) }
     ensures { PutsFields result out.old out.new
         (laws.fixes_field (B.content book.now) place ∷ []) }
 {
     begin_array(out, "corrected_by")?;
-    put_fixes(out, book, place)?;
+    put_fixes(out, book, place, corrections)?;
     end_array(out)
 }
 
@@ -58,33 +84,37 @@ fn put_entry<B: BookOf>(
     book: &B,
     place: u32,
     entry: &Entry,
+    corrections: &[u32],
 ) -> Result<(), AllocError>
-    requires { IsEntry entry.now }
+    requires entry { IsEntry entry.now }
+    requires all { corrections.now ≡ fix_places (B.content book.now) (length (B.content book.now)) }
     ensures { PutsValues result out.old out.new
         (laws.entry_of (B.content book.now) place entry.now ∷ []) }
 {
     begin_object(out)?;
     put_figure(out, "place", place)?;
     put_line(out, entry)?;
-    put_fixes_field(out, book, place)?;
+    put_fixes_field(out, book, place, corrections)?;
     end_object(out)
 }
 
 /// Puts each entry of a book.
-fn put_each<B: BookOf>(out: &mut Pretty, book: &B) -> Result<(), AllocError>
+fn put_each<B: BookOf>(out: &mut Pretty, book: &B, corrections: &[u32]) -> Result<(), AllocError>
+    requires all { corrections.now ≡ fix_places (B.content book.now) (length (B.content book.now)) }
     ensures { PutsValues result out.old out.new (laws.entries_of (B.content book.now)) }
 {
     for place in 0..book.len() {
-        put_entry(out, book, place, &book.entry(place))?;
+        put_entry(out, book, place, &book.entry(place), corrections)?;
     }
     Ok(())
 }
 
 /// Puts the field of all entries of a book.
-pub fn put_entries<B: BookOf>(out: &mut Pretty, book: &B) -> Result<(), AllocError>
+pub fn put_entries<B: BookOf>(alloc: Global, out: &mut Pretty, book: &B) -> Result<(), AllocError>
     ensures { PutsFields result out.old out.new (laws.book_field (B.content book.now) ∷ []) }
 {
+    let corrections = corrections_of(alloc, book)?;
     begin_array(out, "book")?;
-    put_each(out, book)?;
+    put_each(out, book, corrections.as_slice())?;
     end_array(out)
 }

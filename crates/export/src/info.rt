@@ -9,20 +9,19 @@ ghost use Rattle.export.specs.Info as laws;
 use crate::named::NamedSheet;
 use json::Pretty;
 use json_fields::{
-    begin_array, begin_field, end_array, end_object, put_figure, put_number, put_string, put_text,
+    begin_array, begin_field, end_array, end_object, put_figure, put_string, put_text,
 };
 use match_laws::{Match, Outcome};
 use notation::{Player, Side};
 use std::alloc::AllocError;
 
 /// Puts what is said of the file.
-pub fn put_meta(out: &mut Pretty, sheet: &NamedSheet<'_>) -> Result<(), AllocError>
-    ensures { PutsFields result out.old out.new (laws.meta_field sheet.now ∷ []) }
+pub fn put_meta(out: &mut Pretty) -> Result<(), AllocError>
+    ensures { PutsFields result out.old out.new (laws.meta_field ∷ []) }
 {
     begin_field(out, "meta")?;
     put_text(out, "data_version", "1.1.0")?;
-    put_text(out, "program", "yermudosh 1")?;
-    put_number(out, "match_number", sheet.game())?;
+    put_figure(out, "revision", 1)?;
     end_object(out)
 }
 
@@ -190,7 +189,6 @@ pub fn put_info(out: &mut Pretty, sheet: &NamedSheet<'_>, score: &Match) -> Resu
     put_teams(out, sheet)?;
     put_players(out, sheet)?;
     put_figure(out, "balls_per_over", 6)?;
-    put_figure(out, "innings_a_side", sheet.innings())?;
     put_outcome(out, sheet, score.result())?;
     end_object(out)
 }

@@ -1,99 +1,24 @@
-//! An innings over by over, with its figures.
+//! An innings, with its overs and how it ended.
 
-ghost use Rattle.std.specs.Prelude.{◌≡◌, ◌<◌, ◌≤◌, ◌∷◌, []};
-ghost use Rattle.match_laws.specs.Figures as figures;
+ghost use Rattle.std.specs.Prelude.{◌≡◌, ◌<◌, ◌≤◌, ◌∷◌, [], IfOk, codes, filter, nat_lt};
 ghost use Rattle.match_laws.specs.Stands.{ForEachHistory, begun_in};
-ghost use Rattle.json_fields.specs.Values.{PutsFields, PutsValues, up_to};
+ghost use Rattle.json_fields.specs.Values.{PutsFields, PutsValues, array_of};
 ghost use Rattle.export.specs.Innings as laws;
+ghost use Rattle.export.specs.Notes.{begun_of, items_in};
 
-use crate::deliveries::{is_listed, is_within, put_deliveries};
+use crate::begun::Begun;
+use crate::deliveries::{penalties, plus, put_awarded};
+use crate::miscounts::put_miscounts;
 use crate::named::NamedSheet;
-use crate::notes::Noted;
+use crate::notes::{Noted, carried, items_in, noted_at};
+use crate::overs::put_overs;
 use json::Pretty;
 use json_fields::{
     begin_array, begin_field, begin_object, end_array, end_object, put_figure, put_flag, put_text,
 };
 use match_laws::{Match, opponent};
 use notation::{Cause, Plain, Side};
-use std::alloc::AllocError;
-
-/// Puts what the book has in an over.
-fn put_listing(
-    out: &mut Pretty,
-    sheet: &NamedSheet<'_>,
-    side: Side,
-    notes: &[Noted],
-    innings: usize,
-    over: u32,
-) -> Result<(), AllocError>
-    ensures { PutsFields result out.old out.new
-        (laws.deliveries_field sheet.now side notes.now innings over ∷ []) }
-{
-    begin_array(out, "deliveries")?;
-    put_deliveries(out, sheet, side, innings, over, notes)?;
-    end_array(out)
-}
-
-/// Puts an over.
-fn put_over(
-    out: &mut Pretty,
-    sheet: &NamedSheet<'_>,
-    side: Side,
-    notes: &[Noted],
-    innings: usize,
-    over: u32,
-) -> Result<(), AllocError>
-    ensures { PutsValues result out.old out.new
-        (laws.over_of sheet.now side notes.now innings over ∷ []) }
-{
-    begin_object(out)?;
-    put_figure(out, "over", over)?;
-    put_listing(out, sheet, side, notes, innings, over)?;
-    end_object(out)
-}
-
-/// Whether something is listed in the over.
-fn has_over(notes: &[Noted], innings: usize, over: u32) -> bool
-    ensures { result ≡ laws.has_over notes.now innings over }
-{
-    notes.iter().any(|noted| is_within(noted, innings, over) && is_listed(&noted.item))
-}
-
-/// Puts an over, unless nothing is listed in it.
-fn put_over_if(
-    out: &mut Pretty,
-    sheet: &NamedSheet<'_>,
-    side: Side,
-    notes: &[Noted],
-    innings: usize,
-    over: u32,
-) -> Result<(), AllocError>
-    ensures { PutsValues result out.old out.new
-        (laws.over_if sheet.now side notes.now innings over) }
-{
-    if has_over(notes, innings, over) {
-        return put_over(out, sheet, side, notes, innings, over);
-    }
-    Ok(())
-}
-
-/// Puts so many overs.
-fn put_overs(
-    out: &mut Pretty,
-    sheet: &NamedSheet<'_>,
-    side: Side,
-    notes: &[Noted],
-    innings: usize,
-    count: u32,
-) -> Result<(), AllocError>
-    ensures { PutsValues result out.old out.new
-        (up_to (laws.over_if sheet.now side notes.now innings) count) }
-{
-    for over in 0..count {
-        put_over_if(out, sheet, side, notes, innings, over)?;
-    }
-    Ok(())
-}
+use std::alloc::{AllocError, Global};
 
 fn is_declaration(item: &Plain) -> bool
     ensures { result ≡ laws.is_declaration item.now }
@@ -107,16 +32,97 @@ fn is_forfeiture(item: &Plain) -> bool
     matches!(item, Plain::End(Cause::Forfeited))
 }
 
-fn is_declared(notes: &[Noted], innings: usize) -> bool
-    ensures { result ≡ laws.is_declared notes.now innings }
+/// Whether these items have the captain's declaration.
+fn is_declared(items: &[Noted]) -> bool
+    ensures { result ≡ laws.is_declared items.now }
 {
-    notes.iter().any(|noted| noted.innings == innings && is_declaration(&noted.item))
+    items.iter().any(|noted| is_declaration(&noted.item))
 }
 
-fn is_forfeited(notes: &[Noted], innings: usize) -> bool
-    ensures { result ≡ laws.is_forfeited notes.now innings }
+/// Whether these items have the captain's forfeiture.
+fn is_forfeited(items: &[Noted]) -> bool
+    ensures { result ≡ laws.is_forfeited items.now }
 {
-    notes.iter().any(|noted| noted.innings == innings && is_forfeiture(&noted.item))
+    items.iter().any(|noted| is_forfeiture(&noted.item))
+}
+
+/// The items of the innings before this one.
+fn items_before(alloc: Global, innings: usize, notes: &[Noted]) -> Result<Vec<Noted>, AllocError>
+    ensures { IfOk result (λ items. items.items ≡ filter (λ x. nat_lt x.innings innings) notes.now) }
+{
+    let mut items = Vec::new(alloc);
+    for index in 0..notes.len() {
+        let noted = noted_at(notes, index);
+        if noted.innings < innings {
+            items.push(noted)?;
+        }
+    }
+    Ok(items)
+}
+
+/// The items of the innings after this one.
+fn items_after(alloc: Global, innings: usize, notes: &[Noted]) -> Result<Vec<Noted>, AllocError>
+    ensures { IfOk result (λ items. items.items ≡ filter (λ x. nat_lt innings x.innings) notes.now) }
+{
+    let mut items = Vec::new(alloc);
+    for index in 0..notes.len() {
+        let noted = noted_at(notes, index);
+        if innings < noted.innings {
+            items.push(noted)?;
+        }
+    }
+    Ok(items)
+}
+
+/// The penalty runs that count in an innings and were awarded before its first delivery. items are those of the innings,
+/// and notes those of all innings.
+fn runs_before(
+    alloc: Global,
+    begun: &Begun,
+    innings: usize,
+    items: &[Noted],
+    notes: &[Noted],
+) -> Result<u64, AllocError>
+    requires { items.now ≡ items_in innings notes.now }
+    ensures { IfOk result (λ runs. runs ≡ laws.runs_before begun.now innings notes.now) }
+{
+    let first = carried(alloc, items, 0)?;
+    let own = penalties(begun, innings, first.as_slice())?;
+    let earlier = items_before(alloc, innings, notes)?;
+    plus(penalties(begun, innings, earlier.as_slice())?, own)
+}
+
+/// The penalty runs that count in an innings and were awarded after a later one had begun.
+fn runs_after(
+    alloc: Global,
+    begun: &Begun,
+    innings: usize,
+    notes: &[Noted],
+) -> Result<u64, AllocError>
+    ensures { IfOk result (λ runs. runs ≡ laws.runs_after begun.now innings notes.now) }
+{
+    let later = items_after(alloc, innings, notes)?;
+    penalties(begun, innings, later.as_slice())
+}
+
+/// Puts penalty runs that no delivery carries.
+fn put_penalty(out: &mut Pretty, before: u64, after: u64) -> Result<(), AllocError>
+    ensures { PutsFields result out.old out.new (laws.penalty_field before after ∷ []) }
+{
+    begin_field(out, "penalty_runs")?;
+    put_awarded(out, "pre", before)?;
+    put_awarded(out, "post", after)?;
+    end_object(out)
+}
+
+/// Puts penalty runs that no delivery carries, where there are any.
+fn put_penalties(out: &mut Pretty, before: u64, after: u64) -> Result<(), AllocError>
+    ensures { PutsFields result out.old out.new (laws.penalty_fields before after) }
+{
+    if plus(before, after)? == 0 {
+        return Ok(());
+    }
+    put_penalty(out, before, after)
 }
 
 /// What the side that bats in the innings has to reach there.
@@ -150,113 +156,115 @@ fn put_target(
     end_object(out)
 }
 
-/// Puts the side, and whether its captain declared or forfeited the innings.
-fn put_head(
+/// Puts how an innings ended, and what it has beside its overs. items are those of the innings, and notes those of all
+/// innings.
+fn put_rest(
+    alloc: Global,
     out: &mut Pretty,
     sheet: &NamedSheet<'_>,
     score: &Match,
+    begun: &Begun,
+    items: &[Noted],
     notes: &[Noted],
     innings: usize,
 ) -> Result<(), AllocError>
-    requires { innings < begun_in score.now }
-    ensures { ForEachHistory score.now (λ n h.
-        PutsFields result out.old out.new (laws.head_fields sheet.now h notes.now innings)) }
+    requires innings { innings < begun_in score.now }
+    requires items { items.now ≡ items_in innings notes.now }
+    ensures { ForEachHistory score.now (λ n h. begun.now ≡ begun_of h
+        → PutsFields result out.old out.new (laws.rest_fields sheet.now h notes.now innings)) }
 {
-    put_text(out, "team", sheet.name(score.side(innings)))?;
-    put_flag(out, "declared", is_declared(notes, innings))?;
-    put_flag(out, "forfeited", is_forfeited(notes, innings))
-}
-
-/// The penalty runs in the total of an innings.
-fn penalty_runs(score: &Match, innings: usize) -> u32
-    requires { innings < begun_in score.now }
-    ensures { ForEachHistory score.now (λ n h. result ≡ figures.penalty_runs h innings) }
-{
-    score.extras(innings).penalty
-}
-
-/// Puts the figures of an innings.
-fn put_figures(
-    out: &mut Pretty,
-    sheet: &NamedSheet<'_>,
-    score: &Match,
-    innings: usize,
-) -> Result<(), AllocError>
-    requires { innings < begun_in score.now }
-    ensures { ForEachHistory score.now (λ n h.
-        PutsFields result out.old out.new (laws.figures_fields sheet.now h innings)) }
-{
-    put_figure(out, "penalty_runs", penalty_runs(score, innings))?;
+    let before = runs_before(alloc, begun, innings, items, notes)?;
+    let after = runs_after(alloc, begun, innings, notes)?;
+    put_penalties(out, before, after)?;
+    put_flag(out, "declared", is_declared(items))?;
+    put_flag(out, "forfeited", is_forfeited(items))?;
     put_target(out, sheet, score, innings)?;
-    put_figure(out, "total", score.total(innings))?;
-    put_figure(out, "wickets", score.wickets(innings))
+    put_miscounts(out, items)
 }
 
-/// Puts the overs of an innings.
+/// Puts the overs of an innings with these items.
 fn put_overs_field(
+    alloc: Global,
     out: &mut Pretty,
     sheet: &NamedSheet<'_>,
-    score: &Match,
-    notes: &[Noted],
+    side: Side,
+    begun: &Begun,
     innings: usize,
+    items: &[Noted],
 ) -> Result<(), AllocError>
-    requires { innings < begun_in score.now }
-    ensures { ForEachHistory score.now (λ n h.
-        PutsFields result out.old out.new (laws.overs_field sheet.now h notes.now innings ∷ [])) }
+    ensures { PutsFields result out.old out.new
+        ((codes "overs", array_of (laws.overs_of sheet.now side begun.now innings items.now)) ∷ []) }
 {
-    let (called, _) = score.overs(innings);
-    let side = score.side(innings);
     begin_array(out, "overs")?;
-    put_overs(out, sheet, side, notes, innings, called + 1)?;
+    put_overs(alloc, out, sheet, side, begun, innings, items)?;
     end_array(out)
 }
 
-/// Puts an innings.
+/// Puts an innings. items are its own, and notes those of all innings.
 fn put_innings(
+    alloc: Global,
     out: &mut Pretty,
     sheet: &NamedSheet<'_>,
     score: &Match,
+    begun: &Begun,
+    items: &[Noted],
     notes: &[Noted],
     innings: usize,
 ) -> Result<(), AllocError>
-    requires { innings < begun_in score.now }
-    ensures { ForEachHistory score.now (λ n h.
-        PutsValues result out.old out.new (laws.innings_of sheet.now h notes.now innings ∷ [])) }
+    requires innings { innings < begun_in score.now }
+    requires items { items.now ≡ items_in innings notes.now }
+    ensures { ForEachHistory score.now (λ n h. begun.now ≡ begun_of h
+        → PutsValues result out.old out.new (laws.innings_of sheet.now h notes.now innings ∷ [])) }
 {
+    let side = score.side(innings);
     begin_object(out)?;
-    put_head(out, sheet, score, notes, innings)?;
-    put_overs_field(out, sheet, score, notes, innings)?;
-    put_figures(out, sheet, score, innings)?;
+    put_text(out, "team", sheet.name(side))?;
+    put_overs_field(alloc, out, sheet, side, begun, innings, items)?;
+    put_rest(alloc, out, sheet, score, begun, items, notes, innings)?;
     end_object(out)
 }
 
 /// Puts each innings that has begun.
 fn put_each(
+    alloc: Global,
     out: &mut Pretty,
     sheet: &NamedSheet<'_>,
     score: &Match,
+    begun: &Begun,
     notes: &[Noted],
 ) -> Result<(), AllocError>
-    ensures { ForEachHistory score.now (λ n h.
-        PutsValues result out.old out.new (laws.all_innings sheet.now h notes.now)) }
+    ensures { ForEachHistory score.now (λ n h. begun.now ≡ begun_of h
+        → PutsValues result out.old out.new (laws.all_innings sheet.now h notes.now)) }
 {
     for innings in 0..score.begun() {
-        put_innings(out, sheet, score, notes, innings)?;
+        let items = items_in(alloc, innings, notes)?;
+        put_innings(
+            alloc,
+            out,
+            sheet,
+            score,
+            begun,
+            items.as_slice(),
+            notes,
+            innings,
+        )?;
     }
     Ok(())
 }
 
 /// Puts the field of all innings that have begun.
 pub fn put_all_innings(
+    alloc: Global,
     out: &mut Pretty,
     sheet: &NamedSheet<'_>,
     score: &Match,
+    begun: &Begun,
     notes: &[Noted],
 ) -> Result<(), AllocError>
-    ensures { ForEachHistory score.now (λ n h.
-        PutsFields result out.old out.new (laws.innings_field sheet.now h notes.now ∷ [])) }
+    ensures { ForEachHistory score.now (λ n h. begun.now ≡ begun_of h
+        → PutsFields result out.old out.new (laws.innings_field sheet.now h notes.now ∷ [])) }
 {
     begin_array(out, "innings")?;
-    put_each(out, sheet, score, notes)?;
+    put_each(alloc, out, sheet, score, begun, notes)?;
     end_array(out)
 }

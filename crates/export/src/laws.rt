@@ -6,14 +6,15 @@ ghost use Rattle.std.specs.Prelude.{ℕ, List};
 ghost use Rattle.notation.specs.declared.entry.Entry.{Entry};
 ghost use Rattle.corrections.specs.Legal.{IsLegalBook};
 ghost use Rattle.cards.specs.Sheet.{Sheet};
-ghost use Rattle.export.specs.Laws.{AddsUp, AllStand, HasEachEntry};
+ghost use Rattle.export.specs.Laws.{HasEachEntry, TotalsAddUp, WicketsAddUp};
 ghost use Rattle.export.specs.Names.{NamesTwoSides};
 
-/// The deliveries of an innings and its penalty runs add up to its total, and as many wickets stand there as have
-/// fallen; no item is left out of the overs; each entry of the book stands once, at its place.
+/// Looked up in the value of an innings, as it stands in an export: the totals of its deliveries and its penalty runs
+/// before and after add up to the innings' total. As many wickets stand among its deliveries as have fallen, not counting
+/// who is retired hurt, where it has a delivery. Each entry of the book stands once, at its place.
 pub fn exports_add_up()
-    ensures innings { (n : ℕ) → (book : List Entry) → IsLegalBook n book → (i : ℕ) → AddsUp book i }
-    ensures overs { (n : ℕ) → (book : List Entry) → IsLegalBook n book → AllStand book }
+    ensures totals { (s : Sheet) → (n : ℕ) → (book : List Entry) → IsLegalBook n book → TotalsAddUp s book }
+    ensures wickets { (s : Sheet) → (n : ℕ) → (book : List Entry) → IsLegalBook n book → WicketsAddUp s book }
     ensures entries { (book : List Entry) → HasEachEntry book }
 {}
 

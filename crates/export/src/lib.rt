@@ -2,13 +2,16 @@
 //! and each entry as it was penned.
 #![tactic(auto, unfolding(json_fields::specs::Values::fields_tokens, json_fields::specs::Values::values_tokens))]
 
+mod begun;
 mod deliveries;
 mod entries;
 mod info;
 mod innings;
 mod laws;
+mod miscounts;
 mod named;
 mod notes;
+mod overs;
 mod text;
 mod value;
 mod wickets;

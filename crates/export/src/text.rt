@@ -22,10 +22,18 @@ pub fn text_of<B: BookOf>(alloc: Global, sheet: &MatchSheet, book: &B) -> Result
         string_bytes text ≡ pretty (json_tokens (export_of (told_apart sheet.now) (B.content book.now)))) }
 {
     let score = book.score();
-    let notes = notes_of(alloc, sheet.innings(), book)?;
+    let (notes, begun) = notes_of(alloc, sheet.innings(), book)?;
     let named = NamedSheet::new(alloc, sheet)?;
     let mut out = Pretty::new(alloc);
-    put_export(&mut out, &named, score, book, notes.as_slice())?;
+    put_export(
+        alloc,
+        &mut out,
+        &named,
+        score,
+        book,
+        notes.as_slice(),
+        &begun,
+    )?;
     match String::from_utf8(out.into_inner()) {
         Ok(text) => Ok(text),
         Err(_) => unreachable!(),

@@ -3,10 +3,11 @@
 ghost use Rattle.std.specs.Prelude.{◌≡◌, ◌∷◌, []};
 ghost use Rattle.corrections.specs.CleanList.{clean, history_of};
 ghost use Rattle.match_laws.specs.Stands.{StandsFor};
-ghost use Rattle.export.specs.Notes.{notes};
-ghost use Rattle.json_fields.specs.Values.{PutsValues};
-ghost use Rattle.export.specs.Value.{export_of};
+ghost use Rattle.export.specs.Notes.{begun_of, notes};
+ghost use Rattle.json_fields.specs.Values.{PutsFields, PutsValues};
+ghost use Rattle.export.specs.Value.{export_of, own_field};
 
+use crate::begun::Begun;
 use crate::entries::put_entries;
 use crate::info::{put_info, put_meta};
 use crate::innings::put_all_innings;
@@ -14,27 +15,47 @@ use crate::named::NamedSheet;
 use crate::notes::Noted;
 use corrections::BookOf;
 use json::Pretty;
-use json_fields::{begin_object, end_object};
+use json_fields::{begin_field, begin_object, end_object, put_figure, put_number, put_text};
 use match_laws::Match;
-use std::alloc::AllocError;
+use std::alloc::{AllocError, Global};
+
+/// Puts what the format of archives can't hold.
+fn put_own<B: BookOf>(
+    alloc: Global,
+    out: &mut Pretty,
+    sheet: &NamedSheet<'_>,
+    book: &B,
+) -> Result<(), AllocError>
+    ensures { PutsFields result out.old out.new (own_field sheet.now (B.content book.now) ∷ []) }
+{
+    begin_field(out, "yermudosh")?;
+    put_text(out, "program", "yermudosh 1")?;
+    put_number(out, "match_number", sheet.game())?;
+    put_figure(out, "innings_a_side", sheet.innings())?;
+    put_entries(alloc, out, book)?;
+    end_object(out)
+}
 
 /// Puts the book of a match as one JSON value, by its score and its clean list with
 /// where each item stands.
 pub fn put_export<B: BookOf>(
+    alloc: Global,
     out: &mut Pretty,
     sheet: &NamedSheet<'_>,
     score: &Match,
     book: &B,
     noted: &[Noted],
+    begun: &Begun,
 ) -> Result<(), AllocError>
     requires noted { noted.now ≡ notes [] (clean (B.content book.now)) }
+    requires begun { begun.now ≡ begun_of (history_of (B.content book.now)) }
     requires stands { StandsFor score.now sheet.now.innings (history_of (B.content book.now)) }
     ensures { PutsValues result out.old out.new (export_of sheet.now (B.content book.now) ∷ []) }
 {
     begin_object(out)?;
-    put_meta(out, sheet)?;
+    put_meta(out)?;
     put_info(out, sheet, score)?;
-    put_all_innings(out, sheet, score, noted)?;
-    put_entries(out, book)?;
+    put_all_innings(alloc, out, sheet, score, begun, noted)?;
+    put_own(alloc, out, sheet, book)?;
     end_object(out)
 }

@@ -1,24 +1,34 @@
 //! Who is out, and how.
 
-ghost use Rattle.std.specs.Prelude.{◌≡◌, ◌∷◌, ◌≢◌, []};
+ghost use Rattle.std.specs.Prelude.{◌≡◌, ◌==◌, ◌∷◌, ◌≢◌, []};
 ghost use Rattle.cards.specs.Dismissals.{fielder_name};
 ghost use Rattle.json_fields.specs.Values.{PutsFields, PutsValues};
 ghost use Rattle.export.specs.Wickets as wickets;
 
 use crate::named::NamedSheet;
+use crate::notes::{Noted, noted_at};
 use ball_laws::Ends;
 use json::Pretty;
-use json_fields::{begin_array, begin_object, end_array, end_object, put_null, put_text};
+use json_fields::{begin_array, begin_object, end_array, end_object, put_flag, put_null, put_text};
 use match_laws::opponent;
-use notation::{How, Leave, Out, Player, Side};
+use notation::{Ball, How, Leave, Out, Plain, Player, Side};
 use std::alloc::AllocError;
 
-fn how_words(how: How) -> &'static str
-    ensures { result.now ≡ wickets.how_words how }
+/// The number of a fielder who is none of the eleven.
+const SUBSTITUTE: u8 = 12;
+
+fn catch_words(own: bool) -> &'static str
+    ensures { result.now ≡ wickets.catch_words own }
+{
+    if own { "caught and bowled" } else { "caught" }
+}
+
+fn how_words(own: bool, how: How) -> &'static str
+    ensures { result.now ≡ wickets.how_words own how }
 {
     match how {
         How::Bowled => "bowled",
-        How::Caught => "caught",
+        How::Caught => catch_words(own),
         How::Lbw => "lbw",
         How::Stumped => "stumped",
         How::HitWicket => "hit wicket",
@@ -79,6 +89,7 @@ fn put_fielder(
 {
     begin_object(out)?;
     put_text(out, "name", fielder_name(sheet, opponent(side), fielder))?;
+    put_flag(out, "substitute", fielder == SUBSTITUTE)?;
     end_object(out)
 }
 
@@ -99,16 +110,24 @@ fn put_fielders(
     end_array(out)
 }
 
+/// Whether the bowler is the fielder too.
+fn is_own(dismissal: &Out, bowler: Player) -> bool
+    ensures { result ≡ (dismissal.now.fielder == bowler) }
+{
+    dismissal.fielder == bowler.number()
+}
+
 /// Puts a dismissal off a delivery.
 fn put_wicket(
     out: &mut Pretty,
     sheet: &NamedSheet<'_>,
     side: Side,
     ends: &Ends,
+    bowler: Player,
     dismissal: &Out,
 ) -> Result<(), AllocError>
     ensures { PutsValues result out.old out.new
-        (wickets.wicket_of sheet.now side ends.now dismissal.now ∷ []) }
+        (wickets.wicket_of sheet.now side ends.now bowler dismissal.now ∷ []) }
 {
     begin_object(out)?;
     put_batter(
@@ -118,31 +137,34 @@ fn put_wicket(
         side,
         ends.batter_at(dismissal.who),
     )?;
-    put_text(out, "kind", how_words(dismissal.how))?;
+    put_text(
+        out,
+        "kind",
+        how_words(is_own(dismissal, bowler), dismissal.how),
+    )?;
     put_fielders(out, sheet, side, dismissal.fielder)?;
     end_object(out)
 }
 
 /// Puts the dismissal off a delivery, where there is one.
-pub fn put_wickets(
+fn put_own(
     out: &mut Pretty,
     sheet: &NamedSheet<'_>,
     side: Side,
     ends: &Ends,
+    bowler: Player,
     dismissal: Option<Out>,
 ) -> Result<(), AllocError>
-    ensures { PutsFields result out.old out.new
-        (wickets.wickets_fields sheet.now side ends.now dismissal) }
+    ensures { PutsValues result out.old out.new
+        (wickets.own_wickets sheet.now side ends.now bowler dismissal) }
 {
-    let Some(dismissal) = dismissal else {
-        return Ok(());
-    };
-    begin_array(out, "wickets")?;
-    put_wicket(out, sheet, side, ends, &dismissal)?;
-    end_array(out)
+    match dismissal {
+        None => Ok(()),
+        Some(dismissal) => put_wicket(out, sheet, side, ends, bowler, &dismissal),
+    }
 }
 
-/// Puts who left between deliveries.
+/// Puts who left between deliveries, or retired hurt.
 fn put_departure(
     out: &mut Pretty,
     sheet: &NamedSheet<'_>,
@@ -158,17 +180,117 @@ fn put_departure(
     end_object(out)
 }
 
-/// Puts a wicket between deliveries, or a batter retired hurt.
-pub fn put_departures(
+/// Puts who went, where an item says so.
+fn put_gone(
     out: &mut Pretty,
     sheet: &NamedSheet<'_>,
     side: Side,
-    way: Leave,
-    player: Player,
+    item: &Plain,
 ) -> Result<(), AllocError>
-    ensures { PutsFields result out.old out.new (wickets.departures_fields sheet.now side way player) }
+    ensures { PutsValues result out.old out.new (wickets.gone_of sheet.now side item.now) }
+{
+    match item {
+        Plain::Gone(way, player) => put_departure(out, sheet, side, *way, *player),
+        Plain::Innings(_)
+        | Plain::Come(_)
+        | Plain::Ball(_)
+        | Plain::Over
+        | Plain::Penalty(..)
+        | Plain::Swap
+        | Plain::End(_)
+        | Plain::Close
+        | Plain::Void => Ok(()),
+    }
+}
+
+/// Puts who went, of these items.
+fn put_departures(
+    out: &mut Pretty,
+    sheet: &NamedSheet<'_>,
+    side: Side,
+    notes: &[Noted],
+) -> Result<(), AllocError>
+    ensures { PutsValues result out.old out.new (wickets.departures sheet.now side notes.now) }
+{
+    for index in 0..notes.len() {
+        let noted = noted_at(notes, index);
+        put_gone(out, sheet, side, &noted.item)?;
+    }
+    Ok(())
+}
+
+fn is_gone(item: &Plain) -> bool
+    ensures { result ≡ wickets.is_gone item.now }
+{
+    matches!(item, Plain::Gone(..))
+}
+
+/// Whether somebody went, of these items.
+fn has_gone(notes: &[Noted]) -> bool
+    ensures { result ≡ wickets.has_gone notes.now }
+{
+    notes.iter().any(|noted| is_gone(&noted.item))
+}
+
+/// Puts each wicket that a delivery carries: of those who went before the first delivery of the innings, its own, and
+/// of those who went behind it.
+fn put_each(
+    out: &mut Pretty,
+    sheet: &NamedSheet<'_>,
+    side: Side,
+    early: &[Noted],
+    ends: &Ends,
+    ball: &Ball,
+    late: &[Noted],
+) -> Result<(), AllocError>
+    ensures { PutsValues result out.old out.new
+        (wickets.wickets_of sheet.now side early.now ends.now ball.now late.now) }
+{
+    put_departures(out, sheet, side, early)?;
+    put_own(out, sheet, side, ends, ball.bowler, ball.out)?;
+    put_departures(out, sheet, side, late)
+}
+
+/// Puts the field of the wickets that a delivery carries.
+fn put_field(
+    out: &mut Pretty,
+    sheet: &NamedSheet<'_>,
+    side: Side,
+    early: &[Noted],
+    ends: &Ends,
+    ball: &Ball,
+    late: &[Noted],
+) -> Result<(), AllocError>
+    ensures { PutsFields result out.old out.new
+        (wickets.wickets_field sheet.now side early.now ends.now ball.now late.now ∷ []) }
 {
     begin_array(out, "wickets")?;
-    put_departure(out, sheet, side, way, player)?;
+    put_each(out, sheet, side, early, ends, ball, late)?;
     end_array(out)
+}
+
+/// Whether a delivery carries a wicket, its own or another.
+fn has_wickets(early: &[Noted], ball: &Ball, late: &[Noted]) -> bool
+    ensures { result ≡ wickets.has_wickets early.now ball.now late.now }
+{
+    has_gone(early) || ball.out.is_some() || has_gone(late)
+}
+
+/// Puts the wickets that a delivery carries, where there are any.
+pub fn put_wickets(
+    out: &mut Pretty,
+    sheet: &NamedSheet<'_>,
+    side: Side,
+    early: &[Noted],
+    ends: &Ends,
+    ball: &Ball,
+    late: &[Noted],
+) -> Result<(), AllocError>
+    ensures { PutsFields result out.old out.new
+        (wickets.wickets_fields sheet.now side early.now ends.now ball.now late.now) }
+{
+    if !has_wickets(early, ball, late) {
+        return Ok(());
+    }
+    put_field(out, sheet, side, early, ends, ball, late)
 }

@@ -8,5 +8,6 @@ pub mod Shown
 pub mod PennedVotes
 pub mod Sound
 pub mod SecondVotes
+pub mod LawScores
 pub mod EveryRun
 pub mod Scores

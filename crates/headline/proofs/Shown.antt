@@ -18,7 +18,8 @@ use Rattle.headline.specs.Match.{Setting}
 use Rattle.headline.specs.Configurations.{Process, Running, Down, Configuration, board_at, node, process_disk, process_votes, all_votes}
 use Rattle.headline.specs.Runs.{AtEachMoment, AtSomeMoment, Moment, Run, Shows, last_of, process_shows}
 use Rattle.headline.specs.Noted.{kept_by_process, kept_by_seat}
-use Rattle.headline.specs.Headline.{ArePrefixes, AtEachEvent, ByBoth, KeepsVotes, KeptSafe, NoneKeepsBoth, StandsFast, WithinAgreed}
+use Rattle.headline.specs.Besides.{KeepsVotes, KeptSafe, StandsFast, WithinAgreed}
+use Rattle.headline.specs.Headline.{ArePrefixes, AtEachEvent, ByBoth, NoneKeepsBoth}
 use Rattle.agree_core.specs.Keeping.{MessageFine, ShowsMore}
 use Rattle.agree_core.proofs.Both.{both_at, both_settled, both_turned, same}
 use Rattle.agree_core.proofs.Desks.{more_within}

@@ -40,7 +40,8 @@ use Rattle.headline.specs.DeskSteps.{AfterOpen, AfterPen, AfterReceive, AtDesk}
 use Rattle.headline.specs.BoardSteps.{AtBoard, board_told}
 use Rattle.headline.specs.Steps.{StepAt}
 use Rattle.headline.specs.Runs.{Begins, Moment, Run, last_of}
-use Rattle.headline.specs.Headline.{AtEachEvent, IsSoundAnswer}
+use Rattle.headline.specs.Besides.{IsSoundAnswer}
+use Rattle.headline.specs.Headline.{AtEachEvent}
 use Rattle.agree_core.specs.Keeping.{BoardFine, MessageFine, MineFine, NotedFine, SeatFine}
 use Rattle.agree_core.proofs.Both.{both_grow, both_settled, both_turned, more, same}
 use Rattle.headline.proofs.BoardKeeping.{board_fine_at, item_at}
@@ -48,7 +49,7 @@ use Rattle.headline.proofs.Keeping.{Fine, ProcessFine, all_justified, begins_fin
 use Rattle.headline.proofs.PennedVotes.{BothHold, HeldBy, PensKeep, begins_hold, step_holds}
 
 -- the list after each vote was one that the rules take
-abbrev Lawful : {Why : Type 0} → Rules Why → List Ballot → Type 0
+abbrev pub Lawful : {Why : Type 0} → Rules Why → List Ballot → Type 0
 Lawful rules [] = Unit {0}
 Lawful rules (b ∷ bs) = AllTaken rules [] (voted_list (b ∷ bs)) × Lawful rules bs
 
@@ -71,7 +72,7 @@ taken_last rules book [] e h = rw append-nil h.0
 taken_last rules book (x ∷ xs) e h = rw (sym (append_assoc book (x ∷ []) xs)) (taken_last rules (book ++ x ∷ []) xs e h.1)
 
 -- when each vote of a file was cast, its entry was taken after a book as long as its place, of entries that both voted for
-taken_at : {Why : Type 0} (rules : Rules Why) (theirs bs : List Ballot) → Justified theirs bs → Lawful rules bs → (b : Ballot) → In b bs → (book : List Entry) × AllBoth bs theirs 0 book × (length book ≡ b.at.place) × (rules book b.entry ≡ None)
+pub taken_at : {Why : Type 0} (rules : Rules Why) (theirs bs : List Ballot) → Justified theirs bs → Lawful rules bs → (b : Ballot) → In b bs → (book : List Entry) × AllBoth bs theirs 0 book × (length book ≡ b.at.place) × (rules book b.entry ≡ None)
 taken_at rules theirs [] j l b i = absurd i
 taken_at rules theirs (x ∷ xs) j l b (inl e) =
     let long = book_long x xs (in_sequence theirs (x ∷ xs) j) in
@@ -97,7 +98,7 @@ two_entries theirs votes x v e at j n q i p unlike =
     unlike (ap (λ (b : Ballot). b.entry) (one_vote theirs votes j (ballot_of v) (record { at = at; entry = e }) i k p))
 
 module _ {Disk Why : Type 0} (s : Setting Disk Why) where
-  justified_of : (w : Configuration Disk) (d : DeskId) → Fine s w → Justified (votes_of (all_votes w) (other d)) (votes_of (all_votes w) d)
+  pub justified_of : (w : Configuration Disk) (d : DeskId) → Fine s w → Justified (votes_of (all_votes w) (other d)) (votes_of (all_votes w) d)
   justified_of w A f = (all_justified s w f).0
   justified_of w B f = (all_justified s w f).1
 
@@ -115,13 +116,13 @@ module _ {Disk Why : Type 0} (s : Setting Disk Why) where
       let next : s.rules (book_of (next_ballot k e ∷ k.votes)) e ≡ None = subst (λ (o : List Entry). s.rules o e ≡ None) (sym book) may.2 in
       (taken_push s.rules [] (book_of (next_ballot k e ∷ k.votes)) e (taken_book s.rules (next_ballot k e) k.votes old) next, old)
 
-  lawful_run : (version : FileVersion) (n : ℕ) (w : Configuration Disk) (ms : List (Moment Disk Why)) → Begins s version n w → Run s w ms → BothHold s (λ d. Lawful s.rules) (last_of w ms)
+  pub lawful_run : (version : FileVersion) (n : ℕ) (w : Configuration Disk) (ms : List (Moment Disk Why)) → Begins s version n w → Run s w ms → BothHold s (λ d. Lawful s.rules) (last_of w ms)
   lawful_run version n w [] e r = begins_hold s (λ d. Lawful s.rules) (λ d. tt) version n w e
   lawful_run version n w (m ∷ ms) e r =
       step_holds s (λ d. Lawful s.rules) (last_of w ms) m.event m.answer m.after
       (lawful_pens (last_of w ms) m.event m.answer (run_keeps s w ms (begins_fine s version n w e) r.0)) (lawful_run version n w ms e r.0) r.1
 
-  lawful_votes : (w : Configuration Disk) (d : DeskId) → BothHold s (λ d. Lawful s.rules) w → Lawful s.rules (votes_of (all_votes w) d)
+  pub lawful_votes : (w : Configuration Disk) (d : DeskId) → BothHold s (λ d. Lawful s.rules) w → Lawful s.rules (votes_of (all_votes w) d)
   lawful_votes w A l = let h = l A in h.of_votes
   lawful_votes w B l = let h = l B in h.of_votes
 

@@ -10,7 +10,8 @@ use Rattle.headline.specs.declared.version.FileVersion.{FileVersion}
 use Rattle.headline.specs.Configurations.{Configuration, all_votes}
 use Rattle.headline.specs.Runs.{AtEachMoment, Begins, Moment, Run, last_of}
 use Rattle.headline.specs.Noted.{KeepsNoted}
-use Rattle.headline.specs.Headline.{AfterEach, AtEachEvent, Headline, IsSoundAnswer, KeepsVotes, StandsFast, WithinAgreed}
+use Rattle.headline.specs.Besides.{IsSoundAnswer, KeepsVotes, StandsFast, WithinAgreed}
+use Rattle.headline.specs.Headline.{AfterEach, AtEachEvent, Headline}
 use Rattle.headline.specs.Match.{Setting, setting_of}
 
 -- the list that both files show is the agreed list of the last votes

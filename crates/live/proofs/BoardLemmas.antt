@@ -17,12 +17,13 @@ use Rattle.board.specs.declared.board.Board.{Board}
 use Rattle.board.specs.Board.{SameMatch, book_of, game_of, state_of}
 use Rattle.board.specs.Takes.{Takes}
 use Rattle.live.specs.Passed.{Passed, Came, sends, sent_bytes}
-use Rattle.live.specs.Runs.{Goes}
+use Rattle.live.specs.Runs.{Goes, known, with_text}
 use Rattle.live.specs.Boards.{Asks, BoardGoes, BoardRuns, BoardTurn, Given, Ticked, TurnEnded, Unopened, at_turn, board_kind, grown, in_turn, shown, unless_stopped}
-use Rattle.live.specs.Notices.{notices_after, notices_unopened, telling_after, telling_unopened}
+use Rattle.live.specs.Notices.{untold, notices_after, notices_unopened, telling_after, telling_unopened}
 use Rattle.live.specs.declared.notices.Notice.{Notice}
 use Rattle.live.specs.declared.notices.Telling.{Telling}
 use Rattle.live.specs.declared.link.TheConstants.{MOST_TAKEN}
+use Rattle.live.proofs.TellingLemmas.{told_first}
 use Rattle.live.proofs.RunLemmas.{both, one, stays, unsaid}
 
 differ : (m n : ℕ) → (m ≡ n → ⊥) → nat_eq m n ≡ false
@@ -41,7 +42,7 @@ no_more text m n s e = unprinted text _ s (grind (arith, nat_tests, e))
 pub some_more : (text : List ℕ) (m n : ℕ) (s t : Option (List ℕ)) → (m ≡ n → ⊥) → Appends s t text → Appends s t (grown (nat_eq m n) text)
 some_more text m n s t e a = printed text _ s t (differ m n e) a
 
--- nothing is printed once both desks' votes were refused, and else what is news
+-- nothing is printed once both desks' votes were refused, otherwise what is news
 pub stopped_none : (text : List ℕ) (b : Bool) (s : Option (List ℕ)) → b ≡ true → Appends s s (unless_stopped b text)
 stopped_none text b s e = rw e (appends_none s)
 
@@ -145,3 +146,21 @@ module _ {B : Type 0} {g : _} (content : B → List Entry) (innings_of : B → �
   whole_turns (Ok done) k l a b s t from to telling later noted notes x e =
       subst (λ (p : BoardTurn). BoardGoes content innings_of sheet k l (at_turn content k from telling noted) p a b s t) (x.whole ∙ ap (λ (w : Telling). at_turn content l to w notes) e) x.goes
   whole_turns (Err fault) k l a b s t from to telling later noted notes x e = tt
+
+  -- what is shown at first comes before a run
+  shown_first : {E : Type 0} (r : Result (Unit {0}) E) (k : Board B g) (p : BoardTurn) (log : List Passed) (s t : Option (List ℕ)) (text : List ℕ) → Appends s t text → BoardGoes content innings_of sheet k k p p log log (known r (with_text s text)) (known r t)
+  shown_first (Ok done) k p log s t text a =
+      record { same = same_here k; goes = record { moments = []; run = tt; last = refl; passed = sym (append-nil log); inputs = refl; printed = told_first s t text a } }
+  shown_first (Err fault) k p log s t text a = rests k p log None
+
+  pub runs_on : {E : Type 0} (r : Result (Unit {0}) E) (k l : Board B g) (a b : List Passed) (s t u : Option (List ℕ)) (text : List ℕ) (to : ℕ) (noted notes : List Notice) → Appends s t text →
+      BoardRuns content innings_of sheet k l a b t u 0 to untold noted notes r → BoardRuns content innings_of sheet k l a b (with_text s text) u 0 to untold noted notes r
+  runs_on r k l a b s t u text to noted notes first x =
+      let p = at_turn content k 0 untold noted in
+      record {
+        last = x.last;
+        is = x.is;
+        noticed = x.noticed;
+        goes = then k k l p p x.last a a b (known r (with_text s text)) (known r t) (known r u) (shown_first r k p a s t text first) x.goes;
+        whole = x.whole;
+      }

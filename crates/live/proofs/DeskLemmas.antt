@@ -36,7 +36,7 @@ use Rattle.live.specs.Saying.{ComesTo, SaysEntry}
 use Rattle.live.specs.Typing.{Input, Line, End}
 use Rattle.live.specs.Texts.{came_text, said_text, unopened_text, warned_after, warned_unopened}
 use Rattle.live.specs.Ends.{Course, course_of, end_at, end_of, ending, further, known_at, known_to, turns_after, written as answer_of}
-use Rattle.live.specs.Desks.{Blames, Calls, DeskCall, DeskGoes, DeskProcess, DeskStep, Given, FitsLongest, Ticked, TurnEnded, Typed, TypingEnded, Unopened, after_call, course_after, desk_kind, disks_of, given, innings_of, kind_of, process_of, told_of, typed}
+use Rattle.live.specs.Desks.{Blames, Calls, DeskCall, DeskGoes, DeskProcess, DeskStep, Given, FitsLongest, Ticked, TurnEnded, Typed, TypingEnded, Unopened, after_call, course_after, desk_kind, disks_of, given, innings_of, kind_of, own_line, process_of, told_of, typed}
 use Rattle.live.specs.declared.said.Said.{Said}
 use Rattle.live.specs.declared.said.Said.TheVariants as said
 use Rattle.live.specs.declared.warned.Warned.{Warned}
@@ -62,9 +62,7 @@ blamed r device course old new to from room b = record {
 -- a line that says no entry ends nothing for the disk
 no_blame : (sheet : Sheet) (book : List Entry) (votes : List Ballot) (differs is_cast : Bool) (line : List ℕ) (answer : Said) → ComesTo sheet book votes differs is_cast line answer → IsErrOf (end_of answer) ends.Device → ⊥
 no_blame sheet book votes differs is_cast line said.Quit h e = cc
-no_blame sheet book votes differs is_cast line said.List h e = cc
-no_blame sheet book votes differs is_cast line said.Help h e = cc
-no_blame sheet book votes differs is_cast line said.HelpShort h e = cc
+no_blame sheet book votes differs is_cast line (said.Asks word) h e = cc
 no_blame sheet book votes differs is_cast line (said.Unclear unclear) h e = cc
 no_blame sheet book votes differs is_cast line (said.Fault fault) h e = cc
 no_blame sheet book votes differs is_cast line said.SayAgain h e = cc
@@ -133,7 +131,7 @@ module _ {S B D : Type 0} {g : Files S D} {h : Disks D} {b : Books B} where
   -- its scorer typed a line
   pub says : (sheet : Sheet) (k l : Desk S B D g h b) (line : List ℕ) (answer : Said) (course : Course) (warned : Warned) (turns : ℕ) (before after : List Passed) (x y : List Input) (s t : Option (List ℕ)) →
       Calls sheet k l (Typed line answer) before after → y ≡ x ++ Line line ∷ [] → course ≡ end_of answer →
-      Appends s t (said_text sheet (innings_of k) (state_of k).seat.position.place (state_of l).book answer) →
+      Appends s t (said_text sheet (innings_of k) (state_of k).seat.position (own_line (state_of k)) (state_of l).book answer) →
       DeskGoes sheet k l (process_of k warned turns further) (process_of l warned turns course) before after x y s t
   says sheet k l line answer course warned turns before after x y s t c types is text =
       called sheet k l (Typed line answer) warned turns (process_of l warned turns course) before before after x y s t c (sym (append-nil before)) types
@@ -185,9 +183,7 @@ module _ {S B D : Type 0} {g : Files S D} {h : Disks D} {b : Books B} where
   nothing_said : (sheet : Sheet) (k : Desk S B D g h b) (line : List ℕ) (answer : Said) → ComesTo sheet (state_of k).book (state_of k).votes (nat_lt 0 (state_of k).seat.position.round) (is_some (state_of k).seat.mine) line answer →
       DeskStep sheet (view_of k) (game_of k) (innings_of k) (state_of k) (Typed line answer) [] (state_of k)
   nothing_said sheet k line said.Quit w = (w, refl, refl)
-  nothing_said sheet k line said.List w = (w, refl, refl)
-  nothing_said sheet k line said.Help w = (w, refl, refl)
-  nothing_said sheet k line said.HelpShort w = (w, refl, refl)
+  nothing_said sheet k line (said.Asks word) w = (w, refl, refl)
   nothing_said sheet k line (said.Unclear unclear) w = (w, refl, refl)
   nothing_said sheet k line (said.Fault fault) w = (w, refl, refl)
   nothing_said sheet k line said.SayAgain w = (w, refl, refl)

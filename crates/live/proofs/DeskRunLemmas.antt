@@ -1,6 +1,6 @@
 -- Whole runs of a desk's process.
 use Rattle.std.proofs.Common.{◌≡◌, ℕ, List, [], Option, Result, Ok, Err, false, refl, sym, ◌∙◌, subst, append-nil}
-use Rattle.std.specs.Prelude.{IsErrAnd, is_some}
+use Rattle.std.specs.Prelude.{IsErrAnd}
 use Rattle.std.specs.Io.KnownBytes.{Appends, Keeps}
 use Rattle.cards.specs.Sheet.{Sheet}
 use Rattle.streams.specs.declared.watched.WriteFailed.{WriteFailed}
@@ -16,7 +16,7 @@ use Rattle.live.specs.Runs.{with_text}
 use Rattle.live.specs.Typing.{Input}
 use Rattle.live.specs.Texts.{greeting, unwarned}
 use Rattle.live.specs.Ends.{Course, end_told, ending, further, known_to, written}
-use Rattle.live.specs.Desks.{DeskGoes, DeskProcess, DeskRuns, Ended, FitsLongest, disks_of, innings_of, process_of}
+use Rattle.live.specs.Desks.{DeskGoes, DeskProcess, DeskRuns, Ended, FitsLongest, disks_of, innings_of, own_line, process_of}
 use Rattle.live.specs.declared.warned.Warned.{Warned}
 use Rattle.live.specs.declared.ends.DeskEnd.{DeskEnd}
 use Rattle.live.specs.declared.ends.DeskEnd.TheVariants as ends
@@ -35,7 +35,7 @@ not_the_disk course end e n q = let path : ◌≡◌ {A = Course} (Err end) (Err
 
 module _ {S B D : Type 0} {g : Files S D} {h : Disks D} {b : Books B} where
   abbrev greeting_of : Sheet → Desk S B D g h b → List ℕ
-  greeting_of sheet k = greeting sheet (innings_of k) (state_of k).book (state_of k).seat.position (is_some (state_of k).seat.mine)
+  greeting_of sheet k = greeting sheet (innings_of k) (state_of k).book (state_of k).seat.position (own_line (state_of k))
 
   -- the greeting comes first
   greeted : (sheet : Sheet) (k : Desk S B D g h b) (p : DeskProcess D) (log : List Passed) (x : List Input) (s t : Option (List ℕ)) (text : List ℕ) → Appends s t text →

@@ -37,9 +37,7 @@ module _ {Disk : Type 0} (sheet : Sheet) (view : FileView Disk) (game innings : 
   -- a call that doesn't end the process leaves its desk running
   pub runs_on : (call : DeskCall) → DeskStep sheet view game innings k call out l → course_after call ≡ further → l.failed ≡ false
   runs_on (Typed line said.Quit) r e = same_desk r.1
-  runs_on (Typed line said.List) r e = same_desk r.1
-  runs_on (Typed line said.Help) r e = same_desk r.1
-  runs_on (Typed line said.HelpShort) r e = same_desk r.1
+  runs_on (Typed line (said.Asks word)) r e = same_desk r.1
   runs_on (Typed line (said.Unclear unclear)) r e = same_desk r.1
   runs_on (Typed line (said.Fault fault)) r e = same_desk r.1
   runs_on (Typed line said.SayAgain) r e = same_desk r.1

@@ -6,6 +6,7 @@ use Rattle.streams.proofs.Appending.{appends_none}
 use Rattle.cards.specs.Sheet.{Sheet}
 use Rattle.streams.specs.declared.watched.WriteFailed.{WriteFailed}
 use Rattle.notation.specs.declared.entry.Entry.{Entry}
+use Rattle.agree_core.specs.declared.position.Position.{Position}
 use Rattle.wire.specs.declared.what.What.{What}
 use Rattle.wire.specs.declared.what.What.TheVariants as whats
 use Rattle.desk.specs.declared.refusal.Refusal.TheVariants as refusals
@@ -26,9 +27,7 @@ course_at course ends.Write e n = absurd (n refl)
 
 said_no_write : (answer : Said) (end : DeskEnd) → end_of answer ≡ Err end → end ≡ ends.Write → ⊥
 said_no_write said.Quit end e w = cc
-said_no_write said.List end e w = cc
-said_no_write said.Help end e w = cc
-said_no_write said.HelpShort end e w = cc
+said_no_write (said.Asks word) end e w = cc
 said_no_write (said.Unclear unclear) end e w = cc
 said_no_write (said.Fault fault) end e w = cc
 said_no_write said.SayAgain end e w = cc
@@ -58,24 +57,22 @@ pub came_course : (what : What) (end : DeskEnd) → end_at what ≡ Err end → 
 came_course what end e = course_at (end_at what) end e (came_no_write what end e)
 
 -- nothing is told of an end
-pub said_nothing : (sheet : Sheet) (innings place : ℕ) (book : List Entry) (answer : Said) (end : DeskEnd) (s : Option (List ℕ)) → end_of answer ≡ Err end → Appends s s (said_text sheet innings place book answer)
-said_nothing sheet innings place book said.Quit end s e = appends_none s
-said_nothing sheet innings place book said.List end s e = absurd (cc)
-said_nothing sheet innings place book said.Help end s e = absurd (cc)
-said_nothing sheet innings place book said.HelpShort end s e = absurd (cc)
-said_nothing sheet innings place book (said.Unclear unclear) end s e = absurd (cc)
-said_nothing sheet innings place book (said.Fault fault) end s e = absurd (cc)
-said_nothing sheet innings place book said.SayAgain end s e = absurd (cc)
-said_nothing sheet innings place book said.NoneDiffers end s e = absurd (cc)
-said_nothing sheet innings place book said.Waiting end s e = absurd (cc)
-said_nothing sheet innings place book (said.Penned entry settled) end s e = absurd (cc)
-said_nothing sheet innings place book (said.Refused refusals.Failed) end s e = appends_none s
-said_nothing sheet innings place book (said.Refused refusals.Waiting) end s e = absurd (cc)
-said_nothing sheet innings place book (said.Refused refusals.PlacesFull) end s e = absurd (cc)
-said_nothing sheet innings place book (said.Refused refusals.RoundsFull) end s e = absurd (cc)
-said_nothing sheet innings place book (said.Refused refusals.SlotsFull) end s e = absurd (cc)
-said_nothing sheet innings place book (said.Refused (refusals.Book why)) end s e = absurd (cc)
-said_nothing sheet innings place book (said.Refused refusals.Device) end s e = appends_none s
+pub said_nothing : (sheet : Sheet) (innings : ℕ) (at : Position) (own : Option Entry) (book : List Entry) (answer : Said) (end : DeskEnd) (s : Option (List ℕ)) → end_of answer ≡ Err end → Appends s s (said_text sheet innings at own book answer)
+said_nothing sheet innings at own book said.Quit end s e = appends_none s
+said_nothing sheet innings at own book (said.Asks word) end s e = absurd (cc)
+said_nothing sheet innings at own book (said.Unclear unclear) end s e = absurd (cc)
+said_nothing sheet innings at own book (said.Fault fault) end s e = absurd (cc)
+said_nothing sheet innings at own book said.SayAgain end s e = absurd (cc)
+said_nothing sheet innings at own book said.NoneDiffers end s e = absurd (cc)
+said_nothing sheet innings at own book said.Waiting end s e = absurd (cc)
+said_nothing sheet innings at own book (said.Penned entry settled) end s e = absurd (cc)
+said_nothing sheet innings at own book (said.Refused refusals.Failed) end s e = appends_none s
+said_nothing sheet innings at own book (said.Refused refusals.Waiting) end s e = absurd (cc)
+said_nothing sheet innings at own book (said.Refused refusals.PlacesFull) end s e = absurd (cc)
+said_nothing sheet innings at own book (said.Refused refusals.RoundsFull) end s e = absurd (cc)
+said_nothing sheet innings at own book (said.Refused refusals.SlotsFull) end s e = absurd (cc)
+said_nothing sheet innings at own book (said.Refused (refusals.Book why)) end s e = absurd (cc)
+said_nothing sheet innings at own book (said.Refused refusals.Device) end s e = appends_none s
 
 pub came_nothing : (sheet : Sheet) (innings place : ℕ) (book : List Entry) (warned : Warned) (what : What) (end : DeskEnd) (s : Option (List ℕ)) → end_at what ≡ Err end → Appends s s (came_text sheet innings place book warned what)
 came_nothing sheet innings place book warned (whats.Bad fault) end s e = absurd (cc)

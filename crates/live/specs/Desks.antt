@@ -1,5 +1,6 @@
 -- A desk's process, call by call.
-use Rattle.std.specs.Prelude.{◌≡◌, ◌≢◌, ◌≤◌, ◌+◌, ℕ, false, List, [], ◌∷◌, ◌++◌, All, Option, is_some, Result, Ok, Err}
+use Rattle.std.specs.Prelude.{◌≡◌, ◌≢◌, ◌≤◌, ◌+◌, ℕ, Bool, true, false, List, [], ◌∷◌, ◌++◌, All, Option, None, is_some, Result, Ok, Err}
+use Rattle.notation.specs.declared.entry.Entry.{Entry}
 use Rattle.corrections.specs.declared.book_of.BookOf.{Ghosts as Books}
 use Rattle.corrections.specs.Refusal.{book_refusal}
 use Rattle.entry_log.specs.Blame.{BlamesDisk}
@@ -13,7 +14,7 @@ use Rattle.wire.specs.Layout.{IsMessage}
 use Rattle.wire.specs.declared.what.What.{What}
 use Rattle.cards.specs.Sheet.{Sheet}
 use Rattle.desk.specs.declared.desk.Desk.{Desk}
-use Rattle.desk.specs.Desk.{SameOwner, book_of, disk_of, game_of, state_of, view_of}
+use Rattle.desk.specs.Desk.{SameOwner, book_of, disk_of, game_of, last_entry, state_of, view_of}
 use Rattle.desk.specs.Takes.{Takes}
 use Rattle.live.specs.declared.ends.DeskEnd.{DeskEnd}
 use Rattle.live.specs.declared.ends.DeskEnd.TheVariants.{NoMoreLines, Device, Write}
@@ -102,9 +103,18 @@ typed (Typed line said) = Line line ∷ []
 typed TypingEnded = End ∷ []
 typed call = []
 
+-- a desk's vote of its position, where it is cast: the last of its votes
+abbrev pub own_entry : Bool → Option Entry → Option Entry
+own_entry true last = last
+own_entry false last = None
+
+abbrev pub own_line : {Disk : Type 0} → DeskState Disk → Option Entry
+own_line k = own_entry (is_some k.seat.mine) (last_entry k.votes)
+
 -- what the scorer is told of a call
 abbrev pub told_of : {Disk : Type 0} → Sheet → ℕ → DeskProcess Disk → DeskCall → DeskProcess Disk → List ℕ
-told_of sheet innings k (Typed line said) l = said_text sheet innings k.desk.seat.position.place l.desk.book said
+told_of sheet innings k (Typed line said) l =
+    said_text sheet innings k.desk.seat.position (own_line k.desk) l.desk.book said
 told_of sheet innings k (Given bytes what) l =
     came_text sheet innings k.desk.seat.position.place l.desk.book k.warned what
 told_of sheet innings k Unopened l = unopened_text k.warned
@@ -169,7 +179,6 @@ module _ {S B D : Type 0} {g : Files S D} {h : Disks D} {b : Books B} where
     pub is : last.desk ≡ state_of new
     pub goes : DeskGoes sheet old new (process_of old unwarned 0 further) last before after typed types
         (known_at result (with_text told
-        (greeting sheet (innings_of old) (state_of old).book (state_of old).seat.position
-        (is_some (state_of old).seat.mine))))
+        (greeting sheet (innings_of old) (state_of old).book (state_of old).seat.position (own_line (state_of old)))))
         (known_at result tells)
     pub ended : Ended turns result last

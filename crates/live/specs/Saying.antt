@@ -14,10 +14,11 @@ use Rattle.agree_core.specs.FileView.{FileView}
 use Rattle.desk.specs.Answers.{pen_answer}
 use Rattle.desk.specs.Desk.{last_entry}
 use Rattle.cards.specs.Sheet.{Sheet}
+use Rattle.screen.specs.Words.{word_of}
 use Rattle.shorthand.specs.Full.{in_full}
 use Rattle.shorthand.specs.Lines.{reason_of}
 use Rattle.live.specs.declared.said.Said.{Said}
-use Rattle.live.specs.declared.said.Said.TheVariants.{Quit, List as Listed, Help, HelpShort, Unclear, Fault, SayAgain, NoneDiffers, Waiting, Refused, Penned}
+use Rattle.live.specs.declared.said.Said.TheVariants.{Quit, Asks, Unclear, Fault, SayAgain, NoneDiffers, Waiting, Refused, Penned}
 
 -- a line of a round: behind `again ` in every round but the first
 abbrev pub says_again : Bool → List ℕ → List ℕ
@@ -52,8 +53,7 @@ MeansNone s book text said = ⊥
 
 -- the line is none of the words that are no entry's
 abbrev pub IsNoWord : List ℕ → Type 0
-IsNoWord line =
-    (line ≢ codes "quit") × (line ≢ codes "list") × (line ≢ codes "help") × (line ≢ codes "help short")
+IsNoWord line = (line ≢ codes "quit") × (word_of line ≡ None)
 
 -- the line doesn't begin with the word `again`
 abbrev pub IsNotAgain : List ℕ → Type 0
@@ -85,9 +85,7 @@ ReadsNone s book differs is_cast line said =
 -- at which the two scorers differed or not, where the desk's vote of the round is cast or not
 abbrev pub ComesTo : Sheet → List Entry → List Ballot → Bool → Bool → List ℕ → Said → Type 0
 ComesTo s book votes differs is_cast line Quit = line ≡ codes "quit"
-ComesTo s book votes differs is_cast line Listed = line ≡ codes "list"
-ComesTo s book votes differs is_cast line Help = line ≡ codes "help"
-ComesTo s book votes differs is_cast line HelpShort = line ≡ codes "help short"
+ComesTo s book votes differs is_cast line (Asks word) = word_of line ≡ Some word
 ComesTo s book votes differs is_cast line (Unclear unclear) =
     IsNoWord line × ReadsNone s book differs is_cast line (Unclear unclear)
 ComesTo s book votes differs is_cast line (Fault fault) =

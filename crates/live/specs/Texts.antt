@@ -1,7 +1,13 @@
 -- What a desk's scorer is told.
-use Rattle.std.specs.Prelude.{ℕ, Bool, true, false, if◌then◌else◌, nat_lt, List, [], ◌++◌, codes, decimal}
+use Rattle.std.specs.Prelude.{ℕ, ◌==◌, Bool, true, false, if◌then◌else◌, nat_lt, Option, Some, None, List, [], ◌++◌, slice_get, codes, decimal}
 use Rattle.notation.specs.declared.entry.Entry.{Entry}
+use Rattle.notation.specs.declared.entry.Entry.TheVariants.{Write}
+use Rattle.notation.specs.declared.entry.Plain.TheVariants as plain
 use Rattle.notation.specs.Written.{text_of}
+use Rattle.ball_laws.specs.History.{History}
+use Rattle.match_laws.specs.History.{begun}
+use Rattle.match_laws.specs.Figures.{overs}
+use Rattle.match_laws.specs.Result.{current}
 use Rattle.match_laws.specs.LawRefusal.{number_of as law_number}
 use Rattle.corrections.specs.declared.refusal.Refusal.TheVariants.{Later}
 use Rattle.corrections.specs.CleanList.{history_of}
@@ -16,32 +22,63 @@ use Rattle.desk.specs.Refusal.{number_of, name_of}
 use Rattle.desk.specs.declared.refusal.Refusal.{Refusal}
 use Rattle.desk.specs.declared.refusal.Refusal.TheVariants as refusals
 use Rattle.cards.specs.Sheet.{Sheet}
-use Rattle.cards.specs.Board.{board}
-use Rattle.cards.specs.Page.{last_entries}
+use Rattle.screen.specs.Row.{row}
+use Rattle.screen.specs.OverCheck.{over_check}
+use Rattle.screen.specs.Both.{both_cards}
+use Rattle.screen.specs.Listing.{listing}
+use Rattle.screen.specs.Sides.{both_sides}
+use Rattle.screen.specs.Help.{help, help_on}
+use Rattle.screen.specs.Sentences.{of_book, of_desk}
+use Rattle.screen.specs.declared.word.Word.{Word}
+use Rattle.screen.specs.declared.word.Word.TheVariants as words
 use Rattle.live.specs.declared.said.Said.{Said}
 use Rattle.live.specs.declared.said.Said.TheVariants as said
 use Rattle.live.specs.declared.warned.Warned.{Warned}
-use Rattle.live.specs.Help.{help, help_short}
-use Rattle.live.specs.Questions.{fault_text, numbered, unclear_text}
+use Rattle.live.specs.Questions.{explained, fault_text, numbered, unclear_text}
+
+-- the umpire calls over
+abbrev pub is_over : Entry → Bool
+is_over (Write plain.Over) = true
+is_over e = false
 
 -- a place and what is told of it
 abbrev pub at_place : ℕ → List ℕ → List ℕ
 at_place place words = decimal place ++ codes " " ++ words ++ codes "\n"
 
--- the six lines of a book
-abbrev pub score : Sheet → ℕ → List Entry → List ℕ
-score sheet innings book = board sheet innings (history_of book)
+-- an entry that was agreed at this place, with the book's history after it: how many overs were called then, and the
+-- check of the over, or how the match stands
+abbrev pub over_called : History → List ℕ
+over_called h = if begun h == 0 then [] else codes " " ++ decimal (overs h (current h))
+
+abbrev pub agreed_line : ℕ → Entry → List ℕ
+agreed_line place e = decimal place ++ codes " agreed: " ++ text_of e
+
+abbrev pub over_agreed : Sheet → ℕ → History → Entry → List ℕ
+over_agreed sheet place h e = agreed_line place e ++ over_called h ++ codes "\n" ++ over_check sheet h
+
+abbrev pub play_agreed : Sheet → ℕ → ℕ → History → Entry → List ℕ
+play_agreed sheet innings place h e = agreed_line place e ++ codes "\n" ++ row sheet innings h
+
+abbrev pub agreed_entry : Sheet → ℕ → ℕ → History → Entry → List ℕ
+agreed_entry sheet innings place h e =
+    if is_over e then over_agreed sheet place h e else play_agreed sheet innings place h e
+
+-- that the place has its entry in the book
+abbrev pub agreed_at : Sheet → ℕ → ℕ → History → Option Entry → List ℕ
+agreed_at sheet innings place h None = []
+agreed_at sheet innings place h (Some e) = agreed_entry sheet innings place h e
 
 abbrev pub agreed : Sheet → ℕ → ℕ → List Entry → List ℕ
-agreed sheet innings place book = at_place place (codes "agreed") ++ score sheet innings book
+agreed sheet innings place book = agreed_at sheet innings place (history_of book) (slice_get book place)
 
 -- of a correction, the first place that it leaves refused, and why
 abbrev pub refused_text : Refusal → List ℕ
 refused_text refusals.Failed = []
 refused_text refusals.Device = []
 refused_text (refusals.Book (Later place why)) =
-    codes "refused 32 Later " ++ decimal place ++ codes " " ++ decimal (law_number why) ++ codes "\n"
-refused_text why = numbered (codes "refused") (number_of why) (name_of why)
+    codes "refused 32 Later " ++ decimal place ++ codes " " ++ decimal (law_number why)
+    ++ codes ": " ++ of_book (Later place why) ++ codes "\n"
+refused_text why = explained (codes "refused") (number_of why) (name_of why) (of_desk why)
 
 -- the entry that was penned stands in full behind `pending`
 abbrev pub pending : ℕ → Entry → List ℕ
@@ -52,19 +89,36 @@ settled_text sheet innings place book e Settled.Pending = pending place e
 settled_text sheet innings place book e Settled.Agreed = agreed sheet innings place book
 settled_text sheet innings place book e Settled.Differ = at_place place (codes "differs")
 
--- of a line at this place, with the book after it
-abbrev pub said_text : Sheet → ℕ → ℕ → List Entry → Said → List ℕ
-said_text sheet innings place book said.Quit = []
-said_text sheet innings place book said.List = last_entries 12 book
-said_text sheet innings place book said.Help = help
-said_text sheet innings place book said.HelpShort = help_short
-said_text sheet innings place book (said.Unclear unclear) = unclear_text sheet unclear
-said_text sheet innings place book (said.Fault fault) = fault_text fault
-said_text sheet innings place book said.SayAgain = at_place place (codes "differs: begin the line with again")
-said_text sheet innings place book said.NoneDiffers = at_place place (codes "doesn't differ: leave out again")
-said_text sheet innings place book said.Waiting = refused_text refusals.Waiting
-said_text sheet innings place book (said.Refused why) = refused_text why
-said_text sheet innings place book (said.Penned e settled) = settled_text sheet innings place book e settled
+-- of a desk's position: its vote for this entry is cast, or the scorers differed there, or neither
+abbrev pub place_text : Position → Option Entry → List ℕ
+place_text at (Some e) = pending at.place e
+place_text at None = at_place at.place (if nat_lt 0 at.round then codes "differs" else codes "next")
+
+-- where a desk stands, as it begins and where its scorer asks
+abbrev pub greeting : Sheet → ℕ → List Entry → Position → Option Entry → List ℕ
+greeting sheet innings book at own = row sheet innings (history_of book) ++ place_text at own
+
+-- what is shown of a word, where a desk stands so
+abbrev pub word_text : Sheet → ℕ → Position → Option Entry → List Entry → Word → List ℕ
+word_text sheet innings at own book words.Where = greeting sheet innings book at own
+word_text sheet innings at own book (words.Entries most) = listing most book
+word_text sheet innings at own book words.Total = over_check sheet (history_of book)
+word_text sheet innings at own book words.Cards = both_cards sheet (history_of book)
+word_text sheet innings at own book words.Sides = both_sides sheet
+word_text sheet innings at own book words.Forms = help
+word_text sheet innings at own book (words.More topic) = help_on topic
+
+-- of a line at this position, with the desk's own vote there before it, and the book after it
+abbrev pub said_text : Sheet → ℕ → Position → Option Entry → List Entry → Said → List ℕ
+said_text sheet innings at own book said.Quit = []
+said_text sheet innings at own book (said.Asks word) = word_text sheet innings at own book word
+said_text sheet innings at own book (said.Unclear unclear) = unclear_text sheet unclear
+said_text sheet innings at own book (said.Fault fault) = fault_text fault
+said_text sheet innings at own book said.SayAgain = at_place at.place (codes "differs: begin the line with again")
+said_text sheet innings at own book said.NoneDiffers = at_place at.place (codes "doesn't differ: leave out again")
+said_text sheet innings at own book said.Waiting = refused_text refusals.Waiting
+said_text sheet innings at own book (said.Refused why) = refused_text why
+said_text sheet innings at own book (said.Penned e settled) = settled_text sheet innings at.place book e settled
 
 -- of a peer, unless it was told
 abbrev pub warning : Bool → List ℕ → List ℕ
@@ -115,12 +169,3 @@ warned_after warned what = warned
 -- once bytes came that don't open
 abbrev pub warned_unopened : Warned → Warned
 warned_unopened warned = record warned { of_seal = true }
-
--- of a desk's position as it begins: its vote is cast, or the scorers differed there, or neither
-abbrev pub place_state : Position → Bool → List ℕ
-place_state at true = codes "pending"
-place_state at false = if nat_lt 0 at.round then codes "differs" else codes "next"
-
--- as a desk begins
-abbrev pub greeting : Sheet → ℕ → List Entry → Position → Bool → List ℕ
-greeting sheet innings book at is_cast = score sheet innings book ++ at_place at.place (place_state at is_cast)

@@ -65,8 +65,8 @@ fn give<B: BookOf, N: Notices>(
     between.pace.note(board.position() != at, may_come, now);
 }
 
-/// Says what is due, and takes the next datagram, unless the turn is over or none came. It answers whether one was
-/// taken.
+/// Says what is due, and takes the next datagram. The first one of a turn is waited for, until something is due. It answers
+/// whether one was taken.
 fn take_next<B: BookOf, L: Link, C: Clock, N: Notices>(
     board: &mut Board<B>,
     link: &mut L,
@@ -89,12 +89,10 @@ fn take_next<B: BookOf, L: Link, C: Clock, N: Notices>(
 {
     let now = clock.millis();
     tick(board, link, between.pace.take_due(now));
-    if between.pace.is_over(now) {
-        return false;
-    }
     let mut buffer = [0; ROOM];
-    match link.take(&mut buffer) {
+    match link.take(&mut buffer, between.pace.take_wait(now)) {
         Taken::Datagram(count) => {
+            let now = clock.millis();
             give(board, &buffer[..count], notices, between, now);
             true
         }
@@ -120,7 +118,7 @@ fn take_all<B: BookOf, L: Link, C: Clock, N: Notices>(
         (in_turn B.content board.new turns had taken between.new.telling (N.told notices.new))
         (L.log link.old) (L.log link.new) shown shown }
 {
-    between.pace.begin_turn(clock.millis());
+    between.pace.begin_turn(true);
     for taken in 0..MOST_TAKEN {
         if !take_next(board, link, clock, notices, between) {
             break;

@@ -39,7 +39,7 @@ pub fn pen<S: SlotsOf, B: BookOf + Drop, L: Link>(
     }
 }
 
-/// A desk takes bytes that came, and sends its reply.
+/// A desk takes bytes that came, and sends its reply to who sent them.
 pub fn give<S: SlotsOf, B: BookOf + Drop, L: Link>(
     desk: &mut Desk<S, B>,
     bytes: &[u8],
@@ -52,7 +52,7 @@ pub fn give<S: SlotsOf, B: BookOf + Drop, L: Link>(
 {
     let received = desk.receive(bytes);
     if let Some(reply) = received.reply {
-        link.send(&reply);
+        link.reply(&reply);
     }
     received.what
 }

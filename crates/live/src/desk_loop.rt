@@ -1,11 +1,13 @@
 //! A desk's process.
 
-ghost use Rattle.std.specs.Prelude.{◌≡◌, ◌++◌, ◌∷◌, [], ℕ, List, Option, true, false, Err, IfErr, OnErr, OnOk, is_some};
+ghost use Rattle.std.specs.Prelude.{◌≡◌, ◌++◌, ◌∷◌, [], ℕ, List, Option, true, false, Err, IfErr, IfSome, OnErr, OnOk};
 ghost use Rattle.std.specs.Io.KnownBytes.{Appends};
+ghost use Rattle.notation.specs.Written.{IsEntry};
 ghost use Rattle.entry_log.specs.Blame.{BlamesDisk};
 ghost use Rattle.cards.specs.Sheet.{Sheet};
 ghost use Rattle.streams.specs.Watched.{Prints, has_failed, stream_of};
 ghost use Rattle.desk.specs.Desk.{disk_of, state_of};
+ghost use Rattle.live.specs.Desks as desks;
 ghost use Rattle.live.specs.Desks.{DeskGoes, DeskRuns, FitsLongest, innings_of, process_of};
 ghost use Rattle.live.specs.Ends as ends;
 ghost use Rattle.live.specs.Ends.{course_of, further, known_at, turns_after, written};
@@ -26,6 +28,7 @@ use cards::MatchSheet;
 use corrections::BookOf;
 use desk::Desk;
 use entry_log::SlotsOf;
+use notation::Entry;
 use std::io::Write;
 use streams::{Watched, WriteFailed};
 
@@ -43,6 +46,18 @@ fn told(answer: Result<(), WriteFailed>) -> Result<(), DeskEnd>
     match answer {
         Ok(()) => Ok(()),
         Err(_) => Err(DeskEnd::Write),
+    }
+}
+
+/// A desk's vote of its position, where it is cast.
+fn own_line<S: SlotsOf, B: BookOf + Drop>(desk: &Desk<S, B>) -> Option<Entry>
+    ensures value { result ≡ desks.own_line (state_of desk.now) }
+    ensures entry { IfSome result IsEntry }
+{
+    if desk.has_voted() {
+        desk.last_entry()
+    } else {
+        None
     }
 }
 
@@ -66,12 +81,13 @@ fn take_line<S: SlotsOf, B: BookOf + Drop, L: Link, K: Keys, W: Write>(
         Typed::Ended => return Err(DeskEnd::NoMoreLines),
         Typed::Line(count) => count,
     };
-    let place = desk.position().place;
+    let at = desk.position();
+    let own = own_line(desk);
     let said = pen(desk, sheet, &buffer[..count], link);
     if let Err(end) = end_of(&said) {
         return Err(end);
     }
-    told(print_said(out, sheet, place, &said, desk.book()))
+    told(print_said(out, sheet, at, own, &said, desk.book()))
 }
 
 /// Takes bytes that came, and tells the scorer what is news.
@@ -130,8 +146,8 @@ fn say<S: SlotsOf, B: BookOf + Drop, L: Link>(desk: &Desk<S, B>, link: &mut L, i
     }
 }
 
-/// Says what is due, and takes the next datagram, unless the turn is over or none came. It answers whether one was
-/// taken.
+/// Says what is due, and takes the next datagram. The first one of a turn is waited for, until something is due. It answers
+/// whether one was taken.
 fn take_next<S: SlotsOf, B: BookOf + Drop, L: Link, C: Clock, W: Write>(
     desk: &mut Desk<S, B>,
     sheet: &MatchSheet,
@@ -149,12 +165,10 @@ fn take_next<S: SlotsOf, B: BookOf + Drop, L: Link, C: Clock, W: Write>(
 {
     let now = clock.millis();
     say(desk, link, between.pace.take_due(now));
-    if between.pace.is_over(now) {
-        return Ok(false);
-    }
     let mut buffer = [0; ROOM];
-    match link.take(&mut buffer) {
+    match link.take(&mut buffer, between.pace.take_wait(now)) {
         Taken::Datagram(count) => {
+            let now = clock.millis();
             hear(desk, sheet, &buffer[..count], link, out, between, now)?;
             Ok(true)
         }
@@ -182,7 +196,6 @@ fn take_all<S: SlotsOf, B: BookOf + Drop, L: Link, C: Clock, W: Write>(
         (known_at result (W.contents (stream_of out.old))) (known_at result (W.contents (stream_of out.new))) }
     ensures failed { result ≡ Err DeskEnd.Write → has_failed out.new ≡ true }
 {
-    between.pace.begin_turn(clock.millis());
     for _ in 0..MOST_TAKEN {
         if !take_next(desk, sheet, link, clock, out, between)? {
             break;
@@ -215,6 +228,7 @@ fn act<S: SlotsOf, B: BookOf + Drop, L: Link, K: Keys, C: Clock, W: Write>(
     between
         .pace
         .note(desk.position() != at, has_voted, clock.millis());
+    between.pace.begin_turn(!keys.has_more());
     take_all(desk, sheet, link, clock, out, between)
 }
 
@@ -247,11 +261,11 @@ fn greet<S: SlotsOf, B: BookOf + Drop, W: Write>(
 ) -> Result<(), DeskEnd>
     ensures text { OnOk result (Prints W.contents out.old out.new
         (greeting sheet.now (innings_of desk.now) (state_of desk.now).book
-        (state_of desk.now).seat.position (is_some (state_of desk.now).seat.mine))) }
+        (state_of desk.now).seat.position (desks.own_line (state_of desk.now)))) }
     ensures only { IfErr result (λ end. end ≡ DeskEnd.Write) }
     ensures failed { OnErr result (has_failed out.new ≡ true) }
 {
-    told(print_greeting(out, sheet, desk.position(), desk.has_voted(), desk.book()))?;
+    told(print_greeting(out, sheet, desk.position(), own_line(desk), desk.book()))?;
     told(out.flush())
 }
 

@@ -22,4 +22,7 @@ pub trait Keys {
     /// The next line, without its newline, if there is one. It doesn't wait for one.
     fn line(&mut self, buffer: &mut [u8; 128]) -> Typed
         ensures { IsTyped result buffer.new (inputs self.old) (inputs self.new) };
+
+    /// Whether `line` has more to give at once, so that nothing else is waited for.
+    fn has_more(&self) -> bool;
 }

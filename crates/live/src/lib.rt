@@ -4,13 +4,16 @@
 
 mod begin;
 pub mod board_calls;
+mod board_life;
 mod board_loop;
 mod clock;
 pub mod desk_calls;
+mod desk_life;
 mod desk_loop;
 mod ends;
 mod hearing;
 mod keys;
+mod laws;
 mod link;
 mod log;
 mod notices;
@@ -24,11 +27,14 @@ mod texts;
 mod warned;
 
 pub use begin::begin_desk;
+pub use board_life::keep_board;
 pub use board_loop::run_board;
 pub use clock::Clock;
+pub use desk_life::{LifeEnd, keep_desk};
 pub use desk_loop::run_desk;
 pub use ends::{DeskEnd, end_at};
 pub use keys::{Keys, LINE_ROOM, Typed};
+pub use laws::the_other_is_hidden;
 pub use link::{Link, MOST_TAKEN, ROOM, SEALED_ROOM, SealedCarrier, SharedLink, Taken};
 pub use log::{CarriedLog, InputLog, Log, NoticeLog};
 pub use notices::{Notice, Notices, Telling, print_notice};

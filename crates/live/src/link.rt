@@ -34,9 +34,13 @@ pub trait Link {
     fn send(&mut self, bytes: &[u8; 48])
         ensures { log self.new ≡ log self.old ++ Sent bytes.now ∷ [] };
 
-    /// Takes the next datagram that came from a peer: the front of the buffer. Others' datagrams, and those whose
-    /// taking fails, are lost.
-    fn take(&mut self, buffer: &mut [u8; 64]) -> Taken
+    /// Sends bytes to the peer whose datagram was taken last, if to no other. What can't be sent is lost.
+    fn reply(&mut self, bytes: &[u8; 48])
+        ensures { log self.new ≡ log self.old ++ Sent bytes.now ∷ [] };
+
+    /// Takes the next datagram that came from a peer: the front of the buffer. One is waited for, so many milliseconds at
+    /// most, and no longer than until a scorer may have typed. Others' datagrams, and those whose taking fails, are lost.
+    fn take(&mut self, buffer: &mut [u8; 64], wait: u64) -> Taken
         ensures { IsTaken result buffer.new (log self.old) (log self.new) };
 }
 
@@ -50,9 +54,16 @@ pub trait SealedCarrier {
     fn carry(&mut self, bytes: &[u8; 64])
         ensures { carried self.new ≡ carried self.old ++ Sent bytes.now ∷ [] };
 
-    /// Takes the next datagram that came from a peer: the front of the buffer. Others' datagrams, and those whose taking
-    /// fails, are lost.
-    fn bring(&mut self, buffer: &mut [u8; 65]) -> Taken
+    /// Sends a sealed datagram to the peer whose datagram was taken last, if to no other. What can't be sent is lost.
+    fn carry_back(&mut self, bytes: &[u8; 64])
+        ensures { carried self.new ≡ carried self.old ++ Sent bytes.now ∷ [] };
+
+    /// Which peer's datagram was taken last, as a number of its own.
+    fn last_peer(&self) -> usize;
+
+    /// Takes the next datagram that came from a peer: the front of the buffer. One is waited for, so many milliseconds at
+    /// most, and no longer than until a scorer may have typed. Others' datagrams, and those whose taking fails, are lost.
+    fn bring(&mut self, buffer: &mut [u8; 65], wait: u64) -> Taken
         ensures { IsTakenUpTo 65 result buffer.new (carried self.old) (carried self.new) };
 }
 

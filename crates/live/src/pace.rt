@@ -1,4 +1,4 @@
-//! When a station says what it says unasked.
+//! When a station says what it says unasked, and how long it waits for datagrams.
 
 ghost use Rattle.std.specs.Prelude.{◌≡◌, ◌≤◌};
 
@@ -8,17 +8,14 @@ const FIRST_WAIT: u64 = 20;
 /// How long at most, so that something is said four times a second.
 const LAST_WAIT: u64 = 250;
 
-/// How long a turn takes, where nothing comes.
-const TURN: u64 = 10;
-
 /// When a station says next what it says unasked: at once where its position is new, then again after 20 ms, after
 /// twice that and so on, up to four times a second.
 #[derive(Clone, Copy, Debug, PartialEq, Eq)]
 pub struct Pace {
     due: u64,
     wait: u64,
-    /// When the turn is over.
-    over: u64,
+    /// Whether the next datagram is waited for: not where another was taken in this turn, or there is a line to take.
+    waits: bool,
     ghost soon: { wait ≤ 250 },
 }
 
@@ -28,18 +25,24 @@ impl Pace {
         Pace {
             due: 0,
             wait: FIRST_WAIT,
-            over: 0,
+            waits: false,
         }
     }
 
-    /// A turn begins.
-    pub fn begin_turn(&mut self, now: u64) {
-        self.over = now.saturating_add(TURN);
+    /// A turn begins, in which a datagram is waited for or not.
+    pub fn begin_turn(&mut self, waits: bool) {
+        self.waits = waits;
     }
 
-    /// Whether the turn is over.
-    pub fn is_over(&self, now: u64) -> bool {
-        now >= self.over
+    /// How long the next datagram is waited for: the first one of a turn until something is due, and no further one.
+    pub fn take_wait(&mut self, now: u64) -> u64 {
+        let waits = self.waits;
+        self.waits = false;
+        if waits {
+            LAST_WAIT.min(self.due.saturating_sub(now))
+        } else {
+            0
+        }
     }
 
     /// Whether something is due. If so it is said now, and is due again after a wait, which then doubles.

@@ -5,11 +5,13 @@ ghost use Rattle.std.specs.List.{list_all};
 ghost use Rattle.cards.specs.Sheet.{team_of};
 ghost use Rattle.shorthand.specs.Candidates.{candidates, has_beginning};
 ghost use Rattle.streams.specs.Watched.{Prints, has_failed};
+ghost use Rattle.screen.specs.Sides.{listed};
 ghost use Rattle.live.specs.Questions as questions;
 ghost use Rattle.live.specs.inner.Telling.{is_number};
 
 use cards::MatchSheet;
 use notation::{LineFault, Player, Side};
+use screen::{fault_sentence, print_player};
 use shorthand::{Unclear, has_beginning};
 use std::io::Write;
 use streams::{Watched, WriteFailed};
@@ -20,28 +22,8 @@ pub fn print_fault<W: Write>(out: &mut Watched<W>, fault: LineFault) -> Result<(
     ensures failed { OnErr result (has_failed out.new ≡ true) }
 {
     let code = fault.number();
-    writeln!(out, "fault {code} {fault}")
-}
-
-/// Prints a player by number and name, behind a comma unless he is the first.
-fn print_player<W: Write>(
-    out: &mut Watched<W>,
-    sheet: &MatchSheet,
-    side: Side,
-    player: Player,
-    is_first: bool,
-) -> Result<(), WriteFailed>
-    ensures text { OnOk result (Prints W.contents out.old out.new
-        (questions.comma is_first ++ questions.player_text (team_of sheet.now side) player)) }
-    ensures failed { OnErr result (has_failed out.new ≡ true) }
-{
-    let number = player.number();
-    let name = sheet.player(side, player);
-    if is_first {
-        write!(out, "{number} {name}")
-    } else {
-        write!(out, ", {number} {name}")
-    }
+    let sentence = fault_sentence(fault);
+    writeln!(out, "fault {code} {fault}: {sentence}")
 }
 
 /// Prints those of these players who have a word that begins so.
@@ -55,7 +37,7 @@ fn print_those<W: Write>(
 ) -> Result<(), WriteFailed>
     requires { list_all is_number numbers.now ≡ true }
     ensures text { OnOk result (Prints W.contents out.old out.new
-        (questions.listed (team_of sheet.now side) is_first
+        (listed (team_of sheet.now side) is_first
         (filter (λ n. has_beginning (team_of sheet.now side) beginning.now n) numbers.now))) }
     ensures failed { OnErr result (has_failed out.new ≡ true) }
 {
@@ -80,7 +62,7 @@ fn print_all<W: Write>(
     name: &str,
 ) -> Result<(), WriteFailed>
     ensures text { OnOk result (Prints W.contents out.old out.new
-        (questions.listed (team_of sheet.now side) true (candidates (team_of sheet.now side) name.now))) }
+        (listed (team_of sheet.now side) true (candidates (team_of sheet.now side) name.now))) }
     ensures failed { OnErr result (has_failed out.new ≡ true) }
 {
     let numbers = [1, 2, 3, 4, 5, 6, 7, 8, 9, 10, 11];
@@ -96,7 +78,7 @@ fn print_candidates<W: Write>(
 ) -> Result<(), WriteFailed>
     ensures text { OnOk result (Prints W.contents out.old out.new
         (codes "which one? "
-        ++ questions.listed (team_of sheet.now side) true (candidates (team_of sheet.now side) name.now)
+        ++ listed (team_of sheet.now side) true (candidates (team_of sheet.now side) name.now)
         ++ codes "\n")) }
     ensures failed { OnErr result (has_failed out.new ≡ true) }
 {

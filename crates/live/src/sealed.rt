@@ -37,9 +37,13 @@ impl<R: SealedCarrier> Link for Sealed<R> {
         self.carrier.carry(&self.seal.sealed(bytes));
     }
 
-    fn take(&mut self, buffer: &mut [u8; 64]) -> Taken {
+    fn reply(&mut self, bytes: &[u8; 48]) {
+        self.carrier.carry_back(&self.seal.sealed(bytes));
+    }
+
+    fn take(&mut self, buffer: &mut [u8; 64], wait: u64) -> Taken {
         let mut sealed = [0; SEALED_ROOM];
-        let count = match self.carrier.bring(&mut sealed) {
+        let count = match self.carrier.bring(&mut sealed, wait) {
             Taken::Datagram(count) => count,
             missed => return missed,
         };

@@ -1,8 +1,13 @@
 //! What a desk's scorer is told.
 
-ghost use Rattle.std.specs.Prelude.{◌≡◌, ◌++◌, true, codes, OnErr, OnOk};
+ghost use Rattle.std.specs.Prelude.{◌≡◌, true, codes, slice_get, IfSome, OnErr, OnOk};
 ghost use Rattle.streams.specs.Watched.{Prints, has_failed};
 ghost use Rattle.notation.specs.Written.{IsEntry};
+ghost use Rattle.match_laws.specs.Stands.{ForEachHistory};
+ghost use Rattle.corrections.specs.CleanList.{history_of};
+ghost use Rattle.desk.specs.Refusal.{name_of, number_of};
+ghost use Rattle.screen.specs.Sentences.{of_desk};
+ghost use Rattle.live.specs.Questions.{explained};
 ghost use Rattle.live.specs.inner.Telling.{IsFine};
 ghost use Rattle.live.specs.Texts as texts;
 
@@ -10,66 +15,18 @@ use crate::questions::{print_fault, print_unclear};
 use crate::said::Said;
 use crate::warned::Warned;
 use agree_core::{Heard, Position, Settled};
-use cards::{MatchSheet, board_lines, last_entries};
+use cards::MatchSheet;
 use corrections::BookOf;
 use desk::Refusal;
-use notation::{Entry, line_of};
+use match_laws::Match;
+use notation::{Entry, Plain, line_of};
+use screen::{
+    HELP, Word, help_on, print_cards, print_check, print_listing, print_row, print_sides,
+    refusal_sentence,
+};
 use std::io::Write;
 use streams::{Watched, WriteFailed};
 use wire::What;
-
-/// How many entries `list` shows at most.
-const LISTED: u32 = 12;
-
-/// What `help` shows.
-const HELP: &str = "\
-innings S       S: home away
-in n            n: 1 to 11
-ball b K r [short s] [B] [dead] [out H W f [crossed]]
-  K: bat bye leg wide nb nbbye nbleg    B: four six overthrow
-  H: bowled caught lbw stumped hitwicket hittwice obstructing runout
-  W: striker other    f: 0 none, 12 a substitute
-gone L n        L: timedout retiredout retiredhurt runout
-over
-penalty S x y   by Law x.y
-swap
-end C           C: allout nobatter declared forfeited overs
-close
-void
-fix p E         place p is to read E, any line above
-late p E        E, any line above, belongs after place p
-again [E]       E, or what you wrote before, where you two differ
-list            the last twelve entries, with their places
-help            this
-help short      short lines, which stand for these
-quit            ends; the same command goes on
-";
-
-/// What `help short` shows.
-const HELP_SHORT: &str = "\
-A delivery:  [B:] [RUNS] [OPTIONS] [OUT]   with one of the last three at least
-B: bowls, by number or name, as 10: or usher:   Left out, it is who bowled the
-   last delivery of this over: so the first of each over names the bowler.
-RUNS: letters and a figure with no space between them, as 1 or lb4
-   none bat       .  0
-   b    bye       1  1
-   lb   leg       2  2
-   wd   wide      3  3
-   nb   nb        4  0 four
-   nbb  nbbye     5  5
-   nblb nbleg     6  0 six
-   wd is wide 0, and nb is nb 0.   nb 4 is four all run, and nb4 a four.
-   K r stands as in a full line: bat 4 is four all run.   Left out: bat 0
-OPTIONS: short s, overthrow, dead
-OUT: [out] H [W] [f] [crossed]
-   W left out is striker, but never for runout and obstructing
-   f left out is 0; it is a number, a name or sub, any substitute
-/  is over.
-Names: in n, gone L n, ball b, B: and f take a name of that side, in letters of
-   any case: the last word of one player's name, or the beginning of a word in
-   the name of one player.
-fix p, late p and again: short lines stand behind them too.
-";
 
 /// Prints a place, and what is told of it.
 fn print_at<W: Write>(out: &mut Watched<W>, place: u32, words: &str) -> Result<(), WriteFailed>
@@ -79,20 +36,110 @@ fn print_at<W: Write>(out: &mut Watched<W>, place: u32, words: &str) -> Result<(
     writeln!(out, "{place} {words}")
 }
 
-/// Prints the six lines of a book.
-fn print_score<B: BookOf, W: Write>(
-    out: &mut Watched<W>,
-    sheet: &MatchSheet,
-    book: &B,
-) -> Result<(), WriteFailed>
-    ensures text { OnOk result (Prints W.contents out.old out.new
-        (texts.score sheet.now (B.innings_a_side book.now) (B.content book.now))) }
-    ensures failed { OnErr result (has_failed out.new ≡ true) }
+/// Whether the umpire calls over.
+fn is_over(entry: &Entry) -> bool
+    ensures { result ≡ texts.is_over entry.now }
 {
-    board_lines(sheet, book.score(), out)
+    matches!(entry, Entry::Write(Plain::Over))
 }
 
-/// Prints that a place is agreed, and the score with it.
+/// Prints how many overs were called in the innings begun last.
+fn print_called<W: Write>(out: &mut Watched<W>, score: &Match) -> Result<(), WriteFailed>
+    ensures text { ForEachHistory score.now (λ n h.
+        OnOk result (Prints W.contents out.old out.new (texts.over_called h))) }
+    ensures failed { OnErr result (has_failed out.new ≡ true) }
+{
+    let begun = score.begun();
+    if begun == 0 {
+        return Ok(());
+    }
+    let (called, _) = score.overs(begun - 1);
+    write!(out, " {called}")
+}
+
+/// Prints that an entry is agreed at this place.
+fn print_line<W: Write>(out: &mut Watched<W>, place: u32, entry: &Entry) -> Result<(), WriteFailed>
+    requires { IsEntry entry.now }
+    ensures text { OnOk result (Prints W.contents out.old out.new
+        (texts.agreed_line place entry.now)) }
+    ensures failed { OnErr result (has_failed out.new ≡ true) }
+{
+    let line = line_of(entry);
+    let words = line.as_str();
+    write!(out, "{place} agreed: {words}")
+}
+
+/// Prints that an over is agreed at this place, with the check of it.
+fn print_over<B: BookOf, W: Write>(
+    out: &mut Watched<W>,
+    sheet: &MatchSheet,
+    place: u32,
+    entry: &Entry,
+    book: &B,
+) -> Result<(), WriteFailed>
+    requires { IsEntry entry.now }
+    ensures text { OnOk result (Prints W.contents out.old out.new
+        (texts.over_agreed sheet.now place (history_of (B.content book.now)) entry.now)) }
+    ensures failed { OnErr result (has_failed out.new ≡ true) }
+{
+    print_line(out, place, entry)?;
+    print_called(out, book.score())?;
+    writeln!(out)?;
+    print_check(out, sheet, book)
+}
+
+/// Prints that an entry but `over` is agreed at this place, and how the match stands.
+fn print_play<B: BookOf, W: Write>(
+    out: &mut Watched<W>,
+    sheet: &MatchSheet,
+    place: u32,
+    entry: &Entry,
+    book: &B,
+) -> Result<(), WriteFailed>
+    requires { IsEntry entry.now }
+    ensures text { OnOk result (Prints W.contents out.old out.new
+        (texts.play_agreed sheet.now (B.innings_a_side book.now) place (history_of (B.content book.now)) entry.now)) }
+    ensures failed { OnErr result (has_failed out.new ≡ true) }
+{
+    print_line(out, place, entry)?;
+    writeln!(out)?;
+    print_row(out, sheet, book)
+}
+
+/// Prints that an entry is agreed at this place, and what it brought.
+fn print_entry<B: BookOf, W: Write>(
+    out: &mut Watched<W>,
+    sheet: &MatchSheet,
+    place: u32,
+    entry: &Entry,
+    book: &B,
+) -> Result<(), WriteFailed>
+    requires { IsEntry entry.now }
+    ensures text { OnOk result (Prints W.contents out.old out.new
+        (texts.agreed_entry sheet.now (B.innings_a_side book.now) place (history_of (B.content book.now)) entry.now)) }
+    ensures failed { OnErr result (has_failed out.new ≡ true) }
+{
+    if is_over(entry) {
+        print_over(out, sheet, place, entry, book)
+    } else {
+        print_play(out, sheet, place, entry, book)
+    }
+}
+
+/// The entry at a place of a book, if it has one there.
+#[tactic(auto, using(std::proofs::lemmas::Option::slice_get_past))]
+fn entry_at<B: BookOf>(book: &B, place: u32) -> Option<Entry>
+    ensures value { result ≡ slice_get (B.content book.now) place }
+    ensures entry { IfSome result IsEntry }
+{
+    if place < book.len() {
+        Some(book.entry(place))
+    } else {
+        None
+    }
+}
+
+/// Prints that a place is agreed, where the book has its entry.
 fn print_agreed<B: BookOf, W: Write>(
     out: &mut Watched<W>,
     sheet: &MatchSheet,
@@ -103,8 +150,21 @@ fn print_agreed<B: BookOf, W: Write>(
         (texts.agreed sheet.now (B.innings_a_side book.now) place (B.content book.now))) }
     ensures failed { OnErr result (has_failed out.new ≡ true) }
 {
-    print_at(out, place, "agreed")?;
-    print_score(out, sheet, book)
+    match entry_at(book, place) {
+        None => Ok(()),
+        Some(entry) => print_entry(out, sheet, place, &entry, book),
+    }
+}
+
+/// Prints the number and the name of a refusal, and its sentence.
+fn print_explained<W: Write>(out: &mut Watched<W>, why: Refusal) -> Result<(), WriteFailed>
+    ensures text { OnOk result (Prints W.contents out.old out.new
+        (explained (codes "refused") (number_of why) (name_of why) (of_desk why))) }
+    ensures failed { OnErr result (has_failed out.new ≡ true) }
+{
+    let code = why.number();
+    let sentence = refusal_sentence(why);
+    writeln!(out, "refused {code} {why}: {sentence}")
 }
 
 /// Prints why an entry is refused. A failed disk isn't told here.
@@ -112,16 +172,21 @@ fn print_refused<W: Write>(out: &mut Watched<W>, why: Refusal) -> Result<(), Wri
     ensures text { OnOk result (Prints W.contents out.old out.new (texts.refused_text why)) }
     ensures failed { OnErr result (has_failed out.new ≡ true) }
 {
+    let sentence = refusal_sentence(why);
     match why {
         Refusal::Failed | Refusal::Device => Ok(()),
         Refusal::Book(corrections::Refusal::Later { place, why }) => {
             let cause = why.number();
-            writeln!(out, "refused 32 Later {place} {cause}")
+            writeln!(out, "refused 32 Later {place} {cause}: {sentence}")
         }
-        _ => {
-            let code = why.number();
-            writeln!(out, "refused {code} {why}")
-        }
+        Refusal::Waiting => print_explained(out, Refusal::Waiting),
+        Refusal::PlacesFull => print_explained(out, Refusal::PlacesFull),
+        Refusal::RoundsFull => print_explained(out, Refusal::RoundsFull),
+        Refusal::SlotsFull => print_explained(out, Refusal::SlotsFull),
+        Refusal::Book(corrections::Refusal::Law(_)) => print_explained(out, why),
+        Refusal::Book(corrections::Refusal::NoSuchPlace) => print_explained(out, why),
+        Refusal::Book(corrections::Refusal::NotFixable) => print_explained(out, why),
+        Refusal::Book(corrections::Refusal::NotAnchor) => print_explained(out, why),
     }
 }
 
@@ -161,48 +226,117 @@ fn print_settled<B: BookOf, W: Write>(
     }
 }
 
-/// Prints what a line came to, at this place.
+/// Prints where a desk stands: at this position, with its own vote there or none.
+fn print_place<W: Write>(
+    out: &mut Watched<W>,
+    at: Position,
+    own: Option<Entry>,
+) -> Result<(), WriteFailed>
+    requires { IfSome own IsEntry }
+    ensures text { OnOk result (Prints W.contents out.old out.new (texts.place_text at own)) }
+    ensures failed { OnErr result (has_failed out.new ≡ true) }
+{
+    match own {
+        Some(entry) => print_pending(out, at.place, &entry),
+        None => {
+            if at.round > 0 {
+                print_at(out, at.place, "differs")
+            } else {
+                print_at(out, at.place, "next")
+            }
+        }
+    }
+}
+
+/// Prints how the match stands, and where the desk does.
+pub fn print_greeting<B: BookOf, W: Write>(
+    out: &mut Watched<W>,
+    sheet: &MatchSheet,
+    at: Position,
+    own: Option<Entry>,
+    book: &B,
+) -> Result<(), WriteFailed>
+    requires { IfSome own IsEntry }
+    ensures text { OnOk result (Prints W.contents out.old out.new
+        (texts.greeting sheet.now (B.innings_a_side book.now) (B.content book.now) at own)) }
+    ensures failed { OnErr result (has_failed out.new ≡ true) }
+{
+    print_row(out, sheet, book)?;
+    print_place(out, at, own)
+}
+
+/// Prints what a word asks to see.
+fn print_asked<B: BookOf, W: Write>(
+    out: &mut Watched<W>,
+    sheet: &MatchSheet,
+    at: Position,
+    own: Option<Entry>,
+    book: &B,
+    word: Word,
+) -> Result<(), WriteFailed>
+    requires { IfSome own IsEntry }
+    ensures text { OnOk result (Prints W.contents out.old out.new
+        (texts.word_text sheet.now (B.innings_a_side book.now) at own (B.content book.now) word)) }
+    ensures failed { OnErr result (has_failed out.new ≡ true) }
+{
+    match word {
+        Word::Where => print_greeting(out, sheet, at, own, book),
+        Word::Entries(most) => print_listing(out, book, most),
+        Word::Total => print_check(out, sheet, book),
+        Word::Cards => print_cards(out, sheet, book),
+        Word::Sides => print_sides(out, sheet),
+        Word::Forms => write!(out, "{HELP}"),
+        Word::More(topic) => {
+            let text = help_on(topic);
+            write!(out, "{text}")
+        }
+    }
+}
+
+/// Prints what a line came to, at this position, where the desk had this vote of its own or none.
 fn print_answer<B: BookOf, W: Write>(
     out: &mut Watched<W>,
     sheet: &MatchSheet,
-    place: u32,
+    at: Position,
+    own: Option<Entry>,
     said: &Said,
     book: &B,
 ) -> Result<(), WriteFailed>
-    requires { IsFine said.now }
+    requires fine { IsFine said.now }
+    requires own { IfSome own IsEntry }
     ensures text { OnOk result (Prints W.contents out.old out.new
-        (texts.said_text sheet.now (B.innings_a_side book.now) place (B.content book.now) said.now)) }
+        (texts.said_text sheet.now (B.innings_a_side book.now) at own (B.content book.now) said.now)) }
     ensures failed { OnErr result (has_failed out.new ≡ true) }
 {
     match said {
         Said::Quit => Ok(()),
-        Said::List => last_entries(book, LISTED, out),
-        Said::Help => write!(out, "{HELP}"),
-        Said::HelpShort => write!(out, "{HELP_SHORT}"),
+        Said::Asks(word) => print_asked(out, sheet, at, own, book, *word),
         Said::Unclear(unclear) => print_unclear(out, sheet, unclear),
         Said::Fault(fault) => print_fault(out, *fault),
-        Said::SayAgain => print_at(out, place, "differs: begin the line with again"),
-        Said::NoneDiffers => print_at(out, place, "doesn't differ: leave out again"),
+        Said::SayAgain => print_at(out, at.place, "differs: begin the line with again"),
+        Said::NoneDiffers => print_at(out, at.place, "doesn't differ: leave out again"),
         Said::Waiting => print_refused(out, Refusal::Waiting),
         Said::Refused(why) => print_refused(out, *why),
-        Said::Penned(entry, settled) => print_settled(out, sheet, place, entry, *settled, book),
+        Said::Penned(entry, settled) => print_settled(out, sheet, at.place, entry, *settled, book),
     }
 }
 
-/// Tells the scorer at once what a line came to, at this place.
+/// Tells the scorer at once what a line came to, at this position, where the desk had this vote of its own or none.
 pub fn print_said<B: BookOf, W: Write>(
     out: &mut Watched<W>,
     sheet: &MatchSheet,
-    place: u32,
+    at: Position,
+    own: Option<Entry>,
     said: &Said,
     book: &B,
 ) -> Result<(), WriteFailed>
-    requires { IsFine said.now }
+    requires fine { IsFine said.now }
+    requires own { IfSome own IsEntry }
     ensures text { OnOk result (Prints W.contents out.old out.new
-        (texts.said_text sheet.now (B.innings_a_side book.now) place (B.content book.now) said.now)) }
+        (texts.said_text sheet.now (B.innings_a_side book.now) at own (B.content book.now) said.now)) }
     ensures failed { OnErr result (has_failed out.new ≡ true) }
 {
-    print_answer(out, sheet, place, said, book)?;
+    print_answer(out, sheet, at, own, said, book)?;
     out.flush()
 }
 
@@ -305,33 +439,4 @@ pub fn print_unopened<W: Write>(out: &mut Watched<W>, warned: Warned) -> Result<
 {
     print_warning(out, warned.of_seal, "peer: another sheet or another key\n")?;
     out.flush()
-}
-
-/// Where a desk stands at its position.
-fn place_state(at: Position, is_cast: bool) -> &'static str
-    ensures { result.now ≡ texts.place_state at is_cast }
-{
-    if is_cast {
-        "pending"
-    } else if at.round > 0 {
-        "differs"
-    } else {
-        "next"
-    }
-}
-
-/// Prints where a desk stands as it begins.
-pub fn print_greeting<B: BookOf, W: Write>(
-    out: &mut Watched<W>,
-    sheet: &MatchSheet,
-    at: Position,
-    is_cast: bool,
-    book: &B,
-) -> Result<(), WriteFailed>
-    ensures text { OnOk result (Prints W.contents out.old out.new
-        (texts.greeting sheet.now (B.innings_a_side book.now) (B.content book.now) at is_cast)) }
-    ensures failed { OnErr result (has_failed out.new ≡ true) }
-{
-    print_score(out, sheet, book)?;
-    print_at(out, at.place, place_state(at, is_cast))
 }

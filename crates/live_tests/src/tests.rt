@@ -17,6 +17,7 @@ use tests_support::{entry_in, vote_of};
 use wire::bytes_of;
 
 mod begins;
+mod behind;
 mod boards;
 mod desks;
 mod ends;
@@ -24,6 +25,7 @@ mod memory;
 mod sealed;
 mod short;
 mod three;
+mod timing;
 
 type Station = Desk<Slots<MemDisk>, Book>;
 

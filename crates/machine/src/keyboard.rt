@@ -2,11 +2,10 @@
 
 ghost use Rattle.std.specs.Prelude.{◌≡◌, ◌<◌, ◌≤◌, IfSome};
 
-use libc::net::{POLLIN, poll};
-use libc::types::pollfd;
+use crate::waiting::can_read;
 use live::{InputLog, Keys, LINE_ROOM, Typed};
 use std::io::{self, ErrorKind, Read};
-use std::os::fd::AsRawFd;
+use std::os::fd::{AsRawFd, RawFd};
 use std::rt::Stdin;
 
 /// A scorer's lines, from a reader that answers `WouldBlock` where nothing was typed. A line ends with its newline:
@@ -31,21 +30,9 @@ pub struct StandardInput {
     stream: Stdin,
 }
 
-impl StandardInput {
-    /// Whether a read answers at once.
-    fn is_ready(&self) -> bool {
-        let mut asked = [pollfd {
-            fd: self.stream.as_raw_fd(),
-            events: POLLIN,
-            revents: 0,
-        }];
-        poll(&mut asked, 0) > 0
-    }
-}
-
 impl Read for StandardInput {
     fn read(&mut self, buffer: &mut [u8]) -> io::Result<usize> {
-        if self.is_ready() {
+        if can_read(self.stream.as_raw_fd()) {
             self.stream.read(buffer)
         } else {
             Err(io::Error::from(ErrorKind::WouldBlock))
@@ -58,6 +45,11 @@ impl Keyboard<StandardInput> {
     /// pipe, a terminal or a socket of whomever, and stays as it is for other programs.
     pub fn of_standard_input(rt: &HostRuntime) -> Keyboard<StandardInput> {
         Keyboard::new(StandardInput { stream: rt.stdin() })
+    }
+
+    /// Its descriptor, at which it can be waited for.
+    pub fn descriptor(&self) -> RawFd {
+        self.reader.stream.as_raw_fd()
     }
 }
 
@@ -174,5 +166,9 @@ impl<R: Read> Keys for Keyboard<R> {
             return Typed::Ended;
         }
         Typed::Nothing
+    }
+
+    fn has_more(&self) -> bool {
+        self.ended || self.first_line().is_some()
     }
 }

@@ -13,6 +13,7 @@ mod port;
 mod renewal;
 mod sockets;
 mod text_file;
+mod waiting;
 
 pub use address::{Address, MOST_PEERS, addresses_in};
 pub use file_disk::{FileDisk, OpenFault};

@@ -40,14 +40,14 @@ fn sync_folder(rt: &HostRuntime, name: &str) -> io::Result<()> {
     }
 }
 
-/// Locks a file for this process, and then asks that this is its name. A file that another process has is let be.
+/// Locks a file for this process, and then asks that this is its name. A file that another process has is left alone.
 fn locked(rt: &HostRuntime, name: &str, file: File) -> io::Result<File> {
     file.try_lock()?;
     is_named(rt, name, &file)?;
     Ok(file)
 }
 
-/// Removes what a start that was cut off left under this name. What another process has, or is no file, is let be.
+/// Removes what a start that was cut off left under this name. What another process has, or is no file, is left alone.
 fn clear(rt: &HostRuntime, name: &str) -> io::Result<()> {
     match fs::symlink_metadata(rt, name) {
         Ok(found) if found.is_file() => {}
@@ -84,7 +84,7 @@ fn give_access(old: &File, new: &File) -> io::Result<()> {
 }
 
 impl<'a> NamedFile<'a> {
-    /// Opens a file for this process alone, and makes it where there is none. One that another process has is let be,
+    /// Opens a file for this process alone, and makes it where there is none. One that another process has is left alone,
     /// and so is one that lost its name before it was locked.
     pub fn open(rt: &'a HostRuntime, name: &str) -> io::Result<NamedFile<'a>> {
         let file = OpenOptions::new()

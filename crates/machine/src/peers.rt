@@ -8,10 +8,19 @@ use live::{CarriedLog, SealedCarrier, Taken};
 use seal::Seal;
 use std::io::{self, ErrorKind, Write};
 use std::net::{Net, SocketAddr};
+use std::os::fd::RawFd;
 
 /// Whether a send was refused by the machine, and not held up for a moment.
 fn is_refusal(error: &io::Error) -> bool {
     !is_late(error) && error.kind() != ErrorKind::Interrupted
+}
+
+/// Whether something for all, or for the one at an address, is for this one.
+fn is_meant(only: Option<SocketAddr>, address: SocketAddr) -> bool {
+    match only {
+        Some(one) => one == address,
+        None => true,
+    }
 }
 
 /// A socket, the addresses of its peers, and what standard error was told of them. That it can't be told anything is
@@ -20,6 +29,8 @@ fn is_refusal(error: &io::Error) -> bool {
 struct Mail<E> {
     port: Port,
     peers: [Option<SocketAddr>; MOST_PEERS],
+    /// Whose datagram was taken last.
+    last: Option<SocketAddr>,
     /// What the match's datagrams are sealed with.
     seal: Seal,
     errors: E,
@@ -46,13 +57,28 @@ impl<E: Write + Drop> Mail<E> {
         }
     }
 
-    /// Sends bytes to every peer.
-    fn send(&mut self, bytes: &[u8; 64]) {
+    /// Sends bytes to every peer, or to the one at an address.
+    fn send(&mut self, bytes: &[u8; 64], only: Option<SocketAddr>) {
         for index in 0..MOST_PEERS {
-            if let Some(address) = self.peers[index] {
+            if let Some(address) = self.peers[index]
+                && is_meant(only, address)
+            {
                 self.refused[index] = self.send_to(bytes, address, self.refused[index]);
             }
         }
+    }
+
+    /// Sends bytes to the peer whose datagram was taken last.
+    fn send_back(&mut self, bytes: &[u8; 64]) {
+        if self.last.is_some() {
+            self.send(bytes, self.last);
+        }
+    }
+
+    /// The place of the peer whose datagram was taken last.
+    fn last_index(&self) -> usize {
+        let found = self.peers.iter().position(|peer| *peer == self.last);
+        found.unwrap_or(0)
     }
 
     /// Tells once that a datagram of the match, which opens, came from an address that isn't a peer's.
@@ -64,14 +90,15 @@ impl<E: Write + Drop> Mail<E> {
     }
 
     /// The next datagram, if it is a peer's and comes in time. That of a stranger is passed over, one a call.
-    fn receive(&mut self, buffer: &mut [u8; 65]) -> Taken
+    fn receive(&mut self, buffer: &mut [u8; 65], wait: u64) -> Taken
         ensures { (count : ℕ) → result ≡ Taken.Datagram count → count ≤ 65 }
     {
-        let (count, from) = match self.port.receive(buffer.as_mut_slice()) {
+        let (count, from) = match self.port.receive(buffer.as_mut_slice(), wait) {
             Ok(came) => came,
             Err(error) => return missed(&error),
         };
         if self.knows(from) {
+            self.last = Some(from);
             return Taken::Datagram(count);
         }
         self.pass_over(&buffer[..count], from);
@@ -88,19 +115,25 @@ pub struct Peers<E> {
 }
 
 impl<E: Write + Drop> Peers<E> {
-    /// A socket at this address, in the match with this seal, of which no call waits without a limit.
+    /// A socket at this address, in the match with this seal, of which no call waits without a limit. Where a keyboard's
+    /// descriptor is named, a wait for datagrams ends for it too.
     pub fn new(
         net: &impl Net,
         at: SocketAddr,
         peers: [Option<SocketAddr>; MOST_PEERS],
+        keyboard: Option<RawFd>,
         seal: Seal,
         errors: E,
     ) -> io::Result<Peers<E>> {
-        let port = Port::new(net, at)?;
+        let mut port = Port::new(net, at)?;
+        if let Some(descriptor) = keyboard {
+            port.watch(descriptor);
+        }
         Ok(Peers {
             mail: Mail {
                 port,
                 peers,
+                last: None,
                 seal,
                 errors,
                 refused: [false; MOST_PEERS],
@@ -117,13 +150,21 @@ impl<E: Write + Drop> SealedCarrier for Peers<E> {
     ghost carried = { λ peers. carried_of peers.log };
 
     fn carry(&mut self, bytes: &[u8; 64]) {
-        self.mail.send(bytes);
+        self.mail.send(bytes, None);
         self.log = self.log.sent(bytes);
     }
 
-    /// Waits 10 ms at most.
-    fn bring(&mut self, buffer: &mut [u8; 65]) -> Taken {
-        match self.mail.receive(buffer) {
+    fn carry_back(&mut self, bytes: &[u8; 64]) {
+        self.mail.send_back(bytes);
+        self.log = self.log.sent(bytes);
+    }
+
+    fn last_peer(&self) -> usize {
+        self.mail.last_index()
+    }
+
+    fn bring(&mut self, buffer: &mut [u8; 65], wait: u64) -> Taken {
+        match self.mail.receive(buffer, wait) {
             Taken::Datagram(count) => {
                 self.log = self.log.came(buffer, count);
                 Taken::Datagram(count)

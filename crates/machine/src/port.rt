@@ -1,13 +1,15 @@
-//! A socket of which no call waits long.
+//! A socket at which a station waits for datagrams, and for its scorer's keyboard too.
 
 ghost use Rattle.std.specs.Prelude.{◌≡◌, ◌≤◌, ◌⊎◌, IfOk, length};
 
+use crate::waiting::{NO_DESCRIPTOR, wait_at};
 use live::Taken;
 use std::io::{self, ErrorKind};
 use std::net::{Net, SocketAddr, UdpSocket};
+use std::os::fd::{AsRawFd, RawFd};
 use std::time::Duration;
 
-/// How long a call waits at most, in milliseconds.
+/// How long a call of the socket waits at most, in milliseconds, and how long it is left alone after one that failed.
 const LIMIT: u64 = 10;
 
 /// Whether a call failed only because it could wait no longer.
@@ -19,6 +21,10 @@ pub fn is_late(error: &io::Error) -> bool {
 #[derive(Drop)]
 pub struct Port {
     socket: UdpSocket,
+    /// What a wait for datagrams ends for, too.
+    keyboard: RawFd,
+    /// Whether the last receive failed.
+    fails: bool,
 }
 
 impl Port {
@@ -28,7 +34,16 @@ impl Port {
         let limit = Some(Duration::from_millis(LIMIT));
         socket.set_read_timeout(limit)?;
         socket.set_write_timeout(limit)?;
-        Ok(Port { socket })
+        Ok(Port {
+            socket,
+            keyboard: NO_DESCRIPTOR,
+            fails: false,
+        })
+    }
+
+    /// From here on a wait for datagrams ends for this keyboard too.
+    pub fn watch(&mut self, keyboard: RawFd) {
+        self.keyboard = keyboard;
     }
 
     /// Its address.
@@ -41,12 +56,28 @@ impl Port {
         self.socket.send_to(bytes, to)
     }
 
-    /// The next datagram, of so many bytes, as far as there is room, and where it came from.
-    pub fn receive(&self, buffer: &mut [u8]) -> io::Result<(usize, SocketAddr)>
+    /// Waits until a receive may answer at once, so many milliseconds at most, and tells whether it may. A socket that
+    /// failed is left alone for a moment: so one that always fails doesn't keep the processor busy.
+    fn is_ready(&self, wait: u64) -> bool {
+        if self.fails {
+            let _ = wait_at(NO_DESCRIPTOR, self.keyboard, LIMIT.min(wait));
+            return true;
+        }
+        wait_at(self.socket.as_raw_fd(), self.keyboard, wait)
+    }
+
+    /// The next datagram, of so many bytes, as far as there is room, and where it came from. It is waited for, so many
+    /// milliseconds at most, and no longer than until the keyboard can be read.
+    pub fn receive(&mut self, buffer: &mut [u8], wait: u64) -> io::Result<(usize, SocketAddr)>
         ensures { IfOk result (λ came. came.0 ≤ length buffer.old) }
     {
+        if !self.is_ready(wait) {
+            return Err(io::Error::from(ErrorKind::WouldBlock));
+        }
         let room = buffer.len();
-        let (count, from) = self.socket.recv_from(buffer)?;
+        let came = self.socket.recv_from(buffer);
+        self.fails = came.as_ref().is_err_and(|error| !is_late(error));
+        let (count, from) = came?;
         Ok((count.min(room), from))
     }
 }

@@ -40,6 +40,15 @@ impl Ports {
         }
     }
 
+    /// The same, to receive at it.
+    fn at(&mut self, station: Asker) -> &mut Port {
+        match station {
+            Asker::A => &mut self.a,
+            Asker::B => &mut self.b,
+            Asker::Board => &mut self.board,
+        }
+    }
+
     fn carry(&self, from: Asker, to: Asker, bytes: &[u8; 48]) -> io::Result<usize> {
         let address = self.of(to).address()?;
         self.of(from).send(bytes.as_slice(), address)
@@ -94,9 +103,14 @@ impl Link for Sockets {
         self.log = self.log.sent(bytes);
     }
 
-    /// Waits 10 ms at most.
-    fn take(&mut self, buffer: &mut [u8; 64]) -> Taken {
-        match self.ports.of(self.turn).receive(buffer.as_mut_slice()) {
+    /// It goes to both others, as what is sent does.
+    fn reply(&mut self, bytes: &[u8; 48]) {
+        self.send(bytes);
+    }
+
+    fn take(&mut self, buffer: &mut [u8; 64], wait: u64) -> Taken {
+        let port = self.ports.at(self.turn);
+        match port.receive(buffer.as_mut_slice(), wait) {
             Ok((count, _)) => {
                 self.log = self.log.came(buffer, count);
                 Taken::Datagram(count)

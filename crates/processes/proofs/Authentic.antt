@@ -9,7 +9,7 @@ use Rattle.cards.specs.Sheet.{Sheet}
 use Rattle.agree_core.specs.declared.messages.DeskId.{DeskId}
 use Rattle.agree_core.specs.declared.messages.DeskId.TheVariants.{A, B}
 use Rattle.agree_core.specs.declared.messages.Message.{Message}
-use Rattle.agree_core.specs.Boards.{fresh_board}
+use Rattle.agree_core.specs.Desks.{DeskState}
 use Rattle.agree_core.specs.FileView.{FileView}
 use Rattle.wire.specs.Layout.{IsMessage}
 use Rattle.headline.specs.declared.version.FileVersion.{FileVersion}
@@ -18,11 +18,12 @@ use Rattle.live.specs.Boards as boards
 use Rattle.live.specs.Boards.{BoardCall, BoardTurn, board_kind}
 use Rattle.live.specs.Desks as desks
 use Rattle.live.specs.Desks.{DeskCall, DeskProcess, FitsLongest, desk_kind}
-use Rattle.live.specs.Notices.{untold}
+use Rattle.live.specs.declared.notices.Notice.{Notice}
 use Rattle.live.specs.Runs as own
 use Rattle.seal.proofs.Unforged.{opened_was_sent}
-use Rattle.processes.specs.Happenings.{BoardBegun, BoardCalled, BoardCame, DeskBegun, DeskCalled, DeskCame, DeskEnded, FileMigrated, Happening, PowerLost, WasSent, after}
-use Rattle.processes.specs.Lives.{Beginning, CallsMade, CutOff, FileMigration, IsBoardLife, IsLife, IsNextStage, PowerLoss, ProcessEnd, Stage, after_life, board_calls, board_happens, calls_of, fresh, life_happens, stage_happens}
+use Rattle.processes.specs.Happenings.{BoardBegun, BoardCalled, BoardCame, DeskBegun, DeskCalled, DeskCame, DeskEnded, DeskGreeted, FileMigrated, Happening, PowerLost, WasSent, after}
+use Rattle.live.specs.DeskLife.{fresh}
+use Rattle.processes.specs.Lives.{Beginning, BoardProcess, CallsMade, CutOff, FileMigration, IsBoardLife, IsLife, IsNextStage, PowerLoss, ProcessEnd, Stage, after_life, board_calls, board_happens, calls_of, fresh_turn, life_happens, stage_happens}
 use Rattle.processes.specs.Sealing.{BoardAuthentic, DeskAuthentic, IsAuthentic}
 use Rattle.processes.specs.Weaving as weaving
 use Rattle.processes.specs.Weaving.{NothingIsForged, is_at_board, is_at_desk}
@@ -54,8 +55,8 @@ none_sent sent h = more_sent sent [] h (All-nil IsMessage)
 module _ {Disk : Type 0} where
   -- what a call handed out are messages
   abbrev pub Sends : Happening Disk → Type 0
-  Sends (DeskCalled d s call out l) = All IsMessage out
-  Sends (BoardCalled n call out l) = All IsMessage out
+  Sends (DeskCalled d s call out l text) = All IsMessage out
+  Sends (BoardCalled n sheet call out l text) = All IsMessage out
   Sends what = Unit {0}
 
   abbrev pub EachSends : List (Happening Disk) → Type 0
@@ -77,13 +78,14 @@ module _ {Disk : Type 0} where
   -- what happened sends messages, where it does so at each station
   one_sends : (h : Happening Disk) (hs : List (Happening Disk)) → EachSends (with_one (is_at_desk A h) h (filter (is_at_desk A) hs)) → EachSends (with_one (is_at_desk B h) h (filter (is_at_desk B) hs))
       → ((n : ℕ) → EachSends (with_one (is_at_board n h) h (filter (is_at_board n) hs))) → Sends h
-  one_sends (DeskCalled A s call out l) hs a b t = a.0
-  one_sends (DeskCalled B s call out l) hs a b t = b.0
+  one_sends (DeskCalled A s call out l text) hs a b t = a.0
+  one_sends (DeskCalled B s call out l text) hs a b t = b.0
+  one_sends (DeskGreeted d sheet text) hs a b t = tt
   one_sends (DeskEnded d disk) hs a b t = tt
   one_sends (PowerLost d disk) hs a b t = tt
   one_sends (DeskBegun d opening) hs a b t = tt
   one_sends (FileMigrated d votes new) hs a b t = tt
-  one_sends (BoardCalled n call out l) hs a b t = first_sends (nat_eq n n) (BoardCalled n call out l) (filter (is_at_board n) hs) (eq-eqb n n refl) (t n)
+  one_sends (BoardCalled n sheet call out l text) hs a b t = first_sends (nat_eq n n) (BoardCalled n sheet call out l text) (filter (is_at_board n) hs) (eq-eqb n n refl) (t n)
   one_sends (BoardBegun n) hs a b t = tt
 
   pub all_send : (hs : List (Happening Disk)) → EachSends (filter (is_at_desk A) hs) → EachSends (filter (is_at_desk B) hs) → ((n : ℕ) → EachSends (filter (is_at_board n) hs)) → EachSends hs
@@ -97,8 +99,9 @@ module _ {Disk : Type 0} where
   -- all that was sent are messages
   pub all_messages : (w : Configuration Disk) (hs : List (Happening Disk)) → w.sent ≡ [] → EachSends hs → All IsMessage ((λ (v : Configuration Disk). v.sent) (after w hs))
   all_messages w [] e s = subst (All IsMessage) (sym e) (All-nil IsMessage)
-  all_messages w (DeskCalled A sheet call out l ∷ hs) e s = more_sent _ out (all_messages w hs e s.1) s.0
-  all_messages w (DeskCalled B sheet call out l ∷ hs) e s = more_sent _ out (all_messages w hs e s.1) s.0
+  all_messages w (DeskCalled A sheet call out l text ∷ hs) e s = more_sent _ out (all_messages w hs e s.1) s.0
+  all_messages w (DeskCalled B sheet call out l text ∷ hs) e s = more_sent _ out (all_messages w hs e s.1) s.0
+  all_messages w (DeskGreeted d sheet text ∷ hs) e s = all_messages w hs e s.1
   all_messages w (DeskEnded A disk ∷ hs) e s = none_sent _ (all_messages w hs e s.1)
   all_messages w (DeskEnded B disk ∷ hs) e s = none_sent _ (all_messages w hs e s.1)
   all_messages w (PowerLost A disk ∷ hs) e s = none_sent _ (all_messages w hs e s.1)
@@ -107,17 +110,18 @@ module _ {Disk : Type 0} where
   all_messages w (DeskBegun B opening ∷ hs) e s = none_sent _ (all_messages w hs e s.1)
   all_messages w (FileMigrated A votes new ∷ hs) e s = none_sent _ (all_messages w hs e s.1)
   all_messages w (FileMigrated B votes new ∷ hs) e s = none_sent _ (all_messages w hs e s.1)
-  all_messages w (BoardCalled n call out l ∷ hs) e s = more_sent _ out (all_messages w hs e s.1) s.0
+  all_messages w (BoardCalled n sheet call out l text ∷ hs) e s = more_sent _ out (all_messages w hs e s.1) s.0
   all_messages w (BoardBegun n ∷ hs) e s = all_messages w hs e s.1
 
   -- so nothing comes that no station sent
   one_came : (seal : List ℕ) (game : ℕ) (v : Configuration Disk) (h : Happening Disk) → All IsMessage v.sent → weaving.Came seal game v h → Came game v h
-  one_came seal game v (DeskCalled d s call out l) fine c = desk_came seal game v.sent call fine c
+  one_came seal game v (DeskCalled d s call out l text) fine c = desk_came seal game v.sent call fine c
+  one_came seal game v (DeskGreeted d s text) fine c = tt
   one_came seal game v (DeskEnded d disk) fine c = tt
   one_came seal game v (PowerLost d disk) fine c = tt
   one_came seal game v (DeskBegun d opening) fine c = tt
   one_came seal game v (FileMigrated d votes new) fine c = tt
-  one_came seal game v (BoardCalled n call out l) fine c = board_came seal game v.sent call fine c
+  one_came seal game v (BoardCalled n sheet call out l text) fine c = board_came seal game v.sent call fine c
   one_came seal game v (BoardBegun n) fine c = tt
 
   pub nothing_early : (seal : List ℕ) (game : ℕ) (w : Configuration Disk) (hs : List (Happening Disk)) → w.sent ≡ [] → EachSends hs → NothingIsForged seal game w hs → NothingComesEarly game w hs
@@ -127,29 +131,30 @@ module _ {Disk : Type 0} where
 
 -- what happens in lives sends messages
 module _ {Disk : Type 0} (view : FileVersion → FileView Disk) (seen : Disk → List ℕ) (faults : Disk → Faults) (d : DeskId) (game innings : ℕ) where
-  calls_send : (kind : own.Kind (DeskProcess Disk) DeskCall) (k : DeskProcess Disk) (s : Sheet) (ms : List (own.Moment (DeskProcess Disk) DeskCall)) → own.Run kind k ms → EachSends (calls_of d s ms)
-  calls_send kind k s [] r = tt
-  calls_send kind k s (m ∷ ms) r = (r.1, calls_send kind k s ms r.0)
+  calls_send : (kind : own.Kind (DeskProcess Disk) DeskCall) (p : DeskProcess Disk) (s : Sheet) (k : DeskState Disk) (ms : List (own.Moment (DeskProcess Disk) DeskCall)) → own.Run kind p ms → EachSends (calls_of innings d s k ms)
+  calls_send kind p s k [] r = (tt, tt)
+  calls_send kind p s k (m ∷ ms) r = (r.1, calls_send kind p s k ms r.0)
 
-  stage_sends : (x : Node Disk) (stage : Stage Disk) → IsNextStage view seen faults d game innings x stage → EachSends (stage_happens d stage)
-  stage_sends x (CallsMade s ms) h = calls_send (desk_kind s (view x.version) (record { faults = faults; FitsLongest = FitsLongest h.2.0 h.2.1 }) game innings) (fresh h.0) s ms h.2.2
+  stage_sends : (x : Node Disk) (stage : Stage Disk) → IsNextStage view seen faults d game innings x stage → EachSends (stage_happens innings d stage)
+  stage_sends x (CallsMade s k ms) h = calls_send (desk_kind s (view x.version) (record { faults = faults; FitsLongest = FitsLongest h.1.0 h.1.1 }) game innings) (fresh k) s k ms h.1.2
   stage_sends x (CutOff s call l) h = (All-nil IsMessage, tt)
   stage_sends x (ProcessEnd disk) h = (tt, tt)
   stage_sends x (PowerLoss disk) h = (tt, tt)
   stage_sends x (Beginning opening) h = (tt, tt)
   stage_sends x (FileMigration votes new) h = (tt, tt)
 
-  pub life_sends : (x : Node Disk) (stages : List (Stage Disk)) → IsLife view seen faults d game innings x stages → EachSends (life_happens d stages)
+  pub life_sends : (x : Node Disk) (stages : List (Stage Disk)) → IsLife view seen faults d game innings x stages → EachSends (life_happens innings d stages)
   life_sends x [] h = tt
   life_sends x (stage ∷ stages) h =
-      sends-append (stage_happens d stage) (life_happens d stages) (stage_sends (after_life x stages) stage h.1) (life_sends x stages h.0)
+      sends-append (stage_happens innings d stage) (life_happens innings d stages) (stage_sends (after_life x stages) stage h.1) (life_sends x stages h.0)
 
 module _ (Disk : Type 0) (game innings : ℕ) where
-  board_sends : (kind : own.Kind BoardTurn BoardCall) (k : BoardTurn) (n : ℕ) (ms : List (own.Moment BoardTurn BoardCall)) → own.Run kind k ms → EachSends {Disk = Disk} (board_calls n ms)
-  board_sends kind k n [] r = tt
-  board_sends kind k n (m ∷ ms) r = (r.1, board_sends kind k n ms r.0)
+  board_sends : (kind : own.Kind BoardTurn BoardCall) (k : BoardTurn) (n : ℕ) (s : Sheet) (noted : List Notice) (ms : List (own.Moment BoardTurn BoardCall)) → own.Run kind k ms → EachSends {Disk = Disk} (board_calls innings n s noted ms)
+  board_sends kind k n s noted [] r = tt
+  board_sends kind k n s noted (m ∷ ms) r = (r.1, board_sends kind k n s noted ms r.0)
 
-  pub board_life_sends : (n : ℕ) (rs : List (List (own.Moment BoardTurn BoardCall))) → IsBoardLife game innings rs → EachSends {Disk = Disk} (board_happens n rs)
+  pub board_life_sends : (n : ℕ) (ps : List BoardProcess) → IsBoardLife game innings ps → EachSends {Disk = Disk} (board_happens innings n ps)
   board_life_sends n [] h = tt
-  board_life_sends n (ms ∷ rs) h =
-      sends-append (board_calls n ms) (BoardBegun n ∷ board_happens n rs) (board_sends (board_kind h.1.0 game innings) (boards.begun fresh_board 0 untold h.1.1) n ms h.1.2) (tt, board_life_sends n rs h.0)
+  board_life_sends n (p ∷ ps) h =
+      sends-append (board_calls innings n p.sheet p.noted p.calls) (BoardBegun n ∷ board_happens innings n ps)
+      (board_sends (board_kind p.sheet game innings) (fresh_turn p.noted) n p.sheet p.noted p.calls h.1) (tt, board_life_sends n ps h.0)

@@ -1,20 +1,26 @@
 -- A board's processes, step by step.
-use Rattle.std.proofs.Common.{◌≡◌, ℕ, List, [], ◌∷◌, refl, sym, subst}
+use Rattle.std.proofs.Common.{◌≡◌, ◌⊎◌, ℕ, Bool, true, false, nat_eq, List, [], ◌∷◌, length, refl, sym, subst, inl, inr}
+use Rattle.corrections.specs.CleanList.{history_of}
+use Rattle.cards.specs.Board.{board as board_text}
+use Rattle.cards.specs.Sheet.{Sheet}
+use Rattle.agree_core.specs.declared.messages.Message.{Message}
 use Rattle.agree_core.specs.Boards.{BoardState, fresh_board}
 use Rattle.live.specs.Boards as boards
-use Rattle.live.specs.Boards.{BoardCall, BoardStep, BoardTurn}
-use Rattle.live.specs.Notices.{untold}
+use Rattle.live.specs.Boards.{BoardCall, BoardStep, BoardTurn, grown, shown, unless_stopped}
+use Rattle.live.specs.declared.notices.Notice.{Notice}
 use Rattle.live.specs.Runs as own
-use Rattle.processes.specs.Happenings.{BoardBegun, BoardCalled, DeskBegun, DeskCalled, DeskEnded, FileMigrated, Happening, PowerLost}
-use Rattle.processes.specs.Lives.{BoardRuns, IsBoardLife, board_calls, board_happens}
+use Rattle.processes.specs.Happenings.{BoardBegun, BoardCalled, DeskBegun, DeskCalled, DeskEnded, DeskGreeted, FileMigrated, Happening, PowerLost}
+use Rattle.processes.specs.Printing.{Prints}
+use Rattle.processes.specs.Lives.{BoardProcess, BoardRuns, IsBoardLife, board_calls, board_happens, fresh_turn}
 use Rattle.processes.proofs.Local.{Local, local-append, nexts}
 
 module _ {Disk : Type 0} where
   -- a board after something that happens there
   abbrev pub next_board : BoardState → Happening Disk → BoardState
-  next_board k (BoardCalled n call out l) = l
+  next_board k (BoardCalled n sheet call out l text) = l
   next_board k (BoardBegun n) = fresh_board
-  next_board k (DeskCalled d s call out l) = k
+  next_board k (DeskGreeted d s text) = k
+  next_board k (DeskCalled d s call out l text) = k
   next_board k (DeskEnded d disk) = k
   next_board k (PowerLost d disk) = k
   next_board k (DeskBegun d opening) = k
@@ -23,7 +29,7 @@ module _ {Disk : Type 0} where
 module _ (Disk : Type 0) (game innings : ℕ) where
   -- it may happen at this board, but for what came
   abbrev pub MayBoard : BoardState → Happening Disk → Type 0
-  MayBoard k (BoardCalled n call out l) = BoardStep game innings k call out l
+  MayBoard k (BoardCalled n sheet call out l text) = BoardStep game innings k call out l × Prints sheet innings call l text
   MayBoard k what = Unit {0}
 
   abbrev pub BoardLocal : BoardState → List (Happening Disk) → Type 0
@@ -32,12 +38,34 @@ module _ (Disk : Type 0) (game innings : ℕ) where
   abbrev pub board_after : BoardState → List (Happening Disk) → BoardState
   board_after = nexts next_board MayBoard
 
-  calls : (n : ℕ) (ms : List (own.Moment BoardTurn BoardCall)) (r : BoardRuns game innings ms) → BoardLocal fresh_board (board_calls n ms) × (board_after fresh_board (board_calls n ms) ≡ (λ (k : BoardTurn). k.board) (own.last_of (boards.begun fresh_board 0 untold r.1) ms))
-  calls n [] r = (tt, refl)
-  calls n (m ∷ ms) r =
-      let before = calls n ms (r.0, r.1, r.2.0) in
-      ((before.0, subst (λ (k : BoardState). BoardStep game innings k m.call m.out ((λ (t : BoardTurn). t.board) m.after)) (sym before.1) r.2.2.1), refl)
+  grows_or_not : (q : Bool) (text : List ℕ) → (grown q text ≡ text) ⊎ (grown q text ≡ [])
+  grows_or_not true text = inr refl
+  grows_or_not false text = inl refl
 
-  pub board_life : (n : ℕ) (k : BoardState) (rs : List (List (own.Moment BoardTurn BoardCall))) → IsBoardLife game innings rs → BoardLocal k (board_happens n rs)
+  stopped_or_not : (q r : Bool) (text : List ℕ) → (unless_stopped q (grown r text) ≡ text) ⊎ (unless_stopped q (grown r text) ≡ [])
+  stopped_or_not true r text = inr refl
+  stopped_or_not false r text = grows_or_not r text
+
+  -- what a board prints is the six lines of its book, or nothing
+  prints : (sheet : Sheet) (k l : BoardTurn) (call : BoardCall) (out : List Message) → BoardStep game innings k.board call out l.board → Prints sheet innings call l.board (shown sheet innings k call l)
+  prints sheet k l (boards.Given bytes answer) out h = refl
+  prints sheet k l boards.Unopened out h = refl
+  prints sheet k l boards.Ticked out h = refl
+  prints sheet k l boards.TurnEnded out h =
+      subst (λ (b : BoardState). Prints sheet innings boards.TurnEnded b (shown sheet innings k boards.TurnEnded l)) (sym h.0)
+      (stopped_or_not k.telling.is_stopped (nat_eq (length k.board.book) k.had) (board_text sheet innings (history_of k.board.book)))
+
+  calls : (n : ℕ) (s : Sheet) (noted : List Notice) (ms : List (own.Moment BoardTurn BoardCall)) → BoardRuns game innings s noted ms
+      → BoardLocal fresh_board (board_calls innings n s noted ms) × (board_after fresh_board (board_calls innings n s noted ms) ≡ (λ (k : BoardTurn). k.board) (own.last_of (fresh_turn noted) ms))
+  calls n s noted [] r = (tt, refl)
+  calls n s noted (m ∷ ms) r =
+      let before = calls n s noted ms r.0 in
+      let k : BoardTurn = own.last_of (fresh_turn noted) ms in
+      let text = shown s innings k m.call m.after in
+      ((before.0, subst (λ (b : BoardState). MayBoard b (BoardCalled n s m.call m.out ((λ (t : BoardTurn). t.board) m.after) text)) (sym before.1) (r.2.1, prints s k m.after m.call m.out r.2.1)), refl)
+
+  pub board_life : (n : ℕ) (k : BoardState) (ps : List BoardProcess) → IsBoardLife game innings ps → BoardLocal k (board_happens innings n ps)
   board_life n k [] h = tt
-  board_life n k (ms ∷ rs) h = local-append next_board MayBoard k (board_calls n ms) (BoardBegun n ∷ board_happens n rs) (board_life n k rs h.0, tt) (calls n ms h.1).0
+  board_life n k (p ∷ ps) h =
+      local-append next_board MayBoard k (board_calls innings n p.sheet p.noted p.calls) (BoardBegun n ∷ board_happens innings n ps)
+      (board_life n k ps h.0, tt) (calls n p.sheet p.noted p.calls h.1).0

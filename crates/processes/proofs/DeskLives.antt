@@ -1,5 +1,5 @@
 -- A desk's life, step by step.
-use Rattle.std.proofs.Common.{◌≡◌, ℕ, List, [], ◌∷◌, refl, sym, ap, ◌∙◌, subst}
+use Rattle.std.proofs.Common.{◌≡◌, ℕ, List, [], ◌∷◌, Err, refl, sym, ap, ◌∙◌, subst}
 use Rattle.entry_log.specs.Disk.{Faults}
 use Rattle.cards.specs.Sheet.{Sheet}
 use Rattle.agree_core.specs.declared.messages.DeskId.{DeskId}
@@ -11,28 +11,39 @@ use Rattle.headline.specs.declared.version.FileVersion.TheVariants.{Old}
 use Rattle.headline.specs.Configurations.{Process, Running, Down, Node, process_disk, process_votes}
 use Rattle.headline.specs.DeskFaults.{LosesPower}
 use Rattle.headline.specs.Migrations.{Migrates, ToNew}
-use Rattle.live.specs.Desks.{DeskCall, DeskProcess, DeskStep}
+use Rattle.desk.specs.declared.refusal.Refusal.TheVariants as refusals
+use Rattle.wire.specs.declared.what.What.TheVariants as whats
+use Rattle.live.specs.Desks as desks
+use Rattle.live.specs.Desks.{DeskCall, DeskProcess, DeskStep, course_after, told_of}
+use Rattle.live.specs.declared.ends.DeskEnd.TheVariants.{Device}
+use Rattle.live.specs.declared.said.Said.TheVariants as said
+use Rattle.processes.specs.Printing.{Tells, greeting_of}
 use Rattle.live.specs.Runs as own
-use Rattle.processes.specs.Happenings.{BoardBegun, BoardCalled, DeskBegun, DeskCalled, DeskEnded, FileMigrated, Happening, PowerLost, begun, migrated}
-use Rattle.processes.specs.Lives.{Beginning, BeginsOn, IsNextStage, CutOff, ProcessEnd, IsLife, FileMigration, PowerLoss, CallsMade, RunsFrom, Stage, after_calls, after_life, after_stage, calls_of, fresh, life_happens, stage_happens}
+use Rattle.processes.specs.Happenings.{BoardBegun, BoardCalled, DeskBegun, DeskCalled, DeskEnded, DeskGreeted, FileMigrated, Happening, PowerLost, begun, migrated}
+use Rattle.live.specs.DeskLife.{BeginsOn, fresh}
+use Rattle.processes.specs.Lives.{Beginning, IsNextStage, CutOff, ProcessEnd, IsLife, FileMigration, PowerLoss, CallsMade, RunsFrom, Stage, after_calls, after_life, after_stage, calls_of, life_happens, stage_happens}
 use Rattle.processes.proofs.Local.{Local, local-append, nexts, nexts-append}
 
 module _ {Disk : Type 0} where
   -- a desk after something that happens there
   abbrev pub next_desk : Node Disk → Happening Disk → Node Disk
-  next_desk x (DeskCalled c s call out l) = record x { process = Running l }
+  next_desk x (DeskGreeted c s text) = x
+  next_desk x (DeskCalled c s call out l text) = record x { process = Running l }
   next_desk x (DeskEnded c disk) = record x { process = Down (process_votes x.process) disk }
   next_desk x (PowerLost c disk) = record x { process = Down (process_votes x.process) disk }
   next_desk x (DeskBegun c opening) = record x { process = begun (process_votes x.process) opening }
   next_desk x (FileMigrated c votes new) = migrated x new
-  next_desk x (BoardCalled n call out l) = x
+  next_desk x (BoardCalled n sheet call out l text) = x
   next_desk x (BoardBegun n) = x
 
 module _ {Disk : Type 0} (view : FileVersion → FileView Disk) (seen : Disk → List ℕ) (d : DeskId) (game innings : ℕ) where
   -- it may happen at this desk, but for what came
   abbrev pub MayDesk : Node Disk → Happening Disk → Type 0
-  MayDesk x (DeskCalled c s call out l) =
+  MayDesk x (DeskGreeted c s text) =
+      (k : DeskState Disk) × (x.process ≡ Running k) × (text ≡ greeting_of s innings k)
+  MayDesk x (DeskCalled c s call out l text) =
       (k : DeskState Disk) × (x.process ≡ Running k) × DeskStep s (view x.version) game innings k call out l
+      × Tells s innings k call l text
   MayDesk x (DeskEnded c disk) =
       (k : DeskState Disk) × (x.process ≡ Running k) × Stays (view x.version) k.disk disk
   MayDesk x (PowerLost c disk) = LosesPower (view x.version) (process_disk x.process) disk
@@ -42,7 +53,7 @@ module _ {Disk : Type 0} (view : FileVersion → FileView Disk) (seen : Disk →
   MayDesk x (FileMigrated c votes new) =
       (had : List Ballot) × (disk : Disk) × (x.process ≡ Down had disk) × (x.version ≡ Old)
       × Migrates view disk (ToNew votes new)
-  MayDesk x (BoardCalled n call out l) = Unit {0}
+  MayDesk x (BoardCalled n sheet call out l text) = Unit {0}
   MayDesk x (BoardBegun n) = Unit {0}
 
   abbrev pub DeskLocal : Node Disk → List (Happening Disk) → Type 0
@@ -58,31 +69,60 @@ module _ {Disk : Type 0} (view : FileVersion → FileView Disk) (seen : Disk →
   abbrev with_run : Node Disk → Process Disk → Node Disk
   with_run x p = record x { process = p }
 
-  calls : (x : Node Disk) (s : Sheet) (k : DeskState Disk) (ms : List (own.Moment (DeskProcess Disk) DeskCall)) → RunsFrom s (view x.version) faults game innings k ms → Goes (with_run x (Running k)) (calls_of d s ms) (with_run x (after_calls (Running k) ms))
-  calls x s k [] r = (tt, refl)
+  calls : (x : Node Disk) (s : Sheet) (k : DeskState Disk) (ms : List (own.Moment (DeskProcess Disk) DeskCall)) → RunsFrom s (view x.version) faults game innings k ms → Goes (with_run x (Running k)) (calls_of innings d s k ms) (with_run x (after_calls k ms))
+  calls x s k [] r = ((tt, (k, refl, refl)), refl)
   calls x s k (m ∷ ms) r =
       let before = calls x s k ms (r.0, r.1, r.2.0) in
-      let last : DeskState Disk = (λ (p : DeskProcess Disk). p.desk) (own.last_of (fresh k) ms) in
-      let may : MayDesk view seen d game innings (with_run x (Running last)) (DeskCalled d s m.call m.out ((λ (p : DeskProcess Disk). p.desk) m.after)) = (last, refl, r.2.2.1) in (
-        (before.0, subst (λ (y : Node Disk). MayDesk view seen d game innings y (DeskCalled d s m.call m.out ((λ (p : DeskProcess Disk). p.desk) m.after))) (sym before.1) may),
-        ap (λ (y : Node Disk). next_desk y (DeskCalled d s m.call m.out ((λ (p : DeskProcess Disk). p.desk) m.after))) before.1,
+      let p : DeskProcess Disk = own.last_of (fresh k) ms in
+      let last : DeskState Disk = (λ (p : DeskProcess Disk). p.desk) p in
+      let this : Happening Disk = DeskCalled d s m.call m.out ((λ (p : DeskProcess Disk). p.desk) m.after) (told_of s innings p m.call m.after) in
+      let may : MayDesk view seen d game innings (with_run x (Running last)) this = (last, refl, r.2.2.1, (p, refl, ap (told_of s innings p m.call) r.2.2.3)) in (
+        (before.0, subst (λ (y : Node Disk). MayDesk view seen d game innings y this) (sym before.1) may),
+        ap (λ (y : Node Disk). next_desk y this) before.1,
       )
 
-  one_stage : (x : Node Disk) (stage : Stage Disk) → IsNextStage view seen faults d game innings x stage → Goes x (stage_happens d stage) (after_stage x stage)
-  one_stage x (CallsMade s ms) h =
-      subst (λ (p : Process Disk). Goes (with_run x p) (calls_of d s ms) (with_run x (after_calls p ms))) (sym h.1) (calls x s h.0 ms h.2)
-  one_stage x (CutOff s call l) h = ((tt, (h.0, h.1, h.3)), refl)
+  -- a call whose disk failed prints nothing
+  silent : (s : Sheet) (k l : DeskState Disk) (call : DeskCall) → course_after call ≡ Err Device → Tells s innings k call l []
+  silent s k l (desks.Typed line said.Quit) e = absurd (cc)
+  silent s k l (desks.Typed line (said.Asks word)) e = absurd (cc)
+  silent s k l (desks.Typed line (said.Unclear unclear)) e = absurd (cc)
+  silent s k l (desks.Typed line (said.Fault fault)) e = absurd (cc)
+  silent s k l (desks.Typed line said.SayAgain) e = absurd (cc)
+  silent s k l (desks.Typed line said.NoneDiffers) e = absurd (cc)
+  silent s k l (desks.Typed line said.Waiting) e = absurd (cc)
+  silent s k l (desks.Typed line (said.Refused refusals.Failed)) e = (fresh k, refl, refl)
+  silent s k l (desks.Typed line (said.Refused refusals.Waiting)) e = absurd (cc)
+  silent s k l (desks.Typed line (said.Refused refusals.PlacesFull)) e = absurd (cc)
+  silent s k l (desks.Typed line (said.Refused refusals.RoundsFull)) e = absurd (cc)
+  silent s k l (desks.Typed line (said.Refused refusals.SlotsFull)) e = absurd (cc)
+  silent s k l (desks.Typed line (said.Refused (refusals.Book why))) e = absurd (cc)
+  silent s k l (desks.Typed line (said.Refused refusals.Device)) e = (fresh k, refl, refl)
+  silent s k l (desks.Typed line (said.Penned entry settled)) e = absurd (cc)
+  silent s k l desks.TypingEnded e = absurd (cc)
+  silent s k l (desks.Given bytes (whats.Bad fault)) e = absurd (cc)
+  silent s k l (desks.Given bytes (whats.Heard heard)) e = absurd (cc)
+  silent s k l (desks.Given bytes whats.Asked) e = absurd (cc)
+  silent s k l (desks.Given bytes whats.Device) e = (fresh k, refl, refl)
+  silent s k l (desks.Given bytes whats.Failed) e = (fresh k, refl, refl)
+  silent s k l desks.Unopened e = absurd (cc)
+  silent s k l desks.Ticked e = absurd (cc)
+  silent s k l desks.TurnEnded e = absurd (cc)
+
+  one_stage : (x : Node Disk) (stage : Stage Disk) → IsNextStage view seen faults d game innings x stage → Goes x (stage_happens innings d stage) (after_stage x stage)
+  one_stage x (CallsMade s k ms) h =
+      subst (λ (p : Process Disk). Goes (with_run x p) (calls_of innings d s k ms) (with_run x (after_calls k ms))) (sym h.0) (calls x s k ms h.1)
+  one_stage x (CutOff s call l) h = ((tt, (h.0, h.1, h.3, silent s h.0 l call h.2)), refl)
   one_stage x (ProcessEnd disk) h = ((tt, h), refl)
   one_stage x (PowerLoss disk) h = ((tt, h), refl)
   one_stage x (Beginning opening) h = ((tt, h), refl)
   one_stage x (FileMigration votes new) h = ((tt, h), refl)
 
-  pub life : (x : Node Disk) (stages : List (Stage Disk)) → IsLife view seen faults d game innings x stages → Goes x (life_happens d stages) (after_life x stages)
+  pub life : (x : Node Disk) (stages : List (Stage Disk)) → IsLife view seen faults d game innings x stages → Goes x (life_happens innings d stages) (after_life x stages)
   life x [] h = (tt, refl)
   life x (stage ∷ stages) h =
       let before = life x stages h.0 in
-      let then : Goes (desk_after view seen d game innings x (life_happens d stages)) (stage_happens d stage) (after_stage (after_life x stages) stage) =
-      subst (λ (y : Node Disk). Goes y (stage_happens d stage) (after_stage (after_life x stages) stage)) (sym before.1) (one_stage (after_life x stages) stage h.1) in (
-        local-append next_desk (MayDesk view seen d game innings) x (stage_happens d stage) (life_happens d stages) before.0 then.0,
-        nexts-append next_desk (MayDesk view seen d game innings) x (stage_happens d stage) (life_happens d stages) ∙ then.1,
+      let then : Goes (desk_after view seen d game innings x (life_happens innings d stages)) (stage_happens innings d stage) (after_stage (after_life x stages) stage) =
+      subst (λ (y : Node Disk). Goes y (stage_happens innings d stage) (after_stage (after_life x stages) stage)) (sym before.1) (one_stage (after_life x stages) stage h.1) in (
+        local-append next_desk (MayDesk view seen d game innings) x (stage_happens innings d stage) (life_happens innings d stages) before.0 then.0,
+        nexts-append next_desk (MayDesk view seen d game innings) x (stage_happens innings d stage) (life_happens innings d stages) ∙ then.1,
       )

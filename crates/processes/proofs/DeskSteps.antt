@@ -31,7 +31,7 @@ use Rattle.headline.specs.Steps.{StepAt}
 use Rattle.headline.specs.Events.{station_of}
 use Rattle.live.specs.Desks as desks
 use Rattle.live.specs.Desks.{DeskCall, DeskStep}
-use Rattle.live.specs.declared.said.Said.TheVariants.{Quit, List as Listed, Help, HelpShort, Unclear, Fault as LineFaulty, SayAgain, NoneDiffers, Waiting, Refused, Penned}
+use Rattle.live.specs.declared.said.Said.TheVariants.{Quit, Asks, Unclear, Fault as LineFaulty, SayAgain, NoneDiffers, Waiting, Refused, Penned}
 use Rattle.processes.specs.Happenings.{WasSent, DeskCame, Happening, DeskCalled, with_process}
 use Rattle.processes.proofs.Going.{Fits, Leads, TypedAs, none, one, two}
 
@@ -127,13 +127,13 @@ module _ {Disk : Type 0} (s : Setting Disk Refusal) (v : Configuration Disk) (d 
       (broken k (events.Give found.0 (stations.Desk d)) answers.DeviceFailed (runs_on (node v d) l None) out at refl tt
       (k, l, m, ReceiveAnswer.DeviceFailed, refl, found.1, h, (Fail, refl, (refl, refl))))
 
-module _ {Disk : Type 0} (s : Setting Disk Refusal) (game innings : ℕ) (rules : s.rules ≡ book_refusal innings) (v : Configuration Disk) (d : DeskId) (calm : (node v d).due ≡ None) where
+module _ {Disk : Type 0} (s : Setting Disk Refusal) (game innings : ℕ) (rules : s.rules ≡ book_refusal innings) (v : Configuration Disk) (d : DeskId) (calm : (node v d).due ≡ None) (text : List ℕ) where
   module _ (sheet : Sheet) (k l : DeskState Disk) (out : List Message) (at : (node v d).process ≡ Running k) where
     abbrev Moves : DeskCall → Type 0
-    Moves call = Leads s (Fits (DeskCalled d sheet call out l) v) v (with_process v d (Running l) out)
+    Moves call = Leads s (Fits (DeskCalled d sheet call out l text) v) v (with_process v d (Running l) out)
 
     still : (call : DeskCall) → l ≡ k → out ≡ [] → Moves call
-    still call same empty = nothing s v d (DeskCalled d sheet call out l) k l out at same empty
+    still call same empty = nothing s v d (DeskCalled d sheet call out l text) k l out at same empty
 
     -- the desk's scorer types a line that says an entry, and it is penned with this answer
     abbrev SaysAndPens : List ℕ → PenAnswer Refusal → Type 0
@@ -146,24 +146,22 @@ module _ {Disk : Type 0} (s : Setting Disk Refusal) (game innings : ℕ) (rules 
 
     pens_entry : (line : List ℕ) (e : Entry) (settled : Settled) → SaysEntry sheet k.book k.votes k.seat.position.round line e × Pens (s.view d (node v d).version) (book_refusal innings) k e (PenAnswer.Penned settled) l out → Moves (desks.Typed line (Penned e settled))
     pens_entry line e settled h =
-        penned s v d (DeskCalled d sheet (desks.Typed line (Penned e settled)) out l) k l e (PenAnswer.Penned settled) (answers.Penned settled) out at (λ u x. (refl, k, at, x, h.0))
+        penned s v d (DeskCalled d sheet (desks.Typed line (Penned e settled)) out l text) k l e (PenAnswer.Penned settled) (answers.Penned settled) out at (λ u x. (refl, k, at, x, h.0))
         (pens line (PenAnswer.Penned settled) (e, h.0, h.1)) (refl, refl)
 
     refuses : (line : List ℕ) (why : desk_refusals.Refusal) (cause : PenRefusal Refusal) → SaysAndPens line (PenAnswer.Refused cause) → Moves (desks.Typed line (Refused why))
     refuses line why cause h =
-        penned s v d (DeskCalled d sheet (desks.Typed line (Refused why)) out l) k l h.0 (PenAnswer.Refused cause) (answers.NotPenned cause) out at (λ u x. (refl, k, at, x, h.1))
+        penned s v d (DeskCalled d sheet (desks.Typed line (Refused why)) out l text) k l h.0 (PenAnswer.Refused cause) (answers.NotPenned cause) out at (λ u x. (refl, k, at, x, h.1))
         (pens line (PenAnswer.Refused cause) h) (refl, refl)
 
     fails : (line : List ℕ) → SaysAndPens line PenAnswer.DeviceFailed → Moves (desks.Typed line (Refused refusals.Device))
     fails line h =
-        pen_failed s v d (DeskCalled d sheet (desks.Typed line (Refused refusals.Device)) out l) calm k l h.0 out at (λ u x. (refl, k, at, x, h.1))
+        pen_failed s v d (DeskCalled d sheet (desks.Typed line (Refused refusals.Device)) out l text) calm k l h.0 out at (λ u x. (refl, k, at, x, h.1))
         (pens line PenAnswer.DeviceFailed h)
 
-  pub desk_moment : (sheet : Sheet) (k l : DeskState Disk) (call : DeskCall) (out : List Message) → (node v d).process ≡ Running k → DeskCame game v.sent call → DeskStep sheet (s.view d (node v d).version) game innings k call out l → Leads s (Fits (DeskCalled d sheet call out l) v) v (with_process v d (Running l) out)
+  pub desk_moment : (sheet : Sheet) (k l : DeskState Disk) (call : DeskCall) (out : List Message) → (node v d).process ≡ Running k → DeskCame game v.sent call → DeskStep sheet (s.view d (node v d).version) game innings k call out l → Leads s (Fits (DeskCalled d sheet call out l text) v) v (with_process v d (Running l) out)
   desk_moment sheet k l (desks.Typed line Quit) out at came h = still sheet k l out at (desks.Typed line Quit) h.1 h.2
-  desk_moment sheet k l (desks.Typed line Listed) out at came h = still sheet k l out at (desks.Typed line Listed) h.1 h.2
-  desk_moment sheet k l (desks.Typed line Help) out at came h = still sheet k l out at (desks.Typed line Help) h.1 h.2
-  desk_moment sheet k l (desks.Typed line HelpShort) out at came h = still sheet k l out at (desks.Typed line HelpShort) h.1 h.2
+  desk_moment sheet k l (desks.Typed line (Asks word)) out at came h = still sheet k l out at (desks.Typed line (Asks word)) h.1 h.2
   desk_moment sheet k l (desks.Typed line (Unclear unclear)) out at came h = still sheet k l out at (desks.Typed line (Unclear unclear)) h.1 h.2
   desk_moment sheet k l (desks.Typed line (LineFaulty fault)) out at came h = still sheet k l out at (desks.Typed line (LineFaulty fault)) h.1 h.2
   desk_moment sheet k l (desks.Typed line SayAgain) out at came h = still sheet k l out at (desks.Typed line SayAgain) h.1 h.2
@@ -180,14 +178,14 @@ module _ {Disk : Type 0} (s : Setting Disk Refusal) (game innings : ℕ) (rules 
   desk_moment sheet k l (desks.Given bytes whats.Failed) out at came h = still sheet k l out at (desks.Given bytes whats.Failed) h.1 h.2
   desk_moment sheet k l (desks.Given bytes (whats.Bad fault)) out at came h = still sheet k l out at (desks.Given bytes (whats.Bad fault)) h.2 h.3
   desk_moment sheet k l (desks.Given bytes (whats.Heard x)) out at came h =
-      received s v d (DeskCalled d sheet (desks.Given bytes (whats.Heard x)) out l) k l bytes h.0 (ReceiveAnswer.Told x) (answers.Told x) out game at came h.1 h.2 (refl, refl)
+      received s v d (DeskCalled d sheet (desks.Given bytes (whats.Heard x)) out l text) k l bytes h.0 (ReceiveAnswer.Told x) (answers.Told x) out game at came h.1 h.2 (refl, refl)
   desk_moment sheet k l (desks.Given bytes whats.Asked) out at came h =
-      received s v d (DeskCalled d sheet (desks.Given bytes whats.Asked) out l) k l bytes h.0 ReceiveAnswer.Asked (answers.Asked (has_any out)) out game at came h.1 h.2 (refl, refl)
+      received s v d (DeskCalled d sheet (desks.Given bytes whats.Asked) out l text) k l bytes h.0 ReceiveAnswer.Asked (answers.Asked (has_any out)) out game at came h.1 h.2 (refl, refl)
   desk_moment sheet k l (desks.Given bytes whats.Device) out at came h =
-      ask_failed s v d (DeskCalled d sheet (desks.Given bytes whats.Device) out l) calm k l bytes h.0 out game at came h.1 h.2
+      ask_failed s v d (DeskCalled d sheet (desks.Given bytes whats.Device) out l text) calm k l bytes h.0 out game at came h.1 h.2
   desk_moment sheet k l desks.Unopened out at came h = still sheet k l out at desks.Unopened h.0 h.1
   desk_moment sheet k l desks.Ticked out at came h =
       let e : (node v d).process ≡ Running l = at ∙ ap Running (sym h.1) in
-      at_desk s v d (DeskCalled d sheet desks.Ticked out l) (events.Tick (stations.Desk d)) (answers.Ticked (length out)) (runs_on (node v d) l (node v d).due) out refl tt (k, at, h.0, refl, itself (node v d) l e)
+      at_desk s v d (DeskCalled d sheet desks.Ticked out l text) (events.Tick (stations.Desk d)) (answers.Ticked (length out)) (runs_on (node v d) l (node v d).due) out refl tt (k, at, h.0, refl, itself (node v d) l e)
   desk_moment sheet k l desks.TypingEnded out at came h = still sheet k l out at desks.TypingEnded h.0 h.1
   desk_moment sheet k l desks.TurnEnded out at came h = still sheet k l out at desks.TurnEnded h.0 h.1

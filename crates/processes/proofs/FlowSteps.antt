@@ -26,8 +26,8 @@ use Rattle.headline.specs.DeskFaults.{LosesPower}
 use Rattle.headline.specs.Migrations.{Migrates, MigratesAt, ToNew}
 use Rattle.headline.specs.DeskSteps.{AtDesk}
 use Rattle.headline.specs.Events.{station_of}
-use Rattle.processes.specs.Happenings.{Happening, DeskCalled, DeskEnded, PowerLost, DeskBegun, FileMigrated, BoardCalled, BoardBegun, Happens, after_one, begun, migrated, with_process}
-use Rattle.processes.proofs.Going.{Fits, Leads, one}
+use Rattle.processes.specs.Happenings.{Happening, DeskCalled, DeskEnded, DeskGreeted, PowerLost, DeskBegun, FileMigrated, BoardCalled, BoardBegun, Happens, after_one, begun, migrated, with_process}
+use Rattle.processes.proofs.Going.{Fits, Leads, none, one}
 use Rattle.processes.proofs.BoardSteps.{board_moment, with_it}
 use Rattle.processes.proofs.DeskSteps.{after_fault, at_desk, desk_moment, stays_refl}
 
@@ -114,12 +114,13 @@ module _ {Disk : Type 0} where
 
   -- so it stays
   pub calm_after : (v : Configuration Disk) → IsCalm v → (what : Happening Disk) → IsCalm (after_one v what)
-  calm_after v c (DeskCalled d sheet call out l) = calm_put v c d (Running l) out
+  calm_after v c (DeskGreeted d sheet text) = c
+  calm_after v c (DeskCalled d sheet call out l text) = calm_put v c d (Running l) out
   calm_after v c (DeskEnded d disk) = calm_put v c d (Down (process_votes (node v d).process) disk) []
   calm_after v c (PowerLost d disk) = calm_put v c d (Down (process_votes (node v d).process) disk) []
   calm_after v c (DeskBegun d opening) = calm_put v c d (begun (process_votes (node v d).process) opening) []
   calm_after v c (FileMigrated d votes new) = calm_node v c d (migrated (node v d) new) [] (c d)
-  calm_after v c (BoardCalled n call out l) = calm_boards v c (with_board v.boards n l) (v.sent ++ out)
+  calm_after v c (BoardCalled n sheet call out l text) = calm_boards v c (with_board v.boards n l) (v.sent ++ out)
   calm_after v c (BoardBegun n) = calm_boards v c (with_board v.boards n fresh_board) v.sent
 
 module _ {Disk : Type 0} (s : Setting Disk Refusal) (game innings : ℕ) (rules : s.rules ≡ book_refusal innings) (v : Configuration Disk) (calm : IsCalm v) where
@@ -129,10 +130,11 @@ module _ {Disk : Type 0} (s : Setting Disk Refusal) (game innings : ℕ) (rules 
       (opened s v what d (calm d) votes disk opening at (subst (λ r. Opens (s.view d (node v d).version) r d disk opening) (sym rules) h))
 
   pub happening : (what : Happening Disk) → Happens s.view game innings v what → Leads s (Fits what v) v (after_one v what)
-  happening (DeskCalled d sheet call out l) h = desk_moment s game innings rules v d (calm d) sheet h.0 l call out h.1 h.2 h.3
+  happening (DeskGreeted d sheet text) h = none s (Fits (DeskGreeted d sheet text) v) v v refl
+  happening (DeskCalled d sheet call out l text) h = desk_moment s game innings rules v d (calm d) text sheet h.0 l call out h.1 h.2 h.3
   happening (DeskEnded d disk) h = ended s v (DeskEnded d disk) d (calm d) h.0 disk h.1 h.2
   happening (PowerLost d disk) h = power_lost s v (PowerLost d disk) d (calm d) disk h
   happening (DeskBegun d opening) h = opens (DeskBegun d opening) d h.0 h.1 opening h.2 h.3
   happening (FileMigrated d votes new) h = file_migrated s v (FileMigrated d votes new) d h.0 votes h.1 new h.2 h.3 h.4
-  happening (BoardCalled n call out l) h = board_moment s game innings rules v (BoardCalled n call out l) n h.0 l call out h.1 h.2 h.3
+  happening (BoardCalled n sheet call out l text) h = board_moment s game innings rules v (BoardCalled n sheet call out l text) n h.0 l call out h.1 h.2 h.3
   happening (BoardBegun n) h = wiped s v (BoardBegun n) n h.0 h.1

@@ -16,7 +16,7 @@ use Rattle.headline.specs.Headline.{AtEachEvent}
 use Rattle.headline.specs.Match.{Setting}
 use Rattle.headline.specs.Configurations.{Process, Running, Configuration, node}
 use Rattle.headline.specs.Runs.{AtEachMoment, AtSomeMoment, Moment, Run, WasPenned, last_of}
-use Rattle.processes.specs.Happenings.{BoardBegun, BoardCalled, DeskBegun, DeskCalled, DeskEnded, FileMigrated, Flow, Happening, PowerLost, after}
+use Rattle.processes.specs.Happenings.{BoardBegun, BoardCalled, DeskBegun, DeskCalled, DeskEnded, DeskGreeted, FileMigrated, Flow, Happening, PowerLost, after}
 use Rattle.processes.specs.Headline.{AtEachTime, AtSomeTime, TypesBallot, WasTyped}
 use Rattle.processes.specs.Laws.{GoesThrough}
 use Rattle.processes.proofs.Going.{Fits, Leads, TypedAs, last_on, run_on}
@@ -30,7 +30,7 @@ module _ {Disk : Type 0} where
   same_desk : (k l : DeskState Disk) (p : Process Disk) → p ≡ Running k → p ≡ Running l → k ≡ l
   same_desk k l p e f = cc
 
-  typed_is : (v u : Configuration Disk) (c d : DeskId) (s : Sheet) (line : List ℕ) (said : Said) (out : List Message) (l : DeskState Disk) (b : Ballot) (k : DeskState Disk) → TypedAs (DeskCalled d s (desks.Typed line said) out l) v u c b.entry → (node u c).process ≡ Running k → k.seat.position ≡ b.at → (c ≡ d) × (j : DeskState Disk) × ((node v d).process ≡ Running j) × (j.seat.position ≡ b.at) × SaysEntry s j.book j.votes b.at.round line b.entry
+  typed_is : (v u : Configuration Disk) (c d : DeskId) (s : Sheet) (line : List ℕ) (said : Said) (out : List Message) (l : DeskState Disk) (b : Ballot) (k : DeskState Disk) → TypedAs (DeskCalled d s (desks.Typed line said) out l []) v u c b.entry → (node u c).process ≡ Running k → k.seat.position ≡ b.at → (c ≡ d) × (j : DeskState Disk) × ((node v d).process ≡ Running j) × (j.seat.position ≡ b.at) × SaysEntry s j.book j.votes b.at.round line b.entry
   typed_is v u c d s line said out l b k h at pos =
       let here : (node u d).process ≡ Running k = subst (λ (z : DeskId). (node u z).process ≡ Running k) h.0 at in
       let same : k ≡ h.1 = same_desk k h.1 (node u d).process here h.3 in
@@ -39,18 +39,19 @@ module _ {Disk : Type 0} where
 
   -- an event that pens a ballot, in what happened
   types : (what : Happening Disk) (v u : Configuration Disk) (c : DeskId) (b : Ballot) (k : DeskState Disk) → TypedAs what v u c b.entry → (node u c).process ≡ Running k → k.seat.position ≡ b.at → TypesBallot v what c b
-  types (DeskCalled A s (desks.Typed line said) out l) v u c b k h at pos = typed_is v u c A s line said out l b k h at pos
-  types (DeskCalled B s (desks.Typed line said) out l) v u c b k h at pos = typed_is v u c B s line said out l b k h at pos
-  types (DeskCalled d s (desks.Given bytes answer) out l) v u c b k h at pos = absurd h
-  types (DeskCalled d s desks.TypingEnded out l) v u c b k h at pos = absurd h
-  types (DeskCalled d s desks.Unopened out l) v u c b k h at pos = absurd h
-  types (DeskCalled d s desks.Ticked out l) v u c b k h at pos = absurd h
-  types (DeskCalled d s desks.TurnEnded out l) v u c b k h at pos = absurd h
+  types (DeskCalled A s (desks.Typed line said) out l text) v u c b k h at pos = typed_is v u c A s line said out l b k h at pos
+  types (DeskCalled B s (desks.Typed line said) out l text) v u c b k h at pos = typed_is v u c B s line said out l b k h at pos
+  types (DeskCalled d s (desks.Given bytes answer) out l text) v u c b k h at pos = absurd h
+  types (DeskCalled d s desks.TypingEnded out l text) v u c b k h at pos = absurd h
+  types (DeskCalled d s desks.Unopened out l text) v u c b k h at pos = absurd h
+  types (DeskCalled d s desks.Ticked out l text) v u c b k h at pos = absurd h
+  types (DeskCalled d s desks.TurnEnded out l text) v u c b k h at pos = absurd h
+  types (DeskGreeted d s text) v u c b k h at pos = absurd h
   types (DeskEnded d disk) v u c b k h at pos = absurd h
   types (PowerLost d disk) v u c b k h at pos = absurd h
   types (DeskBegun d opening) v u c b k h at pos = absurd h
   types (FileMigrated d votes new) v u c b k h at pos = absurd h
-  types (BoardCalled n call out l) v u c b k h at pos = absurd h
+  types (BoardCalled n sheet call out l text) v u c b k h at pos = absurd h
   types (BoardBegun n) v u c b k h at pos = absurd h
 
   -- a ballot that was penned in the later events, or before

@@ -19,7 +19,7 @@ use Rattle.processes.specs.Laws.{GoesOn}
 
 -- the event of this configuration fits what happened in the other: a pen is a line that the desk's scorer typed
 abbrev pub TypedAs : {Disk : Type 0} → Happening Disk → Configuration Disk → Configuration Disk → DeskId → Entry → Type 0
-TypedAs (DeskCalled d s (desks.Typed line said) out l) v u c e =
+TypedAs (DeskCalled d s (desks.Typed line said) out l text) v u c e =
     (c ≡ d) × (k : DeskState _) × ((node v d).process ≡ Running k) × ((node u d).process ≡ Running k)
     × SaysEntry s k.book k.votes k.seat.position.round line e
 TypedAs what v u c e = ⊥

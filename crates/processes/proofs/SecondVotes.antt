@@ -38,7 +38,7 @@ use Rattle.live.specs.Desks as desks
 use Rattle.live.specs.Desks.{DeskStep}
 use Rattle.live.specs.declared.said.Said.{Said}
 use Rattle.live.specs.declared.said.Said.TheVariants.{Penned}
-use Rattle.processes.specs.Happenings.{BoardBegun, BoardCalled, DeskBegun, DeskCalled, DeskEnded, FileMigrated, Flow, Happening, Happens, PowerLost, WasSent, after, with_process}
+use Rattle.processes.specs.Happenings.{BoardBegun, BoardCalled, DeskBegun, DeskCalled, DeskEnded, DeskGreeted, FileMigrated, Flow, Happening, Happens, PowerLost, WasSent, after, with_process}
 use Rattle.processes.specs.SecondVotes.{AtEachHappening, SayVote, TakesSecond}
 use Rattle.processes.proofs.BoardSteps.{with_it}
 use Rattle.processes.proofs.FlowSteps.{IsCalm}
@@ -93,22 +93,23 @@ module _
           (inl (λ q. absurd (cc), (found.0, ap (events.Give found.0) (sym here), sent_vote bytes got.0 (other c) b got.1 says found.0 found.1)))
 
       takes : (what : Happening Disk) → Happens s.view game innings v what → TakesSecond game v what
-      takes (DeskCalled d sheet (desks.Typed line said) out l) h = λ t book b c shown pos kept brought.
+      takes (DeskCalled d sheet (desks.Typed line said) out l text) h = λ t book b c shown pos kept brought.
           let there = brought.1 in
           penned d sheet h.0 l line b.entry there.0 out h.1 (subst (λ (z : Said). DeskStep sheet (s.view d (node v d).version) game innings h.0 (desks.Typed line z) out l) there.1 h.3) t book b c shown pos kept brought.0 refl there.2
-      takes (DeskCalled d sheet (desks.Given bytes what) out l) h = λ t book b c shown pos kept brought.
+      takes (DeskCalled d sheet (desks.Given bytes what) out l text) h = λ t book b c shown pos kept brought.
           let there = brought.1 in
           given d sheet h.0 l bytes there.0 out h.1 h.2 (subst (λ (z : What). DeskStep sheet (s.view d (node v d).version) game innings h.0 (desks.Given bytes z) out l) there.1 h.3) t book b c shown pos kept brought.0 there.2 there.3
-      takes (DeskCalled d sheet desks.TypingEnded out l) h = λ t book b c shown pos kept brought. absurd brought.1
-      takes (DeskCalled d sheet desks.Unopened out l) h = λ t book b c shown pos kept brought. absurd brought.1
-      takes (DeskCalled d sheet desks.Ticked out l) h = λ t book b c shown pos kept brought. absurd brought.1
-      takes (DeskCalled d sheet desks.TurnEnded out l) h = λ t book b c shown pos kept brought. absurd brought.1
-      takes (BoardCalled number (boards.Given bytes answer) out l) h = λ t book b c shown pos kept brought.
+      takes (DeskCalled d sheet desks.TypingEnded out l text) h = λ t book b c shown pos kept brought. absurd brought.1
+      takes (DeskCalled d sheet desks.Unopened out l text) h = λ t book b c shown pos kept brought. absurd brought.1
+      takes (DeskCalled d sheet desks.Ticked out l text) h = λ t book b c shown pos kept brought. absurd brought.1
+      takes (DeskCalled d sheet desks.TurnEnded out l text) h = λ t book b c shown pos kept brought. absurd brought.1
+      takes (BoardCalled number sheet (boards.Given bytes answer) out l text) h = λ t book b c shown pos kept brought.
           let there = brought.1 in
           board_given number h.0 l bytes there.0 out h.1 h.2 (subst (λ z. BoardStep game innings h.0 (boards.Given bytes z) out l) there.1 h.3) t book b c shown pos kept brought.0 there.2
-      takes (BoardCalled number boards.Unopened out l) h = λ t book b c shown pos kept brought. absurd brought.1
-      takes (BoardCalled number boards.Ticked out l) h = λ t book b c shown pos kept brought. absurd brought.1
-      takes (BoardCalled number boards.TurnEnded out l) h = λ t book b c shown pos kept brought. absurd brought.1
+      takes (BoardCalled number sheet boards.Unopened out l text) h = λ t book b c shown pos kept brought. absurd brought.1
+      takes (BoardCalled number sheet boards.Ticked out l text) h = λ t book b c shown pos kept brought. absurd brought.1
+      takes (BoardCalled number sheet boards.TurnEnded out l text) h = λ t book b c shown pos kept brought. absurd brought.1
+      takes (DeskGreeted d sheet text) h = λ t book b c shown pos kept brought. absurd brought
       takes (DeskEnded d disk) h = λ t book b c shown pos kept brought. absurd brought
       takes (PowerLost d disk) h = λ t book b c shown pos kept brought. absurd brought
       takes (DeskBegun d opening) h = λ t book b c shown pos kept brought. absurd brought

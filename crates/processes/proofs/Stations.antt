@@ -1,5 +1,6 @@
 -- What the processes of `live` state is part of a station's life.
 use Rattle.std.proofs.Common.{Result, Ok, Err, ◌≡◌, ℕ, List, ap, ◌∙◌, subst}
+use Rattle.std.specs.Io.KnownBytes.{Appends}
 use Rattle.notation.specs.declared.entry.Entry.{Entry}
 use Rattle.corrections.specs.declared.book_of.BookOf.{Ghosts as Books}
 use Rattle.entry_log.specs.declared.disk.Disk.{Ghosts as Disks}
@@ -31,6 +32,7 @@ module _ {S B D : Type 0} {g : Files S D} {h : Disks D} {b : Books B} where
         ap (λ (p : DeskProcess D). Running p.desk) goes.last ∙ ap Running r.is,
         goes.passed,
         goes.inputs,
+        goes.printed,
       )
 
 module _ {B : Type 0} {g : _} (content : B → List Entry) (innings_of : B → ℕ) where
@@ -39,7 +41,8 @@ module _ {B : Type 0} {g : _} (content : B → List Entry) (innings_of : B → �
       let goes = r.goes.goes in
       let kind = board_kind sheet (board.game_of old) (innings_of (board.book_of old)) in (
         goes.moments,
-        (sheet, noted, subst (λ (k : BoardState). own.Run kind (boards.begun k 0 untold noted) goes.moments) new_board goes.run),
+        subst (λ (k : BoardState). own.Run kind (boards.begun k 0 untold noted) goes.moments) new_board goes.run,
         subst (λ (k : BoardState). (λ (t : BoardTurn). t.board) (own.last_of (boards.begun k 0 untold noted) goes.moments) ≡ board.state_of content new) new_board (ap (λ (t : BoardTurn). t.board) goes.last ∙ r.is),
         goes.passed,
+        subst (λ (k : BoardState). Appends (own.known result told) (own.known result tells) (own.printed_in kind (boards.begun k 0 untold noted) goes.moments)) new_board goes.printed,
       )

@@ -11,7 +11,7 @@ use Rattle.agree_core.specs.declared.messages.Message.{Message}
 use Rattle.agree_core.specs.FileView.{FileView}
 use Rattle.headline.specs.declared.version.FileVersion.{FileVersion}
 use Rattle.headline.specs.Configurations.{Process, Node, Configuration, board_at, node, process_disk, with_board, with_node}
-use Rattle.processes.specs.Happenings.{BoardBegun, BoardCalled, BoardCame, DeskBegun, DeskCalled, DeskCame, DeskEnded, FileMigrated, Flow, Happening, Happens, PowerLost, after, after_one}
+use Rattle.processes.specs.Happenings.{BoardBegun, BoardCalled, BoardCame, DeskBegun, DeskCalled, DeskCame, DeskEnded, DeskGreeted, FileMigrated, Flow, Happening, Happens, PowerLost, after, after_one}
 use Rattle.processes.specs.Weaving.{is_at_board, is_at_desk}
 use Rattle.processes.proofs.BoardLives.{BoardLocal, MayBoard, board_after, next_board}
 use Rattle.processes.proofs.Local.{Local}
@@ -39,8 +39,8 @@ no_item x xs e = absurd (cc)
 
 -- where a message came, a station had sent it
 abbrev pub Came : {Disk : Type 0} → ℕ → Configuration Disk → Happening Disk → Type 0
-Came game w (DeskCalled d s call out l) = DeskCame game w.sent call
-Came game w (BoardCalled n call out l) = BoardCame game w.sent call
+Came game w (DeskCalled d s call out l text) = DeskCame game w.sent call
+Came game w (BoardCalled n sheet call out l text) = BoardCame game w.sent call
 Came game w what = Unit {0}
 
 abbrev pub NothingComesEarly : {Disk : Type 0} → ℕ → Configuration Disk → List (Happening Disk) → Type 0
@@ -123,12 +123,16 @@ module _ {Disk : Type 0} (view : DeskId → FileVersion → FileView Disk) (seen
       × Stands (after_one v h) (with_one (is_at_desk A h) h xs) (with_one (is_at_desk B h) h ys) (λ n. with_one (is_at_board n h) h (bs n))
 
   moves : (h : Happening Disk) → Moves h
-  moves (DeskCalled A sheet call out l) v xs ys bs s a b t o f c =
-      let m = may_a v xs ys bs s (DeskCalled A sheet call out l) a in
-      ((m.0, m.1, c, m.2), stands_a v xs ys bs s (DeskCalled A sheet call out l) out)
-  moves (DeskCalled B sheet call out l) v xs ys bs s a b t o f c =
-      let m = may_b v xs ys bs s (DeskCalled B sheet call out l) b in
-      ((m.0, m.1, c, m.2), stands_b v xs ys bs s (DeskCalled B sheet call out l) out)
+  moves (DeskGreeted A sheet text) v xs ys bs s a b t o f c =
+      (may_a v xs ys bs s (DeskGreeted A sheet text) a, record { a_is = s.a_is; b_is = s.b_is; boards = s.boards })
+  moves (DeskGreeted B sheet text) v xs ys bs s a b t o f c =
+      (may_b v xs ys bs s (DeskGreeted B sheet text) b, record { a_is = s.a_is; b_is = s.b_is; boards = s.boards })
+  moves (DeskCalled A sheet call out l text) v xs ys bs s a b t o f c =
+      let m = may_a v xs ys bs s (DeskCalled A sheet call out l text) a in
+      ((m.0, m.1, c, m.2, m.3), stands_a v xs ys bs s (DeskCalled A sheet call out l text) out)
+  moves (DeskCalled B sheet call out l text) v xs ys bs s a b t o f c =
+      let m = may_b v xs ys bs s (DeskCalled B sheet call out l text) b in
+      ((m.0, m.1, c, m.2, m.3), stands_b v xs ys bs s (DeskCalled B sheet call out l text) out)
   moves (DeskEnded A disk) v xs ys bs s a b t o f c = (may_a v xs ys bs s (DeskEnded A disk) a, stands_a v xs ys bs s (DeskEnded A disk) [])
   moves (DeskEnded B disk) v xs ys bs s a b t o f c = (may_b v xs ys bs s (DeskEnded B disk) b, stands_b v xs ys bs s (DeskEnded B disk) [])
   moves (PowerLost A disk) v xs ys bs s a b t o f c = (may_a v xs ys bs s (PowerLost A disk) a, stands_a v xs ys bs s (PowerLost A disk) [])
@@ -141,9 +145,9 @@ module _ {Disk : Type 0} (view : DeskId → FileVersion → FileView Disk) (seen
       ((m.0, m.1, m.2, m.3.1 (subst (λ (p : Process Disk). 0 < length (seen (process_disk p))) m.2 (f B))), stands_b v xs ys bs s (DeskBegun B opening) [])
   moves (FileMigrated A votes new) v xs ys bs s a b t o f c = (may_a v xs ys bs s (FileMigrated A votes new) a, stands_a v xs ys bs s (FileMigrated A votes new) [])
   moves (FileMigrated B votes new) v xs ys bs s a b t o f c = (may_b v xs ys bs s (FileMigrated B votes new) b, stands_b v xs ys bs s (FileMigrated B votes new) [])
-  moves (BoardCalled n call out l) v xs ys bs s a b t o f c =
-      let m = there v xs ys bs s (BoardCalled n call out l) n t o in
-      ((m.0, m.1, c, m.2), stands_board v xs ys bs s (BoardCalled n call out l) n l out (λ k. refl))
+  moves (BoardCalled n sheet call out l text) v xs ys bs s a b t o f c =
+      let m = there v xs ys bs s (BoardCalled n sheet call out l text) n t o in
+      ((m.0, m.1, c, m.2.0, m.2.1), stands_board v xs ys bs s (BoardCalled n sheet call out l text) n l out (λ k. refl))
   moves (BoardBegun n) v xs ys bs s a b t o f c =
       let m = there v xs ys bs s (BoardBegun n) n t o in
       let stands = stands_board v xs ys bs s (BoardBegun n) n fresh_board [] (λ k. refl) in

@@ -19,18 +19,21 @@ use Rattle.live.specs.Boards as boards
 use Rattle.live.specs.Boards.{BoardCall, BoardStep}
 use Rattle.live.specs.Desks as desks
 use Rattle.live.specs.Desks.{DeskCall, DeskStep}
+use Rattle.processes.specs.Printing.{Prints, Tells, greeting_of}
 
--- What happens: a call of a desk, whose process was begun with this sheet, with what it handed out and the desk after it; the end of its process, with the
--- disk left; power lost at its laptop, with the disk left; its beginning on its file; the migration of that file, with
--- the votes that it shows and the disk with the new one; a call of a board; a board's beginning. A process that is
--- killed amid a call has made a call whose disk failed, and then ended.
+-- What happens: a desk's process tells its scorer how the desk stands, by the sheet that it was begun with; a call of a
+-- desk, with that sheet, what it handed out, the desk after it, and the text that was printed; the end of its process,
+-- with the disk left; power lost at its laptop, with the disk left; its beginning on its file; the migration of that file,
+-- with the votes that it shows and the disk with the new one; a call of a board, likewise with its sheet and text; a
+-- board's beginning. A process that is killed amid a call has made a call whose disk failed, and then ended.
 pub data Happening (Disk : Type 0) : Type 0 where
-  DeskCalled : DeskId → Sheet → DeskCall → List Message → DeskState Disk → Happening Disk
+  DeskGreeted : DeskId → Sheet → List ℕ → Happening Disk
+  DeskCalled : DeskId → Sheet → DeskCall → List Message → DeskState Disk → List ℕ → Happening Disk
   DeskEnded : DeskId → Disk → Happening Disk
   PowerLost : DeskId → Disk → Happening Disk
   DeskBegun : DeskId → Opening Disk → Happening Disk
   FileMigrated : DeskId → List Ballot → Disk → Happening Disk
-  BoardCalled : ℕ → BoardCall → List Message → BoardState → Happening Disk
+  BoardCalled : ℕ → Sheet → BoardCall → List Message → BoardState → List ℕ → Happening Disk
   BoardBegun : ℕ → Happening Disk
 
 -- the desk that was opened, or what is left of one that wasn't
@@ -48,12 +51,13 @@ migrated x new = record x { version = New; process = Down (process_votes x.proce
 
 -- the configuration after a happening
 abbrev pub after_one : {Disk : Type 0} → Configuration Disk → Happening Disk → Configuration Disk
-after_one w (DeskCalled d s call out l) = with_process w d (Running l) out
+after_one w (DeskGreeted d s text) = w
+after_one w (DeskCalled d s call out l text) = with_process w d (Running l) out
 after_one w (DeskEnded d disk) = with_process w d (Down (process_votes (node w d).process) disk) []
 after_one w (PowerLost d disk) = with_process w d (Down (process_votes (node w d).process) disk) []
 after_one w (DeskBegun d opening) = with_process w d (begun (process_votes (node w d).process) opening) []
 after_one w (FileMigrated d votes new) = with_node w d (migrated (node w d) new) []
-after_one w (BoardCalled n call out l) =
+after_one w (BoardCalled n s call out l text) =
     record w { boards = with_board w.boards n l; sent = w.sent ++ out }
 after_one w (BoardBegun n) = record w { boards = with_board w.boards n fresh_board }
 
@@ -79,9 +83,11 @@ BoardCame game sent call = Unit {0}
 module _ {Disk : Type 0} (view : DeskId → FileVersion → FileView Disk) (game innings : ℕ) where
   -- it may happen in this configuration
   abbrev pub Happens : Configuration Disk → Happening Disk → Type 0
-  Happens w (DeskCalled d s call out l) =
+  Happens w (DeskGreeted d s text) =
+      (k : DeskState Disk) × ((node w d).process ≡ Running k) × (text ≡ greeting_of s innings k)
+  Happens w (DeskCalled d s call out l text) =
       (k : DeskState Disk) × ((node w d).process ≡ Running k) × DeskCame game w.sent call
-      × DeskStep s (view d (node w d).version) game innings k call out l
+      × DeskStep s (view d (node w d).version) game innings k call out l × Tells s innings k call l text
   Happens w (DeskEnded d disk) =
       (k : DeskState Disk) × ((node w d).process ≡ Running k)
       × Stays (view d (node w d).version) k.disk disk
@@ -93,9 +99,9 @@ module _ {Disk : Type 0} (view : DeskId → FileVersion → FileView Disk) (game
   Happens w (FileMigrated d votes new) =
       (had : List Ballot) × (disk : Disk) × ((node w d).process ≡ Down had disk) × ((node w d).version ≡ Old)
       × Migrates (view d) disk (ToNew votes new)
-  Happens w (BoardCalled n call out l) =
+  Happens w (BoardCalled n s call out l text) =
       (k : BoardState) × (board_at w.boards n ≡ Some k) × BoardCame game w.sent call
-      × BoardStep game innings k call out l
+      × BoardStep game innings k call out l × Prints s innings call l text
   Happens w (BoardBegun n) = (k : BoardState) × (board_at w.boards n ≡ Some k)
 
   -- each happening may happen after those before it

@@ -1,5 +1,5 @@
 -- The headline for processes: what holds whatever happens to them.
-use Rattle.std.specs.Prelude.{◌≡◌, ◌⊎◌, ℕ, List, [], ◌∷◌}
+use Rattle.std.specs.Prelude.{◌≡◌, ◌≤◌, ◌⊎◌, ℕ, List, [], ◌∷◌}
 use Rattle.notation.specs.declared.entry.Entry.{Entry}
 use Rattle.match_laws.specs.declared.standing.Standing.{Standing}
 use Rattle.agree_core.specs.declared.messages.DeskId.{DeskId}
@@ -7,12 +7,13 @@ use Rattle.agree_core.specs.Agreed.{BeginsWith}
 use Rattle.agree_core.specs.Ballots.{Ballot, In, votes_of}
 use Rattle.agree_core.specs.Desks.{DeskState}
 use Rattle.headline.specs.declared.event.Station.{Station}
-use Rattle.headline.specs.Configurations.{Running, Configuration, node, all_votes}
+use Rattle.headline.specs.Configurations.{Running, Configuration, all_votes, node}
 use Rattle.headline.specs.Runs.{Shows}
-use Rattle.headline.specs.Headline.{ByBoth, NoneKeepsBoth, ShowsScore}
+use Rattle.headline.specs.Headline.{ByBoth, NoneKeepsBoth, ShowScores, ShowsScore}
 use Rattle.live.specs.Desks as desks
 use Rattle.live.specs.Saying.{SaysEntry}
-use Rattle.processes.specs.Happenings.{Happening, DeskCalled, after}
+use Rattle.processes.specs.Happenings.{BoardCalled, DeskCalled, DeskGreeted, Happening, after}
+use Rattle.processes.specs.Printing.{Prints, Tells, greeting_of}
 use Rattle.processes.specs.SecondVotes.{AtEachHappening, TakesSecond}
 
 -- at the start, or after something that happened, the configuration was so
@@ -28,7 +29,7 @@ AtEachTime w (h ∷ hs) P = P (after w (h ∷ hs)) × AtEachTime w hs P
 -- the desk's scorer typed a line at the ballot's position that says the ballot's entry: put in full, by the sheet of the
 -- desk's process and the book of the desk, it is the entry's line, or it says once more what this scorer wrote last
 abbrev pub TypesBallot : {Disk : Type 0} → Configuration Disk → Happening Disk → DeskId → Ballot → Type 0
-TypesBallot w (DeskCalled c s (desks.Typed line said) out l) d b =
+TypesBallot w (DeskCalled c s (desks.Typed line said) out l text) d b =
     (d ≡ c) × (k : DeskState _) × ((node w c).process ≡ Running k) × (k.seat.position ≡ b.at)
     × SaysEntry s k.book k.votes b.at.round line b.entry
 TypesBallot w what d b = ⊥
@@ -37,6 +38,16 @@ TypesBallot w what d b = ⊥
 abbrev pub WasTyped : {Disk : Type 0} → Configuration Disk → List (Happening Disk) → DeskId → Ballot → Type 0
 WasTyped w [] d b = ⊥
 WasTyped w (h ∷ hs) d b = TypesBallot (after w hs) h d b ⊎ WasTyped w hs d b
+
+-- What a process printed of what happened is of the book that it shows then: how its desk stands; what its scorer is told
+-- of the call, by the desk before it and after it; the six lines of the board's book, or nothing.
+abbrev pub PrintsItsBook : {Disk : Type 0} → ℕ → Configuration Disk → Happening Disk → Type 0
+PrintsItsBook innings w (DeskGreeted d s text) =
+    (k : DeskState _) × ((node w d).process ≡ Running k) × (text ≡ greeting_of s innings k)
+PrintsItsBook innings w (DeskCalled d s call out l text) =
+    (k : DeskState _) × ((node w d).process ≡ Running k) × Tells s innings k call l text
+PrintsItsBook innings w (BoardCalled n s call out l text) = Prints s innings call l text
+PrintsItsBook innings w what = Unit {0}
 
 -- the headline for processes of a match of this number and innings a side
 pub record ProcessHeadline {Disk : Type 0} (game innings : ℕ) (w : Configuration Disk) (hs : List (Happening Disk)) : Type 0 where
@@ -48,10 +59,14 @@ pub record ProcessHeadline {Disk : Type 0} (game innings : ℕ) (w : Configurati
   -- each vote of a desk was typed there, at its position, as a line that in full is its entry's, behind `again ` in every
   -- round but the first, or there as `again` alone, for the entry of the round before
   pub typed : (d : DeskId) (b : Ballot) → In b (votes_of (all_votes (after w hs)) d) → WasTyped w hs d b
-  -- books of one length have one score by the Laws, whichever processes show them at whatever times
+  -- each score is the Laws' score of its book: in a match of one or two innings a side each book that a process shows has
+  -- one, and books of one length have the same, whichever processes show them at whatever times
+  pub scored : 1 ≤ innings → innings ≤ 2 → AtEachTime w hs (ShowScores innings)
   pub scores : (t u : Station) (n : ℕ) (score other : Standing)
       → AtSomeTime w hs (λ v. ShowsScore innings v t n score)
       → AtSomeTime w hs (λ v. ShowsScore innings v u n other) → score ≡ other
+  -- what a process prints is of the book that it shows then
+  pub prints : AtEachHappening w hs (PrintsItsBook innings)
   -- what brings the second of two equal votes to a process that keeps the first makes its book longer by their entry
   pub takes_second : AtEachHappening w hs (TakesSecond game)
   -- and no process keeps both votes of its position

@@ -1,5 +1,6 @@
--- What is claimed: Laws, of flows of Happenings, by the Headline for processes; Weaving, of the Lives of stations;
--- Stations and Files, which tie lives to processes and to files.
+-- What is claimed: Laws, of flows of Happenings, by the Headline for processes, with Printing; Weaving, of the Lives of stations;
+-- Stations and Files, which tie lives to processes and to files; Worked, a life that is one.
+pub mod Printing
 pub mod Happenings
 pub mod Headline
 pub mod Laws
@@ -9,3 +10,4 @@ pub mod Sealing
 pub mod Weaving
 pub mod SecondVotes
 pub mod Stations
+pub mod Worked

@@ -1,6 +1,5 @@
 -- The life of one station: its processes, one after the other, each from its beginning to its end.
-use Rattle.std.specs.Prelude.{◌≡◌, ◌<◌, ℕ, List, [], ◌∷◌, ◌++◌, length, Err}
-use Rattle.corrections.specs.Refusal.{book_refusal}
+use Rattle.std.specs.Prelude.{◌≡◌, ℕ, List, [], ◌∷◌, ◌++◌, Err}
 use Rattle.entry_log.specs.Disk.{Faults}
 use Rattle.cards.specs.Sheet.{Sheet}
 use Rattle.agree_core.specs.declared.messages.DeskId.{DeskId}
@@ -8,46 +7,48 @@ use Rattle.agree_core.specs.Ballots.{Ballot}
 use Rattle.agree_core.specs.Boards.{fresh_board}
 use Rattle.agree_core.specs.Desks.{DeskState}
 use Rattle.agree_core.specs.FileView.{FileView, Stays}
-use Rattle.agree_core.specs.Openings.{Creates, NotOpened, Opened, Opening, Opens}
+use Rattle.agree_core.specs.Openings.{Opened, Opening}
 use Rattle.headline.specs.declared.version.FileVersion.{FileVersion}
 use Rattle.headline.specs.declared.version.FileVersion.TheVariants.{Old}
 use Rattle.headline.specs.Configurations.{Process, Running, Down, Node, process_disk, process_votes}
 use Rattle.headline.specs.DeskFaults.{LosesPower}
 use Rattle.headline.specs.Migrations.{Migrates, ToNew}
 use Rattle.live.specs.Boards as boards
-use Rattle.live.specs.Boards.{BoardCall, BoardTurn, board_kind}
-use Rattle.live.specs.Desks.{DeskCall, DeskProcess, DeskStep, FitsLongest, course_after, desk_kind}
-use Rattle.live.specs.Ends.{further}
+use Rattle.live.specs.Boards.{BoardCall, BoardTurn, board_kind, shown}
+use Rattle.live.specs.DeskLife.{BeginsOn, fresh}
+use Rattle.live.specs.Desks.{DeskCall, DeskProcess, DeskStep, FitsLongest, course_after, desk_kind, told_of}
 use Rattle.live.specs.Notices.{untold}
 use Rattle.live.specs.Runs as own
 use Rattle.live.specs.declared.ends.DeskEnd.TheVariants.{Device}
 use Rattle.live.specs.declared.notices.Notice.{Notice}
-use Rattle.live.specs.Texts.{unwarned}
-use Rattle.processes.specs.Happenings.{BoardBegun, BoardCalled, DeskBegun, DeskCalled, DeskEnded, FileMigrated, Happening, PowerLost, begun, migrated}
+use Rattle.processes.specs.Happenings.{BoardBegun, BoardCalled, DeskBegun, DeskCalled, DeskEnded, DeskGreeted, FileMigrated, Happening, PowerLost, begun, migrated}
+use Rattle.processes.specs.Printing.{greeting_of}
 
--- A stage of a desk's life: its process, begun with this sheet, makes these calls, from its beginning on; it is cut off
--- amid a call, which has then done what one does whose disk fails; it has ended or was killed, with the disk left; its laptop has lost power,
--- with the disk left; the next process begins on its file; its file is migrated, with these votes, to this disk.
+-- What is claimed of a process by a contract is claimed where its call returns, and a process may be killed amid a call or
+-- run on for ever. It is so of these too: the logs of what passed, was typed and was written only grow, and at each
+-- moment the next call of the disk, the link or the writer may fail and end the call. So whatever a process has done up
+-- to a moment is what one has done that ended there, and of that the contract speaks. What a process does to its file
+-- before it begins on it, a sync or a copy, belongs to its beginning; a migration stands between an end and a beginning.
+
+-- A stage of a desk's life: its process, begun with this sheet as this desk, tells its scorer how it stands and makes these
+-- calls; it is cut off amid a call, which has then done what one does whose disk fails, and prints nothing; it has ended
+-- or was killed, with the disk left; its laptop has lost power, with the disk left; the next process begins on its file;
+-- its file is migrated, with these votes, to this disk.
 pub data Stage (Disk : Type 0) : Type 0 where
-  CallsMade : Sheet → List (own.Moment (DeskProcess Disk) DeskCall) → Stage Disk
+  CallsMade : Sheet → DeskState Disk → List (own.Moment (DeskProcess Disk) DeskCall) → Stage Disk
   CutOff : Sheet → DeskCall → DeskState Disk → Stage Disk
   ProcessEnd : Disk → Stage Disk
   PowerLoss : Disk → Stage Disk
   Beginning : Opening Disk → Stage Disk
   FileMigration : List Ballot → Disk → Stage Disk
 
--- the process of this desk, at its beginning
-abbrev pub fresh : {Disk : Type 0} → DeskState Disk → DeskProcess Disk
-fresh k = record { desk = k; warned = unwarned; turns = 0; course = further }
-
 abbrev pub after_calls :
-    {Disk : Type 0} → Process Disk → List (own.Moment (DeskProcess Disk) DeskCall) → Process Disk
-after_calls (Running k) ms = Running ((λ (p : DeskProcess _). p.desk) (own.last_of (fresh k) ms))
-after_calls (Down votes disk) ms = Down votes disk
+    {Disk : Type 0} → DeskState Disk → List (own.Moment (DeskProcess Disk) DeskCall) → Process Disk
+after_calls k ms = Running ((λ (p : DeskProcess _). p.desk) (own.last_of (fresh k) ms))
 
 -- the desk after a stage
 abbrev pub after_stage : {Disk : Type 0} → Node Disk → Stage Disk → Node Disk
-after_stage x (CallsMade s ms) = record x { process = after_calls x.process ms }
+after_stage x (CallsMade s k ms) = record x { process = after_calls k ms }
 after_stage x (CutOff s call l) = record x { process = Running l }
 after_stage x (ProcessEnd disk) = record x { process = Down (process_votes x.process) disk }
 after_stage x (PowerLoss disk) = record x { process = Down (process_votes x.process) disk }
@@ -58,19 +59,6 @@ after_stage x (FileMigration votes new) = migrated x new
 abbrev pub after_life : {Disk : Type 0} → Node Disk → List (Stage Disk) → Node Disk
 after_life x [] = x
 after_life x (stage ∷ stages) = after_stage (after_life x stages) stage
-
--- on a disk without a byte a process makes its file
-abbrev pub Makes : {Disk : Type 0} → FileView Disk → DeskId → Opening Disk → Type 0
-Makes view d (Opened k) = Creates view d k
-Makes view d (NotOpened why left) = Unit {0}
-
--- a process begins on this disk, of which a read gives these bytes: it makes its file where there are none, and else
--- opens what is there, so too after a beginning that was cut off
-abbrev pub BeginsOn :
-    {Disk : Type 0} → FileView Disk → (Disk → List ℕ) → ℕ → DeskId → Disk → Opening Disk → Type 0
-BeginsOn view seen innings d disk opening =
-    (length (seen disk) ≡ 0 → Makes view d opening)
-    × (0 < length (seen disk) → Opens view (book_refusal innings) d disk opening)
 
 -- a desk's first process makes its file, or finds one without votes
 abbrev pub BeginsFirst : {Disk : Type 0} → FileView Disk → (Disk → List ℕ) → ℕ → DeskId → DeskState Disk → Type 0
@@ -93,8 +81,7 @@ module _
     (game innings : ℕ) where
   -- the stage may come next
   abbrev pub IsNextStage : Node Disk → Stage Disk → Type 0
-  IsNextStage x (CallsMade s ms) =
-      (k : DeskState Disk) × (x.process ≡ Running k) × RunsFrom s (view x.version) faults game innings k ms
+  IsNextStage x (CallsMade s k ms) = (x.process ≡ Running k) × RunsFrom s (view x.version) faults game innings k ms
   IsNextStage x (CutOff s call l) =
       (k : DeskState Disk) × (x.process ≡ Running k) × (course_after call ≡ Err Device)
       × DeskStep s (view x.version) game innings k call [] l
@@ -111,40 +98,57 @@ module _
   IsLife x [] = Unit {0}
   IsLife x (stage ∷ stages) = IsLife x stages × IsNextStage (after_life x stages) stage
 
--- what happens at a desk in a stage, and in its life
-abbrev pub calls_of : {Disk : Type 0} → DeskId → Sheet → List (own.Moment (DeskProcess Disk) DeskCall) → List (Happening Disk)
-calls_of d s [] = []
-calls_of d s (m ∷ ms) = DeskCalled d s m.call m.out ((λ (p : DeskProcess _). p.desk) m.after) ∷ calls_of d s ms
+-- what happens at a desk in a stage, and in its life, with what its scorer is told
+abbrev pub calls_of :
+    {Disk : Type 0} → ℕ → DeskId → Sheet → DeskState Disk → List (own.Moment (DeskProcess Disk) DeskCall)
+    → List (Happening Disk)
+calls_of innings d s k [] = DeskGreeted d s (greeting_of s innings k) ∷ []
+calls_of innings d s k (m ∷ ms) =
+    DeskCalled d s m.call m.out ((λ (p : DeskProcess _). p.desk) m.after)
+    (told_of s innings (own.last_of (fresh k) ms) m.call m.after)
+    ∷ calls_of innings d s k ms
 
-abbrev pub stage_happens : {Disk : Type 0} → DeskId → Stage Disk → List (Happening Disk)
-stage_happens d (CallsMade s ms) = calls_of d s ms
-stage_happens d (CutOff s call l) = DeskCalled d s call [] l ∷ []
-stage_happens d (ProcessEnd disk) = DeskEnded d disk ∷ []
-stage_happens d (PowerLoss disk) = PowerLost d disk ∷ []
-stage_happens d (Beginning opening) = DeskBegun d opening ∷ []
-stage_happens d (FileMigration votes new) = FileMigrated d votes new ∷ []
+abbrev pub stage_happens : {Disk : Type 0} → ℕ → DeskId → Stage Disk → List (Happening Disk)
+stage_happens innings d (CallsMade s k ms) = calls_of innings d s k ms
+stage_happens innings d (CutOff s call l) = DeskCalled d s call [] l [] ∷ []
+stage_happens innings d (ProcessEnd disk) = DeskEnded d disk ∷ []
+stage_happens innings d (PowerLoss disk) = PowerLost d disk ∷ []
+stage_happens innings d (Beginning opening) = DeskBegun d opening ∷ []
+stage_happens innings d (FileMigration votes new) = FileMigrated d votes new ∷ []
 
-abbrev pub life_happens : {Disk : Type 0} → DeskId → List (Stage Disk) → List (Happening Disk)
-life_happens d [] = []
-life_happens d (x ∷ xs) = stage_happens d x ++ life_happens d xs
+abbrev pub life_happens : {Disk : Type 0} → ℕ → DeskId → List (Stage Disk) → List (Happening Disk)
+life_happens innings d [] = []
+life_happens innings d (x ∷ xs) = stage_happens innings d x ++ life_happens innings d xs
 
--- the moments are a run of a board's process from its beginning on, with an empty book, behind any notices of earlier
--- ones
-abbrev pub BoardRuns : ℕ → ℕ → List (own.Moment BoardTurn BoardCall) → Type 0
-BoardRuns game innings ms =
-    (sheet : Sheet) × (notices : List Notice)
-    × own.Run (board_kind sheet game innings) (boards.begun fresh_board 0 untold notices) ms
+-- a board's process at its beginning, with an empty book, behind any notices of earlier ones
+abbrev pub fresh_turn : List Notice → BoardTurn
+fresh_turn noted = boards.begun fresh_board 0 untold noted
 
--- so are those of each of its processes, the newest first
-abbrev pub IsBoardLife : ℕ → ℕ → List (List (own.Moment BoardTurn BoardCall)) → Type 0
+-- the moments are a run of a board's process, with this sheet, from its beginning on
+abbrev pub BoardRuns : ℕ → ℕ → Sheet → List Notice → List (own.Moment BoardTurn BoardCall) → Type 0
+BoardRuns game innings s noted ms = own.Run (board_kind s game innings) (fresh_turn noted) ms
+
+-- a process of a board: the sheet that it was begun with, the notices of earlier ones, and its calls
+pub record BoardProcess : Type 0 where
+  pub sheet : Sheet
+  pub noted : List Notice
+  pub calls : List (own.Moment BoardTurn BoardCall)
+
+-- each of its processes, the newest first, is such a run
+abbrev pub IsBoardLife : ℕ → ℕ → List BoardProcess → Type 0
 IsBoardLife game innings [] = Unit {0}
-IsBoardLife game innings (ms ∷ rest) = IsBoardLife game innings rest × BoardRuns game innings ms
+IsBoardLife game innings (p ∷ ps) = IsBoardLife game innings ps × BoardRuns game innings p.sheet p.noted p.calls
 
--- what happens at a board in a process, and in its life
-abbrev pub board_calls : {Disk : Type 0} → ℕ → List (own.Moment BoardTurn BoardCall) → List (Happening Disk)
-board_calls n [] = []
-board_calls n (m ∷ ms) = BoardCalled n m.call m.out ((λ (k : BoardTurn). k.board) m.after) ∷ board_calls n ms
+-- what happens at a board in a process, and in its life, with what it prints
+abbrev pub board_calls :
+    {Disk : Type 0} → ℕ → ℕ → Sheet → List Notice → List (own.Moment BoardTurn BoardCall) → List (Happening Disk)
+board_calls innings n s noted [] = []
+board_calls innings n s noted (m ∷ ms) =
+    BoardCalled n s m.call m.out ((λ (k : BoardTurn). k.board) m.after)
+    (shown s innings (own.last_of (fresh_turn noted) ms) m.call m.after)
+    ∷ board_calls innings n s noted ms
 
-abbrev pub board_happens : {Disk : Type 0} → ℕ → List (List (own.Moment BoardTurn BoardCall)) → List (Happening Disk)
-board_happens n [] = []
-board_happens n (ms ∷ rest) = board_calls n ms ++ BoardBegun n ∷ board_happens n rest
+abbrev pub board_happens : {Disk : Type 0} → ℕ → ℕ → List BoardProcess → List (Happening Disk)
+board_happens innings n [] = []
+board_happens innings n (p ∷ ps) =
+    board_calls innings n p.sheet p.noted p.calls ++ BoardBegun n ∷ board_happens innings n ps

@@ -9,10 +9,8 @@ use Rattle.agree_core.specs.declared.messages.DeskId.TheVariants.{A, B}
 use Rattle.agree_core.specs.Desks.{DeskState}
 use Rattle.headline.specs.declared.version.FileVersion.{FileVersion}
 use Rattle.headline.specs.Configurations.{Running, Configuration, board_at, fresh_boards, node}
-use Rattle.live.specs.Boards.{BoardCall, BoardTurn}
-use Rattle.live.specs.Runs as own
-use Rattle.processes.specs.Happenings.{BoardBegun, BoardCalled, DeskBegun, DeskCalled, DeskEnded, FileMigrated, Happening, PowerLost, after}
-use Rattle.processes.specs.Lives.{BeginsFirst, IsBoardLife, IsLife, Stage, board_happens, life_happens}
+use Rattle.processes.specs.Happenings.{BoardBegun, BoardCalled, DeskBegun, DeskCalled, DeskEnded, DeskGreeted, FileMigrated, Happening, PowerLost, after}
+use Rattle.processes.specs.Lives.{BeginsFirst, BoardProcess, IsBoardLife, IsLife, Stage, board_happens, life_happens}
 use Rattle.processes.specs.Files.{NoneShowNone}
 use Rattle.processes.specs.Headline.{ProcessHeadline}
 use Rattle.processes.specs.Laws.{IsFlow}
@@ -26,23 +24,24 @@ same_desk B A = false
 same_desk B B = true
 
 abbrev pub is_at_desk : {Disk : Type 0} → DeskId → Happening Disk → Bool
-is_at_desk d (DeskCalled c s call out l) = same_desk d c
+is_at_desk d (DeskGreeted c s text) = same_desk d c
+is_at_desk d (DeskCalled c s call out l text) = same_desk d c
 is_at_desk d (DeskEnded c disk) = same_desk d c
 is_at_desk d (PowerLost c disk) = same_desk d c
 is_at_desk d (DeskBegun c opening) = same_desk d c
 is_at_desk d (FileMigrated c votes new) = same_desk d c
-is_at_desk d (BoardCalled n call out l) = false
+is_at_desk d (BoardCalled n s call out l text) = false
 is_at_desk d (BoardBegun n) = false
 
 abbrev pub is_at_board : {Disk : Type 0} → ℕ → Happening Disk → Bool
-is_at_board n (BoardCalled m call out l) = nat_eq n m
+is_at_board n (BoardCalled m s call out l text) = nat_eq n m
 is_at_board n (BoardBegun m) = nat_eq n m
 is_at_board n what = false
 
 -- where sealed bytes came and opened, a station had sealed them before
 abbrev pub Came : {Disk : Type 0} → List ℕ → ℕ → Configuration Disk → Happening Disk → Type 0
-Came seal game w (DeskCalled d s call out l) = DeskAuthentic seal game w.sent call
-Came seal game w (BoardCalled n call out l) = BoardAuthentic seal game w.sent call
+Came seal game w (DeskCalled d s call out l text) = DeskAuthentic seal game w.sent call
+Came seal game w (BoardCalled n s call out l text) = BoardAuthentic seal game w.sent call
 Came seal game w what = Unit {0}
 
 abbrev pub NothingIsForged : {Disk : Type 0} → List ℕ → ℕ → Configuration Disk → List (Happening Disk) → Type 0
@@ -66,9 +65,9 @@ module _ {Disk : Type 0} (seen : Disk → List ℕ) (images : Disk → Images) (
     pub order : NothingIsForged seal game w hs
     pub desks : (d : DeskId) → (life : List (Stage Disk))
         × IsLife (λ version. file_view (contents version) seen images d game) seen faults d game innings (node w d) life
-        × (filter (is_at_desk d) hs ≡ life_happens d life)
-    pub boards : (n : ℕ) → (life : List (List (own.Moment BoardTurn BoardCall)))
-        × IsBoardLife game innings life × (filter (is_at_board n) hs ≡ board_happens n life)
+        × (filter (is_at_desk d) hs ≡ life_happens innings d life)
+    pub boards : (n : ℕ) → (life : List BoardProcess)
+        × IsBoardLife game innings life × (filter (is_at_board n) hs ≡ board_happens innings n life)
     pub no_others : (n : ℕ) → board_at w.boards n ≡ None → filter (is_at_board n) hs ≡ []
 
   -- the desks at the beginnings of their first processes

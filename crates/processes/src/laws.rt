@@ -4,6 +4,7 @@ ghost use Rattle.processes.specs.Files.{EmptyFilesShowNone};
 ghost use Rattle.processes.specs.Laws.{BoardStepsInRun, DeskStepsInRun, FlowsAreRuns, FlowsHaveHeadline};
 ghost use Rattle.processes.specs.Stations.{BeginningIsStage, BoardRunIsLife, DeskRunIsStage};
 ghost use Rattle.processes.specs.Weaving.{WovenLivesFlow, WovenLivesHaveHeadline};
+ghost use Rattle.processes.specs.Worked.{LivedIsWoven};
 
 use board::Board;
 use corrections::BookOf;
@@ -51,4 +52,10 @@ pub fn board_runs_are_lives<B: BookOf>(old: &Board<B>, new: &Board<B>)
 /// A file of either version without a byte shows no votes.
 pub fn empty_files_show_none()
     ensures { EmptyFilesShowNone }
+{}
+
+/// The definitions of lives are met: a desk that pens, is killed, begins in vain and begins, with another desk and a board
+/// that are given its vote, is what they speak of.
+pub fn a_worked_life_is_woven()
+    ensures { LivedIsWoven }
 {}

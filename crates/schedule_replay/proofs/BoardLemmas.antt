@@ -217,12 +217,12 @@ board_refuses n old new event why e s (inr (none, want, grows)) w h = (w, inr (c
     left n (events.StopAt d m) e w = refl
     left n (events.Wipe m) e w = refl
 
--- one that was refused before anything was done, for want of memory where it may send
+-- one that was refused before anything was done, out of memory where it may send
 pub board_admits_not : (n : ℕ) (old new : World) (event : Event) (why : WorldRefusal) → station_of event ≡ stations.Board n → StaysSo old new → (first_cause (no_board (length old.boards.items) n) false (length old.sent.items) event ≡ Some why) ⊎ ((first_cause (no_board (length old.boards.items) n) false (length old.sent.items) event ≡ None) × (why ≡ refuses.NoMemory) × (may_send event ≡ true)) → RefusesTo event old why new
 board_admits_not n old new event why e s (inl cause) = board_refuses n old new event why e s (inl cause)
 board_admits_not n old new event why e s (inr (none, want, sends)) = board_refuses n old new event why e s (inr (none, want, sending_grows event sends))
 
--- the board begins empty, or is as it was where memory is wanted
+-- the board begins empty, or is as it was where it is out of memory
 pub wipes : (n m : ℕ) (old new : World) (k l : MatchBoard) (event : Event) (result : Result Seen WorldRefusal) → station_of event ≡ stations.Board n → IsThere n old event k → PutsBoard n old new l → event ≡ events.Wipe m → new.sent.items ≡ old.sent.items → IfOk result (λ seen. (n : ℕ) (sent : List Datagram) → BoardSteps (events.Wipe n) k sent seen l sent) → OnOk result (IsBoardOf old.game old.innings_a_side l) → IfOk result (λ seen. StepsTo event old seen new)
 wipes n m old new k l event (Ok seen) e t c q items steps owner = board_steps n old new k l event (events.Wipe m) seen old.sent.items old.sent.items e t c (λ of. owner) q refl (sym items) (steps m old.sent.items)
 wipes n m old new k l event (Err why) e t c q items steps owner = tt

@@ -89,7 +89,7 @@ broken_down old new disk left x v cause seen (Some Stop) q down h d cap calm spe
     let is : HasNode new y = record { version = h.version ∙ sym put.version; process = lowered.3; due = sym put.due } in
     (y, Answer.Stopped, ap answer_of b.0, (Stop, h.due ∙ q, (lowered.0, refl, sets_plan_stays old.name v old.game Calm left lowered.0 lowered.2, refl)), is)
 
--- what comes of opening or migrating: a step of the definitions, or the want of memory
+-- what comes of opening or migrating: a step of the definitions, or out of memory
 abbrev pub Outcome : (List Datagram → Site → Seen → Site → Type 0) → Site → Result Seen WorldRefusal → Site → Type 0
 Outcome Steps old result new =
     IfOk result (λ seen. (sent : List Datagram) → Steps sent old seen new)

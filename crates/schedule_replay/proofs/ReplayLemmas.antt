@@ -30,8 +30,8 @@ use Rattle.headline.specs.Match.{match_of}
 use Rattle.schedule_replay.specs.Answers.{answer_of}
 use Rattle.schedule_replay.specs.Refusals.{RefusesEvent}
 use Rattle.schedule_replay.specs.CodeWorlds.{BeginsWorld, IsNew, boards_of, version_of, HasConfiguration, RefusesTo, KeepsMatch, StepsTo}
-use Rattle.headline.specs.Headline.{ShowsScore}
-use Rattle.schedule_replay.specs.Replays.{AreSeen, EndsAt, EndsOrNeverBegins, IsReplay, IsRunOf, MatchRun, ShowScores, StandOnce}
+use Rattle.headline.specs.Headline.{ShowScores, ShowsScore}
+use Rattle.schedule_replay.specs.Replays.{AreSeen, EndsAt, EndsOrNeverBegins, IsReplay, IsRunOf, MatchRun, StandOnce}
 use Rattle.schedule_replay.specs.inner.RunsSoFar.{HasTaken, IsAt}
 use Rattle.schedule_replay.specs.inner.ShownScores.{HaveScores, IsNotable, Notes}
 use Rattle.schedule_replay.specs.inner.VotesFiles.{FilesRead}
@@ -206,7 +206,7 @@ module _ (game innings : ℕ) (version : FileVersion) (boards : ℕ) (events : L
       let at = p.3 in
       let run = at.run in
       let s = refuses_at number event world new p.0 why p.1 p.2 less here at refuses in
-      inr (p.0, p.1, p.2, number, event, s.0, run, holds_in_run (match_of game innings) innings version boards p.1 p.2 run.begins run.run, e, s.1, s.2)
+      inr (p.0, p.1, p.2, number, event, s.0, run, holds_in_run (match_of game innings) innings (λ book e none. none) version boards p.1 p.2 run.begins run.run, e, s.1, s.2)
 
   -- all are, and there is no memory for the report
   pub ends_unreported : (number : ℕ) (world : World) → number ≡ length events → HasTaken game innings version boards events number world → EndsAt game innings version boards events (0, NoMemory)
@@ -214,7 +214,7 @@ module _ (game innings : ℕ) (version : FileVersion) (boards : ℕ) (events : L
       let at = p.3 in
       let run = at.run in
       let all : take number events ≡ events = ap (λ (n : ℕ). take n events) e ∙ take-length events in
-      inl (refl, refl, (p.0, p.1, p.2, subst (λ (es : List Event). IsRunOf game innings version boards es p.0 p.1 p.2) all run, holds_in_run (match_of game innings) innings version boards p.1 p.2 run.begins run.run))
+      inl (refl, refl, (p.0, p.1, p.2, subst (λ (es : List Event). IsRunOf game innings version boards es p.0 p.1 p.2) all run, holds_in_run (match_of game innings) innings (λ book e none. none) version boards p.1 p.2 run.begins run.run))
 
   -- a read of each file gives its desk's votes, and perhaps later ones
   read_at : (number : ℕ) (world : World) (outcomes : List Seen) (w : Configuration MemDisk) (ms : MatchRun) → IsAt game innings version boards events number world outcomes w ms → FilesRead world.game world.innings_a_side (last_of w ms)
@@ -250,7 +250,7 @@ module _ (game innings : ℕ) (version : FileVersion) (boards : ℕ) (events : L
       let run = at.run in
       let s = match_of game innings in
       let all : take number events ≡ events = ap (λ (n : ℕ). take n events) e ∙ take-length events in
-      let holds = holds_in_run s innings version boards w ms run.begins run.run in
+      let holds = holds_in_run s innings (λ book e none. none) version boards w ms run.begins run.run in
       let agreed : IsAgreedList (all_votes (last_of w ms)) report.agreed.items =
       holds.by_files report.agreed.items (files (last_of w ms) at.has_configuration (read_at number world report.outcomes.items w ms at)) in (
         w,

@@ -22,8 +22,7 @@ use Rattle.headline.specs.Configurations.{Process, Configuration, node}
 use Rattle.headline.specs.Runs.{process_shows}
 use Rattle.schedule_replay.specs.inner.Sites.{IsProcess}
 use Rattle.schedule_replay.specs.CodeWorlds.{IsBoardOf, HasConfiguration, MatchBoard, board_innings, board_state, code_site}
-use Rattle.headline.specs.Headline.{ShowsScore}
-use Rattle.schedule_replay.specs.Replays.{ShowScores}
+use Rattle.headline.specs.Headline.{ShowScores, ShowsScore}
 use Rattle.schedule_replay.specs.inner.ShownScores.{Adds, BoardHasScore, BoardShows, CodeShows, DeskHasScore, DeskShows, HaveScores, IsBookScore, IsNotable, Notes, station_number}
 use Rattle.schedule_replay.specs.WorldDesks.{innings_of, state_of}
 use Rattle.schedule_replay.proofs.NoteLemmas.{FromOne, Shown, same_station}

@@ -183,7 +183,7 @@ synced d c old new site w q change syncs items h =
       put d old new site w y [] change h k.2 (no_bytes d old new w items h),
     )
 
--- what the want of memory leaves
+-- what being out of memory leaves
 left : (d : DeskId) (old new : World) (site : Site) (event : Event) (w : Configuration MemDisk) → station_of event ≡ stations.Desk d → Changes d old new site → SiteLeft event (code_site old d) site → new.sent.items ≡ old.sent.items → HasConfiguration old w → (v : Configuration MemDisk) × LeftByWant (match_of old.game old.innings_a_side) w event v × HasConfiguration new v
 left d old new site (events.Open c) w e change l items h = synced d c old new site w (sym (desk_eq c d e)) change l items h
 left d old new site (events.Migrate c) w e change l items h = synced d c old new site w (sym (desk_eq c d e)) change l items h

@@ -80,7 +80,7 @@ abbrev pub is_fault : What → Bool
 is_fault whats.Device = true
 is_fault _ = false
 
--- why a votes file isn't found: memory was wanted, or its disk failed
+-- why a votes file isn't found: out of memory, or its disk failed
 abbrev pub wants_memory : VotesRefusal → Bool
 wants_memory votes.NoMemory = true
 wants_memory _ = false

@@ -108,7 +108,7 @@ LeftByWant s w (events.Migrate d) v = MaySyncAt s w d v
 LeftByWant s w _ v = v ≡ w
 
 -- the world doesn't take this event, and goes on so: it stays, where a cause stands against the event; where
--- none does, memory was wanted, for an event that may take it
+-- none does, it ran out of memory, for an event that may take it
 abbrev pub RefusesEvent :
     {Disk Why : Type 0} → Setting Disk Why → Configuration Disk → Event → WorldRefusal → Configuration Disk → Type 0
 RefusesEvent s w event why v =

@@ -16,7 +16,7 @@ use Rattle.headline.specs.declared.version.FileVersion.{FileVersion}
 use Rattle.headline.specs.Laws.{HoldsInRun}
 use Rattle.headline.specs.Configurations.{Configuration, all_votes}
 use Rattle.headline.specs.Runs.{AtEachMoment, AtSomeMoment, Begins, Moment, Run, Shows, answers_of, events_of, last_of}
-use Rattle.headline.specs.Headline.{AtEachEvent, ShowsScore}
+use Rattle.headline.specs.Headline.{AtEachEvent, ShowScores, ShowsScore}
 use Rattle.schedule_replay.specs.Refusals.{RefusesEvent}
 use Rattle.headline.specs.Match.{match_of}
 use Rattle.schedule_replay.specs.Plans.{CountsDown, LeavesPlan}
@@ -32,11 +32,6 @@ abbrev pub AreSeen : ℕ → Configuration MemDisk → MatchRun → List (Statio
 AreSeen innings w ms seen =
     (t : Station) (n : ℕ) (score : Standing)
     → Contains seen (t, n, score) ↔ AtSomeMoment w ms (λ v. ShowsScore innings v t n score)
-
--- each station that isn't down shows a score of its book
-abbrev pub ShowScores : ℕ → Configuration MemDisk → Type 0
-ShowScores innings v =
-    (t : Station) (book : List Entry) → Shows v t book → (score : Standing) × ShowsScore innings v t (length book) score
 
 -- a run of the match over these events, whose answers are seen so, and in which each fault is planned that is asked
 -- for, and then counted down, and none stays planned after a kill or a power loss
@@ -66,7 +61,7 @@ TakesEach game innings version boards events =
     (outcomes : List Seen) × (w : Configuration MemDisk) × (ms : MatchRun)
     × IsRunOf game innings version boards events outcomes w ms × HoldsInRun (match_of game innings) innings w ms
 
--- why a replay has no report: an event isn't taken; or all are, and memory was wanted for the report alone
+-- why a replay has no report: an event isn't taken; or all are, and it ran out of memory for the report alone
 abbrev pub EndsAt : ℕ → ℕ → FileVersion → ℕ → List Event → ℕ × WorldRefusal → Type 0
 EndsAt game innings version boards events end =
     ((end.0 ≡ 0) × (end.1 ≡ NoMemory) × TakesEach game innings version boards events)

@@ -88,7 +88,7 @@ pub fn tick_board(board: &Board<CheckedBook>, sent: &mut Vec<Datagram>) -> Seen
     Seen::Ticked(said.len() as u32)
 }
 
-/// The board begins empty, or is as it was where memory is wanted.
+/// The board begins empty, or is as it was where it is out of memory.
 pub fn wipe_board(
     board: &mut Board<CheckedBook>,
     alloc: Global,

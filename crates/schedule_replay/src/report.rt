@@ -120,10 +120,10 @@ pub fn replay_in(
     })
 }
 
-/// Memory was wanted, and no event was refused.
+/// It ran out of memory, and no event was refused.
 const NO_MEMORY: (u64, WorldRefusal) = (0, WorldRefusal::NoMemory);
 
-/// Why there is no report, where memory was wanted for it after so many events: the world takes the others
+/// Why there is no report, where it ran out of memory for it after so many events: the world takes the others
 /// too, or it doesn't take one of them.
 fn end_unreported(mut world: World, events: &[Event], after: usize) -> (u64, WorldRefusal)
     requires after { after ≤ length events.now }

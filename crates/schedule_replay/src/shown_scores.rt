@@ -1,6 +1,7 @@
 //! Scores that stations have shown, each kept once.
 
 ghost use Rattle.std.specs.Prelude.{◌≡◌, ◌≤◌, ◌<◌, [], IfOk, OnErr, OnOk, Contains};
+ghost use Rattle.notation.specs.declared.entry.TheConstants.{PLACES};
 ghost use Rattle.match_laws.specs.declared.standing.Standing.{Standing};
 ghost use Rattle.schedule_replay.specs.inner.ShownScores.{Adds, IsKept, IsStation, mark_of};
 
@@ -18,7 +19,7 @@ const MARKS: usize = 49_158;
 /// Where the mark of a station and the length of its book stands.
 fn mark_of(station: Station, length: u32) -> usize
     requires station { IsStation station }
-    requires length { length ≤ 8192 }
+    requires length { length ≤ PLACES }
     ensures mark { result ≡ mark_of station length }
     ensures within { result < 49158 }
 {
@@ -54,7 +55,7 @@ impl ShownScores {
     /// Adds the score of a station's book of this length, unless it is there.
     pub fn note(&mut self, station: Station, length: u32, score: &Match) -> Result<(), AllocError>
         requires station { IsStation station }
-        requires length { length ≤ 8192 }
+        requires length { length ≤ PLACES }
         requires kept { IsKept self.old }
         requires one { (other : Standing) →
             Contains self.old.seen.items (station, length, other) → other ≡ score.now }

@@ -30,7 +30,7 @@ use std::alloc::{AllocError, Global};
 use vote_store::migrate;
 use wire::{Datagram, What};
 
-/// A desk's place in the world: the desk while it runs, and else its disk alone.
+/// A desk's place in the world: the desk while it runs, otherwise its disk alone.
 #[derive(Drop)]
 pub struct Site {
     alloc: Global,

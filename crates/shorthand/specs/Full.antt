@@ -72,7 +72,7 @@ behind_nb s side [] = Ok (codes "0") ∷ []
 behind_nb s side (t ∷ ts) =
     if is_digit_first t then behind_runs s side (t ∷ ts) else Ok (codes "0") ∷ behind_runs s side (t ∷ ts)
 
--- no mark: no runs where none are named, and else a kind and a number, as in a full line
+-- no mark: no runs where none are named, otherwise a kind and a number, as in a full line
 abbrev pub unmarked : Sheet → Side → Token → List Token → List Word
 unmarked s side t ts =
     if is_behind_runs t then Ok (codes "bat") ∷ Ok (codes "0") ∷ behind_runs s side (t ∷ ts)

@@ -101,7 +101,7 @@ birch = record {
 abbrev pub sheet : Sheet
 sheet = record { title = codes "match"; game = 1; innings = 1; home = alder; away = birch }
 
--- the players whom a name means: a last word goes first where it is one player's, and else each beginning counts
+-- the players whom a name means: a last word goes first where it is one player's, otherwise each beginning counts
 pub record WorkedNames : Type 0 where
   pub last_word : behind sheet two_overs (codes "in carr") ≡ Ok (codes "in 3")
   pub beginning : behind sheet two_overs (codes "in carro") ≡ Ok (codes "in 4")

@@ -18,7 +18,7 @@ const SHORTEST: u64 = 100;
 
 /// How long at most: less than ten seconds, by more than a turn takes. Whoever sees when the file was written knows
 /// whether its board lives.
-const LONGEST: u64 = 9_900;
+const LONGEST: u64 = 9_700;
 
 /// A state that was written: how many entries its book had, and when that was.
 #[derive(Clone, Copy, Debug, PartialEq, Eq)]
@@ -85,7 +85,7 @@ impl<T: Replaces> State<T> {
 impl<T: Replaces> Shows for State<T> {
     ghost failed = { λ state. state.has_failed };
 
-    /// Writes the state at the first call, then where the book has grown, at most ten times a second, and else anew
+    /// Writes the state at the first call, then where the book has grown, at most ten times a second, otherwise anew
     /// before ten seconds are over.
     fn show<B: BookOf>(
         &mut self,

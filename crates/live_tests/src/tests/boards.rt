@@ -1,4 +1,4 @@
-//! What a board prints, when it asks, and how it catches up.
+//! What a board prints, and how it catches up.
 ghost use Rattle.std.specs.Prelude.{◌≡◌, ◌≤◌, IfSome};
 
 use super::desks::ELSEWHERE;
@@ -64,31 +64,6 @@ fn printed_once_a_turn(rt: HostRuntime) {
     assert_eq!(rt; out.into_inner().as_slice(), TWO.as_bytes());
 }
 
-// Nothing comes: it asks at once, then 20, 40, 80, 160 and 250 ms later, and 250 ms after that; a turn takes 3 ms here.
-#[test]
-fn asks_that_nobody_answers(rt: HostRuntime) {
-    let alloc = rt.alloc();
-    let sheet = sheet(&rt, alloc);
-    for (first, asks) in [
-        (1, 1),
-        (8, 2),
-        (22, 3),
-        (49, 4),
-        (103, 5),
-        (187, 6),
-        (271, 7),
-    ] {
-        for (turns, wanted) in [(first, asks), (first - 1, asks - 1)] {
-            let mut link = Queue::new(alloc);
-            let mut board = new_board(&rt, alloc);
-            let mut out = Watched::new(Failing { calls: 0 });
-            let answer = run(alloc, &mut board, &sheet, &mut link, &mut out, turns);
-            assert!(rt; answer.is_ok());
-            assert_eq!(rt; link.sent.len(), wanted, "{turns}");
-        }
-    }
-}
-
 /// Two desks that have agreed a thousand entries: each answers an ask with its vote.
 #[derive(Drop)]
 struct Archive {
@@ -131,7 +106,11 @@ impl Link for Archive {
         self.log = self.log.sent(bytes);
     }
 
-    fn take(&mut self, buffer: &mut [u8; 64]) -> Taken {
+    fn reply(&mut self, bytes: &[u8; 48]) {
+        self.send(bytes);
+    }
+
+    fn take(&mut self, buffer: &mut [u8; 64], _wait: u64) -> Taken {
         match self.answer(buffer) {
             Some(count) => {
                 self.log = self.log.came(buffer, count);

@@ -1,9 +1,15 @@
 //! What a desk's scorer is told.
 use super::*;
 
-const OPENED: &str = "home 0 for 0\nOvers 0.0\nStriker -\nOther -\nTarget -\nResult -\n";
+const WAITING: &str = "refused 61 Waiting: your line is cast: wait for the other scorer\n";
 
-const FIRST_IN: &str = "home 0 for 0\nOvers 0.0\nStriker 1 0 (0)\nOther -\nTarget -\nResult -\n";
+const UNKNOWN: &str = "fault 2 UnknownWord: a word stands where another must\n";
+
+const UNPLAYED: &str = "No play\n";
+
+const OPENED: &str = "home 0 for 0 (0.0)  -  -\n";
+
+const FIRST_IN: &str = "home 0 for 0 (0.0)  1 0 (0)*  -\n";
 
 /// 130 letters, of which a keyboard gives 128.
 const LONG: &str =
@@ -26,9 +32,10 @@ void
 fix p E         place p is to read E, any line above
 late p E        E, any line above, belongs after place p
 again [E]       E, or what you wrote before, where you two differ
-list            the last twelve entries, with their places
-help            this
-help short      short lines, which stand for these
+list [n]        the last n entries, 12 or 1 to 200, with their places
+score, card     this over and the total; both cards of the innings
+players         both sides, by number and name; an empty line: where you stand
+help [word]     this, or more on one of these words; short: short lines
 quit            ends; the same command goes on
 ";
 
@@ -57,8 +64,14 @@ Names: in n, gone L n, ball b, B: and f take a name of that side, in letters of
 fix p, late p and again: short lines stand behind them too.
 ";
 
-const BOTH_IN: &str =
-    "home 0 for 0\nOvers 0.0\nStriker 1 0 (0)\nOther 2 0 (0)\nTarget -\nResult -\n";
+const BOTH_IN: &str = "home 0 for 0 (0.0)  1 0 (0)*  2 0 (0)\n";
+
+const SCORE: &str = "  home 0 for 0, extras 0 (b 0, lb 0, w 0, nb 0, p 0)\n  1 0 (0)*  2 0 (0)\n";
+
+const SIDES: &str = "\
+home: 1 1, 2 2, 3 3, 4 4, 5 5, 6 6, 7 7, 8 8, 9 9, 10 10, 11 11
+away: 1 1, 2 2, 3 3, 4 4, 5 5, 6 6, 7 7, 8 8, 9 9, 10 10, 11 11
+";
 
 /// What a new desk A tells over these lines, one a turn, each followed by the datagrams up to the next mark.
 fn is_told(
@@ -125,25 +138,42 @@ fn lines_and_rounds(rt: HostRuntime) {
         "list",
         "help",
         "help short",
+        "list 2",
+        "list 201",
+        "score",
+        "players",
+        "help late",
         "quit",
     ];
     let texts = [
-        NO_PLAY,
-        "0 next\n0 pending: innings home\n0 agreed\n",
+        UNPLAYED,
+        "0 next\n0 pending: innings home\n0 agreed: innings home\n",
         OPENED,
         "1 doesn't differ: leave out again\n1 the other has written\n",
         "1 doesn't differ: leave out again\n1 differs\n",
-        "1 differs: begin the line with again\n1 pending: in 1\nrefused 61 Waiting\n",
-        "refused 61 Waiting\nrefused 61 Waiting\nfault 2 UnknownWord\nfault 2 UnknownWord\n1 agreed\n",
+        "1 differs: begin the line with again\n1 pending: in 1\n",
+        WAITING,
+        WAITING,
+        WAITING,
+        UNKNOWN,
+        UNKNOWN,
+        "1 agreed: in 1\n",
         FIRST_IN,
-        "2 the other has written\n2 agreed\n",
+        "2 the other has written\n2 agreed: in 2\n",
         BOTH_IN,
         "3 pending: ball 7 bat 1\n3 differs\n3 differs: begin the line with again\n",
         "3 differs: begin the line with again\n3 differs: begin the line with again\n",
-        "fault 3 BadNumber\nrefused 32 Later 1 20\nrefused 10 NoBall\n",
+        "fault 3 BadNumber: a number is missing, or out of its range\n",
+        "refused 32 Later 1 20: the entry of that place would be refused so\n",
+        "refused 10 NoBall: no delivery of this over counts yet\n",
         "   0 innings home\n   1 in 1\n   2 in 2\n",
         HELP,
         HELP_SHORT,
+        "   1 in 1\n   2 in 2\n",
+        "3 differs: begin the line with again\n",
+        SCORE,
+        SIDES,
+        "late p E: E was left out, and belongs after place p\n  late 12 in 5\n",
     ];
     is_told(&rt, alloc, &lines, &mut link, &texts);
 }
@@ -181,10 +211,10 @@ fn what_cannot_be_right(rt: HostRuntime) {
     link.bring(&rt, &long);
     let lines = ["", "", "", "bogus", "quit"];
     let texts = [
-        NO_PLAY,
+        UNPLAYED,
         "0 next\npeer: 50 Length\n0 the other has written\npeer: 54 OtherMatch\n",
         "peer: the same desk\npeer: two votes\n",
-        "fault 2 UnknownWord\n",
+        UNKNOWN,
     ];
     is_told(&rt, alloc, &lines, &mut link, &texts);
 }
@@ -203,7 +233,7 @@ fn a_station_of_another_match(rt: HostRuntime) {
     }
     let lines = ["", "", "", "", "quit"];
     let texts = [
-        NO_PLAY,
+        UNPLAYED,
         "0 next\npeer: 54 OtherMatch\n0 the other has written\npeer: 54 OtherMatch\n",
     ];
     is_told(&rt, alloc, &lines, &mut link, &texts);

@@ -18,7 +18,7 @@ fn one_line(
 }
 
 fn is_text(rt: &impl Abort, told: &[u8], last: &str) {
-    match told.strip_prefix(NO_PLAY.as_bytes()) {
+    match told.strip_prefix("No play\n".as_bytes()) {
         Some(rest) => assert_eq!(rt; rest, last.as_bytes()),
         None => panic!(rt; "no score"),
     }
@@ -71,7 +71,7 @@ fn a_disk_that_fails(rt: HostRuntime) {
             let last = if n < 4 {
                 "0 next\n0 pending: void\n"
             } else {
-                "0 pending\nrefused 61 Waiting\n"
+                "0 pending: void\nrefused 61 Waiting: your line is cast: wait for the other scorer\n"
             };
             tells(&rt, alloc, disk, last);
         }

@@ -6,8 +6,7 @@ use live::{Clock, InputLog, Keys, Link, Log, Notice, NoticeLog, Notices, Shows, 
 use std::io::{self, Error, ErrorKind, Write};
 use streams::WriteFailed;
 
-/// A clock of which each reading is a millisecond later. A turn in which nothing comes reads it twice, and that of a board
-/// once more.
+/// A clock of which each reading is a millisecond later.
 #[derive(Drop)]
 pub struct Ticking {
     now: u64,
@@ -98,7 +97,11 @@ impl Link for Queue {
         self.log = self.log.sent(bytes);
     }
 
-    fn take(&mut self, buffer: &mut [u8; 64]) -> Taken {
+    fn reply(&mut self, bytes: &[u8; 48]) {
+        self.send(bytes);
+    }
+
+    fn take(&mut self, buffer: &mut [u8; 64], _wait: u64) -> Taken {
         match self.fill(buffer) {
             Some(count) => {
                 self.log = self.log.came(buffer, count);
@@ -112,6 +115,8 @@ impl Link for Queue {
 /// A line for each turn, or none where it is empty, and then the end.
 #[derive(Drop)]
 pub struct Lines {
+    /// Whether each line was there before it was taken.
+    pub is_ahead: bool,
     lines: Vec<&'static str>,
     taken: usize,
     log: InputLog,
@@ -120,6 +125,7 @@ pub struct Lines {
 impl Lines {
     pub fn new(alloc: Global) -> Lines {
         Lines {
+            is_ahead: false,
             lines: Vec::new(alloc),
             taken: 0,
             log: InputLog::Empty,
@@ -157,6 +163,10 @@ impl Keys for Lines {
         buffer[..count].copy_from_slice(&line[..count]);
         self.log = self.log.line(buffer, count);
         Typed::Line(count)
+    }
+
+    fn has_more(&self) -> bool {
+        self.is_ahead
     }
 }
 

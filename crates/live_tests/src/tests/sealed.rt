@@ -46,7 +46,15 @@ impl SealedCarrier for Echo {
         self.log = self.log.sent(bytes);
     }
 
-    fn bring(&mut self, buffer: &mut [u8; 65]) -> Taken {
+    fn carry_back(&mut self, bytes: &[u8; 64]) {
+        self.carry(bytes);
+    }
+
+    fn last_peer(&self) -> usize {
+        0
+    }
+
+    fn bring(&mut self, buffer: &mut [u8; 65], _wait: u64) -> Taken {
         match self.brings {
             Taken::Datagram(count) => {
                 let count = count.min(65);
@@ -64,7 +72,7 @@ impl SealedCarrier for Echo {
 fn taken_of(bytes: [u8; 65], brings: Taken) -> (Taken, [u8; 64]) {
     let mut link = Sealed::new(Echo::of(bytes, brings), Seal::new(KEY, &SHEET));
     let mut buffer = BEFORE;
-    let taken = link.take(&mut buffer);
+    let taken = link.take(&mut buffer, 0);
     (taken, buffer)
 }
 
@@ -79,9 +87,9 @@ fn sealed_by(seal: &Seal) -> [u8; 65] {
 fn what_was_sent_opens(rt: HostRuntime) {
     let mut link = Sealed::new(Echo::new(), Seal::new(KEY, &SHEET));
     let mut buffer = BEFORE;
-    assert_eq!(rt; link.take(&mut buffer), Taken::Nothing);
+    assert_eq!(rt; link.take(&mut buffer, 0), Taken::Nothing);
     link.send(&MESSAGE);
-    assert_eq!(rt; link.take(&mut buffer), Taken::Datagram(48));
+    assert_eq!(rt; link.take(&mut buffer, 0), Taken::Datagram(48));
     assert_eq!(rt; &buffer[..48], MESSAGE.as_slice());
     assert_eq!(rt; &buffer[48..], &BEFORE[48..]);
 }

@@ -167,7 +167,7 @@ RefusedBy false why old seen new = (seen ≡ seens.Refused (causes.Desk why)) ×
 abbrev pub AfterRefusal : DeskRefusal → Site → Seen → Site → Type 0
 AfterRefusal why old seen new = RefusedBy (is_device why) why old seen new
 
--- the votes of a desk that is down aren't found: memory was wanted, its disk failed, or there is this cause
+-- the votes of a desk that is down aren't found: out of memory, its disk failed, or there is this cause
 abbrev pub NotFoundBy : Bool → Bool → Cause → Site → Result Seen WorldRefusal → Site → Type 0
 NotFoundBy true failing cause old result new = (result ≡ Err worlds_refuse.NoMemory) × (new ≡ old)
 NotFoundBy false true cause old result new =

@@ -1,7 +1,4 @@
 use Rattle.export.proofs.deliveries.put_listed.Goals as goal
 
-pub returns-in-Ball : goal.returns-in-Ball
-returns-in-Ball c = rw c.in-Ball.is c.put_delivery.ensures
-
-pub returns-in-Penalty : goal.returns-in-Penalty
-returns-in-Penalty c = rw c.in-Penalty.is c.put_award.ensures
+pub returns-in_ok-penalty-in-Ball : goal.returns-in_ok-penalty-in-Ball
+returns-in_ok-penalty-in-Ball c = rw (c.in-Ball.is, ← c.in_ok-penalty-in-Ball.ensures) c.put_delivery.ensures

@@ -3,5 +3,5 @@ use Rattle.export.proofs.info.put_info.Goals as goal
 
 pub returns : goal.returns
 returns c = λ h s.
-    rw (← c.result.ensures _ h s, ← c.innings.ensures.value)
-    (is_object_field c.end_object.result _ _ _ _ _ (adds _ _ _ _ _ _ (adds _ _ _ _ _ _ (adds _ _ _ _ _ _ (adds _ _ _ _ _ _ (adds _ _ _ _ _ _ (adds _ _ _ _ _ _ (begins _ _ _ c.in_ok-begin_field.ensures) c.in_ok-put_event.ensures) c.in_ok-put_teams.ensures) c.in_ok-put_players.ensures) c.in_ok-put_figure.ensures) c.in_ok-put_figure-2.ensures) c.in_ok-put_outcome.ensures) c.end_object.ensures)
+    rw (← c.result.ensures _ h s)
+    (is_object_field c.end_object.result _ _ _ _ _ (adds _ _ _ _ _ _ (adds _ _ _ _ _ _ (adds _ _ _ _ _ _ (adds _ _ _ _ _ _ (adds _ _ _ _ _ _ (begins _ _ _ c.in_ok-begin_field.ensures) c.in_ok-put_event.ensures) c.in_ok-put_teams.ensures) c.in_ok-put_players.ensures) c.in_ok-put_figure.ensures) c.in_ok-put_outcome.ensures) c.end_object.ensures)

@@ -2,6 +2,4 @@ use Rattle.json_fields.proofs.Putting.{is_array_field}
 use Rattle.export.proofs.innings.put_overs_field.Goals as goal
 
 pub returns : goal.returns
-returns c = λ n h s.
-    rw (← c.overs-called.ensures.called n h s, ← c.side-side.ensures n h s)
-    (is_array_field c.end_array.result _ _ _ _ _ _ c.in_ok-begin_array.ensures c.in_ok-put_overs.ensures c.end_array.ensures)
+returns c = is_array_field c.end_array.result _ _ _ _ _ _ c.in_ok-begin_array.ensures c.in_ok-put_overs.ensures c.end_array.ensures

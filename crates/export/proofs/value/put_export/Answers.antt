@@ -6,6 +6,6 @@ returns g c =
     let s = c.requires.stands in
     let meta = adds _ _ _ _ _ _ (begins _ _ _ c.in_ok-begin_object.ensures) c.in_ok-put_meta.ensures in
     let info = adds _ _ _ _ _ _ meta (c.in_ok-put_info.ensures _ s) in
-    let innings = adds _ _ _ _ _ _ info (c.in_ok-put_all_innings.ensures _ _ s) in
-    let book = adds _ _ _ _ _ _ innings c.in_ok-put_entries.ensures in
-    rw (← c.requires.noted) (is_object c.end_object.result _ _ _ _ book c.end_object.ensures)
+    let innings = adds _ _ _ _ _ _ info (c.in_ok-put_all_innings.ensures _ _ s c.requires.begun) in
+    let own = adds _ _ _ _ _ _ innings c.in_ok-put_own.ensures in
+    rw (← c.requires.noted) (is_object c.end_object.result _ _ _ _ own c.end_object.ensures)

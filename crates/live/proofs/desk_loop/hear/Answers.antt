@@ -3,7 +3,7 @@ use Rattle.std.specs.Prelude.{OnOk}
 use Rattle.std.specs.Io.KnownBytes.{Appends}
 use Rattle.agree_core.specs.declared.position.Position.{Position}
 use Rattle.streams.specs.Watched.{stream_of}
-use Rattle.desk.specs.Desk.{book_of}
+use Rattle.desk.specs.Desk.{book_of, state_of}
 use Rattle.live.specs.Desks.{innings_of}
 use Rattle.live.specs.Texts.{came_text}
 use Rattle.live.proofs.DeskLemmas.{hears}
@@ -15,7 +15,7 @@ returns-in-Err-clause-goes g c =
     let what = c.give-what.result in
     let ended = sym c.end_at.ensures ∙ c.in-Err.is in
     λ log typed turns came. hears c.args.sheet.now c.args.desk.now c.give-what.new.desk c.args.bytes.now what _ c.args.between.now.warned _ turns log _ _ typed _ _ (c.give-what.ensures.calls c.args.sheet.now) came c.after-between.ensures
-    (came_course what c.in-Err.end ended) (came_nothing _ _ _ _ c.args.between.now.warned what c.in-Err.end _ ended)
+    (came_course what c.in-Err.end ended) (came_nothing c.args.sheet.now (innings_of c.args.desk.now) (state_of c.args.desk.now).seat.position.place (state_of c.give-what.new.desk).book c.args.between.now.warned what c.in-Err.end _ ended)
 
 pub returns-clause-goes : goal.returns-clause-goes
 returns-clause-goes g c =

@@ -4,7 +4,7 @@ use Rattle.std.specs.Io.KnownBytes.{Appends}
 use Rattle.cards.specs.Sheet.{team_of}
 use Rattle.streams.specs.Watched.{stream_of}
 use Rattle.shorthand.proofs.Meant.{of_all}
-use Rattle.live.specs.Questions.{listed}
+use Rattle.screen.specs.Sides.{listed}
 use Rattle.live.proofs.questions.print_all.Goals as goal
 
 pub returns-clause-text : goal.returns-clause-text

@@ -31,7 +31,7 @@ step bytes line lines rest n old new e m cut says added =
       texts = m.texts ∙ (ap (λ u. map event_text old ++ u) (cut ∙ ap (λ u. u ∷ rest) p.1) ∙ sym (ap (λ u. u ++ rest) (map-append event_text old (e ∷ [])) ∙ append_assoc (map event_text old) (event_text e ∷ []) rest));
     })
 
--- memory was wanted, or the line is at fault
+-- out of memory, or the line is at fault
 fault : (bytes line : List ℕ) (lines rest : List (List ℕ)) (n : ℕ) (old : List Event) (why : ScheduleFault) → Midway bytes lines n old → lines ≡ line ∷ rest → (why ≡ NoMemory) ⊎ (line_says (n + 1) line ≡ Err why) → HasFault (lines_of bytes) why
 fault bytes line lines rest n old why m cut (inl e) = rw e tt
 fault bytes line lines rest n old why m cut (inr says) =

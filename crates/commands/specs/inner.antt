@@ -1,4 +1,0 @@
--- What serves private functions and proofs only.
-pub mod Online
-pub mod Opening
-pub mod Turns

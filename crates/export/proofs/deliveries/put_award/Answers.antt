@@ -1,5 +1,0 @@
-use Rattle.json_fields.proofs.Putting.{adds, begins, is_object}
-use Rattle.export.proofs.deliveries.put_award.Goals as goal
-
-pub returns : goal.returns
-returns c = rw (← c.name.ensures) (is_object c.end_object.result _ _ _ _ (adds _ _ _ _ _ _ (adds _ _ _ _ _ _ (adds _ _ _ _ _ _ (begins _ _ _ c.in_ok-begin_object.ensures) c.in_ok-put_penalty.ensures) c.in_ok-put_text.ensures) c.in_ok-put_figure.ensures) c.end_object.ensures)

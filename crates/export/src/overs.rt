@@ -1,0 +1,213 @@
+//! An innings over by over.
+
+ghost use Rattle.std.specs.Prelude.{◌≡◌, ◌&&◌, ◌==◌, not, ◌∷◌, [], None, codes, drop};
+ghost use Rattle.match_laws.specs.History.{is_at};
+ghost use Rattle.json_fields.specs.Values.{PutsFields, PutsValues, array_of};
+ghost use Rattle.export.specs.Deliveries.{listed};
+ghost use Rattle.export.specs.Innings as laws;
+ghost use Rattle.export.specs.Notes as notes;
+
+use crate::begun::Begun;
+use crate::deliveries::put_listed;
+use crate::named::NamedSheet;
+use crate::notes::{Noted, carried, is_ball, noted_at};
+use json::Pretty;
+use json_fields::{begin_array, begin_object, end_array, end_object, put_figure};
+use notation::Side;
+use std::alloc::{AllocError, Global};
+
+/// Puts a delivery with what it carries: the items from an index on, up to the next one.
+fn put_carrier(
+    alloc: Global,
+    out: &mut Pretty,
+    sheet: &NamedSheet<'_>,
+    side: Side,
+    begun: &Begun,
+    innings: usize,
+    early: &[Noted],
+    noted: &Noted,
+    items: &[Noted],
+    next: usize,
+) -> Result<(), AllocError>
+    ensures { PutsValues result out.old out.new (listed sheet.now side begun.now innings early.now noted.now
+        (notes.carried (drop next items.now))) }
+{
+    let late = carried(alloc, items, next)?;
+    put_listed(
+        out,
+        sheet,
+        side,
+        begun,
+        innings,
+        early,
+        noted,
+        late.as_slice(),
+    )
+}
+
+/// Puts the deliveries of an over, from an index on, up to the first one of another over.
+fn put_deliveries(
+    alloc: Global,
+    out: &mut Pretty,
+    sheet: &NamedSheet<'_>,
+    side: Side,
+    begun: &Begun,
+    innings: usize,
+    over: u32,
+    early: &[Noted],
+    items: &[Noted],
+    from: usize,
+) -> Result<(), AllocError>
+    ensures { PutsValues result out.old out.new
+        (laws.deliveries_from sheet.now side begun.now innings over early.now (drop from items.now)) }
+{
+    let mut before = early;
+    for index in from..items.len() {
+        let noted = noted_at(items, index);
+        if is_ball(&noted.item) {
+            if !is_of(&noted, over) {
+                return Ok(());
+            }
+            put_carrier(
+                alloc,
+                out,
+                sheet,
+                side,
+                begun,
+                innings,
+                before,
+                &noted,
+                items,
+                index + 1,
+            )?;
+            before = &[];
+        }
+    }
+    Ok(())
+}
+
+/// Puts the field of the deliveries of an over, from an index on.
+fn put_listing(
+    alloc: Global,
+    out: &mut Pretty,
+    sheet: &NamedSheet<'_>,
+    side: Side,
+    begun: &Begun,
+    innings: usize,
+    over: u32,
+    early: &[Noted],
+    items: &[Noted],
+    from: usize,
+) -> Result<(), AllocError>
+    ensures { PutsFields result out.old out.new
+        ((codes "deliveries", array_of (laws.deliveries_from sheet.now side begun.now innings over early.now (drop from items.now))) ∷ []) }
+{
+    begin_array(out, "deliveries")?;
+    put_deliveries(
+        alloc, out, sheet, side, begun, innings, over, early, items, from,
+    )?;
+    end_array(out)
+}
+
+/// Puts the over of the delivery at an index.
+fn put_over(
+    alloc: Global,
+    out: &mut Pretty,
+    sheet: &NamedSheet<'_>,
+    side: Side,
+    begun: &Begun,
+    innings: usize,
+    over: u32,
+    early: &[Noted],
+    items: &[Noted],
+    from: usize,
+) -> Result<(), AllocError>
+    ensures { PutsValues result out.old out.new
+        (laws.over_of sheet.now side begun.now innings over early.now (drop from items.now) ∷ []) }
+{
+    begin_object(out)?;
+    put_figure(out, "over", over)?;
+    put_listing(
+        alloc, out, sheet, side, begun, innings, over, early, items, from,
+    )?;
+    end_object(out)
+}
+
+/// Whether an over is this one.
+fn is_at(before: Option<u32>, over: u32) -> bool
+    ensures { result ≡ is_at before over }
+{
+    match before {
+        None => false,
+        Some(number) => number == over,
+    }
+}
+
+/// Whether an over begins at an item, after this one: at a delivery of another over.
+fn begins_over(before: Option<u32>, noted: &Noted) -> bool
+    ensures { result ≡ (notes.is_ball noted.now.item && not (is_at before noted.now.over)) }
+{
+    is_ball(&noted.item) && !is_at(before, noted.over)
+}
+
+/// Whether a delivery is of this over.
+fn is_of(noted: &Noted, over: u32) -> bool
+    ensures { result ≡ (over == noted.now.over) }
+{
+    over == noted.over
+}
+
+/// Puts the overs of an innings with these items, of which the first delivery carries those too.
+fn put_all(
+    alloc: Global,
+    out: &mut Pretty,
+    sheet: &NamedSheet<'_>,
+    side: Side,
+    begun: &Begun,
+    innings: usize,
+    first: &[Noted],
+    items: &[Noted],
+) -> Result<(), AllocError>
+    ensures { PutsValues result out.old out.new
+        (laws.overs_from sheet.now side begun.now innings None first.now items.now) }
+{
+    let mut early = first;
+    let mut before = None;
+    for index in 0..items.len() {
+        let noted = noted_at(items, index);
+        if begins_over(before, &noted) {
+            put_over(
+                alloc, out, sheet, side, begun, innings, noted.over, early, items, index,
+            )?;
+            early = &[];
+            before = Some(noted.over);
+        }
+    }
+    Ok(())
+}
+
+/// Puts the overs of an innings with these items.
+pub fn put_overs(
+    alloc: Global,
+    out: &mut Pretty,
+    sheet: &NamedSheet<'_>,
+    side: Side,
+    begun: &Begun,
+    innings: usize,
+    items: &[Noted],
+) -> Result<(), AllocError>
+    ensures { PutsValues result out.old out.new
+        (laws.overs_of sheet.now side begun.now innings items.now) }
+{
+    let first = carried(alloc, items, 0)?;
+    put_all(
+        alloc,
+        out,
+        sheet,
+        side,
+        begun,
+        innings,
+        first.as_slice(),
+        items,
+    )
+}

@@ -1,5 +1,0 @@
-use Rattle.streams.proofs.Appending.{appends_last}
-use Rattle.live.proofs.texts.print_agreed.Goals as goal
-
-pub returns-clause-text : goal.returns-clause-text
-returns-clause-text g c = appends_last c.print_score.result _ _ _ _ _ c.in_ok-print_at.ensures.text c.print_score.ensures.text

@@ -1,0 +1,66 @@
+-- A desk's process, from its beginning on a disk to its end.
+use Rattle.std.specs.Prelude.{◌≡◌, ◌<◌, ℕ, List, length, Option, Result, Ok, Err}
+use Rattle.corrections.specs.Refusal.{book_refusal}
+use Rattle.agree_core.specs.declared.messages.DeskId.{DeskId}
+use Rattle.agree_core.specs.Desks.{DeskState}
+use Rattle.agree_core.specs.FileView.{FileView}
+use Rattle.agree_core.specs.Openings.{Creates, NotOpened, Opened, Opening, Opens}
+use Rattle.cards.specs.Sheet.{Sheet}
+use Rattle.desk.specs.declared.refusal.OpenRefusal.{OpenRefusal}
+use Rattle.desk.specs.Answers.{open_cause}
+use Rattle.live.specs.declared.desk_life.LifeEnd.{LifeEnd}
+use Rattle.live.specs.declared.desk_life.LifeEnd.TheVariants.{Ended as EndedSo, NotBegun}
+use Rattle.live.specs.declared.ends.DeskEnd.{DeskEnd}
+use Rattle.live.specs.Desks.{DeskProcess, DiskView, Ended, desk_kind, own_line}
+use Rattle.live.specs.Ends.{further, known_at}
+use Rattle.live.specs.Passed.{Passed}
+use Rattle.live.specs.Runs.{Goes, with_text}
+use Rattle.live.specs.Texts.{greeting, unwarned}
+use Rattle.live.specs.Typing.{Input}
+
+-- a desk's process at its beginning
+abbrev pub fresh : {Disk : Type 0} → DeskState Disk → DeskProcess Disk
+fresh k = record { desk = k; warned = unwarned; turns = 0; course = further }
+
+-- on a disk without a byte a process makes its file
+abbrev pub Makes : {Disk : Type 0} → FileView Disk → DeskId → Opening Disk → Type 0
+Makes view d (Opened k) = Creates view d k
+Makes view d (NotOpened why left) = Unit {0}
+
+-- a process begins on this disk, of which a read gives these bytes: it makes its file where there are none, otherwise
+-- opens what is there, so too after a beginning that was cut off
+abbrev pub BeginsOn :
+    {Disk : Type 0} → FileView Disk → (Disk → List ℕ) → ℕ → DeskId → Disk → Opening Disk → Type 0
+BeginsOn view seen innings d disk opening =
+    (length (seen disk) ≡ 0 → Makes view d opening)
+    × (0 < length (seen disk) → Opens view (book_refusal innings) d disk opening)
+
+-- how a process that has begun is told to have ended
+abbrev pub ended : Result (Unit {0}) DeskEnd → Result (Unit {0}) LifeEnd
+ended (Ok done) = Ok done
+ended (Err end) = Err (EndedSo end)
+
+-- What followed, with this sheet: the desk that was opened told its scorer where it stands, and then there was a run of
+-- it; or, where none was, nothing passed, was typed or was told.
+abbrev pub Follows :
+    {Disk : Type 0} → Sheet → FileView Disk → DiskView Disk → ℕ → Opening Disk → List Passed → List Passed
+    → List Input → List Input → Option (List ℕ) → Option (List ℕ) → ℕ → Result (Unit {0}) LifeEnd → Type 0
+Follows sheet view disks innings (Opened k) before after typed types told tells turns result =
+    (end : Result (Unit {0}) DeskEnd) × (last : DeskProcess _) × (result ≡ ended end)
+    × Goes (desk_kind sheet view disks sheet.game innings) (fresh k) last before after typed types
+    (known_at end (with_text told (greeting sheet innings k.book k.seat.position (own_line k))))
+    (known_at end tells)
+    × Ended turns end last
+Follows sheet view disks innings (NotOpened cause left) before after typed types told tells turns result =
+    (why : OpenRefusal) × (open_cause why ≡ cause) × (result ≡ Err (NotBegun why))
+    × (after ≡ before) × (types ≡ typed) × (tells ≡ told)
+
+-- The process of this desk on a disk, where this is what the disk shows of its file, what a read gives, and what is told
+-- of its failures: how it began, and what followed.
+pub record DeskLives
+    {Disk : Type 0} (view : FileView Disk) (seen : Disk → List ℕ) (disks : DiskView Disk) (sheet : Sheet) (innings : ℕ)
+    (d : DeskId) (disk : Disk) (before after : List Passed) (typed types : List Input) (told tells : Option (List ℕ))
+    (turns : ℕ) (result : Result (Unit {0}) LifeEnd) : Type 0 where
+  pub opening : Opening Disk
+  pub begins : BeginsOn view seen innings d disk opening
+  pub follows : Follows sheet view disks innings opening before after typed types told tells turns result

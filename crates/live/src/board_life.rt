@@ -1,0 +1,60 @@
+//! A board's process, from its beginning to its end.
+
+ghost use Rattle.std.specs.Prelude.{◌≡◌, ◌⊎◌, OnErr, OnOk, true};
+ghost use Rattle.corrections.specs.CleanList.{history_of};
+ghost use Rattle.cards.specs.Board.{board as board_text};
+ghost use Rattle.streams.specs.Watched.{Prints, has_failed, stream_of};
+ghost use Rattle.board.specs.Board.{book_of};
+ghost use Rattle.live.specs.Boards.{BoardRuns};
+ghost use Rattle.live.specs.Notices.{untold};
+ghost use Rattle.live.specs.Runs.{with_text};
+
+use crate::board_loop::run_board;
+use crate::clock::Clock;
+use crate::link::Link;
+use crate::notices::Notices;
+use crate::shows::Shows;
+use board::Board;
+use cards::MatchSheet;
+use corrections::BookOf;
+use std::io::Write;
+use streams::{Watched, WriteFailed};
+
+/// Shows a board's six lines and its state, as it begins.
+fn begin<B: BookOf, C: Clock, W: Write, S: Shows>(
+    board: &Board<B>,
+    sheet: &MatchSheet,
+    clock: &mut C,
+    out: &mut Watched<W>,
+    state: &mut S,
+) -> Result<(), WriteFailed>
+    ensures text { OnOk result (Prints W.contents out.old out.new
+        (board_text sheet.now (B.innings_a_side (book_of board.now)) (history_of (B.content (book_of board.now))))) }
+    ensures failed { OnErr result (has_failed out.new ≡ true ⊎ S.failed state.new ≡ true) }
+{
+    board.lines(sheet, out)?;
+    out.flush()?;
+    state.show(sheet, board.book(), clock.millis())
+}
+
+/// A board's process: it shows its six lines and its state at once, and then takes so many turns, as `run_board` does.
+pub fn keep_board<B: BookOf, L: Link, C: Clock, N: Notices, W: Write, S: Shows>(
+    board: &mut Board<B>,
+    sheet: &MatchSheet,
+    link: &mut L,
+    clock: &mut C,
+    notices: &mut N,
+    out: &mut Watched<W>,
+    state: &mut S,
+    turns: u64,
+) -> Result<(), WriteFailed>
+    ensures runs { BoardRuns B.content B.innings_a_side sheet.now board.old board.new
+        (L.log link.old) (L.log link.new)
+        (with_text (W.contents (stream_of out.old)) (board_text sheet.now (B.innings_a_side (book_of board.old))
+        (history_of (B.content (book_of board.old))))) (W.contents (stream_of out.new)) 0 turns
+        untold (N.told notices.old) (N.told notices.new) result }
+    ensures failed { OnErr result (has_failed out.new ≡ true ⊎ S.failed state.new ≡ true) }
+{
+    begin(board, sheet, clock, out, state)?;
+    run_board(board, sheet, link, clock, notices, out, state, turns)
+}

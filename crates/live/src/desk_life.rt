@@ -1,0 +1,68 @@
+//! A desk's process, from its beginning on a disk to its end.
+
+ghost use Rattle.std.specs.Prelude.{◌≡◌, [], true, Err};
+ghost use Rattle.vote_store.specs.View.{file_view};
+ghost use Rattle.streams.specs.Watched.{has_failed, stream_of};
+ghost use Rattle.live.specs.declared.desk_life.LifeEnd.TheVariants.{Ended};
+ghost use Rattle.live.specs.declared.ends.DeskEnd.TheVariants as ends;
+ghost use Rattle.live.specs.DeskLife.{DeskLives};
+ghost use Rattle.live.specs.Desks.{FitsLongest};
+
+use crate::begin::begin_desk;
+use crate::clock::Clock;
+use crate::desk_loop::run_desk;
+use crate::ends::DeskEnd;
+use crate::keys::Keys;
+use crate::link::Link;
+use agree_core::DeskId;
+use cards::MatchSheet;
+use corrections::BookOf;
+use desk::OpenRefusal;
+use entry_log::SlotsOf;
+use std::alloc::Global;
+use std::io::Write;
+use streams::Watched;
+
+/// Why a desk's process didn't begin, or ended before its turns were over.
+#[derive(Clone, Copy, Debug, PartialEq, Eq)]
+pub enum LifeEnd {
+    /// The votes on its disk are refused, or the disk failed, or it was out of memory.
+    NotBegun(OpenRefusal),
+    /// It began, and came to this end.
+    Ended(DeskEnd),
+}
+
+/// A desk's process: it begins on this disk, on a new file where that has no byte, and runs for so many turns, with an
+/// empty book of the sheet's match to begin with. However it ends, it is a process of the definitions: it began as
+/// `begin_desk` says, and ran as `run_desk` says, on just that desk; and where it didn't begin, nothing passed at the
+/// link, nothing was typed and nothing was told.
+pub fn keep_desk<S: SlotsOf + Drop, B: BookOf + Drop, L: Link, K: Keys, C: Clock, W: Write>(
+    alloc: Global,
+    disk: S::Disk,
+    desk: DeskId,
+    book: B,
+    sheet: &MatchSheet,
+    link: &mut L,
+    keys: &mut K,
+    clock: &mut C,
+    out: &mut Watched<W>,
+    turns: u64,
+) -> Result<(), LifeEnd>
+where
+    S::Disk: Drop,
+    requires empty { B.content book ≡ [] }
+    ensures lives { DeskLives (file_view S.contents S.Disk.seen S.Disk.images desk sheet.now.game) S.Disk.seen
+        (record { faults = S.Disk.faults; FitsLongest = FitsLongest S.room (S.Disk.cap disk) })
+        sheet.now (B.innings_a_side book) desk disk (L.log link.old) (L.log link.new)
+        (K.inputs keys.old) (K.inputs keys.new)
+        (W.contents (stream_of out.old)) (W.contents (stream_of out.new)) turns result }
+    ensures failed { result ≡ Err (Ended ends.Write) → has_failed out.new ≡ true }
+{
+    match begin_desk::<S, B>(alloc, disk, desk, sheet.game(), book) {
+        Ok(mut desk) => match run_desk(&mut desk, sheet, link, keys, clock, out, turns) {
+            Ok(()) => Ok(()),
+            Err(end) => Err(LifeEnd::Ended(end)),
+        },
+        Err((why, _disk)) => Err(LifeEnd::NotBegun(why)),
+    }
+}

@@ -1,0 +1,30 @@
+//! Waiting until something can be read.
+
+use libc::net::{POLLIN, poll};
+use libc::types::pollfd;
+use std::os::fd::RawFd;
+
+/// What is passed over by a wait.
+pub const NO_DESCRIPTOR: RawFd = -1;
+
+/// What asks whether a descriptor can be read.
+fn reads_of(descriptor: RawFd) -> pollfd {
+    pollfd {
+        fd: descriptor,
+        events: POLLIN,
+        revents: 0,
+    }
+}
+
+/// Whether a read of a descriptor answers at once.
+pub fn can_read(descriptor: RawFd) -> bool {
+    poll(&mut [reads_of(descriptor)], 0) > 0
+}
+
+/// Waits until a socket or a keyboard can be read, so many milliseconds at most, and tells whether the socket may be. A
+/// wait that fails says that it may: so whoever waits reads it, and no call ends at once for ever.
+pub fn wait_at(socket: RawFd, keyboard: RawFd, limit: u64) -> bool {
+    let mut asked = [reads_of(socket), reads_of(keyboard)];
+    let limit = i32::try_from(limit).unwrap_or(i32::MAX);
+    poll(&mut asked, limit) < 0 || asked[0].revents != 0
+}

@@ -1,0 +1,6 @@
+mod MatchLeft
+mod MatchLines
+mod OnlineLemmas
+mod SameTurn
+mod TurnLemmas
+mod VoteLists

@@ -1,0 +1,494 @@
+-- What each call of a desk keeps of its turn, whatever it is given.
+use Rattle.std.proofs.Common.{◌≡◌, ◌<◌, ◌≤◌, ℕ, ◌+◌, Bool, true, false, Option, Some, None, List, [], ◌∷◌, ◌++◌, length, refl, sym, ap, ◌∙◌, subst, inl, inr, ◌⊎◌, arith, length-append, Result, Ok, Err}
+use Rattle.std.specs.Prelude.{IfErr, IsErrOf, OnOk, slice_get}
+use Rattle.std.specs.Bool.{⊤}
+use Rattle.std.specs.List.{All}
+use Rattle.std.proofs.lemmas.Bool.Decides.{nat_tests}
+use Rattle.std.proofs.lemmas.List.Elements.{All-append, All-cons, All-nil}
+use Rattle.notation.specs.declared.entry.Entry.{Entry}
+use Rattle.corrections.specs.declared.book_of.BookOf.{Ghosts as Books}
+use Rattle.corrections.proofs.LegalLemmas.{slice_get-last}
+use Rattle.entry_log.specs.Blame.{BlamesDisk}
+use Rattle.entry_log.specs.Disk.{Images, IsImage}
+use Rattle.entry_log.specs.Slots.{Contents}
+use Rattle.entry_log.specs.declared.disk.Disk.{Ghosts as Disks}
+use Rattle.entry_log.specs.declared.slots_of.SlotsOf.{Ghosts as Files}
+use Rattle.agree_core.specs.declared.messages.Ask.{Ask}
+use Rattle.agree_core.specs.declared.messages.Asker.{Asker}
+use Rattle.agree_core.specs.declared.messages.DeskId.{DeskId}
+use Rattle.agree_core.specs.declared.messages.Message.{Message}
+use Rattle.agree_core.specs.declared.messages.Vote.{Vote}
+use Rattle.agree_core.specs.declared.position.Position.{Position}
+use Rattle.agree_core.specs.declared.seat.Heard.{Heard}
+use Rattle.agree_core.specs.declared.seat.Settled.{Settled}
+use Rattle.agree_core.specs.Ballots.{Ballot, In, ballot_at, vote_of}
+use Rattle.notation.specs.declared.entry.TheConstants.{PLACES}
+use Rattle.agree_core.specs.declared.position.TheConstants.{ROUNDS}
+use Rattle.agree_core.specs.Desks.{CastsAndStores, DeskState, Pens, Receives, Replies, Ticks, ask_other, asker, book_after, book_heard, next_ballot, own_vote}
+use Rattle.agree_core.specs.Desks as desks
+use Rattle.agree_core.specs.FileView.{FileView, Holds, MayHold, Stays}
+use Rattle.agree_core.specs.Openings.{Creates}
+use Rattle.agree_core.specs.Seats.{Casts, Hears, SeatState}
+use Rattle.wire.specs.declared.what.What.{What}
+use Rattle.wire.specs.declared.what.What.TheVariants as whats
+use Rattle.wire.specs.Sent.{AreSent}
+use Rattle.desk.specs.declared.desk.Desk.{Desk}
+use Rattle.desk.specs.declared.desk.Penned.{Penned}
+use Rattle.desk.specs.declared.refusal.Refusal.{Refusal as PenRefusal}
+use Rattle.desk.specs.declared.refusal.Refusal.TheVariants as refusals
+use Rattle.desk.specs.Answers.{pen_answer, sent}
+use Rattle.desk.specs.Desk.{IsOf, SameOwner, desk_of, disk_of, game_of, rules_of, state_of, view_of, votes_of}
+use Rattle.desk.specs.Takes.{Takes}
+use Rattle.vote_store.specs.View.{file_view, votes_shown}
+use Rattle.match_command.specs.MatchRun.{HoldsBook, HoldsEither, votes_for}
+use Rattle.cards.specs.Sheet.{Sheet, plain_sheet}
+use Rattle.books.specs.Taking.{answer_to, is_full, taking, with_taken}
+use Rattle.match_command.specs.declared.match_run.fault.MatchFault.{MatchFault}
+use Rattle.match_command.specs.declared.match_run.fault.MatchFault.TheVariants as faults
+use Rattle.live.specs.Desks.{Calls, DeskCall, Given, Ticked}
+use Rattle.live.specs.Ends.{end_at, further}
+use Rattle.live.specs.Passed.{Passed, sends}
+use Rattle.live.specs.declared.ends.DeskEnd.{DeskEnd}
+use Rattle.live.specs.declared.ends.DeskEnd.TheVariants as ends
+use Rattle.agree_core.specs.Boards.{BoardState}
+use Rattle.board.specs.declared.board.Board.{Board}
+use Rattle.board.specs.Board as boards
+use Rattle.board.specs.Board.{SameMatch}
+use Rattle.match_command.specs.inner.Online.{IsOnline, SpeaksOf, StaysOnline}
+use Rattle.match_command.specs.inner.Turns.{AreCalm, AreLevel, DiskHolds, DiskHoldsEither, GoesWith, InTurn, IsCalm, IsInTurn, IsLevel, KeepsDisk, KeepsOnline, KeepsTurn, LineLeaves, PenLeaves, VotesFor, WhyNotAgreed, board_at, book_at, innings_at, pen_fault}
+use Rattle.match_command.proofs.OnlineLemmas.{more, out_said, says_more}
+use Rattle.match_command.proofs.VoteLists.{voted_votes, votes_in, votes_last, votes_length}
+
+one_longer : (book : List Entry) (e : Entry) (n : ℕ) → length book ≡ n → length (book ++ e ∷ []) ≡ n + 1
+one_longer book e n l = omega (arith, length-append book (e ∷ []))
+
+shorter : (book : List Entry) (e : Entry) → length book < length (book ++ e ∷ [])
+shorter book e = omega (arith, length-append book (e ∷ []))
+
+no_shorter : (book : List Entry) → length book < length book → ⊥
+no_shorter book l = omega (arith, l)
+
+own_shorter : (book entries : List Entry) (e : Entry) → entries ≡ book ++ e ∷ [] → length book < length entries
+own_shorter book entries e own = rw own (shorter book e)
+
+-- a seat whose book has all entries is in the first round
+level_round : (entries : List Entry) (seat : SeatState) → GoesWith entries seat entries → seat.position.round ≡ 0
+level_round entries seat g = elim g.round [ inl r ↦ r | inr w ↦ absurd (no_shorter entries w.1) ]
+
+first_at : (at : Position) (n : ℕ) → n ≡ at.place → at.round ≡ 0 → at ≡ record { place = n; round = 0 }
+first_at at n p r = λ i. record { place = sym p i; round = r i }
+
+-- a desk's own vote is of its entries
+own_speaks : (entries : List Entry) (d : DeskId) (at : Position) (mine : Option Entry) → ((e : Entry) → mine ≡ Some e → (at.round ≡ 0) × (slice_get entries at.place ≡ Some e)) → All (SpeaksOf entries) (own_vote d at mine)
+own_speaks entries d at None h = All-nil (SpeaksOf entries)
+own_speaks entries d at (Some e) h = All-cons (SpeaksOf entries) (Message.Vote (vote_of d (record { at = at; entry = e }))) [] (h e refl) (All-nil (SpeaksOf entries))
+
+other_speaks : (entries : List Entry) (a : Asker) (at : Position) (theirs : Option Entry) → All (SpeaksOf entries) (ask_other a at theirs)
+other_speaks entries a at None = All-cons (SpeaksOf entries) (desks.ask_for a at) [] tt (All-nil (SpeaksOf entries))
+other_speaks entries a at (Some e) = All-nil (SpeaksOf entries)
+
+in_first_round : (entries book : List Entry) (seat : SeatState) (e : Entry) → GoesWith entries seat book → seat.mine ≡ Some e → (seat.position.round ≡ 0) × (slice_get entries seat.position.place ≡ Some e)
+in_first_round entries book seat e g m =
+    let own = g.own e m in
+    let at : slice_get entries (length book) ≡ Some e = rw own (slice_get-last book e) in (
+      elim g.round [ inl r ↦ r | inr w ↦ absurd (let none = w.0 in cc) ],
+      subst (λ (n : ℕ). slice_get entries n ≡ Some e) g.place at,
+    )
+
+module _ {Disk : Type 0} (view : FileView Disk) where
+  pub begins : (d : DeskId) (k : DeskState Disk) → Creates view d k → IsInTurn view [] k
+  begins d k c = subst (IsInTurn view []) (sym c.0) (record {
+    running = refl;
+    votes = refl;
+    held = c.1;
+    goes = record { place = refl; book = inl refl; own = λ e m. absurd (cc); round = inl refl };
+  })
+
+  cast : (s t : SeatState) (book : List Entry) (e : Entry) (settled : Settled) → length book ≡ s.position.place → s.position.round ≡ 0 → Casts s e settled t → GoesWith (book ++ e ∷ []) t (book_after settled book e)
+  cast s t book e Settled.Pending l r c =
+      rw c.1 (record { place = l; book = inr (shorter book e); own = λ f m. let same : e ≡ f = cc in ap (λ (x : Entry). book ++ x ∷ []) same; round = inl r })
+  cast s t book e Settled.Agreed l r c =
+      rw c.1 (record { place = one_longer book e s.position.place l; book = inl refl; own = λ f m. absurd (cc); round = inl refl })
+  cast s t book e Settled.Differ l r c =
+      rw c.1 (record { place = l; book = inr (shorter book e); own = λ f m. absurd (cc); round = inr (refl, shorter book e) })
+
+  -- the vote that is cast is the next of the entries' votes
+  next_vote : (k : DeskState Disk) (e : Entry) → IsInTurn view k.book k → next_ballot k e ∷ k.votes ≡ votes_for (k.book ++ e ∷ [])
+  next_vote k e t =
+      let at : k.seat.position ≡ record { place = length k.book; round = 0 } = first_at k.seat.position (length k.book) t.goes.place (level_round k.book k.seat t.goes) in
+      ap (λ (p : Position). record { at = p; entry = e } ∷ k.votes) at ∙ (ap (λ (vs : List Ballot). ballot_at (length k.book) 0 e ∷ vs) t.votes ∙ sym (votes_last k.book e))
+
+  -- the vote is cast and stored
+  pub casts : (k l : DeskState Disk) (e : Entry) (settled : Settled) → IsInTurn view k.book k → CastsAndStores view k e settled l → IsInTurn view (k.book ++ e ∷ []) l
+  casts k l e settled t c =
+      let with : GoesWith (k.book ++ e ∷ []) l.seat (book_after settled k.book e) = cast k.seat l.seat k.book e settled t.goes.place (level_round k.book k.seat t.goes) c.0 in
+      record {
+        running = c.2;
+        votes = c.3 ∙ next_vote k e t;
+        held = subst (Holds view l.disk) (next_vote k e t) c.4;
+        goes = subst (GoesWith (k.book ++ e ∷ []) l.seat) (sym c.1) with;
+      }
+
+  -- the vote may be stored or not
+  pub may_cast : (k : DeskState Disk) (disk : Disk) (e : Entry) → IsInTurn view k.book k → MayHold view disk k.votes (next_ballot k e) → HoldsEither view disk k.book (k.book ++ e ∷ [])
+  may_cast k disk e t h = record {
+    read = elim h.0 [ inl r ↦ inl (r ∙ ap Some t.votes) | inr r ↦ inr (r ∙ ap Some (next_vote k e t)) ];
+    images = λ image i. elim (h.1 image i) [ inl r ↦ inl (r ∙ ap Some t.votes) | inr r ↦ inr (r ∙ ap Some (next_vote k e t)) ];
+  }
+
+  stays_held : (old new : Disk) (votes : List Ballot) → Stays view old new → Holds view old votes → Holds view new votes
+  stays_held old new votes s h = (s.0 ∙ h.0, λ image i. h.1 image ((s.1 image).0 i))
+
+  -- another seat and book go with the same votes
+  goes_on : (entries : List Entry) (k : DeskState Disk) (seat : SeatState) (book : List Entry) (disk : Disk) → IsInTurn view entries k → Stays view k.disk disk → GoesWith entries seat book → IsInTurn view entries (record k { seat = seat; book = book; disk = disk })
+  goes_on entries k seat book disk t s with =
+      record { running = t.running; votes = t.votes; held = stays_held k.disk disk (votes_for entries) s t.held; goes = with }
+
+  unmoved : (entries : List Entry) (k : DeskState Disk) (seat : SeatState) → IsInTurn view entries k → seat ≡ k.seat → GoesWith entries seat k.book
+  unmoved entries k seat t e = rw e t.goes
+
+  hears : (entries : List Entry) (k : DeskState Disk) (seat : SeatState) (v : Vote) (h : Heard) → IsInTurn view entries k → Hears k.seat v h seat → GoesWith entries seat (book_heard h k.book v.entry)
+  hears entries k seat v Heard.Mine t h = unmoved entries k seat t h.1
+  hears entries k seat v Heard.Old t h = unmoved entries k seat t h.2
+  hears entries k seat v Heard.Ahead t h = unmoved entries k seat t h.2
+  hears entries k seat v Heard.Again t h = unmoved entries k seat t h.2
+  hears entries k seat v Heard.TwoVotes t h = unmoved entries k seat t h.2
+  hears entries k seat v Heard.Noted t h =
+      rw h.3 (record {
+        place = t.goes.place;
+        book = t.goes.book;
+        own = λ f m. absurd (cc);
+        round = elim t.goes.round [ inl r ↦ inl r | inr w ↦ inr (refl, w.1) ];
+      })
+  hears entries k seat v Heard.Agreed t h =
+      rw h.3 (record { place = one_longer k.book v.entry k.seat.position.place t.goes.place; book = inl (sym (t.goes.own v.entry h.2)); own = λ f m. absurd (cc); round = inl refl })
+  hears entries k seat v Heard.Differ t h =
+      rw h.3 (record {
+        place = t.goes.place;
+        book = t.goes.book;
+        own = λ f m. absurd (cc);
+        round = inr (refl, own_shorter k.book entries h.2.0 (t.goes.own h.2.0 h.2.1));
+      })
+
+  unchanged : (entries : List Entry) (k l : DeskState Disk) → IsInTurn view entries k → desks.Unchanged view k l → IsInTurn view entries l
+  unchanged entries k l t u = subst (IsInTurn view entries) (sym u.1) (goes_on entries k k.seat k.book l.disk t u.0 t.goes)
+
+  receives : (entries : List Entry) (k l : DeskState Disk) (m : Message) (h : Heard) (out : List Message) → IsInTurn view entries k → Receives view k m (desks.Told h) l out → IsInTurn view entries l
+  receives entries k l (Message.Vote v) h out t r =
+      subst (IsInTurn view entries) (sym r.3) (goes_on entries k l.seat (book_heard h k.book v.entry) l.disk t r.2 (hears entries k l.seat v h t r.1))
+  receives entries k l (Message.Ask q) h out t r = absurd r
+
+  asked : (entries : List Entry) (k l : DeskState Disk) (m : Message) (out : List Message) → IsInTurn view entries k → Receives view k m desks.Asked l out → IsInTurn view entries l
+  asked entries k l (Message.Vote v) out t r = absurd r
+  asked entries k l (Message.Ask q) out t r = unchanged entries k l t r.1
+
+  -- bytes are taken, and no device call failed
+  pub takes : (entries : List Entry) (game : ℕ) (k l : DeskState Disk) (bytes : List ℕ) (what : What) (out : List Message) → end_at what ≡ further → IsInTurn view entries k → Takes view game k bytes what l out → IsInTurn view entries l
+  takes entries game k l bytes (whats.Bad fault) out n t r = subst (IsInTurn view entries) (sym r.2) t
+  takes entries game k l bytes (whats.Heard h) out n t r = receives entries k l r.0 h out t r.2
+  takes entries game k l bytes whats.Asked out n t r = asked entries k l r.0 out t r.2
+  takes entries game k l bytes whats.Device out n t r = absurd (cc)
+  takes entries game k l bytes whats.Failed out n t r = absurd (cc)
+
+  same_failed : (k l m : DeskState Disk) → k.failed ≡ false → l ≡ m → m.failed ≡ k.failed → l.failed ≡ false
+  same_failed k l m n e f = ap (λ (x : DeskState Disk). x.failed) e ∙ (f ∙ n)
+
+  told_runs : (k l : DeskState Disk) (m : Message) (h : Heard) (out : List Message) → k.failed ≡ false → Receives view k m (desks.Told h) l out → l.failed ≡ false
+  told_runs k l (Message.Vote v) h out n r = same_failed k l (record k { seat = l.seat; book = book_heard h k.book v.entry; disk = l.disk }) n r.3 refl
+  told_runs k l (Message.Ask q) h out n r = absurd r
+
+  asked_runs : (k l : DeskState Disk) (m : Message) (out : List Message) → k.failed ≡ false → Receives view k m desks.Asked l out → l.failed ≡ false
+  asked_runs k l (Message.Vote v) out n r = absurd r
+  asked_runs k l (Message.Ask q) out n r = same_failed k l (record k { disk = l.disk }) n r.1.1 refl
+
+  -- and the desk still runs
+  pub still_runs : (game : ℕ) (k l : DeskState Disk) (bytes : List ℕ) (what : What) (out : List Message) → end_at what ≡ further → k.failed ≡ false → Takes view game k bytes what l out → l.failed ≡ false
+  still_runs game k l bytes (whats.Bad fault) out f n r = same_failed k l k n r.2 refl
+  still_runs game k l bytes (whats.Heard h) out f n r = told_runs k l r.0 h out n r.2
+  still_runs game k l bytes whats.Asked out f n r = asked_runs k l r.0 out n r.2
+  still_runs game k l bytes whats.Device out f n r = absurd (cc)
+  still_runs game k l bytes whats.Failed out f n r = absurd (cc)
+
+  replies : (entries : List Entry) (k : DeskState Disk) (q : Ask) (out : List Message) → IsInTurn view entries k → Replies k q out → All (SpeaksOf entries) out
+  replies entries k q out t (inl r) =
+      let found = votes_in entries (ballot_at q.place q.round r.0) (subst (λ (vs : List Ballot). In (ballot_at q.place q.round r.0) vs) t.votes r.1) in
+      subst (All (SpeaksOf entries)) (sym r.2) (All-cons (SpeaksOf entries) (Message.Vote (vote_of k.seat.desk (ballot_at q.place q.round r.0))) [] found (All-nil (SpeaksOf entries)))
+  replies entries k q out t (inr r) = subst (All (SpeaksOf entries)) (sym r.1) (All-nil (SpeaksOf entries))
+
+  told_speaks : (entries : List Entry) (k l : DeskState Disk) (m : Message) (h : Heard) (out : List Message) → Receives view k m (desks.Told h) l out → All (SpeaksOf entries) out
+  told_speaks entries k l (Message.Vote v) h out r = subst (All (SpeaksOf entries)) (sym r.4) (All-nil (SpeaksOf entries))
+  told_speaks entries k l (Message.Ask q) h out r = absurd r
+
+  asked_speaks : (entries : List Entry) (k l : DeskState Disk) (m : Message) (out : List Message) → IsInTurn view entries k → Receives view k m desks.Asked l out → All (SpeaksOf entries) out
+  asked_speaks entries k l (Message.Vote v) out t r = absurd r
+  asked_speaks entries k l (Message.Ask q) out t r = replies entries k q out t r.2
+
+  -- what it replies is of its entries
+  pub takes_speaks : (entries : List Entry) (game : ℕ) (k l : DeskState Disk) (bytes : List ℕ) (what : What) (out : List Message) → end_at what ≡ further → IsInTurn view entries k → Takes view game k bytes what l out → All (SpeaksOf entries) out
+  takes_speaks entries game k l bytes (whats.Bad fault) out n t r = subst (All (SpeaksOf entries)) (sym r.3) (All-nil (SpeaksOf entries))
+  takes_speaks entries game k l bytes (whats.Heard h) out n t r = told_speaks entries k l r.0 h out r.2
+  takes_speaks entries game k l bytes whats.Asked out n t r = asked_speaks entries k l r.0 out t r.2
+  takes_speaks entries game k l bytes whats.Device out n t r = absurd (cc)
+  takes_speaks entries game k l bytes whats.Failed out n t r = absurd (cc)
+
+  -- what it says unasked too
+  pub ticks_speak : (entries : List Entry) (k : DeskState Disk) (out : List Message) → IsInTurn view entries k → Ticks k out → All (SpeaksOf entries) out
+  ticks_speak entries k out t (inl w) =
+      let own = own_speaks entries k.seat.desk k.seat.position k.seat.mine (λ e m. in_first_round entries k.book k.seat e t.goes m) in
+      let all = All-append (SpeaksOf entries) (own_vote k.seat.desk k.seat.position k.seat.mine) (ask_other (asker k.seat.desk) k.seat.position k.seat.theirs) own (other_speaks entries (asker k.seat.desk) k.seat.position k.seat.theirs) in
+      subst (All (SpeaksOf entries)) (sym w.2) all
+  ticks_speak entries k out t (inr w) = subst (All (SpeaksOf entries)) (sym w.1) (All-nil (SpeaksOf entries))
+
+not_full : (book : List Entry) → length book < PLACES → is_full book ≡ false
+not_full book l = grind (arith, nat_tests)
+
+not_device : (what : What) → end_at what ≡ further → IsErrOf (end_at what) ends.Device → ⊥
+not_device what n e = cc
+
+pub at_device : (what : What) (end : DeskEnd) → end_at what ≡ Err end → IsErrOf (end_at what) ends.Device
+at_device whats.Device end e = refl
+at_device whats.Failed end e = refl
+at_device whats.Asked end e = cc
+at_device (whats.Bad fault) end e = cc
+at_device (whats.Heard heard) end e = cc
+
+free : (book : List Entry) (seat : SeatState) (m : Option Entry) → GoesWith book seat book → seat.mine ≡ m → seat.mine ≡ None
+free book seat None g e = e
+free book seat (Some x) g e = absurd (no_shorter book (own_shorter book book x (g.own x e)))
+
+-- at the level nothing but its book or the number of places stands against a pen
+no_wait : (book : List Entry) (seat : SeatState) → GoesWith book seat book → (seat.mine ≡ None → ⊥) → ⊥
+no_wait book seat g w = w (free book seat seat.mine g refl)
+
+no_round : (round : ℕ) → round ≡ 0 → ROUNDS ≤ round → ⊥
+no_round round r l = omega (arith, r, l)
+
+has_slot : (votes place : ℕ) → votes ≡ place → place < PLACES → desks.most_votes ≤ votes → ⊥
+has_slot votes place e l m = omega (arith, e, l, m)
+
+too_short : (book : List Entry) (e : Entry) (n : ℕ) → length book < n → n < length (book ++ e ∷ []) → ⊥
+too_short book e n l m = omega (arith, l, m, length-append book (e ∷ []))
+
+as_long : (book : List Entry) (e : Entry) (new : List Entry) (place n : ℕ) → new ≡ book ++ e ∷ [] → place ≡ length book → place < n → length new ≤ n
+as_long book e new place n is at l = omega (arith, ap length is, at, l, length-append book (e ∷ []))
+
+true_false : (x : Bool) → x ≡ false → x ≡ true → ⊥
+true_false x f t = cc
+
+-- what is read of a disk, and its images, as a desk's file
+abbrev HoldsOf : Contents → DeskId → ℕ → List ℕ → Images → List Ballot → Type 0
+HoldsOf contents d game read left votes =
+    (votes_shown contents d game read ≡ Some votes)
+    × ((image : Option (List Ballot)) → ((file : List ℕ) × IsImage left file × (votes_shown contents d game file ≡ image)) → image ≡ Some votes)
+
+module _ {S B D : Type 0} {g : Files S D} {h : Disks D} {b : Books B} where
+  view_is : (desk : Desk S B D g h b) (d : DeskId) (game : ℕ) → desk_of desk ≡ d → game_of desk ≡ game → view_of desk ≡ file_view g.contents h.seen h.images d game
+  view_is desk d game is_d of_game =
+      ap (λ (x : DeskId). file_view g.contents h.seen h.images x (game_of desk)) is_d ∙ ap (λ (n : ℕ). file_view g.contents h.seen h.images d n) of_game
+
+  same_view : (old new : Desk S B D g h b) → SameOwner old new → view_of old ≡ view_of new
+  same_view old new o = sym (view_is new (desk_of old) (game_of old) o.desk o.game)
+
+  in_view : (entries : List Entry) (old new : Desk S B D g h b) → SameOwner old new → IsInTurn (view_of old) entries (state_of new) → InTurn entries new
+  in_view entries old new o t = subst (λ (v : FileView D). IsInTurn v entries (state_of new)) (same_view old new o) t
+
+  pub same_desk : (k : Desk S B D g h b) → SameOwner k k
+  same_desk k = record { desk = refl; game = refl; innings_a_side = refl; cap = refl }
+
+  pub both_owners : (k l m : Desk S B D g h b) → SameOwner k l → SameOwner l m → SameOwner k m
+  both_owners k l m x y = record { desk = y.desk ∙ x.desk; game = y.game ∙ x.game; innings_a_side = y.innings_a_side ∙ x.innings_a_side; cap = y.cap ∙ x.cap }
+
+  -- a call at which no device call failed leaves the disk as calm
+  calm_still : (old new : Desk S B D g h b) → SameOwner old new → (state_of new).failed ≡ false → h.faults (disk_of new) ≡ h.faults (disk_of old) → IsCalm old → IsCalm new
+  calm_still old new o runs f c = record { running = runs; never = ap (λ x. x.due) f ∙ c.never; room = λ n l. subst (λ (m : ℕ). g.room n ≤ m) (sym o.cap) (c.room n l) }
+
+  -- it was given bytes, and goes on
+  pub kept : (old new : Desk S B D g h b) (bytes : List ℕ) (what : What) (before after : List Passed) → ((s : Sheet) → Calls s old new (Given bytes what) before after) → end_at what ≡ further → KeepsTurn old new
+  kept old new bytes what before after f n = let c = f (plain_sheet 0 1) in record {
+    turn = λ entries t. in_view entries old new c.same (takes (view_of old) entries (game_of old) (state_of old) (state_of new) bytes what c.out n t c.step);
+    calm = λ q. calm_still old new c.same (still_runs (view_of old) (game_of old) (state_of old) (state_of new) bytes what c.out n q.running c.step) ((c.blame q.running).same (not_device what n)) q;
+  }
+
+  -- no fault is met at a calm disk
+  pub meets_none : (old new : Desk S B D g h b) (bytes : List ℕ) (what : What) (before after : List Passed) (end : DeskEnd) → ((s : Sheet) → Calls s old new (Given bytes what) before after) → end_at what ≡ Err end → IsCalm old → ⊥
+  meets_none old new bytes what before after end f e q = let c = f (plain_sheet 0 1) in (c.blame q.running).calm q.never q.room (at_device what end e)
+
+  called_online : (s : Sheet) (old new : Desk S B D g h b) (call : DeskCall) (entries : List Entry) (before after : List Passed) (c : Calls s old new call before after) → All (SpeaksOf entries) c.out → StaysOnline (game_of old) entries before after
+  called_online s old new call entries before after c speak start k o =
+      says_more (game_of old) start entries (sends (game_of old) c.out) before after k (out_said (game_of old) entries c.out c.fine speak) c.passed o
+
+  -- what it replied is of its entries
+  pub replied_online : (old new : Desk S B D g h b) (bytes : List ℕ) (what : What) (entries : List Entry) (before after : List Passed) → ((s : Sheet) → Calls s old new (Given bytes what) before after) → end_at what ≡ further → InTurn entries old → StaysOnline (game_of old) entries before after
+  replied_online old new bytes what entries before after f n t =
+      let c = f (plain_sheet 0 1) in
+      called_online (plain_sheet 0 1) old new (Given bytes what) entries before after c (takes_speaks (view_of old) entries (game_of old) (state_of old) (state_of new) bytes what c.out n t c.step)
+
+  -- what it said unasked too
+  pub ticked_online : (desk : Desk S B D g h b) (entries : List Entry) (before after : List Passed) → ((s : Sheet) → Calls s desk desk Ticked before after) → InTurn entries desk → StaysOnline (game_of desk) entries before after
+  ticked_online desk entries before after f t =
+      let c = f (plain_sheet 0 1) in
+      called_online (plain_sheet 0 1) desk desk Ticked entries before after c (ticks_speak (view_of desk) entries (state_of desk) c.out t c.step.0)
+
+  -- it was just made
+  pub first_turn : (desk : DeskId) (game innings : ℕ) (made : Desk S B D g h b) → IsOf desk game innings made → Creates (file_view g.contents h.seen h.images desk game) desk (state_of made) → InTurn [] made
+  first_turn desk game innings made o c =
+      subst (λ (v : FileView D). IsInTurn v [] (state_of made)) (sym (view_is made desk game o.same_desk o.same_game)) (begins (file_view g.contents h.seen h.images desk game) desk (state_of made) c)
+
+  abbrev PenSteps : Desk S B D g h b → Entry → Result Penned PenRefusal → Desk S B D g h b → Type 0
+  PenSteps old e told new =
+      AreSent (game_of old) (sent told) (λ out. Pens (view_of old) (rules_of old) (state_of old) e (pen_answer told) (state_of new) out)
+
+  abbrev PenBlame : Desk S B D g h b → Result Penned PenRefusal → Desk S B D g h b → Type 0
+  PenBlame old told new =
+      BlamesDisk refusals.Device (g.room (length (votes_of old) + 1) ≤ h.cap (disk_of old)) told (h.faults (disk_of old)) (h.faults (disk_of new))
+
+  takes_entry : (old : Desk S B D g h b) (e : Entry) → IsLevel old → desks.MayPen (rules_of old) (state_of old) e → taking (innings_at old) (book_at old) e ≡ Ok e
+  takes_entry old e l may =
+      let room : length (book_at old) < PLACES = subst (λ (n : ℕ). n < PLACES) (sym l.goes.place) may.1.0.0 in rw (not_full (book_at old) room, may.2) refl
+
+  -- it has penned an entry
+  pub voted : (old new : Desk S B D g h b) (e : Entry) (penned : Penned) → IsLevel old → SameOwner old new → PenSteps old e (Ok penned) new → PenBlame old (Ok penned) new → VotesFor e old new
+  voted old new e penned l o step blame =
+      let t = casts (view_of old) (state_of old) (state_of new) e penned.settled l step.3.1 in
+      record { taken = takes_entry old e l step.3.0; turn = in_view (book_at old ++ e ∷ []) old new o t; calm = calm_still old new o t.running (blame.same (λ q. (cc))) }
+
+  refused_holds : (old new : Desk S B D g h b) → IsLevel old → SameOwner old new → desks.Unchanged (view_of old) (state_of old) (state_of new) → DiskHolds new (book_at old)
+  refused_holds old new l o u =
+      subst (λ (v : FileView D). Holds v (disk_of new) (votes_for (book_at old))) (same_view old new o) (stays_held (view_of old) (disk_of old) (disk_of new) (votes_for (book_at old)) u.0 l.held)
+
+  -- or it hasn't
+  pub refused : (old new : Desk S B D g h b) (e : Entry) (number place : ℕ) (why : PenRefusal) → IsLevel old → SameOwner old new → PenSteps old e (Err why) new → PenLeaves e (pen_fault number place why) old new
+  refused old new e number place refusals.PlacesFull l o step = refused_holds old new l o step.3.1
+  refused old new e number place (refusals.Book why) l o step = refused_holds old new l o step.3.1
+  refused old new e number place refusals.Device l o step =
+      let either = may_cast (view_of old) (state_of old) (disk_of new) e l step.3.1 in
+      (takes_entry old e l step.3.0, subst (λ (v : FileView D). HoldsEither v (disk_of new) (book_at old) (book_at old ++ e ∷ [])) (same_view old new o) either)
+  refused old new e number place refusals.Failed l o step = absurd (true_false (state_of old).failed l.running step.3.0)
+  refused old new e number place refusals.Waiting l o step = no_wait (book_at old) (state_of old).seat l.goes step.3.0.1
+  refused old new e number place refusals.RoundsFull l o step = no_round (state_of old).seat.position.round (level_round (book_at old) (state_of old).seat l.goes) step.3.0.2
+  refused old new e number place refusals.SlotsFull l o step =
+      has_slot (length (votes_of old)) (state_of old).seat.position.place (ap length l.votes ∙ (votes_length (book_at old) ∙ l.goes.place)) step.3.0.1.0 step.3.0.2
+
+  -- nothing was written since
+  pub still_holds : (old new : Desk S B D g h b) (book : List Entry) → KeepsDisk old new → DiskHolds old book → DiskHolds new book
+  still_holds old new book k held =
+      let there = subst (λ (read : List ℕ). HoldsOf g.contents (desk_of old) (game_of old) read (h.images (disk_of old)) (votes_for book)) (sym k.disk.0) held in
+      let left = subst (λ (i : Images). HoldsOf g.contents (desk_of old) (game_of old) (h.seen (disk_of new)) i (votes_for book)) (sym k.disk.1) there in
+      subst (λ (v : FileView D). Holds v (disk_of new) (votes_for book)) (same_view old new k.owner) left
+
+  pub either_more : (desk : Desk S B D g h b) (book more : List Entry) → DiskHolds desk more → DiskHoldsEither desk book more
+  either_more desk book more d = record { read = inr d.0; images = λ image i. inr (d.1 image i) }
+
+  pub either_book : (desk : Desk S B D g h b) (book more : List Entry) → DiskHolds desk book → DiskHoldsEither desk book more
+  either_book desk book more d = record { read = inl d.0; images = λ image i. inl (d.1 image i) }
+
+  -- its disk as a file of a match
+  pub keeps_book : (desk : Desk S B D g h b) (d : DeskId) (game : ℕ) (book : List Entry) → desk_of desk ≡ d → game_of desk ≡ game → DiskHolds desk book → HoldsBook (file_view g.contents h.seen h.images d game) (disk_of desk) book
+  keeps_book desk d game book is_d of_game held =
+      record { held = subst (λ (v : FileView D). Holds v (disk_of desk) (votes_for book)) (view_is desk d game is_d of_game) held; last = voted_votes book }
+
+  pub keeps_either : (desk : Desk S B D g h b) (d : DeskId) (game : ℕ) (book more : List Entry) → desk_of desk ≡ d → game_of desk ≡ game → DiskHoldsEither desk book more → HoldsEither (file_view g.contents h.seen h.images d game) (disk_of desk) book more
+  keeps_either desk d game book more is_d of_game held = subst (λ (v : FileView D). HoldsEither v (disk_of desk) book more) (view_is desk d game is_d of_game) held
+
+  pub both_turns : (k l m : Desk S B D g h b) → KeepsTurn k l → KeepsTurn l m → KeepsTurn k m
+  both_turns k l m x y = record { turn = λ entries t. y.turn entries (x.turn entries t); calm = λ c. y.calm (x.calm c) }
+
+  pub both_disks : (k l m : Desk S B D g h b) → KeepsDisk k l → KeepsDisk l m → KeepsDisk k m
+  both_disks k l m x y = record { owner = both_owners k l m x.owner y.owner; disk = (y.disk.0 ∙ x.disk.0, y.disk.1 ∙ x.disk.1) }
+
+  -- a turn of each station
+  pub one_round : (a0 a b0 b' : Desk S B D g h b) (k0 k l : Board B b) (log0 log log1 log2 log3 : List Passed) → KeepsTurn a0 a → KeepsTurn b0 b' → KeepsDisk a0 a → KeepsDisk b0 b' → boards.game_of k ≡ boards.game_of k0 →
+      KeepsOnline a0 b0 k0 k log0 log → ((entries : List Entry) → InTurn entries a → StaysOnline (game_of a) entries log log1) → ((entries : List Entry) → InTurn entries b' → StaysOnline (game_of b') entries log1 log2) →
+      ((start : List Passed) (entries : List Entry) → IsOnline (boards.game_of k) start entries log2 (board_at k) → IsOnline (boards.game_of k) start entries log3 (board_at l)) → KeepsOnline a0 b0 k0 l log0 log3
+  one_round a0 a b0 b' k0 k l log0 log log1 log2 log3 ka kb da db same before at_a at_b at_board start entries ta tb gb gk o =
+      let with_game = λ (n : ℕ) (m : ℕ) (e : n ≡ m) (xs : List Passed) (s : BoardState) (i : IsOnline n start entries xs s). subst (λ (j : ℕ). IsOnline j start entries xs s) e i in
+      let one = before start entries ta tb gb gk o in
+      let two = at_a entries (ka.turn entries ta) start (board_at k) (with_game (game_of a0) (game_of a) (sym da.owner.game) log (board_at k) one) in
+      let is_b = db.owner.game ∙ gb in
+      let three = at_b entries (kb.turn entries tb) start (board_at k) (with_game (game_of a) (game_of b') (da.owner.game ∙ sym is_b) log1 (board_at k) two) in
+      let is_k = same ∙ gk in
+      let four = at_board start entries (with_game (game_of b') (boards.game_of k) (is_b ∙ sym is_k) log2 (board_at k) three) in
+      with_game (boards.game_of k) (game_of a0) is_k log3 (board_at l) four
+
+  -- its place is agreed
+  settled : (book : List Entry) (e : Entry) (desk : Desk S B D g h b) → InTurn (book ++ e ∷ []) desk → length book < length (book_at desk) → book_at desk ≡ book ++ e ∷ []
+  settled book e desk t l = elim t.goes.book [ inl same ↦ same | inr less ↦ absurd (too_short book e (length (book_at desk)) l less) ]
+
+  level_at : (book : List Entry) (desk : Desk S B D g h b) → InTurn book desk → book_at desk ≡ book → IsLevel desk
+  level_at book desk t same = subst (λ (es : List Entry). InTurn es desk) (sym same) t
+
+  -- both desks have penned a line, and all three stations have agreed it
+  pub agreed : (r : Result (Unit {0}) MatchFault) (a a1 a2 b0 b1 b2 : Desk S B D g h b) (k l : Board B b) (e : Entry) (place : ℕ) → AreLevel a b0 k → VotesFor e a a1 → VotesFor e b0 b1 → SameOwner a a1 → SameOwner b0 b1 → place ≡ length (book_at a) →
+      KeepsDisk a1 a2 → KeepsDisk b1 b2 → OnOk r (KeepsTurn a1 a2) → OnOk r (KeepsTurn b1 b2) → OnOk r (SameMatch b.innings_a_side k l) →
+      OnOk r (place < length (book_at a2)) → OnOk r (place < length (book_at b2)) → OnOk r (place < length (b.content (boards.book_of l))) →
+      OnOk r (AreLevel a2 b2 l × (book_at a2 ≡ book_at a ++ e ∷ []) × (AreCalm a b0 → AreCalm a2 b2))
+  agreed (Err why) a a1 a2 b0 b1 b2 k l e place level va vb oa ob at da db ka kb same la lb lk = tt
+  agreed (Ok done) a a1 a2 b0 b1 b2 k l e place level va vb oa ob at da db ka kb same la lb lk =
+      let turn_a = ka.turn (book_at a ++ e ∷ []) va.turn in
+      let turn_b = kb.turn (book_at b0 ++ e ∷ []) vb.turn in
+      let book_a = settled (book_at a) e a2 turn_a (subst (λ (n : ℕ). n < length (book_at a2)) at la) in
+      let book_b = settled (book_at b0) e b2 turn_b (subst (λ (n : ℕ). n < length (book_at b2)) (at ∙ ap length (sym level.book)) lb) in
+      let owner_a = both_owners a a1 a2 oa da.owner in
+      let owner_b = both_owners b0 b1 b2 ob db.owner in (
+        record {
+          is_a = owner_a.desk ∙ level.is_a;
+          is_b = owner_b.desk ∙ level.is_b;
+          game = owner_b.game ∙ (level.game ∙ sym owner_a.game);
+          innings = owner_b.innings_a_side ∙ (level.innings ∙ sym owner_a.innings_a_side);
+          level_a = level_at (book_at a ++ e ∷ []) a2 turn_a book_a;
+          level_b = level_at (book_at b0 ++ e ∷ []) b2 turn_b book_b;
+          book = book_b ∙ (ap (λ (es : List Entry). es ++ e ∷ []) level.book ∙ sym book_a);
+          board_game = same.game ∙ (level.board_game ∙ sym owner_a.game);
+          board_innings = same.innings_a_side ∙ (level.board_innings ∙ sym owner_a.innings_a_side);
+          long = as_long (book_at a) e (book_at a2) place (length (b.content (boards.book_of l))) book_a at lk;
+        },
+        book_a,
+        λ calm. record { calm_a = ka.calm (va.calm calm.calm_a); calm_b = kb.calm (vb.calm calm.calm_b) },
+      )
+
+  -- the first desk hasn't penned the line's entry
+  pub first_left : (a a1 b0 : Desk S B D g h b) (line : List ℕ) (e : Entry) (fault : MatchFault) → answer_to (innings_at a) (book_at a) line ≡ taking (innings_at a) (book_at a) e → PenLeaves e fault a a1 → DiskHolds b0 (book_at a) →
+      LineLeaves (book_at a) (with_taken (answer_to (innings_at a) (book_at a) line) (book_at a)) fault a1 b0
+  first_left a a1 b0 line e (faults.Line number why) is p d = (p, d)
+  first_left a a1 b0 line e faults.Device is p d =
+      let more : with_taken (answer_to (innings_at a) (book_at a) line) (book_at a) ≡ book_at a ++ e ∷ [] = ap (λ r. with_taken r (book_at a)) (is ∙ p.0) in
+      (subst (DiskHoldsEither a1 (book_at a)) (sym more) p.1, either_book b0 (book_at a) (with_taken (answer_to (innings_at a) (book_at a) line) (book_at a)) d)
+  first_left a a1 b0 line e faults.NoMemory is p d = absurd p
+  first_left a a1 b0 line e faults.Write is p d = absurd p
+  first_left a a1 b0 line e faults.NotEmpty is p d = absurd p
+  first_left a a1 b0 line e (faults.NotAgreed place) is p d = absurd p
+
+  -- the first desk has penned it, and the second hasn't
+  pub second_left : (a1 b0 b1 : Desk S B D g h b) (book more : List Entry) (number : ℕ) (e : Entry) (fault : MatchFault) → more ≡ book ++ e ∷ [] → book_at b0 ≡ book → taking (innings_at b0) (book_at b0) e ≡ Ok e →
+      WhyNotAgreed (taking (innings_at b0) (book_at b0) e) (book_at b0) number fault → PenLeaves e fault b0 b1 → DiskHolds a1 (book ++ e ∷ []) → LineLeaves book more fault a1 b1
+  second_left a1 b0 b1 book more number e (faults.Line at why) is same taken w p d = absurd (let both : Ok e ≡ Err why = sym taken ∙ w.1 in cc)
+  second_left a1 b0 b1 book more number e faults.Device is same taken w p d =
+      let there : DiskHolds a1 more = subst (DiskHolds a1) (sym is) d in
+      let here = subst (λ (es : List Entry). DiskHoldsEither b1 es (es ++ e ∷ [])) same p.1 in
+      (either_more a1 book more there, subst (DiskHoldsEither b1 book) (sym is) here)
+  second_left a1 b0 b1 book more number e faults.NoMemory is same taken w p d = absurd p
+  second_left a1 b0 b1 book more number e faults.Write is same taken w p d = absurd p
+  second_left a1 b0 b1 book more number e faults.NotEmpty is same taken w p d = absurd p
+  second_left a1 b0 b1 book more number e (faults.NotAgreed place) is same taken w p d = absurd p
+
+  -- both have penned it, and it isn't agreed
+  pub third_left : (r : Result (Unit {0}) MatchFault) (a1 a2 b1 b2 : Desk S B D g h b) (book more : List Entry) (place : ℕ) → IfErr r (λ fault. (fault ≡ faults.Device) ⊎ (fault ≡ faults.NotAgreed place)) →
+      KeepsDisk a1 a2 → KeepsDisk b1 b2 → DiskHolds a1 more → DiskHolds b1 more → IfErr r (λ fault. LineLeaves book more fault a2 b2)
+  third_left (Ok done) a1 a2 b1 b2 book more place only da db x y = tt
+  third_left (Err fault) a1 a2 b1 b2 book more place (inl is) da db x y =
+      subst (λ (f : MatchFault). LineLeaves book more f a2 b2) (sym is) (either_more a2 book more (still_holds a1 a2 more da x), either_more b2 book more (still_holds b1 b2 more db y))
+  third_left (Err fault) a1 a2 b1 b2 book more place (inr is) da db x y =
+      subst (λ (f : MatchFault). LineLeaves book more f a2 b2) (sym is) (still_holds a1 a2 more da x, still_holds b1 b2 more db y)
+
+  -- and the board follows
+  pub agreed_online : (r : Result (Unit {0}) MatchFault) (a a1 a2 b0 b1 : Desk S B D g h b) (k l : Board B b) (e : Entry) (log new : List Passed) → AreLevel a b0 k → VotesFor e a a1 → VotesFor e b0 b1 → SameOwner a a1 → SameOwner b0 b1 →
+      OnOk r (KeepsOnline a1 b1 k l log new) → OnOk r (book_at a2 ≡ book_at a ++ e ∷ []) →
+      OnOk r ((start : List Passed) → IsOnline (game_of a) start (book_at a) log (board_at k) → IsOnline (game_of a) start (book_at a2) new (board_at l))
+  agreed_online (Err why) a a1 a2 b0 b1 k l e log new level va vb oa ob keeps book = tt
+  agreed_online (Ok done) a a1 a2 b0 b1 k l e log new level va vb oa ob keeps book = λ start o.
+      let es = book_at a ++ e ∷ [] in
+      let one = subst (λ (n : ℕ). IsOnline n start es log (board_at k)) (sym oa.game) (more (game_of a) start (book_at a) e log (board_at k) o) in
+      let turn_b : InTurn es b1 = subst (λ (xs : List Entry). InTurn (xs ++ e ∷ []) b1) level.book vb.turn in
+      let two = keeps start es va.turn turn_b (ob.game ∙ (level.game ∙ sym oa.game)) (level.board_game ∙ sym oa.game) one in
+      let three = subst (λ (n : ℕ). IsOnline n start es new (board_at l)) oa.game two in
+      subst (λ (xs : List Entry). IsOnline (game_of a) start xs new (board_at l)) (sym book) three

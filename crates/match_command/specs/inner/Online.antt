@@ -1,0 +1,41 @@
+-- What the datagrams of a match tell, and what a board makes of them.
+use Rattle.std.specs.Prelude.{◌≡◌, ℕ, List, ◌++◌, All, Some, length, slice_get}
+use Rattle.notation.specs.declared.entry.Entry.{Entry}
+use Rattle.agree_core.specs.declared.messages.DeskId.{DeskId}
+use Rattle.agree_core.specs.declared.messages.Message.{Message}
+use Rattle.agree_core.specs.declared.messages.Message.TheVariants.{Vote, Ask}
+use Rattle.agree_core.specs.Boards.{BoardState}
+use Rattle.agree_core.specs.Readers.{noted_of}
+use Rattle.wire.specs.Layout.{Says}
+use Rattle.live.specs.Passed.{Passed, Sent, Came}
+use Rattle.match_command.specs.MatchRun.{GivesOnlySent}
+
+-- a vote is for one of these entries, in the first round of its place
+abbrev pub SpeaksOf : List Entry → Message → Type 0
+SpeaksOf entries (Vote v) = (v.round ≡ 0) × (slice_get entries v.place ≡ Some v.entry)
+SpeaksOf entries (Ask q) = Unit {0}
+
+-- a datagram that was sent is such a message of the match
+abbrev pub IsSaid : ℕ → List Entry → Passed → Type 0
+IsSaid game entries (Sent bytes) = (m : Message) × Says game bytes m × SpeaksOf entries m
+IsSaid game entries (Came bytes) = Unit {0}
+
+-- a board's book is the first of these entries, and the votes that it has noted are for the next one
+pub record Follows (entries : List Entry) (k : BoardState) : Type 0 where
+  pub rest : List Entry
+  pub book : entries ≡ k.book ++ rest
+  pub position : k.reader.position ≡ record { place = length k.book; round = 0 }
+  pub noted : (d : DeskId) (e : Entry) → noted_of k.reader d ≡ Some e → slice_get entries (length k.book) ≡ Some e
+
+-- since the start the stations have sent such messages alone, and the board follows, where the link gave nothing else
+pub record IsOnline
+    (game : ℕ) (start : List Passed) (entries : List Entry) (log : List Passed) (k : BoardState) : Type 0 where
+  pub passed : List Passed
+  pub since : log ≡ start ++ passed
+  pub said : All (IsSaid game entries) passed
+  pub follows : GivesOnlySent passed → Follows entries k
+
+-- what passed between these two logs leaves the stations so
+abbrev pub StaysOnline : ℕ → List Entry → List Passed → List Passed → Type 0
+StaysOnline game entries before after =
+    (start : List Passed) (k : BoardState) → IsOnline game start entries before k → IsOnline game start entries after k

@@ -1,0 +1,99 @@
+//! The votes files of a match in a folder.
+
+use setup::{StopFault, Stopped, VotesDisk, new_disk_at};
+use std::fs::{self, File};
+use std::io;
+
+/// How many bytes a votes file without a vote has at most: a header and a gate.
+const LONGEST_VOTELESS: u64 = 65;
+
+/// The votes file of one desk of a match.
+#[derive(Drop)]
+struct VotesFile {
+    path: String,
+    /// Whether it was there before the match.
+    was_there: bool,
+}
+
+/// The votes files of both desks of a match.
+#[derive(Drop)]
+pub struct MatchFiles<'a> {
+    folder: &'a str,
+    a: VotesFile,
+    b: VotesFile,
+}
+
+/// The votes file of this name in a folder, which may not be there yet.
+fn file_in<'a>(rt: &HostRuntime, folder: &'a str, name: &str) -> Result<VotesFile, Stopped<'a>> {
+    match format!(in rt.alloc(); "{folder}/{name}") {
+        Ok(path) => {
+            let was_there = fs::symlink_metadata(rt, path.as_str()).is_ok();
+            Ok(VotesFile { path, was_there })
+        }
+        Err(why) => Err(Stopped::at(folder, StopFault::from(why))),
+    }
+}
+
+/// Takes away a file without a vote, unless another process has it to itself.
+fn remove_voteless(rt: &HostRuntime, path: &str) -> io::Result<()> {
+    let file = File::open(rt, path)?;
+    file.try_lock()?;
+    if file.metadata()?.len() <= LONGEST_VOTELESS {
+        fs::remove_file(rt, path)?;
+    }
+    Ok(())
+}
+
+impl VotesFile {
+    /// A disk on it, without a byte. It is made where there is none.
+    fn disk<'r, 'a>(
+        &self,
+        rt: &'r HostRuntime,
+        folder: &'a str,
+    ) -> Result<VotesDisk<'r>, Stopped<'a>> {
+        new_disk_at(rt, self.path.as_str()).map_err(|stopped| Stopped {
+            path: folder,
+            fault: stopped.fault,
+        })
+    }
+
+    /// Takes it away, where it wasn't there before and still has no vote.
+    fn take_back(&self, rt: &HostRuntime) {
+        if !self.was_there {
+            let _ = remove_voteless(rt, self.path.as_str());
+        }
+    }
+}
+
+impl<'a> MatchFiles<'a> {
+    /// `a.votes` and `b.votes` in this folder. Neither is opened or made yet.
+    pub fn in_folder(rt: &HostRuntime, folder: &'a str) -> Result<MatchFiles<'a>, Stopped<'a>> {
+        Ok(MatchFiles {
+            folder,
+            a: file_in(rt, folder, "a.votes")?,
+            b: file_in(rt, folder, "b.votes")?,
+        })
+    }
+
+    /// The folder that both are in.
+    pub fn folder(&self) -> &'a str {
+        self.folder
+    }
+
+    /// A disk on the file of desk A.
+    pub fn disk_a<'r>(&self, rt: &'r HostRuntime) -> Result<VotesDisk<'r>, Stopped<'a>> {
+        self.a.disk(rt, self.folder)
+    }
+
+    /// A disk on the file of desk B.
+    pub fn disk_b<'r>(&self, rt: &'r HostRuntime) -> Result<VotesDisk<'r>, Stopped<'a>> {
+        self.b.disk(rt, self.folder)
+    }
+
+    /// Takes away what a match that ended before its first vote has left: each file that wasn't there before and has no
+    /// vote. Both disks have to be closed.
+    pub fn take_back(&self, rt: &HostRuntime) {
+        self.a.take_back(rt);
+        self.b.take_back(rt);
+    }
+}

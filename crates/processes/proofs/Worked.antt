@@ -1,0 +1,256 @@
+-- The worked life is such as what happens to processes.
+use Rattle.std.proofs.Common.{◌≡◌, ℕ, zero, suc, Some, None, List, [], ◌∷◌, Ok, refl, sym, ap, ◌∙◌, inl, arith}
+use Rattle.std.specs.Prelude.{codes}
+use Rattle.std.specs.Fmt.{digits}
+use Rattle.std.specs.List.{filter}
+use Rattle.std.proofs.lemmas.Bool.{ne_eqb}
+use Rattle.std.proofs.lemmas.List.Elements.{All-cons, All-nil}
+use Rattle.notation.specs.declared.entry.Entry.TheVariants.{Write}
+use Rattle.notation.specs.declared.entry.Plain.TheVariants.{Void}
+use Rattle.match_laws.specs.Refusals as rules
+use Rattle.corrections.specs.Refusal.{book_refusal}
+use Rattle.entry_log.specs.Blame.{BlamesDisk}
+use Rattle.entry_log.specs.Disk.{IsImage, only}
+use Rattle.agree_core.specs.declared.messages.DeskId.{DeskId}
+use Rattle.agree_core.specs.declared.messages.Message.{Message}
+use Rattle.agree_core.specs.Ballots.{vote_of}
+use Rattle.corrections.specs.CleanList.{clean, clean_items_of, history_of}
+use Rattle.match_laws.specs.Figures.{penalty_runs, total}
+use Rattle.match_laws.specs.History.{begun_by}
+use Rattle.match_laws.specs.Result.{is_decided, outcome, side_total, target}
+use Rattle.agree_core.specs.declared.messages.DeskId.TheVariants.{A, B}
+use Rattle.agree_core.specs.declared.seat.Heard as hearing
+use Rattle.agree_core.specs.declared.seat.Settled.{Settled}
+use Rattle.agree_core.specs.FileView.{FileView, Holds, Stays}
+use Rattle.agree_core.specs.Openings.{NotOpened, Opened, OpenRefusal}
+use Rattle.cards.specs.Sheet.{Sheet}
+use Rattle.seal.specs.Sealed.{sealed}
+use Rattle.shorthand.proofs.Standing.{full_lines_stand}
+use Rattle.vote_store.specs.View.{file_view, votes_shown}
+use Rattle.vote_store.specs.Sequence.{file_votes, votes_after}
+use Rattle.vote_store.proofs.RecordLemmas.{vote_in-record_of}
+use Rattle.wire.specs.Layout.{IsMessage}
+use Rattle.wire.specs.declared.what.What.TheVariants.{Heard}
+use Rattle.headline.specs.declared.version.FileVersion.TheVariants.{New}
+use Rattle.live.specs.Boards as boards
+use Rattle.live.specs.Desks as desks
+use Rattle.live.specs.DeskLife.{fresh}
+use Rattle.live.specs.Ends.{further}
+use Rattle.live.specs.Notices.{untold}
+use Rattle.live.specs.Runs as own
+use Rattle.live.specs.declared.ends.DeskEnd.TheVariants.{Device}
+use Rattle.live.specs.declared.said.Said.TheVariants.{Penned}
+use Rattle.headline.specs.Configurations.{board_at, fresh_boards, node}
+use Rattle.live.specs.Saying.{SaysEntry}
+use Rattle.processes.specs.Lives.{Beginning, BoardProcess, BoardRuns, CallsMade, IsBoardLife, IsLife, ProcessEnd, RunsFrom, Stage, board_happens, fresh_turn, life_happens}
+use Rattle.processes.specs.Sealing.{IsAuthentic}
+use Rattle.processes.specs.Weaving.{is_at_board, is_at_desk, start}
+use Rattle.processes.specs.Worked.{LivedIsWoven, a_again, a_bytes, a_penned, a_says, b_bytes, b_noted, b_penned, b_says, board_agreed, board_noted, disk_with, disk_without, lived, new_desk, no_faults, the_vote, toy}
+
+only_is : (file image : List ℕ) → IsImage (only file) image → image ≡ file
+only_is [] [] h = refl
+only_is [] (x ∷ xs) h = h
+only_is (x ∷ xs) [] h = absurd h
+only_is (x ∷ xs) (y ∷ ys) h = let rest = only_is xs ys h.1 in λ i. h.0 i ∷ rest i
+
+abbrev view : DeskId → FileView (List ℕ)
+view d = file_view (toy New) (λ disk. disk) only d 7
+
+none_read : (d : DeskId) → votes_shown (toy New) d 7 disk_without ≡ Some []
+unfolding file_votes votes_after
+none_read A = refl
+none_read B = refl
+
+one_read : (d : DeskId) → votes_shown (toy New) d 7 disk_with ≡ Some (the_vote ∷ [])
+unfolding file_votes votes_after
+one_read A = rw (vote_in-record_of the_vote (omega arith, omega arith) tt) refl
+one_read B = rw (vote_in-record_of the_vote (omega arith, omega arith) tt) refl
+
+holds_none : (d : DeskId) → Holds (view d) disk_without []
+holds_none d = (none_read d, λ image h. sym h.2 ∙ ap (votes_shown (toy New) d 7) (only_is disk_without h.0 h.1) ∙ none_read d)
+
+holds_one : (d : DeskId) → Holds (view d) disk_with (the_vote ∷ [])
+holds_one d = (one_read d, λ image h. sym h.2 ∙ ap (votes_shown (toy New) d 7) (only_is disk_with h.0 h.1) ∙ one_read d)
+
+stays : (d : DeskId) (disk : List ℕ) → Stays (view d) disk disk
+stays d disk = (refl, λ image. (λ h. h, λ h. h))
+
+taken : (n : ℕ) → book_refusal n [] (Write Void) ≡ None
+unfolding book_refusal rules.refusal
+taken n = refl
+
+-- no call of this life blames a disk
+blameless : (within : Type 0) (disk left : List ℕ) → BlamesDisk Device within further (no_faults disk) (no_faults left)
+blameless within disk left = record { failed = λ h. cc; same = λ h. refl; calm = λ due fits h. cc; spent = λ once fits h. cc }
+
+is_message : (d : DeskId) → IsMessage (Message.Vote (vote_of d the_vote))
+is_message d = ((omega arith, omega arith), tt)
+
+-- a station had sealed it
+a_sealed : (seal : List ℕ) (more : List Message) → IsAuthentic seal 7 (a_says ∷ more) a_bytes
+a_sealed seal more = (sealed seal a_bytes, refl, refl, λ m long same. (0, refl))
+
+b_sealed : (seal : List ℕ) → IsAuthentic seal 7 (a_says ∷ b_says ∷ []) b_bytes
+b_sealed seal = (sealed seal b_bytes, refl, refl, λ m long same. (1, refl))
+
+-- ---- desk A
+
+module _ (s : Sheet) where
+  abbrev pens : own.Moment (desks.DeskProcess (List ℕ)) desks.DeskCall
+  pens = record {
+    call = desks.Typed (codes "void") (Penned (Write Void) Settled.Pending);
+    out = a_says ∷ [];
+    after = desks.after_call (fresh (new_desk A)) (desks.Typed (codes "void") (Penned (Write Void) Settled.Pending)) a_penned;
+  }
+
+  abbrev life_of_a : List (Stage (List ℕ))
+  life_of_a =
+      CallsMade s a_again [] ∷ Beginning (Opened a_again) ∷ Beginning (NotOpened OpenRefusal.DeviceFailed disk_with) ∷ ProcessEnd disk_with
+      ∷ CallsMade s (new_desk A) (pens ∷ []) ∷ []
+
+  says : SaysEntry s [] [] 0 (codes "void") (Write Void)
+  says = inl (codes "void", refl, (tt, full_lines_stand s [] (Write Void) tt))
+
+  a_runs : RunsFrom s (view A) no_faults 7 1 (new_desk A) (pens ∷ [])
+  a_runs = (
+    (λ n. n),
+    0,
+    (
+      tt,
+      All-cons IsMessage a_says [] (is_message A) (All-nil IsMessage),
+      (
+        refl,
+        (says, (((refl, refl), ((omega arith, omega arith), omega arith), taken 1), ((refl, refl), refl, refl, refl, holds_one A), refl)),
+        (λ sound. blameless _ disk_without disk_with),
+        refl,
+      ),
+    ),
+  )
+
+  a_lives : IsLife (λ version. file_view (toy version) (λ disk. disk) only A 7) (λ disk. disk) no_faults A 7 1 (node (start New 1 (new_desk A) (new_desk B)) A) life_of_a
+  a_lives = (
+    (
+      (
+        (
+          (tt, (refl, a_runs)),
+          (a_penned, refl, stays A disk_with),
+        ),
+        (the_vote ∷ [], disk_with, refl, ((λ none. tt), (λ some. inl (stays A disk_with)))),
+      ),
+      (the_vote ∷ [], disk_with, refl, ((λ none. absurd (omega (arith, none))), (λ some. (one_read A, (taken 1, tt), holds_one A, refl)))),
+    ),
+    (refl, ((λ n. n), 0, tt)),
+  )
+
+  -- ---- desk B
+
+  abbrev notes : own.Moment (desks.DeskProcess (List ℕ)) desks.DeskCall
+  notes = record {
+    call = desks.Given a_bytes (Heard hearing.Heard.Noted);
+    out = [];
+    after = desks.after_call (fresh (new_desk B)) (desks.Given a_bytes (Heard hearing.Heard.Noted)) b_noted;
+  }
+
+  abbrev pens_too : own.Moment (desks.DeskProcess (List ℕ)) desks.DeskCall
+  pens_too = record {
+    call = desks.Typed (codes "void") (Penned (Write Void) Settled.Agreed);
+    out = b_says ∷ [];
+    after = desks.after_call (desks.after_call (fresh (new_desk B)) (desks.Given a_bytes (Heard hearing.Heard.Noted)) b_noted)
+        (desks.Typed (codes "void") (Penned (Write Void) Settled.Agreed)) b_penned;
+  }
+
+  b_runs : RunsFrom s (view B) no_faults 7 1 (new_desk B) (pens_too ∷ notes ∷ [])
+  b_runs = (
+    (λ n. n),
+    0,
+    (
+      (
+        tt,
+        All-nil IsMessage,
+        (
+          refl,
+          (a_says, (is_message A, refl), (refl, (((λ e. cc), refl), refl, refl, refl), stays B disk_without, refl, refl)),
+          (λ sound. blameless _ disk_without disk_without),
+          refl,
+        ),
+      ),
+      All-cons IsMessage b_says [] (is_message B) (All-nil IsMessage),
+      (
+        refl,
+        (says, (((refl, refl), ((omega arith, omega arith), omega arith), taken 1), ((refl, refl), refl, refl, refl, holds_one B), refl)),
+        (λ sound. blameless _ disk_without disk_with),
+        refl,
+      ),
+    ),
+  )
+
+  abbrev life_at : DeskId → List (Stage (List ℕ))
+  life_at A = life_of_a
+  life_at B = CallsMade s (new_desk B) (pens_too ∷ notes ∷ []) ∷ []
+
+  desk_lives : (d : DeskId) → (life : List (Stage (List ℕ)))
+      × IsLife (λ version. file_view (toy version) (λ disk. disk) only d 7) (λ disk. disk) no_faults d 7 1 (node (start New 1 (new_desk A) (new_desk B)) d) life
+      × (filter (is_at_desk d) (lived s) ≡ life_happens 1 d life)
+  unfolding history_of clean clean_items_of digits
+  desk_lives A = (life_of_a, a_lives, refl)
+  desk_lives B = (life_at B, (tt, (refl, b_runs)), refl)
+
+  -- ---- the board
+
+  abbrev hears : own.Moment boards.BoardTurn boards.BoardCall
+  hears = record {
+    call = boards.Given a_bytes (Ok (Heard hearing.Heard.Noted));
+    out = [];
+    after = boards.after_call (fresh_turn []) (boards.Given a_bytes (Ok (Heard hearing.Heard.Noted))) board_noted;
+  }
+
+  abbrev hears_both : own.Moment boards.BoardTurn boards.BoardCall
+  hears_both = record {
+    call = boards.Given b_bytes (Ok (Heard hearing.Heard.Agreed));
+    out = [];
+    after = boards.after_call (boards.after_call (fresh_turn []) (boards.Given a_bytes (Ok (Heard hearing.Heard.Noted))) board_noted)
+        (boards.Given b_bytes (Ok (Heard hearing.Heard.Agreed))) board_agreed;
+  }
+
+  abbrev shows : own.Moment boards.BoardTurn boards.BoardCall
+  shows = record { call = boards.TurnEnded; out = []; after = boards.begun board_agreed 1 untold [] }
+
+  abbrev board_life : BoardProcess
+  board_life = record { sheet = s; noted = []; calls = shows ∷ hears_both ∷ hears ∷ [] }
+
+  board_runs : BoardRuns 7 1 s [] (shows ∷ hears_both ∷ hears ∷ [])
+  board_runs = (
+    (
+      (
+        tt,
+        All-nil IsMessage,
+        (omega arith, ((a_says, (is_message A, refl), ((refl, refl, refl, refl), (λ e. cc), refl)), refl), refl),
+      ),
+      All-nil IsMessage,
+      (omega arith, ((b_says, (is_message B, refl), ((refl, refl, refl, refl), (λ e. taken 1), refl)), refl), refl),
+    ),
+    All-nil IsMessage,
+    (tt, (refl, refl), refl),
+  )
+
+  elsewhere : (n : ℕ) → filter (is_at_board (suc (suc n))) (lived s) ≡ []
+  elsewhere n = rw (ne_eqb (suc (suc n)) 1 (λ e. omega (arith, e))) refl
+
+  board_lives : (n : ℕ) → (life : List BoardProcess) × IsBoardLife 7 1 life × (filter (is_at_board n) (lived s) ≡ board_happens 1 n life)
+  unfolding history_of clean clean_items_of target outcome is_decided side_total begun_by total penalty_runs
+  board_lives zero = ([], tt, refl)
+  board_lives (suc zero) = (board_life ∷ [], (tt, board_runs), refl)
+  board_lives (suc (suc n)) = ([], tt, elsewhere n)
+
+  no_others : (n : ℕ) → board_at (fresh_boards 1) n ≡ None → filter (is_at_board n) (lived s) ≡ []
+  no_others zero e = refl
+  no_others (suc zero) e = cc
+  no_others (suc (suc n)) e = elsewhere n
+
+pub lived_is_woven : LivedIsWoven
+lived_is_woven s seal = record {
+  order = (((((((((((((tt, tt), tt), tt), a_sealed seal []), tt), tt), a_sealed seal (b_says ∷ [])), b_sealed seal), tt), tt), tt), tt), tt);
+  desks = desk_lives s;
+  boards = board_lives s;
+  no_others = no_others s;
+}

@@ -1,0 +1,28 @@
+-- What processes print, each with the book that it shows then. The text of a call is printed once the call is done: where
+-- the process is killed amid the printing, or a write fails, a first part of the last text was.
+use Rattle.std.specs.Prelude.{◌≡◌, ◌⊎◌, ℕ, List, []}
+use Rattle.corrections.specs.CleanList.{history_of}
+use Rattle.cards.specs.Sheet.{Sheet}
+use Rattle.cards.specs.Board.{board as board_text}
+use Rattle.agree_core.specs.Boards.{BoardState}
+use Rattle.agree_core.specs.Desks.{DeskState}
+use Rattle.live.specs.Boards as boards
+use Rattle.live.specs.Boards.{BoardCall}
+use Rattle.live.specs.Desks.{DeskCall, DeskProcess, after_call, own_line, told_of}
+use Rattle.live.specs.Texts.{greeting}
+
+-- what a desk's process prints first, by this sheet: how the match and the desk stand
+abbrev pub greeting_of : {Disk : Type 0} → Sheet → ℕ → DeskState Disk → List ℕ
+greeting_of s innings k = greeting s innings k.book k.seat.position (own_line k)
+
+-- the text is what the scorer is told of a call, by this sheet and by the process before the call and after it, whose
+-- desks are these
+abbrev pub Tells : {Disk : Type 0} → Sheet → ℕ → DeskState Disk → DeskCall → DeskState Disk → List ℕ → Type 0
+Tells s innings k call l text =
+    (p : DeskProcess _) × (p.desk ≡ k) × (text ≡ told_of s innings p call (after_call p call l))
+
+-- the text is what a board prints of a call that leaves it so: at the end of a turn the six lines of its book, by this
+-- sheet, or nothing; and of any other call nothing
+abbrev pub Prints : Sheet → ℕ → BoardCall → BoardState → List ℕ → Type 0
+Prints s innings boards.TurnEnded l text = (text ≡ board_text s innings (history_of l.book)) ⊎ (text ≡ [])
+Prints s innings call l text = text ≡ []

@@ -1,0 +1,121 @@
+-- A worked life: desk A pens `void`, is killed, begins in vain, and begins; desk B is given its vote, and pens `void` too; a
+-- board is given both votes, and shows the book. A disk is its bytes, all of them synced: one for the header, and one for
+-- the desk's vote. The texts were written by hand.
+use Rattle.std.specs.Prelude.{ℕ, List, [], ◌∷◌, Ok, codes, false}
+use Rattle.notation.specs.declared.entry.Entry.TheVariants.{Write}
+use Rattle.notation.specs.declared.entry.Plain.TheVariants.{Void}
+use Rattle.entry_log.specs.Disk.{Faults, Never, only}
+use Rattle.entry_log.specs.Slots.{Contents}
+use Rattle.agree_core.specs.declared.messages.DeskId.{DeskId}
+use Rattle.agree_core.specs.declared.messages.DeskId.TheVariants.{A, B}
+use Rattle.agree_core.specs.declared.messages.Message.{Message}
+use Rattle.agree_core.specs.declared.seat.Heard as hearing
+use Rattle.agree_core.specs.declared.seat.Settled.{Settled}
+use Rattle.agree_core.specs.Ballots.{Ballot, ballot_at, vote_of}
+use Rattle.agree_core.specs.Boards.{BoardState}
+use Rattle.agree_core.specs.Desks.{DeskState}
+use Rattle.agree_core.specs.Openings.{NotOpened, Opened, OpenRefusal, opened}
+use Rattle.agree_core.specs.Positions.{first, next_place}
+use Rattle.agree_core.specs.Readers as readers
+use Rattle.agree_core.specs.Readers.{reading}
+use Rattle.agree_core.specs.Seats.{casting, noting, waiting}
+use Rattle.cards.specs.Sheet.{Sheet}
+use Rattle.wire.specs.Layout.{written}
+use Rattle.wire.specs.declared.what.What.TheVariants.{Heard}
+use Rattle.vote_store.specs.Record.{record_of}
+use Rattle.headline.specs.declared.version.FileVersion.{FileVersion}
+use Rattle.headline.specs.declared.version.FileVersion.TheVariants.{New}
+use Rattle.live.specs.Boards as boards
+use Rattle.live.specs.Desks as desks
+use Rattle.live.specs.declared.said.Said.TheVariants.{Penned}
+use Rattle.processes.specs.Happenings.{BoardBegun, BoardCalled, DeskBegun, DeskCalled, DeskEnded, DeskGreeted, Happening}
+use Rattle.processes.specs.Weaving.{IsWoven, start}
+
+-- what is on a disk: behind the header the desk's vote, or none
+abbrev pub the_vote : Ballot
+the_vote = ballot_at 0 0 (Write Void)
+
+abbrev pub toy : FileVersion → Contents
+toy version desk game [] = Ok []
+toy version desk game (header ∷ []) = Ok []
+toy version desk game (header ∷ vote ∷ more) = Ok (record_of the_vote ∷ [])
+
+abbrev pub no_faults : List ℕ → Faults
+no_faults disk = record { count = 0; due = Never }
+
+abbrev pub disk_without : List ℕ
+disk_without = 1 ∷ []
+
+abbrev pub disk_with : List ℕ
+disk_with = 1 ∷ 1 ∷ []
+
+-- the desks and the board, as they go on
+abbrev pub new_desk : DeskId → DeskState (List ℕ)
+new_desk d = opened d disk_without []
+
+abbrev pub a_penned : DeskState (List ℕ)
+a_penned = record { seat = casting (waiting A first) (Write Void); book = []; failed = false; votes = the_vote ∷ []; disk = disk_with }
+
+abbrev pub a_again : DeskState (List ℕ)
+a_again = opened A disk_with (the_vote ∷ [])
+
+abbrev pub b_noted : DeskState (List ℕ)
+b_noted = record { seat = noting (waiting B first) (Write Void); book = []; failed = false; votes = []; disk = disk_without }
+
+abbrev pub b_penned : DeskState (List ℕ)
+b_penned = record {
+  seat = waiting B (next_place first);
+  book = Write Void ∷ [];
+  failed = false;
+  votes = the_vote ∷ [];
+  disk = disk_with;
+}
+
+abbrev pub board_noted : BoardState
+board_noted = record { reader = readers.noting (reading first) A (Write Void); book = [] }
+
+abbrev pub board_agreed : BoardState
+board_agreed = record { reader = reading (next_place first); book = Write Void ∷ [] }
+
+abbrev pub a_says : Message
+a_says = Message.Vote (vote_of A the_vote)
+
+abbrev pub b_says : Message
+b_says = Message.Vote (vote_of B the_vote)
+
+-- the datagrams of both votes, in match 7
+abbrev pub a_bytes : List ℕ
+a_bytes = written 7 a_says
+
+abbrev pub b_bytes : List ℕ
+b_bytes = written 7 b_says
+
+-- the six lines of a book without play
+abbrev pub no_play : List ℕ
+no_play = codes "No play\nOvers -\nStriker -\nOther -\nTarget -\nResult -\n"
+
+-- all that happens, the newest first
+abbrev pub lived : Sheet → List (Happening (List ℕ))
+lived s =
+    DeskGreeted A s (codes "No play\n0 pending: void\n")
+    ∷ DeskBegun A (Opened a_again)
+    ∷ DeskBegun A (NotOpened OpenRefusal.DeviceFailed disk_with)
+    ∷ DeskEnded A disk_with
+    ∷ BoardCalled 1 s boards.TurnEnded [] board_agreed no_play
+    ∷ BoardCalled 1 s (boards.Given b_bytes (Ok (Heard hearing.Heard.Agreed))) [] board_agreed []
+    ∷ BoardCalled 1 s (boards.Given a_bytes (Ok (Heard hearing.Heard.Noted))) [] board_noted []
+    ∷ BoardBegun 1
+    ∷ DeskCalled B s (desks.Typed (codes "void") (Penned (Write Void) Settled.Agreed)) (b_says ∷ []) b_penned
+    (codes "0 agreed: void\nNo play\n")
+    ∷ DeskCalled B s (desks.Given a_bytes (Heard hearing.Heard.Noted)) [] b_noted (codes "0 the other has written\n")
+    ∷ DeskGreeted B s (codes "No play\n0 next\n")
+    ∷ DeskCalled A s (desks.Typed (codes "void") (Penned (Write Void) Settled.Pending)) (a_says ∷ []) a_penned
+    (codes "0 pending: void\n")
+    ∷ DeskGreeted A s (codes "No play\n0 next\n")
+    ∷ []
+
+-- it is such as what happens to processes, with whatever sheet and seal, in a match of one innings a side
+abbrev pub LivedIsWoven : Type 0
+LivedIsWoven =
+    (s : Sheet) (seal : List ℕ)
+    → IsWoven (λ disk. disk) only no_faults seal toy 7 1 (start New 1 (new_desk A) (new_desk B)) (lived s)

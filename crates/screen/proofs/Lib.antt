@@ -1,0 +1,4 @@
+pub mod OverLemmas
+pub mod MarkLemmas
+pub mod Plain
+pub mod Columns

@@ -1,0 +1,154 @@
+-- The over of the last delivery, item by item.
+use Rattle.std.proofs.Common.{◌≡◌, ℕ, ◌+◌, ◌≤◌, List, [], ◌∷◌, ◌++◌, length, drop, map, Bool, true, false, Option, Some, None, if◌then◌else◌, refl, sym, ap, ◌∙◌, append-nil, append_assoc, subst}
+use Rattle.std.specs.Prelude.{slice_get}
+use Rattle.std.proofs.lemmas.Grind.{reverse_onto}
+use Rattle.std.proofs.lemmas.List.{drop_all}
+use Rattle.notation.specs.declared.entry.Entry.{Entry}
+use Rattle.ball_laws.specs.History.{History}
+use Rattle.ball_laws.specs.Laws.{state_after}
+use Rattle.match_laws.specs.History.{is_void, or_else}
+use Rattle.corrections.specs.declared.placed.Placed.{Placed}
+use Rattle.corrections.specs.CleanList.{clean, history, history_of, kept, clean_items_of}
+use Rattle.corrections.proofs.ScoringLemmas.{kept_first, kept_not}
+use Rattle.notation.specs.declared.entry.Ball.{Ball}
+use Rattle.notation.specs.declared.entry.Plain.{Plain}
+use Rattle.notation.specs.declared.entry.Plain.TheVariants as plain
+use Rattle.cards.proofs.Slots.{next}
+use Rattle.screen.specs.declared.over.LastOver.{LastOver}
+use Rattle.screen.specs.Overs.{IsOverOf, are_some, bowled, with_balls}
+use Rattle.screen.specs.inner.Over.{none_to, with_item}
+use Rattle.screen.specs.Play.{newest_bowler, this_or_last, over_now}
+
+-- among the items before this place it is the over of the last delivery: of this over, or of the last one
+pub record IsOverAt (items : List Placed) (place : ℕ) (over : LastOver) (this last : List Ball) : Type 0 where
+  pub on : over.is_on ≡ are_some this
+  pub bowler : over.bowler ≡ newest_bowler (this_or_last this last)
+  pub balls : with_balls [] (drop over.from items) ≡ with_balls (this_or_last this last) (drop place items)
+
+abbrev AtHistory : List Placed → ℕ → LastOver → History → Type 0
+AtHistory items place over h = IsOverAt items place over (state_after h).this_over (state_after h).last_over
+
+-- the over of the last delivery of the first k items of what stands
+pub record Taken (items : List Placed) (over : LastOver) (k : ℕ) : Type 0 where
+  pub before : History
+  pub is : AtHistory items k over before
+  pub whole : history (kept (drop k items)) ++ before ≡ history (kept items)
+
+pub taken_none : (items : List Placed) → Taken items (none_to 0) 0
+taken_none items = record {
+  before = [];
+  is = record { on = refl; bowler = refl; balls = refl };
+  whole = append-nil (history (kept items));
+}
+
+-- ---- an item more
+
+-- the item at the place is taken in
+abbrev Adds : List Placed → ℕ → Plain → Type 0
+Adds items k item = (over : List Ball) → with_balls over (drop k items) ≡ with_balls (bowled item over) (drop (k + 1) items)
+
+adds : (items : List Placed) (k : ℕ) (x : Placed) → slice_get items k ≡ Some x → Adds items k x.item
+adds items k x here = λ over. ap (with_balls over) (next items k x here)
+
+balls_on : (items : List Placed) (k from : ℕ) (is_on : Bool) (b : Ball) (this last : List Ball) → Adds items k (plain.Ball b) → is_on ≡ are_some this →
+    with_balls [] (drop from items) ≡ with_balls (this_or_last this last) (drop k items) →
+    with_balls [] (drop (if is_on then from else k) items) ≡ with_balls (b ∷ this) (drop (k + 1) items)
+balls_on items k from true b [] last add on balls = absurd (cc)
+balls_on items k from false b [] last add on balls = add []
+balls_on items k from true b (c ∷ cs) last add on balls = balls ∙ add (c ∷ cs)
+balls_on items k from false b (c ∷ cs) last add on balls = absurd (cc)
+
+balls_called : (items : List Placed) (k from : ℕ) (is_on : Bool) (this last : List Ball) → Adds items k plain.Over → is_on ≡ are_some this →
+    with_balls [] (drop from items) ≡ with_balls (this_or_last this last) (drop k items) →
+    with_balls [] (drop (if is_on then from else k + 1) items) ≡ with_balls this (drop (k + 1) items)
+balls_called items k from true [] last add on balls = absurd (cc)
+balls_called items k from false [] last add on balls = refl
+balls_called items k from true (c ∷ cs) last add on balls = balls ∙ add (c ∷ cs)
+balls_called items k from false (c ∷ cs) last add on balls = absurd (cc)
+
+bowler_called : (is_on : Bool) (by : Option ℕ) (this last : List Ball) → is_on ≡ are_some this → by ≡ newest_bowler (this_or_last this last) →
+    (if is_on then by else None) ≡ newest_bowler this
+bowler_called true by [] last on is = absurd (cc)
+bowler_called false by [] last on is = refl
+bowler_called true by (c ∷ cs) last on is = is
+bowler_called false by (c ∷ cs) last on is = absurd (cc)
+
+-- an item that is no delivery, and after which the over is as before
+stays : (items : List Placed) (k : ℕ) (item : Plain) (over : LastOver) (this last : List Ball) → Adds items k item → bowled item (this_or_last this last) ≡ this_or_last this last →
+    IsOverAt items k over this last → IsOverAt items (k + 1) over this last
+stays items k item over this last add same at = record {
+  on = at.on;
+  bowler = at.bowler;
+  balls = at.balls ∙ (add (this_or_last this last) ∙ ap (λ over. with_balls over (drop (k + 1) items)) same);
+}
+
+anew : (items : List Placed) (k : ℕ) → IsOverAt items (k + 1) (none_to (k + 1)) [] []
+anew items k = record { on = refl; bowler = refl; balls = refl }
+
+with_item_at : (items : List Placed) (k : ℕ) (item : Plain) (over : LastOver) (h : History) → Adds items k item → AtHistory items k over h → AtHistory items (k + 1) (with_item over k item) (item ∷ h)
+with_item_at items k (plain.Ball b) over h add at = record {
+  on = refl;
+  bowler = refl;
+  balls = balls_on items k over.from over.is_on b (state_after h).this_over (state_after h).last_over add at.on at.balls;
+}
+with_item_at items k plain.Over over h add at = record {
+  on = refl;
+  bowler = bowler_called over.is_on over.bowler (state_after h).this_over (state_after h).last_over at.on at.bowler;
+  balls = balls_called items k over.from over.is_on (state_after h).this_over (state_after h).last_over add at.on at.balls;
+}
+with_item_at items k (plain.Innings side) over h add at = anew items k
+with_item_at items k (plain.End cause) over h add at = anew items k
+with_item_at items k (plain.Come p) over h add at = stays items k (plain.Come p) over _ _ add refl at
+with_item_at items k (plain.Gone how p) over h add at = stays items k (plain.Gone how p) over _ _ add refl at
+with_item_at items k (plain.Penalty side law part) over h add at = stays items k (plain.Penalty side law part) over _ _ add refl at
+with_item_at items k plain.Swap over h add at = stays items k plain.Swap over _ _ add refl at
+with_item_at items k plain.Close over h add at = stays items k plain.Close over _ _ add refl at
+with_item_at items k plain.Void over h add at = stays items k plain.Void over _ _ add refl at
+
+history-cons : (x : Placed) (xs : List Placed) (h : History) → history (x ∷ xs) ++ h ≡ history xs ++ x.item ∷ h
+history-cons x xs h = ap (λ u. u ++ h) (reverse_onto (map (λ y. y.item) xs) x.item []) ∙ append_assoc (history xs) (x.item ∷ []) h
+
+pub taken_one : (items : List Placed) (over : LastOver) (k : ℕ) (x : Placed) → Taken items over k → slice_get items k ≡ Some x → is_void x.item ≡ false → Taken items (with_item over k x.item) (k + 1)
+taken_one items over k x m here stays =
+    let split : kept (drop k items) ≡ x ∷ kept (drop (k + 1) items) = ap kept (next items k x here) ∙ kept_first x (drop (k + 1) items) stays in record {
+      before = x.item ∷ m.before;
+      is = with_item_at items k x.item over m.before (adds items k x here) m.is;
+      whole = sym (history-cons x (kept (drop (k + 1) items)) m.before) ∙ (ap (λ xs. history xs ++ m.before) (sym split) ∙ m.whole);
+    }
+
+-- what is void is no delivery
+void_adds_none : (item : Plain) (over : List Ball) → is_void item ≡ true → bowled item over ≡ over
+void_adds_none (plain.Ball b) over void = absurd (cc)
+void_adds_none (plain.Innings side) over void = refl
+void_adds_none (plain.Come p) over void = refl
+void_adds_none (plain.Gone how p) over void = refl
+void_adds_none plain.Over over void = refl
+void_adds_none (plain.Penalty side law part) over void = refl
+void_adds_none plain.Swap over void = refl
+void_adds_none (plain.End cause) over void = refl
+void_adds_none plain.Close over void = refl
+void_adds_none plain.Void over void = refl
+
+pub taken_not : (items : List Placed) (over : LastOver) (k : ℕ) (x : Placed) → Taken items over k → slice_get items k ≡ Some x → is_void x.item ≡ true → Taken items over (k + 1)
+taken_not items over k x m here void =
+    let same : kept (drop k items) ≡ kept (drop (k + 1) items) = ap kept (next items k x here) ∙ kept_not x (drop (k + 1) items) void in record {
+      before = m.before;
+      is = stays items k x.item over _ _ (adds items k x here) (void_adds_none x.item _ void) m.is;
+      whole = ap (λ xs. history xs ++ m.before) (sym same) ∙ m.whole;
+    }
+
+-- who bowled the last delivery of this over, or of the last one, bowled that of the one of the two that has it
+pub newest_of : (this last : List Ball) → newest_bowler (this_or_last this last) ≡ or_else (newest_bowler this) (newest_bowler last)
+newest_of [] last = refl
+newest_of (b ∷ bs) last = refl
+
+pub taken_all : (book : List Entry) (items : List Placed) (over : LastOver) (k : ℕ) → Taken items over k → length items ≤ k → items ≡ clean_items_of book → IsOverOf (clean_items_of book) over (history_of book)
+unfolding history_of clean
+taken_all book items over k m end is =
+    let all : m.before ≡ history_of book = ap (λ xs. history (kept xs) ++ m.before) (sym (drop_all k items end)) ∙ (m.whole ∙ ap (λ xs. history (kept xs)) is) in
+    let of_items : IsOverOf items over m.before = record {
+      on = m.is.on;
+      bowler = m.is.bowler ∙ newest_of (state_after m.before).this_over (state_after m.before).last_over;
+      balls = m.is.balls ∙ ap (with_balls (over_now m.before)) (drop_all k items end);
+    } in
+    subst (λ h. IsOverOf (clean_items_of book) over h) all (subst (λ xs. IsOverOf xs over m.before) is of_items)

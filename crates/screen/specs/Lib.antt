@@ -1,0 +1,14 @@
+-- What is claimed: Row, with Marks, Play and Overs; OverCheck, Both, Listing, Sides, Sentences, Words, Help. inner: for private
+-- functions only.
+pub mod Marks
+pub mod Play
+pub mod Overs
+pub mod Row
+pub mod OverCheck
+pub mod Both
+pub mod Listing
+pub mod Sides
+pub mod Sentences
+pub mod Words
+pub mod Help
+pub mod inner

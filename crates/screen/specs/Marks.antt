@@ -1,0 +1,32 @@
+-- A delivery as an over's row shows it: its runs, what they came off, and `W` where a wicket fell.
+use Rattle.std.specs.Prelude.{ℕ, ◌==◌, if◌then◌else◌, Bool, List, [], ◌++◌, is_some, codes, decimal}
+use Rattle.notation.specs.declared.entry.Ball.{Ball}
+use Rattle.notation.specs.declared.entry.Kind.{Kind}
+use Rattle.notation.specs.declared.entry.Kind.TheVariants.{Bat, Bye, Leg, Wide, Nb, NbBye, NbLeg}
+use Rattle.match_laws.specs.Figures.{runs_of}
+
+-- byes, leg byes, wides and no balls (Laws 21 to 23)
+abbrev pub kind_mark : Kind → List ℕ
+kind_mark Bat = []
+kind_mark Bye = codes "b"
+kind_mark Leg = codes "lb"
+kind_mark Wide = codes "wd"
+kind_mark Nb = codes "nb"
+kind_mark NbBye = codes "nb"
+kind_mark NbLeg = codes "nb"
+
+abbrev pub wicket_mark : Bool → List ℕ
+wicket_mark is_out = if is_out then codes "W" else []
+
+-- a delivery with no runs
+abbrev pub dot_mark : Bool → List ℕ
+dot_mark is_out = if is_out then codes "W" else codes "."
+
+-- so many runs, off this, with a wicket or without
+abbrev pub mark : ℕ → Kind → Bool → List ℕ
+mark runs kind is_out =
+    if runs == 0 then dot_mark is_out else decimal runs ++ kind_mark kind ++ wicket_mark is_out
+
+-- all runs of the delivery are shown, a Wide's and a No ball's own too
+abbrev pub mark_of : Ball → List ℕ
+mark_of b = mark (runs_of b) b.kind (is_some b.out)

@@ -1,0 +1,97 @@
+-- How a match stands, in one row. s is the sheet, n the innings a side, h the history and i the innings.
+use Rattle.std.specs.Prelude.{ℕ, ◌==◌, if◌then◌else◌, Bool, List, [], ◌∷◌, ◌++◌, Option, Some, None, codes, decimal}
+use Rattle.notation.specs.declared.entry.Ball.{Ball}
+use Rattle.notation.specs.declared.entry.Side.{Side}
+use Rattle.ball_laws.specs.History.{History}
+use Rattle.ball_laws.specs.Laws.{state_after}
+use Rattle.match_laws.specs.declared.rows.BowlingRow.{BowlingRow}
+use Rattle.match_laws.specs.History.{begun, side_of}
+use Rattle.match_laws.specs.Figures.{total, wickets, overs, balls, batter_runs, faced}
+use Rattle.match_laws.specs.Parts.{bowling_row_of}
+use Rattle.match_laws.specs.Result.{current, outcome}
+use Rattle.cards.specs.Sheet.{Sheet, name_of, player_of}
+use Rattle.cards.specs.Bowling.{fielding, overs_of}
+use Rattle.screen.specs.Marks.{mark_of}
+use Rattle.screen.specs.Play.{bowler_now, needs}
+use Rattle.cards.specs.Results.{counted, result_text}
+
+-- the side, its total and its wickets
+abbrev pub total_text : Sheet → History → ℕ → List ℕ
+total_text s h i =
+    name_of s (side_of h i) ++ codes " " ++ decimal (total h i) ++ codes " for " ++ decimal (wickets h i)
+
+-- the overs called, and the counting deliveries since
+abbrev pub overs_text : History → ℕ → List ℕ
+overs_text h i = codes " (" ++ decimal (overs h i) ++ codes "." ++ decimal (balls h i) ++ codes ")"
+
+-- who is at an end, with his runs and the balls that he faced, and this behind
+abbrev pub batter : Sheet → History → ℕ → List ℕ → Option ℕ → List ℕ
+batter s h i behind None = codes "-"
+batter s h i behind (Some p) =
+    player_of s (side_of h i) p ++ codes " " ++ decimal (batter_runs h i p)
+    ++ codes " (" ++ decimal (faced h i p) ++ codes ")" ++ behind
+
+-- the striker, and the batter at the other end
+abbrev pub batters : Sheet → History → ℕ → List ℕ
+batters s h i =
+    batter s h i (codes "*") (state_after h).ends.striker ++ codes "  " ++ batter s h i [] (state_after h).ends.other
+
+-- overs, maidens, runs and wickets
+abbrev pub behind_overs : BowlingRow → List ℕ
+behind_overs row = codes "-" ++ decimal row.maidens ++ codes "-" ++ decimal row.runs ++ codes "-" ++ decimal row.wickets
+
+abbrev pub figures : BowlingRow → List ℕ
+figures row = overs_of row ++ behind_overs row
+
+-- a bowler of the side, by his row
+abbrev pub bowler_text : Sheet → Side → ℕ → BowlingRow → List ℕ
+bowler_text s side p row = player_of s side p ++ codes " " ++ figures row
+
+-- who bowled the last delivery, if there is one, behind this
+abbrev pub bowler : Sheet → History → ℕ → List ℕ → Option ℕ → List ℕ
+bowler s h i before None = []
+bowler s h i before (Some p) = before ++ bowler_text s (fielding h i) p (bowling_row_of h i p)
+
+abbrev pub dead_mark : Bool → List ℕ
+dead_mark is_dead = if is_dead then codes "d" else []
+
+-- the mark of a delivery, behind a space, with `d` where it was ruled dead
+abbrev pub spaced_mark : Ball → List ℕ
+spaced_mark b = codes " " ++ mark_of b ++ dead_mark b.dead
+
+-- the marks of an over, of whose deliveries the newest is given first, in the order in which they were bowled
+abbrev pub marks : List Ball → List ℕ
+marks [] = []
+marks (b ∷ older) = marks older ++ spaced_mark b
+
+-- the marks of the open over
+abbrev pub open_marks : List Ball → List ℕ
+open_marks [] = []
+open_marks (b ∷ older) = codes " " ++ marks (b ∷ older)
+
+-- a win by an innings and so many runs
+abbrev pub innings_win : Sheet → Side → ℕ → List ℕ
+innings_win s side n =
+    codes "  " ++ name_of s side ++ codes " won by an innings and " ++ counted n (codes "run") (codes "runs")
+
+-- what is needed, unless the match is decided; then the result
+abbrev pub aim : Option (List ℕ) → Option ℕ → List ℕ
+aim (Some result) runs = codes "  " ++ result
+aim None (Some runs) = codes "  needs " ++ decimal runs
+aim None None = []
+
+-- the row to the batters, and behind them
+abbrev pub front : Sheet → History → ℕ → List ℕ
+front s h i = total_text s h i ++ overs_text h i ++ codes "  " ++ batters s h i
+
+abbrev pub back : Sheet → ℕ → History → ℕ → List ℕ
+back s n h i =
+    bowler s h i (codes "  ") (bowler_now h) ++ open_marks (state_after h).this_over
+    ++ aim (result_text s (outcome n h)) (needs n h) ++ codes "\n"
+
+abbrev pub innings_row : Sheet → ℕ → History → ℕ → List ℕ
+innings_row s n h i = front s h i ++ back s n h i
+
+-- the innings begun last, or no play
+abbrev pub row : Sheet → ℕ → History → List ℕ
+row s n h = if begun h == 0 then codes "No play\n" else innings_row s n h (current h)

@@ -1,0 +1,71 @@
+-- The words that are no entry's, as a scorer types them.
+use Rattle.std.specs.Prelude.{ℕ, ◌==◌, length, Option, Some, None, if◌then◌else◌, List, [], ◌∷◌, codes, bytes_eq, option_map}
+use Rattle.std.specs.List.{list_all}
+use Rattle.notation.specs.Written.{Token, tokens, found_number}
+use Rattle.match_laws.specs.History.{or_else}
+use Rattle.cards.specs.Sheet.{is_printable}
+use Rattle.screen.specs.declared.topic.Topic.{Topic}
+use Rattle.screen.specs.declared.topic.Topic.TheVariants.{Innings, In, Ball, Gone, Over, Penalty, Swap, End, Close, Void, Fix, Late, Again, Listing, Score, Card, Players, Quit, Short}
+use Rattle.screen.specs.declared.word.Word.{Word}
+use Rattle.screen.specs.declared.word.Word.TheVariants as words
+
+-- the words that begin a line of an entry, but marks
+abbrev pub line_topic : Token → Option Topic
+line_topic t =
+    if bytes_eq t (codes "innings") then Some Innings
+    else if bytes_eq t (codes "in") then Some In
+    else if bytes_eq t (codes "ball") then Some Ball
+    else if bytes_eq t (codes "gone") then Some Gone
+    else if bytes_eq t (codes "over") then Some Over
+    else if bytes_eq t (codes "penalty") then Some Penalty
+    else if bytes_eq t (codes "swap") then Some Swap
+    else if bytes_eq t (codes "end") then Some End
+    else if bytes_eq t (codes "close") then Some Close
+    else if bytes_eq t (codes "void") then Some Void
+    else if bytes_eq t (codes "fix") then Some Fix
+    else if bytes_eq t (codes "late") then Some Late
+    else if bytes_eq t (codes "again") then Some Again
+    else None
+
+-- the words of a desk, and `short`
+abbrev pub desk_topic : Token → Option Topic
+desk_topic t =
+    if bytes_eq t (codes "list") then Some Listing
+    else if bytes_eq t (codes "score") then Some Score
+    else if bytes_eq t (codes "card") then Some Card
+    else if bytes_eq t (codes "players") then Some Players
+    else if bytes_eq t (codes "quit") then Some Quit
+    else if bytes_eq t (codes "short") then Some Short
+    else None
+
+-- the word that is asked about
+abbrev pub topic_of : Token → Option Topic
+topic_of t = or_else (line_topic t) (desk_topic t)
+
+-- one token; nothing at all is an empty one
+abbrev pub single : Token → Option Word
+single t =
+    if length t == 0 then Some words.Where
+    else if bytes_eq t (codes "list") then Some (words.Entries 12)
+    else if bytes_eq t (codes "score") then Some words.Total
+    else if bytes_eq t (codes "card") then Some words.Cards
+    else if bytes_eq t (codes "players") then Some words.Sides
+    else if bytes_eq t (codes "help") then Some words.Forms
+    else None
+
+-- two tokens
+abbrev pub pair : Token → Token → Option Word
+pair t u =
+    if bytes_eq t (codes "list") then option_map words.Entries (found_number 1 200 u)
+    else if bytes_eq t (codes "help") then option_map words.More (topic_of u)
+    else None
+
+abbrev pub word_from : List Token → Option Word
+word_from [] = None
+word_from (t ∷ []) = single t
+word_from (t ∷ u ∷ []) = pair t u
+word_from (t ∷ u ∷ v ∷ ts) = None
+
+-- what a line asks for, if it is such a word
+unfoldable pub word_of : List ℕ → Option Word
+word_of line = if list_all is_printable line then word_from (tokens line) else None

@@ -1,0 +1,4 @@
+-- What serves private functions only.
+pub mod Items
+pub mod MarkText
+pub mod Over

@@ -1,0 +1,25 @@
+-- The marks of what stands in a book.
+use Rattle.std.specs.Prelude.{ℕ, ◌-◌, List, [], Bool, nat_le, ◌&&◌, decimal, length}
+use Rattle.cards.specs.Columns.{spaces}
+use Rattle.notation.specs.declared.entry.Plain.{Plain}
+use Rattle.notation.specs.declared.entry.Plain.TheVariants as plain
+use Rattle.match_laws.specs.Figures.{runs_of}
+use Rattle.screen.specs.Row.{spaced_mark}
+
+-- nothing, but for a delivery
+abbrev pub item_mark : Plain → List ℕ
+item_mark (plain.Ball b) = spaced_mark b
+item_mark _ = []
+
+-- its runs
+abbrev pub item_runs : Plain → ℕ
+item_runs (plain.Ball b) = runs_of b
+item_runs _ = 0
+
+-- what stands before a place, so that it ends in its fourth column
+abbrev pub place_columns : ℕ → List ℕ
+place_columns place = spaces (4 - length (decimal place))
+
+-- a player's number
+abbrev pub is_number : ℕ → Bool
+is_number n = nat_le 1 n && nat_le n 11

@@ -1,0 +1,25 @@
+//! What a scorer sees: how a match stands, in a row; the check of an over; the cards and the sides; what is told of a
+//! word; and a sentence for each fault and each refusal.
+#![tactic(auto)]
+
+mod both;
+mod listing;
+mod mark;
+mod marks;
+mod over;
+mod over_check;
+mod play;
+mod row;
+mod sentences;
+mod sides;
+mod topic;
+mod word;
+
+pub use both::print_cards;
+pub use listing::print_listing;
+pub use over_check::print_check;
+pub use row::print_row;
+pub use sentences::{fault_sentence, refusal_sentence};
+pub use sides::{print_player, print_sides};
+pub use topic::{HELP, Topic, help_on};
+pub use word::{Word, word_of};

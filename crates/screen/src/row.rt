@@ -1,0 +1,360 @@
+//! How a match stands, in one row.
+
+ghost use Rattle.std.specs.Prelude.{◌≡◌, ◌==◌, ◌<◌, ◌++◌, None, OnErr, OnOk, codes, decimal, if◌then◌else◌, true};
+ghost use Rattle.ball_laws.specs.History.{History};
+ghost use Rattle.ball_laws.specs.Laws.{state_after};
+ghost use Rattle.match_laws.specs.History.{begun};
+ghost use Rattle.match_laws.specs.Result.{outcome};
+ghost use Rattle.match_laws.specs.Stands.{ForEachHistory, begun_in};
+ghost use Rattle.corrections.specs.CleanList.{history_of};
+ghost use Rattle.screen.specs.Overs.{IsOverOf};
+ghost use Rattle.screen.specs.Play as play;
+ghost use Rattle.cards.specs.Bowling.{overs_of};
+ghost use Rattle.cards.specs.Results.{result_text};
+ghost use Rattle.streams.specs.Watched.{Prints, has_failed};
+ghost use Rattle.screen.specs.Row as rows;
+
+use crate::marks::print_marks;
+use crate::over::{LastOver, last_over};
+use crate::play::needs;
+use cards::MatchSheet;
+use corrections::{BookOf, Placed};
+use match_laws::{BowlingRow, Match, Outcome, opponent};
+use notation::{Player, Side};
+use std::io::Write;
+use streams::{Watched, WriteFailed};
+
+/// Prints the side, its total and its wickets.
+pub fn print_total<W: Write>(
+    out: &mut Watched<W>,
+    sheet: &MatchSheet,
+    score: &Match,
+    innings: usize,
+) -> Result<(), WriteFailed>
+    requires { innings < begun_in score.now }
+    ensures text { ForEachHistory score.now (λ n h.
+        OnOk result (Prints W.contents out.old out.new (rows.total_text sheet.now h innings))) }
+    ensures failed { OnErr result (has_failed out.new ≡ true) }
+{
+    let team = sheet.name(score.side(innings));
+    let total = score.total(innings);
+    let wickets = score.wickets(innings);
+    write!(out, "{team} {total} for {wickets}")
+}
+
+fn print_overs<W: Write>(
+    out: &mut Watched<W>,
+    score: &Match,
+    innings: usize,
+) -> Result<(), WriteFailed>
+    requires { innings < begun_in score.now }
+    ensures text { ForEachHistory score.now (λ n h.
+        OnOk result (Prints W.contents out.old out.new (rows.overs_text h innings))) }
+    ensures failed { OnErr result (has_failed out.new ≡ true) }
+{
+    let (called, since) = score.overs(innings);
+    write!(out, " ({called}.{since})")
+}
+
+/// Prints who is at an end, with this behind.
+fn print_batter<W: Write>(
+    out: &mut Watched<W>,
+    sheet: &MatchSheet,
+    score: &Match,
+    innings: usize,
+    behind: &str,
+    batter: Option<Player>,
+) -> Result<(), WriteFailed>
+    requires { innings < begun_in score.now }
+    ensures text { ForEachHistory score.now (λ n h.
+        OnOk result (Prints W.contents out.old out.new (rows.batter sheet.now h innings behind.now batter))) }
+    ensures failed { OnErr result (has_failed out.new ≡ true) }
+{
+    match batter {
+        None => write!(out, "-"),
+        Some(player) => {
+            let name = sheet.player(score.side(innings), player);
+            let row = score.batting_row(innings, player);
+            let runs = row.runs;
+            let faced = row.faced;
+            write!(out, "{name} {runs} ({faced}){behind}")
+        }
+    }
+}
+
+/// Prints the striker, and the batter at the other end.
+pub fn print_batters<W: Write>(
+    out: &mut Watched<W>,
+    sheet: &MatchSheet,
+    score: &Match,
+    innings: usize,
+) -> Result<(), WriteFailed>
+    requires { innings < begun_in score.now }
+    ensures text { ForEachHistory score.now (λ n h.
+        OnOk result (Prints W.contents out.old out.new (rows.batters sheet.now h innings))) }
+    ensures failed { OnErr result (has_failed out.new ≡ true) }
+{
+    let ends = score.ends();
+    print_batter(out, sheet, score, innings, "*", ends.striker)?;
+    write!(out, "  ")?;
+    print_batter(out, sheet, score, innings, "", ends.other)
+}
+
+/// Prints the overs that a bowler bowled, and his balls of other overs.
+fn print_overs_of<W: Write>(out: &mut Watched<W>, row: &BowlingRow) -> Result<(), WriteFailed>
+    ensures text { OnOk result (Prints W.contents out.old out.new (overs_of row.now)) }
+    ensures failed { OnErr result (has_failed out.new ≡ true) }
+{
+    let overs = row.overs;
+    let balls = row.balls;
+    write!(out, "{overs}.{balls}")
+}
+
+/// Prints a bowler's maidens, runs and wickets.
+fn print_behind_overs<W: Write>(out: &mut Watched<W>, row: &BowlingRow) -> Result<(), WriteFailed>
+    ensures text { OnOk result (Prints W.contents out.old out.new (rows.behind_overs row.now)) }
+    ensures failed { OnErr result (has_failed out.new ≡ true) }
+{
+    let maidens = row.maidens;
+    let runs = row.runs;
+    let wickets = row.wickets;
+    write!(out, "-{maidens}-{runs}-{wickets}")
+}
+
+/// Prints a bowler's overs, maidens, runs and wickets.
+fn print_figures<W: Write>(out: &mut Watched<W>, row: &BowlingRow) -> Result<(), WriteFailed>
+    ensures text { OnOk result (Prints W.contents out.old out.new (rows.figures row.now)) }
+    ensures failed { OnErr result (has_failed out.new ≡ true) }
+{
+    print_overs_of(out, row)?;
+    print_behind_overs(out, row)
+}
+
+/// Prints a bowler of the side, by his row.
+fn print_bowler_row<W: Write>(
+    out: &mut Watched<W>,
+    sheet: &MatchSheet,
+    side: Side,
+    player: Player,
+    row: &BowlingRow,
+) -> Result<(), WriteFailed>
+    ensures text { OnOk result (Prints W.contents out.old out.new (rows.bowler_text sheet.now side player row.now)) }
+    ensures failed { OnErr result (has_failed out.new ≡ true) }
+{
+    let name = sheet.player(side, player);
+    write!(out, "{name} ")?;
+    print_figures(out, row)
+}
+
+/// Prints who bowled the last delivery, if there is one, behind this.
+pub fn print_bowler<W: Write>(
+    out: &mut Watched<W>,
+    sheet: &MatchSheet,
+    score: &Match,
+    innings: usize,
+    before: &str,
+    bowler: Option<Player>,
+) -> Result<(), WriteFailed>
+    requires { innings < begun_in score.now }
+    ensures text { ForEachHistory score.now (λ n h.
+        OnOk result (Prints W.contents out.old out.new (rows.bowler sheet.now h innings before.now bowler))) }
+    ensures failed { OnErr result (has_failed out.new ≡ true) }
+{
+    let Some(player) = bowler else {
+        return Ok(());
+    };
+    write!(out, "{before}")?;
+    let row = score.bowling_row(innings, player);
+    print_bowler_row(out, sheet, opponent(score.side(innings)), player, &row)
+}
+
+/// Prints the marks of the open over.
+fn print_open_marks<W: Write>(
+    out: &mut Watched<W>,
+    items: &[Placed],
+    over: &LastOver,
+) -> Result<(), WriteFailed>
+    ensures text { (h : History) → IsOverOf items.now over.now h →
+        OnOk result (Prints W.contents out.old out.new (rows.open_marks (state_after h).this_over)) }
+    ensures failed { OnErr result (has_failed out.new ≡ true) }
+{
+    if !over.is_on {
+        return Ok(());
+    }
+    write!(out, " ")?;
+    print_marks(out, items, over.from)
+}
+
+/// Prints what is needed.
+fn print_needs<W: Write>(out: &mut Watched<W>, runs: Option<u32>) -> Result<(), WriteFailed>
+    ensures text { OnOk result (Prints W.contents out.old out.new (rows.aim None runs)) }
+    ensures failed { OnErr result (has_failed out.new ≡ true) }
+{
+    match runs {
+        None => Ok(()),
+        Some(runs) => write!(out, "  needs {runs}"),
+    }
+}
+
+fn run_word(count: u32) -> &'static str
+    ensures { result.now ≡ (if count == 1 then codes "run" else codes "runs") }
+{
+    if count == 1 { "run" } else { "runs" }
+}
+
+fn wicket_word(count: u32) -> &'static str
+    ensures { result.now ≡ (if count == 1 then codes "wicket" else codes "wickets") }
+{
+    if count == 1 { "wicket" } else { "wickets" }
+}
+
+/// Prints a side, and how it has won.
+fn print_winner<W: Write>(out: &mut Watched<W>, side: &str, how: &str) -> Result<(), WriteFailed>
+    ensures text { OnOk result (Prints W.contents out.old out.new (codes "  " ++ side.now ++ how.now)) }
+    ensures failed { OnErr result (has_failed out.new ≡ true) }
+{
+    write!(out, "  {side}{how}")
+}
+
+/// Prints by how many of this.
+fn print_margin<W: Write>(out: &mut Watched<W>, count: u32, unit: &str) -> Result<(), WriteFailed>
+    ensures text { OnOk result (Prints W.contents out.old out.new (decimal count ++ codes " " ++ unit.now)) }
+    ensures failed { OnErr result (has_failed out.new ≡ true) }
+{
+    write!(out, "{count} {unit}")
+}
+
+/// Prints that a side has won by so many of this.
+fn print_win<W: Write>(
+    out: &mut Watched<W>,
+    side: &str,
+    how: &str,
+    count: u32,
+    unit: &str,
+) -> Result<(), WriteFailed>
+    ensures text { OnOk result (Prints W.contents out.old out.new
+        (codes "  " ++ side.now ++ how.now ++ (decimal count ++ codes " " ++ unit.now))) }
+    ensures failed { OnErr result (has_failed out.new ≡ true) }
+{
+    print_winner(out, side, how)?;
+    print_margin(out, count, unit)
+}
+
+/// Prints that a side has won by an innings and so many runs.
+fn print_innings_win<W: Write>(
+    out: &mut Watched<W>,
+    sheet: &MatchSheet,
+    side: Side,
+    count: u32,
+) -> Result<(), WriteFailed>
+    ensures text { OnOk result (Prints W.contents out.old out.new (rows.innings_win sheet.now side count)) }
+    ensures failed { OnErr result (has_failed out.new ≡ true) }
+{
+    print_win(
+        out,
+        sheet.name(side),
+        " won by an innings and ",
+        count,
+        run_word(count),
+    )
+}
+
+/// Prints the result of a match, or what is needed.
+fn print_aim<W: Write>(
+    out: &mut Watched<W>,
+    sheet: &MatchSheet,
+    score: &Match,
+) -> Result<(), WriteFailed>
+    ensures text { ForEachHistory score.now (λ n h. OnOk result (Prints W.contents out.old out.new
+        (rows.aim (result_text sheet.now (outcome n h)) (play.needs n h)))) }
+    ensures failed { OnErr result (has_failed out.new ≡ true) }
+{
+    let needed = needs(score);
+    match score.result() {
+        Outcome::Undecided => print_needs(out, needed),
+        Outcome::Draw => write!(out, "  match drawn"),
+        Outcome::Tie => write!(out, "  match tied"),
+        Outcome::Runs(side, count) => {
+            print_win(out, sheet.name(side), " won by ", count, run_word(count))
+        }
+        Outcome::Wickets(side, count) => {
+            print_win(out, sheet.name(side), " won by ", count, wicket_word(count))
+        }
+        Outcome::InningsAnd(side, count) => print_innings_win(out, sheet, side, count),
+        Outcome::PenaltyRuns(side) => {
+            let name = sheet.name(side);
+            write!(out, "  {name} won by penalty runs")
+        }
+    }
+}
+
+/// Prints the row of an innings, behind its batters.
+fn print_back<W: Write, B: BookOf>(
+    out: &mut Watched<W>,
+    sheet: &MatchSheet,
+    book: &B,
+    innings: usize,
+) -> Result<(), WriteFailed>
+    requires { innings < begun (history_of (B.content book.now)) }
+    ensures text { OnOk result (Prints W.contents out.old out.new
+        (rows.back sheet.now (B.innings_a_side book.now) (history_of (B.content book.now)) innings)) }
+    ensures failed { OnErr result (has_failed out.new ≡ true) }
+{
+    let score = book.score();
+    let over = last_over(book);
+    print_bowler(out, sheet, score, innings, "  ", over.bowler)?;
+    print_open_marks(out, book.clean_items(), &over)?;
+    print_aim(out, sheet, score)?;
+    writeln!(out)
+}
+
+/// Prints the row of an innings, to its batters.
+fn print_front<W: Write>(
+    out: &mut Watched<W>,
+    sheet: &MatchSheet,
+    score: &Match,
+    innings: usize,
+) -> Result<(), WriteFailed>
+    requires { innings < begun_in score.now }
+    ensures text { ForEachHistory score.now (λ n h.
+        OnOk result (Prints W.contents out.old out.new (rows.front sheet.now h innings))) }
+    ensures failed { OnErr result (has_failed out.new ≡ true) }
+{
+    print_total(out, sheet, score, innings)?;
+    print_overs(out, score, innings)?;
+    write!(out, "  ")?;
+    print_batters(out, sheet, score, innings)
+}
+
+/// Prints the row of an innings.
+fn print_innings<W: Write, B: BookOf>(
+    out: &mut Watched<W>,
+    sheet: &MatchSheet,
+    book: &B,
+    innings: usize,
+) -> Result<(), WriteFailed>
+    requires { innings < begun (history_of (B.content book.now)) }
+    ensures text { OnOk result (Prints W.contents out.old out.new
+        (rows.innings_row sheet.now (B.innings_a_side book.now) (history_of (B.content book.now)) innings)) }
+    ensures failed { OnErr result (has_failed out.new ≡ true) }
+{
+    print_front(out, sheet, book.score(), innings)?;
+    print_back(out, sheet, book, innings)
+}
+
+/// Prints how the match of a book stands, in one row.
+pub fn print_row<W: Write, B: BookOf>(
+    out: &mut Watched<W>,
+    sheet: &MatchSheet,
+    book: &B,
+) -> Result<(), WriteFailed>
+    ensures text { OnOk result (Prints W.contents out.old out.new
+        (rows.row sheet.now (B.innings_a_side book.now) (history_of (B.content book.now)))) }
+    ensures failed { OnErr result (has_failed out.new ≡ true) }
+{
+    let begun = book.score().begun();
+    if begun == 0 {
+        return writeln!(out, "No play");
+    }
+    print_innings(out, sheet, book, begun - 1)
+}

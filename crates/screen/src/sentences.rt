@@ -1,0 +1,90 @@
+//! What a desk says behind the name of a fault and of a refusal.
+
+ghost use Rattle.std.specs.Prelude.{◌≡◌};
+ghost use Rattle.screen.specs.Sentences as sentences;
+
+use ball_laws::BallRefusal;
+use desk::Refusal;
+use match_laws::LawRefusal;
+use notation::LineFault;
+
+/// What a line's fault is.
+pub fn fault_sentence(why: LineFault) -> &'static str
+    ensures { result.now ≡ sentences.of_fault why }
+{
+    match why {
+        LineFault::TooLong => "a line has at most 96 bytes",
+        LineFault::UnknownWord => "a word stands where another must",
+        LineFault::BadNumber => "a number is missing, or out of its range",
+        LineFault::Missing => "the line ends too early",
+        LineFault::Extra => "something follows that doesn't belong there",
+        LineFault::Spaces => "one space between words, and none at the ends",
+    }
+}
+
+/// Why the ends, the over and the players don't allow an entry.
+fn ball_sentence(why: BallRefusal) -> &'static str
+    ensures { result.now ≡ sentences.of_ball why }
+{
+    match why {
+        BallRefusal::NoBatter => "an end is vacant: enter who came in",
+        BallRefusal::BowlerTwoOvers => "he bowled in the last over",
+        BallRefusal::NotOutSoHere => "nobody can be out so off this delivery",
+        BallRefusal::WrongBatter => "this way of being out is the other batter's",
+        BallRefusal::RunsWithOut => "no run is scored where a batter is out so",
+        BallRefusal::BoundaryAndOut => "a boundary and a dismissal don't go together",
+        BallRefusal::SixNotStruck => "only the bat makes a six",
+        BallRefusal::CrossedNotHere => "crossed goes with runout and obstructing alone",
+        BallRefusal::OverLong => "the over has 60 deliveries: call over",
+        BallRefusal::NoBall => "no delivery of this over counts yet",
+        BallRefusal::NoVacancy => "there is a batter at each end",
+        BallRefusal::NotAvailable => "this player can't come in",
+        BallRefusal::NotIn => "this player isn't at that end",
+    }
+}
+
+/// Why the Laws don't allow an entry.
+fn law_sentence(why: LawRefusal) -> &'static str
+    ensures { result.now ≡ sentences.of_law why }
+{
+    match why {
+        LawRefusal::Ball(why) => ball_sentence(why),
+        LawRefusal::NotInPlay => "no innings is open, or ten wickets are down",
+        LawRefusal::WrongSide => "it isn't this side's turn to bat",
+        LawRefusal::InningsOpen => "an innings is open: end it first",
+        LawRefusal::MatchWon => "the match is won",
+        LawRefusal::MatchClosed => "the match was closed",
+        LawRefusal::EndNotSo => "the cause of the end doesn't hold",
+        LawRefusal::TooMany => "the match takes no more entries",
+    }
+}
+
+/// Why a book doesn't take an entry.
+fn book_sentence(why: corrections::Refusal) -> &'static str
+    ensures { result.now ≡ sentences.of_book why }
+{
+    match why {
+        corrections::Refusal::Law(why) => law_sentence(why),
+        corrections::Refusal::NoSuchPlace => "the book has no such place yet",
+        corrections::Refusal::NotFixable => {
+            "a correction stands there: name the place of the entry itself"
+        }
+        corrections::Refusal::Later { .. } => "the entry of that place would be refused so",
+        corrections::Refusal::NotAnchor => "name the place of an entry of play",
+    }
+}
+
+/// Why a desk doesn't take an entry.
+pub fn refusal_sentence(why: Refusal) -> &'static str
+    ensures { result.now ≡ sentences.of_desk why }
+{
+    match why {
+        Refusal::Book(why) => book_sentence(why),
+        Refusal::SlotsFull => "the votes file is full",
+        Refusal::Failed => "the disk failed: open the desk again",
+        Refusal::Waiting => "your line is cast: wait for the other scorer",
+        Refusal::PlacesFull => "the book is full",
+        Refusal::RoundsFull => "you two differed 256 times at this place",
+        Refusal::Device => "a call on the disk failed",
+    }
+}

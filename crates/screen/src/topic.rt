@@ -1,0 +1,162 @@
+//! The words that a scorer can ask about.
+
+ghost use Rattle.std.specs.Prelude.{◌≡◌};
+ghost use Rattle.screen.specs.Help as texts;
+ghost use Rattle.screen.specs.Words as words;
+
+/// A word of which `help` tells more.
+#[derive(Clone, Copy, Debug, PartialEq, Eq)]
+pub enum Topic {
+    Innings,
+    In,
+    Ball,
+    Gone,
+    Over,
+    Penalty,
+    Swap,
+    End,
+    Close,
+    Void,
+    Fix,
+    Late,
+    Again,
+    Listing,
+    Score,
+    Card,
+    Players,
+    Quit,
+    /// Short lines.
+    Short,
+}
+
+/// What `help` shows.
+pub const HELP: &str = "\
+innings S       S: home away
+in n            n: 1 to 11
+ball b K r [short s] [B] [dead] [out H W f [crossed]]
+  K: bat bye leg wide nb nbbye nbleg    B: four six overthrow
+  H: bowled caught lbw stumped hitwicket hittwice obstructing runout
+  W: striker other    f: 0 none, 12 a substitute
+gone L n        L: timedout retiredout retiredhurt runout
+over
+penalty S x y   by Law x.y
+swap
+end C           C: allout nobatter declared forfeited overs
+close
+void
+fix p E         place p is to read E, any line above
+late p E        E, any line above, belongs after place p
+again [E]       E, or what you wrote before, where you two differ
+list [n]        the last n entries, 12 or 1 to 200, with their places
+score, card     this over and the total; both cards of the innings
+players         both sides, by number and name; an empty line: where you stand
+help [word]     this, or more on one of these words; short: short lines
+quit            ends; the same command goes on
+";
+
+/// What `help short` shows.
+const HELP_SHORT: &str = "\
+A delivery:  [B:] [RUNS] [OPTIONS] [OUT]   with one of the last three at least
+B: bowls, by number or name, as 10: or usher:   Left out, it is who bowled the
+   last delivery of this over: so the first of each over names the bowler.
+RUNS: letters and a figure with no space between them, as 1 or lb4
+   none bat       .  0
+   b    bye       1  1
+   lb   leg       2  2
+   wd   wide      3  3
+   nb   nb        4  0 four
+   nbb  nbbye     5  5
+   nblb nbleg     6  0 six
+   wd is wide 0, and nb is nb 0.   nb 4 is four all run, and nb4 a four.
+   K r stands as in a full line: bat 4 is four all run.   Left out: bat 0
+OPTIONS: short s, overthrow, dead
+OUT: [out] H [W] [f] [crossed]
+   W left out is striker, but never for runout and obstructing
+   f left out is 0; it is a number, a name or sub, any substitute
+/  is over.
+Names: in n, gone L n, ball b, B: and f take a name of that side, in letters of
+   any case: the last word of one player's name, or the beginning of a word in
+   the name of one player.
+fix p, late p and again: short lines stand behind them too.
+";
+
+/// The word of the language of lines.
+fn line_topic(word: &str) -> Option<Topic>
+    ensures { result ≡ words.line_topic word.now }
+{
+    match word {
+        "innings" => Some(Topic::Innings),
+        "in" => Some(Topic::In),
+        "ball" => Some(Topic::Ball),
+        "gone" => Some(Topic::Gone),
+        "over" => Some(Topic::Over),
+        "penalty" => Some(Topic::Penalty),
+        "swap" => Some(Topic::Swap),
+        "end" => Some(Topic::End),
+        "close" => Some(Topic::Close),
+        "void" => Some(Topic::Void),
+        "fix" => Some(Topic::Fix),
+        "late" => Some(Topic::Late),
+        "again" => Some(Topic::Again),
+        _ => None,
+    }
+}
+
+/// The word that is no entry's.
+fn desk_topic(word: &str) -> Option<Topic>
+    ensures { result ≡ words.desk_topic word.now }
+{
+    match word {
+        "list" => Some(Topic::Listing),
+        "score" => Some(Topic::Score),
+        "card" => Some(Topic::Card),
+        "players" => Some(Topic::Players),
+        "quit" => Some(Topic::Quit),
+        "short" => Some(Topic::Short),
+        _ => None,
+    }
+}
+
+/// The word that is asked about, if there is more to tell of it.
+pub fn topic_of(word: &str) -> Option<Topic>
+    ensures { result ≡ words.topic_of word.now }
+{
+    line_topic(word).or(desk_topic(word))
+}
+
+/// What is told of a word.
+pub fn help_on(topic: Topic) -> &'static str
+    ensures { result.now ≡ texts.help_on topic }
+{
+    match topic {
+        Topic::Innings => "innings S: an innings of side S begins, home or away\n  innings home\n",
+        Topic::In => "in n: player n of the side that bats comes in, by number or name\n  in 3\n",
+        Topic::Ball => {
+            "ball b K r [short s] [B] [dead] [out H W f [crossed]]: a delivery of bowler b\n  ball 10 bat 0 out caught striker 4\n"
+        }
+        Topic::Gone => "gone L n: batter n leaves between deliveries\n  gone retiredhurt 3\n",
+        Topic::Over => "over: the umpire calls over\n  over\n",
+        Topic::Penalty => {
+            "penalty S x y: five penalty runs to side S, by Law x.y\n  penalty away 41 7\n"
+        }
+        Topic::Swap => "swap: the batters change ends\n  swap\n",
+        Topic::End => "end C: the innings ends, by this cause\n  end declared\n",
+        Topic::Close => "close: the match is closed; corrections are taken still\n  close\n",
+        Topic::Void => "void: nothing, as in place of what is struck out\n  fix 12 void\n",
+        Topic::Fix => "fix p E: place p is to read E\n  fix 12 ball 10 bat 2\n",
+        Topic::Late => "late p E: E was left out, and belongs after place p\n  late 12 in 5\n",
+        Topic::Again => {
+            "again [E]: where you two differ, E, or what you wrote before\n  again ball 10 bat 2\n"
+        }
+        Topic::Listing => {
+            "list [n]: the last n entries with their places, 1 to 200; 12, left out\n  list 30\n"
+        }
+        Topic::Score => {
+            "score: total, extras, both batters, the bowler and his last over\n  score\n"
+        }
+        Topic::Card => "card: both cards of the innings begun last\n  card\n",
+        Topic::Players => "players: both sides, by number and name\n  players\n",
+        Topic::Quit => "quit: ends the desk; the same command goes on\n  quit\n",
+        Topic::Short => HELP_SHORT,
+    }
+}

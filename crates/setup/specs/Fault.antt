@@ -1,0 +1,108 @@
+-- Why a command ended: the lines that standard error has of it, and whether something is refused.
+use Rattle.std.specs.Prelude.{ℕ, List, ◌++◌, codes, decimal, Bool, true, false, Option, Some, None}
+use Rattle.streams.specs.declared.input.InputFault.{InputFault}
+use Rattle.streams.specs.declared.input.InputFault.TheVariants as inputs
+use Rattle.cards.specs.SheetFault as sheet
+use Rattle.cards.specs.declared.fault.SheetFault.{SheetFault}
+use Rattle.cards.specs.declared.fault.SheetFault.TheVariants as sheets
+use Rattle.schedules.specs.ScheduleFault as schedule
+use Rattle.schedules.specs.declared.schedule_fault.ScheduleFault.{ScheduleFault}
+use Rattle.schedules.specs.declared.schedule_fault.ScheduleFault.TheVariants as schedules
+use Rattle.vote_store.specs.Refusal.{number, name}
+use Rattle.vote_store.specs.declared.refusal.Refusal.{Refusal}
+use Rattle.vote_store.specs.declared.refusal.Refusal.TheVariants as votes
+use Rattle.entry_log.specs.declared.refusal.Refusal.TheVariants as files
+use Rattle.desk.specs.declared.refusal.OpenRefusal.{OpenRefusal}
+use Rattle.desk.specs.declared.refusal.OpenRefusal.TheVariants as openings
+use Rattle.books.specs.declared.fault.BookFault.{BookFault}
+use Rattle.books.specs.declared.fault.BookFault.TheVariants as books
+use Rattle.books.specs.Rejected.{rejection_line}
+use Rattle.setup.specs.declared.fault.StopFault.{StopFault}
+use Rattle.setup.specs.declared.fault.StopFault.TheVariants.{NoMemory, Read, Write, Sheet, Schedule, Votes, VotesNamed, BadVotes, Line, NotAgreed, Listen, Disk}
+use Rattle.setup.specs.declared.fault.TheConstants.{TURNS}
+
+-- an input isn't read to its end
+abbrev pub of_input : InputFault → StopFault
+of_input inputs.NoMemory = NoMemory
+of_input inputs.Read = Read
+
+-- a votes file is refused: being out of memory is its own, and so is a failing disk, which is told as a failed write
+abbrev pub of_votes : Refusal → StopFault
+of_votes votes.NoMemory = NoMemory
+of_votes (votes.File files.Device) = Write
+of_votes why = Votes why
+
+-- no desk is made on a votes file
+abbrev pub of_opening : OpenRefusal → StopFault
+of_opening (openings.Votes why) = of_votes why
+of_opening (openings.BadVotes place) = BadVotes place
+
+-- an input has no book
+abbrev pub of_book : BookFault → StopFault
+of_book books.NoMemory = NoMemory
+of_book (books.Votes why) = Votes why
+of_book (books.BadVotes place) = BadVotes place
+of_book (books.Line number why) = Line number why
+
+-- whether a votes file is refused for what it holds, and no memory or disk is to blame
+abbrev pub is_file_refusal : Refusal → Bool
+is_file_refusal votes.NoMemory = false
+is_file_refusal (votes.File files.Device) = false
+is_file_refusal why = true
+
+-- whether a sheet, a schedule, a votes file or a line is refused for what it holds, and no memory, stream, socket or disk
+-- is to blame
+abbrev pub is_refusal : StopFault → Bool
+is_refusal (Sheet sheets.NoMemory) = false
+is_refusal (Sheet why) = true
+is_refusal (Schedule schedules.NoMemory) = false
+is_refusal (Schedule why) = true
+is_refusal (Votes why) = is_file_refusal why
+is_refusal (VotesNamed why) = is_file_refusal why
+is_refusal (BadVotes place) = true
+is_refusal (Line number why) = true
+is_refusal fault = false
+
+-- the line of a refusal: of what it is, its number and its name
+abbrev pub refusal_line : List ℕ → ℕ → List ℕ → List ℕ
+refusal_line what n called = what ++ codes ": " ++ decimal n ++ codes " " ++ called ++ codes "\n"
+
+-- being out of memory has no number
+abbrev pub numbered_line : List ℕ → Option ℕ → List ℕ → List ℕ
+numbered_line what (Some n) called = refusal_line what n called
+numbered_line what None called = codes "no memory\n"
+
+abbrev pub sheet_line : SheetFault → List ℕ
+sheet_line why = numbered_line (codes "sheet") (sheet.number_of why) (sheet.name_of why)
+
+abbrev pub schedule_line : ScheduleFault → List ℕ
+schedule_line why = numbered_line (codes "schedule") (schedule.number_of why) (schedule.name_of why)
+
+-- a disk that fails is told as an output that does
+abbrev pub votes_line : Refusal → List ℕ
+votes_line (votes.File files.Device) = codes "cannot write\n"
+votes_line why = numbered_line (codes "votes") (number why) (name why)
+
+-- the same of one of two files, which is named
+abbrev pub named_votes_line : List ℕ → Refusal → List ℕ
+named_votes_line path (votes.File files.Device) = codes "cannot write\n"
+named_votes_line path why = numbered_line (codes "votes " ++ path) (number why) (name why)
+
+-- the line of a place that so many turns of each station didn't agree
+abbrev pub turns_line : ℕ → ℕ → List ℕ
+turns_line place turns = codes "place " ++ decimal place ++ codes " not agreed in " ++ decimal turns ++ codes " turns\n"
+
+-- the lines of a fault that was met at this file or address
+abbrev pub fault_line : List ℕ → StopFault → List ℕ
+fault_line path NoMemory = codes "no memory\n"
+fault_line path Read = codes "cannot read " ++ path ++ codes "\n"
+fault_line path Write = codes "cannot write\n"
+fault_line path (Sheet why) = sheet_line why
+fault_line path (Schedule why) = schedule_line why
+fault_line path (Votes why) = votes_line why
+fault_line path (VotesNamed why) = named_votes_line path why
+fault_line path (BadVotes place) = codes "votes: 64 BadVotes\n"
+fault_line path (Line number why) = rejection_line number why
+fault_line path (NotAgreed place) = turns_line place TURNS
+fault_line path Listen = codes "cannot listen at " ++ path ++ codes "\n"
+fault_line path Disk = codes "cannot write\nstart the same command again\n"

@@ -1,0 +1,16 @@
+-- Keys: in a file, and a new one's text.
+use Rattle.std.specs.Prelude.{ℕ, ◌≡◌, ◌≤◌, List, [], ◌∷◌, ◌++◌, length}
+use Rattle.std.specs.Str.{IsTrimAsciiEnd}
+use Rattle.hex.specs.Hex.{encode_lower}
+use Rattle.setup.specs.declared.sealing.TheConstants.{LONGEST_KEY, SHORTEST_KEY}
+
+-- the key in a file of these bytes: they without the white space at their end, 16 to 1,024 of them
+abbrev pub IsKey : List ℕ → List ℕ → Type 0
+IsKey bytes key = IsTrimAsciiEnd bytes key × (SHORTEST_KEY ≤ length key) × (length key ≤ LONGEST_KEY)
+
+abbrev pub HasNoKey : List ℕ → Type 0
+HasNoKey bytes = (key : List ℕ) → IsKey bytes key → ⊥
+
+-- a new key as text: two hex digits a byte, and the end of a line
+abbrev pub key_line : List ℕ → List ℕ
+key_line key = encode_lower key ++ 10 ∷ []

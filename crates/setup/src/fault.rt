@@ -1,0 +1,247 @@
+//! Why a command ends before its end: what standard error is told of it, and whether something is refused.
+
+ghost use Rattle.std.specs.Prelude.{◌≡◌, OnOk};
+ghost use Rattle.streams.specs.Watched.{Prints, TellsFailure};
+ghost use Rattle.setup.specs.Fault as texts;
+
+use books::{BookFault, Rejected, print_rejected};
+use cards::SheetFault;
+use desk::OpenRefusal;
+use schedules::ScheduleFault;
+use std::alloc::AllocError;
+use std::io::Write;
+use streams::{InputFault, Watched, WriteFailed};
+
+/// How many turns each station of a match has for a place at most.
+pub const TURNS: usize = 50;
+
+/// Why a command ends before its end, whichever it is. Each command has a fault of its own, which says what it can meet;
+/// what standard error is told, and the status, go by this one.
+#[derive(Clone, Copy, Debug, PartialEq, Eq)]
+pub enum StopFault {
+    /// Memory was refused.
+    NoMemory,
+    /// A read failed or was interrupted, or the input is longer than 16,777,216 bytes.
+    Read,
+    /// A write failed, or the disk of a votes file.
+    Write,
+    /// The sheet is refused.
+    Sheet(SheetFault),
+    /// The schedule is refused.
+    Schedule(ScheduleFault),
+    /// A votes file is refused.
+    Votes(vote_store::Refusal),
+    /// One of two votes files is refused, and named.
+    VotesNamed(vote_store::Refusal),
+    /// The votes of a file are no legal book: this is the first place whose last vote is refused.
+    BadVotes { place: u32 },
+    /// A pen line isn't taken. Lines are numbered from 1.
+    Line { number: u64, why: Rejected },
+    /// The stations didn't agree this place in `TURNS` turns each.
+    NotAgreed { place: u32 },
+    /// No socket can be had at an address.
+    Listen,
+    /// The disk of a desk that runs failed.
+    Disk,
+}
+
+/// Whether a votes file is refused for what it holds, and no memory or disk is to blame.
+fn is_file_refusal(why: vote_store::Refusal) -> bool
+    ensures { result ≡ texts.is_file_refusal why }
+{
+    !matches!(
+        why,
+        vote_store::Refusal::NoMemory | vote_store::Refusal::File(entry_log::Refusal::Device)
+    )
+}
+
+impl StopFault {
+    /// Whether a sheet, a schedule, a votes file or a line is refused for what it holds, and no memory, stream, socket or
+    /// disk is to blame.
+    pub fn is_refusal(self) -> bool
+        ensures { result ≡ texts.is_refusal self }
+    {
+        match self {
+            StopFault::Sheet(SheetFault::NoMemory) => false,
+            StopFault::Votes(why) | StopFault::VotesNamed(why) => is_file_refusal(why),
+            StopFault::Schedule(ScheduleFault::NoMemory) => false,
+            StopFault::Sheet(_) | StopFault::Schedule(_) => true,
+            StopFault::BadVotes { .. } | StopFault::Line { .. } => true,
+            _ => false,
+        }
+    }
+}
+
+impl From<AllocError> for StopFault {
+    ghost use Rattle.setup.specs.declared.fault.StopFault.TheVariants.{NoMemory};
+
+    ghost from_gives = { λ _ fault. fault ≡ NoMemory };
+
+    fn from(_why: AllocError) -> Self {
+        StopFault::NoMemory
+    }
+}
+
+impl From<InputFault> for StopFault {
+    ghost use Rattle.setup.specs.Fault.{of_input};
+
+    ghost from_gives = { λ why fault. fault ≡ of_input why };
+
+    fn from(why: InputFault) -> Self {
+        match why {
+            InputFault::NoMemory => StopFault::NoMemory,
+            InputFault::Read => StopFault::Read,
+        }
+    }
+}
+
+impl From<vote_store::Refusal> for StopFault {
+    ghost use Rattle.setup.specs.Fault.{of_votes};
+
+    ghost from_gives = { λ why fault. fault ≡ of_votes why };
+
+    fn from(why: vote_store::Refusal) -> Self {
+        match why {
+            vote_store::Refusal::NoMemory => StopFault::NoMemory,
+            vote_store::Refusal::File(entry_log::Refusal::Device) => StopFault::Write,
+            _ => StopFault::Votes(why),
+        }
+    }
+}
+
+impl From<OpenRefusal> for StopFault {
+    ghost use Rattle.setup.specs.Fault.{of_opening};
+
+    ghost from_gives = { λ why fault. fault ≡ of_opening why };
+
+    fn from(why: OpenRefusal) -> Self {
+        match why {
+            OpenRefusal::Votes(why) => StopFault::from(why),
+            OpenRefusal::BadVotes { place } => StopFault::BadVotes { place },
+        }
+    }
+}
+
+impl From<BookFault> for StopFault {
+    ghost use Rattle.setup.specs.Fault.{of_book};
+
+    ghost from_gives = { λ why fault. fault ≡ of_book why };
+
+    fn from(why: BookFault) -> Self {
+        match why {
+            BookFault::NoMemory => StopFault::NoMemory,
+            BookFault::Votes(why) => StopFault::Votes(why),
+            BookFault::BadVotes { place } => StopFault::BadVotes { place },
+            BookFault::Line { number, why } => StopFault::Line { number, why },
+        }
+    }
+}
+
+/// Why a command ended, and the file or address that was at work, `-` where it was a standard stream.
+#[derive(Clone, Copy, Debug)]
+pub struct Stopped<'a> {
+    pub path: &'a str,
+    pub fault: StopFault,
+}
+
+impl<'a> Stopped<'a> {
+    /// A command that met this fault at this file or address.
+    pub fn at(path: &'a str, fault: StopFault) -> Stopped<'a>
+        ensures { result ≡ record { path = path.entry; fault = fault } }
+    {
+        Stopped { path, fault }
+    }
+}
+
+fn print_sheet_fault<W: Write>(out: &mut Watched<W>, why: SheetFault) -> Result<(), WriteFailed>
+    ensures text { OnOk result (Prints W.contents out.old out.new (texts.sheet_line why)) }
+    ensures failed { TellsFailure result out.old out.new }
+{
+    match why.number() {
+        Some(number) => writeln!(out, "sheet: {number} {why}"),
+        None => writeln!(out, "no memory"),
+    }
+}
+
+fn print_schedule_fault<W: Write>(
+    out: &mut Watched<W>,
+    why: ScheduleFault,
+) -> Result<(), WriteFailed>
+    ensures text { OnOk result (Prints W.contents out.old out.new (texts.schedule_line why)) }
+    ensures failed { TellsFailure result out.old out.new }
+{
+    match why.number() {
+        Some(number) => writeln!(out, "schedule: {number} {why}"),
+        None => writeln!(out, "no memory"),
+    }
+}
+
+fn print_votes_fault<W: Write>(
+    out: &mut Watched<W>,
+    why: vote_store::Refusal,
+) -> Result<(), WriteFailed>
+    ensures text { OnOk result (Prints W.contents out.old out.new (texts.votes_line why)) }
+    ensures failed { TellsFailure result out.old out.new }
+{
+    if let vote_store::Refusal::File(entry_log::Refusal::Device) = why {
+        return writeln!(out, "cannot write");
+    }
+    match why.number() {
+        Some(number) => writeln!(out, "votes: {number} {why}"),
+        None => writeln!(out, "no memory"),
+    }
+}
+
+fn print_named_votes_fault<W: Write>(
+    out: &mut Watched<W>,
+    path: &str,
+    why: vote_store::Refusal,
+) -> Result<(), WriteFailed>
+    ensures text { OnOk result (Prints W.contents out.old out.new (texts.named_votes_line path.now why)) }
+    ensures failed { TellsFailure result out.old out.new }
+{
+    if let vote_store::Refusal::File(entry_log::Refusal::Device) = why {
+        return writeln!(out, "cannot write");
+    }
+    match why.number() {
+        Some(number) => writeln!(out, "votes {path}: {number} {why}"),
+        None => writeln!(out, "no memory"),
+    }
+}
+
+fn print_not_agreed<W: Write>(
+    out: &mut Watched<W>,
+    place: u32,
+    turns: usize,
+) -> Result<(), WriteFailed>
+    ensures text { OnOk result (Prints W.contents out.old out.new (texts.turns_line place turns)) }
+    ensures failed { TellsFailure result out.old out.new }
+{
+    writeln!(out, "place {place} not agreed in {turns} turns")
+}
+
+/// Prints what standard error has of a fault. `path` is the file or the address that was at work, `-` for a standard
+/// stream.
+pub fn print_fault<W: Write>(
+    out: &mut Watched<W>,
+    path: &str,
+    fault: StopFault,
+) -> Result<(), WriteFailed>
+    ensures text { OnOk result (Prints W.contents out.old out.new (texts.fault_line path.now fault)) }
+    ensures failed { TellsFailure result out.old out.new }
+{
+    match fault {
+        StopFault::NoMemory => writeln!(out, "no memory"),
+        StopFault::Read => writeln!(out, "cannot read {path}"),
+        StopFault::Write => writeln!(out, "cannot write"),
+        StopFault::Sheet(why) => print_sheet_fault(out, why),
+        StopFault::Schedule(why) => print_schedule_fault(out, why),
+        StopFault::Votes(why) => print_votes_fault(out, why),
+        StopFault::VotesNamed(why) => print_named_votes_fault(out, path, why),
+        StopFault::BadVotes { .. } => writeln!(out, "votes: 64 BadVotes"),
+        StopFault::Line { number, why } => print_rejected(out, number, why),
+        StopFault::NotAgreed { place } => print_not_agreed(out, place, TURNS),
+        StopFault::Listen => writeln!(out, "cannot listen at {path}"),
+        StopFault::Disk => writeln!(out, "cannot write\nstart the same command again"),
+    }
+}

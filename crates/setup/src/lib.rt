@@ -1,0 +1,19 @@
+//! What a command starts with, on this machine: its match sheet, its votes files, streams and links; and why one ends before
+//! its end.
+#![tactic(auto)]
+
+mod fault;
+mod gaps;
+mod opening;
+mod sealing;
+mod sheet;
+mod twins;
+mod votes_file;
+
+pub use crate::fault::{StopFault, Stopped, TURNS, print_fault};
+pub use crate::gaps::{Gaps, fill_gaps};
+pub use crate::opening::{Output, bytes_at, old_votes_at, open_input, output, printer, sheet_at};
+pub use crate::sealing::{Sealing, key_in};
+pub use crate::sheet::{NoSheet, sheet_run};
+pub use crate::twins::told_sheet_at;
+pub use crate::votes_file::{VotesDisk, empty_disk, kept_votes, new_disk_at, renewed_disk};
