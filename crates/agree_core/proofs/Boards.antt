@@ -8,7 +8,7 @@ use Rattle.agree_core.specs.declared.messages.Vote.{Vote}
 use Rattle.agree_core.specs.declared.position.Position.{Position}
 use Rattle.agree_core.specs.declared.seat.Heard.{Heard}
 use Rattle.agree_core.specs.Agreed.{EqualVotes}
-use Rattle.agree_core.specs.Ballots.{AllVotes, Ballot, In, VotesGrow, Within, ballot_at, ballot_of, votes_of}
+use Rattle.agree_core.specs.Ballots.{AllVotes, Ballot, In, VotesGrow, Within, ballot_at, ballot_of, votes_by}
 use Rattle.agree_core.specs.Boards.{BoardAnswer, BoardReceives, BoardState, BoardTicks, fresh_board}
 use Rattle.agree_core.specs.Books.{Rules}
 use Rattle.agree_core.specs.Desks.{book_heard}
@@ -19,7 +19,7 @@ use Rattle.agree_core.specs.Keeping.{BoardFine, Each, MessageFine, NotedFine}
 use Rattle.agree_core.proofs.Both.{both_grow, both_push}
 use Rattle.agree_core.proofs.Waiting.{listens_wait}
 
-pub votes_grow : (v w : AllVotes) → VotesGrow v w → (d : DeskId) → Within (votes_of v d) (votes_of w d)
+pub votes_grow : (v w : AllVotes) → VotesGrow v w → (d : DeskId) → Within (votes_by v d) (votes_by w d)
 votes_grow v w g A = g.0
 votes_grow v w g B = g.1
 
@@ -31,7 +31,7 @@ pub board_grows : (v w : AllVotes) → VotesGrow v w → (k : BoardState) → Bo
 board_grows v w g k f = record {
   both = both_grow v.a w.a v.b w.b g.0 g.1 0 k.book f.both;
   long = f.long;
-  noted = λ d. noted_grows (votes_of v d) (votes_of w d) (votes_grow v w g d) k.reader.position (noted_of k.reader d) (f.noted d);
+  noted = λ d. noted_grows (votes_by v d) (votes_by w d) (votes_grow v w g d) k.reader.position (noted_of k.reader d) (f.noted d);
   waits = f.waits;
 }
 
@@ -39,15 +39,15 @@ pub message_grows : (v w : AllVotes) → VotesGrow v w → (m : Message) → Mes
 message_grows v w g (Message.Vote x) f = votes_grow v w g x.desk (ballot_of x) f
 message_grows v w g (Message.Ask q) f = tt
 
-both_voted : (v : AllVotes) (d : DeskId) (place round : ℕ) (e : Entry) → In (ballot_at place round e) (votes_of v d) → In (ballot_at place round e) (votes_of v (other d)) → EqualVotes v place round e
+both_voted : (v : AllVotes) (d : DeskId) (place round : ℕ) (e : Entry) → In (ballot_at place round e) (votes_by v d) → In (ballot_at place round e) (votes_by v (other d)) → EqualVotes v place round e
 both_voted v A place round e i j = (i, j)
 both_voted v B place round e i j = (j, i)
 
-nothing_noted : (v : AllVotes) (p : Position) (d : DeskId) → NotedFine (votes_of v d) p (noted_of (reading p) d)
+nothing_noted : (v : AllVotes) (p : Position) (d : DeskId) → NotedFine (votes_by v d) p (noted_of (reading p) d)
 nothing_noted v p A = tt
 nothing_noted v p B = tt
 
-noted_there : (v : AllVotes) (r : ReaderState) (c : DeskId) (e : Entry) → ((d : DeskId) → NotedFine (votes_of v d) r.position (noted_of r d)) → In (record { at = r.position; entry = e }) (votes_of v c) → (d : DeskId) → NotedFine (votes_of v d) (noting r c e).position (noted_of (noting r c e) d)
+noted_there : (v : AllVotes) (r : ReaderState) (c : DeskId) (e : Entry) → ((d : DeskId) → NotedFine (votes_by v d) r.position (noted_of r d)) → In (record { at = r.position; entry = e }) (votes_by v c) → (d : DeskId) → NotedFine (votes_by v d) (noting r c e).position (noted_of (noting r c e) d)
 noted_there v r A e f i A = i
 noted_there v r A e f i B = f B
 noted_there v r B e f i A = f A
@@ -61,7 +61,7 @@ at_reader : (votes : List Ballot) (v : Vote) (at : Position) → position_of v �
 at_reader votes v at e i = subst (λ (p : Position). In (record { at = p; entry = v.entry }) votes) e i
 
 -- the board after a vote, its book being so
-pub listens_keep : (v : AllVotes) (k l : BoardState) (x : Vote) (h : Heard) → BoardFine v k → In (ballot_of x) (votes_of v x.desk) → Listens k.reader x h l.reader → l.book ≡ book_heard h k.book x.entry → BoardFine v l
+pub listens_keep : (v : AllVotes) (k l : BoardState) (x : Vote) (h : Heard) → BoardFine v k → In (ballot_of x) (votes_by v x.desk) → Listens k.reader x h l.reader → l.book ≡ book_heard h k.book x.entry → BoardFine v l
 listens_keep v k l x h f i c e = record {
   both = rw e (grown h c).0;
   long = rw e (grown h c).1;
@@ -84,19 +84,19 @@ listens_keep v k l x h f i c e = record {
     grown Heard.Noted c = (f.both, f.long ∙ ap (λ (p : Position). p.place) (sym (noting_stays k.reader x.desk x.entry)) ∙ ap (λ (r : ReaderState). r.position.place) (sym c.3))
     grown Heard.Differ c = (f.both, f.long ∙ ap (λ (r : ReaderState). r.position.place) (sym c.3))
     grown Heard.Agreed c =
-        let i' : In (record { at = at; entry = x.entry }) (votes_of v x.desk) = at_reader (votes_of v x.desk) x at c.0 i in
-        let j : In (record { at = at; entry = x.entry }) (votes_of v (other x.desk)) = subst (NotedFine (votes_of v (other x.desk)) at) c.2 (f.noted (other x.desk)) in
+        let i' : In (record { at = at; entry = x.entry }) (votes_by v x.desk) = at_reader (votes_by v x.desk) x at c.0 i in
+        let j : In (record { at = at; entry = x.entry }) (votes_by v (other x.desk)) = subst (NotedFine (votes_by v (other x.desk)) at) c.2 (f.noted (other x.desk)) in
         let size : at.place ≡ 0 + length k.book = let l = f.long in omega arith in
         let long : length (k.book ++ x.entry ∷ []) ≡ at.place + 1 = let l = f.long in omega (arith, length-append k.book (x.entry ∷ [])) in
         (both_push v.a v.b 0 k.book x.entry at.place at.round size f.both (both_voted v x.desk at.place at.round x.entry i' j), long ∙ ap (λ (r : ReaderState). r.position.place) (sym c.3))
 
-    noted : (h : Heard) → Listens k.reader x h l.reader → (d : DeskId) → NotedFine (votes_of v d) l.reader.position (noted_of l.reader d)
+    noted : (h : Heard) → Listens k.reader x h l.reader → (d : DeskId) → NotedFine (votes_by v d) l.reader.position (noted_of l.reader d)
     noted Heard.Mine c d = absurd c
     noted Heard.Old c d = rw c.1 (f.noted d)
     noted Heard.Ahead c d = rw c.1 (f.noted d)
     noted Heard.Again c d = rw c.2 (f.noted d)
     noted Heard.TwoVotes c d = rw c.2 (f.noted d)
-    noted Heard.Noted c d = rw c.3 (noted_there v k.reader x.desk x.entry f.noted (at_reader (votes_of v x.desk) x at c.0 i) d)
+    noted Heard.Noted c d = rw c.3 (noted_there v k.reader x.desk x.entry f.noted (at_reader (votes_by v x.desk) x at c.0 i) d)
     noted Heard.Differ c d = rw c.3 (nothing_noted v (next_round at) d)
     noted Heard.Agreed c d = rw c.3 (nothing_noted v (next_place at) d)
 

@@ -66,9 +66,9 @@ pub record AllVotes : Type 0 where
   pub a : List Ballot
   pub b : List Ballot
 
-abbrev pub votes_of : AllVotes → DeskId → List Ballot
-votes_of v A = v.a
-votes_of v B = v.b
+abbrev pub votes_by : AllVotes → DeskId → List Ballot
+votes_by v A = v.a
+votes_by v B = v.b
 
 -- each vote of either desk follows the one before it
 abbrev pub AllJustified : AllVotes → Type 0

@@ -5,7 +5,7 @@ use Rattle.agree_core.specs.declared.messages.DeskId.{DeskId}
 use Rattle.agree_core.specs.declared.messages.Message.{Message}
 use Rattle.agree_core.specs.declared.position.Position.{Position}
 use Rattle.agree_core.specs.Agreed.{AllBoth}
-use Rattle.agree_core.specs.Ballots.{AllVotes, Ballot, Follows, In, Justified, Within, ballot_of, votes_of}
+use Rattle.agree_core.specs.Ballots.{AllVotes, Ballot, Follows, In, Justified, Within, ballot_of, votes_by}
 use Rattle.agree_core.specs.Boards.{BoardState}
 use Rattle.agree_core.specs.Books.{book_of}
 use Rattle.agree_core.specs.Desks.{DeskState}
@@ -82,12 +82,12 @@ module _ {Disk : Type 0} (view : FileView Disk) (d : DeskId) (theirs : List Ball
 
 -- a message that is a vote tells one that its desk has
 abbrev pub MessageFine : AllVotes → Message → Type 0
-MessageFine v (Message.Vote w) = In (ballot_of w) (votes_of v w.desk)
+MessageFine v (Message.Vote w) = In (ballot_of w) (votes_by v w.desk)
 MessageFine v (Message.Ask q) = Unit {0}
 
 -- a board's reader and book are those of both desks' votes
 pub record BoardFine (v : AllVotes) (k : BoardState) : Type 0 where
   pub both : AllBoth v.a v.b 0 k.book
   pub long : length k.book ≡ k.reader.position.place
-  pub noted : (d : DeskId) → NotedFine (votes_of v d) k.reader.position (noted_of k.reader d)
+  pub noted : (d : DeskId) → NotedFine (votes_by v d) k.reader.position (noted_of k.reader d)
   pub waits : ReaderWaits k.reader

@@ -3,26 +3,26 @@ use Rattle.std.specs.Prelude.{◌≡◌, ◌≢◌, ◌+◌, ◌≤◌, ◌⊎�
 use Rattle.notation.specs.declared.entry.Entry.{Entry}
 use Rattle.agree_core.specs.declared.messages.DeskId.{DeskId}
 use Rattle.agree_core.specs.Agreed.{EqualVotes, SettledIn, SettledAt, AllSettled, BeginsWith}
-use Rattle.agree_core.specs.Ballots.{AllVotes, Ballot, In, VotesGrow, ballot_at, votes_of}
+use Rattle.agree_core.specs.Ballots.{AllVotes, Ballot, In, VotesGrow, ballot_at, votes_by}
 use Rattle.agree_core.specs.Books.{AllTaken, FirstRefused, Rules, book_of, voted_list}
 use Rattle.agree_core.specs.Readers.{other}
 
 -- a desk has one vote at a position
 abbrev pub OneVoteEach : AllVotes → Type 0
 OneVoteEach v =
-    (d : DeskId) (b c : Ballot) → In b (votes_of v d) → In c (votes_of v d) → b.at ≡ c.at → b ≡ c
+    (d : DeskId) (b c : Ballot) → In b (votes_by v d) → In c (votes_by v d) → b.at ≡ c.at → b ≡ c
 
 -- a vote of the next round tells that both desks voted in this one, and differed
 abbrev pub RoundsDiffer : AllVotes → Type 0
 RoundsDiffer v =
-    (d : DeskId) (place round : ℕ) (g : Entry) → In (ballot_at place (round + 1) g) (votes_of v d)
-    → (e : Entry) × (f : Entry) × In (ballot_at place round e) (votes_of v d)
-    × In (ballot_at place round f) (votes_of v (other d)) × (e ≢ f)
+    (d : DeskId) (place round : ℕ) (g : Entry) → In (ballot_at place (round + 1) g) (votes_by v d)
+    → (e : Entry) × (f : Entry) × In (ballot_at place round e) (votes_by v d)
+    × In (ballot_at place round f) (votes_by v (other d)) × (e ≢ f)
 
 -- a vote of the next place tells that this one is settled
 abbrev pub PlacesSettled : AllVotes → Type 0
 PlacesSettled v =
-    (d : DeskId) (place : ℕ) (g : Entry) → In (ballot_at (place + 1) 0 g) (votes_of v d)
+    (d : DeskId) (place : ℕ) (g : Entry) → In (ballot_at (place + 1) 0 g) (votes_by v d)
     → (e : Entry) × SettledAt v place e
 
 -- a place has equal votes in one round only, and so for one entry
@@ -43,7 +43,7 @@ OneBook w =
 
 -- the book that a desk's file shows is settled
 abbrev pub FilesSettled : AllVotes → Type 0
-FilesSettled v = (d : DeskId) → AllSettled v 0 (book_of (votes_of v d))
+FilesSettled v = (d : DeskId) → AllSettled v 0 (book_of (votes_by v d))
 
 -- of this desk's votes for its place it is the last
 abbrev pub IsLastOfPlace : List Ballot → Ballot → Type 0

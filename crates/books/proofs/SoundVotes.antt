@@ -15,16 +15,16 @@ use Rattle.vote_store.proofs.FileLemmas.{file_votes-votes, first_are_votes}
 use Rattle.books.specs.CardBook.{votes_in_file}
 use Rattle.books.specs.declared.desk_votes.DeskVotes.{DeskVotes}
 use Rattle.books.specs.declared.desk_votes.DeskVotes.TheVariants.{Old, New}
-use Rattle.books.specs.DeskVotes.{votes_of}
+use Rattle.books.specs.DeskVotes.{read_votes}
 use Rattle.books.proofs.AgreedSoFar.{one_vote}
 
-pub are_votes : (votes : DeskVotes) → IsVotes (votes_of votes)
+pub are_votes : (votes : DeskVotes) → IsVotes (read_votes votes)
 are_votes (Old votes) = first_are_votes _ _ _ _ _
 are_votes (New votes) = first_are_votes _ _ _ _ _
 
-pub one_entry : (votes : DeskVotes) (at : Position) (e f : Entry) → In (record { at = at; entry = e }) (votes_of votes) → In (record { at = at; entry = f }) (votes_of votes) → e ≡ f
+pub one_entry : (votes : DeskVotes) (at : Position) (e f : Entry) → In (record { at = at; entry = e }) (read_votes votes) → In (record { at = at; entry = f }) (read_votes votes) → e ≡ f
 one_entry votes at e f i j =
-    ap (λ (b : Ballot). b.entry) (one_vote (votes_of votes) (are_votes votes).sequence (record { at = at; entry = e }) (record { at = at; entry = f }) i j (λ _. at))
+    ap (λ (b : Ballot). b.entry) (one_vote (read_votes votes) (are_votes votes).sequence (record { at = at; entry = e }) (record { at = at; entry = f }) i j (λ _. at))
 
 by_version : (old : Bool) (x y : Result (List Ballot) Refusal) (votes : List Ballot) → (if old then x else y) ≡ Ok votes → (x ≡ Ok votes → IsVotes votes) → (y ≡ Ok votes → IsVotes votes) → IsVotes votes
 by_version true x y votes e first second = first e

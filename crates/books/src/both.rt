@@ -8,7 +8,7 @@ ghost use Rattle.agree_core.specs.Agreed.{IsAgreedList};
 ghost use Rattle.agree_core.specs.Ballots.{In, ballot_of};
 ghost use Rattle.agree_core.specs.Books.{AllTaken};
 ghost use Rattle.books.specs.BothFiles.{HaveVotes, IsBookOfBoth, WhyNoBookOfBoth, WhyNotOpened};
-ghost use Rattle.books.specs.DeskVotes.{votes_of, votes_of_both};
+ghost use Rattle.books.specs.DeskVotes.{read_votes, votes_of_both};
 ghost use Rattle.books.specs.inner.Both.{NamesRefused};
 
 use crate::desk_votes::DeskVotes;
@@ -49,7 +49,7 @@ pub fn add<T: Copy + Drop>(list: &mut Vec<T>, value: &T) -> Result<(), AllocErro
 
 /// Whether a vote is for this place, and the other desk has it too.
 fn settles(vote: &Vote, place: usize, other: &DeskVotes) -> bool
-    ensures { IsTrue result ↔ ((vote.now.place ≡ place) × In (ballot_of vote.now) (votes_of other.now)) }
+    ensures { IsTrue result ↔ ((vote.now.place ≡ place) × In (ballot_of vote.now) (read_votes other.now)) }
 {
     vote.place as usize == place && other.has(vote)
 }

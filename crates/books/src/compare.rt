@@ -8,7 +8,7 @@ ghost use Rattle.streams.specs.Watched.{IsHandedOn, Prints, TellsFailure};
 ghost use Rattle.books.specs.BothFiles.{WhyNotOpened};
 ghost use Rattle.books.specs.Comparing as texts;
 ghost use Rattle.books.specs.Comparing.{HasEntries, IsComparison, difference_at, differences, in_rounds};
-ghost use Rattle.books.specs.DeskVotes.{entry_at, votes_of, votes_of_both};
+ghost use Rattle.books.specs.DeskVotes.{entry_at, read_votes, votes_of_both};
 ghost use Rattle.books.specs.inner.Tally as inner;
 
 use crate::both::{add, agreed_list, open_both};
@@ -87,8 +87,8 @@ fn compare_round(
     ensures found { OnOk result (found.new.items
         ≡ found.old.items ++ difference_at (votes_of_both a.now b.now) place round) }
     ensures all_entries { OnOk result (All HasEntries found.new.items) }
-    ensures no_first { IfOk result (λ any. any ≡ false → entry_at (votes_of a.now) place round ≡ None) }
-    ensures no_second { IfOk result (λ any. any ≡ false → entry_at (votes_of b.now) place round ≡ None) }
+    ensures no_first { IfOk result (λ any. any ≡ false → entry_at (read_votes a.now) place round ≡ None) }
+    ensures no_second { IfOk result (λ any. any ≡ false → entry_at (read_votes b.now) place round ≡ None) }
 {
     let (first, second) = (a.at(place, round), b.at(place, round));
     let difference = Difference {

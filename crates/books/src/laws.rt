@@ -5,7 +5,7 @@ ghost use Rattle.std.specs.Prelude.{◌≡◌, ◌↔◌, ℕ, List, [], length}
 ghost use Rattle.notation.specs.declared.entry.Entry.{Entry};
 ghost use Rattle.agree_core.specs.declared.messages.DeskId.{DeskId};
 ghost use Rattle.agree_core.specs.Agreed.{BeginsWith, IsAgreedList};
-ghost use Rattle.agree_core.specs.Ballots.{AllJustified, AllVotes, Ballot, In, IsSequence, votes_of};
+ghost use Rattle.agree_core.specs.Ballots.{AllJustified, AllVotes, Ballot, In, IsSequence, votes_by};
 ghost use Rattle.agree_core.specs.Books.{book_of};
 ghost use Rattle.cards.specs.Sheet.{Sheet};
 ghost use Rattle.books.specs.BothFiles.{HaveVotes, IsBookOfBoth};
@@ -18,7 +18,7 @@ pub fn both_begin_with_each()
     ensures one { (v : AllVotes) (xs ys : List Entry) → IsSequence v.a
         → IsAgreedList v xs → IsAgreedList v ys → xs ≡ ys }
     ensures begins { (v : AllVotes) (agreed : List Entry) (d : DeskId) → AllJustified v
-        → IsAgreedList v agreed → BeginsWith agreed (book_of (votes_of v d)) }
+        → IsAgreedList v agreed → BeginsWith agreed (book_of (votes_by v d)) }
 {}
 
 /// The entries that a comparison of both files counts as agreed are those of the book that both have, where it is legal.

@@ -36,7 +36,7 @@ use Rattle.json.specs.Json.{Json, null}
 use Rattle.json_fields.specs.Values.{Field, members_of, number_field, object_of, flag_if}
 use Rattle.export.specs.Innings.{runs_before, runs_after, penalty_field, needed_in, overs_of, is_declared, is_forfeited}
 use Rattle.export.specs.Miscounts.{is_miscounted, miscounts}
-use Rattle.export.specs.Laws.{IsCount, TotalsAddUp, at, items_of, member_at, total_in}
+use Rattle.export.specs.Laws.{IsCount, TotalsAddUp, at, noted_items, member_at, total_in}
 use Rattle.export.proofs.ReadLemmas.{elements-of, in_over, overs_all, own_total, totals_of, totals_read}
 
 -- the runs of an item, where it is a delivery
@@ -229,7 +229,7 @@ awards_so_far h i g (x ∷ xs) =
     let rest = awards_so_far h i (x.item ∷ g) xs in
     omega (arith, one, more, rest)
 
-pub wickets_added : (n : ℕ) (book : List Entry) → IsLegalBook n book → (i : ℕ) → wickets_listed (items_of book) i ≡ wickets (history_of book) i
+pub wickets_added : (n : ℕ) (book : List Entry) → IsLegalBook n book → (i : ℕ) → wickets_listed (noted_items book) i ≡ wickets (history_of book) i
 unfolding wickets
 wickets_added n book legal i =
     let fallen = wickets_so_far n [] (clean book) i (scored_legal n book legal) in
@@ -237,11 +237,11 @@ wickets_added n book legal i =
 
 -- the totals of the deliveries of an innings and its penalty runs are its total
 total_added : (n : ℕ) (book : List Entry) → IsLegalBook n book → (i : ℕ)
-    → tally (λ k. k) (totals_of (begun_of (history_of book)) i (items_in i (items_of book))) + runs_before (begun_of (history_of book)) i (items_of book) + runs_after (begun_of (history_of book)) i (items_of book) ≡ total (history_of book) i
+    → tally (λ k. k) (totals_of (begun_of (history_of book)) i (items_in i (noted_items book))) + runs_before (begun_of (history_of book)) i (noted_items book) + runs_after (begun_of (history_of book)) i (noted_items book) ≡ total (history_of book) i
 unfolding total penalty_runs
 total_added n book legal i =
     let h = history_after [] (clean book) in
-    let sum = added_up (begun_of h) i (items_of book) in
+    let sum = added_up (begun_of h) i (noted_items book) in
     let runs = runs_so_far n [] (clean book) i (scored_legal n book legal) in
     let penalty = awards_so_far h i [] (clean book) in
     rw (← history_after-clean book) (omega (arith, sum, runs, penalty))
@@ -300,7 +300,7 @@ module _ (d e t m : Bool) (before after : ℕ) (runs overs : Json) where
 pub totals_add_up : (s : Sheet) (n : ℕ) (book : List Entry) → IsLegalBook n book → TotalsAddUp s book
 totals_add_up s n book legal i =
     let h = history_of book in
-    let xs = items_of book in
+    let xs = noted_items book in
     let f = begun_of h in
     let ys = items_in i xs in
     let before = runs_before f i xs in

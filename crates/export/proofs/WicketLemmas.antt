@@ -29,7 +29,7 @@ use Rattle.export.specs.Wickets as listing
 use Rattle.export.specs.Wickets.{departures, gone_of, has_gone, has_wickets, how_words, is_gone, own_wickets}
 use Rattle.export.specs.Deliveries.{delivery_of, extra_runs, extras_field, listed_of, penalties}
 use Rattle.export.specs.Innings.{overs_of}
-use Rattle.export.specs.Laws.{WicketsAddUp, deliveries_in, has_fallen, innings_at, items_of, member_at, values_of, wickets_of}
+use Rattle.export.specs.Laws.{WicketsAddUp, deliveries_in, has_fallen, innings_at, noted_items, member_at, values_of, wickets_of}
 use Rattle.export.proofs.ReadLemmas.{all_listed, elements-of, in_over, overs_all}
 use Rattle.export.proofs.LawLemmas.{wickets_added, wickets_listed}
 
@@ -219,10 +219,10 @@ pub wickets_add_up : (s : Sheet) (n : ℕ) (book : List Entry) → IsLegalBook n
 wickets_add_up s n book legal i some =
     let h = history_of book in
     let f = begun_of h in
-    let ys = items_in i (items_of book) in
+    let ys = items_in i (noted_items book) in
     let side = side_of h i in
     let listed = all_listed s side f i (carried ys) ys in
     let same : deliveries_in (innings_at s book i) ≡ listed = ap (flat_map in_over) (elements-of (overs_of s side f i ys)) ∙ overs_all s side f i (carried ys) ys in
     ap fallen same
     ∙ (where_any (has_ball ys) listed (fallen listed) (fell ys) (gone (carried ys)) (none_listed s side f i (carried ys) ys) (λ e. some (same ∙ e)) (all_fallen s side f i (carried ys) ys)
-    ∙ (own_wickets_here i (items_of book) ∙ wickets_added n book legal i))
+    ∙ (own_wickets_here i (noted_items book) ∙ wickets_added n book legal i))

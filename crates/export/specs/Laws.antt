@@ -45,8 +45,8 @@ IsCount n null = n ≡ 0
 IsCount n value = value ≡ number_value n
 
 -- the items of a book's export
-abbrev pub items_of : List Entry → List Noted
-items_of book = notes [] (clean book)
+abbrev pub noted_items : List Entry → List Noted
+noted_items book = notes [] (clean book)
 
 -- the totals of the deliveries of an innings, and its penalty runs before and after, add up to n
 pub record AddsUpTo (innings : Json) (n : ℕ) : Type 0 where
@@ -60,7 +60,7 @@ pub record AddsUpTo (innings : Json) (n : ℕ) : Type 0 where
 
 -- the innings of a book, as it stands in its export
 abbrev pub innings_at : Sheet → List Entry → ℕ → Json
-innings_at s book i = innings_of s (history_of book) (items_of book) i
+innings_at s book i = innings_of s (history_of book) (noted_items book) i
 
 -- what stands of an innings adds up to its total
 abbrev pub TotalsAddUp : Sheet → List Entry → Type 0

@@ -5,7 +5,7 @@ use Rattle.notation.specs.declared.entry.Entry.{Entry}
 use Rattle.agree_core.specs.declared.messages.DeskId.{DeskId}
 use Rattle.agree_core.specs.declared.messages.DeskId.TheVariants.{A, B}
 use Rattle.agree_core.specs.declared.messages.Message.{Message}
-use Rattle.agree_core.specs.Ballots.{AllJustified, AllVotes, Ballot, In, Justified, VotesGrow, Within, ballot_of, votes_of}
+use Rattle.agree_core.specs.Ballots.{AllJustified, AllVotes, Ballot, In, Justified, VotesGrow, Within, ballot_of, votes_by}
 use Rattle.agree_core.specs.Ballots as ballots
 use Rattle.agree_core.specs.Boards.{BoardState}
 use Rattle.agree_core.specs.Desks.{DeskState, PenAnswer, ReceiveAnswer}
@@ -231,8 +231,8 @@ module _ {Disk Why : Type 0} (s : Setting Disk Why) where
         safe = f.safe;
       }
 
-  own_message : (v : AllVotes) (d : DeskId) (m : Message) → OwnMessage d (votes_of v d) m → MessageFine v m
-  own_message v d (Message.Vote w) h = subst (λ (c : DeskId). In (ballot_of w) (votes_of v c)) (sym h.0) h.1
+  own_message : (v : AllVotes) (d : DeskId) (m : Message) → OwnMessage d (votes_by v d) m → MessageFine v m
+  own_message v d (Message.Vote w) h = subst (λ (c : DeskId). In (ballot_of w) (votes_by v c)) (sym h.0) h.1
   own_message v d (Message.Ask q) h = tt
 
   other_desk : (c d : DeskId) → c ≢ d → c ≡ other d
@@ -241,18 +241,18 @@ module _ {Disk Why : Type 0} (s : Setting Disk Why) where
   other_desk B A n = refl
   other_desk B B n = absurd (n refl)
 
-  pub their_message : (v : AllVotes) (d : DeskId) (m : Message) → MessageFine v m → TheirMessage d (votes_of v (other d)) m
-  their_message v d (Message.Vote w) h = λ n. subst (λ (c : DeskId). In (ballot_of w) (votes_of v c)) (other_desk w.desk d n) h
+  pub their_message : (v : AllVotes) (d : DeskId) (m : Message) → MessageFine v m → TheirMessage d (votes_by v (other d)) m
+  their_message v d (Message.Vote w) h = λ n. subst (λ (c : DeskId). In (ballot_of w) (votes_by v c)) (other_desk w.desk d n) h
   their_message v d (Message.Ask q) h = tt
 
-  pub node_fine : (w : Configuration Disk) (d : DeskId) → Fine w → ProcessFine (node w d).version d (votes_of (all_votes w) (other d)) (node w d).process
+  pub node_fine : (w : Configuration Disk) (d : DeskId) → Fine w → ProcessFine (node w d).version d (votes_by (all_votes w) (other d)) (node w d).process
   node_fine w A f = f.on_a
   node_fine w B f = f.on_b
 
   rest_grows : (v w : AllVotes) → VotesGrow v w → (sent out : List Message) → Each (MessageFine v) sent → Each (MessageFine w) out → Each (MessageFine w) (sent ++ out)
   rest_grows v w g sent out h k = each_append (MessageFine w) sent out (each_other (MessageFine v) (MessageFine w) (message_grows v w g) sent h) k
 
-  node_changed : (w : Configuration Disk) (d : DeskId) (y : Node Disk) (out : List Message) → Fine w → KeptAt d (votes_of (all_votes w) (other d)) (node w d).process y out → Fine (with_node w d y out) × Grows w (with_node w d y out)
+  node_changed : (w : Configuration Disk) (d : DeskId) (y : Node Disk) (out : List Message) → Fine w → KeptAt d (votes_by (all_votes w) (other d)) (node w d).process y out → Fine (with_node w d y out) × Grows w (with_node w d y out)
   node_changed w A y out f k =
       let v = all_votes w in
       let new : AllVotes = record { a = process_votes y.process; b = v.b } in
@@ -293,8 +293,8 @@ module _ {Disk Why : Type 0} (s : Setting Disk Why) where
   pub step_at_keeps : (w : Configuration Disk) (event : Event) (t : Station) (answer : Answer Why) (new : Configuration Disk) → Fine w → StepAt s w event t answer new → Fine new × Grows w new
   step_at_keeps w event (stations.Desk d) answer new f p =
       let v = all_votes w in
-      let told : (n : ℕ) (m : Message) → slice_get w.sent n ≡ Some m → TheirMessage d (votes_of v (other d)) m = λ n m e. their_message v d m (item_at (MessageFine v) w.sent n m e f.on_sent) in
-      let k = at_desk_keeps w.sent d (votes_of v (other d)) event (node w d) answer p.0 p.1 told (node_fine w d f) p.2 in
+      let told : (n : ℕ) (m : Message) → slice_get w.sent n ≡ Some m → TheirMessage d (votes_by v (other d)) m = λ n m e. their_message v d m (item_at (MessageFine v) w.sent n m e f.on_sent) in
+      let k = at_desk_keeps w.sent d (votes_by v (other d)) event (node w d) answer p.0 p.1 told (node_fine w d f) p.2 in
       subst (λ (z : Configuration Disk). Fine z × Grows w z) (sym p.3) (node_changed w d p.0 p.1 f k)
   step_at_keeps w event (stations.Board n) answer new f p =
       let v = all_votes w in

@@ -9,7 +9,7 @@ use Rattle.agree_core.specs.declared.messages.Vote.{Vote}
 use Rattle.agree_core.specs.declared.position.Position.{Position}
 use Rattle.agree_core.specs.declared.seat.Heard.{Heard}
 use Rattle.agree_core.specs.declared.seat.Settled.{Settled}
-use Rattle.agree_core.specs.Ballots.{Ballot, vote_of, votes_of}
+use Rattle.agree_core.specs.Ballots.{Ballot, vote_of, votes_by}
 use Rattle.agree_core.specs.Boards.{BoardAnswer, BoardReceives, BoardState, fresh_board}
 use Rattle.agree_core.specs.Books.{seat_of}
 use Rattle.agree_core.specs.Desks.{DeskState, PenAnswer, Pens, ReceiveAnswer, Receives}
@@ -330,7 +330,7 @@ module _ {Disk Why : Type 0} (s : Setting Disk Why) where
   desk_leaves w d (events.Pen c e) answer new y out f h t p =
       pens w (moment (events.Pen c e) answer new) d p.0 p.1 e p.2 out y (ap (λ (x : DeskId). events.Pen x e) (same_desk c d (sym h))) p.3 t p.4 p.5
   desk_leaves w d (events.Give n u) answer new y out f h t p =
-      let fine = running s (node w d).version d (votes_of (all_votes w) (other d)) (node w d).process p.0 p.4 (node_fine s w d f) in
+      let fine = running s (node w d).version d (votes_by (all_votes w) (other d)) (node w d).process p.0 p.4 (node_fine s w d f) in
       let seat = fine.seat in
       subst (λ (z : Station). Leaves s w (moment (events.Give n z) answer new) (stations.Desk d)) (sym h)
       (given w n d answer new p.0 p.1 p.2 p.3 out y seat.desk p.4 t p.5 p.6 p.7)

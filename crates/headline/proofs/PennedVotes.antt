@@ -4,7 +4,7 @@ use Rattle.notation.specs.declared.entry.Entry.{Entry}
 use Rattle.agree_core.specs.declared.messages.DeskId.{DeskId}
 use Rattle.agree_core.specs.declared.messages.DeskId.TheVariants.{A, B}
 use Rattle.agree_core.specs.declared.messages.Message.{Message}
-use Rattle.agree_core.specs.Ballots.{Ballot, In, votes_of}
+use Rattle.agree_core.specs.Ballots.{Ballot, In, votes_by}
 use Rattle.agree_core.specs.Desks.{DeskState, Fails, MayPen, PenAnswer, Pens, ReceiveAnswer, Receives, Unchanged, next_ballot}
 use Rattle.agree_core.specs.FileView.{FileView, Holds, MayHold, MaySync, Stays, Synced}
 use Rattle.agree_core.specs.Openings.{OpenRefusal, Opening, Opens}
@@ -260,7 +260,7 @@ module _ {Disk Why : Type 0} (s : Setting Disk Why) where
           inl (q ∙ ap (events.Pen d) (sym entry), (k, i, ap (λ (c : Ballot). c.at) (sym j)), t)
       now m ms d k g q t i may old b (inr j) = old b j
 
-  votes_at : (w : Configuration Disk) (d : DeskId) → process_votes (node w d).process ≡ votes_of (all_votes w) d
+  votes_at : (w : Configuration Disk) (d : DeskId) → process_votes (node w d).process ≡ votes_by (all_votes w) d
   votes_at w A = refl
   votes_at w B = refl
 

@@ -8,7 +8,7 @@ use Rattle.agree_core.specs.declared.messages.Message.{Message}
 use Rattle.agree_core.specs.declared.messages.Vote.{Vote}
 use Rattle.agree_core.specs.declared.seat.Heard.{Heard}
 use Rattle.agree_core.specs.declared.seat.Settled.{Settled}
-use Rattle.agree_core.specs.Ballots.{Ballot, vote_of, votes_of}
+use Rattle.agree_core.specs.Ballots.{Ballot, vote_of, votes_by}
 use Rattle.agree_core.specs.Boards.{BoardAnswer, BoardReceives, BoardState}
 use Rattle.agree_core.specs.Desks.{DeskState, PenAnswer, Pens, ReceiveAnswer, Receives, book_after, book_heard}
 use Rattle.agree_core.specs.declared.position.Position.{Position}
@@ -156,7 +156,7 @@ module _ {Disk Why : Type 0} (s : Setting Disk Why) where
       let k = q.0 in
       let h = desk_keeps w d c k book b q.4 g in
       let this : q.2 ≡ Message.Vote (vote_of (other c) b) = same_message (slice_get w.sent n) q.2 (Message.Vote (vote_of (other c) b)) q.5 sent in
-      let fine = running s (node w d).version d (votes_of (all_votes w) (other d)) (node w d).process k q.4 (node_fine s w d f) in
+      let fine = running s (node w d).version d (votes_by (all_votes w) (other d)) (node w d).process k q.4 (node_fine s w d f) in
       let seat = fine.seat in
       let mine : k.seat.mine ≡ Some b.entry = sym (kept_own k.seat c d apart) ∙ h.2 in
       let received : Receives (s.view d (node w d).version) k (Message.Vote (vote_of (other c) b)) q.3 q.1 p.1 = subst (λ (z : Message). Receives (s.view d (node w d).version) k z q.3 q.1 p.1) this q.6 in

@@ -5,7 +5,7 @@ use Rattle.agree_core.specs.declared.messages.DeskId.{DeskId}
 use Rattle.agree_core.specs.declared.messages.DeskId.TheVariants.{A, B}
 use Rattle.agree_core.specs.declared.messages.Message.{Message}
 use Rattle.agree_core.specs.Agreed.{AllSettled, EqualVotes}
-use Rattle.agree_core.specs.Ballots.{Ballot, Within, votes_of}
+use Rattle.agree_core.specs.Ballots.{Ballot, Within, votes_by}
 use Rattle.agree_core.specs.Boards.{BoardState}
 use Rattle.agree_core.specs.Readers.{noted_of, other, ReaderWaits}
 use Rattle.agree_core.specs.Seats.{SeatState, SeatWaits}
@@ -100,10 +100,10 @@ module _ {Disk Why : Type 0} (s : Setting Disk Why) where
   board_waits w n (Some k) e f g h p q = let fine = board_fine_at (all_votes w) w.boards n k h g.on_boards in reader_waits k e f fine.waits p q
 
   pub none_keeps_both : (w : Configuration Disk) → Fine s w → NoneKeepsBoth w
-  none_keeps_both w g (stations.Desk d) e f p q = process_waits (node w d).version d (votes_of (all_votes w) (other d)) (node w d).process e f (node_fine s w d g) p q
+  none_keeps_both w g (stations.Desk d) e f p q = process_waits (node w d).version d (votes_by (all_votes w) (other d)) (node w d).process e f (node_fine s w d g) p q
   none_keeps_both w g (stations.Board n) e f p q = board_waits w n (board_at w.boards n) e f g refl p q
 
-  votes_at : (w : Configuration Disk) (d : DeskId) → votes_of (all_votes w) d ≡ process_votes (node w d).process
+  votes_at : (w : Configuration Disk) (d : DeskId) → votes_by (all_votes w) d ≡ process_votes (node w d).process
   votes_at w A = refl
   votes_at w B = refl
 
@@ -114,10 +114,10 @@ module _ {Disk Why : Type 0} (s : Setting Disk Why) where
   kept_safe w f = record {
     sent = λ n v e. item_at (MessageFine (all_votes w)) w.sent n (Message.Vote v) e f.on_sent;
     images = λ d image i.
-        let theirs = votes_of (all_votes w) (other d) in
+        let theirs = votes_by (all_votes w) (other d) in
         rw (votes_at w d) (image_has theirs (process_votes (node w d).process) image ((fine_disk s (node w d).version d theirs (node w d).process (node_fine s w d f)).1 image i));
     reads = λ d.
-        let theirs = votes_of (all_votes w) (other d) in
+        let theirs = votes_by (all_votes w) (other d) in
         rw (votes_at w d) (image_has theirs (process_votes (node w d).process) ((s.view d (node w d).version).reads (process_disk (node w d).process)) (fine_disk s (node w d).version d theirs (node w d).process (node_fine s w d f)).0);
   }
 

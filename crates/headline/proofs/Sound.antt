@@ -8,7 +8,7 @@ use Rattle.agree_core.specs.declared.messages.Message.{Message}
 use Rattle.agree_core.specs.declared.messages.Vote.{Vote}
 use Rattle.agree_core.specs.declared.seat.Heard.{Heard}
 use Rattle.agree_core.specs.Agreed.{BeginsWith}
-use Rattle.agree_core.specs.Ballots.{AllJustified, AllVotes, Ballot, In, Justified, Within, ballot_of, votes_of}
+use Rattle.agree_core.specs.Ballots.{AllJustified, AllVotes, Ballot, In, Justified, Within, ballot_of, votes_by}
 use Rattle.agree_core.specs.Ballots as ballots
 use Rattle.agree_core.specs.Boards.{BoardAnswer, BoardReceives, BoardState}
 use Rattle.agree_core.specs.Books.{AllTaken, Rules, book_of, closing, voted_list}
@@ -98,20 +98,20 @@ two_entries theirs votes x v e at j n q i p unlike =
     unlike (ap (λ (b : Ballot). b.entry) (one_vote theirs votes j (ballot_of v) (record { at = at; entry = e }) i k p))
 
 module _ {Disk Why : Type 0} (s : Setting Disk Why) where
-  pub justified_of : (w : Configuration Disk) (d : DeskId) → Fine s w → Justified (votes_of (all_votes w) (other d)) (votes_of (all_votes w) d)
+  pub justified_of : (w : Configuration Disk) (d : DeskId) → Fine s w → Justified (votes_by (all_votes w) (other d)) (votes_by (all_votes w) d)
   justified_of w A f = (all_justified s w f).0
   justified_of w B f = (all_justified s w f).1
 
-  justified_other : (w : Configuration Disk) (d : DeskId) → Fine s w → Justified (votes_of (all_votes w) d) (votes_of (all_votes w) (other d))
+  justified_other : (w : Configuration Disk) (d : DeskId) → Fine s w → Justified (votes_by (all_votes w) d) (votes_by (all_votes w) (other d))
   justified_other w A f = (all_justified s w f).1
   justified_other w B f = (all_justified s w f).0
 
   -- each pen is lawful
   lawful_pens : (w : Configuration Disk) (event : Event) (answer : Answer Why) → Fine s w → PensKeep s (λ d. Lawful s.rules) w event answer
   lawful_pens w event answer f d k e q t i may old =
-      let fine = running s (node w d).version d (votes_of (all_votes w) (other d)) (node w d).process k i (node_fine s w d f) in
+      let fine = running s (node w d).version d (votes_by (all_votes w) (other d)) (node w d).process k i (node_fine s w d f) in
       let seat = fine.seat in
-      let m : MineFine (votes_of (all_votes w) (other d)) k.votes k.book k.seat.position None = subst (MineFine (votes_of (all_votes w) (other d)) k.votes k.book k.seat.position) may.0.1 seat.mine in
+      let m : MineFine (votes_by (all_votes w) (other d)) k.votes k.book k.seat.position None = subst (MineFine (votes_by (all_votes w) (other d)) k.votes k.book k.seat.position) may.0.1 seat.mine in
       let book : book_of (next_ballot k e ∷ k.votes) ≡ k.book = (m e).1 in
       let next : s.rules (book_of (next_ballot k e ∷ k.votes)) e ≡ None = subst (λ (o : List Entry). s.rules o e ≡ None) (sym book) may.2 in
       (taken_push s.rules [] (book_of (next_ballot k e ∷ k.votes)) e (taken_book s.rules (next_ballot k e) k.votes old) next, old)
@@ -122,14 +122,14 @@ module _ {Disk Why : Type 0} (s : Setting Disk Why) where
       step_holds s (λ d. Lawful s.rules) (last_of w ms) m.event m.answer m.after
       (lawful_pens (last_of w ms) m.event m.answer (run_keeps s w ms (begins_fine s version n w e) r.0)) (lawful_run version n w ms e r.0) r.1
 
-  pub lawful_votes : (w : Configuration Disk) (d : DeskId) → BothHold s (λ d. Lawful s.rules) w → Lawful s.rules (votes_of (all_votes w) d)
+  pub lawful_votes : (w : Configuration Disk) (d : DeskId) → BothHold s (λ d. Lawful s.rules) w → Lawful s.rules (votes_by (all_votes w) d)
   lawful_votes w A l = let h = l A in h.of_votes
   lawful_votes w B l = let h = l B in h.of_votes
 
-  board_takes : (w : Configuration Disk) (k : BoardState) (v : Vote) (reader : ReaderState) → Fine s w → BothHold s (λ d. Lawful s.rules) w → BoardFine (all_votes w) k → In (ballot_of v) (votes_of (all_votes w) v.desk) → Listens k.reader v Heard.Agreed reader → s.rules k.book v.entry ≡ None
+  board_takes : (w : Configuration Disk) (k : BoardState) (v : Vote) (reader : ReaderState) → Fine s w → BothHold s (λ d. Lawful s.rules) w → BoardFine (all_votes w) k → In (ballot_of v) (votes_by (all_votes w) v.desk) → Listens k.reader v Heard.Agreed reader → s.rules k.book v.entry ≡ None
   board_takes w k v reader f l b i h =
       let d = v.desk in
-      let g = taken_at s.rules (votes_of (all_votes w) (other d)) (votes_of (all_votes w) d) (justified_of w d f) (lawful_votes w d l) (ballot_of v) i in
+      let g = taken_at s.rules (votes_by (all_votes w) (other d)) (votes_by (all_votes w) d) (justified_of w d f) (lawful_votes w d l) (ballot_of v) i in
       let j = all_justified s w f in
       let here = both_settled (all_votes w) j 0 g.0 (turned w d g.0 g.1) in
       let there = both_settled (all_votes w) j 0 k.book b.both in
@@ -141,7 +141,7 @@ module _ {Disk Why : Type 0} (s : Setting Disk Why) where
       (one_book (all_votes w) j (all_votes w) (all_votes w) g.0 k.book grow grow here there) in
       subst (λ (o : List Entry). s.rules o v.entry ≡ None) equal g.3
     where
-      turned : (w : Configuration Disk) (d : DeskId) (book : List Entry) → AllBoth (votes_of (all_votes w) d) (votes_of (all_votes w) (other d)) 0 book → AllBoth (all_votes w).a (all_votes w).b 0 book
+      turned : (w : Configuration Disk) (d : DeskId) (book : List Entry) → AllBoth (votes_by (all_votes w) d) (votes_by (all_votes w) (other d)) 0 book → AllBoth (all_votes w).a (all_votes w).b 0 book
       turned w A book h = h
       turned w B book h = both_turned (all_votes w).b (all_votes w).a 0 book h
 
@@ -167,12 +167,12 @@ module _ {Disk Why : Type 0} (s : Setting Disk Why) where
   pen_sound event d x (PenAnswer.Refused why) l answer y p = sound_as event answer (Answer.NotPenned why) p.0 tt
   pen_sound event d x PenAnswer.DeviceFailed l answer y p = broken_sound event d x l answer y p
 
-  two_at_desk : (w : Configuration Disk) (d : DeskId) (k : DeskState Disk) (v : Vote) (t : SeatState) → Fine s w → SeatFine d k.votes (votes_of (all_votes w) (other d)) k.seat k.book → MessageFine (all_votes w) (Message.Vote v) → Hears k.seat v Heard.TwoVotes t → ⊥
+  two_at_desk : (w : Configuration Disk) (d : DeskId) (k : DeskState Disk) (v : Vote) (t : SeatState) → Fine s w → SeatFine d k.votes (votes_by (all_votes w) (other d)) k.seat k.book → MessageFine (all_votes w) (Message.Vote v) → Hears k.seat v Heard.TwoVotes t → ⊥
   two_at_desk w d k v t f g m h =
       let i = their_message s (all_votes w) d (Message.Vote v) m (λ e. h.0.0 (e ∙ sym g.desk)) in
-      two_entries (votes_of (all_votes w) d) (votes_of (all_votes w) (other d)) k.seat.theirs v h.1.0 k.seat.position (justified_other w d f) g.noted h.1.1 i h.0.1 h.1.2
+      two_entries (votes_by (all_votes w) d) (votes_by (all_votes w) (other d)) k.seat.theirs v h.1.0 k.seat.position (justified_other w d f) g.noted h.1.1 i h.0.1 h.1.2
 
-  receive_sound : (event : Event) (w : Configuration Disk) (d : DeskId) (x : Node Disk) (k l : DeskState Disk) (m : Message) (told : ReceiveAnswer) (out : List Message) (answer : Answer Why) (y : Node Disk) → Fine s w → SeatFine d k.votes (votes_of (all_votes w) (other d)) k.seat k.book → MessageFine (all_votes w) m → Receives (s.view d x.version) k m told l out → AfterReceive (s.view d x.version) x told l out answer y → IsSoundAnswer event answer
+  receive_sound : (event : Event) (w : Configuration Disk) (d : DeskId) (x : Node Disk) (k l : DeskState Disk) (m : Message) (told : ReceiveAnswer) (out : List Message) (answer : Answer Why) (y : Node Disk) → Fine s w → SeatFine d k.votes (votes_by (all_votes w) (other d)) k.seat k.book → MessageFine (all_votes w) m → Receives (s.view d x.version) k m told l out → AfterReceive (s.view d x.version) x told l out answer y → IsSoundAnswer event answer
   receive_sound event w d x k l m ReceiveAnswer.Failed out answer y f g i r p = sound_as event answer Answer.HasFailed p.0 tt
   receive_sound event w d x k l m ReceiveAnswer.Asked out answer y f g i r p = sound_as event answer (Answer.Asked _) p.0 tt
   receive_sound event w d x k l m ReceiveAnswer.DeviceFailed out answer y f g i r p = broken_sound event d x l answer y p
@@ -210,7 +210,7 @@ module _ {Disk Why : Type 0} (s : Setting Disk Why) where
   desk_sound : (w : Configuration Disk) (d : DeskId) (event : Event) (answer : Answer Why) (y : Node Disk) (out : List Message) → Fine s w → BothHold s (λ d. Lawful s.rules) w → AtDesk s w.sent d event (node w d) answer y out → IsSoundAnswer event answer
   desk_sound w d (events.Pen c e) answer y out f l p = pen_sound (events.Pen c e) d (node w d) p.2 p.1 answer y p.5
   desk_sound w d (events.Give n t) answer y out f l p =
-      let fine = running s (node w d).version d (votes_of (all_votes w) (other d)) (node w d).process p.0 p.4 (node_fine s w d f) in
+      let fine = running s (node w d).version d (votes_by (all_votes w) (other d)) (node w d).process p.0 p.4 (node_fine s w d f) in
       receive_sound (events.Give n t) w d (node w d) p.0 p.1 p.2 p.3 out answer y f fine.seat (item_at (MessageFine (all_votes w)) w.sent n p.2 p.5 f.on_sent) p.6 p.7
   desk_sound w d (events.Tick t) answer y out f l p = sound_as (events.Tick t) answer (Answer.Ticked _) p.3 tt
   desk_sound w d (events.Kill c) answer y out f l p = sound_as (events.Kill c) answer Answer.Done p.3 tt
@@ -218,12 +218,12 @@ module _ {Disk Why : Type 0} (s : Setting Disk Why) where
   desk_sound w d (events.FailAt c n) answer y out f l p = sound_as (events.FailAt c n) answer Answer.Done p.1 tt
   desk_sound w d (events.StopAt c n) answer y out f l p = sound_as (events.StopAt c n) answer Answer.Done p.1 tt
   desk_sound w d (events.Open c) answer y out f l p =
-      open_sound (events.Open c) d (votes_of (all_votes w) (other d)) (node w d) p.0 p.1 p.2 answer y
-      (subst (ProcessFine s (node w d).version d (votes_of (all_votes w) (other d))) p.3 (node_fine s w d f))
+      open_sound (events.Open c) d (votes_by (all_votes w) (other d)) (node w d) p.0 p.1 p.2 answer y
+      (subst (ProcessFine s (node w d).version d (votes_by (all_votes w) (other d))) p.3 (node_fine s w d f))
       (subst (λ (z : Process Disk). HeldBy s (Lawful s.rules) (s.view d (node w d).version) (process_votes z) (process_disk z)) p.3 (l d)) p.4 p.5
   desk_sound w d (events.Migrate c) answer y out f l p =
-      migrates_sound c d (votes_of (all_votes w) (other d)) (node w d) (node w d).version p.0 p.1 answer y
-      (subst (ProcessFine s (node w d).version d (votes_of (all_votes w) (other d))) p.2 (node_fine s w d f)) p.3
+      migrates_sound c d (votes_by (all_votes w) (other d)) (node w d) (node w d).version p.0 p.1 answer y
+      (subst (ProcessFine s (node w d).version d (votes_by (all_votes w) (other d))) p.2 (node_fine s w d f)) p.3
   desk_sound w d (events.Wipe n) answer y out f l p = absurd p
 
   board_told_sound : (event : Event) (w : Configuration Disk) (k l : BoardState) (m : Message) (told : BoardAnswer) → Fine s w → BothHold s (λ d. Lawful s.rules) w → BoardFine (all_votes w) k → MessageFine (all_votes w) m → BoardReceives s.rules k m told l → IsSoundAnswer {Why = Why} event (board_told told)
@@ -235,7 +235,7 @@ module _ {Disk Why : Type 0} (s : Setting Disk Why) where
       told_sound event x (λ e. two (subst (λ (z : Heard). Listens k.reader v z l.reader) e p.0))
     where
       two : Listens k.reader v Heard.TwoVotes l.reader → ⊥
-      two c = two_entries (votes_of (all_votes w) (other v.desk)) (votes_of (all_votes w) v.desk) (noted_of k.reader v.desk) v c.1.0 k.reader.position (justified_of w v.desk f) (b.noted v.desk) c.1.1 i c.0 c.1.2
+      two c = two_entries (votes_by (all_votes w) (other v.desk)) (votes_by (all_votes w) v.desk) (noted_of k.reader v.desk) v c.1.0 k.reader.position (justified_of w v.desk f) (b.noted v.desk) c.1.1 i c.0 c.1.2
 
   board_sound : (w : Configuration Disk) (event : Event) (k : BoardState) (answer : Answer Why) (l : BoardState) (out : List Message) → Fine s w → BothHold s (λ d. Lawful s.rules) w → BoardFine (all_votes w) k → AtBoard s w.sent event k answer l out → IsSoundAnswer event answer
   board_sound w (events.Give n t) k answer l out f h b p =

@@ -6,7 +6,7 @@ use Rattle.agree_core.specs.declared.messages.Message.{Message}
 use Rattle.agree_core.specs.declared.messages.Vote.{Vote}
 use Rattle.agree_core.specs.declared.seat.Heard.{Heard}
 use Rattle.agree_core.specs.Agreed.{BeginsWith, IsAgreedList}
-use Rattle.agree_core.specs.Ballots.{AllVotes, Ballot, In, VotesGrow, Within, ballot_of, votes_of}
+use Rattle.agree_core.specs.Ballots.{AllVotes, Ballot, In, VotesGrow, Within, ballot_of, votes_by}
 use Rattle.agree_core.specs.Laws.{OneVoteEach, PlacesSettled, RoundsDiffer}
 use Rattle.headline.specs.declared.event.Event.{Event}
 use Rattle.headline.specs.declared.event.Event.TheVariants as events
@@ -25,13 +25,13 @@ WithinAgreed w ms =
 -- a vote that was handed out is among its desk's votes, and those are in what is read and in every image
 pub record KeptSafe {Disk Why : Type 0} (s : Setting Disk Why) (w : Configuration Disk) : Type 0 where
   pub sent : (n : ℕ) (v : Vote) → slice_get w.sent n ≡ Some (Message.Vote v)
-      → In (ballot_of v) (votes_of (all_votes w) v.desk)
+      → In (ballot_of v) (votes_by (all_votes w) v.desk)
   pub images : (d : DeskId) (image : Option (List Ballot))
       → (s.view d (node w d).version).Image (process_disk (node w d).process) image
-      → (votes : List Ballot) × (image ≡ Some votes) × Within (votes_of (all_votes w) d) votes
+      → (votes : List Ballot) × (image ≡ Some votes) × Within (votes_by (all_votes w) d) votes
   pub reads : (d : DeskId) → (votes : List Ballot)
       × ((s.view d (node w d).version).reads (process_disk (node w d).process) ≡ Some votes)
-      × Within (votes_of (all_votes w) d) votes
+      × Within (votes_by (all_votes w) d) votes
 
 -- how the votes stand: no vote without the one before it, by the votes of the other desk
 pub record VotesStand (v : AllVotes) : Type 0 where

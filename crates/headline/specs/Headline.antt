@@ -6,7 +6,7 @@ use Rattle.corrections.specs.Legal.{IsScoreOf}
 use Rattle.agree_core.specs.declared.messages.DeskId.{DeskId}
 use Rattle.agree_core.specs.declared.messages.DeskId.TheVariants.{A, B}
 use Rattle.agree_core.specs.Agreed.{BeginsWith, EqualVotes}
-use Rattle.agree_core.specs.Ballots.{Ballot, In, votes_of}
+use Rattle.agree_core.specs.Ballots.{Ballot, In, votes_by}
 use Rattle.agree_core.specs.Readers.{other}
 use Rattle.headline.specs.declared.event.Station.{Station}
 use Rattle.headline.specs.Match.{Setting}
@@ -59,7 +59,7 @@ ByBoth v =
 -- each vote that a desk now has was penned by its scorer, unchanged, by a pen that was taken or cut off
 abbrev pub ArePenned : {Disk Why : Type 0} → Configuration Disk → List (Moment Disk Why) → Type 0
 ArePenned w ms =
-    (d : DeskId) (b : Ballot) → In b (votes_of (all_votes (last_of w ms)) d) → WasPenned w ms d b
+    (d : DeskId) (b : Ballot) → In b (votes_by (all_votes (last_of w ms)) d) → WasPenned w ms d b
 
 -- a station that isn't down shows a book of so many entries, whose score by the Laws is this
 abbrev pub ShowsScore : {Disk : Type 0} → ℕ → Configuration Disk → Station → ℕ → Standing → Type 0

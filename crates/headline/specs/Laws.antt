@@ -3,7 +3,7 @@ use Rattle.std.specs.Prelude.{ℕ, List}
 use Rattle.notation.specs.declared.entry.Entry.{Entry}
 use Rattle.corrections.specs.declared.refusal.Refusal.{Refusal}
 use Rattle.entry_log.specs.Disk.{Images}
-use Rattle.entry_log.specs.Slots.{Contents}
+use Rattle.entry_log.specs.Slots.{FileContents}
 use Rattle.agree_core.specs.Agreed.{IsAgreedList}
 use Rattle.agree_core.specs.Books.{IsAgreedByFiles}
 use Rattle.headline.specs.declared.version.FileVersion.{FileVersion}
@@ -39,7 +39,7 @@ module _ {Disk : Type 0} (seen : Disk → List ℕ) (images : Disk → Images) w
   -- it holds in each run of a match on such disks, whatever a file of either version shows of its bytes
   abbrev pub HoldsInEachRun : Type 0
   HoldsInEachRun =
-      (contents : FileVersion → Contents) (game innings : ℕ) (version : FileVersion) (boards : ℕ) (w : Configuration Disk)
+      (contents : FileVersion → FileContents) (game innings : ℕ) (version : FileVersion) (boards : ℕ) (w : Configuration Disk)
       (ms : List (Moment Disk Refusal)) → Begins (setting_of contents seen images game innings) version boards w
       → Run (setting_of contents seen images game innings) w ms
       → HoldsInRun (setting_of contents seen images game innings) innings w ms

@@ -6,7 +6,7 @@ use Rattle.entry_log.specs.declared.mem_disk.MemDisk.{MemDisk}
 use Rattle.entry_log.specs.Disk.{Images}
 use Rattle.entry_log.specs.Format.{Format, contents, room}
 use Rattle.entry_log.specs.MemDisk.{file_of, images_of}
-use Rattle.entry_log.specs.Slots.{Contents}
+use Rattle.entry_log.specs.Slots.{FileContents}
 use Rattle.entry_log.specs.Version1.{version_1}
 use Rattle.entry_log.specs.Version2.{version_2}
 use Rattle.agree_core.specs.declared.messages.DeskId.{DeskId}
@@ -34,7 +34,7 @@ most_bytes version = room (format_of version) most_votes
 -- the match of this number, with so many innings a side: what a file of each version shows of its bytes, and the
 -- bytes that a disk has and may have after a power loss
 abbrev pub setting_of :
-    {Disk : Type 0} → (FileVersion → Contents) → (Disk → List ℕ) → (Disk → Images) → ℕ → ℕ → Setting Disk Refusal
+    {Disk : Type 0} → (FileVersion → FileContents) → (Disk → List ℕ) → (Disk → Images) → ℕ → ℕ → Setting Disk Refusal
 setting_of file seen images game innings =
     record { view = λ d version. file_view (file version) seen images d game; rules = book_refusal innings }
 

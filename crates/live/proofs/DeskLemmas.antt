@@ -28,7 +28,7 @@ use Rattle.desk.specs.declared.desk.Desk.{Desk}
 use Rattle.desk.specs.declared.desk.Penned.{Penned}
 use Rattle.desk.specs.declared.refusal.Refusal.{Refusal}
 use Rattle.desk.specs.declared.refusal.Refusal.TheVariants as refusals
-use Rattle.desk.specs.Desk.{SameOwner, desk_of, disk_of, game_of, rules_of, state_of, view_of, votes_of}
+use Rattle.desk.specs.Desk.{SameOwner, desk_of, disk_of, game_of, rules_of, state_of, view_of, own_votes}
 use Rattle.desk.specs.Takes.{Takes}
 use Rattle.live.specs.Passed.{Passed, Came, Sent, sends, sent_bytes}
 use Rattle.live.specs.Runs.{Goes, Kind}
@@ -199,7 +199,7 @@ module _ {S B D : Type 0} {g : Files S D} {h : Disks D} {b : Books B} where
   PenStep k e r l = AreSent (game_of k) (sent r) (λ out. Pens (view_of k) (rules_of k) (state_of k) e (pen_answer r) (state_of l) out)
 
   abbrev PenBlame : Desk S B D g h b → Result Penned Refusal → Desk S B D g h b → Type 0
-  PenBlame k r l = BlamesDisk refusals.Device (g.room (length (votes_of k) + 1) ≤ h.cap (disk_of k)) r (h.faults (disk_of k)) (h.faults (disk_of l))
+  PenBlame k r l = BlamesDisk refusals.Device (g.room (length (own_votes k) + 1) ≤ h.cap (disk_of k)) r (h.faults (disk_of k)) (h.faults (disk_of l))
 
   -- the entry is penned
   pub penned : (sheet : Sheet) (k l : Desk S B D g h b) (line : List ℕ) (e : Entry) (p : Penned) (before after : List Passed) → SameOwner k l → SaysEntry sheet (state_of k).book (state_of k).votes (state_of k).seat.position.round line e →
@@ -218,7 +218,7 @@ module _ {S B D : Type 0} {g : Files S D} {h : Disks D} {b : Books B} where
       PenBlame k (Err why) l → BlamesDisk ends.Device (FitsLongest g.room (h.cap (disk_of k))) (end_of (said.Refused why)) (h.faults (disk_of k)) (h.faults (disk_of l))
   refuses k l e refusals.Device out runs r blame =
       let failed : Result Penned Refusal = Err refusals.Device in
-      blamed failed refusals.Device (Err ends.Device) _ _ (λ q. refl) (λ q. refl) (λ q room. room (length (votes_of k) + 1) (omega (arith, r.0.1.1))) blame
+      blamed failed refusals.Device (Err ends.Device) _ _ (λ q. refl) (λ q. refl) (λ q room. room (length (own_votes k) + 1) (omega (arith, r.0.1.1))) blame
   refuses k l e refusals.Failed out runs r blame = absurd (let path : true ≡ false = sym r.0 ∙ runs in (cc))
   refuses k l e refusals.Waiting out runs r blame = blameless further _ _ (λ q. (cc)) (blame.same (λ q. (cc)))
   refuses k l e refusals.PlacesFull out runs r blame = blameless further _ _ (λ q. (cc)) (blame.same (λ q. (cc)))

@@ -13,7 +13,7 @@ use Rattle.desk.specs.declared.refusal.OpenRefusal.{OpenRefusal}
 use Rattle.vote_store.specs.View.{file_view}
 use Rattle.cards.specs.Sheet.{Sheet}
 use Rattle.desk.specs.declared.desk.Desk.{Desk}
-use Rattle.desk.specs.Desk.{IsOf, desk_of, disk_of, game_of, state_of}
+use Rattle.desk.specs.Desk.{IsDeskOf, desk_of, disk_of, game_of, state_of}
 use Rattle.live.specs.DeskLife.{DeskLives, Follows, ended, fresh}
 use Rattle.live.specs.declared.desk_life.LifeEnd.TheVariants.{NotBegun}
 use Rattle.live.specs.Desks.{DeskRuns, DiskView, FitsLongest, desk_kind, own_line}
@@ -31,7 +31,7 @@ disks_with faults room most = record { faults = faults; FitsLongest = FitsLonges
 module _ {S B D : Type 0} {g : Files S D} {h : Disks D} {b : Books B} where
   -- the run of a desk that is of this match is one of the desk that was opened in it
   ran : (k l : Desk S B D g h b) (sheet : Sheet) (d : DeskId) (innings cap : ℕ) (before after : List Passed) (typed types : List Input) (told tells : Option (List ℕ)) (turns : ℕ) (end : Result (Unit {0}) DeskEnd)
-      → IsOf d sheet.game innings k → h.cap (disk_of k) ≡ cap → DeskRuns sheet k l before after typed types told tells turns end
+      → IsDeskOf d sheet.game innings k → h.cap (disk_of k) ≡ cap → DeskRuns sheet k l before after typed types told tells turns end
       → Follows sheet (file_view g.contents h.seen h.images d sheet.game) (disks_with h.faults g.room cap) innings (Opened (state_of k)) before after typed types told tells turns (ended end)
   ran k l sheet d innings cap before after typed types told tells turns end own cap_is r =
       let P : DeskId → ℕ → ℕ → ℕ → Type 0 = λ e game sides room.
@@ -49,11 +49,11 @@ module _ {S B D : Type 0} {g : Files S D} {h : Disks D} {b : Books B} where
       → game ≡ sheet.game
       → (length (h.seen disk) ≡ 0 → Creates (file_view g.contents h.seen h.images d game) d (state_of k))
       → (0 < length (h.seen disk) → Opens (file_view g.contents h.seen h.images d game) (book_refusal innings) d disk (Opened (state_of k)))
-      → IsOf d game innings k → h.cap (disk_of k) ≡ h.cap disk → DeskRuns sheet k l before after typed types told tells turns end
+      → IsDeskOf d game innings k → h.cap (disk_of k) ≡ h.cap disk → DeskRuns sheet k l before after typed types told tells turns end
       → DeskLives (file_view g.contents h.seen h.images d sheet.game) h.seen (disks_with h.faults g.room (h.cap disk)) sheet innings d disk before after typed types told tells turns (ended end)
   begun_ran k l sheet d game innings disk before after typed types told tells turns end is creates opens own cap_is r =
       let view : ℕ → FileView D = λ n. file_view g.contents h.seen h.images d n in
-      let here : IsOf d sheet.game innings k = record { same_desk = own.same_desk; same_game = own.same_game ∙ is; innings_a_side = own.innings_a_side } in
+      let here : IsDeskOf d sheet.game innings k = record { same_desk = own.same_desk; same_game = own.same_game ∙ is; innings_a_side = own.innings_a_side } in
       record {
         opening = Opened (state_of k);
         begins = (

@@ -10,7 +10,7 @@ use Rattle.corrections.specs.declared.book_of.BookOf.{Ghosts as Books}
 use Rattle.corrections.proofs.LegalLemmas.{slice_get-last}
 use Rattle.entry_log.specs.Blame.{BlamesDisk}
 use Rattle.entry_log.specs.Disk.{Images, IsImage}
-use Rattle.entry_log.specs.Slots.{Contents}
+use Rattle.entry_log.specs.Slots.{FileContents}
 use Rattle.entry_log.specs.declared.disk.Disk.{Ghosts as Disks}
 use Rattle.entry_log.specs.declared.slots_of.SlotsOf.{Ghosts as Files}
 use Rattle.agree_core.specs.declared.messages.Ask.{Ask}
@@ -37,7 +37,7 @@ use Rattle.desk.specs.declared.desk.Penned.{Penned}
 use Rattle.desk.specs.declared.refusal.Refusal.{Refusal as PenRefusal}
 use Rattle.desk.specs.declared.refusal.Refusal.TheVariants as refusals
 use Rattle.desk.specs.Answers.{pen_answer, sent}
-use Rattle.desk.specs.Desk.{IsOf, SameOwner, desk_of, disk_of, game_of, rules_of, state_of, view_of, votes_of}
+use Rattle.desk.specs.Desk.{IsDeskOf, SameOwner, desk_of, disk_of, game_of, rules_of, state_of, view_of, own_votes}
 use Rattle.desk.specs.Takes.{Takes}
 use Rattle.vote_store.specs.View.{file_view, votes_shown}
 use Rattle.match_command.specs.MatchRun.{HoldsBook, HoldsEither, votes_for}
@@ -276,7 +276,7 @@ true_false : (x : Bool) → x ≡ false → x ≡ true → ⊥
 true_false x f t = cc
 
 -- what is read of a disk, and its images, as a desk's file
-abbrev HoldsOf : Contents → DeskId → ℕ → List ℕ → Images → List Ballot → Type 0
+abbrev HoldsOf : FileContents → DeskId → ℕ → List ℕ → Images → List Ballot → Type 0
 HoldsOf contents d game read left votes =
     (votes_shown contents d game read ≡ Some votes)
     × ((image : Option (List Ballot)) → ((file : List ℕ) × IsImage left file × (votes_shown contents d game file ≡ image)) → image ≡ Some votes)
@@ -330,7 +330,7 @@ module _ {S B D : Type 0} {g : Files S D} {h : Disks D} {b : Books B} where
       called_online (plain_sheet 0 1) desk desk Ticked entries before after c (ticks_speak (view_of desk) entries (state_of desk) c.out t c.step.0)
 
   -- it was just made
-  pub first_turn : (desk : DeskId) (game innings : ℕ) (made : Desk S B D g h b) → IsOf desk game innings made → Creates (file_view g.contents h.seen h.images desk game) desk (state_of made) → InTurn [] made
+  pub first_turn : (desk : DeskId) (game innings : ℕ) (made : Desk S B D g h b) → IsDeskOf desk game innings made → Creates (file_view g.contents h.seen h.images desk game) desk (state_of made) → InTurn [] made
   first_turn desk game innings made o c =
       subst (λ (v : FileView D). IsInTurn v [] (state_of made)) (sym (view_is made desk game o.same_desk o.same_game)) (begins (file_view g.contents h.seen h.images desk game) desk (state_of made) c)
 
@@ -340,7 +340,7 @@ module _ {S B D : Type 0} {g : Files S D} {h : Disks D} {b : Books B} where
 
   abbrev PenBlame : Desk S B D g h b → Result Penned PenRefusal → Desk S B D g h b → Type 0
   PenBlame old told new =
-      BlamesDisk refusals.Device (g.room (length (votes_of old) + 1) ≤ h.cap (disk_of old)) told (h.faults (disk_of old)) (h.faults (disk_of new))
+      BlamesDisk refusals.Device (g.room (length (own_votes old) + 1) ≤ h.cap (disk_of old)) told (h.faults (disk_of old)) (h.faults (disk_of new))
 
   takes_entry : (old : Desk S B D g h b) (e : Entry) → IsLevel old → desks.MayPen (rules_of old) (state_of old) e → taking (innings_at old) (book_at old) e ≡ Ok e
   takes_entry old e l may =
@@ -367,7 +367,7 @@ module _ {S B D : Type 0} {g : Files S D} {h : Disks D} {b : Books B} where
   refused old new e number place refusals.Waiting l o step = no_wait (book_at old) (state_of old).seat l.goes step.3.0.1
   refused old new e number place refusals.RoundsFull l o step = no_round (state_of old).seat.position.round (level_round (book_at old) (state_of old).seat l.goes) step.3.0.2
   refused old new e number place refusals.SlotsFull l o step =
-      has_slot (length (votes_of old)) (state_of old).seat.position.place (ap length l.votes ∙ (votes_length (book_at old) ∙ l.goes.place)) step.3.0.1.0 step.3.0.2
+      has_slot (length (own_votes old)) (state_of old).seat.position.place (ap length l.votes ∙ (votes_length (book_at old) ∙ l.goes.place)) step.3.0.1.0 step.3.0.2
 
   -- nothing was written since
   pub still_holds : (old new : Desk S B D g h b) (book : List Entry) → KeepsDisk old new → DiskHolds old book → DiskHolds new book

@@ -3,11 +3,11 @@ use Rattle.std.proofs.Common.{ℕ, ◌≤◌, List, [], ◌∷◌, refl, subst, 
 use Rattle.notation.specs.declared.entry.Entry.{Entry}
 use Rattle.notation.specs.Written.{IsEntry}
 use Rattle.cards.specs.Sheet.{Sheet}
-use Rattle.entry_log.specs.Slots.{Contents}
+use Rattle.entry_log.specs.Slots.{FileContents}
 use Rattle.entry_log.specs.Disk.{Images}
 use Rattle.agree_core.specs.declared.messages.DeskId.{DeskId}
 use Rattle.agree_core.specs.declared.messages.DeskId.TheVariants.{A, B}
-use Rattle.agree_core.specs.Ballots.{Ballot, In, votes_of}
+use Rattle.agree_core.specs.Ballots.{Ballot, In, votes_by}
 use Rattle.headline.proofs.Keeping.{begins_fine}
 use Rattle.headline.proofs.Shown.{each_moment, none_keeps_both}
 use Rattle.headline.proofs.EveryRun.{holds_in_run}
@@ -70,7 +70,7 @@ module _ {Disk : Type 0} (seen : Disk → List ℕ) (images : Disk → Images) w
       let p = flow_runs s game innings refl w (begins_calm s version boards w f.0) hs f.1 in
       (p.0, p.1, p.2, holds_in_run s innings (λ book e none. none) version boards w p.0 f.0 p.1)
 
-  module _ (contents : FileVersion → Contents) (game innings : ℕ) (version : FileVersion) (boards : ℕ) (w : Configuration Disk) (one : 1 ≤ innings) (two : innings ≤ 2) where
+  module _ (contents : FileVersion → FileContents) (game innings : ℕ) (version : FileVersion) (boards : ℕ) (w : Configuration Disk) (one : 1 ≤ innings) (two : innings ≤ 2) where
     abbrev setting : Setting Disk Refusal
     setting = setting_of contents seen images game innings
 
@@ -91,7 +91,7 @@ module _ {Disk : Type 0} (seen : Disk → List ℕ) (images : Disk → Images) w
       record {
         prefixes = λ t u xs ys x y. h.prefixes t u xs ys (at_some (λ v. Shows v t xs) w hs p.0 p.2 x) (at_some (λ v. Shows v u ys) w hs p.0 p.2 y);
         by_both = at_each ByBoth w hs p.0 p.2 h.by_both.0;
-        typed = λ d b i. p.4 d b (now_penned w p.0 h.by_both.1 d b (subst (λ (v : Configuration Disk). In b (votes_of (all_votes v) d)) (sym p.3) i));
+        typed = λ d b i. p.4 d b (now_penned w p.0 h.by_both.1 d b (subst (λ (v : Configuration Disk). In b (votes_by (all_votes v) d)) (sym p.3) i));
         scored = λ one two. each_scored contents game innings version boards w one two hs f;
         scores = λ t u n score other x y. h.scores t u n score other (at_some (λ v. ShowsScore innings v t n score) w hs p.0 p.2 x) (at_some (λ v. ShowsScore innings v u n other) w hs p.0 p.2 y);
         prints = each_prints s.view game innings w hs f.1;

@@ -21,7 +21,7 @@ use Rattle.processes.specs.Happenings.{Happening, after}
 use Rattle.processes.specs.Laws.{IsFlow}
 use Rattle.processes.specs.Headline.{AtEachTime}
 use Rattle.corrections.specs.Refusal.{book_refusal}
-use Rattle.entry_log.specs.Slots.{Contents}
+use Rattle.entry_log.specs.Slots.{FileContents}
 use Rattle.vote_store.specs.View.{votes_shown}
 use Rattle.agree_core.specs.Openings.{Opened, Opens}
 use Rattle.headline.proofs.EveryRun.{holds_in_run}
@@ -55,7 +55,7 @@ now_so P w (x ∷ hs) h = h.0
 
 module _ {Disk : Type 0} (seen : Disk → List ℕ) (images : Disk → Images) (faults : Disk → Faults) where
   -- so at each desk there are bytes
-  has_bytes : (contents : FileVersion → Contents) (game innings : ℕ) (version : FileVersion) (boards : ℕ) (w : Configuration Disk) (hs : List (Happening Disk)) → NoneShowNone contents game → IsFlow seen images contents game innings version boards w hs → (d : DeskId) → 0 < length (seen (process_disk (node (after w hs) d).process))
+  has_bytes : (contents : FileVersion → FileContents) (game innings : ℕ) (version : FileVersion) (boards : ℕ) (w : Configuration Disk) (hs : List (Happening Disk)) → NoneShowNone contents game → IsFlow seen images contents game innings version boards w hs → (d : DeskId) → 0 < length (seen (process_disk (node (after w hs) d).process))
   has_bytes contents game innings version boards w hs none f d =
       let s = setting_of contents seen images game innings in
       let p = flow_runs s game innings refl w (begins_calm s version boards w f.0) hs f.1 in

@@ -1,14 +1,14 @@
 -- Files without a byte.
 use Rattle.std.specs.Prelude.{◌≡◌, ℕ, [], None}
 use Rattle.entry_log.specs.Format.{contents}
-use Rattle.entry_log.specs.Slots.{Contents}
+use Rattle.entry_log.specs.Slots.{FileContents}
 use Rattle.vote_store.specs.View.{votes_shown}
 use Rattle.agree_core.specs.declared.messages.DeskId.{DeskId}
 use Rattle.headline.specs.declared.version.FileVersion.{FileVersion}
 use Rattle.headline.specs.Match.{format_of}
 
 -- no bytes show no votes, whatever the version
-abbrev pub NoneShowNone : (FileVersion → Contents) → ℕ → Type 0
+abbrev pub NoneShowNone : (FileVersion → FileContents) → ℕ → Type 0
 NoneShowNone file game = (version : FileVersion) (d : DeskId) → votes_shown (file version) d game [] ≡ None
 
 -- so it is of both versions

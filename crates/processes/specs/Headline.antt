@@ -4,7 +4,7 @@ use Rattle.notation.specs.declared.entry.Entry.{Entry}
 use Rattle.match_laws.specs.declared.standing.Standing.{Standing}
 use Rattle.agree_core.specs.declared.messages.DeskId.{DeskId}
 use Rattle.agree_core.specs.Agreed.{BeginsWith}
-use Rattle.agree_core.specs.Ballots.{Ballot, In, votes_of}
+use Rattle.agree_core.specs.Ballots.{Ballot, In, votes_by}
 use Rattle.agree_core.specs.Desks.{DeskState}
 use Rattle.headline.specs.declared.event.Station.{Station}
 use Rattle.headline.specs.Configurations.{Running, Configuration, all_votes, node}
@@ -58,7 +58,7 @@ pub record ProcessHeadline {Disk : Type 0} (game innings : ℕ) (w : Configurati
   pub by_both : AtEachTime w hs ByBoth
   -- each vote of a desk was typed there, at its position, as a line that in full is its entry's, behind `again ` in every
   -- round but the first, or there as `again` alone, for the entry of the round before
-  pub typed : (d : DeskId) (b : Ballot) → In b (votes_of (all_votes (after w hs)) d) → WasTyped w hs d b
+  pub typed : (d : DeskId) (b : Ballot) → In b (votes_by (all_votes (after w hs)) d) → WasTyped w hs d b
   -- each score is the Laws' score of its book: in a match of one or two innings a side each book that a process shows has
   -- one, and books of one length have the same, whichever processes show them at whatever times
   pub scored : 1 ≤ innings → innings ≤ 2 → AtEachTime w hs (ShowScores innings)

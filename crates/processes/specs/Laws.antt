@@ -3,7 +3,7 @@ use Rattle.std.specs.Prelude.{◌≡◌, ◌≤◌, ℕ, List, [], ◌∷◌, �
 use Rattle.corrections.specs.declared.refusal.Refusal.{Refusal}
 use Rattle.cards.specs.Sheet.{Sheet}
 use Rattle.entry_log.specs.Disk.{Images}
-use Rattle.entry_log.specs.Slots.{Contents}
+use Rattle.entry_log.specs.Slots.{FileContents}
 use Rattle.vote_store.specs.View.{file_view}
 use Rattle.agree_core.specs.declared.messages.DeskId.{DeskId}
 use Rattle.agree_core.specs.declared.messages.Message.{Message}
@@ -38,7 +38,7 @@ module _ {Disk : Type 0} (seen : Disk → List ℕ) (images : Disk → Images) w
   -- message of the match, was sent before: the run goes on to the one with that board so and its messages handed out.
   abbrev pub BoardStepsInRun : Type 0
   BoardStepsInRun =
-      (contents : FileVersion → Contents) (game innings : ℕ) (w : Configuration Disk) (ms : List (Moment Disk Refusal))
+      (contents : FileVersion → FileContents) (game innings : ℕ) (w : Configuration Disk) (ms : List (Moment Disk Refusal))
       → Run (setting_of contents seen images game innings) w ms → (v : Configuration Disk) → v ≡ last_of w ms
       → (n : ℕ) (k l : BoardState) (call : BoardCall) (out : List Message) → board_at v.boards n ≡ Some k
       → BoardCame game v.sent call → BoardStep game innings k call out l
@@ -48,7 +48,7 @@ module _ {Disk : Type 0} (seen : Disk → List ℕ) (images : Disk → Images) w
   -- the same of a desk's process, with whatever sheet, where no fault is due on its disk
   abbrev pub DeskStepsInRun : Type 0
   DeskStepsInRun =
-      (contents : FileVersion → Contents) (game innings : ℕ) (w : Configuration Disk) (ms : List (Moment Disk Refusal))
+      (contents : FileVersion → FileContents) (game innings : ℕ) (w : Configuration Disk) (ms : List (Moment Disk Refusal))
       → Run (setting_of contents seen images game innings) w ms → (v : Configuration Disk) → v ≡ last_of w ms
       → (d : DeskId) (s : Sheet) (k l : DeskState Disk) (call : DeskCall) (out : List Message)
       → (node v d).process ≡ Running k
@@ -57,7 +57,7 @@ module _ {Disk : Type 0} (seen : Disk → List ℕ) (images : Disk → Images) w
       → GoesOn (setting_of contents seen images game innings) w ms (with_process v d (Running l) out)
 
   -- Of all that happens to the processes of two desks that were just created and of boards:
-  module _ (contents : FileVersion → Contents) (game innings : ℕ) where
+  module _ (contents : FileVersion → FileContents) (game innings : ℕ) where
     abbrev pub IsFlow : FileVersion → ℕ → Configuration Disk → List (Happening Disk) → Type 0
     IsFlow version boards w hs =
         Begins (setting_of contents seen images game innings) version boards w
@@ -66,7 +66,7 @@ module _ {Disk : Type 0} (seen : Disk → List ℕ) (images : Disk → Images) w
   -- a run of the definitions goes through it, of which all holds that holds of every run
   abbrev pub FlowsAreRuns : Type 0
   FlowsAreRuns =
-      (contents : FileVersion → Contents) (game innings : ℕ) (version : FileVersion) (boards : ℕ) (w : Configuration Disk)
+      (contents : FileVersion → FileContents) (game innings : ℕ) (version : FileVersion) (boards : ℕ) (w : Configuration Disk)
       (hs : List (Happening Disk)) → IsFlow contents game innings version boards w hs
       → (ms : List (Moment Disk Refusal)) × Run (setting_of contents seen images game innings) w ms
       × GoesThrough w ms hs × HoldsInRun (setting_of contents seen images game innings) innings w ms
@@ -74,5 +74,5 @@ module _ {Disk : Type 0} (seen : Disk → List ℕ) (images : Disk → Images) w
   -- and so the headline holds of it
   abbrev pub FlowsHaveHeadline : Type 0
   FlowsHaveHeadline =
-      (contents : FileVersion → Contents) (game innings : ℕ) (version : FileVersion) (boards : ℕ) (w : Configuration Disk)
+      (contents : FileVersion → FileContents) (game innings : ℕ) (version : FileVersion) (boards : ℕ) (w : Configuration Disk)
       (hs : List (Happening Disk)) → IsFlow contents game innings version boards w hs → ProcessHeadline game innings w hs

@@ -2,7 +2,7 @@
 use Rattle.std.specs.Prelude.{◌≡◌, ℕ, Bool, true, false, nat_eq, List, [], ◌∷◌, None}
 use Rattle.std.specs.List.{filter}
 use Rattle.entry_log.specs.Disk.{Faults, Images}
-use Rattle.entry_log.specs.Slots.{Contents}
+use Rattle.entry_log.specs.Slots.{FileContents}
 use Rattle.vote_store.specs.View.{file_view}
 use Rattle.agree_core.specs.declared.messages.DeskId.{DeskId}
 use Rattle.agree_core.specs.declared.messages.DeskId.TheVariants.{A, B}
@@ -61,7 +61,7 @@ start version boards a b =
 module _ {Disk : Type 0} (seen : Disk → List ℕ) (images : Disk → Images) (faults : Disk → Faults) where
   -- All that happened to the processes of a match with this seal, the newest first: what opened at a station, one of them
   -- had sealed before; what happened at each desk and at each board is its life; and there are no other boards.
-  pub record IsWoven (seal : List ℕ) (contents : FileVersion → Contents) (game innings : ℕ) (w : Configuration Disk) (hs : List (Happening Disk)) : Type 0 where
+  pub record IsWoven (seal : List ℕ) (contents : FileVersion → FileContents) (game innings : ℕ) (w : Configuration Disk) (hs : List (Happening Disk)) : Type 0 where
     pub order : NothingIsForged seal game w hs
     pub desks : (d : DeskId) → (life : List (Stage Disk))
         × IsLife (λ version. file_view (contents version) seen images d game) seen faults d game innings (node w d) life
@@ -71,7 +71,7 @@ module _ {Disk : Type 0} (seen : Disk → List ℕ) (images : Disk → Images) (
     pub no_others : (n : ℕ) → board_at w.boards n ≡ None → filter (is_at_board n) hs ≡ []
 
   -- the desks at the beginnings of their first processes
-  abbrev pub BothBegin : Contents → ℕ → ℕ → DeskState Disk → DeskState Disk → Type 0
+  abbrev pub BothBegin : FileContents → ℕ → ℕ → DeskState Disk → DeskState Disk → Type 0
   BothBegin contents game innings a b =
       BeginsFirst (file_view contents seen images A game) seen innings A a
       × BeginsFirst (file_view contents seen images B game) seen innings B b
@@ -79,7 +79,7 @@ module _ {Disk : Type 0} (seen : Disk → List ℕ) (images : Disk → Images) (
   -- the lives of all stations of one seal, put into one order in which nothing opens that none had sealed, are a flow
   abbrev pub WovenLivesFlow : Type 0
   WovenLivesFlow =
-      (seal : List ℕ) (contents : FileVersion → Contents) (game innings : ℕ) (version : FileVersion) (boards : ℕ)
+      (seal : List ℕ) (contents : FileVersion → FileContents) (game innings : ℕ) (version : FileVersion) (boards : ℕ)
       (a b : DeskState Disk) (hs : List (Happening Disk)) → NoneShowNone contents game
       → BothBegin (contents version) game innings a b
       → IsWoven seal contents game innings (start version boards a b) hs
@@ -88,7 +88,7 @@ module _ {Disk : Type 0} (seen : Disk → List ℕ) (images : Disk → Images) (
   -- and so the headline holds of them
   abbrev pub WovenLivesHaveHeadline : Type 0
   WovenLivesHaveHeadline =
-      (seal : List ℕ) (contents : FileVersion → Contents) (game innings : ℕ) (version : FileVersion) (boards : ℕ)
+      (seal : List ℕ) (contents : FileVersion → FileContents) (game innings : ℕ) (version : FileVersion) (boards : ℕ)
       (a b : DeskState Disk) (hs : List (Happening Disk)) → NoneShowNone contents game
       → BothBegin (contents version) game innings a b
       → IsWoven seal contents game innings (start version boards a b) hs

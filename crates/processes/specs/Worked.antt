@@ -5,7 +5,7 @@ use Rattle.std.specs.Prelude.{ℕ, List, [], ◌∷◌, Ok, codes, false}
 use Rattle.notation.specs.declared.entry.Entry.TheVariants.{Write}
 use Rattle.notation.specs.declared.entry.Plain.TheVariants.{Void}
 use Rattle.entry_log.specs.Disk.{Faults, Never, only}
-use Rattle.entry_log.specs.Slots.{Contents}
+use Rattle.entry_log.specs.Slots.{FileContents}
 use Rattle.agree_core.specs.declared.messages.DeskId.{DeskId}
 use Rattle.agree_core.specs.declared.messages.DeskId.TheVariants.{A, B}
 use Rattle.agree_core.specs.declared.messages.Message.{Message}
@@ -35,7 +35,7 @@ use Rattle.processes.specs.Weaving.{IsWoven, start}
 abbrev pub the_vote : Ballot
 the_vote = ballot_at 0 0 (Write Void)
 
-abbrev pub toy : FileVersion → Contents
+abbrev pub toy : FileVersion → FileContents
 toy version desk game [] = Ok []
 toy version desk game (header ∷ []) = Ok []
 toy version desk game (header ∷ vote ∷ more) = Ok (record_of the_vote ∷ [])

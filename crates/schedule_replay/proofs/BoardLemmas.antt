@@ -48,7 +48,7 @@ use Rattle.headline.specs.Runs.{Begins, BeginsAt}
 use Rattle.schedule_replay.specs.inner.Sites.{BeginsSite, IsProcess, HasNode}
 use Rattle.schedule_replay.specs.WorldDesks.{state_of}
 use Rattle.schedule_replay.specs.Plans.{StaysDue, due_on}
-use Rattle.schedule_replay.specs.CodeWorlds.{BeginsWorld, boards_of, version_of, IsBoardOf, IsSiteOf, HasConfiguration, MatchBoard, RefusesTo, StepsTo, board_game, board_innings, board_seen, board_state, code_site}
+use Rattle.schedule_replay.specs.CodeWorlds.{BeginsWorld, boards_of, match_version, IsBoardOf, IsSiteOf, HasConfiguration, MatchBoard, RefusesTo, StepsTo, board_game, board_innings, board_seen, board_state, code_site}
 use Rattle.schedule_replay.specs.inner.WorldBoards.{AreFresh, BoardSteps, SameBoard}
 use Rattle.schedule_replay.proofs.TakeLemmas.{sending_grows}
 use Rattle.schedule_replay.proofs.GiveLemmas.{datagram_at, message_at, message_in, not_both}
@@ -266,7 +266,7 @@ begins world version boards a b fresh sent =
       bytes = (All-nil IsMessage, ap (map (λ (d : Datagram). d.bytes)) sent);
     } in
     let begin : Begins (match_of world.game world.innings_a_side) version boards w = record { a = x.2; b = y.2; boards_are_fresh = refl; nothing_sent = refl } in
-    let own : Begins (match_of world.game world.innings_a_side) (version_of world) (boards_of world) w =
+    let own : Begins (match_of world.game world.innings_a_side) (match_version world) (boards_of world) w =
     subst (λ (v : FileVersion). Begins (match_of world.game world.innings_a_side) v (boards_of world) w) (sym a.same_version) (subst (λ (n : ℕ). Begins (match_of world.game world.innings_a_side) version n w) (sym many) begin) in
     record { is_new = (w, is, own); same_game = refl; same_innings = refl; same_version = a.same_version; same_boards = many }
   where

@@ -40,7 +40,7 @@ use Rattle.headline.specs.DeskFaults.{StaysDown}
 use Rattle.headline.specs.Match.{Setting, match_of}
 use Rattle.schedule_replay.specs.Answers.{answer_of, is_failing, wants_memory}
 use Rattle.schedule_replay.specs.inner.Sites.{BreaksDown, IsDue, IsProcess, HasNode, IsWorldDisk, NotFoundBy, SameSite, SiteSteps, SyncsSite}
-use Rattle.schedule_replay.specs.WorldDesks.{IsOf, disk_of, state_of}
+use Rattle.schedule_replay.specs.WorldDesks.{IsWorldDeskOf, disk_of, state_of}
 use Rattle.schedule_replay.proofs.SiteLemmas.{HasDisk, broken_same, down_is, no_bytes, put_down_is, sets_plan_stays}
 
 -- a site whose desk is down
@@ -111,7 +111,7 @@ abbrev pub RulesAt : Site → Rules Refusal
 RulesAt site = (λ (s : Setting MemDisk Refusal). s.rules) (match_of site.game site.innings_a_side)
 
 -- the desk is opened
-pub opened : (old : Site) (l : WorldDesk) (disk : MemDisk) (left : Option MemDisk) (n : ℕ) (sent : List Datagram) → left ≡ None → old.desk ≡ None → old.disk ≡ Some disk → Opens (ViewAt old old.version) (RulesAt old) old.name disk (Opened (state_of l)) → IsOf old.name old.version old.game old.innings_a_side l → cap_of (disk_of l) ≡ cap_of disk → faults_of (disk_of l) ≡ faults_of disk → n ≡ length ((λ (s : DeskState MemDisk). s.book) (state_of l)) → SiteSteps (events.Open old.name) old sent (seens.Opened n) (record old { desk = Some l; disk = left }) sent
+pub opened : (old : Site) (l : WorldDesk) (disk : MemDisk) (left : Option MemDisk) (n : ℕ) (sent : List Datagram) → left ≡ None → old.desk ≡ None → old.disk ≡ Some disk → Opens (ViewAt old old.version) (RulesAt old) old.name disk (Opened (state_of l)) → IsWorldDeskOf old.name old.version old.game old.innings_a_side l → cap_of (disk_of l) ≡ cap_of disk → faults_of (disk_of l) ≡ faults_of disk → n ≡ length ((λ (s : DeskState MemDisk). s.book) (state_of l)) → SiteSteps (events.Open old.name) old sent (seens.Opened n) (record old { desk = Some l; disk = left }) sent
 opened old l disk left n sent none down there opens own cap faults many x messages h b =
     let d = down_at old disk x down there h in
     let on = d.on_disk in

@@ -4,7 +4,7 @@ use Rattle.entry_log.specs.Format.{contents}
 use Rattle.entry_log.specs.MemDisk.{file_of}
 use Rattle.entry_log.specs.declared.mem_disk.MemDisk.{MemDisk}
 use Rattle.agree_core.specs.declared.messages.DeskId.{DeskId}
-use Rattle.agree_core.specs.Ballots.{Ballot, oldest, votes_of}
+use Rattle.agree_core.specs.Ballots.{Ballot, oldest, votes_by}
 use Rattle.agree_core.specs.Readers.{other}
 use Rattle.agree_core.specs.Books.{book_of}
 use Rattle.vote_store.specs.View.{votes_shown}
@@ -84,7 +84,7 @@ pub files_read : (game innings : ℕ) (w : Configuration MemDisk) → Fine (matc
 files_read game innings w f d =
     let s = match_of game innings in
     let x = node w d in
-    let theirs = votes_of (all_votes w) (other d) in
+    let theirs = votes_by (all_votes w) (other d) in
     more theirs (process_votes x.process) ((s.view d x.version).reads (process_disk x.process)) (fine_disk s x.version d theirs x.process (node_fine s w d f)).0
   where
     more : (theirs votes : List Ballot) (shown : Option (List Ballot)) → ShowsMore theirs votes shown → (later : List Ballot) × (shown ≡ Some (later ++ votes))

@@ -29,7 +29,7 @@ use Rattle.headline.specs.Runs.{AtEachMoment, AtSomeMoment, Begins, Moment, Run,
 use Rattle.headline.specs.Match.{match_of}
 use Rattle.schedule_replay.specs.Answers.{answer_of}
 use Rattle.schedule_replay.specs.Refusals.{RefusesEvent}
-use Rattle.schedule_replay.specs.CodeWorlds.{BeginsWorld, IsNew, boards_of, version_of, HasConfiguration, RefusesTo, KeepsMatch, StepsTo}
+use Rattle.schedule_replay.specs.CodeWorlds.{BeginsWorld, IsNew, boards_of, match_version, HasConfiguration, RefusesTo, KeepsMatch, StepsTo}
 use Rattle.headline.specs.Headline.{ShowScores, ShowsScore}
 use Rattle.schedule_replay.specs.Replays.{AreSeen, EndsAt, EndsOrNeverBegins, IsReplay, IsRunOf, MatchRun, StandOnce}
 use Rattle.schedule_replay.specs.inner.RunsSoFar.{HasTaken, IsAt}
@@ -77,7 +77,7 @@ event_at (x ∷ xs) zero d h = refl
 event_at (x ∷ xs) (suc n) d h = event_at xs n d (omega (arith, h))
 
 -- a new world begins the match that it is of
-pub own_match : (world : World) → IsNew world → BeginsWorld world.game world.innings_a_side (version_of world) (boards_of world) world
+pub own_match : (world : World) → IsNew world → BeginsWorld world.game world.innings_a_side (match_version world) (boards_of world) world
 own_match world h = record { is_new = h; same_game = refl; same_innings = refl; same_version = refl; same_boards = refl }
 
 module _ (game innings : ℕ) (version : FileVersion) (boards : ℕ) (events : List Event) where
@@ -278,10 +278,10 @@ module _ (game innings : ℕ) (version : FileVersion) (boards : ℕ) (events : L
           (f.0, subst (IsScoreOf score innings) f.1 b.3)
 
 -- a world of a match ends a replay as a replay of the match ends
-pub ends_of_match : (game innings : ℕ) (version : FileVersion) (boards : ℕ) (events : List Event) (world : World) (r : Result Report (ℕ × WorldRefusal)) → BeginsWorld game innings version boards world → IfErr r (EndsAt world.game world.innings_a_side (version_of world) (boards_of world) events) → IfErr r (EndsOrNeverBegins game innings version boards events)
+pub ends_of_match : (game innings : ℕ) (version : FileVersion) (boards : ℕ) (events : List Event) (world : World) (r : Result Report (ℕ × WorldRefusal)) → BeginsWorld game innings version boards world → IfErr r (EndsAt world.game world.innings_a_side (match_version world) (boards_of world) events) → IfErr r (EndsOrNeverBegins game innings version boards events)
 ends_of_match game innings version boards events world (Ok report) b h = h
 ends_of_match game innings version boards events world (Err end) b h =
     inr (subst (λ g. EndsAt g innings version boards events end) b.same_game
     (subst (λ i. EndsAt world.game i version boards events end) b.same_innings
     (subst (λ v. EndsAt world.game world.innings_a_side v boards events end) b.same_version
-    (subst (λ n. EndsAt world.game world.innings_a_side (version_of world) n events end) b.same_boards h))))
+    (subst (λ n. EndsAt world.game world.innings_a_side (match_version world) n events end) b.same_boards h))))

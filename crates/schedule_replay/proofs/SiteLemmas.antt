@@ -35,13 +35,13 @@ use Rattle.headline.specs.DeskFaults.{Breaks}
 use Rattle.headline.specs.Match.{format_of, match_of, most_bytes}
 use Rattle.schedule_replay.specs.Answers.{AreBytesOf, answer_of}
 use Rattle.schedule_replay.specs.inner.Sites.{BreaksDown, IsDue, IsProcess, HasNode, IsWorldDisk, PutsDown, SameSite, disk_at, votes_at}
-use Rattle.schedule_replay.specs.WorldDesks.{IsOf, SameOwner, disk_of, game_of, innings_of, rules_of, state_of, version_of, view_of}
+use Rattle.schedule_replay.specs.WorldDesks.{IsWorldDeskOf, SameOwner, disk_of, game_of, innings_of, rules_of, state_of, version_of, view_of}
 
-abbrev pub votes_of : WorldDesk → List Ballot
-votes_of k = (λ (s : DeskState MemDisk). s.votes) (state_of k)
+abbrev pub own_votes : WorldDesk → List Ballot
+own_votes k = (λ (s : DeskState MemDisk). s.votes) (state_of k)
 
 -- what is said of its own view and rules is said of the match's
-pub of_match : (name : DeskId) (version : FileVersion) (game innings : ℕ) (k : WorldDesk) → IsOf name version game innings k → (P : FileView MemDisk → Rules Refusal → Type 0) → P (view_of k) (rules_of k) → P ((match_of game innings).view name version) (match_of game innings).rules
+pub of_match : (name : DeskId) (version : FileVersion) (game innings : ℕ) (k : WorldDesk) → IsWorldDeskOf name version game innings k → (P : FileView MemDisk → Rules Refusal → Type 0) → P (view_of k) (rules_of k) → P ((match_of game innings).view name version) (match_of game innings).rules
 of_match name version game innings k o P p =
     let at = λ (d : DeskId) (v : FileVersion) (g n : ℕ). P ((match_of g n).view d v) (match_of g n).rules in
     let q = subst (λ (d : DeskId). P ((match_of (game_of k) (innings_of k)).view d (version_of k)) (rules_of k)) o.same_name p in
@@ -50,12 +50,12 @@ of_match name version game innings k o P p =
     subst (λ (n : ℕ). P ((match_of game n).view name version) (match_of game n).rules) o.same_innings t
 
 -- the same desk after a call
-pub still_of : (name : DeskId) (version : FileVersion) (game innings : ℕ) (k l : WorldDesk) → IsOf name version game innings k → SameOwner k l → IsOf name version game innings l
+pub still_of : (name : DeskId) (version : FileVersion) (game innings : ℕ) (k l : WorldDesk) → IsWorldDeskOf name version game innings k → SameOwner k l → IsWorldDeskOf name version game innings l
 still_of name version game innings k l own o = record { same_name = o.name ∙ own.same_name; same_version = o.version ∙ own.same_version; same_game = o.same_game ∙ own.same_game; same_innings = o.innings ∙ own.same_innings }
 
 -- a site whose desk runs
 pub record Runs (site : Site) (k : WorldDesk) (x : Node MemDisk) : Type 0 where
-  pub owner : IsOf site.name x.version site.game site.innings_a_side k
+  pub owner : IsWorldDeskOf site.name x.version site.game site.innings_a_side k
   pub on_disk : IsWorldDisk site.version site.due (disk_of k)
   pub no_disk : site.disk ≡ None
   pub process : x.process ≡ Running (state_of k)
@@ -191,7 +191,7 @@ broken_site old new k l x cause seen (Some Stop) d here h o calm spent told q =
     let p : Process MemDisk = Running (state_of l) in
     let has : HasDisk (record old { desk = Some l; due = None }) p = record { disk = refl; votes = refl; cap = o.cap ∙ disk.cap } in
     let down = put_down_is (record old { desk = Some l; due = None }) new p has refl put in
-    let y : Node MemDisk = record x { process = Down (votes_of l) down.0; due = None } in
+    let y : Node MemDisk = record x { process = Down (own_votes l) down.0; due = None } in
     let is : HasNode new y = record { version = h.version ∙ sym put.version; process = down.3; due = sym put.due } in
     (y, Answer.Stopped, ap answer_of q.0, (Stop, h.due ∙ d, (down.0, refl, sets_plan_stays old.name x.version old.game Calm (disk_of l) down.0 down.2, refl)), is)
 

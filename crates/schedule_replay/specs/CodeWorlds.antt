@@ -76,8 +76,8 @@ pub record KeepsMatch (old new : World) : Type 0 where
   pub same_innings : new.innings_a_side ≡ old.innings_a_side
 
 -- the version of desk A's file, which at the start of a match is that of both desks' files
-abbrev pub version_of : World → FileVersion
-version_of world = world.a.version
+abbrev pub match_version : World → FileVersion
+match_version world = world.a.version
 
 -- how many boards it has
 abbrev pub boards_of : World → ℕ
@@ -87,14 +87,14 @@ boards_of world = length world.boards.items
 abbrev pub IsNew : World → Type 0
 IsNew world =
     (w : Configuration MemDisk) × HasConfiguration world w
-    × Begins (match_of world.game world.innings_a_side) (version_of world) (boards_of world) w
+    × Begins (match_of world.game world.innings_a_side) (match_version world) (boards_of world) w
 
 -- it is at the start of this match, with files of this version and so many boards
 pub record BeginsWorld (game innings : ℕ) (version : FileVersion) (boards : ℕ) (world : World) : Type 0 where
   pub is_new : IsNew world
   pub same_game : world.game ≡ game
   pub same_innings : world.innings_a_side ≡ innings
-  pub same_version : version_of world ≡ version
+  pub same_version : match_version world ≡ version
   pub same_boards : boards_of world ≡ boards
 
 -- the event is taken: it is a step of the definitions, this is what is seen of its answer, a fault that it asks for

@@ -57,7 +57,7 @@ abbrev pub rules_of : WorldDesk → Rules Refusal
 rules_of k = (λ (s : Setting MemDisk Refusal). s.rules) (match_of (game_of k) (innings_of k))
 
 -- it is this desk's, in this match, with a file of this version
-pub record IsOf (name : DeskId) (version : FileVersion) (game innings : ℕ) (k : WorldDesk) : Type 0 where
+pub record IsWorldDeskOf (name : DeskId) (version : FileVersion) (game innings : ℕ) (k : WorldDesk) : Type 0 where
   pub same_name : name_of k ≡ name
   pub same_version : version_of k ≡ version
   pub same_game : game_of k ≡ game

@@ -1,7 +1,7 @@
 //! A replay: a new world over a whole schedule, and what is reported of it.
 
 ghost use Rattle.std.specs.Prelude.{◌≤◌, ℕ, All, IfErr, IfOk, length};
-ghost use Rattle.schedule_replay.specs.CodeWorlds.{IsNew, boards_of, version_of};
+ghost use Rattle.schedule_replay.specs.CodeWorlds.{IsNew, boards_of, match_version};
 ghost use Rattle.schedule_replay.specs.inner.RunsSoFar.{HasTaken};
 ghost use Rattle.headline.specs.Events.{IsEvent};
 ghost use Rattle.schedule_replay.specs.Replays.{EndsAt, EndsOrNeverBegins, IsReplay};
@@ -87,9 +87,9 @@ pub fn replay_in(
     requires new { IsNew world }
     requires boards { boards_of world ≤ 4 }
     requires events { All IsEvent events.now }
-    ensures reported { IfOk result (IsReplay world.game world.innings_a_side (version_of world)
+    ensures reported { IfOk result (IsReplay world.game world.innings_a_side (match_version world)
         (boards_of world) events.now) }
-    ensures ends { IfErr result (EndsAt world.game world.innings_a_side (version_of world)
+    ensures ends { IfErr result (EndsAt world.game world.innings_a_side (match_version world)
         (boards_of world) events.now) }
 {
     let Ok(mut shown) = ShownScores::new(alloc) else {

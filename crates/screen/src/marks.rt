@@ -8,7 +8,7 @@ ghost use Rattle.screen.specs.inner.MarkText.{mark_text};
 ghost use Rattle.screen.specs.Overs.{with_balls};
 ghost use Rattle.streams.specs.Watched.{Prints, has_failed};
 ghost use Rattle.screen.specs.Row as rows;
-ghost use Rattle.screen.specs.inner.Items as items_of;
+ghost use Rattle.screen.specs.inner.Items as items;
 
 use crate::mark::{Mark, all_runs, mark_of};
 use crate::over::place_of;
@@ -46,7 +46,7 @@ fn print_ball<W: Write>(out: &mut Watched<W>, ball: &Ball) -> Result<(), WriteFa
 
 /// Prints an item, where it is a delivery.
 fn print_item<W: Write>(out: &mut Watched<W>, item: &Plain) -> Result<(), WriteFailed>
-    ensures text { OnOk result (Prints W.contents out.old out.new (items_of.item_mark item.now)) }
+    ensures text { OnOk result (Prints W.contents out.old out.new (items.item_mark item.now)) }
     ensures failed { OnErr result (has_failed out.new ≡ true) }
 {
     match item {
@@ -74,7 +74,7 @@ pub fn print_marks<W: Write>(
 
 /// The runs of an item.
 fn item_runs(item: &Plain) -> u32
-    ensures value { result ≡ items_of.item_runs item.now }
+    ensures value { result ≡ items.item_runs item.now }
     ensures bound { result ≤ 260 }
 {
     match item {

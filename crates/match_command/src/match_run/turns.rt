@@ -6,7 +6,7 @@ ghost use Rattle.entry_log.specs.Format.{room};
 ghost use Rattle.entry_log.specs.Slots.{StaysOrBegins};
 ghost use Rattle.entry_log.specs.Version2.{version_2};
 ghost use Rattle.corrections.specs.CleanList.{history_of};
-ghost use Rattle.desk.specs.Desk.{IsOf, SameOwner, disk_of, game_of};
+ghost use Rattle.desk.specs.Desk.{IsDeskOf, SameOwner, disk_of, game_of};
 ghost use Rattle.board.specs.Board.{SameMatch};
 ghost use Rattle.board.specs.Board as boards;
 ghost use Rattle.cards.specs.Board.{board as board_text};
@@ -57,7 +57,7 @@ fn new_desk<D: Disk + Drop>(
 ) -> Result<Desk<Slots<D>, CheckedBook>, (MatchFault, D)>
     requires disk { length (D.seen disk) ≡ 0 }
     requires book { book.entries ≡ [] }
-    ensures owner { IfOk result (IsOf desk game book.innings_a_side) }
+    ensures owner { IfOk result (IsDeskOf desk game book.innings_a_side) }
     ensures turn { IfOk result (λ made. InTurn [] made) }
     ensures empty { IfOk result (λ made. book_at made ≡ []) }
     ensures calm { IsQuiet D.faults D.cap disk → IfOk result (λ made. IsCalm made) }

@@ -34,7 +34,7 @@ use Rattle.schedule_replay.specs.Refusals.{first_cause, may_grow}
 use Rattle.headline.specs.Match.{match_of, most_bytes}
 use Rattle.schedule_replay.specs.Plans.{StaysDue}
 use Rattle.schedule_replay.specs.Answers.{AreBytesOf, answer_of, is_device}
-use Rattle.schedule_replay.specs.WorldDesks.{IsOf, disk_of, state_of}
+use Rattle.schedule_replay.specs.WorldDesks.{IsWorldDeskOf, disk_of, state_of}
 
 -- what is due on a disk, by what was asked for
 abbrev pub IsDue : Option Fault → Due → Type 0
@@ -49,7 +49,7 @@ pub record IsWorldDisk (version : FileVersion) (due : Option Fault) (disk : MemD
 
 -- it is the desk of this site, on such a disk
 pub record IsWorldDesk (site : Site) (k : WorldDesk) : Type 0 where
-  pub owner : IsOf site.name site.version site.game site.innings_a_side k
+  pub owner : IsWorldDeskOf site.name site.version site.game site.innings_a_side k
   pub on_disk : IsWorldDisk site.version site.due (disk_of k)
 
 -- what runs at a site: the desk, or, of a desk that is down, its disk alone; of the votes of the latter the

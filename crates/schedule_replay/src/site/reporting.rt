@@ -7,7 +7,7 @@ ghost use Rattle.match_laws.specs.declared.standing.Standing.{Standing};
 ghost use Rattle.headline.specs.declared.event.Station.TheVariants as stations;
 ghost use Rattle.schedule_replay.specs.inner.ShownScores.{Adds, DeskHasScore, DeskShows, IsKept};
 ghost use Rattle.schedule_replay.specs.inner.Sites.{HasNode, IsWhole};
-ghost use Rattle.schedule_replay.specs.inner.VotesFiles.{SiteReads, votes_of};
+ghost use Rattle.schedule_replay.specs.inner.VotesFiles.{SiteReads, read_votes};
 ghost use Rattle.headline.specs.Configurations.{Node, process_votes};
 
 use crate::shown_scores::ShownScores;
@@ -40,10 +40,10 @@ impl Site {
         requires whole { IsWhole self }
         requires read { (x : Node MemDisk) × HasNode self x
             × SiteReads self.game self.innings_a_side self.name x }
-        ensures counted { IfOk result (λ found. found.1 ≤ length (votes_of found.0)) }
+        ensures counted { IfOk result (λ found. found.1 ≤ length (read_votes found.0)) }
         ensures votes { IfOk result (λ found. (x : Node MemDisk) → HasNode self x →
             SiteReads self.game self.innings_a_side self.name x →
-            oldest found.1 (votes_of found.0) ≡ process_votes x.process) }
+            oldest found.1 (read_votes found.0) ≡ process_votes x.process) }
     {
         self.put_down();
         let disk = self.disk.take().unwrap();

@@ -1,7 +1,7 @@
 use Rattle.std.proofs.Common.{sym, subst}
 use Rattle.std.proofs.lemmas.List.Elements.{All-get_or}
 use Rattle.std.proofs.lemmas.Option.{get_or_from_slice_get, slice_get_within}
-use Rattle.corrections.specs.CleanList.{IsOf}
+use Rattle.corrections.specs.CleanList.{IsItemOf}
 use Rattle.export.proofs.Noting.{notes_none, notes_one, notes_not, notes_all, begun_all}
 use Rattle.export.proofs.notes.notes_of.Goals as goal
 use Rattle.export.proofs.notes.notes_of.Goals.{then-not-is_void+in_ok-push, else-not-is_void}
@@ -15,7 +15,7 @@ take-requires g c =
     let x = c.placed_at-placed.result in
     let all = c.clean_items-clean_items.result.now in
     let here = c.placed_at-placed.ensures in
-    let entered = IsOf (g.B.BookOf.content c.args.book.now) in
+    let entered = IsItemOf (g.B.BookOf.content c.args.book.now) in
     (subst entered (get_or_from_slice_get all k x x here) (All-get_or entered all k x (slice_get_within all k x here) c.clean_items-clean_items.ensures.items)).item
 
 pub loop-index-preserved : goal.loop-index-preserved
