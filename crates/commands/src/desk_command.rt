@@ -124,8 +124,8 @@ pub fn start_desk<'a>(
     let sealing = Sealing::of(rt, &sheet, key)?;
     let mut writer = output(rt)?;
     let mut keys = Keyboard::of_standard_input(rt);
-    let mut link = sealing.link_at(rt, at, peers, Some(keys.descriptor()), rt.stderr())?;
     let disk = disk_at(rt, &sheet, desk, file)?;
+    let mut link = sealing.link_at(rt, at, peers, Some(keys.descriptor()), rt.stderr())?;
     let book = empty_book(rt, &sheet)?;
     let _ = sealing.tell_fingerprints(&mut rt.stderr());
     let mut clock = MonotonicClock::new(rt);

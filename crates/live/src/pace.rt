@@ -5,18 +5,18 @@ ghost use Rattle.std.specs.Prelude.{◌≡◌, ◌≤◌};
 /// How long an answer is waited for at first, in milliseconds.
 const FIRST_WAIT: u64 = 20;
 
-/// How long at most, so that something is said four times a second.
-const LAST_WAIT: u64 = 250;
+/// How long at most, so that something is said twice a second.
+const LAST_WAIT: u64 = 500;
 
 /// When a station says next what it says unasked: at once where its position is new, then again after 20 ms, after
-/// twice that and so on, up to four times a second.
+/// twice that and so on, up to twice a second.
 #[derive(Clone, Copy, Debug, PartialEq, Eq)]
 pub struct Pace {
     due: u64,
     wait: u64,
     /// Whether the next datagram is waited for: not where another was taken in this turn, or there is a line to take.
     waits: bool,
-    ghost soon: { wait ≤ 250 },
+    ghost soon: { wait ≤ 500 },
 }
 
 impl Pace {

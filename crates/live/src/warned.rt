@@ -7,7 +7,7 @@ use agree_core::Heard;
 use wire::What;
 
 /// What a desk's scorer was told of a peer since a vote that is news came. Anyone's asks are as any desk's, and a desk
-/// that waits repeats its vote four times a second, so that only a vote that is news is a sign that all is right.
+/// that waits repeats its vote twice a second, so that only a vote that is news is a sign that all is right.
 #[derive(Clone, Copy, Debug, PartialEq, Eq)]
 pub struct Warned {
     /// That bytes came that are no message of the match.

@@ -187,9 +187,9 @@ fn silence(rt: &impl Abort, alloc: Global, turns: u64) -> Lines {
 }
 
 /// When a station asks that nobody answers: at once, after 20 ms, and after twice that and so on.
-const UNANSWERED: [u64; 10] = [0, 20, 60, 140, 300, 550, 800, 1050, 1300, 1550];
+const UNANSWERED: [u64; 10] = [0, 20, 60, 140, 300, 620, 1120, 1620, 2120, 2620];
 
-// Each turn lasts until the next ask is due: so a station at rest is woken four times a second.
+// Each turn lasts until the next ask is due: so a station at rest is woken twice a second.
 #[test]
 fn stations_at_rest(rt: HostRuntime) {
     let alloc = rt.alloc();
@@ -220,7 +220,7 @@ fn asks_after(rt: &impl Abort, alloc: Global, bytes: [u8; 48]) -> Vec<u64> {
 }
 
 /// The same, where it asks sooner than it would have.
-const SOONER: [u64; 10] = [0, 20, 60, 140, 300, 550, 800, 830, 850, 890];
+const SOONER: [u64; 10] = [0, 20, 60, 140, 300, 620, 830, 850, 890, 970];
 
 // The first vote of a board's position, and a vote of a station that is further ahead, tell that more may come: it asks
 // soon. An ask, and bytes of another match, don't.
