@@ -191,6 +191,9 @@ def board(folder, fail="", wrong="", disturb=None):
             shown = bytes_at(text)
             if shown is not None and shown.count(b"\n") != 6:
                 raise Wrong(f"the board's file has {shown!r}, which isn't six lines")
+        if fail:
+            # Where it fails as the last file has its name already, it ends a moment later.
+            it.wait([], 0.05)
         return it.end(is_stopped=it.is_open), at
 
 
