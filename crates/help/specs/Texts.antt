@@ -32,7 +32,8 @@ rows Help =
     codes "With no word at all it does what check does." ∷ []
 rows Desk =
     codes "desk: a scorer's desk. What you type stands once the other scorer has typed the" ∷
-    codes "same. After a stop the same command goes on where it was." ∷
+    codes "same. Typed there, help has the forms of lines, and quit ends it. After a stop" ∷
+    codes "the same command goes on where it was." ∷
     codes "" ∷
     codes "  ./ground desk --sheet sheet.toml --desk a --file a.votes --key key.txt \\" ∷
     codes "    --at 127.0.0.1:4711 --other 127.0.0.1:4712 --board 127.0.0.1:4713" ∷

@@ -25,7 +25,8 @@ With no word at all it does what check does.
 
 const DESK: &str = "\
 desk: a scorer's desk. What you type stands once the other scorer has typed the
-same. After a stop the same command goes on where it was.
+same. Typed there, help has the forms of lines, and quit ends it. After a stop
+the same command goes on where it was.
 
   ./ground desk --sheet sheet.toml --desk a --file a.votes --key key.txt \\
     --at 127.0.0.1:4711 --other 127.0.0.1:4712 --board 127.0.0.1:4713
