@@ -258,6 +258,7 @@ def recorded_board(had=None, disturb=None):
 
 BOTH = f"{TOP}/tests/rows/cards/both-the-last-entry-too"
 READING = {
+    "help": (["help", "desk"], b""),
     "check": (["check"], b"innings home\nin 1\nin 2\nball 7 bat 1\n"),
     "card": (["card", "--sheet", SHEET, "--from", f"{TOP}/examples/innings.txt", "--kind", "book"], b""),
     "export": (["export", "--sheet", SHEET, "--from", f"{TOP}/examples/innings.txt", "--kind", "book"], b""),

@@ -1,0 +1,143 @@
+-- What the words of the program do, with one filled-in command each, as a scorer types it.
+use Rattle.std.specs.Prelude.{ℕ, ◌≤◌, List, [], ◌∷◌, ◌++◌, length, All, codes}
+use Rattle.help.specs.declared.topic.Topic.{Topic}
+use Rattle.help.specs.declared.topic.Topic.TheVariants.{Help, Desk, Board, Key, Check, Card, Export, Compare, Match, Replay, Migrate}
+
+-- rows that a plain terminal shows at once: 24 of 80 columns at most
+abbrev pub FitsAScreen : List (List ℕ) → Type 0
+FitsAScreen rows = (length rows ≤ 24) × All (λ row. length row ≤ 80) rows
+
+-- a text of these rows
+abbrev pub lines : List (List ℕ) → List ℕ
+lines [] = []
+lines (row ∷ rows) = row ++ codes "\n" ++ lines rows
+
+-- what is told of a word, row by row
+abbrev pub rows : Topic → List (List ℕ)
+rows Help =
+    codes "ground: the book of a cricket match, kept by two scorers. Its words:" ∷
+    codes "" ∷
+    codes "  desk     a scorer's desk, which agrees what is typed with the other desk" ∷
+    codes "  board    a board, which shows what both scorers have written" ∷
+    codes "  key      writes a new key, for both desks and their boards" ∷
+    codes "  check    reads lines, says which aren't taken and why, and shows the score" ∷
+    codes "  card     prints the cards and the whole book of a match" ∷
+    codes "  export   prints a match as JSON, for an archive" ∷
+    codes "  compare  tells where the votes files of both desks differ" ∷
+    codes "  match    has two desks and a board agree a book, all on this machine" ∷
+    codes "  replay   plays a schedule of what desks and boards write, send and lose" ∷
+    codes "  migrate  moves a desk's votes from a file of version 1 to a new one" ∷
+    codes "  help     this; or what one of these words does, as: ./ground help desk" ∷
+    codes "" ∷
+    codes "With no word at all it does what check does." ∷ []
+rows Desk =
+    codes "desk: a scorer's desk. What you type stands once the other scorer has typed the" ∷
+    codes "same. Typed there, help has the forms of lines, and quit ends it. After a stop" ∷
+    codes "the same command goes on where it was." ∷
+    codes "" ∷
+    codes "  ./ground desk --sheet sheet.toml --desk a --file a.votes --key key.txt \\" ∷
+    codes "    --at 127.0.0.1:4711 --other 127.0.0.1:4712 --board 127.0.0.1:4713" ∷
+    codes "" ∷
+    codes "  --sheet S          the sheet of the match, the same at all desks and boards" ∷
+    codes "  --desk a|b         which of the two desks this is" ∷
+    codes "  --file F           where its votes are kept" ∷
+    codes "  --at ADDR:PORT     its own address" ∷
+    codes "  --other ADDR:PORT  the other desk's address" ∷
+    codes "  --board ADDR:PORT  a board's address; up to four times, or left out" ∷
+    codes "  --key K            the file of the key, the same everywhere; or left out" ∷ []
+rows Board =
+    codes "board: shows what both desks have agreed. It needs no scorer, and fetches what" ∷
+    codes "it lacks from the desks. To end it, close its window." ∷
+    codes "" ∷
+    codes "  ./ground board --sheet sheet.toml --key key.txt --at 127.0.0.1:4713 \\" ∷
+    codes "    --desk-a 127.0.0.1:4711 --desk-b 127.0.0.1:4712 \\" ∷
+    codes "    --text board.txt --json web/board.json" ∷
+    codes "" ∷
+    codes "  --sheet S           the sheet of the match, the same at all desks and boards" ∷
+    codes "  --at ADDR:PORT      its own address" ∷
+    codes "  --desk-a ADDR:PORT  the address of desk A" ∷
+    codes "  --desk-b ADDR:PORT  the address of desk B" ∷
+    codes "  --text T            a file for its six lines; or left out" ∷
+    codes "  --json J            a file of all that a page shows, as JSON; or left out" ∷
+    codes "  --key K             the file of the key, the same everywhere; or left out" ∷ []
+rows Key =
+    codes "key: writes a new key to a file. Both desks and each board get this same file," ∷
+    codes "and nobody else. Make a new one whenever a match is begun on new files." ∷
+    codes "" ∷
+    codes "  ./ground key --to key.txt" ∷
+    codes "" ∷
+    codes "  --to K  the file, which must not be there yet" ∷ []
+rows Check =
+    codes "check: reads full lines from standard input, says which aren't taken and why," ∷
+    codes "and prints the six lines of a board. It has no sheet, so players are numbers." ∷
+    codes "" ∷
+    codes "  ./ground check --innings 1 <first.txt" ∷
+    codes "" ∷
+    codes "  --innings 1|2  how many innings a side has; 2 where it is left out" ∷ []
+rows Card =
+    codes "card: prints both cards of each innings, and then the book: each entry that" ∷
+    codes "stands, and each correction." ∷
+    codes "" ∷
+    codes "  ./ground card --sheet sheet.toml --kind both --from a.votes --with b.votes" ∷
+    codes "" ∷
+    codes "  --sheet S             the sheet of the match" ∷
+    codes "  --kind both|a|b|book  from both desks' votes files, from desk A's, from desk" ∷
+    codes "                        B's, or from a file of full lines" ∷
+    codes "  --from F              the file; for both, desk A's" ∷
+    codes "  --with G              desk B's file, for both alone" ∷ []
+rows Export =
+    codes "export: prints a book as one JSON value, in the format of published archives of" ∷
+    codes "matches, ball by ball." ∷
+    codes "" ∷
+    codes "  ./ground export --sheet sheet.toml --from innings.txt --kind book \\" ∷
+    codes "    >innings.json" ∷
+    codes "" ∷
+    codes "  --sheet S             the sheet of the match" ∷
+    codes "  --kind both|a|b|book  from both desks' votes files, from desk A's, from desk" ∷
+    codes "                        B's, or from a file of full lines" ∷
+    codes "  --from F              the file; for both, desk A's" ∷
+    codes "  --with G              desk B's file, for both alone" ∷ []
+rows Compare =
+    codes "compare: tells where the votes files of both desks differ, a line for each place" ∷
+    codes "and round, and then how many entries they agree." ∷
+    codes "" ∷
+    codes "  ./ground compare --sheet sheet.toml --a a.votes --b b.votes" ∷
+    codes "" ∷
+    codes "  --sheet S  the sheet of the match" ∷
+    codes "  --a A      the votes file of desk A" ∷
+    codes "  --b B      the votes file of desk B" ∷ []
+rows Match =
+    codes "match: two desks and a board agree the lines of a book, all on this machine." ∷
+    codes "The votes of each desk are left in a new file, a.votes and b.votes." ∷
+    codes "" ∷
+    codes "  ./ground match --sheet sheet.toml --book innings.txt --dir whole" ∷
+    codes "" ∷
+    codes "  --sheet S  the sheet of the match" ∷
+    codes "  --book F   a file of full lines" ∷
+    codes "  --dir D    the folder for both files" ∷
+    codes "  --drop K   how many of the first datagrams are lost; none where it is left out" ∷ []
+rows Replay =
+    codes "replay: plays a schedule of two desks and some boards, a line for each event:" ∷
+    codes "who writes what, which message comes where, what stops or loses power." ∷
+    codes "" ∷
+    codes "  ./ground replay --sheet sheet.toml --schedule differ.txt --boards 0" ∷
+    codes "" ∷
+    codes "  --sheet S     the sheet of the match" ∷
+    codes "  --schedule F  the file of events" ∷
+    codes "  --boards N    how many boards there are, 0 to 4" ∷
+    codes "  --old         desks begin with files of version 1; of version 2 if left out" ∷ []
+rows Migrate =
+    codes "migrate: writes the votes of a desk's file of version 1 to a new file of version" ∷
+    codes "2. From then on use only the new one." ∷
+    codes "" ∷
+    codes "  ./ground migrate --sheet sheet.toml --desk a --from old-a.votes \\" ∷
+    codes "    --to new-a.votes" ∷
+    codes "" ∷
+    codes "  --sheet S   the sheet of the match" ∷
+    codes "  --desk a|b  which desk's file it is" ∷
+    codes "  --from O    the file of version 1" ∷
+    codes "  --to N      the new file" ∷ []
+
+-- what is told of a word
+abbrev pub help_on : Topic → List ℕ
+help_on topic = lines (rows topic)

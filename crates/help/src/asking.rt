@@ -1,0 +1,18 @@
+//! What a command line asks to be told.
+
+ghost use Rattle.std.specs.Prelude.{◌≡◌};
+ghost use Rattle.help.specs.Words as forms;
+
+use crate::topic::{Topic, topic_of};
+
+/// What words ask about, the program's name first: `help` alone, or with one of the program's words behind it. Any others
+/// ask about nothing.
+pub fn asked(words: &[String]) -> Option<Topic>
+    ensures { result ≡ forms.asked words.now }
+{
+    match words {
+        [_, first] if first.as_str() == "help" => Some(Topic::Help),
+        [_, first, word] if first.as_str() == "help" => topic_of(word.as_str()),
+        _ => None,
+    }
+}

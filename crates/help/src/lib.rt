@@ -1,0 +1,13 @@
+//! What `ground help` prints: what each word of the program does, with one filled-in command.
+#![tactic(auto)]
+
+mod asking;
+mod laws;
+mod printing;
+mod texts;
+mod topic;
+
+pub use asking::asked;
+pub use laws::texts_fit_a_screen;
+pub use printing::print_help;
+pub use topic::Topic;

@@ -1,0 +1,170 @@
+//! The texts. None has more than 24 rows of 80 columns.
+
+ghost use Rattle.std.specs.Prelude.{◌≡◌};
+ghost use Rattle.help.specs.Texts as texts;
+
+use crate::topic::Topic;
+
+const HELP: &str = "\
+ground: the book of a cricket match, kept by two scorers. Its words:
+
+  desk     a scorer's desk, which agrees what is typed with the other desk
+  board    a board, which shows what both scorers have written
+  key      writes a new key, for both desks and their boards
+  check    reads lines, says which aren't taken and why, and shows the score
+  card     prints the cards and the whole book of a match
+  export   prints a match as JSON, for an archive
+  compare  tells where the votes files of both desks differ
+  match    has two desks and a board agree a book, all on this machine
+  replay   plays a schedule of what desks and boards write, send and lose
+  migrate  moves a desk's votes from a file of version 1 to a new one
+  help     this; or what one of these words does, as: ./ground help desk
+
+With no word at all it does what check does.
+";
+
+const DESK: &str = "\
+desk: a scorer's desk. What you type stands once the other scorer has typed the
+same. Typed there, help has the forms of lines, and quit ends it. After a stop
+the same command goes on where it was.
+
+  ./ground desk --sheet sheet.toml --desk a --file a.votes --key key.txt \\
+    --at 127.0.0.1:4711 --other 127.0.0.1:4712 --board 127.0.0.1:4713
+
+  --sheet S          the sheet of the match, the same at all desks and boards
+  --desk a|b         which of the two desks this is
+  --file F           where its votes are kept
+  --at ADDR:PORT     its own address
+  --other ADDR:PORT  the other desk's address
+  --board ADDR:PORT  a board's address; up to four times, or left out
+  --key K            the file of the key, the same everywhere; or left out
+";
+
+const BOARD: &str = "\
+board: shows what both desks have agreed. It needs no scorer, and fetches what
+it lacks from the desks. To end it, close its window.
+
+  ./ground board --sheet sheet.toml --key key.txt --at 127.0.0.1:4713 \\
+    --desk-a 127.0.0.1:4711 --desk-b 127.0.0.1:4712 \\
+    --text board.txt --json web/board.json
+
+  --sheet S           the sheet of the match, the same at all desks and boards
+  --at ADDR:PORT      its own address
+  --desk-a ADDR:PORT  the address of desk A
+  --desk-b ADDR:PORT  the address of desk B
+  --text T            a file for its six lines; or left out
+  --json J            a file of all that a page shows, as JSON; or left out
+  --key K             the file of the key, the same everywhere; or left out
+";
+
+const KEY: &str = "\
+key: writes a new key to a file. Both desks and each board get this same file,
+and nobody else. Make a new one whenever a match is begun on new files.
+
+  ./ground key --to key.txt
+
+  --to K  the file, which must not be there yet
+";
+
+const CHECK: &str = "\
+check: reads full lines from standard input, says which aren't taken and why,
+and prints the six lines of a board. It has no sheet, so players are numbers.
+
+  ./ground check --innings 1 <first.txt
+
+  --innings 1|2  how many innings a side has; 2 where it is left out
+";
+
+const CARD: &str = "\
+card: prints both cards of each innings, and then the book: each entry that
+stands, and each correction.
+
+  ./ground card --sheet sheet.toml --kind both --from a.votes --with b.votes
+
+  --sheet S             the sheet of the match
+  --kind both|a|b|book  from both desks' votes files, from desk A's, from desk
+                        B's, or from a file of full lines
+  --from F              the file; for both, desk A's
+  --with G              desk B's file, for both alone
+";
+
+const EXPORT: &str = "\
+export: prints a book as one JSON value, in the format of published archives of
+matches, ball by ball.
+
+  ./ground export --sheet sheet.toml --from innings.txt --kind book \\
+    >innings.json
+
+  --sheet S             the sheet of the match
+  --kind both|a|b|book  from both desks' votes files, from desk A's, from desk
+                        B's, or from a file of full lines
+  --from F              the file; for both, desk A's
+  --with G              desk B's file, for both alone
+";
+
+const COMPARE: &str = "\
+compare: tells where the votes files of both desks differ, a line for each place
+and round, and then how many entries they agree.
+
+  ./ground compare --sheet sheet.toml --a a.votes --b b.votes
+
+  --sheet S  the sheet of the match
+  --a A      the votes file of desk A
+  --b B      the votes file of desk B
+";
+
+const MATCH: &str = "\
+match: two desks and a board agree the lines of a book, all on this machine.
+The votes of each desk are left in a new file, a.votes and b.votes.
+
+  ./ground match --sheet sheet.toml --book innings.txt --dir whole
+
+  --sheet S  the sheet of the match
+  --book F   a file of full lines
+  --dir D    the folder for both files
+  --drop K   how many of the first datagrams are lost; none where it is left out
+";
+
+const REPLAY: &str = "\
+replay: plays a schedule of two desks and some boards, a line for each event:
+who writes what, which message comes where, what stops or loses power.
+
+  ./ground replay --sheet sheet.toml --schedule differ.txt --boards 0
+
+  --sheet S     the sheet of the match
+  --schedule F  the file of events
+  --boards N    how many boards there are, 0 to 4
+  --old         desks begin with files of version 1; of version 2 if left out
+";
+
+const MIGRATE: &str = "\
+migrate: writes the votes of a desk's file of version 1 to a new file of version
+2. From then on use only the new one.
+
+  ./ground migrate --sheet sheet.toml --desk a --from old-a.votes \\
+    --to new-a.votes
+
+  --sheet S   the sheet of the match
+  --desk a|b  which desk's file it is
+  --from O    the file of version 1
+  --to N      the new file
+";
+
+/// What is told of a word.
+pub fn help_on(topic: Topic) -> &'static str
+    ensures { result.now ≡ texts.help_on topic }
+{
+    match topic {
+        Topic::Help => HELP,
+        Topic::Desk => DESK,
+        Topic::Board => BOARD,
+        Topic::Key => KEY,
+        Topic::Check => CHECK,
+        Topic::Card => CARD,
+        Topic::Export => EXPORT,
+        Topic::Compare => COMPARE,
+        Topic::Match => MATCH,
+        Topic::Replay => REPLAY,
+        Topic::Migrate => MIGRATE,
+    }
+}
