@@ -1,5 +1,5 @@
 -- What is summed up by names is what the players of these names have: sums over deliveries, and over who batted or bowled.
-use Rattle.std.proofs.Common.{◌≡◌, ℕ, zero, suc, ◌+◌, ◌≤◌, ◌==◌, ◌&&◌, ◌||◌, cond, if◌then◌else◌, Bool, true, false, List, [], ◌∷◌, ◌++◌, Option, Some, None, refl, sym, ap, ◌∙◌, arith, add-one, eqb-true, eq-eqb}
+use Rattle.std.proofs.Common.{◌≡◌, ℕ, zero, suc, ◌+◌, ◌≤◌, ◌==◌, ◌&&◌, ◌||◌, cond, if◌then◌else◌, Bool, true, false, List, [], ◌∷◌, ◌++◌, Option, Some, None, refl, sym, ap, ◌∙◌, arith, add-one, zero-add, eqb-true, eq-eqb}
 use Rattle.std.specs.Cmp.{nat_eq_equiv}
 use Rattle.std.specs.List.{cons_option, filter_map, list_any}
 use Rattle.notation.specs.declared.entry.Ball.{Ball}
@@ -45,7 +45,7 @@ some_times k (q ∷ ps) e = step (q == k) (among k ps) (times k ps) (some_times 
     step false r n f e = f e
 
 times-push : (k p : ℕ) (ps : List ℕ) → times k (ps ++ p ∷ []) ≡ times k ps + one_if (p == k)
-times-push k p [] = refl
+times-push k p [] = omega arith
 times-push k p (q ∷ ps) = step (q == k) (times k (ps ++ p ∷ [])) (times k ps) (one_if (p == k)) (times-push k p ps)
   where
     step : (b : Bool) (all some one : ℕ) → all ≡ some + one → cond b (all + 1) all ≡ cond b (some + 1) some + one
@@ -58,18 +58,17 @@ at_most_one false = omega arith
 
 times_once : (k : ℕ) (ps : List ℕ) → times k (named_once ps) ≡ one_if (among k ps)
 times_once k [] = refl
-times_once k (p ∷ ps) = step (among p (named_once ps)) (p == k) refl refl
+times_once k (p ∷ ps) = step (among p (named_once ps)) (p == k) refl refl (times_once k ps)
   where
-    step : (found same : Bool) → among p (named_once ps) ≡ found → (p == k) ≡ same → times k (cond found (named_once ps) (named_once ps ++ p ∷ [])) ≡ one_if (same || among k ps)
-    step true false e is = times_once k ps
-    step false false e is = let push = times-push k p (named_once ps) in let none = ap one_if is in let before = times_once k ps in omega (arith, push, none, before)
-    step true true e is =
+    step : (found same : Bool) → among p (named_once ps) ≡ found → (p == k) ≡ same → times k (named_once ps) ≡ one_if (among k ps) → times k (cond found (named_once ps) (named_once ps ++ p ∷ [])) ≡ one_if (same || among k ps)
+    step true false e is before = before
+    step false false e is before = let push = times-push k p (named_once ps) in let none = ap one_if is in omega (arith, push, none, before)
+    step true true e is before =
         let some = some_times p (named_once ps) e in
         let same = ap (λ q. times q (named_once ps)) (eqb-true p k is) in
-        let before = times_once k ps in
         let most = at_most_one (among k ps) in
         omega (arith, some, same, before, most)
-    step false true e is =
+    step false true e is before =
         let push = times-push k p (named_once ps) in
         let one = ap one_if is in
         let none = none_times p (named_once ps) e in
@@ -112,22 +111,21 @@ module _ (test : ℕ → Bool) where
   -- a number of one player alone
   picked-one : (k n : ℕ) (ps : List ℕ) → picked test (λ p. if k == p then n else 0) ps ≡ repeated (times k ps) (cond (test k) n 0)
   picked-one k n [] = refl
-  picked-one k n (p ∷ ps) = step (k == p) refl
+  picked-one k n (p ∷ ps) = step (k == p) refl (picked-one k n ps)
     where
-      step : (b : Bool) → (k == p) ≡ b → picked test (λ q. if k == q then n else 0) ps + cond (test p) (cond b n 0) 0 ≡ repeated (cond (p == k) (times k ps + 1) (times k ps)) (cond (test k) n 0)
-      step true is =
-          let rest = picked-one k n ps in
+      nothing : (b : Bool) (m : ℕ) → m ≡ 0 → cond b m 0 ≡ 0
+      nothing true m e = e
+      nothing false m e = refl
+
+      step : (b : Bool) → (k == p) ≡ b → picked test (λ q. if k == q then n else 0) ps ≡ repeated (times k ps) (cond (test k) n 0)
+          → picked test (λ q. if k == q then n else 0) ps + cond (test p) (cond b n 0) 0 ≡ repeated (cond (p == k) (times k ps + 1) (times k ps)) (cond (test k) n 0)
+      step true is rest =
           let same = ap (λ q. cond (test q) n 0) (eqb-true k p is) in
           let more = repeated-more (times k ps) (cond (test k) n 0) in
           rw (nat_eq_equiv.symm p k, is) (omega (arith, rest, same, more))
-      step false is =
-          let rest = picked-one k n ps in
-          let none = nothing (test p) in
+      step false is rest =
+          let none = nothing (test p) 0 refl in
           rw (nat_eq_equiv.symm p k, is) (omega (arith, rest, none))
-        where
-          nothing : (b : Bool) → cond b 0 0 ≡ 0
-          nothing true = refl
-          nothing false = refl
 
 abbrev pub takes : (ℕ → Bool) → Option ℕ → Bool
 takes test None = false
@@ -159,7 +157,7 @@ module _ (i : ℕ) (key : Delivery → Option ℕ) where
     one_delivery true None n named = sym (picked-none test (named_once ps))
     one_delivery true (Some k) n named =
         let once : times k (named_once ps) ≡ 1 = times_once k ps ∙ ap one_if (named k refl (is_itself k)) in
-        sym (picked-one test k n (named_once ps) ∙ ap (λ t. repeated test t (cond (test k) n 0)) once)
+        sym (picked-one test k n (named_once ps) ∙ (ap (λ t. repeated test t (cond (test k) n 0)) once ∙ zero-add (cond (test k) n 0)))
 
     pub by_players : (ds : List Delivery) → AreNamed ps ds
         → tally (λ d. cond (is_of i d) (cond (takes test (key d)) (f d.ball) 0) 0) ds
@@ -244,7 +242,7 @@ or_weaker : (a x y : Bool) → (x ≡ true → y ≡ true) → (a || x) ≡ true
 or_weaker true x y f e = refl
 or_weaker false x y f e = f e
 
-abbrev comers : History → ℕ → List ℕ
+abbrev pub comers : History → ℕ → List ℕ
 comers h i = filter_map (comer i) (annotated h)
 
 has_come_in : (h : History) (i k : ℕ) → begun h ≡ i + 1 → at_ends k (state_after h).ends ≡ true → among k (comers h i) ≡ true

@@ -1,5 +1,5 @@
 -- What a reader takes of a delivery.
-use Rattle.std.proofs.Common.{◌≡◌, ℕ, zero, suc, ◌+◌, ◌≤◌, ◌<◌, ◌^◌, ◌==◌, ◌&&◌, ◌||◌, not, nat_lt, max, cond, if◌then◌else◌, Bool, true, false, List, [], ◌∷◌, ◌++◌, Option, Some, None, codes, refl, sym, ap, ◌∙◌, arith, eqb-true, bytes_eq}
+use Rattle.std.proofs.Common.{◌≡◌, ℕ, zero, suc, ◌+◌, ◌≤◌, ◌<◌, ◌^◌, ◌==◌, ◌&&◌, ◌||◌, not, nat_lt, max, cond, if◌then◌else◌, Bool, true, false, List, [], ◌∷◌, ◌++◌, Option, Some, None, codes, refl, sym, ap, ◌∙◌, arith, eqb-true, ne_eqb, ltb-true, ltb-false, bytes_eq}
 use Rattle.std.specs.Prelude.{is_some}
 use Rattle.std.specs.List.{list_any}
 use Rattle.std.proofs.lemmas.Fmt.{digits_value-decimal}
@@ -39,6 +39,9 @@ use Rattle.export.proofs.LineLemmas.{takes}
 
 number_again : (n : ℕ) → n ≤ 25 → number_in (number_value n) ≡ n
 number_again n small = digits_value-decimal own n (omega (arith, small))
+
+one_more : (r : ℕ) → (1 + r == 0) ≡ false
+one_more r = ne_eqb (1 + r) 0 (λ e. omega (arith, e))
 
 -- ---- the extras of a delivery
 
@@ -152,7 +155,7 @@ module _ (s : Sheet) (side : Side) (penalty : ℕ) (early late : List Noted) (en
         by_kind Bat r = refl
         by_kind Bye r = refl
         by_kind Leg r = refl
-        by_kind Wide r = refl
+        by_kind Wide r = one_more r
         by_kind Nb r = refl
         by_kind NbBye r = refl
         by_kind NbLeg r = refl
@@ -166,7 +169,7 @@ module _ (s : Sheet) (side : Side) (penalty : ℕ) (early late : List Noted) (en
         by_kind Bat r = refl
         by_kind Bye r = refl
         by_kind Leg r = refl
-        by_kind Wide r = refl
+        by_kind Wide r = ap (λ t. t && true) (one_more r)
         by_kind Nb r = refl
         by_kind NbBye r = refl
         by_kind NbLeg r = refl
@@ -210,35 +213,32 @@ plus_none : (t : Bool) → t ≡ false → one_if t + 0 ≡ 0
 plus_none true e = absurd cc
 plus_none false e = refl
 
+-- so many runs for a boundary of n, which are n unless more were run
+over_four : (r : ℕ) (more : Bool) → (more ≡ true → (r == 4) ≡ false) → (more ≡ false → r ≡ 4) → one_if ((r == 4) && not (told r true false)) + one_if more ≡ 1
+over_four r true other same = ap (λ t. one_if (t && not (told r true false)) + 1) (other refl)
+over_four r false other same = ap (λ k. one_if ((k == 4) && not (told k true false)) + 0) (same refl)
+
+over_six : (r : ℕ) (more : Bool) → (more ≡ true → (r == 6) ≡ false) → (more ≡ false → r ≡ 6) → one_if ((r == 6) && not (told r false true)) + one_if more ≡ 1
+over_six r true other same = ap (λ t. one_if (t && not (told r false true)) + 1) (other refl)
+over_six r false other same = ap (λ k. one_if ((k == 6) && not (told k false true)) + 0) (same refl)
+
 fours_struck : (bound : Bound) (ran : ℕ) → one_if ((runs_scored bound ran == 4) && not (told (runs_scored bound ran) (is_four bound) (is_six bound))) + one_if (is_four bound && nat_lt 4 ran) ≡ one_if (is_four bound)
 fours_struck Run ran = plus_none _ (not_four (ran == 4) ((ran == 6) && true))
 fours_struck Overthrow ran = plus_none _ (not_four (4 + ran == 4) ((4 + ran == 6) && true))
-fours_struck Four zero = refl
-fours_struck Four (suc zero) = refl
-fours_struck Four (suc (suc zero)) = refl
-fours_struck Four (suc (suc (suc zero))) = refl
-fours_struck Four (suc (suc (suc (suc zero)))) = refl
-fours_struck Four (suc (suc (suc (suc (suc n))))) = refl
-fours_struck Six zero = refl
-fours_struck Six (suc zero) = refl
-fours_struck Six (suc (suc zero)) = refl
-fours_struck Six (suc (suc (suc zero))) = refl
-fours_struck Six (suc (suc (suc (suc zero)))) = refl
-fours_struck Six (suc (suc (suc (suc (suc zero))))) = refl
-fours_struck Six (suc (suc (suc (suc (suc (suc n)))))) = refl
+fours_struck Four ran =
+    over_four (max 4 ran) (nat_lt 4 ran)
+    (λ more. let lt = ltb-true 4 ran more in ne_eqb (max 4 ran) 4 (λ same. omega (arith, lt, same)))
+    (λ few. let le = ltb-false 4 ran few in omega (arith, le))
+fours_struck Six ran = let other : (max 6 ran == 4) ≡ false = ne_eqb (max 6 ran) 4 (λ same. omega (arith, same)) in plus_none _ (ap (λ t. t && not (told (max 6 ran) false true)) other)
 
 sixes_struck : (bound : Bound) (ran : ℕ) → one_if ((runs_scored bound ran == 6) && not (told (runs_scored bound ran) (is_four bound) (is_six bound))) + one_if (is_six bound && nat_lt 6 ran) ≡ one_if (is_six bound)
 sixes_struck Run ran = plus_none _ (not_six ((ran == 4) && true) (ran == 6))
 sixes_struck Overthrow ran = plus_none _ (not_six ((4 + ran == 4) && true) (4 + ran == 6))
 sixes_struck Four ran = plus_none _ (not_six ((max 4 ran == 4) && false) (max 4 ran == 6))
-sixes_struck Six zero = refl
-sixes_struck Six (suc zero) = refl
-sixes_struck Six (suc (suc zero)) = refl
-sixes_struck Six (suc (suc (suc zero))) = refl
-sixes_struck Six (suc (suc (suc (suc zero)))) = refl
-sixes_struck Six (suc (suc (suc (suc (suc zero))))) = refl
-sixes_struck Six (suc (suc (suc (suc (suc (suc zero)))))) = refl
-sixes_struck Six (suc (suc (suc (suc (suc (suc (suc n))))))) = refl
+sixes_struck Six ran =
+    over_six (max 6 ran) (nat_lt 6 ran)
+    (λ more. let lt = ltb-true 6 ran more in ne_eqb (max 6 ran) 6 (λ same. omega (arith, lt, same)))
+    (λ few. let le = ltb-false 6 ran few in omega (arith, le))
 
 pub fours_told : (b : Ball) → one_if ((batted_of b == 4) && not (is_run b)) + four_outrun b ≡ fours_of b
 fours_told b = by_kind b.kind

@@ -118,12 +118,12 @@ alone_by p (b ∷ bs) e = all_by p (b ∷ bs) e
 -- of the called overs, those that he bowled alone and the others
 overs_apart : (p : ℕ) (overs : List (List Ball)) → tally (counting_by p) overs ≡ tally (λ over. if alone p over then counting over else 0) overs + tally (shared_by p) overs
 overs_apart p [] = refl
-overs_apart p (over ∷ overs) = step (alone p over) refl
+overs_apart p (over ∷ overs) = step (alone p over) refl (overs_apart p overs)
   where
-    step : (b : Bool) → alone p over ≡ b
+    step : (b : Bool) → alone p over ≡ b → tally (counting_by p) overs ≡ tally (λ o. if alone p o then counting o else 0) overs + tally (shared_by p) overs
         → tally (counting_by p) overs + counting_by p over ≡ (tally (λ o. if alone p o then counting o else 0) overs + cond b (counting over) 0) + (tally (shared_by p) overs + cond b 0 (counting_by p over))
-    step true is = let rest = overs_apart p overs in let own = alone_by p over is in omega (arith, rest, own)
-    step false is = let rest = overs_apart p overs in omega (arith, rest)
+    step true is rest = let own = alone_by p over is in omega (arith, rest, own)
+    step false is rest = omega (arith, rest)
 
 -- each delivery of an innings is of a called over, or since the last call
 by_overs : (h : History) (i p : ℕ) → tally (of_bowler counted_one i p) (deliveries h) ≡ tally (counting_by p) (innings_overs h i) + counting_by p (since_call h i)

@@ -159,7 +159,7 @@ module _ (w : Option ℕ → Ball → ℕ) where
 
   weights_so_far : (n : ℕ) (h : History) (xs : List Placed) (i : ℕ) → first_refused n h xs ≡ None
       → weights_in i (notes h xs) + tally (delivery_weight i) (deliveries h) ≡ tally (delivery_weight i) (deliveries (history_after h xs))
-  weights_so_far n h [] i e = refl
+  weights_so_far n h [] i e = omega arith
   weights_so_far n h (x ∷ xs) i e =
       let both = first_refused-cons n h x xs e in
       let rest = weights_so_far n (x.item ∷ h) xs i both.1 in

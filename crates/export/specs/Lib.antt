@@ -11,4 +11,5 @@ pub mod Value
 pub mod Names
 pub mod Laws
 pub mod Readers
+pub mod WorkedSums
 pub mod inner

@@ -9,11 +9,12 @@ ghost use Rattle.ball_laws.specs.History.{History};
 ghost use Rattle.corrections.specs.Legal.{IsLegalBook};
 ghost use Rattle.cards.specs.Sheet.{Sheet};
 ghost use Rattle.export.specs.Readers.{BattersAddUp, BowlersAddUp, OversAreSixes};
+ghost use Rattle.export.specs.WorkedSums.{WorkedSums};
 
 /// Summed up by the names in the deliveries of an innings, as they stand in an export: a batter's runs and balls are those of
 /// the card, and his fours and sixes too, but for boundaries for which more were run than they count.
 pub fn batters_add_up()
-    ensures batters { (s : Sheet) → (n : ℕ) → (book : List Entry) → All IsEntry book → IsLegalBook n book → BattersAddUp s book }
+    ensures { (s : Sheet) → (n : ℕ) → (book : List Entry) → All IsEntry book → IsLegalBook n book → BattersAddUp s book }
 {}
 
 /// A bowler's runs, wickets, wides and no-balls are those of the card. His balls are those that the card counts, and his dead
@@ -21,4 +22,9 @@ pub fn batters_add_up()
 pub fn bowlers_add_up()
     ensures bowlers { (s : Sheet) → (n : ℕ) → (book : List Entry) → All IsEntry book → IsLegalBook n book → BowlersAddUp s book }
     ensures sixes { (h : History) → OversAreSixes h }
+{}
+
+/// Worked sums: the check computes them from the definitions that these laws cite.
+fn worked_sums()
+    ensures { WorkedSums }
 {}
