@@ -3,9 +3,9 @@ use Rattle.match_laws.specs.Figures.{overs, balls, bowler_balls, bowler_overs}
 use Rattle.corrections.specs.CleanList.{clean, clean_items_of, history_of}
 use Rattle.export.proofs.readers.worked_sums.Goals as goal
 
-pub returns-clause : goal.returns-clause
+pub returns : goal.returns
 unfolding overs balls bowler_balls bowler_overs clean clean_items_of history_of
-returns-clause c = record {
+returns c = record {
   first_batter = refl;
   second_batter = refl;
   third_batter = refl;
