@@ -1,10 +1,11 @@
 use Rattle.std.proofs.Common.{refl}
+use Rattle.std.specs.Fmt.{digits}
 use Rattle.match_laws.specs.Figures.{overs, balls, bowler_balls, bowler_overs}
 use Rattle.corrections.specs.CleanList.{clean, clean_items_of, history_of}
 use Rattle.export.proofs.readers.worked_sums.Goals as goal
 
 pub returns : goal.returns
-unfolding overs balls bowler_balls bowler_overs clean clean_items_of history_of
+unfolding digits overs balls bowler_balls bowler_overs clean clean_items_of history_of
 returns c = record {
   first_batter = refl;
   second_batter = refl;
