@@ -9,7 +9,7 @@ use Rattle.notation.specs.declared.entry.Who.{Who}
 use Rattle.notation.specs.declared.entry.Who.TheVariants.{Striker, Other}
 use Rattle.notation.specs.declared.entry.Plain.TheVariants.{Innings, Come, Ball as Bowl, Gone, Over, Penalty, Swap, End, Close, Void}
 use Rattle.ball_laws.specs.declared.ends.Ends.{Ends}
-use Rattle.ball_laws.specs.Ends.{change, change_at_out, come_to, ends_after, ends_left, exchanged, holds, vacated, without}
+use Rattle.ball_laws.specs.Ends.{change, change_at_out, ends_after, exchanged, holds, vacated, without}
 use Rattle.std.specs.Prelude.{is_none}
 use Rattle.ball_laws.specs.History.{History}
 use Rattle.ball_laws.specs.Laws.{state_after}

@@ -1,5 +1,5 @@
 -- What a reader takes of a delivery.
-use Rattle.std.proofs.Common.{◌≡◌, ℕ, zero, suc, ◌+◌, ◌≤◌, ◌<◌, ◌^◌, ◌==◌, ◌&&◌, ◌||◌, not, nat_lt, max, cond, if◌then◌else◌, Bool, true, false, List, [], ◌∷◌, ◌++◌, Option, Some, None, codes, refl, sym, ap, ◌∙◌, arith, eqb-true, ne_eqb, ltb-true, ltb-false, bytes_eq}
+use Rattle.std.proofs.Common.{◌≡◌, ℕ, ◌+◌, ◌≤◌, ◌==◌, ◌&&◌, ◌||◌, not, nat_lt, max, cond, Bool, true, false, List, [], ◌∷◌, ◌++◌, Option, Some, None, codes, refl, sym, ap, ◌∙◌, arith, eqb-true, ne_eqb, ltb-true, ltb-false, bytes_eq}
 use Rattle.std.specs.Prelude.{is_some}
 use Rattle.std.specs.List.{list_any}
 use Rattle.std.proofs.lemmas.Fmt.{digits_value-decimal}
@@ -26,12 +26,12 @@ use Rattle.match_laws.specs.Figures.{batted_of, credit_of, credited, faced_of, f
 use Rattle.match_laws.proofs.Bounds.{ball-small}
 use Rattle.cards.specs.Sheet.{Sheet, player_of}
 use Rattle.json.specs.Json.{Json, null}
-use Rattle.json_fields.specs.Values.{Field, array_of, count_field, flag_if, members_of, number_value, object_of}
+use Rattle.json_fields.specs.Values.{Field, array_of, count_field, flag_if, members_of, number_value}
 use Rattle.export.specs.declared.notes.Noted.{Noted}
 use Rattle.export.specs.Wickets as listing
 use Rattle.export.specs.Wickets.{departures, gone_of, has_gone, has_wickets, how_words, own_wickets}
 use Rattle.export.specs.Deliveries.{delivery_of, extra_runs, extras_field, is_run}
-use Rattle.export.specs.Laws.{at, is_text, member_at, wickets_of}
+use Rattle.export.specs.Laws.{at, is_text, member_at}
 use Rattle.export.specs.Readers.{bat_runs, boundary_in, bowled_in, credited_in, credited_kinds, debited_in, faced_in, four_outrun, is_credited, is_set, noballs_in, number_in, six_outrun, wides_in}
 use Rattle.export.proofs.ReadLemmas.{elements-of}
 use Rattle.export.proofs.WicketLemmas.{count_append, looked_up}

@@ -1,9 +1,8 @@
 -- What such readers sum up for batters and bowlers is what the card has.
-use Rattle.std.proofs.Common.{◌≡◌, ℕ, ◌+◌, ◌*◌, ◌≤◌, ◌==◌, ◌&&◌, ◌||◌, not, cond, if◌then◌else◌, Bool, true, false, List, [], ◌∷◌, All, Option, refl, sym, ap, ◌∙◌, arith, eqb-true, bytes_eq, codes}
+use Rattle.std.proofs.Common.{◌≡◌, ℕ, ◌+◌, ◌*◌, ◌≤◌, ◌==◌, ◌&&◌, not, cond, if◌then◌else◌, Bool, true, false, List, [], ◌∷◌, All, refl, ap, ◌∙◌, arith, eqb-true, bytes_eq, codes}
 use Rattle.std.specs.List.{list_all}
 use Rattle.notation.specs.declared.entry.Ball.{Ball}
 use Rattle.notation.specs.declared.entry.Entry.{Entry}
-use Rattle.notation.specs.declared.entry.Side.{Side}
 use Rattle.notation.specs.declared.entry.Plain.TheVariants.{Innings, Come, Ball as Bowl, Gone, Over, Penalty, Swap, End, Close, Void}
 use Rattle.notation.specs.Written.{IsEntry}
 use Rattle.ball_laws.specs.declared.ends.Ends.{Ends}
@@ -19,8 +18,8 @@ use Rattle.json.specs.Json.{Json}
 use Rattle.export.specs.declared.notes.Noted.{Noted}
 use Rattle.export.specs.Deliveries.{delivery_of, is_run}
 use Rattle.export.specs.Laws.{at, innings_at, is_text}
-use Rattle.export.specs.Readers.{BatterAddsUp, BattersAddUp, BowlerAddsUp, BowlersAddUp, OversAreSixes, bat_runs, boundary_in, bowled_in, credited_in, dead_ball, debited_in, faced_in, four_outrun, noballs_in, of_name, over_balls, six_outrun, summed, wides_in}
-use Rattle.export.proofs.ReaderLemmas.{bat_read, batter_read, boundary_read, bowled_read, bowler_read, credited_read, debited_read, faced_read, fours_told, noballs_read, sixes_told, wides_read}
+use Rattle.export.specs.Readers.{BatterAddsUp, BattersAddUp, BowlerAddsUp, BowlersAddUp, OversAreSixes, bat_runs, boundary_in, bowled_in, credited_in, dead_ball, debited_in, faced_in, four_outrun, noballs_in, over_balls, six_outrun, summed, wides_in}
+use Rattle.export.proofs.ReaderLemmas.{bat_read, batter_read, boundary_read, bowled_read, credited_read, debited_read, faced_read, fours_told, noballs_read, sixes_told, wides_read}
 use Rattle.export.proofs.SumLemmas.{sum_read}
 use Rattle.export.proofs.LineLemmas.{bowler_of, bowlers_named, by_players, comers, picked, picked-add, picked-same, striker_of, strikers_named, takes}
 

@@ -1,12 +1,11 @@
 -- What an export tells of its players, in a reader's words: what such readers sum up by the names in its deliveries. h is
 -- the history, i the innings, and p a player.
-use Rattle.std.specs.Prelude.{◌≡◌, ℕ, ◌+◌, ◌*◌, ◌==◌, nat_lt, Bool, false, not, ◌&&◌, bytes_eq, if◌then◌else◌, List, [], ◌∷◌, codes, All}
+use Rattle.std.specs.Prelude.{◌≡◌, ℕ, ◌+◌, ◌*◌, ◌==◌, nat_lt, Bool, false, not, ◌&&◌, bytes_eq, if◌then◌else◌, List, [], ◌∷◌, codes}
 use Rattle.std.specs.List.{list_any}
 use Rattle.std.specs.Str.Parse.{digits_value}
 use Rattle.notation.specs.declared.entry.Side.{Side}
 use Rattle.notation.specs.declared.entry.Ball.{Ball}
 use Rattle.notation.specs.declared.entry.Entry.{Entry}
-use Rattle.notation.specs.Written.{IsEntry}
 use Rattle.ball_laws.specs.History.{History}
 use Rattle.ball_laws.specs.Over.{counting, is_wide_or_no_ball}
 use Rattle.ball_laws.specs.Runs.{is_six, is_struck}

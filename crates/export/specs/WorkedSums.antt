@@ -1,6 +1,6 @@
 -- Worked sums: what the definitions give for two books, computed.
 use Rattle.std.specs.Prelude.{◌≡◌, ℕ, true, List, [], ◌∷◌, map, codes}
-use Rattle.notation.specs.declared.entry.Side.TheVariants.{Home, Away}
+use Rattle.notation.specs.declared.entry.Side.TheVariants.{Home}
 use Rattle.notation.specs.declared.entry.Kind.TheVariants.{Bat, Bye, Leg, Wide, Nb}
 use Rattle.notation.specs.declared.entry.Bound.TheVariants.{Four, Six, Overthrow}
 use Rattle.notation.specs.declared.entry.How.TheVariants.{Caught, RunOut}
@@ -79,7 +79,6 @@ pub record WorkedSums : Type 0 where
   pub nobody : batter_sums two_overs (codes "6") ≡ 0 ∷ 0 ∷ 0 ∷ 0 ∷ []
   pub first_bowler : bowler_sums two_overs (codes "7") ≡ 6 ∷ 16 ∷ 0 ∷ 1 ∷ 1 ∷ []
   pub second_bowler : bowler_sums two_overs (codes "8") ≡ 6 ∷ 4 ∷ 1 ∷ 0 ∷ 0 ∷ []
-
   pub outran : batter_sums odd_balls (codes "1") ≡ 13 ∷ 4 ∷ 1 ∷ 0 ∷ []
   pub outran_fours : fours_outrun (history_of odd_balls) 0 1 ≡ 1
   pub overthrown : batter_sums odd_balls (codes "2") ≡ 13 ∷ 2 ∷ 0 ∷ 0 ∷ []
