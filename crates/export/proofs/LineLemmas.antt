@@ -28,6 +28,14 @@ times k ps = count_of (λ q. q == k) ps
 is_itself : (n : ℕ) → (n == n) ≡ true
 is_itself n = eq-eqb n n refl
 
+behind : (a b : Bool) → b ≡ true → (a || b) ≡ true
+behind true b e = refl
+behind false b e = e
+
+before : (a b : Bool) → a ≡ true → (a || b) ≡ true
+before true b e = refl
+before false b e = absurd cc
+
 none_times : (k : ℕ) (ps : List ℕ) → among k ps ≡ false → times k ps ≡ 0
 none_times k [] e = refl
 none_times k (q ∷ ps) e = step (q == k) (among k ps) (times k ps) (none_times k ps) e
@@ -127,6 +135,28 @@ module _ (test : ℕ → Bool) where
           let none = nothing (test p) 0 refl in
           rw (nat_eq_equiv.symm p k, is) (omega (arith, rest, none))
 
+-- a player of his own name
+module _ (test : ℕ → Bool) (figure : ℕ → ℕ) (p : ℕ) where
+  only : (ps : List ℕ) → ((q : ℕ) → among q ps ≡ true → test q ≡ (p == q)) → picked test figure ps ≡ picked (λ q. true) (λ q. if p == q then figure p else 0) ps
+  only [] each = refl
+  only (x ∷ ps) each =
+      let rest = only ps (λ q there. each q (behind (x == q) (among q ps) there)) in
+      let one = here (p == x) refl in
+      let same = ap (λ b. cond b (figure x) 0) (each x (before (x == x) (among x ps) (is_itself x))) in
+      omega (arith, rest, one, same)
+    where
+      here : (b : Bool) → (p == x) ≡ b → cond b (figure x) 0 ≡ cond b (figure p) 0
+      here true is = ap figure (sym (eqb-true p x is))
+      here false is = refl
+
+  pub picked-own : (ps : List ℕ) → among p (named_once ps) ≡ true → ((q : ℕ) → among q (named_once ps) ≡ true → test q ≡ (p == q)) → picked test figure (named_once ps) ≡ figure p
+  picked-own ps there each =
+      let some = some_times p (named_once ps) there in
+      let most = times_once p ps in
+      let one = at_most_one (among p ps) in
+      let once : times p (named_once ps) ≡ 1 = omega (arith, some, most, one) in
+      only (named_once ps) each ∙ (picked-one (λ q. true) p (figure p) (named_once ps) ∙ (ap (λ t. repeated (λ q. true) t (figure p)) once ∙ zero-add (figure p)))
+
 abbrev pub takes : (ℕ → Bool) → Option ℕ → Bool
 takes test None = false
 takes test (Some k) = test k
@@ -192,14 +222,6 @@ either true true e = refl
 either true false e = refl
 either false true e = refl
 either false false e = e
-
-behind : (a b : Bool) → b ≡ true → (a || b) ≡ true
-behind true b e = refl
-behind false b e = e
-
-before : (a b : Bool) → a ≡ true → (a || b) ≡ true
-before true b e = refl
-before false b e = absurd cc
 
 still_true : (a b : Bool) → (a || false) ≡ true → (a || b) ≡ true
 still_true true b e = refl

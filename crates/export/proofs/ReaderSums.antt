@@ -1,8 +1,10 @@
 -- What such readers sum up for batters and bowlers is what the card has.
-use Rattle.std.proofs.Common.{◌≡◌, ℕ, ◌+◌, ◌*◌, ◌≤◌, ◌==◌, ◌&&◌, not, cond, if◌then◌else◌, Bool, true, false, List, [], ◌∷◌, All, refl, ap, ◌∙◌, arith, eqb-true, bytes_eq, codes}
-use Rattle.std.specs.List.{list_all}
+use Rattle.std.proofs.Common.{◌≡◌, ℕ, ◌+◌, ◌*◌, ◌≤◌, ◌==◌, ◌&&◌, not, cond, if◌then◌else◌, Bool, true, false, List, [], ◌∷◌, All, refl, sym, ap, ◌∙◌, arith, eqb-true, eq-eqb, bytes_eq, codes}
+use Rattle.std.specs.List.{filter_map, list_all, list_any}
+use Rattle.std.proofs.lemmas.Slice.Eq.{bytes_eq-Decides}
 use Rattle.notation.specs.declared.entry.Ball.{Ball}
 use Rattle.notation.specs.declared.entry.Entry.{Entry}
+use Rattle.notation.specs.declared.entry.Side.{Side}
 use Rattle.notation.specs.declared.entry.Plain.TheVariants.{Innings, Come, Ball as Bowl, Gone, Over, Penalty, Swap, End, Close, Void}
 use Rattle.notation.specs.Written.{IsEntry}
 use Rattle.ball_laws.specs.declared.ends.Ends.{Ends}
@@ -10,7 +12,7 @@ use Rattle.ball_laws.specs.History.{History}
 use Rattle.ball_laws.specs.Over.{counting, counts, debit_of, is_wide_or_no_ball}
 use Rattle.ball_laws.specs.Sums.{count_of, one_if, tally}
 use Rattle.match_laws.specs.History.{Delivery, begun, deliveries, innings_overs, is_at, is_of, opponent, side_of, since_call}
-use Rattle.match_laws.specs.Figures.{alone, batted_of, batter_runs, batting_order, bowled_by, bowler_balls, bowler_noballs, bowler_overs, bowler_runs, bowler_wickets, bowler_wides, bowling_order, counting_by, credited, faced, faced_of, fours, fours_of, is_odd_over, noballs_of, odd_overs, of_bowler, of_striker, shared_by, sixes, sixes_of, wides_of}
+use Rattle.match_laws.specs.Figures.{alone, bowler_in, batted_of, batter_runs, batting_order, bowled_by, bowler_balls, bowler_noballs, bowler_overs, bowler_runs, bowler_wickets, bowler_wides, bowling_order, counting_by, credited, faced, faced_of, fours, fours_of, is_odd_over, noballs_of, odd_overs, of_bowler, of_striker, shared_by, sixes, sixes_of, wides_of}
 use Rattle.corrections.specs.CleanList.{history_of}
 use Rattle.corrections.specs.Legal.{IsLegalBook}
 use Rattle.cards.specs.Sheet.{Sheet, player_of}
@@ -18,10 +20,10 @@ use Rattle.json.specs.Json.{Json}
 use Rattle.export.specs.declared.notes.Noted.{Noted}
 use Rattle.export.specs.Deliveries.{delivery_of, is_run}
 use Rattle.export.specs.Laws.{at, innings_at, is_text}
-use Rattle.export.specs.Readers.{BatterAddsUp, BattersAddUp, BowlerAddsUp, BowlersAddUp, OversAreSixes, bat_runs, boundary_in, bowled_in, credited_in, dead_ball, debited_in, faced_in, four_outrun, noballs_in, over_balls, six_outrun, summed, wides_in}
+use Rattle.export.specs.Readers.{BatterAddsUp, BattersAddUp, BowlerAddsUp, BowlersAddUp, OversAreSixes, HasOwnName, NamesTellPlayers, bat_runs, boundary_in, bowled_in, credited_in, dead_ball, debited_in, faced_in, four_outrun, noballs_in, over_balls, six_outrun, summed, wides_in}
 use Rattle.export.proofs.ReaderLemmas.{bat_read, batter_read, boundary_read, bowled_read, credited_read, debited_read, faced_read, fours_told, noballs_read, sixes_told, wides_read}
 use Rattle.export.proofs.SumLemmas.{sum_read}
-use Rattle.export.proofs.LineLemmas.{bowler_of, bowlers_named, by_players, comers, picked, picked-add, picked-same, striker_of, strikers_named, takes}
+use Rattle.export.proofs.LineLemmas.{bowler_of, bowlers_named, by_players, comers, picked, picked-add, picked-own, picked-same, striker_of, strikers_named, takes}
 
 -- two numbers of a delivery that add up to a third, under a test
 add_if : (b : Bool) (x y z m n k : ℕ) → m + n ≡ k → x + y ≡ z → (x + cond b m 0) + (y + cond b n 0) ≡ z + cond b k 0
@@ -206,3 +208,23 @@ sixes_each p (over ∷ overs) e = step (counting over == 6) (alone p over) refl 
 pub overs_are_sixes : (h : History) → OversAreSixes h
 unfolding odd_overs bowler_overs
 overs_are_sixes h i p none = sixes_each p (innings_overs h i) none
+
+-- ---- names of their own
+
+told_apart_by : (s : Sheet) (side : Side) (order : List ℕ) (p q : ℕ) → HasOwnName s side order p → list_any (λ r. r == q) order ≡ true → bytes_eq (player_of s side p) (player_of s side q) ≡ (p == q)
+told_apart_by s side order p q has there = step (p == q) refl (bytes_eq (player_of s side p) (player_of s side q)) refl
+  where
+    step : (same : Bool) → (p == q) ≡ same → (b : Bool) → bytes_eq (player_of s side p) (player_of s side q) ≡ b → b ≡ same
+    step true is true e = refl
+    step false is false e = refl
+    step true is false e = sym e ∙ (bytes_eq-Decides (player_of s side p) (player_of s side q)).1 (ap (player_of s side) (eqb-true p q is))
+    step false is true e =
+        let same = has.own q there (sym ((bytes_eq-Decides (player_of s side p) (player_of s side q)).0 e)) in
+        sym (eq-eqb p q (sym same)) ∙ is
+
+pub names_tell_players : (s : Sheet) (h : History) (i p : ℕ) (figure : History → ℕ → ℕ → ℕ) → NamesTellPlayers s h i p figure
+unfolding batting_order bowling_order
+names_tell_players s h i p figure = record {
+  batters = λ has. picked-own (λ q. bytes_eq (player_of s (side_of h i) p) (player_of s (side_of h i) q)) (figure h i) p (comers h i) has.listed (λ q there. told_apart_by s (side_of h i) (batting_order h i) p q has there);
+  bowlers = λ has. picked-own (λ q. bytes_eq (player_of s (opponent (side_of h i)) p) (player_of s (opponent (side_of h i)) q)) (figure h i) p (filter_map (bowler_in i) (deliveries h)) has.listed (λ q there. told_apart_by s (opponent (side_of h i)) (bowling_order h i) p q has there);
+}

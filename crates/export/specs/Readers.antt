@@ -1,6 +1,6 @@
 -- What an export tells of its players, in a reader's words: what such readers sum up by the names in its deliveries. h is
 -- the history, i the innings, and p a player.
-use Rattle.std.specs.Prelude.{◌≡◌, ℕ, ◌+◌, ◌*◌, ◌==◌, nat_lt, Bool, false, not, ◌&&◌, bytes_eq, if◌then◌else◌, List, [], ◌∷◌, codes}
+use Rattle.std.specs.Prelude.{◌≡◌, ℕ, ◌+◌, ◌*◌, ◌==◌, nat_lt, Bool, true, false, not, ◌&&◌, bytes_eq, if◌then◌else◌, List, [], ◌∷◌, codes}
 use Rattle.std.specs.List.{list_any}
 use Rattle.std.specs.Str.Parse.{digits_value}
 use Rattle.notation.specs.declared.entry.Side.{Side}
@@ -99,7 +99,7 @@ over_balls h i p = tally (λ over. if alone p over then counting over else 0) (i
 
 -- ---- the laws
 
--- a figure of the card's players of this name, summed up: where no two of them have one name, it is his who has it
+-- a figure of the card's players of this name, summed up
 abbrev pub of_name : Sheet → Side → List ℕ → List ℕ → (ℕ → ℕ) → ℕ
 of_name s side name order figure = tally (λ p. if bytes_eq name (player_of s side p) then figure p else 0) order
 
@@ -135,3 +135,13 @@ BowlersAddUp s book =
 -- where each over was of six, the called overs that he bowled alone have six balls each
 abbrev pub OversAreSixes : History → Type 0
 OversAreSixes h = (i p : ℕ) → odd_overs h i ≡ 0 → over_balls h i p ≡ 6 * bowler_overs h i p
+
+-- p is one of the players of a card, and no other of them has his name
+pub record HasOwnName (s : Sheet) (side : Side) (order : List ℕ) (p : ℕ) : Type 0 where
+  pub listed : list_any (λ q. q == p) order ≡ true
+  pub own : (q : ℕ) → list_any (λ r. r == q) order ≡ true → player_of s side q ≡ player_of s side p → q ≡ p
+
+-- then what a card's players of his name have is what he has
+pub record NamesTellPlayers (s : Sheet) (h : History) (i p : ℕ) (figure : History → ℕ → ℕ → ℕ) : Type 0 where
+  pub batters : HasOwnName s (side_of h i) (batting_order h i) p → of_batters s h i (player_of s (side_of h i) p) figure ≡ figure h i p
+  pub bowlers : HasOwnName s (opponent (side_of h i)) (bowling_order h i) p → of_bowlers s h i (player_of s (opponent (side_of h i)) p) figure ≡ figure h i p

@@ -8,7 +8,7 @@ ghost use Rattle.notation.specs.Written.{IsEntry};
 ghost use Rattle.ball_laws.specs.History.{History};
 ghost use Rattle.corrections.specs.Legal.{IsLegalBook};
 ghost use Rattle.cards.specs.Sheet.{Sheet};
-ghost use Rattle.export.specs.Readers.{BattersAddUp, BowlersAddUp, OversAreSixes};
+ghost use Rattle.export.specs.Readers.{BattersAddUp, BowlersAddUp, NamesTellPlayers, OversAreSixes};
 ghost use Rattle.export.specs.WorkedSums.{WorkedSums};
 
 /// Summed up by the names in the deliveries of an innings, as they stand in an export: a batter's runs and balls are those of
@@ -22,6 +22,11 @@ pub fn batters_add_up()
 pub fn bowlers_add_up()
     ensures bowlers { (s : Sheet) → (n : ℕ) → (book : List Entry) → All IsEntry book → IsLegalBook n book → BowlersAddUp s book }
     ensures sixes { (h : History) → OversAreSixes h }
+{}
+
+/// Of a player whose name no other player of the card has, what the card's players of that name have is his own figure.
+pub fn names_tell_players()
+    ensures { (s : Sheet) → (h : History) → (i p : ℕ) → (figure : History → ℕ → ℕ → ℕ) → NamesTellPlayers s h i p figure }
 {}
 
 /// Worked sums: the check computes them from the definitions that these laws cite.
