@@ -52,7 +52,7 @@ runs_listed xs i = tally (λ x. if x.innings == i then total_of x.item else 0) x
 same_number : (m c i : ℕ) → m ≡ c + 1 → (m == i + 1) ≡ (c == i)
 same_number m c i e = ap (λ k. k == i + 1) (e ∙ add-one c) ∙ (ap (λ k. suc c == k) (add-one i) ∙ eqb-suc-suc c i)
 
-ball_here : (n : ℕ) (h : History) (b : Ball) (i : ℕ) → refusal n h (Bowl b) ≡ None → (begun h == i + 1) ≡ (current h == i)
+pub ball_here : (n : ℕ) (h : History) (b : Ball) (i : ℕ) → refusal n h (Bowl b) ≡ None → (begun h == i + 1) ≡ (current h == i)
 ball_here n h b i e = same_number (begun h) (current h) i (current-open h (ball_open n h b e))
 
 runs_one : (n : ℕ) (h : History) (x : Placed) (i : ℕ) → refusal n h x.item ≡ None → cond (current h == i) (total_of x.item) 0 + tally (of_innings runs_of i) (deliveries h) ≡ tally (of_innings runs_of i) (deliveries (x.item ∷ h))

@@ -7,4 +7,8 @@ pub mod LawLemmas
 pub mod MiscountLemmas
 pub mod WicketLemmas
 pub mod OverLemmas
+pub mod LineLemmas
+pub mod ReaderLemmas
+pub mod SumLemmas
+pub mod ReaderSums
 pub mod CorrectionLemmas

@@ -16,7 +16,6 @@ use Rattle.ball_laws.specs.History.{is_wicket}
 use Rattle.ball_laws.specs.Runs.{split_of_ball}
 use Rattle.ball_laws.specs.Sums.{count_of, tally}
 use Rattle.match_laws.specs.History.{side_of}
-use Rattle.match_laws.specs.Figures.{wickets}
 use Rattle.corrections.specs.CleanList.{history_of}
 use Rattle.corrections.specs.Legal.{IsLegalBook}
 use Rattle.cards.specs.Sheet.{Sheet}
@@ -51,7 +50,7 @@ has_ball : List Noted → Bool
 has_ball [] = false
 has_ball (x ∷ xs) = is_ball x.item || has_ball xs
 
-count_append : {X : Type 0} (p : X → Bool) (xs ys : List X) → count_of p (xs ++ ys) ≡ count_of p xs + count_of p ys
+pub count_append : {X : Type 0} (p : X → Bool) (xs ys : List X) → count_of p (xs ++ ys) ≡ count_of p xs + count_of p ys
 count_append p [] ys = omega arith
 count_append p (x ∷ xs) ys = step (p x) (count_of p (xs ++ ys)) (count_of p xs) (count_of p ys) (count_append p xs ys)
   where
@@ -139,7 +138,7 @@ no_wicket false true l x y f g e = absurd cc
 no_wicket false false true x y f g e = absurd cc
 no_wicket false false false x y f g e = let p = f refl in let q = g refl in omega (arith, p, q)
 
-looked_up : (w e : Bool) (v x : Json) → values_of (member_at (codes "wickets") (members_of (cond w ((codes "wickets", v) ∷ []) [] ++ cond e [] ((codes "extras", x) ∷ [])))) ≡ cond w (values_of v) []
+pub looked_up : (w e : Bool) (v x : Json) → values_of (member_at (codes "wickets") (members_of (cond w ((codes "wickets", v) ∷ []) [] ++ cond e [] ((codes "extras", x) ∷ [])))) ≡ cond w (values_of v) []
 looked_up true true v x = refl
 looked_up true false v x = refl
 looked_up false true v x = refl

@@ -1,5 +1,5 @@
 -- What the public calls claim: Value with all that it cites (Notes, Wickets, Deliveries, Innings, Info, Entries, and
--- Values but for its last part), Names and Laws. inner: for private functions only.
+-- Values but for its last part), Names, Laws and Readers. inner: for private functions only.
 pub mod Notes
 pub mod Wickets
 pub mod Deliveries
@@ -10,4 +10,6 @@ pub mod Entries
 pub mod Value
 pub mod Names
 pub mod Laws
+pub mod Readers
+pub mod WorkedSums
 pub mod inner

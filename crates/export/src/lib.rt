@@ -12,9 +12,11 @@ mod miscounts;
 mod named;
 mod notes;
 mod overs;
+mod readers;
 mod text;
 mod value;
 mod wickets;
 
 pub use laws::{exports_add_up, exports_name_two_sides};
+pub use readers::{batters_add_up, bowlers_add_up, names_tell_players};
 pub use text::text_of;

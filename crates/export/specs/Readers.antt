@@ -1,0 +1,147 @@
+-- What an export tells of its players, in a reader's words: what such readers sum up by the names in its deliveries. h is
+-- the history, i the innings, and p a player.
+use Rattle.std.specs.Prelude.{◌≡◌, ℕ, ◌+◌, ◌*◌, ◌==◌, nat_lt, Bool, true, false, not, ◌&&◌, bytes_eq, if◌then◌else◌, List, [], ◌∷◌, codes}
+use Rattle.std.specs.List.{list_any}
+use Rattle.std.specs.Str.Parse.{digits_value}
+use Rattle.notation.specs.declared.entry.Side.{Side}
+use Rattle.notation.specs.declared.entry.Ball.{Ball}
+use Rattle.notation.specs.declared.entry.Entry.{Entry}
+use Rattle.ball_laws.specs.History.{History}
+use Rattle.ball_laws.specs.Over.{counting, is_wide_or_no_ball}
+use Rattle.ball_laws.specs.Runs.{is_six, is_struck}
+use Rattle.ball_laws.specs.Sums.{tally, count_of, one_if}
+use Rattle.match_laws.specs.History.{deliveries, innings_overs, opponent, side_of}
+use Rattle.match_laws.specs.Figures.{alone, batter_runs, batting_order, bowler_balls, bowler_noballs, bowler_overs, bowler_runs, bowler_wickets, bowler_wides, bowling_order, faced, fours, is_four, odd_overs, of_bowler, of_striker, sixes}
+use Rattle.corrections.specs.CleanList.{history_of}
+use Rattle.cards.specs.Sheet.{Sheet, player_of}
+use Rattle.json.specs.Json.{Json, boolean, number}
+use Rattle.export.specs.Laws.{at, deliveries_in, innings_at, is_text, wickets_of}
+
+-- ---- what such a reader takes of a delivery
+
+-- the number that stands there: 0, where none does
+abbrev pub number_in : Json → ℕ
+number_in (number text) = digits_value 10 text
+number_in _ = 0
+
+abbrev pub is_set : Json → Bool
+is_set (boolean holds) = holds
+is_set _ = false
+
+abbrev pub bat_runs : Json → ℕ
+bat_runs delivery = number_in (at (codes "batter") (at (codes "runs") delivery))
+
+abbrev pub wides_in : Json → ℕ
+wides_in delivery = number_in (at (codes "wides") (at (codes "extras") delivery))
+
+abbrev pub noballs_in : Json → ℕ
+noballs_in delivery = number_in (at (codes "noballs") (at (codes "extras") delivery))
+
+-- a ball that the batter faced: no wide
+abbrev pub faced_in : Json → ℕ
+faced_in delivery = one_if (wides_in delivery == 0)
+
+-- a ball of the bowler's: neither a wide nor a no-ball
+abbrev pub bowled_in : Json → ℕ
+bowled_in delivery = one_if ((wides_in delivery == 0) && (noballs_in delivery == 0))
+
+-- n runs off the bat that aren't told to be no boundary
+abbrev pub boundary_in : ℕ → Json → ℕ
+boundary_in n delivery =
+    one_if ((bat_runs delivery == n) && not (is_set (at (codes "non_boundary") (at (codes "runs") delivery))))
+
+-- what is debited to the bowler: all runs but byes, leg byes and penalty runs
+abbrev pub debited_in : Json → ℕ
+debited_in delivery = bat_runs delivery + wides_in delivery + noballs_in delivery
+
+-- the kinds of wickets of which a bowler has credit
+abbrev pub credited_kinds : List (List ℕ)
+credited_kinds =
+    codes "bowled" ∷ codes "caught" ∷ codes "caught and bowled" ∷ codes "lbw" ∷ codes "stumped" ∷ codes "hit wicket" ∷ []
+
+abbrev pub is_credited : Json → Bool
+is_credited wicket = list_any (λ kind. is_text kind (at (codes "kind") wicket)) credited_kinds
+
+abbrev pub credited_in : Json → ℕ
+credited_in delivery = count_of is_credited (wickets_of delivery)
+
+-- a number of each delivery that has this name under the key, summed up
+abbrev pub summed : List ℕ → (Json → ℕ) → List ℕ → Json → ℕ
+summed key f name innings =
+    tally (λ delivery. if is_text name (at key delivery) then f delivery else 0) (deliveries_in innings)
+
+-- ---- what a card has that such a reader doesn't see, and the other way round
+
+-- a four for which more than four were run, and a six for which more than six were, count what was run: so they aren't told
+-- from runs
+abbrev pub four_outrun : Ball → ℕ
+four_outrun b = one_if (is_struck b.kind && (is_four b.bound && nat_lt 4 b.ran))
+
+abbrev pub six_outrun : Ball → ℕ
+six_outrun b = one_if (is_struck b.kind && (is_six b.bound && nat_lt 6 b.ran))
+
+abbrev pub fours_outrun : History → ℕ → ℕ → ℕ
+fours_outrun h i p = tally (of_striker four_outrun i p) (deliveries h)
+
+abbrev pub sixes_outrun : History → ℕ → ℕ → ℕ
+sixes_outrun h i p = tally (of_striker six_outrun i p) (deliveries h)
+
+-- a ball that is ruled dead doesn't count in the over, but no delivery tells it
+abbrev pub dead_ball : Ball → ℕ
+dead_ball b = one_if (b.dead && not (is_wide_or_no_ball b.kind))
+
+abbrev pub dead_balls : History → ℕ → ℕ → ℕ
+dead_balls h i p = tally (of_bowler dead_ball i p) (deliveries h)
+
+-- the balls that count of the called overs that he bowled alone, of which a card has the number
+abbrev pub over_balls : History → ℕ → ℕ → ℕ
+over_balls h i p = tally (λ over. if alone p over then counting over else 0) (innings_overs h i)
+
+-- ---- the laws
+
+-- a figure of the card's players of this name, summed up
+abbrev pub of_name : Sheet → Side → List ℕ → List ℕ → (ℕ → ℕ) → ℕ
+of_name s side name order figure = tally (λ p. if bytes_eq name (player_of s side p) then figure p else 0) order
+
+abbrev pub of_batters : Sheet → History → ℕ → List ℕ → (History → ℕ → ℕ → ℕ) → ℕ
+of_batters s h i name figure = of_name s (side_of h i) name (batting_order h i) (figure h i)
+
+abbrev pub of_bowlers : Sheet → History → ℕ → List ℕ → (History → ℕ → ℕ → ℕ) → ℕ
+of_bowlers s h i name figure = of_name s (opponent (side_of h i)) name (bowling_order h i) (figure h i)
+
+-- what is summed up for a batter's name, and what the card has
+pub record BatterAddsUp (s : Sheet) (h : History) (i : ℕ) (innings : Json) (name : List ℕ) : Type 0 where
+  pub runs : summed (codes "batter") bat_runs name innings ≡ of_batters s h i name batter_runs
+  pub balls : summed (codes "batter") faced_in name innings ≡ of_batters s h i name faced
+  pub fours : summed (codes "batter") (boundary_in 4) name innings + of_batters s h i name fours_outrun ≡ of_batters s h i name fours
+  pub sixes : summed (codes "batter") (boundary_in 6) name innings + of_batters s h i name sixes_outrun ≡ of_batters s h i name sixes
+
+-- the same for a bowler's: his balls are those of the overs that he bowled alone, his balls of other overs, and dead ones
+pub record BowlerAddsUp (s : Sheet) (h : History) (i : ℕ) (innings : Json) (name : List ℕ) : Type 0 where
+  pub balls : summed (codes "bowler") bowled_in name innings ≡ of_bowlers s h i name over_balls + of_bowlers s h i name bowler_balls + of_bowlers s h i name dead_balls
+  pub runs : summed (codes "bowler") debited_in name innings ≡ of_bowlers s h i name bowler_runs
+  pub wickets : summed (codes "bowler") credited_in name innings ≡ of_bowlers s h i name bowler_wickets
+  pub wides : summed (codes "bowler") wides_in name innings ≡ of_bowlers s h i name bowler_wides
+  pub noballs : summed (codes "bowler") noballs_in name innings ≡ of_bowlers s h i name bowler_noballs
+
+abbrev pub BattersAddUp : Sheet → List Entry → Type 0
+BattersAddUp s book =
+    (i : ℕ) (name : List ℕ) → BatterAddsUp s (history_of book) i (innings_at s book i) name
+
+abbrev pub BowlersAddUp : Sheet → List Entry → Type 0
+BowlersAddUp s book =
+    (i : ℕ) (name : List ℕ) → BowlerAddsUp s (history_of book) i (innings_at s book i) name
+
+-- where each over was of six, the called overs that he bowled alone have six balls each
+abbrev pub OversAreSixes : History → Type 0
+OversAreSixes h = (i p : ℕ) → odd_overs h i ≡ 0 → over_balls h i p ≡ 6 * bowler_overs h i p
+
+-- p is one of the players of a card, and no other of them has his name
+pub record HasOwnName (s : Sheet) (side : Side) (order : List ℕ) (p : ℕ) : Type 0 where
+  pub listed : list_any (λ q. q == p) order ≡ true
+  pub own : (q : ℕ) → list_any (λ r. r == q) order ≡ true → player_of s side q ≡ player_of s side p → q ≡ p
+
+-- then what a card's players of his name have is what he has
+pub record NamesTellPlayers (s : Sheet) (h : History) (i p : ℕ) (figure : History → ℕ → ℕ → ℕ) : Type 0 where
+  pub batters : HasOwnName s (side_of h i) (batting_order h i) p → of_batters s h i (player_of s (side_of h i) p) figure ≡ figure h i p
+  pub bowlers : HasOwnName s (opponent (side_of h i)) (bowling_order h i) p → of_bowlers s h i (player_of s (opponent (side_of h i)) p) figure ≡ figure h i p

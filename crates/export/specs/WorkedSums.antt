@@ -1,0 +1,90 @@
+-- Worked sums: what the definitions give for two books, computed.
+use Rattle.std.specs.Prelude.{◌≡◌, ℕ, true, List, [], ◌∷◌, map, codes}
+use Rattle.notation.specs.declared.entry.Side.TheVariants.{Home}
+use Rattle.notation.specs.declared.entry.Kind.TheVariants.{Bat, Bye, Leg, Wide, Nb}
+use Rattle.notation.specs.declared.entry.Bound.TheVariants.{Four, Six, Overthrow}
+use Rattle.notation.specs.declared.entry.How.TheVariants.{Caught, RunOut}
+use Rattle.notation.specs.declared.entry.Who.TheVariants.{Striker, Other}
+use Rattle.notation.specs.declared.entry.Leave.TheVariants.{RetiredHurt}
+use Rattle.notation.specs.declared.entry.Plain.TheVariants.{Innings, Come, Ball as Bowl, Gone, Over, Penalty}
+use Rattle.notation.specs.declared.entry.Entry.{Entry}
+use Rattle.notation.specs.declared.entry.Entry.TheVariants.{Write, Fix}
+use Rattle.ball_laws.specs.Worked.{ball, with_bound, with_crossed_out, with_out, with_short}
+use Rattle.match_laws.specs.Figures.{bowler_balls, bowler_overs}
+use Rattle.corrections.specs.CleanList.{history_of}
+use Rattle.cards.specs.Sheet.{plain_sheet}
+use Rattle.json.specs.Json.{Json}
+use Rattle.export.specs.Laws.{innings_at}
+use Rattle.export.specs.Readers.{bat_runs, boundary_in, bowled_in, credited_in, dead_balls, debited_in, faced_in, fours_outrun, noballs_in, over_balls, sixes_outrun, summed, wides_in}
+
+-- the first innings in the export of a book, with players called by their numbers
+abbrev pub first_innings : List Entry → Json
+first_innings book = innings_at (plain_sheet 0 1) book 0
+
+-- a batter's runs, balls, fours and sixes
+abbrev pub batter_sums : List Entry → List ℕ → List ℕ
+batter_sums book name =
+    map (λ f. summed (codes "batter") f name (first_innings book)) (bat_runs ∷ faced_in ∷ boundary_in 4 ∷ boundary_in 6 ∷ [])
+
+-- a bowler's balls, runs, wickets, wides and no-balls
+abbrev pub bowler_sums : List Entry → List ℕ → List ℕ
+bowler_sums book name =
+    map (λ f. summed (codes "bowler") f name (first_innings book)) (bowled_in ∷ debited_in ∷ credited_in ∷ wides_in ∷ noballs_in ∷ [])
+
+-- `examples/two-overs.txt`
+abbrev pub two_overs : List Entry
+two_overs =
+    Write (Innings Home) ∷ Write (Come 1) ∷ Write (Come 2)
+    ∷ Write (Bowl (ball 7 Bat 1))
+    ∷ Write (Bowl (with_bound Four (ball 7 Bat 0)))
+    ∷ Write (Bowl (ball 7 Wide 0))
+    ∷ Write (Bowl (ball 7 Bye 1))
+    ∷ Write (Bowl (ball 7 Bat 0))
+    ∷ Write (Bowl (with_bound Six (ball 7 Nb 0)))
+    ∷ Write (Bowl (with_short 1 (ball 7 Bat 2)))
+    ∷ Write (Bowl (ball 7 Bat 0))
+    ∷ Write Over
+    ∷ Write (Bowl (with_out Caught Striker 5 (ball 8 Bat 0)))
+    ∷ Write (Come 3)
+    ∷ Write (Bowl (ball 8 Leg 1))
+    ∷ Write (Bowl (with_crossed_out RunOut Other 4 (ball 8 Bat 1)))
+    ∷ Write (Come 4) ∷ Write (Gone RetiredHurt 4) ∷ Write (Come 5)
+    ∷ Write (Bowl (ball 8 Bat 3))
+    ∷ Write (Bowl (ball 8 Bat 0))
+    ∷ Write (Bowl (ball 8 Bat 0))
+    ∷ Write Over
+    ∷ Fix 3 (Bowl (ball 7 Bat 2))
+    ∷ []
+
+-- a four for which five were run, six with an overthrow, a ball ruled dead with penalty runs behind it, and an over of five
+abbrev pub odd_balls : List Entry
+odd_balls =
+    Write (Innings Home) ∷ Write (Come 1) ∷ Write (Come 2)
+    ∷ Write (Bowl (with_bound Four (ball 7 Bat 4)))
+    ∷ Write (Bowl (with_bound Four (ball 7 Bat 5)))
+    ∷ Write (Bowl (with_bound Overthrow (ball 7 Bat 2)))
+    ∷ Write (Bowl (with_bound Six (ball 7 Nb 7)))
+    ∷ Write (Bowl (record (ball 7 Bat 4) { dead = true }))
+    ∷ Write (Penalty Home 41 5)
+    ∷ Write (Bowl (with_out Caught Striker 7 (ball 7 Bat 0)))
+    ∷ Write (Come 3)
+    ∷ Write (Bowl (ball 7 Leg 4))
+    ∷ Write Over
+    ∷ []
+
+pub record WorkedSums : Type 0 where
+  pub first_batter : batter_sums two_overs (codes "1") ≡ 10 ∷ 6 ∷ 1 ∷ 0 ∷ []
+  pub second_batter : batter_sums two_overs (codes "2") ≡ 8 ∷ 4 ∷ 0 ∷ 1 ∷ []
+  pub third_batter : batter_sums two_overs (codes "3") ≡ 0 ∷ 1 ∷ 0 ∷ 0 ∷ []
+  pub nobody : batter_sums two_overs (codes "6") ≡ 0 ∷ 0 ∷ 0 ∷ 0 ∷ []
+  pub first_bowler : bowler_sums two_overs (codes "7") ≡ 6 ∷ 16 ∷ 0 ∷ 1 ∷ 1 ∷ []
+  pub second_bowler : bowler_sums two_overs (codes "8") ≡ 6 ∷ 4 ∷ 1 ∷ 0 ∷ 0 ∷ []
+  pub outran : batter_sums odd_balls (codes "1") ≡ 13 ∷ 4 ∷ 1 ∷ 0 ∷ []
+  pub outran_fours : fours_outrun (history_of odd_balls) 0 1 ≡ 1
+  pub overthrown : batter_sums odd_balls (codes "2") ≡ 13 ∷ 2 ∷ 0 ∷ 0 ∷ []
+  pub outran_sixes : sixes_outrun (history_of odd_balls) 0 2 ≡ 1
+  pub dead_one : bowler_sums odd_balls (codes "7") ≡ 6 ∷ 27 ∷ 1 ∷ 0 ∷ 1 ∷ []
+  pub dead_ones : dead_balls (history_of odd_balls) 0 7 ≡ 1
+  pub own_over : over_balls (history_of odd_balls) 0 7 ≡ 5
+  pub one_over : bowler_overs (history_of odd_balls) 0 7 ≡ 1
+  pub no_ball_more : bowler_balls (history_of odd_balls) 0 7 ≡ 0
