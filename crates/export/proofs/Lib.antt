@@ -8,3 +8,5 @@ pub mod MiscountLemmas
 pub mod WicketLemmas
 pub mod OverLemmas
 pub mod CorrectionLemmas
+pub mod GivenLemmas
+pub mod HandedLemmas

@@ -4,7 +4,9 @@
 
 mod begun;
 mod deliveries;
+mod document;
 mod entries;
+mod given;
 mod info;
 mod innings;
 mod laws;
@@ -16,5 +18,6 @@ mod text;
 mod value;
 mod wickets;
 
-pub use laws::{exports_add_up, exports_name_two_sides};
+pub use document::document_of;
+pub use laws::{exports_add_up, exports_hand_on, exports_name_two_sides};
 pub use text::text_of;
