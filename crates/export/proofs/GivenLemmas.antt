@@ -22,7 +22,7 @@ float_number x text e n p = rw e (text, refl, n, p)
 pub behind : (old mid new ts us : List Token) → mid ≡ old ++ ts → new ≡ mid ++ us → new ≡ old ++ (ts ++ us)
 behind old mid new ts us a b = b ∙ (ap (λ x. x ++ us) a ∙ append_assoc old ts us)
 
-no_fields : (old : List Token) → old ≡ old ++ fields_tokens []
+pub no_fields : (old : List Token) → old ≡ old ++ fields_tokens []
 unfolding fields_tokens
 no_fields old = sym (append-nil old)
 

@@ -1,5 +1,5 @@
 -- What stands at a key of `info`.
-use Rattle.std.proofs.Common.{◌≡◌, ℕ, Bool, true, false, cond, ◌||◌, bytes_eq, List, [], ◌∷◌, ◌++◌, Option, Some, None, Ordering, Less, Equal, Greater, nat_cmp, is_eq, codes, refl, sym, ap, ◌∙◌, subst, if◌then◌else◌}
+use Rattle.std.proofs.Common.{◌≡◌, ℕ, Bool, true, false, cond, ◌||◌, bytes_eq, List, [], ◌∷◌, ◌++◌, Option, Some, None, Ok, Err, option_map, Ordering, Less, Equal, Greater, nat_cmp, is_eq, codes, refl, sym, ap, ◌∙◌, subst, if◌then◌else◌}
 use Rattle.std.specs.Prelude.{is_some}
 use Rattle.std.specs.List.{list_any}
 use Rattle.std.specs.Ordering.{match_ordering}
@@ -12,11 +12,14 @@ use Rattle.match_laws.specs.declared.outcome.Outcome.{Outcome}
 use Rattle.match_laws.specs.declared.outcome.Outcome.TheVariants.{Undecided, Draw, Tie, Runs, Wickets, InningsAnd, PenaltyRuns}
 use Rattle.match_laws.specs.Result.{outcome}
 use Rattle.cards.specs.Sheet.{Sheet}
+use Rattle.cards.specs.Reading.{◌>>=◌, of_kind}
+use Rattle.cards.specs.declared.fault.SheetFault.{SheetFault}
+use Rattle.cards.specs.declared.fault.SheetFault.TheVariants.{WrongKind}
 use Rattle.toml.specs.Data.{Data, Members, no_members, member, get_member}
 use Rattle.json.specs.Json.{Json}
-use Rattle.json_fields.specs.Values.{Field, members_of}
+use Rattle.json_fields.specs.Values.{Field, members_of, number_field}
 use Rattle.export.specs.Given.{IsValueOf, AreFieldsOf, HandsOn, info_in, is_own, others}
-use Rattle.export.specs.Info.{event_field, has_event, event_fields, outcome_fields, info_of}
+use Rattle.export.specs.Info.{event_field, has_event, event_fields, teams_field, players_field, outcome_fields, info_of}
 use Rattle.export.specs.Laws.{member_at, at, IsHandedOn, LeavesOwn}
 
 by_order : {A : Type 0} (o : Ordering) (x y : A) → match_ordering o y x y ≡ cond (is_eq o) x y
@@ -102,21 +105,21 @@ module _ (key : List ℕ) where
   abbrev under : List Field → Json
   under fs = member_at key (members_of fs)
 
-  past : (name : List ℕ) (v : Json) (fs : List Field) → bytes_eq key name ≡ false → under ((name, v) ∷ fs) ≡ under fs
-  past name v fs apart = ap (λ b. cond b v (under fs)) apart
+  past : (f : Field) (fs : List Field) → bytes_eq key f.0 ≡ false → under (f ∷ fs) ≡ under fs
+  past f fs apart = ap (λ b. cond b f.1 (under fs)) apart
 
-  past_event : (has : Bool) (v : Json) (fs : List Field) → (has ≡ false → bytes_eq key (codes "event") ≡ false) → under ((if has then [] else (codes "event", v) ∷ []) ++ fs) ≡ under fs
-  past_event true v fs apart = refl
-  past_event false v fs apart = past (codes "event") v fs (apart refl)
+  past_event : (has : Bool) (f : Field) (fs : List Field) → (has ≡ false → bytes_eq key f.0 ≡ false) → under ((if has then [] else f ∷ []) ++ fs) ≡ under fs
+  past_event true f fs apart = refl
+  past_event false f fs apart = past f fs (apart refl)
 
   past_outcome : (s : Sheet) (o : Outcome) (fs : List Field) → bytes_eq key (codes "outcome") ≡ false → under (outcome_fields s o ++ fs) ≡ under fs
   past_outcome s Undecided fs apart = refl
-  past_outcome s Draw fs apart = past (codes "outcome") _ fs apart
-  past_outcome s Tie fs apart = past (codes "outcome") _ fs apart
-  past_outcome s (Runs side n) fs apart = past (codes "outcome") _ fs apart
-  past_outcome s (Wickets side n) fs apart = past (codes "outcome") _ fs apart
-  past_outcome s (InningsAnd side n) fs apart = past (codes "outcome") _ fs apart
-  past_outcome s (PenaltyRuns side) fs apart = past (codes "outcome") _ fs apart
+  past_outcome s Draw fs apart = past _ fs apart
+  past_outcome s Tie fs apart = past _ fs apart
+  past_outcome s (Runs side n) fs apart = past _ fs apart
+  past_outcome s (Wickets side n) fs apart = past _ fs apart
+  past_outcome s (InningsAnd side n) fs apart = past _ fs apart
+  past_outcome s (PenaltyRuns side) fs apart = past _ fs apart
 
   no_event : (given : List Field) (b : Bool) → list_any (λ f. bytes_eq key f.0) given ≡ true → has_event given ≡ false → bytes_eq key (codes "event") ≡ b → b ≡ false
   no_event given true here none same =
@@ -129,8 +132,10 @@ module _ (key : List ℕ) where
       let (three, result) = or_parts _ (bytes_eq key (codes "outcome")) other in
       let (two, balls) = or_parts _ (bytes_eq key (codes "balls_per_over")) three in
       let (teams, players) = or_parts (bytes_eq key (codes "teams")) (bytes_eq key (codes "players")) two in
-      past_event (has_event given) _ _ (λ none. no_event given (bytes_eq key (codes "event")) here none refl)
-      ∙ (past (codes "teams") _ _ teams ∙ (past (codes "players") _ _ players ∙ (past (codes "balls_per_over") _ _ balls ∙ past_outcome s (outcome s.innings h) given result)))
+      let last = outcome_fields s (outcome s.innings h) ++ given in
+      let each = number_field (codes "balls_per_over") 6 in
+      past_event (has_event given) (event_field s) (teams_field s ∷ players_field s ∷ each ∷ last) (λ none. no_event given (bytes_eq key (codes "event")) here none refl)
+      ∙ (past (teams_field s) (players_field s ∷ each ∷ last) teams ∙ (past (players_field s) (each ∷ last) players ∙ (past each last balls ∙ past_outcome s (outcome s.innings h) given result)))
 
 pub is_handed_on : (s : Sheet) (h : History) (document : Members) (given : List Field) → HandsOn document given → IsHandedOn s h document given
 is_handed_on s h document given are key d here other =
@@ -143,3 +148,17 @@ pub in_a_row : (event : List Field) (teams players balls : Field) (result given 
     → ((((event ++ teams ∷ []) ++ players ∷ []) ++ balls ∷ []) ++ result) ++ given ≡ event ++ (teams ∷ players ∷ balls ∷ (result ++ given))
 in_a_row [] teams players balls result given = refl
 in_a_row (f ∷ fs) teams players balls result given = ap (λ gs. f ∷ gs) (in_a_row fs teams players balls result given)
+
+pub is_some_map : {A B : Type 0} (f : A → B) (o : Option A) → is_some (option_map f o) ≡ is_some o
+is_some_map f None = refl
+is_some_map f (Some x) = refl
+
+-- ---- what stands at the key `info` of a document
+
+pub no_table : (o : Option Members) (ms : Members) → is_some o ≡ false → (of_kind o >>= λ info. Ok ms) ≡ Err WrongKind
+no_table None ms e = refl
+no_table (Some info) ms e = absurd (true≢false e)
+
+pub a_table : (o : Option Members) (ms : Members) → is_some o ≡ true → (of_kind o >>= λ info. Ok ms) ≡ Ok ms
+a_table None ms e = absurd (true≢false (sym e))
+a_table (Some info) ms e = refl

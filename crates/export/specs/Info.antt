@@ -81,11 +81,10 @@ outcome_fields s (PenaltyRuns side) = win_field s side (method_field (codes "pen
 abbrev pub info_of : Sheet → History → List Field → Json
 info_of s h given =
     object_of (event_fields s given
-    ++ teams_field s ∷ []
-    ++ players_field s ∷ []
-    ++ number_field (codes "balls_per_over") 6 ∷ []
-    ++ outcome_fields s (outcome s.innings h)
-    ++ given)
+    ++ (teams_field s
+    ∷ players_field s
+    ∷ number_field (codes "balls_per_over") 6
+    ∷ (outcome_fields s (outcome s.innings h) ++ given)))
 
 abbrev pub info_field : Sheet → History → List Field → Field
 info_field s h given = (codes "info", info_of s h given)
