@@ -32,11 +32,7 @@ export_of s given book =
     ++ innings_field s (history_of book) (notes [] (clean book)) ∷ []
     ++ own_field s book ∷ [])
 
--- its text, as the library lays it out, and a newline
-abbrev pub export_text : Sheet → List Field → List Entry → List ℕ
-export_text s given book = pretty (json_tokens (export_of s given book)) ++ codes "\n"
-
--- the text of a book, without that newline, by a sheet and its document
+-- the text of a book by a sheet and its document: that of the value, as the library lays it out
 pub record IsExport (s : Sheet) (document : Members) (book : List Entry) (text : List ℕ) : Type 0 where
   pub given : List Field
   pub handed_on : HandsOn document given
