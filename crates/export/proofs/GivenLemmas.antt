@@ -1,5 +1,5 @@
 -- What a sheet's table [info] hands on, value by value.
-use Rattle.std.proofs.Common.{◌≡◌, ℕ, Bool, true, false, Float, List, [], ◌∷◌, ◌++◌, Some, codes, refl, sym, ap, ◌∙◌, subst, append-nil, append_assoc, if◌then◌else◌}
+use Rattle.std.proofs.Common.{◌≡◌, ℕ, Bool, true, false, Float, List, [], ◌∷◌, ◌++◌, Some, refl, sym, ap, ◌∙◌, subst, append-nil, append_assoc, if◌then◌else◌}
 use Rattle.std.specs.Float.{binary64, float_is_finite}
 use Rattle.fast_float.specs.Parse.{parse_float}
 use Rattle.toml.specs.Data.{Data, Members, no_members, member}

@@ -13,13 +13,12 @@ use Rattle.match_laws.specs.declared.outcome.Outcome.TheVariants.{Undecided, Dra
 use Rattle.match_laws.specs.Result.{outcome}
 use Rattle.cards.specs.Sheet.{Sheet}
 use Rattle.cards.specs.Reading.{◌>>=◌, of_kind}
-use Rattle.cards.specs.declared.fault.SheetFault.{SheetFault}
 use Rattle.cards.specs.declared.fault.SheetFault.TheVariants.{WrongKind}
 use Rattle.toml.specs.Data.{Data, Members, no_members, member, get_member}
 use Rattle.json.specs.Json.{Json}
 use Rattle.json_fields.specs.Values.{Field, members_of, number_field}
 use Rattle.export.specs.Given.{IsValueOf, AreFieldsOf, HandsOn, info_in, is_own, others}
-use Rattle.export.specs.Info.{event_field, has_event, event_fields, teams_field, players_field, outcome_fields, info_of}
+use Rattle.export.specs.Info.{event_field, has_event, teams_field, players_field, outcome_fields, info_of}
 use Rattle.export.specs.Laws.{member_at, at, IsHandedOn, LeavesOwn}
 
 by_order : {A : Type 0} (o : Ordering) (x y : A) → match_ordering o y x y ≡ cond (is_eq o) x y
@@ -35,7 +34,7 @@ same_own : (key name : List ℕ) → bytes_eq key name ≡ true → is_own key �
 same_own key name same = ap is_own ((bytes_eq-Decides key name).0 same)
 
 some : {A : Type 0} (x y : A) → Some x ≡ Some y → x ≡ y
-some x y e = ap (λ o. elim o [ | None ↦ x | Some z ↦ z ]) e
+some x y e = ap (λ o. elim o [ None ↦ x | Some z ↦ z ]) e
 
 -- ---- what is handed on stands at its key
 

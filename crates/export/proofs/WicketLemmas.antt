@@ -16,7 +16,6 @@ use Rattle.ball_laws.specs.History.{is_wicket}
 use Rattle.ball_laws.specs.Runs.{split_of_ball}
 use Rattle.ball_laws.specs.Sums.{count_of, tally}
 use Rattle.match_laws.specs.History.{side_of}
-use Rattle.match_laws.specs.Figures.{wickets}
 use Rattle.corrections.specs.CleanList.{history_of}
 use Rattle.corrections.specs.Legal.{IsLegalBook}
 use Rattle.cards.specs.Sheet.{Sheet}

@@ -12,7 +12,7 @@ use Rattle.json.specs.Json.{Json, null, string, array, object, Items, no_items, 
 use Rattle.json_fields.specs.Values.{Field, number_value}
 use Rattle.export.specs.declared.notes.Noted.{Noted}
 use Rattle.export.specs.Notes.{notes}
-use Rattle.export.specs.Given.{HandsOn, IsValueOf, info_in, is_own}
+use Rattle.export.specs.Given.{IsValueOf, info_in, is_own}
 use Rattle.export.specs.Info.{info_of}
 use Rattle.export.specs.Innings.{innings_of}
 use Rattle.export.specs.Entries.{entries_of, entry_of}

@@ -105,12 +105,7 @@ fn put_members(alloc: Global, out: &mut Pretty, members: &Table) -> Result<(), A
 }
 
 /// Puts a member of `[info]`, unless the export itself writes its key.
-fn put_handed(
-    alloc: Global,
-    out: &mut Pretty,
-    key: &str,
-    value: &Value,
-) -> Result<(), AllocError>
+fn put_handed(alloc: Global, out: &mut Pretty, key: &str, value: &Value) -> Result<(), AllocError>
     ensures { OnOk result (PutsHanded key.now (view value.now) out.old out.new) }
 {
     if is_own(key) {

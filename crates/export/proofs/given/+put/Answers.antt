@@ -1,4 +1,4 @@
-use Rattle.std.proofs.Common.{◌≡◌, ◌+◌, [], ◌∷◌, ◌++◌, drop, string_bytes, refl, sym, ap, ◌∙◌, subst, arith, rules, append_assoc}
+use Rattle.std.proofs.Common.{◌≡◌, ◌+◌, [], ◌∷◌, ◌++◌, drop, string_bytes, refl, sym, ap, ◌∙◌, subst, arith, rules}
 use Rattle.std.proofs.lemmas.List.{drop_more, drop_all}
 use Rattle.std.proofs.lemmas.Result.{on_ok_weaker}
 use Rattle.toml.specs.View.{view, items_view, members_view}
@@ -6,7 +6,7 @@ use Rattle.toml.specs.declared.value.Value.{the_lemmas}
 use Rattle.toml.specs.Data as toml
 use Rattle.toml.proofs.Views.{Entry, view-Array, view-Table}
 use Rattle.json.specs.Json.{boolean, number, string}
-use Rattle.json.specs.Token.{Token, begin_array, begin_object, key}
+use Rattle.json.specs.Token.{begin_array, begin_object, key}
 use Rattle.json.specs.Tree.{json_tokens, items_tokens, members_tokens}
 use Rattle.json_fields.specs.Values.{PutsValues, array_of, object_of, items_of, members_of}
 use Rattle.json_fields.proofs.Putting.{one_value}
@@ -92,7 +92,7 @@ put_members-loop-key-preserved t c =
       (k, w.0) ∷ rest.0,
       (w.0, rest.0, refl, w.1, rest.1),
       behind l.out c.token.new.self end (key k ∷ []) (json_tokens w.0 ++ members_tokens (members_of rest.0)) named
-      (behind c.token.new.self _ end (json_tokens w.0) (members_tokens (members_of rest.0)) w.2 rest.2),
+          (behind c.token.new.self _ end (json_tokens w.0) (members_tokens (members_of rest.0)) w.2 rest.2),
     ))
 
 pub put_members-returns : goal.put_members-returns

@@ -1,4 +1,4 @@
-use Rattle.std.proofs.Common.{Some, None, option_and_then, option_map, codes, ap, sym, ◌∙◌}
+use Rattle.std.proofs.Common.{option_and_then, option_map, codes, ap, sym, ◌∙◌}
 use Rattle.toml.specs.Data.{as_table}
 use Rattle.toml.proofs.Views.{table_get}
 use Rattle.export.proofs.given.info_in.Goals as goal

@@ -1,6 +1,5 @@
-use Rattle.std.proofs.Common.{◌≡◌, ◌∷◌, ◌++◌, [], ap, codes, ◌∙◌, subst}
+use Rattle.std.proofs.Common.{◌∷◌, ◌++◌, [], ap, codes, ◌∙◌}
 use Rattle.std.proofs.lemmas.Result.{on_ok_weaker}
-use Rattle.match_laws.specs.Result.{outcome}
 use Rattle.json_fields.specs.Values.{object_of, fields_tokens, number_field}
 use Rattle.json_fields.proofs.Putting.{adds, begins, is_object_field}
 use Rattle.export.specs.Info.{event_fields, teams_field, players_field, outcome_fields}
