@@ -19,7 +19,7 @@ use Rattle.json.specs.Json.{Json}
 use Rattle.json_fields.specs.Values.{Field, members_of, number_field}
 use Rattle.export.specs.Given.{IsValueOf, AreFieldsOf, HandsOn, info_in, is_own, others}
 use Rattle.export.specs.Info.{event_field, has_event, teams_field, players_field, outcome_fields, info_of}
-use Rattle.export.specs.Laws.{member_at, at, IsHandedOn, LeavesOwn}
+use Rattle.export.specs.Laws.{member_at, at, HasEachKey, LeavesOwn}
 
 by_order : {A : Type 0} (o : Ordering) (x y : A) → match_ordering o y x y ≡ cond (is_eq o) x y
 by_order Less x y = refl
@@ -136,8 +136,8 @@ module _ (key : List ℕ) where
       past_event (has_event given) (event_field s) (teams_field s ∷ players_field s ∷ each ∷ last) (λ none. no_event given (bytes_eq key (codes "event")) here none refl)
       ∙ (past (teams_field s) (players_field s ∷ each ∷ last) teams ∙ (past (players_field s) (each ∷ last) players ∙ (past each last balls ∙ past_outcome s (outcome s.innings h) given result)))
 
-pub is_handed_on : (s : Sheet) (h : History) (document : Members) (given : List Field) → HandsOn document given → IsHandedOn s h document given
-is_handed_on s h document given are key d here other =
+pub has_each_key : (s : Sheet) (h : History) (document : Members) (given : List Field) → HandsOn document given → HasEachKey s h document given
+has_each_key s h document given are key d here other =
     let held = has_key key (info_in document) given are other ∙ ap is_some here in
     subst (IsValueOf d) (sym (past_own key s h given other held)) (found key d (info_in document) given are here other)
 

@@ -96,8 +96,8 @@ pub record HasEachEntry (book : List Entry) : Type 0 where
   pub each : (p : ℕ) (e : Entry) → slice_get book p ≡ Some e → slice_get (entries_of book) p ≡ Some (entry_of book p e)
 
 -- what the sheet's table [info] has at a key that isn't the export's own stands under `info`, with its value
-abbrev pub IsHandedOn : Sheet → History → Table → List Field → Type 0
-IsHandedOn s h document given =
+abbrev pub HasEachKey : Sheet → History → Table → List Field → Type 0
+HasEachKey s h document given =
     (key : List ℕ) (d : Data) → get_member key (info_in document) ≡ Some d → is_own key ≡ false → IsValueOf d (at key (info_of s h given))
 
 -- nothing that is handed on stands under a key of the export's own

@@ -35,5 +35,5 @@ export_of s given book =
 -- the text of a book by a sheet and its document: that of the value, as the library lays it out
 pub record IsExport (s : Sheet) (document : Members) (book : List Entry) (text : List ℕ) : Type 0 where
   pub given : List Field
-  pub handed_on : HandsOn document given
+  pub hands_on : HandsOn document given
   pub written : text ≡ pretty (json_tokens (export_of s given book))

@@ -10,7 +10,7 @@ ghost use Rattle.cards.specs.Sheet.{Sheet};
 ghost use Rattle.toml.specs.Data.{Members};
 ghost use Rattle.json_fields.specs.Values.{Field};
 ghost use Rattle.export.specs.Given.{HandsOn};
-ghost use Rattle.export.specs.Laws.{HasEachEntry, IsHandedOn, LeavesOwn, TotalsAddUp, WicketsAddUp};
+ghost use Rattle.export.specs.Laws.{HasEachEntry, HasEachKey, LeavesOwn, TotalsAddUp, WicketsAddUp};
 ghost use Rattle.export.specs.Names.{NamesTwoSides};
 
 /// Looked up in the value of an innings, as it stands in an export: the totals of its deliveries and its penalty runs
@@ -31,6 +31,6 @@ pub fn exports_name_two_sides()
 /// of these is handed on, so that none stands twice.
 pub fn exports_hand_on()
     ensures each { (s : Sheet) → (h : History) → (document : Members) → (given : List Field)
-        → HandsOn document given → IsHandedOn s h document given }
+        → HandsOn document given → HasEachKey s h document given }
     ensures own { (document : Members) → (given : List Field) → HandsOn document given → LeavesOwn given }
 {}
