@@ -6,6 +6,7 @@ usage: read_export.py EXPORT CARD    checks every key and type, adds up innings,
                                      and compares them with the lines of `ground card`
        read_export.py --lines EXPORT prints the lines of the book, for `ground check` or `ground card`
 """
+import datetime
 import json
 import re
 import sys
@@ -98,13 +99,49 @@ def is_players(value):
     return isinstance(value, dict) and all(is_list_of(is_text)(names) for names in value.values())
 
 
+def is_date(value):
+    """Year, month and day, as the format writes them: `2026-08-22`."""
+    try:
+        return isinstance(value, str) and datetime.date.fromisoformat(value).isoformat() == value
+    except ValueError:
+        return False
+
+
+def is_one_of(*words):
+    return lambda value: isinstance(value, str) and value in words
+
+
+EVENT = is_mapping_of(
+    {"name": is_text}, {"match_number": is_number, "group": lambda group: is_text(group) or is_number(group), "stage": is_text, "sub_name": is_text}
+)
+TOSS = is_mapping_of({}, {"winner": is_text, "decision": is_one_of("bat", "field"), "uncontested": is_true})
+OFFICIALS = is_mapping_of({}, dict.fromkeys(["umpires", "tv_umpires", "reserve_umpires", "match_referees"], is_list_of(is_text)))
+# what the sheet's table [info] may tell
+TOLD = {
+    "city": is_text,
+    "dates": lambda dates: dates != [] and is_list_of(is_date)(dates),
+    "event": EVENT,
+    "gender": is_one_of("male", "female"),
+    "match_type": is_one_of("Test", "ODI", "T20", "IT20", "ODM", "MDM"),
+    "match_type_number": is_number,
+    "missing": lambda missing: isinstance(missing, list),
+    "officials": OFFICIALS,
+    "overs": is_number,
+    "player_of_match": is_list_of(is_text),
+    "registry": is_mapping_of({"people": lambda people: isinstance(people, dict) and all(map(is_text, people.values()))}),
+    "season": lambda season: is_text(season) or is_number(season),
+    "supersubs": lambda subs: isinstance(subs, dict) and all(map(is_text, subs.values())),
+    "team_type": is_one_of("club", "international"),
+    "toss": TOSS,
+    "venue": is_text,
+}
 INFO = is_mapping_of(
     {
         "teams": lambda names: len(names) == 2 and is_list_of(is_text)(names),
         "players": is_players,
         "balls_per_over": lambda count: count == 6,
     },
-    {"event": is_mapping_of({"name": is_text}), "outcome": OUTCOME},
+    {"outcome": OUTCOME, **TOLD},
 )
 META = is_mapping_of({"data_version": lambda version: version == "1.1.0", "revision": is_number})
 ENTRY = is_mapping_of({"place": is_number, "line": is_text, "corrected_by": is_list_of(is_number)})
@@ -238,6 +275,7 @@ def check(match):
     wants(MATCH(match), "no mapping")
     players = match["info"]["players"]
     wants(list(players) == match["info"]["teams"], "the teams of the players")
+    wants(match["info"].get("toss", {}).get("winner") in (None, *players), "who won the toss")
     for innings in match["innings"]:
         wants(innings["team"] in players, "the team of an innings")
         (fielding,) = [names for team, names in players.items() if team != innings["team"]]

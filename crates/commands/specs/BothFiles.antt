@@ -1,9 +1,11 @@
 -- What `card`, `export` and `compare` print of both desks' votes files, and why they don't: s is the sheet, a and b are the files.
-use Rattle.std.specs.Prelude.{ℕ, Bool, true, false, List, Option}
+-- The document is the table that the sheet's text is.
+use Rattle.std.specs.Prelude.{ℕ, Bool, true, false, List, ◌++◌, Option, codes}
 use Rattle.notation.specs.declared.entry.Entry.{Entry}
 use Rattle.agree_core.specs.declared.messages.DeskId.{DeskId}
 use Rattle.agree_core.specs.declared.messages.DeskId.TheVariants.{A, B}
 use Rattle.cards.specs.Sheet.{Sheet}
+use Rattle.toml.specs.Data.{Members}
 use Rattle.streams.specs.declared.input.InputFault.{InputFault}
 use Rattle.streams.specs.declared.input.InputFault.TheVariants as inputs
 use Rattle.streams.specs.declared.watched.Watched.{Watched}
@@ -15,7 +17,7 @@ use Rattle.books.specs.declared.compare.Comparison.{Comparison}
 use Rattle.books.specs.declared.fault.BothFault.{BothFault}
 use Rattle.books.specs.declared.fault.BothFault.TheVariants as both
 use Rattle.export.specs.Names.{told_apart}
-use Rattle.export.specs.Value.{export_text}
+use Rattle.export.specs.Value.{IsExport}
 use Rattle.setup.specs.declared.fault.StopFault.{StopFault}
 use Rattle.setup.specs.declared.fault.StopFault.TheVariants as stops
 use Rattle.commands.specs.declared.both_files.BothPrintFault.{BothPrintFault}
@@ -34,11 +36,13 @@ module _ {S : Type 0} (contents : S → Option (List ℕ)) (old new : Watched S)
     pub made : IsComparison s.game a b comparison
     pub written : Prints contents old new (comparison_text comparison.agreed comparison.differences.items)
 
-  -- the value of both files' book is written, with the sides told apart
-  pub record PrintsExportOfBoth : Type 0 where
+  -- the export of both files' book is written, with the sides told apart, and a newline
+  pub record PrintsExportOfBoth (document : Members) : Type 0 where
     pub book : List Entry
     pub made : IsBookOfBoth s a b book
-    pub written : Prints contents old new (export_text (told_apart s) book)
+    pub text : List ℕ
+    pub exported : IsExport (told_apart s) document book text
+    pub written : Prints contents old new (text ++ codes "\n")
 
 -- a desk's file isn't read to its end
 abbrev pub of_input : DeskId → InputFault → BothPrintFault

@@ -3,10 +3,11 @@
 ghost use Rattle.std.specs.Prelude.{◌≡◌, ◌≢◌, ◌<◌, ◌⊎◌, length, Err, IfErr, IfOk, IfSome, OnOk};
 ghost use Rattle.agree_core.specs.declared.messages.DeskId.TheVariants.{A, B};
 ghost use Rattle.streams.specs.Watched.{IsHandedOn, MeetsFailure, failures, stream_of};
+ghost use Rattle.toml.specs.View.{table_view};
 ghost use Rattle.books.specs.BothFiles.{IsBookOfBoth};
 ghost use Rattle.commands.specs.BothFiles.{IsOfReading, PrintsCardOfBoth, PrintsExportOfBoth, WhyNotBoth};
 
-use crate::export_command::print_text;
+use crate::export_command::{print_text, sheet_and_document};
 use agree_core::DeskId;
 use books::{BothFault, book_of_both, print_card};
 use cards::MatchSheet;
@@ -16,6 +17,7 @@ use setup::{StopFault, Stopped, open_input, output, told_sheet_at};
 use std::alloc::{AllocError, Global};
 use std::io::{Read, Write};
 use streams::{InputFault, LONGEST_INPUT, Watched, read_all};
+use toml::Table;
 
 /// Why `card`, `export` and `compare` of both files end before their end.
 #[derive(Clone, Copy, Debug, PartialEq, Eq)]
@@ -185,17 +187,19 @@ pub fn card_both_run<R: Read, W: Write>(
     }
 }
 
-/// `ground export` of both files: as `card_both_run`, but the agreed list as one JSON value.
+/// `ground export` of both files: as `card_both_run`, but the agreed list as one JSON value, with what the sheet's document
+/// hands on.
 pub fn export_both_run<R: Read, W: Write>(
     alloc: Global,
     sheet: &MatchSheet,
+    document: &Table,
     a: &mut Watched<R>,
     b: &mut Watched<R>,
     writer: &mut Watched<W>,
 ) -> Result<(), BothPrintFault>
     ensures written { OnOk result (IfSome (R.remaining (stream_of a.old)) (λ first.
         IfSome (R.remaining (stream_of b.old)) (λ second.
-        PrintsExportOfBoth W.contents writer.old writer.new sheet.now first second))) }
+        PrintsExportOfBoth W.contents writer.old writer.new sheet.now first second (table_view document.now)))) }
     ensures why { IfErr result (λ fault. IfSome (R.remaining (stream_of a.old)) (λ first.
         IfSome (R.remaining (stream_of b.old)) (λ second. WhyNotBoth sheet.now first second fault))) }
 
@@ -213,7 +217,7 @@ pub fn export_both_run<R: Read, W: Write>(
     ensures unwritten { IfErr result (λ fault. fault ≢ BothPrintFault.Write → writer.new ≡ writer.old) }
 {
     let book = book_of_readers(alloc, sheet, a, b)?;
-    let text = text_of(alloc, sheet, &book)?;
+    let text = text_of(alloc, sheet, document, &book)?;
     match print_text(text.as_str(), writer) {
         Ok(()) => Ok(()),
         Err(_) => Err(BothPrintFault::Write),
@@ -252,11 +256,18 @@ pub fn start_export_of_both<'a>(
     a: &'a str,
     b: &'a str,
 ) -> Result<bool, Stopped<'a>> {
-    let sheet = told_sheet_at(rt, sheet)?;
+    let (sheet, document) = sheet_and_document(rt, sheet)?;
     let mut first = open_input(rt, a)?;
     let mut second = open_input(rt, b)?;
     let mut writer = output(rt)?;
-    match export_both_run(rt.alloc(), &sheet, &mut first, &mut second, &mut writer) {
+    match export_both_run(
+        rt.alloc(),
+        &sheet,
+        &document,
+        &mut first,
+        &mut second,
+        &mut writer,
+    ) {
         Ok(()) => Ok(false),
         Err(fault) => Err(stopped_at(fault, a, b)),
     }

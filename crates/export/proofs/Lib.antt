@@ -12,3 +12,5 @@ pub mod ReaderLemmas
 pub mod SumLemmas
 pub mod ReaderSums
 pub mod CorrectionLemmas
+pub mod GivenLemmas
+pub mod HandedLemmas

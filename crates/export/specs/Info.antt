@@ -1,5 +1,6 @@
--- What is said of the file and of the match. s is the sheet.
-use Rattle.std.specs.Prelude.{ℕ, ◌+◌, List, [], ◌∷◌, ◌++◌, codes}
+-- What is said of the file and of the match. s is the sheet, and given what its table [info] hands on.
+use Rattle.std.specs.Prelude.{ℕ, ◌+◌, Bool, if◌then◌else◌, bytes_eq, List, [], ◌∷◌, ◌++◌, codes}
+use Rattle.std.specs.List.{list_any}
 use Rattle.notation.specs.declared.entry.Side.{Side}
 use Rattle.notation.specs.declared.entry.Side.TheVariants.{Home, Away}
 use Rattle.ball_laws.specs.History.{History}
@@ -20,6 +21,13 @@ meta_field = (
 
 abbrev pub event_field : Sheet → Field
 event_field s = (codes "event", object_of (text_field (codes "name") s.title ∷ []))
+
+abbrev pub has_event : List Field → Bool
+has_event given = list_any (λ f. bytes_eq (codes "event") f.0) given
+
+-- the title as the event, unless one is handed on
+abbrev pub event_fields : Sheet → List Field → List Field
+event_fields s given = if has_event given then [] else event_field s ∷ []
 
 abbrev pub sides_of : Sheet → List Json
 sides_of s = string (name_of s Home) ∷ [] ++ string (name_of s Away) ∷ []
@@ -69,13 +77,14 @@ outcome_fields s (Wickets side n) = win_field s side (margin_field (codes "wicke
 outcome_fields s (InningsAnd side n) = win_field s side (innings_margin n) ∷ []
 outcome_fields s (PenaltyRuns side) = win_field s side (method_field (codes "penalty runs")) ∷ []
 
--- title, sides and players, and how the match stands
-abbrev pub info_field : Sheet → History → Field
-info_field s h = (
-  codes "info",
-  object_of (event_field s ∷ []
-      ++ teams_field s ∷ []
-      ++ players_field s ∷ []
-      ++ number_field (codes "balls_per_over") 6 ∷ []
-      ++ outcome_fields s (outcome s.innings h)),
-)
+-- the event, sides and players, how the match stands, and what is handed on
+abbrev pub info_of : Sheet → History → List Field → Json
+info_of s h given =
+    object_of (event_fields s given
+    ++ (teams_field s
+    ∷ players_field s
+    ∷ number_field (codes "balls_per_over") 6
+    ∷ (outcome_fields s (outcome s.innings h) ++ given)))
+
+abbrev pub info_field : Sheet → History → List Field → Field
+info_field s h given = (codes "info", info_of s h given)

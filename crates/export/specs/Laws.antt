@@ -1,15 +1,19 @@
 -- What an export tells of its match, in a reader's words: what is looked up in its value.
-use Rattle.std.specs.Prelude.{◌≡◌, ◌≢◌, ℕ, ◌+◌, Bool, false, not, bytes_eq, if◌then◌else◌, List, [], ◌∷◌, length, map, codes, Some, slice_get}
-use Rattle.std.specs.List.{flat_map}
+use Rattle.std.specs.Prelude.{◌≡◌, ◌≢◌, ℕ, ◌+◌, Bool, true, false, not, bytes_eq, if◌then◌else◌, List, [], ◌∷◌, length, map, codes, Some, slice_get}
+use Rattle.std.specs.List.{flat_map, list_any}
 use Rattle.notation.specs.declared.entry.Entry.{Entry}
+use Rattle.ball_laws.specs.History.{History}
 use Rattle.ball_laws.specs.Sums.{tally, count_of}
 use Rattle.match_laws.specs.Figures.{total, wickets}
 use Rattle.corrections.specs.CleanList.{clean, history_of}
 use Rattle.cards.specs.Sheet.{Sheet}
+use Rattle.toml.specs.Data.{Data, Members as Table, get_member}
 use Rattle.json.specs.Json.{Json, null, string, array, object, Items, no_items, item, Members, no_members, member}
-use Rattle.json_fields.specs.Values.{number_value}
+use Rattle.json_fields.specs.Values.{Field, number_value}
 use Rattle.export.specs.declared.notes.Noted.{Noted}
 use Rattle.export.specs.Notes.{notes}
+use Rattle.export.specs.Given.{IsValueOf, info_in, is_own}
+use Rattle.export.specs.Info.{info_of}
 use Rattle.export.specs.Innings.{innings_of}
 use Rattle.export.specs.Entries.{entries_of, entry_of}
 
@@ -90,3 +94,12 @@ WicketsAddUp s book = (i : ℕ) → deliveries_in (innings_at s book i) ≢ [] �
 pub record HasEachEntry (book : List Entry) : Type 0 where
   pub count : length (entries_of book) ≡ length book
   pub each : (p : ℕ) (e : Entry) → slice_get book p ≡ Some e → slice_get (entries_of book) p ≡ Some (entry_of book p e)
+
+-- what the sheet's table [info] has at a key that isn't the export's own stands under `info`, with its value
+abbrev pub HasEachKey : Sheet → History → Table → List Field → Type 0
+HasEachKey s h document given =
+    (key : List ℕ) (d : Data) → get_member key (info_in document) ≡ Some d → is_own key ≡ false → IsValueOf d (at key (info_of s h given))
+
+-- nothing that is handed on stands under a key of the export's own
+abbrev pub LeavesOwn : List Field → Type 0
+LeavesOwn given = (key : List ℕ) → is_own key ≡ true → list_any (λ f. bytes_eq key f.0) given ≡ false

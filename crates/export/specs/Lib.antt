@@ -1,10 +1,12 @@
--- What the public calls claim: Value with all that it cites (Notes, Wickets, Deliveries, Innings, Info, Entries, and
+-- What the public calls claim: Value with all that it cites (Notes, Wickets, Deliveries, Innings, Given, Info, Entries, and
 -- Values but for its last part), Names, Laws and Readers. inner: for private functions only.
 pub mod Notes
 pub mod Wickets
 pub mod Deliveries
 pub mod Miscounts
 pub mod Innings
+pub mod Document
+pub mod Given
 pub mod Info
 pub mod Entries
 pub mod Value

@@ -1,13 +1,15 @@
--- The book of a match as one JSON value. s is the sheet.
-use Rattle.std.specs.Prelude.{ℕ, List, [], ◌∷◌, ◌++◌, codes}
+-- The book of a match as one JSON value. s is the sheet, and given what its table [info] hands on.
+use Rattle.std.specs.Prelude.{◌≡◌, ℕ, List, [], ◌∷◌, ◌++◌, codes}
 use Rattle.notation.specs.declared.entry.Entry.{Entry}
 use Rattle.corrections.specs.CleanList.{clean, history_of}
 use Rattle.cards.specs.Sheet.{Sheet}
+use Rattle.toml.specs.Data.{Members}
 use Rattle.json.specs.Json.{Json}
 use Rattle.json.specs.Tree.{json_tokens}
 use Rattle.json.specs.Layout.{pretty}
 use Rattle.json_fields.specs.Values.{Field, object_of, text_field, number_field}
 use Rattle.export.specs.Notes.{notes}
+use Rattle.export.specs.Given.{HandsOn}
 use Rattle.export.specs.Info.{meta_field, info_field}
 use Rattle.export.specs.Innings.{innings_field}
 use Rattle.export.specs.Entries.{book_field}
@@ -23,13 +25,15 @@ own_field s book = (
       ++ book_field book ∷ []),
 )
 
-abbrev pub export_of : Sheet → List Entry → Json
-export_of s book =
+abbrev pub export_of : Sheet → List Field → List Entry → Json
+export_of s given book =
     object_of (meta_field ∷ []
-    ++ info_field s (history_of book) ∷ []
+    ++ info_field s (history_of book) given ∷ []
     ++ innings_field s (history_of book) (notes [] (clean book)) ∷ []
     ++ own_field s book ∷ [])
 
--- its text, as the library lays it out, and a newline
-abbrev pub export_text : Sheet → List Entry → List ℕ
-export_text s book = pretty (json_tokens (export_of s book)) ++ codes "\n"
+-- the text of a book by a sheet and its document: that of the value, as the library lays it out
+pub record IsExport (s : Sheet) (document : Members) (book : List Entry) (text : List ℕ) : Type 0 where
+  pub given : List Field
+  pub hands_on : HandsOn document given
+  pub written : text ≡ pretty (json_tokens (export_of s given book))

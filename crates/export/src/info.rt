@@ -1,11 +1,16 @@
 //! What is said of the file and of the match.
 
-ghost use Rattle.std.specs.Prelude.{◌≡◌, ◌+◌, ◌<◌, ◌∷◌, []};
+ghost use Rattle.std.specs.Prelude.{◌≡◌, ◌+◌, ◌<◌, ◌∷◌, [], codes, is_some, List, OnOk};
 ghost use Rattle.ball_laws.specs.History.{History};
 ghost use Rattle.match_laws.specs.Stands.{StandsFor};
-ghost use Rattle.json_fields.specs.Values.{PutsFields, PutsValues};
+ghost use Rattle.toml.specs.Data.{get_member};
+ghost use Rattle.toml.specs.View.{table_view};
+ghost use Rattle.json_fields.specs.Values.{Field, PutsFields, PutsValues};
+ghost use Rattle.export.specs.Given.{AreFieldsOf, others};
+ghost use Rattle.export.specs.inner.Putting.{PutsInfo};
 ghost use Rattle.export.specs.Info as laws;
 
+use crate::given::put_given;
 use crate::named::NamedSheet;
 use json::Pretty;
 use json_fields::{
@@ -13,7 +18,8 @@ use json_fields::{
 };
 use match_laws::{Match, Outcome};
 use notation::{Player, Side};
-use std::alloc::AllocError;
+use std::alloc::{AllocError, Global};
+use toml::Table;
 
 /// Puts what is said of the file.
 pub fn put_meta(out: &mut Pretty) -> Result<(), AllocError>
@@ -25,13 +31,31 @@ pub fn put_meta(out: &mut Pretty) -> Result<(), AllocError>
     end_object(out)
 }
 
-/// Puts the title.
+/// Whether the sheet's table `[info]` has an event.
+fn has_event(info: &Table) -> bool
+    ensures { result ≡ is_some (get_member (codes "event") (table_view info.now)) }
+{
+    info.get("event").is_some()
+}
+
+/// Puts the title as the event.
 fn put_event(out: &mut Pretty, sheet: &NamedSheet<'_>) -> Result<(), AllocError>
     ensures { PutsFields result out.old out.new (laws.event_field sheet.now ∷ []) }
 {
     begin_field(out, "event")?;
     put_text(out, "name", sheet.title())?;
     end_object(out)
+}
+
+/// Puts the title as the event, unless `[info]` has one.
+fn put_title(out: &mut Pretty, sheet: &NamedSheet<'_>, info: &Table) -> Result<(), AllocError>
+    ensures { (given : List Field) → AreFieldsOf (others (table_view info.now)) given
+        → PutsFields result out.old out.new (laws.event_fields sheet.now given) }
+{
+    if has_event(info) {
+        return Ok(());
+    }
+    put_event(out, sheet)
 }
 
 /// Puts the names of both sides.
@@ -179,16 +203,23 @@ fn put_outcome(out: &mut Pretty, sheet: &NamedSheet<'_>, outcome: Outcome) -> Re
     }
 }
 
-/// Puts what is said of the match.
-pub fn put_info(out: &mut Pretty, sheet: &NamedSheet<'_>, score: &Match) -> Result<(), AllocError>
+/// Puts what is said of the match, with what the sheet's table `[info]` hands on.
+pub fn put_info(
+    alloc: Global,
+    out: &mut Pretty,
+    sheet: &NamedSheet<'_>,
+    info: &Table,
+    score: &Match,
+) -> Result<(), AllocError>
     ensures { (h : History) → StandsFor score.now sheet.now.innings h
-        → PutsFields result out.old out.new (laws.info_field sheet.now h ∷ []) }
+        → OnOk result (PutsInfo sheet.now h (table_view info.now) out.old out.new) }
 {
     begin_field(out, "info")?;
-    put_event(out, sheet)?;
+    put_title(out, sheet, info)?;
     put_teams(out, sheet)?;
     put_players(out, sheet)?;
     put_figure(out, "balls_per_over", 6)?;
     put_outcome(out, sheet, score.result())?;
+    put_given(alloc, out, info)?;
     end_object(out)
 }

@@ -4,9 +4,13 @@
 
 ghost use Rattle.std.specs.Prelude.{ℕ, List};
 ghost use Rattle.notation.specs.declared.entry.Entry.{Entry};
+ghost use Rattle.ball_laws.specs.History.{History};
 ghost use Rattle.corrections.specs.Legal.{IsLegalBook};
 ghost use Rattle.cards.specs.Sheet.{Sheet};
-ghost use Rattle.export.specs.Laws.{HasEachEntry, TotalsAddUp, WicketsAddUp};
+ghost use Rattle.toml.specs.Data.{Members};
+ghost use Rattle.json_fields.specs.Values.{Field};
+ghost use Rattle.export.specs.Given.{HandsOn};
+ghost use Rattle.export.specs.Laws.{HasEachEntry, HasEachKey, LeavesOwn, TotalsAddUp, WicketsAddUp};
 ghost use Rattle.export.specs.Names.{NamesTwoSides};
 
 /// Looked up in the value of an innings, as it stands in an export: the totals of its deliveries and its penalty runs
@@ -21,4 +25,12 @@ pub fn exports_add_up()
 /// The sides of an export have two names, whatever they are called on the sheet: so no key stands twice.
 pub fn exports_name_two_sides()
     ensures { (s : Sheet) → NamesTwoSides s }
+{}
+
+/// Each key of the sheet's table `[info]` stands under `info` with its value, but for those that are the export's own: none
+/// of these is handed on, so that none stands twice.
+pub fn exports_hand_on()
+    ensures each { (s : Sheet) → (h : History) → (document : Members) → (given : List Field)
+        → HandsOn document given → HasEachKey s h document given }
+    ensures own { (document : Members) → (given : List Field) → HandsOn document given → LeavesOwn given }
 {}

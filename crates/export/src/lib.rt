@@ -4,7 +4,9 @@
 
 mod begun;
 mod deliveries;
+mod document;
 mod entries;
+mod given;
 mod info;
 mod innings;
 mod laws;
@@ -17,6 +19,7 @@ mod text;
 mod value;
 mod wickets;
 
-pub use laws::{exports_add_up, exports_name_two_sides};
+pub use document::document_of;
+pub use laws::{exports_add_up, exports_hand_on, exports_name_two_sides};
 pub use readers::{batters_add_up, bowlers_add_up, names_tell_players};
 pub use text::text_of;

@@ -1,11 +1,11 @@
 //! The text of a book as JSON.
 
 ghost use Rattle.std.specs.Prelude.{◌≡◌, string_bytes, IfOk};
-ghost use Rattle.json.specs.Layout.{pretty};
-ghost use Rattle.json.specs.Tree.{json_tokens};
+ghost use Rattle.toml.specs.View.{table_view};
 ghost use Rattle.export.specs.Names.{told_apart};
-ghost use Rattle.export.specs.Value.{export_of};
+ghost use Rattle.export.specs.Value.{IsExport};
 
+use crate::given::info_in;
 use crate::named::NamedSheet;
 use crate::notes::notes_of;
 use crate::value::put_export;
@@ -13,22 +13,32 @@ use cards::MatchSheet;
 use corrections::BookOf;
 use json::Pretty;
 use std::alloc::{AllocError, Global};
+use toml::Table;
 
 /// The text of a book as one JSON value, without its newline: what happened ball by ball with the results of the Laws,
-/// and each entry as it was penned. Sides of one name are told apart.
-pub fn text_of<B: BookOf>(alloc: Global, sheet: &MatchSheet, book: &B) -> Result<String, AllocError>
+/// each entry as it was penned, and what the table `[info]` of the sheet's document hands on. Sides of one name are told
+/// apart.
+pub fn text_of<B: BookOf>(
+    alloc: Global,
+    sheet: &MatchSheet,
+    document: &Table,
+    book: &B,
+) -> Result<String, AllocError>
     requires { B.innings_a_side book.now ≡ sheet.now.innings }
     ensures { IfOk result (λ text.
-        string_bytes text ≡ pretty (json_tokens (export_of (told_apart sheet.now) (B.content book.now)))) }
+        IsExport (told_apart sheet.now) (table_view document.now) (B.content book.now) (string_bytes text)) }
 {
     let score = book.score();
     let (notes, begun) = notes_of(alloc, sheet.innings(), book)?;
     let named = NamedSheet::new(alloc, sheet)?;
+    let none = Table::new(alloc);
+    let info = info_in(document).unwrap_or(&none);
     let mut out = Pretty::new(alloc);
     put_export(
         alloc,
         &mut out,
         &named,
+        info,
         score,
         book,
         notes.as_slice(),

@@ -1,11 +1,13 @@
 //! The book of a match as one JSON value.
 
-ghost use Rattle.std.specs.Prelude.{◌≡◌, ◌∷◌, []};
+ghost use Rattle.std.specs.Prelude.{◌≡◌, ◌∷◌, [], OnOk};
 ghost use Rattle.corrections.specs.CleanList.{clean, history_of};
 ghost use Rattle.match_laws.specs.Stands.{StandsFor};
 ghost use Rattle.export.specs.Notes.{begun_of, notes};
-ghost use Rattle.json_fields.specs.Values.{PutsFields, PutsValues};
-ghost use Rattle.export.specs.Value.{export_of, own_field};
+ghost use Rattle.toml.specs.View.{table_view};
+ghost use Rattle.json_fields.specs.Values.{PutsFields};
+ghost use Rattle.export.specs.Value.{own_field};
+ghost use Rattle.export.specs.inner.Putting.{PutsExport};
 
 use crate::begun::Begun;
 use crate::entries::put_entries;
@@ -18,6 +20,7 @@ use json::Pretty;
 use json_fields::{begin_field, begin_object, end_object, put_figure, put_number, put_text};
 use match_laws::Match;
 use std::alloc::{AllocError, Global};
+use toml::Table;
 
 /// Puts what the format of archives can't hold.
 fn put_own<B: BookOf>(
@@ -36,12 +39,13 @@ fn put_own<B: BookOf>(
     end_object(out)
 }
 
-/// Puts the book of a match as one JSON value, by its score and its clean list with
-/// where each item stands.
+/// Puts the book of a match as one JSON value, by what the sheet's table `[info]` hands on, the book's score, and its clean
+/// list with where each item stands.
 pub fn put_export<B: BookOf>(
     alloc: Global,
     out: &mut Pretty,
     sheet: &NamedSheet<'_>,
+    info: &Table,
     score: &Match,
     book: &B,
     noted: &[Noted],
@@ -50,11 +54,11 @@ pub fn put_export<B: BookOf>(
     requires noted { noted.now ≡ notes [] (clean (B.content book.now)) }
     requires begun { begun.now ≡ begun_of (history_of (B.content book.now)) }
     requires stands { StandsFor score.now sheet.now.innings (history_of (B.content book.now)) }
-    ensures { PutsValues result out.old out.new (export_of sheet.now (B.content book.now) ∷ []) }
+    ensures { OnOk result (PutsExport sheet.now (B.content book.now) (table_view info.now) out.old out.new) }
 {
     begin_object(out)?;
     put_meta(out)?;
-    put_info(out, sheet, score)?;
+    put_info(alloc, out, sheet, info, score)?;
     put_all_innings(alloc, out, sheet, score, begun, noted)?;
     put_own(alloc, out, sheet, book)?;
     end_object(out)

@@ -15,5 +15,5 @@ pub use crate::gaps::{Gaps, fill_gaps};
 pub use crate::opening::{Output, bytes_at, old_votes_at, open_input, output, printer, sheet_at};
 pub use crate::sealing::{Sealing, key_in};
 pub use crate::sheet::{NoSheet, sheet_run};
-pub use crate::twins::told_sheet_at;
+pub use crate::twins::{told_sheet_at, told_sheet_of};
 pub use crate::votes_file::{VotesDisk, empty_disk, kept_votes, new_disk_at, renewed_disk};

@@ -1,8 +1,9 @@
 //! Names of a sheet that two bear. Such a sheet is taken: standard error is told, and the match goes on.
 
-use crate::fault::Stopped;
-use crate::opening::sheet_at;
-use cards::MatchSheet;
+use crate::fault::{StopFault, Stopped};
+use crate::opening::bytes_at;
+use crate::sheet::NoSheet;
+use cards::{MatchSheet, read_sheet};
 use notation::{Player, Side};
 use std::io::{self, Write};
 use std::ops::Range;
@@ -53,9 +54,23 @@ fn tell_twins<W: Write>(errors: &mut W, sheet: &MatchSheet) -> io::Result<()> {
     tell_players(errors, sheet, Side::Away)
 }
 
-/// The match sheet in a file. Standard error is told of each name that two bear; that it can't be told is no fault.
+/// The match sheet of a file's bytes. Standard error is told of each name that two bear; that it can't be told is no fault.
+pub fn told_sheet_of<'a>(
+    rt: &HostRuntime,
+    path: &'a str,
+    text: &[u8],
+) -> Result<MatchSheet, Stopped<'a>> {
+    match read_sheet(rt.alloc(), text) {
+        Ok(sheet) => {
+            let _ = tell_twins(&mut rt.stderr(), &sheet);
+            Ok(sheet)
+        }
+        Err(why) => Err(Stopped::at(path, StopFault::from(NoSheet::from(why)))),
+    }
+}
+
+/// The match sheet in a file, told in the same way.
 pub fn told_sheet_at<'a>(rt: &HostRuntime, path: &'a str) -> Result<MatchSheet, Stopped<'a>> {
-    let sheet = sheet_at(rt, path)?;
-    let _ = tell_twins(&mut rt.stderr(), &sheet);
-    Ok(sheet)
+    let text = bytes_at(rt, path)?;
+    told_sheet_of(rt, path, text.as_slice())
 }

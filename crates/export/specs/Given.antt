@@ -1,0 +1,64 @@
+-- What a sheet's table [info] hands on: each value of TOML as one of JSON.
+use Rattle.std.specs.Prelude.{◌≡◌, ℕ, Bool, ◌||◌, if◌then◌else◌, bytes_eq, List, [], ◌∷◌, Option, Some, None, option_and_then, Float, codes}
+use Rattle.std.specs.Bool.{MatchBool}
+use Rattle.std.specs.Float.{binary64, float_is_finite}
+use Rattle.std.specs.Fmt.{signed_decimal}
+use Rattle.fast_float.specs.Parse.{parse_float}
+use Rattle.toml.specs.Data as toml
+use Rattle.toml.specs.Data.{Data, Items, no_items, item, Members, no_members, member, get_member, as_table}
+use Rattle.toml_datetime.specs.Text.{datetime_text}
+use Rattle.json.specs.Json.{Json, null, boolean, number, string}
+use Rattle.json.specs.Print.{IsNumber}
+use Rattle.json_fields.specs.Values.{Field, array_of, object_of}
+
+-- a number of JSON that reads as the float: null, where it is no number or infinite, since JSON has none of these
+abbrev pub IsFloatOf : Float → Json → Type 0
+IsFloatOf x v =
+    MatchBool (float_is_finite x) ((text : List ℕ) × (v ≡ number text) × IsNumber text × (parse_float binary64 text ≡ Some x))
+    (v ≡ null)
+
+-- the value of JSON for one of TOML: a date or a time is its text
+abbrev mutual
+  pub IsValueOf : Data → Json → Type 0
+  IsValueOf (toml.string text) v = v ≡ string text
+  IsValueOf (toml.integer z) v = v ≡ number (signed_decimal z)
+  IsValueOf (toml.float x) v = IsFloatOf x v
+  IsValueOf (toml.boolean b) v = v ≡ boolean b
+  IsValueOf (toml.datetime time) v = v ≡ string (datetime_text time)
+  IsValueOf (toml.array ds) v = (vs : List Json) × (v ≡ array_of vs) × AreValuesOf ds vs
+  IsValueOf (toml.table ms) v = (fs : List Field) × (v ≡ object_of fs) × AreFieldsOf ms fs
+
+  pub AreValuesOf : Items → List Json → Type 0
+  AreValuesOf no_items vs = vs ≡ []
+  AreValuesOf (item d ds) vs = (v : Json) × (more : List Json) × (vs ≡ v ∷ more) × IsValueOf d v × AreValuesOf ds more
+
+  pub AreFieldsOf : Members → List Field → Type 0
+  AreFieldsOf no_members fs = fs ≡ []
+  AreFieldsOf (member key d ms) fs = (v : Json) × (more : List Field) × (fs ≡ (key, v) ∷ more) × IsValueOf d v × AreFieldsOf ms more
+
+-- the keys under `info` that are always the export's own
+abbrev pub is_own : List ℕ → Bool
+is_own key =
+    ((bytes_eq key (codes "teams") || bytes_eq key (codes "players")) || bytes_eq key (codes "balls_per_over"))
+    || bytes_eq key (codes "outcome")
+
+-- the members under other keys
+abbrev pub others : Members → Members
+others no_members = no_members
+others (member key d ms) = if is_own key then others ms else member key d (others ms)
+
+-- the table [info] of a sheet's document
+abbrev pub table_in : Members → Option Members
+table_in document = option_and_then as_table (get_member (codes "info") document)
+
+-- its members: none, where there is no such table
+abbrev pub members_or_none : Option Members → Members
+members_or_none None = no_members
+members_or_none (Some ms) = ms
+
+abbrev pub info_in : Members → Members
+info_in document = members_or_none (table_in document)
+
+-- the fields that a sheet's document hands on
+abbrev pub HandsOn : Members → List Field → Type 0
+HandsOn document given = AreFieldsOf (others (info_in document)) given

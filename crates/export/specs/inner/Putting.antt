@@ -1,0 +1,40 @@
+-- What is put of a sheet's table [info] behind the tokens `old`.
+use Rattle.std.specs.Prelude.{◌≡◌, ℕ, ◌++◌, ◌∷◌, [], List, Float}
+use Rattle.ball_laws.specs.History.{History}
+use Rattle.cards.specs.Sheet.{Sheet}
+use Rattle.notation.specs.declared.entry.Entry.{Entry}
+use Rattle.toml.specs.Data.{Data, Items, Members, no_members, member}
+use Rattle.json.specs.Json.{Json}
+use Rattle.json.specs.Token.{Token}
+use Rattle.json.specs.Tree.{json_tokens, items_tokens, members_tokens}
+use Rattle.json_fields.specs.Values.{Field, items_of, members_of, fields_tokens, values_tokens}
+use Rattle.export.specs.Given.{IsFloatOf, IsValueOf, AreValuesOf, AreFieldsOf, others}
+use Rattle.export.specs.Info.{info_field}
+use Rattle.export.specs.Value.{export_of}
+
+abbrev pub PutsFloat : Float → List Token → List Token → Type 0
+PutsFloat x old new = (v : Json) × IsFloatOf x v × (new ≡ old ++ json_tokens v)
+
+abbrev pub PutsValue : Data → List Token → List Token → Type 0
+PutsValue d old new = (v : Json) × IsValueOf d v × (new ≡ old ++ json_tokens v)
+
+-- with the closing bracket
+abbrev pub PutsItems : Items → List Token → List Token → Type 0
+PutsItems ds old new = (vs : List Json) × AreValuesOf ds vs × (new ≡ old ++ items_tokens (items_of vs))
+
+abbrev pub PutsMembers : Members → List Token → List Token → Type 0
+PutsMembers ms old new = (fs : List Field) × AreFieldsOf ms fs × (new ≡ old ++ members_tokens (members_of fs))
+
+-- what is handed on of these members
+abbrev pub PutsGiven : Members → List Token → List Token → Type 0
+PutsGiven ms old new = (fs : List Field) × AreFieldsOf (others ms) fs × (new ≡ old ++ fields_tokens fs)
+
+abbrev pub PutsHanded : List ℕ → Data → List Token → List Token → Type 0
+PutsHanded key d old new = PutsGiven (member key d no_members) old new
+
+-- what is said of the match, with what the table [info] of these members hands on
+abbrev pub PutsInfo : Sheet → History → Members → List Token → List Token → Type 0
+PutsInfo s h ms old new = (given : List Field) × AreFieldsOf (others ms) given × (new ≡ old ++ fields_tokens (info_field s h given ∷ []))
+
+abbrev pub PutsExport : Sheet → List Entry → Members → List Token → List Token → Type 0
+PutsExport s book ms old new = (given : List Field) × AreFieldsOf (others ms) given × (new ≡ old ++ values_tokens (export_of s given book ∷ []))
