@@ -15,7 +15,7 @@ use Rattle.schedule_replay.specs.declared.seen.WorldRefusal.TheVariants.{NoMemor
 use Rattle.headline.specs.declared.version.FileVersion.{FileVersion}
 use Rattle.headline.specs.Laws.{HoldsInRun}
 use Rattle.headline.specs.Configurations.{Configuration, all_votes}
-use Rattle.headline.specs.Runs.{AtEachMoment, AtSomeMoment, Begins, Moment, Run, Shows, answers_of, events_of, last_of}
+use Rattle.headline.specs.Runs.{AtEachMoment, AtSomeMoment, Begins, Moment, Run, answers_of, events_of, last_of}
 use Rattle.headline.specs.Headline.{AtEachEvent, ShowScores, ShowsScore}
 use Rattle.schedule_replay.specs.Refusals.{RefusesEvent}
 use Rattle.headline.specs.Match.{match_of}
