@@ -1,31 +1,31 @@
 -- What a desk keeps of its votes, as it opens, casts and hears.
-use Rattle.std.proofs.Common.{◌≡◌, ◌∙◌, ◌+◌, ◌&&◌, ◌==◌, nat_lt, ℕ, true, Option, Some, None, List, [], ◌∷◌, ◌++◌, length, refl, sym, ap, subst, append-nil, append_assoc}
-use Rattle.std.proofs.lemmas.Bool.{and_from, or_left, or_right, lt-ltb}
+use Rattle.std.proofs.Common.{◌≡◌, ◌∙◌, ◌+◌, ◌==◌, ℕ, true, Option, Some, None, IfSome, List, [], ◌∷◌, ◌++◌, length, refl, sym, ap, subst, append-nil, append_assoc}
+use Rattle.std.proofs.lemmas.Bool.{and_from, or_left, or_right}
 use Rattle.std.proofs.lemmas.Bool.Decides.{Decides-eqb}
 use Rattle.std.proofs.lemmas.List.{length-append}
 use Rattle.notation.specs.declared.entry.Entry.{Entry}
+use Rattle.notation.specs.Written.{IsEntry}
 use Rattle.corrections.specs.Refusal.{book_refusal}
 use Rattle.agree_core.specs.declared.messages.DeskId.{DeskId}
 use Rattle.agree_core.specs.declared.messages.Vote.{Vote}
 use Rattle.agree_core.specs.declared.position.Position.{Position}
-use Rattle.notation.specs.declared.entry.TheConstants.{PLACES}
-use Rattle.agree_core.specs.declared.position.TheConstants.{ROUNDS}
 use Rattle.agree_core.specs.declared.seat.Heard.{Heard}
 use Rattle.agree_core.specs.declared.seat.Settled.{Settled}
-use Rattle.agree_core.specs.Ballots.{Ballot, ComesNext}
+use Rattle.agree_core.specs.Ballots.{Ballot}
 use Rattle.agree_core.specs.Books.{AllTaken, Rules, book_of, seat_of, voted_list}
 use Rattle.agree_core.specs.Desks.{book_after, book_heard}
-use Rattle.agree_core.specs.Positions.{InRange, next_place, next_round}
+use Rattle.agree_core.specs.Positions.{next_place, next_round}
 use Rattle.agree_core.specs.Seats.{Casts, Hears, SeatState, waiting}
 use Rattle.agree_core.proofs.FileBooks.{book_long}
 use Rattle.vote_store.specs.Sequence.{comes_next, is_at, last_position}
-use Rattle.vote_store.proofs.SequenceLemmas.{IsVotes, may_follow-true}
+use Rattle.vote_store.proofs.SequenceLemmas.{IsVotes}
 use Rattle.desk.specs.inner.Kept.{IsCast, IsNext, newest}
 
 pub record IsKept (n : ℕ) (book : List Entry) (seat : SeatState) (votes : List Ballot) : Type 0 where
   pub as_long : length book ≡ seat.position.place
   pub cast : IsCast n book seat votes
   pub next : IsNext seat votes
+  pub noted : IfSome seat.theirs IsEntry
 
 -- the same book, seat and votes
 pub kept_as : (n : ℕ) (book book' : List Entry) (seat seat' : SeatState) (votes votes' : List Ballot)
@@ -42,7 +42,7 @@ last_legal rules book (x ∷ xs) e t = rw (sym (append_assoc book (x ∷ []) xs)
 -- the seat and the book that a file's votes show
 pub opened_kept : (n : ℕ) (d : DeskId) (votes : List Ballot) → IsVotes votes → AllTaken (book_refusal n) [] (voted_list votes)
     → IsKept n (book_of votes) (seat_of d votes) votes
-opened_kept n d [] fine taken = record { as_long = refl; cast = λ e h. absurd (cc); next = λ h. refl }
+opened_kept n d [] fine taken = record { as_long = refl; cast = λ e h. absurd (cc); next = λ h. refl; noted = tt }
 opened_kept n d (b ∷ rest) fine taken = record {
   as_long = book_long b rest fine.sequence;
   cast = λ e h.
@@ -52,6 +52,7 @@ opened_kept n d (b ∷ rest) fine taken = record {
         last = ap (λ (x : Entry). Some (record { at = b.at; entry = x })) is;
       };
   next = λ h. absurd (cc);
+  noted = tt;
 }
 
 same_place : (p : Position) → is_at p p ≡ true
@@ -82,6 +83,7 @@ settled_kept n book s t votes e long last is = subst (λ (x : SeatState). IsKept
   as_long = one_longer book e ∙ ap (λ (k : ℕ). k + 1) long;
   cast = λ f h. absurd (cc);
   next = λ h. (next_is s.position votes e last).0;
+  noted = tt;
 })
 
 differed_kept : (n : ℕ) (book : List Entry) (s t : SeatState) (votes : List Ballot) (e : Entry) → length book ≡ s.position.place
@@ -91,6 +93,7 @@ differed_kept n book s t votes e long last is = subst (λ (x : SeatState). IsKep
   as_long = long;
   cast = λ f h. absurd (cc);
   next = λ h. (next_is s.position votes e last).1;
+  noted = tt;
 })
 
 -- once a vote is cast and stored
@@ -105,25 +108,27 @@ cast_kept n book s t votes e Settled.Pending long legal c =
         last = ap (λ (x : Entry). Some (record { at = s.position; entry = x })) is;
       };
       next = λ h. absurd (cc);
+      noted = tt;
     })
 cast_kept n book s t votes e Settled.Agreed long legal c = settled_kept n book s t _ e long refl c.1
 cast_kept n book s t votes e Settled.Differ long legal c = differed_kept n book s t _ e long refl c.1
 
 -- once a vote is heard
 pub heard_kept : (n : ℕ) (book : List Entry) (s t : SeatState) (votes : List Ballot) (v : Vote) (heard : Heard)
-    → IsKept n book s votes → Hears s v heard t → IsKept n (book_heard heard book v.entry) t votes
-heard_kept n book s t votes v Heard.Mine k h = subst (λ (x : SeatState). IsKept n book x votes) (sym h.1) k
-heard_kept n book s t votes v Heard.Old k h = subst (λ (x : SeatState). IsKept n book x votes) (sym h.2) k
-heard_kept n book s t votes v Heard.Ahead k h = subst (λ (x : SeatState). IsKept n book x votes) (sym h.2) k
-heard_kept n book s t votes v Heard.Again k h = subst (λ (x : SeatState). IsKept n book x votes) (sym h.2) k
-heard_kept n book s t votes v Heard.TwoVotes k h = subst (λ (x : SeatState). IsKept n book x votes) (sym h.2) k
-heard_kept n book s t votes v Heard.Noted k h = subst (λ (x : SeatState). IsKept n book x votes) (sym h.3) (record {
+    → IsEntry v.entry → IsKept n book s votes → Hears s v heard t → IsKept n (book_heard heard book v.entry) t votes
+heard_kept n book s t votes v Heard.Mine entry k h = subst (λ (x : SeatState). IsKept n book x votes) (sym h.1) k
+heard_kept n book s t votes v Heard.Old entry k h = subst (λ (x : SeatState). IsKept n book x votes) (sym h.2) k
+heard_kept n book s t votes v Heard.Ahead entry k h = subst (λ (x : SeatState). IsKept n book x votes) (sym h.2) k
+heard_kept n book s t votes v Heard.Again entry k h = subst (λ (x : SeatState). IsKept n book x votes) (sym h.2) k
+heard_kept n book s t votes v Heard.TwoVotes entry k h = subst (λ (x : SeatState). IsKept n book x votes) (sym h.2) k
+heard_kept n book s t votes v Heard.Noted entry k h = subst (λ (x : SeatState). IsKept n book x votes) (sym h.3) (record {
   as_long = k.as_long;
   cast = λ f g. absurd (cc);
   next = λ g. k.next h.2;
+  noted = entry;
 })
-heard_kept n book s t votes v Heard.Agreed k h = settled_kept n book s t votes v.entry k.as_long (k.cast v.entry h.2).last h.3
-heard_kept n book s t votes v Heard.Differ k h = differed_kept n book s t votes h.2.0 k.as_long (k.cast h.2.0 h.2.1).last h.3
+heard_kept n book s t votes v Heard.Agreed entry k h = settled_kept n book s t votes v.entry k.as_long (k.cast v.entry h.2).last h.3
+heard_kept n book s t votes v Heard.Differ entry k h = differed_kept n book s t votes h.2.0 k.as_long (k.cast h.2.0 h.2.1).last h.3
 
 pub seat_desk : (d : DeskId) (votes : List Ballot) → (seat_of d votes).desk ≡ d
 seat_desk d [] = refl
@@ -162,6 +167,6 @@ cast_book Settled.Agreed book e n = absurd (n refl)
 cast_book Settled.Differ book e n = refl
 
 pub still_kept : (n : ℕ) (book : List Entry) (s t : SeatState) (votes : List Ballot) (v : Vote) (heard : Heard)
-    → IsKept n book s votes → Hears s v heard t → (heard ≡ Heard.Agreed → ⊥) → IsKept n book t votes
-still_kept n book s t votes v heard k h not_agreed =
-    kept_as n (book_heard heard book v.entry) book t t votes votes (heard_kept n book s t votes v heard k h) (heard_book heard book v.entry not_agreed) refl refl
+    → IsEntry v.entry → IsKept n book s votes → Hears s v heard t → (heard ≡ Heard.Agreed → ⊥) → IsKept n book t votes
+still_kept n book s t votes v heard entry k h not_agreed =
+    kept_as n (book_heard heard book v.entry) book t t votes votes (heard_kept n book s t votes v heard entry k h) (heard_book heard book v.entry not_agreed) refl refl
