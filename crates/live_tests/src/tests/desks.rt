@@ -143,6 +143,7 @@ fn lines_and_rounds(rt: HostRuntime) {
         "score",
         "players",
         "help late",
+        "",
         "quit",
     ];
     let texts = [
@@ -150,7 +151,7 @@ fn lines_and_rounds(rt: HostRuntime) {
         "0 next\n0 pending: innings home\n0 agreed: innings home\n",
         OPENED,
         "1 doesn't differ: leave out again\n1 the other has written\n",
-        "1 doesn't differ: leave out again\n1 differs\n",
+        "1 doesn't differ: leave out again\n1 differs: you in 1, the other in 2\n",
         "1 differs: begin the line with again\n1 pending: in 1\n",
         WAITING,
         WAITING,
@@ -161,7 +162,8 @@ fn lines_and_rounds(rt: HostRuntime) {
         FIRST_IN,
         "2 the other has written\n2 agreed: in 2\n",
         BOTH_IN,
-        "3 pending: ball 7 bat 1\n3 differs\n3 differs: begin the line with again\n",
+        "3 pending: ball 7 bat 1\n3 differs: you ball 7 bat 1, the other ball 7 bat 2\n",
+        "3 differs: begin the line with again\n",
         "3 differs: begin the line with again\n3 differs: begin the line with again\n",
         "fault 3 BadNumber: a number is missing, or out of its range\n",
         "refused 32 Later 1 20: the entry of that place would be refused so\n",
@@ -174,6 +176,8 @@ fn lines_and_rounds(rt: HostRuntime) {
         SCORE,
         SIDES,
         "late p E: E was left out, and belongs after place p\n  late 12 in 5\n",
+        BOTH_IN,
+        "3 differs\n",
     ];
     is_told(&rt, alloc, &lines, &mut link, &texts);
 }

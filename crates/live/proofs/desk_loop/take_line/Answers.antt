@@ -32,7 +32,7 @@ returns-clause-goes g c =
     ∙ (ap (λ (n : ℕ). said_text sheet n c.position-at.result c.own_line.result c.noted.result (content (book_of new)) said) c.pen-said.ensures.same.innings_a_side
     ∙ (ap (λ (p : Position). said_text sheet (innings_of c.args.desk.now) p c.own_line.result c.noted.result (content (book_of new)) said) c.position-at.ensures
     ∙ (ap (λ (own : Option Entry). said_text sheet (innings_of c.args.desk.now) (state_of c.args.desk.now).seat.position own c.noted.result (content (book_of new)) said) c.own_line.ensures.value
-    ∙ ap (λ (other : Option Entry). said_text sheet (innings_of c.args.desk.now) (state_of c.args.desk.now).seat.position (own_line (state_of c.args.desk.now)) other (content (book_of new)) said) c.noted.ensures))) in
+    ∙ ap (λ (other : Option Entry). said_text sheet (innings_of c.args.desk.now) (state_of c.args.desk.now).seat.position (own_line (state_of c.args.desk.now)) other (content (book_of new)) said) c.noted.ensures.noted))) in
     let text = subst (λ (t : List ℕ). OnOk c.print_said.result (Appends (g.W.Write.contents (stream_of c.args.out.now)) (g.W.Write.contents (stream_of c.print_said.new.out)) t)) path c.print_said.ensures.text in
     λ warned turns. says sheet c.args.desk.now new _ said _ warned turns _ _ _ _ _ _ c.pen-said.ensures c.in-Line.ensures.1 (goes_further c.print_said.result c.told.result c.told.ensures ∙ sym further)
     (tells c.print_said.result c.told.result _ _ _ c.told.ensures text)
