@@ -143,7 +143,6 @@ fn lines_and_rounds(rt: HostRuntime) {
         "score",
         "players",
         "help late",
-        "",
         "quit",
     ];
     let texts = [
@@ -176,8 +175,6 @@ fn lines_and_rounds(rt: HostRuntime) {
         SCORE,
         SIDES,
         "late p E: E was left out, and belongs after place p\n  late 12 in 5\n",
-        BOTH_IN,
-        "3 differs\n",
     ];
     is_told(&rt, alloc, &lines, &mut link, &texts);
 }
