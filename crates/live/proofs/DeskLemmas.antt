@@ -36,7 +36,7 @@ use Rattle.live.specs.Saying.{ComesTo, SaysEntry}
 use Rattle.live.specs.Typing.{Input, Line, End}
 use Rattle.live.specs.Texts.{came_text, said_text, unopened_text, warned_after, warned_unopened}
 use Rattle.live.specs.Ends.{Course, course_of, end_at, end_of, ending, further, known_at, known_to, turns_after, written as answer_of}
-use Rattle.live.specs.Desks.{Blames, Calls, DeskCall, DeskGoes, DeskProcess, DeskStep, Given, FitsLongest, Ticked, TurnEnded, Typed, TypingEnded, Unopened, after_call, course_after, desk_kind, disks_of, given, innings_of, kind_of, own_line, process_of, told_of, typed}
+use Rattle.live.specs.Desks.{Blames, Calls, DeskCall, DeskGoes, DeskProcess, DeskStep, Given, FitsLongest, Ticked, TurnEnded, Typed, TypingEnded, Unopened, after_call, course_after, desk_kind, disks_of, entry_in, given, innings_of, kind_of, own_line, process_of, told_of, typed}
 use Rattle.live.specs.declared.said.Said.{Said}
 use Rattle.live.specs.declared.said.Said.TheVariants as said
 use Rattle.live.specs.declared.warned.Warned.{Warned}
@@ -131,7 +131,7 @@ module _ {S B D : Type 0} {g : Files S D} {h : Disks D} {b : Books B} where
   -- its scorer typed a line
   pub says : (sheet : Sheet) (k l : Desk S B D g h b) (line : List ℕ) (answer : Said) (course : Course) (warned : Warned) (turns : ℕ) (before after : List Passed) (x y : List Input) (s t : Option (List ℕ)) →
       Calls sheet k l (Typed line answer) before after → y ≡ x ++ Line line ∷ [] → course ≡ end_of answer →
-      Appends s t (said_text sheet (innings_of k) (state_of k).seat.position (own_line (state_of k)) (state_of l).book answer) →
+      Appends s t (said_text sheet (innings_of k) (state_of k).seat.position (own_line (state_of k)) (state_of k).seat.theirs (state_of l).book answer) →
       DeskGoes sheet k l (process_of k warned turns further) (process_of l warned turns course) before after x y s t
   says sheet k l line answer course warned turns before after x y s t c types is text =
       called sheet k l (Typed line answer) warned turns (process_of l warned turns course) before before after x y s t c (sym (append-nil before)) types
@@ -140,7 +140,7 @@ module _ {S B D : Type 0} {g : Files S D} {h : Disks D} {b : Books B} where
   -- bytes came
   pub hears : (sheet : Sheet) (k l : Desk S B D g h b) (bytes : List ℕ) (what : What) (course : Course) (warned later : Warned) (turns : ℕ) (log before after : List Passed) (x : List Input) (s t : Option (List ℕ)) →
       Calls sheet k l (Given bytes what) before after → before ≡ log ++ Came bytes ∷ [] → later ≡ warned_after warned what → course ≡ end_at what →
-      Appends s t (came_text sheet (innings_of k) (state_of k).seat.position.place (state_of l).book warned what) →
+      Appends s t (came_text sheet (innings_of k) (state_of k).seat.position.place (own_line (state_of k)) (entry_in bytes) (state_of l).book warned what) →
       DeskGoes sheet k l (process_of k warned turns further) (process_of l later turns course) log after x x s t
   hears sheet k l bytes what course warned later turns log before after x s t c came after_warning is text =
       called sheet k l (Given bytes what) warned turns (process_of l later turns course) log before after x x s t c came (sym (append-nil x))

@@ -1,14 +1,26 @@
 -- What a scorer can't see.
 use Rattle.std.proofs.Common.{◌≡◌, ℕ, List, Option, None, Some, inl, inr, arith, refl, sym, ap, ◌∙◌}
 use Rattle.notation.specs.declared.entry.Entry.{Entry}
+use Rattle.agree_core.specs.declared.messages.Message.{Message}
 use Rattle.agree_core.specs.declared.messages.Vote.{Vote}
 use Rattle.agree_core.specs.declared.position.Position.{Position}
 use Rattle.agree_core.specs.declared.seat.Heard.{Heard}
+use Rattle.agree_core.specs.declared.seat.Settled.{Settled}
 use Rattle.agree_core.specs.Seats.{SeatState, Hears, IsForNow}
+use Rattle.agree_core.specs.FileView.{FileView}
 use Rattle.agree_core.specs.Positions.{Before, position_of}
+use Rattle.vote_store.specs.Record.{entry_coded}
+use Rattle.vote_store.proofs.RecordLemmas.{entry_coded-code}
+use Rattle.wire.specs.Layout.{Says}
+use Rattle.wire.proofs.MessageLemmas.{code_in}
+use Rattle.wire.specs.declared.what.What.{What}
+use Rattle.wire.specs.declared.what.What.TheVariants as whats
 use Rattle.cards.specs.Sheet.{Sheet}
-use Rattle.live.specs.Desks.{DeskCall, DeskProcess, Given, Ticked, TurnEnded, Typed, TypingEnded, Unopened, told_of}
-use Rattle.live.specs.Hidden.{HidesTheOther, process_with}
+use Rattle.live.specs.declared.said.Said.TheVariants as said
+use Rattle.live.specs.declared.warned.Warned.{Warned}
+use Rattle.live.specs.Desks.{DeskCall, DeskProcess, Given, Ticked, TurnEnded, Typed, TypingEnded, Unopened, entry_in, own_line, told_of}
+use Rattle.live.specs.Hidden.{HidesTheOther, IsPennedDiffering, TellsBoth, process_with}
+use Rattle.live.specs.Texts.{came_text, differs_text}
 
 not_before : (p q : Position) → p ≡ q → Before p q → ⊥
 not_before p q e b = elim b [
@@ -26,13 +38,59 @@ only_noted s t v Heard.Noted mine theirs now h = refl
 only_noted s t v Heard.Agreed mine theirs now h = let never = sym mine ∙ h.2 in absurd (cc)
 only_noted s t v Heard.Differ mine theirs now h = let never = sym mine ∙ h.2.1 in absurd (cc)
 
-not_by_noted : {Disk : Type 0} (sheet : Sheet) (innings : ℕ) (k l : DeskProcess Disk) (call : DeskCall) (e f : Option Entry) → told_of sheet innings (process_with k e) call (process_with l f) ≡ told_of sheet innings k call l
-not_by_noted sheet innings k l (Typed line answer) e f = refl
-not_by_noted sheet innings k l TypingEnded e f = refl
-not_by_noted sheet innings k l (Given bytes what) e f = refl
-not_by_noted sheet innings k l Unopened e f = refl
-not_by_noted sheet innings k l Ticked e f = refl
-not_by_noted sheet innings k l TurnEnded e f = refl
+only_cast : (s t : SeatState) (v : Vote) → Hears s v Heard.Differ t → s.mine ≡ None → ⊥
+only_cast s t v h none = let never = sym none ∙ h.2.1 in absurd (cc)
 
-pub hides_the_other : (Disk : Type 0) → HidesTheOther Disk
-hides_the_other Disk = record { answer = only_noted; bytes = λ sheet innings k l one other what. refl; noted = not_by_noted }
+not_by_noted : {Disk : Type 0} (sheet : Sheet) (innings : ℕ) (k l : DeskProcess Disk) (call : DeskCall) (e f : Option Entry) → (IsPennedDiffering call → ⊥) → told_of sheet innings (process_with k e) call (process_with l f) ≡ told_of sheet innings k call l
+not_by_noted sheet innings k l (Typed line said.Quit) e f n = refl
+not_by_noted sheet innings k l (Typed line (said.Asks word)) e f n = refl
+not_by_noted sheet innings k l (Typed line (said.Unclear unclear)) e f n = refl
+not_by_noted sheet innings k l (Typed line (said.Fault fault)) e f n = refl
+not_by_noted sheet innings k l (Typed line said.SayAgain) e f n = refl
+not_by_noted sheet innings k l (Typed line said.NoneDiffers) e f n = refl
+not_by_noted sheet innings k l (Typed line said.Waiting) e f n = refl
+not_by_noted sheet innings k l (Typed line (said.Refused why)) e f n = refl
+not_by_noted sheet innings k l (Typed line (said.Penned own Settled.Pending)) e f n = refl
+not_by_noted sheet innings k l (Typed line (said.Penned own Settled.Agreed)) e f n = refl
+not_by_noted sheet innings k l (Typed line (said.Penned own Settled.Differ)) e f n = absurd (n (line, own, refl))
+not_by_noted sheet innings k l TypingEnded e f n = refl
+not_by_noted sheet innings k l (Given bytes what) e f n = refl
+not_by_noted sheet innings k l Unopened e f n = refl
+not_by_noted sheet innings k l Ticked e f n = refl
+not_by_noted sheet innings k l TurnEnded e f n = refl
+
+-- of what came, but of a vote that differs, nothing depends on the entry that came
+pub came_but_differing : (sheet : Sheet) (innings place : ℕ) (own one other : Option Entry) (book : List Entry) (warned : Warned) (what : What) → (what ≡ whats.Heard Heard.Differ → ⊥) → came_text sheet innings place own one book warned what ≡ came_text sheet innings place own other book warned what
+came_but_differing sheet innings place own one other book warned (whats.Bad fault) n = refl
+came_but_differing sheet innings place own one other book warned whats.Asked n = refl
+came_but_differing sheet innings place own one other book warned whats.Device n = refl
+came_but_differing sheet innings place own one other book warned whats.Failed n = refl
+came_but_differing sheet innings place own one other book warned (whats.Heard Heard.Mine) n = refl
+came_but_differing sheet innings place own one other book warned (whats.Heard Heard.Old) n = refl
+came_but_differing sheet innings place own one other book warned (whats.Heard Heard.Ahead) n = refl
+came_but_differing sheet innings place own one other book warned (whats.Heard Heard.Again) n = refl
+came_but_differing sheet innings place own one other book warned (whats.Heard Heard.TwoVotes) n = refl
+came_but_differing sheet innings place own one other book warned (whats.Heard Heard.Noted) n = refl
+came_but_differing sheet innings place own one other book warned (whats.Heard Heard.Agreed) n = refl
+came_but_differing sheet innings place own one other book warned (whats.Heard Heard.Differ) n = absurd (n refl)
+
+pub hides_the_other : {Disk : Type 0} (view : FileView Disk) → HidesTheOther view
+hides_the_other view = record {
+  answer = only_noted;
+  bytes = λ sheet innings k l one other what n. came_but_differing sheet innings k.desk.seat.position.place (own_line k.desk) (entry_in one) (entry_in other) l.desk.book k.warned what n;
+  cast = only_cast;
+  noted = not_by_noted;
+  stored = λ rules k l own out h. h.1.4;
+}
+
+-- the entry of a vote is in the bytes that say it
+entry_of_vote : (game : ℕ) (bytes : List ℕ) (v : Vote) → Says game bytes (Message.Vote v) → entry_in bytes ≡ Some v.entry
+entry_of_vote game bytes v s = ap entry_coded (code_in game bytes v s) ∙ entry_coded-code v.entry s.0.1
+
+pub tells_both : (Disk : Type 0) → TellsBoth Disk
+tells_both Disk = record {
+  penned = λ sheet innings k l line own other noted. ap (differs_text k.desk.seat.position.place (Some own)) noted;
+  came = λ sheet innings game k l bytes v own mine says.
+      ap (λ (one : Option Entry). differs_text k.desk.seat.position.place one (entry_in bytes)) mine
+      ∙ ap (differs_text k.desk.seat.position.place (Some own)) (entry_of_vote game bytes v says);
+}

@@ -1,13 +1,24 @@
--- What a scorer can't see: what the other scorer wrote at a position, before the own vote of that position is stored.
-use Rattle.std.specs.Prelude.{◌≡◌, ℕ, List, Option, None}
+-- What a scorer can't see: what the other scorer wrote at a position, before the own vote of that position is stored. And
+-- what is seen once both votes are stored and differ: both entries.
+use Rattle.std.specs.Prelude.{◌≡◌, ◌≢◌, ◌∷◌, ℕ, List, Option, Some, None}
 use Rattle.notation.specs.declared.entry.Entry.{Entry}
+use Rattle.corrections.specs.declared.refusal.Refusal.{Refusal as BookRefusal}
+use Rattle.agree_core.specs.declared.messages.Message.{Message}
 use Rattle.agree_core.specs.declared.messages.Vote.{Vote}
 use Rattle.agree_core.specs.declared.seat.Heard.{Heard}
+use Rattle.agree_core.specs.declared.seat.Settled.{Settled}
+use Rattle.agree_core.specs.Books.{Rules}
 use Rattle.agree_core.specs.Seats.{SeatState, Hears, IsForNow}
-use Rattle.agree_core.specs.Desks.{DeskState}
+use Rattle.agree_core.specs.Desks as desks
+use Rattle.agree_core.specs.Desks.{DeskState, Pens, next_ballot}
+use Rattle.agree_core.specs.FileView.{FileView, Holds}
+use Rattle.wire.specs.Layout.{Says}
 use Rattle.wire.specs.declared.what.What.{What}
+use Rattle.wire.specs.declared.what.What.TheVariants as whats
 use Rattle.cards.specs.Sheet.{Sheet}
-use Rattle.live.specs.Desks.{DeskCall, DeskProcess, Given, told_of}
+use Rattle.live.specs.declared.said.Said.TheVariants as said
+use Rattle.live.specs.Desks.{DeskCall, DeskProcess, Given, Typed, own_line, told_of}
+use Rattle.live.specs.Texts.{at_place, both_lines}
 
 -- the same seat, desk and process, with another vote of the other desk noted, or none
 abbrev pub seat_with : SeatState → Option Entry → SeatState
@@ -19,13 +30,37 @@ desk_with k e = record k { seat = seat_with k.seat e }
 abbrev pub process_with : {Disk : Type 0} → DeskProcess Disk → Option Entry → DeskProcess Disk
 process_with k e = record k { desk = desk_with k.desk e }
 
--- Of the other desk's vote of a position its scorer is told that it came, and nothing that depends on its entry: until
--- the own one is cast, it is answered with `Noted` whatever it says; a text depends on bytes that came by their answer
--- alone, and on no vote that is noted. So two runs that differ in that entry alone print the same until then.
-pub record HidesTheOther (Disk : Type 0) : Type 0 where
+-- the scorer's line casts a vote that differs from the other's
+abbrev pub IsPennedDiffering : DeskCall → Type 0
+IsPennedDiffering call = (line : List ℕ) × (own : Entry) × (call ≡ Typed line (said.Penned own Settled.Differ))
+
+-- Of the other desk's vote of a position its scorer is told that it came, and nothing that depends on its entry, until the
+-- own one is stored: until that is cast, the other's is answered with `Noted` whatever it says; a text depends on bytes
+-- that came by their answer alone, unless that is `Differ`, which is answered only where the own vote was cast before; and
+-- it depends on no vote that is noted, unless a vote is penned that differs from it, which is stored then. So two runs that
+-- differ in that entry alone print the same until then.
+pub record HidesTheOther {Disk : Type 0} (view : FileView Disk) : Type 0 where
   pub answer : (s t : SeatState) (v : Vote) (h : Heard) → s.mine ≡ None → s.theirs ≡ None → IsForNow s v → Hears s v h t
       → h ≡ Heard.Noted
   pub bytes : (sheet : Sheet) (innings : ℕ) (k l : DeskProcess Disk) (one other : List ℕ) (what : What)
+      → what ≢ whats.Heard Heard.Differ
       → told_of sheet innings k (Given one what) l ≡ told_of sheet innings k (Given other what) l
+  pub cast : (s t : SeatState) (v : Vote) → Hears s v Heard.Differ t → s.mine ≢ None
   pub noted : (sheet : Sheet) (innings : ℕ) (k l : DeskProcess Disk) (call : DeskCall) (e f : Option Entry)
+      → (IsPennedDiffering call → ⊥)
       → told_of sheet innings (process_with k e) call (process_with l f) ≡ told_of sheet innings k call l
+  pub stored : (rules : Rules BookRefusal) (k l : DeskState Disk) (own : Entry) (out : List Message)
+      → Pens view rules k own (desks.Penned Settled.Differ) l out
+      → Holds view l.disk (next_ballot k own ∷ k.votes)
+
+-- Once both votes of a position are stored and differ, the scorer is told both: as the own one is penned, the other's that
+-- was noted; and as the other's comes, what its bytes say.
+pub record TellsBoth (Disk : Type 0) : Type 0 where
+  pub penned : (sheet : Sheet) (innings : ℕ) (k l : DeskProcess Disk) (line : List ℕ) (own other : Entry)
+      → k.desk.seat.theirs ≡ Some other
+      → told_of sheet innings k (Typed line (said.Penned own Settled.Differ)) l
+      ≡ at_place k.desk.seat.position.place (both_lines own other)
+  pub came : (sheet : Sheet) (innings game : ℕ) (k l : DeskProcess Disk) (bytes : List ℕ) (v : Vote) (own : Entry)
+      → own_line k.desk ≡ Some own → Says game bytes (Message.Vote v)
+      → told_of sheet innings k (Given bytes (whats.Heard Heard.Differ)) l
+      ≡ at_place k.desk.seat.position.place (both_lines own v.entry)

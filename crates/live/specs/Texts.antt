@@ -80,14 +80,23 @@ refused_text (refusals.Book (Later place why)) =
     ++ codes ": " ++ of_book (Later place why) ++ codes "\n"
 refused_text why = explained (codes "refused") (number_of why) (name_of why) (of_desk why)
 
+-- that the two scorers differ at a place, with the entry of each where it is known: it is, once both votes are stored
+abbrev pub both_lines : Entry → Entry → List ℕ
+both_lines own other = codes "differs: you " ++ text_of own ++ codes ", the other " ++ text_of other
+
+abbrev pub differs_text : ℕ → Option Entry → Option Entry → List ℕ
+differs_text place (Some own) (Some other) = at_place place (both_lines own other)
+differs_text place own other = at_place place (codes "differs")
+
 -- the entry that was penned stands in full behind `pending`
 abbrev pub pending : ℕ → Entry → List ℕ
 pending place e = at_place place (codes "pending: " ++ text_of e)
 
-abbrev pub settled_text : Sheet → ℕ → ℕ → List Entry → Entry → Settled → List ℕ
-settled_text sheet innings place book e Settled.Pending = pending place e
-settled_text sheet innings place book e Settled.Agreed = agreed sheet innings place book
-settled_text sheet innings place book e Settled.Differ = at_place place (codes "differs")
+-- of an entry that was penned, where this is the other scorer's that was noted before
+abbrev pub settled_text : Sheet → ℕ → ℕ → Option Entry → List Entry → Entry → Settled → List ℕ
+settled_text sheet innings place other book e Settled.Pending = pending place e
+settled_text sheet innings place other book e Settled.Agreed = agreed sheet innings place book
+settled_text sheet innings place other book e Settled.Differ = differs_text place (Some e) other
 
 -- of a desk's position: its vote for this entry is cast, or the scorers differed there, or neither
 abbrev pub place_text : Position → Option Entry → List ℕ
@@ -108,17 +117,18 @@ word_text sheet innings at own book words.Sides = both_sides sheet
 word_text sheet innings at own book words.Forms = help
 word_text sheet innings at own book (words.More topic) = help_on topic
 
--- of a line at this position, with the desk's own vote there before it, and the book after it
-abbrev pub said_text : Sheet → ℕ → Position → Option Entry → List Entry → Said → List ℕ
-said_text sheet innings at own book said.Quit = []
-said_text sheet innings at own book (said.Asks word) = word_text sheet innings at own book word
-said_text sheet innings at own book (said.Unclear unclear) = unclear_text sheet unclear
-said_text sheet innings at own book (said.Fault fault) = fault_text fault
-said_text sheet innings at own book said.SayAgain = at_place at.place (codes "differs: begin the line with again")
-said_text sheet innings at own book said.NoneDiffers = at_place at.place (codes "doesn't differ: leave out again")
-said_text sheet innings at own book said.Waiting = refused_text refusals.Waiting
-said_text sheet innings at own book (said.Refused why) = refused_text why
-said_text sheet innings at own book (said.Penned e settled) = settled_text sheet innings at.place book e settled
+-- of a line at this position, with the desk's own vote there and the other desk's before it, and the book after it
+abbrev pub said_text : Sheet → ℕ → Position → Option Entry → Option Entry → List Entry → Said → List ℕ
+said_text sheet innings at own other book said.Quit = []
+said_text sheet innings at own other book (said.Asks word) = word_text sheet innings at own book word
+said_text sheet innings at own other book (said.Unclear unclear) = unclear_text sheet unclear
+said_text sheet innings at own other book (said.Fault fault) = fault_text fault
+said_text sheet innings at own other book said.SayAgain = at_place at.place (codes "differs: begin the line with again")
+said_text sheet innings at own other book said.NoneDiffers = at_place at.place (codes "doesn't differ: leave out again")
+said_text sheet innings at own other book said.Waiting = refused_text refusals.Waiting
+said_text sheet innings at own other book (said.Refused why) = refused_text why
+said_text sheet innings at own other book (said.Penned e settled) =
+    settled_text sheet innings at.place other book e settled
 
 -- of a peer, unless it was told
 abbrev pub warning : Bool → List ℕ → List ℕ
@@ -136,20 +146,21 @@ unopened_line = codes "peer: another sheet or another key\n"
 abbrev pub unopened_text : Warned → List ℕ
 unopened_text warned = warning warned.of_seal unopened_line
 
--- of a vote that came at this place, with the book after it
-abbrev pub heard_text : Sheet → ℕ → ℕ → List Entry → Warned → Heard → List ℕ
-heard_text sheet innings place book warned Heard.Noted = at_place place (codes "the other has written")
-heard_text sheet innings place book warned Heard.Agreed = agreed sheet innings place book
-heard_text sheet innings place book warned Heard.Differ = at_place place (codes "differs")
-heard_text sheet innings place book warned Heard.Mine = warning warned.of_desk (codes "peer: the same desk\n")
-heard_text sheet innings place book warned Heard.TwoVotes = warning warned.of_votes (codes "peer: two votes\n")
-heard_text sheet innings place book warned heard = []
+-- of a vote that came at this place, with the desk's own vote there before it, the entry that came, and the book after it
+abbrev pub heard_text : Sheet → ℕ → ℕ → Option Entry → Option Entry → List Entry → Warned → Heard → List ℕ
+heard_text sheet innings place own other book warned Heard.Noted = at_place place (codes "the other has written")
+heard_text sheet innings place own other book warned Heard.Agreed = agreed sheet innings place book
+heard_text sheet innings place own other book warned Heard.Differ = differs_text place own other
+heard_text sheet innings place own other book warned Heard.Mine = warning warned.of_desk (codes "peer: the same desk\n")
+heard_text sheet innings place own other book warned Heard.TwoVotes = warning warned.of_votes (codes "peer: two votes\n")
+heard_text sheet innings place own other book warned heard = []
 
--- of what came at this place, with the book after it
-abbrev pub came_text : Sheet → ℕ → ℕ → List Entry → Warned → What → List ℕ
-came_text sheet innings place book warned (whats.Bad fault) = warning warned.of_bytes (bad_text fault)
-came_text sheet innings place book warned (whats.Heard heard) = heard_text sheet innings place book warned heard
-came_text sheet innings place book warned what = []
+-- of what came at this place, likewise
+abbrev pub came_text : Sheet → ℕ → ℕ → Option Entry → Option Entry → List Entry → Warned → What → List ℕ
+came_text sheet innings place own other book warned (whats.Bad fault) = warning warned.of_bytes (bad_text fault)
+came_text sheet innings place own other book warned (whats.Heard heard) =
+    heard_text sheet innings place own other book warned heard
+came_text sheet innings place own other book warned what = []
 
 -- nothing was told of a peer
 abbrev pub unwarned : Warned

@@ -15,10 +15,11 @@ ghost use Rattle.live.specs.Passed.{Came, Passed};
 ghost use Rattle.live.specs.Texts.{greeting, unopened_text, warned_unopened};
 ghost use Rattle.live.specs.Typing.{Input};
 
+use crate::both::Both;
 use crate::clock::Clock;
 use crate::desk_calls::{give, pen, tick};
 use crate::ends::{DeskEnd, end_at, end_of};
-use crate::hearing::promises_more;
+use crate::hearing::{entry_in, promises_more};
 use crate::keys::{Keys, LINE_ROOM, Typed};
 use crate::link::{Link, MOST_TAKEN, ROOM, Taken};
 use crate::pace::Pace;
@@ -82,12 +83,15 @@ fn take_line<S: SlotsOf, B: BookOf + Drop, L: Link, K: Keys, W: Write>(
         Typed::Line(count) => count,
     };
     let at = desk.position();
-    let own = own_line(desk);
+    let both = Both {
+        own: own_line(desk),
+        other: desk.noted(),
+    };
     let said = pen(desk, sheet, &buffer[..count], link);
     if let Err(end) = end_of(&said) {
         return Err(end);
     }
-    told(print_said(out, sheet, at, own, &said, desk.book()))
+    told(print_said(out, sheet, at, both, &said, desk.book()))
 }
 
 /// Takes bytes that came, and tells the scorer what is news.
@@ -109,6 +113,10 @@ fn hear<S: SlotsOf, B: BookOf + Drop, L: Link, W: Write>(
     ensures failed { result ≡ Err DeskEnd.Write → has_failed out.new ≡ true }
 {
     let at = desk.position();
+    let both = Both {
+        own: own_line(desk),
+        other: entry_in(bytes),
+    };
     let what = give(desk, bytes, link);
     between
         .pace
@@ -118,7 +126,8 @@ fn hear<S: SlotsOf, B: BookOf + Drop, L: Link, W: Write>(
     if let Err(end) = end_at(what) {
         return Err(end);
     }
-    told(print_came(out, sheet, at.place, warned, what, desk.book()))
+    let place = at.place;
+    told(print_came(out, sheet, place, warned, both, what, desk.book()))
 }
 
 /// Tells the scorer that bytes came that don't open, unless it was told since a vote that is news came.

@@ -11,6 +11,7 @@ ghost use Rattle.live.specs.Questions.{explained};
 ghost use Rattle.live.specs.inner.Telling.{IsFine};
 ghost use Rattle.live.specs.Texts as texts;
 
+use crate::both::Both;
 use crate::questions::{print_fault, print_unclear};
 use crate::said::Said;
 use crate::warned::Warned;
@@ -205,24 +206,54 @@ fn print_pending<W: Write>(
     writeln!(out, "{place} pending: {words}")
 }
 
-/// Prints what became of a vote for the entry that was cast at this place.
+/// Prints that the two scorers differ at this place, with the entry of each where it is known.
+fn print_differs<W: Write>(
+    out: &mut Watched<W>,
+    place: u32,
+    both: Both,
+) -> Result<(), WriteFailed>
+    requires own { IfSome both.own IsEntry }
+    requires other { IfSome both.other IsEntry }
+    ensures text { OnOk result (Prints W.contents out.old out.new
+        (texts.differs_text place both.own both.other)) }
+    ensures failed { OnErr result (has_failed out.new ≡ true) }
+{
+    match (both.own, both.other) {
+        (Some(own), Some(other)) => {
+            let own_line = line_of(&own);
+            let other_line = line_of(&other);
+            let you = own_line.as_str();
+            let they = other_line.as_str();
+            writeln!(out, "{place} differs: you {you}, the other {they}")
+        }
+        _ => print_at(out, place, "differs"),
+    }
+}
+
+/// Prints what became of a vote for the entry that was cast at this place, where this is the other scorer's that was
+/// noted before.
 fn print_settled<B: BookOf, W: Write>(
     out: &mut Watched<W>,
     sheet: &MatchSheet,
     place: u32,
+    other: Option<Entry>,
     entry: &Entry,
     settled: Settled,
     book: &B,
 ) -> Result<(), WriteFailed>
-    requires { IsEntry entry.now }
+    requires entry { IsEntry entry.now }
+    requires other { IfSome other IsEntry }
     ensures text { OnOk result (Prints W.contents out.old out.new
-        (texts.settled_text sheet.now (B.innings_a_side book.now) place (B.content book.now) entry.now settled)) }
+        (texts.settled_text sheet.now (B.innings_a_side book.now) place other (B.content book.now) entry.now settled)) }
     ensures failed { OnErr result (has_failed out.new ≡ true) }
 {
     match settled {
         Settled::Pending => print_pending(out, place, entry),
         Settled::Agreed => print_agreed(out, sheet, place, book),
-        Settled::Differ => print_at(out, place, "differs"),
+        Settled::Differ => {
+            let own = Some(*entry);
+            print_differs(out, place, Both { own, other })
+        }
     }
 }
 
@@ -293,50 +324,54 @@ fn print_asked<B: BookOf, W: Write>(
     }
 }
 
-/// Prints what a line came to, at this position, where the desk had this vote of its own or none.
+/// Prints what a line came to, at this position, where the desk had these votes before.
 fn print_answer<B: BookOf, W: Write>(
     out: &mut Watched<W>,
     sheet: &MatchSheet,
     at: Position,
-    own: Option<Entry>,
+    both: Both,
     said: &Said,
     book: &B,
 ) -> Result<(), WriteFailed>
     requires fine { IsFine said.now }
-    requires own { IfSome own IsEntry }
+    requires own { IfSome both.own IsEntry }
+    requires other { IfSome both.other IsEntry }
     ensures text { OnOk result (Prints W.contents out.old out.new
-        (texts.said_text sheet.now (B.innings_a_side book.now) at own (B.content book.now) said.now)) }
+        (texts.said_text sheet.now (B.innings_a_side book.now) at both.own both.other (B.content book.now) said.now)) }
     ensures failed { OnErr result (has_failed out.new ≡ true) }
 {
     match said {
         Said::Quit => Ok(()),
-        Said::Asks(word) => print_asked(out, sheet, at, own, book, *word),
+        Said::Asks(word) => print_asked(out, sheet, at, both.own, book, *word),
         Said::Unclear(unclear) => print_unclear(out, sheet, unclear),
         Said::Fault(fault) => print_fault(out, *fault),
         Said::SayAgain => print_at(out, at.place, "differs: begin the line with again"),
         Said::NoneDiffers => print_at(out, at.place, "doesn't differ: leave out again"),
         Said::Waiting => print_refused(out, Refusal::Waiting),
         Said::Refused(why) => print_refused(out, *why),
-        Said::Penned(entry, settled) => print_settled(out, sheet, at.place, entry, *settled, book),
+        Said::Penned(entry, settled) => {
+            print_settled(out, sheet, at.place, both.other, entry, *settled, book)
+        }
     }
 }
 
-/// Tells the scorer at once what a line came to, at this position, where the desk had this vote of its own or none.
+/// Tells the scorer at once what a line came to, at this position, where the desk had these votes before.
 pub fn print_said<B: BookOf, W: Write>(
     out: &mut Watched<W>,
     sheet: &MatchSheet,
     at: Position,
-    own: Option<Entry>,
+    both: Both,
     said: &Said,
     book: &B,
 ) -> Result<(), WriteFailed>
     requires fine { IsFine said.now }
-    requires own { IfSome own IsEntry }
+    requires own { IfSome both.own IsEntry }
+    requires other { IfSome both.other IsEntry }
     ensures text { OnOk result (Prints W.contents out.old out.new
-        (texts.said_text sheet.now (B.innings_a_side book.now) at own (B.content book.now) said.now)) }
+        (texts.said_text sheet.now (B.innings_a_side book.now) at both.own both.other (B.content book.now) said.now)) }
     ensures failed { OnErr result (has_failed out.new ≡ true) }
 {
-    print_answer(out, sheet, at, own, said, book)?;
+    print_answer(out, sheet, at, both, said, book)?;
     out.flush()
 }
 
@@ -372,23 +407,26 @@ fn print_bad<W: Write>(
     writeln!(out, "peer: {code} {fault}")
 }
 
-/// Prints what a vote that came at this place came to, where it is news.
+/// Prints what a vote that came at this place came to, where it is news: of both votes, the desk's own was there before.
 fn print_heard<B: BookOf, W: Write>(
     out: &mut Watched<W>,
     sheet: &MatchSheet,
     place: u32,
     warned: Warned,
+    both: Both,
     heard: Heard,
     book: &B,
 ) -> Result<(), WriteFailed>
+    requires own { IfSome both.own IsEntry }
+    requires other { IfSome both.other IsEntry }
     ensures text { OnOk result (Prints W.contents out.old out.new
-        (texts.heard_text sheet.now (B.innings_a_side book.now) place (B.content book.now) warned heard)) }
+        (texts.heard_text sheet.now (B.innings_a_side book.now) place both.own both.other (B.content book.now) warned heard)) }
     ensures failed { OnErr result (has_failed out.new ≡ true) }
 {
     match heard {
         Heard::Noted => print_at(out, place, "the other has written"),
         Heard::Agreed => print_agreed(out, sheet, place, book),
-        Heard::Differ => print_at(out, place, "differs"),
+        Heard::Differ => print_differs(out, place, both),
         Heard::Mine => print_warning(out, warned.of_desk, "peer: the same desk\n"),
         Heard::TwoVotes => print_warning(out, warned.of_votes, "peer: two votes\n"),
         Heard::Old | Heard::Ahead | Heard::Again => Ok(()),
@@ -401,16 +439,19 @@ fn print_news<B: BookOf, W: Write>(
     sheet: &MatchSheet,
     place: u32,
     warned: Warned,
+    both: Both,
     what: What,
     book: &B,
 ) -> Result<(), WriteFailed>
+    requires own { IfSome both.own IsEntry }
+    requires other { IfSome both.other IsEntry }
     ensures text { OnOk result (Prints W.contents out.old out.new
-        (texts.came_text sheet.now (B.innings_a_side book.now) place (B.content book.now) warned what)) }
+        (texts.came_text sheet.now (B.innings_a_side book.now) place both.own both.other (B.content book.now) warned what)) }
     ensures failed { OnErr result (has_failed out.new ≡ true) }
 {
     match what {
         What::Bad(fault) => print_bad(out, warned.of_bytes, fault),
-        What::Heard(heard) => print_heard(out, sheet, place, warned, heard, book),
+        What::Heard(heard) => print_heard(out, sheet, place, warned, both, heard, book),
         What::Asked | What::Device | What::Failed => Ok(()),
     }
 }
@@ -421,14 +462,17 @@ pub fn print_came<B: BookOf, W: Write>(
     sheet: &MatchSheet,
     place: u32,
     warned: Warned,
+    both: Both,
     what: What,
     book: &B,
 ) -> Result<(), WriteFailed>
+    requires own { IfSome both.own IsEntry }
+    requires other { IfSome both.other IsEntry }
     ensures text { OnOk result (Prints W.contents out.old out.new
-        (texts.came_text sheet.now (B.innings_a_side book.now) place (B.content book.now) warned what)) }
+        (texts.came_text sheet.now (B.innings_a_side book.now) place both.own both.other (B.content book.now) warned what)) }
     ensures failed { OnErr result (has_failed out.new ≡ true) }
 {
-    print_news(out, sheet, place, warned, what, book)?;
+    print_news(out, sheet, place, warned, both, what, book)?;
     out.flush()
 }
 

@@ -134,7 +134,7 @@ const TURNS: [Turn; 31] = [
     ("4", WHO_BOWLS, 0, 0, ""),
     (
         "11: .",
-        "15 pending: ball 11 bat 0\n15 differs\n",
+        "15 pending: ball 11 bat 0\n15 differs: you ball 11 bat 0, the other ball 11 bat 1\n",
         15,
         0,
         "ball 11 bat 1",

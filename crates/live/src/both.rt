@@ -1,0 +1,10 @@
+//! The votes of the two scorers at one position.
+
+use notation::Entry;
+
+/// The votes of one position, where they are known: the desk's own, and the other desk's.
+#[derive(Clone, Copy, Debug, PartialEq, Eq)]
+pub struct Both {
+    pub own: Option<Entry>,
+    pub other: Option<Entry>,
+}
