@@ -1,6 +1,6 @@
 //! The document of a match sheet.
 
-ghost use Rattle.std.specs.Prelude.{◌≡◌, ◌≢◌, Err};
+ghost use Rattle.std.specs.Prelude.{◌≢◌, Err};
 ghost use Rattle.toml.specs.View.{table_view};
 ghost use Rattle.cards.specs.Reading.{Reads};
 ghost use Rattle.export.specs.Document as reads;

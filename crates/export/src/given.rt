@@ -1,11 +1,10 @@
 //! What a sheet's table `[info]` hands on.
 
-ghost use Rattle.std.specs.Prelude.{◌≡◌, ◌++◌, ◌∷◌, [], option_map, OnOk};
+ghost use Rattle.std.specs.Prelude.{◌≡◌, ◌∷◌, [], option_map, OnOk};
 ghost use Rattle.std.specs.Fmt.{signed_decimal};
 ghost use Rattle.toml.specs.View.{array_view, table_view, view};
 ghost use Rattle.toml_datetime.specs.Text.{datetime_text};
 ghost use Rattle.json.specs.Json as json_values;
-ghost use Rattle.json.specs.Token as tokens;
 ghost use Rattle.export.specs.Given as laws;
 ghost use Rattle.export.specs.inner.Putting.{PutsFloat, PutsGiven, PutsHanded, PutsItems, PutsMembers, PutsValue};
 ghost use Rattle.json_fields.specs.Values.{PutsValues};
