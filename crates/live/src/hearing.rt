@@ -10,6 +10,7 @@ use wire::What;
 
 /// The bytes of a vote's message at which the code of its entry begins and ends.
 const CODE: usize = 19;
+
 const CODE_END: usize = 43;
 
 /// Whether a station may have an answer soon: what came is the first vote of its position, or a vote of a station that

@@ -207,11 +207,7 @@ fn print_pending<W: Write>(
 }
 
 /// Prints that the two scorers differ at this place, with the entry of each where it is known.
-fn print_differs<W: Write>(
-    out: &mut Watched<W>,
-    place: u32,
-    both: Both,
-) -> Result<(), WriteFailed>
+fn print_differs<W: Write>(out: &mut Watched<W>, place: u32, both: Both) -> Result<(), WriteFailed>
     requires own { IfSome both.own IsEntry }
     requires other { IfSome both.other IsEntry }
     ensures text { OnOk result (Prints W.contents out.old out.new

@@ -1,5 +1,4 @@
 use Rattle.std.proofs.Common.{refl}
-use Rattle.streams.specs.Watched.{stream_of}
 use Rattle.live.proofs.BoardLemmas.{rests, runs_on, stopped}
 use Rattle.live.proofs.board_life.keep_board.Goals as goal
 

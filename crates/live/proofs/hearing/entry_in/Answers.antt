@@ -1,4 +1,4 @@
-use Rattle.std.proofs.Common.{◌≡◌, ◌∙◌, ◌<◌, ◌≤◌, ℕ, List, None, take, drop, length, arith, sym, ap}
+use Rattle.std.proofs.Common.{◌≡◌, ◌∙◌, ◌<◌, ℕ, List, None, take, drop, length, arith, sym, ap}
 use Rattle.std.proofs.lemmas.List.{length-drop, take_all}
 use Rattle.vote_store.specs.Record.{entry_coded}
 use Rattle.vote_store.proofs.RecordLemmas.{entry_coded-is}
