@@ -18,7 +18,7 @@ const SHORTEST: u64 = 100;
 
 /// How long at most: less than ten seconds, by more than a turn takes. Whoever sees when the file was written knows
 /// whether its board lives.
-const LONGEST: u64 = 9_700;
+const LONGEST: u64 = 9_400;
 
 /// A state that was written: how many entries its book had, and when that was.
 #[derive(Clone, Copy, Debug, PartialEq, Eq)]
