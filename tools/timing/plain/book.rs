@@ -3,7 +3,7 @@
 use std::fmt;
 
 use crate::innings::Refusal;
-use crate::lines::{Entry, MOST_PLACES, Play};
+use crate::lines::{Entry, Play, MOST_PLACES};
 use crate::match_state::Match;
 
 /// Why the book doesn't take an entry.
@@ -48,7 +48,12 @@ pub struct Book {
 
 impl Book {
     pub fn new(innings_a_side: usize) -> Book {
-        Book { innings_a_side, entries: Vec::new(), items: Vec::new(), score: Match::new(innings_a_side) }
+        Book {
+            innings_a_side,
+            entries: Vec::new(),
+            items: Vec::new(),
+            score: Match::new(innings_a_side),
+        }
     }
 
     pub fn score(&self) -> &Match {
@@ -63,7 +68,10 @@ impl Book {
         match entry {
             Entry::Plain(play) => {
                 self.score.take(&play).map_err(NotTaken::Laws)?;
-                self.items.push(Item { place: self.entries.len(), play });
+                self.items.push(Item {
+                    place: self.entries.len(),
+                    play,
+                });
             }
             Entry::Fix(place, play) => self.fix(place, play)?,
             Entry::Late(place, play) => self.add_late(place, play)?,
@@ -91,12 +99,21 @@ impl Book {
         while index < items.len() && self.is_late(items[index].place) {
             index += 1;
         }
-        items.insert(index, Item { place: self.entries.len(), play });
+        items.insert(
+            index,
+            Item {
+                place: self.entries.len(),
+                play,
+            },
+        );
         self.rescore(items)
     }
 
     fn entry(&self, place: usize) -> Result<Entry, NotTaken> {
-        self.entries.get(place).copied().ok_or(NotTaken::NoSuchPlace)
+        self.entries
+            .get(place)
+            .copied()
+            .ok_or(NotTaken::NoSuchPlace)
     }
 
     fn is_late(&self, place: usize) -> bool {
@@ -107,7 +124,9 @@ impl Book {
     fn rescore(&mut self, items: Vec<Item>) -> Result<(), NotTaken> {
         let mut score = Match::new(self.innings_a_side);
         for item in &items {
-            score.take(&item.play).map_err(|why| NotTaken::Later(item.place, why))?;
+            score
+                .take(&item.play)
+                .map_err(|why| NotTaken::Later(item.place, why))?;
         }
         self.items = items;
         self.score = score;
@@ -117,5 +136,8 @@ impl Book {
 
 /// Where the item of a place stands. Each place but those of corrections has one.
 fn index_of(items: &[Item], place: usize) -> usize {
-    items.iter().position(|item| item.place == place).expect("a place of play has an item")
+    items
+        .iter()
+        .position(|item| item.place == place)
+        .expect("a place of play has an item")
 }

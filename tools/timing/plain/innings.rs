@@ -73,7 +73,11 @@ impl Innings {
             wickets: 0,
             striker: None,
             other: None,
-            batters: [Batter { state: State::ToCome, runs: 0, faced: 0 }; 12],
+            batters: [Batter {
+                state: State::ToCome,
+                runs: 0,
+                faced: 0,
+            }; 12],
             overs: 0,
             balls: 0,
             deliveries: 0,
@@ -100,7 +104,10 @@ impl Innings {
     }
 
     fn may_come_in(&self, player: usize) -> bool {
-        matches!(self.batters[player].state, State::ToCome | State::Hurt { may_return: true })
+        matches!(
+            self.batters[player].state,
+            State::ToCome | State::Hurt { may_return: true }
+        )
     }
 
     pub fn come_in(&mut self, player: usize) -> Result<(), Refusal> {
@@ -211,7 +218,11 @@ impl Innings {
             self.change_ends();
         }
         if let Some(out) = ball.out {
-            let player = if out.who == Who::Striker { striker } else { other };
+            let player = if out.who == Who::Striker {
+                striker
+            } else {
+                other
+            };
             self.vacate(player);
             self.lose_wicket(player);
         }
@@ -228,7 +239,10 @@ impl Innings {
         if ball.boundary == Some(Boundary::Six) && !matches!(ball.kind, Kind::Bat | Kind::NoBall) {
             return Err(Refusal::SixNotStruck);
         }
-        if ball.out.is_some_and(|out| out.crossed && !is_running(out.how)) {
+        if ball
+            .out
+            .is_some_and(|out| out.crossed && !is_running(out.how))
+        {
             return Err(Refusal::CrossedNotHere);
         }
         if self.deliveries >= MOST_DELIVERIES {
@@ -243,7 +257,13 @@ impl Innings {
             Cause::AllOut => self.is_all_out(),
             Cause::NoBatter => !self.is_all_out() && self.has_vacancy(),
             Cause::Declared => !self.is_all_out(),
-            Cause::Forfeited => self.wickets == 0 && self.batters.iter().all(|batter| batter.state == State::ToCome),
+            Cause::Forfeited => {
+                self.wickets == 0
+                    && self
+                        .batters
+                        .iter()
+                        .all(|batter| batter.state == State::ToCome)
+            }
             Cause::Overs => !self.is_all_out() && self.overs > 0 && self.deliveries == 0,
         }
     }

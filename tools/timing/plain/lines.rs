@@ -144,10 +144,17 @@ pub fn read_line(line: &[u8]) -> Result<Entry, Fault> {
     }
     let line = std::str::from_utf8(line).map_err(|_| Fault::Spaces)?;
     let is_text = line.bytes().all(|byte| (b' '..=b'~').contains(&byte));
-    if !is_text || line.is_empty() || line.starts_with(' ') || line.ends_with(' ') || line.contains("  ") {
+    if !is_text
+        || line.is_empty()
+        || line.starts_with(' ')
+        || line.ends_with(' ')
+        || line.contains("  ")
+    {
         return Err(Fault::Spaces);
     }
-    let mut words = Words { left: line.split(' ').peekable() };
+    let mut words = Words {
+        left: line.split(' ').peekable(),
+    };
     let entry = words.entry()?;
     match words.left.next() {
         None => Ok(entry),
@@ -167,7 +174,8 @@ impl<'a> Words<'a> {
 
     fn number(&mut self, range: RangeInclusive<u32>) -> Result<u32, Fault> {
         let word = self.word()?;
-        let is_plain = word.bytes().all(|byte| byte.is_ascii_digit()) && (word == "0" || !word.starts_with('0'));
+        let is_plain = word.bytes().all(|byte| byte.is_ascii_digit())
+            && (word == "0" || !word.starts_with('0'));
         match word.parse() {
             Ok(number) if is_plain && range.contains(&number) => Ok(number),
             _ => Err(Fault::BadNumber),
@@ -229,11 +237,27 @@ impl<'a> Words<'a> {
         let bowler = self.player()?;
         let kind = self.kind()?;
         let ran = self.number(0..=20)?;
-        let short = if self.takes("short") { self.number(1..=20)? } else { 0 };
+        let short = if self.takes("short") {
+            self.number(1..=20)?
+        } else {
+            0
+        };
         let boundary = self.boundary();
         let dead = self.takes("dead");
-        let out = if self.takes("out") { Some(self.out()?) } else { None };
-        Ok(Ball { bowler, kind, ran, short, boundary, dead, out })
+        let out = if self.takes("out") {
+            Some(self.out()?)
+        } else {
+            None
+        };
+        Ok(Ball {
+            bowler,
+            kind,
+            ran,
+            short,
+            boundary,
+            dead,
+            out,
+        })
     }
 
     fn out(&mut self) -> Result<Out, Fault> {

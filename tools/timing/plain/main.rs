@@ -40,7 +40,10 @@ fn main() -> ExitCode {
 
 fn read_input() -> io::Result<Vec<u8>> {
     let mut input = Vec::new();
-    io::stdin().lock().take(MOST_BYTES + 1).read_to_end(&mut input)?;
+    io::stdin()
+        .lock()
+        .take(MOST_BYTES + 1)
+        .read_to_end(&mut input)?;
     if input.len() as u64 > MOST_BYTES {
         return Err(io::Error::other("the input is too long"));
     }

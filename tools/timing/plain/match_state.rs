@@ -21,7 +21,14 @@ pub struct Match {
 
 impl Match {
     pub fn new(innings_a_side: usize) -> Match {
-        Match { innings_a_side, innings: Vec::new(), is_open: false, is_closed: false, home_waiting: 0, away_waiting: 0 }
+        Match {
+            innings_a_side,
+            innings: Vec::new(),
+            is_open: false,
+            is_closed: false,
+            home_waiting: 0,
+            away_waiting: 0,
+        }
     }
 
     /// Takes what happened, if the Laws allow it. Otherwise nothing changes.
@@ -52,16 +59,26 @@ impl Match {
     }
 
     fn open(&self) -> Option<&Innings> {
-        if self.is_open { self.innings.last() } else { None }
+        if self.is_open {
+            self.innings.last()
+        } else {
+            None
+        }
     }
 
     fn open_mut(&mut self) -> Option<&mut Innings> {
-        if self.is_open { self.innings.last_mut() } else { None }
+        if self.is_open {
+            self.innings.last_mut()
+        } else {
+            None
+        }
     }
 
     /// The innings that is open, if it has fewer than ten wickets down.
     fn in_play(&mut self) -> Result<&mut Innings, Refusal> {
-        self.open_mut().filter(|innings| !innings.is_all_out()).ok_or(Refusal::NotInPlay)
+        self.open_mut()
+            .filter(|innings| !innings.is_all_out())
+            .ok_or(Refusal::NotInPlay)
     }
 
     fn begin(&mut self, side: Side) -> Result<(), Refusal> {
@@ -93,7 +110,12 @@ impl Match {
             return Err(Refusal::NotInPlay);
         }
         // The side's innings that is open is its last one too.
-        match self.innings.iter_mut().rev().find(|innings| innings.side == side) {
+        match self
+            .innings
+            .iter_mut()
+            .rev()
+            .find(|innings| innings.side == side)
+        {
             Some(innings) => innings.total += PENALTY,
             None => *self.waiting(side) += PENALTY,
         }
@@ -109,27 +131,37 @@ impl Match {
 
     /// How many innings the side has begun.
     fn begun(&self, side: Side) -> usize {
-        self.innings.iter().filter(|innings| innings.side == side).count()
+        self.innings
+            .iter()
+            .filter(|innings| innings.side == side)
+            .count()
     }
 
     /// Whether the side has ended all its innings.
     fn is_done(&self, side: Side) -> bool {
-        self.begun(side) == self.innings_a_side && self.open().is_none_or(|innings| innings.side != side)
+        self.begun(side) == self.innings_a_side
+            && self.open().is_none_or(|innings| innings.side != side)
     }
 
     fn side_total(&self, side: Side) -> u32 {
-        self.innings.iter().filter(|innings| innings.side == side).map(|innings| innings.total).sum()
+        self.innings
+            .iter()
+            .filter(|innings| innings.side == side)
+            .map(|innings| innings.total)
+            .sum()
     }
 
     /// The side that has won, if one has. Where an innings is open and the other side is done, it is the last one.
     fn winner(&self) -> Option<Side> {
-        [Side::Home, Side::Away]
-            .into_iter()
-            .find(|side| self.is_done(side.other()) && self.side_total(*side) > self.side_total(side.other()))
+        [Side::Home, Side::Away].into_iter().find(|side| {
+            self.is_done(side.other()) && self.side_total(*side) > self.side_total(side.other())
+        })
     }
 
     fn target(&self) -> Option<u32> {
-        let open = self.open().filter(|innings| self.is_done(innings.side.other()))?;
+        let open = self
+            .open()
+            .filter(|innings| self.is_done(innings.side.other()))?;
         let before = self.side_total(open.side) - open.total;
         Some(self.side_total(open.side.other()) + 1 - before)
     }
@@ -137,7 +169,9 @@ impl Match {
     fn result(&self) -> String {
         match self.winner() {
             Some(side) => format!("{} won by {}", side.name(), self.margin(side)),
-            None if self.is_done(Side::Home) && self.is_done(Side::Away) => "match tied".to_string(),
+            None if self.is_done(Side::Home) && self.is_done(Side::Away) => {
+                "match tied".to_string()
+            }
             None if self.is_closed => "match drawn".to_string(),
             None => "-".to_string(),
         }
@@ -150,7 +184,11 @@ impl Match {
             counted(innings.wickets_left(), "wicket")
         } else if !self.is_done(winner) {
             format!("an innings and {}", counted(runs, "run"))
-        } else if self.innings.last().is_some_and(|innings| innings.side == winner) {
+        } else if self
+            .innings
+            .last()
+            .is_some_and(|innings| innings.side == winner)
+        {
             "penalty runs".to_string()
         } else {
             counted(runs, "run")
@@ -159,7 +197,11 @@ impl Match {
 }
 
 fn counted(count: u32, what: &str) -> String {
-    if count == 1 { format!("1 {what}") } else { format!("{count} {what}s") }
+    if count == 1 {
+        format!("1 {what}")
+    } else {
+        format!("{count} {what}s")
+    }
 }
 
 /// The six lines of a board.
@@ -167,7 +209,13 @@ impl fmt::Display for Match {
     fn fmt(&self, f: &mut fmt::Formatter) -> fmt::Result {
         match self.innings.last() {
             Some(innings) => {
-                writeln!(f, "{} {} for {}", innings.side.name(), innings.total, innings.wickets)?;
+                writeln!(
+                    f,
+                    "{} {} for {}",
+                    innings.side.name(),
+                    innings.total,
+                    innings.wickets
+                )?;
                 writeln!(f, "Overs {}.{}", innings.overs, innings.balls)?;
                 write_batter(f, "Striker", innings, innings.striker)?;
                 write_batter(f, "Other", innings, innings.other)?;
@@ -182,7 +230,12 @@ impl fmt::Display for Match {
     }
 }
 
-fn write_batter(f: &mut fmt::Formatter, end: &str, innings: &Innings, player: Option<usize>) -> fmt::Result {
+fn write_batter(
+    f: &mut fmt::Formatter,
+    end: &str,
+    innings: &Innings,
+    player: Option<usize>,
+) -> fmt::Result {
     match player {
         Some(player) => {
             let (runs, faced) = innings.figures(player);
