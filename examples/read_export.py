@@ -143,7 +143,9 @@ INFO = is_mapping_of(
     },
     {"outcome": OUTCOME, **TOLD},
 )
-META = is_mapping_of({"data_version": lambda version: version == "1.1.0", "revision": is_number})
+META = is_mapping_of(
+    {"data_version": lambda version: version == "1.1.0", "revision": lambda count: is_number(count) and count > 0}, {"created": is_date}
+)
 ENTRY = is_mapping_of({"place": is_number, "line": is_text, "corrected_by": is_list_of(is_number)})
 OURS = is_mapping_of(
     {"program": is_text, "match_number": is_number, "innings_a_side": lambda count: count in (1, 2), "book": is_list_of(ENTRY)}

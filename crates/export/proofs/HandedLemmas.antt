@@ -1,5 +1,5 @@
 -- What stands at a key of `info`.
-use Rattle.std.proofs.Common.{◌≡◌, ℕ, Bool, true, false, cond, ◌||◌, bytes_eq, List, [], ◌∷◌, ◌++◌, Option, Some, None, Ok, Err, option_map, Ordering, Less, Equal, Greater, nat_cmp, is_eq, codes, refl, sym, ap, ◌∙◌, subst, if◌then◌else◌}
+use Rattle.std.proofs.Common.{◌≡◌, ℕ, Bool, true, false, cond, ◌||◌, bytes_eq, List, [], ◌∷◌, ◌++◌, Option, Some, None, option_map, Ordering, Less, Equal, Greater, nat_cmp, is_eq, codes, refl, sym, ap, ◌∙◌, subst, if◌then◌else◌}
 use Rattle.std.specs.Prelude.{is_some}
 use Rattle.std.specs.List.{list_any}
 use Rattle.std.specs.Ordering.{match_ordering}
@@ -12,8 +12,6 @@ use Rattle.match_laws.specs.declared.outcome.Outcome.{Outcome}
 use Rattle.match_laws.specs.declared.outcome.Outcome.TheVariants.{Undecided, Draw, Tie, Runs, Wickets, InningsAnd, PenaltyRuns}
 use Rattle.match_laws.specs.Result.{outcome}
 use Rattle.cards.specs.Sheet.{Sheet}
-use Rattle.cards.specs.Reading.{◌>>=◌, of_kind}
-use Rattle.cards.specs.declared.fault.SheetFault.TheVariants.{WrongKind}
 use Rattle.toml.specs.Data.{Data, Members, no_members, member, get_member}
 use Rattle.json.specs.Json.{Json}
 use Rattle.json_fields.specs.Values.{Field, members_of, number_field}
@@ -151,13 +149,3 @@ in_a_row (f ∷ fs) teams players balls result given = ap (λ gs. f ∷ gs) (in_
 pub is_some_map : {A B : Type 0} (f : A → B) (o : Option A) → is_some (option_map f o) ≡ is_some o
 is_some_map f None = refl
 is_some_map f (Some x) = refl
-
--- ---- what stands at the key `info` of a document
-
-pub no_table : (o : Option Members) (ms : Members) → is_some o ≡ false → (of_kind o >>= λ info. Ok ms) ≡ Err WrongKind
-no_table None ms e = refl
-no_table (Some info) ms e = absurd (true≢false e)
-
-pub a_table : (o : Option Members) (ms : Members) → is_some o ≡ true → (of_kind o >>= λ info. Ok ms) ≡ Ok ms
-a_table None ms e = absurd (true≢false (sym e))
-a_table (Some info) ms e = refl

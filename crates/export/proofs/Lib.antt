@@ -14,3 +14,5 @@ pub mod ReaderSums
 pub mod CorrectionLemmas
 pub mod GivenLemmas
 pub mod HandedLemmas
+pub mod DayLemmas
+pub mod MetaLemmas

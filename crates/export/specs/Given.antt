@@ -47,17 +47,18 @@ abbrev pub others : Members → Members
 others no_members = no_members
 others (member key d ms) = if is_own key then others ms else member key d (others ms)
 
--- the table [info] of a sheet's document
-abbrev pub table_in : Members → Option Members
-table_in document = option_and_then as_table (get_member (codes "info") document)
+-- the table at a key of a sheet's document
+abbrev pub table_in : List ℕ → Members → Option Members
+table_in key document = option_and_then as_table (get_member key document)
 
--- its members: none, where there is no such table
+-- the members of a table: none, where there is no such table
 abbrev pub members_or_none : Option Members → Members
 members_or_none None = no_members
 members_or_none (Some ms) = ms
 
+-- the table [info]
 abbrev pub info_in : Members → Members
-info_in document = members_or_none (table_in document)
+info_in document = members_or_none (table_in (codes "info") document)
 
 -- the fields that a sheet's document hands on
 abbrev pub HandsOn : Members → List Field → Type 0

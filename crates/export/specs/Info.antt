@@ -1,4 +1,4 @@
--- What is said of the file and of the match. s is the sheet, and given what its table [info] hands on.
+-- What is said of the match. s is the sheet, and given what its table [info] hands on.
 use Rattle.std.specs.Prelude.{ℕ, ◌+◌, Bool, if◌then◌else◌, bytes_eq, List, [], ◌∷◌, ◌++◌, codes}
 use Rattle.std.specs.List.{list_any}
 use Rattle.notation.specs.declared.entry.Side.{Side}
@@ -10,14 +10,6 @@ use Rattle.match_laws.specs.Result.{outcome}
 use Rattle.cards.specs.Sheet.{Sheet, name_of, player_of}
 use Rattle.json.specs.Json.{Json, string}
 use Rattle.json_fields.specs.Values.{Field, array_of, object_of, text_field, number_field, up_to}
-
--- the version of the format, and which version of the file it is
-abbrev pub meta_field : Field
-meta_field = (
-  codes "meta",
-  object_of (text_field (codes "data_version") (codes "1.1.0") ∷ []
-      ++ number_field (codes "revision") 1 ∷ []),
-)
 
 abbrev pub event_field : Sheet → Field
 event_field s = (codes "event", object_of (text_field (codes "name") s.title ∷ []))

@@ -1,5 +1,5 @@
 -- What an export tells of its match, in a reader's words: what is looked up in its value.
-use Rattle.std.specs.Prelude.{◌≡◌, ◌≢◌, ℕ, ◌+◌, Bool, true, false, not, bytes_eq, if◌then◌else◌, List, [], ◌∷◌, length, map, codes, Some, slice_get}
+use Rattle.std.specs.Prelude.{◌≡◌, ◌≢◌, ℕ, ◌+◌, Bool, true, false, not, bytes_eq, if◌then◌else◌, List, [], ◌∷◌, length, map, codes, Some, None, slice_get}
 use Rattle.std.specs.List.{flat_map, list_any}
 use Rattle.notation.specs.declared.entry.Entry.{Entry}
 use Rattle.ball_laws.specs.History.{History}
@@ -9,10 +9,13 @@ use Rattle.corrections.specs.CleanList.{clean, history_of}
 use Rattle.cards.specs.Sheet.{Sheet}
 use Rattle.toml.specs.Data.{Data, Members as Table, get_member}
 use Rattle.json.specs.Json.{Json, null, string, array, object, Items, no_items, item, Members, no_members, member}
+use Rattle.toml_datetime.specs.declared.datetime.Date.{Date}
+use Rattle.toml_datetime.specs.Text.{date_text}
 use Rattle.json_fields.specs.Values.{Field, number_value}
 use Rattle.export.specs.declared.notes.Noted.{Noted}
 use Rattle.export.specs.Notes.{notes}
 use Rattle.export.specs.Given.{IsValueOf, info_in, is_own}
+use Rattle.export.specs.Meta.{day_of, meta_at, meta_of}
 use Rattle.export.specs.Info.{info_of}
 use Rattle.export.specs.Innings.{innings_of}
 use Rattle.export.specs.Entries.{entries_of, entry_of}
@@ -103,3 +106,20 @@ HasEachKey s h document given =
 -- nothing that is handed on stands under a key of the export's own
 abbrev pub LeavesOwn : List Field → Type 0
 LeavesOwn given = (key : List ℕ) → is_own key ≡ true → list_any (λ f. bytes_eq key f.0) given ≡ false
+
+-- what stands under a key of `meta`
+abbrev pub in_meta : List ℕ → Table → Json
+in_meta key document = at key (meta_of document)
+
+-- what the sheet's table [meta] has at `created` and at `revision` stands under `meta`, with its value; with none at a key, no
+-- day stands there, and the first revision does
+pub record TellsOfFile (document : Table) : Type 0 where
+  pub created : (d : Data) → meta_at (codes "created") document ≡ Some d → IsValueOf d (in_meta (codes "created") document)
+  pub revision : (d : Data) → meta_at (codes "revision") document ≡ Some d → IsValueOf d (in_meta (codes "revision") document)
+  pub undated : meta_at (codes "created") document ≡ None → in_meta (codes "created") document ≡ null
+  pub first : meta_at (codes "revision") document ≡ None → in_meta (codes "revision") document ≡ number_value 1
+
+-- where something stands at `created`, it is a day, and its text stands in the export
+abbrev pub TellsDay : Table → Type 0
+TellsDay document = (d : Data) → meta_at (codes "created") document ≡ Some d
+    → (day : Date) × (day_of d ≡ Some day) × (in_meta (codes "created") document ≡ string (date_text day))

@@ -1,4 +1,4 @@
--- What the public calls claim: Value with all that it cites (Notes, Wickets, Deliveries, Innings, Given, Info, Entries, and
+-- What the public calls claim: Value with all that it cites (Notes, Wickets, Deliveries, Innings, Document, Given, Meta, Info, Entries, and
 -- Values but for its last part), Names, Laws and Readers. inner: for private functions only.
 pub mod Notes
 pub mod Wickets
@@ -7,6 +7,7 @@ pub mod Miscounts
 pub mod Innings
 pub mod Document
 pub mod Given
+pub mod Meta
 pub mod Info
 pub mod Entries
 pub mod Value
@@ -14,4 +15,5 @@ pub mod Names
 pub mod Laws
 pub mod Readers
 pub mod WorkedSums
+pub mod WorkedDocuments
 pub mod inner

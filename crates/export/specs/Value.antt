@@ -1,4 +1,5 @@
--- The book of a match as one JSON value. s is the sheet, and given what its table [info] hands on.
+-- The book of a match as one JSON value. s is the sheet, document the table that its text is, and given what the table [info]
+-- of that hands on.
 use Rattle.std.specs.Prelude.{◌≡◌, ℕ, List, [], ◌∷◌, ◌++◌, codes}
 use Rattle.notation.specs.declared.entry.Entry.{Entry}
 use Rattle.corrections.specs.CleanList.{clean, history_of}
@@ -10,7 +11,8 @@ use Rattle.json.specs.Layout.{pretty}
 use Rattle.json_fields.specs.Values.{Field, object_of, text_field, number_field}
 use Rattle.export.specs.Notes.{notes}
 use Rattle.export.specs.Given.{HandsOn}
-use Rattle.export.specs.Info.{meta_field, info_field}
+use Rattle.export.specs.Meta.{meta_field}
+use Rattle.export.specs.Info.{info_field}
 use Rattle.export.specs.Innings.{innings_field}
 use Rattle.export.specs.Entries.{book_field}
 
@@ -25,9 +27,9 @@ own_field s book = (
       ++ book_field book ∷ []),
 )
 
-abbrev pub export_of : Sheet → List Field → List Entry → Json
-export_of s given book =
-    object_of (meta_field ∷ []
+abbrev pub export_of : Sheet → Members → List Field → List Entry → Json
+export_of s document given book =
+    object_of (meta_field document ∷ []
     ++ info_field s (history_of book) given ∷ []
     ++ innings_field s (history_of book) (notes [] (clean book)) ∷ []
     ++ own_field s book ∷ [])
@@ -36,4 +38,4 @@ export_of s given book =
 pub record IsExport (s : Sheet) (document : Members) (book : List Entry) (text : List ℕ) : Type 0 where
   pub given : List Field
   pub hands_on : HandsOn document given
-  pub written : text ≡ pretty (json_tokens (export_of s given book))
+  pub written : text ≡ pretty (json_tokens (export_of s document given book))

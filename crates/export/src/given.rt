@@ -2,6 +2,7 @@
 
 ghost use Rattle.std.specs.Prelude.{◌≡◌, ◌∷◌, [], option_map, OnOk};
 ghost use Rattle.std.specs.Fmt.{signed_decimal};
+ghost use Rattle.toml.specs.Data.{no_members};
 ghost use Rattle.toml.specs.View.{array_view, table_view, view};
 ghost use Rattle.toml_datetime.specs.Text.{datetime_text};
 ghost use Rattle.json.specs.Json as json_values;
@@ -14,14 +15,22 @@ use std::alloc::{AllocError, Global};
 use toml::value::{Array, Datetime};
 use toml::{Table, Value};
 
-/// The table `[info]` of a sheet's document, where it has one.
-pub fn info_in(document: &Table) -> Option<&Table>
-    ensures { option_map (λ info. table_view info.now) result ≡ laws.table_in (table_view document.now) }
+/// The table at a key of a sheet's document, where it has one.
+pub fn table_in<'a>(document: &'a Table, key: &str) -> Option<&'a Table>
+    ensures { option_map (λ table. table_view table.now) result ≡ laws.table_in key.now (table_view document.now) }
 {
-    match document.get("info") {
-        Some(info) => info.as_table(),
+    match document.get(key) {
+        Some(value) => value.as_table(),
         None => None,
     }
+}
+
+/// The table `[info]` of a sheet's document, or an empty one.
+pub fn info_or<'a>(document: &'a Table, empty: &'a Table) -> &'a Table
+    requires { table_view empty.now ≡ no_members }
+    ensures { table_view result.now ≡ laws.info_in (table_view document.now) }
+{
+    table_in(document, "info").unwrap_or(empty)
 }
 
 /// Whether the export itself writes this key.

@@ -1,4 +1,4 @@
-//! What is said of the file and of the match.
+//! What is said of the match.
 
 ghost use Rattle.std.specs.Prelude.{◌≡◌, ◌+◌, ◌<◌, ◌∷◌, [], codes, is_some, List, OnOk};
 ghost use Rattle.ball_laws.specs.History.{History};
@@ -20,16 +20,6 @@ use match_laws::{Match, Outcome};
 use notation::{Player, Side};
 use std::alloc::{AllocError, Global};
 use toml::Table;
-
-/// Puts what is said of the file.
-pub fn put_meta(out: &mut Pretty) -> Result<(), AllocError>
-    ensures { PutsFields result out.old out.new (laws.meta_field ∷ []) }
-{
-    begin_field(out, "meta")?;
-    put_text(out, "data_version", "1.1.0")?;
-    put_figure(out, "revision", 1)?;
-    end_object(out)
-}
 
 /// Whether the sheet's table `[info]` has an event.
 fn has_event(info: &Table) -> bool

@@ -2,16 +2,19 @@
 //!
 //! These functions do nothing: each stands for the laws that it ensures.
 
-ghost use Rattle.std.specs.Prelude.{ℕ, List};
+ghost use Rattle.std.specs.Prelude.{◌≡◌, ℕ, List, codes, true};
 ghost use Rattle.notation.specs.declared.entry.Entry.{Entry};
 ghost use Rattle.ball_laws.specs.History.{History};
 ghost use Rattle.corrections.specs.Legal.{IsLegalBook};
 ghost use Rattle.cards.specs.Sheet.{Sheet};
 ghost use Rattle.toml.specs.Data.{Members};
+ghost use Rattle.json.specs.Json.{string};
 ghost use Rattle.json_fields.specs.Values.{Field};
+ghost use Rattle.export.specs.Document.{is_fine_document};
 ghost use Rattle.export.specs.Given.{HandsOn};
-ghost use Rattle.export.specs.Laws.{HasEachEntry, HasEachKey, LeavesOwn, TotalsAddUp, WicketsAddUp};
+ghost use Rattle.export.specs.Laws.{HasEachEntry, HasEachKey, LeavesOwn, TellsDay, TellsOfFile, TotalsAddUp, WicketsAddUp, in_meta};
 ghost use Rattle.export.specs.Names.{NamesTwoSides};
+ghost use Rattle.export.specs.WorkedDocuments.{WorkedDocuments};
 
 /// Looked up in the value of an innings, as it stands in an export: the totals of its deliveries and its penalty runs
 /// before and after add up to the innings' total. As many wickets stand among its deliveries as have fallen, not counting
@@ -28,9 +31,18 @@ pub fn exports_name_two_sides()
 {}
 
 /// Each key of the sheet's table `[info]` stands under `info` with its value, but for those that are the export's own: none
-/// of these is handed on, so that none stands twice.
+/// of these is handed on, so that none stands twice. Of a document that isn't refused, the day and the revision in the table
+/// `[meta]` stand under `meta` with their values; the version of the format is the export's own.
 pub fn exports_hand_on()
     ensures each { (s : Sheet) → (h : History) → (document : Members) → (given : List Field)
         → HandsOn document given → HasEachKey s h document given }
     ensures own { (document : Members) → (given : List Field) → HandsOn document given → LeavesOwn given }
+    ensures file { (document : Members) → is_fine_document document ≡ true → TellsOfFile document }
+    ensures day { (document : Members) → is_fine_document document ≡ true → TellsDay document }
+    ensures version { (document : Members) → in_meta (codes "data_version") document ≡ string (codes "1.1.0") }
+{}
+
+/// Worked documents: the check computes from the definitions what is said of the file.
+fn worked_documents()
+    ensures { WorkedDocuments }
 {}

@@ -10,6 +10,7 @@ mod given;
 mod info;
 mod innings;
 mod laws;
+mod meta;
 mod miscounts;
 mod named;
 mod notes;

@@ -5,7 +5,6 @@ ghost use Rattle.toml.specs.View.{table_view};
 ghost use Rattle.export.specs.Names.{told_apart};
 ghost use Rattle.export.specs.Value.{IsExport};
 
-use crate::given::info_in;
 use crate::named::NamedSheet;
 use crate::notes::notes_of;
 use crate::value::put_export;
@@ -16,8 +15,8 @@ use std::alloc::{AllocError, Global};
 use toml::Table;
 
 /// The text of a book as one JSON value, without its newline: what happened ball by ball with the results of the Laws,
-/// each entry as it was penned, and what the table `[info]` of the sheet's document hands on. Sides of one name are told
-/// apart.
+/// each entry as it was penned, and what the tables `[info]` and `[meta]` of the sheet's document hand on. Sides of one name
+/// are told apart.
 pub fn text_of<B: BookOf>(
     alloc: Global,
     sheet: &MatchSheet,
@@ -31,14 +30,12 @@ pub fn text_of<B: BookOf>(
     let score = book.score();
     let (notes, begun) = notes_of(alloc, sheet.innings(), book)?;
     let named = NamedSheet::new(alloc, sheet)?;
-    let none = Table::new(alloc);
-    let info = info_in(document).unwrap_or(&none);
     let mut out = Pretty::new(alloc);
     put_export(
         alloc,
         &mut out,
         &named,
-        info,
+        document,
         score,
         book,
         notes.as_slice(),

@@ -11,8 +11,10 @@ ghost use Rattle.export.specs.inner.Putting.{PutsExport};
 
 use crate::begun::Begun;
 use crate::entries::put_entries;
-use crate::info::{put_info, put_meta};
+use crate::given::info_or;
+use crate::info::put_info;
 use crate::innings::put_all_innings;
+use crate::meta::put_meta;
 use crate::named::NamedSheet;
 use crate::notes::Noted;
 use corrections::BookOf;
@@ -39,13 +41,13 @@ fn put_own<B: BookOf>(
     end_object(out)
 }
 
-/// Puts the book of a match as one JSON value, by what the sheet's table `[info]` hands on, the book's score, and its clean
-/// list with where each item stands.
+/// Puts the book of a match as one JSON value, by what the sheet's document hands on, the book's score, and its clean list
+/// with where each item stands.
 pub fn put_export<B: BookOf>(
     alloc: Global,
     out: &mut Pretty,
     sheet: &NamedSheet<'_>,
-    info: &Table,
+    document: &Table,
     score: &Match,
     book: &B,
     noted: &[Noted],
@@ -54,11 +56,12 @@ pub fn put_export<B: BookOf>(
     requires noted { noted.now ≡ notes [] (clean (B.content book.now)) }
     requires begun { begun.now ≡ begun_of (history_of (B.content book.now)) }
     requires stands { StandsFor score.now sheet.now.innings (history_of (B.content book.now)) }
-    ensures { OnOk result (PutsExport sheet.now (B.content book.now) (table_view info.now) out.old out.new) }
+    ensures { OnOk result (PutsExport sheet.now (B.content book.now) (table_view document.now) out.old out.new) }
 {
     begin_object(out)?;
-    put_meta(out)?;
-    put_info(alloc, out, sheet, info, score)?;
+    put_meta(alloc, out, document)?;
+    let empty = Table::new(alloc);
+    put_info(alloc, out, sheet, info_or(document, &empty), score)?;
     put_all_innings(alloc, out, sheet, score, begun, noted)?;
     put_own(alloc, out, sheet, book)?;
     end_object(out)

@@ -1,7 +1,7 @@
 -- What the words of the program do, with one filled-in command each, as a scorer types it.
 use Rattle.std.specs.Prelude.{ℕ, ◌≤◌, List, [], ◌∷◌, ◌++◌, length, All, codes}
-use Rattle.help.specs.declared.topic.Topic.{Topic}
-use Rattle.help.specs.declared.topic.Topic.TheVariants.{Help, Desk, Board, Key, Check, Card, Export, Compare, Match, Replay, Migrate}
+use Rattle.help.specs.declared.subject.Subject.{Subject}
+use Rattle.help.specs.declared.subject.Subject.TheVariants.{Help, Desk, Board, Key, Check, Card, Export, Compare, Match, Replay, Migrate}
 
 -- rows that a plain terminal shows at once: 24 of 80 columns at most
 abbrev pub FitsAScreen : List (List ℕ) → Type 0
@@ -13,7 +13,7 @@ lines [] = []
 lines (row ∷ rows) = row ++ codes "\n" ++ lines rows
 
 -- what is told of a word, row by row
-abbrev pub rows : Topic → List (List ℕ)
+abbrev pub rows : Subject → List (List ℕ)
 rows Help =
     codes "ground: the book of a cricket match, kept by two scorers. Its words:" ∷
     codes "" ∷
@@ -139,5 +139,5 @@ rows Migrate =
     codes "  --to N      the new file" ∷ []
 
 -- what is told of a word
-abbrev pub help_on : Topic → List ℕ
-help_on topic = lines (rows topic)
+abbrev pub help_on : Subject → List ℕ
+help_on subject = lines (rows subject)

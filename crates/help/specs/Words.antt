@@ -1,11 +1,11 @@
 -- What a command line asks to be told.
 use Rattle.std.specs.Prelude.{ℕ, Option, Some, None, if◌then◌else◌, List, [], ◌∷◌, codes, bytes_eq, String, string_bytes}
-use Rattle.help.specs.declared.topic.Topic.{Topic}
-use Rattle.help.specs.declared.topic.Topic.TheVariants.{Help, Desk, Board, Key, Check, Card, Export, Compare, Match, Replay, Migrate}
+use Rattle.help.specs.declared.subject.Subject.{Subject}
+use Rattle.help.specs.declared.subject.Subject.TheVariants.{Help, Desk, Board, Key, Check, Card, Export, Compare, Match, Replay, Migrate}
 
 -- the word of the program that a text is
-abbrev pub topic_of : List ℕ → Option Topic
-topic_of t =
+abbrev pub subject_of : List ℕ → Option Subject
+subject_of t =
     if bytes_eq t (codes "help") then Some Help
     else if bytes_eq t (codes "desk") then Some Desk
     else if bytes_eq t (codes "board") then Some Board
@@ -20,7 +20,7 @@ topic_of t =
     else None
 
 -- what words ask about, the program's name first: `help` alone, or `help` and one of the words
-abbrev pub asked : {Z : Type 0} → List (String Z) → Option Topic
+abbrev pub asked : {Z : Type 0} → List (String Z) → Option Subject
 asked (name ∷ first ∷ []) = if bytes_eq (string_bytes first) (codes "help") then Some Help else None
-asked (name ∷ first ∷ word ∷ []) = if bytes_eq (string_bytes first) (codes "help") then topic_of (string_bytes word) else None
+asked (name ∷ first ∷ word ∷ []) = if bytes_eq (string_bytes first) (codes "help") then subject_of (string_bytes word) else None
 asked words = None

@@ -4,10 +4,10 @@
 mod asking;
 mod laws;
 mod printing;
+mod subject;
 mod texts;
-mod topic;
 
 pub use asking::asked;
 pub use laws::texts_fit_a_screen;
 pub use printing::print_help;
-pub use topic::Topic;
+pub use subject::Subject;

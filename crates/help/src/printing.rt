@@ -4,17 +4,17 @@ ghost use Rattle.std.specs.Prelude.{OnOk};
 ghost use Rattle.streams.specs.Watched.{IsHandedOn, Prints, TellsFailure};
 ghost use Rattle.help.specs.Texts as texts;
 
+use crate::subject::Subject;
 use crate::texts::help_on;
-use crate::topic::Topic;
 use std::io::Write;
 use streams::{Watched, WriteFailed};
 
 /// Prints what a word does, and hands it on.
-pub fn print_help<W: Write>(out: &mut Watched<W>, topic: Topic) -> Result<(), WriteFailed>
-    ensures text { OnOk result (Prints W.contents out.old out.new (texts.help_on topic)) }
+pub fn print_help<W: Write>(out: &mut Watched<W>, subject: Subject) -> Result<(), WriteFailed>
+    ensures text { OnOk result (Prints W.contents out.old out.new (texts.help_on subject)) }
     ensures handed_on { OnOk result (IsHandedOn out.new) }
     ensures failed { TellsFailure result out.old out.new }
 {
-    write!(out, "{}", help_on(topic))?;
+    write!(out, "{}", help_on(subject))?;
     out.flush()
 }

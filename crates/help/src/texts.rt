@@ -3,7 +3,7 @@
 ghost use Rattle.std.specs.Prelude.{◌≡◌};
 ghost use Rattle.help.specs.Texts as texts;
 
-use crate::topic::Topic;
+use crate::subject::Subject;
 
 const HELP: &str = "\
 ground: the book of a cricket match, kept by two scorers. Its words:
@@ -151,20 +151,20 @@ migrate: writes the votes of a desk's file of version 1 to a new file of version
 ";
 
 /// What is told of a word.
-pub fn help_on(topic: Topic) -> &'static str
-    ensures { result.now ≡ texts.help_on topic }
+pub fn help_on(subject: Subject) -> &'static str
+    ensures { result.now ≡ texts.help_on subject }
 {
-    match topic {
-        Topic::Help => HELP,
-        Topic::Desk => DESK,
-        Topic::Board => BOARD,
-        Topic::Key => KEY,
-        Topic::Check => CHECK,
-        Topic::Card => CARD,
-        Topic::Export => EXPORT,
-        Topic::Compare => COMPARE,
-        Topic::Match => MATCH,
-        Topic::Replay => REPLAY,
-        Topic::Migrate => MIGRATE,
+    match subject {
+        Subject::Help => HELP,
+        Subject::Desk => DESK,
+        Subject::Board => BOARD,
+        Subject::Key => KEY,
+        Subject::Check => CHECK,
+        Subject::Card => CARD,
+        Subject::Export => EXPORT,
+        Subject::Compare => COMPARE,
+        Subject::Match => MATCH,
+        Subject::Replay => REPLAY,
+        Subject::Migrate => MIGRATE,
     }
 }

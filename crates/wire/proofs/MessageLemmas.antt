@@ -2,7 +2,7 @@
 use Rattle.std.proofs.Common.{◌≡◌, ◌∙◌, ◌<◌, ◌≤◌, ℕ, List, take, drop, length, replicate, Option, Some, None, arith, refl, sym, ap, slice_index, inl, inr, Bool, true, false, IsTrue, ◌↔◌}
 use Rattle.std.specs.Option.{option_map}
 use Rattle.std.proofs.lemmas.Nat.{from_be_bytes-to_be_bytes_2, from_be_bytes-to_be_bytes_4}
-use Rattle.std.proofs.lemmas.List.{length-append, take-append-le, take_all}
+use Rattle.std.proofs.lemmas.List.{length-append, length-drop, take-append-le, take_all}
 use Rattle.notation.specs.declared.entry.Entry.{Entry}
 use Rattle.notation.specs.declared.entry.Entry.TheVariants.{Write, Fix, Late}
 use Rattle.notation.specs.declared.entry.Out.{Out}
@@ -23,7 +23,7 @@ use Rattle.agree_core.specs.declared.position.TheConstants.{ROUNDS}
 use Rattle.agree_core.specs.Positions.{InRange, IsFull}
 use Rattle.agree_core.proofs.Order.{compare}
 use Rattle.agree_core.specs.Ballots.{desk_number}
-use Rattle.wire.specs.Layout.{IsMessage, Says, asker_number, body, is_at, written}
+use Rattle.wire.specs.Layout.{IsMessage, Says, asker_number, body, body_in, is_at, written}
 use Rattle.wire.specs.inner.Fields.{asker_numbered, desk_numbered, place_in, round_in}
 
 out_length : (o : Option Out) → length (out_code o) ≡ 4
@@ -52,10 +52,18 @@ message_body_length (Vote v) = code_length v.entry
 message_body_length (Ask q) = refl
 
 -- behind its head stand the body and zeros
-pub body_part : (game : ℕ) (m : Message) → take 24 (drop 19 (written game m)) ≡ body m
+pub body_part : (game : ℕ) (m : Message) → body_in (written game m) ≡ body m
 body_part game m =
     let long = message_body_length m in
     take-append-le 24 (body m) (replicate 5 0) (omega (arith, long)) ∙ take_all 24 (body m) (omega (arith, long))
+
+-- bytes that end before a body does have no entry's code there
+pub short_body : (bytes : List ℕ) (e : Entry) → length bytes < 43 → body_in bytes ≡ code e → ⊥
+short_body bytes e short same =
+    let rest = length-drop 19 bytes in
+    let all = take_all 24 (drop 19 bytes) (omega (arith, rest, short)) in
+    let long = ap (λ (xs : List ℕ). length xs) (sym all ∙ same) ∙ code_length e in
+    omega (arith, rest, long, short)
 
 pub place_part : (game : ℕ) (m : Message) → InRange (is_at m) → place_in (written game m) ≡ (is_at m).place
 place_part game m range = from_be_bytes-to_be_bytes_4 (is_at m).place (omega (arith, range.0))
@@ -89,8 +97,8 @@ place_of game bytes m s = ap place_in s.1 ∙ place_part game m (in_range m s.0)
 pub round_of : (game : ℕ) (bytes : List ℕ) (m : Message) → Says game bytes m → round_in bytes ≡ (is_at m).round
 round_of game bytes m s = ap round_in s.1 ∙ round_part game m (in_range m s.0)
 
-pub code_in : (game : ℕ) (bytes : List ℕ) (v : AVote) → Says game bytes (Vote v) → take 24 (drop 19 bytes) ≡ code v.entry
-code_in game bytes v s = ap (λ (l : List ℕ). take 24 (drop 19 l)) s.1 ∙ body_part game (Vote v)
+pub code_in : (game : ℕ) (bytes : List ℕ) (v : AVote) → Says game bytes (Vote v) → body_in bytes ≡ code v.entry
+code_in game bytes v s = ap body_in s.1 ∙ body_part game (Vote v)
 
 same_desk : (d e : DeskId) → desk_number d ≡ desk_number e → d ≡ e
 same_desk d e h = let both = sym (desk_back d) ∙ ap desk_numbered h ∙ desk_back e in cc
@@ -125,7 +133,7 @@ message_once g h (Vote v) (Vote w) a b e =
     let desk = same_desk v.desk w.desk (ap (λ (l : List ℕ). slice_index l 12) e) in
     let place = sym (place_part g (Vote v) a.0) ∙ ap place_in e ∙ place_part h (Vote w) b.0 in
     let round = sym (round_part g (Vote v) a.0) ∙ ap round_in e ∙ round_part h (Vote w) b.0 in
-    let codes_are = sym (body_part g (Vote v)) ∙ ap (λ (l : List ℕ). take 24 (drop 19 l)) e ∙ body_part h (Vote w) in
+    let codes_are = sym (body_part g (Vote v)) ∙ ap body_in e ∙ body_part h (Vote w) in
     let entry = code_once v.entry w.entry a.1 b.1 codes_are in
     λ i. Vote (record { desk = desk i; place = place i; round = round i; entry = entry i })
 message_once g h (Ask p) (Ask q) a b e =

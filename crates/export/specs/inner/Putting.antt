@@ -8,7 +8,7 @@ use Rattle.json.specs.Json.{Json}
 use Rattle.json.specs.Token.{Token}
 use Rattle.json.specs.Tree.{json_tokens, items_tokens, members_tokens}
 use Rattle.json_fields.specs.Values.{Field, items_of, members_of, fields_tokens, values_tokens}
-use Rattle.export.specs.Given.{IsFloatOf, IsValueOf, AreValuesOf, AreFieldsOf, others}
+use Rattle.export.specs.Given.{IsFloatOf, IsValueOf, AreValuesOf, AreFieldsOf, HandsOn, others}
 use Rattle.export.specs.Info.{info_field}
 use Rattle.export.specs.Value.{export_of}
 
@@ -37,4 +37,5 @@ abbrev pub PutsInfo : Sheet → History → Members → List Token → List Toke
 PutsInfo s h ms old new = (given : List Field) × AreFieldsOf (others ms) given × (new ≡ old ++ fields_tokens (info_field s h given ∷ []))
 
 abbrev pub PutsExport : Sheet → List Entry → Members → List Token → List Token → Type 0
-PutsExport s book ms old new = (given : List Field) × AreFieldsOf (others ms) given × (new ≡ old ++ values_tokens (export_of s given book ∷ []))
+PutsExport s book document old new =
+    (given : List Field) × HandsOn document given × (new ≡ old ++ values_tokens (export_of s document given book ∷ []))

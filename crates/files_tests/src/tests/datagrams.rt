@@ -6,7 +6,7 @@ ghost use Rattle.wire.specs.Layout.{is_at};
 use agree_core::{Ask, Asker, DeskId, Message, Vote};
 use notation::{Ball, Bound, Entry, Kind, Plain, Player};
 use std::test::Fail;
-use wire::{Datagram, WireFault, bytes_of, message_of};
+use wire::{Datagram, WireFault, bytes_of, entry_in, message_of};
 
 /// Desk A's vote for `ball 7 bat 1` at place 3 in round 0 of match 7.
 const VOTE: [u8; 48] = [
@@ -77,6 +77,22 @@ fn votes_for_a_fix_and_a_late_entry(rt: HostRuntime) -> Result<(), Fail> {
     let late = vote(Entry::Late(2, single().ok_or("a ball")?));
     assert_eq!(rt; bytes_of(7, &late), of_place_2(2));
     assert_eq!(rt; message_of(7, &of_place_2(2)), Ok(late));
+    Ok(())
+}
+
+/// The code of a vote's entry ends with byte 42. Nothing else is looked at: bytes that are no message may have an entry.
+#[test]
+fn finds_the_entry_of_a_vote(rt: HostRuntime) -> Result<(), Fail> {
+    let entry = Entry::Write(single().ok_or("a ball")?);
+    assert_eq!(rt; entry_in(&VOTE), Some(entry));
+    assert_eq!(rt; entry_in(&VOTE[..43]), Some(entry));
+    assert_eq!(rt; entry_in(&VOTE[..42]), None);
+    assert_eq!(rt; entry_in(&ASK), None);
+    let mut bytes = VOTE;
+    bytes[0] = 0;
+    assert_eq!(rt; entry_in(&bytes), Some(entry));
+    bytes[19] = 0;
+    assert_eq!(rt; entry_in(&bytes), None);
     Ok(())
 }
 

@@ -1,0 +1,41 @@
+//! What can be asked about.
+
+ghost use Rattle.std.specs.Prelude.{◌≡◌};
+ghost use Rattle.help.specs.Words as words;
+
+/// A word of the program, of which `help` tells what it does.
+#[derive(Clone, Copy, Debug, PartialEq, Eq)]
+pub enum Subject {
+    /// `help` itself, or no word: a line for each of them.
+    Help,
+    Desk,
+    Board,
+    Key,
+    Check,
+    Card,
+    Export,
+    Compare,
+    Match,
+    Replay,
+    Migrate,
+}
+
+/// The word of the program that a text is.
+pub fn subject_of(word: &str) -> Option<Subject>
+    ensures { result ≡ words.subject_of word.now }
+{
+    match word {
+        "help" => Some(Subject::Help),
+        "desk" => Some(Subject::Desk),
+        "board" => Some(Subject::Board),
+        "key" => Some(Subject::Key),
+        "check" => Some(Subject::Check),
+        "card" => Some(Subject::Card),
+        "export" => Some(Subject::Export),
+        "compare" => Some(Subject::Compare),
+        "match" => Some(Subject::Match),
+        "replay" => Some(Subject::Replay),
+        "migrate" => Some(Subject::Migrate),
+        _ => None,
+    }
+}
