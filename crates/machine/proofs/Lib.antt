@@ -1,2 +1,3 @@
--- Lemmas on the calls of a file.
+-- Lemmas on the calls of a file, and on what is certain of it after them.
 mod CallLemmas
+mod ImageLemmas

@@ -4,6 +4,7 @@
 
 mod address;
 mod file_disk;
+mod history;
 mod host_file;
 mod keyboard;
 mod monotonic_clock;

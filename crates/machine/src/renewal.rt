@@ -6,9 +6,8 @@ ghost use Rattle.machine.specs.Calls.{AddsDone, AddsUntilFailed, IsLeft, renewal
 ghost use Rattle.machine.specs.FileDisk.{calls_of, cap_of, file_of, images_of};
 ghost use Rattle.streams.specs.declared.limit.TheConstants.{LONGEST_INPUT};
 
-use crate::file_disk::{FileDisk, OpenFault};
+use crate::file_disk::{FileDisk, OpenFault, with_room};
 use crate::host_file::{Host, Successor};
-use entry_log::MemDisk;
 use std::alloc::Global;
 use std::io;
 use streams::LONGEST_INPUT;
@@ -66,12 +65,11 @@ pub fn renewed<F: Successor + Drop>(
     ensures left { IfErr result (λ left. IsLeft (F.calls file) (F.calls left.1) left.0 (renewal bytes.now)) }
 {
     let mut file = file;
-    let mirror = match MemDisk::of(alloc, bytes, room) {
-        Ok(mirror) => mirror,
-        Err(_) => return Err((OpenFault::NoMemory, file)),
+    let Ok(held) = with_room(alloc, bytes, room) else {
+        return Err((OpenFault::NoMemory, file));
     };
     match renew(&mut file, bytes) {
-        Ok(()) => Ok(FileDisk::over(file, mirror)),
+        Ok(()) => Ok(FileDisk::over(file, held, bytes.len())),
         Err(_) => Err((OpenFault::Host, file)),
     }
 }
