@@ -65,6 +65,12 @@ no_seat_kept k A B m t = t
 no_seat_kept k B A m t = t
 no_seat_kept k B B m t = m
 
+pub which : (c d : DeskId) → (d ≡ c) ⊎ (d ≡ other c)
+which A A = inl refl
+which A B = inr refl
+which B A = inr refl
+which B B = inl refl
+
 pub other_not : (d : DeskId) → other d ≢ d
 other_not A = λ e. cc
 other_not B = λ e. cc
@@ -84,6 +90,9 @@ next_round_differs p q e h = let a = ap (λ (x : Position). x.round) (h ∙ e) i
 pub some_none : {X : Type 0} (o : Option X) (x : X) → o ≡ None → o ≡ Some x → ⊥
 some_none o x p q = cc
 
+pub same_some : {X : Type 0} (o : Option X) (x y : X) → o ≡ Some x → o ≡ Some y → x ≡ y
+same_some o x y p q = cc
+
 -- a vote that is heard changes nothing, where it isn't the first of the other desk for this position; else the seat
 -- keeps it, or is at another position without a vote
 abbrev pub Heeds : SeatState → Vote → SeatState → Type 0
@@ -99,8 +108,10 @@ heeds k l v Heard.Ahead r = inl (r.2, λ n at t. not_before k.position (position
 heeds k l v Heard.Again r = inl (r.2, λ n at t. some_none k.theirs v.entry t r.1)
 heeds k l v Heard.TwoVotes r = inl (r.2, λ n at t. some_none k.theirs r.1.0 t r.1.1)
 heeds k l v Heard.Noted r = let e = r.3 in inr (inl (r.0.0, r.0.1, r.1, ap (λ (z : SeatState). z.position) e, ap (λ (z : SeatState). z.mine) e ∙ sym r.2, ap (λ (z : SeatState). z.theirs) e))
-heeds k l v Heard.Agreed r = let e = r.3 in inr (inr (next_place_differs k.position l.position (ap (λ (z : SeatState). z.position) e), ap (λ (z : SeatState). z.mine) e, ap (λ (z : SeatState). z.theirs) e))
-heeds k l v Heard.Differ r = let e = r.3 in inr (inr (next_round_differs k.position l.position (ap (λ (z : SeatState). z.position) e), ap (λ (z : SeatState). z.mine) e, ap (λ (z : SeatState). z.theirs) e))
+heeds k l v Heard.Agreed r =
+    let e = r.3 in inr (inr (next_place_differs k.position l.position (ap (λ (z : SeatState). z.position) e), ap (λ (z : SeatState). z.mine) e, ap (λ (z : SeatState). z.theirs) e))
+heeds k l v Heard.Differ r =
+    let e = r.3 in inr (inr (next_round_differs k.position l.position (ap (λ (z : SeatState). z.position) e), ap (λ (z : SeatState). z.mine) e, ap (λ (z : SeatState). z.theirs) e))
 
 -- the same of a board
 abbrev pub Reads : ReaderState → Vote → ReaderState → Type 0
@@ -116,8 +127,10 @@ reads k l v Heard.Ahead r = inl (r.1, λ at t. not_before k.position (position_o
 reads k l v Heard.Again r = inl (r.2, λ at t. some_none (noted_of k v.desk) v.entry t r.1)
 reads k l v Heard.TwoVotes r = inl (r.2, λ at t. some_none (noted_of k v.desk) r.1.0 t r.1.1)
 reads k l v Heard.Noted r = inr (inl (r.0, r.1, r.3))
-reads k l v Heard.Agreed r = let e = r.3 in inr (inr (next_place_differs k.position l.position (ap (λ (z : ReaderState). z.position) e), ap (λ (z : ReaderState). z.a) e, ap (λ (z : ReaderState). z.b) e))
-reads k l v Heard.Differ r = let e = r.3 in inr (inr (next_round_differs k.position l.position (ap (λ (z : ReaderState). z.position) e), ap (λ (z : ReaderState). z.a) e, ap (λ (z : ReaderState). z.b) e))
+reads k l v Heard.Agreed r =
+    let e = r.3 in inr (inr (next_place_differs k.position l.position (ap (λ (z : ReaderState). z.position) e), ap (λ (z : ReaderState). z.a) e, ap (λ (z : ReaderState). z.b) e))
+reads k l v Heard.Differ r =
+    let e = r.3 in inr (inr (next_round_differs k.position l.position (ap (λ (z : ReaderState). z.position) e), ap (λ (z : ReaderState). z.a) e, ap (λ (z : ReaderState). z.b) e))
 
 pub noting_there : (k : ReaderState) (d : DeskId) (e : Entry) → noted_of (readers.noting k d e) d ≡ Some e
 noting_there k A e = refl

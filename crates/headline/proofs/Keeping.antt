@@ -1,12 +1,10 @@
 -- What every event of a run keeps, over any disk.
-use Rattle.std.proofs.Common.{◌≡◌, ◌≢◌, ℕ, Option, Some, None, List, [], ◌∷◌, ◌++◌, refl, sym, ap, ◌∙◌, subst, inl, inr}
+use Rattle.std.proofs.Common.{◌≡◌, ℕ, Option, Some, None, List, [], ◌∷◌, ◌++◌, refl, sym, ap, ◌∙◌, subst, inl, inr}
 use Rattle.std.specs.Prelude.{slice_get}
-use Rattle.notation.specs.declared.entry.Entry.{Entry}
 use Rattle.agree_core.specs.declared.messages.DeskId.{DeskId}
 use Rattle.agree_core.specs.declared.messages.DeskId.TheVariants.{A, B}
 use Rattle.agree_core.specs.declared.messages.Message.{Message}
 use Rattle.agree_core.specs.Ballots.{AllJustified, AllVotes, Ballot, In, Justified, VotesGrow, Within, ballot_of, votes_by}
-use Rattle.agree_core.specs.Ballots as ballots
 use Rattle.agree_core.specs.Boards.{BoardState}
 use Rattle.agree_core.specs.Desks.{DeskState, PenAnswer, ReceiveAnswer}
 use Rattle.agree_core.specs.FileView.{MaySync, Stays}
@@ -26,15 +24,16 @@ use Rattle.headline.specs.Configurations.{Process, Running, Down, Node, Configur
 use Rattle.headline.specs.Events.{station_of}
 use Rattle.headline.specs.Answers.{Answer}
 use Rattle.headline.specs.DeskFaults.{Breaks, FallsDue, LosesPower, StaysDownBy}
-use Rattle.headline.specs.Migrations.{Migrates, MigratesAt, Migration, AfterMigration, ToNew, NotSound, Failed}
+use Rattle.headline.specs.Migrations.{MigratesAt, ToNew, NotSound, Failed}
 use Rattle.headline.specs.DeskSteps.{AfterOpen, AfterPen, AfterReceive, AtDesk}
 use Rattle.headline.specs.BoardSteps.{AtBoard}
 use Rattle.headline.specs.Steps.{Step, StepAt}
 use Rattle.headline.specs.Runs.{Begins, BeginsAt, Moment, Run, last_of}
-use Rattle.agree_core.specs.Keeping.{BoardFine, DeskFine, DeskKept, DiskFine, Each, MessageFine, MineFine, OneMore, OwnMessage, ShowsMore, TheirMessage}
-use Rattle.agree_core.proofs.Both.{both_grow, same}
-use Rattle.agree_core.proofs.Desks.{held, may_sync_fine, more_justified, more_within, on_disk, opened_fine, opens_fine, pens_keep, receives_keep, stays_fine, synced_fine, ticks_keep}
-use Rattle.agree_core.proofs.Boards.{board_asks, board_grows, board_receives_keeps, fresh_fine, message_grows, noted_grows}
+use Rattle.agree_core.specs.Keeping.{BoardFine, DeskFine, DeskKept, DiskFine, Each, MessageFine, OneMore, OwnMessage, ShowsMore, TheirMessage}
+use Rattle.agree_core.proofs.Both.{same}
+use Rattle.agree_core.proofs.Desks.{desk_grows, held, may_sync_fine, not_opened_keeps, on_disk, opened_fine, opened_keeps, pens_keep, receives_keep, stays_fine, ticks_keep}
+use Rattle.agree_core.proofs.Boards.{board_asks, board_grows, board_receives_keeps, fresh_fine, message_grows}
+use Rattle.headline.proofs.Heeding.{other_of}
 use Rattle.headline.proofs.BoardKeeping.{board_fine_at, board_set, each_append, each_other, fresh_boards_fine, item_at}
 
 module _ {Disk Why : Type 0} (s : Setting Disk Why) where
@@ -47,143 +46,132 @@ module _ {Disk Why : Type 0} (s : Setting Disk Why) where
     pub grows : Within (process_votes x) (process_votes y)
     pub told : Each (OwnMessage d (process_votes y)) out
 
-  pub process_justified : (v : FileVersion) (d : DeskId) (theirs : List Ballot) (x : Process Disk) → ProcessFine v d theirs x → Justified theirs (process_votes x)
-  process_justified v d theirs (Running k) f = let t = f.seat in t.justified
-  process_justified v d theirs (Down votes disk) f = f.0
+  module _ (v : FileVersion) (d : DeskId) (theirs : List Ballot) where
+    pub process_justified : (x : Process Disk) → ProcessFine v d theirs x → Justified theirs (process_votes x)
+    process_justified (Running k) f = let t = f.seat in t.justified
+    process_justified (Down votes disk) f = f.0
 
-  pub fine_disk : (v : FileVersion) (d : DeskId) (theirs : List Ballot) (x : Process Disk) → ProcessFine v d theirs x → DiskFine (s.view d v) d theirs (process_votes x) (process_disk x)
-  fine_disk v d theirs (Running k) f = f.disk
-  fine_disk v d theirs (Down votes disk) f = f.1
+    pub fine_disk : (x : Process Disk) → ProcessFine v d theirs x → DiskFine (s.view d v) d theirs (process_votes x) (process_disk x)
+    fine_disk (Running k) f = f.disk
+    fine_disk (Down votes disk) f = f.1
 
-  pub running : (v : FileVersion) (d : DeskId) (theirs : List Ballot) (x : Process Disk) (k : DeskState Disk) → x ≡ Running k → ProcessFine v d theirs x → DeskFine (s.view d v) d theirs k
-  running v d theirs x k e f = subst (ProcessFine v d theirs) e f
+    pub running : (x : Process Disk) (k : DeskState Disk) → x ≡ Running k → ProcessFine v d theirs x → DeskFine (s.view d v) d theirs k
+    running x k e f = subst (ProcessFine v d theirs) e f
 
-  -- a desk has gone on
-  gone_on : (v : FileVersion) (d : DeskId) (theirs : List Ballot) (x : Process Disk) (k l : DeskState Disk) (out : List Message) → x ≡ Running k → DeskKept (s.view d v) d theirs k l out → NodeKept v d theirs x (Running l) out
-  gone_on v d theirs x k l out e h = record { fine = h.fine; grows = subst (λ (p : Process Disk). Within (process_votes p) l.votes) (sym e) h.grows; told = h.told }
+    loses_power : (x : Process Disk) (disk : Disk) → ProcessFine v d theirs x → LosesPower (s.view d v) (process_disk x) disk → DiskFine (s.view d v) d theirs (process_votes x) disk
+    loses_power x disk f p =
+        let g = (fine_disk x f).1 ((s.view d v).reads disk) p.0 in
+        (g, λ shown i. subst (ShowsMore theirs (process_votes x)) (sym (p.1 shown i)) g)
 
-  gone_down : (v : FileVersion) (d : DeskId) (theirs : List Ballot) (x : Process Disk) (k l : DeskState Disk) (disk : Disk) (out : List Message) → x ≡ Running k → Stays (s.view d v) l.disk disk → DeskKept (s.view d v) d theirs k l out → NodeKept v d theirs x (Down l.votes disk) out
-  gone_down v d theirs x k l disk out e t h =
-      let f = h.fine in
-      let g = f.seat in
-      record {
-        fine = (g.justified, stays_fine (s.view d v) d theirs l.votes l.disk disk t f.disk);
-        grows = subst (λ (p : Process Disk). Within (process_votes p) l.votes) (sym e) h.grows;
-        told = h.told;
-      }
-
-  abbrev KeptAt : DeskId → List Ballot → Process Disk → Node Disk → List Message → Type 0
-  KeptAt d theirs x y out = NodeKept y.version d theirs x y.process out
-
-  broken : (d : DeskId) (theirs : List Ballot) (x : Node Disk) (k l : DeskState Disk) (answer : Answer Why) (y : Node Disk) (out : List Message) → x.process ≡ Running k → DeskKept (s.view d x.version) d theirs k l out → Breaks (s.view d x.version) x l answer y → KeptAt d theirs x.process y out
-  broken d theirs x k l answer y out e h (Fail, u, p) = subst (λ (z : Node Disk). KeptAt d theirs x.process z out) (sym p.1) (gone_on x.version d theirs x.process k l out e h)
-  broken d theirs x k l answer y out e h (Stop, u, p) = subst (λ (z : Node Disk). KeptAt d theirs x.process z out) (sym p.3) (gone_down x.version d theirs x.process k l p.0 out e p.2 h)
-
-  runs_on : (d : DeskId) (theirs : List Ballot) (x : Node Disk) (k l : DeskState Disk) (y : Node Disk) (out : List Message) → x.process ≡ Running k → DeskKept (s.view d x.version) d theirs k l out → y ≡ record x { process = Running l } → KeptAt d theirs x.process y out
-  runs_on d theirs x k l y out e h q = subst (λ (z : Node Disk). KeptAt d theirs x.process z out) (sym q) (gone_on x.version d theirs x.process k l out e h)
-
-  after_pen : (d : DeskId) (theirs : List Ballot) (x : Node Disk) (k l : DeskState Disk) (told : PenAnswer Why) (answer : Answer Why) (y : Node Disk) (out : List Message) → x.process ≡ Running k → DeskKept (s.view d x.version) d theirs k l out → AfterPen (s.view d x.version) x told l answer y → KeptAt d theirs x.process y out
-  after_pen d theirs x k l (PenAnswer.Penned settled) answer y out e h p = runs_on d theirs x k l y out e h p.1
-  after_pen d theirs x k l (PenAnswer.Refused why) answer y out e h p = runs_on d theirs x k l y out e h p.1
-  after_pen d theirs x k l PenAnswer.DeviceFailed answer y out e h p = broken d theirs x k l answer y out e h p
-
-  after_receive : (d : DeskId) (theirs : List Ballot) (x : Node Disk) (k l : DeskState Disk) (told : ReceiveAnswer) (answer : Answer Why) (y : Node Disk) (out : List Message) → x.process ≡ Running k → DeskKept (s.view d x.version) d theirs k l out → AfterReceive (s.view d x.version) x told l out answer y → KeptAt d theirs x.process y out
-  after_receive d theirs x k l ReceiveAnswer.Failed answer y out e h p = runs_on d theirs x k l y out e h p.1
-  after_receive d theirs x k l (ReceiveAnswer.Told w) answer y out e h p = runs_on d theirs x k l y out e h p.1
-  after_receive d theirs x k l ReceiveAnswer.Asked answer y out e h p = runs_on d theirs x k l y out e h p.1
-  after_receive d theirs x k l ReceiveAnswer.DeviceFailed answer y out e h p = broken d theirs x k l answer y out e h p
-
-  -- a desk that is down stays down, on a disk that is fine
-  still_down : (v : FileVersion) (d : DeskId) (theirs : List Ballot) (x : Process Disk) (disk : Disk) → ProcessFine v d theirs x → DiskFine (s.view d v) d theirs (process_votes x) disk → NodeKept v d theirs x (Down (process_votes x) disk) []
-  still_down v d theirs x disk f g = record { fine = (process_justified v d theirs x f, g); grows = same (process_votes x); told = tt }
-
-  down_at : (d : DeskId) (theirs : List Ballot) (x y : Node Disk) (disk : Disk) (due : Option Fault) → ProcessFine x.version d theirs x.process → DiskFine (s.view d x.version) d theirs (process_votes x.process) disk → y ≡ record x { process = Down (process_votes x.process) disk; due = due } → KeptAt d theirs x.process y []
-  down_at d theirs x y disk due f g e = subst (λ (z : Node Disk). KeptAt d theirs x.process z []) (sym e) (still_down x.version d theirs x.process disk f g)
-
-  -- the same, of a node that is told to be down
-  down_from : (d : DeskId) (theirs votes : List Ballot) (x y : Node Disk) (old disk : Disk) (due : Option Fault) → x.process ≡ Down votes old → ProcessFine x.version d theirs x.process → DiskFine (s.view d x.version) d theirs votes disk → y ≡ record x { process = Down votes disk; due = due } → KeptAt d theirs x.process y []
-  down_from d theirs votes x y old disk due e f g q =
-      let same_votes : process_votes x.process ≡ votes = ap process_votes e in
-      down_at d theirs x y disk due f (subst (λ (o : List Ballot). DiskFine (s.view d x.version) d theirs o disk) (sym same_votes) g) (q ∙ (λ i. record x { process = Down (sym same_votes i) disk; due = due }))
-
-  stays_down : (d : DeskId) (theirs votes : List Ballot) (x y : Node Disk) (old left : Disk) (fault : Fault) (answer : Answer Why) → x.process ≡ Down votes old → ProcessFine x.version d theirs x.process → DiskFine (s.view d x.version) d theirs votes left → StaysDownBy (s.view d x.version) x fault votes left answer y → KeptAt d theirs x.process y []
-  stays_down d theirs votes x y old left Fail answer e f g p = down_from d theirs votes x y old left None e f g p.1
-  stays_down d theirs votes x y old left Stop answer e f g p = down_from d theirs votes x y old p.0 None e f (stays_fine (s.view d x.version) d theirs votes left p.0 p.2 g) p.3
+    on_other_disk : (x : Process Disk) (disk : Disk) → Stays (s.view d v) (process_disk x) disk → ProcessFine v d theirs x → NodeKept v d theirs x (with_disk x disk) []
+    on_other_disk (Running k) disk t f = record { fine = on_disk (s.view d v) d theirs k disk t f; grows = same k.votes; told = tt }
+    on_other_disk (Down votes old) disk t f = record { fine = (f.0, stays_fine (s.view d v) d theirs votes old disk t f.1); grows = same votes; told = tt }
 
   shows_votes : (theirs votes found : List Ballot) (o : Option (List Ballot)) → o ≡ Some found → ShowsMore theirs votes o → OneMore theirs votes found
   shows_votes theirs votes found o e h = let q : h.0 ≡ found = let z = h.1 in cc in subst (OneMore theirs votes) q h.2
 
-  after_open : (d : DeskId) (theirs votes : List Ballot) (x : Node Disk) (old : Disk) (opening : Opening Disk) (answer : Answer Why) (y : Node Disk) → x.process ≡ Down votes old → ProcessFine x.version d theirs x.process → Opens (s.view d x.version) s.rules d old opening → AfterOpen (s.view d x.version) x votes opening answer y → KeptAt d theirs x.process y []
-  after_open d theirs votes x old (Opening.Opened k) answer y e f o p =
-      let g : ProcessFine x.version d theirs (Down votes old) = subst (ProcessFine x.version d theirs) e f in
-      let found = shows_votes theirs votes k.votes ((s.view d x.version).reads old) o.0 g.1.0 in
-      let j = more_justified theirs votes k.votes g.0 found in
-      let fine = opens_fine (s.view d x.version) d theirs k old k.votes j o.2 o.3 refl in
-      let w : Within (process_votes x.process) k.votes = subst (λ (q : Process Disk). Within (process_votes q) k.votes) (sym e) (more_within theirs votes k.votes found) in
-      subst (λ (z : Node Disk). KeptAt d theirs x.process z []) (sym p.1) (record { fine = fine; grows = w; told = tt })
-  after_open d theirs votes x old (Opening.NotOpened OpenRefusal.Unsound left) answer y e f o p =
-      let g : ProcessFine x.version d theirs (Down votes old) = subst (ProcessFine x.version d theirs) e f in
-      down_from d theirs votes x y old left x.due e f (synced_fine (s.view d x.version) d theirs votes old left o.1 g.1) p.1
-  after_open d theirs votes x old (Opening.NotOpened (OpenRefusal.BadVotes place) left) answer y e f o p =
-      let g : ProcessFine x.version d theirs (Down votes old) = subst (ProcessFine x.version d theirs) e f in
-      let h = o.3 in
-      down_from d theirs votes x y old left x.due e f (synced_fine (s.view d x.version) d theirs votes old left (h.0 ∙ sym o.1, λ shown i. h.1 shown i ∙ sym o.1) g.1) p.1
-  after_open d theirs votes x old (Opening.NotOpened OpenRefusal.NoMemory left) answer y e f o p = absurd p
-  after_open d theirs votes x old (Opening.NotOpened OpenRefusal.DeviceFailed left) answer y e f o p =
-      let g : ProcessFine x.version d theirs (Down votes old) = subst (ProcessFine x.version d theirs) e f in
-      stays_down d theirs votes x y old left p.0 answer e f (may_sync_fine (s.view d x.version) d theirs votes old left o g.1) p.2
+  module _ (d : DeskId) (theirs : List Ballot) (x : Node Disk) where
+    abbrev KeptAt : Node Disk → List Message → Type 0
+    KeptAt y out = NodeKept y.version d theirs x.process y.process out
 
-  loses_power : (v : FileVersion) (d : DeskId) (theirs : List Ballot) (x : Process Disk) (disk : Disk) → ProcessFine v d theirs x → LosesPower (s.view d v) (process_disk x) disk → DiskFine (s.view d v) d theirs (process_votes x) disk
-  loses_power v d theirs x disk f p =
-      let g = (fine_disk v d theirs x f).1 ((s.view d v).reads disk) p.0 in
-      (g, λ shown i. subst (ShowsMore theirs (process_votes x)) (sym (p.1 shown i)) g)
+    -- a desk has gone on so
+    module _ (k l : DeskState Disk) (out : List Message) (e : x.process ≡ Running k) (h : DeskKept (s.view d x.version) d theirs k l out) where
+      grown : Within (process_votes x.process) l.votes
+      grown = subst (λ (p : Process Disk). Within (process_votes p) l.votes) (sym e) h.grows
 
-  on_other_disk : (v : FileVersion) (d : DeskId) (theirs : List Ballot) (x : Process Disk) (disk : Disk) → Stays (s.view d v) (process_disk x) disk → ProcessFine v d theirs x → NodeKept v d theirs x (with_disk x disk) []
-  on_other_disk v d theirs (Running k) disk t f = record { fine = on_disk (s.view d v) d theirs k disk t f; grows = same k.votes; told = tt }
-  on_other_disk v d theirs (Down votes old) disk t f = record { fine = (f.0, stays_fine (s.view d v) d theirs votes old disk t f.1); grows = same votes; told = tt }
+      runs_on : (y : Node Disk) (due : Option Fault) → y ≡ record x { process = Running l; due = due } → KeptAt y out
+      runs_on y due q = subst (λ (z : Node Disk). KeptAt z out) (sym q) (record { fine = h.fine; grows = grown; told = h.told })
 
-  falls_due : (d : DeskId) (theirs : List Ballot) (x y : Node Disk) (fault : Fault) → ProcessFine x.version d theirs x.process → FallsDue (s.view d x.version) fault x y → KeptAt d theirs x.process y []
-  falls_due d theirs x y fault f p = subst (λ (z : Node Disk). KeptAt d theirs x.process z []) (sym p.2) (on_other_disk x.version d theirs x.process p.0 p.1 f)
+      broken : (answer : Answer Why) (y : Node Disk) → Breaks (s.view d x.version) x l answer y → KeptAt y out
+      broken answer y (Fail, u, p) = runs_on y None p.1
+      broken answer y (Stop, u, p) =
+          let f = h.fine in
+          let g = f.seat in
+          let disk = stays_fine (s.view d x.version) d theirs l.votes l.disk p.0 p.2 f.disk in
+          subst (λ (z : Node Disk). KeptAt z out) (sym p.3) (record { fine = (g.justified, disk); grows = grown; told = h.told })
 
-  -- an old file that may have been synced
-  old_synced : (d : DeskId) (theirs votes : List Ballot) (x : Node Disk) (old left : Disk) → x.version ≡ Old → x.process ≡ Down votes old → ProcessFine x.version d theirs x.process → MaySync (s.view d Old) old left → DiskFine (s.view d x.version) d theirs votes left
-  old_synced d theirs votes x old left q e f m =
-      let g : ProcessFine x.version d theirs (Down votes old) = subst (ProcessFine x.version d theirs) e f in
-      may_sync_fine (s.view d x.version) d theirs votes old left (subst (λ (version : FileVersion). MaySync (s.view d version) old left) (sym q) m) g.1
+      after_pen : (told : PenAnswer Why) (answer : Answer Why) (y : Node Disk) → AfterPen (s.view d x.version) x told l answer y → KeptAt y out
+      after_pen PenAnswer.DeviceFailed answer y p = broken answer y p
+      after_pen _ answer y p = runs_on y x.due p.1
 
-  -- a desk's old file is migrated
-  after_migration : (d : DeskId) (theirs votes : List Ballot) (x : Node Disk) (old : Disk) (migration : Migration Disk) (answer : Answer Why) (y : Node Disk) → x.version ≡ Old → x.process ≡ Down votes old → ProcessFine x.version d theirs x.process → Migrates (s.view d) old migration → AfterMigration (s.view d) x votes migration answer y → KeptAt d theirs x.process y []
-  after_migration d theirs votes x old (ToNew found new) answer y q e f o p =
-      let g : ProcessFine Old d theirs (Down votes old) = subst (λ (version : FileVersion). ProcessFine version d theirs (Down votes old)) q (subst (ProcessFine x.version d theirs) e f) in
-      let more = shows_votes theirs votes found ((s.view d Old).reads old) o.0 g.1.0 in
-      let w : Within (process_votes x.process) votes = subst (λ (z : Process Disk). Within (process_votes z) votes) (sym e) (same votes) in
-      let fine : DiskFine (s.view d New) d theirs votes new = ((found, o.1.0, more), λ shown i. (found, o.1.1 shown i, more)) in
-      subst (λ (z : Node Disk). KeptAt d theirs x.process z []) (sym p.1) (record { fine = (g.0, fine); grows = w; told = tt })
-  after_migration d theirs votes x old (NotSound left) answer y q e f o p = down_from d theirs votes x y old left x.due e f (old_synced d theirs votes x old left q e f o.1) p.1
-  after_migration d theirs votes x old (Failed left) answer y q e f o p =
-      stays_down d theirs votes x y old left p.0 answer e f (old_synced d theirs votes x old left q e f o) (subst (λ (version : FileVersion). StaysDownBy (s.view d version) x p.0 votes left answer y) (sym q) p.2)
+      after_receive : (told : ReceiveAnswer) (answer : Answer Why) (y : Node Disk) → AfterReceive (s.view d x.version) x told l out answer y → KeptAt y out
+      after_receive ReceiveAnswer.DeviceFailed answer y p = broken answer y p
+      after_receive _ answer y p = runs_on y x.due p.1
 
-  migrates_at : (d : DeskId) (theirs votes : List Ballot) (x : Node Disk) (old : Disk) (version : FileVersion) (answer : Answer Why) (y : Node Disk) → x.version ≡ version → x.process ≡ Down votes old → ProcessFine x.version d theirs x.process → MigratesAt (s.view d) x version votes old answer y → KeptAt d theirs x.process y []
-  migrates_at d theirs votes x old Old answer y q e f p = after_migration d theirs votes x old p.0 answer y q e f p.1 p.2
-  migrates_at d theirs votes x old New answer y q e f p = subst (λ (z : Node Disk). KeptAt d theirs x.process z []) (sym p.1) (record { fine = f; grows = same (process_votes x.process); told = tt })
+    -- a desk is down, on a disk that is fine
+    down_at : (y : Node Disk) (disk : Disk) → ProcessFine x.version d theirs x.process → DiskFine (s.view d x.version) d theirs (process_votes x.process) disk
+        → y ≡ record x { process = Down (process_votes x.process) disk; due = None } → KeptAt y []
+    down_at y disk f g e =
+        subst (λ (z : Node Disk). KeptAt z []) (sym e) (record { fine = (process_justified x.version d theirs x.process f, g); grows = same (process_votes x.process); told = tt })
+
+    falls_due : (y : Node Disk) (fault : Fault) → ProcessFine x.version d theirs x.process → FallsDue (s.view d x.version) fault x y → KeptAt y []
+    falls_due y fault f p = subst (λ (z : Node Disk). KeptAt z []) (sym p.2) (on_other_disk x.version d theirs x.process p.0 p.1 f)
+
+    -- the same, of a desk that is told to be down
+    module _ (votes : List Ballot) (old : Disk) (e : x.process ≡ Down votes old) (f : ProcessFine x.version d theirs x.process) where
+      down : ProcessFine x.version d theirs (Down votes old)
+      down = subst (ProcessFine x.version d theirs) e f
+
+      down_from : (y : Node Disk) (disk : Disk) (due : Option Fault) → DiskFine (s.view d x.version) d theirs votes disk → y ≡ record x { process = Down votes disk; due = due } → KeptAt y []
+      down_from y disk due g q =
+          subst (λ (z : Node Disk). KeptAt z []) (sym q)
+          (subst (λ (p : Process Disk). NodeKept x.version d theirs p (Down votes disk) []) (sym e) (record { fine = (down.0, g); grows = same votes; told = tt }))
+
+      stays_down : (y : Node Disk) (left : Disk) (fault : Fault) (answer : Answer Why) → DiskFine (s.view d x.version) d theirs votes left
+          → StaysDownBy (s.view d x.version) x fault votes left answer y → KeptAt y []
+      stays_down y left Fail answer g p = down_from y left None g p.1
+      stays_down y left Stop answer g p = down_from y p.0 None (stays_fine (s.view d x.version) d theirs votes left p.0 p.2 g) p.3
+
+      after_open : (opening : Opening Disk) (answer : Answer Why) (y : Node Disk) → Opens (s.view d x.version) s.rules d old opening
+          → AfterOpen (s.view d x.version) x votes opening answer y → KeptAt y []
+      after_open (Opening.Opened k) answer y o p =
+          let kept = opened_keeps (s.view d x.version) d theirs s.rules votes old k down.0 down.1.0 o in
+          let w = subst (λ (q : Process Disk). Within (process_votes q) k.votes) (sym e) kept.1 in
+          subst (λ (z : Node Disk). KeptAt z []) (sym p.1) (record { fine = kept.0; grows = w; told = tt })
+      after_open (Opening.NotOpened OpenRefusal.NoMemory left) answer y o p = absurd p
+      after_open (Opening.NotOpened OpenRefusal.DeviceFailed left) answer y o p =
+          stays_down y left p.0 answer (not_opened_keeps (s.view d x.version) d theirs s.rules votes old left OpenRefusal.DeviceFailed down.1 o) p.2
+      after_open (Opening.NotOpened why left) answer y o p = down_from y left x.due (not_opened_keeps (s.view d x.version) d theirs s.rules votes old left why down.1 o) p.1
+
+      -- an old file that may have been synced
+      old_synced : (left : Disk) → x.version ≡ Old → MaySync (s.view d Old) old left → DiskFine (s.view d x.version) d theirs votes left
+      old_synced left q m =
+          may_sync_fine (s.view d x.version) d theirs votes old left (subst (λ (version : FileVersion). MaySync (s.view d version) old left) (sym q) m) down.1
+
+      migrates_at : (version : FileVersion) (answer : Answer Why) (y : Node Disk) → x.version ≡ version → MigratesAt (s.view d) x version votes old answer y → KeptAt y []
+      migrates_at Old answer y q (ToNew found new, o, p) =
+          let g = subst (λ (version : FileVersion). ProcessFine version d theirs (Down votes old)) q down in
+          let more = shows_votes theirs votes found ((s.view d Old).reads old) o.0 g.1.0 in
+          let w = subst (λ (z : Process Disk). Within (process_votes z) votes) (sym e) (same votes) in
+          let fine : DiskFine (s.view d New) d theirs votes new = ((found, o.1.0, more), λ shown i. (found, o.1.1 shown i, more)) in
+          subst (λ (z : Node Disk). KeptAt z []) (sym p.1) (record { fine = (g.0, fine); grows = w; told = tt })
+      migrates_at Old answer y q (NotSound left, o, p) = down_from y left x.due (old_synced left q o.1) p.1
+      migrates_at Old answer y q (Failed left, o, p) =
+          stays_down y left p.0 answer (old_synced left q o) (subst (λ (version : FileVersion). StaysDownBy (s.view d version) x p.0 votes left answer y) (sym q) p.2)
+      migrates_at New answer y q p = subst (λ (z : Node Disk). KeptAt z []) (sym p.1) (record { fine = f; grows = same (process_votes x.process); told = tt })
 
   -- every event at a desk keeps it fine
-  pub at_desk_keeps : (sent : List Message) (d : DeskId) (theirs : List Ballot) (event : Event) (x : Node Disk) (answer : Answer Why) (y : Node Disk) (out : List Message) → ((n : ℕ) (m : Message) → slice_get sent n ≡ Some m → TheirMessage d theirs m) → ProcessFine x.version d theirs x.process → AtDesk s sent d event x answer y out → KeptAt d theirs x.process y out
+  pub at_desk_keeps : (sent : List Message) (d : DeskId) (theirs : List Ballot) (event : Event) (x : Node Disk) (answer : Answer Why) (y : Node Disk) (out : List Message)
+      → ((n : ℕ) (m : Message) → slice_get sent n ≡ Some m → TheirMessage d theirs m) → ProcessFine x.version d theirs x.process
+      → AtDesk s sent d event x answer y out → KeptAt d theirs x y out
   at_desk_keeps sent d theirs (events.Pen c e) x answer y out t f p =
-      after_pen d theirs x p.0 p.1 p.2 answer y out p.3 (pens_keep (s.view d x.version) d theirs s.rules p.0 p.1 e p.2 out (running x.version d theirs x.process p.0 p.3 f) p.4) p.5
+      let kept = pens_keep (s.view d x.version) d theirs s.rules p.0 p.1 e p.2 out (running x.version d theirs x.process p.0 p.3 f) p.4 in
+      after_pen d theirs x p.0 p.1 out p.3 kept p.2 answer y p.5
   at_desk_keeps sent d theirs (events.Give n u) x answer y out t f p =
-      after_receive d theirs x p.0 p.1 p.3 answer y out p.4 (receives_keep (s.view d x.version) d theirs p.0 p.1 p.2 p.3 out (running x.version d theirs x.process p.0 p.4 f) (t n p.2 p.5) p.6) p.7
+      let kept = receives_keep (s.view d x.version) d theirs p.0 p.1 p.2 p.3 out (running x.version d theirs x.process p.0 p.4 f) (t n p.2 p.5) p.6 in
+      after_receive d theirs x p.0 p.1 out p.4 kept p.3 answer y p.7
   at_desk_keeps sent d theirs (events.Tick u) x answer y out t f p =
-      subst (λ (z : Node Disk). KeptAt d theirs x.process z out) (sym p.4)
-      (subst (λ (z : Process Disk). NodeKept x.version d theirs x.process z out) (sym p.1) (gone_on x.version d theirs x.process p.0 p.0 out p.1 (ticks_keep (s.view d x.version) d theirs p.0 out (running x.version d theirs x.process p.0 p.1 f) p.2)))
+      let kept = ticks_keep (s.view d x.version) d theirs p.0 out (running x.version d theirs x.process p.0 p.1 f) p.2 in
+      runs_on d theirs x p.0 p.0 out p.1 kept y x.due (p.4 ∙ ap (λ (z : Process Disk). record x { process = z }) p.1)
   at_desk_keeps sent d theirs (events.Kill c) x answer y out t f p =
       let h = p.2 in
-      rw p.4 (down_at d theirs x y h.0 None f (stays_fine (s.view d x.version) d theirs (process_votes x.process) (process_disk x.process) h.0 h.1 (fine_disk x.version d theirs x.process f)) h.2)
-  at_desk_keeps sent d theirs (events.Power c choice) x answer y out t f p = rw p.4 (down_at d theirs x y p.0 None f (loses_power x.version d theirs x.process p.0 f p.1) p.2)
+      let disk = stays_fine (s.view d x.version) d theirs (process_votes x.process) (process_disk x.process) h.0 h.1 (fine_disk x.version d theirs x.process f) in
+      rw p.4 (down_at d theirs x y h.0 f disk h.2)
+  at_desk_keeps sent d theirs (events.Power c choice) x answer y out t f p = rw p.4 (down_at d theirs x y p.0 f (loses_power x.version d theirs x.process p.0 f p.1) p.2)
   at_desk_keeps sent d theirs (events.FailAt c n) x answer y out t f p = rw p.2 (falls_due d theirs x y Fail f p.0)
   at_desk_keeps sent d theirs (events.StopAt c n) x answer y out t f p = rw p.2 (falls_due d theirs x y Stop f p.0)
-  at_desk_keeps sent d theirs (events.Open c) x answer y out t f p = rw p.6 (after_open d theirs p.0 x p.1 p.2 answer y p.3 f p.4 p.5)
-  at_desk_keeps sent d theirs (events.Migrate c) x answer y out t f p = rw p.4 (migrates_at d theirs p.0 x p.1 x.version answer y refl p.2 f p.3)
+  at_desk_keeps sent d theirs (events.Open c) x answer y out t f p = rw p.6 (after_open d theirs x p.0 p.1 p.3 f p.2 answer y p.4 p.5)
+  at_desk_keeps sent d theirs (events.Migrate c) x answer y out t f p = rw p.4 (migrates_at d theirs x p.0 p.1 p.2 f x.version answer y refl p.3)
   at_desk_keeps sent d theirs (events.Wipe n) x answer y out t f p = absurd p
 
   pub record Fine (w : Configuration Disk) : Type 0 where
@@ -198,15 +186,6 @@ module _ {Disk Why : Type 0} (s : Setting Disk Why) where
   pub all_justified : (w : Configuration Disk) → Fine w → AllJustified (all_votes w)
   all_justified w f = (process_justified w.a.version A (all_votes w).b w.a.process f.on_a, process_justified w.b.version B (all_votes w).a w.b.process f.on_b)
 
-  mine_grows : (own theirs theirs' : List Ballot) (book : List Entry) → Within theirs theirs' → (at : _) (x : Option Entry) → MineFine theirs own book at x → MineFine theirs' own book at x
-  mine_grows own theirs theirs' book g at (Some e) h = h
-  mine_grows own theirs theirs' book g at None h = λ e. (follows (record { at = at; entry = e }) own (h e).0, (h e).1)
-    where
-      follows : (c : Ballot) (own : List Ballot) → ballots.Follows theirs c own → ballots.Follows theirs' c own
-      follows c [] q = q
-      follows c (b ∷ bs) (inl q) = inl (q.0, (q.1.0, g (record { at = b.at; entry = q.1.0 }) q.1.1, q.1.2))
-      follows c (b ∷ bs) (inr q) = inr (q.0, g b q.1)
-
   shows_grows : (theirs theirs' votes : List Ballot) → Within theirs theirs' → (o : Option (List Ballot)) → ShowsMore theirs votes o → ShowsMore theirs' votes o
   shows_grows theirs theirs' votes g o (these, e, inl h) = (these, e, inl h)
   shows_grows theirs theirs' votes g o (these, e, inr h) = (these, e, inr (h.0, h.1, justified_grows theirs theirs' g (h.0 ∷ votes) h.2))
@@ -214,45 +193,29 @@ module _ {Disk Why : Type 0} (s : Setting Disk Why) where
   process_grows : (v : FileVersion) (d : DeskId) (theirs theirs' : List Ballot) → Within theirs theirs' → (x : Process Disk) → ProcessFine v d theirs x → ProcessFine v d theirs' x
   process_grows v d theirs theirs' g (Down votes disk) f =
       (justified_grows theirs theirs' g votes f.0, (shows_grows theirs theirs' votes g ((s.view d v).reads disk) f.1.0, λ shown i. shows_grows theirs theirs' votes g shown (f.1.1 shown i)))
-  process_grows v d theirs theirs' g (Running k) f =
-      let h = f.seat in
-      let e = f.disk in
-      record {
-        seat = record {
-          desk = h.desk;
-          justified = justified_grows theirs theirs' g k.votes h.justified;
-          both = both_grow k.votes k.votes theirs theirs' (same k.votes) g 0 k.book h.both;
-          long = h.long;
-          mine = mine_grows k.votes theirs theirs' k.book g k.seat.position k.seat.mine h.mine;
-          noted = noted_grows theirs theirs' g k.seat.position k.seat.theirs h.noted;
-          waits = h.waits;
-        };
-        disk = (shows_grows theirs theirs' k.votes g ((s.view d v).reads k.disk) e.0, λ shown i. shows_grows theirs theirs' k.votes g shown (e.1 shown i));
-        safe = f.safe;
-      }
+  process_grows v d theirs theirs' g (Running k) f = desk_grows (s.view d v) d theirs theirs' k g f
 
   own_message : (v : AllVotes) (d : DeskId) (m : Message) → OwnMessage d (votes_by v d) m → MessageFine v m
   own_message v d (Message.Vote w) h = subst (λ (c : DeskId). In (ballot_of w) (votes_by v c)) (sym h.0) h.1
   own_message v d (Message.Ask q) h = tt
 
-  other_desk : (c d : DeskId) → c ≢ d → c ≡ other d
-  other_desk A A n = absurd (n refl)
-  other_desk A B n = refl
-  other_desk B A n = refl
-  other_desk B B n = absurd (n refl)
-
   pub their_message : (v : AllVotes) (d : DeskId) (m : Message) → MessageFine v m → TheirMessage d (votes_by v (other d)) m
-  their_message v d (Message.Vote w) h = λ n. subst (λ (c : DeskId). In (ballot_of w) (votes_by v c)) (other_desk w.desk d n) h
+  their_message v d (Message.Vote w) h = λ n. subst (λ (c : DeskId). In (ballot_of w) (votes_by v c)) (sym (other_of d w.desk (λ e. n (sym e)))) h
   their_message v d (Message.Ask q) h = tt
 
   pub node_fine : (w : Configuration Disk) (d : DeskId) → Fine w → ProcessFine (node w d).version d (votes_by (all_votes w) (other d)) (node w d).process
   node_fine w A f = f.on_a
   node_fine w B f = f.on_b
 
+  pub votes_at : (w : Configuration Disk) (d : DeskId) → votes_by (all_votes w) d ≡ process_votes (node w d).process
+  votes_at w A = refl
+  votes_at w B = refl
+
   rest_grows : (v w : AllVotes) → VotesGrow v w → (sent out : List Message) → Each (MessageFine v) sent → Each (MessageFine w) out → Each (MessageFine w) (sent ++ out)
   rest_grows v w g sent out h k = each_append (MessageFine w) sent out (each_other (MessageFine v) (MessageFine w) (message_grows v w g) sent h) k
 
-  node_changed : (w : Configuration Disk) (d : DeskId) (y : Node Disk) (out : List Message) → Fine w → KeptAt d (votes_by (all_votes w) (other d)) (node w d).process y out → Fine (with_node w d y out) × Grows w (with_node w d y out)
+  node_changed : (w : Configuration Disk) (d : DeskId) (y : Node Disk) (out : List Message) → Fine w → KeptAt d (votes_by (all_votes w) (other d)) (node w d) y out
+      → Fine (with_node w d y out) × Grows w (with_node w d y out)
   node_changed w A y out f k =
       let v = all_votes w in
       let new : AllVotes = record { a = process_votes y.process; b = v.b } in
@@ -278,17 +241,12 @@ module _ {Disk Why : Type 0} (s : Setting Disk Why) where
         g,
       )
 
-  at_board_keeps : (sent : List Message) (v : AllVotes) (event : Event) (k l : BoardState) (answer : Answer Why) (out : List Message) → Each (MessageFine v) sent → BoardFine v k → AtBoard s sent event k answer l out → BoardFine v l × Each (MessageFine v) out
+  at_board_keeps : (sent : List Message) (v : AllVotes) (event : Event) (k l : BoardState) (answer : Answer Why) (out : List Message) → Each (MessageFine v) sent → BoardFine v k
+      → AtBoard s sent event k answer l out → BoardFine v l × Each (MessageFine v) out
   at_board_keeps sent v (events.Give n t) k l answer out h f p = (board_receives_keeps s.rules v k l p.0 p.1 f (item_at (MessageFine v) sent n p.0 p.2 h) p.3, rw p.5 tt)
   at_board_keeps sent v (events.Tick t) k l answer out h f p = (subst (BoardFine v) (sym p.2) f, board_asks v k out p.0)
   at_board_keeps sent v (events.Wipe n) k l answer out h f p = (subst (BoardFine v) (sym p.0) (fresh_fine v), rw p.2 tt)
-  at_board_keeps sent v (events.Pen d e) k l answer out h f p = absurd p
-  at_board_keeps sent v (events.Kill d) k l answer out h f p = absurd p
-  at_board_keeps sent v (events.Power d choice) k l answer out h f p = absurd p
-  at_board_keeps sent v (events.FailAt d n) k l answer out h f p = absurd p
-  at_board_keeps sent v (events.StopAt d n) k l answer out h f p = absurd p
-  at_board_keeps sent v (events.Open d) k l answer out h f p = absurd p
-  at_board_keeps sent v (events.Migrate d) k l answer out h f p = absurd p
+  at_board_keeps sent v _ k l answer out h f p = absurd p
 
   pub step_at_keeps : (w : Configuration Disk) (event : Event) (t : Station) (answer : Answer Why) (new : Configuration Disk) → Fine w → StepAt s w event t answer new → Fine new × Grows w new
   step_at_keeps w event (stations.Desk d) answer new f p =
@@ -321,7 +279,8 @@ module _ {Disk Why : Type 0} (s : Setting Disk Why) where
   begins_at version d x p =
       let c = p.2 in
       let none : p.0.votes ≡ [] = ap (λ (k : DeskState Disk). k.votes) c.0 in
-      let fine : DeskFine (s.view d version) d [] p.0 = subst (DeskFine (s.view d version) d []) (sym c.0) (record { seat = opened_fine d [] [] tt p.0.disk; disk = held (s.view d version) d [] [] p.0.disk c.1; safe = λ _. c.1 }) in
+      let fine : DeskFine (s.view d version) d [] p.0 = subst (DeskFine (s.view d version) d []) (sym c.0)
+      (record { seat = opened_fine d [] [] tt p.0.disk; disk = held (s.view d version) d [] [] p.0.disk c.1; safe = λ _. c.1 }) in
       subst (λ (z : Node Disk). ProcessFine z.version d [] z.process × (process_votes z.process ≡ [])) (sym p.1) (fine, none)
 
   pub begins_fine : (version : FileVersion) (n : ℕ) (w : Configuration Disk) → Begins s version n w → Fine w

@@ -1,5 +1,5 @@
 -- Each book that is shown has a score by the Laws.
-use Rattle.std.proofs.Common.{◌≡◌, ℕ, ◌+◌, ◌≤◌, Bool, true, false, cond, Some, None, List, [], ◌∷◌, ◌++◌, length, refl, sym, ◌∙◌, subst, inl, inr, ⊎_elim, arith}
+use Rattle.std.proofs.Common.{◌≡◌, ℕ, ◌+◌, ◌≤◌, Bool, true, false, cond, Some, None, List, [], ◌∷◌, ◌++◌, length, refl, sym, ◌∙◌, subst, inl, inr, arith}
 use Rattle.std.specs.Prelude.{All, not, slice_get}
 use Rattle.std.proofs.lemmas.List.{append-nil, append_assoc}
 use Rattle.std.proofs.lemmas.List.Elements.{All-head, All-pop, All-tail}
@@ -24,10 +24,9 @@ use Rattle.corrections.specs.inner.Scoring.{AreInRange, history_after, with_entr
 use Rattle.corrections.proofs.BookGrowthLemmas.{in_range-items, items-push, kept_at_start, kept-push}
 use Rattle.corrections.proofs.LegalLemmas.{clean_items_of-push, history_of-clean_items, is_named, legal-none, legal_now, one_more}
 use Rattle.agree_core.specs.declared.messages.DeskId.TheVariants.{A}
-use Rattle.agree_core.specs.Agreed.{AllBoth, BeginsWith}
+use Rattle.agree_core.specs.Agreed.{AllBoth}
 use Rattle.agree_core.specs.Ballots.{Ballot, In, VotesGrow, ballot_at}
 use Rattle.agree_core.proofs.Both.{both_at, both_settled, same}
-use Rattle.agree_core.proofs.Settling.{one_book}
 use Rattle.headline.specs.declared.version.FileVersion.{FileVersion}
 use Rattle.headline.specs.Match.{Setting}
 use Rattle.headline.specs.Configurations.{Configuration, all_votes}
@@ -37,7 +36,7 @@ use Rattle.headline.specs.Headline.{HasRanges, ShowScores}
 use Rattle.headline.proofs.Keeping.{Fine, all_justified, begins_fine, run_keeps}
 use Rattle.headline.proofs.PennedVotes.{BothHold, all_penned}
 use Rattle.headline.proofs.Shown.{shown_both}
-use Rattle.headline.proofs.Sound.{Lawful, justified_of, lawful_run, lawful_votes, same_length, taken_at}
+use Rattle.headline.proofs.Sound.{Lawful, justified_of, lawful_run, lawful_votes, one_of_length, taken_at}
 
 -- ---- a legal history has a standing
 
@@ -78,11 +77,8 @@ stands n h one two legal in_range = record {
 
 -- ---- the history of a legal book of entries is in range
 
-range_one : (is : Bool) (h : History) (x : Placed) → IsInRange h → IsPlain x.item → IsInRange (history_after h (cond (not is) (x ∷ []) []))
-range_one true h x r p = r
-range_one false h x r p = (r, p)
-
-range_more : (is : Bool) (h : History) (x : Placed) (xs : List Placed) → ((g : History) → IsInRange g → IsInRange (history_after g (kept xs))) → IsInRange h → IsPlain x.item → IsInRange (history_after h (cond (not is) (x ∷ kept xs) (kept xs)))
+range_more : (is : Bool) (h : History) (x : Placed) (xs : List Placed) → ((g : History) → IsInRange g → IsInRange (history_after g (kept xs))) → IsInRange h → IsPlain x.item
+    → IsInRange (history_after h (cond (not is) (x ∷ kept xs) (kept xs)))
 range_more true h x xs rest r p = rest h r
 range_more false h x xs rest r p = rest (x.item ∷ h) (r, p)
 
@@ -133,7 +129,8 @@ RulesAreLaws s innings = (book : List Entry) (e : Entry) → s.rules book e ≡ 
 
 module _ {Disk Why : Type 0} (s : Setting Disk Why) (innings : ℕ) (laws : RulesAreLaws s innings) where
   -- an entry that both voted for is taken after those before it
-  next_taken : (v : Configuration Disk) → Fine s v → BothHold s (λ d. Lawful s.rules) v → (xs : List Entry) (e : Entry) (es : List Entry) → AllBoth (all_votes v).a (all_votes v).b 0 (xs ++ e ∷ es) → book_refusal innings xs e ≡ None
+  next_taken : (v : Configuration Disk) → Fine s v → BothHold s (λ d. Lawful s.rules) v → (xs : List Entry) (e : Entry) (es : List Entry) → AllBoth (all_votes v).a (all_votes v).b 0 (xs ++ e ∷ es)
+      → book_refusal innings xs e ≡ None
   next_taken v f l xs e es both =
       let votes = all_votes v in
       let at = both_at votes.a votes.b 0 (xs ++ e ∷ es) (length xs) e both (get_middle xs e es) in
@@ -144,14 +141,12 @@ module _ {Disk Why : Type 0} (s : Setting Disk Why) (innings : ℕ) (laws : Rule
       let here_is : 0 + length xs ≡ length xs = omega arith in
       let size : length g.0 ≡ length xs = g.2 ∙ here_is in
       let grow : VotesGrow votes votes = (same votes.a, same votes.b) in
-      let equal : g.0 ≡ xs = ⊎_elim
-      (λ (p : BeginsWith xs g.0). same_length g.0 xs p size)
-      (λ (p : BeginsWith g.0 xs). sym (same_length xs g.0 p (sym size)))
-      (one_book votes j votes votes g.0 xs grow grow here there) in
+      let equal = one_of_length votes votes votes j g.0 xs grow grow here there size in
       laws xs e (subst (λ (o : List Entry). s.rules o e ≡ None) equal g.3)
 
   module _ (one : 1 ≤ innings) (two : innings ≤ 2) where
-    rest_scored : (v : Configuration Disk) → Fine s v → BothHold s (λ d. Lawful s.rules) v → ((b : Ballot) → In b (all_votes v).a → IsEntry b.entry) → (xs es : List Entry) → HasScore innings one two xs → AllBoth (all_votes v).a (all_votes v).b 0 (xs ++ es) → HasScore innings one two (xs ++ es)
+    rest_scored : (v : Configuration Disk) → Fine s v → BothHold s (λ d. Lawful s.rules) v → ((b : Ballot) → In b (all_votes v).a → IsEntry b.entry) → (xs es : List Entry)
+        → HasScore innings one two xs → AllBoth (all_votes v).a (all_votes v).b 0 (xs ++ es) → HasScore innings one two (xs ++ es)
     rest_scored v f l entries xs [] k both = subst (HasScore innings one two) (sym (append-nil xs)) k
     rest_scored v f l entries xs (e ∷ es) k both =
         let votes = all_votes v in
@@ -170,7 +165,8 @@ module _ {Disk Why : Type 0} (s : Setting Disk Why) (innings : ℕ) (laws : Rule
         penned_entry w ms b front.0 h
 
     -- where what was penned has its numbers in their ranges
-    pub shown_scored : (version : FileVersion) (n : ℕ) (w : Configuration Disk) (ms : List (Moment Disk Why)) → Begins s version n w → Run s w ms → ((b : Ballot) → WasPenned w ms A b → IsEntry b.entry) → ShowScores innings (last_of w ms)
+    pub shown_scored : (version : FileVersion) (n : ℕ) (w : Configuration Disk) (ms : List (Moment Disk Why)) → Begins s version n w → Run s w ms
+        → ((b : Ballot) → WasPenned w ms A b → IsEntry b.entry) → ShowScores innings (last_of w ms)
     shown_scored version n w ms e r entries t book shows =
         let v = last_of w ms in
         let f = run_keeps s w ms (begins_fine s version n w e) r in
@@ -178,11 +174,13 @@ module _ {Disk Why : Type 0} (s : Setting Disk Why) (innings : ℕ) (laws : Rule
         let k = rest_scored v f (lawful_run s version n w ms e r) (λ b i. entries b (penned A b i)) [] book (none_scored innings one two) (shown_both s v t book f shows) in
         (k.0, (book, shows, refl, record { legal = k.1.legal; score = k.1.scored }))
 
-    each_scored : (version : FileVersion) (n : ℕ) (w : Configuration Disk) (ms : List (Moment Disk Why)) → Begins s version n w → Run s w ms → All IsEvent (events_of ms) → AtEachMoment w ms (ShowScores innings)
+    each_scored : (version : FileVersion) (n : ℕ) (w : Configuration Disk) (ms : List (Moment Disk Why)) → Begins s version n w → Run s w ms → All IsEvent (events_of ms)
+        → AtEachMoment w ms (ShowScores innings)
     each_scored version n w [] e r all = shown_scored version n w [] e r (λ b p. absurd p)
     each_scored version n w (m ∷ ms) e r all =
         let front = All-pop IsEvent (events_of (m ∷ ms)) (events_of ms) (Some m.event) refl all in
         (shown_scored version n w (m ∷ ms) e r (λ b p. penned_entry w (m ∷ ms) b all p), each_scored version n w ms e r.0 front.0)
 
-  pub scored : (version : FileVersion) (n : ℕ) (w : Configuration Disk) (ms : List (Moment Disk Why)) → Begins s version n w → Run s w ms → HasRanges innings ms → AtEachMoment w ms (ShowScores innings)
+  pub scored : (version : FileVersion) (n : ℕ) (w : Configuration Disk) (ms : List (Moment Disk Why)) → Begins s version n w → Run s w ms → HasRanges innings ms
+      → AtEachMoment w ms (ShowScores innings)
   scored version n w ms e r ranges = each_scored ranges.0 ranges.1 version n w ms e r ranges.2

@@ -30,10 +30,13 @@ fresh_kept (suc boards) (suc (suc n)) c = fresh_kept boards (suc n) c
 
 module _ {Disk Why : Type 0} (s : Setting Disk Why) where
   desk_elsewhere : (w new : Configuration Disk) (d : DeskId) (y : Node Disk) (out : List Message) (t : Station) → new ≡ with_node w d y out → stations.Desk d ≢ t → SameAt s w new t
-  desk_elsewhere w new d y out (stations.Desk c) e n = same_process s w new c (ap (λ (z : Configuration Disk). (node z c).process) e ∙ ap (λ (z : Node Disk). z.process) (node_other s w d c y out (λ q. n (ap stations.Desk q))))
-  desk_elsewhere w new d y out (stations.Board i) e n = same_board s w new i (ap (λ (z : Configuration Disk). board_at z.boards i) e ∙ ap (λ (z : List BoardState). board_at z i) (boards_stay s w d y out))
+  desk_elsewhere w new d y out (stations.Desk c) e n =
+      same_process s w new c (ap (λ (z : Configuration Disk). (node z c).process) e ∙ ap (λ (z : Node Disk). z.process) (node_other s w d c y out (λ q. n (ap stations.Desk q))))
+  desk_elsewhere w new d y out (stations.Board i) e n =
+      same_board s w new i (ap (λ (z : Configuration Disk). board_at z.boards i) e ∙ ap (λ (z : List BoardState). board_at z i) (boards_stay s w d y out))
 
-  board_elsewhere : (w new : Configuration Disk) (n : ℕ) (l : BoardState) (out : List Message) (t : Station) → new ≡ record w { boards = with_board w.boards n l; sent = w.sent ++ out } → stations.Board n ≢ t → SameAt s w new t
+  board_elsewhere : (w new : Configuration Disk) (n : ℕ) (l : BoardState) (out : List Message) (t : Station) → new ≡ record w { boards = with_board w.boards n l; sent = w.sent ++ out }
+      → stations.Board n ≢ t → SameAt s w new t
   board_elsewhere w new n l out (stations.Desk A) e h = same_process s w new A (ap (λ (z : Configuration Disk). z.a.process) e)
   board_elsewhere w new n l out (stations.Desk B) e h = same_process s w new B (ap (λ (z : Configuration Disk). z.b.process) e)
   board_elsewhere w new n l out (stations.Board i) e h = same_board s w new i (ap (λ (z : Configuration Disk). board_at z.boards i) e ∙ board_other w.boards n i l (λ q. h (ap stations.Board q)))
@@ -41,12 +44,14 @@ module _ {Disk Why : Type 0} (s : Setting Disk Why) where
   step_at_leaves : (w : Configuration Disk) (m : Moment Disk Why) (t u : Station) → Fine s w → station_of m.event ≡ u → StepAt s w m.event u m.answer m.after → Leaves s w m t
   step_at_leaves w m t (stations.Desk d) f h p =
       ⊎_elim
-      (λ (e : stations.Desk d ≡ t). subst (λ (z : Station). Leaves s w m z) e (desk_leaves s w d m.event m.answer m.after p.0 p.1 f h (there s w m.after d p.0 p.1 p.3) p.2))
+      (λ (e : stations.Desk d ≡ t). subst (λ (z : Station). Leaves s w m z) e (desk_leaves s w m d m.event p.0 p.1 f refl h (there s w m.after d p.0 p.1 p.3) p.2))
       (λ (n : stations.Desk d ≢ t). elsewhere s w m t (λ e. n (sym h ∙ e)) (desk_elsewhere w m.after d p.0 p.1 t p.3 n))
       (same_station (stations.Desk d) t)
   step_at_leaves w m t (stations.Board n) f h p =
       ⊎_elim
-      (λ (e : stations.Board n ≡ t). subst (λ (z : Station). Leaves s w m z) e (board_leaves s w n m.event m.answer m.after p.0 p.1 p.2 h p.3 (ap (λ (z : Configuration Disk). board_at z.boards n) p.5 ∙ board_put w.boards n p.0 p.1 p.3) p.4))
+      (λ (e : stations.Board n ≡ t).
+      let put = ap (λ (z : Configuration Disk). board_at z.boards n) p.5 ∙ board_put w.boards n p.0 p.1 p.3 in
+      subst (λ (z : Station). Leaves s w m z) e (board_leaves s w m n m.event p.0 p.1 p.2 refl h p.3 put p.4))
       (λ (i : stations.Board n ≢ t). elsewhere s w m t (λ e. i (sym h ∙ e)) (board_elsewhere w m.after n p.1 p.2 t p.5 i))
       (same_station (stations.Board n) t)
 

@@ -3,19 +3,18 @@ use Rattle.std.proofs.Common.{◌≡◌, ◌≢◌, ◌⊎◌, ◌↔◌, ℕ, O
 use Rattle.std.specs.Prelude.{slice_get}
 use Rattle.notation.specs.declared.entry.Entry.{Entry}
 use Rattle.agree_core.specs.declared.messages.DeskId.{DeskId}
-use Rattle.agree_core.specs.declared.messages.DeskId.TheVariants.{A, B}
 use Rattle.agree_core.specs.declared.messages.Message.{Message}
 use Rattle.agree_core.specs.declared.messages.Vote.{Vote}
 use Rattle.agree_core.specs.declared.position.Position.{Position}
 use Rattle.agree_core.specs.Ballots.{Ballot, vote_of}
 use Rattle.agree_core.specs.Readers.{other}
 use Rattle.headline.specs.declared.event.Event.{Event}
-use Rattle.headline.specs.declared.event.Event.TheVariants as events
 use Rattle.headline.specs.declared.event.Station.{Station}
 use Rattle.headline.specs.declared.event.Station.TheVariants as stations
 use Rattle.headline.specs.Match.{Setting}
 use Rattle.headline.specs.Configurations.{Configuration}
 use Rattle.headline.specs.Runs.{Moment, last_of}
+use Rattle.headline.proofs.Heeding.{same_some, some_none, which}
 use Rattle.headline.specs.Noted.{Brings, HasNoted, IsBrought, IsFound, beginning_of, kept_at, position_at}
 
 module _ {Disk Why : Type 0} (s : Setting Disk Why) where
@@ -44,7 +43,8 @@ module _ {Disk Why : Type 0} (s : Setting Disk Why) where
   Moves w m t = ((at : Position) → position_at w t ≡ Some at → position_at m.after t ≡ Some at → ⊥) × ((c : DeskId) → kept_at m.after t c ≡ None) × (m.event ≢ beginning_of t)
 
   abbrev pub BeginsWithFound : Configuration Disk → Moment Disk Why → Station → Type 0
-  BeginsWithFound w m t = (m.event ≡ beginning_of t) × ((c : DeskId) (b : Ballot) → position_at m.after t ≡ Some b.at → (kept_at m.after t c ≡ Some b.entry) ↔ ((t ≡ stations.Desk c) × IsFound s w m c b))
+  BeginsWithFound w m t =
+      (m.event ≡ beginning_of t) × ((c : DeskId) (b : Ballot) → position_at m.after t ≡ Some b.at → (kept_at m.after t c ≡ Some b.entry) ↔ ((t ≡ stations.Desk c) × IsFound s w m c b))
 
   pub data Leaves (w : Configuration Disk) (m : Moment Disk Why) (t : Station) : Type 0 where
     Gone : position_at m.after t ≡ None → Leaves w m t
@@ -53,30 +53,18 @@ module _ {Disk Why : Type 0} (s : Setting Disk Why) where
     Same : Stays w m t → Leaves w m t
     More : (c : DeskId) (b : Ballot) → Adds w m t c b → Leaves w m t
 
-  one_vote_sent : (o : Option Message) (c d : DeskId) (a b : Ballot) → o ≡ Some (Message.Vote (vote_of c a)) → o ≡ Some (Message.Vote (vote_of d b)) → (c ≡ d) × (a.entry ≡ b.entry)
-  one_vote_sent o c d a b p q =
-      let e : vote_of c a ≡ vote_of d b = cc in
-      (ap (λ (v : Vote). v.desk) e, ap (λ (v : Vote). v.entry) e)
-
-  same_give : (m n : ℕ) (t u : Station) → events.Give m t ≡ events.Give n u → m ≡ n
-  same_give m n t u e = cc
-
-  same_pen : (c d : DeskId) (e f : Entry) → events.Pen c e ≡ events.Pen d f → (c ≡ d) × (e ≡ f)
-  same_pen c d e f q = (cc, cc)
-
-  give_no_pen : (n : ℕ) (t : Station) (d : DeskId) (e : Entry) → events.Give n t ≡ events.Pen d e → ⊥
-  give_no_pen n t d e q = cc
-
   -- an event brings one vote
   pub brings_once : (w : Configuration Disk) (event : Event) (t : Station) (c d : DeskId) (a b : Ballot) → Brings w event t c a → Brings w event t d b → (c ≡ d) × (a.entry ≡ b.entry)
   brings_once w event t c d a b (inl p) (inl q) =
       let g = p.1 in
       let h = q.1 in
-      let n : h.0 ≡ g.0 = same_give h.0 g.0 t t (sym h.1 ∙ g.1) in
-      one_vote_sent (slice_get w.sent g.0) c d a b g.2 (subst (λ (n : ℕ). slice_get w.sent n ≡ Some (Message.Vote (vote_of d b))) n h.2)
-  brings_once w event t c d a b (inl p) (inr q) = let g = p.1 in absurd (give_no_pen g.0 t d b.entry (sym g.1 ∙ q.1))
-  brings_once w event t c d a b (inr p) (inl q) = let g = q.1 in absurd (give_no_pen g.0 t c a.entry (sym g.1 ∙ p.1))
-  brings_once w event t c d a b (inr p) (inr q) = same_pen c d a.entry b.entry (sym p.1 ∙ q.1)
+      let n : h.0 ≡ g.0 = let x = g.1 in let y = h.1 in cc in
+      let there : slice_get w.sent g.0 ≡ Some (Message.Vote (vote_of d b)) = subst (λ (n : ℕ). slice_get w.sent n ≡ Some (Message.Vote (vote_of d b))) n h.2 in
+      let e : vote_of c a ≡ vote_of d b = let x = g.2 in cc in
+      (ap (λ (v : Vote). v.desk) e, ap (λ (v : Vote). v.entry) e)
+  brings_once w event t c d a b (inl p) (inr q) = let x = p.1.1 in let y = q.1 in absurd (cc)
+  brings_once w event t c d a b (inr p) (inl q) = let x = q.1.1 in let y = p.1 in absurd (cc)
+  brings_once w event t c d a b (inr p) (inr q) = let x = p.1 in let y = q.1 in (cc, cc)
 
   begins_no_brings : (w : Configuration Disk) (event : Event) (t : Station) (c : DeskId) (b : Ballot) → event ≡ beginning_of t → Brings w event t c b → ⊥
   begins_no_brings w event (stations.Desk d) c b e (inl p) = let g = p.1.1 in absurd (cc)
@@ -87,30 +75,24 @@ module _ {Disk Why : Type 0} (s : Setting Disk Why) where
   found_begins : (w : Configuration Disk) (m : Moment Disk Why) (t : Station) (c : DeskId) (b : Ballot) → t ≡ stations.Desk c → IsFound s w m c b → m.event ≡ beginning_of t
   found_begins w m t c b e f = f.0 ∙ sym (ap beginning_of e)
 
-  not_both : {X : Type 0} (o : Option X) (x : X) → o ≡ None → o ≡ Some x → ⊥
-  not_both o x p q = cc
-
-  which : (c d : DeskId) → (d ≡ c) ⊎ (d ≡ other c)
-  which A A = inl refl
-  which A B = inr refl
-  which B A = inr refl
-  which B B = inl refl
-
   -- what is noted is kept, at this station
   abbrev pub KeepsAt : Configuration Disk → List (Moment Disk Why) → Station → Type 0
   KeepsAt w ms t = (c : DeskId) (b : Ballot) → HasNoted s w ms t c b ↔ KeepsVote (last_of w ms) t c b
 
-  begun_noted : (w : Configuration Disk) (m : Moment Disk Why) (ms : List (Moment Disk Why)) (t : Station) → BeginsWithFound (last_of w ms) m t → (c : DeskId) (b : Ballot) → HasNoted s w (m ∷ ms) t c b → KeepsVote m.after t c b
+  begun_noted : (w : Configuration Disk) (m : Moment Disk Why) (ms : List (Moment Disk Why)) (t : Station) → BeginsWithFound (last_of w ms) m t → (c : DeskId) (b : Ballot)
+      → HasNoted s w (m ∷ ms) t c b → KeepsVote m.after t c b
   begun_noted w m ms t g c b (at, inl p) = absurd (begins_no_brings (last_of w ms) m.event t c b g.0 p.0.1)
   begun_noted w m ms t g c b (at, inr (inl p)) = (at, (g.1 c b at).1 p)
   begun_noted w m ms t g c b (at, inr (inr p)) = absurd (p.0 g.0)
 
-  moved_noted : (w : Configuration Disk) (m : Moment Disk Why) (ms : List (Moment Disk Why)) (t : Station) → Moves (last_of w ms) m t → KeepsAt w ms t → (c : DeskId) (b : Ballot) → HasNoted s w (m ∷ ms) t c b → ⊥
+  moved_noted : (w : Configuration Disk) (m : Moment Disk Why) (ms : List (Moment Disk Why)) (t : Station) → Moves (last_of w ms) m t → KeepsAt w ms t → (c : DeskId) (b : Ballot)
+      → HasNoted s w (m ∷ ms) t c b → ⊥
   moved_noted w m ms t g h c b (at, inl p) = g.0 b.at p.0.0 at
   moved_noted w m ms t g h c b (at, inr (inl p)) = g.2 (found_begins (last_of w ms) m t c b p.0 p.1)
   moved_noted w m ms t g h c b (at, inr (inr p)) = g.0 b.at ((h c b).0 p.1).0 at
 
-  same_noted : (w : Configuration Disk) (m : Moment Disk Why) (ms : List (Moment Disk Why)) (t : Station) → Stays (last_of w ms) m t → KeepsAt w ms t → (c : DeskId) (b : Ballot) → HasNoted s w (m ∷ ms) t c b → KeepsVote m.after t c b
+  same_noted : (w : Configuration Disk) (m : Moment Disk Why) (ms : List (Moment Disk Why)) (t : Station) → Stays (last_of w ms) m t → KeepsAt w ms t → (c : DeskId) (b : Ballot)
+      → HasNoted s w (m ∷ ms) t c b → KeepsVote m.after t c b
   same_noted w m ms t g h c b (at, inl p) = absurd (lacking (kept_at (last_of w ms) t c) refl)
     where
       lacking : (o : Option Entry) → kept_at (last_of w ms) t c ≡ o → ⊥
@@ -119,7 +101,8 @@ module _ {Disk Why : Type 0} (s : Setting Disk Why) where
   same_noted w m ms t g h c b (at, inr (inl p)) = absurd (g.on (found_begins (last_of w ms) m t c b p.0 p.1))
   same_noted w m ms t g h c b (at, inr (inr p)) = (at, g.keeps c ∙ ((h c b).0 p.1).1)
 
-  more_noted : (w : Configuration Disk) (m : Moment Disk Why) (ms : List (Moment Disk Why)) (t : Station) (d : DeskId) (a : Ballot) → Adds (last_of w ms) m t d a → KeepsAt w ms t → (c : DeskId) (b : Ballot) → HasNoted s w (m ∷ ms) t c b → KeepsVote m.after t c b
+  more_noted : (w : Configuration Disk) (m : Moment Disk Why) (ms : List (Moment Disk Why)) (t : Station) (d : DeskId) (a : Ballot) → Adds (last_of w ms) m t d a → KeepsAt w ms t
+      → (c : DeskId) (b : Ballot) → HasNoted s w (m ∷ ms) t c b → KeepsVote m.after t c b
   more_noted w m ms t d a g h c b (at, inl p) =
       let once = brings_once (last_of w ms) m.event t c d b a p.0.1 g.brought.1 in
       (at, ap (λ (c : DeskId). kept_at m.after t c) once.0 ∙ g.has ∙ ap Some (sym once.1))
@@ -130,31 +113,30 @@ module _ {Disk Why : Type 0} (s : Setting Disk Why) where
       before = ((h c b).0 p.1).1
 
       either : (c ≡ d) ⊎ (c ≡ other d) → kept_at m.after t c ≡ Some b.entry
-      either (inl e) = absurd (not_both (kept_at (last_of w ms) t c) b.entry (ap (λ (c : DeskId). kept_at (last_of w ms) t c) e ∙ g.lacked) before)
+      either (inl e) = absurd (some_none (kept_at (last_of w ms) t c) b.entry (ap (λ (c : DeskId). kept_at (last_of w ms) t c) e ∙ g.lacked) before)
       either (inr e) = ap (λ (c : DeskId). kept_at m.after t c) e ∙ g.rest ∙ sym (ap (λ (c : DeskId). kept_at (last_of w ms) t c) e) ∙ before
 
-  same_some : {X : Type 0} (o : Option X) (x y : X) → o ≡ Some x → o ≡ Some y → x ≡ y
-  same_some o x y p q = cc
-
-  more_kept : (w : Configuration Disk) (m : Moment Disk Why) (ms : List (Moment Disk Why)) (t : Station) (d : DeskId) (a : Ballot) → Adds (last_of w ms) m t d a → KeepsAt w ms t → (c : DeskId) (b : Ballot) → KeepsVote m.after t c b → HasNoted s w (m ∷ ms) t c b
+  more_kept : (w : Configuration Disk) (m : Moment Disk Why) (ms : List (Moment Disk Why)) (t : Station) (d : DeskId) (a : Ballot) → Adds (last_of w ms) m t d a → KeepsAt w ms t
+      → (c : DeskId) (b : Ballot) → KeepsVote m.after t c b → HasNoted s w (m ∷ ms) t c b
   more_kept w m ms t d a g h c b k = (k.0, either (which d c))
     where
       at : a.at ≡ b.at
       at = same_some (position_at m.after t) a.at b.at g.at k.0
 
-      either : (c ≡ d) ⊎ (c ≡ other d) → (IsBrought (last_of w ms) m t c b × ((e : Entry) → HasNoted s w ms t c (record { at = b.at; entry = e }) → ⊥)) ⊎ (((t ≡ stations.Desk c) × IsFound s (last_of w ms) m c b) ⊎ ((m.event ≢ beginning_of t) × HasNoted s w ms t c b))
+      either : (c ≡ d) ⊎ (c ≡ other d) → (IsBrought (last_of w ms) m t c b × ((e : Entry) → HasNoted s w ms t c (record { at = b.at; entry = e }) → ⊥))
+          ⊎ (((t ≡ stations.Desk c) × IsFound s (last_of w ms) m c b) ⊎ ((m.event ≢ beginning_of t) × HasNoted s w ms t c b))
       either (inl e) =
           let entry : a.entry ≡ b.entry = same_some (kept_at m.after t d) a.entry b.entry g.has (sym (ap (λ (c : DeskId). kept_at m.after t c) e) ∙ k.1) in
           let same : a ≡ b = λ i. record { at = at i; entry = entry i } in
           inl (
             subst (λ (z : DeskId × Ballot). IsBrought (last_of w ms) m t z.0 z.1) (λ i. (sym e i, same i)) g.brought,
-            λ f n. not_both (kept_at (last_of w ms) t c) f (ap (λ (c : DeskId). kept_at (last_of w ms) t c) e ∙ g.lacked) ((h c (record { at = b.at; entry = f })).0 n).1,
+            λ f n. some_none (kept_at (last_of w ms) t c) f (ap (λ (c : DeskId). kept_at (last_of w ms) t c) e ∙ g.lacked) ((h c (record { at = b.at; entry = f })).0 n).1,
           )
       either (inr e) = inr (inr (g.on, (h c b).1 (g.brought.0 ∙ ap Some at, ap (λ (c : DeskId). kept_at (last_of w ms) t c) e ∙ sym g.rest ∙ sym (ap (λ (c : DeskId). kept_at m.after t c) e) ∙ k.1)))
 
   pub follows : (w : Configuration Disk) (m : Moment Disk Why) (ms : List (Moment Disk Why)) (t : Station) → Leaves (last_of w ms) m t → KeepsAt w ms t → KeepsAt w (m ∷ ms) t
-  follows w m ms t (Gone g) h c b = (λ n. absurd (not_both (position_at m.after t) b.at g n.0), λ k. absurd (not_both (position_at m.after t) b.at g k.0))
+  follows w m ms t (Gone g) h c b = (λ n. absurd (some_none (position_at m.after t) b.at g n.0), λ k. absurd (some_none (position_at m.after t) b.at g k.0))
   follows w m ms t (Begun g) h c b = (λ n. begun_noted w m ms t g c b n, λ k. (k.0, inr (inl ((g.1 c b k.0).0 k.1))))
-  follows w m ms t (Moved g) h c b = (λ n. absurd (moved_noted w m ms t g h c b n), λ k. absurd (not_both (kept_at m.after t c) b.entry (g.1 c) k.1))
+  follows w m ms t (Moved g) h c b = (λ n. absurd (moved_noted w m ms t g h c b n), λ k. absurd (some_none (kept_at m.after t c) b.entry (g.1 c) k.1))
   follows w m ms t (Same g) h c b = (λ n. same_noted w m ms t g h c b n, λ k. (k.0, inr (inr (g.on, (h c b).1 (sym g.at ∙ k.0, sym (g.keeps c) ∙ k.1)))))
   follows w m ms t (More d a g) h c b = (λ n. more_noted w m ms t d a g h c b n, λ k. more_kept w m ms t d a g h c b k)

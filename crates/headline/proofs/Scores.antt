@@ -1,12 +1,10 @@
 -- Books of one length have one score.
-use Rattle.std.proofs.Common.{◌≡◌, ℕ, List, length, sym, ◌∙◌, subst, ⊎_elim}
+use Rattle.std.proofs.Common.{◌≡◌, ℕ, List, length, sym, ◌∙◌, subst}
 use Rattle.notation.specs.declared.entry.Entry.{Entry}
 use Rattle.ball_laws.specs.History.{History}
 use Rattle.match_laws.specs.declared.standing.Standing.{Standing}
 use Rattle.match_laws.specs.Stands.{StandsFor}
 use Rattle.corrections.specs.CleanList.{history_of}
-use Rattle.agree_core.specs.Agreed.{BeginsWith}
-use Rattle.agree_core.proofs.Settling.{one_book}
 use Rattle.headline.specs.declared.version.FileVersion.{FileVersion}
 use Rattle.headline.specs.Match.{Setting}
 use Rattle.headline.specs.Configurations.{Configuration, all_votes}
@@ -14,7 +12,7 @@ use Rattle.headline.specs.Runs.{Begins, Moment, Run, last_of}
 use Rattle.headline.specs.Headline.{HaveOneScore, ShowsScore}
 use Rattle.headline.proofs.Keeping.{all_justified, begins_fine, run_keeps}
 use Rattle.headline.proofs.Shown.{moment, shown_settled}
-use Rattle.headline.proofs.Sound.{same_length}
+use Rattle.headline.proofs.Sound.{one_of_length}
 
 -- a history has one standing
 pub one_standing : (m k : Standing) (n : ℕ) (h : History) → StandsFor m n h → StandsFor k n h → m ≡ k
@@ -33,7 +31,8 @@ one_standing m k n h p q = λ i. record {
   bowling = (p.bowling ∙ sym q.bowling) i;
 }
 
-pub one_score : {Disk Why : Type 0} (s : Setting Disk Why) (innings : ℕ) (version : FileVersion) (boards : ℕ) (w : Configuration Disk) (ms : List (Moment Disk Why)) → Begins s version boards w → Run s w ms → HaveOneScore innings w ms
+pub one_score : {Disk Why : Type 0} (s : Setting Disk Why) (innings : ℕ) (version : FileVersion) (boards : ℕ) (w : Configuration Disk) (ms : List (Moment Disk Why)) → Begins s version boards w
+    → Run s w ms → HaveOneScore innings w ms
 one_score s innings version boards w ms begins run t u n score other p q =
     let f = begins_fine s version boards w begins in
     let j = all_justified s (last_of w ms) (run_keeps s w ms f run) in
@@ -42,10 +41,7 @@ one_score s innings version boards w ms begins run t u n score other p q =
     let xs = x.3.0 in
     let ys = y.3.0 in
     let size : length xs ≡ length ys = sym x.3.2 ∙ y.3.2 in
-    let equal : xs ≡ ys = ⊎_elim
-    (λ (b : BeginsWith ys xs). same_length xs ys b size)
-    (λ (b : BeginsWith xs ys). sym (same_length ys xs b (sym size)))
-    (one_book (all_votes (last_of w ms)) j (all_votes x.0) (all_votes y.0) xs ys x.2 y.2 (shown_settled s x.0 t xs x.1 x.3.1) (shown_settled s y.0 u ys y.1 y.3.1)) in
+    let equal = one_of_length (all_votes (last_of w ms)) (all_votes x.0) (all_votes y.0) j xs ys x.2 y.2 (shown_settled s x.0 t xs x.1 x.3.1) (shown_settled s y.0 u ys y.1 y.3.1) size in
     let a = x.3.3 in
     let b = y.3.3 in
     one_standing score other innings (history_of ys) (subst (λ (o : List Entry). StandsFor score innings (history_of o)) equal a.score) b.score

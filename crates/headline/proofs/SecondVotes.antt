@@ -1,5 +1,5 @@
 -- The call that brings the second of two equal votes takes their entry.
-use Rattle.std.proofs.Common.{◌≡◌, ◌≢◌, ◌⊎◌, ℕ, Option, Some, None, option_map, option_and_then, List, [], ◌∷◌, ◌++◌, refl, sym, ap, ◌∙◌, subst, inl, inr}
+use Rattle.std.proofs.Common.{◌≡◌, ◌≢◌, ◌⊎◌, ℕ, Option, Some, None, option_map, option_and_then, List, [], ◌∷◌, ◌++◌, refl, sym, ap, ◌∙◌, subst, inl, inr, ⊎_elim}
 use Rattle.std.specs.Prelude.{slice_get}
 use Rattle.notation.specs.declared.entry.Entry.{Entry}
 use Rattle.agree_core.specs.declared.messages.DeskId.{DeskId}
@@ -11,7 +11,6 @@ use Rattle.agree_core.specs.declared.seat.Settled.{Settled}
 use Rattle.agree_core.specs.Ballots.{Ballot, vote_of, votes_by}
 use Rattle.agree_core.specs.Boards.{BoardAnswer, BoardReceives, BoardState}
 use Rattle.agree_core.specs.Desks.{DeskState, PenAnswer, Pens, ReceiveAnswer, Receives, book_after, book_heard}
-use Rattle.agree_core.specs.declared.position.Position.{Position}
 use Rattle.agree_core.specs.Positions.{position_of}
 use Rattle.agree_core.specs.Readers.{Listens, ReaderState, ReaderWaits, noted_of, other}
 use Rattle.agree_core.specs.Seats.{Casts, Hears, SeatState}
@@ -34,7 +33,7 @@ use Rattle.headline.specs.Noted.{Brings, IsVoteAnswer, kept_at, kept_by_process,
 use Rattle.headline.specs.Headline.{NoneWaits, TakesSecond}
 use Rattle.headline.proofs.BoardKeeping.{board_fine_at}
 use Rattle.headline.proofs.Keeping.{Fine, begins_fine, run_keeps, running, node_fine}
-use Rattle.headline.proofs.Heeding.{board_put}
+use Rattle.headline.proofs.Heeding.{board_put, other_not, same_some, their_kept}
 use Rattle.headline.proofs.NotingSteps.{node_put}
 use Rattle.headline.proofs.NotedRuns.{keeps_noted}
 use Rattle.headline.proofs.Shown.{none_keeps_both}
@@ -44,39 +43,34 @@ alone : (x y : Option Entry) (e : Entry) → (x ≡ None) ⊎ (y ≡ None) → x
 alone x y e (inl n) q = absurd (cc)
 alone x y e (inr n) q = n
 
-heard_second : (k l : SeatState) (v : Vote) (h : Heard) (book : List Entry) → v.desk ≢ k.desk → position_of v ≡ k.position → k.mine ≡ Some v.entry → k.theirs ≡ None → Hears k v h l → book_heard h book v.entry ≡ book ++ v.entry ∷ []
+heard_second : (k l : SeatState) (v : Vote) (h : Heard) (book : List Entry) → v.desk ≢ k.desk → position_of v ≡ k.position → k.mine ≡ Some v.entry → k.theirs ≡ None → Hears k v h l
+    → book_heard h book v.entry ≡ book ++ v.entry ∷ []
 heard_second k l v Heard.Mine book o at m t p = absurd (o p.0)
 heard_second k l v Heard.Old book o at m t p = absurd (not_before (position_of v) k.position at p.1)
 heard_second k l v Heard.Ahead book o at m t p = absurd (not_before k.position (position_of v) (sym at) p.1)
-heard_second k l v Heard.Again book o at m t p = let q = p.1 in absurd (cc)
 heard_second k l v Heard.TwoVotes book o at m t p = let q = p.1.1 in absurd (cc)
-heard_second k l v Heard.Noted book o at m t p = let q = p.2 in absurd (cc)
 heard_second k l v Heard.Agreed book o at m t p = refl
 heard_second k l v Heard.Differ book o at m t p = let q = p.2.1 in let same : v.entry ≡ p.2.0 = cc in absurd (p.2.2 same)
+heard_second k l v _ book o at m t p = absurd (cc)
 
 cast_second : (k l : SeatState) (e : Entry) (settled : Settled) (book : List Entry) → k.theirs ≡ Some e → Casts k e settled l → book_after settled book e ≡ book ++ e ∷ []
 cast_second k l e Settled.Pending book t p = let q = p.0 in absurd (cc)
 cast_second k l e Settled.Agreed book t p = refl
 cast_second k l e Settled.Differ book t p = let q = p.0.1 in let same : e ≡ p.0.0 = cc in absurd (p.0.2 same)
 
-listened_second : (k l : ReaderState) (v : Vote) (h : Heard) (book : List Entry) → position_of v ≡ k.position → noted_of k v.desk ≡ None → noted_of k (other v.desk) ≡ Some v.entry → Listens k v h l → book_heard h book v.entry ≡ book ++ v.entry ∷ []
+listened_second : (k l : ReaderState) (v : Vote) (h : Heard) (book : List Entry) → position_of v ≡ k.position → noted_of k v.desk ≡ None → noted_of k (other v.desk) ≡ Some v.entry → Listens k v h l
+    → book_heard h book v.entry ≡ book ++ v.entry ∷ []
 listened_second k l v Heard.Mine book at m t p = absurd p
 listened_second k l v Heard.Old book at m t p = absurd (not_before (position_of v) k.position at p.0)
 listened_second k l v Heard.Ahead book at m t p = absurd (not_before k.position (position_of v) (sym at) p.0)
-listened_second k l v Heard.Again book at m t p = let q = p.1 in absurd (cc)
 listened_second k l v Heard.TwoVotes book at m t p = let q = p.1.1 in absurd (cc)
-listened_second k l v Heard.Noted book at m t p = let q = p.2 in absurd (cc)
 listened_second k l v Heard.Agreed book at m t p = refl
 listened_second k l v Heard.Differ book at m t p = let q = p.2.1 in let same : v.entry ≡ p.2.0 = cc in absurd (p.2.2 same)
-
-same_message : (o : Option Message) (m n : Message) → o ≡ Some m → o ≡ Some n → m ≡ n
-same_message o m n p q = cc
+listened_second k l v _ book at m t p = absurd (cc)
 
 reader_alone : (r : ReaderState) (c : DeskId) (e : Entry) → ReaderWaits r → noted_of r c ≡ Some e → noted_of r (other c) ≡ None
-reader_alone r A e (inl n) q = absurd (cc)
-reader_alone r A e (inr n) q = n
-reader_alone r B e (inl n) q = n
-reader_alone r B e (inr n) q = absurd (cc)
+reader_alone r A e w q = alone r.a r.b e w q
+reader_alone r B e w q = alone r.b r.a e (⊎_elim inr inl w) q
 
 other_twice : (c : DeskId) → other (other c) ≡ c
 other_twice A = refl
@@ -89,37 +83,30 @@ kept_own k A B n = absurd (n refl)
 kept_own k B A n = absurd (n refl)
 kept_own k B B n = refl
 
-kept_theirs : (k : SeatState) (c : DeskId) → kept_by_seat k (other c) c ≡ k.theirs
-kept_theirs k A = refl
-kept_theirs k B = refl
-
-one_board : (x : Option BoardState) (k l : BoardState) → x ≡ Some k → x ≡ Some l → l ≡ k
-one_board x k l p q = cc
-
 module _ {Disk Why : Type 0} (s : Setting Disk Why) where
   -- a station shows this book, and keeps this vote for its position
   abbrev Keeps : Configuration Disk → Station → List Entry → DeskId → Ballot → Type 0
   Keeps w t book c b = Shows w t book × (position_at w t ≡ Some b.at) × (kept_at w t c ≡ Some b.entry)
 
-  same_at : (p q : Position) → Some p ≡ Some q → p ≡ q
-  same_at p q e = cc
-
   -- so its desk or board has them
-  desk_keeps : (w : Configuration Disk) (d c : DeskId) (k : DeskState Disk) (book : List Entry) (b : Ballot) → (node w d).process ≡ Running k → Keeps w (stations.Desk d) book c b → (k.book ≡ book) × (k.seat.position ≡ b.at) × (kept_by_seat k.seat d c ≡ Some b.entry)
+  desk_keeps : (w : Configuration Disk) (d c : DeskId) (k : DeskState Disk) (book : List Entry) (b : Ballot) → (node w d).process ≡ Running k → Keeps w (stations.Desk d) book c b
+      → (k.book ≡ book) × (k.seat.position ≡ b.at) × (kept_by_seat k.seat d c ≡ Some b.entry)
   desk_keeps w d c k book b e h = (
     subst (λ (x : Process Disk). process_shows x book) e h.0,
-    same_at k.seat.position b.at (sym (ap process_position e) ∙ h.1),
+    same_some (position_at w (stations.Desk d)) k.seat.position b.at (ap process_position e) h.1,
     sym (ap (λ (x : Process Disk). kept_by_process x d c) e) ∙ h.2,
   )
 
-  board_keeps : (w : Configuration Disk) (n : ℕ) (c : DeskId) (k : BoardState) (book : List Entry) (b : Ballot) → board_at w.boards n ≡ Some k → Keeps w (stations.Board n) book c b → (k.book ≡ book) × (k.reader.position ≡ b.at) × (noted_of k.reader c ≡ Some b.entry)
+  board_keeps : (w : Configuration Disk) (n : ℕ) (c : DeskId) (k : BoardState) (book : List Entry) (b : Ballot) → board_at w.boards n ≡ Some k → Keeps w (stations.Board n) book c b
+      → (k.book ≡ book) × (k.reader.position ≡ b.at) × (noted_of k.reader c ≡ Some b.entry)
   board_keeps w n c k book b e h = (
-    let g = h.0 in ap (λ (x : BoardState). x.book) (one_board (board_at w.boards n) g.0 k g.1 e) ∙ g.2,
-    same_at k.reader.position b.at (sym (ap (option_map (λ (x : BoardState). x.reader.position)) e) ∙ h.1),
+    let g = h.0 in ap (λ (x : BoardState). x.book) (same_some (board_at w.boards n) k g.0 e g.1) ∙ g.2,
+    same_some (position_at w (stations.Board n)) k.reader.position b.at (ap (option_map (λ (x : BoardState). x.reader.position)) e) h.1,
     sym (ap (option_and_then (λ (x : BoardState). noted_of x.reader c)) e) ∙ h.2,
   )
 
-  shows_at : (w new : Configuration Disk) (d : DeskId) (y : Node Disk) (out : List Message) (book : List Entry) → new ≡ with_node w d y out → process_shows y.process book → Shows new (stations.Desk d) book
+  shows_at : (w new : Configuration Disk) (d : DeskId) (y : Node Disk) (out : List Message) (book : List Entry) → new ≡ with_node w d y out → process_shows y.process book
+      → Shows new (stations.Desk d) book
   shows_at w new d y out book e h =
       let here : node new d ≡ y = ap (λ (z : Configuration Disk). node z d) e ∙ node_put s w d y out in
       subst (λ (z : Node Disk). process_shows z.process book) (sym here) h
@@ -128,71 +115,79 @@ module _ {Disk Why : Type 0} (s : Setting Disk Why) where
   runs_on : (x y : Node Disk) (l : DeskState Disk) (book : List Entry) → y ≡ record x { process = Running l } → l.book ≡ book → process_shows y.process book
   runs_on x y l book e h = subst (λ (z : Node Disk). process_shows z.process book) (sym e) h
 
-  after_vote : (d : DeskId) (x : Node Disk) (k l : DeskState Disk) (v : Vote) (told : ReceiveAnswer) (out : List Message) (answer : Answer Why) (y : Node Disk) → IsVoteAnswer answer → v.desk ≢ k.seat.desk → position_of v ≡ k.seat.position → k.seat.mine ≡ Some v.entry → k.seat.theirs ≡ None → Receives (s.view d x.version) k (Message.Vote v) told l out → AfterReceive (s.view d x.version) x told l out answer y → process_shows y.process (k.book ++ v.entry ∷ [])
+  after_vote : (d : DeskId) (x : Node Disk) (k l : DeskState Disk) (v : Vote) (told : ReceiveAnswer) (out : List Message) (answer : Answer Why) (y : Node Disk) → IsVoteAnswer answer
+      → v.desk ≢ k.seat.desk → position_of v ≡ k.seat.position → k.seat.mine ≡ Some v.entry → k.seat.theirs ≡ None → Receives (s.view d x.version) k (Message.Vote v) told l out
+      → AfterReceive (s.view d x.version) x told l out answer y → process_shows y.process (k.book ++ v.entry ∷ [])
   after_vote d x k l v ReceiveAnswer.Failed out answer y u o at m t r p = absurd (subst IsVoteAnswer p.0 u)
-  after_vote d x k l v ReceiveAnswer.Asked out answer y u o at m t r p = absurd r
-  after_vote d x k l v ReceiveAnswer.DeviceFailed out answer y u o at m t r p = absurd r
   after_vote d x k l v (ReceiveAnswer.Told h) out answer y u o at m t r p =
       let grown : l.book ≡ book_heard h k.book v.entry = ap (λ (z : DeskState Disk). z.book) r.3 in
       runs_on x y l (k.book ++ v.entry ∷ []) p.1 (grown ∙ heard_second k.seat l.seat v h k.book o at m t r.1)
-
-  taken_not : (answer told : Answer Why) → answer ≡ told → IsVoteAnswer answer → IsVoteAnswer told
-  taken_not answer told e h = subst IsVoteAnswer e h
+  after_vote d x k l v _ out answer y u o at m t r p = absurd r
 
   broken_not : (d : DeskId) (x : Node Disk) (l : DeskState Disk) (answer : Answer Why) (y : Node Disk) → Breaks (s.view d x.version) x l answer y → IsVoteAnswer answer → ⊥
-  broken_not d x l answer y (Fail, u, p) t = taken_not answer Answer.DeviceFailed p.0 t
-  broken_not d x l answer y (Stop, u, p) t = taken_not answer Answer.Stopped p.1 t
+  broken_not d x l answer y (Fail, u, p) t = subst IsVoteAnswer p.0 t
+  broken_not d x l answer y (Stop, u, p) t = subst IsVoteAnswer p.1 t
 
-  second_pen : (d : DeskId) (x : Node Disk) (k l : DeskState Disk) (e : Entry) (told : PenAnswer Why) (out : List Message) (answer : Answer Why) (y : Node Disk) → k.seat.theirs ≡ Some e → Pens (s.view d x.version) s.rules k e told l out → AfterPen (s.view d x.version) x told l answer y → IsVoteAnswer answer → process_shows y.process (k.book ++ e ∷ [])
+  second_pen : (d : DeskId) (x : Node Disk) (k l : DeskState Disk) (e : Entry) (told : PenAnswer Why) (out : List Message) (answer : Answer Why) (y : Node Disk) → k.seat.theirs ≡ Some e
+      → Pens (s.view d x.version) s.rules k e told l out → AfterPen (s.view d x.version) x told l answer y → IsVoteAnswer answer → process_shows y.process (k.book ++ e ∷ [])
   second_pen d x k l e (PenAnswer.Penned settled) out answer y t r p i =
       let c = r.1 in
       runs_on x y l (k.book ++ e ∷ []) p.1 (c.1 ∙ cast_second k.seat l.seat e settled k.book t c.0)
-  second_pen d x k l e (PenAnswer.Refused why) out answer y t r p i = absurd (taken_not answer (Answer.NotPenned why) p.0 i)
+  second_pen d x k l e (PenAnswer.Refused why) out answer y t r p i = absurd (subst IsVoteAnswer p.0 i)
   second_pen d x k l e PenAnswer.DeviceFailed out answer y t r p i = absurd (broken_not d x l answer y p i)
 
-  desk_given : (w : Configuration Disk) (d c : DeskId) (n : ℕ) (book : List Entry) (b : Ballot) (answer : Answer Why) (new : Configuration Disk) → Fine s w → Keeps w (stations.Desk d) book c b → other c ≢ d → slice_get w.sent n ≡ Some (Message.Vote (vote_of (other c) b)) → Step s w (events.Give n (stations.Desk d)) answer new → IsVoteAnswer answer → Shows new (stations.Desk d) (book ++ b.entry ∷ [])
+  desk_given : (w : Configuration Disk) (d c : DeskId) (n : ℕ) (book : List Entry) (b : Ballot) (answer : Answer Why) (new : Configuration Disk) → Fine s w → Keeps w (stations.Desk d) book c b
+      → other c ≢ d → slice_get w.sent n ≡ Some (Message.Vote (vote_of (other c) b)) → Step s w (events.Give n (stations.Desk d)) answer new → IsVoteAnswer answer
+      → Shows new (stations.Desk d) (book ++ b.entry ∷ [])
   desk_given w d c n book b answer new f g apart sent p i =
       let q = p.2 in
       let k = q.0 in
       let h = desk_keeps w d c k book b q.4 g in
-      let this : q.2 ≡ Message.Vote (vote_of (other c) b) = same_message (slice_get w.sent n) q.2 (Message.Vote (vote_of (other c) b)) q.5 sent in
+      let this : q.2 ≡ Message.Vote (vote_of (other c) b) = same_some (slice_get w.sent n) q.2 (Message.Vote (vote_of (other c) b)) q.5 sent in
       let fine = running s (node w d).version d (votes_by (all_votes w) (other d)) (node w d).process k q.4 (node_fine s w d f) in
       let seat = fine.seat in
       let mine : k.seat.mine ≡ Some b.entry = sym (kept_own k.seat c d apart) ∙ h.2 in
-      let received : Receives (s.view d (node w d).version) k (Message.Vote (vote_of (other c) b)) q.3 q.1 p.1 = subst (λ (z : Message). Receives (s.view d (node w d).version) k z q.3 q.1 p.1) this q.6 in
-      let shown = after_vote d (node w d) k q.1 (vote_of (other c) b) q.3 p.1 answer p.0 i (λ e. apart (e ∙ seat.desk)) (sym h.1) mine (alone k.seat.mine k.seat.theirs b.entry seat.waits mine) received q.7 in
+      let received : Receives (s.view d (node w d).version) k (Message.Vote (vote_of (other c) b)) q.3 q.1 p.1 = subst
+      (λ (z : Message). Receives (s.view d (node w d).version) k z q.3 q.1 p.1) this q.6 in
+      let shown = after_vote d (node w d) k q.1 (vote_of (other c) b) q.3 p.1 answer p.0 i (λ e. apart (e ∙ seat.desk)) (sym h.1) mine
+      (alone k.seat.mine k.seat.theirs b.entry seat.waits mine) received q.7 in
       shows_at w new d p.0 p.1 (book ++ b.entry ∷ []) p.3 (subst (λ (o : List Entry). process_shows p.0.process (o ++ b.entry ∷ [])) h.0 shown)
 
-  desk_penned : (w : Configuration Disk) (c : DeskId) (book : List Entry) (b : Ballot) (answer : Answer Why) (new : Configuration Disk) → Keeps w (stations.Desk (other c)) book c b → Step s w (events.Pen (other c) b.entry) answer new → IsVoteAnswer answer → Shows new (stations.Desk (other c)) (book ++ b.entry ∷ [])
+  desk_penned : (w : Configuration Disk) (c : DeskId) (book : List Entry) (b : Ballot) (answer : Answer Why) (new : Configuration Disk) → Keeps w (stations.Desk (other c)) book c b
+      → Step s w (events.Pen (other c) b.entry) answer new → IsVoteAnswer answer → Shows new (stations.Desk (other c)) (book ++ b.entry ∷ [])
   desk_penned w c book b answer new g p t =
       let q = p.2 in
       let k = q.0 in
       let h = desk_keeps w (other c) c k book b q.3 g in
-      let theirs : k.seat.theirs ≡ Some b.entry = sym (kept_theirs k.seat c) ∙ h.2 in
+      let theirs : k.seat.theirs ≡ Some b.entry = sym (their_kept k.seat (other c) c (λ e. other_not c (sym e))) ∙ h.2 in
       let shown = second_pen (other c) (node w (other c)) k q.1 b.entry q.2 p.1 answer p.0 theirs q.4 q.5 t in
       shows_at w new (other c) p.0 p.1 (book ++ b.entry ∷ []) p.3 (subst (λ (o : List Entry). process_shows p.0.process (o ++ b.entry ∷ [])) h.0 shown)
 
-  board_told_second : (k l : BoardState) (v : Vote) (told : BoardAnswer) → position_of v ≡ k.reader.position → noted_of k.reader v.desk ≡ None → noted_of k.reader (other v.desk) ≡ Some v.entry → BoardReceives s.rules k (Message.Vote v) told l → IsVoteAnswer {Why = Why} (board_told told) → l.book ≡ k.book ++ v.entry ∷ []
+  board_told_second : (k l : BoardState) (v : Vote) (told : BoardAnswer) → position_of v ≡ k.reader.position → noted_of k.reader v.desk ≡ None → noted_of k.reader (other v.desk) ≡ Some v.entry
+      → BoardReceives s.rules k (Message.Vote v) told l → IsVoteAnswer {Why = Why} (board_told told) → l.book ≡ k.book ++ v.entry ∷ []
   board_told_second k l v (BoardAnswer.Told h) at m t r i = r.2 ∙ listened_second k.reader l.reader v h k.book at m t r.0
   board_told_second k l v BoardAnswer.Asked at m t r i = absurd r
   board_told_second k l v (BoardAnswer.BadVotes place) at m t r i = absurd i
 
-  board_given : (w : Configuration Disk) (number : ℕ) (c : DeskId) (n : ℕ) (book : List Entry) (b : Ballot) (answer : Answer Why) (new : Configuration Disk) → Fine s w → Keeps w (stations.Board number) book c b → slice_get w.sent n ≡ Some (Message.Vote (vote_of (other c) b)) → Step s w (events.Give n (stations.Board number)) answer new → IsVoteAnswer answer → Shows new (stations.Board number) (book ++ b.entry ∷ [])
+  board_given : (w : Configuration Disk) (number : ℕ) (c : DeskId) (n : ℕ) (book : List Entry) (b : Ballot) (answer : Answer Why) (new : Configuration Disk) → Fine s w
+      → Keeps w (stations.Board number) book c b → slice_get w.sent n ≡ Some (Message.Vote (vote_of (other c) b)) → Step s w (events.Give n (stations.Board number)) answer new → IsVoteAnswer answer
+      → Shows new (stations.Board number) (book ++ b.entry ∷ [])
   board_given w number c n book b answer new f g sent p i =
       let q = p.4 in
       let k = p.0 in
       let v = vote_of (other c) b in
       let h = board_keeps w number c k book b p.3 g in
-      let this : q.0 ≡ Message.Vote v = same_message (slice_get w.sent n) q.0 (Message.Vote v) q.2 sent in
+      let this : q.0 ≡ Message.Vote v = same_some (slice_get w.sent n) q.0 (Message.Vote v) q.2 sent in
       let fine = board_fine_at (all_votes w) w.boards number k p.3 f.on_boards in
       let none = reader_alone k.reader c b.entry fine.waits h.2 in
       let noted : noted_of k.reader (other (other c)) ≡ Some b.entry = subst (λ (d : DeskId). noted_of k.reader d ≡ Some b.entry) (sym (other_twice c)) h.2 in
       let received : BoardReceives s.rules k (Message.Vote v) q.1 p.1 = subst (λ (z : Message). BoardReceives s.rules k z q.1 p.1) this q.3 in
-      let grown = board_told_second k p.1 v q.1 (sym h.1) none noted received (taken_not answer (board_told q.1) q.4 i) in
+      let grown = board_told_second k p.1 v q.1 (sym h.1) none noted received (subst IsVoteAnswer q.4 i) in
       let there : board_at new.boards number ≡ Some p.1 = ap (λ (z : Configuration Disk). board_at z.boards number) p.5 ∙ board_put w.boards number p.0 p.1 p.3 in
       (p.1, there, grown ∙ ap (λ (o : List Entry). o ++ b.entry ∷ []) h.0)
 
-  second_taken : (w : Configuration Disk) (event : Event) (answer : Answer Why) (new : Configuration Disk) (t : Station) (book : List Entry) (b : Ballot) (c : DeskId) → Fine s w → Keeps w t book c b → Brings w event t (other c) b → Step s w event answer new → IsVoteAnswer answer → Shows new t (book ++ b.entry ∷ [])
+  second_taken : (w : Configuration Disk) (event : Event) (answer : Answer Why) (new : Configuration Disk) (t : Station) (book : List Entry) (b : Ballot) (c : DeskId) → Fine s w → Keeps w t book c b
+      → Brings w event t (other c) b → Step s w event answer new → IsVoteAnswer answer → Shows new t (book ++ b.entry ∷ [])
   second_taken w event answer new (stations.Desk d) book b c f h (inl (apart, (n, e, sent))) p i =
       desk_given w d c n book b answer new f h (λ q. apart (ap stations.Desk (sym q))) sent (subst (λ (z : Event). Step s w z answer new) e p) i
   second_taken w event answer new (stations.Board number) book b c f h (inl (apart, (n, e, sent))) p i =

@@ -24,10 +24,11 @@ use Rattle.agree_core.specs.Keeping.{MessageFine, ShowsMore}
 use Rattle.agree_core.proofs.Both.{both_at, both_settled, both_turned, same}
 use Rattle.agree_core.proofs.Desks.{more_within}
 use Rattle.headline.proofs.BoardKeeping.{board_fine_at, item_at}
-use Rattle.headline.proofs.Keeping.{Fine, Grows, ProcessFine, all_justified, fine_disk, run_keeps, node_fine, step_keeps}
+use Rattle.headline.proofs.Keeping.{Fine, Grows, ProcessFine, all_justified, fine_disk, run_keeps, node_fine, step_keeps, votes_at}
 
 module _ {Disk Why : Type 0} (s : Setting Disk Why) where
-  process_both : (v : FileVersion) (d : DeskId) (theirs : List Ballot) (x : Process Disk) (book : List Entry) → ProcessFine s v d theirs x → process_shows x book → AllBoth (process_votes x) theirs 0 book
+  process_both : (v : FileVersion) (d : DeskId) (theirs : List Ballot) (x : Process Disk) (book : List Entry) → ProcessFine s v d theirs x → process_shows x book
+      → AllBoth (process_votes x) theirs 0 book
   process_both v d theirs (Down votes disk) book f h = absurd h
   process_both v d theirs (Running k) book f h = let g = f.seat in subst (AllBoth k.votes theirs 0) h g.both
 
@@ -54,7 +55,8 @@ module _ {Disk Why : Type 0} (s : Setting Disk Why) where
   same_votes w = (same (all_votes w).a, same (all_votes w).b)
 
   -- what is so at some moment is so of a configuration that is fine, and whose votes are among the last ones
-  pub moment : (w : Configuration Disk) (ms : List (Moment Disk Why)) (P : Configuration Disk → Type 0) → Fine s w → Run s w ms → AtSomeMoment w ms P → (v : Configuration Disk) × Fine s v × Grows s v (last_of w ms) × P v
+  pub moment : (w : Configuration Disk) (ms : List (Moment Disk Why)) (P : Configuration Disk → Type 0) → Fine s w → Run s w ms → AtSomeMoment w ms P
+      → (v : Configuration Disk) × Fine s v × Grows s v (last_of w ms) × P v
   moment w [] P f r h = (w, f, same_votes w, h)
   moment w (m ∷ ms) P f r (inl h) = (m.after, (step_keeps s (last_of w ms) m.event m.answer m.after (run_keeps s w ms f r.0) r.1).0, same_votes m.after, h)
   moment w (m ∷ ms) P f r (inr h) =
@@ -84,7 +86,8 @@ module _ {Disk Why : Type 0} (s : Setting Disk Why) where
   seat_waits k B e f (inl w) p q = cc
   seat_waits k B e f (inr w) p q = cc
 
-  process_waits : (v : FileVersion) (d : DeskId) (theirs : List Ballot) (x : Process Disk) (e f : Entry) → ProcessFine s v d theirs x → kept_by_process x d A ≡ Some e → kept_by_process x d B ≡ Some f → ⊥
+  process_waits : (v : FileVersion) (d : DeskId) (theirs : List Ballot) (x : Process Disk) (e f : Entry) → ProcessFine s v d theirs x
+      → kept_by_process x d A ≡ Some e → kept_by_process x d B ≡ Some f → ⊥
   process_waits v d theirs (Running k) e f g p q = let h = g.seat in seat_waits k.seat d e f h.waits p q
   process_waits v d theirs (Down votes disk) e f g p q = cc
 
@@ -95,17 +98,14 @@ module _ {Disk Why : Type 0} (s : Setting Disk Why) where
   abbrev kept_by_board : Option BoardState → DeskId → Option Entry
   kept_by_board board c = option_and_then (λ (k : BoardState). noted_of k.reader c) board
 
-  board_waits : (w : Configuration Disk) (n : ℕ) (board : Option BoardState) (e f : Entry) → Fine s w → board_at w.boards n ≡ board → kept_by_board board A ≡ Some e → kept_by_board board B ≡ Some f → ⊥
+  board_waits : (w : Configuration Disk) (n : ℕ) (board : Option BoardState) (e f : Entry) → Fine s w → board_at w.boards n ≡ board
+      → kept_by_board board A ≡ Some e → kept_by_board board B ≡ Some f → ⊥
   board_waits w n None e f g h p q = cc
   board_waits w n (Some k) e f g h p q = let fine = board_fine_at (all_votes w) w.boards n k h g.on_boards in reader_waits k e f fine.waits p q
 
   pub none_keeps_both : (w : Configuration Disk) → Fine s w → NoneKeepsBoth w
   none_keeps_both w g (stations.Desk d) e f p q = process_waits (node w d).version d (votes_by (all_votes w) (other d)) (node w d).process e f (node_fine s w d g) p q
   none_keeps_both w g (stations.Board n) e f p q = board_waits w n (board_at w.boards n) e f g refl p q
-
-  votes_at : (w : Configuration Disk) (d : DeskId) → votes_by (all_votes w) d ≡ process_votes (node w d).process
-  votes_at w A = refl
-  votes_at w B = refl
 
   image_has : (theirs votes : List Ballot) (o : Option (List Ballot)) → ShowsMore theirs votes o → (these : List Ballot) × (o ≡ Some these) × Within votes these
   image_has theirs votes o h = (h.0, h.1, more_within theirs votes h.0 h.2)
@@ -115,10 +115,11 @@ module _ {Disk Why : Type 0} (s : Setting Disk Why) where
     sent = λ n v e. item_at (MessageFine (all_votes w)) w.sent n (Message.Vote v) e f.on_sent;
     images = λ d image i.
         let theirs = votes_by (all_votes w) (other d) in
-        rw (votes_at w d) (image_has theirs (process_votes (node w d).process) image ((fine_disk s (node w d).version d theirs (node w d).process (node_fine s w d f)).1 image i));
+        rw (votes_at s w d) (image_has theirs (process_votes (node w d).process) image ((fine_disk s (node w d).version d theirs (node w d).process (node_fine s w d f)).1 image i));
     reads = λ d.
         let theirs = votes_by (all_votes w) (other d) in
-        rw (votes_at w d) (image_has theirs (process_votes (node w d).process) ((s.view d (node w d).version).reads (process_disk (node w d).process)) (fine_disk s (node w d).version d theirs (node w d).process (node_fine s w d f)).0);
+        let disk = fine_disk s (node w d).version d theirs (node w d).process (node_fine s w d f) in
+        rw (votes_at s w d) (image_has theirs (process_votes (node w d).process) ((s.view d (node w d).version).reads (process_disk (node w d).process)) disk.0);
   }
 
   pub stands_fast : (w : Configuration Disk) → Fine s w → StandsFast s w

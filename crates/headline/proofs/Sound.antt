@@ -1,5 +1,6 @@
 -- No event of a run meets two votes of one desk, votes that are no book or a file that isn't sound.
-use Rattle.std.proofs.Common.{◌≡◌, ◌≢◌, ℕ, Bool, true, false, Option, Some, None, List, [], ◌∷◌, ◌++◌, length, refl, sym, ap, ◌∙◌, subst, inl, inr, arith, ⊎_elim, append-nil, append_assoc}
+use Rattle.std.proofs.Common.{◌≡◌, ◌≢◌, ℕ, Bool, true, false, Option, Some, None, List, [], ◌∷◌, ◌++◌, length, refl, sym, ap, ◌∙◌, subst, inl, inr, arith, ⊎_elim}
+use Rattle.std.proofs.Common.{append-nil, append_assoc, length-append}
 use Rattle.std.specs.Prelude.{nat_eq}
 use Rattle.notation.specs.declared.entry.Entry.{Entry}
 use Rattle.agree_core.specs.declared.messages.DeskId.{DeskId}
@@ -7,7 +8,7 @@ use Rattle.agree_core.specs.declared.messages.DeskId.TheVariants.{A, B}
 use Rattle.agree_core.specs.declared.messages.Message.{Message}
 use Rattle.agree_core.specs.declared.messages.Vote.{Vote}
 use Rattle.agree_core.specs.declared.seat.Heard.{Heard}
-use Rattle.agree_core.specs.Agreed.{BeginsWith}
+use Rattle.agree_core.specs.Agreed.{AllSettled, BeginsWith}
 use Rattle.agree_core.specs.Ballots.{AllJustified, AllVotes, Ballot, In, Justified, Within, ballot_of, votes_by}
 use Rattle.agree_core.specs.Ballots as ballots
 use Rattle.agree_core.specs.Boards.{BoardAnswer, BoardReceives, BoardState}
@@ -35,7 +36,7 @@ use Rattle.headline.specs.Configurations.{Process, Down, Node, Configuration, no
 use Rattle.headline.specs.Events.{station_of}
 use Rattle.headline.specs.Answers.{Answer}
 use Rattle.headline.specs.DeskFaults.{Breaks, StaysDownBy}
-use Rattle.headline.specs.Migrations.{AfterMigration, Failed, Migrates, MigratesAt, Migration, NotSound, ToNew}
+use Rattle.headline.specs.Migrations.{Failed, MigratesAt, NotSound, ToNew}
 use Rattle.headline.specs.DeskSteps.{AfterOpen, AfterPen, AfterReceive, AtDesk}
 use Rattle.headline.specs.BoardSteps.{AtBoard, board_told}
 use Rattle.headline.specs.Steps.{StepAt}
@@ -44,6 +45,7 @@ use Rattle.headline.specs.Besides.{IsSoundAnswer}
 use Rattle.headline.specs.Headline.{AtEachEvent}
 use Rattle.agree_core.specs.Keeping.{BoardFine, MessageFine, MineFine, NotedFine, SeatFine}
 use Rattle.agree_core.proofs.Both.{both_grow, both_settled, both_turned, more, same}
+use Rattle.headline.proofs.Heeding.{some_none}
 use Rattle.headline.proofs.BoardKeeping.{board_fine_at, item_at}
 use Rattle.headline.proofs.Keeping.{Fine, ProcessFine, all_justified, begins_fine, run_keeps, running, node_fine, their_message}
 use Rattle.headline.proofs.PennedVotes.{BothHold, HeldBy, PensKeep, begins_hold, step_holds}
@@ -72,27 +74,30 @@ taken_last rules book [] e h = rw append-nil h.0
 taken_last rules book (x ∷ xs) e h = rw (sym (append_assoc book (x ∷ []) xs)) (taken_last rules (book ++ x ∷ []) xs e h.1)
 
 -- when each vote of a file was cast, its entry was taken after a book as long as its place, of entries that both voted for
-pub taken_at : {Why : Type 0} (rules : Rules Why) (theirs bs : List Ballot) → Justified theirs bs → Lawful rules bs → (b : Ballot) → In b bs → (book : List Entry) × AllBoth bs theirs 0 book × (length book ≡ b.at.place) × (rules book b.entry ≡ None)
+pub taken_at : {Why : Type 0} (rules : Rules Why) (theirs bs : List Ballot) → Justified theirs bs → Lawful rules bs → (b : Ballot) → In b bs
+    → (book : List Entry) × AllBoth bs theirs 0 book × (length book ≡ b.at.place) × (rules book b.entry ≡ None)
 taken_at rules theirs [] j l b i = absurd i
 taken_at rules theirs (x ∷ xs) j l b (inl e) =
     let long = book_long x xs (in_sequence theirs (x ∷ xs) j) in
-    (book_of (x ∷ xs), book_agreed theirs x xs j, long ∙ ap (λ (y : Ballot). y.at.place) (sym e), subst (λ (y : Ballot). rules (book_of (x ∷ xs)) y.entry ≡ None) (sym e) (taken_last rules [] (book_of (x ∷ xs)) x.entry l.0))
+    let next = subst (λ (y : Ballot). rules (book_of (x ∷ xs)) y.entry ≡ None) (sym e) (taken_last rules [] (book_of (x ∷ xs)) x.entry l.0) in
+    (book_of (x ∷ xs), book_agreed theirs x xs j, long ∙ ap (λ (y : Ballot). y.at.place) (sym e), next)
 taken_at rules theirs (x ∷ xs) j l b (inr i) =
     let h = taken_at rules theirs xs j.2 l.1 b i in
     (h.0, both_grow xs (x ∷ xs) theirs theirs (more x xs) (same theirs) 0 h.0 h.1, h.2, h.3)
 
 pub same_length : (xs ys : List Entry) → BeginsWith ys xs → length xs ≡ length ys → xs ≡ ys
-same_length [] [] p e = refl
-same_length [] (y ∷ ys) p e = absurd (omega arith)
-same_length (x ∷ xs) [] p e = absurd (omega arith)
-same_length (x ∷ xs) (y ∷ ys) p e =
-    let q : x ≡ y = let h = p.1 in cc in
-    let r : xs ++ p.0 ≡ ys = let h = p.1 in cc in
-    let t = same_length xs ys (p.0, r) (omega arith) in
-    λ i. q i ∷ t i
+same_length xs ys ([], e) size = sym (append-nil xs) ∙ e
+same_length xs ys (r ∷ rs, e) size = let long = ap length e in absurd (omega (arith, length-append xs (r ∷ rs)))
+
+-- books of one length, whose entries were settled by some of these votes, are one book
+pub one_of_length : (v a b : AllVotes) → AllJustified v → (xs ys : List Entry) → ballots.VotesGrow a v → ballots.VotesGrow b v
+    → AllSettled a 0 xs → AllSettled b 0 ys → length xs ≡ length ys → xs ≡ ys
+one_of_length v a b j xs ys g h p q size =
+    ⊎_elim (λ (z : BeginsWith ys xs). same_length xs ys z size) (λ (z : BeginsWith xs ys). sym (same_length ys xs z (sym size))) (one_book v j a b xs ys g h p q)
 
 -- a desk has one vote at a position
-two_entries : (theirs votes : List Ballot) (x : Option Entry) (v : Vote) (e : Entry) (at : _) → Justified theirs votes → NotedFine votes at x → x ≡ Some e → In (ballot_of v) votes → position_of v ≡ at → v.entry ≢ e → ⊥
+two_entries : (theirs votes : List Ballot) (x : Option Entry) (v : Vote) (e : Entry) (at : _) → Justified theirs votes → NotedFine votes at x → x ≡ Some e → In (ballot_of v) votes
+    → position_of v ≡ at → v.entry ≢ e → ⊥
 two_entries theirs votes x v e at j n q i p unlike =
     let k : In (record { at = at; entry = e }) votes = subst (NotedFine votes at) q n in
     unlike (ap (λ (b : Ballot). b.entry) (one_vote theirs votes j (ballot_of v) (record { at = at; entry = e }) i k p))
@@ -126,7 +131,8 @@ module _ {Disk Why : Type 0} (s : Setting Disk Why) where
   lawful_votes w A l = let h = l A in h.of_votes
   lawful_votes w B l = let h = l B in h.of_votes
 
-  board_takes : (w : Configuration Disk) (k : BoardState) (v : Vote) (reader : ReaderState) → Fine s w → BothHold s (λ d. Lawful s.rules) w → BoardFine (all_votes w) k → In (ballot_of v) (votes_by (all_votes w) v.desk) → Listens k.reader v Heard.Agreed reader → s.rules k.book v.entry ≡ None
+  board_takes : (w : Configuration Disk) (k : BoardState) (v : Vote) (reader : ReaderState) → Fine s w → BothHold s (λ d. Lawful s.rules) w → BoardFine (all_votes w) k
+      → In (ballot_of v) (votes_by (all_votes w) v.desk) → Listens k.reader v Heard.Agreed reader → s.rules k.book v.entry ≡ None
   board_takes w k v reader f l b i h =
       let d = v.desk in
       let g = taken_at s.rules (votes_by (all_votes w) (other d)) (votes_by (all_votes w) d) (justified_of w d f) (lawful_votes w d l) (ballot_of v) i in
@@ -135,10 +141,7 @@ module _ {Disk Why : Type 0} (s : Setting Disk Why) where
       let there = both_settled (all_votes w) j 0 k.book b.both in
       let size : length g.0 ≡ length k.book = g.2 ∙ ap (λ p. p.place) h.0 ∙ sym b.long in
       let grow : ballots.VotesGrow (all_votes w) (all_votes w) = (same (all_votes w).a, same (all_votes w).b) in
-      let equal : g.0 ≡ k.book = ⊎_elim
-      (λ (p : BeginsWith k.book g.0). same_length g.0 k.book p size)
-      (λ (p : BeginsWith g.0 k.book). sym (same_length k.book g.0 p (sym size)))
-      (one_book (all_votes w) j (all_votes w) (all_votes w) g.0 k.book grow grow here there) in
+      let equal = one_of_length (all_votes w) (all_votes w) (all_votes w) j g.0 k.book grow grow here there size in
       subst (λ (o : List Entry). s.rules o v.entry ≡ None) equal g.3
     where
       turned : (w : Configuration Disk) (d : DeskId) (book : List Entry) → AllBoth (votes_by (all_votes w) d) (votes_by (all_votes w) (other d)) 0 book → AllBoth (all_votes w).a (all_votes w).b 0 book
@@ -147,68 +150,66 @@ module _ {Disk Why : Type 0} (s : Setting Disk Why) where
 
   told_sound : (event : Event) (h : Heard) → (h ≡ Heard.TwoVotes → ⊥) → IsSoundAnswer {Why = Why} event (Answer.Told h)
   told_sound event Heard.TwoVotes n = n refl
-  told_sound event Heard.Mine n = tt
-  told_sound event Heard.Old n = tt
-  told_sound event Heard.Ahead n = tt
-  told_sound event Heard.Again n = tt
-  told_sound event Heard.Noted n = tt
-  told_sound event Heard.Agreed n = tt
-  told_sound event Heard.Differ n = tt
+  told_sound event _ n = tt
 
-  sound_as : (event : Event) (answer told : Answer Why) → answer ≡ told → IsSoundAnswer event told → IsSoundAnswer event answer
-  sound_as event answer told e h = subst (IsSoundAnswer event) (sym e) h
+  module _ (event : Event) (answer : Answer Why) where
+    sound_as : (told : Answer Why) → answer ≡ told → IsSoundAnswer event told → IsSoundAnswer event answer
+    sound_as told e h = subst (IsSoundAnswer event) (sym e) h
 
-  broken_sound : (event : Event) (d : DeskId) (x : Node Disk) (l : DeskState Disk) (answer : Answer Why) (y : Node Disk) → Breaks (s.view d x.version) x l answer y → IsSoundAnswer event answer
-  broken_sound event d x l answer y (Fail, u, p) = sound_as event answer Answer.DeviceFailed p.0 tt
-  broken_sound event d x l answer y (Stop, u, p) = sound_as event answer Answer.Stopped p.1 tt
+    module _ (view : FileView Disk) (x y : Node Disk) where
+      broken_sound : (l : DeskState Disk) → Breaks view x l answer y → IsSoundAnswer event answer
+      broken_sound l (Fail, u, p) = sound_as Answer.DeviceFailed p.0 tt
+      broken_sound l (Stop, u, p) = sound_as Answer.Stopped p.1 tt
 
-  pen_sound : (event : Event) (d : DeskId) (x : Node Disk) (told : PenAnswer Why) (l : DeskState Disk) (answer : Answer Why) (y : Node Disk) → AfterPen (s.view d x.version) x told l answer y → IsSoundAnswer event answer
-  pen_sound event d x (PenAnswer.Penned settled) l answer y p = sound_as event answer (Answer.Penned settled) p.0 tt
-  pen_sound event d x (PenAnswer.Refused why) l answer y p = sound_as event answer (Answer.NotPenned why) p.0 tt
-  pen_sound event d x PenAnswer.DeviceFailed l answer y p = broken_sound event d x l answer y p
+      pen_sound : (told : PenAnswer Why) (l : DeskState Disk) → AfterPen view x told l answer y → IsSoundAnswer event answer
+      pen_sound (PenAnswer.Penned settled) l p = sound_as (Answer.Penned settled) p.0 tt
+      pen_sound (PenAnswer.Refused why) l p = sound_as (Answer.NotPenned why) p.0 tt
+      pen_sound PenAnswer.DeviceFailed l p = broken_sound l p
 
-  two_at_desk : (w : Configuration Disk) (d : DeskId) (k : DeskState Disk) (v : Vote) (t : SeatState) → Fine s w → SeatFine d k.votes (votes_by (all_votes w) (other d)) k.seat k.book → MessageFine (all_votes w) (Message.Vote v) → Hears k.seat v Heard.TwoVotes t → ⊥
+      stays_down_sound : (fault : Fault) (votes : List Ballot) (left : Disk) → StaysDownBy view x fault votes left answer y → IsSoundAnswer event answer
+      stays_down_sound Fail votes left p = sound_as Answer.DeviceFailed p.0 tt
+      stays_down_sound Stop votes left p = sound_as Answer.Stopped p.1 tt
+
+  two_at_desk : (w : Configuration Disk) (d : DeskId) (k : DeskState Disk) (v : Vote) (t : SeatState) → Fine s w → SeatFine d k.votes (votes_by (all_votes w) (other d)) k.seat k.book
+      → MessageFine (all_votes w) (Message.Vote v) → Hears k.seat v Heard.TwoVotes t → ⊥
   two_at_desk w d k v t f g m h =
       let i = their_message s (all_votes w) d (Message.Vote v) m (λ e. h.0.0 (e ∙ sym g.desk)) in
       two_entries (votes_by (all_votes w) d) (votes_by (all_votes w) (other d)) k.seat.theirs v h.1.0 k.seat.position (justified_other w d f) g.noted h.1.1 i h.0.1 h.1.2
 
-  receive_sound : (event : Event) (w : Configuration Disk) (d : DeskId) (x : Node Disk) (k l : DeskState Disk) (m : Message) (told : ReceiveAnswer) (out : List Message) (answer : Answer Why) (y : Node Disk) → Fine s w → SeatFine d k.votes (votes_by (all_votes w) (other d)) k.seat k.book → MessageFine (all_votes w) m → Receives (s.view d x.version) k m told l out → AfterReceive (s.view d x.version) x told l out answer y → IsSoundAnswer event answer
+  receive_sound : (event : Event) (w : Configuration Disk) (d : DeskId) (x : Node Disk) (k l : DeskState Disk) (m : Message) (told : ReceiveAnswer) (out : List Message)
+      (answer : Answer Why) (y : Node Disk) → Fine s w → SeatFine d k.votes (votes_by (all_votes w) (other d)) k.seat k.book → MessageFine (all_votes w) m
+      → Receives (s.view d x.version) k m told l out → AfterReceive (s.view d x.version) x told l out answer y → IsSoundAnswer event answer
   receive_sound event w d x k l m ReceiveAnswer.Failed out answer y f g i r p = sound_as event answer Answer.HasFailed p.0 tt
   receive_sound event w d x k l m ReceiveAnswer.Asked out answer y f g i r p = sound_as event answer (Answer.Asked _) p.0 tt
-  receive_sound event w d x k l m ReceiveAnswer.DeviceFailed out answer y f g i r p = broken_sound event d x l answer y p
+  receive_sound event w d x k l m ReceiveAnswer.DeviceFailed out answer y f g i r p = broken_sound event answer (s.view d x.version) x y l p
   receive_sound event w d x k l (Message.Ask q) (ReceiveAnswer.Told h) out answer y f g i r p = absurd r
   receive_sound event w d x k l (Message.Vote v) (ReceiveAnswer.Told h) out answer y f g i r p =
       sound_as event answer (Answer.Told h) p.0 (told_sound event h (λ e. two_at_desk w d k v l.seat f g i (subst (λ (z : Heard). Hears k.seat v z l.seat) e r.1)))
 
-  some_or_none : (o : Option (List Ballot)) (vs : List Ballot) → o ≡ Some vs → o ≡ None → ⊥
-  some_or_none o vs e n = cc
-
-  stays_down_sound : (event : Event) (view : FileView Disk) (x : Node Disk) (fault : Fault) (votes : List Ballot) (left : Disk) (answer : Answer Why) (y : Node Disk) → StaysDownBy view x fault votes left answer y → IsSoundAnswer event answer
-  stays_down_sound event view x Fail votes left answer y p = sound_as event answer Answer.DeviceFailed p.0 tt
-  stays_down_sound event view x Stop votes left answer y p = sound_as event answer Answer.Stopped p.1 tt
-
-  open_sound : (event : Event) (d : DeskId) (theirs : List Ballot) (x : Node Disk) (votes : List Ballot) (old : Disk) (opening : Opening Disk) (answer : Answer Why) (y : Node Disk) → ProcessFine s x.version d theirs (Down votes old) → HeldBy s (Lawful s.rules) (s.view d x.version) votes old → Opens (s.view d x.version) s.rules d old opening → AfterOpen (s.view d x.version) x votes opening answer y → IsSoundAnswer event answer
+  open_sound : (event : Event) (d : DeskId) (theirs : List Ballot) (x : Node Disk) (votes : List Ballot) (old : Disk) (opening : Opening Disk) (answer : Answer Why) (y : Node Disk)
+      → ProcessFine s x.version d theirs (Down votes old) → HeldBy s (Lawful s.rules) (s.view d x.version) votes old → Opens (s.view d x.version) s.rules d old opening
+      → AfterOpen (s.view d x.version) x votes opening answer y → IsSoundAnswer event answer
   open_sound event d theirs x votes old (Opening.Opened k) answer y f h o p = sound_as event answer (Answer.Opened _) p.0 tt
   open_sound event d theirs x votes old (Opening.NotOpened OpenRefusal.Unsound left) answer y f h o p =
-      let g = f.1.0 in absurd (some_or_none ((s.view d x.version).reads old) g.0 g.1 o.0)
+      let g = f.1.0 in absurd (some_none ((s.view d x.version).reads old) g.0 o.0 g.1)
   open_sound event d theirs x votes old (Opening.NotOpened (OpenRefusal.BadVotes place) left) answer y f h o p =
       absurd (not_both s.rules [] (voted_list o.0) place (lawful_list s.rules o.0 (h.of_reads o.0 o.1)) o.2)
   open_sound event d theirs x votes old (Opening.NotOpened OpenRefusal.NoMemory left) answer y f h o p = absurd p
-  open_sound event d theirs x votes old (Opening.NotOpened OpenRefusal.DeviceFailed left) answer y f h o p = stays_down_sound event (s.view d x.version) x p.0 votes left answer y p.2
+  open_sound event d theirs x votes old (Opening.NotOpened OpenRefusal.DeviceFailed left) answer y f h o p =
+      stays_down_sound event answer (s.view d x.version) x y p.0 votes left p.2
 
   -- a file that is migrated is sound
-  migration_sound : (c d : DeskId) (theirs : List Ballot) (x : Node Disk) (votes : List Ballot) (old : Disk) (migration : Migration Disk) (answer : Answer Why) (y : Node Disk) → ProcessFine s Old d theirs (Down votes old) → Migrates (s.view d) old migration → AfterMigration (s.view d) x votes migration answer y → IsSoundAnswer (events.Migrate c) answer
-  migration_sound c d theirs x votes old (ToNew found new) answer y f m p = sound_as (events.Migrate c) answer (Answer.Migrated _) p.0 tt
-  migration_sound c d theirs x votes old (NotSound left) answer y f m p = let g = f.1.0 in absurd (some_or_none ((s.view d Old).reads old) g.0 g.1 m.0)
-  migration_sound c d theirs x votes old (Failed left) answer y f m p = stays_down_sound (events.Migrate c) (s.view d Old) x p.0 votes left answer y p.2
-
-  migrates_sound : (c d : DeskId) (theirs : List Ballot) (x : Node Disk) (version : FileVersion) (votes : List Ballot) (old : Disk) (answer : Answer Why) (y : Node Disk) → ProcessFine s version d theirs (Down votes old) → MigratesAt (s.view d) x version votes old answer y → IsSoundAnswer (events.Migrate c) answer
-  migrates_sound c d theirs x Old votes old answer y f p = migration_sound c d theirs x votes old p.0 answer y f p.1 p.2
+  migrates_sound : (c d : DeskId) (theirs : List Ballot) (x : Node Disk) (version : FileVersion) (votes : List Ballot) (old : Disk) (answer : Answer Why) (y : Node Disk)
+      → ProcessFine s version d theirs (Down votes old) → MigratesAt (s.view d) x version votes old answer y → IsSoundAnswer (events.Migrate c) answer
+  migrates_sound c d theirs x Old votes old answer y f (ToNew found new, m, p) = sound_as (events.Migrate c) answer (Answer.Migrated _) p.0 tt
+  migrates_sound c d theirs x Old votes old answer y f (NotSound left, m, p) = let g = f.1.0 in absurd (some_none ((s.view d Old).reads old) g.0 m.0 g.1)
+  migrates_sound c d theirs x Old votes old answer y f (Failed left, m, p) = stays_down_sound (events.Migrate c) answer (s.view d Old) x y p.0 votes left p.2
   migrates_sound c d theirs x New votes old answer y f p = sound_as (events.Migrate c) answer Answer.OtherVersion p.0 tt
 
   -- what an event at a desk is answered
-  desk_sound : (w : Configuration Disk) (d : DeskId) (event : Event) (answer : Answer Why) (y : Node Disk) (out : List Message) → Fine s w → BothHold s (λ d. Lawful s.rules) w → AtDesk s w.sent d event (node w d) answer y out → IsSoundAnswer event answer
-  desk_sound w d (events.Pen c e) answer y out f l p = pen_sound (events.Pen c e) d (node w d) p.2 p.1 answer y p.5
+  desk_sound : (w : Configuration Disk) (d : DeskId) (event : Event) (answer : Answer Why) (y : Node Disk) (out : List Message) → Fine s w → BothHold s (λ d. Lawful s.rules) w
+      → AtDesk s w.sent d event (node w d) answer y out → IsSoundAnswer event answer
+  desk_sound w d (events.Pen c e) answer y out f l p = pen_sound (events.Pen c e) answer (s.view d (node w d).version) (node w d) y p.2 p.1 p.5
   desk_sound w d (events.Give n t) answer y out f l p =
       let fine = running s (node w d).version d (votes_by (all_votes w) (other d)) (node w d).process p.0 p.4 (node_fine s w d f) in
       receive_sound (events.Give n t) w d (node w d) p.0 p.1 p.2 p.3 out answer y f fine.seat (item_at (MessageFine (all_votes w)) w.sent n p.2 p.5 f.on_sent) p.6 p.7
@@ -226,7 +227,8 @@ module _ {Disk Why : Type 0} (s : Setting Disk Why) where
       (subst (ProcessFine s (node w d).version d (votes_by (all_votes w) (other d))) p.2 (node_fine s w d f)) p.3
   desk_sound w d (events.Wipe n) answer y out f l p = absurd p
 
-  board_told_sound : (event : Event) (w : Configuration Disk) (k l : BoardState) (m : Message) (told : BoardAnswer) → Fine s w → BothHold s (λ d. Lawful s.rules) w → BoardFine (all_votes w) k → MessageFine (all_votes w) m → BoardReceives s.rules k m told l → IsSoundAnswer {Why = Why} event (board_told told)
+  board_told_sound : (event : Event) (w : Configuration Disk) (k l : BoardState) (m : Message) (told : BoardAnswer) → Fine s w → BothHold s (λ d. Lawful s.rules) w → BoardFine (all_votes w) k
+      → MessageFine (all_votes w) m → BoardReceives s.rules k m told l → IsSoundAnswer {Why = Why} event (board_told told)
   board_told_sound event w k l m BoardAnswer.Asked f h b i p = tt
   board_told_sound event w k l (Message.Ask q) (BoardAnswer.Told x) f h b i p = absurd p
   board_told_sound event w k l (Message.Ask q) (BoardAnswer.BadVotes place) f h b i p = absurd p
@@ -235,26 +237,26 @@ module _ {Disk Why : Type 0} (s : Setting Disk Why) where
       told_sound event x (λ e. two (subst (λ (z : Heard). Listens k.reader v z l.reader) e p.0))
     where
       two : Listens k.reader v Heard.TwoVotes l.reader → ⊥
-      two c = two_entries (votes_by (all_votes w) (other v.desk)) (votes_by (all_votes w) v.desk) (noted_of k.reader v.desk) v c.1.0 k.reader.position (justified_of w v.desk f) (b.noted v.desk) c.1.1 i c.0 c.1.2
+      two c =
+          two_entries (votes_by (all_votes w) (other v.desk)) (votes_by (all_votes w) v.desk) (noted_of k.reader v.desk) v c.1.0 k.reader.position (justified_of w v.desk f)
+          (b.noted v.desk) c.1.1 i c.0 c.1.2
 
-  board_sound : (w : Configuration Disk) (event : Event) (k : BoardState) (answer : Answer Why) (l : BoardState) (out : List Message) → Fine s w → BothHold s (λ d. Lawful s.rules) w → BoardFine (all_votes w) k → AtBoard s w.sent event k answer l out → IsSoundAnswer event answer
+  board_sound : (w : Configuration Disk) (event : Event) (k : BoardState) (answer : Answer Why) (l : BoardState) (out : List Message) → Fine s w → BothHold s (λ d. Lawful s.rules) w
+      → BoardFine (all_votes w) k → AtBoard s w.sent event k answer l out → IsSoundAnswer event answer
   board_sound w (events.Give n t) k answer l out f h b p =
       sound_as (events.Give n t) answer (board_told p.1) p.4 (board_told_sound (events.Give n t) w k l p.0 p.1 f h b (item_at (MessageFine (all_votes w)) w.sent n p.0 p.2 f.on_sent) p.3)
   board_sound w (events.Tick t) k answer l out f h b p = sound_as (events.Tick t) answer (Answer.Ticked _) p.1 tt
   board_sound w (events.Wipe n) k answer l out f h b p = sound_as (events.Wipe n) answer Answer.Done p.1 tt
-  board_sound w (events.Pen d e) k answer l out f h b p = absurd p
-  board_sound w (events.Kill d) k answer l out f h b p = absurd p
-  board_sound w (events.Power d choice) k answer l out f h b p = absurd p
-  board_sound w (events.FailAt d n) k answer l out f h b p = absurd p
-  board_sound w (events.StopAt d n) k answer l out f h b p = absurd p
-  board_sound w (events.Open d) k answer l out f h b p = absurd p
-  board_sound w (events.Migrate d) k answer l out f h b p = absurd p
+  board_sound w _ k answer l out f h b p = absurd p
 
-  station_sound : (w : Configuration Disk) (event : Event) (t : Station) (answer : Answer Why) (new : Configuration Disk) → Fine s w → BothHold s (λ d. Lawful s.rules) w → StepAt s w event t answer new → IsSoundAnswer event answer
+  station_sound : (w : Configuration Disk) (event : Event) (t : Station) (answer : Answer Why) (new : Configuration Disk) → Fine s w → BothHold s (λ d. Lawful s.rules) w
+      → StepAt s w event t answer new → IsSoundAnswer event answer
   station_sound w event (stations.Desk d) answer new f l p = desk_sound w d event answer p.0 p.1 f l p.2
   station_sound w event (stations.Board n) answer new f l p = board_sound w event p.0 answer p.1 p.2 f l (board_fine_at (all_votes w) w.boards n p.0 p.3 f.on_boards) p.4
 
-  pub sound_answers : (version : FileVersion) (n : ℕ) (w : Configuration Disk) (ms : List (Moment Disk Why)) → Begins s version n w → Run s w ms → AtEachEvent w ms (λ v m. IsSoundAnswer m.event m.answer)
+  pub sound_answers : (version : FileVersion) (n : ℕ) (w : Configuration Disk) (ms : List (Moment Disk Why)) → Begins s version n w → Run s w ms
+      → AtEachEvent w ms (λ v m. IsSoundAnswer m.event m.answer)
   sound_answers version n w [] e r = tt
   sound_answers version n w (m ∷ ms) e r =
-      (sound_answers version n w ms e r.0, station_sound (last_of w ms) m.event (station_of m.event) m.answer m.after (run_keeps s w ms (begins_fine s version n w e) r.0) (lawful_run version n w ms e r.0) r.1)
+      let fine = run_keeps s w ms (begins_fine s version n w e) r.0 in
+      (sound_answers version n w ms e r.0, station_sound (last_of w ms) m.event (station_of m.event) m.answer m.after fine (lawful_run version n w ms e r.0) r.1)
