@@ -3,7 +3,7 @@
 use agree_core::Position;
 
 /// How long an answer is waited for at least, in milliseconds.
-const LEAST_PAUSE: u64 = 4;
+const LEAST_PAUSE: u64 = 2;
 
 /// How long as long as nothing is known of the network.
 const FIRST_PAUSE: u64 = 20;
@@ -14,15 +14,23 @@ const LONGEST_PAUSE: u64 = 250;
 /// How often an ask is said again, beside what the station itself says.
 const MOST_TRIES: u32 = 3;
 
+/// Of how many places, from the one that is asked for on, the votes come with its answer.
+const PLACES_ANSWERED: u32 = 64;
+
 /// A station's last ask, and how long a round trip takes.
 #[derive(Clone, Copy)]
 pub struct Asking {
     at: Position,
     bytes: [u8; 64],
-    /// When it was said first, and last.
+    /// When it was said first.
     first: u64,
+    /// When an ask was said last.
     last: u64,
     tries: u32,
+    /// Whether it wasn't said yet.
+    is_held: bool,
+    /// The first place whose votes don't come with what was asked for.
+    unasked: u32,
     /// Whether no vote of its position came yet.
     is_open: bool,
     /// How long a round trip took, if one was seen: the shortest lately.
@@ -38,6 +46,8 @@ impl Asking {
             first: 0,
             last: 0,
             tries: MOST_TRIES,
+            is_held: false,
+            unasked: 0,
             is_open: false,
             trip: None,
         }
@@ -51,30 +61,38 @@ impl Asking {
         }
     }
 
-    /// Notes an ask of the station's, and answers whether it is said: not while the answer to the same may be on its way.
+    /// Notes an ask of the station's, and answers whether it is said: not while the answer to the same, or to an earlier
+    /// one that brings its answer too, may be on its way.
     pub fn ask(&mut self, at: Position, bytes: &[u8; 64], now: u64) -> bool {
-        if self.bytes == *bytes {
-            let is_due = self.left(now) == 0;
-            if is_due {
-                self.last = now;
-            }
-            return is_due;
+        if self.bytes != *bytes {
+            self.at = at;
+            self.bytes = *bytes;
+            self.tries = 0;
+            self.is_open = false;
+            self.is_held = true;
         }
-        *self = Asking {
-            at,
-            bytes: *bytes,
-            first: now,
-            last: now,
-            tries: 0,
-            is_open: true,
-            trip: self.trip,
-        };
-        true
+        let is_due = (self.is_held && at.place >= self.unasked) || self.left(now) == 0;
+        if is_due {
+            self.say(now);
+        }
+        is_due
     }
 
-    /// Whether the ask for this position may be said once more.
-    pub fn may_say_again(&self, at: Position) -> bool {
-        at == self.at && self.tries < MOST_TRIES
+    /// The ask is said.
+    fn say(&mut self, now: u64) {
+        if self.is_held {
+            self.first = now;
+            self.is_open = true;
+            self.is_held = false;
+        }
+        self.last = now;
+        self.unasked = self.at.place.saturating_add(PLACES_ANSWERED);
+    }
+
+    /// Whether the ask for this position may be said once more: it wasn't said yet, or later votes are here, so that its
+    /// answer was lost.
+    pub fn may_say_again(&self, at: Position, has_later: bool) -> bool {
+        at == self.at && (self.is_held || (has_later && self.tries < MOST_TRIES))
     }
 
     /// How long it is until then.
@@ -84,8 +102,10 @@ impl Asking {
 
     /// The ask, to be said once more.
     pub fn say_again(&mut self, now: u64) -> [u8; 64] {
-        self.tries = self.tries.saturating_add(1);
-        self.last = now;
+        if !self.is_held {
+            self.tries = self.tries.saturating_add(1);
+        }
+        self.say(now);
         self.bytes
     }
 
