@@ -7,7 +7,7 @@ use crate::early::EarlyVotes;
 use crate::repeats::Repeats;
 use crate::said::SaidVotes;
 use crate::silence::LastSaid;
-use agree_core::{Message, Position, Vote};
+use agree_core::{Asker, DeskId, Message, Position, Vote};
 use live::{CarriedLog, Clock, SealedCarrier, Taken};
 use seal::Seal;
 use std::alloc::Global;
@@ -43,6 +43,16 @@ impl<R: SealedCarrier, C: Clock> Repeater<R, C> {
         message_of(self.game, &bytes[..SIZE]).ok()
     }
 
+    /// Whether this desk's vote is here, or may come behind its answer to an earlier ask.
+    fn has_or_follows(&self, from: Asker, desk: DeskId) -> bool {
+        !self.early.lacks(from, desk) || self.asking.is_followed(desk)
+    }
+
+    /// Whether all that a station lacks may come so.
+    fn may_follow(&self, from: Asker) -> bool {
+        self.has_or_follows(from, DeskId::A) && self.has_or_follows(from, DeskId::B)
+    }
+
     /// Notes what the station says, and answers whether it is carried.
     fn note(&mut self, bytes: &[u8; 64]) -> bool {
         match self.message_in(bytes) {
@@ -57,7 +67,9 @@ impl<R: SealedCarrier, C: Clock> Repeater<R, C> {
                     round: ask.round,
                 };
                 self.early.reach(at);
-                !self.early.answers(ask.from) && self.asking.ask(at, bytes, self.clock.millis())
+                let may_follow = self.may_follow(ask.from);
+                let now = self.clock.millis();
+                !self.early.answers(ask.from) && self.asking.ask(at, bytes, may_follow, now)
             }
             None => true,
         }
@@ -126,6 +138,7 @@ impl<R: SealedCarrier, C: Clock> Repeater<R, C> {
             return false;
         }
         self.early.keep(vote, bytes);
+        self.asking.follow(vote.desk);
         true
     }
 

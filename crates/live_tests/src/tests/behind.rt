@@ -278,7 +278,8 @@ fn an_answer_is_waited_for_two_round_trips(rt: HostRuntime) {
     }
 }
 
-// What is asked for brings the votes of 64 places: an ask for one of these waits until two round trips are over.
+// What is asked for brings the votes of 64 places, where later votes come behind its answer: an ask for one of these waits
+// until two round trips are over.
 #[test]
 fn an_ask_waits_for_what_was_asked_before(rt: HostRuntime) {
     let world = World::new();
@@ -289,8 +290,12 @@ fn an_ask_waits_for_what_was_asked_before(rt: HostRuntime) {
         given(&mut window, &world, sealed_vote(&rt, DeskId::A, 0, 0)),
         Taken::Datagram(64)
     );
+    assert_eq!(rt;
+        given(&mut window, &world, sealed_vote(&rt, DeskId::A, 2, 0)),
+        Taken::Lost
+    );
     let ask = sealed_ask(Asker::B, 1, 0);
-    for (now, sent, waited) in [(30, 1, 30), (59, 1, 1), (60, 2, 250), (61, 2, 250)] {
+    for (now, sent, waited) in [(30, 1, 30), (59, 1, 1), (60, 2, 60), (61, 2, 59)] {
         world.now.set(now);
         if now == 30 {
             window.carry(&ask);
@@ -308,6 +313,9 @@ fn an_ask_waits_for_what_was_asked_before(rt: HostRuntime) {
     assert_eq!(rt; world.sent.get(), 2);
     window.carry(&sealed_ask(Asker::B, 65, 0));
     assert_eq!(rt; world.sent.get(), 3);
+    // no later vote came behind the answers to the last two
+    window.carry(&sealed_ask(Asker::B, 66, 0));
+    assert_eq!(rt; world.sent.get(), 4);
 }
 
 // Whoever has nothing to say unasked is heard every two seconds, and waits for datagrams as long as ever.
