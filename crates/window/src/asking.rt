@@ -1,5 +1,7 @@
 //! When a station's ask is said, and said again.
 
+ghost use Rattle.std.specs.Prelude.{◌<◌};
+
 use agree_core::{DeskId, Position};
 
 /// How long an answer is waited for at least, in milliseconds.
@@ -17,7 +19,10 @@ const MOST_TRIES: u32 = 3;
 /// Of how many places, from the one that is asked for on, the votes come with its answer.
 const PLACES_ANSWERED: u32 = 64;
 
-fn index_of(desk: DeskId) -> usize {
+/// The place of a desk's own flag.
+fn index_of(desk: DeskId) -> usize
+    ensures { result < 2 }
+{
     match desk {
         DeskId::A => 0,
         DeskId::B => 1,
