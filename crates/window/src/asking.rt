@@ -5,7 +5,7 @@ ghost use Rattle.std.specs.Prelude.{◌<◌};
 use agree_core::{DeskId, Position};
 
 /// How long an answer is waited for at least, in milliseconds.
-const LEAST_PAUSE: u64 = 2;
+const LEAST_PAUSE: u64 = 4;
 
 /// How long as long as nothing is known of the network.
 const FIRST_PAUSE: u64 = 20;
@@ -36,7 +36,7 @@ pub struct Asking {
     bytes: [u8; 64],
     /// When it was said first.
     first: u64,
-    /// When an ask was said last.
+    /// When an ask was said last, or a vote came that was lacking.
     last: u64,
     tries: u32,
     /// Whether it wasn't said yet.
@@ -81,9 +81,10 @@ impl Asking {
         }
     }
 
-    /// A vote of this desk came early.
-    pub fn follow(&mut self, desk: DeskId) {
+    /// A vote of this desk came early: more may come.
+    pub fn follow(&mut self, desk: DeskId, now: u64) {
         self.followed[index_of(desk)] = true;
+        self.last = now;
     }
 
     /// Whether later votes of this desk come behind its answers.
@@ -131,7 +132,7 @@ impl Asking {
         at == self.at && (self.is_held || (has_later && self.tries < MOST_TRIES))
     }
 
-    /// How long it is until then.
+    /// How long it is until then: nothing that was lacking came for so long.
     pub fn left(&self, now: u64) -> u64 {
         self.last.saturating_add(self.pause()).saturating_sub(now)
     }
@@ -147,7 +148,11 @@ impl Asking {
 
     /// A vote for this position came: an answer, if it was asked for.
     pub fn hear(&mut self, at: Position, now: u64) {
-        if !self.is_open || at != self.at {
+        if at != self.at {
+            return;
+        }
+        self.last = now;
+        if !self.is_open {
             return;
         }
         self.is_open = false;

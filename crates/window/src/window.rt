@@ -138,7 +138,7 @@ impl<R: SealedCarrier, C: Clock> Repeater<R, C> {
             return false;
         }
         self.early.keep(vote, bytes);
-        self.asking.follow(vote.desk);
+        self.asking.follow(vote.desk, self.clock.millis());
         true
     }
 

@@ -148,14 +148,14 @@ fn a_reply_is_followed(rt: HostRuntime) {
     window.carry_back(&sealed_vote(&rt, DeskId::A, 0, 0));
     assert_eq!(rt; (world.sent.get(), world.back.get()), (80, 64));
     assert!(rt; world.last.get() == sealed_vote(&rt, DeskId::A, 63, 0));
-    // to the same peer again: within what was repeated not before 2 ms are over, and behind it at once
+    // to the same peer again: within what was repeated not before 4 ms are over, and behind it at once
     world.now.set(1);
     window.carry_back(&sealed_vote(&rt, DeskId::A, 5, 0));
     assert_eq!(rt; world.back.get(), 65);
     window.carry_back(&sealed_vote(&rt, DeskId::A, 64, 0));
     assert_eq!(rt; world.back.get(), 81);
     assert!(rt; world.last.get() == sealed_vote(&rt, DeskId::A, 79, 0));
-    world.now.set(3);
+    world.now.set(5);
     window.carry_back(&sealed_vote(&rt, DeskId::A, 5, 0));
     assert_eq!(rt; world.back.get(), 145);
     // another peer has its own
@@ -188,7 +188,7 @@ fn early_votes_come_when_the_board_is_there(rt: HostRuntime) {
         given(&mut window, &world, sealed_vote(&rt, DeskId::A, 2, 0)),
         Taken::Lost
     );
-    world.now.set(2);
+    world.now.set(4);
     window.carry(&sealed_ask(Asker::Board, 2, 0));
     assert_eq!(rt; world.sent.get(), 2);
 }
@@ -279,7 +279,7 @@ fn an_answer_is_waited_for_two_round_trips(rt: HostRuntime) {
 }
 
 // What is asked for brings the votes of 64 places, where later votes come behind its answer: an ask for one of these waits
-// until two round trips are over.
+// until nothing that is lacking came for two round trips.
 #[test]
 fn an_ask_waits_for_what_was_asked_before(rt: HostRuntime) {
     let world = World::new();
@@ -295,11 +295,14 @@ fn an_ask_waits_for_what_was_asked_before(rt: HostRuntime) {
         Taken::Lost
     );
     let ask = sealed_ask(Asker::B, 1, 0);
-    for (now, sent, waited) in [(30, 1, 30), (59, 1, 1), (60, 2, 60), (61, 2, 59)] {
+    world.now.set(50);
+    window.carry(&ask);
+    assert_eq!(rt;
+        given(&mut window, &world, sealed_vote(&rt, DeskId::A, 3, 0)),
+        Taken::Lost
+    );
+    for (now, sent, waited) in [(50, 1, 60), (109, 1, 1), (110, 2, 60), (111, 2, 59)] {
         world.now.set(now);
-        if now == 30 {
-            window.carry(&ask);
-        }
         assert!(rt; kept(&mut window).is_none());
         assert_eq!(rt;
             (world.sent.get(), world.waited.get()),
