@@ -81,12 +81,16 @@ impl EarlyVotes {
         self.votes.contains_key(&Ballot { at, desk })
     }
 
-    /// Whether all is kept that a station lacks which has heard nothing of its position yet.
-    pub fn answers(&self, from: Asker) -> bool {
-        match from {
-            Asker::A => self.has(DeskId::B),
-            Asker::B => self.has(DeskId::A),
-            Asker::Board => self.has(DeskId::A) && self.has(DeskId::B),
+    /// Whether a station that has heard nothing of its position yet lacks this desk's vote.
+    pub fn lacks(&self, from: Asker, desk: DeskId) -> bool {
+        match (from, desk) {
+            (Asker::A, DeskId::A) | (Asker::B, DeskId::B) => false,
+            _ => !self.has(desk),
         }
+    }
+
+    /// Whether all is kept that such a station lacks.
+    pub fn answers(&self, from: Asker) -> bool {
+        !self.lacks(from, DeskId::A) && !self.lacks(from, DeskId::B)
     }
 }

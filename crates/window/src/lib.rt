@@ -5,6 +5,7 @@ mod asking;
 mod early;
 mod repeats;
 mod said;
+mod silence;
 mod window;
 
 pub use window::Window;

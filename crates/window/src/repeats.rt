@@ -5,7 +5,7 @@ use std::alloc::Global;
 use std::collections::BTreeMap;
 
 /// For how many milliseconds what was repeated to a peer isn't repeated to it again.
-const PAUSE: u64 = 20;
+const PAUSE: u64 = 4;
 
 /// The last position that was repeated to a peer, and when.
 #[derive(Clone, Copy)]

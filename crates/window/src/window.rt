@@ -6,14 +6,15 @@ use crate::asking::Asking;
 use crate::early::EarlyVotes;
 use crate::repeats::Repeats;
 use crate::said::SaidVotes;
-use agree_core::{Message, Position, Vote};
+use crate::silence::LastSaid;
+use agree_core::{Asker, DeskId, Message, Position, Vote};
 use live::{CarriedLog, Clock, SealedCarrier, Taken};
 use seal::Seal;
 use std::alloc::Global;
 use wire::{SIZE, message_of};
 
 /// How many votes are repeated behind a reply.
-const MOST_REPEATED: usize = 32;
+const MOST_REPEATED: usize = 63;
 
 /// What a window does, but for its log.
 #[derive(Drop)]
@@ -28,6 +29,7 @@ struct Repeater<R, C> {
     repeats: Repeats,
     early: EarlyVotes,
     asking: Asking,
+    last_said: LastSaid,
 }
 
 /// Puts a sealed message into the front of a buffer.
@@ -39,6 +41,16 @@ impl<R: SealedCarrier, C: Clock> Repeater<R, C> {
     /// The message in a sealed datagram of the match, be its tag as it may.
     fn message_in(&self, bytes: &[u8; 64]) -> Option<Message> {
         message_of(self.game, &bytes[..SIZE]).ok()
+    }
+
+    /// Whether this desk's vote is here, or may come behind its answer to an earlier ask.
+    fn has_or_follows(&self, from: Asker, desk: DeskId) -> bool {
+        !self.early.lacks(from, desk) || self.asking.is_followed(desk)
+    }
+
+    /// Whether all that a station lacks may come so.
+    fn may_follow(&self, from: Asker) -> bool {
+        self.has_or_follows(from, DeskId::A) && self.has_or_follows(from, DeskId::B)
     }
 
     /// Notes what the station says, and answers whether it is carried.
@@ -55,10 +67,18 @@ impl<R: SealedCarrier, C: Clock> Repeater<R, C> {
                     round: ask.round,
                 };
                 self.early.reach(at);
-                !self.early.answers(ask.from) && self.asking.ask(at, bytes, self.clock.millis())
+                let may_follow = self.may_follow(ask.from);
+                let now = self.clock.millis();
+                !self.early.answers(ask.from) && self.asking.ask(at, bytes, may_follow, now)
             }
             None => true,
         }
+    }
+
+    /// Carries a datagram to all.
+    fn say(&mut self, bytes: &[u8; 64], now: u64) {
+        self.carrier.carry(bytes);
+        self.last_said.note(bytes, now);
     }
 
     /// Repeats to who asked last what was said behind a position, and answers the last position that was repeated.
@@ -85,18 +105,31 @@ impl<R: SealedCarrier, C: Clock> Repeater<R, C> {
         }
     }
 
-    /// Says the last ask once more, where that is due: later votes are here, so its answer was lost. It answers how long a
-    /// datagram is waited for.
-    fn ask_again(&mut self, wait: u64) -> u64 {
-        if self.early.is_empty() || !self.asking.may_say_again(self.early.position()) {
-            return wait;
+    /// Says what the station said last once more, where that was two seconds ago: so others hear that it is there, also while
+    /// it has nothing to say unasked.
+    fn break_silence(&mut self, now: u64) {
+        if let Some(bytes) = self.last_said.due(now) {
+            self.say(&bytes, now);
         }
-        let now = self.clock.millis();
-        if self.asking.left(now) == 0 {
+    }
+
+    /// Whether the station's ask may be said without its doing: it was held, or later votes are here.
+    fn may_ask_again(&self) -> bool {
+        let has_later = !self.early.is_empty();
+        self.asking.may_say_again(self.early.position(), has_later)
+    }
+
+    /// Says the station's ask, where that is due. It answers how long a datagram is waited for.
+    fn ask_again(&mut self, wait: u64, now: u64) -> u64 {
+        if self.may_ask_again() && self.asking.left(now) == 0 {
             let bytes = self.asking.say_again(now);
-            self.carrier.carry(&bytes);
+            self.say(&bytes, now);
         }
-        wait.min(self.asking.left(now))
+        if self.may_ask_again() {
+            wait.min(self.asking.left(now))
+        } else {
+            wait
+        }
     }
 
     /// Whether a vote came early: then it is kept, if it opens.
@@ -105,6 +138,7 @@ impl<R: SealedCarrier, C: Clock> Repeater<R, C> {
             return false;
         }
         self.early.keep(vote, bytes);
+        self.asking.follow(vote.desk, self.clock.millis());
         true
     }
 
@@ -129,7 +163,9 @@ impl<R: SealedCarrier, C: Clock> Repeater<R, C> {
             put(&bytes, buffer);
             return Taken::Datagram(64);
         }
-        let wait = self.ask_again(wait);
+        let now = self.clock.millis();
+        let wait = self.ask_again(wait, now);
+        self.break_silence(now);
         let count = match self.carrier.bring(buffer, wait) {
             Taken::Datagram(count) => count,
             missed => return missed,
@@ -145,7 +181,8 @@ impl<R: SealedCarrier, C: Clock> Repeater<R, C> {
     /// Carries what the station says to all, unless it asks for what is here.
     fn send(&mut self, bytes: &[u8; 64]) {
         if self.note(bytes) {
-            self.carrier.carry(bytes);
+            let now = self.clock.millis();
+            self.say(bytes, now);
         }
     }
 
@@ -161,7 +198,7 @@ impl<R: SealedCarrier, C: Clock> Repeater<R, C> {
 
 /// Carries sealed datagrams as another carrier does, and saves a station that is behind most of its round trips. It does
 /// what a network may: it repeats votes that were said, keeps back votes that came early until the station is there, says
-/// an ask once more, and leaves out asks whose answers are here.
+/// an ask later or once more, leaves out asks whose answers are here, and repeats what a station said that is silent.
 #[derive(Drop)]
 pub struct Window<R, C> {
     repeater: Repeater<R, C>,
@@ -180,6 +217,7 @@ impl<R: SealedCarrier, C: Clock> Window<R, C> {
             repeats: Repeats::new(alloc),
             early: EarlyVotes::new(alloc),
             asking: Asking::new(),
+            last_said: LastSaid::new(),
         };
         Window {
             repeater,

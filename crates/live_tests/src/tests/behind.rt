@@ -141,26 +141,27 @@ fn kept(window: &mut Windowed<'_>) -> Option<[u8; 64]> {
 fn a_reply_is_followed(rt: HostRuntime) {
     let world = World::new();
     let mut window = windowed(rt.alloc(), &world);
-    for place in 0..40 {
+    for place in 0..80 {
         window.carry(&sealed_vote(&rt, DeskId::A, place, 0));
     }
-    assert_eq!(rt; (world.sent.get(), world.back.get()), (40, 0));
+    assert_eq!(rt; (world.sent.get(), world.back.get()), (80, 0));
     window.carry_back(&sealed_vote(&rt, DeskId::A, 0, 0));
-    assert_eq!(rt; (world.sent.get(), world.back.get()), (40, 33));
-    assert!(rt; world.last.get() == sealed_vote(&rt, DeskId::A, 32, 0));
-    // to the same peer again: within what was repeated not before 20 ms are over, and behind it at once
+    assert_eq!(rt; (world.sent.get(), world.back.get()), (80, 64));
+    assert!(rt; world.last.get() == sealed_vote(&rt, DeskId::A, 63, 0));
+    // to the same peer again: within what was repeated not before 4 ms are over, and behind it at once
+    world.now.set(1);
     window.carry_back(&sealed_vote(&rt, DeskId::A, 5, 0));
-    assert_eq!(rt; world.back.get(), 34);
-    window.carry_back(&sealed_vote(&rt, DeskId::A, 33, 0));
-    assert_eq!(rt; world.back.get(), 41);
-    assert!(rt; world.last.get() == sealed_vote(&rt, DeskId::A, 39, 0));
-    world.now.set(20);
+    assert_eq!(rt; world.back.get(), 65);
+    window.carry_back(&sealed_vote(&rt, DeskId::A, 64, 0));
+    assert_eq!(rt; world.back.get(), 81);
+    assert!(rt; world.last.get() == sealed_vote(&rt, DeskId::A, 79, 0));
+    world.now.set(5);
     window.carry_back(&sealed_vote(&rt, DeskId::A, 5, 0));
-    assert_eq!(rt; world.back.get(), 74);
+    assert_eq!(rt; world.back.get(), 145);
     // another peer has its own
     world.peer.set(1);
-    window.carry_back(&sealed_vote(&rt, DeskId::A, 38, 0));
-    assert_eq!(rt; world.back.get(), 76);
+    window.carry_back(&sealed_vote(&rt, DeskId::A, 78, 0));
+    assert_eq!(rt; world.back.get(), 147);
 }
 
 #[test]
@@ -187,6 +188,7 @@ fn early_votes_come_when_the_board_is_there(rt: HostRuntime) {
         given(&mut window, &world, sealed_vote(&rt, DeskId::A, 2, 0)),
         Taken::Lost
     );
+    world.now.set(4);
     window.carry(&sealed_ask(Asker::Board, 2, 0));
     assert_eq!(rt; world.sent.get(), 2);
 }
@@ -227,6 +229,7 @@ fn what_is_far_ahead_or_forged_is_not_kept(rt: HostRuntime) {
     let mut forged = sealed_vote(&rt, DeskId::A, 1, 0);
     forged[63] ^= 1;
     assert_eq!(rt; given(&mut window, &world, forged), Taken::Datagram(64));
+    world.now.set(20);
     window.carry(&sealed_ask(Asker::B, 1, 0));
     assert_eq!(rt; world.sent.get(), 2);
 }
@@ -265,12 +268,92 @@ fn an_answer_is_waited_for_two_round_trips(rt: HostRuntime) {
         given(&mut window, &world, sealed_vote(&rt, DeskId::A, 0, 0)),
         Taken::Datagram(64)
     );
-    let ask = sealed_ask(Asker::B, 1, 0);
+    let ask = sealed_ask(Asker::B, 64, 0);
     window.carry(&ask);
     assert_eq!(rt; world.sent.get(), 2);
     for (now, sent) in [(89, 2), (90, 3), (149, 3), (150, 4)] {
         world.now.set(now);
         window.carry(&ask);
         assert_eq!(rt; world.sent.get(), sent);
+    }
+}
+
+// What is asked for brings the votes of 64 places, where later votes come behind its answer: an ask for one of these waits
+// until nothing that is lacking came for two round trips.
+#[test]
+fn an_ask_waits_for_what_was_asked_before(rt: HostRuntime) {
+    let world = World::new();
+    let mut window = windowed(rt.alloc(), &world);
+    window.carry(&sealed_ask(Asker::B, 0, 0));
+    world.now.set(30);
+    assert_eq!(rt;
+        given(&mut window, &world, sealed_vote(&rt, DeskId::A, 0, 0)),
+        Taken::Datagram(64)
+    );
+    assert_eq!(rt;
+        given(&mut window, &world, sealed_vote(&rt, DeskId::A, 2, 0)),
+        Taken::Lost
+    );
+    let ask = sealed_ask(Asker::B, 1, 0);
+    world.now.set(50);
+    window.carry(&ask);
+    assert_eq!(rt;
+        given(&mut window, &world, sealed_vote(&rt, DeskId::A, 3, 0)),
+        Taken::Lost
+    );
+    for (now, sent, waited) in [(50, 1, 60), (109, 1, 1), (110, 2, 60), (111, 2, 59)] {
+        world.now.set(now);
+        assert!(rt; kept(&mut window).is_none());
+        assert_eq!(rt;
+            (world.sent.get(), world.waited.get()),
+            (sent, waited),
+            "{now}"
+        );
+    }
+    assert!(rt; world.last.get() == ask);
+    // the ask for 1 brings the votes of 1 to 64
+    window.carry(&sealed_ask(Asker::B, 64, 0));
+    assert_eq!(rt; world.sent.get(), 2);
+    window.carry(&sealed_ask(Asker::B, 65, 0));
+    assert_eq!(rt; world.sent.get(), 3);
+    // no later vote came behind the answers to the last two
+    window.carry(&sealed_ask(Asker::B, 66, 0));
+    assert_eq!(rt; world.sent.get(), 4);
+}
+
+// Whoever has nothing to say unasked is heard every two seconds, and waits for datagrams as long as ever.
+#[test]
+fn what_was_said_last_is_repeated_in_silence(rt: HostRuntime) {
+    let world = World::new();
+    let mut window = windowed(rt.alloc(), &world);
+    let own = sealed_vote(&rt, DeskId::A, 0, 0);
+    let ask = sealed_ask(Asker::A, 1, 0);
+    let next = sealed_vote(&rt, DeskId::A, 1, 0);
+    world.now.set(10_000);
+    assert!(rt; kept(&mut window).is_none());
+    assert_eq!(rt; world.sent.get(), 0);
+    window.carry(&own);
+    window.carry(&ask);
+    assert_eq!(rt;
+        given(&mut window, &world, sealed_vote(&rt, DeskId::B, 1, 0)),
+        Taken::Datagram(64)
+    );
+    for (now, sent) in [(11_999, 2), (12_000, 3), (13_999, 3), (14_000, 4)] {
+        world.now.set(now);
+        assert!(rt; kept(&mut window).is_none());
+        assert_eq!(rt;
+            (world.sent.get(), world.waited.get()),
+            (sent, 250),
+            "{now}"
+        );
+        assert!(rt; world.last.get() == ask);
+    }
+    world.now.set(15_500);
+    window.carry(&next);
+    for (now, sent) in [(16_000, 5), (17_499, 5), (17_500, 6)] {
+        world.now.set(now);
+        assert!(rt; kept(&mut window).is_none());
+        assert_eq!(rt; world.sent.get(), sent, "{now}");
+        assert!(rt; world.last.get() == next);
     }
 }
