@@ -3,7 +3,7 @@ use Rattle.machine.specs.Calls.{Adds, AddsUntilFailed, CutTo, Failed, Sync, Take
 use Rattle.machine.proofs.CallLemmas.{after_failure, first_failed, later_failed, told_by_failure}
 use Rattle.machine.proofs.renewal.renew.Goals as goal
 
--- src/renewal.rt:48:5
+-- src/renewal.rt:47:5
 pub returns-in_err-write_at-clause-failed : goal.returns-in_err-write_at-clause-failed
 returns-in_err-write_at-clause-failed g c =
     let calls = g.F.Host.calls in
@@ -12,7 +12,7 @@ returns-in_err-write_at-clause-failed g c =
     (later_failed (calls c.args.file.now) (calls c.cut.new.self) (calls c.write_at.new.self) (CutTo 0) (WriteAt 0 bytes ∷ Sync ∷ TakeName ∷ []) c.in_ok-cut.ensures.0
     (first_failed (calls c.cut.new.self) (calls c.write_at.new.self) (WriteAt 0 bytes) (Sync ∷ TakeName ∷ []) c.in_err-write_at.ensures.1))
 
--- src/renewal.rt:49:5
+-- src/renewal.rt:48:5
 pub returns-in_err-sync-clause-failed : goal.returns-in_err-sync-clause-failed
 returns-in_err-sync-clause-failed g c =
     let calls = g.F.Host.calls in
@@ -22,7 +22,7 @@ returns-in_err-sync-clause-failed g c =
     (later_failed (calls c.cut.new.self) (calls c.write_at.new.self) (calls c.sync.new.self) (WriteAt 0 bytes) (Sync ∷ TakeName ∷ []) c.in_ok-write_at.ensures.0
     (first_failed (calls c.write_at.new.self) (calls c.sync.new.self) Sync (TakeName ∷ []) c.in_err-sync.ensures.1)))
 
--- src/renewal.rt:42:1
+-- src/renewal.rt:41:1
 pub returns-clause-failed : goal.returns-clause-failed
 returns-clause-failed g c =
     let calls = g.F.Host.calls in
