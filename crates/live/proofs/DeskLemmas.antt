@@ -132,7 +132,7 @@ module _ {S B D : Type 0} {g : Files S D} {h : Disks D} {b : Books B} where
   -- its scorer typed a line
   pub says : (sheet : Sheet) (k l : Desk S B D g h b) (line : List ℕ) (answer : Said) (course : Course) (warned : Warned) (turns : ℕ) (before after : List Passed) (x y : List Input) (s t : Option (List ℕ)) →
       Calls sheet k l (Typed line answer) before after → y ≡ x ++ Line line ∷ [] → course ≡ end_of answer →
-      Appends s t (said_text sheet (innings_of k) (state_of k).seat.position (own_line (state_of k)) (state_of k).seat.theirs (state_of l).book answer) →
+      Appends s t (said_text sheet (innings_of k) (state_of k).seat.position (own_line (state_of k)) (state_of k).seat.theirs warned.of_silence (state_of l).book answer) →
       DeskGoes sheet k l (process_of k warned turns further) (process_of l warned turns course) before after x y s t
   says sheet k l line answer course warned turns before after x y s t c types is text =
       called sheet k l (Typed line answer) warned turns (process_of l warned turns course) before before after x y s t tt c (sym (append-nil before)) types

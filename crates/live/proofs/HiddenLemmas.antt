@@ -17,9 +17,11 @@ use Rattle.wire.specs.declared.what.What.{What}
 use Rattle.wire.specs.declared.what.What.TheVariants as whats
 use Rattle.cards.specs.Sheet.{Sheet}
 use Rattle.screen.specs.declared.word.Word.{Word}
+use Rattle.live.specs.declared.reminder.Reminder.{Reminder}
+use Rattle.live.specs.declared.reminder.Reminder.TheVariants.{HasWritten, IsHeard, IsMissed}
 use Rattle.live.specs.declared.said.Said.TheVariants as said
 use Rattle.live.specs.declared.warned.Warned.{Warned}
-use Rattle.live.specs.Desks.{DeskCall, DeskProcess, Given, Reminded, Ticked, TurnEnded, Typed, TypingEnded, Unopened, entry_in, own_line, told_of}
+use Rattle.live.specs.Desks.{DeskCall, DeskProcess, Given, MayRemind, Reminded, Ticked, TurnEnded, Typed, TypingEnded, Unopened, entry_in, own_line, told_of}
 use Rattle.live.specs.Hidden.{AsksWhere, HidesTheOther, IsPennedDiffering, TellsBoth, process_with}
 use Rattle.live.specs.Texts.{came_text, differs_text}
 
@@ -89,6 +91,12 @@ not_by_which sheet innings k l Ticked e f o p n = refl
 not_by_which sheet innings k l (Reminded reminder) e f o p n = refl
 not_by_which sheet innings k l TurnEnded e f o p n = refl
 
+-- nor does it whether the scorer may be reminded
+told_of_any : {Disk : Type 0} (k : DeskProcess Disk) (reminder : Reminder) (e f : Entry) → MayRemind (process_with k (Some e)) reminder → MayRemind (process_with k (Some f)) reminder
+told_of_any k HasWritten e f may = may
+told_of_any k IsMissed e f may = may
+told_of_any k IsHeard e f may = may
+
 -- of what came, but of a vote that differs, nothing depends on the entry that came
 pub came_but_differing : (sheet : Sheet) (innings place : ℕ) (own one other : Option Entry) (book : List Entry) (warned : Warned) (what : What) → (what ≡ whats.Heard Heard.Differ → ⊥) → came_text sheet innings place own one book warned what ≡ came_text sheet innings place own other book warned what
 came_but_differing sheet innings place own one other book warned (whats.Bad fault) n = refl
@@ -112,6 +120,7 @@ hides_the_other view = record {
   cast = only_cast;
   noted = not_by_noted;
   whether = not_by_which;
+  told = told_of_any;
   stored = λ rules k l own out h. h.1.4;
 }
 

@@ -1,5 +1,5 @@
 -- What a scorer is told of the other desk by the clock comes once.
-use Rattle.std.proofs.Common.{◌≡◌, ℕ, Bool, true, false, List, [], ◌∷◌, refl, sym, ap, ◌∙◌}
+use Rattle.std.proofs.Common.{◌≡◌, ℕ, Bool, true, false, List, [], ◌∷◌, refl, sym, ap, ◌∙◌, subst}
 use Rattle.std.specs.Prelude.{All}
 use Rattle.std.proofs.lemmas.List.Elements.{All-cons, All-head, All-nil, All-tail}
 use Rattle.agree_core.specs.declared.messages.Message.{Message}
@@ -10,7 +10,6 @@ use Rattle.wire.specs.declared.what.What.TheVariants as whats
 use Rattle.live.specs.Desks.{DeskCall, DeskProcess, DiskView, Given, MayCall, ProcessStep, Reminded, Ticked, TurnEnded, Typed, TypingEnded, Unopened, desk_kind, warned_at}
 use Rattle.live.specs.Reminding.{BringsNone, IsNot, RemindsOnce, brings_news}
 use Rattle.live.specs.Runs.{Moment, Run, last_of}
-use Rattle.live.specs.Texts.{unwarned}
 use Rattle.live.specs.declared.reminder.Reminder.{Reminder}
 use Rattle.live.specs.declared.reminder.Reminder.TheVariants.{HasWritten, IsHeard, IsMissed}
 use Rattle.live.specs.declared.warned.Warned.{Warned}
@@ -71,7 +70,7 @@ module _ {Disk : Type 0} (sheet : Sheet) (view : FileView Disk) (disks : DiskVie
 
   -- it may be told only where it wasn't
   not_told : (k l : DeskProcess Disk) (call : DeskCall) (out : List Message) (reminder : Reminder) (P : Type 0) → Steps k call out l → (MayCall k (Reminded reminder) → P) → call ≡ Reminded reminder → P
-  not_told k l call out reminder P step no e = no (subst (MayCall k) e step.4)
+  not_told k l call out reminder P step told e = told (subst (MayCall k) e step.4)
 
   -- the process after moments, and that none of them tells this
   record Still (reminder : Reminder) (Stays : Warned → Type 0) (l : DeskProcess Disk) (ms : List (Moment (DeskProcess Disk) DeskCall)) : Type 0 where

@@ -17,8 +17,9 @@ use Rattle.wire.specs.declared.what.What.{What}
 use Rattle.wire.specs.declared.what.What.TheVariants as whats
 use Rattle.cards.specs.Sheet.{Sheet}
 use Rattle.screen.specs.declared.word.Word.{Word}
+use Rattle.live.specs.declared.reminder.Reminder.{Reminder}
 use Rattle.live.specs.declared.said.Said.TheVariants as said
-use Rattle.live.specs.Desks.{DeskCall, DeskProcess, Given, Typed, own_line, told_of}
+use Rattle.live.specs.Desks.{DeskCall, DeskProcess, Given, MayRemind, Typed, own_line, told_of}
 use Rattle.live.specs.Texts.{at_place, both_lines}
 
 -- the same seat, desk and process, with another vote of the other desk noted, or none
@@ -43,8 +44,8 @@ AsksWhere call = (line : List ℕ) × (call ≡ Typed line (said.Asks Word.Where
 -- own one is stored: until that is cast, the other's is answered with `Noted` whatever it says, and nothing is told then; a
 -- text depends on bytes that came by their answer alone, unless that is `Differ`, which is answered only where the own vote
 -- was cast before; and it depends on no vote that is noted, unless a vote is penned that differs from it, which is stored
--- then; where the scorer asks where the desk stands, it depends on whether a vote is noted, and not on which. So two runs
--- that differ in that entry alone print the same until then.
+-- then; where the scorer asks where the desk stands, it depends on whether a vote is noted, and not on which, and so does
+-- it whether he may be reminded. So two runs that differ in that entry alone print the same until then.
 pub record HidesTheOther {Disk : Type 0} (view : FileView Disk) : Type 0 where
   pub answer : (s t : SeatState) (v : Vote) (h : Heard) → s.mine ≡ None → s.theirs ≡ None → IsForNow s v → Hears s v h t
       → h ≡ Heard.Noted
@@ -61,6 +62,8 @@ pub record HidesTheOther {Disk : Type 0} (view : FileView Disk) : Type 0 where
       → (IsPennedDiffering call → ⊥)
       → told_of sheet innings (process_with k (Some e)) call (process_with l o)
       ≡ told_of sheet innings (process_with k (Some f)) call (process_with l p)
+  pub told : (k : DeskProcess Disk) (reminder : Reminder) (e f : Entry)
+      → MayRemind (process_with k (Some e)) reminder → MayRemind (process_with k (Some f)) reminder
   pub stored : (rules : Rules BookRefusal) (k l : DeskState Disk) (own : Entry) (out : List Message)
       → Pens view rules k own (desks.Penned Settled.Differ) l out
       → Holds view l.disk (next_ballot k own ∷ k.votes)

@@ -121,35 +121,37 @@ reminder_text place reminders.HasWritten = writing place
 reminder_text place reminders.IsMissed = silence
 reminder_text place reminders.IsHeard = codes "the other desk is heard again\n"
 
--- what is known of the other desk where the scorer asks: that it has written, where that is noted and the own vote isn't
--- cast; that it isn't heard, where that was told and it wasn't heard since
-abbrev pub other_text : ℕ → Option Entry → Bool → List ℕ
-other_text place (Some own) noted = []
-other_text place None noted = if noted then writing place else []
+-- what is known of the other desk where the scorer asks: that it has written, where its vote is noted and the own one
+-- isn't cast; that it isn't heard, where that was told and it wasn't heard since
+abbrev pub is_waited_for : Option Entry → Option Entry → Bool
+is_waited_for own other = if is_some own then false else is_some other
+
+abbrev pub other_text : ℕ → Bool → List ℕ
+other_text place waited = if waited then writing place else []
 
 abbrev pub silence_text : Bool → List ℕ
 silence_text silent = if silent then silence else []
 
 abbrev pub standing : Sheet → ℕ → List Entry → Position → Option Entry → Bool → Bool → List ℕ
-standing sheet innings book at own noted silent =
-    greeting sheet innings book at own ++ other_text at.place own noted ++ silence_text silent
+standing sheet innings book at own waited silent =
+    greeting sheet innings book at own ++ other_text at.place waited ++ silence_text silent
 
 -- what is shown of a word, where a desk stands so
 abbrev pub word_text : Sheet → ℕ → Position → Option Entry → Bool → Bool → List Entry → Word → List ℕ
-word_text sheet innings at own noted silent book words.Where = standing sheet innings book at own noted silent
-word_text sheet innings at own noted silent book (words.Entries most) = listing most book
-word_text sheet innings at own noted silent book words.Total = over_check sheet (history_of book)
-word_text sheet innings at own noted silent book words.Cards = both_cards sheet (history_of book)
-word_text sheet innings at own noted silent book words.Sides = both_sides sheet
-word_text sheet innings at own noted silent book words.Forms = help
-word_text sheet innings at own noted silent book (words.More topic) = help_on topic
+word_text sheet innings at own waited silent book words.Where = standing sheet innings book at own waited silent
+word_text sheet innings at own waited silent book (words.Entries most) = listing most book
+word_text sheet innings at own waited silent book words.Total = over_check sheet (history_of book)
+word_text sheet innings at own waited silent book words.Cards = both_cards sheet (history_of book)
+word_text sheet innings at own waited silent book words.Sides = both_sides sheet
+word_text sheet innings at own waited silent book words.Forms = help
+word_text sheet innings at own waited silent book (words.More topic) = help_on topic
 
 -- of a line at this position, with the desk's own vote there and the other desk's before it, where the scorer was told
 -- that the other desk isn't heard or not, and with the book after it
 abbrev pub said_text : Sheet → ℕ → Position → Option Entry → Option Entry → Bool → List Entry → Said → List ℕ
 said_text sheet innings at own other silent book said.Quit = []
 said_text sheet innings at own other silent book (said.Asks word) =
-    word_text sheet innings at own (is_some other) silent book word
+    word_text sheet innings at own (is_waited_for own other) silent book word
 said_text sheet innings at own other silent book (said.Unclear unclear) = unclear_text sheet unclear
 said_text sheet innings at own other silent book (said.Fault fault) = fault_text fault
 said_text sheet innings at own other silent book said.SayAgain =

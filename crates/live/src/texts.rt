@@ -205,7 +205,11 @@ fn print_pending<W: Write>(
 }
 
 /// Prints that the two scorers differ at this place, with the entry of each where it is known.
-pub fn print_differs<W: Write>(out: &mut Watched<W>, place: u32, both: Both) -> Result<(), WriteFailed>
+pub fn print_differs<W: Write>(
+    out: &mut Watched<W>,
+    place: u32,
+    both: Both,
+) -> Result<(), WriteFailed>
     requires own { IfSome both.own IsEntry }
     requires other { IfSome both.other IsEntry }
     ensures text { OnOk result (Prints W.contents out.old out.new
@@ -290,25 +294,19 @@ pub fn print_greeting<B: BookOf, W: Write>(
     print_place(out, at, own)
 }
 
-/// Prints that the other scorer has written, where that is so and this one hasn't.
+/// Prints that the other scorer has written, where this one is waited for.
 fn print_other<W: Write>(
     out: &mut Watched<W>,
     place: u32,
-    own: Option<Entry>,
-    is_noted: bool,
+    is_waited_for: bool,
 ) -> Result<(), WriteFailed>
-    ensures text { OnOk result (Prints W.contents out.old out.new (texts.other_text place own is_noted)) }
+    ensures text { OnOk result (Prints W.contents out.old out.new (texts.other_text place is_waited_for)) }
     ensures failed { OnErr result (has_failed out.new ≡ true) }
 {
-    match own {
-        Some(_) => Ok(()),
-        None => {
-            if is_noted {
-                print_at(out, place, "the other has written")
-            } else {
-                Ok(())
-            }
-        }
+    if is_waited_for {
+        print_at(out, place, "the other has written")
+    } else {
+        Ok(())
     }
 }
 
@@ -330,17 +328,18 @@ fn print_standing<B: BookOf, W: Write>(
     sheet: &MatchSheet,
     at: Position,
     own: Option<Entry>,
-    is_noted: bool,
+    is_waited_for: bool,
     is_silent: bool,
     book: &B,
 ) -> Result<(), WriteFailed>
     requires { IfSome own IsEntry }
     ensures text { OnOk result (Prints W.contents out.old out.new
-        (texts.standing sheet.now (B.innings_a_side book.now) (B.content book.now) at own is_noted is_silent)) }
+        (texts.standing sheet.now (B.innings_a_side book.now) (B.content book.now) at own is_waited_for is_silent)) }
     ensures failed { OnErr result (has_failed out.new ≡ true) }
 {
+    let place = at.place;
     print_greeting(out, sheet, at, own, book)?;
-    print_other(out, at.place, own, is_noted)?;
+    print_other(out, place, is_waited_for)?;
     print_silence(out, is_silent)
 }
 
@@ -350,18 +349,18 @@ fn print_asked<B: BookOf, W: Write>(
     sheet: &MatchSheet,
     at: Position,
     own: Option<Entry>,
-    is_noted: bool,
+    is_waited_for: bool,
     is_silent: bool,
     book: &B,
     word: Word,
 ) -> Result<(), WriteFailed>
     requires { IfSome own IsEntry }
     ensures text { OnOk result (Prints W.contents out.old out.new
-        (texts.word_text sheet.now (B.innings_a_side book.now) at own is_noted is_silent (B.content book.now) word)) }
+        (texts.word_text sheet.now (B.innings_a_side book.now) at own is_waited_for is_silent (B.content book.now) word)) }
     ensures failed { OnErr result (has_failed out.new ≡ true) }
 {
     match word {
-        Word::Where => print_standing(out, sheet, at, own, is_noted, is_silent, book),
+        Word::Where => print_standing(out, sheet, at, own, is_waited_for, is_silent, book),
         Word::Entries(most) => print_listing(out, book, most),
         Word::Total => print_check(out, sheet, book),
         Word::Cards => print_cards(out, sheet, book),
@@ -395,8 +394,21 @@ fn print_answer<B: BookOf, W: Write>(
     match said {
         Said::Quit => Ok(()),
         Said::Asks(word) => {
-            let is_noted = both.other.is_some();
-            print_asked(out, sheet, at, both.own, is_noted, is_silent, book, *word)
+            let is_waited_for = if both.own.is_some() {
+                false
+            } else {
+                both.other.is_some()
+            };
+            print_asked(
+                out,
+                sheet,
+                at,
+                both.own,
+                is_waited_for,
+                is_silent,
+                book,
+                *word,
+            )
         }
         Said::Unclear(unclear) => print_unclear(out, sheet, unclear),
         Said::Fault(fault) => print_fault(out, *fault),
