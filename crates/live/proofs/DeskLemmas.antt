@@ -34,9 +34,10 @@ use Rattle.live.specs.Passed.{Passed, Came, Sent, sends, sent_bytes}
 use Rattle.live.specs.Runs.{Goes, Kind}
 use Rattle.live.specs.Saying.{ComesTo, SaysEntry}
 use Rattle.live.specs.Typing.{Input, Line, End}
-use Rattle.live.specs.Texts.{came_text, said_text, unopened_text, warned_after, warned_unopened}
+use Rattle.live.specs.Texts.{came_text, reminder_text, said_text, unopened_text, warned_after, warned_reminded, warned_unopened}
 use Rattle.live.specs.Ends.{Course, course_of, end_at, end_of, ending, further, known_at, known_to, turns_after, written as answer_of}
-use Rattle.live.specs.Desks.{Blames, Calls, DeskCall, DeskGoes, DeskProcess, DeskStep, Given, FitsLongest, Ticked, TurnEnded, Typed, TypingEnded, Unopened, after_call, course_after, desk_kind, disks_of, entry_in, given, innings_of, kind_of, own_line, process_of, told_of, typed}
+use Rattle.live.specs.Desks.{Blames, Calls, DeskCall, DeskGoes, DeskProcess, DeskStep, Given, FitsLongest, MayCall, MayRemind, Reminded, Ticked, TurnEnded, Typed, TypingEnded, Unopened, after_call, course_after, desk_kind, disks_of, entry_in, given, innings_of, kind_of, own_line, process_of, told_of, typed}
+use Rattle.live.specs.declared.reminder.Reminder.{Reminder}
 use Rattle.live.specs.declared.said.Said.{Said}
 use Rattle.live.specs.declared.said.Said.TheVariants as said
 use Rattle.live.specs.declared.warned.Warned.{Warned}
@@ -115,15 +116,15 @@ module _ {S B D : Type 0} {g : Files S D} {h : Disks D} {b : Books B} where
 
   -- one call
   called : (sheet : Sheet) (k l : Desk S B D g h b) (call : DeskCall) (warned : Warned) (turns : ℕ) (q : DeskProcess D) (log before after : List Passed) (x y : List Input) (s t : Option (List ℕ)) →
-      Calls sheet k l call before after → before ≡ log ++ given call → y ≡ x ++ typed call → q ≡ after_call (process_of k warned turns further) call (state_of l) →
+      MayCall (process_of k warned turns further) call → Calls sheet k l call before after → before ≡ log ++ given call → y ≡ x ++ typed call → q ≡ after_call (process_of k warned turns further) call (state_of l) →
       Appends s t (told_of sheet (innings_of k) (process_of k warned turns further) call q) → DeskGoes sheet k l (process_of k warned turns further) q log after x y s t
-  called sheet k l call warned turns q log before after x y s t c came types is text =
+  called sheet k l call warned turns q log before after x y s t may c came types is text =
       let kind = kind_of sheet k in
       let p = process_of k warned turns further in
       let step : DeskStep sheet (view_of k) (game_of k) (innings_of k) (state_of k) call c.out q.desk = subst (λ (d : DeskProcess D). DeskStep sheet (view_of k) (game_of k) (innings_of k) (state_of k) call c.out d.desk) (sym is) c.step in
       let blame : Blames (disks_of k) (state_of k) call q.desk = subst (λ (d : DeskProcess D). Blames (disks_of k) (state_of k) call d.desk) (sym is) c.blame in
       let whole : q ≡ after_call p call q.desk = subst (λ (d : DeskProcess D). d ≡ after_call p call d.desk) (sym is) refl in
-      let m = one kind p call c.out q log x s t c.fine (refl, step, blame, whole) text in
+      let m = one kind p call c.out q log x s t c.fine (refl, step, blame, whole, may) text in
       let path : log ++ (given call ++ sends (game_of k) c.out) ≡ after = sym (append_assoc log (given call) (sends (game_of k) c.out)) ∙ (ap (λ (xs : List Passed). xs ++ sends (game_of k) c.out) (sym came) ∙ sym c.passed) in
       let n : Goes kind p q log after x (x ++ typed call) s t = subst (λ (xs : List Passed). Goes kind p q log xs x (x ++ typed call) s t) path m in
       record { same = c.same; goes = subst (λ (ys : List Input). Goes kind p q log after x ys s t) (sym types) n }
@@ -131,10 +132,10 @@ module _ {S B D : Type 0} {g : Files S D} {h : Disks D} {b : Books B} where
   -- its scorer typed a line
   pub says : (sheet : Sheet) (k l : Desk S B D g h b) (line : List ℕ) (answer : Said) (course : Course) (warned : Warned) (turns : ℕ) (before after : List Passed) (x y : List Input) (s t : Option (List ℕ)) →
       Calls sheet k l (Typed line answer) before after → y ≡ x ++ Line line ∷ [] → course ≡ end_of answer →
-      Appends s t (said_text sheet (innings_of k) (state_of k).seat.position (own_line (state_of k)) (state_of k).seat.theirs (state_of l).book answer) →
+      Appends s t (said_text sheet (innings_of k) (state_of k).seat.position (own_line (state_of k)) (state_of k).seat.theirs warned.of_silence (state_of l).book answer) →
       DeskGoes sheet k l (process_of k warned turns further) (process_of l warned turns course) before after x y s t
   says sheet k l line answer course warned turns before after x y s t c types is text =
-      called sheet k l (Typed line answer) warned turns (process_of l warned turns course) before before after x y s t c (sym (append-nil before)) types
+      called sheet k l (Typed line answer) warned turns (process_of l warned turns course) before before after x y s t tt c (sym (append-nil before)) types
       (ap (λ (o : Course). process_of l warned turns o) is) text
 
   -- bytes came
@@ -143,7 +144,7 @@ module _ {S B D : Type 0} {g : Files S D} {h : Disks D} {b : Books B} where
       Appends s t (came_text sheet (innings_of k) (state_of k).seat.position.place (own_line (state_of k)) (entry_in bytes) (state_of l).book warned what) →
       DeskGoes sheet k l (process_of k warned turns further) (process_of l later turns course) log after x x s t
   hears sheet k l bytes what course warned later turns log before after x s t c came after_warning is text =
-      called sheet k l (Given bytes what) warned turns (process_of l later turns course) log before after x x s t c came (sym (append-nil x))
+      called sheet k l (Given bytes what) warned turns (process_of l later turns course) log before after x x s t tt c came (sym (append-nil x))
       (ap (λ (w : Warned). process_of l w turns course) after_warning ∙ ap (λ (o : Course). process_of l (warned_after warned what) turns o) is) text
 
   unmoved : (sheet : Sheet) (k : Desk S B D g h b) (call : DeskCall) (log : List Passed) → DeskStep sheet (view_of k) (game_of k) (innings_of k) (state_of k) call [] (state_of k) → (IsErrOf (course_after call) ends.Device → ⊥) → Calls sheet k k call log log
@@ -155,27 +156,36 @@ module _ {S B D : Type 0} {g : Files S D} {h : Disks D} {b : Books B} where
       later ≡ warned_unopened warned → course ≡ further → Appends s t (unopened_text warned) →
       DeskGoes sheet k k (process_of k warned turns further) (process_of k later turns course) log log x x s t
   passes sheet k warned later turns course log x s t tells is text =
-      called sheet k k Unopened warned turns (process_of k later turns course) log log log x x s t
+      called sheet k k Unopened warned turns (process_of k later turns course) log log log x x s t tt
       (unmoved sheet k Unopened log (refl, refl) (λ e. (cc))) (sym (append-nil log)) (sym (append-nil x))
       (ap (λ (w : Warned). process_of k w turns course) tells ∙ ap (λ (o : Course). process_of k (warned_unopened warned) turns o) is) text
+
+  -- its scorer is told of the other desk
+  pub reminds : (sheet : Sheet) (k : Desk S B D g h b) (reminder : Reminder) (warned later : Warned) (turns : ℕ) (course : Course) (log : List Passed) (x : List Input) (s t : Option (List ℕ)) →
+      MayRemind (process_of k warned turns further) reminder → later ≡ warned_reminded warned reminder → course ≡ further → Appends s t (reminder_text (state_of k).seat.position.place reminder) →
+      DeskGoes sheet k k (process_of k warned turns further) (process_of k later turns course) log log x x s t
+  reminds sheet k reminder warned later turns course log x s t may tells is text =
+      called sheet k k (Reminded reminder) warned turns (process_of k later turns course) log log log x x s t may
+      (unmoved sheet k (Reminded reminder) log (refl, refl) (λ e. (cc))) (sym (append-nil log)) (sym (append-nil x))
+      (ap (λ (w : Warned). process_of k w turns course) tells ∙ ap (λ (o : Course). process_of k (warned_reminded warned reminder) turns o) is) text
 
   -- its scorer types no more
   pub typing_over : (sheet : Sheet) (k : Desk S B D g h b) (warned : Warned) (turns : ℕ) (log : List Passed) (x y : List Input) (s : Option (List ℕ)) → y ≡ x ++ End ∷ [] →
       DeskGoes sheet k k (process_of k warned turns further) (process_of k warned turns (Err ends.NoMoreLines)) log log x y s s
   typing_over sheet k warned turns log x y s types =
-      called sheet k k TypingEnded warned turns (process_of k warned turns (Err ends.NoMoreLines)) log log log x y s s (unmoved sheet k TypingEnded log (refl, refl) (λ e. (cc))) (sym (append-nil log)) types refl (appends_none s)
+      called sheet k k TypingEnded warned turns (process_of k warned turns (Err ends.NoMoreLines)) log log log x y s s tt (unmoved sheet k TypingEnded log (refl, refl) (λ e. (cc))) (sym (append-nil log)) types refl (appends_none s)
 
   -- its turn is over
   pub turn_over : (sheet : Sheet) (k : Desk S B D g h b) (warned : Warned) (turns : ℕ) (log : List Passed) (x : List Input) (s : Option (List ℕ)) →
       DeskGoes sheet k k (process_of k warned turns further) (process_of k warned (turns + 1) further) log log x x s s
   turn_over sheet k warned turns log x s =
-      called sheet k k TurnEnded warned turns (process_of k warned (turns + 1) further) log log log x x s s (unmoved sheet k TurnEnded log (refl, refl) (λ e. (cc))) (sym (append-nil log)) (sym (append-nil x)) refl (appends_none s)
+      called sheet k k TurnEnded warned turns (process_of k warned (turns + 1) further) log log log x x s s tt (unmoved sheet k TurnEnded log (refl, refl) (λ e. (cc))) (sym (append-nil log)) (sym (append-nil x)) refl (appends_none s)
 
   -- it has ticked
   pub ticks : (sheet : Sheet) (k : Desk S B D g h b) (warned : Warned) (turns : ℕ) (before after : List Passed) (x : List Input) (s : Option (List ℕ)) → Calls sheet k k Ticked before after →
       DeskGoes sheet k k (process_of k warned turns further) (process_of k warned turns further) before after x x s s
   ticks sheet k warned turns before after x s c =
-      called sheet k k Ticked warned turns (process_of k warned turns further) before before after x x s s c (sym (append-nil before)) (sym (append-nil x)) refl (appends_none s)
+      called sheet k k Ticked warned turns (process_of k warned turns further) before before after x x s s tt c (sym (append-nil before)) (sym (append-nil x)) refl (appends_none s)
 
   -- ---- the calls themselves
 

@@ -13,7 +13,7 @@ use Rattle.wire.specs.declared.what.What.TheVariants as whats
 use Rattle.desk.specs.declared.refusal.Refusal.TheVariants as refusals
 use Rattle.live.specs.Ends.{Course, further}
 use Rattle.live.specs.Runs.{Moment, Run, last_of}
-use Rattle.live.specs.Desks.{DeskCall, DeskProcess, DeskStep, DiskView, Ended, Given, Ticked, TurnEnded, Typed, TypingEnded, Unopened, course_after, desk_kind}
+use Rattle.live.specs.Desks.{DeskCall, DeskProcess, DeskStep, DiskView, Ended, Given, Reminded, Ticked, TurnEnded, Typed, TypingEnded, Unopened, course_after, desk_kind}
 use Rattle.live.specs.declared.said.Said.TheVariants as said
 use Rattle.live.specs.declared.ends.DeskEnd.{DeskEnd}
 use Rattle.live.specs.declared.ends.DeskEnd.TheVariants as ends
@@ -59,6 +59,7 @@ module _ {Disk : Type 0} (sheet : Sheet) (view : FileView Disk) (game innings : 
   runs_on (Given bytes whats.Device) r e = absurd (cc)
   runs_on (Given bytes whats.Failed) r e = absurd (cc)
   runs_on Ticked r e = same_desk r.1
+  runs_on (Reminded reminder) r e = same_desk r.0
   runs_on TurnEnded r e = same_desk r.0
 
 -- the same blame, after calls that met no failure

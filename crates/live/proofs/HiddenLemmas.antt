@@ -16,10 +16,13 @@ use Rattle.wire.proofs.MessageLemmas.{code_in}
 use Rattle.wire.specs.declared.what.What.{What}
 use Rattle.wire.specs.declared.what.What.TheVariants as whats
 use Rattle.cards.specs.Sheet.{Sheet}
+use Rattle.screen.specs.declared.word.Word.{Word}
+use Rattle.live.specs.declared.reminder.Reminder.{Reminder}
+use Rattle.live.specs.declared.reminder.Reminder.TheVariants.{HasWritten, IsHeard, IsMissed}
 use Rattle.live.specs.declared.said.Said.TheVariants as said
 use Rattle.live.specs.declared.warned.Warned.{Warned}
-use Rattle.live.specs.Desks.{DeskCall, DeskProcess, Given, Ticked, TurnEnded, Typed, TypingEnded, Unopened, entry_in, own_line, told_of}
-use Rattle.live.specs.Hidden.{HidesTheOther, IsPennedDiffering, TellsBoth, process_with}
+use Rattle.live.specs.Desks.{DeskCall, DeskProcess, Given, MayRemind, Reminded, Ticked, TurnEnded, Typed, TypingEnded, Unopened, entry_in, own_line, told_of}
+use Rattle.live.specs.Hidden.{AsksWhere, HidesTheOther, IsPennedDiffering, TellsBoth, process_with}
 use Rattle.live.specs.Texts.{came_text, differs_text}
 
 not_before : (p q : Position) → p ≡ q → Before p q → ⊥
@@ -41,23 +44,58 @@ only_noted s t v Heard.Differ mine theirs now h = let never = sym mine ∙ h.2.1
 only_cast : (s t : SeatState) (v : Vote) → Hears s v Heard.Differ t → s.mine ≡ None → ⊥
 only_cast s t v h none = let never = sym none ∙ h.2.1 in absurd (cc)
 
-not_by_noted : {Disk : Type 0} (sheet : Sheet) (innings : ℕ) (k l : DeskProcess Disk) (call : DeskCall) (e f : Option Entry) → (IsPennedDiffering call → ⊥) → told_of sheet innings (process_with k e) call (process_with l f) ≡ told_of sheet innings k call l
-not_by_noted sheet innings k l (Typed line said.Quit) e f n = refl
-not_by_noted sheet innings k l (Typed line (said.Asks word)) e f n = refl
-not_by_noted sheet innings k l (Typed line (said.Unclear unclear)) e f n = refl
-not_by_noted sheet innings k l (Typed line (said.Fault fault)) e f n = refl
-not_by_noted sheet innings k l (Typed line said.SayAgain) e f n = refl
-not_by_noted sheet innings k l (Typed line said.NoneDiffers) e f n = refl
-not_by_noted sheet innings k l (Typed line said.Waiting) e f n = refl
-not_by_noted sheet innings k l (Typed line (said.Refused why)) e f n = refl
-not_by_noted sheet innings k l (Typed line (said.Penned own Settled.Pending)) e f n = refl
-not_by_noted sheet innings k l (Typed line (said.Penned own Settled.Agreed)) e f n = refl
-not_by_noted sheet innings k l (Typed line (said.Penned own Settled.Differ)) e f n = absurd (n (line, own, refl))
-not_by_noted sheet innings k l TypingEnded e f n = refl
-not_by_noted sheet innings k l (Given bytes what) e f n = refl
-not_by_noted sheet innings k l Unopened e f n = refl
-not_by_noted sheet innings k l Ticked e f n = refl
-not_by_noted sheet innings k l TurnEnded e f n = refl
+-- nothing depends on a vote that is noted, unless one is penned that differs, or the scorer asks where the desk stands
+not_by_noted : {Disk : Type 0} (sheet : Sheet) (innings : ℕ) (k l : DeskProcess Disk) (call : DeskCall) (e f : Option Entry) → (IsPennedDiffering call → ⊥) → (AsksWhere call → ⊥) → told_of sheet innings (process_with k e) call (process_with l f) ≡ told_of sheet innings k call l
+not_by_noted sheet innings k l (Typed line said.Quit) e f n w = refl
+not_by_noted sheet innings k l (Typed line (said.Asks Word.Where)) e f n w = absurd (w (line, refl))
+not_by_noted sheet innings k l (Typed line (said.Asks (Word.Entries most))) e f n w = refl
+not_by_noted sheet innings k l (Typed line (said.Asks Word.Total)) e f n w = refl
+not_by_noted sheet innings k l (Typed line (said.Asks Word.Cards)) e f n w = refl
+not_by_noted sheet innings k l (Typed line (said.Asks Word.Sides)) e f n w = refl
+not_by_noted sheet innings k l (Typed line (said.Asks Word.Forms)) e f n w = refl
+not_by_noted sheet innings k l (Typed line (said.Asks (Word.More topic))) e f n w = refl
+not_by_noted sheet innings k l (Typed line (said.Unclear unclear)) e f n w = refl
+not_by_noted sheet innings k l (Typed line (said.Fault fault)) e f n w = refl
+not_by_noted sheet innings k l (Typed line said.SayAgain) e f n w = refl
+not_by_noted sheet innings k l (Typed line said.NoneDiffers) e f n w = refl
+not_by_noted sheet innings k l (Typed line said.Waiting) e f n w = refl
+not_by_noted sheet innings k l (Typed line (said.Refused why)) e f n w = refl
+not_by_noted sheet innings k l (Typed line (said.Penned own Settled.Pending)) e f n w = refl
+not_by_noted sheet innings k l (Typed line (said.Penned own Settled.Agreed)) e f n w = refl
+not_by_noted sheet innings k l (Typed line (said.Penned own Settled.Differ)) e f n w = absurd (n (line, own, refl))
+not_by_noted sheet innings k l TypingEnded e f n w = refl
+not_by_noted sheet innings k l (Given bytes what) e f n w = refl
+not_by_noted sheet innings k l Unopened e f n w = refl
+not_by_noted sheet innings k l Ticked e f n w = refl
+not_by_noted sheet innings k l (Reminded reminder) e f n w = refl
+not_by_noted sheet innings k l TurnEnded e f n w = refl
+
+-- and there not on which
+not_by_which : {Disk : Type 0} (sheet : Sheet) (innings : ℕ) (k l : DeskProcess Disk) (call : DeskCall) (e f : Entry) (o p : Option Entry) → (IsPennedDiffering call → ⊥)
+    → told_of sheet innings (process_with k (Some e)) call (process_with l o) ≡ told_of sheet innings (process_with k (Some f)) call (process_with l p)
+not_by_which sheet innings k l (Typed line said.Quit) e f o p n = refl
+not_by_which sheet innings k l (Typed line (said.Asks word)) e f o p n = refl
+not_by_which sheet innings k l (Typed line (said.Unclear unclear)) e f o p n = refl
+not_by_which sheet innings k l (Typed line (said.Fault fault)) e f o p n = refl
+not_by_which sheet innings k l (Typed line said.SayAgain) e f o p n = refl
+not_by_which sheet innings k l (Typed line said.NoneDiffers) e f o p n = refl
+not_by_which sheet innings k l (Typed line said.Waiting) e f o p n = refl
+not_by_which sheet innings k l (Typed line (said.Refused why)) e f o p n = refl
+not_by_which sheet innings k l (Typed line (said.Penned own Settled.Pending)) e f o p n = refl
+not_by_which sheet innings k l (Typed line (said.Penned own Settled.Agreed)) e f o p n = refl
+not_by_which sheet innings k l (Typed line (said.Penned own Settled.Differ)) e f o p n = absurd (n (line, own, refl))
+not_by_which sheet innings k l TypingEnded e f o p n = refl
+not_by_which sheet innings k l (Given bytes what) e f o p n = refl
+not_by_which sheet innings k l Unopened e f o p n = refl
+not_by_which sheet innings k l Ticked e f o p n = refl
+not_by_which sheet innings k l (Reminded reminder) e f o p n = refl
+not_by_which sheet innings k l TurnEnded e f o p n = refl
+
+-- nor does it whether the scorer may be reminded
+told_of_any : {Disk : Type 0} (k : DeskProcess Disk) (reminder : Reminder) (e f : Entry) → MayRemind (process_with k (Some e)) reminder → MayRemind (process_with k (Some f)) reminder
+told_of_any k HasWritten e f may = may
+told_of_any k IsMissed e f may = may
+told_of_any k IsHeard e f may = may
 
 -- of what came, but of a vote that differs, nothing depends on the entry that came
 pub came_but_differing : (sheet : Sheet) (innings place : ℕ) (own one other : Option Entry) (book : List Entry) (warned : Warned) (what : What) → (what ≡ whats.Heard Heard.Differ → ⊥) → came_text sheet innings place own one book warned what ≡ came_text sheet innings place own other book warned what
@@ -77,9 +115,12 @@ came_but_differing sheet innings place own one other book warned (whats.Heard He
 pub hides_the_other : {Disk : Type 0} (view : FileView Disk) → HidesTheOther view
 hides_the_other view = record {
   answer = only_noted;
+  silent = λ sheet innings k l bytes. refl;
   bytes = λ sheet innings k l one other what n. came_but_differing sheet innings k.desk.seat.position.place (own_line k.desk) (entry_in one) (entry_in other) l.desk.book k.warned what n;
   cast = only_cast;
   noted = not_by_noted;
+  whether = not_by_which;
+  told = told_of_any;
   stored = λ rules k l own out h. h.1.4;
 }
 

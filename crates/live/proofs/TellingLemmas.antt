@@ -1,5 +1,5 @@
 -- What the scorer is told, and how the process goes on then.
-use Rattle.std.proofs.Common.{◌≡◌, ℕ, List, [], ◌++◌, Result, Ok, Err, Option, Some, None, refl, sym, ap, ◌∙◌, subst, append-nil}
+use Rattle.std.proofs.Common.{◌≡◌, ℕ, Bool, List, [], ◌++◌, Result, Ok, Err, Option, Some, None, refl, sym, ap, ◌∙◌, subst, append-nil}
 use Rattle.std.specs.Prelude.{OnOk}
 use Rattle.std.specs.Io.KnownBytes.{Appends}
 use Rattle.streams.proofs.Appending.{appends_none}
@@ -57,22 +57,22 @@ pub came_course : (what : What) (end : DeskEnd) → end_at what ≡ Err end → 
 came_course what end e = course_at (end_at what) end e (came_no_write what end e)
 
 -- nothing is told of an end
-pub said_nothing : (sheet : Sheet) (innings : ℕ) (at : Position) (own other : Option Entry) (book : List Entry) (answer : Said) (end : DeskEnd) (s : Option (List ℕ)) → end_of answer ≡ Err end → Appends s s (said_text sheet innings at own other book answer)
-said_nothing sheet innings at own other book said.Quit end s e = appends_none s
-said_nothing sheet innings at own other book (said.Asks word) end s e = absurd (cc)
-said_nothing sheet innings at own other book (said.Unclear unclear) end s e = absurd (cc)
-said_nothing sheet innings at own other book (said.Fault fault) end s e = absurd (cc)
-said_nothing sheet innings at own other book said.SayAgain end s e = absurd (cc)
-said_nothing sheet innings at own other book said.NoneDiffers end s e = absurd (cc)
-said_nothing sheet innings at own other book said.Waiting end s e = absurd (cc)
-said_nothing sheet innings at own other book (said.Penned entry settled) end s e = absurd (cc)
-said_nothing sheet innings at own other book (said.Refused refusals.Failed) end s e = appends_none s
-said_nothing sheet innings at own other book (said.Refused refusals.Waiting) end s e = absurd (cc)
-said_nothing sheet innings at own other book (said.Refused refusals.PlacesFull) end s e = absurd (cc)
-said_nothing sheet innings at own other book (said.Refused refusals.RoundsFull) end s e = absurd (cc)
-said_nothing sheet innings at own other book (said.Refused refusals.SlotsFull) end s e = absurd (cc)
-said_nothing sheet innings at own other book (said.Refused (refusals.Book why)) end s e = absurd (cc)
-said_nothing sheet innings at own other book (said.Refused refusals.Device) end s e = appends_none s
+pub said_nothing : (sheet : Sheet) (innings : ℕ) (at : Position) (own other : Option Entry) (silent : Bool) (book : List Entry) (answer : Said) (end : DeskEnd) (s : Option (List ℕ)) → end_of answer ≡ Err end → Appends s s (said_text sheet innings at own other silent book answer)
+said_nothing sheet innings at own other silent book said.Quit end s e = appends_none s
+said_nothing sheet innings at own other silent book (said.Asks word) end s e = absurd (cc)
+said_nothing sheet innings at own other silent book (said.Unclear unclear) end s e = absurd (cc)
+said_nothing sheet innings at own other silent book (said.Fault fault) end s e = absurd (cc)
+said_nothing sheet innings at own other silent book said.SayAgain end s e = absurd (cc)
+said_nothing sheet innings at own other silent book said.NoneDiffers end s e = absurd (cc)
+said_nothing sheet innings at own other silent book said.Waiting end s e = absurd (cc)
+said_nothing sheet innings at own other silent book (said.Penned entry settled) end s e = absurd (cc)
+said_nothing sheet innings at own other silent book (said.Refused refusals.Failed) end s e = appends_none s
+said_nothing sheet innings at own other silent book (said.Refused refusals.Waiting) end s e = absurd (cc)
+said_nothing sheet innings at own other silent book (said.Refused refusals.PlacesFull) end s e = absurd (cc)
+said_nothing sheet innings at own other silent book (said.Refused refusals.RoundsFull) end s e = absurd (cc)
+said_nothing sheet innings at own other silent book (said.Refused refusals.SlotsFull) end s e = absurd (cc)
+said_nothing sheet innings at own other silent book (said.Refused (refusals.Book why)) end s e = absurd (cc)
+said_nothing sheet innings at own other silent book (said.Refused refusals.Device) end s e = appends_none s
 
 pub came_nothing : (sheet : Sheet) (innings place : ℕ) (own other : Option Entry) (book : List Entry) (warned : Warned) (what : What) (end : DeskEnd) (s : Option (List ℕ)) → end_at what ≡ Err end → Appends s s (came_text sheet innings place own other book warned what)
 came_nothing sheet innings place own other book warned (whats.Bad fault) end s e = absurd (cc)

@@ -19,23 +19,26 @@ use Rattle.desk.specs.Desk.{SameOwner, book_of, disk_of, game_of, last_entry, st
 use Rattle.desk.specs.Takes.{Takes}
 use Rattle.live.specs.declared.ends.DeskEnd.{DeskEnd}
 use Rattle.live.specs.declared.ends.DeskEnd.TheVariants.{NoMoreLines, Device, Write}
+use Rattle.live.specs.declared.reminder.Reminder.{Reminder}
+use Rattle.live.specs.declared.reminder.Reminder.TheVariants.{HasWritten, IsHeard, IsMissed}
 use Rattle.live.specs.declared.said.Said.{Said}
 use Rattle.live.specs.declared.warned.Warned.{Warned}
 use Rattle.live.specs.Ends.{Course, end_at, end_of, further, known_at}
 use Rattle.live.specs.Passed.{Passed, Came, sends}
 use Rattle.live.specs.Runs.{Goes, Kind, with_text}
 use Rattle.live.specs.Saying.{Types}
-use Rattle.live.specs.Texts.{came_text, greeting, said_text, unopened_text, unwarned, warned_after, warned_unopened}
+use Rattle.live.specs.Texts.{came_text, greeting, reminder_text, said_text, unopened_text, unwarned, warned_after, warned_reminded, warned_unopened}
 use Rattle.live.specs.Typing.{Input, Line, End}
 
 -- a call of a desk: its scorer's line, the end of its scorer's lines, bytes that it is given, bytes that don't open, of
--- which it is given nothing, a tick, or the end of a turn
+-- which it is given nothing, a tick, what it tells its scorer of the other desk, or the end of a turn
 pub data DeskCall : Type 0 where
   Typed : List ℕ → Said → DeskCall
   TypingEnded : DeskCall
   Given : List ℕ → What → DeskCall
   Unopened : DeskCall
   Ticked : DeskCall
+  Reminded : Reminder → DeskCall
   TurnEnded : DeskCall
 
 -- with this sheet, in a match of this number and innings a side
@@ -47,6 +50,7 @@ DeskStep s view game innings k TypingEnded out l = (l ≡ k) × (out ≡ [])
 DeskStep s view game innings k (Given bytes what) out l = Takes view game k bytes what l out
 DeskStep s view game innings k Unopened out l = (l ≡ k) × (out ≡ [])
 DeskStep s view game innings k Ticked out l = Ticks k out × (l ≡ k)
+DeskStep s view game innings k (Reminded reminder) out l = (l ≡ k) × (out ≡ [])
 DeskStep s view game innings k TurnEnded out l = (l ≡ k) × (out ≡ [])
 
 -- how the process goes on after a call
@@ -77,6 +81,7 @@ pub record DeskProcess (Disk : Type 0) : Type 0 where
 abbrev pub warned_at : Warned → DeskCall → Warned
 warned_at warned (Given bytes what) = warned_after warned what
 warned_at warned Unopened = warned_unopened warned
+warned_at warned (Reminded reminder) = warned_reminded warned reminder
 warned_at warned call = warned
 
 abbrev pub turns_at : ℕ → DeskCall → ℕ
@@ -87,13 +92,26 @@ abbrev pub after_call : {Disk : Type 0} → DeskProcess Disk → DeskCall → De
 after_call k call l =
     record { desk = l; warned = warned_at k.warned call; turns = turns_at k.turns call; course = course_after call }
 
+-- A scorer may be told that the other has written where its vote is noted and the own isn't cast, unless it was told;
+-- that the other desk isn't heard, unless it was told; and that it is again, where it was told that it isn't. When it is
+-- told, the process sees by its clock.
+abbrev pub MayRemind : {Disk : Type 0} → DeskProcess Disk → Reminder → Type 0
+MayRemind k HasWritten =
+    (is_some k.desk.seat.mine ≡ false) × (is_some k.desk.seat.theirs ≡ true) × (k.warned.of_writing ≡ false)
+MayRemind k IsMissed = k.warned.of_silence ≡ false
+MayRemind k IsHeard = k.warned.of_silence ≡ true
+
+abbrev pub MayCall : {Disk : Type 0} → DeskProcess Disk → DeskCall → Type 0
+MayCall k (Reminded reminder) = MayRemind k reminder
+MayCall k call = Unit {0}
+
 -- a process that hasn't ended makes a call
 abbrev pub ProcessStep :
     {Disk : Type 0} → Sheet → FileView Disk → DiskView Disk → ℕ → ℕ
     → DeskProcess Disk → DeskCall → List Message → DeskProcess Disk → Type 0
 ProcessStep s view disks game innings k call out l =
     (k.course ≡ further) × DeskStep s view game innings k.desk call out l.desk
-    × Blames disks k.desk call l.desk × (l ≡ after_call k call l.desk)
+    × Blames disks k.desk call l.desk × (l ≡ after_call k call l.desk) × MayCall k call
 
 abbrev pub given : DeskCall → List Passed
 given (Given bytes what) = Came bytes ∷ []
@@ -119,10 +137,11 @@ entry_in bytes = entry_coded (take 24 (drop 19 bytes))
 -- what the scorer is told of a call
 abbrev pub told_of : {Disk : Type 0} → Sheet → ℕ → DeskProcess Disk → DeskCall → DeskProcess Disk → List ℕ
 told_of sheet innings k (Typed line said) l =
-    said_text sheet innings k.desk.seat.position (own_line k.desk) k.desk.seat.theirs l.desk.book said
+    said_text sheet innings k.desk.seat.position (own_line k.desk) k.desk.seat.theirs k.warned.of_silence l.desk.book said
 told_of sheet innings k (Given bytes what) l =
     came_text sheet innings k.desk.seat.position.place (own_line k.desk) (entry_in bytes) l.desk.book k.warned what
 told_of sheet innings k Unopened l = unopened_text k.warned
+told_of sheet innings k (Reminded reminder) l = reminder_text k.desk.seat.position.place reminder
 told_of sheet innings k call l = []
 
 abbrev pub desk_kind : {Disk : Type 0} → Sheet → FileView Disk → DiskView Disk → ℕ → ℕ → Kind (DeskProcess Disk) DeskCall

@@ -1,6 +1,6 @@
 -- What a scorer can't see: what the other scorer wrote at a position, before the own vote of that position is stored. And
 -- what is seen once both votes are stored and differ: both entries.
-use Rattle.std.specs.Prelude.{◌≡◌, ◌≢◌, ◌∷◌, ℕ, List, Option, Some, None}
+use Rattle.std.specs.Prelude.{◌≡◌, ◌≢◌, ◌∷◌, ℕ, List, [], Option, Some, None}
 use Rattle.notation.specs.declared.entry.Entry.{Entry}
 use Rattle.corrections.specs.declared.refusal.Refusal.{Refusal as BookRefusal}
 use Rattle.agree_core.specs.declared.messages.Message.{Message}
@@ -16,8 +16,10 @@ use Rattle.wire.specs.Layout.{Says}
 use Rattle.wire.specs.declared.what.What.{What}
 use Rattle.wire.specs.declared.what.What.TheVariants as whats
 use Rattle.cards.specs.Sheet.{Sheet}
+use Rattle.screen.specs.declared.word.Word.{Word}
+use Rattle.live.specs.declared.reminder.Reminder.{Reminder}
 use Rattle.live.specs.declared.said.Said.TheVariants as said
-use Rattle.live.specs.Desks.{DeskCall, DeskProcess, Given, Typed, own_line, told_of}
+use Rattle.live.specs.Desks.{DeskCall, DeskProcess, Given, MayRemind, Typed, own_line, told_of}
 use Rattle.live.specs.Texts.{at_place, both_lines}
 
 -- the same seat, desk and process, with another vote of the other desk noted, or none
@@ -34,21 +36,34 @@ process_with k e = record k { desk = desk_with k.desk e }
 abbrev pub IsPennedDiffering : DeskCall → Type 0
 IsPennedDiffering call = (line : List ℕ) × (own : Entry) × (call ≡ Typed line (said.Penned own Settled.Differ))
 
+-- the scorer asks where the desk stands
+abbrev pub AsksWhere : DeskCall → Type 0
+AsksWhere call = (line : List ℕ) × (call ≡ Typed line (said.Asks Word.Where))
+
 -- Of the other desk's vote of a position its scorer is told that it came, and nothing that depends on its entry, until the
--- own one is stored: until that is cast, the other's is answered with `Noted` whatever it says; a text depends on bytes
--- that came by their answer alone, unless that is `Differ`, which is answered only where the own vote was cast before; and
--- it depends on no vote that is noted, unless a vote is penned that differs from it, which is stored then. So two runs that
--- differ in that entry alone print the same until then.
+-- own one is stored: until that is cast, the other's is answered with `Noted` whatever it says, and nothing is told then; a
+-- text depends on bytes that came by their answer alone, unless that is `Differ`, which is answered only where the own vote
+-- was cast before; and it depends on no vote that is noted, unless a vote is penned that differs from it, which is stored
+-- then; where the scorer asks where the desk stands, it depends on whether a vote is noted, and not on which, and so does
+-- it whether he may be reminded. So two runs that differ in that entry alone print the same until then.
 pub record HidesTheOther {Disk : Type 0} (view : FileView Disk) : Type 0 where
   pub answer : (s t : SeatState) (v : Vote) (h : Heard) → s.mine ≡ None → s.theirs ≡ None → IsForNow s v → Hears s v h t
       → h ≡ Heard.Noted
+  pub silent : (sheet : Sheet) (innings : ℕ) (k l : DeskProcess Disk) (bytes : List ℕ)
+      → told_of sheet innings k (Given bytes (whats.Heard Heard.Noted)) l ≡ []
   pub bytes : (sheet : Sheet) (innings : ℕ) (k l : DeskProcess Disk) (one other : List ℕ) (what : What)
       → what ≢ whats.Heard Heard.Differ
       → told_of sheet innings k (Given one what) l ≡ told_of sheet innings k (Given other what) l
   pub cast : (s t : SeatState) (v : Vote) → Hears s v Heard.Differ t → s.mine ≢ None
   pub noted : (sheet : Sheet) (innings : ℕ) (k l : DeskProcess Disk) (call : DeskCall) (e f : Option Entry)
-      → (IsPennedDiffering call → ⊥)
+      → (IsPennedDiffering call → ⊥) → (AsksWhere call → ⊥)
       → told_of sheet innings (process_with k e) call (process_with l f) ≡ told_of sheet innings k call l
+  pub whether : (sheet : Sheet) (innings : ℕ) (k l : DeskProcess Disk) (call : DeskCall) (e f : Entry) (o p : Option Entry)
+      → (IsPennedDiffering call → ⊥)
+      → told_of sheet innings (process_with k (Some e)) call (process_with l o)
+      ≡ told_of sheet innings (process_with k (Some f)) call (process_with l p)
+  pub told : (k : DeskProcess Disk) (reminder : Reminder) (e f : Entry)
+      → MayRemind (process_with k (Some e)) reminder → MayRemind (process_with k (Some f)) reminder
   pub stored : (rules : Rules BookRefusal) (k l : DeskState Disk) (own : Entry) (out : List Message)
       → Pens view rules k own (desks.Penned Settled.Differ) l out
       → Holds view l.disk (next_ballot k own ∷ k.votes)

@@ -1,5 +1,5 @@
 -- What a desk's scorer is told.
-use Rattle.std.specs.Prelude.{ℕ, ◌==◌, Bool, true, false, if◌then◌else◌, nat_lt, Option, Some, None, List, [], ◌++◌, slice_get, codes, decimal}
+use Rattle.std.specs.Prelude.{ℕ, ◌==◌, Bool, true, false, if◌then◌else◌, nat_lt, is_some, Option, Some, None, List, [], ◌++◌, slice_get, codes, decimal}
 use Rattle.notation.specs.declared.entry.Entry.{Entry}
 use Rattle.notation.specs.declared.entry.Entry.TheVariants.{Write}
 use Rattle.notation.specs.declared.entry.Plain.TheVariants as plain
@@ -31,6 +31,8 @@ use Rattle.screen.specs.Help.{help, help_on}
 use Rattle.screen.specs.Sentences.{of_book, of_desk}
 use Rattle.screen.specs.declared.word.Word.{Word}
 use Rattle.screen.specs.declared.word.Word.TheVariants as words
+use Rattle.live.specs.declared.reminder.Reminder.{Reminder}
+use Rattle.live.specs.declared.reminder.Reminder.TheVariants as reminders
 use Rattle.live.specs.declared.said.Said.{Said}
 use Rattle.live.specs.declared.said.Said.TheVariants as said
 use Rattle.live.specs.declared.warned.Warned.{Warned}
@@ -107,27 +109,58 @@ place_text at None = at_place at.place (if nat_lt 0 at.round then codes "differs
 abbrev pub greeting : Sheet → ℕ → List Entry → Position → Option Entry → List ℕ
 greeting sheet innings book at own = row sheet innings (history_of book) ++ place_text at own
 
--- what is shown of a word, where a desk stands so
-abbrev pub word_text : Sheet → ℕ → Position → Option Entry → List Entry → Word → List ℕ
-word_text sheet innings at own book words.Where = greeting sheet innings book at own
-word_text sheet innings at own book (words.Entries most) = listing most book
-word_text sheet innings at own book words.Total = over_check sheet (history_of book)
-word_text sheet innings at own book words.Cards = both_cards sheet (history_of book)
-word_text sheet innings at own book words.Sides = both_sides sheet
-word_text sheet innings at own book words.Forms = help
-word_text sheet innings at own book (words.More topic) = help_on topic
+-- that the other has written its vote of a place; that the other desk isn't heard; that it is again
+abbrev pub writing : ℕ → List ℕ
+writing place = at_place place (codes "the other has written")
 
--- of a line at this position, with the desk's own vote there and the other desk's before it, and the book after it
-abbrev pub said_text : Sheet → ℕ → Position → Option Entry → Option Entry → List Entry → Said → List ℕ
-said_text sheet innings at own other book said.Quit = []
-said_text sheet innings at own other book (said.Asks word) = word_text sheet innings at own book word
-said_text sheet innings at own other book (said.Unclear unclear) = unclear_text sheet unclear
-said_text sheet innings at own other book (said.Fault fault) = fault_text fault
-said_text sheet innings at own other book said.SayAgain = at_place at.place (codes "differs: begin the line with again")
-said_text sheet innings at own other book said.NoneDiffers = at_place at.place (codes "doesn't differ: leave out again")
-said_text sheet innings at own other book said.Waiting = refused_text refusals.Waiting
-said_text sheet innings at own other book (said.Refused why) = refused_text why
-said_text sheet innings at own other book (said.Penned e settled) =
+abbrev pub silence : List ℕ
+silence = codes "the other desk isn't heard\n"
+
+abbrev pub reminder_text : ℕ → Reminder → List ℕ
+reminder_text place reminders.HasWritten = writing place
+reminder_text place reminders.IsMissed = silence
+reminder_text place reminders.IsHeard = codes "the other desk is heard again\n"
+
+-- what is known of the other desk where the scorer asks: that it has written, where its vote is noted and the own one
+-- isn't cast; that it isn't heard, where that was told and it wasn't heard since
+abbrev pub is_waited_for : Option Entry → Option Entry → Bool
+is_waited_for own other = if is_some own then false else is_some other
+
+abbrev pub other_text : ℕ → Bool → List ℕ
+other_text place waited = if waited then writing place else []
+
+abbrev pub silence_text : Bool → List ℕ
+silence_text silent = if silent then silence else []
+
+abbrev pub standing : Sheet → ℕ → List Entry → Position → Option Entry → Bool → Bool → List ℕ
+standing sheet innings book at own waited silent =
+    greeting sheet innings book at own ++ other_text at.place waited ++ silence_text silent
+
+-- what is shown of a word, where a desk stands so
+abbrev pub word_text : Sheet → ℕ → Position → Option Entry → Bool → Bool → List Entry → Word → List ℕ
+word_text sheet innings at own waited silent book words.Where = standing sheet innings book at own waited silent
+word_text sheet innings at own waited silent book (words.Entries most) = listing most book
+word_text sheet innings at own waited silent book words.Total = over_check sheet (history_of book)
+word_text sheet innings at own waited silent book words.Cards = both_cards sheet (history_of book)
+word_text sheet innings at own waited silent book words.Sides = both_sides sheet
+word_text sheet innings at own waited silent book words.Forms = help
+word_text sheet innings at own waited silent book (words.More topic) = help_on topic
+
+-- of a line at this position, with the desk's own vote there and the other desk's before it, where the scorer was told
+-- that the other desk isn't heard or not, and with the book after it
+abbrev pub said_text : Sheet → ℕ → Position → Option Entry → Option Entry → Bool → List Entry → Said → List ℕ
+said_text sheet innings at own other silent book said.Quit = []
+said_text sheet innings at own other silent book (said.Asks word) =
+    word_text sheet innings at own (is_waited_for own other) silent book word
+said_text sheet innings at own other silent book (said.Unclear unclear) = unclear_text sheet unclear
+said_text sheet innings at own other silent book (said.Fault fault) = fault_text fault
+said_text sheet innings at own other silent book said.SayAgain =
+    at_place at.place (codes "differs: begin the line with again")
+said_text sheet innings at own other silent book said.NoneDiffers =
+    at_place at.place (codes "doesn't differ: leave out again")
+said_text sheet innings at own other silent book said.Waiting = refused_text refusals.Waiting
+said_text sheet innings at own other silent book (said.Refused why) = refused_text why
+said_text sheet innings at own other silent book (said.Penned e settled) =
     settled_text sheet innings at.place other book e settled
 
 -- of a peer, unless it was told
@@ -148,7 +181,7 @@ unopened_text warned = warning warned.of_seal unopened_line
 
 -- of a vote that came at this place, with the desk's own vote there before it, the entry that came, and the book after it
 abbrev pub heard_text : Sheet → ℕ → ℕ → Option Entry → Option Entry → List Entry → Warned → Heard → List ℕ
-heard_text sheet innings place own other book warned Heard.Noted = at_place place (codes "the other has written")
+heard_text sheet innings place own other book warned Heard.Noted = []
 heard_text sheet innings place own other book warned Heard.Agreed = agreed sheet innings place book
 heard_text sheet innings place own other book warned Heard.Differ = differs_text place own other
 heard_text sheet innings place own other book warned Heard.Mine = warning warned.of_desk (codes "peer: the same desk\n")
@@ -164,19 +197,36 @@ came_text sheet innings place own other book warned what = []
 
 -- nothing was told of a peer
 abbrev pub unwarned : Warned
-unwarned = record { of_bytes = false; of_seal = false; of_desk = false; of_votes = false }
+unwarned = record {
+  of_bytes = false;
+  of_seal = false;
+  of_desk = false;
+  of_votes = false;
+  of_writing = false;
+  of_silence = false;
+}
 
 -- what was told of a peer since a vote that is news came, after the answer to what came; anyone's asks are as any
--- desk's, and a vote is repeated until it is answered, so that they are no sign that all is right
+-- desk's, and a vote is repeated until it is answered, so that they are no sign that all is right; that the other desk
+-- isn't heard stands until it is told that it is again
+abbrev pub unwarned_but : Warned → Warned
+unwarned_but warned = record unwarned { of_silence = warned.of_silence }
+
 abbrev pub warned_after : Warned → What → Warned
 warned_after warned (whats.Bad fault) = record warned { of_bytes = true }
 warned_after warned (whats.Heard Heard.Mine) = record warned { of_desk = true }
 warned_after warned (whats.Heard Heard.TwoVotes) = record warned { of_votes = true }
-warned_after warned (whats.Heard Heard.Noted) = unwarned
-warned_after warned (whats.Heard Heard.Agreed) = unwarned
-warned_after warned (whats.Heard Heard.Differ) = unwarned
+warned_after warned (whats.Heard Heard.Noted) = unwarned_but warned
+warned_after warned (whats.Heard Heard.Agreed) = unwarned_but warned
+warned_after warned (whats.Heard Heard.Differ) = unwarned_but warned
 warned_after warned what = warned
 
 -- once bytes came that don't open
 abbrev pub warned_unopened : Warned → Warned
 warned_unopened warned = record warned { of_seal = true }
+
+-- once this was told of the other desk
+abbrev pub warned_reminded : Warned → Reminder → Warned
+warned_reminded warned reminders.HasWritten = record warned { of_writing = true }
+warned_reminded warned reminders.IsMissed = record warned { of_silence = true }
+warned_reminded warned reminders.IsHeard = record warned { of_silence = false }

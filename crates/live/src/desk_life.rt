@@ -59,7 +59,7 @@ where
     ensures failed { result ≡ Err (Ended ends.Write) → has_failed out.new ≡ true }
 {
     match begin_desk::<S, B>(alloc, disk, desk, sheet.game(), book) {
-        Ok(mut desk) => match run_desk(&mut desk, sheet, link, keys, clock, out, turns) {
+        Ok(mut begun) => match run_desk(&mut begun, desk, sheet, link, keys, clock, out, turns) {
             Ok(()) => Ok(()),
             Err(end) => Err(LifeEnd::Ended(end)),
         },

@@ -10,45 +10,33 @@ ghost use Rattle.desk.specs.Desk.{disk_of, state_of};
 ghost use Rattle.live.specs.Desks as desks;
 ghost use Rattle.live.specs.Desks.{DeskGoes, DeskRuns, FitsLongest, innings_of, process_of};
 ghost use Rattle.live.specs.Ends as ends;
-ghost use Rattle.live.specs.Ends.{course_of, further, known_at, turns_after, written};
+ghost use Rattle.live.specs.Ends.{course_of, further, known_at, turns_after};
 ghost use Rattle.live.specs.Passed.{Came, Passed};
 ghost use Rattle.live.specs.Texts.{greeting, unopened_text, warned_unopened};
 ghost use Rattle.live.specs.Typing.{Input};
 
+use crate::between::Between;
 use crate::both::Both;
 use crate::clock::Clock;
 use crate::desk_calls::{give, pen, tick};
-use crate::ends::{DeskEnd, end_at, end_of};
+use crate::ends::{DeskEnd, end_at, end_of, told};
 use crate::hearing::{entry_in, promises_more};
 use crate::keys::{Keys, LINE_ROOM, Typed};
 use crate::link::{Link, MOST_TAKEN, ROOM, Taken};
+use crate::news::{print_came, print_unopened};
 use crate::pace::Pace;
-use crate::texts::{print_came, print_greeting, print_said, print_unopened};
+use crate::peer::Peer;
+use crate::reminding::remind;
+use crate::texts::{print_greeting, print_said};
 use crate::warned::Warned;
+use agree_core::DeskId;
 use cards::MatchSheet;
 use corrections::BookOf;
 use desk::Desk;
 use entry_log::SlotsOf;
 use notation::Entry;
 use std::io::Write;
-use streams::{Watched, WriteFailed};
-
-/// What a desk's process keeps between its calls.
-#[derive(Clone, Copy, Debug, PartialEq, Eq)]
-struct Between {
-    pace: Pace,
-    warned: Warned,
-}
-
-/// A failed write of what the scorer is told ends the process.
-fn told(answer: Result<(), WriteFailed>) -> Result<(), DeskEnd>
-    ensures { result ≡ written answer }
-{
-    match answer {
-        Ok(()) => Ok(()),
-        Err(_) => Err(DeskEnd::Write),
-    }
-}
+use streams::Watched;
 
 /// A desk's vote of its position, where it is cast.
 fn own_line<S: SlotsOf, B: BookOf + Drop>(desk: &Desk<S, B>) -> Option<Entry>
@@ -62,15 +50,16 @@ fn own_line<S: SlotsOf, B: BookOf + Drop>(desk: &Desk<S, B>) -> Option<Entry>
     }
 }
 
-/// Takes a line that was typed, if there is one, and tells the scorer what it came to.
+/// Takes a line that was typed, if there is one, and tells the scorer, who was told this of a peer, what it came to.
 fn take_line<S: SlotsOf, B: BookOf + Drop, L: Link, K: Keys, W: Write>(
     desk: &mut Desk<S, B>,
     sheet: &MatchSheet,
     link: &mut L,
     keys: &mut K,
     out: &mut Watched<W>,
+    warned: Warned,
 ) -> Result<(), DeskEnd>
-    ensures goes { (warned : Warned) (turns : ℕ) → DeskGoes sheet.now desk.old desk.new
+    ensures goes { (turns : ℕ) → DeskGoes sheet.now desk.old desk.new
         (process_of desk.old warned turns further) (process_of desk.new warned turns (course_of result))
         (L.log link.old) (L.log link.new) (K.inputs keys.old) (K.inputs keys.new)
         (known_at result (W.contents (stream_of out.old))) (known_at result (W.contents (stream_of out.new))) }
@@ -91,7 +80,8 @@ fn take_line<S: SlotsOf, B: BookOf + Drop, L: Link, K: Keys, W: Write>(
     if let Err(end) = end_of(&said) {
         return Err(end);
     }
-    told(print_said(out, sheet, at, both, &said, desk.book()))
+    let is_silent = warned.of_silence;
+    told(print_said(out, sheet, at, both, is_silent, &said, desk.book()))
 }
 
 /// Takes bytes that came, and tells the scorer what is news.
@@ -121,6 +111,7 @@ fn hear<S: SlotsOf, B: BookOf + Drop, L: Link, W: Write>(
     between
         .pace
         .note(desk.position() != at, promises_more(what), now);
+    between.peer.note(sheet.game(), bytes, what, now);
     let warned = between.warned;
     between.warned = warned.after(what);
     if let Err(end) = end_at(what) {
@@ -213,6 +204,26 @@ fn take_all<S: SlotsOf, B: BookOf + Drop, L: Link, C: Clock, W: Write>(
     Ok(())
 }
 
+/// Takes what came in a turn, and tells the scorer what is due of the other desk.
+fn listen<S: SlotsOf, B: BookOf + Drop, L: Link, C: Clock, W: Write>(
+    desk: &mut Desk<S, B>,
+    sheet: &MatchSheet,
+    link: &mut L,
+    clock: &mut C,
+    out: &mut Watched<W>,
+    between: &mut Between,
+) -> Result<(), DeskEnd>
+    ensures goes { (typed : List Input) (turns : ℕ) → DeskGoes sheet.now desk.old desk.new
+        (process_of desk.old between.old.warned turns further)
+        (process_of desk.new between.new.warned turns (course_of result))
+        (L.log link.old) (L.log link.new) typed typed
+        (known_at result (W.contents (stream_of out.old))) (known_at result (W.contents (stream_of out.new))) }
+    ensures failed { result ≡ Err DeskEnd.Write → has_failed out.new ≡ true }
+{
+    take_all(desk, sheet, link, clock, out, between)?;
+    remind(desk, out, between, clock.millis())
+}
+
 /// What a turn does before what it has told is handed on: it takes a line of the scorer, and then what came.
 fn act<S: SlotsOf, B: BookOf + Drop, L: Link, K: Keys, C: Clock, W: Write>(
     desk: &mut Desk<S, B>,
@@ -232,13 +243,13 @@ fn act<S: SlotsOf, B: BookOf + Drop, L: Link, K: Keys, C: Clock, W: Write>(
 {
     let at = desk.position();
     let votes = desk.votes();
-    take_line(desk, sheet, link, keys, out)?;
+    take_line(desk, sheet, link, keys, out, between.warned)?;
     let has_voted = desk.votes() != votes;
     between
         .pace
         .note(desk.position() != at, has_voted, clock.millis());
     between.pace.begin_turn(!keys.has_more());
-    take_all(desk, sheet, link, clock, out, between)
+    listen(desk, sheet, link, clock, out, between)
 }
 
 /// A desk's turn: it takes a line of its scorer, says what is due, and takes what came.
@@ -278,9 +289,10 @@ fn greet<S: SlotsOf, B: BookOf + Drop, W: Write>(
     told(out.flush())
 }
 
-/// Tells the scorer where the desk stands, and takes so many turns.
+/// Tells the scorer where the desk of this letter stands, and takes so many turns.
 fn take_turns<S: SlotsOf, B: BookOf + Drop, L: Link, K: Keys, C: Clock, W: Write>(
     desk: &mut Desk<S, B>,
+    own: DeskId,
     sheet: &MatchSheet,
     link: &mut L,
     keys: &mut K,
@@ -296,6 +308,7 @@ fn take_turns<S: SlotsOf, B: BookOf + Drop, L: Link, K: Keys, C: Clock, W: Write
     greet(desk, sheet, out)?;
     let mut between = Between {
         pace: Pace::new(),
+        peer: Peer::new(own, clock.millis()),
         warned: Warned::NOTHING,
     };
     for number in 0..turns {
@@ -315,12 +328,14 @@ fn end_told(end: Result<(), DeskEnd>, flushed: Result<(), DeskEnd>) -> Result<()
     }
 }
 
-/// A desk's process, for so many turns: it tells its scorer where the desk stands, takes the scorer's lines, tells
-/// what comes of them, sends its votes and replies, and asks for what it lacks. However it ends, it is a run of the
+/// The process of the desk of this letter, for so many turns: it tells its scorer where the desk stands, takes the scorer's
+/// lines, tells what comes of them, sends its votes and replies, asks for what it lacks, and tells by its clock that the other
+/// has written, that the other desk isn't heard, and that it is again. However it ends, it is a run of the
 /// definitions of a desk: its datagrams are just those that passed at the link, its lines just those that were
 /// typed, its texts just those that were written.
 pub fn run_desk<S: SlotsOf, B: BookOf + Drop, L: Link, K: Keys, C: Clock, W: Write>(
     desk: &mut Desk<S, B>,
+    own: DeskId,
     sheet: &MatchSheet,
     link: &mut L,
     keys: &mut K,
@@ -337,6 +352,6 @@ pub fn run_desk<S: SlotsOf, B: BookOf + Drop, L: Link, K: Keys, C: Clock, W: Wri
         (S.Disk.faults (disk_of desk.old)) (S.Disk.faults (disk_of desk.new)) }
     ensures failed { result ≡ Err DeskEnd.Write → has_failed out.new ≡ true }
 {
-    let end = take_turns(desk, sheet, link, keys, clock, out, turns);
+    let end = take_turns(desk, own, sheet, link, keys, clock, out, turns);
     end_told(end, told(out.flush()))
 }

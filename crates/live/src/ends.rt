@@ -5,6 +5,7 @@ ghost use Rattle.live.specs.Ends as ends;
 
 use crate::said::Said;
 use desk::Refusal;
+use streams::WriteFailed;
 use wire::What;
 
 /// Why a desk's process ends before its turns are over.
@@ -38,5 +39,15 @@ pub fn end_at(what: What) -> Result<(), DeskEnd>
     match what {
         What::Device | What::Failed => Err(DeskEnd::Device),
         _ => Ok(()),
+    }
+}
+
+/// A failed write of what the scorer is told ends the process.
+pub fn told(answer: Result<(), WriteFailed>) -> Result<(), DeskEnd>
+    ensures { result ≡ ends.written answer }
+{
+    match answer {
+        Ok(()) => Ok(()),
+        Err(_) => Err(DeskEnd::Write),
     }
 }

@@ -1,11 +1,13 @@
-//! What a scorer can't see, and what is seen of two votes that differ.
+//! What a scorer can't see, what is seen of two votes that differ, and that a reminder comes once.
 //!
 //! These functions do nothing: they stand for the laws that they ensure.
 
 ghost use Rattle.std.specs.Prelude.{ℕ};
 ghost use Rattle.agree_core.specs.declared.messages.DeskId.{DeskId as ADesk};
 ghost use Rattle.vote_store.specs.View.{file_view};
+ghost use Rattle.live.specs.Desks.{FitsLongest};
 ghost use Rattle.live.specs.Hidden.{HidesTheOther, TellsBoth};
+ghost use Rattle.live.specs.Reminding.{RemindsOnce};
 
 use entry_log::SlotsOf;
 
@@ -18,4 +20,11 @@ pub fn the_other_is_hidden<S: SlotsOf>()
 /// Where the two votes of a position are stored and differ, a desk's scorer is told both entries.
 pub fn both_lines_are_told<D>()
     ensures { TellsBoth D }
+{}
+
+/// That the other has written is told once, until a vote of the other desk that is news comes; that the other desk isn't
+/// heard, and that it is again, are told in turns.
+pub fn reminders_come_once<S: SlotsOf>()
+    ensures { (desk : ADesk) (game cap : ℕ) → RemindsOnce (file_view S.contents S.Disk.seen S.Disk.images desk game)
+        (record { faults = S.Disk.faults; FitsLongest = FitsLongest S.room cap }) }
 {}

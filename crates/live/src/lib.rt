@@ -3,6 +3,7 @@
 #![tactic(auto)]
 
 mod begin;
+mod between;
 pub mod board_calls;
 mod board_life;
 mod board_loop;
@@ -17,9 +18,13 @@ mod keys;
 mod laws;
 mod link;
 mod log;
+mod news;
 mod notices;
 mod pace;
+mod peer;
 mod questions;
+mod reminder;
+mod reminding;
 mod said;
 mod sealed;
 mod sending;
@@ -35,10 +40,11 @@ pub use desk_life::{LifeEnd, keep_desk};
 pub use desk_loop::run_desk;
 pub use ends::{DeskEnd, end_at};
 pub use keys::{Keys, LINE_ROOM, Typed};
-pub use laws::{both_lines_are_told, the_other_is_hidden};
+pub use laws::{both_lines_are_told, reminders_come_once, the_other_is_hidden};
 pub use link::{Link, MOST_TAKEN, ROOM, SEALED_ROOM, SealedCarrier, SharedLink, Taken};
 pub use log::{CarriedLog, InputLog, Log, NoticeLog};
 pub use notices::{Notice, Notices, Telling, print_notice};
+pub use reminder::Reminder;
 pub use said::Said;
 pub use sealed::{Sealed, what_is_given_was_brought};
 pub use shows::Shows;

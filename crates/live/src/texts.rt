@@ -14,8 +14,7 @@ ghost use Rattle.live.specs.Texts as texts;
 use crate::both::Both;
 use crate::questions::{print_fault, print_unclear};
 use crate::said::Said;
-use crate::warned::Warned;
-use agree_core::{Heard, Position, Settled};
+use agree_core::{Position, Settled};
 use cards::MatchSheet;
 use corrections::BookOf;
 use desk::Refusal;
@@ -27,10 +26,9 @@ use screen::{
 };
 use std::io::Write;
 use streams::{Watched, WriteFailed};
-use wire::What;
 
 /// Prints a place, and what is told of it.
-fn print_at<W: Write>(out: &mut Watched<W>, place: u32, words: &str) -> Result<(), WriteFailed>
+pub fn print_at<W: Write>(out: &mut Watched<W>, place: u32, words: &str) -> Result<(), WriteFailed>
     ensures text { OnOk result (Prints W.contents out.old out.new (texts.at_place place words.now)) }
     ensures failed { OnErr result (has_failed out.new ≡ true) }
 {
@@ -141,7 +139,7 @@ fn entry_at<B: BookOf>(book: &B, place: u32) -> Option<Entry>
 }
 
 /// Prints that a place is agreed, where the book has its entry.
-fn print_agreed<B: BookOf, W: Write>(
+pub fn print_agreed<B: BookOf, W: Write>(
     out: &mut Watched<W>,
     sheet: &MatchSheet,
     place: u32,
@@ -207,7 +205,11 @@ fn print_pending<W: Write>(
 }
 
 /// Prints that the two scorers differ at this place, with the entry of each where it is known.
-fn print_differs<W: Write>(out: &mut Watched<W>, place: u32, both: Both) -> Result<(), WriteFailed>
+pub fn print_differs<W: Write>(
+    out: &mut Watched<W>,
+    place: u32,
+    both: Both,
+) -> Result<(), WriteFailed>
     requires own { IfSome both.own IsEntry }
     requires other { IfSome both.other IsEntry }
     ensures text { OnOk result (Prints W.contents out.old out.new
@@ -292,22 +294,73 @@ pub fn print_greeting<B: BookOf, W: Write>(
     print_place(out, at, own)
 }
 
+/// Prints that the other scorer has written, where this one is waited for.
+fn print_other<W: Write>(
+    out: &mut Watched<W>,
+    place: u32,
+    is_waited_for: bool,
+) -> Result<(), WriteFailed>
+    ensures text { OnOk result (Prints W.contents out.old out.new (texts.other_text place is_waited_for)) }
+    ensures failed { OnErr result (has_failed out.new ≡ true) }
+{
+    if is_waited_for {
+        print_at(out, place, "the other has written")
+    } else {
+        Ok(())
+    }
+}
+
+/// Prints that the other desk isn't heard, where that was told and it wasn't heard since.
+fn print_silence<W: Write>(out: &mut Watched<W>, is_silent: bool) -> Result<(), WriteFailed>
+    ensures text { OnOk result (Prints W.contents out.old out.new (texts.silence_text is_silent)) }
+    ensures failed { OnErr result (has_failed out.new ≡ true) }
+{
+    if is_silent {
+        writeln!(out, "the other desk isn't heard")
+    } else {
+        Ok(())
+    }
+}
+
+/// Prints how the match stands, where the desk does, and what is known of the other desk.
+fn print_standing<B: BookOf, W: Write>(
+    out: &mut Watched<W>,
+    sheet: &MatchSheet,
+    at: Position,
+    own: Option<Entry>,
+    is_waited_for: bool,
+    is_silent: bool,
+    book: &B,
+) -> Result<(), WriteFailed>
+    requires { IfSome own IsEntry }
+    ensures text { OnOk result (Prints W.contents out.old out.new
+        (texts.standing sheet.now (B.innings_a_side book.now) (B.content book.now) at own is_waited_for is_silent)) }
+    ensures failed { OnErr result (has_failed out.new ≡ true) }
+{
+    let place = at.place;
+    print_greeting(out, sheet, at, own, book)?;
+    print_other(out, place, is_waited_for)?;
+    print_silence(out, is_silent)
+}
+
 /// Prints what a word asks to see.
 fn print_asked<B: BookOf, W: Write>(
     out: &mut Watched<W>,
     sheet: &MatchSheet,
     at: Position,
     own: Option<Entry>,
+    is_waited_for: bool,
+    is_silent: bool,
     book: &B,
     word: Word,
 ) -> Result<(), WriteFailed>
     requires { IfSome own IsEntry }
     ensures text { OnOk result (Prints W.contents out.old out.new
-        (texts.word_text sheet.now (B.innings_a_side book.now) at own (B.content book.now) word)) }
+        (texts.word_text sheet.now (B.innings_a_side book.now) at own is_waited_for is_silent (B.content book.now) word)) }
     ensures failed { OnErr result (has_failed out.new ≡ true) }
 {
     match word {
-        Word::Where => print_greeting(out, sheet, at, own, book),
+        Word::Where => print_standing(out, sheet, at, own, is_waited_for, is_silent, book),
         Word::Entries(most) => print_listing(out, book, most),
         Word::Total => print_check(out, sheet, book),
         Word::Cards => print_cards(out, sheet, book),
@@ -320,12 +373,14 @@ fn print_asked<B: BookOf, W: Write>(
     }
 }
 
-/// Prints what a line came to, at this position, where the desk had these votes before.
+/// Prints what a line came to, at this position, where the desk had these votes before, and the scorer was told that the other
+/// desk isn't heard, or not.
 fn print_answer<B: BookOf, W: Write>(
     out: &mut Watched<W>,
     sheet: &MatchSheet,
     at: Position,
     both: Both,
+    is_silent: bool,
     said: &Said,
     book: &B,
 ) -> Result<(), WriteFailed>
@@ -333,12 +388,28 @@ fn print_answer<B: BookOf, W: Write>(
     requires own { IfSome both.own IsEntry }
     requires other { IfSome both.other IsEntry }
     ensures text { OnOk result (Prints W.contents out.old out.new
-        (texts.said_text sheet.now (B.innings_a_side book.now) at both.own both.other (B.content book.now) said.now)) }
+        (texts.said_text sheet.now (B.innings_a_side book.now) at both.own both.other is_silent (B.content book.now) said.now)) }
     ensures failed { OnErr result (has_failed out.new ≡ true) }
 {
     match said {
         Said::Quit => Ok(()),
-        Said::Asks(word) => print_asked(out, sheet, at, both.own, book, *word),
+        Said::Asks(word) => {
+            let is_waited_for = if both.own.is_some() {
+                false
+            } else {
+                both.other.is_some()
+            };
+            print_asked(
+                out,
+                sheet,
+                at,
+                both.own,
+                is_waited_for,
+                is_silent,
+                book,
+                *word,
+            )
+        }
         Said::Unclear(unclear) => print_unclear(out, sheet, unclear),
         Said::Fault(fault) => print_fault(out, *fault),
         Said::SayAgain => print_at(out, at.place, "differs: begin the line with again"),
@@ -351,12 +422,14 @@ fn print_answer<B: BookOf, W: Write>(
     }
 }
 
-/// Tells the scorer at once what a line came to, at this position, where the desk had these votes before.
+/// Tells the scorer at once what a line came to, at this position, where the desk had these votes before, and the scorer was
+/// told that the other desk isn't heard, or not.
 pub fn print_said<B: BookOf, W: Write>(
     out: &mut Watched<W>,
     sheet: &MatchSheet,
     at: Position,
     both: Both,
+    is_silent: bool,
     said: &Said,
     book: &B,
 ) -> Result<(), WriteFailed>
@@ -364,119 +437,9 @@ pub fn print_said<B: BookOf, W: Write>(
     requires own { IfSome both.own IsEntry }
     requires other { IfSome both.other IsEntry }
     ensures text { OnOk result (Prints W.contents out.old out.new
-        (texts.said_text sheet.now (B.innings_a_side book.now) at both.own both.other (B.content book.now) said.now)) }
+        (texts.said_text sheet.now (B.innings_a_side book.now) at both.own both.other is_silent (B.content book.now) said.now)) }
     ensures failed { OnErr result (has_failed out.new ≡ true) }
 {
-    print_answer(out, sheet, at, both, said, book)?;
-    out.flush()
-}
-
-/// Prints a text of a peer, unless it was told.
-fn print_warning<W: Write>(
-    out: &mut Watched<W>,
-    is_told: bool,
-    text: &str,
-) -> Result<(), WriteFailed>
-    ensures text { OnOk result (Prints W.contents out.old out.new (texts.warning is_told text.now)) }
-    ensures failed { OnErr result (has_failed out.new ≡ true) }
-{
-    if is_told {
-        return Ok(());
-    }
-    write!(out, "{text}")
-}
-
-/// Prints why bytes that came are no message of the match, unless it was told.
-fn print_bad<W: Write>(
-    out: &mut Watched<W>,
-    is_told: bool,
-    fault: wire::WireFault,
-) -> Result<(), WriteFailed>
-    ensures text { OnOk result (Prints W.contents out.old out.new
-        (texts.warning is_told (texts.bad_text fault))) }
-    ensures failed { OnErr result (has_failed out.new ≡ true) }
-{
-    if is_told {
-        return Ok(());
-    }
-    let code = fault.number();
-    writeln!(out, "peer: {code} {fault}")
-}
-
-/// Prints what a vote that came at this place came to, where it is news: of both votes, the desk's own was there before.
-fn print_heard<B: BookOf, W: Write>(
-    out: &mut Watched<W>,
-    sheet: &MatchSheet,
-    place: u32,
-    warned: Warned,
-    both: Both,
-    heard: Heard,
-    book: &B,
-) -> Result<(), WriteFailed>
-    requires own { IfSome both.own IsEntry }
-    requires other { IfSome both.other IsEntry }
-    ensures text { OnOk result (Prints W.contents out.old out.new
-        (texts.heard_text sheet.now (B.innings_a_side book.now) place both.own both.other (B.content book.now) warned heard)) }
-    ensures failed { OnErr result (has_failed out.new ≡ true) }
-{
-    match heard {
-        Heard::Noted => print_at(out, place, "the other has written"),
-        Heard::Agreed => print_agreed(out, sheet, place, book),
-        Heard::Differ => print_differs(out, place, both),
-        Heard::Mine => print_warning(out, warned.of_desk, "peer: the same desk\n"),
-        Heard::TwoVotes => print_warning(out, warned.of_votes, "peer: two votes\n"),
-        Heard::Old | Heard::Ahead | Heard::Again => Ok(()),
-    }
-}
-
-/// Prints what came of bytes at this place, where it is news.
-fn print_news<B: BookOf, W: Write>(
-    out: &mut Watched<W>,
-    sheet: &MatchSheet,
-    place: u32,
-    warned: Warned,
-    both: Both,
-    what: What,
-    book: &B,
-) -> Result<(), WriteFailed>
-    requires own { IfSome both.own IsEntry }
-    requires other { IfSome both.other IsEntry }
-    ensures text { OnOk result (Prints W.contents out.old out.new
-        (texts.came_text sheet.now (B.innings_a_side book.now) place both.own both.other (B.content book.now) warned what)) }
-    ensures failed { OnErr result (has_failed out.new ≡ true) }
-{
-    match what {
-        What::Bad(fault) => print_bad(out, warned.of_bytes, fault),
-        What::Heard(heard) => print_heard(out, sheet, place, warned, both, heard, book),
-        What::Asked | What::Device | What::Failed => Ok(()),
-    }
-}
-
-/// Tells the scorer at once what came of bytes at this place, where it is news.
-pub fn print_came<B: BookOf, W: Write>(
-    out: &mut Watched<W>,
-    sheet: &MatchSheet,
-    place: u32,
-    warned: Warned,
-    both: Both,
-    what: What,
-    book: &B,
-) -> Result<(), WriteFailed>
-    requires own { IfSome both.own IsEntry }
-    requires other { IfSome both.other IsEntry }
-    ensures text { OnOk result (Prints W.contents out.old out.new
-        (texts.came_text sheet.now (B.innings_a_side book.now) place both.own both.other (B.content book.now) warned what)) }
-    ensures failed { OnErr result (has_failed out.new ≡ true) }
-{
-    print_news(out, sheet, place, warned, both, what, book)?;
-    out.flush()
-}
-
-/// Tells the scorer at once that bytes came that don't open, unless it was told.
-pub fn print_unopened<W: Write>(out: &mut Watched<W>, warned: Warned) -> Result<(), WriteFailed>
-    ensures text { OnOk result (Prints W.contents out.old out.new (texts.unopened_text warned)) }
-    ensures failed { OnErr result (has_failed out.new ≡ true) }
-{
-    print_warning(out, warned.of_seal, "peer: another sheet or another key\n")?;
+    print_answer(out, sheet, at, both, is_silent, said, book)?;
     out.flush()
 }

@@ -3,11 +3,13 @@
 ghost use Rattle.std.specs.Prelude.{◌≡◌};
 ghost use Rattle.live.specs.Texts as texts;
 
+use crate::reminder::Reminder;
 use agree_core::Heard;
 use wire::What;
 
 /// What a desk's scorer was told of a peer since a vote that is news came. Anyone's asks are as any desk's, and a desk
-/// that waits repeats its vote twice a second, so that only a vote that is news is a sign that all is right.
+/// that waits repeats its vote twice a second, so that only a vote that is news is a sign that all is right. That the other
+/// desk isn't heard stands until it is heard.
 #[derive(Clone, Copy, Debug, PartialEq, Eq)]
 pub struct Warned {
     /// That bytes came that are no message of the match.
@@ -18,6 +20,10 @@ pub struct Warned {
     pub of_desk: bool,
     /// That two votes of the other desk came for one position.
     pub of_votes: bool,
+    /// That the other has written its vote of this position.
+    pub of_writing: bool,
+    /// That the other desk isn't heard, and not yet that it is again.
+    pub of_silence: bool,
 }
 
 impl Warned {
@@ -27,6 +33,8 @@ impl Warned {
         of_seal: false,
         of_desk: false,
         of_votes: false,
+        of_writing: false,
+        of_silence: false,
     };
 
     /// What was told once bytes came that don't open.
@@ -56,9 +64,32 @@ impl Warned {
                 of_votes: true,
                 ..self
             },
-            What::Heard(Heard::Noted | Heard::Agreed | Heard::Differ) => Warned::NOTHING,
+            What::Heard(Heard::Noted | Heard::Agreed | Heard::Differ) => Warned {
+                of_silence: self.of_silence,
+                ..Warned::NOTHING
+            },
             What::Heard(Heard::Old | Heard::Ahead | Heard::Again) => self,
             What::Asked | What::Device | What::Failed => self,
+        }
+    }
+
+    /// What was told after this.
+    pub fn after_reminder(self, reminder: Reminder) -> Warned
+        ensures { result ≡ texts.warned_reminded self reminder }
+    {
+        match reminder {
+            Reminder::HasWritten => Warned {
+                of_writing: true,
+                ..self
+            },
+            Reminder::IsMissed => Warned {
+                of_silence: true,
+                ..self
+            },
+            Reminder::IsHeard => Warned {
+                of_silence: false,
+                ..self
+            },
         }
     }
 }

@@ -22,6 +22,7 @@ mod boards;
 mod desks;
 mod ends;
 mod memory;
+mod reminders;
 mod sealed;
 mod short;
 mod three;
@@ -90,7 +91,7 @@ fn ask(from: Asker) -> [u8; 48] {
     bytes_of(7, &Message::Ask(ask))
 }
 
-/// How a desk's process ends over these lines and datagrams, and what its scorer is told.
+/// How desk A's process ends over these lines and datagrams, and what its scorer is told.
 fn told(
     rt: &impl Abort,
     alloc: Global,
@@ -114,6 +115,9 @@ fn told_by(
 ) -> (Result<(), DeskEnd>, Vec<u8>) {
     let mut out = Watched::new(Vec::new(alloc));
     let mut clock = Ticking::new();
-    let answer = run_desk(desk, sheet, link, lines, &mut clock, &mut out, turns);
+    let own = DeskId::A;
+    let answer = run_desk(
+        desk, own, sheet, link, lines, &mut clock, &mut out, turns,
+    );
     (answer, out.into_inner())
 }

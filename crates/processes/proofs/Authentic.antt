@@ -38,6 +38,7 @@ desk_came seal game sent (desks.Typed line said) fine h = tt
 desk_came seal game sent desks.TypingEnded fine h = tt
 desk_came seal game sent desks.Unopened fine h = tt
 desk_came seal game sent desks.Ticked fine h = tt
+desk_came seal game sent (desks.Reminded reminder) fine h = tt
 desk_came seal game sent desks.TurnEnded fine h = tt
 
 board_came : (seal : List ℕ) (game : ℕ) (sent : List Message) (call : BoardCall) → All IsMessage sent → BoardAuthentic seal game sent call → BoardCame game sent call

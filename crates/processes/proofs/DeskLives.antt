@@ -76,7 +76,7 @@ module _ {Disk : Type 0} (view : FileVersion → FileView Disk) (seen : Disk →
       let p : DeskProcess Disk = own.last_of (fresh k) ms in
       let last : DeskState Disk = (λ (p : DeskProcess Disk). p.desk) p in
       let this : Happening Disk = DeskCalled d s m.call m.out ((λ (p : DeskProcess Disk). p.desk) m.after) (told_of s innings p m.call m.after) in
-      let may : MayDesk view seen d game innings (with_run x (Running last)) this = (last, refl, r.2.2.1, (p, refl, ap (told_of s innings p m.call) r.2.2.3)) in (
+      let may : MayDesk view seen d game innings (with_run x (Running last)) this = (last, refl, r.2.2.1, (p, refl, r.2.2.4, ap (told_of s innings p m.call) r.2.2.3)) in (
         (before.0, subst (λ (y : Node Disk). MayDesk view seen d game innings y this) (sym before.1) may),
         ap (λ (y : Node Disk). next_desk y this) before.1,
       )
@@ -90,22 +90,23 @@ module _ {Disk : Type 0} (view : FileVersion → FileView Disk) (seen : Disk →
   silent s k l (desks.Typed line said.SayAgain) e = absurd (cc)
   silent s k l (desks.Typed line said.NoneDiffers) e = absurd (cc)
   silent s k l (desks.Typed line said.Waiting) e = absurd (cc)
-  silent s k l (desks.Typed line (said.Refused refusals.Failed)) e = (fresh k, refl, refl)
+  silent s k l (desks.Typed line (said.Refused refusals.Failed)) e = (fresh k, refl, tt, refl)
   silent s k l (desks.Typed line (said.Refused refusals.Waiting)) e = absurd (cc)
   silent s k l (desks.Typed line (said.Refused refusals.PlacesFull)) e = absurd (cc)
   silent s k l (desks.Typed line (said.Refused refusals.RoundsFull)) e = absurd (cc)
   silent s k l (desks.Typed line (said.Refused refusals.SlotsFull)) e = absurd (cc)
   silent s k l (desks.Typed line (said.Refused (refusals.Book why))) e = absurd (cc)
-  silent s k l (desks.Typed line (said.Refused refusals.Device)) e = (fresh k, refl, refl)
+  silent s k l (desks.Typed line (said.Refused refusals.Device)) e = (fresh k, refl, tt, refl)
   silent s k l (desks.Typed line (said.Penned entry settled)) e = absurd (cc)
   silent s k l desks.TypingEnded e = absurd (cc)
   silent s k l (desks.Given bytes (whats.Bad fault)) e = absurd (cc)
   silent s k l (desks.Given bytes (whats.Heard heard)) e = absurd (cc)
   silent s k l (desks.Given bytes whats.Asked) e = absurd (cc)
-  silent s k l (desks.Given bytes whats.Device) e = (fresh k, refl, refl)
-  silent s k l (desks.Given bytes whats.Failed) e = (fresh k, refl, refl)
+  silent s k l (desks.Given bytes whats.Device) e = (fresh k, refl, tt, refl)
+  silent s k l (desks.Given bytes whats.Failed) e = (fresh k, refl, tt, refl)
   silent s k l desks.Unopened e = absurd (cc)
   silent s k l desks.Ticked e = absurd (cc)
+  silent s k l (desks.Reminded reminder) e = absurd (cc)
   silent s k l desks.TurnEnded e = absurd (cc)
 
   one_stage : (x : Node Disk) (stage : Stage Disk) → IsNextStage view seen faults d game innings x stage → Goes x (stage_happens innings d stage) (after_stage x stage)

@@ -187,5 +187,6 @@ module _ {Disk : Type 0} (s : Setting Disk Refusal) (game innings : ℕ) (rules 
   desk_moment sheet k l desks.Ticked out at came h =
       let e : (node v d).process ≡ Running l = at ∙ ap Running (sym h.1) in
       at_desk s v d (DeskCalled d sheet desks.Ticked out l text) (events.Tick (stations.Desk d)) (answers.Ticked (length out)) (runs_on (node v d) l (node v d).due) out refl tt (k, at, h.0, refl, itself (node v d) l e)
+  desk_moment sheet k l (desks.Reminded reminder) out at came h = still sheet k l out at (desks.Reminded reminder) h.0 h.1
   desk_moment sheet k l desks.TypingEnded out at came h = still sheet k l out at desks.TypingEnded h.0 h.1
   desk_moment sheet k l desks.TurnEnded out at came h = still sheet k l out at desks.TurnEnded h.0 h.1

@@ -45,6 +45,7 @@ module _ {Disk : Type 0} where
   typed_here v (DeskCalled c x desks.TypingEnded out l text) d b h = absurd h
   typed_here v (DeskCalled c x desks.Unopened out l text) d b h = absurd h
   typed_here v (DeskCalled c x desks.Ticked out l text) d b h = absurd h
+  typed_here v (DeskCalled c x (desks.Reminded reminder) out l text) d b h = absurd h
   typed_here v (DeskCalled c x desks.TurnEnded out l text) d b h = absurd h
   typed_here v (DeskGreeted c x text) d b h = absurd h
   typed_here v (DeskEnded c disk) d b h = absurd h

@@ -45,6 +45,7 @@ module _ {Disk : Type 0} where
   types (DeskCalled d s desks.TypingEnded out l text) v u c b k h at pos = absurd h
   types (DeskCalled d s desks.Unopened out l text) v u c b k h at pos = absurd h
   types (DeskCalled d s desks.Ticked out l text) v u c b k h at pos = absurd h
+  types (DeskCalled d s (desks.Reminded reminder) out l text) v u c b k h at pos = absurd h
   types (DeskCalled d s desks.TurnEnded out l text) v u c b k h at pos = absurd h
   types (DeskGreeted d s text) v u c b k h at pos = absurd h
   types (DeskEnded d disk) v u c b k h at pos = absurd h

@@ -102,6 +102,7 @@ module _
       takes (DeskCalled d sheet desks.TypingEnded out l text) h = λ t book b c shown pos kept brought. absurd brought.1
       takes (DeskCalled d sheet desks.Unopened out l text) h = λ t book b c shown pos kept brought. absurd brought.1
       takes (DeskCalled d sheet desks.Ticked out l text) h = λ t book b c shown pos kept brought. absurd brought.1
+      takes (DeskCalled d sheet (desks.Reminded reminder) out l text) h = λ t book b c shown pos kept brought. absurd brought.1
       takes (DeskCalled d sheet desks.TurnEnded out l text) h = λ t book b c shown pos kept brought. absurd brought.1
       takes (BoardCalled number sheet (boards.Given bytes answer) out l text) h = λ t book b c shown pos kept brought.
           let there = brought.1 in

@@ -39,6 +39,7 @@ use Rattle.live.specs.Ends.{further}
 use Rattle.live.specs.Notices.{untold}
 use Rattle.live.specs.Runs as own
 use Rattle.live.specs.declared.ends.DeskEnd.TheVariants.{Device}
+use Rattle.live.specs.declared.reminder.Reminder.TheVariants.{HasWritten}
 use Rattle.live.specs.declared.said.Said.TheVariants.{Penned}
 use Rattle.headline.specs.Configurations.{board_at, fresh_boards, node}
 use Rattle.live.specs.Saying.{SaysEntry}
@@ -123,6 +124,7 @@ module _ (s : Sheet) where
         (says, (((refl, refl), ((omega arith, omega arith), omega arith), taken 1), ((refl, refl), refl, refl, refl, holds_one A), refl)),
         (λ sound. blameless _ disk_without disk_with),
         refl,
+        tt,
       ),
     ),
   )
@@ -151,27 +153,48 @@ module _ (s : Sheet) where
     after = desks.after_call (fresh (new_desk B)) (desks.Given a_bytes (Heard hearing.Heard.Noted)) b_noted;
   }
 
+  abbrev b_knows : desks.DeskProcess (List ℕ)
+  b_knows = desks.after_call (fresh (new_desk B)) (desks.Given a_bytes (Heard hearing.Heard.Noted)) b_noted
+
+  abbrev reminds : own.Moment (desks.DeskProcess (List ℕ)) desks.DeskCall
+  reminds = record {
+    call = desks.Reminded HasWritten;
+    out = [];
+    after = desks.after_call b_knows (desks.Reminded HasWritten) b_noted;
+  }
+
   abbrev pens_too : own.Moment (desks.DeskProcess (List ℕ)) desks.DeskCall
   pens_too = record {
     call = desks.Typed (codes "void") (Penned (Write Void) Settled.Agreed);
     out = b_says ∷ [];
-    after = desks.after_call (desks.after_call (fresh (new_desk B)) (desks.Given a_bytes (Heard hearing.Heard.Noted)) b_noted)
+    after = desks.after_call (desks.after_call b_knows (desks.Reminded HasWritten) b_noted)
         (desks.Typed (codes "void") (Penned (Write Void) Settled.Agreed)) b_penned;
   }
 
-  b_runs : RunsFrom s (view B) no_faults 7 1 (new_desk B) (pens_too ∷ notes ∷ [])
+  b_runs : RunsFrom s (view B) no_faults 7 1 (new_desk B) (pens_too ∷ reminds ∷ notes ∷ [])
   b_runs = (
     (λ n. n),
     0,
     (
       (
-        tt,
+        (
+          tt,
+          All-nil IsMessage,
+          (
+            refl,
+            (a_says, (is_message A, refl), (refl, (((λ e. cc), refl), refl, refl, refl), stays B disk_without, refl, refl)),
+            (λ sound. blameless _ disk_without disk_without),
+            refl,
+            tt,
+          ),
+        ),
         All-nil IsMessage,
         (
           refl,
-          (a_says, (is_message A, refl), (refl, (((λ e. cc), refl), refl, refl, refl), stays B disk_without, refl, refl)),
+          (refl, refl),
           (λ sound. blameless _ disk_without disk_without),
           refl,
+          (refl, refl, refl),
         ),
       ),
       All-cons IsMessage b_says [] (is_message B) (All-nil IsMessage),
@@ -180,13 +203,14 @@ module _ (s : Sheet) where
         (says, (((refl, refl), ((omega arith, omega arith), omega arith), taken 1), ((refl, refl), refl, refl, refl, holds_one B), refl)),
         (λ sound. blameless _ disk_without disk_with),
         refl,
+        tt,
       ),
     ),
   )
 
   abbrev life_at : DeskId → List (Stage (List ℕ))
   life_at A = life_of_a
-  life_at B = CallsMade s (new_desk B) (pens_too ∷ notes ∷ []) ∷ []
+  life_at B = CallsMade s (new_desk B) (pens_too ∷ reminds ∷ notes ∷ []) ∷ []
 
   desk_lives : (d : DeskId) → (life : List (Stage (List ℕ)))
       × IsLife (λ version. file_view (toy version) (λ disk. disk) only d 7) (λ disk. disk) no_faults d 7 1 (node (start New 1 (new_desk A) (new_desk B)) d) life
@@ -249,7 +273,7 @@ module _ (s : Sheet) where
 
 pub lived_is_woven : LivedIsWoven
 lived_is_woven s seal = record {
-  order = (((((((((((((tt, tt), tt), tt), a_sealed seal []), tt), tt), a_sealed seal (b_says ∷ [])), b_sealed seal), tt), tt), tt), tt), tt);
+  order = ((((((((((((((tt, tt), tt), tt), a_sealed seal []), tt), tt), tt), a_sealed seal (b_says ∷ [])), b_sealed seal), tt), tt), tt), tt), tt);
   desks = desk_lives s;
   boards = board_lives s;
   no_others = no_others s;

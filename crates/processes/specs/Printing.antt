@@ -8,18 +8,18 @@ use Rattle.agree_core.specs.Boards.{BoardState}
 use Rattle.agree_core.specs.Desks.{DeskState}
 use Rattle.live.specs.Boards as boards
 use Rattle.live.specs.Boards.{BoardCall}
-use Rattle.live.specs.Desks.{DeskCall, DeskProcess, after_call, own_line, told_of}
+use Rattle.live.specs.Desks.{DeskCall, DeskProcess, MayCall, after_call, own_line, told_of}
 use Rattle.live.specs.Texts.{greeting}
 
 -- what a desk's process prints first, by this sheet: how the match and the desk stand
 abbrev pub greeting_of : {Disk : Type 0} → Sheet → ℕ → DeskState Disk → List ℕ
 greeting_of s innings k = greeting s innings k.book k.seat.position (own_line k)
 
--- the text is what the scorer is told of a call, by this sheet and by the process before the call and after it, whose
--- desks are these
+-- the text is what the scorer is told of a call, by this sheet and by the process before the call, which may make it, and
+-- after it, whose desks are these
 abbrev pub Tells : {Disk : Type 0} → Sheet → ℕ → DeskState Disk → DeskCall → DeskState Disk → List ℕ → Type 0
 Tells s innings k call l text =
-    (p : DeskProcess _) × (p.desk ≡ k) × (text ≡ told_of s innings p call (after_call p call l))
+    (p : DeskProcess _) × (p.desk ≡ k) × MayCall p call × (text ≡ told_of s innings p call (after_call p call l))
 
 -- the text is what a board prints of a call that leaves it so: at the end of a turn the six lines of its book, by this
 -- sheet, or nothing; and of any other call nothing

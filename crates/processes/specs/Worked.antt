@@ -1,4 +1,5 @@
--- A worked life: desk A pens `void`, is killed, begins in vain, and begins; desk B is given its vote, and pens `void` too; a
+-- A worked life: desk A pens `void`, is killed, begins in vain, and begins; desk B is given its vote, tells its scorer later that the other has written, and pens
+-- `void` too; a
 -- board is given both votes, and shows the book. A disk is its bytes, all of them synced: one for the header, and one for
 -- the desk's vote. The texts were written by hand.
 use Rattle.std.specs.Prelude.{ℕ, List, [], ◌∷◌, Ok, codes, false}
@@ -27,6 +28,7 @@ use Rattle.headline.specs.declared.version.FileVersion.{FileVersion}
 use Rattle.headline.specs.declared.version.FileVersion.TheVariants.{New}
 use Rattle.live.specs.Boards as boards
 use Rattle.live.specs.Desks as desks
+use Rattle.live.specs.declared.reminder.Reminder.TheVariants.{HasWritten}
 use Rattle.live.specs.declared.said.Said.TheVariants.{Penned}
 use Rattle.processes.specs.Happenings.{BoardBegun, BoardCalled, DeskBegun, DeskCalled, DeskEnded, DeskGreeted, Happening}
 use Rattle.processes.specs.Weaving.{IsWoven, start}
@@ -107,7 +109,8 @@ lived s =
     ∷ BoardBegun 1
     ∷ DeskCalled B s (desks.Typed (codes "void") (Penned (Write Void) Settled.Agreed)) (b_says ∷ []) b_penned
     (codes "0 agreed: void\nNo play\n")
-    ∷ DeskCalled B s (desks.Given a_bytes (Heard hearing.Heard.Noted)) [] b_noted (codes "0 the other has written\n")
+    ∷ DeskCalled B s (desks.Reminded HasWritten) [] b_noted (codes "0 the other has written\n")
+    ∷ DeskCalled B s (desks.Given a_bytes (Heard hearing.Heard.Noted)) [] b_noted []
     ∷ DeskGreeted B s (codes "No play\n0 next\n")
     ∷ DeskCalled A s (desks.Typed (codes "void") (Penned (Write Void) Settled.Pending)) (a_says ∷ []) a_penned
     (codes "0 pending: void\n")

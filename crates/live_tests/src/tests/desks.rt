@@ -149,7 +149,7 @@ fn lines_and_rounds(rt: HostRuntime) {
         UNPLAYED,
         "0 next\n0 pending: innings home\n0 agreed: innings home\n",
         OPENED,
-        "1 doesn't differ: leave out again\n1 the other has written\n",
+        "1 doesn't differ: leave out again\n",
         "1 doesn't differ: leave out again\n1 differs: you in 1, the other in 2\n",
         "1 differs: begin the line with again\n1 pending: in 1\n",
         WAITING,
@@ -159,7 +159,7 @@ fn lines_and_rounds(rt: HostRuntime) {
         UNKNOWN,
         "1 agreed: in 1\n",
         FIRST_IN,
-        "2 the other has written\n2 agreed: in 2\n",
+        "2 agreed: in 2\n",
         BOTH_IN,
         "3 pending: ball 7 bat 1\n3 differs: you ball 7 bat 1, the other ball 7 bat 2\n",
         "3 differs: begin the line with again\n",
@@ -213,7 +213,7 @@ fn what_cannot_be_right(rt: HostRuntime) {
     let lines = ["", "", "", "bogus", "quit"];
     let texts = [
         UNPLAYED,
-        "0 next\npeer: 50 Length\n0 the other has written\npeer: 54 OtherMatch\n",
+        "0 next\npeer: 50 Length\npeer: 54 OtherMatch\n",
         "peer: the same desk\npeer: two votes\n",
         UNKNOWN,
     ];
@@ -235,7 +235,7 @@ fn a_station_of_another_match(rt: HostRuntime) {
     let lines = ["", "", "", "", "quit"];
     let texts = [
         UNPLAYED,
-        "0 next\npeer: 54 OtherMatch\n0 the other has written\npeer: 54 OtherMatch\n",
+        "0 next\npeer: 54 OtherMatch\npeer: 54 OtherMatch\n",
     ];
     is_told(&rt, alloc, &lines, &mut link, &texts);
 }

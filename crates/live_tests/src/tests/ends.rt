@@ -91,7 +91,14 @@ fn a_writer_that_fails(rt: HostRuntime) {
         let mut out = Watched::new(Failing { calls });
         let mut clock = Ticking::new();
         let answer = run_desk(
-            &mut desk, &sheet, &mut link, &mut lines, &mut clock, &mut out, 9,
+            &mut desk,
+            DeskId::A,
+            &sheet,
+            &mut link,
+            &mut lines,
+            &mut clock,
+            &mut out,
+            9,
         );
         match answer {
             Err(DeskEnd::Write) => assert!(rt; out.has_failed() && !ended),

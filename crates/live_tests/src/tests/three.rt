@@ -44,11 +44,12 @@ impl Links {
     }
 }
 
-/// A turn of a desk, whose scorer pens a `void` where its vote isn't cast.
+/// A turn of a desk of this letter, whose scorer pens a `void` where its vote isn't cast.
 fn desk_turn<S: SlotsOf>(
     rt: &impl Abort,
     alloc: Global,
     desk: &mut Desk<S, Book>,
+    own: DeskId,
     link: &mut Queue,
 ) {
     let sheet = sheet(rt, alloc);
@@ -57,7 +58,9 @@ fn desk_turn<S: SlotsOf>(
     lines.type_line(rt, if has_voted { "" } else { "void" });
     let mut out = Watched::new(Failing { calls: usize::MAX });
     let mut clock = Ticking::new();
-    let answer = run_desk(desk, &sheet, link, &mut lines, &mut clock, &mut out, 1);
+    let answer = run_desk(
+        desk, own, &sheet, link, &mut lines, &mut clock, &mut out, 1,
+    );
     assert!(rt; answer.is_ok());
 }
 
@@ -90,7 +93,7 @@ fn round<S: SlotsOf>(
     board: &mut Board<Book>,
     links: &mut Links,
 ) -> bool {
-    desk_turn(rt, alloc, a, &mut links.a);
+    desk_turn(rt, alloc, a, DeskId::A, &mut links.a);
     carry(
         rt,
         &mut links.count,
@@ -98,7 +101,7 @@ fn round<S: SlotsOf>(
         &mut links.b,
         &mut links.board,
     );
-    desk_turn(rt, alloc, b, &mut links.b);
+    desk_turn(rt, alloc, b, DeskId::B, &mut links.b);
     carry(
         rt,
         &mut links.count,

@@ -11,14 +11,14 @@ use std::io::{self, Write};
 
 /// A clock, what comes when, and what was written but not handed on.
 #[derive(Drop)]
-struct World {
-    now: Cell<u64>,
+pub struct World {
+    pub now: Cell<u64>,
     is_held: Cell<bool>,
     was_held: Cell<bool>,
 }
 
 impl World {
-    fn new() -> World {
+    pub fn new() -> World {
         World {
             now: Cell::new(0),
             is_held: Cell::new(false),
@@ -29,8 +29,8 @@ impl World {
 
 /// The world's clock.
 #[derive(Drop)]
-struct Hand<'a> {
-    world: &'a World,
+pub struct Hand<'a> {
+    pub world: &'a World,
 }
 
 impl Clock for Hand<'_> {
@@ -66,7 +66,7 @@ struct Bring {
 
 /// A link to which datagrams come at their times. It notes when it was asked to send.
 #[derive(Drop)]
-struct Timed<'a> {
+pub struct Timed<'a> {
     world: &'a World,
     brings: Vec<Bring>,
     taken: usize,
@@ -75,7 +75,7 @@ struct Timed<'a> {
 }
 
 impl<'a> Timed<'a> {
-    fn new(alloc: Global, world: &'a World) -> Timed<'a> {
+    pub fn new(alloc: Global, world: &'a World) -> Timed<'a> {
         Timed {
             world,
             brings: Vec::new(alloc),
@@ -85,7 +85,8 @@ impl<'a> Timed<'a> {
         }
     }
 
-    fn bring(&mut self, rt: &impl Abort, at: u64, bytes: [u8; 48]) {
+    /// A datagram is to come then.
+    pub fn bring(&mut self, rt: &impl Abort, at: u64, bytes: [u8; 48]) {
         self.brings.push(Bring { at, bytes }).expect(rt, "room");
     }
 
@@ -152,7 +153,10 @@ fn run(
     let mut desk = new_desk(rt, alloc, DeskId::A);
     let mut out = Watched::new(Screen { world });
     let mut clock = Hand { world };
-    let answer = run_desk(&mut desk, &sheet, link, lines, &mut clock, &mut out, turns);
+    let own = DeskId::A;
+    let answer = run_desk(
+        &mut desk, own, &sheet, link, lines, &mut clock, &mut out, turns,
+    );
     assert!(rt; answer.is_ok());
 }
 

@@ -5,12 +5,12 @@ use Rattle.live.proofs.desk_life.keep_desk.Goals as goal
 
 pub returns-in-Ok-run_desk-clause-lives : goal.returns-in-Ok-run_desk-clause-lives
 returns-in-Ok-run_desk-clause-lives g c =
-    begun_ran c.in-Ok.desk c.run_desk.new.desk c.args.sheet.now c.args.desk c.game.result _ c.args.disk _ _ _ _ _ _ c.args.turns (Ok tt) c.game.ensures
+    begun_ran c.in-Ok.begun c.run_desk.new.desk c.args.sheet.now c.args.desk c.game.result _ c.args.disk _ _ _ _ _ _ c.args.turns (Ok tt) c.game.ensures
     c.in-Ok.ensures.creates c.in-Ok.ensures.opens c.in-Ok.ensures.owner c.in-Ok.ensures.cap c.in-Ok-run_desk.ensures.runs
 
 pub returns-in-Ok-clause-lives : goal.returns-in-Ok-clause-lives
 returns-in-Ok-clause-lives g c =
-    begun_ran c.in-Ok.desk c.run_desk.new.desk c.args.sheet.now c.args.desk c.game.result _ c.args.disk _ _ _ _ _ _ c.args.turns (Err c.in-Err-run_desk.end) c.game.ensures
+    begun_ran c.in-Ok.begun c.run_desk.new.desk c.args.sheet.now c.args.desk c.game.result _ c.args.disk _ _ _ _ _ _ c.args.turns (Err c.in-Err-run_desk.end) c.game.ensures
     c.in-Ok.ensures.creates c.in-Ok.ensures.opens c.in-Ok.ensures.owner c.in-Ok.ensures.cap c.in-Err-run_desk.ensures.runs
 
 pub returns-clause-lives : goal.returns-clause-lives

@@ -1,0 +1,44 @@
+-- What a scorer is told of the other desk by the clock comes once.
+use Rattle.std.specs.Prelude.{◌≡◌, ◌≢◌, ℕ, Bool, true, false, List, All}
+use Rattle.agree_core.specs.declared.messages.Message.{Message}
+use Rattle.agree_core.specs.declared.seat.Heard.{Heard}
+use Rattle.agree_core.specs.FileView.{FileView}
+use Rattle.cards.specs.Sheet.{Sheet}
+use Rattle.wire.specs.declared.what.What.TheVariants as whats
+use Rattle.live.specs.Desks.{DeskCall, DeskProcess, DiskView, Given, ProcessStep, Reminded, desk_kind}
+use Rattle.live.specs.Runs.{Moment, Run}
+use Rattle.live.specs.Texts.{unwarned}
+use Rattle.live.specs.declared.reminder.Reminder.{Reminder}
+use Rattle.live.specs.declared.reminder.Reminder.TheVariants.{HasWritten, IsHeard, IsMissed}
+
+-- a vote of the other desk that is news comes
+abbrev pub brings_news : DeskCall → Bool
+brings_news (Given bytes (whats.Heard Heard.Noted)) = true
+brings_news (Given bytes (whats.Heard Heard.Agreed)) = true
+brings_news (Given bytes (whats.Heard Heard.Differ)) = true
+brings_news call = false
+
+module _ {Disk : Type 0} where
+  abbrev pub BringsNone : Moment (DeskProcess Disk) DeskCall → Type 0
+  BringsNone m = brings_news m.call ≡ false
+
+  -- in a moment the scorer isn't told this of the other desk
+  abbrev pub IsNot : Reminder → Moment (DeskProcess Disk) DeskCall → Type 0
+  IsNot reminder m = m.call ≢ Reminded reminder
+
+-- In a run of a desk's process, once its scorer was told that the other has written, that isn't told again before a vote of
+-- the other desk that is news comes; that the other desk is heard again isn't told before he was told that it isn't heard;
+-- and of these two neither is told again before the other one.
+pub record RemindsOnce {Disk : Type 0} (view : FileView Disk) (disks : DiskView Disk) : Type 0 where
+  pub writing : (sheet : Sheet) (game innings : ℕ) (k l : DeskProcess Disk) (out : List Message) (ms : List (Moment (DeskProcess Disk) DeskCall))
+      → ProcessStep sheet view disks game innings k (Reminded HasWritten) out l
+      → Run (desk_kind sheet view disks game innings) l ms → All BringsNone ms → All (IsNot HasWritten) ms
+  pub missed : (sheet : Sheet) (game innings : ℕ) (k l : DeskProcess Disk) (out : List Message) (ms : List (Moment (DeskProcess Disk) DeskCall))
+      → ProcessStep sheet view disks game innings k (Reminded IsMissed) out l
+      → Run (desk_kind sheet view disks game innings) l ms → All (IsNot IsHeard) ms → All (IsNot IsMissed) ms
+  pub heard : (sheet : Sheet) (game innings : ℕ) (k l : DeskProcess Disk) (out : List Message) (ms : List (Moment (DeskProcess Disk) DeskCall))
+      → ProcessStep sheet view disks game innings k (Reminded IsHeard) out l
+      → Run (desk_kind sheet view disks game innings) l ms → All (IsNot IsMissed) ms → All (IsNot IsHeard) ms
+  pub first : (sheet : Sheet) (game innings : ℕ) (k : DeskProcess Disk) (ms : List (Moment (DeskProcess Disk) DeskCall))
+      → k.warned ≡ unwarned
+      → Run (desk_kind sheet view disks game innings) k ms → All (IsNot IsMissed) ms → All (IsNot IsHeard) ms

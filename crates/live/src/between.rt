@@ -1,0 +1,13 @@
+//! What a desk's process keeps between its calls.
+
+use crate::pace::Pace;
+use crate::peer::Peer;
+use crate::warned::Warned;
+
+/// What a desk's process keeps between its calls.
+#[derive(Clone, Copy, Debug, PartialEq, Eq)]
+pub struct Between {
+    pub pace: Pace,
+    pub peer: Peer,
+    pub warned: Warned,
+}

@@ -1,0 +1,123 @@
+//! What a desk tells its scorer of the other desk, by the clock.
+
+ghost use Rattle.std.specs.Prelude.{◌≡◌, ℕ, List, Err, true, false, is_some};
+ghost use Rattle.std.specs.Io.KnownBytes.{Appends};
+ghost use Rattle.cards.specs.Sheet.{Sheet};
+ghost use Rattle.streams.specs.Watched.{has_failed, stream_of};
+ghost use Rattle.desk.specs.Desk.{state_of};
+ghost use Rattle.live.specs.Desks.{DeskGoes, process_of};
+ghost use Rattle.live.specs.Ends.{course_of, further, known_at};
+ghost use Rattle.live.specs.Passed.{Passed};
+ghost use Rattle.live.specs.Texts.{reminder_text, warned_reminded};
+ghost use Rattle.live.specs.Typing.{Input};
+
+use crate::between::Between;
+use crate::ends::{DeskEnd, told};
+use crate::news::print_reminder;
+use crate::reminder::Reminder;
+use corrections::BookOf;
+use desk::Desk;
+use entry_log::SlotsOf;
+use std::io::Write;
+use streams::Watched;
+
+/// Tells the scorer this of the other desk, at this place.
+fn tell<W: Write>(
+    out: &mut Watched<W>,
+    place: u32,
+    between: &mut Between,
+    reminder: Reminder,
+) -> Result<(), DeskEnd>
+    ensures warned { between.new.warned ≡ warned_reminded between.old.warned reminder }
+    ensures text { Appends (known_at result (W.contents (stream_of out.old)))
+        (known_at result (W.contents (stream_of out.new))) (reminder_text place reminder) }
+    ensures course { course_of result ≡ further }
+    ensures failed { result ≡ Err DeskEnd.Write → has_failed out.new ≡ true }
+{
+    between.warned = between.warned.after_reminder(reminder);
+    told(print_reminder(out, place, reminder))
+}
+
+/// Whether the other's vote of this position is noted and the own isn't cast.
+fn is_waited_for<S: SlotsOf, B: BookOf + Drop>(desk: &Desk<S, B>) -> bool
+    ensures own { result ≡ true → is_some (state_of desk.now).seat.mine ≡ false }
+    ensures other { result ≡ true → is_some (state_of desk.now).seat.theirs ≡ true }
+{
+    if desk.has_voted() {
+        false
+    } else {
+        desk.noted().is_some()
+    }
+}
+
+/// Tells the scorer that the other has written, where that is due.
+fn remind_of_writing<S: SlotsOf, B: BookOf + Drop, W: Write>(
+    desk: &Desk<S, B>,
+    out: &mut Watched<W>,
+    between: &mut Between,
+    now: u64,
+) -> Result<(), DeskEnd>
+    ensures goes { (sheet : Sheet) (log : List Passed) (typed : List Input) (turns : ℕ) →
+        DeskGoes sheet desk.now desk.now
+        (process_of desk.now between.old.warned turns further)
+        (process_of desk.now between.new.warned turns (course_of result)) log log typed typed
+        (known_at result (W.contents (stream_of out.old))) (known_at result (W.contents (stream_of out.new))) }
+    ensures failed { result ≡ Err DeskEnd.Write → has_failed out.new ≡ true }
+{
+    if between.warned.of_writing {
+        return Ok(());
+    }
+    if is_waited_for(desk) {
+        if between.peer.is_late(now) {
+            let place = desk.position().place;
+            return tell(out, place, between, Reminder::HasWritten);
+        }
+    }
+    Ok(())
+}
+
+/// Tells the scorer that the other desk isn't heard, or that it is again, where that is due.
+fn remind_of_silence<S: SlotsOf, B: BookOf + Drop, W: Write>(
+    desk: &Desk<S, B>,
+    out: &mut Watched<W>,
+    between: &mut Between,
+    now: u64,
+) -> Result<(), DeskEnd>
+    ensures goes { (sheet : Sheet) (log : List Passed) (typed : List Input) (turns : ℕ) →
+        DeskGoes sheet desk.now desk.now
+        (process_of desk.now between.old.warned turns further)
+        (process_of desk.now between.new.warned turns (course_of result)) log log typed typed
+        (known_at result (W.contents (stream_of out.old))) (known_at result (W.contents (stream_of out.new))) }
+    ensures failed { result ≡ Err DeskEnd.Write → has_failed out.new ≡ true }
+{
+    let place = desk.position().place;
+    let is_missed = between.peer.is_missed(now);
+    if between.warned.of_silence {
+        if is_missed {
+            return Ok(());
+        }
+        return tell(out, place, between, Reminder::IsHeard);
+    }
+    if is_missed {
+        return tell(out, place, between, Reminder::IsMissed);
+    }
+    Ok(())
+}
+
+/// Tells the scorer what is due of the other desk.
+pub fn remind<S: SlotsOf, B: BookOf + Drop, W: Write>(
+    desk: &Desk<S, B>,
+    out: &mut Watched<W>,
+    between: &mut Between,
+    now: u64,
+) -> Result<(), DeskEnd>
+    ensures goes { (sheet : Sheet) (log : List Passed) (typed : List Input) (turns : ℕ) →
+        DeskGoes sheet desk.now desk.now
+        (process_of desk.now between.old.warned turns further)
+        (process_of desk.now between.new.warned turns (course_of result)) log log typed typed
+        (known_at result (W.contents (stream_of out.old))) (known_at result (W.contents (stream_of out.new))) }
+    ensures failed { result ≡ Err DeskEnd.Write → has_failed out.new ≡ true }
+{
+    remind_of_writing(desk, out, between, now)?;
+    remind_of_silence(desk, out, between, now)
+}
