@@ -1,5 +1,5 @@
 -- A desk's process, call by call.
-use Rattle.std.specs.Prelude.{◌≡◌, ◌≢◌, ◌≤◌, ◌+◌, ℕ, Bool, true, false, List, [], ◌∷◌, ◌++◌, All, Option, None, is_some, take, drop, Result, Ok, Err}
+use Rattle.std.specs.Prelude.{◌≡◌, ◌≢◌, ◌≤◌, ◌+◌, ℕ, Bool, true, false, List, [], ◌∷◌, ◌++◌, All, Option, None, is_some, Result, Ok, Err}
 use Rattle.notation.specs.declared.entry.Entry.{Entry}
 use Rattle.corrections.specs.declared.book_of.BookOf.{Ghosts as Books}
 use Rattle.corrections.specs.Refusal.{book_refusal}
@@ -11,7 +11,7 @@ use Rattle.agree_core.specs.declared.messages.Message.{Message}
 use Rattle.agree_core.specs.Desks.{DeskState, Ticks, most_votes}
 use Rattle.agree_core.specs.FileView.{FileView}
 use Rattle.vote_store.specs.Record.{entry_coded}
-use Rattle.wire.specs.Layout.{IsMessage}
+use Rattle.wire.specs.Layout.{IsMessage, body_in}
 use Rattle.wire.specs.declared.what.What.{What}
 use Rattle.cards.specs.Sheet.{Sheet}
 use Rattle.desk.specs.declared.desk.Desk.{Desk}
@@ -130,9 +130,9 @@ own_entry false last = None
 abbrev pub own_line : {Disk : Type 0} → DeskState Disk → Option Entry
 own_line k = own_entry (is_some k.seat.mine) (last_entry k.votes)
 
--- the entry of the vote that bytes say: its code stands behind the 19 bytes of the head
+-- the entry of the vote that bytes say: its code is the body
 abbrev pub entry_in : List ℕ → Option Entry
-entry_in bytes = entry_coded (take 24 (drop 19 bytes))
+entry_in bytes = entry_coded (body_in bytes)
 
 -- what the scorer is told of a call
 abbrev pub told_of : {Disk : Type 0} → Sheet → ℕ → DeskProcess Disk → DeskCall → DeskProcess Disk → List ℕ

@@ -5,13 +5,8 @@ ghost use Rattle.notation.specs.Written.{IsEntry};
 ghost use Rattle.live.specs.Desks as desks;
 
 use agree_core::Heard;
-use notation::{Entry, entry_of};
+use notation::Entry;
 use wire::What;
-
-/// The bytes of a vote's message at which the code of its entry begins and ends.
-const CODE: usize = 19;
-
-const CODE_END: usize = 43;
 
 /// Whether a station may have an answer soon: what came is the first vote of its position, or a vote of a station that
 /// is further ahead.
@@ -24,10 +19,5 @@ pub fn entry_in(bytes: &[u8]) -> Option<Entry>
     ensures value { result ≡ desks.entry_in bytes.now }
     ensures entry { IfSome result IsEntry }
 {
-    if bytes.len() < CODE_END {
-        return None;
-    }
-    let mut code = [0; 24];
-    code.copy_from_slice(&bytes[CODE..CODE_END]);
-    entry_of(&code)
+    wire::entry_in(bytes)
 }
