@@ -1,5 +1,6 @@
 -- An event at a board is a step of the definitions there, and a step of the world.
-use Rattle.std.proofs.Common.{◌≡◌, ◌⊎◌, ℕ, zero, suc, ◌+◌, ◌-◌, ◌<◌, Bool, true, false, Option, Some, None, List, [], ◌∷◌, ◌++◌, length, map, refl, sym, ap, ◌∙◌, subst, inl, inr, Result, Ok, Err, add-one, arith}
+use Rattle.std.proofs.Common.{◌≡◌, ◌⊎◌, ℕ, zero, suc, ◌+◌, ◌-◌, ◌<◌, Bool, true, false, Option, Some, None, List, []}
+use Rattle.std.proofs.Common.{◌∷◌, ◌++◌, length, map, refl, sym, ap, ◌∙◌, subst, inl, inr, Result, Ok, Err, add-one, arith, ⊎_elim}
 use Rattle.std.specs.Prelude.{All, IfErr, IfOk, OnOk, get_or, nat_le, option_map, slice_get, slice_set}
 use Rattle.std.specs.Option.{is_none}
 use Rattle.std.proofs.Math.Dec.{leb-zero, leb-suc-zero, leb-suc-suc}
@@ -48,7 +49,8 @@ use Rattle.headline.specs.Runs.{Begins, BeginsAt}
 use Rattle.schedule_replay.specs.inner.Sites.{BeginsSite, IsProcess, HasNode}
 use Rattle.schedule_replay.specs.WorldDesks.{state_of}
 use Rattle.schedule_replay.specs.Plans.{StaysDue, due_on}
-use Rattle.schedule_replay.specs.CodeWorlds.{BeginsWorld, boards_of, match_version, IsBoardOf, IsSiteOf, HasConfiguration, MatchBoard, RefusesTo, StepsTo, board_game, board_innings, board_seen, board_state, code_site}
+use Rattle.schedule_replay.specs.CodeWorlds.{BeginsWorld, boards_of, match_version, IsBoardOf, IsSiteOf, HasConfiguration, MatchBoard}
+use Rattle.schedule_replay.specs.CodeWorlds.{RefusesTo, StepsTo, board_game, board_innings, board_seen, board_state, code_site}
 use Rattle.schedule_replay.specs.inner.WorldBoards.{AreFresh, BoardSteps, SameBoard}
 use Rattle.schedule_replay.proofs.TakeLemmas.{sending_grows}
 use Rattle.schedule_replay.proofs.GiveLemmas.{datagram_at, message_at, message_in, not_both}
@@ -56,23 +58,27 @@ use Rattle.schedule_replay.proofs.SiteLemmas.{more_bytes, no_bytes}
 use Rattle.schedule_replay.proofs.WorldLemmas.{sent_length}
 
 -- what a board receives of bytes that say a message
-takes_as : (rules : Rules Refusal) (game : ℕ) (k l : BoardState) (bytes : List ℕ) (answer : Result What BoardRefusal) (m : Message) → Says game bytes m → Takes rules game k bytes answer l → (received : BoardAnswer) × (answer_of (board_seen answer) ≡ Some (board_told received)) × BoardReceives rules k m received l
+takes_as : (rules : Rules Refusal) (game : ℕ) (k l : BoardState) (bytes : List ℕ) (answer : Result What BoardRefusal) (m : Message) → Says game bytes m → Takes rules game k bytes answer l
+    → (received : BoardAnswer) × (answer_of (board_seen answer) ≡ Some (board_told received)) × BoardReceives rules k m received l
 takes_as rules game k l bytes (Ok (whats.Bad fault)) m s t = absurd (not_both m fault (reads_once game bytes (Ok m) (Err fault) s t.0))
 takes_as rules game k l bytes (Ok (whats.Heard h)) m s t = (BoardAnswer.Told h, refl, subst (λ (x : Message). BoardReceives rules k x (BoardAnswer.Told h) l) (says_once game bytes t.0 m t.1 s) t.2)
 takes_as rules game k l bytes (Ok whats.Asked) m s t = (BoardAnswer.Asked, refl, subst (λ (x : Message). BoardReceives rules k x BoardAnswer.Asked l) (says_once game bytes t.0 m t.1 s) t.2)
-takes_as rules game k l bytes (Ok whats.Device) m s t = absurd t
-takes_as rules game k l bytes (Ok whats.Failed) m s t = absurd t
-takes_as rules game k l bytes (Err (refusals.BadVotes place)) m s t = (BoardAnswer.BadVotes place, refl, subst (λ (x : Message). BoardReceives rules k x (BoardAnswer.BadVotes place) l) (says_once game bytes t.0 m t.1 s) t.2)
+takes_as rules game k l bytes (Err (refusals.BadVotes place)) m s t =
+    (BoardAnswer.BadVotes place, refl, subst (λ (x : Message). BoardReceives rules k x (BoardAnswer.BadVotes place) l) (says_once game bytes t.0 m t.1 s) t.2)
+takes_as rules game k l bytes _ m s t = absurd t
 
 -- the board is given a message that was sent
-pub board_gives : (k l : MatchBoard) (n : ℕ) (t : Station) (d : Datagram) (answer : Result What BoardRefusal) (sent : List Datagram) → slice_get sent n ≡ Some d → Takes (match_of (board_game k) (board_innings k)).rules (board_game k) (board_state k) d.bytes answer (board_state l) → BoardSteps (events.Give n t) k sent (board_seen answer) l sent
+pub board_gives : (k l : MatchBoard) (n : ℕ) (t : Station) (d : Datagram) (answer : Result What BoardRefusal) (sent : List Datagram) → slice_get sent n ≡ Some d
+    → Takes (match_of (board_game k) (board_innings k)).rules (board_game k) (board_state k) d.bytes answer (board_state l) → BoardSteps (events.Give n t) k sent (board_seen answer) l sent
 board_gives k l n t d answer sent there takes messages b =
     let found = message_at (written (board_game k)) messages n d.bytes (ap (λ (z : List (List ℕ)). slice_get z n) (sym b.1) ∙ datagram_at sent n d there) in
-    let taken = takes_as (match_of (board_game k) (board_innings k)).rules (board_game k) (board_state k) (board_state l) d.bytes answer found.0 (message_in messages n found.0 b.0 found.1, found.2) takes in
+    let taken = takes_as (match_of (board_game k) (board_innings k)).rules (board_game k) (board_state k) (board_state l) d.bytes answer found.0
+    (message_in messages n found.0 b.0 found.1, found.2) takes in
     ([], board_told taken.0, taken.1, (found.0, taken.0, found.1, taken.2, refl, refl), no_bytes (board_game k) sent messages b)
 
 -- what a tick hands out
-pub board_ticks : (k : MatchBoard) (t : Station) (n : ℕ) (out before after : List Datagram) → AreSent (board_game k) (map (λ (d : Datagram). d.bytes) out) (BoardTicks (board_state k)) → n ≡ length out → after ≡ before ++ out → BoardSteps (events.Tick t) k before (seens.Ticked n) k after
+pub board_ticks : (k : MatchBoard) (t : Station) (n : ℕ) (out before after : List Datagram) → AreSent (board_game k) (map (λ (d : Datagram). d.bytes) out) (BoardTicks (board_state k))
+    → n ≡ length out → after ≡ before ++ out → BoardSteps (events.Tick t) k before (seens.Ticked n) k after
 board_ticks k t n out before after sent long added messages b =
     let said : map (λ (d : Datagram). d.bytes) out ≡ map (written (board_game k)) sent.0 = sent.2 in
     let many : n ≡ length sent.0 = long ∙ sym (length-map out (λ (d : Datagram). d.bytes)) ∙ ap length said ∙ length-map sent.0 (written (board_game k)) in (
@@ -80,7 +86,8 @@ board_ticks k t n out before after sent long added messages b =
       Answer.Ticked n,
       refl,
       (sent.3, ap (λ (m : ℕ). Answer.Ticked m) many, refl),
-      more_bytes (board_game k) before after messages sent.0 (map (λ (d : Datagram). d.bytes) out) b sent.1 said (ap (map (λ (d : Datagram). d.bytes)) added ∙ map-append (λ (d : Datagram). d.bytes) before out),
+      more_bytes (board_game k) before after messages sent.0 (map (λ (d : Datagram). d.bytes) out) b sent.1 said
+          (ap (map (λ (d : Datagram). d.bytes)) added ∙ map-append (λ (d : Datagram). d.bytes) before out),
     )
 
 -- the world has this board in the place of that number
@@ -111,7 +118,8 @@ no_station_is old w zero h = refl
 no_station_is old w (suc n) h = ap (λ (bs : List BoardState). is_none (slice_get bs n)) h.board_states ∙ none_there old.boards.items n
 
 -- the first cause against an event at a board
-cause_is : (n : ℕ) (old : World) (w : Configuration MemDisk) (event : Event) → station_of event ≡ stations.Board n → HasConfiguration old w → refusal_of w event ≡ first_cause (no_board (length old.boards.items) n) false (length old.sent.items) event
+cause_is : (n : ℕ) (old : World) (w : Configuration MemDisk) (event : Event) → station_of event ≡ stations.Board n → HasConfiguration old w
+    → refusal_of w event ≡ first_cause (no_board (length old.boards.items) n) false (length old.sent.items) event
 cause_is n old w event e h =
     let missing = no_station_is old w n h in
     let many = sent_length old.game old.sent.items w.sent h.bytes in
@@ -126,7 +134,8 @@ in_range boards zero e = absurd (cc)
 in_range boards (suc n) e = let less = leb-false boards n e in (omega arith, omega (arith, less))
 
 -- where no cause stands there is the board of this number
-pub is_there : (n : ℕ) (old : World) (event : Event) (k : MatchBoard) (missing : Bool) → missing ≡ no_board (length old.boards.items) n → first_cause missing false (length old.sent.items) event ≡ None → k ≡ get_or old.boards.items (n - 1) k → IsThere n old event k
+pub is_there : (n : ℕ) (old : World) (event : Event) (k : MatchBoard) (missing : Bool) → missing ≡ no_board (length old.boards.items) n
+    → first_cause missing false (length old.sent.items) event ≡ None → k ≡ get_or old.boards.items (n - 1) k → IsThere n old event k
 is_there n old event k missing m none e =
     let range = in_range (length old.boards.items) n (sym m ∙ not_missing missing (length old.sent.items) event none) in
     record {
@@ -136,12 +145,16 @@ is_there n old event k missing m none e =
     }
 
 board_of : (n : ℕ) (old : World) (event : Event) (k : MatchBoard) (w : Configuration MemDisk) → IsThere n old event k → HasConfiguration old w → IsBoardOf old.game old.innings_a_side k
-board_of n old event k w t h = subst (IsBoardOf old.game old.innings_a_side) (get_or_from_slice_get old.boards.items (n - 1) k k t.here) (All-get_or (IsBoardOf old.game old.innings_a_side) old.boards.items (n - 1) k (slice_get_within old.boards.items (n - 1) k t.here) h.boards_are)
+board_of n old event k w t h =
+    subst (IsBoardOf old.game old.innings_a_side) (get_or_from_slice_get old.boards.items (n - 1) k k t.here)
+    (All-get_or (IsBoardOf old.game old.innings_a_side) old.boards.items (n - 1) k (slice_get_within old.boards.items (n - 1) k t.here) h.boards_are)
 
 -- the world after one of its boards has changed
-put : (n : ℕ) (old new : World) (l : MatchBoard) (w : Configuration MemDisk) (out : List Message) → PutsBoard n old new l → IsBoardOf old.game old.innings_a_side l → HasConfiguration old w → AreBytesOf old.game new.sent.items (w.sent ++ out) → HasConfiguration new (record w { boards = with_board w.boards (suc (n - 1)) (board_state l); sent = w.sent ++ out })
+put : (n : ℕ) (old new : World) (l : MatchBoard) (w : Configuration MemDisk) (out : List Message) → PutsBoard n old new l → IsBoardOf old.game old.innings_a_side l → HasConfiguration old w
+    → AreBytesOf old.game new.sent.items (w.sent ++ out) → HasConfiguration new (record w { boards = with_board w.boards (suc (n - 1)) (board_state l); sent = w.sent ++ out })
 put n old new l w out c owner h b =
-    let boards : All (IsBoardOf old.game old.innings_a_side) new.boards.items = subst (All (IsBoardOf old.game old.innings_a_side)) (sym c.there) (All-set (IsBoardOf old.game old.innings_a_side) old.boards.items (n - 1) l owner h.boards_are) in
+    let boards : All (IsBoardOf old.game old.innings_a_side) new.boards.items = subst (All (IsBoardOf old.game old.innings_a_side)) (sym c.there)
+    (All-set (IsBoardOf old.game old.innings_a_side) old.boards.items (n - 1) l owner h.boards_are) in
     record {
       sites = λ d. subst (λ (z : Site). HasNode z (node w d)) (sym (site_stays old new d c.a c.b)) (h.sites d);
       named = λ d. subst (λ (z : Site). IsSiteOf d new.game new.innings_a_side z) (sym (site_stays old new d c.a c.b)) (rw (c.same_game, c.same_innings) (h.named d));
@@ -163,21 +176,24 @@ same_disks w v a b A fault due = ap (λ (z : Node MemDisk). due_on (Some (proces
 same_disks w v a b B fault due = ap (λ (z : Node MemDisk). due_on (Some (process_disk z.process))) b
 
 -- an event that a board has taken
-pub board_steps : (n : ℕ) (old new : World) (k l : MatchBoard) (event same : Event) (seen : Seen) (before after : List Datagram) → station_of event ≡ stations.Board n → IsThere n old event k → PutsBoard n old new l → (IsBoardOf old.game old.innings_a_side k → IsBoardOf old.game old.innings_a_side l) → event ≡ same → before ≡ old.sent.items → after ≡ new.sent.items → BoardSteps same k before seen l after → StepsTo event old seen new
+pub board_steps : (n : ℕ) (old new : World) (k l : MatchBoard) (event same : Event) (seen : Seen) (before after : List Datagram) → station_of event ≡ stations.Board n → IsThere n old event k
+    → PutsBoard n old new l → (IsBoardOf old.game old.innings_a_side k → IsBoardOf old.game old.innings_a_side l) → event ≡ same → before ≡ old.sent.items → after ≡ new.sent.items
+    → BoardSteps same k before seen l after → StepsTo event old seen new
 board_steps n old new k l event same seen before after e t c owner q b a steps w h =
     let of = board_of n old event k w t h in
-    let own : AreBytesOf (board_game k) before w.sent = subst (λ (g : ℕ). AreBytesOf g before w.sent) (sym of.same_game) (subst (λ (z : List Datagram). AreBytesOf old.game z w.sent) (sym b) h.bytes) in
+    let own : AreBytesOf (board_game k) before w.sent = subst (λ (g : ℕ). AreBytesOf g before w.sent) (sym of.same_game)
+    (subst (λ (z : List Datagram). AreBytesOf old.game z w.sent) (sym b) h.bytes) in
     let p = subst (λ (g : ℕ). BoardGives same k w.sent seen l after g (board_innings k)) of.same_game (steps w.sent own) in
     let r = subst (λ (i : ℕ). BoardGives same k w.sent seen l after old.game i) of.same_innings p in
     let given = subst (λ (v : Event). BoardGives v k w.sent seen l after old.game old.innings_a_side) (sym q) r in
     let world : Configuration MemDisk = record w { boards = with_board w.boards (suc (n - 1)) (board_state l); sent = w.sent ++ given.0 } in
-    let there : board_at w.boards (suc (n - 1)) ≡ Some (board_state k) = ap (λ (bs : List BoardState). slice_get bs (n - 1)) h.board_states ∙ slice_get-map board_state old.boards.items (n - 1) ∙ ap (option_map board_state) t.here in
+    let there : board_at w.boards (suc (n - 1)) ≡ Some (board_state k) = ap (λ (bs : List BoardState). slice_get bs (n - 1)) h.board_states ∙ slice_get-map board_state old.boards.items (n - 1) ∙ ap
+    (option_map board_state) t.here in
     let step : StepAt (match_of old.game old.innings_a_side) w event (station_of event) given.1 world =
-    subst (λ (u : Station). StepAt (match_of old.game old.innings_a_side) w event u given.1 world) (sym (e ∙ ap stations.Board t.number)) (board_state k, board_state l, given.0, there, given.3, refl) in
-    (cause_is n old w event e h ∙ t.none, (given.1, world, given.2, step, put n old new l w given.0 c (owner of) h (subst (λ (z : List Datagram). AreBytesOf old.game z (w.sent ++ given.0)) a given.4), λ d f. absurd (not_desk n d (sym e ∙ f)), λ none. same_disks w world refl refl))
-  where
-    not_desk : (n : ℕ) (d : DeskId) → stations.Board n ≡ stations.Desk d → ⊥
-    not_desk n d q = absurd (cc)
+    subst (λ (u : Station). StepAt (match_of old.game old.innings_a_side) w event u given.1 world) (sym (e ∙ ap stations.Board t.number))
+    (board_state k, board_state l, given.0, there, given.3, refl) in
+    let put_there = put n old new l w given.0 c (owner of) h (subst (λ (z : List Datagram). AreBytesOf old.game z (w.sent ++ given.0)) a given.4) in
+    (cause_is n old w event e h ∙ t.none, (given.1, world, given.2, step, put_there, λ d f. absurd (let z = sym e ∙ f in cc), λ none. same_disks w world refl refl))
 
 pub same_owner : (game innings : ℕ) (k l : MatchBoard) → SameBoard k l → IsBoardOf game innings k → IsBoardOf game innings l
 same_owner game innings k l s of = record { same_game = s.same_game ∙ of.same_game; same_innings = s.same_innings ∙ of.same_innings }
@@ -200,41 +216,48 @@ stays old new w s h = record {
   bytes = rw (s.same_game, s.sent) h.bytes;
 }
 
+-- a cause stands against it, or there is no memory, which it may want
+abbrev pub WhyNot : (Event → Bool) → ℕ → World → Event → WorldRefusal → Type 0
+WhyNot may n old event why =
+    let cause = first_cause (no_board (length old.boards.items) n) false (length old.sent.items) event in
+    (cause ≡ Some why) ⊎ ((cause ≡ None) × (why ≡ refuses.NoMemory) × (may event ≡ true))
+
 -- an event that a board hasn't taken
-pub board_refuses : (n : ℕ) (old new : World) (event : Event) (why : WorldRefusal) → station_of event ≡ stations.Board n → StaysSo old new → (first_cause (no_board (length old.boards.items) n) false (length old.sent.items) event ≡ Some why) ⊎ ((first_cause (no_board (length old.boards.items) n) false (length old.sent.items) event ≡ None) × (why ≡ refuses.NoMemory) × (may_grow event ≡ true)) → RefusesTo event old why new
+pub board_refuses : (n : ℕ) (old new : World) (event : Event) (why : WorldRefusal) → station_of event ≡ stations.Board n → StaysSo old new
+    → WhyNot may_grow n old event why → RefusesTo event old why new
 board_refuses n old new event why e s (inl cause) w h = (w, inl (cause_is n old w event e h ∙ cause, refl), stays old new w s h)
 board_refuses n old new event why e s (inr (none, want, grows)) w h = (w, inr (cause_is n old w event e h ∙ none, want, grows, left n event e w), stays old new w s h)
   where
     left : (n : ℕ) (event : Event) → station_of event ≡ stations.Board n → (w : Configuration MemDisk) → LeftByWant (match_of old.game old.innings_a_side) w event w
     left n (events.Open d) e w = absurd (cc)
     left n (events.Migrate d) e w = absurd (cc)
-    left n (events.Pen d m) e w = refl
-    left n (events.Tick t) e w = refl
-    left n (events.Give m t) e w = refl
-    left n (events.Kill d) e w = refl
-    left n (events.Power d choice) e w = refl
-    left n (events.FailAt d m) e w = refl
-    left n (events.StopAt d m) e w = refl
-    left n (events.Wipe m) e w = refl
+    left n _ e w = refl
 
 -- one that was refused before anything was done, out of memory where it may send
-pub board_admits_not : (n : ℕ) (old new : World) (event : Event) (why : WorldRefusal) → station_of event ≡ stations.Board n → StaysSo old new → (first_cause (no_board (length old.boards.items) n) false (length old.sent.items) event ≡ Some why) ⊎ ((first_cause (no_board (length old.boards.items) n) false (length old.sent.items) event ≡ None) × (why ≡ refuses.NoMemory) × (may_send event ≡ true)) → RefusesTo event old why new
-board_admits_not n old new event why e s (inl cause) = board_refuses n old new event why e s (inl cause)
-board_admits_not n old new event why e s (inr (none, want, sends)) = board_refuses n old new event why e s (inr (none, want, sending_grows event sends))
+pub board_admits_not : (n : ℕ) (old new : World) (event : Event) (why : WorldRefusal) → station_of event ≡ stations.Board n → StaysSo old new
+    → WhyNot may_send n old event why → RefusesTo event old why new
+board_admits_not n old new event why e s c =
+    board_refuses n old new event why e s (⊎_elim inl (λ (r : _ × (why ≡ refuses.NoMemory) × (may_send event ≡ true)). inr (r.0, r.1, sending_grows event r.2)) c)
 
 -- the board begins empty, or is as it was where it is out of memory
-pub wipes : (n m : ℕ) (old new : World) (k l : MatchBoard) (event : Event) (result : Result Seen WorldRefusal) → station_of event ≡ stations.Board n → IsThere n old event k → PutsBoard n old new l → event ≡ events.Wipe m → new.sent.items ≡ old.sent.items → IfOk result (λ seen. (n : ℕ) (sent : List Datagram) → BoardSteps (events.Wipe n) k sent seen l sent) → OnOk result (IsBoardOf old.game old.innings_a_side l) → IfOk result (λ seen. StepsTo event old seen new)
-wipes n m old new k l event (Ok seen) e t c q items steps owner = board_steps n old new k l event (events.Wipe m) seen old.sent.items old.sent.items e t c (λ of. owner) q refl (sym items) (steps m old.sent.items)
+pub wipes : (n m : ℕ) (old new : World) (k l : MatchBoard) (event : Event) (result : Result Seen WorldRefusal) → station_of event ≡ stations.Board n → IsThere n old event k → PutsBoard n old new l
+    → event ≡ events.Wipe m → new.sent.items ≡ old.sent.items → IfOk result (λ seen. (n : ℕ) (sent : List Datagram) → BoardSteps (events.Wipe n) k sent seen l sent)
+    → OnOk result (IsBoardOf old.game old.innings_a_side l) → IfOk result (λ seen. StepsTo event old seen new)
+wipes n m old new k l event (Ok seen) e t c q items steps owner =
+    board_steps n old new k l event (events.Wipe m) seen old.sent.items old.sent.items e t c (λ of. owner) q refl (sym items) (steps m old.sent.items)
 wipes n m old new k l event (Err why) e t c q items steps owner = tt
 
-pub not_wiped : (n m : ℕ) (old new : World) (k l : MatchBoard) (event : Event) (result : Result Seen WorldRefusal) → station_of event ≡ stations.Board n → IsThere n old event k → PutsBoard n old new l → event ≡ events.Wipe m → new.sent.items ≡ old.sent.items → IfErr result (λ why. (why ≡ refuses.NoMemory) × (l ≡ k)) → IfErr result (λ why. RefusesTo event old why new)
+pub not_wiped : (n m : ℕ) (old new : World) (k l : MatchBoard) (event : Event) (result : Result Seen WorldRefusal) → station_of event ≡ stations.Board n → IsThere n old event k
+    → PutsBoard n old new l → event ≡ events.Wipe m → new.sent.items ≡ old.sent.items → IfErr result (λ why. (why ≡ refuses.NoMemory) × (l ≡ k)) → IfErr result (λ why. RefusesTo event old why new)
 not_wiped n m old new k l event (Ok seen) e t c q items refused = tt
 not_wiped n m old new k l event (Err why) e t c q items (want, same) =
-    let boards : new.boards.items ≡ old.boards.items = c.there ∙ ap (slice_set old.boards.items (n - 1)) (same ∙ sym (get_or_from_slice_get old.boards.items (n - 1) k k t.here)) ∙ set-get_or old.boards.items (n - 1) k in
+    let boards : new.boards.items ≡ old.boards.items = c.there ∙ ap (slice_set old.boards.items (n - 1))
+    (same ∙ sym (get_or_from_slice_get old.boards.items (n - 1) k k t.here)) ∙ set-get_or old.boards.items (n - 1) k in
     board_refuses n old new event why e (record { a = c.a; b = c.b; boards = boards; sent = items; same_game = c.same_game; same_innings = c.same_innings }) (inr (t.none, want, ap may_grow q))
 
 -- a desk that was just created
-site_begins : (version : FileVersion) (name : DeskId) (game innings : ℕ) (site : Site) → BeginsSite version name game innings site → (x : Node MemDisk) × HasNode site x × BeginsAt (match_of game innings) version name x
+site_begins : (version : FileVersion) (name : DeskId) (game innings : ℕ) (site : Site) → BeginsSite version name game innings site
+    → (x : Node MemDisk) × HasNode site x × BeginsAt (match_of game innings) version name x
 site_begins version name game innings site h =
     let k = h.desk in (
       record { version = version; process = Running (state_of k.0); due = None },
@@ -252,7 +275,8 @@ fresh_many zero = refl
 fresh_many (suc n) = ap suc (fresh_many n)
 
 -- the world at the start of its match
-pub begins : (world : World) (version : FileVersion) (boards : ℕ) → BeginsSite version A world.game world.innings_a_side world.a → BeginsSite version B world.game world.innings_a_side world.b → AreFresh world.game world.innings_a_side boards world.boards.items → world.sent.items ≡ [] → BeginsWorld world.game world.innings_a_side version boards world
+pub begins : (world : World) (version : FileVersion) (boards : ℕ) → BeginsSite version A world.game world.innings_a_side world.a → BeginsSite version B world.game world.innings_a_side world.b
+    → AreFresh world.game world.innings_a_side boards world.boards.items → world.sent.items ≡ [] → BeginsWorld world.game world.innings_a_side version boards world
 begins world version boards a b fresh sent =
     let x = site_begins version A world.game world.innings_a_side world.a a in
     let y = site_begins version B world.game world.innings_a_side world.b b in
@@ -267,7 +291,8 @@ begins world version boards a b fresh sent =
     } in
     let begin : Begins (match_of world.game world.innings_a_side) version boards w = record { a = x.2; b = y.2; boards_are_fresh = refl; nothing_sent = refl } in
     let own : Begins (match_of world.game world.innings_a_side) (match_version world) (boards_of world) w =
-    subst (λ (v : FileVersion). Begins (match_of world.game world.innings_a_side) v (boards_of world) w) (sym a.same_version) (subst (λ (n : ℕ). Begins (match_of world.game world.innings_a_side) version n w) (sym many) begin) in
+    subst (λ (v : FileVersion). Begins (match_of world.game world.innings_a_side) v (boards_of world) w) (sym a.same_version)
+    (subst (λ (n : ℕ). Begins (match_of world.game world.innings_a_side) version n w) (sym many) begin) in
     record { is_new = (w, is, own); same_game = refl; same_innings = refl; same_version = a.same_version; same_boards = many }
   where
     sites : (w : Configuration MemDisk) → HasNode world.a w.a → HasNode world.b w.b → (d : DeskId) → HasNode (code_site world d) (node w d)
@@ -279,7 +304,8 @@ begins world version boards a b fresh sent =
     named B = record { same_name = b.same_name; same_game = b.same_game; same_innings = b.same_innings }
 
 -- one board more
-pub one_more : (game innings n : ℕ) (boards : List MatchBoard) (k : MatchBoard) → AreFresh game innings n boards → board_state k ≡ fresh_board → IsBoardOf game innings k → AreFresh game innings (n + 1) (boards ++ k ∷ [])
+pub one_more : (game innings n : ℕ) (boards : List MatchBoard) (k : MatchBoard) → AreFresh game innings n boards → board_state k ≡ fresh_board → IsBoardOf game innings k
+    → AreFresh game innings (n + 1) (boards ++ k ∷ [])
 one_more game innings n boards k h fresh of = record {
   states = map-append board_state boards (k ∷ []) ∙ (λ i. h.states i ++ fresh i ∷ []) ∙ last n ∙ ap fresh_boards (sym (add-one n));
   of_match = All-push (IsBoardOf game innings) boards k h.of_match of;

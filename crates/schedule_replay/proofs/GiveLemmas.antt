@@ -49,13 +49,15 @@ received_as whats.Failed = Some ReceiveAnswer.Failed
 pub not_both : (m : Message) (fault : WireFault) → Ok m ≡ Err fault → ⊥
 not_both m fault e = cc
 
-pub takes_as : {Disk : Type 0} (view : FileView Disk) (game : ℕ) (k l : DeskState Disk) (bytes : List ℕ) (what : What) (out : List Message) (m : Message) → Says game bytes m → Takes view game k bytes what l out → (received : ReceiveAnswer) × (received_as what ≡ Some received) × Receives view k m received l out
+pub takes_as : {Disk : Type 0} (view : FileView Disk) (game : ℕ) (k l : DeskState Disk) (bytes : List ℕ) (what : What) (out : List Message) (m : Message) → Says game bytes m
+    → Takes view game k bytes what l out → (received : ReceiveAnswer) × (received_as what ≡ Some received) × Receives view k m received l out
 takes_as view game k l bytes (whats.Bad fault) out m s t = absurd (not_both m fault (reads_once game bytes (Ok m) (Err fault) s t.1))
 takes_as view game k l bytes whats.Failed out m s t =
     (ReceiveAnswer.Failed, refl, (t.0, subst (λ (x : DeskState _). Unchanged view k x) (sym t.1) ((refl, λ image. (λ shown. shown, λ shown. shown)), refl), t.2))
 takes_as view game k l bytes (whats.Heard h) out m s t = (ReceiveAnswer.Told h, refl, subst (λ (x : Message). Receives view k x (ReceiveAnswer.Told h) l out) (says_once game bytes t.0 m t.1 s) t.2)
 takes_as view game k l bytes whats.Asked out m s t = (ReceiveAnswer.Asked, refl, subst (λ (x : Message). Receives view k x ReceiveAnswer.Asked l out) (says_once game bytes t.0 m t.1 s) t.2)
-takes_as view game k l bytes whats.Device out m s t = (ReceiveAnswer.DeviceFailed, refl, subst (λ (x : Message). Receives view k x ReceiveAnswer.DeviceFailed l out) (says_once game bytes t.0 m t.1 s) t.2)
+takes_as view game k l bytes whats.Device out m s t =
+    (ReceiveAnswer.DeviceFailed, refl, subst (λ (x : Message). Receives view k x ReceiveAnswer.DeviceFailed l out) (says_once game bytes t.0 m t.1 s) t.2)
 
 -- what a running desk then answers
 abbrev pub answer_to : ReceiveAnswer → List Message → Answer Refusal
@@ -64,19 +66,15 @@ answer_to (ReceiveAnswer.Told h) out = Answer.Told h
 answer_to ReceiveAnswer.Asked out = Answer.Asked (has_any out)
 answer_to ReceiveAnswer.DeviceFailed out = Answer.DeviceFailed
 
-pub after_receive : {Disk : Type 0} (view : FileView Disk) (x : Node Disk) (received : ReceiveAnswer) (l : DeskState Disk) (out : List Message) → received ≢ ReceiveAnswer.DeviceFailed → AfterReceive view x received l out (answer_to received out) (record x { process = Running l })
-after_receive view x ReceiveAnswer.Failed l out n = (refl, refl)
-after_receive view x (ReceiveAnswer.Told h) l out n = (refl, refl)
-after_receive view x ReceiveAnswer.Asked l out n = (refl, refl)
+pub after_receive : {Disk : Type 0} (view : FileView Disk) (x : Node Disk) (received : ReceiveAnswer) (l : DeskState Disk) (out : List Message) → received ≢ ReceiveAnswer.DeviceFailed
+    → AfterReceive view x received l out (answer_to received out) (record x { process = Running l })
 after_receive view x ReceiveAnswer.DeviceFailed l out n = absurd (n refl)
+after_receive view x _ l out n = (refl, refl)
 
 -- the message of the bytes that stand at this number
 pub message_at : (f : Message → List ℕ) (messages : List Message) (n : ℕ) (bytes : List ℕ) → slice_get (map f messages) n ≡ Some bytes → (m : Message) × (slice_get messages n ≡ Some m) × (bytes ≡ f m)
 message_at f [] n bytes e = absurd (cc)
-message_at f (m ∷ ms) zero bytes e = (m, refl, some_is (f m) bytes e)
-  where
-    some_is : (a b : List ℕ) → Some a ≡ Some b → b ≡ a
-    some_is a b e = cc
+message_at f (m ∷ ms) zero bytes e = (m, refl, cc)
 message_at f (m ∷ ms) (suc n) bytes e = message_at f ms n bytes e
 
 -- a message of messages that are in range
@@ -88,12 +86,12 @@ GiveSteps k bytes r l = AreSent (game_of k) (replied r.reply) (λ out. Takes (vi
 
 any_reply : (game : ℕ) (reply : Option (List ℕ)) (out : List Message) → replied reply ≡ map (written game) out → has_any out ≡ is_some reply
 any_reply game None [] e = refl
-any_reply game None (m ∷ ms) e = absurd (cc)
-any_reply game (Some bytes) [] e = absurd (cc)
 any_reply game (Some bytes) (m ∷ ms) e = refl
+any_reply game _ _ e = absurd (cc)
 
 -- what is seen is the answer
-seen_is : (what : What) (reply : Option (List ℕ)) (received : ReceiveAnswer) (out : List Message) → received_as what ≡ Some received → what ≢ whats.Device → has_any out ≡ is_some reply → answer_of (given_seen what reply) ≡ Some (answer_to received out)
+seen_is : (what : What) (reply : Option (List ℕ)) (received : ReceiveAnswer) (out : List Message) → received_as what ≡ Some received → what ≢ whats.Device → has_any out ≡ is_some reply
+    → answer_of (given_seen what reply) ≡ Some (answer_to received out)
 seen_is (whats.Bad fault) reply received out e n h = absurd (cc)
 seen_is (whats.Heard heard) reply received out e n h = let q : received ≡ ReceiveAnswer.Told heard = cc in rw q refl
 seen_is whats.Asked reply received out e n h = let q : received ≡ ReceiveAnswer.Asked = cc in rw (q, h) refl
@@ -101,11 +99,8 @@ seen_is whats.Device reply received out e n h = absurd (n refl)
 seen_is whats.Failed reply received out e n h = let q : received ≡ ReceiveAnswer.Failed = cc in rw q refl
 
 not_failed : (what : What) (received : ReceiveAnswer) → received_as what ≡ Some received → what ≢ whats.Device → received ≢ ReceiveAnswer.DeviceFailed
-not_failed (whats.Bad fault) received e n q = cc
-not_failed (whats.Heard heard) received e n q = cc
-not_failed whats.Asked received e n q = cc
 not_failed whats.Device received e n q = n refl
-not_failed whats.Failed received e n q = cc
+not_failed _ received e n q = cc
 
 pub datagram_at : (sent : List Datagram) (n : ℕ) (d : Datagram) → slice_get sent n ≡ Some d → slice_get (map (λ (x : Datagram). x.bytes) sent) n ≡ Some d.bytes
 datagram_at sent n d e = slice_get-map (λ (x : Datagram). x.bytes) sent n ∙ ap (option_map (λ (x : Datagram). x.bytes)) e
@@ -118,7 +113,8 @@ record Given (old : Site) (k l : WorldDesk) (n : ℕ) (d : Datagram) (r : Receiv
   takes : Takes ((match_of old.game old.innings_a_side).view old.name x.version) old.game (state_of k) d.bytes r.what (state_of l) out
   said : replied r.reply ≡ map (written old.game) out
 
-given_as : (old : Site) (k l : WorldDesk) (n : ℕ) (d : Datagram) (r : Received) (x : Node MemDisk) (messages : List Message) (before : List Datagram) → slice_get before n ≡ Some d → (step : GiveSteps k d.bytes r l) → Runs old k x → AreBytesOf old.game before messages → Given old k l n d r x messages step.0
+given_as : (old : Site) (k l : WorldDesk) (n : ℕ) (d : Datagram) (r : Received) (x : Node MemDisk) (messages : List Message) (before : List Datagram) → slice_get before n ≡ Some d
+    → (step : GiveSteps k d.bytes r l) → Runs old k x → AreBytesOf old.game before messages → Given old k l n d r x messages step.0
 given_as old k l n d r x messages before there step runs b =
     let own = runs.owner in
     let found = message_at (written old.game) messages n d.bytes (ap (λ (z : List (List ℕ)). slice_get z n) (sym b.1) ∙ datagram_at before n d there) in
@@ -132,7 +128,10 @@ given_as old k l n d r x messages before there step runs b =
     }
 
 -- the site's desk is given a message that was sent
-pub give_runs_on : (old : Site) (k l : WorldDesk) (n : ℕ) (t : Station) (d : Datagram) (r : Received) (before after : List Datagram) → old.desk ≡ Some k → slice_get before n ≡ Some d → GiveSteps k d.bytes r l → SameOwner k l → faults_of (disk_of l) ≡ faults_of (disk_of k) → r.what ≢ whats.Device → map (λ (x : Datagram). x.bytes) after ≡ map (λ (x : Datagram). x.bytes) before ++ replied r.reply → SiteSteps (events.Give n t) old before (given_seen r.what r.reply) (record old { desk = Some l }) after
+pub give_runs_on : (old : Site) (k l : WorldDesk) (n : ℕ) (t : Station) (d : Datagram) (r : Received) (before after : List Datagram) → old.desk ≡ Some k → slice_get before n ≡ Some d
+    → GiveSteps k d.bytes r l → SameOwner k l → faults_of (disk_of l) ≡ faults_of (disk_of k) → r.what ≢ whats.Device
+    → map (λ (x : Datagram). x.bytes) after ≡ map (λ (x : Datagram). x.bytes) before ++ replied r.reply
+    → SiteSteps (events.Give n t) old before (given_seen r.what r.reply) (record old { desk = Some l }) after
 give_runs_on old k l n t d r before after here there step owner faults calm bytes x messages h b =
     let runs = running_is old k x here h in
     let given = given_as old k l n d r x messages before there step runs b in
@@ -148,13 +147,16 @@ give_runs_on old k l n t d r before after here there step owner faults calm byte
     )
 
 -- a device call of the desk failed as it answered an ask
-pub give_breaks : (old new : Site) (k l : WorldDesk) (n : ℕ) (t : Station) (d : Datagram) (r : Received) (seen : Seen) (before : List Datagram) → old.desk ≡ Some k → slice_get before n ≡ Some d → GiveSteps k d.bytes r l → SameOwner k l → BlamesDisk whats.Device ⊤ (device_answer r.what) (faults_of (disk_of k)) (faults_of (disk_of l)) → r.what ≡ whats.Device → BreaksDown old.due (causes.Desk refusals.Device) (record old { desk = Some l }) seen new → SiteSteps (events.Give n t) old before seen new before
+pub give_breaks : (old new : Site) (k l : WorldDesk) (n : ℕ) (t : Station) (d : Datagram) (r : Received) (seen : Seen) (before : List Datagram) → old.desk ≡ Some k → slice_get before n ≡ Some d
+    → GiveSteps k d.bytes r l → SameOwner k l → BlamesDisk whats.Device ⊤ (device_answer r.what) (faults_of (disk_of k)) (faults_of (disk_of l)) → r.what ≡ whats.Device
+    → BreaksDown old.due (causes.Desk refusals.Device) (record old { desk = Some l }) seen new → SiteSteps (events.Give n t) old before seen new before
 give_breaks old new k l n t d r seen before here there step owner blame device broke x messages h b =
     let runs = running_is old k x here h in
     let given = given_as old k l n d r x messages before there step runs b in
     let view = (match_of old.game old.innings_a_side).view old.name x.version in
     let failed : Takes view old.game (state_of k) d.bytes whats.Device (state_of l) step.0 = subst (λ (w : What). Takes view old.game (state_of k) d.bytes w (state_of l) step.0) device given.takes in
-    let received = subst (λ (z : Message). Receives view (state_of k) z ReceiveAnswer.DeviceFailed (state_of l) step.0) (says_once old.game d.bytes failed.0 given.message failed.1 given.says) failed.2 in
+    let received = subst (λ (z : Message). Receives view (state_of k) z ReceiveAnswer.DeviceFailed (state_of l) step.0)
+    (says_once old.game d.bytes failed.0 given.message failed.1 given.says) failed.2 in
     let out = nothing_out view (state_of k) (state_of l) given.message step.0 received in
     let bytes : AreBytesOf old.game before (messages ++ step.0) = rw out (no_bytes old.game before messages b) in
     let blamed = subst (λ (w : What). BlamesDisk whats.Device ⊤ (device_answer w) (faults_of (disk_of k)) (faults_of (disk_of l))) device blame in
@@ -167,20 +169,14 @@ give_breaks old new k l n t d r seen before here there step owner blame device b
 
 pub fault_is : (what : What) → is_fault what ≡ true → what ≡ whats.Device
 fault_is whats.Device e = refl
-fault_is (whats.Bad fault) e = absurd (cc)
-fault_is (whats.Heard h) e = absurd (cc)
-fault_is whats.Asked e = absurd (cc)
-fault_is whats.Failed e = absurd (cc)
+fault_is _ e = absurd (cc)
 
 pub fault_not : (what : What) → is_fault what ≡ false → what ≢ whats.Device
 fault_not what e q = let t : is_fault what ≡ true = ap is_fault q in absurd (cc)
 
 pub calm_answer : (what : What) → what ≢ whats.Device → IsErrOf (device_answer what) whats.Device → ⊥
 calm_answer whats.Device n e = n refl
-calm_answer (whats.Bad fault) n e = cc
-calm_answer (whats.Heard h) n e = cc
-calm_answer whats.Asked n e = cc
-calm_answer whats.Failed n e = cc
+calm_answer _ n e = cc
 
 pub stands_at : (sent : List Datagram) (n : ℕ) (d : Datagram) → n < length sent → d ≡ slice_index_or sent n d → slice_get sent n ≡ Some d
 stands_at sent n d less e = slice_get-get_or sent n d less ∙ ap Some (sym e)

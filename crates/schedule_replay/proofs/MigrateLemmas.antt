@@ -1,5 +1,5 @@
 -- Migrating the file of a site whose desk is down is a step of the definitions there.
-use Rattle.std.proofs.Common.{◌≡◌, ◌≢◌, ◌⊎◌, ◌<◌, ◌≤◌, ℕ, Option, Some, None, List, [], ◌∷◌, length, refl, sym, ap, ◌∙◌, subst, inl, inr, arith, Result, Ok, Err}
+use Rattle.std.proofs.Common.{◌≡◌, ◌≢◌, ◌⊎◌, ◌<◌, ◌≤◌, ℕ, Option, Some, None, List, [], ◌∷◌, length, refl, sym, ap, ◌∙◌, subst, inl, inr, arith, ⊎_elim, Result, Ok, Err}
 use Rattle.std.specs.Bool.{⊤}
 use Rattle.std.specs.Prelude.{IsErrOf}
 use Rattle.corrections.specs.declared.refusal.Refusal.{Refusal}
@@ -19,7 +19,7 @@ use Rattle.vote_store.specs.declared.migration.Migrated.{Migrated}
 use Rattle.vote_store.specs.declared.refusal.Refusal.{Refusal as VotesRefusal}
 use Rattle.vote_store.specs.declared.refusal.Refusal.TheVariants as votes
 use Rattle.vote_store.specs.Migrated.{BlamesEither, HasFailed, IsMigrated, old_votes}
-use Rattle.vote_store.specs.Refusal.{device}
+use Rattle.vote_store.specs.Refusal.{device, not_empty}
 use Rattle.vote_store.specs.Sequence.{file_votes, or_none}
 use Rattle.vote_store.specs.View.{file_view, votes_shown, where_sound}
 use Rattle.wire.specs.declared.datagram.Datagram.{Datagram}
@@ -37,17 +37,19 @@ use Rattle.headline.specs.Migrations.{Failed, MigratesAt, NotSound, ToNew}
 use Rattle.headline.specs.Match.{format_of, most_bytes}
 use Rattle.schedule_replay.specs.Answers.{answer_of, is_failing, wants_memory}
 use Rattle.schedule_replay.specs.inner.Sites.{BreaksDown, IsDue, HasNode, IsWorldDisk, NotFoundBy, SiteSteps}
-use Rattle.schedule_replay.proofs.SiteLemmas.{down_is, no_bytes}
-use Rattle.schedule_replay.proofs.OpenLemmas.{Outcome, ViewAt, broken_down, down_at, memory_is, seen_is, stays_down, syncs}
+use Rattle.schedule_replay.proofs.SiteLemmas.{down_is, no_bytes, only_one}
+use Rattle.schedule_replay.proofs.OpenLemmas.{Outcome, ViewAt, broken_down, down_at, memory_is, seen_is, still_down, syncs}
 
 abbrev pub MigrateSteps : List Datagram → Site → Seen → Site → Type 0
 MigrateSteps sent old seen new = SiteSteps (events.Migrate old.name) old sent seen new sent
 
 -- a file of the new version isn't migrated
-pub of_new : (old : Site) (disk : MemDisk) (sent : List Datagram) → old.version ≡ versions.New → old.desk ≡ None → old.disk ≡ Some disk → SiteSteps (events.Migrate old.name) old sent (seens.Refused (causes.Migrate (votes.File files.Version))) old sent
+pub of_new : (old : Site) (disk : MemDisk) (sent : List Datagram) → old.version ≡ versions.New → old.desk ≡ None → old.disk ≡ Some disk
+    → SiteSteps (events.Migrate old.name) old sent (seens.Refused (causes.Migrate (votes.File files.Version))) old sent
 of_new old disk sent new down there x messages h b =
     let d = down_at old disk x down there h in
-    let at : MigratesAt {Why = Refusal} (ViewAt old) x x.version d.votes disk Answer.OtherVersion x = subst (λ (v : FileVersion). MigratesAt {Why = Refusal} (ViewAt old) x v d.votes disk Answer.OtherVersion x) (sym (h.version ∙ new)) (refl, refl) in
+    let at : MigratesAt {Why = Refusal} (ViewAt old) x x.version d.votes disk Answer.OtherVersion x = subst
+    (λ (v : FileVersion). MigratesAt {Why = Refusal} (ViewAt old) x v d.votes disk Answer.OtherVersion x) (sym (h.version ∙ new)) (refl, refl) in
     (x, [], Answer.OtherVersion, refl, (d.votes, disk, d.process, at, refl), h, no_bytes old.game sent messages b)
 
 -- the votes of the old file
@@ -58,7 +60,10 @@ pub record IsMoved (old : Site) (disk moved fresh new : MemDisk) : Type 0 where
   pub due : (faults_of new).due ≡ (faults_of disk).due
 
 -- the file is migrated
-pub migrated : (old : Site) (disk moved fresh begun made : MemDisk) (n : ℕ) (sent : List Datagram) → old.version ≡ versions.Old → old.desk ≡ None → old.disk ≡ Some disk → IsMoved old disk moved fresh begun → IsMigrated (desk_number old.name) old.game (file_of moved) (images_of made) n → Holds (file_view (contents version_2) file_of images_of old.name old.game) made (old_votes (desk_number old.name) old.game (file_of moved)) → cap_of made ≡ cap_of begun → faults_of made ≡ faults_of begun → SiteSteps (events.Migrate old.name) old sent (seens.Migrated n) (record old { version = versions.New; disk = Some made }) sent
+pub migrated : (old : Site) (disk moved fresh begun made : MemDisk) (n : ℕ) (sent : List Datagram) → old.version ≡ versions.Old → old.desk ≡ None → old.disk ≡ Some disk
+    → IsMoved old disk moved fresh begun → IsMigrated (desk_number old.name) old.game (file_of moved) (images_of made) n
+    → Holds (file_view (contents version_2) file_of images_of old.name old.game) made (old_votes (desk_number old.name) old.game (file_of moved)) → cap_of made ≡ cap_of begun
+    → faults_of made ≡ faults_of begun → SiteSteps (events.Migrate old.name) old sent (seens.Migrated n) (record old { version = versions.New; disk = Some made }) sent
 migrated old disk moved fresh begun made n sent version down there m is holds cap faults x messages h b =
     let d = down_at old disk x down there h in
     let on = d.on_disk in
@@ -71,10 +76,12 @@ migrated old disk moved fresh begun made n sent version down there m is holds ca
     subst (λ (vs : List Ballot). Holds (ViewAt old versions.New) made vs) (ap or_none is.found) holds in
     let y : Node MemDisk = record x { version = versions.New; process = Down d.votes made } in
     let at : MigratesAt {Why = Refusal} (ViewAt old) x x.version d.votes disk (Answer.Migrated n) y =
-    subst (λ (v : FileVersion). MigratesAt {Why = Refusal} (ViewAt old) x v d.votes disk (Answer.Migrated n) y) (sym (h.version ∙ version)) (ToNew is.votes made, (found, held), (ap (λ (k : ℕ). Answer.Migrated k) is.many, refl)) in
+    subst (λ (v : FileVersion). MigratesAt {Why = Refusal} (ViewAt old) x v d.votes disk (Answer.Migrated n) y) (sym (h.version ∙ version))
+    (ToNew is.votes made, (found, held), (ap (λ (k : ℕ). Answer.Migrated k) is.many, refl)) in
     let due : (faults_of made).due ≡ (faults_of disk).due = ap (λ (z : Faults). z.due) faults ∙ m.due in
     let on_made : IsWorldDisk versions.New old.due made = record { cap = cap ∙ begins.cap ∙ empty.cap; faults = subst (IsDue old.due) (sym due) on.faults } in
-    let site : HasNode (record old { version = versions.New; disk = Some made }) y = record { version = refl; process = down_is (record old { version = versions.New; disk = Some made }) made d.votes down refl (sym d.many) on_made; due = h.due } in
+    let new : Site = record old { version = versions.New; disk = Some made } in
+    let site : HasNode new y = record { version = refl; process = down_is new made d.votes down refl (sym d.many) on_made; due = h.due } in
     (y, [], Answer.Migrated n, refl, (d.votes, disk, d.process, at, refl), site, no_bytes old.game sent messages b)
 
 -- the old disk after a migration that failed
@@ -86,146 +93,114 @@ pub record IsReturned (old : Site) (disk moved begun left new last : MemDisk) (w
   pub back : SetsPlan (plan_of new) left last
   pub due : (faults_of last).due ≡ (faults_of new).due
 
-only_is : (file image : List ℕ) → IsImage (only file) image → image ≡ file
-only_is [] [] h = refl
-only_is [] (b ∷ bs) h = absurd (cc)
-only_is (f ∷ fs) [] h = absurd h
-only_is (f ∷ fs) (b ∷ bs) h = λ i. h.0 i ∷ only_is fs bs h.1 i
-
 -- it may have been synced
-may_sync : (version : FileVersion) (old : Site) (disk last : MemDisk) → file_of last ≡ file_of disk → (images_of last ≡ images_of disk) ⊎ (images_of last ≡ only (file_of disk)) → MaySync (ViewAt old version) disk last
+may_sync : (version : FileVersion) (old : Site) (disk last : MemDisk) → file_of last ≡ file_of disk → (images_of last ≡ images_of disk) ⊎ (images_of last ≡ only (file_of disk))
+    → MaySync (ViewAt old version) disk last
 may_sync version old disk last seen (inl same) =
-    inl (ap (shown version old) seen, λ image. ((λ i. (i.0, subst (λ (z : Images). IsImage z i.0) same i.1, i.2)), (λ i. (i.0, subst (λ (z : Images). IsImage z i.0) (sym same) i.1, i.2))))
-  where
-    shown : FileVersion → Site → List ℕ → Option (List Ballot)
-    shown version old file = votes_shown (contents (format_of version)) old.name old.game file
+    let image = λ (file : List ℕ) (a b : Images) (e : a ≡ b) (i : IsImage a file). subst (λ (z : Images). IsImage z file) e i in
+    inl (ap (votes_shown (contents (format_of version)) old.name old.game) seen, λ shown. ((λ i. (i.0, image i.0 _ _ same i.1, i.2)), (λ i. (i.0, image i.0 _ _ (sym same) i.1, i.2))))
 may_sync version old disk last seen (inr synced) =
-    inr (ap (shown version old) seen, λ image i. sym i.2 ∙ ap (shown version old) (only_is (file_of disk) i.0 (subst (λ (z : Images). IsImage z i.0) synced i.1)))
-  where
-    shown : FileVersion → Site → List ℕ → Option (List Ballot)
-    shown version old file = votes_shown (contents (format_of version)) old.name old.game file
+    let shows = votes_shown (contents (format_of version)) old.name old.game in
+    inr (ap shows seen, λ image i. sym i.2 ∙ ap shows (only_one (file_of disk) i.0 (subst (λ (z : Images). IsImage z i.0) synced i.1)))
 
 -- what the old disk shows then, and what is due there
 record Left (old : Site) (disk last : MemDisk) : Type 0 where
   may : (version : FileVersion) → MaySync (ViewAt old version) disk last
   cap : cap_of last ≡ cap_of disk
 
-returned : (old : Site) (disk moved fresh begun left made last : MemDisk) (why : VotesRefusal) → IsMoved old disk moved fresh begun → IsReturned old disk moved begun left made last why → Left old disk last
-returned old disk moved fresh begun left made last why m r =
-    let here = m.here in
-    let back = r.back in
-    let seen = back.file ∙ r.seen ∙ here.file in
-    let images : (images_of last ≡ images_of disk) ⊎ (images_of last ≡ only (file_of disk)) = either r.images in
-    record { may = λ version. may_sync version old disk last seen images; cap = back.cap ∙ r.cap ∙ here.cap }
-  where
-    either : (images_of left ≡ images_of moved) ⊎ (images_of left ≡ only (file_of moved)) → (images_of last ≡ images_of disk) ⊎ (images_of last ≡ only (file_of disk))
-    either (inl e) = let here = m.here in let back = r.back in inl (back.images ∙ e ∙ here.images)
-    either (inr e) = let here = m.here in let back = r.back in inr (back.images ∙ e ∙ ap only here.file)
-
--- nothing has failed
-calm_faults : (old : Site) (disk moved fresh begun left made last : MemDisk) (why : VotesRefusal) → IsMoved old disk moved fresh begun → IsReturned old disk moved begun left made last why → why ≢ device → faults_of last ≡ faults_of disk
-calm_faults old disk moved fresh begun left made last why m r n =
-    let here = m.here in
-    let there = m.there in
-    let back = r.back in
-    let blame = r.blame in
-    let same = blame.same (λ q. n (cc)) in
-    let count : (faults_of last).count ≡ (faults_of disk).count = back.count ∙ ap (λ (z : Faults). z.count) same.0 ∙ here.count in
-    let due : (faults_of last).due ≡ (faults_of disk).due = r.due ∙ ap (λ (z : Faults). z.due) same.1 ∙ m.due in
-    λ i. record { count = count i; due = due i }
-
-failing : (old new : Site) (disk moved fresh begun left made last : MemDisk) (result : Result Seen WorldRefusal) → old.version ≡ versions.Old → old.desk ≡ None → old.disk ≡ Some disk → IsMoved old disk moved fresh begun → IsReturned old disk moved begun left made last device → (seen : Seen) × (result ≡ Ok seen) × BreaksDown old.due (causes.Migrate device) (record old { disk = Some last }) seen new → Outcome MigrateSteps old result new
-failing old new disk moved fresh begun left made last result version down there m r (seen, is, broke) = seen_is MigrateSteps old new result seen is steps
-  where
-    here : SetsPlan Calm disk moved
-    here = m.here
-
-    begins : SetsPlan (plan_of disk) fresh begun
-    begins = m.there
-
-    back : SetsPlan (plan_of made) left last
-    back = r.back
-
-    blame : BlamesEither {T = Migrated MemDisk MemDisk} (room version_2 MAX_SLOTS ≤ cap_of begun) (Err device) (faults_of moved) (faults_of begun) (faults_of left) (faults_of made)
-    blame = r.blame
-
-    never : (faults_of moved).due ≡ Never
-    never = ap (due_of (call_count moved)) here.plan
-
-    due : (faults_of begun).due ≡ (faults_of disk).due
-    due = m.due
-
-    within : room version_2 MAX_SLOTS ≤ cap_of begun
-    within = let e : cap_of begun ≡ 1048641 = begins.cap ∙ (let f = m.fresh_is in f.cap) in omega arith
-
-    at_new : HasFailed (room version_2 MAX_SLOTS ≤ cap_of begun) (faults_of begun) (faults_of made)
-    at_new = which (blame.failed refl)
-      where
-        which : (HasFailed ⊤ (faults_of moved) (faults_of left) × (faults_of made ≡ faults_of begun)) ⊎ ((faults_of left ≡ faults_of moved) × HasFailed (room version_2 MAX_SLOTS ≤ cap_of begun) (faults_of begun) (faults_of made)) → HasFailed (room version_2 MAX_SLOTS ≤ cap_of begun) (faults_of begun) (faults_of made)
-        which (inl (f, e)) = absurd (f.calm never tt)
-        which (inr (e, f)) = f
-
-    steps : (sent : List Datagram) → MigrateSteps sent old seen new
-    steps sent x messages h b =
-        let d = down_at old disk x down there h in
-        let l = returned old disk moved fresh begun left made last device m r in
-        let failed = at_new in
-        let broken = broken_down old new disk last x versions.Old (causes.Migrate device) seen old.due refl down h d l.cap (λ n. failed.calm (due ∙ n) within) (λ o. r.due ∙ failed.spent (subst IsOnce (sym due) o) within) refl broke in
-        let at : MigratesAt {Why = Refusal} (ViewAt old) x x.version d.votes disk broken.1 broken.0 = subst (λ (v : FileVersion). MigratesAt {Why = Refusal} (ViewAt old) x v d.votes disk broken.1 broken.0) (sym (h.version ∙ version)) (Failed last, l.may versions.Old, broken.3) in
-        (broken.0, [], broken.1, broken.2, (d.votes, disk, d.process, at, refl), broken.4, no_bytes old.game sent messages b)
-
--- the old file isn't sound
-faulty : (old new : Site) (disk moved fresh begun left made last : MemDisk) (why : VotesRefusal) (answer : Answer Refusal) (result : Result Seen WorldRefusal) → old.version ≡ versions.Old → old.desk ≡ None → old.disk ≡ Some disk → IsMoved old disk moved fresh begun → IsReturned old disk moved begun left made last why → why ≢ device → file_votes (contents version_1) (desk_number old.name) old.game (file_of moved) ≡ Err why → answer_of (seens.Refused (causes.Migrate why)) ≡ Some answer → (answer ≡ Answer.Unsound) ⊎ (answer ≡ Answer.OtherVersion) → (result ≡ Ok (seens.Refused (causes.Migrate why))) × (new ≡ record old { disk = Some last }) → Outcome MigrateSteps old result new
-faulty old new disk moved fresh begun left made last why answer result version down there m r n fault says which (is, e) = seen_is MigrateSteps old new result (seens.Refused (causes.Migrate why)) is steps
-  where
-    steps : (sent : List Datagram) → MigrateSteps sent old (seens.Refused (causes.Migrate why)) new
-    steps sent x messages h b =
-        let d = down_at old disk x down there h in
-        let on = d.on_disk in
-        let here = m.here in
-        let l = returned old disk moved fresh begun left made last why m r in
-        let faults = calm_faults old disk moved fresh begun left made last why m r n in
-        let stays = stays_down old disk last old.due x down h d l.cap (subst (λ (z : Faults). IsDue old.due z.due) (sym faults) on.faults) in
-        let y : Node MemDisk = record x { process = Down d.votes last } in
-        let site : HasNode new y = subst (λ (z : Site). HasNode z y) (sym e) (record { version = h.version; process = stays.process; due = h.due }) in
-        let none : votes_shown (contents version_1) old.name old.game (file_of disk) ≡ None = ap (λ (file : List ℕ). votes_shown (contents version_1) old.name old.game file) (sym here.file) ∙ ap where_sound fault in
-        let at : MigratesAt {Why = Refusal} (ViewAt old) x x.version d.votes disk answer y = subst (λ (v : FileVersion). MigratesAt {Why = Refusal} (ViewAt old) x v d.votes disk answer y) (sym (h.version ∙ version)) (NotSound last, (none, l.may versions.Old), (which, refl)) in
-        (y, [], answer, says, (d.votes, disk, d.process, at, refl), site, no_bytes old.game sent messages b)
-
 -- why it isn't migrated
 abbrev pub RefusedFor : Site → MemDisk → VotesRefusal → Type 0
 RefusedFor old moved why =
     (why ≡ device) ⊎ ((why ≡ votes.NoMemory) ⊎ (file_votes (contents version_1) (desk_number old.name) old.game (file_of moved) ≡ Err why))
 
-fault_of : (old : Site) (moved : MemDisk) (why : VotesRefusal) → why ≢ device → why ≢ votes.NoMemory → RefusedFor old moved why → file_votes (contents version_1) (desk_number old.name) old.game (file_of moved) ≡ Err why
+fault_of : (old : Site) (moved : MemDisk) (why : VotesRefusal) → why ≢ device → why ≢ votes.NoMemory → RefusedFor old moved why
+    → file_votes (contents version_1) (desk_number old.name) old.game (file_of moved) ≡ Err why
 fault_of old moved why n k (inl e) = absurd (n e)
 fault_of old moved why n k (inr (inl e)) = absurd (k e)
 fault_of old moved why n k (inr (inr e)) = e
 
-pub not_migrated : (old new : Site) (disk moved fresh begun left made last : MemDisk) (why : VotesRefusal) (result : Result Seen WorldRefusal) → old.version ≡ versions.Old → old.desk ≡ None → old.disk ≡ Some disk → IsMoved old disk moved fresh begun → IsReturned old disk moved begun left made last why → RefusedFor old moved why → NotFoundBy (wants_memory why) (is_failing why) (causes.Migrate why) (record old { disk = Some last }) result new → Outcome MigrateSteps old result new
-not_migrated old new disk moved fresh begun left made last votes.NoMemory result version down there m r f n =
-    let l = returned old disk moved fresh begun left made last votes.NoMemory m r in
-    memory_is MigrateSteps old new result n.0 (syncs old new disk last down there (l.may old.version) l.cap (calm_faults old disk moved fresh begun left made last votes.NoMemory m r (λ q. (cc))) n.1)
-not_migrated old new disk moved fresh begun left made last (votes.File files.Device) result version down there m r f n = failing old new disk moved fresh begun left made last result version down there m r n
-not_migrated old new disk moved fresh begun left made last (votes.File files.Version) result version down there m r f n =
-    faulty old new disk moved fresh begun left made last (votes.File files.Version) Answer.OtherVersion result version down there m r (λ q. (cc)) (fault_of old moved _ (λ q. (cc)) (λ q. (cc)) f) refl (inr refl) n
-not_migrated old new disk moved fresh begun left made last (votes.File (files.Damaged slot)) result version down there m r f n =
-    faulty old new disk moved fresh begun left made last (votes.File (files.Damaged slot)) Answer.Unsound result version down there m r (λ q. (cc)) (fault_of old moved _ (λ q. (cc)) (λ q. (cc)) f) refl (inl refl) n
-not_migrated old new disk moved fresh begun left made last (votes.File files.NotThisMatch) result version down there m r f n =
-    faulty old new disk moved fresh begun left made last (votes.File files.NotThisMatch) Answer.Unsound result version down there m r (λ q. (cc)) (fault_of old moved _ (λ q. (cc)) (λ q. (cc)) f) refl (inl refl) n
-not_migrated old new disk moved fresh begun left made last (votes.File files.SlotsFull) result version down there m r f n =
-    faulty old new disk moved fresh begun left made last (votes.File files.SlotsFull) Answer.Unsound result version down there m r (λ q. (cc)) (fault_of old moved _ (λ q. (cc)) (λ q. (cc)) f) refl (inl refl) n
-not_migrated old new disk moved fresh begun left made last (votes.File files.NotEmpty) result version down there m r f n =
-    faulty old new disk moved fresh begun left made last (votes.File files.NotEmpty) Answer.Unsound result version down there m r (λ q. (cc)) (fault_of old moved _ (λ q. (cc)) (λ q. (cc)) f) refl (inl refl) n
-not_migrated old new disk moved fresh begun left made last (votes.File files.Unfinished) result version down there m r f n =
-    faulty old new disk moved fresh begun left made last (votes.File files.Unfinished) Answer.Unsound result version down there m r (λ q. (cc)) (fault_of old moved _ (λ q. (cc)) (λ q. (cc)) f) refl (inl refl) n
-not_migrated old new disk moved fresh begun left made last (votes.File files.Failed) result version down there m r f n =
-    faulty old new disk moved fresh begun left made last (votes.File files.Failed) Answer.Unsound result version down there m r (λ q. (cc)) (fault_of old moved _ (λ q. (cc)) (λ q. (cc)) f) refl (inl refl) n
-not_migrated old new disk moved fresh begun left made last (votes.NotASequence slot) result version down there m r f n =
-    faulty old new disk moved fresh begun left made last (votes.NotASequence slot) Answer.Unsound result version down there m r (λ q. (cc)) (fault_of old moved _ (λ q. (cc)) (λ q. (cc)) f) refl (inl refl) n
+module _ (old : Site) (disk moved fresh begun left made last : MemDisk) (m : IsMoved old disk moved fresh begun) where
+  returned : (why : VotesRefusal) → IsReturned old disk moved begun left made last why → Left old disk last
+  returned why r =
+      let here = m.here in
+      let back = r.back in
+      let images = ⊎_elim (λ (e : images_of left ≡ images_of moved). inl (back.images ∙ e ∙ here.images))
+      (λ (e : images_of left ≡ only (file_of moved)). inr (back.images ∙ e ∙ ap only here.file)) r.images in
+      record { may = λ version. may_sync version old disk last (back.file ∙ r.seen ∙ here.file) images; cap = back.cap ∙ r.cap ∙ here.cap }
+
+  -- nothing has failed
+  calm_faults : (why : VotesRefusal) → IsReturned old disk moved begun left made last why → why ≢ device → faults_of last ≡ faults_of disk
+  calm_faults why r n =
+      let here = m.here in
+      let back = r.back in
+      let blame = r.blame in
+      let same = blame.same (λ q. n (cc)) in
+      let count : (faults_of last).count ≡ (faults_of disk).count = back.count ∙ ap (λ (z : Faults). z.count) same.0 ∙ here.count in
+      let due : (faults_of last).due ≡ (faults_of disk).due = r.due ∙ ap (λ (z : Faults). z.due) same.1 ∙ m.due in
+      λ i. record { count = count i; due = due i }
+
+  module _ (new : Site) (result : Result Seen WorldRefusal) (version : old.version ≡ versions.Old) (down : old.desk ≡ None) (there : old.disk ≡ Some disk) where
+    failing : IsReturned old disk moved begun left made last device → (seen : Seen) × (result ≡ Ok seen) × BreaksDown old.due (causes.Migrate device) (record old { disk = Some last }) seen new
+        → Outcome MigrateSteps old result new
+    failing r (seen, is, broke) = seen_is MigrateSteps old new result seen is steps
+      where
+        begins : SetsPlan (plan_of disk) fresh begun
+        begins = m.there
+
+        within : room version_2 MAX_SLOTS ≤ cap_of begun
+        within = let e : cap_of begun ≡ 1048641 = begins.cap ∙ (let f = m.fresh_is in f.cap) in omega arith
+
+        at_new : HasFailed (room version_2 MAX_SLOTS ≤ cap_of begun) (faults_of begun) (faults_of made)
+        at_new = let blame = r.blame in which (blame.failed refl)
+          where
+            which : (HasFailed ⊤ (faults_of moved) (faults_of left) × (faults_of made ≡ faults_of begun))
+                ⊎ ((faults_of left ≡ faults_of moved) × HasFailed (room version_2 MAX_SLOTS ≤ cap_of begun) (faults_of begun) (faults_of made))
+                → HasFailed (room version_2 MAX_SLOTS ≤ cap_of begun) (faults_of begun) (faults_of made)
+            which (inl (f, e)) = absurd (f.calm (let here = m.here in ap (due_of (call_count moved)) here.plan) tt)
+            which (inr (e, f)) = f
+
+        steps : (sent : List Datagram) → MigrateSteps sent old seen new
+        steps sent x messages h b =
+            let d = down_at old disk x down there h in
+            let l = returned device r in
+            let failed = at_new in
+            let spent = λ (o : IsOnce (faults_of disk).due). r.due ∙ failed.spent (subst IsOnce (sym m.due) o) within in
+            let broken = broken_down old new disk last x versions.Old (causes.Migrate device) seen old.due refl down h d l.cap (λ n. failed.calm (m.due ∙ n) within) spent refl broke in
+            let at = subst (λ (v : FileVersion). MigratesAt {Why = Refusal} (ViewAt old) x v d.votes disk broken.1 broken.0) (sym (h.version ∙ version)) (Failed last, l.may versions.Old, broken.3) in
+            (broken.0, [], broken.1, broken.2, (d.votes, disk, d.process, at, refl), broken.4, no_bytes old.game sent messages b)
+
+    -- the old file isn't sound
+    faulty : (why : VotesRefusal) (answer : Answer Refusal) → IsReturned old disk moved begun left made last why → why ≢ device
+        → file_votes (contents version_1) (desk_number old.name) old.game (file_of moved) ≡ Err why → answer_of (seens.Refused (causes.Migrate why)) ≡ Some answer
+        → (answer ≡ Answer.Unsound) ⊎ (answer ≡ Answer.OtherVersion) → (result ≡ Ok (seens.Refused (causes.Migrate why))) × (new ≡ record old { disk = Some last })
+        → Outcome MigrateSteps old result new
+    faulty why answer r n fault says which (is, e) = seen_is MigrateSteps old new result (seens.Refused (causes.Migrate why)) is steps
+      where
+        steps : (sent : List Datagram) → MigrateSteps sent old (seens.Refused (causes.Migrate why)) new
+        steps sent x messages h b =
+            let d = down_at old disk x down there h in
+            let here = m.here in
+            let l = returned why r in
+            let y : Node MemDisk = record x { process = Down d.votes last } in
+            let site = subst (λ (z : Site). HasNode z y) (sym e) (still_down old new disk last down there l.cap x h d (calm_faults why r n)) in
+            let none = ap (votes_shown (contents version_1) old.name old.game) (sym here.file) ∙ ap where_sound fault in
+            let at = subst (λ (v : FileVersion). MigratesAt {Why = Refusal} (ViewAt old) x v d.votes disk answer y) (sym (h.version ∙ version))
+            (NotSound last, (none, l.may versions.Old), (which, refl)) in
+            (y, [], answer, says, (d.votes, disk, d.process, at, refl), site, no_bytes old.game sent messages b)
+
+    pub not_migrated : (why : VotesRefusal) → IsReturned old disk moved begun left made last why → RefusedFor old moved why
+        → NotFoundBy (wants_memory why) (is_failing why) (causes.Migrate why) (record old { disk = Some last }) result new → Outcome MigrateSteps old result new
+    not_migrated votes.NoMemory r f n =
+        let l = returned votes.NoMemory r in
+        memory_is MigrateSteps old new result n.0 (syncs old new disk last down there l.cap (l.may old.version) (calm_faults votes.NoMemory r (λ q. (cc))) n.1)
+    not_migrated (votes.File files.Device) r f n = failing r n
+    not_migrated (votes.File files.Version) r f n = faulty (votes.File files.Version) Answer.OtherVersion r (λ q. (cc)) (fault_of old moved _ (λ q. (cc)) (λ q. (cc)) f) refl (inr refl) n
+    not_migrated why r f n = faulty why Answer.Unsound r (λ q. (cc)) (fault_of old moved why (λ q. (cc)) (λ q. (cc)) f) refl (inl refl) n
 
 -- a migration that found the new disk not empty, which it was
-pub refused_for : (old : Site) (disk moved fresh begun : MemDisk) (why : VotesRefusal) → IsMoved old disk moved fresh begun → (IsErrOf {T = Migrated MemDisk MemDisk} (Err why) Rattle.vote_store.specs.Refusal.not_empty → 0 < length (file_of begun)) → (why ≡ device) ⊎ ((why ≡ votes.NoMemory) ⊎ ((why ≡ Rattle.vote_store.specs.Refusal.not_empty) ⊎ (file_votes (contents version_1) (desk_number old.name) old.game (file_of moved) ≡ Err why))) → RefusedFor old moved why
+pub refused_for : (old : Site) (disk moved fresh begun : MemDisk) (why : VotesRefusal) → IsMoved old disk moved fresh begun
+    → (IsErrOf {T = Migrated MemDisk MemDisk} (Err why) not_empty → 0 < length (file_of begun))
+    → (why ≡ device) ⊎ ((why ≡ votes.NoMemory) ⊎ ((why ≡ not_empty) ⊎ (file_votes (contents version_1) (desk_number old.name) old.game (file_of moved) ≡ Err why))) → RefusedFor old moved why
 refused_for old disk moved fresh begun why m n (inl e) = inl e
 refused_for old disk moved fresh begun why m n (inr (inl e)) = inr (inl e)
 refused_for old disk moved fresh begun why m n (inr (inr (inl e))) =

@@ -37,9 +37,10 @@ use Rattle.schedule_replay.specs.declared.world_desk.WorldDesk.{WorldDesk}
 use Rattle.headline.specs.Configurations.{Process, Running, Down, Node, process_disk, with_disk}
 use Rattle.headline.specs.Answers.{Answer}
 use Rattle.headline.specs.DeskFaults.{StaysDown}
+use Rattle.headline.specs.DeskSteps.{AfterOpen}
 use Rattle.headline.specs.Match.{Setting, match_of}
 use Rattle.schedule_replay.specs.Answers.{answer_of, is_failing, wants_memory}
-use Rattle.schedule_replay.specs.inner.Sites.{BreaksDown, IsDue, IsProcess, HasNode, IsWorldDisk, NotFoundBy, SameSite, SiteSteps, SyncsSite}
+use Rattle.schedule_replay.specs.inner.Sites.{BreaksDown, IsDue, IsProcess, HasNode, IsWorldDisk, NotFoundBy, SameSite, SiteSteps, SyncsSite, disk_at, votes_at}
 use Rattle.schedule_replay.specs.WorldDesks.{IsWorldDeskOf, disk_of, state_of}
 use Rattle.schedule_replay.proofs.SiteLemmas.{HasDisk, broken_same, down_is, no_bytes, put_down_is, sets_plan_stays}
 
@@ -52,19 +53,24 @@ pub record IsDown (site : Site) (disk : MemDisk) (x : Node MemDisk) : Type 0 whe
 
 pub down_at : (site : Site) (disk : MemDisk) (x : Node MemDisk) → site.desk ≡ None → site.disk ≡ Some disk → HasNode site x → IsDown site disk x
 down_at site disk x down there h =
-    let p : IsProcess site None (Some disk) x.process = subst (λ (o : Option MemDisk). IsProcess site None o x.process) there (subst (λ (o : Option WorldDesk). IsProcess site o site.disk x.process) down h.process) in
+    let p : IsProcess site None (Some disk) x.process = subst (λ (o : Option MemDisk). IsProcess site None o x.process) there
+    (subst (λ (o : Option WorldDesk). IsProcess site o site.disk x.process) down h.process) in
     let votes = p.1 in
     record { votes = votes.0; many = votes.1; process = votes.2; on_disk = p.0 }
 
 -- it stays down on this disk
-pub stays_down : (site : Site) (disk left : MemDisk) (due : Option Fault) (x : Node MemDisk) → site.desk ≡ None → HasNode site x → (d : IsDown site disk x) → cap_of left ≡ cap_of disk → IsDue due (faults_of left).due → HasNode (record site { disk = Some left; due = due }) (record x { process = Down d.votes left; due = due })
+pub stays_down : (site : Site) (disk left : MemDisk) (due : Option Fault) (x : Node MemDisk) → site.desk ≡ None → HasNode site x → (d : IsDown site disk x) → cap_of left ≡ cap_of disk
+    → IsDue due (faults_of left).due → HasNode (record site { disk = Some left; due = due }) (record x { process = Down d.votes left; due = due })
 stays_down site disk left due x down h d cap faults =
     let on = d.on_disk in
     let on_left : IsWorldDisk site.version due left = record { cap = cap ∙ on.cap; faults = faults } in
     record { version = h.version; process = down_is (record site { disk = Some left; due = due }) left d.votes down refl (sym d.many) on_left; due = refl }
 
 -- a device call has failed at a desk that is down, by the fault that was due
-pub broken_down : (old new : Site) (disk left : MemDisk) (x : Node MemDisk) (v : FileVersion) (cause : Cause) (seen : Seen) (due : Option Fault) → old.due ≡ due → old.desk ≡ None → HasNode old x → (d : IsDown old disk x) → cap_of left ≡ cap_of disk → ((faults_of disk).due ≡ Never → ⊥) → (IsOnce (faults_of disk).due → (faults_of left).due ≡ Never) → answer_of (seens.Refused cause) ≡ Some Answer.DeviceFailed → BreaksDown due cause (record old { disk = Some left }) seen new → (y : Node MemDisk) × (answer : Answer Refusal) × (answer_of seen ≡ Some answer) × StaysDown ((match_of old.game old.innings_a_side).view old.name v) x d.votes left answer y × HasNode new y
+pub broken_down : (old new : Site) (disk left : MemDisk) (x : Node MemDisk) (v : FileVersion) (cause : Cause) (seen : Seen) (due : Option Fault) → old.due ≡ due → old.desk ≡ None → HasNode old x
+    → (d : IsDown old disk x) → cap_of left ≡ cap_of disk → ((faults_of disk).due ≡ Never → ⊥) → (IsOnce (faults_of disk).due → (faults_of left).due ≡ Never)
+    → answer_of (seens.Refused cause) ≡ Some Answer.DeviceFailed → BreaksDown due cause (record old { disk = Some left }) seen new
+    → (y : Node MemDisk) × (answer : Answer Refusal) × (answer_of seen ≡ Some answer) × StaysDown ((match_of old.game old.innings_a_side).view old.name v) x d.votes left answer y × HasNode new y
 broken_down old new disk left x v cause seen None q down h d cap calm spent told b =
     let on = d.on_disk in
     absurd (calm (subst (λ (z : Option Fault). IsDue z (faults_of disk).due) q on.faults))
@@ -80,8 +86,8 @@ broken_down old new disk left x v cause seen (Some Stop) q down h d cap calm spe
     let p : Process MemDisk = Down d.votes left in
     let site : Site = record old { disk = Some left; due = None } in
     let has : HasDisk site p = record {
-      disk = ap (λ (o : Option WorldDesk). Rattle.schedule_replay.specs.inner.Sites.disk_at o (Some left)) down;
-      votes = ap (λ (o : Option WorldDesk). Rattle.schedule_replay.specs.inner.Sites.votes_at o old.votes) down ∙ sym d.many;
+      disk = ap (λ (o : Option WorldDesk). disk_at o (Some left)) down;
+      votes = ap (λ (o : Option WorldDesk). votes_at o old.votes) down ∙ sym d.many;
       cap = cap ∙ on.cap;
     } in
     let lowered = put_down_is site new p has refl put in
@@ -98,10 +104,12 @@ Outcome Steps old result new =
 abbrev pub OpenSteps : List Datagram → Site → Seen → Site → Type 0
 OpenSteps sent old seen new = SiteSteps (events.Open old.name) old sent seen new sent
 
-pub seen_is : (Steps : List Datagram → Site → Seen → Site → Type 0) (old new : Site) (result : Result Seen WorldRefusal) (seen : Seen) → result ≡ Ok seen → ((sent : List Datagram) → Steps sent old seen new) → Outcome Steps old result new
+pub seen_is : (Steps : List Datagram → Site → Seen → Site → Type 0) (old new : Site) (result : Result Seen WorldRefusal) (seen : Seen) → result ≡ Ok seen
+    → ((sent : List Datagram) → Steps sent old seen new) → Outcome Steps old result new
 seen_is Steps old new result seen e h = subst (λ (z : Result Seen WorldRefusal). Outcome Steps old z new) (sym e) (h, tt)
 
-pub memory_is : (Steps : List Datagram → Site → Seen → Site → Type 0) (old new : Site) (result : Result Seen WorldRefusal) → result ≡ Err refuses.NoMemory → SyncsSite old new → Outcome Steps old result new
+pub memory_is : (Steps : List Datagram → Site → Seen → Site → Type 0) (old new : Site) (result : Result Seen WorldRefusal) → result ≡ Err refuses.NoMemory → SyncsSite old new
+    → Outcome Steps old result new
 memory_is Steps old new result e h = subst (λ (z : Result Seen WorldRefusal). Outcome Steps old z new) (sym e) (tt, (refl, h))
 
 abbrev pub ViewAt : Site → FileVersion → FileView MemDisk
@@ -111,7 +119,10 @@ abbrev pub RulesAt : Site → Rules Refusal
 RulesAt site = (λ (s : Setting MemDisk Refusal). s.rules) (match_of site.game site.innings_a_side)
 
 -- the desk is opened
-pub opened : (old : Site) (l : WorldDesk) (disk : MemDisk) (left : Option MemDisk) (n : ℕ) (sent : List Datagram) → left ≡ None → old.desk ≡ None → old.disk ≡ Some disk → Opens (ViewAt old old.version) (RulesAt old) old.name disk (Opened (state_of l)) → IsWorldDeskOf old.name old.version old.game old.innings_a_side l → cap_of (disk_of l) ≡ cap_of disk → faults_of (disk_of l) ≡ faults_of disk → n ≡ length ((λ (s : DeskState MemDisk). s.book) (state_of l)) → SiteSteps (events.Open old.name) old sent (seens.Opened n) (record old { desk = Some l; disk = left }) sent
+pub opened : (old : Site) (l : WorldDesk) (disk : MemDisk) (left : Option MemDisk) (n : ℕ) (sent : List Datagram) → left ≡ None → old.desk ≡ None → old.disk ≡ Some disk
+    → Opens (ViewAt old old.version) (RulesAt old) old.name disk (Opened (state_of l)) → IsWorldDeskOf old.name old.version old.game old.innings_a_side l → cap_of (disk_of l) ≡ cap_of disk
+    → faults_of (disk_of l) ≡ faults_of disk → n ≡ length ((λ (s : DeskState MemDisk). s.book) (state_of l))
+    → SiteSteps (events.Open old.name) old sent (seens.Opened n) (record old { desk = Some l; disk = left }) sent
 opened old l disk left n sent none down there opens own cap faults many x messages h b =
     let d = down_at old disk x down there h in
     let on = d.on_disk in
@@ -131,6 +142,12 @@ opened old l disk left n sent none down there opens own cap faults many x messag
     } in
     (y, [], Answer.Opened n, refl, (d.votes, disk, Opened (state_of l), d.process, now, (ap (λ (m : ℕ). Answer.Opened m) many, refl), refl), is, no_bytes old.game sent messages b)
 
+abbrev pub OpenBlame : MemDisk → OpenRefusal → MemDisk → Type 0
+OpenBlame disk why left = BlamesDisk {T = WorldDesk} device ⊤ (Err why) (faults_of disk) (faults_of left)
+
+not_device : (why : OpenRefusal) → why ≢ device → IsErrOf {T = WorldDesk} (Err why) device → ⊥
+not_device why n q = n (cc)
+
 -- a site that stays
 pub stays_so : (old : Site) → SyncsSite old old
 stays_so old x h =
@@ -141,99 +158,73 @@ stays_so old x h =
     same_disk (Running k) = refl
     same_disk (Down votes disk) = refl
 
--- it isn't, and its disk may have been synced
-pub syncs : (old new : Site) (disk left : MemDisk) → old.desk ≡ None → old.disk ≡ Some disk → MaySync (ViewAt old old.version) disk left → cap_of left ≡ cap_of disk → faults_of left ≡ faults_of disk → new ≡ record old { disk = Some left } → SyncsSite old new
-syncs old new disk left down there may cap faults e x h =
-    let d = down_at old disk x down there h in
-    let on = d.on_disk in
-    let stays = stays_down old disk left old.due x down h d cap (subst (λ (z : Faults). IsDue old.due z.due) (sym faults) on.faults) in
-    let same : with_disk x.process left ≡ Down d.votes left = ap (λ (z : Process MemDisk). with_disk z left) d.process in
-    let y : Node MemDisk = record x { process = with_disk x.process left } in
-    let q : record x { process = Down d.votes left } ≡ y = ap (λ (z : Process MemDisk). record x { process = z }) (sym same) in
-    let is : HasNode (record old { disk = Some left }) (record x { process = Down d.votes left }) = record { version = h.version; process = stays.process; due = h.due } in
-    let now = subst (λ (v : FileVersion). MaySync (ViewAt old v) disk left) (sym h.version) may in (
-      left,
-      subst (λ (z : Process MemDisk). MaySync (ViewAt old x.version) (process_disk z) left) (sym d.process) now,
-      subst (λ (z : Site). HasNode z y) (sym e) (subst (HasNode (record old { disk = Some left })) q is),
-    )
+module _ (old new : Site) (disk left : MemDisk) (down : old.desk ≡ None) (there : old.disk ≡ Some disk) (cap : cap_of left ≡ cap_of disk) where
+  -- it stays down, with what is due
+  pub still_down : (x : Node MemDisk) → HasNode old x → (d : IsDown old disk x) → faults_of left ≡ faults_of disk → HasNode (record old { disk = Some left }) (record x { process = Down d.votes left })
+  still_down x h d faults =
+      let on = d.on_disk in
+      let stays = stays_down old disk left old.due x down h d cap (subst (λ (z : Faults). IsDue old.due z.due) (sym faults) on.faults) in
+      record { version = h.version; process = stays.process; due = h.due }
 
--- because of what is in the file
-not_sound : (old new : Site) (disk left : MemDisk) (why : OpenRefusal) (told : openings.OpenRefusal) (answer : Answer Refusal) (result : Result Seen WorldRefusal) → old.desk ≡ None → old.disk ≡ Some disk → Opens (ViewAt old old.version) (RulesAt old) old.name disk (NotOpened told left) → ((x : Node MemDisk) (votes : List Ballot) → Rattle.headline.specs.DeskSteps.AfterOpen (ViewAt old x.version) x votes (NotOpened told left) answer (record x { process = Down votes left })) → cap_of left ≡ cap_of disk → faults_of left ≡ faults_of disk → answer_of (seens.Refused (causes.Open why)) ≡ Some answer → (result ≡ Ok (seens.Refused (causes.Open why))) × (new ≡ record old { disk = Some left }) → Outcome OpenSteps old result new
-not_sound old new disk left why told answer result down there opens after cap faults says (r, e) = seen_is OpenSteps old new result (seens.Refused (causes.Open why)) r steps
-  where
-    steps : (sent : List Datagram) → OpenSteps sent old (seens.Refused (causes.Open why)) new
-    steps sent x messages h b =
+  -- it isn't opened, and its disk may have been synced
+  pub syncs : MaySync (ViewAt old old.version) disk left → faults_of left ≡ faults_of disk → new ≡ record old { disk = Some left } → SyncsSite old new
+  syncs may faults e x h =
+      let d = down_at old disk x down there h in
+      let same : Down d.votes left ≡ with_disk x.process left = ap (λ (z : Process MemDisk). with_disk z left) (sym d.process) in
+      let is = subst (λ (z : Process MemDisk). HasNode (record old { disk = Some left }) (record x { process = z })) same (still_down x h d faults) in
+      let now = subst (λ (v : FileVersion). MaySync (ViewAt old v) disk left) (sym h.version) may in (
+        left,
+        subst (λ (z : Process MemDisk). MaySync (ViewAt old x.version) (process_disk z) left) (sym d.process) now,
+        subst (λ (z : Site). HasNode z (record x { process = with_disk x.process left })) (sym e) is,
+      )
+
+  module _ (result : Result Seen WorldRefusal) where
+    -- because of what is in the file
+    not_sound : (why : OpenRefusal) (told : openings.OpenRefusal) (answer : Answer Refusal) → Opens (ViewAt old old.version) (RulesAt old) old.name disk (NotOpened told left)
+        → ((x : Node MemDisk) (votes : List Ballot) → AfterOpen (ViewAt old x.version) x votes (NotOpened told left) answer (record x { process = Down votes left }))
+        → faults_of left ≡ faults_of disk → answer_of (seens.Refused (causes.Open why)) ≡ Some answer
+        → (result ≡ Ok (seens.Refused (causes.Open why))) × (new ≡ record old { disk = Some left }) → Outcome OpenSteps old result new
+    not_sound why told answer opens after faults says (r, e) = seen_is OpenSteps old new result (seens.Refused (causes.Open why)) r (λ sent x messages h b.
         let d = down_at old disk x down there h in
-        let on = d.on_disk in
-        let stays = stays_down old disk left old.due x down h d cap (subst (λ (z : Faults). IsDue old.due z.due) (sym faults) on.faults) in
-        let y : Node MemDisk = record x { process = Down d.votes left } in
-        let is : HasNode new y = subst (λ (z : Site). HasNode z y) (sym e) (record { version = h.version; process = stays.process; due = h.due }) in
+        let is = subst (λ (z : Site). HasNode z (record x { process = Down d.votes left })) (sym e) (still_down x h d faults) in
         let now = subst (λ (v : FileVersion). Opens (ViewAt old v) (RulesAt old) old.name disk (NotOpened told left)) (sym h.version) opens in
-        (y, [], answer, says, (d.votes, disk, NotOpened told left, d.process, now, after x d.votes, refl), is, no_bytes old.game sent messages b)
+        (record x { process = Down d.votes left }, [], answer, says, (d.votes, disk, NotOpened told left, d.process, now, after x d.votes, refl), is, no_bytes old.game sent messages b))
 
-abbrev pub OpenBlame : MemDisk → OpenRefusal → MemDisk → Type 0
-OpenBlame disk why left = BlamesDisk {T = WorldDesk} device ⊤ (Err why) (faults_of disk) (faults_of left)
-
-failing : (old new : Site) (disk left : MemDisk) (result : Result Seen WorldRefusal) → old.desk ≡ None → old.disk ≡ Some disk → MaySync (ViewAt old old.version) disk left → cap_of left ≡ cap_of disk → OpenBlame disk device left → (seen : Seen) × (result ≡ Ok seen) × BreaksDown old.due (causes.Open device) (record old { disk = Some left }) seen new → Outcome OpenSteps old result new
-failing old new disk left result down there may cap blame (seen, r, broke) = seen_is OpenSteps old new result seen r steps
-  where
-    steps : (sent : List Datagram) → OpenSteps sent old seen new
-    steps sent x messages h b =
+    failing : MaySync (ViewAt old old.version) disk left → OpenBlame disk device left
+        → (seen : Seen) × (result ≡ Ok seen) × BreaksDown old.due (causes.Open device) (record old { disk = Some left }) seen new → Outcome OpenSteps old result new
+    failing may blame (seen, r, broke) = seen_is OpenSteps old new result seen r (λ sent x messages h b.
         let d = down_at old disk x down there h in
         let broken = broken_down old new disk left x x.version (causes.Open device) seen old.due refl down h d cap (λ n. blame.calm n tt refl) (λ o. blame.spent o tt refl) refl broke in
         let now = subst (λ (v : FileVersion). MaySync (ViewAt old v) disk left) (sym h.version) may in
-        (broken.0, [], broken.1, broken.2, (d.votes, disk, NotOpened openings.OpenRefusal.DeviceFailed left, d.process, now, broken.3, refl), broken.4, no_bytes old.game sent messages b)
+        (broken.0, [], broken.1, broken.2, (d.votes, disk, NotOpened openings.OpenRefusal.DeviceFailed left, d.process, now, broken.3, refl), broken.4, no_bytes old.game sent messages b))
 
-not_device : (why : OpenRefusal) → why ≢ device → IsErrOf {T = WorldDesk} (Err why) device → ⊥
-not_device why n q = n (cc)
+    -- the votes file refused
+    not_found : (why : VotesRefusal) → Opens (ViewAt old old.version) (RulesAt old) old.name disk (NotOpened (open_cause (Votes why)) left) → OpenBlame disk (Votes why) left
+        → NotFoundBy (wants_memory why) (is_failing why) (causes.Open (Votes why)) (record old { disk = Some left }) result new → Outcome OpenSteps old result new
+    not_found votes.NoMemory o blame n = memory_is OpenSteps old new result n.0 (syncs o (blame.same (not_device (Votes votes.NoMemory) (λ q. (cc)))) n.1)
+    not_found (votes.File files.Device) o blame n = failing o blame n
+    not_found why o blame n = not_sound (Votes why) openings.OpenRefusal.Unsound Answer.Unsound o (λ x v. (refl, refl)) (blame.same (not_device (Votes why) (λ q. (cc)))) refl n
 
--- the votes file refused
-pub not_found : (old new : Site) (disk left : MemDisk) (why : VotesRefusal) (result : Result Seen WorldRefusal) → old.desk ≡ None → old.disk ≡ Some disk → Opens (ViewAt old old.version) (RulesAt old) old.name disk (NotOpened (open_cause (Votes why)) left) → cap_of left ≡ cap_of disk → OpenBlame disk (Votes why) left → NotFoundBy (wants_memory why) (is_failing why) (causes.Open (Votes why)) (record old { disk = Some left }) result new → Outcome OpenSteps old result new
-not_found old new disk left votes.NoMemory result down there o cap blame n =
-    memory_is OpenSteps old new result n.0 (syncs old new disk left down there o cap (blame.same (not_device (Votes votes.NoMemory) (λ q. (cc)))) n.1)
-not_found old new disk left (votes.File files.Device) result down there o cap blame n = failing old new disk left result down there o cap blame n
-not_found old new disk left (votes.File (files.Damaged slot)) result down there o cap blame n =
-    not_sound old new disk left (Votes (votes.File (files.Damaged slot))) openings.OpenRefusal.Unsound Answer.Unsound result down there o (λ x v. (refl, refl)) cap (blame.same (not_device _ (λ q. (cc)))) refl n
-not_found old new disk left (votes.File files.NotThisMatch) result down there o cap blame n =
-    not_sound old new disk left (Votes (votes.File files.NotThisMatch)) openings.OpenRefusal.Unsound Answer.Unsound result down there o (λ x v. (refl, refl)) cap (blame.same (not_device _ (λ q. (cc)))) refl n
-not_found old new disk left (votes.File files.Version) result down there o cap blame n =
-    not_sound old new disk left (Votes (votes.File files.Version)) openings.OpenRefusal.Unsound Answer.Unsound result down there o (λ x v. (refl, refl)) cap (blame.same (not_device _ (λ q. (cc)))) refl n
-not_found old new disk left (votes.File files.SlotsFull) result down there o cap blame n =
-    not_sound old new disk left (Votes (votes.File files.SlotsFull)) openings.OpenRefusal.Unsound Answer.Unsound result down there o (λ x v. (refl, refl)) cap (blame.same (not_device _ (λ q. (cc)))) refl n
-not_found old new disk left (votes.File files.NotEmpty) result down there o cap blame n =
-    not_sound old new disk left (Votes (votes.File files.NotEmpty)) openings.OpenRefusal.Unsound Answer.Unsound result down there o (λ x v. (refl, refl)) cap (blame.same (not_device _ (λ q. (cc)))) refl n
-not_found old new disk left (votes.File files.Unfinished) result down there o cap blame n =
-    not_sound old new disk left (Votes (votes.File files.Unfinished)) openings.OpenRefusal.Unsound Answer.Unsound result down there o (λ x v. (refl, refl)) cap (blame.same (not_device _ (λ q. (cc)))) refl n
-not_found old new disk left (votes.File files.Failed) result down there o cap blame n =
-    not_sound old new disk left (Votes (votes.File files.Failed)) openings.OpenRefusal.Unsound Answer.Unsound result down there o (λ x v. (refl, refl)) cap (blame.same (not_device _ (λ q. (cc)))) refl n
-not_found old new disk left (votes.NotASequence slot) result down there o cap blame n =
-    not_sound old new disk left (Votes (votes.NotASequence slot)) openings.OpenRefusal.Unsound Answer.Unsound result down there o (λ x v. (refl, refl)) cap (blame.same (not_device _ (λ q. (cc)))) refl n
+    -- the same of a refusal that is told so
+    pub not_found_as : (why : OpenRefusal) (fault : VotesRefusal) → why ≡ Votes fault → Opens (ViewAt old old.version) (RulesAt old) old.name disk (NotOpened (open_cause why) left)
+        → OpenBlame disk why left → NotFoundBy (wants_memory fault) (is_failing fault) (causes.Open (Votes fault)) (record old { disk = Some left }) result new → Outcome OpenSteps old result new
+    not_found_as why fault e o blame n =
+        let opens = subst (λ (w : OpenRefusal). Opens (ViewAt old old.version) (RulesAt old) old.name disk (NotOpened (open_cause w) left)) e o in
+        not_found fault opens (subst (λ (w : OpenRefusal). OpenBlame disk w left) e blame) n
 
--- the votes are no book
-pub bad_votes : (old new : Site) (disk left : MemDisk) (place : ℕ) (result : Result Seen WorldRefusal) → old.desk ≡ None → old.disk ≡ Some disk → Opens (ViewAt old old.version) (RulesAt old) old.name disk (NotOpened (open_cause (BadVotes place)) left) → cap_of left ≡ cap_of disk → OpenBlame disk (BadVotes place) left → result ≡ Ok (seens.Refused (causes.Open (BadVotes place))) → new ≡ record old { disk = Some left } → Outcome OpenSteps old result new
-bad_votes old new disk left place result down there o cap blame r e =
-    not_sound old new disk left (BadVotes place) (openings.OpenRefusal.BadVotes place) Answer.NoBook result down there o (λ x v. (refl, refl)) cap (blame.same (not_device (BadVotes place) (λ q. (cc)))) refl (r, e)
+    -- the votes are no book
+    pub bad_votes_as : (why : OpenRefusal) (place : ℕ) → why ≡ BadVotes place → Opens (ViewAt old old.version) (RulesAt old) old.name disk (NotOpened (open_cause why) left)
+        → OpenBlame disk why left → (result ≡ Ok (seens.Refused (causes.Open why))) × (new ≡ record old { disk = Some left }) → Outcome OpenSteps old result new
+    bad_votes_as why place e o blame n =
+        let opens = subst (λ (w : OpenRefusal). Opens (ViewAt old old.version) (RulesAt old) old.name disk (NotOpened (open_cause w) left)) e o in
+        let same = subst (λ (w : OpenRefusal). OpenBlame disk w left) e blame in
+        let is = subst (λ (w : OpenRefusal). (result ≡ Ok (seens.Refused (causes.Open w))) × (new ≡ record old { disk = Some left })) e n in
+        not_sound (BadVotes place) (openings.OpenRefusal.BadVotes place) Answer.NoBook opens (λ x v. (refl, refl)) (same.same (not_device (BadVotes place) (λ q. (cc)))) refl is
 
 -- the site after that is of the same match
 pub not_found_same : (memory fails : Bool) (cause : Cause) (old new : Site) (result : Result Seen WorldRefusal) → NotFoundBy memory fails cause old result new → SameSite old new
-not_found_same true fails cause old new result n = subst (SameSite old) (sym n.1) (record { name = refl; same_game = refl; innings = refl })
 not_found_same false true cause old new result n = broken_same old.due cause old new n.0 n.2
-not_found_same false false cause old new result n = subst (SameSite old) (sym n.1) (record { name = refl; same_game = refl; innings = refl })
-
--- the same of a refusal that is told so
-pub not_found_as : (old new : Site) (disk left : MemDisk) (why : OpenRefusal) (fault : VotesRefusal) (result : Result Seen WorldRefusal) → why ≡ Votes fault → old.desk ≡ None → old.disk ≡ Some disk → Opens (ViewAt old old.version) (RulesAt old) old.name disk (NotOpened (open_cause why) left) → cap_of left ≡ cap_of disk → OpenBlame disk why left → NotFoundBy (wants_memory fault) (is_failing fault) (causes.Open (Votes fault)) (record old { disk = Some left }) result new → Outcome OpenSteps old result new
-not_found_as old new disk left why fault result e down there o cap blame n =
-    not_found old new disk left fault result down there
-    (subst (λ (w : OpenRefusal). Opens (ViewAt old old.version) (RulesAt old) old.name disk (NotOpened (open_cause w) left)) e o) cap
-    (subst (λ (w : OpenRefusal). OpenBlame disk w left) e blame)
-    n
-
-pub bad_votes_as : (old : Site) (disk left : MemDisk) (why : OpenRefusal) (place : ℕ) → why ≡ BadVotes place → old.desk ≡ None → old.disk ≡ Some disk → Opens (ViewAt old old.version) (RulesAt old) old.name disk (NotOpened (open_cause why) left) → cap_of left ≡ cap_of disk → OpenBlame disk why left → (sent : List Datagram) → SiteSteps (events.Open old.name) old sent (seens.Refused (causes.Open why)) (record old { disk = Some left }) sent
-bad_votes_as old disk left why place e down there o cap blame =
-    subst (λ (w : OpenRefusal). (sent : List Datagram) → SiteSteps (events.Open old.name) old sent (seens.Refused (causes.Open w)) (record old { disk = Some left }) sent) (sym e)
-    (bad_votes old (record old { disk = Some left }) disk left place (Ok (seens.Refused (causes.Open (BadVotes place)))) down there
-    (subst (λ (w : OpenRefusal). Opens (ViewAt old old.version) (RulesAt old) old.name disk (NotOpened (open_cause w) left)) e o) cap
-    (subst (λ (w : OpenRefusal). OpenBlame disk w left) e blame) refl refl).0
+not_found_same _ _ cause old new result n = subst (SameSite old) (sym n.1) (record { name = refl; same_game = refl; innings = refl })
 
 -- a whole site whose desk is down has a disk
 pub some_disk : (desk : Option WorldDesk) (disk : Option MemDisk) → is_some disk ≡ is_none desk → desk ≡ None → (d : MemDisk) × (disk ≡ Some d)

@@ -37,13 +37,15 @@ abbrev pub PenBlame : WorldDesk → Result Penned DeskRefusal → WorldDesk → 
 PenBlame k told l = BlamesDisk refusals.Device (FitsOneMore k) told (faults_of (disk_of k)) (faults_of (disk_of l))
 
 -- after a pen that didn't fail at the device
-after_pen : (view : FileView MemDisk) (x : Node MemDisk) (told : PenAnswer Refusal) (l : DeskState MemDisk) → told ≢ PenAnswer.DeviceFailed → AfterPen view x told l (told_to_pen told) (record x { process = Running l })
-after_pen view x (PenAnswer.Penned settled) l n = (refl, refl)
-after_pen view x (PenAnswer.Refused why) l n = (refl, refl)
+after_pen : (view : FileView MemDisk) (x : Node MemDisk) (told : PenAnswer Refusal) (l : DeskState MemDisk) → told ≢ PenAnswer.DeviceFailed
+    → AfterPen view x told l (told_to_pen told) (record x { process = Running l })
 after_pen view x PenAnswer.DeviceFailed l n = absurd (n refl)
+after_pen view x _ l n = (refl, refl)
 
 -- the desk of a site has penned, or refused to
-pub pen_runs_on : (old : Site) (k l : WorldDesk) (e : Entry) (told : Result Penned DeskRefusal) (seen : Seen) (before after : List Datagram) → old.desk ≡ Some k → PenSteps k e told l → SameOwner k l → faults_of (disk_of l) ≡ faults_of (disk_of k) → pen_answer told ≢ PenAnswer.DeviceFailed → answer_of seen ≡ Some (told_to_pen (pen_answer told)) → map (λ (d : Datagram). d.bytes) after ≡ map (λ (d : Datagram). d.bytes) before ++ sent told → SiteSteps (events.Pen old.name e) old before seen (record old { desk = Some l }) after
+pub pen_runs_on : (old : Site) (k l : WorldDesk) (e : Entry) (told : Result Penned DeskRefusal) (seen : Seen) (before after : List Datagram) → old.desk ≡ Some k → PenSteps k e told l → SameOwner k l
+    → faults_of (disk_of l) ≡ faults_of (disk_of k) → pen_answer told ≢ PenAnswer.DeviceFailed → answer_of seen ≡ Some (told_to_pen (pen_answer told))
+    → map (λ (d : Datagram). d.bytes) after ≡ map (λ (d : Datagram). d.bytes) before ++ sent told → SiteSteps (events.Pen old.name e) old before seen (record old { desk = Some l }) after
 pen_runs_on old k l e told seen before after here step owner faults n a bytes x messages h b =
     let r = running_is old k x here h in
     let own = r.owner in
@@ -60,7 +62,8 @@ pen_runs_on old k l e told seen before after here step owner faults n a bytes x 
     )
 
 -- a device call of the desk failed as it penned
-pen_breaks : (old new : Site) (k l : WorldDesk) (e : Entry) (seen : Seen) (before : List Datagram) → old.desk ≡ Some k → PenSteps k e (Err refusals.Device) l → SameOwner k l → PenBlame k (Err refusals.Device) l → AfterRefusal refusals.Device (record old { desk = Some l }) seen new → SiteSteps (events.Pen old.name e) old before seen new before
+pen_breaks : (old new : Site) (k l : WorldDesk) (e : Entry) (seen : Seen) (before : List Datagram) → old.desk ≡ Some k → PenSteps k e (Err refusals.Device) l → SameOwner k l
+    → PenBlame k (Err refusals.Device) l → AfterRefusal refusals.Device (record old { desk = Some l }) seen new → SiteSteps (events.Pen old.name e) old before seen new before
 pen_breaks old new k l e seen before here step owner blame broke x messages h b =
     let r = running_is old k x here h in
     let own = r.owner in
@@ -76,20 +79,19 @@ pen_breaks old new k l e seen before here step owner blame broke x messages h b 
 device_is : (why : DeskRefusal) → IsErrOf {T = Penned} (Err why) refusals.Device → why ≡ refusals.Device
 device_is why q = cc
 
-refused : (old new : Site) (k l : WorldDesk) (e : Entry) (why : DeskRefusal) (seen : Seen) (before : List Datagram) → old.desk ≡ Some k → PenSteps k e (Err why) l → SameOwner k l → PenBlame k (Err why) l → why ≢ refusals.Device → pen_answer (Err why) ≢ PenAnswer.DeviceFailed → (seen ≡ seens.Refused (causes.Desk why)) × (new ≡ record old { desk = Some l }) → SiteSteps (events.Pen old.name e) old before seen new before
+refused : (old new : Site) (k l : WorldDesk) (e : Entry) (why : DeskRefusal) (seen : Seen) (before : List Datagram) → old.desk ≡ Some k → PenSteps k e (Err why) l → SameOwner k l
+    → PenBlame k (Err why) l → why ≢ refusals.Device → pen_answer (Err why) ≢ PenAnswer.DeviceFailed → (seen ≡ seens.Refused (causes.Desk why)) × (new ≡ record old { desk = Some l })
+    → SiteSteps (events.Pen old.name e) old before seen new before
 refused old new k l e why seen before here step owner blame calm other (r, n) =
-    let steps = pen_runs_on old k l e (Err why) (seens.Refused (causes.Desk why)) before before here step owner (blame.same (λ q. calm (device_is why q))) other refl (sym (Rattle.std.proofs.Common.append-nil (map (λ (d : Datagram). d.bytes) before))) in
+    let steps = pen_runs_on old k l e (Err why) (seens.Refused (causes.Desk why)) before before here step owner (blame.same (λ q. calm (device_is why q))) other refl
+    (sym (Rattle.std.proofs.Common.append-nil (map (λ (d : Datagram). d.bytes) before))) in
     subst (λ (z : Seen). SiteSteps (events.Pen old.name e) old before z new before) (sym r)
     (subst (λ (z : Site). SiteSteps (events.Pen old.name e) old before (seens.Refused (causes.Desk why)) z before) (sym n) steps)
 
-pub pen_refused : (old new : Site) (k l : WorldDesk) (e : Entry) (why : DeskRefusal) (seen : Seen) (before : List Datagram) → old.desk ≡ Some k → PenSteps k e (Err why) l → SameOwner k l → PenBlame k (Err why) l → AfterRefusal why (record old { desk = Some l }) seen new → SiteSteps (events.Pen old.name e) old before seen new before
+pub pen_refused : (old new : Site) (k l : WorldDesk) (e : Entry) (why : DeskRefusal) (seen : Seen) (before : List Datagram) → old.desk ≡ Some k → PenSteps k e (Err why) l → SameOwner k l
+    → PenBlame k (Err why) l → AfterRefusal why (record old { desk = Some l }) seen new → SiteSteps (events.Pen old.name e) old before seen new before
 pen_refused old new k l e refusals.Device seen before here step owner blame a = pen_breaks old new k l e seen before here step owner blame a
-pen_refused old new k l e refusals.Failed seen before here step owner blame a = refused old new k l e refusals.Failed seen before here step owner blame (λ q. (cc)) (λ q. (cc)) a
-pen_refused old new k l e refusals.Waiting seen before here step owner blame a = refused old new k l e refusals.Waiting seen before here step owner blame (λ q. (cc)) (λ q. (cc)) a
-pen_refused old new k l e refusals.PlacesFull seen before here step owner blame a = refused old new k l e refusals.PlacesFull seen before here step owner blame (λ q. (cc)) (λ q. (cc)) a
-pen_refused old new k l e refusals.RoundsFull seen before here step owner blame a = refused old new k l e refusals.RoundsFull seen before here step owner blame (λ q. (cc)) (λ q. (cc)) a
-pen_refused old new k l e refusals.SlotsFull seen before here step owner blame a = refused old new k l e refusals.SlotsFull seen before here step owner blame (λ q. (cc)) (λ q. (cc)) a
-pen_refused old new k l e (refusals.Book cause) seen before here step owner blame a = refused old new k l e (refusals.Book cause) seen before here step owner blame (λ q. (cc)) (λ q. (cc)) a
+pen_refused old new k l e why seen before here step owner blame a = refused old new k l e why seen before here step owner blame (λ q. (cc)) (λ q. (cc)) a
 
 -- the site after a refusal is of the same match
 pub refused_same : (device : Bool) (why : DeskRefusal) (old new : Site) (seen : Seen) → RefusedBy device why old seen new → SameSite old new

@@ -1,6 +1,8 @@
 -- A run goes on by one event, and what it shows is noted.
-use Rattle.std.proofs.Common.{◌≡◌, ◌<◌, ◌≤◌, ℕ, zero, suc, ◌+◌, Some, List, Result, Ok, Err, [], ◌∷◌, ◌++◌, length, map, refl, sym, ap, ◌∙◌, subst, inl, inr, arith, ⊎_elim, take, slice_index_or, length-append}
-use Rattle.std.proofs.Math.Seq.{take-length}
+use Rattle.std.proofs.Common.{◌≡◌, ◌<◌, ◌≤◌, ℕ, zero, suc, ◌+◌, Some, List, Result, Ok, Err, [], ◌∷◌}
+use Rattle.std.proofs.Common.{◌++◌, length, map, refl, sym, ap, ◌∙◌, subst, inl, inr, arith, ⊎_elim, take, slice_index_or, length-append}
+use Rattle.std.proofs.Math.Seq.{take-append_seam, take-length, take-suc}
+use Rattle.std.proofs.lemmas.Option.{slice_get-get_or}
 use Rattle.std.proofs.lemmas.List.{length-set, map-append}
 use Rattle.std.specs.Prelude.{Contains, IfErr, slice_get}
 use Rattle.notation.specs.declared.entry.Entry.{Entry}
@@ -49,12 +51,14 @@ with_board_many boards zero k = refl
 with_board_many boards (suc n) k = length-set boards n k
 
 module _ (game innings : ℕ) where
-  step_many : (w : Configuration MemDisk) (event : Event) (t : Station) (answer : Answer Refusal) (new : Configuration MemDisk) → StepAt (match_of game innings) w event t answer new → length new.boards ≡ length w.boards
+  step_many : (w : Configuration MemDisk) (event : Event) (t : Station) (answer : Answer Refusal) (new : Configuration MemDisk) → StepAt (match_of game innings) w event t answer new
+      → length new.boards ≡ length w.boards
   step_many w event (stations.Desk A) answer new p = ap (λ (v : Configuration MemDisk). length v.boards) p.3
   step_many w event (stations.Desk B) answer new p = ap (λ (v : Configuration MemDisk). length v.boards) p.3
   step_many w event (stations.Board n) answer new p = ap (λ (v : Configuration MemDisk). length v.boards) p.5 ∙ with_board_many w.boards n p.1
 
-  pub run_many : (version : FileVersion) (boards : ℕ) (w : Configuration MemDisk) (ms : MatchRun) → Begins (match_of game innings) version boards w → Run (match_of game innings) w ms → length (last_of w ms).boards ≡ boards
+  pub run_many : (version : FileVersion) (boards : ℕ) (w : Configuration MemDisk) (ms : MatchRun) → Begins (match_of game innings) version boards w → Run (match_of game innings) w ms
+      → length (last_of w ms).boards ≡ boards
   run_many version boards w [] b r = ap length b.boards_are_fresh ∙ fresh_many boards
   run_many version boards w (m ∷ ms) b r = step_many (last_of w ms) m.event (station_of m.event) m.answer m.after r.1 ∙ run_many version boards w ms b r.0
 
@@ -64,17 +68,8 @@ pub record IsAfter (game innings : ℕ) (version : FileVersion) (boards : ℕ) (
 
 -- such a run before its last event, whose outcome is the last one
 pub record IsNext (game innings : ℕ) (version : FileVersion) (boards : ℕ) (events : List Event) (number : ℕ) (world : World) (outcomes : List Seen) (seen : List Shown) : Type 0 where
-  pub at : (w : Configuration MemDisk) × (ms : MatchRun) × (m : Moment MemDisk Refusal) × IsAt game innings version boards events number world outcomes w (m ∷ ms) × AreSeen innings w ms seen × AtEachMoment w ms (ShowScores innings)
-
-take_next : (events : List Event) (n : ℕ) (d : Event) → n < length events → take (suc n) events ≡ take n events ++ slice_index_or events n d ∷ []
-take_next [] n d h = absurd (omega (arith, h))
-take_next (x ∷ xs) zero d h = refl
-take_next (x ∷ xs) (suc n) d h = ap (λ (z : List Event). x ∷ z) (take_next xs n d (omega (arith, h)))
-
-event_at : (events : List Event) (n : ℕ) (d : Event) → n < length events → slice_get events n ≡ Some (slice_index_or events n d)
-event_at [] n d h = absurd (omega (arith, h))
-event_at (x ∷ xs) zero d h = refl
-event_at (x ∷ xs) (suc n) d h = event_at xs n d (omega (arith, h))
+  pub at : (w : Configuration MemDisk) × (ms : MatchRun) × (m : Moment MemDisk Refusal) × IsAt game innings version boards events number world outcomes w (m ∷ ms)
+      × AreSeen innings w ms seen × AtEachMoment w ms (ShowScores innings)
 
 -- a new world begins the match that it is of
 pub own_match : (world : World) → IsNew world → BeginsWorld world.game world.innings_a_side (match_version world) (boards_of world) world
@@ -84,11 +79,22 @@ module _ (game innings : ℕ) (version : FileVersion) (boards : ℕ) (events : L
   pub begins_at : (world : World) → BeginsWorld game innings version boards world → (w : Configuration MemDisk) × IsAt game innings version boards events 0 world [] w []
   begins_at world h =
       let start = h.is_new in
-      let begins : Begins (match_of game innings) version boards start.0 = rw (h.same_game, h.same_innings, h.same_version, h.same_boards) at start.2 in
-      (start.0, record { run = record { begins = begins; run = tt; over = refl; answered = refl; planned = tt; counted = tt }; has_configuration = start.1; same_game = h.same_game; same_innings = h.same_innings })
+      let begins : Begins (match_of game innings) version boards start.0 = rw (h.same_game, h.same_innings, h.same_version, h.same_boards) at start.2 in (
+        start.0,
+        record {
+          run = record { begins = begins; run = tt; over = refl; answered = refl; planned = tt; counted = tt };
+          has_configuration = start.1;
+          same_game = h.same_game;
+          same_innings = h.same_innings;
+        },
+      )
 
   -- what is noted of a world that shows the last one of a run has one score
-  notable_at : (number : ℕ) (world : World) (outcomes : List Seen) (seen : List Shown) (w : Configuration MemDisk) (ms : MatchRun) → boards ≤ 4 → IsAt game innings version boards events number world outcomes w ms → ((t : Station) (n : ℕ) (score : Standing) → Contains seen (t, n, score) → AtSomeMoment w ms (λ v. ShowsScore innings v t n score)) → ((t : Station) (n : ℕ) (score : Standing) → ShowsScore innings (last_of w ms) t n score → AtSomeMoment w ms (λ v. ShowsScore innings v t n score)) → (v : Configuration MemDisk) × IsNotable world seen v
+  notable_at : (number : ℕ) (world : World) (outcomes : List Seen) (seen : List Shown) (w : Configuration MemDisk) (ms : MatchRun) → boards ≤ 4
+      → IsAt game innings version boards events number world outcomes w ms
+      → ((t : Station) (n : ℕ) (score : Standing) → Contains seen (t, n, score) → AtSomeMoment w ms (λ v. ShowsScore innings v t n score))
+      → ((t : Station) (n : ℕ) (score : Standing) → ShowsScore innings (last_of w ms) t n score → AtSomeMoment w ms (λ v. ShowsScore innings v t n score))
+      → (v : Configuration MemDisk) × IsNotable world seen v
   notable_at number world outcomes seen w ms few h was now =
       let run = h.run in
       let many = run_many game innings version boards w ms run.begins run.run in (
@@ -97,7 +103,8 @@ module _ (game innings : ℕ) (version : FileVersion) (boards : ℕ) (events : L
           has_configuration = h.has_configuration;
           few_boards = omega (arith, few, many);
           one_score = λ t n score other c shows.
-              one_score (match_of game innings) innings version boards w ms run.begins run.run t t n other score (was t n other c) (now t n score (subst (λ (i : ℕ). ShowsScore i (last_of w ms) t n score) h.same_innings shows));
+              one_score (match_of game innings) innings version boards w ms run.begins run.run t t n other score (was t n other c)
+              (now t n score (subst (λ (i : ℕ). ShowsScore i (last_of w ms) t n score) h.same_innings shows));
         },
       )
 
@@ -109,13 +116,15 @@ module _ (game innings : ℕ) (version : FileVersion) (boards : ℕ) (events : L
       let b = begins_at world h in
       notable_at 0 world [] seen b.0 [] few b.1 (λ t n score c. absurd (nothing_noted (t, n, score) (subst (λ (xs : List Shown). Contains xs (t, n, score)) none c))) (λ t n score s. s)
 
-  pub next_notable : (number : ℕ) (world : World) (outcomes : List Seen) (seen : List Shown) → boards ≤ 4 → IsNext game innings version boards events number world outcomes seen → (v : Configuration MemDisk) × IsNotable world seen v
+  pub next_notable : (number : ℕ) (world : World) (outcomes : List Seen) (seen : List Shown) → boards ≤ 4 → IsNext game innings version boards events number world outcomes seen
+      → (v : Configuration MemDisk) × IsNotable world seen v
   next_notable number world outcomes seen few h =
       let at = h.at in
       notable_at number world outcomes seen at.0 (at.2 ∷ at.1) few at.3 (λ t n score c. inr ((at.4 t n score).0 c)) (λ t n score s. inl s)
 
   -- what the world shows at the start is noted
-  pub first_noted : (world : World) (old new : List Shown) (outcomes : List Seen) → BeginsWorld game innings version boards world → old ≡ [] → outcomes ≡ [] → Notes world old new → HaveScores world → IsAfter game innings version boards events 0 world outcomes new
+  pub first_noted : (world : World) (old new : List Shown) (outcomes : List Seen) → BeginsWorld game innings version boards world → old ≡ [] → outcomes ≡ [] → Notes world old new → HaveScores world
+      → IsAfter game innings version boards events 0 world outcomes new
   first_noted world old new outcomes h none no_outcomes noted have =
       let b = begins_at world h in
       let at = subst (λ (o : List Seen). IsAt game innings version boards events 0 world o b.0 []) (sym no_outcomes) b.1 in
@@ -127,14 +136,16 @@ module _ (game innings : ℕ) (version : FileVersion) (boards : ℕ) (events : L
           at,
           λ t n score.
               let k = noted b.0 at.has_configuration t n score in (
-                λ c. ⊎_elim (λ (o : Contains old (t, n, score)). absurd (nothing_noted (t, n, score) (subst (λ (xs : List Shown). Contains xs (t, n, score)) none o))) (λ s. subst (λ (i : ℕ). ShowsScore i b.0 t n score) same s) (k.0 c),
+                λ c. ⊎_elim (λ (o : Contains old (t, n, score)). absurd (nothing_noted (t, n, score) (subst (λ (xs : List Shown). Contains xs (t, n, score)) none o)))
+                    (λ s. subst (λ (i : ℕ). ShowsScore i b.0 t n score) same s) (k.0 c),
                 λ s. k.1 (inr (subst (λ (i : ℕ). ShowsScore i b.0 t n score) (sym same) s)),
               ),
           subst (λ (i : ℕ). ShowScores i b.0) same (code_scored world b.0 have at.has_configuration),
         );
       }
 
-  pub next_noted : (number : ℕ) (world : World) (outcomes : List Seen) (old new : List Shown) → IsNext game innings version boards events number world outcomes old → Notes world old new → HaveScores world → IsAfter game innings version boards events number world outcomes new
+  pub next_noted : (number : ℕ) (world : World) (outcomes : List Seen) (old new : List Shown) → IsNext game innings version boards events number world outcomes old → Notes world old new
+      → HaveScores world → IsAfter game innings version boards events number world outcomes new
   next_noted number world outcomes old new h noted have =
       let p = h.at in
       let at = p.3 in
@@ -155,11 +166,14 @@ module _ (game innings : ℕ) (version : FileVersion) (boards : ℕ) (events : L
       }
 
   -- the match that the world was made for
-  of_world : (world : World) (w after : Configuration MemDisk) (event : Event) (answer : Answer Refusal) → world.game ≡ game → world.innings_a_side ≡ innings → Step (match_of world.game world.innings_a_side) w event answer after → Step (match_of game innings) w event answer after
+  of_world : (world : World) (w after : Configuration MemDisk) (event : Event) (answer : Answer Refusal) → world.game ≡ game → world.innings_a_side ≡ innings
+      → Step (match_of world.game world.innings_a_side) w event answer after → Step (match_of game innings) w event answer after
   of_world world w after event answer e f p = subst (λ (n : ℕ). Step (match_of game n) w event answer after) f (subst (λ (n : ℕ). Step (match_of n world.innings_a_side) w event answer after) e p)
 
   -- one event more
-  pub steps_on : (number : ℕ) (event : Event) (world new : World) (outcomes : List Seen) (seen : Seen) (w : Configuration MemDisk) (ms : MatchRun) → number < length events → event ≡ slice_index_or events number event → IsAt game innings version boards events number world outcomes w ms → StepsTo event world seen new → KeepsMatch world new → (m : Moment MemDisk Refusal) × IsAt game innings version boards events (number + 1) new (outcomes ++ seen ∷ []) w (m ∷ ms)
+  pub steps_on : (number : ℕ) (event : Event) (world new : World) (outcomes : List Seen) (seen : Seen) (w : Configuration MemDisk) (ms : MatchRun) → number < length events
+      → event ≡ slice_index_or events number event → IsAt game innings version boards events number world outcomes w ms → StepsTo event world seen new → KeepsMatch world new
+      → (m : Moment MemDisk Refusal) × IsAt game innings version boards events (number + 1) new (outcomes ++ seen ∷ []) w (m ∷ ms)
   steps_on number event world new outcomes seen w ms less here at steps same =
       let run = at.run in
       let s = (steps (last_of w ms) at.has_configuration).1 in
@@ -167,41 +181,54 @@ module _ (game innings : ℕ) (version : FileVersion) (boards : ℕ) (events : L
       let m : Moment MemDisk Refusal = record { event = event; answer = s.0; after = s.1 } in
       let next : take (number + 1) events ≡ take number events ++ event ∷ [] =
       let e : suc number ≡ number + 1 = omega arith in
-      subst (λ (n : ℕ). take n events ≡ take number events ++ event ∷ []) e (take_next events number event less ∙ ap (λ (x : Event). take number events ++ x ∷ []) (sym here)) in
+      subst (λ (n : ℕ). take n events ≡ take number events ++ event ∷ []) e (take-suc events number event less ∙ ap (λ (x : Event). take number events ++ x ∷ []) (sym here)) in
       let over : events_of (m ∷ ms) ≡ take (number + 1) events = ap (λ (z : List Event). z ++ event ∷ []) run.over ∙ sym next in
       let answered : map answer_of (outcomes ++ seen ∷ []) ≡ map Some (answers_of ms ++ s.0 ∷ []) =
       map-append answer_of outcomes (seen ∷ []) ∙ (λ i. run.answered i ++ s.2 i ∷ []) ∙ sym (map-append Some (answers_of ms) (s.0 ∷ [])) in (
         m,
-        record { run = record { begins = run.begins; run = (run.run, step); over = over; answered = answered; planned = (run.planned, s.5); counted = (run.counted, s.6) }; has_configuration = s.4; same_game = same.same_game ∙ at.same_game; same_innings = same.same_innings ∙ at.same_innings },
+        record {
+          run = record { begins = run.begins; run = (run.run, step); over = over; answered = answered; planned = (run.planned, s.5); counted = (run.counted, s.6) };
+          has_configuration = s.4;
+          same_game = same.same_game ∙ at.same_game;
+          same_innings = same.same_innings ∙ at.same_innings;
+        },
       )
 
-  pub goes_on : (number : ℕ) (event : Event) (world new : World) (outcomes : List Seen) (seen : Seen) (shown : List Shown) → number < length events → event ≡ slice_index_or events number event → IsAfter game innings version boards events number world outcomes shown → StepsTo event world seen new → KeepsMatch world new → IsNext game innings version boards events (number + 1) new (outcomes ++ seen ∷ []) shown
+  pub goes_on : (number : ℕ) (event : Event) (world new : World) (outcomes : List Seen) (seen : Seen) (shown : List Shown) → number < length events → event ≡ slice_index_or events number event
+      → IsAfter game innings version boards events number world outcomes shown → StepsTo event world seen new → KeepsMatch world new
+      → IsNext game innings version boards events (number + 1) new (outcomes ++ seen ∷ []) shown
   goes_on number event world new outcomes seen shown less here h steps same =
       let p = h.at in
       let n = steps_on number event world new outcomes seen p.0 p.1 less here p.2 steps same in
       record { at = (p.0, p.1, n.0, n.1, p.3, p.4) }
 
   -- an event isn't taken
-  pub refuses_at : (number : ℕ) (event : Event) (world new : World) (outcomes : List Seen) (why : WorldRefusal) (w : Configuration MemDisk) (ms : MatchRun) → number < length events → event ≡ slice_index_or events number event → IsAt game innings version boards events number world outcomes w ms → RefusesTo event world why new → (v : Configuration MemDisk) × (slice_get events number ≡ Some event) × RefusesEvent (match_of game innings) (last_of w ms) event why v
+  pub refuses_at : (number : ℕ) (event : Event) (world new : World) (outcomes : List Seen) (why : WorldRefusal) (w : Configuration MemDisk) (ms : MatchRun) → number < length events
+      → event ≡ slice_index_or events number event → IsAt game innings version boards events number world outcomes w ms → RefusesTo event world why new
+      → (v : Configuration MemDisk) × (slice_get events number ≡ Some event) × RefusesEvent (match_of game innings) (last_of w ms) event why v
   refuses_at number event world new outcomes why w ms less here at refuses =
       let s = refuses (last_of w ms) at.has_configuration in
-      let refused = subst (λ (n : ℕ). RefusesEvent (match_of game n) (last_of w ms) event why s.0) at.same_innings (subst (λ (n : ℕ). RefusesEvent (match_of n world.innings_a_side) (last_of w ms) event why s.0) at.same_game s.1) in
-      (s.0, event_at events number event less ∙ ap Some (sym here), refused)
+      let refused = subst (λ (n : ℕ). RefusesEvent (match_of game n) (last_of w ms) event why s.0) at.same_innings
+      (subst (λ (n : ℕ). RefusesEvent (match_of n world.innings_a_side) (last_of w ms) event why s.0) at.same_game s.1) in
+      (s.0, slice_get-get_or events number event less ∙ ap Some (sym here), refused)
 
   -- some run ends so
   pub begins_taken : (world : World) → BeginsWorld game innings version boards world → HasTaken game innings version boards events 0 world
   begins_taken world h = let b = begins_at world h in ([], b.0, [], b.1)
 
-  pub has_taken : (number : ℕ) (world : World) (outcomes : List Seen) (shown : List Shown) → IsAfter game innings version boards events number world outcomes shown → HasTaken game innings version boards events number world
+  pub has_taken : (number : ℕ) (world : World) (outcomes : List Seen) (shown : List Shown) → IsAfter game innings version boards events number world outcomes shown
+      → HasTaken game innings version boards events number world
   has_taken number world outcomes shown h = let p = h.at in (outcomes, p.0, p.1, p.2)
 
-  pub takes_on : (number : ℕ) (event : Event) (world new : World) (seen : Seen) → number < length events → event ≡ slice_index_or events number event → HasTaken game innings version boards events number world → StepsTo event world seen new → KeepsMatch world new → HasTaken game innings version boards events (number + 1) new
+  pub takes_on : (number : ℕ) (event : Event) (world new : World) (seen : Seen) → number < length events → event ≡ slice_index_or events number event
+      → HasTaken game innings version boards events number world → StepsTo event world seen new → KeepsMatch world new → HasTaken game innings version boards events (number + 1) new
   takes_on number event world new seen less here h steps same =
       let n = steps_on number event world new h.0 seen h.1 h.2 less here h.3 steps same in
       (h.0 ++ seen ∷ [], h.1, n.0 ∷ h.2, n.1)
 
   -- an event isn't taken
-  pub ends_at : (number k : ℕ) (event : Event) (world new : World) (why : WorldRefusal) → number < length events → event ≡ slice_index_or events number event → k ≡ number + 1 → HasTaken game innings version boards events number world → RefusesTo event world why new → EndsAt game innings version boards events (k, why)
+  pub ends_at : (number k : ℕ) (event : Event) (world new : World) (why : WorldRefusal) → number < length events → event ≡ slice_index_or events number event → k ≡ number + 1
+      → HasTaken game innings version boards events number world → RefusesTo event world why new → EndsAt game innings version boards events (k, why)
   ends_at number k event world new why less here e p refuses =
       let at = p.3 in
       let run = at.run in
@@ -214,34 +241,35 @@ module _ (game innings : ℕ) (version : FileVersion) (boards : ℕ) (events : L
       let at = p.3 in
       let run = at.run in
       let all : take number events ≡ events = ap (λ (n : ℕ). take n events) e ∙ take-length events in
-      inl (refl, refl, (p.0, p.1, p.2, subst (λ (es : List Event). IsRunOf game innings version boards es p.0 p.1 p.2) all run, holds_in_run (match_of game innings) innings (λ book e none. none) version boards p.1 p.2 run.begins run.run))
+      let holds = holds_in_run (match_of game innings) innings (λ book e none. none) version boards p.1 p.2 run.begins run.run in
+      inl (refl, refl, (p.0, p.1, p.2, subst (λ (es : List Event). IsRunOf game innings version boards es p.0 p.1 p.2) all run, holds))
 
   -- a read of each file gives its desk's votes, and perhaps later ones
-  read_at : (number : ℕ) (world : World) (outcomes : List Seen) (w : Configuration MemDisk) (ms : MatchRun) → IsAt game innings version boards events number world outcomes w ms → FilesRead world.game world.innings_a_side (last_of w ms)
+  read_at : (number : ℕ) (world : World) (outcomes : List Seen) (w : Configuration MemDisk) (ms : MatchRun) → IsAt game innings version boards events number world outcomes w ms
+      → FilesRead world.game world.innings_a_side (last_of w ms)
   read_at number world outcomes w ms at =
       let run = at.run in
       let s = match_of game innings in
       let r = files_read game innings (last_of w ms) (run_keeps s w ms (begins_fine s version boards w run.begins) run.run) in
       subst (λ (n : ℕ). FilesRead n world.innings_a_side (last_of w ms)) (sym at.same_game) (subst (λ (n : ℕ). FilesRead game n (last_of w ms)) (sym at.same_innings) r)
 
-  pub all_read : (number : ℕ) (world : World) (outcomes : List Seen) (shown : List Shown) → IsAfter game innings version boards events number world outcomes shown → (w : Configuration MemDisk) × HasConfiguration world w × FilesRead world.game world.innings_a_side w
+  pub all_read : (number : ℕ) (world : World) (outcomes : List Seen) (shown : List Shown) → IsAfter game innings version boards events number world outcomes shown
+      → (w : Configuration MemDisk) × HasConfiguration world w × FilesRead world.game world.innings_a_side w
   all_read number world outcomes shown h =
       let p = h.at in
       let at = p.2 in
       (last_of p.0 p.1, at.has_configuration, read_at number world outcomes p.0 p.1 at)
 
-  take_front : (xs rest : List Entry) → take (length xs) (xs ++ rest) ≡ xs
-  take_front [] rest = refl
-  take_front (x ∷ xs) rest = ap (λ (z : List Entry). x ∷ z) (take_front xs rest)
-
   -- a book of so many entries that the list begins with is that front of it
   front_is : (agreed book : List Entry) (n : ℕ) → n ≡ length book → BeginsWith agreed book → (n ≤ length agreed) × (book ≡ take n agreed)
   front_is agreed book n e b =
       let long = ap length b.1 in
-      (omega (arith, e, long, length-append book b.0), sym (take_front book b.0) ∙ (λ i. take (sym e i) (b.1 i)))
+      (omega (arith, e, long, length-append book b.0), sym (take-append_seam book b.0) ∙ (λ i. take (sym e i) (b.1 i)))
 
   -- what is reported of the whole run
-  pub reported : (number : ℕ) (world : World) (report : Report) → number ≡ length events → IsAfter game innings version boards events number world report.outcomes.items report.seen.items → StandOnce report.seen.items → ((w : Configuration MemDisk) → HasConfiguration world w → FilesRead world.game world.innings_a_side w → IsAgreedByFiles (all_votes w).a (all_votes w).b report.agreed.items) → IsReplay game innings version boards events report
+  pub reported : (number : ℕ) (world : World) (report : Report) → number ≡ length events → IsAfter game innings version boards events number world report.outcomes.items report.seen.items
+      → StandOnce report.seen.items → ((w : Configuration MemDisk) → HasConfiguration world w → FilesRead world.game world.innings_a_side w
+      → IsAgreedByFiles (all_votes w).a (all_votes w).b report.agreed.items) → IsReplay game innings version boards events report
   reported number world report e h once files =
       let p = h.at in
       let w = p.0 in
@@ -266,19 +294,24 @@ module _ (game innings : ℕ) (version : FileVersion) (boards : ℕ) (events : L
         },
       )
     where
-      some_book : (w : Configuration MemDisk) (ms : MatchRun) (t : Station) (n : ℕ) (score : Standing) → AtSomeMoment w ms (λ v. ShowsScore innings v t n score) → (book : List Entry) × AtSomeMoment w ms (λ v. Shows v t book) × (n ≡ length book) × IsScoreOf score innings book
+      some_book : (w : Configuration MemDisk) (ms : MatchRun) (t : Station) (n : ℕ) (score : Standing) → AtSomeMoment w ms (λ v. ShowsScore innings v t n score)
+          → (book : List Entry) × AtSomeMoment w ms (λ v. Shows v t book) × (n ≡ length book) × IsScoreOf score innings book
       some_book w [] t n score h = (h.0, h.1, h.2, h.3)
       some_book w (m ∷ ms) t n score (inl h) = (h.0, inl h.1, h.2, h.3)
       some_book w (m ∷ ms) t n score (inr h) = let b = some_book w ms t n score h in (b.0, inr b.1, b.2, b.3)
 
-      score_at : (w : Configuration MemDisk) (ms : MatchRun) (t : Station) (n : ℕ) (score : Standing) → AtSomeMoment w ms (λ v. ShowsScore innings v t n score) → ((u : Station) (book : List Entry) → AtSomeMoment w ms (λ v. Shows v u book) → BeginsWith report.agreed.items book) → (n ≤ length report.agreed.items) × IsScoreOf score innings (take n report.agreed.items)
+      score_at : (w : Configuration MemDisk) (ms : MatchRun) (t : Station) (n : ℕ) (score : Standing) → AtSomeMoment w ms (λ v. ShowsScore innings v t n score)
+          → ((u : Station) (book : List Entry) → AtSomeMoment w ms (λ v. Shows v u book) → BeginsWith report.agreed.items book)
+          → (n ≤ length report.agreed.items) × IsScoreOf score innings (take n report.agreed.items)
       score_at w ms t n score h prefixes =
           let b = some_book w ms t n score h in
           let f = front_is report.agreed.items b.0 n b.2 (prefixes t b.0 b.1) in
           (f.0, subst (IsScoreOf score innings) f.1 b.3)
 
 -- a world of a match ends a replay as a replay of the match ends
-pub ends_of_match : (game innings : ℕ) (version : FileVersion) (boards : ℕ) (events : List Event) (world : World) (r : Result Report (ℕ × WorldRefusal)) → BeginsWorld game innings version boards world → IfErr r (EndsAt world.game world.innings_a_side (match_version world) (boards_of world) events) → IfErr r (EndsOrNeverBegins game innings version boards events)
+pub ends_of_match : (game innings : ℕ) (version : FileVersion) (boards : ℕ) (events : List Event) (world : World) (r : Result Report (ℕ × WorldRefusal))
+    → BeginsWorld game innings version boards world → IfErr r (EndsAt world.game world.innings_a_side (match_version world) (boards_of world) events)
+    → IfErr r (EndsOrNeverBegins game innings version boards events)
 ends_of_match game innings version boards events world (Ok report) b h = h
 ends_of_match game innings version boards events world (Err end) b h =
     inr (subst (λ g. EndsAt g innings version boards events end) b.same_game

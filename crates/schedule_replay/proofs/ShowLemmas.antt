@@ -1,5 +1,6 @@
 -- What a world's code shows is what its definitions show.
 use Rattle.std.proofs.Common.{◌≡◌, ◌⊎◌, ◌≤◌, ◌<◌, ◌+◌, ℕ, zero, suc, Option, Some, None, List, [], ◌∷◌, length, map, refl, sym, ap, ◌∙◌, subst, inl, inr, arith, ⊎_elim}
+use Rattle.std.proofs.lemmas.List.{length-map}
 use Rattle.std.proofs.lemmas.List.Elements.{All-get_or}
 use Rattle.std.proofs.lemmas.Option.{get_or_from_slice_get, slice_get-map, slice_get_within}
 use Rattle.std.specs.Option.{option_map}
@@ -36,7 +37,8 @@ book_score_one innings book n m score other p q =
     (q.0 ∙ sym p.0, one_standing other score innings (history_of book) b.score a.score)
 
 -- the length and the score of a book that are noted are all that is shown of it
-pub adds_book : (u : Station) (innings : ℕ) (book : List Entry) (m : ℕ) (score : Standing) (old new : List Shown) → IsBookScore innings book m score → Adds u (λ n s. (n ≡ m) × (s ≡ score)) old new → Adds u (IsBookScore innings book) old new
+pub adds_book : (u : Station) (innings : ℕ) (book : List Entry) (m : ℕ) (score : Standing) (old new : List Shown) → IsBookScore innings book m score → Adds u (λ n s. (n ≡ m) × (s ≡ score)) old new
+    → Adds u (IsBookScore innings book) old new
 adds_book u innings book m score old new p h t n s = (
   λ c. ⊎_elim inl (λ e. inr (e.0, subst (λ (x : ℕ). IsBookScore innings book x s) (sym e.1.0) (subst (λ (x : Standing). IsBookScore innings book m x) (sym e.1.1) p))) ((h t n s).0 c),
   λ c. (h t n s).1 (⊎_elim inl (λ e. inr (e.0, book_score_one innings book m n score s p e.1)) c),
@@ -46,12 +48,14 @@ adds_book u innings book m score old new p h t n s = (
 abbrev ProcessScore : ℕ → Process MemDisk → ℕ → Standing → Type 0
 ProcessScore innings p n score = (book : List Entry) × process_shows p book × (n ≡ length book) × IsScoreOf score innings book
 
-desk_shows : (site : Site) (innings : ℕ) (desk : Option WorldDesk) (disk : Option MemDisk) (p : Process MemDisk) (n : ℕ) (score : Standing) → site.innings_a_side ≡ innings → IsProcess site desk disk p → ProcessScore innings p n score ↔ DeskShows desk n score
+desk_shows : (site : Site) (innings : ℕ) (desk : Option WorldDesk) (disk : Option MemDisk) (p : Process MemDisk) (n : ℕ) (score : Standing) → site.innings_a_side ≡ innings
+    → IsProcess site desk disk p → ProcessScore innings p n score ↔ DeskShows desk n score
 desk_shows site innings (Some k) disk p n score e h =
     let own = h.0.owner in
     let same : innings ≡ innings_of k = sym (own.same_innings ∙ e) in
     let book = (λ (s : DeskState MemDisk). s.book) (state_of k) in (
-      λ c. let d = subst (λ (q : Process MemDisk). ProcessScore innings q n score) h.2 c in subst (λ (i : ℕ). IsBookScore i book n score) same (subst (λ (b : List Entry). IsBookScore innings b n score) (sym d.1) (d.2, d.3)),
+      λ c. let d = subst (λ (q : Process MemDisk). ProcessScore innings q n score) h.2 c in subst (λ (i : ℕ). IsBookScore i book n score) same
+          (subst (λ (b : List Entry). IsBookScore innings b n score) (sym d.1) (d.2, d.3)),
       λ c. subst (λ (q : Process MemDisk). ProcessScore innings q n score) (sym h.2) (let d = subst (λ (i : ℕ). IsBookScore i book n score) (sym same) c in (book, refl, d.0, d.1)),
     )
 desk_shows site innings None (Some disk) p n score e h =
@@ -63,15 +67,14 @@ desk_shows site innings None None p n score e h = absurd h
 abbrev BoardScore : ℕ → Option BoardState → ℕ → Standing → Type 0
 BoardScore innings o n score = (book : List Entry) × ((k : BoardState) × (o ≡ Some k) × (k.book ≡ book)) × (n ≡ length book) × IsScoreOf score innings book
 
-same_state : (k l : BoardState) → Some k ≡ Some l → k ≡ l
-same_state k l e = cc
-
-board_shows : (innings : ℕ) (o : Option MatchBoard) (n : ℕ) (score : Standing) → ((k : MatchBoard) → o ≡ Some k → board_innings k ≡ innings) → BoardScore innings (option_map board_state o) n score ↔ BoardShows o n score
+board_shows : (innings : ℕ) (o : Option MatchBoard) (n : ℕ) (score : Standing) → ((k : MatchBoard) → o ≡ Some k → board_innings k ≡ innings)
+    → BoardScore innings (option_map board_state o) n score ↔ BoardShows o n score
 board_shows innings None n score h = (λ c. absurd (let e = c.1.1 in cc), λ c. absurd c)
 board_shows innings (Some k) n score h =
     let same = h k refl in
     let book = (λ (s : BoardState). s.book) (board_state k) in (
-      λ c. let here : book ≡ c.0 = ap (λ (s : BoardState). s.book) (same_state (board_state k) c.1.0 c.1.1) ∙ c.1.2 in subst (λ (i : ℕ). IsBookScore i book n score) (sym same) (subst (λ (b : List Entry). IsBookScore innings b n score) (sym here) (c.2, c.3)),
+      λ c. let here : book ≡ c.0 = ap (λ (s : BoardState). s.book) (let e = c.1.1 in let z : board_state k ≡ c.1.0 = cc in z) ∙ c.1.2 in subst (λ (i : ℕ). IsBookScore i book n score) (sym same)
+          (subst (λ (b : List Entry). IsBookScore innings b n score) (sym here) (c.2, c.3)),
       λ c. let d = subst (λ (i : ℕ). IsBookScore i book n score) same c in (book, (board_state k, refl, refl), d.0, d.1),
     )
 
@@ -100,7 +103,8 @@ code_shows code w (stations.Board (suc i)) n score h =
     subst (λ (o : Option BoardState). BoardScore code.innings_a_side o n score ↔ BoardShows (slice_get items i) n score) (sym there) shows
 
 -- what has a score shows it
-scored_desk : (site : Site) (innings : ℕ) (desk : Option WorldDesk) (disk : Option MemDisk) (p : Process MemDisk) (book : List Entry) → site.innings_a_side ≡ innings → IsProcess site desk disk p → DeskHasScore desk → process_shows p book → (score : Standing) × ProcessScore innings p (length book) score
+scored_desk : (site : Site) (innings : ℕ) (desk : Option WorldDesk) (disk : Option MemDisk) (p : Process MemDisk) (book : List Entry) → site.innings_a_side ≡ innings → IsProcess site desk disk p
+    → DeskHasScore desk → process_shows p book → (score : Standing) × ProcessScore innings p (length book) score
 scored_desk site innings (Some k) disk p book e h d s =
     let own = h.0.owner in
     let here : (λ (s : DeskState MemDisk). s.book) (state_of k) ≡ book = subst (λ (q : Process MemDisk). process_shows q book) h.2 s in
@@ -108,15 +112,18 @@ scored_desk site innings (Some k) disk p book e h d s =
 scored_desk site innings None (Some disk) p book e h d s = absurd (subst (λ (q : Process MemDisk). process_shows q book) h.1.2 s)
 scored_desk site innings None None p book e h d s = absurd h
 
-scored_board : (innings : ℕ) (o : Option MatchBoard) (book : List Entry) → ((k : MatchBoard) → o ≡ Some k → board_innings k ≡ innings) → BoardHasScore o → (k : BoardState) × (option_map board_state o ≡ Some k) × (k.book ≡ book) → (score : Standing) × BoardScore innings (option_map board_state o) (length book) score
+scored_board : (innings : ℕ) (o : Option MatchBoard) (book : List Entry) → ((k : MatchBoard) → o ≡ Some k → board_innings k ≡ innings) → BoardHasScore o
+    → (k : BoardState) × (option_map board_state o ≡ Some k) × (k.book ≡ book) → (score : Standing) × BoardScore innings (option_map board_state o) (length book) score
 scored_board innings None book h d s = absurd (let e = s.1 in cc)
 scored_board innings (Some k) book h d s =
-    let here : (λ (s : BoardState). s.book) (board_state k) ≡ book = ap (λ (s : BoardState). s.book) (same_state (board_state k) s.0 s.1) ∙ s.2 in
+    let here : (λ (s : BoardState). s.book) (board_state k) ≡ book = ap (λ (s : BoardState). s.book) (let e = s.1 in let z : board_state k ≡ s.0 = cc in z) ∙ s.2 in
     (d.0, (book, s, refl, subst (λ (i : ℕ). IsScoreOf d.0 i book) (h k refl) (subst (IsScoreOf d.0 (board_innings k)) here d.1)))
 
 pub code_scored : (code : World) (w : Configuration MemDisk) → HaveScores code → HasConfiguration code w → ShowScores code.innings_a_side w
-code_scored code w d h (stations.Desk A) book s = let is = h.sites A in let own = h.named A in scored_desk code.a code.innings_a_side code.a.desk code.a.disk w.a.process book own.same_innings is.process d.a_desk s
-code_scored code w d h (stations.Desk B) book s = let is = h.sites B in let own = h.named B in scored_desk code.b code.innings_a_side code.b.desk code.b.disk w.b.process book own.same_innings is.process d.b_desk s
+code_scored code w d h (stations.Desk A) book s =
+    let is = h.sites A in let own = h.named A in scored_desk code.a code.innings_a_side code.a.desk code.a.disk w.a.process book own.same_innings is.process d.a_desk s
+code_scored code w d h (stations.Desk B) book s =
+    let is = h.sites B in let own = h.named B in scored_desk code.b code.innings_a_side code.b.desk code.b.disk w.b.process book own.same_innings is.process d.b_desk s
 code_scored code w d h (stations.Board zero) book s = absurd (let e = s.1 in cc)
 code_scored code w d h (stations.Board (suc i)) book s =
     let items = code.boards.items in
@@ -125,15 +132,17 @@ code_scored code w d h (stations.Board (suc i)) book s =
     let shown = scored_board code.innings_a_side (slice_get items i) book (λ k e. board_of code.game code.innings_a_side items i k all e) (d.of_boards i) (s.0, sym there ∙ s.1, s.2) in
     (shown.0, subst (λ (o : Option BoardState). BoardScore code.innings_a_side o (length book) shown.0) (sym there) shown.1)
 
+split : (i n : ℕ) → i < n + 1 → (i < n) ⊎ (i ≡ n)
+split i n l = grind (arith, l)
+
 -- each board below this number has a score
 abbrev pub ScoredBelow : World → ℕ → Type 0
 ScoredBelow code n = (i : ℕ) → i < n → BoardHasScore (slice_get code.boards.items i)
 
-pub scored_next : (code : World) (n : ℕ) (k : MatchBoard) (score : Standing) → ScoredBelow code n → slice_get code.boards.items n ≡ Some k → IsScoreOf score (board_innings k) ((λ (s : BoardState). s.book) (board_state k)) → ScoredBelow code (n + 1)
-scored_next code n k score h there has i less = ⊎_elim (λ (l : i < n). h i l) (λ (e : i ≡ n). subst (λ (o : Option MatchBoard). BoardHasScore o) (sym (ap (slice_get code.boards.items) e ∙ there)) (score, has)) (split i n less)
-  where
-    split : (i n : ℕ) → i < n + 1 → (i < n) ⊎ (i ≡ n)
-    split i n l = grind (arith, l)
+pub scored_next : (code : World) (n : ℕ) (k : MatchBoard) (score : Standing) → ScoredBelow code n → slice_get code.boards.items n ≡ Some k
+    → IsScoreOf score (board_innings k) ((λ (s : BoardState). s.book) (board_state k)) → ScoredBelow code (n + 1)
+scored_next code n k score h there has i less =
+    ⊎_elim (λ (l : i < n). h i l) (λ (e : i ≡ n). subst (λ (o : Option MatchBoard). BoardHasScore o) (sym (ap (slice_get code.boards.items) e ∙ there)) (score, has)) (split i n less)
 
 pub all_scored : (boards : List MatchBoard) (n : ℕ) → length boards ≤ n → ((i : ℕ) → i < n → BoardHasScore (slice_get boards i)) → (i : ℕ) → BoardHasScore (slice_get boards i)
 all_scored [] n less h zero = tt
@@ -171,7 +180,8 @@ pub none_noted : (code : World) (old : List Shown) → NotedBelow code 0 old old
 none_noted code old t n score = (inl, ⊎_elim (λ c. c) (λ e. absurd (omega (arith, e.1))))
 
 -- and the next one is
-pub noted_next : (code : World) (k : ℕ) (u : Station) (old mid new : List Shown) → FromOne u → station_number u ≡ k → NotedBelow code k old mid → Adds u (CodeShows code u) mid new → NotedBelow code (k + 1) old new
+pub noted_next : (code : World) (k : ℕ) (u : Station) (old mid new : List Shown) → FromOne u → station_number u ≡ k → NotedBelow code k old mid → Adds u (CodeShows code u) mid new
+    → NotedBelow code (k + 1) old new
 noted_next code k u old mid new f number h a t n score = (
   λ c. ⊎_elim
       (λ (m : Contains mid (t, n, score)). ⊎_elim inl (λ (e : CodeShows code t n score × (station_number t < k)). inr (e.0, omega (arith, e.1))) ((h t n score).0 m))
@@ -180,7 +190,8 @@ noted_next code k u old mid new f number h a t n score = (
   λ c. (a t n score).1 (
       ⊎_elim
       (λ (o : Contains old (t, n, score)). inl ((h t n score).1 (inl o)))
-      (λ (e : CodeShows code t n score × (station_number t < k + 1)). ⊎_elim (λ (l : station_number t < k). inl ((h t n score).1 (inr (e.0, l)))) (λ (q : station_number t ≡ k). inr (here t n score e.0 q)) (split (station_number t) k e.1))
+      (λ (e : CodeShows code t n score × (station_number t < k + 1)).
+      ⊎_elim (λ (l : station_number t < k). inl ((h t n score).1 (inr (e.0, l)))) (λ (q : station_number t ≡ k). inr (here t n score e.0 q)) (split (station_number t) k e.1))
       c
       ),
 )
@@ -188,31 +199,25 @@ noted_next code k u old mid new f number h a t n score = (
     below : (t : Station) → t ≡ u → station_number t < k + 1
     below t e = let q : station_number t ≡ k = ap station_number e ∙ number in omega (arith, q)
 
-    split : (m k : ℕ) → m < k + 1 → (m < k) ⊎ (m ≡ k)
-    split m k l = grind (arith, l)
-
     here : (t : Station) (n : ℕ) (score : Standing) → CodeShows code t n score → station_number t ≡ k → (t ≡ u) × CodeShows code u n score
     here t n score c q =
         let e = same_station t u (shows_from_one code t n score c) f (q ∙ sym number) in
         (e, subst (λ (x : Station). CodeShows code x n score) e c)
 
 -- what stands there of a station that is to be noted has the score that it shows
-pub one_noted : (code : World) (w : Configuration MemDisk) (k : ℕ) (u : Station) (old mid : List Shown) → IsNotable code old w → NotedBelow code k old mid → (n : ℕ) (score other : Standing) → Contains mid (u, n, other) → CodeShows code u n score → other ≡ score
+pub one_noted : (code : World) (w : Configuration MemDisk) (k : ℕ) (u : Station) (old mid : List Shown) → IsNotable code old w → NotedBelow code k old mid → (n : ℕ) (score other : Standing)
+    → Contains mid (u, n, other) → CodeShows code u n score → other ≡ score
 one_noted code w k u old mid h noted n score other c shows =
     ⊎_elim
     (λ (o : Contains old (u, n, other)). h.one_score u n score other o ((code_shows code w u n score h.has_configuration).1 shows))
     (λ (e : CodeShows code u n other × (station_number u < k)). code_one code u n score other shows e.0)
     ((noted u n other).0 c)
 
-map_length : {X Y : Type 0} (f : X → Y) (xs : List X) → length (map f xs) ≡ length xs
-map_length f [] = refl
-map_length f (x ∷ xs) = ap suc (map_length f xs)
-
 pub few_boards : (code : World) (old : List Shown) (w : Configuration MemDisk) → IsNotable code old w → length code.boards.items ≤ 4
 few_boards code old w h =
     let is = h.has_configuration in
     let few = h.few_boards in
-    let same = ap length is.board_states ∙ map_length board_state code.boards.items in
+    let same = ap length is.board_states ∙ length-map code.boards.items board_state in
     omega (arith, few, same)
 
 -- once both desks and all boards are noted, all is
@@ -237,11 +242,13 @@ all_noted code k old new enough h w is t n score = (
 desk_name : (code : World) (old : List Shown) (w : Configuration MemDisk) (d : DeskId) → IsNotable code old w → stations.Desk (code_site code d).name ≡ stations.Desk d
 desk_name code old w d h = let is = h.has_configuration in let own = is.named d in ap stations.Desk own.same_name
 
-pub desk_one_noted : (code : World) (w : Configuration MemDisk) (k : ℕ) (d : DeskId) (old mid : List Shown) → IsNotable code old w → NotedBelow code k old mid → (n : ℕ) (score other : Standing) → Contains mid (stations.Desk (code_site code d).name, n, other) → DeskShows (code_site code d).desk n score → other ≡ score
+pub desk_one_noted : (code : World) (w : Configuration MemDisk) (k : ℕ) (d : DeskId) (old mid : List Shown) → IsNotable code old w → NotedBelow code k old mid → (n : ℕ) (score other : Standing)
+    → Contains mid (stations.Desk (code_site code d).name, n, other) → DeskShows (code_site code d).desk n score → other ≡ score
 desk_one_noted code w k d old mid h noted n score other c shows =
     one_noted code w k (stations.Desk d) old mid h noted n score other (subst (λ (t : Station). Contains mid (t, n, other)) (desk_name code old w d h) c) shows
 
-pub desk_noted_next : (code : World) (w : Configuration MemDisk) (k : ℕ) (d : DeskId) (old mid new : List Shown) → IsNotable code old w → station_number (stations.Desk d) ≡ k → NotedBelow code k old mid → Adds (stations.Desk (code_site code d).name) (DeskShows (code_site code d).desk) mid new → NotedBelow code (k + 1) old new
+pub desk_noted_next : (code : World) (w : Configuration MemDisk) (k : ℕ) (d : DeskId) (old mid new : List Shown) → IsNotable code old w → station_number (stations.Desk d) ≡ k
+    → NotedBelow code k old mid → Adds (stations.Desk (code_site code d).name) (DeskShows (code_site code d).desk) mid new → NotedBelow code (k + 1) old new
 desk_noted_next code w k d old mid new h number noted adds =
     noted_next code k (stations.Desk d) old mid new tt number noted (subst (λ (t : Station). Adds t (DeskShows (code_site code d).desk) mid new) (desk_name code old w d h) adds)
 
@@ -249,16 +256,22 @@ desk_noted_next code w k d old mid new h number noted adds =
 board_number : (i : ℕ) → stations.Board (suc i) ≡ stations.Board (i + 1)
 board_number i = let e : suc i ≡ i + 1 = omega arith in ap stations.Board e
 
-board_scores : (code : World) (i : ℕ) (k : MatchBoard) (m : ℕ) (score : Standing) → slice_get code.boards.items i ≡ Some k → IsBookScore (board_innings k) ((λ (s : BoardState). s.book) (board_state k)) m score → CodeShows code (stations.Board (suc i)) m score
+board_scores : (code : World) (i : ℕ) (k : MatchBoard) (m : ℕ) (score : Standing) → slice_get code.boards.items i ≡ Some k
+    → IsBookScore (board_innings k) ((λ (s : BoardState). s.book) (board_state k)) m score → CodeShows code (stations.Board (suc i)) m score
 board_scores code i k m score e h = subst (λ (o : Option MatchBoard). BoardShows o m score) (sym e) h
 
-pub board_one_noted : (code : World) (w : Configuration MemDisk) (i : ℕ) (k : MatchBoard) (m : ℕ) (score : Standing) (old mid : List Shown) → IsNotable code old w → slice_get code.boards.items i ≡ Some k → IsBookScore (board_innings k) ((λ (s : BoardState). s.book) (board_state k)) m score → NotedBelow code (i + 2) old mid → (other : Standing) → Contains mid (stations.Board (i + 1), m, other) → other ≡ score
+pub board_one_noted : (code : World) (w : Configuration MemDisk) (i : ℕ) (k : MatchBoard) (m : ℕ) (score : Standing) (old mid : List Shown) → IsNotable code old w
+    → slice_get code.boards.items i ≡ Some k → IsBookScore (board_innings k) ((λ (s : BoardState). s.book) (board_state k)) m score → NotedBelow code (i + 2) old mid → (other : Standing)
+    → Contains mid (stations.Board (i + 1), m, other) → other ≡ score
 board_one_noted code w i k m score old mid h e b noted other c =
     one_noted code w (i + 2) (stations.Board (suc i)) old mid h noted m score other (subst (λ (t : Station). Contains mid (t, m, other)) (sym (board_number i)) c) (board_scores code i k m score e b)
 
-pub board_noted_next : (code : World) (i : ℕ) (k : MatchBoard) (m : ℕ) (score : Standing) (old mid new : List Shown) → slice_get code.boards.items i ≡ Some k → IsBookScore (board_innings k) ((λ (s : BoardState). s.book) (board_state k)) m score → NotedBelow code (i + 2) old mid → Adds (stations.Board (i + 1)) (λ n s. (n ≡ m) × (s ≡ score)) mid new → NotedBelow code (i + 1 + 2) old new
+pub board_noted_next : (code : World) (i : ℕ) (k : MatchBoard) (m : ℕ) (score : Standing) (old mid new : List Shown) → slice_get code.boards.items i ≡ Some k
+    → IsBookScore (board_innings k) ((λ (s : BoardState). s.book) (board_state k)) m score → NotedBelow code (i + 2) old mid → Adds (stations.Board (i + 1)) (λ n s. (n ≡ m) × (s ≡ score)) mid new
+    → NotedBelow code (i + 1 + 2) old new
 board_noted_next code i k m score old mid new e b noted adds =
-    let own = adds_book (stations.Board (suc i)) (board_innings k) ((λ (s : BoardState). s.book) (board_state k)) m score mid new b (subst (λ (t : Station). Adds t (λ n s. (n ≡ m) × (s ≡ score)) mid new) (sym (board_number i)) adds) in
+    let own = adds_book (stations.Board (suc i)) (board_innings k) ((λ (s : BoardState). s.book) (board_state k)) m score mid new b
+    (subst (λ (t : Station). Adds t (λ n s. (n ≡ m) × (s ≡ score)) mid new) (sym (board_number i)) adds) in
     let here = subst (λ (o : Option MatchBoard). Adds (stations.Board (suc i)) (BoardShows o) mid new) (sym e) own in
     let number : station_number (stations.Board (suc i)) ≡ i + 2 = omega arith in
     let next : i + 2 + 1 ≡ i + 1 + 2 = omega arith in

@@ -1,9 +1,10 @@
 -- A site and its desk, as the definitions of a run see them.
 use Rattle.std.proofs.Common.{◌≡◌, ℕ, ◌+◌, ◌≤◌, ◌<◌, Option, Some, None, List, [], ◌∷◌, ◌++◌, length, map, refl, sym, ap, ◌∙◌, subst, arith, append-nil}
+use Rattle.std.proofs.lemmas.List.{map-append}
 use Rattle.std.proofs.lemmas.List.Elements.{All-append}
 use Rattle.std.specs.Prelude.{All, IsSome}
 use Rattle.corrections.specs.declared.refusal.Refusal.{Refusal}
-use Rattle.entry_log.specs.Disk.{Faults, IsImage, IsOnce, Never}
+use Rattle.entry_log.specs.Disk.{Faults, IsImage, IsOnce, Never, only}
 use Rattle.entry_log.specs.Format.{contents, room}
 use Rattle.entry_log.specs.MemDisk.{SetsPlan, call_count, cap_of, faults_of, file_of, images_of, plan_of}
 use Rattle.entry_log.specs.Plan.{due_of}
@@ -41,7 +42,8 @@ abbrev pub own_votes : WorldDesk → List Ballot
 own_votes k = (λ (s : DeskState MemDisk). s.votes) (state_of k)
 
 -- what is said of its own view and rules is said of the match's
-pub of_match : (name : DeskId) (version : FileVersion) (game innings : ℕ) (k : WorldDesk) → IsWorldDeskOf name version game innings k → (P : FileView MemDisk → Rules Refusal → Type 0) → P (view_of k) (rules_of k) → P ((match_of game innings).view name version) (match_of game innings).rules
+pub of_match : (name : DeskId) (version : FileVersion) (game innings : ℕ) (k : WorldDesk) → IsWorldDeskOf name version game innings k → (P : FileView MemDisk → Rules Refusal → Type 0)
+    → P (view_of k) (rules_of k) → P ((match_of game innings).view name version) (match_of game innings).rules
 of_match name version game innings k o P p =
     let at = λ (d : DeskId) (v : FileVersion) (g n : ℕ). P ((match_of g n).view d v) (match_of g n).rules in
     let q = subst (λ (d : DeskId). P ((match_of (game_of k) (innings_of k)).view d (version_of k)) (rules_of k)) o.same_name p in
@@ -51,7 +53,8 @@ of_match name version game innings k o P p =
 
 -- the same desk after a call
 pub still_of : (name : DeskId) (version : FileVersion) (game innings : ℕ) (k l : WorldDesk) → IsWorldDeskOf name version game innings k → SameOwner k l → IsWorldDeskOf name version game innings l
-still_of name version game innings k l own o = record { same_name = o.name ∙ own.same_name; same_version = o.version ∙ own.same_version; same_game = o.same_game ∙ own.same_game; same_innings = o.innings ∙ own.same_innings }
+still_of name version game innings k l own o =
+    record { same_name = o.name ∙ own.same_name; same_version = o.version ∙ own.same_version; same_game = o.same_game ∙ own.same_game; same_innings = o.innings ∙ own.same_innings }
 
 -- a site whose desk runs
 pub record Runs (site : Site) (k : WorldDesk) (x : Node MemDisk) : Type 0 where
@@ -72,7 +75,8 @@ running_is site k x here h =
     }
 
 -- the site with its desk after a call, whatever is due now
-pub runs_again : (site : Site) (k l : WorldDesk) (due : Option Fault) (x : Node MemDisk) → site.desk ≡ Some k → HasNode site x → SameOwner k l → IsDue due (faults_of (disk_of l)).due → HasNode (record site { desk = Some l; due = due }) (record x { process = Running (state_of l); due = due })
+pub runs_again : (site : Site) (k l : WorldDesk) (due : Option Fault) (x : Node MemDisk) → site.desk ≡ Some k → HasNode site x → SameOwner k l → IsDue due (faults_of (disk_of l)).due
+    → HasNode (record site { desk = Some l; due = due }) (record x { process = Running (state_of l); due = due })
 runs_again site k l due x here h o f =
     let r = running_is site k x here h in
     let own = still_of site.name x.version site.game site.innings_a_side k l r.owner o in
@@ -91,7 +95,8 @@ runs_again site k l due x here h o f =
     }
 
 -- after a call that didn't fail at its device
-pub runs_on : (site : Site) (k l : WorldDesk) (x : Node MemDisk) → site.desk ≡ Some k → HasNode site x → SameOwner k l → faults_of (disk_of l) ≡ faults_of (disk_of k) → HasNode (record site { desk = Some l }) (record x { process = Running (state_of l) })
+pub runs_on : (site : Site) (k l : WorldDesk) (x : Node MemDisk) → site.desk ≡ Some k → HasNode site x → SameOwner k l → faults_of (disk_of l) ≡ faults_of (disk_of k)
+    → HasNode (record site { desk = Some l }) (record x { process = Running (state_of l) })
 runs_on site k l x here h o f =
     let r = running_is site k x here h in
     let disk = r.on_disk in
@@ -99,37 +104,39 @@ runs_on site k l x here h o f =
     record { version = again.version; process = again.process; due = h.due }
 
 -- messages and those that were handed out after them
-pub more_bytes : (game : ℕ) (old new : List Datagram) (messages out : List Message) (bytes : List (List ℕ)) → AreBytesOf game old messages → All IsMessage out → bytes ≡ map (written game) out → map (λ (d : Datagram). d.bytes) new ≡ map (λ (d : Datagram). d.bytes) old ++ bytes → AreBytesOf game new (messages ++ out)
+pub more_bytes : (game : ℕ) (old new : List Datagram) (messages out : List Message) (bytes : List (List ℕ)) → AreBytesOf game old messages → All IsMessage out → bytes ≡ map (written game) out
+    → map (λ (d : Datagram). d.bytes) new ≡ map (λ (d : Datagram). d.bytes) old ++ bytes → AreBytesOf game new (messages ++ out)
 more_bytes game old new messages out bytes b all e n =
-    (All-append IsMessage messages out b.0 all, n ∙ (λ i. b.1 i ++ e i) ∙ sym (map_append messages out))
-  where
-    map_append : (xs ys : List Message) → map (written game) (xs ++ ys) ≡ map (written game) xs ++ map (written game) ys
-    map_append [] ys = refl
-    map_append (x ∷ xs) ys = ap (λ (z : List (List ℕ)). written game x ∷ z) (map_append xs ys)
+    (All-append IsMessage messages out b.0 all, n ∙ (λ i. b.1 i ++ e i) ∙ sym (map-append (written game) messages out))
 
 pub no_bytes : (game : ℕ) (sent : List Datagram) (messages : List Message) → AreBytesOf game sent messages → AreBytesOf game sent (messages ++ [])
 no_bytes game sent messages b = rw append-nil b
 
 -- one datagram more
 pub pushed : (old new : List Datagram) (d : Datagram) → new ≡ old ++ d ∷ [] → map (λ (d : Datagram). d.bytes) new ≡ map (λ (d : Datagram). d.bytes) old ++ d.bytes ∷ []
-pushed old new d e = ap (map (λ (d : Datagram). d.bytes)) e ∙ spread old
-  where
-    spread : (xs : List Datagram) → map (λ (d : Datagram). d.bytes) (xs ++ d ∷ []) ≡ map (λ (d : Datagram). d.bytes) xs ++ d.bytes ∷ []
-    spread [] = refl
-    spread (x ∷ xs) = ap (λ (z : List (List ℕ)). x.bytes ∷ z) (spread xs)
+pushed old new d e = ap (map (λ (d : Datagram). d.bytes)) e ∙ map-append (λ (d : Datagram). d.bytes) old (d ∷ [])
 
 -- a disk that shows the same, with other calls to fail
-pub sets_plan_stays : (name : DeskId) (version : FileVersion) (game : ℕ) (plan : Plan) (old new : MemDisk) → SetsPlan plan old new → Stays (file_view (contents (format_of version)) file_of images_of name game) old new
+pub sets_plan_stays : (name : DeskId) (version : FileVersion) (game : ℕ) (plan : Plan) (old new : MemDisk) → SetsPlan plan old new
+    → Stays (file_view (contents (format_of version)) file_of images_of name game) old new
 sets_plan_stays name version game plan old new h = (
   ap (λ (file : List ℕ). votes_shown (contents (format_of version)) name game file) h.file,
   λ image. ((λ i. (i.0, subst (λ z. IsImage z i.0) h.images i.1, i.2)), (λ i. (i.0, subst (λ z. IsImage z i.0) (sym h.images) i.1, i.2))),
 )
 
+-- a disk whose every image is its file
+pub only_one : (file image : List ℕ) → IsImage (only file) image → image ≡ file
+only_one [] [] h = refl
+only_one [] (b ∷ bs) h = absurd (cc)
+only_one (f ∷ fs) [] h = absurd h
+only_one (f ∷ fs) (b ∷ bs) h = λ i. h.0 i ∷ only_one fs bs h.1 i
+
 calm_plan : (disk : MemDisk) → plan_of disk ≡ Calm → (faults_of disk).due ≡ Never
 calm_plan disk e = ap (due_of (call_count disk)) e
 
 -- a site whose desk is down
-pub down_is : (site : Site) (disk : MemDisk) (votes : List Ballot) → site.desk ≡ None → site.disk ≡ Some disk → site.votes ≡ length votes → IsWorldDisk site.version site.due disk → IsProcess site site.desk site.disk (Down votes disk)
+pub down_is : (site : Site) (disk : MemDisk) (votes : List Ballot) → site.desk ≡ None → site.disk ≡ Some disk → site.votes ≡ length votes → IsWorldDisk site.version site.due disk
+    → IsProcess site site.desk site.disk (Down votes disk)
 down_is site disk votes d l v on =
     subst (λ (o : Option WorldDesk). IsProcess site o site.disk (Down votes disk)) (sym d)
     (subst (λ (o : Option MemDisk). IsProcess site None o (Down votes disk)) (sym l) (on, (votes, sym v, refl)))
@@ -156,14 +163,12 @@ has_disk site None (Some disk) p d l (on, (votes, n, is)) =
     }
 has_disk site None None p d l h = absurd h
 
-same_some : (a b : MemDisk) → Some a ≡ Some b → b ≡ a
-same_some a b e = cc
-
 -- a desk that is put down keeps its votes and its disk
-pub put_down_is : (old new : Site) (p : Process MemDisk) → HasDisk old p → old.due ≡ None → PutsDown old new → (after : MemDisk) × (new.disk ≡ Some after) × SetsPlan Calm (process_disk p) after × IsProcess new new.desk new.disk (Down (process_votes p) after)
+pub put_down_is : (old new : Site) (p : Process MemDisk) → HasDisk old p → old.due ≡ None → PutsDown old new
+    → (after : MemDisk) × (new.disk ≡ Some after) × SetsPlan Calm (process_disk p) after × IsProcess new new.desk new.disk (Down (process_votes p) after)
 put_down_is old new p h due put =
     let d = put.disk in
-    let there : d.0 ≡ process_disk p = same_some (process_disk p) d.0 (sym h.disk ∙ d.2) in
+    let there : d.0 ≡ process_disk p = let z = sym h.disk ∙ d.2 in cc in
     let plan = subst (λ (z : MemDisk). SetsPlan Calm z d.1) there d.4 in
     let none : new.due ≡ None = put.due ∙ due in
     let never : (faults_of d.1).due ≡ Never = calm_plan d.1 plan.plan in
@@ -172,7 +177,10 @@ put_down_is old new p h due put =
     (d.1, d.3, plan, down_is new d.1 (process_votes p) put.desk d.3 (put.counted ∙ h.votes) on)
 
 -- the site's desk has failed, or is down, by the fault that was due
-pub broken_site : (old new : Site) (k l : WorldDesk) (x : Node MemDisk) (cause : Cause) (seen : Seen) (due : Option Fault) → old.due ≡ due → old.desk ≡ Some k → HasNode old x → SameOwner k l → ((faults_of (disk_of k)).due ≡ Never → ⊥) → (IsOnce (faults_of (disk_of k)).due → (faults_of (disk_of l)).due ≡ Never) → answer_of (seens.Refused cause) ≡ Some Answer.DeviceFailed → BreaksDown due cause (record old { desk = Some l }) seen new → (y : Node MemDisk) × (answer : Answer Refusal) × (answer_of seen ≡ Some answer) × Breaks ((match_of old.game old.innings_a_side).view old.name x.version) x (state_of l) answer y × HasNode new y
+pub broken_site : (old new : Site) (k l : WorldDesk) (x : Node MemDisk) (cause : Cause) (seen : Seen) (due : Option Fault) → old.due ≡ due → old.desk ≡ Some k → HasNode old x → SameOwner k l
+    → ((faults_of (disk_of k)).due ≡ Never → ⊥) → (IsOnce (faults_of (disk_of k)).due → (faults_of (disk_of l)).due ≡ Never) → answer_of (seens.Refused cause) ≡ Some Answer.DeviceFailed
+    → BreaksDown due cause (record old { desk = Some l }) seen new
+    → (y : Node MemDisk) × (answer : Answer Refusal) × (answer_of seen ≡ Some answer) × Breaks ((match_of old.game old.innings_a_side).view old.name x.version) x (state_of l) answer y × HasNode new y
 broken_site old new k l x cause seen None d here h o calm spent told q =
     let r = running_is old k x here h in
     let disk = r.on_disk in
@@ -197,9 +205,8 @@ broken_site old new k l x cause seen (Some Stop) d here h o calm spent told q =
 
 -- the site after that is of the same match
 pub broken_same : (due : Option Fault) (cause : Cause) (old new : Site) (seen : Seen) → BreaksDown due cause old seen new → SameSite old new
-broken_same None cause old new seen q = subst (SameSite old) (sym q.1) (record { name = refl; same_game = refl; innings = refl })
-broken_same (Some Fail) cause old new seen q = subst (SameSite old) (sym q.1) (record { name = refl; same_game = refl; innings = refl })
 broken_same (Some Stop) cause old new seen q = let put = q.1 in let same = put.same in record { name = same.name; same_game = same.same_game; innings = same.innings }
+broken_same _ cause old new seen q = subst (SameSite old) (sym q.1) (record { name = refl; same_game = refl; innings = refl })
 
 -- the file has room for one vote more
 pub has_room : (version : FileVersion) (n cap : ℕ) → n < most_votes → cap ≡ most_bytes version → room (format_of version) (n + 1) ≤ cap
@@ -211,5 +218,6 @@ some_is (Some k) h = (k, refl)
 some_is None h = absurd (cc)
 
 -- a file is opened by the match's rules
-pub opens_as : {m n : ℕ} (game : ℕ) (name : DeskId) (version : FileVersion) (disk : MemDisk) (opening : Opening MemDisk) → m ≡ n → Opens ((match_of game m).view name version) (match_of game m).rules name disk opening → Opens ((match_of game n).view name version) (match_of game n).rules name disk opening
+pub opens_as : {m n : ℕ} (game : ℕ) (name : DeskId) (version : FileVersion) (disk : MemDisk) (opening : Opening MemDisk) → m ≡ n
+    → Opens ((match_of game m).view name version) (match_of game m).rules name disk opening → Opens ((match_of game n).view name version) (match_of game n).rules name disk opening
 opens_as game name version disk opening e h = subst (λ (n : ℕ). Opens ((match_of game n).view name version) (match_of game n).rules name disk opening) e h

@@ -2,6 +2,7 @@
 use Rattle.std.proofs.Common.{◌≡◌, ℕ, suc, false, Option, Some, None, List, [], ◌∷◌, ◌++◌, length, map, refl, sym, ap, ◌∙◌, subst, inl, inr, Result, Ok, Err, append-nil}
 use Rattle.std.specs.Prelude.{All, IfErr, IfOk, OnOk}
 use Rattle.std.specs.Option.{is_none}
+use Rattle.std.proofs.lemmas.List.{length-map}
 use Rattle.corrections.specs.declared.refusal.Refusal.{Refusal}
 use Rattle.entry_log.specs.declared.mem_disk.MemDisk.{MemDisk}
 use Rattle.agree_core.specs.declared.messages.DeskId.{DeskId}
@@ -39,13 +40,9 @@ down_is site (Some k) disk p h = ap is_down h.2
 down_is site None (Some disk) p h = ap is_down h.1.2
 down_is site None None p h = absurd h
 
-map_length : {X Y : Type 0} (f : X → Y) (xs : List X) → length (map f xs) ≡ length xs
-map_length f [] = refl
-map_length f (x ∷ xs) = ap (λ (n : ℕ). suc n) (map_length f xs)
-
 -- as many messages as datagrams
 pub sent_length : (game : ℕ) (sent : List Datagram) (messages : List Message) → AreBytesOf game sent messages → length messages ≡ length sent
-sent_length game sent messages b = sym (map_length (written game) messages) ∙ sym (ap length b.1) ∙ map_length (λ (d : Datagram). d.bytes) sent
+sent_length game sent messages b = sym (length-map messages (written game)) ∙ sym (ap length b.1) ∙ length-map sent (λ (d : Datagram). d.bytes)
 
 -- what is so at a site of the match by its own names is so by the match's
 at_site : (name : DeskId) (game innings : ℕ) (site : Site) → IsSiteOf name game innings site → (P : DeskId → ℕ → ℕ → Type 0) → P site.name site.game site.innings_a_side → P name game innings
@@ -63,13 +60,15 @@ pub record Changes (d : DeskId) (old new : World) (site : Site) : Type 0 where
   pub boards : new.boards.items ≡ old.boards.items
   pub same : sites.SameSite (code_site old d) site
 
-site_there : (d c : DeskId) (old new : World) (w : Configuration MemDisk) (y : Node MemDisk) (out : List Message) → code_site new (other d) ≡ code_site old (other d) → HasNode (code_site new d) y → ((e : DeskId) → HasNode (code_site old e) (node w e)) → HasNode (code_site new c) (node (with_node w d y out) c)
+site_there : (d c : DeskId) (old new : World) (w : Configuration MemDisk) (y : Node MemDisk) (out : List Message) → code_site new (other d) ≡ code_site old (other d) → HasNode (code_site new d) y
+    → ((e : DeskId) → HasNode (code_site old e) (node w e)) → HasNode (code_site new c) (node (with_node w d y out) c)
 site_there A A old new w y out q i h = i
 site_there A B old new w y out q i h = subst (λ (z : Site). HasNode z w.b) (sym q) (h B)
 site_there B A old new w y out q i h = subst (λ (z : Site). HasNode z w.a) (sym q) (h A)
 site_there B B old new w y out q i h = i
 
-name_there : (d c : DeskId) (old new : World) (game innings : ℕ) → code_site new (other d) ≡ code_site old (other d) → IsSiteOf d game innings (code_site new d) → ((e : DeskId) → IsSiteOf e game innings (code_site old e)) → IsSiteOf c game innings (code_site new c)
+name_there : (d c : DeskId) (old new : World) (game innings : ℕ) → code_site new (other d) ≡ code_site old (other d) → IsSiteOf d game innings (code_site new d)
+    → ((e : DeskId) → IsSiteOf e game innings (code_site old e)) → IsSiteOf c game innings (code_site new c)
 name_there A A old new game innings q i h = i
 name_there A B old new game innings q i h = subst (IsSiteOf B game innings) (sym q) (h B)
 name_there B A old new game innings q i h = subst (IsSiteOf A game innings) (sym q) (h A)
@@ -84,13 +83,16 @@ with_node_sent w A y out = refl
 with_node_sent w B y out = refl
 
 -- the world after one of its sites has changed
-put : (d : DeskId) (old new : World) (site : Site) (w : Configuration MemDisk) (y : Node MemDisk) (out : List Message) → Changes d old new site → HasConfiguration old w → HasNode site y → AreBytesOf old.game new.sent.items (w.sent ++ out) → HasConfiguration new (with_node w d y out)
+put : (d : DeskId) (old new : World) (site : Site) (w : Configuration MemDisk) (y : Node MemDisk) (out : List Message) → Changes d old new site → HasConfiguration old w → HasNode site y
+    → AreBytesOf old.game new.sent.items (w.sent ++ out) → HasConfiguration new (with_node w d y out)
 put d old new site w y out c h i b =
     let named : IsSiteOf d new.game new.innings_a_side (code_site new d) =
     let n = h.named d in
     let s = c.same in
-    subst (IsSiteOf d new.game new.innings_a_side) (sym c.here) (record { same_name = s.name ∙ n.same_name; same_game = s.same_game ∙ n.same_game ∙ sym c.same_game; same_innings = s.innings ∙ n.same_innings ∙ sym c.same_innings }) in
-    let others : (e : DeskId) → IsSiteOf e new.game new.innings_a_side (code_site old e) = λ e. let n = h.named e in record { same_name = n.same_name; same_game = n.same_game ∙ sym c.same_game; same_innings = n.same_innings ∙ sym c.same_innings } in
+    subst (IsSiteOf d new.game new.innings_a_side) (sym c.here)
+    (record { same_name = s.name ∙ n.same_name; same_game = s.same_game ∙ n.same_game ∙ sym c.same_game; same_innings = s.innings ∙ n.same_innings ∙ sym c.same_innings }) in
+    let others : (e : DeskId) → IsSiteOf e new.game new.innings_a_side
+    (code_site old e) = λ e. let n = h.named e in record { same_name = n.same_name; same_game = n.same_game ∙ sym c.same_game; same_innings = n.same_innings ∙ sym c.same_innings } in
     let here : HasNode (code_site new d) y = subst (λ (z : Site). HasNode z y) (sym c.here) i in
     let boards_game : All (IsBoardOf new.game new.innings_a_side) new.boards.items =
     subst (λ (n : ℕ). All (IsBoardOf n new.innings_a_side) new.boards.items) (sym c.same_game)
@@ -100,7 +102,9 @@ put d old new site w y out c h i b =
       named = λ e. name_there d e old new new.game new.innings_a_side c.there named others;
       boards_are = boards_game;
       board_states = with_node_boards w d y out ∙ h.board_states ∙ ap (map board_state) (sym c.boards);
-      bytes = subst (λ (n : ℕ). AreBytesOf n new.sent.items ((λ (v : Configuration MemDisk). v.sent) (with_node w d y out))) (sym c.same_game) (subst (AreBytesOf old.game new.sent.items) (sym (with_node_sent w d y out)) b);
+      bytes =
+          subst (λ (n : ℕ). AreBytesOf n new.sent.items ((λ (v : Configuration MemDisk). v.sent) (with_node w d y out))) (sym c.same_game)
+          (subst (AreBytesOf old.game new.sent.items) (sym (with_node_sent w d y out)) b);
     }
 
 unmoved : (d : DeskId) (w : Configuration MemDisk) → with_node w d (node w d) [] ≡ w
@@ -111,12 +115,14 @@ no_bytes : (d : DeskId) (old new : World) (w : Configuration MemDisk) → new.se
 no_bytes d old new w e h = rw (append-nil, e) h.bytes
 
 -- the world stays
-stays : (d : DeskId) (old new : World) (site : Site) (w : Configuration MemDisk) → Changes d old new site → site ≡ code_site old d → new.sent.items ≡ old.sent.items → HasConfiguration old w → HasConfiguration new w
+stays : (d : DeskId) (old new : World) (site : Site) (w : Configuration MemDisk) → Changes d old new site → site ≡ code_site old d → new.sent.items ≡ old.sent.items → HasConfiguration old w
+    → HasConfiguration new w
 stays d old new site w c e items h =
     subst (HasConfiguration new) (unmoved d w) (put d old new site w (node w d) [] c h (subst (λ (z : Site). HasNode z (node w d)) (sym e) (h.sites d)) (no_bytes d old new w items h))
 
 -- the first cause at the site is that of the world
-cause_is : (d : DeskId) (old : World) (w : Configuration MemDisk) (event : Event) → station_of event ≡ stations.Desk d → HasConfiguration old w → refusal_of w event ≡ site_cause (code_site old d) old.sent.items event
+cause_is : (d : DeskId) (old : World) (w : Configuration MemDisk) (event : Event) → station_of event ≡ stations.Desk d → HasConfiguration old w
+    → refusal_of w event ≡ site_cause (code_site old d) old.sent.items event
 cause_is d old w event e h =
     let site = code_site old d in
     let i = h.sites d in
@@ -134,7 +140,8 @@ desk_eq : (c d : DeskId) → stations.Desk c ≡ stations.Desk d → d ≡ c
 desk_eq c d q = cc
 
 -- what the site plans is planned in the world
-plans : (d : DeskId) (w : Configuration MemDisk) (site : Site) (y : Node MemDisk) (out : List Message) (event : Event) → station_of event ≡ stations.Desk d → HasNode site y → HasPlan event (disk_at site.desk site.disk) → LeavesPlan event (with_node w d y out)
+plans : (d : DeskId) (w : Configuration MemDisk) (site : Site) (y : Node MemDisk) (out : List Message) (event : Event) → station_of event ≡ stations.Desk d → HasNode site y
+    → HasPlan event (disk_at site.desk site.disk) → LeavesPlan event (with_node w d y out)
 plans d w site y out event e i h c q =
     let has : HasDisk site y.process = has_disk site site.desk site.disk y.process refl refl i.process in
     let here : node (with_node w d y out) c ≡ y = ap (node (with_node w d y out)) (desk_eq d c (sym e ∙ q)) ∙ changed d in
@@ -151,14 +158,17 @@ stays_due old new x y h i keeps fault due =
     let after : HasDisk new y.process = has_disk new new.desk new.disk y.process refl refl i.process in
     ap due_on (sym after.disk) ∙ keeps fault (sym i.due ∙ due) ∙ ap due_on before.disk
 
-counts : (d : DeskId) (w : Configuration MemDisk) (y : Node MemDisk) (out : List Message) → StaysDue y.due (Some (process_disk (node w d).process)) (Some (process_disk y.process)) → (c : DeskId) → StaysDue (node (with_node w d y out) c).due (Some (process_disk (node w c).process)) (Some (process_disk (node (with_node w d y out) c).process))
+counts : (d : DeskId) (w : Configuration MemDisk) (y : Node MemDisk) (out : List Message) → StaysDue y.due (Some (process_disk (node w d).process)) (Some (process_disk y.process)) → (c : DeskId)
+    → StaysDue (node (with_node w d y out) c).due (Some (process_disk (node w c).process)) (Some (process_disk (node (with_node w d y out) c).process))
 counts A w y out h A = h
 counts A w y out h B = λ fault due. refl
 counts B w y out h A = λ fault due. refl
 counts B w y out h B = h
 
 -- an event that a site has taken
-pub desk_steps : (d : DeskId) (old new : World) (site : Site) (event : Event) (seen : Seen) → station_of event ≡ stations.Desk d → Changes d old new site → SiteTakes event (code_site old d) old.sent.items (Ok seen) site new.sent.items → HasPlan event (disk_at site.desk site.disk) → (asks_fault event ≡ false → KeepsDue (code_site old d) site) → StepsTo event old seen new
+pub desk_steps : (d : DeskId) (old new : World) (site : Site) (event : Event) (seen : Seen) → station_of event ≡ stations.Desk d → Changes d old new site
+    → SiteTakes event (code_site old d) old.sent.items (Ok seen) site new.sent.items → HasPlan event (disk_at site.desk site.disk) → (asks_fault event ≡ false → KeepsDue (code_site old d) site)
+    → StepsTo event old seen new
 desk_steps d old new site event seen e c takes planned counted w h =
     let names = h.named d in
     let here = code_site old d in
@@ -167,10 +177,23 @@ desk_steps d old new site event seen e c takes planned counted w h =
     let after : Configuration MemDisk = with_node w d given.0 given.1 in
     let step : StepAt (match_of old.game old.innings_a_side) w event (station_of event) given.2 after =
     subst (λ (t : Station). StepAt (match_of old.game old.innings_a_side) w event t given.2 after) (sym e) (given.0, given.1, given.4, refl) in
-    (cause_is d old w event e h ∙ takes.0, (given.2, after, given.3, step, put d old new site w given.0 given.1 c h given.5 given.6, plans d w site given.0 given.1 event e given.5 planned, λ none. counts d w given.0 given.1 (stays_due here site (node w d) given.0 (h.sites d) given.5 (counted none))))
+    let put_there = put d old new site w given.0 given.1 c h given.5 given.6 in (
+      cause_is d old w event e h ∙ takes.0,
+      (
+        given.2,
+        after,
+        given.3,
+        step,
+        put_there,
+        plans d w site given.0 given.1 event e given.5 planned,
+        λ none.
+            counts d w given.0 given.1 (stays_due here site (node w d) given.0 (h.sites d) given.5 (counted none)),
+      ),
+    )
 
 -- the disk of a site may have been synced
-synced : (d c : DeskId) (old new : World) (site : Site) (w : Configuration MemDisk) → c ≡ d → Changes d old new site → SyncsSite (code_site old d) site → new.sent.items ≡ old.sent.items → HasConfiguration old w → (v : Configuration MemDisk) × Rattle.schedule_replay.specs.Refusals.MaySyncAt (match_of old.game old.innings_a_side) w c v × HasConfiguration new v
+synced : (d c : DeskId) (old new : World) (site : Site) (w : Configuration MemDisk) → c ≡ d → Changes d old new site → SyncsSite (code_site old d) site → new.sent.items ≡ old.sent.items
+    → HasConfiguration old w → (v : Configuration MemDisk) × Rattle.schedule_replay.specs.Refusals.MaySyncAt (match_of old.game old.innings_a_side) w c v × HasConfiguration new v
 synced d c old new site w q change syncs items h =
     let names = h.named d in
     let here = code_site old d in
@@ -184,29 +207,27 @@ synced d c old new site w q change syncs items h =
     )
 
 -- what being out of memory leaves
-left : (d : DeskId) (old new : World) (site : Site) (event : Event) (w : Configuration MemDisk) → station_of event ≡ stations.Desk d → Changes d old new site → SiteLeft event (code_site old d) site → new.sent.items ≡ old.sent.items → HasConfiguration old w → (v : Configuration MemDisk) × LeftByWant (match_of old.game old.innings_a_side) w event v × HasConfiguration new v
+left : (d : DeskId) (old new : World) (site : Site) (event : Event) (w : Configuration MemDisk) → station_of event ≡ stations.Desk d → Changes d old new site → SiteLeft event (code_site old d) site
+    → new.sent.items ≡ old.sent.items → HasConfiguration old w → (v : Configuration MemDisk) × LeftByWant (match_of old.game old.innings_a_side) w event v × HasConfiguration new v
 left d old new site (events.Open c) w e change l items h = synced d c old new site w (sym (desk_eq c d e)) change l items h
 left d old new site (events.Migrate c) w e change l items h = synced d c old new site w (sym (desk_eq c d e)) change l items h
-left d old new site (events.Pen c n) w e change l items h = (w, refl, stays d old new site w change l items h)
-left d old new site (events.Tick t) w e change l items h = (w, refl, stays d old new site w change l items h)
-left d old new site (events.Give n t) w e change l items h = (w, refl, stays d old new site w change l items h)
-left d old new site (events.Kill c) w e change l items h = (w, refl, stays d old new site w change l items h)
-left d old new site (events.Power c choice) w e change l items h = (w, refl, stays d old new site w change l items h)
-left d old new site (events.FailAt c n) w e change l items h = (w, refl, stays d old new site w change l items h)
-left d old new site (events.StopAt c n) w e change l items h = (w, refl, stays d old new site w change l items h)
-left d old new site (events.Wipe n) w e change l items h = (w, refl, stays d old new site w change l items h)
+left d old new site _ w e change l items h = (w, refl, stays d old new site w change l items h)
 
 -- an event that a site hasn't taken
-pub desk_refuses : (d : DeskId) (old new : World) (site : Site) (event : Event) (why : WorldRefusal) → station_of event ≡ stations.Desk d → Changes d old new site → SiteTakes event (code_site old d) old.sent.items (Err why) site new.sent.items → RefusesTo event old why new
+pub desk_refuses : (d : DeskId) (old new : World) (site : Site) (event : Event) (why : WorldRefusal) → station_of event ≡ stations.Desk d → Changes d old new site
+    → SiteTakes event (code_site old d) old.sent.items (Err why) site new.sent.items → RefusesTo event old why new
 desk_refuses d old new site event why e c (items, inl (cause, same)) w h = (w, inl (cause_is d old w event e h ∙ cause, refl), stays d old new site w c same items h)
 desk_refuses d old new site event why e c (items, inr (none, want, grows, l)) w h =
     let k = left d old new site event w e c l items h in
     (k.0, inr (cause_is d old w event e h ∙ none, want, grows, k.1), k.2)
 
-pub at_desk_ok : (d : DeskId) (old new : World) (site : Site) (event : Event) (result : Result Seen WorldRefusal) → station_of event ≡ stations.Desk d → Changes d old new site → SiteTakes event (code_site old d) old.sent.items result site new.sent.items → OnOk result (HasPlan event (disk_at site.desk site.disk)) → OnOk result (asks_fault event ≡ false → KeepsDue (code_site old d) site) → IfOk result (λ seen. StepsTo event old seen new)
+pub at_desk_ok : (d : DeskId) (old new : World) (site : Site) (event : Event) (result : Result Seen WorldRefusal) → station_of event ≡ stations.Desk d → Changes d old new site
+    → SiteTakes event (code_site old d) old.sent.items result site new.sent.items → OnOk result (HasPlan event (disk_at site.desk site.disk))
+    → OnOk result (asks_fault event ≡ false → KeepsDue (code_site old d) site) → IfOk result (λ seen. StepsTo event old seen new)
 at_desk_ok d old new site event (Ok seen) e c t planned counted = desk_steps d old new site event seen e c t planned counted
 at_desk_ok d old new site event (Err why) e c t planned counted = tt
 
-pub at_desk_err : (d : DeskId) (old new : World) (site : Site) (event : Event) (result : Result Seen WorldRefusal) → station_of event ≡ stations.Desk d → Changes d old new site → SiteTakes event (code_site old d) old.sent.items result site new.sent.items → IfErr result (λ why. RefusesTo event old why new)
+pub at_desk_err : (d : DeskId) (old new : World) (site : Site) (event : Event) (result : Result Seen WorldRefusal) → station_of event ≡ stations.Desk d → Changes d old new site
+    → SiteTakes event (code_site old d) old.sent.items result site new.sent.items → IfErr result (λ why. RefusesTo event old why new)
 at_desk_err d old new site event (Ok seen) e c t = tt
 at_desk_err d old new site event (Err why) e c t = desk_refuses d old new site event why e c t

@@ -2,9 +2,10 @@ use Rattle.std.proofs.Common.{sym, refl, ◌∙◌, ℕ, subst, []}
 use Rattle.entry_log.specs.MemDisk.{IsFresh}
 use Rattle.schedule_replay.specs.declared.seen.Cause.TheVariants as causes
 use Rattle.schedule_replay.specs.Answers.{is_failing, wants_memory}
-use Rattle.schedule_replay.proofs.MigrateLemmas.{IsMoved, IsReturned, migrated, not_migrated, refused_for}
-use Rattle.schedule_replay.proofs.OpenLemmas.{not_found_same, stays_so}
+use Rattle.schedule_replay.proofs.MigrateLemmas.{IsMoved, IsReturned, MigrateSteps, migrated, not_migrated, refused_for}
+use Rattle.schedule_replay.proofs.OpenLemmas.{Outcome, not_found_same, stays_so}
 use Rattle.schedule_replay.proofs.site.Site.renew.Goals as goal
+use Rattle.schedule_replay.proofs.site.Site.renew.Goals.{After-not_found}
 use Rattle.std.proofs.Common.{◌≡◌, Err, ap}
 use Rattle.std.proofs.lemmas.Result.{err_from_is_err_and}
 use Rattle.schedule_replay.specs.declared.seen.WorldRefusal.TheVariants as refuses
@@ -24,23 +25,24 @@ returns-in-Ok-clause-step c = λ sent.
     (sym c.take.ensures.value ∙ c.unwrap-old.ensures) (record { fresh_is = fresh; here = c.move_fault.ensures.here; there = c.move_fault.ensures.there; due = c.move_fault.ensures.due })
     c.in-Ok.ensures.found c.in-Ok.ensures.holds c.in-Ok.ensures.new_cap same.1
 
-pub returns-in-Err-clause-step : goal.returns-in-Err-clause-step
-returns-in-Err-clause-step c =
+-- what comes of a migration that was refused
+refused_by : (c : After-not_found) → Outcome MigrateSteps c.args.self.now c.not_found.result c.not_found.new.self
+refused_by c =
     let fresh = subst (λ (n : ℕ). IsFresh [] n c.in_ok-new.new) c.most_bytes.ensures c.in_ok-new.ensures in
-    let moved : IsMoved c.args.self.now c.unwrap-old.result c.move_fault.new.self c.in_ok-new.new c.move_fault.new.other = record { fresh_is = fresh; here = c.move_fault.ensures.here; there = c.move_fault.ensures.there; due = c.move_fault.ensures.due } in
+    let moved : IsMoved c.args.self.now c.unwrap-old.result c.move_fault.new.self c.in_ok-new.new c.move_fault.new.other =
+    record { fresh_is = fresh; here = c.move_fault.ensures.here; there = c.move_fault.ensures.there; due = c.move_fault.ensures.due } in
     let e = c.in-Err.ensures in
     let back : IsReturned c.args.self.now c.unwrap-old.result c.move_fault.new.self c.move_fault.new.other c.in-Err.old c.in-Err.new c.move_fault-in-Err.new.other c.in-Err.why =
     record { seen = e.old_seen; images = e.old_images; cap = e.old_cap; blame = e.blame; back = c.move_fault-in-Err.ensures.there; due = c.move_fault-in-Err.ensures.due } in
-    (not_migrated c.args.self.now c.not_found.new.self c.unwrap-old.result c.move_fault.new.self c.in_ok-new.new c.move_fault.new.other c.in-Err.old c.in-Err.new c.move_fault-in-Err.new.other c.in-Err.why c.not_found.result c.requires.version c.requires.down (sym c.take.ensures.value ∙ c.unwrap-old.ensures) moved back (refused_for c.args.self.now c.unwrap-old.result c.move_fault.new.self c.in_ok-new.new c.move_fault.new.other c.in-Err.why moved e.not_empty e.refused) c.not_found.ensures.refused).0
+    let why = refused_for c.args.self.now c.unwrap-old.result c.move_fault.new.self c.in_ok-new.new c.move_fault.new.other c.in-Err.why moved e.not_empty e.refused in
+    not_migrated c.args.self.now c.unwrap-old.result c.move_fault.new.self c.in_ok-new.new c.move_fault.new.other c.in-Err.old c.in-Err.new c.move_fault-in-Err.new.other moved
+    c.not_found.new.self c.not_found.result c.requires.version c.requires.down (sym c.take.ensures.value ∙ c.unwrap-old.ensures) c.in-Err.why back why c.not_found.ensures.refused
+
+pub returns-in-Err-clause-step : goal.returns-in-Err-clause-step
+returns-in-Err-clause-step c = (refused_by (goal.at.returns-in-Err-clause-step c).After-not_found).0
 
 pub returns-in-Err-clause-refused : goal.returns-in-Err-clause-refused
-returns-in-Err-clause-refused c =
-    let fresh = subst (λ (n : ℕ). IsFresh [] n c.in_ok-new.new) c.most_bytes.ensures c.in_ok-new.ensures in
-    let moved : IsMoved c.args.self.now c.unwrap-old.result c.move_fault.new.self c.in_ok-new.new c.move_fault.new.other = record { fresh_is = fresh; here = c.move_fault.ensures.here; there = c.move_fault.ensures.there; due = c.move_fault.ensures.due } in
-    let e = c.in-Err.ensures in
-    let back : IsReturned c.args.self.now c.unwrap-old.result c.move_fault.new.self c.move_fault.new.other c.in-Err.old c.in-Err.new c.move_fault-in-Err.new.other c.in-Err.why =
-    record { seen = e.old_seen; images = e.old_images; cap = e.old_cap; blame = e.blame; back = c.move_fault-in-Err.ensures.there; due = c.move_fault-in-Err.ensures.due } in
-    (not_migrated c.args.self.now c.not_found.new.self c.unwrap-old.result c.move_fault.new.self c.in_ok-new.new c.move_fault.new.other c.in-Err.old c.in-Err.new c.move_fault-in-Err.new.other c.in-Err.why c.not_found.result c.requires.version c.requires.down (sym c.take.ensures.value ∙ c.unwrap-old.ensures) moved back (refused_for c.args.self.now c.unwrap-old.result c.move_fault.new.self c.in_ok-new.new c.move_fault.new.other c.in-Err.why moved e.not_empty e.refused) c.not_found.ensures.refused).1
+returns-in-Err-clause-refused c = (refused_by (goal.at.returns-in-Err-clause-refused c).After-not_found).1
 
 pub returns-in-Err-clause-same : goal.returns-in-Err-clause-same
 returns-in-Err-clause-same c =
