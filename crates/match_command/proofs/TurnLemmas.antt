@@ -1,8 +1,7 @@
 -- What each call of a desk keeps of its turn, whatever it is given.
-use Rattle.std.proofs.Common.{◌≡◌, ◌<◌, ◌≤◌, ℕ, ◌+◌, Bool, true, false, Option, Some, None, List, [], ◌∷◌}
+use Rattle.std.proofs.Common.{◌≡◌, ◌<◌, ◌≤◌, ℕ, ◌+◌, false, Option, Some, None, List, [], ◌∷◌}
 use Rattle.std.proofs.Common.{◌++◌, length, refl, sym, ap, ◌∙◌, subst, inl, inr, ◌⊎◌, arith, length-append, Result, Ok, Err}
 use Rattle.std.specs.Prelude.{IfErr, IsErrOf, OnOk, slice_get}
-use Rattle.std.specs.Bool.{⊤}
 use Rattle.std.specs.List.{All}
 use Rattle.std.proofs.lemmas.Bool.Decides.{nat_tests}
 use Rattle.std.proofs.lemmas.List.Elements.{All-append, All-cons, All-nil}
@@ -24,7 +23,6 @@ use Rattle.agree_core.specs.declared.seat.Heard.{Heard}
 use Rattle.agree_core.specs.declared.seat.Settled.{Settled}
 use Rattle.agree_core.specs.Ballots.{Ballot, In, ballot_at, vote_of}
 use Rattle.notation.specs.declared.entry.TheConstants.{PLACES}
-use Rattle.agree_core.specs.declared.position.TheConstants.{ROUNDS}
 use Rattle.agree_core.specs.Desks.{CastsAndStores, DeskState, Pens, Receives, Replies, Ticks, ask_other, asker, book_after, book_heard, next_ballot, own_vote}
 use Rattle.agree_core.specs.Desks as desks
 use Rattle.agree_core.specs.FileView.{FileView, Holds, MayHold, Stays}
