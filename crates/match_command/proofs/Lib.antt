@@ -1,6 +1,5 @@
 mod MatchLeft
 mod MatchLines
 mod OnlineLemmas
-mod SameTurn
 mod TurnLemmas
 mod VoteLists

@@ -32,7 +32,8 @@ all_first innings input book b = ap (λ (ls : List (List ℕ)). book_after innin
 
 module _ {D : Type 0} (seen : D → List ℕ) (images : D → Images) (s : Sheet) (input : List ℕ) where
   -- the second desk wasn't made
-  pub second_not_made : (a b x y : D) (fault : MatchFault) → (fault ≡ faults.NoMemory) ⊎ (fault ≡ faults.Device) → (fault ≡ faults.NoMemory → Stays seen images b y) → StaysOrBegins seen images (room version_2 0) b y →
+  pub second_not_made : (a b x y : D) (fault : MatchFault) → (fault ≡ faults.NoMemory) ⊎ (fault ≡ faults.Device) → (fault ≡ faults.NoMemory → Stays seen images b y)
+      → StaysOrBegins seen images (room version_2 0) b y →
       KeepsBook seen images s desks.A x [] → Leaves seen images s input fault a b x y
   second_not_made a b x y fault (inl is) stays left keeps = subst (λ (f : MatchFault). Leaves seen images s input f a b x y) (sym is) (inr keeps, stays is)
   second_not_made a b x y fault (inr is) stays left keeps = subst (λ (f : MatchFault). Leaves seen images s input f a b x y) (sym is) (inl (inr keeps, left))
@@ -50,13 +51,11 @@ module _ {D : Type 0} (seen : D → List ℕ) (images : D → Images) (s : Sheet
 
   -- both disks stayed before
   pub leaves_from : (a b a' b' x y : D) (fault : MatchFault) → Stays seen images a a' → Stays seen images b b' → Leaves seen images s input fault a' b' x y → Leaves seen images s input fault a b x y
-  leaves_from a b a' b' x y (faults.Line number why) p q l = l
-  leaves_from a b a' b' x y (faults.NotAgreed place) p q l = l
-  leaves_from a b a' b' x y faults.Write p q l = l
   leaves_from a b a' b' x y faults.Device p q (inl l) = inl (or_from _ _ (begins_from (room version_2 0) a a' x p) l.0, begins_from (room version_2 0) b b' y q l.1)
   leaves_from a b a' b' x y faults.Device p q (inr l) = inr l
   leaves_from a b a' b' x y faults.NoMemory p q l = (or_from _ _ (stays_from a a' x p) l.0, stays_from b b' y q l.1)
   leaves_from a b a' b' x y faults.NotEmpty p q l = (stays_from a a' x p l.0, stays_from b b' y q l.1)
+  leaves_from a b a' b' x y _ p q l = l
 
   -- the answer that was met
   pub met_left : (a b : D) (r : Result (D × D) (MatchFault × D × D)) (met : MatchFault × D × D) → IsErrAnd r (λ e. e ≡ met) → Leaves seen images s input met.0 a b met.1 met.2 →
@@ -76,7 +75,8 @@ LeavesOf view innings input faults.Device x y =
     × HoldsEither (view desks.B) y (entries_of_first n innings input) (entries_of_first (n + 1) innings input)
 LeavesOf view innings input fault x y = ⊥
 
-module _ {S B D : Type 0} {g : Files S D} {h : Disks D} {b : Books B} (x y : Desk S B D g h b) (game innings : ℕ) (input : List ℕ) (is_a : desk_of x ≡ desks.A) (is_b : desk_of y ≡ desks.B) (game_a : game_of x ≡ game) (game_b : game_of y ≡ game) where
+module _ {S B D : Type 0} {g : Files S D} {h : Disks D} {b : Books B} (x y : Desk S B D g h b) (game innings : ℕ) (input : List ℕ) (is_a : desk_of x ≡ desks.A) (is_b : desk_of y ≡ desks.B)
+    (game_a : game_of x ≡ game) (game_b : game_of y ≡ game) where
   at_a : (n : ℕ) → DiskHolds x (entries_of_first n innings input) → HoldsBook (file_view g.contents h.seen h.images desks.A game) (disk_of x) (entries_of_first n innings input)
   at_a n held = keeps_book x desks.A game (entries_of_first n innings input) is_a game_a held
 
@@ -92,15 +92,12 @@ module _ {S B D : Type 0} {g : Files S D} {h : Disks D} {b : Books B} (x y : Des
     keeps_either x desks.A game (entries_of_first l.0 innings input) (entries_of_first (l.0 + 1) innings input) is_a game_a l.1,
     keeps_either y desks.B game (entries_of_first l.0 innings input) (entries_of_first (l.0 + 1) innings input) is_b game_b l.2,
   )
-  lines_left faults.NoMemory l = absurd l
-  lines_left faults.NotEmpty l = absurd l
+  lines_left _ l = absurd l
 
 -- what the desks leave is what the run does
 pub run_leaves : {D : Type 0} (seen : D → List ℕ) (images : D → Images) (s : Sheet) (input : List ℕ) (a b x y : D) (fault : MatchFault) →
     LeavesOf (λ d. file_view (contents version_2) seen images d s.game) s.innings input fault x y → Leaves seen images s input fault a b x y
-run_leaves seen images s input a b x y (faults.Line number why) l = l
-run_leaves seen images s input a b x y (faults.NotAgreed place) l = l
-run_leaves seen images s input a b x y faults.Write l = l
 run_leaves seen images s input a b x y faults.Device l = inr l
 run_leaves seen images s input a b x y faults.NoMemory l = absurd l
 run_leaves seen images s input a b x y faults.NotEmpty l = absurd l
+run_leaves seen images s input a b x y _ l = l

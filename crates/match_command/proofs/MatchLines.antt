@@ -24,9 +24,7 @@ module _ (innings : ℕ) (input line : List ℕ) (rest : List (List ℕ)) (numbe
       rw is (first_refused innings input line rest number book m n why same w.1)
   refused n k (faults.NotAgreed place) same numbered w = let l = m.numbered in let b = m.long in omega (arith, w)
   refused n k faults.Device same numbered w = tt
-  refused n k faults.NoMemory same numbered w = absurd w
-  refused n k faults.Write same numbered w = absurd w
-  refused n k faults.NotEmpty same numbered w = absurd w
+  refused n k _ same numbered w = absurd w
 
 -- the error that is passed on is the one that was met
 pub same_error : {T : Type 0} (r : Result T MatchFault) (met fault : MatchFault) → IsErrAnd r (λ e. e ≡ met) → r ≡ Err fault → ◌≡◌ {A = Result T MatchFault} (Err met) (Err fault)
@@ -40,7 +38,8 @@ pub record Reached (innings : ℕ) (input : List ℕ) (lines : List (List ℕ)) 
   pub counted : length before ≡ number
   pub is : book ≡ book_after innings [] before
 
-after_last : (innings : ℕ) (book : List Entry) (before : List (List ℕ)) (line : List ℕ) → book_after innings book (before ++ line ∷ []) ≡ with_taken (answer_to innings (book_after innings book before) line) (book_after innings book before)
+after_last : (innings : ℕ) (book : List Entry) (before : List (List ℕ)) (line : List ℕ)
+    → book_after innings book (before ++ line ∷ []) ≡ with_taken (answer_to innings (book_after innings book before) line) (book_after innings book before)
 after_last innings book [] line = refl
 after_last innings book (x ∷ xs) line = after_last innings (with_taken (answer_to innings book x) book) xs line
 
@@ -48,7 +47,8 @@ pub none_reached : (innings : ℕ) (input : List ℕ) (lines : List (List ℕ)) 
 none_reached innings input lines book e none = record { before = []; cut = sym e; counted = refl; is = none }
 
 module _ (innings : ℕ) (input : List ℕ) where
-  pub one_reached : (line : List ℕ) (rest : List (List ℕ)) (number : ℕ) (book new : List Entry) → new ≡ with_taken (answer_to innings book line) book → Reached innings input (line ∷ rest) number book → Reached innings input rest (number + 1) new
+  pub one_reached : (line : List ℕ) (rest : List (List ℕ)) (number : ℕ) (book new : List Entry) → new ≡ with_taken (answer_to innings book line) book → Reached innings input (line ∷ rest) number book
+      → Reached innings input rest (number + 1) new
   one_reached line rest number book new e r = record {
     before = r.before ++ line ∷ [];
     cut = r.cut ∙ sym (append_assoc r.before (line ∷ []) rest);
@@ -58,11 +58,13 @@ module _ (innings : ℕ) (input : List ℕ) where
 
   pub first_entries : (lines : List (List ℕ)) (number : ℕ) (book : List Entry) → Reached innings input lines number book → entries_of_first number innings input ≡ book
   first_entries lines number book r =
-      let seam : take number (lines_of input) ≡ r.before = ap (λ (ls : List (List ℕ)). take number ls) r.cut ∙ (ap (λ (n : ℕ). take n (r.before ++ lines)) (sym r.counted) ∙ take-append_seam r.before lines) in
+      let seam : take number (lines_of input) ≡ r.before =
+      ap (λ (ls : List (List ℕ)). take number ls) r.cut ∙ (ap (λ (n : ℕ). take n (r.before ++ lines)) (sym r.counted) ∙ take-append_seam r.before lines) in
       ap (λ (ls : List (List ℕ)). book_after innings [] ls) seam ∙ sym r.is
 
 module _ {S B D : Type 0} {g : Files S D} {h : Disks D} {b : Books B} (x y : Desk S B D g h b) (innings : ℕ) (input : List ℕ) where
-  left_by : (book more : List Entry) (number k : ℕ) (answer : Result Entry Rejected) (fault : MatchFault) → entries_of_first number innings input ≡ book → entries_of_first (number + 1) innings input ≡ more → length book ≡ number → k ≡ number + 1 →
+  left_by : (book more : List Entry) (number k : ℕ) (answer : Result Entry Rejected) (fault : MatchFault) → entries_of_first number innings input ≡ book
+      → entries_of_first (number + 1) innings input ≡ more → length book ≡ number → k ≡ number + 1 →
       WhyNotAgreed answer book k fault → LineLeaves book more fault x y → LinesLeave innings input fault x y
   left_by book more number k answer (faults.Line at why) e f long n w l =
       (number, w.0 ∙ n, subst (DiskHolds x) (sym e) l.0, subst (DiskHolds y) (sym e) l.1)
@@ -71,14 +73,14 @@ module _ {S B D : Type 0} {g : Files S D} {h : Disks D} {b : Books B} (x y : Des
       (subst (DiskHolds x) (sym here) l.0, subst (DiskHolds y) (sym here) l.1)
   left_by book more number k answer faults.Device e f long n w l =
       (number, rw (e, f) l.0, rw (e, f) l.1)
-  left_by book more number k answer faults.NoMemory e f long n w l = absurd w
-  left_by book more number k answer faults.Write e f long n w l = absurd w
-  left_by book more number k answer faults.NotEmpty e f long n w l = absurd w
+  left_by book more number k answer _ e f long n w l = absurd w
 
   -- what both disks hold where the line that comes next isn't agreed
-  pub line_left : (line : List ℕ) (rest : List (List ℕ)) (number k n : ℕ) (book : List Entry) (fault : MatchFault) → Reached innings input (line ∷ rest) number book → n ≡ innings → length book ≡ number → k ≡ number + 1 →
+  pub line_left : (line : List ℕ) (rest : List (List ℕ)) (number k n : ℕ) (book : List Entry) (fault : MatchFault) → Reached innings input (line ∷ rest) number book → n ≡ innings
+      → length book ≡ number → k ≡ number + 1 →
       WhyNotAgreed (answer_to n book line) book k fault → LineLeaves book (with_taken (answer_to n book line) book) fault x y → LinesLeave innings input fault x y
   line_left line rest number k n book fault r same long e w l =
+      let new = with_taken (answer_to innings book line) book in
       let more : entries_of_first (number + 1) innings input ≡ with_taken (answer_to n book line) book =
-      first_entries innings input rest (number + 1) (with_taken (answer_to innings book line) book) (one_reached innings input line rest number book (with_taken (answer_to innings book line) book) refl r) ∙ ap (λ (i : ℕ). with_taken (answer_to i book line) book) (sym same) in
+      first_entries innings input rest (number + 1) new (one_reached innings input line rest number book new refl r) ∙ ap (λ (i : ℕ). with_taken (answer_to i book line) book) (sym same) in
       left_by book (with_taken (answer_to n book line) book) number k (answer_to n book line) fault (first_entries innings input (line ∷ rest) number book r) more long e w l

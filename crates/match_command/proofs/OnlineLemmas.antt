@@ -90,46 +90,37 @@ module _ (entries : List Entry) where
   rest_is book [] e is s = absurd (no_next book e (subst (λ (es : List Entry). slice_get es (length book) ≡ Some e) (is ∙ append-nil book) s))
   rest_is book (x ∷ rest) e is s =
       let moved : entries ≡ (book ++ x ∷ []) ++ rest = is ∙ sym (append_assoc book (x ∷ []) rest) in
-      let here : slice_get entries (length book) ≡ Some x = ap (λ (es : List Entry). slice_get es (length book)) moved ∙ (slice_get-append_left (book ++ x ∷ []) rest (length book) (omega (arith, length-append book (x ∷ []))) ∙ slice_get-last book x) in
+      let here : slice_get entries (length book) ≡ Some x =
+      ap (λ (es : List Entry). slice_get es (length book)) moved ∙ (slice_get-append_left (book ++ x ∷ []) rest (length book) (omega (arith, length-append book (x ∷ []))) ∙ slice_get-last book x) in
       let same : x ≡ e = same_some (slice_get entries (length book)) x e here s in
       (rest, subst (λ (y : Entry). entries ≡ (book ++ y ∷ []) ++ rest) same moved)
 
   board_hears : (k l : BoardState) (v : AVote) (h : Heard) → SpeaksOf entries (Vote v) → Follows entries k → Listens k.reader v h l.reader → l.book ≡ book_heard h k.book v.entry → Follows entries l
   board_hears k l v Heard.Mine s f r e = absurd r
-  board_hears k l v Heard.Old s f r e = stays k l f r.1 e
-  board_hears k l v Heard.Ahead s f r e = stays k l f r.1 e
   board_hears k l v Heard.Again s f r e = stays k l f r.2 e
   board_hears k l v Heard.TwoVotes s f r e = stays k l f r.2 e
   board_hears k l v Heard.Noted s f r e =
       follows (noting k.reader v.desk v.entry) k.book l f.rest f.book (same_place k.reader v.desk v.entry ∙ f.position) (notes k.reader (length k.book) v.desk v.entry f.noted (now k v s f r.0)) r.3 e
   board_hears k l v Heard.Agreed s f r e =
       let more = rest_is k.book f.rest v.entry f.book (now k v s f r.0) in
-      let at : next_place k.reader.position ≡ record { place = length (k.book ++ v.entry ∷ []); round = 0 } = ap next_place f.position ∙ ap (λ (n : ℕ). record { place = n; round = 0 }) (one_longer k.book v.entry) in
+      let at : next_place k.reader.position ≡ record { place = length (k.book ++ v.entry ∷ []); round = 0 } =
+      ap next_place f.position ∙ ap (λ (n : ℕ). record { place = n; round = 0 }) (one_longer k.book v.entry) in
       follows (reading (next_place k.reader.position)) (k.book ++ v.entry ∷ []) l more.0 more.1 at (none (next_place k.reader.position) (length (k.book ++ v.entry ∷ []))) r.3 e
   board_hears k l v Heard.Differ s f r e =
       let theirs = f.noted (other v.desk) r.2.0 r.2.1 in
       absurd (r.2.2 (same_some (slice_get entries (length k.book)) v.entry r.2.0 (now k v s f r.0) theirs))
-
-  takes_message : {Why : Type 0} (rules : Rules Why) (k l : BoardState) (n m : Message) (h : Heard) → n ≡ m → SpeaksOf entries m → Follows entries k → BoardReceives rules k n (boards.Told h) l → Follows entries l
-  takes_message rules k l (Vote v) m h e s f r = board_hears k l v h (subst (SpeaksOf entries) (sym e) s) f r.0 r.2
-  takes_message rules k l (Ask q) m h e s f r = absurd r
-
-  is_asked : {Why : Type 0} (rules : Rules Why) (k l : BoardState) (n : Message) → Follows entries k → BoardReceives rules k n boards.Asked l → Follows entries l
-  is_asked rules k l (Vote v) f r = absurd r
-  is_asked rules k l (Ask q) f r = subst (Follows entries) (sym r) f
-
-  is_bad : {Why : Type 0} (rules : Rules Why) (k l : BoardState) (n : Message) (place : ℕ) → Follows entries k → BoardReceives rules k n (boards.BadVotes place) l → Follows entries l
-  is_bad rules k l (Vote v) place f r = subst (Follows entries) (sym r.3) f
-  is_bad rules k l (Ask q) place f r = absurd r
+  board_hears k l v _ s f r e = stays k l f r.1 e
 
   board_takes : {Why : Type 0} (rules : Rules Why) (game : ℕ) (k l : BoardState) (bytes : List ℕ) (answer : Result What BoardRefusal) (m : Message) →
       Says game bytes m → SpeaksOf entries m → Follows entries k → Takes rules game k bytes answer l → Follows entries l
   board_takes rules game k l bytes (Ok (whats.Bad fault)) m y s f t = subst (Follows entries) (sym t.1) f
-  board_takes rules game k l bytes (Ok (whats.Heard h)) m y s f t = takes_message rules k l t.0 m h (says_once game bytes t.0 m t.1 y) s f t.2
-  board_takes rules game k l bytes (Ok whats.Asked) m y s f t = is_asked rules k l t.0 f t.2
-  board_takes rules game k l bytes (Ok whats.Device) m y s f t = absurd t
-  board_takes rules game k l bytes (Ok whats.Failed) m y s f t = absurd t
-  board_takes rules game k l bytes (Err (BadVotes place)) m y s f t = is_bad rules k l t.0 place f t.2
+  board_takes rules game k l bytes (Ok (whats.Heard h)) m y s f (Vote v, says, r) = board_hears k l v h (subst (SpeaksOf entries) (sym (says_once game bytes (Vote v) m says y)) s) f r.0 r.2
+  board_takes rules game k l bytes (Ok (whats.Heard h)) m y s f (Ask q, says, r) = absurd r
+  board_takes rules game k l bytes (Ok whats.Asked) m y s f (Vote v, says, r) = absurd r
+  board_takes rules game k l bytes (Ok whats.Asked) m y s f (Ask q, says, r) = subst (Follows entries) (sym r) f
+  board_takes rules game k l bytes (Err (BadVotes place)) m y s f (Vote v, says, r) = subst (Follows entries) (sym r.3) f
+  board_takes rules game k l bytes (Err (BadVotes place)) m y s f (Ask q, says, r) = absurd r
+  board_takes rules game k l bytes _ m y s f t = absurd t
 
 -- one entry more
 said_more : (game : ℕ) (entries : List Entry) (e : Entry) (p : Passed) → IsSaid game entries p → IsSaid game (entries ++ e ∷ []) p
@@ -154,7 +145,8 @@ module _ (game : ℕ) (start : List Passed) where
   }
 
   -- what was said since
-  pub says_more : (entries : List Entry) (xs log new : List Passed) (k : BoardState) → All (IsSaid game entries) xs → new ≡ log ++ xs → IsOnline game start entries log k → IsOnline game start entries new k
+  pub says_more : (entries : List Entry) (xs log new : List Passed) (k : BoardState) → All (IsSaid game entries) xs → new ≡ log ++ xs → IsOnline game start entries log k
+      → IsOnline game start entries new k
   says_more entries xs log new k said is o = record {
     passed = o.passed ++ xs;
     since = is ∙ (ap (λ (ps : List Passed). ps ++ xs) o.since ∙ append_assoc start o.passed xs);
@@ -179,9 +171,6 @@ pub out_said : (game : ℕ) (entries : List Entry) (out : List Message) → All 
 out_said game entries out fine speak =
     All-map (IsSaid game entries) Sent (map (written game) out) (All-map (λ bs. IsSaid game entries (Sent bs)) (written game) out (λ k d lt. (_, (fine k d lt, refl), speak k d lt)))
 
-one_came : (game : ℕ) (entries : List Entry) (bytes : List ℕ) → All (IsSaid game entries) (Came bytes ∷ [])
-one_came game entries bytes = All-cons (IsSaid game entries) (Came bytes) [] tt (All-nil (IsSaid game entries))
-
 asks_speak : (entries : List Entry) (k : BoardState) (out : List Message) → boards.BoardTicks k out → All (SpeaksOf entries) out
 asks_speak entries k out (inl t) =
     subst (All (SpeaksOf entries)) (sym t.1) (All-cons (SpeaksOf entries) (ask_for Asker.Board k.reader.position) [] tt (All-nil (SpeaksOf entries)))
@@ -189,7 +178,7 @@ asks_speak entries k out (inr t) = subst (All (SpeaksOf entries)) (sym t.1) (All
 
 -- with a datagram that came to a desk
 pub came_to_desk : (game : ℕ) (entries : List Entry) (log new : List Passed) (bytes : List ℕ) → new ≡ log ++ Came bytes ∷ [] → StaysOnline game entries log new
-came_to_desk game entries log new bytes is start k o = says_more game start entries (Came bytes ∷ []) log new k (one_came game entries bytes) is o
+came_to_desk game entries log new bytes is start k o = says_more game start entries (Came bytes ∷ []) log new k (All-cons (IsSaid game entries) (Came bytes) [] tt (All-nil (IsSaid game entries))) is o
 
 -- a book that follows and isn't shorter is the same
 pub same_book : (entries : List Entry) (k : BoardState) → Follows entries k → length entries ≤ length k.book → k.book ≡ entries

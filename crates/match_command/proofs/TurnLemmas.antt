@@ -1,7 +1,7 @@
 -- What each call of a desk keeps of its turn, whatever it is given.
-use Rattle.std.proofs.Common.{◌≡◌, ◌<◌, ◌≤◌, ℕ, ◌+◌, Bool, true, false, Option, Some, None, List, [], ◌∷◌, ◌++◌, length, refl, sym, ap, ◌∙◌, subst, inl, inr, ◌⊎◌, arith, length-append, Result, Ok, Err}
+use Rattle.std.proofs.Common.{◌≡◌, ◌<◌, ◌≤◌, ℕ, ◌+◌, false, Option, Some, None, List, [], ◌∷◌}
+use Rattle.std.proofs.Common.{◌++◌, length, refl, sym, ap, ◌∙◌, subst, inl, inr, ◌⊎◌, arith, length-append, Result, Ok, Err}
 use Rattle.std.specs.Prelude.{IfErr, IsErrOf, OnOk, slice_get}
-use Rattle.std.specs.Bool.{⊤}
 use Rattle.std.specs.List.{All}
 use Rattle.std.proofs.lemmas.Bool.Decides.{nat_tests}
 use Rattle.std.proofs.lemmas.List.Elements.{All-append, All-cons, All-nil}
@@ -23,7 +23,6 @@ use Rattle.agree_core.specs.declared.seat.Heard.{Heard}
 use Rattle.agree_core.specs.declared.seat.Settled.{Settled}
 use Rattle.agree_core.specs.Ballots.{Ballot, In, ballot_at, vote_of}
 use Rattle.notation.specs.declared.entry.TheConstants.{PLACES}
-use Rattle.agree_core.specs.declared.position.TheConstants.{ROUNDS}
 use Rattle.agree_core.specs.Desks.{CastsAndStores, DeskState, Pens, Receives, Replies, Ticks, ask_other, asker, book_after, book_heard, next_ballot, own_vote}
 use Rattle.agree_core.specs.Desks as desks
 use Rattle.agree_core.specs.FileView.{FileView, Holds, MayHold, Stays}
@@ -55,7 +54,8 @@ use Rattle.board.specs.declared.board.Board.{Board}
 use Rattle.board.specs.Board as boards
 use Rattle.board.specs.Board.{SameMatch}
 use Rattle.match_command.specs.inner.Online.{IsOnline, SpeaksOf, StaysOnline}
-use Rattle.match_command.specs.inner.Turns.{AreCalm, AreLevel, DiskHolds, DiskHoldsEither, GoesWith, InTurn, IsCalm, IsInTurn, IsLevel, KeepsDisk, KeepsOnline, KeepsTurn, LineLeaves, PenLeaves, VotesFor, WhyNotAgreed, board_at, book_at, innings_at, pen_fault}
+use Rattle.match_command.specs.inner.Turns.{AreCalm, AreLevel, DiskHolds, DiskHoldsEither, GoesWith, InTurn, IsCalm, IsInTurn, IsLevel, KeepsDisk}
+use Rattle.match_command.specs.inner.Turns.{KeepsOnline, KeepsTurn, LineLeaves, PenLeaves, VotesFor, WhyNotAgreed, board_at, book_at, innings_at, pen_fault}
 use Rattle.match_command.proofs.OnlineLemmas.{more, out_said, says_more}
 use Rattle.match_command.proofs.VoteLists.{voted_votes, votes_in, votes_last, votes_length}
 
@@ -79,7 +79,8 @@ first_at : (at : Position) (n : ℕ) → n ≡ at.place → at.round ≡ 0 → a
 first_at at n p r = λ i. record { place = sym p i; round = r i }
 
 -- a desk's own vote is of its entries
-own_speaks : (entries : List Entry) (d : DeskId) (at : Position) (mine : Option Entry) → ((e : Entry) → mine ≡ Some e → (at.round ≡ 0) × (slice_get entries at.place ≡ Some e)) → All (SpeaksOf entries) (own_vote d at mine)
+own_speaks : (entries : List Entry) (d : DeskId) (at : Position) (mine : Option Entry) → ((e : Entry) → mine ≡ Some e → (at.round ≡ 0) × (slice_get entries at.place ≡ Some e))
+    → All (SpeaksOf entries) (own_vote d at mine)
 own_speaks entries d at None h = All-nil (SpeaksOf entries)
 own_speaks entries d at (Some e) h = All-cons (SpeaksOf entries) (Message.Vote (vote_of d (record { at = at; entry = e }))) [] (h e refl) (All-nil (SpeaksOf entries))
 
@@ -87,7 +88,8 @@ other_speaks : (entries : List Entry) (a : Asker) (at : Position) (theirs : Opti
 other_speaks entries a at None = All-cons (SpeaksOf entries) (desks.ask_for a at) [] tt (All-nil (SpeaksOf entries))
 other_speaks entries a at (Some e) = All-nil (SpeaksOf entries)
 
-in_first_round : (entries book : List Entry) (seat : SeatState) (e : Entry) → GoesWith entries seat book → seat.mine ≡ Some e → (seat.position.round ≡ 0) × (slice_get entries seat.position.place ≡ Some e)
+in_first_round : (entries book : List Entry) (seat : SeatState) (e : Entry) → GoesWith entries seat book → seat.mine ≡ Some e
+    → (seat.position.round ≡ 0) × (slice_get entries seat.position.place ≡ Some e)
 in_first_round entries book seat e g m =
     let own = g.own e m in
     let at : slice_get entries (length book) ≡ Some e = rw own (slice_get-last book e) in (
@@ -104,7 +106,8 @@ module _ {Disk : Type 0} (view : FileView Disk) where
     goes = record { place = refl; book = inl refl; own = λ e m. absurd (cc); round = inl refl };
   })
 
-  cast : (s t : SeatState) (book : List Entry) (e : Entry) (settled : Settled) → length book ≡ s.position.place → s.position.round ≡ 0 → Casts s e settled t → GoesWith (book ++ e ∷ []) t (book_after settled book e)
+  cast : (s t : SeatState) (book : List Entry) (e : Entry) (settled : Settled) → length book ≡ s.position.place → s.position.round ≡ 0 → Casts s e settled t
+      → GoesWith (book ++ e ∷ []) t (book_after settled book e)
   cast s t book e Settled.Pending l r c =
       rw c.1 (record { place = l; book = inr (shorter book e); own = λ f m. let same : e ≡ f = cc in ap (λ (x : Entry). book ++ x ∷ []) same; round = inl r })
   cast s t book e Settled.Agreed l r c =
@@ -140,19 +143,13 @@ module _ {Disk : Type 0} (view : FileView Disk) where
   stays_held old new votes s h = (s.0 ∙ h.0, λ image i. h.1 image ((s.1 image).0 i))
 
   -- another seat and book go with the same votes
-  goes_on : (entries : List Entry) (k : DeskState Disk) (seat : SeatState) (book : List Entry) (disk : Disk) → IsInTurn view entries k → Stays view k.disk disk → GoesWith entries seat book → IsInTurn view entries (record k { seat = seat; book = book; disk = disk })
+  goes_on : (entries : List Entry) (k : DeskState Disk) (seat : SeatState) (book : List Entry) (disk : Disk) → IsInTurn view entries k → Stays view k.disk disk → GoesWith entries seat book
+      → IsInTurn view entries (record k { seat = seat; book = book; disk = disk })
   goes_on entries k seat book disk t s with =
       record { running = t.running; votes = t.votes; held = stays_held k.disk disk (votes_for entries) s t.held; goes = with }
 
-  unmoved : (entries : List Entry) (k : DeskState Disk) (seat : SeatState) → IsInTurn view entries k → seat ≡ k.seat → GoesWith entries seat k.book
-  unmoved entries k seat t e = rw e t.goes
-
   hears : (entries : List Entry) (k : DeskState Disk) (seat : SeatState) (v : Vote) (h : Heard) → IsInTurn view entries k → Hears k.seat v h seat → GoesWith entries seat (book_heard h k.book v.entry)
-  hears entries k seat v Heard.Mine t h = unmoved entries k seat t h.1
-  hears entries k seat v Heard.Old t h = unmoved entries k seat t h.2
-  hears entries k seat v Heard.Ahead t h = unmoved entries k seat t h.2
-  hears entries k seat v Heard.Again t h = unmoved entries k seat t h.2
-  hears entries k seat v Heard.TwoVotes t h = unmoved entries k seat t h.2
+  hears entries k seat v Heard.Mine t h = rw h.1 t.goes
   hears entries k seat v Heard.Noted t h =
       rw h.3 (record {
         place = t.goes.place;
@@ -169,45 +166,33 @@ module _ {Disk : Type 0} (view : FileView Disk) where
         own = λ f m. absurd (cc);
         round = inr (refl, own_shorter k.book entries h.2.0 (t.goes.own h.2.0 h.2.1));
       })
+  hears entries k seat v _ t h = rw h.2 t.goes
 
-  unchanged : (entries : List Entry) (k l : DeskState Disk) → IsInTurn view entries k → desks.Unchanged view k l → IsInTurn view entries l
-  unchanged entries k l t u = subst (IsInTurn view entries) (sym u.1) (goes_on entries k k.seat k.book l.disk t u.0 t.goes)
+  -- what comes of bytes, where no device call failed: no message, a vote that is heard, or an ask
+  data Taking (k l : DeskState Disk) (out : List Message) : Type 0 where
+    NoMessage : l ≡ k → out ≡ [] → Taking k l out
+    AVote : (v : Vote) (h : Heard) → Receives view k (Message.Vote v) (desks.Told h) l out → Taking k l out
+    AnAsk : (q : Ask) → Receives view k (Message.Ask q) desks.Asked l out → Taking k l out
 
-  receives : (entries : List Entry) (k l : DeskState Disk) (m : Message) (h : Heard) (out : List Message) → IsInTurn view entries k → Receives view k m (desks.Told h) l out → IsInTurn view entries l
-  receives entries k l (Message.Vote v) h out t r =
-      subst (IsInTurn view entries) (sym r.3) (goes_on entries k l.seat (book_heard h k.book v.entry) l.disk t r.2 (hears entries k l.seat v h t r.1))
-  receives entries k l (Message.Ask q) h out t r = absurd r
+  taken : (game : ℕ) (k l : DeskState Disk) (bytes : List ℕ) (what : What) (out : List Message) → end_at what ≡ further → Takes view game k bytes what l out → Taking k l out
+  taken game k l bytes (whats.Bad fault) out n r = NoMessage r.2 r.3
+  taken game k l bytes (whats.Heard h) out n (Message.Vote v, says, r) = AVote v h r
+  taken game k l bytes (whats.Heard h) out n (Message.Ask q, says, r) = absurd r
+  taken game k l bytes whats.Asked out n (Message.Vote v, says, r) = absurd r
+  taken game k l bytes whats.Asked out n (Message.Ask q, says, r) = AnAsk q r
+  taken game k l bytes whats.Device out n r = absurd (cc)
+  taken game k l bytes whats.Failed out n r = absurd (cc)
 
-  asked : (entries : List Entry) (k l : DeskState Disk) (m : Message) (out : List Message) → IsInTurn view entries k → Receives view k m desks.Asked l out → IsInTurn view entries l
-  asked entries k l (Message.Vote v) out t r = absurd r
-  asked entries k l (Message.Ask q) out t r = unchanged entries k l t r.1
-
-  -- bytes are taken, and no device call failed
-  pub takes : (entries : List Entry) (game : ℕ) (k l : DeskState Disk) (bytes : List ℕ) (what : What) (out : List Message) → end_at what ≡ further → IsInTurn view entries k → Takes view game k bytes what l out → IsInTurn view entries l
-  takes entries game k l bytes (whats.Bad fault) out n t r = subst (IsInTurn view entries) (sym r.2) t
-  takes entries game k l bytes (whats.Heard h) out n t r = receives entries k l r.0 h out t r.2
-  takes entries game k l bytes whats.Asked out n t r = asked entries k l r.0 out t r.2
-  takes entries game k l bytes whats.Device out n t r = absurd (cc)
-  takes entries game k l bytes whats.Failed out n t r = absurd (cc)
-
-  same_failed : (k l m : DeskState Disk) → k.failed ≡ false → l ≡ m → m.failed ≡ k.failed → l.failed ≡ false
-  same_failed k l m n e f = ap (λ (x : DeskState Disk). x.failed) e ∙ (f ∙ n)
-
-  told_runs : (k l : DeskState Disk) (m : Message) (h : Heard) (out : List Message) → k.failed ≡ false → Receives view k m (desks.Told h) l out → l.failed ≡ false
-  told_runs k l (Message.Vote v) h out n r = same_failed k l (record k { seat = l.seat; book = book_heard h k.book v.entry; disk = l.disk }) n r.3 refl
-  told_runs k l (Message.Ask q) h out n r = absurd r
-
-  asked_runs : (k l : DeskState Disk) (m : Message) (out : List Message) → k.failed ≡ false → Receives view k m desks.Asked l out → l.failed ≡ false
-  asked_runs k l (Message.Vote v) out n r = absurd r
-  asked_runs k l (Message.Ask q) out n r = same_failed k l (record k { disk = l.disk }) n r.1.1 refl
+  takes : (entries : List Entry) (k l : DeskState Disk) (out : List Message) → IsInTurn view entries k → Taking k l out → IsInTurn view entries l
+  takes entries k l out t (NoMessage e none) = subst (IsInTurn view entries) (sym e) t
+  takes entries k l out t (AVote v h r) = subst (IsInTurn view entries) (sym r.3) (goes_on entries k l.seat (book_heard h k.book v.entry) l.disk t r.2 (hears entries k l.seat v h t r.1))
+  takes entries k l out t (AnAsk q r) = subst (IsInTurn view entries) (sym r.1.1) (goes_on entries k k.seat k.book l.disk t r.1.0 t.goes)
 
   -- and the desk still runs
-  pub still_runs : (game : ℕ) (k l : DeskState Disk) (bytes : List ℕ) (what : What) (out : List Message) → end_at what ≡ further → k.failed ≡ false → Takes view game k bytes what l out → l.failed ≡ false
-  still_runs game k l bytes (whats.Bad fault) out f n r = same_failed k l k n r.2 refl
-  still_runs game k l bytes (whats.Heard h) out f n r = told_runs k l r.0 h out n r.2
-  still_runs game k l bytes whats.Asked out f n r = asked_runs k l r.0 out n r.2
-  still_runs game k l bytes whats.Device out f n r = absurd (cc)
-  still_runs game k l bytes whats.Failed out f n r = absurd (cc)
+  still_runs : (k l : DeskState Disk) (out : List Message) → k.failed ≡ false → Taking k l out → l.failed ≡ false
+  still_runs k l out n (NoMessage e none) = ap (λ (x : DeskState Disk). x.failed) e ∙ n
+  still_runs k l out n (AVote v h r) = ap (λ (x : DeskState Disk). x.failed) r.3 ∙ n
+  still_runs k l out n (AnAsk q r) = ap (λ (x : DeskState Disk). x.failed) r.1.1 ∙ n
 
   replies : (entries : List Entry) (k : DeskState Disk) (q : Ask) (out : List Message) → IsInTurn view entries k → Replies k q out → All (SpeaksOf entries) out
   replies entries k q out t (inl r) =
@@ -215,27 +200,18 @@ module _ {Disk : Type 0} (view : FileView Disk) where
       subst (All (SpeaksOf entries)) (sym r.2) (All-cons (SpeaksOf entries) (Message.Vote (vote_of k.seat.desk (ballot_at q.place q.round r.0))) [] found (All-nil (SpeaksOf entries)))
   replies entries k q out t (inr r) = subst (All (SpeaksOf entries)) (sym r.1) (All-nil (SpeaksOf entries))
 
-  told_speaks : (entries : List Entry) (k l : DeskState Disk) (m : Message) (h : Heard) (out : List Message) → Receives view k m (desks.Told h) l out → All (SpeaksOf entries) out
-  told_speaks entries k l (Message.Vote v) h out r = subst (All (SpeaksOf entries)) (sym r.4) (All-nil (SpeaksOf entries))
-  told_speaks entries k l (Message.Ask q) h out r = absurd r
-
-  asked_speaks : (entries : List Entry) (k l : DeskState Disk) (m : Message) (out : List Message) → IsInTurn view entries k → Receives view k m desks.Asked l out → All (SpeaksOf entries) out
-  asked_speaks entries k l (Message.Vote v) out t r = absurd r
-  asked_speaks entries k l (Message.Ask q) out t r = replies entries k q out t r.2
-
   -- what it replies is of its entries
-  pub takes_speaks : (entries : List Entry) (game : ℕ) (k l : DeskState Disk) (bytes : List ℕ) (what : What) (out : List Message) → end_at what ≡ further → IsInTurn view entries k → Takes view game k bytes what l out → All (SpeaksOf entries) out
-  takes_speaks entries game k l bytes (whats.Bad fault) out n t r = subst (All (SpeaksOf entries)) (sym r.3) (All-nil (SpeaksOf entries))
-  takes_speaks entries game k l bytes (whats.Heard h) out n t r = told_speaks entries k l r.0 h out r.2
-  takes_speaks entries game k l bytes whats.Asked out n t r = asked_speaks entries k l r.0 out t r.2
-  takes_speaks entries game k l bytes whats.Device out n t r = absurd (cc)
-  takes_speaks entries game k l bytes whats.Failed out n t r = absurd (cc)
+  takes_speaks : (entries : List Entry) (k l : DeskState Disk) (out : List Message) → IsInTurn view entries k → Taking k l out → All (SpeaksOf entries) out
+  takes_speaks entries k l out t (NoMessage e none) = subst (All (SpeaksOf entries)) (sym none) (All-nil (SpeaksOf entries))
+  takes_speaks entries k l out t (AVote v h r) = subst (All (SpeaksOf entries)) (sym r.4) (All-nil (SpeaksOf entries))
+  takes_speaks entries k l out t (AnAsk q r) = replies entries k q out t r.2
 
   -- what it says unasked too
   pub ticks_speak : (entries : List Entry) (k : DeskState Disk) (out : List Message) → IsInTurn view entries k → Ticks k out → All (SpeaksOf entries) out
   ticks_speak entries k out t (inl w) =
       let own = own_speaks entries k.seat.desk k.seat.position k.seat.mine (λ e m. in_first_round entries k.book k.seat e t.goes m) in
-      let all = All-append (SpeaksOf entries) (own_vote k.seat.desk k.seat.position k.seat.mine) (ask_other (asker k.seat.desk) k.seat.position k.seat.theirs) own (other_speaks entries (asker k.seat.desk) k.seat.position k.seat.theirs) in
+      let all = All-append (SpeaksOf entries) (own_vote k.seat.desk k.seat.position k.seat.mine) (ask_other (asker k.seat.desk) k.seat.position k.seat.theirs) own
+      (other_speaks entries (asker k.seat.desk) k.seat.position k.seat.theirs) in
       subst (All (SpeaksOf entries)) (sym w.2) all
   ticks_speak entries k out t (inr w) = subst (All (SpeaksOf entries)) (sym w.1) (All-nil (SpeaksOf entries))
 
@@ -248,9 +224,7 @@ not_device what n e = cc
 pub at_device : (what : What) (end : DeskEnd) → end_at what ≡ Err end → IsErrOf (end_at what) ends.Device
 at_device whats.Device end e = refl
 at_device whats.Failed end e = refl
-at_device whats.Asked end e = cc
-at_device (whats.Bad fault) end e = cc
-at_device (whats.Heard heard) end e = cc
+at_device _ end e = cc
 
 free : (book : List Entry) (seat : SeatState) (m : Option Entry) → GoesWith book seat book → seat.mine ≡ m → seat.mine ≡ None
 free book seat None g e = e
@@ -260,26 +234,21 @@ free book seat (Some x) g e = absurd (no_shorter book (own_shorter book book x (
 no_wait : (book : List Entry) (seat : SeatState) → GoesWith book seat book → (seat.mine ≡ None → ⊥) → ⊥
 no_wait book seat g w = w (free book seat seat.mine g refl)
 
-no_round : (round : ℕ) → round ≡ 0 → ROUNDS ≤ round → ⊥
-no_round round r l = omega (arith, r, l)
-
-has_slot : (votes place : ℕ) → votes ≡ place → place < PLACES → desks.most_votes ≤ votes → ⊥
-has_slot votes place e l m = omega (arith, e, l, m)
-
 too_short : (book : List Entry) (e : Entry) (n : ℕ) → length book < n → n < length (book ++ e ∷ []) → ⊥
 too_short book e n l m = omega (arith, l, m, length-append book (e ∷ []))
 
 as_long : (book : List Entry) (e : Entry) (new : List Entry) (place n : ℕ) → new ≡ book ++ e ∷ [] → place ≡ length book → place < n → length new ≤ n
 as_long book e new place n is at l = omega (arith, ap length is, at, l, length-append book (e ∷ []))
 
-true_false : (x : Bool) → x ≡ false → x ≡ true → ⊥
-true_false x f t = cc
-
 -- what is read of a disk, and its images, as a desk's file
 abbrev HoldsOf : FileContents → DeskId → ℕ → List ℕ → Images → List Ballot → Type 0
 HoldsOf contents d game read left votes =
     (votes_shown contents d game read ≡ Some votes)
     × ((image : Option (List Ballot)) → ((file : List ℕ) × IsImage left file × (votes_shown contents d game file ≡ image)) → image ≡ Some votes)
+
+pub ok_map : {T E : Type 0} {P Q : Type 0} (r : Result T E) → (P → Q) → OnOk r P → OnOk r Q
+ok_map (Ok value) f p = f p
+ok_map (Err why) f p = tt
 
 module _ {S B D : Type 0} {g : Files S D} {h : Disks D} {b : Books B} where
   view_is : (desk : Desk S B D g h b) (d : DeskId) (game : ℕ) → desk_of desk ≡ d → game_of desk ≡ game → view_of desk ≡ file_view g.contents h.seen h.images d game
@@ -298,39 +267,55 @@ module _ {S B D : Type 0} {g : Files S D} {h : Disks D} {b : Books B} where
   pub both_owners : (k l m : Desk S B D g h b) → SameOwner k l → SameOwner l m → SameOwner k m
   both_owners k l m x y = record { desk = y.desk ∙ x.desk; game = y.game ∙ x.game; innings_a_side = y.innings_a_side ∙ x.innings_a_side; cap = y.cap ∙ x.cap }
 
+  pub same_turn : (k : Desk S B D g h b) → KeepsTurn k k
+  same_turn k = record { turn = λ entries t. t; calm = λ c. c }
+
+  pub same_disk : (k : Desk S B D g h b) → KeepsDisk k k
+  same_disk k = record { owner = same_desk k; disk = (refl, refl) }
+
   -- a call at which no device call failed leaves the disk as calm
   calm_still : (old new : Desk S B D g h b) → SameOwner old new → (state_of new).failed ≡ false → h.faults (disk_of new) ≡ h.faults (disk_of old) → IsCalm old → IsCalm new
   calm_still old new o runs f c = record { running = runs; never = ap (λ x. x.due) f ∙ c.never; room = λ n l. subst (λ (m : ℕ). g.room n ≤ m) (sym o.cap) (c.room n l) }
 
   -- it was given bytes, and goes on
-  pub kept : (old new : Desk S B D g h b) (bytes : List ℕ) (what : What) (before after : List Passed) → ((s : Sheet) → Calls s old new (Given bytes what) before after) → end_at what ≡ further → KeepsTurn old new
-  kept old new bytes what before after f n = let c = f (plain_sheet 0 1) in record {
-    turn = λ entries t. in_view entries old new c.same (takes (view_of old) entries (game_of old) (state_of old) (state_of new) bytes what c.out n t c.step);
-    calm = λ q. calm_still old new c.same (still_runs (view_of old) (game_of old) (state_of old) (state_of new) bytes what c.out n q.running c.step) ((c.blame q.running).same (not_device what n)) q;
-  }
+  pub kept : (old new : Desk S B D g h b) (bytes : List ℕ) (what : What) (before after : List Passed) → ((s : Sheet) → Calls s old new (Given bytes what) before after) → end_at what ≡ further
+      → KeepsTurn old new
+  kept old new bytes what before after f n =
+      let c = f (plain_sheet 0 1) in
+      let went = taken (view_of old) (game_of old) (state_of old) (state_of new) bytes what c.out n c.step in
+      record {
+        turn = λ entries t. in_view entries old new c.same (takes (view_of old) entries (state_of old) (state_of new) c.out t went);
+        calm = λ q. calm_still old new c.same (still_runs (view_of old) (state_of old) (state_of new) c.out q.running went) ((c.blame q.running).same (not_device what n)) q;
+      }
 
   -- no fault is met at a calm disk
-  pub meets_none : (old new : Desk S B D g h b) (bytes : List ℕ) (what : What) (before after : List Passed) (end : DeskEnd) → ((s : Sheet) → Calls s old new (Given bytes what) before after) → end_at what ≡ Err end → IsCalm old → ⊥
+  pub meets_none : (old new : Desk S B D g h b) (bytes : List ℕ) (what : What) (before after : List Passed) (end : DeskEnd) → ((s : Sheet) → Calls s old new (Given bytes what) before after)
+      → end_at what ≡ Err end → IsCalm old → ⊥
   meets_none old new bytes what before after end f e q = let c = f (plain_sheet 0 1) in (c.blame q.running).calm q.never q.room (at_device what end e)
 
-  called_online : (s : Sheet) (old new : Desk S B D g h b) (call : DeskCall) (entries : List Entry) (before after : List Passed) (c : Calls s old new call before after) → All (SpeaksOf entries) c.out → StaysOnline (game_of old) entries before after
+  called_online : (s : Sheet) (old new : Desk S B D g h b) (call : DeskCall) (entries : List Entry) (before after : List Passed) (c : Calls s old new call before after) → All (SpeaksOf entries) c.out
+      → StaysOnline (game_of old) entries before after
   called_online s old new call entries before after c speak start k o =
       says_more (game_of old) start entries (sends (game_of old) c.out) before after k (out_said (game_of old) entries c.out c.fine speak) c.passed o
 
   -- what it replied is of its entries
-  pub replied_online : (old new : Desk S B D g h b) (bytes : List ℕ) (what : What) (entries : List Entry) (before after : List Passed) → ((s : Sheet) → Calls s old new (Given bytes what) before after) → end_at what ≡ further → InTurn entries old → StaysOnline (game_of old) entries before after
+  pub replied_online : (old new : Desk S B D g h b) (bytes : List ℕ) (what : What) (entries : List Entry) (before after : List Passed)
+      → ((s : Sheet) → Calls s old new (Given bytes what) before after) → end_at what ≡ further → InTurn entries old → StaysOnline (game_of old) entries before after
   replied_online old new bytes what entries before after f n t =
       let c = f (plain_sheet 0 1) in
-      called_online (plain_sheet 0 1) old new (Given bytes what) entries before after c (takes_speaks (view_of old) entries (game_of old) (state_of old) (state_of new) bytes what c.out n t c.step)
+      called_online (plain_sheet 0 1) old new (Given bytes what) entries before after c
+      (takes_speaks (view_of old) entries (state_of old) (state_of new) c.out t (taken (view_of old) (game_of old) (state_of old) (state_of new) bytes what c.out n c.step))
 
   -- what it said unasked too
-  pub ticked_online : (desk : Desk S B D g h b) (entries : List Entry) (before after : List Passed) → ((s : Sheet) → Calls s desk desk Ticked before after) → InTurn entries desk → StaysOnline (game_of desk) entries before after
+  pub ticked_online : (desk : Desk S B D g h b) (entries : List Entry) (before after : List Passed) → ((s : Sheet) → Calls s desk desk Ticked before after) → InTurn entries desk
+      → StaysOnline (game_of desk) entries before after
   ticked_online desk entries before after f t =
       let c = f (plain_sheet 0 1) in
       called_online (plain_sheet 0 1) desk desk Ticked entries before after c (ticks_speak (view_of desk) entries (state_of desk) c.out t c.step.0)
 
   -- it was just made
-  pub first_turn : (desk : DeskId) (game innings : ℕ) (made : Desk S B D g h b) → IsDeskOf desk game innings made → Creates (file_view g.contents h.seen h.images desk game) desk (state_of made) → InTurn [] made
+  pub first_turn : (desk : DeskId) (game innings : ℕ) (made : Desk S B D g h b) → IsDeskOf desk game innings made → Creates (file_view g.contents h.seen h.images desk game) desk (state_of made)
+      → InTurn [] made
   first_turn desk game innings made o c =
       subst (λ (v : FileView D). IsInTurn v [] (state_of made)) (sym (view_is made desk game o.same_desk o.same_game)) (begins (file_view g.contents h.seen h.images desk game) desk (state_of made) c)
 
@@ -357,17 +342,19 @@ module _ {S B D : Type 0} {g : Files S D} {h : Disks D} {b : Books B} where
       subst (λ (v : FileView D). Holds v (disk_of new) (votes_for (book_at old))) (same_view old new o) (stays_held (view_of old) (disk_of old) (disk_of new) (votes_for (book_at old)) u.0 l.held)
 
   -- or it hasn't
-  pub refused : (old new : Desk S B D g h b) (e : Entry) (number place : ℕ) (why : PenRefusal) → IsLevel old → SameOwner old new → PenSteps old e (Err why) new → PenLeaves e (pen_fault number place why) old new
+  pub refused : (old new : Desk S B D g h b) (e : Entry) (number place : ℕ) (why : PenRefusal) → IsLevel old → SameOwner old new → PenSteps old e (Err why) new
+      → PenLeaves e (pen_fault number place why) old new
   refused old new e number place refusals.PlacesFull l o step = refused_holds old new l o step.3.1
   refused old new e number place (refusals.Book why) l o step = refused_holds old new l o step.3.1
   refused old new e number place refusals.Device l o step =
       let either = may_cast (view_of old) (state_of old) (disk_of new) e l step.3.1 in
       (takes_entry old e l step.3.0, subst (λ (v : FileView D). HoldsEither v (disk_of new) (book_at old) (book_at old ++ e ∷ [])) (same_view old new o) either)
-  refused old new e number place refusals.Failed l o step = absurd (true_false (state_of old).failed l.running step.3.0)
+  refused old new e number place refusals.Failed l o step = absurd (let runs = l.running in let fails = step.3.0 in cc)
   refused old new e number place refusals.Waiting l o step = no_wait (book_at old) (state_of old).seat l.goes step.3.0.1
-  refused old new e number place refusals.RoundsFull l o step = no_round (state_of old).seat.position.round (level_round (book_at old) (state_of old).seat l.goes) step.3.0.2
+  refused old new e number place refusals.RoundsFull l o step = absurd (let first = level_round (book_at old) (state_of old).seat l.goes in omega (arith, step.3.0.2))
   refused old new e number place refusals.SlotsFull l o step =
-      has_slot (length (own_votes old)) (state_of old).seat.position.place (ap length l.votes ∙ (votes_length (book_at old) ∙ l.goes.place)) step.3.0.1.0 step.3.0.2
+      let many : length (own_votes old) ≡ (state_of old).seat.position.place = ap length l.votes ∙ votes_length (book_at old) ∙ l.goes.place in
+      absurd (omega (arith, step.3.0.1.0, step.3.0.2))
 
   -- nothing was written since
   pub still_holds : (old new : Desk S B D g h b) (book : List Entry) → KeepsDisk old new → DiskHolds old book → DiskHolds new book
@@ -383,11 +370,13 @@ module _ {S B D : Type 0} {g : Files S D} {h : Disks D} {b : Books B} where
   either_book desk book more d = record { read = inl d.0; images = λ image i. inl (d.1 image i) }
 
   -- its disk as a file of a match
-  pub keeps_book : (desk : Desk S B D g h b) (d : DeskId) (game : ℕ) (book : List Entry) → desk_of desk ≡ d → game_of desk ≡ game → DiskHolds desk book → HoldsBook (file_view g.contents h.seen h.images d game) (disk_of desk) book
+  pub keeps_book : (desk : Desk S B D g h b) (d : DeskId) (game : ℕ) (book : List Entry) → desk_of desk ≡ d → game_of desk ≡ game → DiskHolds desk book
+      → HoldsBook (file_view g.contents h.seen h.images d game) (disk_of desk) book
   keeps_book desk d game book is_d of_game held =
       record { held = subst (λ (v : FileView D). Holds v (disk_of desk) (votes_for book)) (view_is desk d game is_d of_game) held; last = voted_votes book }
 
-  pub keeps_either : (desk : Desk S B D g h b) (d : DeskId) (game : ℕ) (book more : List Entry) → desk_of desk ≡ d → game_of desk ≡ game → DiskHoldsEither desk book more → HoldsEither (file_view g.contents h.seen h.images d game) (disk_of desk) book more
+  pub keeps_either : (desk : Desk S B D g h b) (d : DeskId) (game : ℕ) (book more : List Entry) → desk_of desk ≡ d → game_of desk ≡ game → DiskHoldsEither desk book more
+      → HoldsEither (file_view g.contents h.seen h.images d game) (disk_of desk) book more
   keeps_either desk d game book more is_d of_game held = subst (λ (v : FileView D). HoldsEither v (disk_of desk) book more) (view_is desk d game is_d of_game) held
 
   pub both_turns : (k l m : Desk S B D g h b) → KeepsTurn k l → KeepsTurn l m → KeepsTurn k m
@@ -397,9 +386,12 @@ module _ {S B D : Type 0} {g : Files S D} {h : Disks D} {b : Books B} where
   both_disks k l m x y = record { owner = both_owners k l m x.owner y.owner; disk = (y.disk.0 ∙ x.disk.0, y.disk.1 ∙ x.disk.1) }
 
   -- a turn of each station
-  pub one_round : (a0 a b0 b' : Desk S B D g h b) (k0 k l : Board B b) (log0 log log1 log2 log3 : List Passed) → KeepsTurn a0 a → KeepsTurn b0 b' → KeepsDisk a0 a → KeepsDisk b0 b' → boards.game_of k ≡ boards.game_of k0 →
-      KeepsOnline a0 b0 k0 k log0 log → ((entries : List Entry) → InTurn entries a → StaysOnline (game_of a) entries log log1) → ((entries : List Entry) → InTurn entries b' → StaysOnline (game_of b') entries log1 log2) →
-      ((start : List Passed) (entries : List Entry) → IsOnline (boards.game_of k) start entries log2 (board_at k) → IsOnline (boards.game_of k) start entries log3 (board_at l)) → KeepsOnline a0 b0 k0 l log0 log3
+  pub one_round : (a0 a b0 b' : Desk S B D g h b) (k0 k l : Board B b) (log0 log log1 log2 log3 : List Passed) → KeepsTurn a0 a → KeepsTurn b0 b' → KeepsDisk a0 a → KeepsDisk b0 b'
+      → boards.game_of k ≡ boards.game_of k0 →
+      KeepsOnline a0 b0 k0 k log0 log → ((entries : List Entry) → InTurn entries a → StaysOnline (game_of a) entries log log1)
+      → ((entries : List Entry) → InTurn entries b' → StaysOnline (game_of b') entries log1 log2) →
+      ((start : List Passed) (entries : List Entry) → IsOnline (boards.game_of k) start entries log2 (board_at k) → IsOnline (boards.game_of k) start entries log3 (board_at l))
+      → KeepsOnline a0 b0 k0 l log0 log3
   one_round a0 a b0 b' k0 k l log0 log log1 log2 log3 ka kb da db same before at_a at_b at_board start entries ta tb gb gk o =
       let with_game = λ (n : ℕ) (m : ℕ) (e : n ≡ m) (xs : List Passed) (s : BoardState) (i : IsOnline n start entries xs s). subst (λ (j : ℕ). IsOnline j start entries xs s) e i in
       let one = before start entries ta tb gb gk o in
@@ -418,7 +410,8 @@ module _ {S B D : Type 0} {g : Files S D} {h : Disks D} {b : Books B} where
   level_at book desk t same = subst (λ (es : List Entry). InTurn es desk) (sym same) t
 
   -- both desks have penned a line, and all three stations have agreed it
-  pub agreed : (r : Result (Unit {0}) MatchFault) (a a1 a2 b0 b1 b2 : Desk S B D g h b) (k l : Board B b) (e : Entry) (place : ℕ) → AreLevel a b0 k → VotesFor e a a1 → VotesFor e b0 b1 → SameOwner a a1 → SameOwner b0 b1 → place ≡ length (book_at a) →
+  pub agreed : (r : Result (Unit {0}) MatchFault) (a a1 a2 b0 b1 b2 : Desk S B D g h b) (k l : Board B b) (e : Entry) (place : ℕ) → AreLevel a b0 k → VotesFor e a a1 → VotesFor e b0 b1
+      → SameOwner a a1 → SameOwner b0 b1 → place ≡ length (book_at a) →
       KeepsDisk a1 a2 → KeepsDisk b1 b2 → OnOk r (KeepsTurn a1 a2) → OnOk r (KeepsTurn b1 b2) → OnOk r (SameMatch b.innings_a_side k l) →
       OnOk r (place < length (book_at a2)) → OnOk r (place < length (book_at b2)) → OnOk r (place < length (b.content (boards.book_of l))) →
       OnOk r (AreLevel a2 b2 l × (book_at a2 ≡ book_at a ++ e ∷ []) × (AreCalm a b0 → AreCalm a2 b2))
@@ -447,32 +440,29 @@ module _ {S B D : Type 0} {g : Files S D} {h : Disks D} {b : Books B} where
       )
 
   -- the first desk hasn't penned the line's entry
-  pub first_left : (a a1 b0 : Desk S B D g h b) (line : List ℕ) (e : Entry) (fault : MatchFault) → answer_to (innings_at a) (book_at a) line ≡ taking (innings_at a) (book_at a) e → PenLeaves e fault a a1 → DiskHolds b0 (book_at a) →
+  pub first_left : (a a1 b0 : Desk S B D g h b) (line : List ℕ) (e : Entry) (fault : MatchFault) → answer_to (innings_at a) (book_at a) line ≡ taking (innings_at a) (book_at a) e
+      → PenLeaves e fault a a1 → DiskHolds b0 (book_at a) →
       LineLeaves (book_at a) (with_taken (answer_to (innings_at a) (book_at a) line) (book_at a)) fault a1 b0
   first_left a a1 b0 line e (faults.Line number why) is p d = (p, d)
   first_left a a1 b0 line e faults.Device is p d =
       let more : with_taken (answer_to (innings_at a) (book_at a) line) (book_at a) ≡ book_at a ++ e ∷ [] = ap (λ r. with_taken r (book_at a)) (is ∙ p.0) in
       (subst (DiskHoldsEither a1 (book_at a)) (sym more) p.1, either_book b0 (book_at a) (with_taken (answer_to (innings_at a) (book_at a) line) (book_at a)) d)
-  first_left a a1 b0 line e faults.NoMemory is p d = absurd p
-  first_left a a1 b0 line e faults.Write is p d = absurd p
-  first_left a a1 b0 line e faults.NotEmpty is p d = absurd p
-  first_left a a1 b0 line e (faults.NotAgreed place) is p d = absurd p
+  first_left a a1 b0 line e _ is p d = absurd p
 
   -- the first desk has penned it, and the second hasn't
-  pub second_left : (a1 b0 b1 : Desk S B D g h b) (book more : List Entry) (number : ℕ) (e : Entry) (fault : MatchFault) → more ≡ book ++ e ∷ [] → book_at b0 ≡ book → taking (innings_at b0) (book_at b0) e ≡ Ok e →
+  pub second_left : (a1 b0 b1 : Desk S B D g h b) (book more : List Entry) (number : ℕ) (e : Entry) (fault : MatchFault) → more ≡ book ++ e ∷ [] → book_at b0 ≡ book
+      → taking (innings_at b0) (book_at b0) e ≡ Ok e →
       WhyNotAgreed (taking (innings_at b0) (book_at b0) e) (book_at b0) number fault → PenLeaves e fault b0 b1 → DiskHolds a1 (book ++ e ∷ []) → LineLeaves book more fault a1 b1
   second_left a1 b0 b1 book more number e (faults.Line at why) is same taken w p d = absurd (let both : Ok e ≡ Err why = sym taken ∙ w.1 in cc)
   second_left a1 b0 b1 book more number e faults.Device is same taken w p d =
       let there : DiskHolds a1 more = subst (DiskHolds a1) (sym is) d in
       let here = subst (λ (es : List Entry). DiskHoldsEither b1 es (es ++ e ∷ [])) same p.1 in
       (either_more a1 book more there, subst (DiskHoldsEither b1 book) (sym is) here)
-  second_left a1 b0 b1 book more number e faults.NoMemory is same taken w p d = absurd p
-  second_left a1 b0 b1 book more number e faults.Write is same taken w p d = absurd p
-  second_left a1 b0 b1 book more number e faults.NotEmpty is same taken w p d = absurd p
-  second_left a1 b0 b1 book more number e (faults.NotAgreed place) is same taken w p d = absurd p
+  second_left a1 b0 b1 book more number e _ is same taken w p d = absurd p
 
   -- both have penned it, and it isn't agreed
-  pub third_left : (r : Result (Unit {0}) MatchFault) (a1 a2 b1 b2 : Desk S B D g h b) (book more : List Entry) (place : ℕ) → IfErr r (λ fault. (fault ≡ faults.Device) ⊎ (fault ≡ faults.NotAgreed place)) →
+  pub third_left : (r : Result (Unit {0}) MatchFault) (a1 a2 b1 b2 : Desk S B D g h b) (book more : List Entry) (place : ℕ)
+      → IfErr r (λ fault. (fault ≡ faults.Device) ⊎ (fault ≡ faults.NotAgreed place)) →
       KeepsDisk a1 a2 → KeepsDisk b1 b2 → DiskHolds a1 more → DiskHolds b1 more → IfErr r (λ fault. LineLeaves book more fault a2 b2)
   third_left (Ok done) a1 a2 b1 b2 book more place only da db x y = tt
   third_left (Err fault) a1 a2 b1 b2 book more place (inl is) da db x y =
@@ -481,7 +471,8 @@ module _ {S B D : Type 0} {g : Files S D} {h : Disks D} {b : Books B} where
       subst (λ (f : MatchFault). LineLeaves book more f a2 b2) (sym is) (still_holds a1 a2 more da x, still_holds b1 b2 more db y)
 
   -- and the board follows
-  pub agreed_online : (r : Result (Unit {0}) MatchFault) (a a1 a2 b0 b1 : Desk S B D g h b) (k l : Board B b) (e : Entry) (log new : List Passed) → AreLevel a b0 k → VotesFor e a a1 → VotesFor e b0 b1 → SameOwner a a1 → SameOwner b0 b1 →
+  pub agreed_online : (r : Result (Unit {0}) MatchFault) (a a1 a2 b0 b1 : Desk S B D g h b) (k l : Board B b) (e : Entry) (log new : List Passed) → AreLevel a b0 k → VotesFor e a a1
+      → VotesFor e b0 b1 → SameOwner a a1 → SameOwner b0 b1 →
       OnOk r (KeepsOnline a1 b1 k l log new) → OnOk r (book_at a2 ≡ book_at a ++ e ∷ []) →
       OnOk r ((start : List Passed) → IsOnline (game_of a) start (book_at a) log (board_at k) → IsOnline (game_of a) start (book_at a2) new (board_at l))
   agreed_online (Err why) a a1 a2 b0 b1 k l e log new level va vb oa ob keeps book = tt

@@ -27,9 +27,6 @@ votes_last es e = with_last es e [] ∙ ap (λ (n : ℕ). ballot_at n 0 e ∷ vo
 snoc_length : (es : List Entry) (e : Entry) → length (es ++ e ∷ []) ≡ suc (length es)
 snoc_length es e = omega (arith, length-append es (e ∷ []))
 
-moved : (pre es : List Entry) (e : Entry) → (pre ++ e ∷ []) ++ es ≡ pre ++ e ∷ es
-moved pre es e = append_assoc pre (e ∷ []) es
-
 -- the place behind that of the last vote
 abbrev places_voted : List Ballot → ℕ
 places_voted [] = 0
@@ -45,7 +42,7 @@ with_voted [] pre vs v p = v ∙ sym (append-nil pre)
 with_voted (e ∷ es) pre vs v p =
     let b = ballot_at (length vs) 0 e in
     let head : voted_list (b ∷ vs) ≡ pre ++ e ∷ [] = ap (λ (xs : List Entry). xs ++ e ∷ []) (closes b vs (sym p) ∙ v) in
-    with_voted es (pre ++ e ∷ []) (b ∷ vs) head (omega arith) ∙ moved pre es e
+    with_voted es (pre ++ e ∷ []) (b ∷ vs) head (omega arith) ∙ append_assoc pre (e ∷ []) es
 
 -- the last votes of all places are these entries
 pub voted_votes : (es : List Entry) → voted_list (votes_for es) ≡ es
@@ -57,7 +54,8 @@ IsFor pre b = (b.at.round ≡ 0) × (slice_get pre b.at.place ≡ Some b.entry)
 is_last : (pre : List Entry) (e : Entry) (n : ℕ) (b : Ballot) → n ≡ length pre → b ≡ ballot_at n 0 e → IsFor (pre ++ e ∷ []) b
 is_last pre e n b l q = rw (q, l) (refl, slice_get-last pre e)
 
-in_more : (pre : List Entry) (e : Entry) (vs : List Ballot) → length vs ≡ length pre → ((b : Ballot) → In b vs → IsFor pre b) → (c : Ballot) → In c (ballot_at (length vs) 0 e ∷ vs) → IsFor (pre ++ e ∷ []) c
+in_more : (pre : List Entry) (e : Entry) (vs : List Ballot) → length vs ≡ length pre → ((b : Ballot) → In b vs → IsFor pre b) → (c : Ballot) → In c (ballot_at (length vs) 0 e ∷ vs)
+    → IsFor (pre ++ e ∷ []) c
 in_more pre e vs l each c (inl q) = is_last pre e (length vs) c l q
 in_more pre e vs l each c (inr j) =
     let k = each c j in (k.0, slice_get-append_left pre (e ∷ []) c.at.place (slice_get_within pre c.at.place c.entry k.1) ∙ k.1)
@@ -65,7 +63,8 @@ in_more pre e vs l each c (inr j) =
 with_in : (es pre : List Entry) (vs : List Ballot) → length vs ≡ length pre → ((b : Ballot) → In b vs → IsFor pre b) → (b : Ballot) → In b (with_votes_for es vs) → IsFor (pre ++ es) b
 with_in [] pre vs l each b i = subst (λ (xs : List Entry). IsFor xs b) (sym (append-nil pre)) (each b i)
 with_in (e ∷ es) pre vs l each b i =
-    subst (λ (xs : List Entry). IsFor xs b) (moved pre es e) (with_in es (pre ++ e ∷ []) (ballot_at (length vs) 0 e ∷ vs) (ap suc l ∙ sym (snoc_length pre e)) (in_more pre e vs l each) b i)
+    subst (λ (xs : List Entry). IsFor xs b) (append_assoc pre (e ∷ []) es)
+    (with_in es (pre ++ e ∷ []) (ballot_at (length vs) 0 e ∷ vs) (ap suc l ∙ sym (snoc_length pre e)) (in_more pre e vs l each) b i)
 
 -- each of the votes is for the entry of its place, in the first round
 pub votes_in : (es : List Entry) (b : Ballot) → In b (votes_for es) → IsFor es b

@@ -1,5 +1,5 @@
 -- A tick, an end, a fault and an opening at a site are steps of the definitions there.
-use Rattle.std.proofs.Common.{◌≡◌, ℕ, suc, Option, Some, None, List, [], ◌∷◌, ◌++◌, length, map, refl, sym, ap, ◌∙◌, subst}
+use Rattle.std.proofs.Common.{◌≡◌, ℕ, Option, Some, None, List, [], ◌++◌, length, map, refl, sym, ap, ◌∙◌, subst}
 use Rattle.std.specs.Prelude.{option_map}
 use Rattle.std.proofs.lemmas.List.{length-map, map-append}
 use Rattle.std.specs.Option.{is_none, is_some}
@@ -11,7 +11,6 @@ use Rattle.entry_log.specs.declared.mem_disk.MemDisk.{MemDisk}
 use Rattle.entry_log.specs.declared.mem_disk.choice.Choice.{Choice}
 use Rattle.entry_log.specs.declared.mem_disk.plan.Plan.{Plan}
 use Rattle.entry_log.specs.declared.mem_disk.plan.Plan.TheVariants.{Calm}
-use Rattle.entry_log.specs.declared.mem_disk.plan.Plan.TheVariants as plans
 use Rattle.agree_core.specs.declared.messages.Message.{Message}
 use Rattle.agree_core.specs.Desks.{DeskState, Ticks}
 use Rattle.agree_core.specs.FileView.{Stays}
@@ -23,17 +22,15 @@ use Rattle.headline.specs.declared.event.Event.{Event}
 use Rattle.headline.specs.declared.event.Event.TheVariants as events
 use Rattle.headline.specs.declared.event.Station.{Station}
 use Rattle.headline.specs.declared.fault.Fault.{Fault}
-use Rattle.headline.specs.declared.fault.Fault.TheVariants.{Fail, Stop}
 use Rattle.schedule_replay.specs.declared.seen.Seen.TheVariants as seens
 use Rattle.schedule_replay.specs.declared.site.Site.{Site}
 use Rattle.schedule_replay.specs.declared.world_desk.WorldDesk.{WorldDesk}
 use Rattle.headline.specs.Configurations.{Process, Running, Down, Node, process_disk, process_votes, with_disk}
 use Rattle.headline.specs.Answers.{Answer}
-use Rattle.headline.specs.DeskFaults.{FallsDue, LosesPower, StaysDown}
+use Rattle.headline.specs.DeskFaults.{FallsDue, LosesPower}
 use Rattle.headline.specs.DeskSteps.{AtDesk}
 use Rattle.headline.specs.Match.{format_of, match_of, most_bytes}
 use Rattle.schedule_replay.proofs.OpenLemmas.{down_at, stays_down}
-use Rattle.schedule_replay.specs.Answers.{AreBytesOf}
 use Rattle.schedule_replay.specs.inner.Sites.{HasNode, IsDue, IsProcess, IsWorldDisk, PutsDown, SiteSteps, disk_at}
 use Rattle.schedule_replay.specs.WorldDesks.{SameOwner, disk_of, game_of, state_of}
 use Rattle.schedule_replay.proofs.SiteLemmas.{HasDisk, down_is, has_disk, more_bytes, no_bytes, only_one, put_down_is, running_is, runs_again, sets_plan_stays}

@@ -1,9 +1,9 @@
 -- Migrating the file of a site whose desk is down is a step of the definitions there.
-use Rattle.std.proofs.Common.{◌≡◌, ◌≢◌, ◌⊎◌, ◌<◌, ◌≤◌, ℕ, Option, Some, None, List, [], ◌∷◌, length, refl, sym, ap, ◌∙◌, subst, inl, inr, arith, ⊎_elim, Result, Ok, Err}
+use Rattle.std.proofs.Common.{◌≡◌, ◌≢◌, ◌⊎◌, ◌<◌, ◌≤◌, ℕ, Some, None, List, [], length, refl, sym, ap, ◌∙◌, subst, inl, inr, arith, ⊎_elim, Result, Ok, Err}
 use Rattle.std.specs.Bool.{⊤}
 use Rattle.std.specs.Prelude.{IsErrOf}
 use Rattle.corrections.specs.declared.refusal.Refusal.{Refusal}
-use Rattle.entry_log.specs.Disk.{Faults, Images, IsImage, IsOnce, Never, only}
+use Rattle.entry_log.specs.Disk.{Faults, Images, IsImage, IsOnce, only}
 use Rattle.entry_log.specs.Format.{contents, room}
 use Rattle.entry_log.specs.Version1.{version_1}
 use Rattle.entry_log.specs.Version2.{version_2}

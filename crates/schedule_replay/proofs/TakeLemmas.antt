@@ -3,7 +3,6 @@ use Rattle.std.proofs.Common.{◌≡◌, ◌⊎◌, Bool, true, false, Option, S
 use Rattle.std.specs.Prelude.{IfOk, OnErr}
 use Rattle.std.proofs.Math.Bool.{not}
 use Rattle.std.specs.Option.{is_none, is_some}
-use Rattle.agree_core.specs.declared.messages.DeskId.{DeskId}
 use Rattle.wire.specs.declared.datagram.Datagram.{Datagram}
 use Rattle.headline.specs.declared.event.Event.{Event}
 use Rattle.headline.specs.declared.event.Event.TheVariants as events
@@ -13,7 +12,7 @@ use Rattle.schedule_replay.specs.declared.seen.WorldRefusal.TheVariants as refus
 use Rattle.schedule_replay.specs.declared.site.Site.{Site}
 use Rattle.schedule_replay.specs.declared.world_desk.WorldDesk.{WorldDesk}
 use Rattle.schedule_replay.specs.Refusals.{first_cause, may_grow, may_send}
-use Rattle.schedule_replay.specs.inner.Sites.{SiteLeft, SiteSteps, SiteTakes, SyncsSite, site_cause}
+use Rattle.schedule_replay.specs.inner.Sites.{SiteLeft, SiteSteps, SiteTakes, site_cause}
 use Rattle.schedule_replay.proofs.OpenLemmas.{stays_so}
 
 cause_is : (event : Event) (old : Site) (sent : List Datagram) (down : Bool) → down ≡ is_none old.desk → first_cause false down (length sent) event ≡ None → site_cause old sent event ≡ None

@@ -1,4 +1,4 @@
-use Rattle.std.proofs.Common.{sym, ◌∙◌}
+use Rattle.std.proofs.Common.{sym}
 use Rattle.cards.specs.Sheet.{plain_sheet}
 use Rattle.match_command.proofs.TurnLemmas.{kept, meets_none, replied_online}
 use Rattle.match_command.proofs.match_run.turns.reply.Goals as goal

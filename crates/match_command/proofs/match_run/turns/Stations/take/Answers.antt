@@ -1,11 +1,37 @@
 use Rattle.std.proofs.Common.{sym, ap, ◌∙◌, subst, ◌≡◌, ◌++◌, ◌∷◌, [], List, ℕ, Ok, length}
+use Rattle.std.specs.Prelude.{OnOk}
 use Rattle.notation.specs.declared.entry.Entry.{Entry}
 use Rattle.desk.proofs.RestoreLemmas.{error_of}
 use Rattle.books.specs.Taking.{answer, answer_to, taking, with_taken}
-use Rattle.match_command.specs.inner.Turns.{DiskHolds, book_at, innings_at}
-use Rattle.match_command.proofs.SameTurn.{ok_map}
-use Rattle.match_command.proofs.TurnLemmas.{agreed, agreed_online, first_left, second_left, third_left}
+use Rattle.match_command.specs.inner.Turns.{AreCalm, AreLevel, DiskHolds, VotesFor, book_at, innings_at}
+use Rattle.match_command.proofs.TurnLemmas.{ok_map, agreed, agreed_online, first_left, second_left, third_left}
+use Rattle.match_command.proofs.match_run.turns.Stations.take.Given.{Over}
 use Rattle.match_command.proofs.match_run.turns.Stations.take.Goals as goal
+use Rattle.match_command.proofs.match_run.turns.Stations.take.Goals.{After-agree, In_ok-pen}
+
+-- the first desk has penned the line's entry
+voted : (g : Over) (c : In_ok-pen g) → VotesFor c.in-Ok.entry c.args.self.now.a c.pen.new.desk
+voted g c = let level = c.requires.level in c.in_ok-pen.ensures.voted level.level_a
+
+more : (g : Over) (c : In_ok-pen g)
+    → with_taken (answer_to (innings_at c.args.self.now.a) (book_at c.args.self.now.a) c.args.line.now) (book_at c.args.self.now.a) ≡ book_at c.args.self.now.a ++ c.in-Ok.entry ∷ []
+more g c =
+    let v = voted g c in
+    let a = c.args.self.now.a in
+    ap (λ r. with_taken r (book_at a)) (ap (λ r. answer (innings_at a) (book_at a) r) (sym c.in-Ok.ensures.exact) ∙ v.taken)
+
+-- both have penned it, and all three stations have agreed it
+all_agreed : (g : Over) (c : After-agree g) → OnOk c.agree.result (AreLevel c.agree.new.self.a c.agree.new.self.b c.agree.new.self.board
+    × (book_at c.agree.new.self.a ≡ book_at c.args.self.now.a ++ c.in-Ok.entry ∷ [])
+    × (AreCalm c.args.self.now.a c.args.self.now.b → AreCalm c.agree.new.self.a c.agree.new.self.b))
+all_agreed g c =
+    let level = c.requires.level in
+    let old = c.args.self.now in
+    let new = c.agree.new.self in
+    let place = c.len-place.ensures.entries ∙ ap (λ book. length book.entries) c.book.ensures in
+    agreed c.agree.result old.a c.pen.new.desk new.a old.b c.pen-2.new.desk new.b old.board new.board c.in-Ok.entry c.len-place.result level
+    (c.in_ok-pen.ensures.voted level.level_a) (c.in_ok-pen-2.ensures.voted level.level_b) c.pen.ensures.owner c.pen-2.ensures.owner place
+    c.agree.ensures.disk_a c.agree.ensures.disk_b c.agree.ensures.kept_a c.agree.ensures.kept_b c.agree.ensures.board c.agree.ensures.at_a c.agree.ensures.at_b c.agree.ensures.at_board
 
 pub returns-in-Err-clause-left : goal.returns-in-Err-clause-left
 returns-in-Err-clause-left g c =
@@ -15,10 +41,10 @@ returns-in-Err-clause-left g c =
 pub returns-in_err-pen-clause-left : goal.returns-in_err-pen-clause-left
 returns-in_err-pen-clause-left g c =
     let level = c.requires.level in
-    let a = c.args.self.now.a in
-    let is : answer_to (innings_at a) (book_at a) c.args.line.now ≡ taking (innings_at a) (book_at a) c.in-Ok.entry = ap (λ r. answer (innings_at a) (book_at a) r) (sym c.in-Ok.ensures.exact) in
+    let old = c.args.self.now in
+    let is = ap (λ r. answer (innings_at old.a) (book_at old.a) r) (sym c.in-Ok.ensures.exact) in
     error_of c.from_residual.result c.in_err-pen.field-0.0 _ c.from_residual.ensures.1
-    (first_left a c.pen.new.desk c.args.self.now.b c.args.line.now c.in-Ok.entry c.in_err-pen.field-0.0 is (c.in_err-pen.ensures.left level.level_a) (subst (DiskHolds c.args.self.now.b) level.book level.level_b.held))
+    (first_left old.a c.pen.new.desk old.b c.args.line.now c.in-Ok.entry c.in_err-pen.field-0.0 is (c.in_err-pen.ensures.left level.level_a) (subst (DiskHolds old.b) level.book level.level_b.held))
 
 pub returns-in_err-pen-2-clause-left : goal.returns-in_err-pen-2-clause-left
 returns-in_err-pen-2-clause-left g c =
@@ -26,61 +52,40 @@ returns-in_err-pen-2-clause-left g c =
     let a = c.args.self.now.a in
     let b = c.args.self.now.b in
     let e = c.in-Ok.entry in
-    let va = c.in_ok-pen.ensures.voted level.level_a in
-    let is : answer_to (innings_at a) (book_at a) c.args.line.now ≡ taking (innings_at a) (book_at a) e = ap (λ r. answer (innings_at a) (book_at a) r) (sym c.in-Ok.ensures.exact) in
-    let taken : taking (innings_at b) (book_at b) e ≡ Ok e = ap (λ (n : ℕ). taking n (book_at b) e) level.innings ∙ (ap (λ (es : List Entry). taking (innings_at a) es e) level.book ∙ va.taken) in
+    let at = (goal.at.returns-in_err-pen-2-clause-left g c).In_ok-pen in
+    let v = voted g at in
+    let taken : taking (innings_at b) (book_at b) e ≡ Ok e = ap (λ (n : ℕ). taking n (book_at b) e) level.innings ∙ (ap (λ (es : List Entry). taking (innings_at a) es e) level.book ∙ v.taken) in
     error_of c.from_residual-in_err-pen-2.result c.in_err-pen-2.field-0.0 _ c.from_residual-in_err-pen-2.ensures.1
     (second_left c.pen.new.desk b c.pen-2.new.desk (book_at a) (with_taken (answer_to (innings_at a) (book_at a) c.args.line.now) (book_at a)) c.args.number e c.in_err-pen-2.field-0.0
-    (ap (λ r. with_taken r (book_at a)) (is ∙ va.taken)) level.book taken (c.in_err-pen-2.ensures.why level.level_b) (c.in_err-pen-2.ensures.left level.level_b) va.turn.held)
+    (more g at) level.book taken (c.in_err-pen-2.ensures.why level.level_b) (c.in_err-pen-2.ensures.left level.level_b) v.turn.held)
 
 pub returns-clause-left : goal.returns-clause-left
 returns-clause-left g c =
     let level = c.requires.level in
     let a = c.args.self.now.a in
-    let e = c.in-Ok.entry in
-    let va = c.in_ok-pen.ensures.voted level.level_a in
     let vb = c.in_ok-pen-2.ensures.voted level.level_b in
-    let is : answer_to (innings_at a) (book_at a) c.args.line.now ≡ taking (innings_at a) (book_at a) e = ap (λ r. answer (innings_at a) (book_at a) r) (sym c.in-Ok.ensures.exact) in
-    let more : with_taken (answer_to (innings_at a) (book_at a) c.args.line.now) (book_at a) ≡ book_at a ++ e ∷ [] = ap (λ r. with_taken r (book_at a)) (is ∙ va.taken) in
-    let held_b = subst (λ (es : List Entry). DiskHolds c.pen-2.new.desk (es ++ e ∷ [])) level.book vb.turn.held in
-    third_left c.agree.result c.pen.new.desk c.agree.new.self.a c.pen-2.new.desk c.agree.new.self.b (book_at a) (with_taken (answer_to (innings_at a) (book_at a) c.args.line.now) (book_at a)) c.len-place.result
-    c.agree.ensures.only c.agree.ensures.disk_a c.agree.ensures.disk_b (subst (DiskHolds c.pen.new.desk) (sym more) va.turn.held) (subst (DiskHolds c.pen-2.new.desk) (sym more) held_b)
+    let at = (goal.at.returns-clause-left g c).In_ok-pen in
+    let va = voted g at in
+    let is = sym (more g at) in
+    let held_b = subst (λ (es : List Entry). DiskHolds c.pen-2.new.desk (es ++ c.in-Ok.entry ∷ [])) level.book vb.turn.held in
+    third_left c.agree.result c.pen.new.desk c.agree.new.self.a c.pen-2.new.desk c.agree.new.self.b (book_at a) (with_taken (answer_to (innings_at a) (book_at a) c.args.line.now) (book_at a))
+    c.len-place.result c.agree.ensures.only c.agree.ensures.disk_a c.agree.ensures.disk_b (subst (DiskHolds c.pen.new.desk) is va.turn.held) (subst (DiskHolds c.pen-2.new.desk) is held_b)
 
 pub returns-clause-level : goal.returns-clause-level
-returns-clause-level g c =
-    let level = c.requires.level in
-    let e = c.in-Ok.entry in
-    ok_map c.agree.result (λ both. both.0) (agreed c.agree.result c.args.self.now.a c.pen.new.desk c.agree.new.self.a c.args.self.now.b c.pen-2.new.desk c.agree.new.self.b c.args.self.now.board c.agree.new.self.board e c.len-place.result level
-    (c.in_ok-pen.ensures.voted level.level_a) (c.in_ok-pen-2.ensures.voted level.level_b) c.pen.ensures.owner c.pen-2.ensures.owner (c.len-place.ensures.entries ∙ ap (λ book. length book.entries) c.book.ensures) c.agree.ensures.disk_a c.agree.ensures.disk_b
-    c.agree.ensures.kept_a c.agree.ensures.kept_b c.agree.ensures.board c.agree.ensures.at_a c.agree.ensures.at_b c.agree.ensures.at_board)
+returns-clause-level g c = ok_map c.agree.result (λ both. both.0) (all_agreed g (goal.at.returns-clause-level g c).After-agree)
 
 pub returns-clause-calm_still : goal.returns-clause-calm_still
-returns-clause-calm_still g c =
-    let level = c.requires.level in
-    let e = c.in-Ok.entry in
-    ok_map c.agree.result (λ both. both.2) (agreed c.agree.result c.args.self.now.a c.pen.new.desk c.agree.new.self.a c.args.self.now.b c.pen-2.new.desk c.agree.new.self.b c.args.self.now.board c.agree.new.self.board e c.len-place.result level
-    (c.in_ok-pen.ensures.voted level.level_a) (c.in_ok-pen-2.ensures.voted level.level_b) c.pen.ensures.owner c.pen-2.ensures.owner (c.len-place.ensures.entries ∙ ap (λ book. length book.entries) c.book.ensures) c.agree.ensures.disk_a c.agree.ensures.disk_b
-    c.agree.ensures.kept_a c.agree.ensures.kept_b c.agree.ensures.board c.agree.ensures.at_a c.agree.ensures.at_b c.agree.ensures.at_board)
+returns-clause-calm_still g c = ok_map c.agree.result (λ both. both.2) (all_agreed g (goal.at.returns-clause-calm_still g c).After-agree)
 
 pub returns-clause-book : goal.returns-clause-book
 returns-clause-book g c =
-    let level = c.requires.level in
-    let a = c.args.self.now.a in
-    let e = c.in-Ok.entry in
-    let va = c.in_ok-pen.ensures.voted level.level_a in
-    let is : answer_to (innings_at a) (book_at a) c.args.line.now ≡ taking (innings_at a) (book_at a) e = ap (λ r. answer (innings_at a) (book_at a) r) (sym c.in-Ok.ensures.exact) in
-    let more : with_taken (answer_to (innings_at a) (book_at a) c.args.line.now) (book_at a) ≡ book_at a ++ e ∷ [] = ap (λ r. with_taken r (book_at a)) (is ∙ va.taken) in
-    ok_map c.agree.result (λ both. both.1 ∙ sym more) (agreed c.agree.result c.args.self.now.a c.pen.new.desk c.agree.new.self.a c.args.self.now.b c.pen-2.new.desk c.agree.new.self.b c.args.self.now.board c.agree.new.self.board e c.len-place.result level
-    va (c.in_ok-pen-2.ensures.voted level.level_b) c.pen.ensures.owner c.pen-2.ensures.owner (c.len-place.ensures.entries ∙ ap (λ book. length book.entries) c.book.ensures) c.agree.ensures.disk_a c.agree.ensures.disk_b
-    c.agree.ensures.kept_a c.agree.ensures.kept_b c.agree.ensures.board c.agree.ensures.at_a c.agree.ensures.at_b c.agree.ensures.at_board)
+    let is = sym (more g (goal.at.returns-clause-book g c).In_ok-pen) in
+    ok_map c.agree.result (λ both. both.1 ∙ is) (all_agreed g (goal.at.returns-clause-book g c).After-agree)
 
 pub returns-clause-online : goal.returns-clause-online
 returns-clause-online g c =
-    let level = c.requires.level in
-    let e = c.in-Ok.entry in
-    let va = c.in_ok-pen.ensures.voted level.level_a in
-    let vb = c.in_ok-pen-2.ensures.voted level.level_b in
-    let book = ok_map c.agree.result (λ both. both.1) (agreed c.agree.result c.args.self.now.a c.pen.new.desk c.agree.new.self.a c.args.self.now.b c.pen-2.new.desk c.agree.new.self.b c.args.self.now.board c.agree.new.self.board e c.len-place.result level
-    va vb c.pen.ensures.owner c.pen-2.ensures.owner (c.len-place.ensures.entries ∙ ap (λ book. length book.entries) c.book.ensures) c.agree.ensures.disk_a c.agree.ensures.disk_b
-    c.agree.ensures.kept_a c.agree.ensures.kept_b c.agree.ensures.board c.agree.ensures.at_a c.agree.ensures.at_b c.agree.ensures.at_board) in
-    agreed_online c.agree.result c.args.self.now.a c.pen.new.desk c.agree.new.self.a c.args.self.now.b c.pen-2.new.desk c.args.self.now.board c.agree.new.self.board e _ _ level va vb c.pen.ensures.owner c.pen-2.ensures.owner c.agree.ensures.online book
+    let old = c.args.self.now in
+    let at = goal.at.returns-clause-online g c in
+    let book = ok_map c.agree.result (λ both. both.1) (all_agreed g at.After-agree) in
+    agreed_online c.agree.result old.a c.pen.new.desk c.agree.new.self.a old.b c.pen-2.new.desk old.board c.agree.new.self.board c.in-Ok.entry _ _ c.requires.level
+    (voted g at.In_ok-pen) (c.in_ok-pen-2.ensures.voted (let level = c.requires.level in level.level_b)) c.pen.ensures.owner c.pen-2.ensures.owner c.agree.ensures.online book
