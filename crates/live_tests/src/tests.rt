@@ -116,8 +116,6 @@ fn told_by(
     let mut out = Watched::new(Vec::new(alloc));
     let mut clock = Ticking::new();
     let own = DeskId::A;
-    let answer = run_desk(
-        desk, own, sheet, link, lines, &mut clock, &mut out, turns,
-    );
+    let answer = run_desk(desk, own, sheet, link, lines, &mut clock, &mut out, turns);
     (answer, out.into_inner())
 }

@@ -119,7 +119,14 @@ fn is_told(
         log: InputLog::Empty,
     };
     let answer = run_desk(
-        &mut desk, DeskId::A, &sheet, link, &mut typed, &mut clock, &mut out, 150,
+        &mut desk,
+        DeskId::A,
+        &sheet,
+        link,
+        &mut typed,
+        &mut clock,
+        &mut out,
+        150,
     );
     assert!(rt; answer.is_ok());
     let told = out.into_inner();
@@ -159,9 +166,18 @@ fn the_other_has_written(rt: HostRuntime) {
     link.bring(&rt, 16_000, vote(&rt, DeskId::B, 2, 0, "void"));
     ask_on(&rt, &mut link, 17, 60);
     let keys = [
-        Key { at: 8000, line: "void" },
-        Key { at: 14_700, line: "void" },
-        Key { at: 19_000, line: "void" },
+        Key {
+            at: 8000,
+            line: "void",
+        },
+        Key {
+            at: 14_700,
+            line: "void",
+        },
+        Key {
+            at: 19_000,
+            line: "void",
+        },
     ];
     let texts = [
         (5900, GREETING),
@@ -252,7 +268,10 @@ fn the_other_desk_is_heard_again(rt: HostRuntime) {
         (12_900, ""),
         (13_000, HEARD),
         (17_900, ""),
-        (18_500, "0 the other has written\nthe other desk isn't heard\n"),
+        (
+            18_500,
+            "0 the other has written\nthe other desk isn't heard\n",
+        ),
         (18_900, ""),
         (19_000, HEARD),
         (23_900, ""),
@@ -280,10 +299,19 @@ fn an_empty_line(rt: HostRuntime) {
         Key { at: 2100, line: "" },
         Key { at: 7000, line: "" },
         Key { at: 8000, line: "" },
-        Key { at: 8500, line: "innings home" },
+        Key {
+            at: 8500,
+            line: "innings home",
+        },
         Key { at: 9000, line: "" },
-        Key { at: 10_000, line: "" },
-        Key { at: 15_200, line: "again innings home" },
+        Key {
+            at: 10_000,
+            line: "",
+        },
+        Key {
+            at: 15_200,
+            line: "again innings home",
+        },
     ];
     let texts = [
         (900, GREETING),
@@ -291,7 +319,10 @@ fn an_empty_line(rt: HostRuntime) {
         (2000, ""),
         (2600, "No play\n0 next\n0 the other has written\n"),
         (6400, ""),
-        (6999, "0 the other has written\nthe other desk isn't heard\n"),
+        (
+            6999,
+            "0 the other has written\nthe other desk isn't heard\n",
+        ),
         (
             7499,
             "No play\n0 next\n0 the other has written\nthe other desk isn't heard\n",

@@ -58,9 +58,7 @@ fn desk_turn<S: SlotsOf>(
     lines.type_line(rt, if has_voted { "" } else { "void" });
     let mut out = Watched::new(Failing { calls: usize::MAX });
     let mut clock = Ticking::new();
-    let answer = run_desk(
-        desk, own, &sheet, link, &mut lines, &mut clock, &mut out, 1,
-    );
+    let answer = run_desk(desk, own, &sheet, link, &mut lines, &mut clock, &mut out, 1);
     assert!(rt; answer.is_ok());
 }
 
