@@ -2,6 +2,7 @@
 use Rattle.std.specs.Prelude.{ℕ, Bool, nat_le, if◌then◌else◌, List, [], ◌∷◌, ◌++◌, length}
 use Rattle.std.specs.Prelude.{Option, Some, None, Result, Ok, Err}
 use Rattle.notation.specs.declared.entry.Entry.{Entry}
+use Rattle.notation.specs.declared.entry.TheConstants.{PLACES}
 use Rattle.notation.specs.declared.fault.LineFault.{LineFault}
 use Rattle.notation.specs.Reading.{line_answer}
 use Rattle.corrections.specs.declared.refusal.Refusal.{Refusal as BookRefusal}
@@ -10,9 +11,9 @@ use Rattle.books.specs.declared.rejected.Refusal.TheVariants.{PlacesFull, Book}
 use Rattle.books.specs.declared.rejected.Rejected.{Rejected}
 use Rattle.books.specs.declared.rejected.Rejected.TheVariants.{Fault, Refused}
 
--- a book has 8,192 places
+-- all of a book's places are taken
 abbrev pub is_full : List Entry → Bool
-is_full book = nat_le 8192 (length book)
+is_full book = nat_le PLACES (length book)
 
 -- the entry, unless the book refuses it
 abbrev pub unless_refused : Option BookRefusal → Entry → Result Entry Rejected
