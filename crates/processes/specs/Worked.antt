@@ -1,7 +1,6 @@
--- A worked life: desk A pens `void`, is killed, begins in vain, and begins; desk B is given its vote, tells its scorer later that the other has written, and pens
--- `void` too; a
--- board is given both votes, and shows the book. A disk is its bytes, all of them synced: one for the header, and one for
--- the desk's vote. The texts were written by hand.
+-- A worked life: desk A pens `void`, is killed, begins in vain, and begins; desk B is given its vote, tells its scorer later
+-- that the other has written, and pens `void` too; a board is given both votes, and shows the book. A disk is its bytes, all
+-- of them synced: one for the header, and one for the desk's vote. The texts were written by hand.
 use Rattle.std.specs.Prelude.{ℕ, List, [], ◌∷◌, Ok, codes, false}
 use Rattle.notation.specs.declared.entry.Entry.TheVariants.{Write}
 use Rattle.notation.specs.declared.entry.Plain.TheVariants.{Void}
