@@ -2,7 +2,7 @@
 ghost use Rattle.std.specs.Prelude.{◌≡◌, ◌<◌, []};
 ghost use Rattle.notation.specs.Written.{IsEntry};
 
-use agree_core::{Ask, Asker, DeskId, Message};
+use agree_core::{Ask, Asker, DeskId, Message, PLACES, ROUNDS};
 use cards::{MatchSheet, plain_sheet};
 use corrections::{Book, BookOf};
 use desk::{Desk, OpenRefusal};
@@ -75,8 +75,8 @@ fn entry(rt: &impl Abort, line: &str) -> Entry
 
 /// A desk's vote for a line, in match 7.
 fn vote(rt: &impl Abort, desk: DeskId, place: u32, round: u32, line: &str) -> [u8; 48]
-    requires place { place < 8192 }
-    requires round { round < 256 }
+    requires place { place < PLACES }
+    requires round { round < ROUNDS }
 {
     vote_of(desk, place, round, entry(rt, line))
 }

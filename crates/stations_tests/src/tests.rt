@@ -3,7 +3,7 @@
 ghost use Rattle.std.specs.Prelude.{◌≡◌, ◌<◌, []};
 ghost use Rattle.notation.specs.Written.{IsEntry};
 
-use agree_core::{Ask, Asker, DeskId, Message};
+use agree_core::{Ask, Asker, DeskId, Message, PLACES, ROUNDS};
 use corrections::Book;
 use notation::Entry;
 use std::alloc::Global;
@@ -44,16 +44,16 @@ fn entry(rt: &impl Abort, line: &str) -> Entry
 
 /// A desk's vote for a line in bytes.
 fn vote(rt: &impl Abort, desk: DeskId, place: u32, round: u32, line: &str) -> [u8; 48]
-    requires place { place < 8192 }
-    requires round { round < 256 }
+    requires place { place < PLACES }
+    requires round { round < ROUNDS }
 {
     vote_of(desk, place, round, entry(rt, line))
 }
 
 /// An ask for the votes of a position, in bytes.
 fn ask(from: Asker, place: u32, round: u32) -> [u8; 48]
-    requires place { place < 8192 }
-    requires round { round < 256 }
+    requires place { place < PLACES }
+    requires round { round < ROUNDS }
 {
     bytes_of(7, &Message::Ask(Ask { from, place, round }))
 }

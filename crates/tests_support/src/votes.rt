@@ -8,7 +8,7 @@ ghost use Rattle.agree_core.specs.Ballots.{Ballot, ComesNext};
 ghost use Rattle.agree_core.specs.Positions.{InRange, first, next_position, position_of};
 ghost use Rattle.vote_store.specs.VoteList.{last_vote};
 
-use agree_core::{DeskId, Message, Position, Vote};
+use agree_core::{DeskId, Message, PLACES, Position, ROUNDS, Vote};
 use notation::{Entry, read_line};
 use wire::bytes_of;
 
@@ -24,8 +24,8 @@ pub fn entry_in(line: &str) -> Option<Entry>
 
 /// A desk's vote for an entry, in the bytes of a datagram of match 7.
 pub fn vote_of(desk: DeskId, place: u32, round: u32, entry: Entry) -> [u8; 48]
-    requires place { place < 8192 }
-    requires round { round < 256 }
+    requires place { place < PLACES }
+    requires round { round < ROUNDS }
     requires entry { IsEntry entry }
 {
     let vote = Vote {

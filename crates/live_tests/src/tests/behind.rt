@@ -103,16 +103,16 @@ fn windowed(alloc: Global, world: &World) -> Windowed<'_> {
 
 /// A vote of a desk, sealed.
 fn sealed_vote(rt: &impl Abort, desk: DeskId, place: u32, round: u32) -> [u8; 64]
-    requires place { place < 8192 }
-    requires round { round < 256 }
+    requires place { place < PLACES }
+    requires round { round < ROUNDS }
 {
     Seal::new(KEY, &SHEET).sealed(&vote(rt, desk, place, round, "over"))
 }
 
 /// An ask for the votes of a position, sealed.
 fn sealed_ask(from: Asker, place: u32, round: u32) -> [u8; 64]
-    requires place { place < 8192 }
-    requires round { round < 256 }
+    requires place { place < PLACES }
+    requires round { round < ROUNDS }
 {
     let ask = Ask { from, place, round };
     Seal::new(KEY, &SHEET).sealed(&bytes_of(7, &Message::Ask(ask)))

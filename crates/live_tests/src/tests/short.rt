@@ -183,7 +183,7 @@ fn written(rt: &impl Abort, alloc: Global, turns: &[Turn]) -> Vec<u8> {
     for (line, _, place, round, vote_of_b) in turns {
         typed.type_line(rt, *line);
         if !vote_of_b.is_empty() {
-            assert!(rt; *place < 8192 && *round < 256);
+            assert!(rt; *place < PLACES && *round < ROUNDS);
             link.bring(rt, &vote(rt, DeskId::B, *place, *round, *vote_of_b));
         }
         link.pause(rt);

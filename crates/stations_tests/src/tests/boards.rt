@@ -98,7 +98,7 @@ fn a_single(rt: HostRuntime) {
     assert_eq!(rt; sent.len(), 1);
     assert!(rt; sent[0].bytes == ASK);
     for (place, line) in [(0, LINES[0]), (1, LINES[1]), (2, LINES[2]), (3, LINES[3])] {
-        assert!(rt; place < 8192);
+        assert!(rt; place < PLACES);
         let from_a = vote(&rt, DeskId::A, place, 0, line);
         let from_b = vote(&rt, DeskId::B, place, 0, line);
         assert!(rt; give(&rt, &mut board, &from_b) == What::Heard(Heard::Noted));

@@ -72,7 +72,7 @@ pub fn give<V: Version>(rt: &impl Abort, desk: &mut Station<V>, vote: &[u8]) -> 
 /// Desk A pens a line at its position, and hears desk B's vote there for this one.
 pub fn settle<V: Version>(rt: &impl Abort, a: &mut Station<V>, line: &str, other: &str) -> Heard {
     let at = a.position();
-    assert!(rt; at.place < 8192 && at.round < 256);
+    assert!(rt; at.place < PLACES && at.round < ROUNDS);
     match a.pen(&entry(rt, line)) {
         Ok(penned) => {
             assert!(rt; penned.settled == Settled::Pending);
@@ -205,7 +205,7 @@ fn damaged_bytes(rt: HostRuntime) {
     let disk = empty_disk(&rt, rt.alloc(), 400);
     let mut b = made(&rt, create::<Version2>(&rt, rt.alloc(), disk, DeskId::B));
     for (place, line) in [(0, LINES[0]), (1, LINES[1]), (2, LINES[2])] {
-        assert!(rt; place < 8192);
+        assert!(rt; place < PLACES);
         assert!(rt; refused::<Version2>(&rt, &mut b, line).is_none());
         let from_a = vote(&rt, DeskId::A, place, 0, line);
         assert!(rt; give::<Version2>(&rt, &mut b, &from_a) == Heard::Agreed);
