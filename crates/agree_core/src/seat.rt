@@ -92,13 +92,13 @@ impl Seat {
             → (result ≡ Settled.Agreed)
             × (self.new ≡ waiting self.old.desk (next_place self.old.position)) }
     {
-        match self.theirs {
+        match &self.theirs {
             None => {
                 self.mine = Some(entry);
                 Settled::Pending
             }
             Some(theirs) => {
-                let agreed = entry.is_same(&theirs);
+                let agreed = entry.is_same(theirs);
                 *self = Seat::waiting(self.desk, self.position.next(agreed));
                 if agreed {
                     Settled::Agreed
@@ -127,27 +127,28 @@ impl Seat {
             return Heard::Mine;
         }
         let at = vote.position();
-        if at.is_before(self.position) {
-            return Heard::Old;
+        if at != self.position {
+            return if at.is_before(self.position) {
+                Heard::Old
+            } else {
+                Heard::Ahead
+            };
         }
-        if self.position.is_before(at) {
-            return Heard::Ahead;
-        }
-        match self.theirs {
+        match &self.theirs {
             Some(theirs) => {
-                if vote.entry.is_same(&theirs) {
+                if vote.entry.is_same(theirs) {
                     Heard::Again
                 } else {
                     Heard::TwoVotes
                 }
             }
-            None => match self.mine {
+            None => match &self.mine {
                 None => {
                     self.theirs = Some(vote.entry);
                     Heard::Noted
                 }
                 Some(mine) => {
-                    let agreed = vote.entry.is_same(&mine);
+                    let agreed = vote.entry.is_same(mine);
                     *self = Seat::waiting(self.desk, self.position.next(agreed));
                     if agreed { Heard::Agreed } else { Heard::Differ }
                 }
