@@ -1,16 +1,8 @@
 -- Reading the 24 bytes of an entry, which may be the code of no entry: then the entry's code is another.
 use Rattle.std.specs.Prelude.{ℕ, ◌==◌, ◌&&◌, nat_le, List, [], ◌∷◌, if◌then◌else◌, Option, Some, None, slice_index}
 use Rattle.std.specs.Int.{w32, from_be_bytes}
-use Rattle.notation.specs.declared.entry.Bound.{Bound}
-use Rattle.notation.specs.declared.entry.Bound.TheVariants as bounds
-use Rattle.notation.specs.declared.entry.Out.{Out}
-use Rattle.notation.specs.declared.entry.Ball.{Ball}
-use Rattle.notation.specs.declared.entry.Plain.{Plain}
-use Rattle.notation.specs.declared.entry.Plain.TheVariants as plains
-use Rattle.notation.specs.declared.entry.Entry.{Entry}
-use Rattle.notation.specs.declared.entry.Entry.TheVariants as entries
+use Rattle.notation.specs.declared.entry.{Bound.Bound, Out.Out, Ball.Ball, Plain.Plain, Entry.Entry}
 use Rattle.notation.specs.declared.words.First.{First}
-use Rattle.notation.specs.declared.words.First.TheVariants as firsts
 use Rattle.notation.specs.inner.TokenReading.{all_firsts}
 use Rattle.notation.specs.Written.{all_sides, all_kinds, all_hows, all_whos, all_leaves, all_causes}
 use Rattle.notation.specs.Code.{side_code, kind_code, bound_code, how_code, who_code, leave_code, cause_code}
@@ -26,19 +18,19 @@ find_code code [] n = None
 find_code code (w ∷ ws) n = if n == code w then Some w else find_code code ws n
 
 abbrev pub first_code : First → ℕ
-first_code firsts.Innings = 1
-first_code firsts.Come = 2
-first_code firsts.Ball = 3
-first_code firsts.Gone = 4
-first_code firsts.Over = 5
-first_code firsts.Penalty = 6
-first_code firsts.Swap = 7
-first_code firsts.End = 8
-first_code firsts.Close = 9
-first_code firsts.Void = 10
+first_code First.Innings = 1
+first_code First.Come = 2
+first_code First.Ball = 3
+first_code First.Gone = 4
+first_code First.Over = 5
+first_code First.Penalty = 6
+first_code First.Swap = 7
+first_code First.End = 8
+first_code First.Close = 9
+first_code First.Void = 10
 
 abbrev pub all_bounds : List Bound
-all_bounds = bounds.Run ∷ bounds.Four ∷ bounds.Six ∷ bounds.Overthrow ∷ []
+all_bounds = Bound.Run ∷ Bound.Four ∷ Bound.Six ∷ Bound.Overthrow ∷ []
 
 abbrev pub in_range : ℕ → ℕ → ℕ → Option ℕ
 in_range low high n = if nat_le low n && nat_le n high then Some n else None
@@ -73,31 +65,31 @@ ball_from bytes = do
   })
 
 unfoldable pub body_from : First → List ℕ → Option Plain
-body_from firsts.Innings bytes = do
+body_from First.Innings bytes = do
   side ← find_code side_code all_sides (at bytes 6)
-  Some (plains.Innings side)
-body_from firsts.Come bytes = do
+  Some (Plain.Innings side)
+body_from First.Come bytes = do
   n ← in_range 1 11 (at bytes 6)
-  Some (plains.Come n)
-body_from firsts.Ball bytes = do
+  Some (Plain.Come n)
+body_from First.Ball bytes = do
   b ← ball_from bytes
-  Some (plains.Ball b)
-body_from firsts.Gone bytes = do
+  Some (Plain.Ball b)
+body_from First.Gone bytes = do
   leave ← find_code leave_code all_leaves (at bytes 6)
   n ← in_range 1 11 (at bytes 7)
-  Some (plains.Gone leave n)
-body_from firsts.Over bytes = Some plains.Over
-body_from firsts.Penalty bytes = do
+  Some (Plain.Gone leave n)
+body_from First.Over bytes = Some Plain.Over
+body_from First.Penalty bytes = do
   side ← find_code side_code all_sides (at bytes 6)
   x ← in_range 1 42 (at bytes 7)
   y ← in_range 0 99 (at bytes 8)
-  Some (plains.Penalty side x y)
-body_from firsts.Swap bytes = Some plains.Swap
-body_from firsts.End bytes = do
+  Some (Plain.Penalty side x y)
+body_from First.Swap bytes = Some Plain.Swap
+body_from First.End bytes = do
   cause ← find_code cause_code all_causes (at bytes 6)
-  Some (plains.End cause)
-body_from firsts.Close bytes = Some plains.Close
-body_from firsts.Void bytes = Some plains.Void
+  Some (Plain.End cause)
+body_from First.Close bytes = Some Plain.Close
+body_from First.Void bytes = Some Plain.Void
 
 -- the place that the bytes 2 to 5 say
 abbrev pub place_from : List ℕ → ℕ
@@ -107,6 +99,6 @@ unfoldable pub decode : List ℕ → Option Entry
 decode bytes = do
   first ← find_code first_code all_firsts (at bytes 0)
   p ← body_from first bytes
-  if at bytes 1 == 0 then Some (entries.Write p)
+  if at bytes 1 == 0 then Some (Entry.Write p)
       else (in_range 0 8191 (place_from bytes) >>= λ place.
-      if at bytes 1 == 1 then Some (entries.Fix place p) else Some (entries.Late place p))
+      if at bytes 1 == 1 then Some (Entry.Fix place p) else Some (Entry.Late place p))

@@ -4,16 +4,8 @@ use Rattle.std.specs.Str.{bytes_eq}
 use Rattle.std.specs.Str.Parse.{digits_value}
 use Rattle.notation.specs.declared.fault.LineFault.{LineFault}
 use Rattle.notation.specs.declared.fault.LineFault.TheVariants.{UnknownWord, BadNumber, Missing, Extra}
-use Rattle.notation.specs.declared.entry.Bound.{Bound}
-use Rattle.notation.specs.declared.entry.Bound.TheVariants as bounds
-use Rattle.notation.specs.declared.entry.Out.{Out}
-use Rattle.notation.specs.declared.entry.Ball.{Ball}
-use Rattle.notation.specs.declared.entry.Plain.{Plain}
-use Rattle.notation.specs.declared.entry.Plain.TheVariants as plains
-use Rattle.notation.specs.declared.entry.Entry.{Entry}
-use Rattle.notation.specs.declared.entry.Entry.TheVariants as entries
+use Rattle.notation.specs.declared.entry.{Bound.Bound, Out.Out, Ball.Ball, Plain.Plain, Entry.Entry}
 use Rattle.notation.specs.declared.words.First.{First}
-use Rattle.notation.specs.declared.words.First.TheVariants as firsts
 use Rattle.notation.specs.Written.{Token, side_text, kind_text, how_text, who_text, leave_text, cause_text, all_sides, all_kinds, all_hows, all_whos, all_leaves, all_causes, is_number}
 
 infixl 10 ◌>>=◌
@@ -22,22 +14,22 @@ abbrev pub ◌>>=◌ : {A B : Type 0} → Result A LineFault → (A → Result B
 (Err e) >>= f = Err e
 
 abbrev pub first_text : First → Token
-first_text firsts.Innings = codes "innings"
-first_text firsts.Come = codes "in"
-first_text firsts.Ball = codes "ball"
-first_text firsts.Gone = codes "gone"
-first_text firsts.Over = codes "over"
-first_text firsts.Penalty = codes "penalty"
-first_text firsts.Swap = codes "swap"
-first_text firsts.End = codes "end"
-first_text firsts.Close = codes "close"
-first_text firsts.Void = codes "void"
+first_text First.Innings = codes "innings"
+first_text First.Come = codes "in"
+first_text First.Ball = codes "ball"
+first_text First.Gone = codes "gone"
+first_text First.Over = codes "over"
+first_text First.Penalty = codes "penalty"
+first_text First.Swap = codes "swap"
+first_text First.End = codes "end"
+first_text First.Close = codes "close"
+first_text First.Void = codes "void"
 
 -- each word that may stand in a place
 abbrev pub all_firsts : List First
 all_firsts =
-    firsts.Innings ∷ firsts.Come ∷ firsts.Ball ∷ firsts.Gone ∷ firsts.Over ∷ firsts.Penalty
-    ∷ firsts.Swap ∷ firsts.End ∷ firsts.Close ∷ firsts.Void ∷ []
+    First.Innings ∷ First.Come ∷ First.Ball ∷ First.Gone ∷ First.Over ∷ First.Penalty
+    ∷ First.Swap ∷ First.End ∷ First.Close ∷ First.Void ∷ []
 
 -- the first of these words that the token is
 abbrev pub find_word : {W : Type 0} → (W → Token) → List W → Token → Option W
@@ -70,10 +62,10 @@ bound_at ts =
     let four = skip (codes "four") ts in
     let six = skip (codes "six") four.1 in
     let over = skip (codes "overthrow") six.1 in
-    if four.0 then (bounds.Four, four.1)
-    else if six.0 then (bounds.Six, six.1)
-    else if over.0 then (bounds.Overthrow, over.1)
-    else (bounds.Run, over.1)
+    if four.0 then (Bound.Four, four.1)
+    else if six.0 then (Bound.Six, six.1)
+    else if over.0 then (Bound.Overthrow, over.1)
+    else (Bound.Run, over.1)
 
 unfoldable pub dismissal_at : List Token → Result (Out × List Token) LineFault
 dismissal_at ts = do
@@ -110,31 +102,31 @@ ball_at ts = do
 
 -- what follows the first word
 unfoldable pub after_first : First → List Token → Result (Plain × List Token) LineFault
-after_first firsts.Innings ts = do
+after_first First.Innings ts = do
   side ← word_at side_text all_sides ts
-  Ok (plains.Innings side.0, side.1)
-after_first firsts.Come ts = do
+  Ok (Plain.Innings side.0, side.1)
+after_first First.Come ts = do
   n ← number_at 1 11 ts
-  Ok (plains.Come n.0, n.1)
-after_first firsts.Ball ts = do
+  Ok (Plain.Come n.0, n.1)
+after_first First.Ball ts = do
   b ← ball_at ts
-  Ok (plains.Ball b.0, b.1)
-after_first firsts.Gone ts = do
+  Ok (Plain.Ball b.0, b.1)
+after_first First.Gone ts = do
   leave ← word_at leave_text all_leaves ts
   n ← number_at 1 11 leave.1
-  Ok (plains.Gone leave.0 n.0, n.1)
-after_first firsts.Over ts = Ok (plains.Over, ts)
-after_first firsts.Penalty ts = do
+  Ok (Plain.Gone leave.0 n.0, n.1)
+after_first First.Over ts = Ok (Plain.Over, ts)
+after_first First.Penalty ts = do
   side ← word_at side_text all_sides ts
   x ← number_at 1 42 side.1
   y ← number_at 0 99 x.1
-  Ok (plains.Penalty side.0 x.0 y.0, y.1)
-after_first firsts.Swap ts = Ok (plains.Swap, ts)
-after_first firsts.End ts = do
+  Ok (Plain.Penalty side.0 x.0 y.0, y.1)
+after_first First.Swap ts = Ok (Plain.Swap, ts)
+after_first First.End ts = do
   cause ← word_at cause_text all_causes ts
-  Ok (plains.End cause.0, cause.1)
-after_first firsts.Close ts = Ok (plains.Close, ts)
-after_first firsts.Void ts = Ok (plains.Void, ts)
+  Ok (Plain.End cause.0, cause.1)
+after_first First.Close ts = Ok (Plain.Close, ts)
+after_first First.Void ts = Ok (Plain.Void, ts)
 
 unfoldable pub plain_at : List Token → Result (Plain × List Token) LineFault
 plain_at ts = do
@@ -153,10 +145,10 @@ entry_at ts =
     let fix = skip (codes "fix") ts in
     let late = skip (codes "late") fix.1 in
     if fix.0
-    then (placed_at fix.1 >>= λ x. Ok (entries.Fix (x.0).0 (x.0).1, x.1))
+    then (placed_at fix.1 >>= λ x. Ok (Entry.Fix (x.0).0 (x.0).1, x.1))
     else if late.0
-    then (placed_at late.1 >>= λ x. Ok (entries.Late (x.0).0 (x.0).1, x.1))
-    else (plain_at late.1 >>= λ p. Ok (entries.Write p.0, p.1))
+    then (placed_at late.1 >>= λ x. Ok (Entry.Late (x.0).0 (x.0).1, x.1))
+    else (plain_at late.1 >>= λ p. Ok (Entry.Write p.0, p.1))
 
 -- nothing may stand after an entry
 abbrev pub ends : Entry → List Token → Result Entry LineFault
