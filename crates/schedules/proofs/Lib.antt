@@ -1,4 +1,3 @@
 pub mod ScheduleCuts
-pub mod EventTexts
 pub mod LineTexts
 pub mod ScheduleTexts

@@ -1,115 +1,286 @@
--- What a line of a schedule says, for each event and for each fault.
-use Rattle.std.proofs.Common.{◌≡◌, ℕ, List, ◌++◌, length, take, drop, Option, Some, None, Result, Ok, Err, inl, inr, refl, sym, ap, ◌∙◌, codes}
+-- What a line of a schedule says, for each event and for each fault, and that an event's line says just that event.
+use Rattle.std.proofs.Common.{◌≡◌, ℕ, ◌+◌, ◌≤◌, nat_lt, ◌<◌, ◌^◌, List, [], ◌∷◌, ◌++◌, length, take, drop, true, cond, Option, Some, None}
+use Rattle.std.proofs.Common.{Result, Ok, Err, ◌⊎◌, inl, inr, refl, sym, ap, subst, ◌∙◌, arith, codes, decimal, lit<, ne_eqb}
+use Rattle.std.specs.List.{join_with_byte, list_all}
+use Rattle.std.specs.Str.{bytes_eq, IsAscii, IsUtf8}
+use Rattle.std.specs.Str.Parse.{digits_value}
+use Rattle.std.proofs.lemmas.Fmt.{decimal_digit, digits_decimal, digits_value-decimal, IsAscii-decimal}
 use Rattle.std.proofs.lemmas.List.{take-append-drop}
-use Rattle.std.specs.Str.{bytes_eq}
+use Rattle.std.proofs.lemmas.Str.{IsAscii-append, IsUtf8-from_ascii}
+use Rattle.std.proofs.lemmas.Bool.{and_parts, ltb-true}
+use Rattle.std.proofs.lemmas.Str.Ascii.{IsAscii-cons, IsAscii-nil}
 use Rattle.notation.specs.declared.entry.Entry.{Entry}
+use Rattle.notation.specs.declared.entry.Entry.TheVariants as entries
 use Rattle.notation.specs.declared.fault.LineFault.{LineFault}
 use Rattle.notation.specs.Reading.{line_answer}
-use Rattle.notation.specs.Written.{text_of}
+use Rattle.notation.specs.Written.{found_number, is_number, text_of}
 use Rattle.notation.proofs.Faults.{fault_of, line_fault}
 use Rattle.notation.proofs.Found.{chosen, same}
+use Rattle.notation.proofs.Joined.{words_are}
+use Rattle.notation.proofs.Numbers.{own, parts, written}
 use Rattle.notation.proofs.Texts.{line_again, line_found}
 use Rattle.agree_core.specs.declared.messages.DeskId.{DeskId}
 use Rattle.agree_core.specs.declared.messages.DeskId.TheVariants.{A, B}
+use Rattle.entry_log.specs.declared.mem_disk.choice.Choice.{Choice}
 use Rattle.entry_log.specs.declared.mem_disk.choice.Choice.TheVariants as choices
 use Rattle.headline.specs.declared.event.Event.{Event}
 use Rattle.headline.specs.declared.event.Event.TheVariants as events
+use Rattle.headline.specs.declared.event.Station.{Station}
+use Rattle.headline.specs.declared.event.Station.TheVariants as stations
 use Rattle.schedules.specs.declared.schedule_fault.ScheduleFault.{ScheduleFault}
 use Rattle.schedules.specs.declared.schedule_fault.ScheduleFault.TheVariants.{NoMemory, BadEvent, BadEntry}
-use Rattle.schedules.specs.ScheduleLines.{event_text, pen_line, HasBadEntry, IsNoEvent, IsWrittenEvent}
-use Rattle.schedules.specs.inner.ScheduleReading.{after_start, event_at, event_or, line_says, pen_at, pen_of, pen_or, penned}
-use Rattle.schedules.proofs.EventTexts.{event_again, event_found, pen_text, IsPen}
+use Rattle.schedules.specs.ScheduleLines.{choice_words, desk_word, event_text, pen_line, station_word, HasBadEntry, IsNoEvent, IsWrittenChoice, IsWrittenEvent, IsWrittenStation}
+use Rattle.schedules.specs.inner.ScheduleReading.{◌>>=◌, Reader, after_start, board_station, both_at, choice_at, count_at, cut, desk_at, event_at, event_or}
+use Rattle.schedules.specs.inner.ScheduleReading.{fill_at, give_at, line_says, pen_at, pen_of, pen_or, penned, pick, power_at, readers, station_at}
+use Rattle.schedules.proofs.ScheduleCuts.{cut_digits, cut_found}
+
+bind_some : {X Y : Type 0} → (o : Option X) (f : X → Option Y) (y : Y) → (o >>= f) ≡ Some y → (x : X) × (o ≡ Some x) × (f x ≡ Some y)
+bind_some (Some x) f y h = (x, refl, h)
+bind_some None f y h = absurd (cc)
+
+-- the first of the words that are tried is there, or another one is
+one_of : {X : Type 0} → (w t : List ℕ) (x y : X) (others : Option X) → cond (bytes_eq w t) (Some x) others ≡ Some y → ((w ≡ t) × (x ≡ y)) ⊎ (others ≡ Some y)
+one_of w t x y others h = elim (chosen (bytes_eq w t) (Some x) others (Some y) h) [ inl p ↦ inl (same w t p.0, cc) | inr p ↦ inr p.1 ]
+
+ascii_of : (bs : List ℕ) → list_all (λ b. nat_lt b 128) bs ≡ true → IsAscii bs
+ascii_of [] h = IsAscii-nil
+ascii_of (b ∷ bs) h = let p = and_parts (nat_lt b 128) (list_all (λ x. nat_lt x 128) bs) h in IsAscii-cons b bs (ltb-true b 128 p.0) (ascii_of bs p.1)
+
+spaced_ascii : (a b : List ℕ) → IsAscii a → IsAscii b → IsAscii (a ++ (32 ∷ b))
+spaced_ascii a b h k = IsAscii-append a (32 ∷ b) h (IsAscii-cons 32 b (lit< tt) k)
+
+-- what is written is read, and what is read is written so, in ASCII
+record Reading {X : Type 0} (read : List ℕ → Option X) (write : X → List ℕ) (Fine : X → Type 0) : Type 0 where
+  again : (x : X) → Fine x → read (write x) ≡ Some x
+  found : (w : List ℕ) (x : X) → read w ≡ Some x → Fine x × (w ≡ write x)
+  ascii : (x : X) → Fine x → IsAscii (write x)
+
+number : (low high : ℕ) → high < 2 ^ 64 → Reading (found_number low high) decimal (λ n. (low ≤ n) × (n ≤ high))
+number low high small = record {
+  again = λ n h. rw (written low high n h.0 h.1 small) (ap Some (digits_value-decimal own n (omega (arith, h.1))));
+  found = λ w n h. elim (chosen (is_number low high w) (Some (digits_value 10 w)) None (Some n) h) [
+    | inl p ↦
+        let q = parts low high w p.0 in
+        let e : digits_value 10 w ≡ n = cc in
+        rw (← e) ((q.0, q.1), sym q.2)
+    | inr p ↦ absurd (cc)
+  ];
+  ascii = λ n h. IsAscii-decimal n (omega (arith, h.1));
+}
+
+-- two parts with a space between them
+both : {X Y : Type 0} {f : List ℕ → Option X} {g : List ℕ → Option Y} {a : X → List ℕ} {b : Y → List ℕ} {P : X → Type 0} {Q : Y → Type 0} → Reading f a P → Reading g b Q
+    → ((x : X) (rest : List ℕ) → P x → cut (a x ++ (32 ∷ rest)) ≡ Some (a x, rest)) → Reading (both_at f g) (λ p. a p.0 ++ (32 ∷ b p.1)) (λ p. P p.0 × Q p.1)
+both {f = f} {g = g} {b = b} r s first = record {
+  again = λ p h. rw (first p.0 (b p.1) h.0, r.again p.0 h.0, s.again p.1 h.1) refl;
+  found = λ w p h.
+      let c = bind_some (cut w) _ p h in
+      let x = bind_some (f (c.0).0) _ p c.2 in
+      let y = bind_some (g (c.0).1) _ p x.2 in
+      let e : (x.0, y.0) ≡ p = cc in
+      let m = r.found (c.0).0 x.0 x.1 in
+      let n = s.found (c.0).1 y.0 y.1 in
+      rw (← e) ((m.0, n.0), cut_found w c.0 c.1 ∙ (λ i. m.1 i ++ (32 ∷ n.1 i)));
+  ascii = λ p h. spaced_ascii _ _ (r.ascii p.0 h.0) (s.ascii p.1 h.1);
+}
+
+desk_again : (d : DeskId) → desk_at (desk_word d) ≡ Some d
+unfolding desk_at
+desk_again A = refl
+desk_again B = refl
+
+desk_found : (w : List ℕ) (d : DeskId) → desk_at w ≡ Some d → w ≡ desk_word d
+unfolding desk_at
+desk_found w d h = elim (one_of w (codes "a") A d _ h) [
+  | inl p ↦ p.0 ∙ ap desk_word p.1
+  | inr r ↦ elim (one_of w (codes "b") B d None r) [ inl p ↦ p.0 ∙ ap desk_word p.1 | inr q ↦ absurd (cc) ]
+]
+
+desk_ascii : (d : DeskId) → IsAscii (desk_word d)
+desk_ascii A = ascii_of (codes "a") refl
+desk_ascii B = ascii_of (codes "b") refl
+
+desk : Reading desk_at desk_word (λ d. Unit {0})
+desk = record { again = λ d h. desk_again d; found = λ w d h. (tt, desk_found w d h); ascii = λ d h. desk_ascii d }
+
+cut_desk : (d : DeskId) (rest : List ℕ) → Unit {0} → cut (desk_word d ++ (32 ∷ rest)) ≡ Some (desk_word d, rest)
+unfolding cut
+cut_desk A rest h = refl
+cut_desk B rest h = refl
+
+-- a digit is no desk
+no_desk : (n : ℕ) → n ≤ 4 → desk_at (decimal n) ≡ None
+unfolding desk_at
+no_desk n h = rw (decimal_digit n (omega arith), ne_eqb (48 + n) 97 (omega arith), ne_eqb (48 + n) 98 (omega arith)) refl
+
+station_again : (t : Station) → IsWrittenStation t → station_at (station_word t) ≡ Some t
+unfolding station_at
+station_again (stations.Desk d) h = rw (desk_again d) refl
+station_again (stations.Board n) h = let b = number 1 4 (lit< tt) in rw (no_desk n h.1, b.again n h) refl
+
+station_found : (w : List ℕ) (o : Option DeskId) (t : Station) → desk_at w ≡ o → board_station o w ≡ Some t → IsWrittenStation t × (w ≡ station_word t)
+station_found w (Some d) t is h = let e : stations.Desk d ≡ t = cc in rw (← e) (tt, desk_found w d is)
+station_found w None t is h =
+    let p = bind_some (found_number 1 4 w) _ t h in
+    let e : stations.Board p.0 ≡ t = cc in
+    let b = number 1 4 (lit< tt) in
+    rw (← e) (b.found w p.0 p.1)
+
+station_ascii : (t : Station) → IsWrittenStation t → IsAscii (station_word t)
+station_ascii (stations.Desk d) h = desk_ascii d
+station_ascii (stations.Board n) h = IsAscii-decimal n (omega (arith, h.1))
+
+station : Reading station_at station_word IsWrittenStation
+unfolding station_at
+station = record { again = station_again; found = λ w t h. station_found w (desk_at w) t refl h; ascii = station_ascii }
+
+-- what a power loss leaves
+
+abbrev choice_text : Choice → List ℕ
+choice_text c = join_with_byte 32 (choice_words c)
+
+choice_again : (c : Choice) → IsWrittenChoice c → choice_at (choice_text c) ≡ Some c
+unfolding choice_at fill_at cut
+choice_again (choices.Fill v) h = let n = number 0 255 (lit< tt) in rw (n.again v (omega arith, h)) refl
+choice_again _ h = refl
+
+fill_found : (w : List ℕ) (c : Choice) → fill_at w ≡ Some c → IsWrittenChoice c × (w ≡ choice_text c)
+unfolding fill_at
+fill_found w c h =
+    let p = bind_some (cut w) _ c h in
+    let q = bind_some (cond (bytes_eq (p.0).0 (codes "fill")) (found_number 0 255 (p.0).1) None) _ c p.2 in
+    let e : choices.Fill q.0 ≡ c = cc in
+    elim (chosen _ (found_number 0 255 (p.0).1) None (Some q.0) q.1) [
+      | inl r ↦
+          let value = number 0 255 (lit< tt) in
+          let n = value.found (p.0).1 q.0 r.1 in
+          let first = same (p.0).0 (codes "fill") r.0 in
+          rw (← e) (n.0.1, cut_found w p.0 p.1 ∙ (λ i. first i ++ (32 ∷ n.1 i)))
+      | inr r ↦ absurd (cc)
+    ]
+
+choice_found : (w : List ℕ) (c : Choice) → choice_at w ≡ Some c → IsWrittenChoice c × (w ≡ choice_text c)
+unfolding choice_at
+choice_found w c h = elim (one_of w (codes "lost") choices.Lost c _ h) [
+  | inl p ↦ rw (← p.1) (tt, p.0)
+  | inr r ↦ elim (one_of w (codes "kept") choices.Kept c (fill_at w) r) [ inl p ↦ rw (← p.1) (tt, p.0) | inr q ↦ fill_found w c q ]
+]
+
+choice_ascii : (c : Choice) → IsWrittenChoice c → IsAscii (choice_text c)
+choice_ascii choices.Lost h = ascii_of (codes "lost") refl
+choice_ascii choices.Kept h = ascii_of (codes "kept") refl
+choice_ascii (choices.Fill v) h = spaced_ascii (codes "fill") (decimal v) (ascii_of (codes "fill") refl) (IsAscii-decimal v (omega (arith, h)))
+
+power_text : (d : DeskId) (c : Choice) → codes "power" ++ (32 ∷ (desk_word d ++ (32 ∷ choice_text c))) ≡ event_text (events.Power d c)
+power_text d choices.Lost = refl
+power_text d choices.Kept = refl
+power_text d (choices.Fill v) = refl
+
+-- what stands behind the first word
+
+power : Reading (both_at desk_at choice_at) (λ p. desk_word p.0 ++ (32 ∷ choice_text p.1)) (λ p. Unit {0} × IsWrittenChoice p.1)
+power = both desk (record { again = choice_again; found = choice_found; ascii = choice_ascii }) cut_desk
+
+count : Reading count_at (λ p. desk_word p.0 ++ (32 ∷ decimal p.1)) (λ p. Unit {0} × ((1 ≤ p.1) × (p.1 ≤ 1000)))
+unfolding count_at
+count = both desk (number 1 1000 (lit< tt)) cut_desk
+
+give : Reading (both_at (found_number 0 65535) station_at) (λ p. decimal p.0 ++ (32 ∷ station_word p.1)) (λ p. ((0 ≤ p.0) × (p.0 ≤ 65535)) × IsWrittenStation p.1)
+give = both (number 0 65535 (lit< tt)) station (λ n rest h. cut_digits (decimal n) rest (digits_decimal own n (omega (arith, h.1))))
+
+-- the reader of a word reads what is written behind it
+abbrev Reads : List ℕ × Reader → Type 0
+Reads r = (ws : List ℕ) (e : Event) → r.1 ws ≡ Some e → IsWrittenEvent e × ((r.0 ++ (32 ∷ ws)) ≡ event_text e) × IsAscii (r.0 ++ (32 ∷ ws))
+
+reads : {X : Type 0} {f : List ℕ → Option X} {g : X → List ℕ} {P : X → Type 0} (word : List ℕ) (c : X → Event) → Reading f g P → list_all (λ b. nat_lt b 128) word ≡ true
+    → ((x : X) → P x → IsWrittenEvent (c x)) → ((x : X) → (word ++ (32 ∷ g x)) ≡ event_text (c x)) → Reads (word, λ ws. f ws >>= λ x. Some (c x))
+reads {f = f} word c r small fine text ws e h =
+    let x = bind_some (f ws) _ e h in
+    let same : c x.0 ≡ e = cc in
+    let p = r.found ws x.0 x.1 in
+    rw (← same) (fine x.0 p.0, ap (λ u. word ++ (32 ∷ u)) p.1 ∙ text x.0, spaced_ascii word ws (ascii_of word small) (rw p.1 (r.ascii x.0 p.0)))
+
+abbrev AllRead : List (List ℕ × Reader) → Type 0
+AllRead [] = Unit {0}
+AllRead (r ∷ rs) = Reads r × AllRead rs
+
+pick_reads : (first : List ℕ) (rs : List (List ℕ × Reader)) → AllRead rs → (ws : List ℕ) (e : Event) → pick first rs ws ≡ Some e
+    → IsWrittenEvent e × ((first ++ (32 ∷ ws)) ≡ event_text e) × IsAscii (first ++ (32 ∷ ws))
+pick_reads first [] all ws e h = absurd (cc)
+pick_reads first (r ∷ rs) all ws e h = elim (chosen (bytes_eq first r.0) (r.1 ws) (pick first rs ws) (Some e) h) [
+  | inl p ↦ rw (same first r.0 p.0) (all.0 ws e p.1)
+  | inr p ↦ pick_reads first rs all.1 ws e p.1
+]
+
+all_read : AllRead readers
+unfolding give_at power_at
+all_read =
+    let tick = reads (codes "tick") events.Tick station refl (λ t h. h) (λ t. refl) in
+    let given = reads (codes "give") (λ p. events.Give p.0 p.1) give refl (λ p h. (h.0.1, h.1)) (λ p. refl) in
+    let kill = reads (codes "kill") events.Kill desk refl (λ d h. tt) (λ d. refl) in
+    let lost = reads (codes "power") (λ p. events.Power p.0 p.1) power refl (λ p h. h.1) (λ p. power_text p.0 p.1) in
+    let fail = reads (codes "fail") (λ p. events.FailAt p.0 p.1) count refl (λ p h. h.1) (λ p. refl) in
+    let stop = reads (codes "stop") (λ p. events.StopAt p.0 p.1) count refl (λ p h. h.1) (λ p. refl) in
+    let opens = reads (codes "open") events.Open desk refl (λ d h. tt) (λ d. refl) in
+    let wipe = reads (codes "wipe") events.Wipe (number 1 4 (lit< tt)) refl (λ n h. h) (λ n. refl) in
+    let migrate = reads (codes "migrate") events.Migrate desk refl (λ d h. tt) (λ d. refl) in
+    (tick, (given, (kill, (lost, (fail, (stop, (opens, (wipe, (migrate, tt)))))))))
+
+-- what is read is the line of the event, and bytes that are no text are none
+event_found : (line : List ℕ) (e : Event) → event_at line ≡ Some e → IsWrittenEvent e × (line ≡ event_text e) × IsAscii line
+unfolding event_at
+event_found line e h =
+    let p = bind_some (cut line) _ e h in
+    let q = pick_reads (p.0).0 readers all_read (p.0).1 e p.2 in
+    let is = cut_found line p.0 p.1 in
+    (q.0, is ∙ q.1, subst IsAscii (sym is) q.2)
+
+pub event_utf8 : (line : List ℕ) (e : Event) → event_at line ≡ Some e → IsUtf8 line
+event_utf8 line e h = let p = event_found line e h in IsUtf8-from_ascii line p.2
+
+-- a pen line, with the line of its entry
+pen_text : (d : DeskId) (e : Entry) → event_text (events.Pen d e) ≡ pen_line d (text_of e)
+pen_text d (entries.Write p) = rw (words_are p) refl
+pen_text d _ = refl
 
 pen_again : (d : DeskId) (entry : List ℕ) → pen_at (pen_line d entry) ≡ Some (d, entry)
 unfolding pen_at
 pen_again A entry = refl
 pen_again B entry = refl
 
+-- the line of an event says that event
+pub says_again : (n : ℕ) (e : Event) → IsWrittenEvent e → line_says n (event_text e) ≡ Ok e
+unfolding line_says pen_at event_at cut give_at power_at
+says_again n (events.Pen d e) h =
+    ap (line_says n) (pen_text d e) ∙ (ap (λ o. pen_or n o (pen_line d (text_of e))) (pen_again d (text_of e)) ∙ ap (penned n d) (line_again e h))
+says_again n (events.Tick t) h = rw (station_again t h) refl
+says_again n (events.Give m t) h = rw (give.again (m, t) ((omega arith, h.0), h.1)) refl
+says_again n (events.Kill d) h = rw (desk_again d) refl
+says_again n (events.Power d c) h = ap (line_says n) (sym (power_text d c)) ∙ rw (power.again (d, c) (tt, h)) refl
+says_again n (events.FailAt d k) h = rw (count.again (d, k) (tt, h)) refl
+says_again n (events.StopAt d k) h = rw (count.again (d, k) (tt, h)) refl
+says_again n (events.Open d) h = rw (desk_again d) refl
+says_again n (events.Wipe k) h = let b = number 1 4 (lit< tt) in rw (b.again k h) refl
+says_again n (events.Migrate d) h = rw (desk_again d) refl
+
 start_found : (start line rest : List ℕ) → after_start start line ≡ Some rest → line ≡ start ++ rest
-start_found start line rest h = elim (chosen (bytes_eq (take (length start) line) start) (Some (drop (length start) line)) None (Some rest) h) [
-  | inl p ↦
-      let e : drop (length start) line ≡ rest = cc in
-      sym (take-append-drop (length start) line) ∙ (ap (λ u. u ++ drop (length start) line) (same (take (length start) line) start p.0) ∙ ap (λ u. start ++ u) e)
+start_found start line rest h = elim (one_of (take (length start) line) start (drop (length start) line) rest None h) [
+  | inl p ↦ sym (take-append-drop (length start) line) ∙ (λ i. p.0 i ++ p.1 i)
   | inr p ↦ absurd (cc)
 ]
 
-pen_go : (line : List ℕ) (a b : Option (List ℕ)) (p : DeskId × List ℕ) → ((r : List ℕ) → a ≡ Some r → line ≡ pen_line A r) → ((r : List ℕ) → b ≡ Some r → line ≡ pen_line B r) → pen_of a b ≡ Some p → line ≡ pen_line p.0 p.1
-pen_go line (Some r) b p f g h = let e : (A, r) ≡ p = cc in rw (← e) (f r refl)
-pen_go line None (Some r) p f g h = let e : (B, r) ≡ p = cc in rw (← e) (g r refl)
-pen_go line None None p f g h = absurd (cc)
+pen_found : (line : List ℕ) (a b : Option (List ℕ)) (p : DeskId × List ℕ) → after_start (codes "pen a ") line ≡ a → after_start (codes "pen b ") line ≡ b → pen_of a b ≡ Some p
+    → line ≡ pen_line p.0 p.1
+pen_found line (Some r) b p f g h = let e : (A, r) ≡ p = cc in rw (← e) (start_found (codes "pen a ") line r f)
+pen_found line None (Some r) p f g h = let e : (B, r) ≡ p = cc in rw (← e) (start_found (codes "pen b ") line r g)
+pen_found line None None p f g h = absurd (cc)
 
-pen_found : (line : List ℕ) (p : DeskId × List ℕ) → pen_at line ≡ Some p → line ≡ pen_line p.0 p.1
-unfolding pen_at
-pen_found line p h = pen_go line (after_start (codes "pen a ") line) (after_start (codes "pen b ") line) p (start_found (codes "pen a ") line) (start_found (codes "pen b ") line) h
-
-other_line : (e : Event) → (IsPen e → ⊥) → pen_at (event_text e) ≡ None
-unfolding pen_at
-other_line (events.Pen d e) other = absurd (other tt)
-other_line (events.Tick t) other = refl
-other_line (events.Give m t) other = refl
-other_line (events.Kill d) other = refl
-other_line (events.Power d choices.Lost) other = refl
-other_line (events.Power d choices.Kept) other = refl
-other_line (events.Power d (choices.Fill v)) other = refl
-other_line (events.FailAt d n) other = refl
-other_line (events.StopAt d n) other = refl
-other_line (events.Open d) other = refl
-other_line (events.Wipe n) other = refl
-other_line (events.Migrate d) other = refl
-
-again_other : (n : ℕ) (e : Event) → IsWrittenEvent e → (IsPen e → ⊥) → line_says n (event_text e) ≡ Ok e
-unfolding line_says
-again_other n e h other = ap (λ o. pen_or n o (event_text e)) (other_line e other) ∙ ap (event_or n) (event_again e h other)
-
--- the line of an event says that event
-pub says_again : (n : ℕ) (e : Event) → IsWrittenEvent e → line_says n (event_text e) ≡ Ok e
-unfolding line_says
-says_again n (events.Pen d e) h =
-    ap (line_says n) (pen_text d e)
-    ∙ (ap (λ o. pen_or n o (pen_line d (text_of e))) (pen_again d (text_of e)) ∙ ap (penned n d) (line_again e h))
-says_again n (events.Tick t) h = again_other n (events.Tick t) h (λ x. x)
-says_again n (events.Give m t) h = again_other n (events.Give m t) h (λ x. x)
-says_again n (events.Kill d) h = again_other n (events.Kill d) h (λ x. x)
-says_again n (events.Power d c) h = again_other n (events.Power d c) h (λ x. x)
-says_again n (events.FailAt d k) h = again_other n (events.FailAt d k) h (λ x. x)
-says_again n (events.StopAt d k) h = again_other n (events.StopAt d k) h (λ x. x)
-says_again n (events.Open d) h = again_other n (events.Open d) h (λ x. x)
-says_again n (events.Wipe k) h = again_other n (events.Wipe k) h (λ x. x)
-says_again n (events.Migrate d) h = again_other n (events.Migrate d) h (λ x. x)
-
-entry_found : (n : ℕ) (d : DeskId) (entry : List ℕ) (r : Result Entry LineFault) (e : Event) → line_answer entry ≡ r → penned n d r ≡ Ok e → IsWrittenEvent e × (pen_line d entry ≡ event_text e)
-entry_found n d entry (Ok x) e was h =
-    let same_event : events.Pen d x ≡ e = cc in
-    let p = line_found entry x was in
-    rw (← same_event) (p.0, ap (pen_line d) p.1 ∙ sym (pen_text d x))
-entry_found n d entry (Err f) e was h = absurd (cc)
-
-event_or_found : (n : ℕ) (line : List ℕ) (o : Option Event) (e : Event) → event_at line ≡ o → event_or n o ≡ Ok e → IsWrittenEvent e × (line ≡ event_text e)
-event_or_found n line (Some x) e was h = let same_event : x ≡ e = cc in event_found line e (was ∙ ap Some same_event)
-event_or_found n line None e was h = absurd (cc)
-
-says_go : (n : ℕ) (line : List ℕ) (o : Option (DeskId × List ℕ)) (e : Event) → pen_at line ≡ o → pen_or n o line ≡ Ok e → IsWrittenEvent e × (line ≡ event_text e)
-says_go n line (Some p) e was h =
-    let q = entry_found n p.0 p.1 (line_answer p.1) e refl h in
-    (q.0, pen_found line p was ∙ q.1)
-says_go n line None e was h = event_or_found n line (event_at line) e refl h
-
--- and the event that a line says is written so
-pub says_found : (n : ℕ) (line : List ℕ) (e : Event) → line_says n line ≡ Ok e → IsWrittenEvent e × (line ≡ event_text e)
-unfolding line_says
-says_found n line e h = says_go n line (pen_at line) e refl h
-
--- what is wrong with line n
-abbrev pub IsWrong : ℕ → List ℕ → ScheduleFault → Type 0
-IsWrong n line NoMemory = ⊥
-IsWrong n line (BadEvent k) = (k ≡ n) × IsNoEvent line
-IsWrong n line (BadEntry k fault) = (k ≡ n) × HasBadEntry fault line
-
-entry_wrong : (n : ℕ) (d : DeskId) (entry : List ℕ) (r : Result Entry LineFault) (why : ScheduleFault) → line_answer entry ≡ r → penned n d r ≡ Err why → IsWrong n (pen_line d entry) why
-entry_wrong n d entry (Ok x) why was h = absurd (cc)
-entry_wrong n d entry (Err f) why was h =
-    let e : BadEntry n f ≡ why = cc in
-    rw (← e) (refl, (d, entry, refl, line_fault entry ∙ ap fault_of was))
+-- what is said of line n: it is the line of this event, or wrong so
+abbrev pub IsSaid : ℕ → List ℕ → Result Event ScheduleFault → Type 0
+IsSaid n line (Ok e) = IsWrittenEvent e × (line ≡ event_text e)
+IsSaid n line (Err NoMemory) = ⊥
+IsSaid n line (Err (BadEvent k)) = (k ≡ n) × IsNoEvent line
+IsSaid n line (Err (BadEntry k fault)) = (k ≡ n) × HasBadEntry fault line
 
 no_event : (n : ℕ) (line : List ℕ) → pen_at line ≡ None → event_at line ≡ None → IsNoEvent line
 unfolding line_says
@@ -123,14 +294,19 @@ no_event n line pen other = record {
       absurd (cc);
 }
 
-event_wrong : (n : ℕ) (line : List ℕ) (o : Option Event) (why : ScheduleFault) → pen_at line ≡ None → event_at line ≡ o → event_or n o ≡ Err why → IsWrong n line why
-event_wrong n line (Some x) why pen was h = absurd (cc)
-event_wrong n line None why pen was h = let e : BadEvent n ≡ why = cc in rw (← e) (refl, no_event n line pen was)
+entry_says : (n : ℕ) (d : DeskId) (entry : List ℕ) (r : Result Entry LineFault) → line_answer entry ≡ r → IsSaid n (pen_line d entry) (penned n d r)
+entry_says n d entry (Ok x) was = let p = line_found entry x was in (p.0, ap (pen_line d) p.1 ∙ sym (pen_text d x))
+entry_says n d entry (Err f) was = (refl, (d, entry, refl, line_fault entry ∙ ap fault_of was))
 
-wrong_go : (n : ℕ) (line : List ℕ) (o : Option (DeskId × List ℕ)) (why : ScheduleFault) → pen_at line ≡ o → pen_or n o line ≡ Err why → IsWrong n line why
-wrong_go n line (Some p) why was h = rw (pen_found line p was) (entry_wrong n p.0 p.1 (line_answer p.1) why refl h)
-wrong_go n line None why was h = event_wrong n line (event_at line) why was refl h
+event_says : (n : ℕ) (line : List ℕ) (o : Option Event) → pen_at line ≡ None → event_at line ≡ o → IsSaid n line (event_or n o)
+event_says n line (Some e) pen was = let p = event_found line e was in (p.0, p.1)
+event_says n line None pen was = (refl, no_event n line pen was)
 
-pub says_wrong : (n : ℕ) (line : List ℕ) (why : ScheduleFault) → line_says n line ≡ Err why → IsWrong n line why
+pen_says : (n : ℕ) (line : List ℕ) (o : Option (DeskId × List ℕ)) → pen_at line ≡ o → IsSaid n line (pen_or n o line)
+unfolding pen_at
+pen_says n line (Some p) was = rw (pen_found line _ _ p refl refl was) (entry_says n p.0 p.1 (line_answer p.1) refl)
+pen_says n line None was = event_says n line (event_at line) was refl
+
+pub is_said : (n : ℕ) (line : List ℕ) (r : Result Event ScheduleFault) → line_says n line ≡ r → IsSaid n line r
 unfolding line_says
-says_wrong n line why h = wrong_go n line (pen_at line) why refl h
+is_said n line r says = rw (← says) (pen_says n line (pen_at line) refl)

@@ -1,8 +1,9 @@
 -- What stands before the first space of a line, and after it.
-use Rattle.std.proofs.Common.{◌≡◌, ◌≢◌, ℕ, suc, ◌<◌, ◌==◌, nat_le, List, [], ◌∷◌, ◌++◌, length, get_or, Bool, true, false, cond, Option, Some, None, Bor, refl, ap, arith, lit<, ne_eqb}
+use Rattle.std.proofs.Common.{◌≡◌, ◌≢◌, ℕ, suc, ◌<◌, ◌==◌, List, [], ◌∷◌, ◌++◌, length, get_or, Bool, true, false, cond, Option, Some, None, Bor, refl, ap, arith, lit<, ne_eqb}
 use Rattle.std.specs.Char.{is_ascii_digit}
 use Rattle.std.specs.Str.{all_ascii_digits}
-use Rattle.std.proofs.lemmas.Bool.{and_parts, eqb-true, leb-true}
+use Rattle.std.proofs.lemmas.Bool.{and_parts, eqb-true}
+use Rattle.std.proofs.lemmas.Bool.Decides.{nat_tests}
 use Rattle.std.proofs.lemmas.Str.Pattern.{IsSplitOnceResult, split_parts}
 use Rattle.schedules.specs.inner.ScheduleReading.{cut, with_first}
 
@@ -27,9 +28,7 @@ unfolding cut
 cut_digits [] rest h = refl
 cut_digits (d ∷ ds) rest h =
     let p = and_parts (is_ascii_digit d) (all_ascii_digits ds) h in
-    let q = and_parts (nat_le 48 d) (nat_le d 57) p.0 in
-    let low = leb-true 48 d q.0 in
-    let head : (d == 32) ≡ false = ne_eqb d 32 (λ e. omega (arith, low, e)) in
+    let head : (d == 32) ≡ false = grind (arith, nat_tests, p.0) in
     rw (head, cut_digits ds rest p.1) refl
 
 pub cut_some : (bs : List ℕ) (x y : Bor (List ℕ)) → IsSplitOnceResult 32 bs (Some (x, y)) → cut bs ≡ Some (x.now, y.now)

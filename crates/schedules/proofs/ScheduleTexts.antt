@@ -1,5 +1,5 @@
 -- The lines of a schedule, one after another.
-use Rattle.std.proofs.Common.{◌≡◌, ◌+◌, ℕ, List, [], ◌∷◌, ◌++◌, length, map, Ok, Err, refl, ap, ◌∙◌}
+use Rattle.std.proofs.Common.{◌≡◌, ◌+◌, ℕ, List, [], ◌∷◌, ◌++◌, length, map, Ok, Err, refl, sym, ap, ◌∙◌}
 use Rattle.std.specs.Prelude.{All}
 use Rattle.std.proofs.lemmas.List.Elements.{All-head, All-tail}
 use Rattle.headline.specs.declared.event.Event.{Event}
@@ -7,13 +7,12 @@ use Rattle.schedules.specs.declared.schedule_fault.ScheduleFault.{ScheduleFault}
 use Rattle.schedules.specs.declared.schedule_fault.ScheduleFault.TheVariants.{NoMemory, BadEvent, BadEntry}
 use Rattle.schedules.specs.ScheduleLines.{event_text, HasFault, IsWrittenEvent}
 use Rattle.schedules.specs.inner.ScheduleReading.{line_says}
-use Rattle.schedules.proofs.LineTexts.{IsWrong, says_again}
+use Rattle.schedules.proofs.LineTexts.{IsSaid, says_again}
 
 -- a line says one event
 same_event : (e f : Event) → IsWrittenEvent e → IsWrittenEvent f → event_text e ≡ event_text f → e ≡ f
 same_event e f h k same =
-    let a : line_says 0 (event_text e) ≡ Ok e = says_again 0 e h in
-    let b : line_says 0 (event_text e) ≡ Ok f = ap (line_says 0) same ∙ says_again 0 f k in
+    let says : Ok e ≡ Ok f = sym (says_again 0 e h) ∙ (ap (line_says 0) same ∙ says_again 0 f k) in
     cc
 
 first_same : {x y : List ℕ} {xs ys : List (List ℕ)} → (x ∷ xs) ≡ (y ∷ ys) → x ≡ y
@@ -45,7 +44,7 @@ none_wrong n line why rest (b ∷ bs) (f ∷ fs) says h same =
     none_wrong n line why rest bs fs says (All-tail IsWrittenEvent f fs h) (rest_same same)
 
 -- the first line at fault
-pub at_fault : (lines : List (List ℕ)) (n : ℕ) (line : List ℕ) (rest : List (List ℕ)) (before : List Event) (why : ScheduleFault) → All IsWrittenEvent before → lines ≡ map event_text before ++ (line ∷ rest) → n ≡ length before + 1 → IsWrong n line why → HasFault lines why
+pub at_fault : (lines : List (List ℕ)) (n : ℕ) (line : List ℕ) (rest : List (List ℕ)) (before : List Event) (why : ScheduleFault) → All IsWrittenEvent before → lines ≡ map event_text before ++ (line ∷ rest) → n ≡ length before + 1 → IsSaid n line (Err why) → HasFault lines why
 at_fault lines n line rest before NoMemory h texts e wrong = absurd wrong
 at_fault lines n line rest before (BadEvent k) h texts e wrong =
     record { before = before; line = line; after = rest; written = h; texts = texts; number = wrong.0 ∙ e; wrong = wrong.1 }

@@ -2,7 +2,7 @@
 
 ghost use Rattle.std.specs.Prelude.{◌≡◌, ◌≤◌, IfSome, MatchOption, Some, None};
 ghost use Rattle.notation.specs.Written.{found_number};
-ghost use Rattle.schedules.specs.inner.ScheduleReading.{board_at, choice_at, cut, count_at, desk_at, event_at, fill_at, give_at, line_says, pen_at, pick, power_at, readers, station_at};
+ghost use Rattle.schedules.specs.inner.ScheduleReading.{choice_at, cut, count_at, desk_at, event_at, fill_at, give_at, line_says, pen_at, pick, power_at, readers, station_at};
 
 use crate::schedule_fault::ScheduleFault;
 use agree_core::DeskId;
@@ -30,9 +30,8 @@ fn desk(word: &str) -> Option<DeskId>
 }
 
 /// A board's number.
-#[tactic(auto, unfolding(crate::specs::inner::ScheduleReading::board_at))]
 fn board(word: &str) -> Option<u8>
-    ensures { result ≡ board_at word.now }
+    ensures { result ≡ found_number 1 4 word.now }
 {
     let number = number_in(word, 1, 4)?;
     Some(number as u8)

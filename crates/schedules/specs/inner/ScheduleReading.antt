@@ -34,13 +34,10 @@ cut (b ∷ bs) = if b == 32 then Some ([], bs) else with_first b (cut bs)
 unfoldable pub desk_at : List ℕ → Option DeskId
 desk_at w = if bytes_eq w (codes "a") then Some A else if bytes_eq w (codes "b") then Some B else None
 
-unfoldable pub board_at : List ℕ → Option ℕ
-board_at w = found_number 1 4 w
-
 abbrev pub board_station : Option DeskId → List ℕ → Option Station
 board_station (Some d) w = Some (stations.Desk d)
 board_station None w = do
-  n ← board_at w
+  n ← found_number 1 4 w
   Some (stations.Board n)
 
 unfoldable pub station_at : List ℕ → Option Station
@@ -58,27 +55,23 @@ choice_at ws =
     else if bytes_eq ws (codes "kept") then Some choices.Kept
     else fill_at ws
 
-unfoldable pub give_at : List ℕ → Option Event
-give_at ws = do
+-- two parts with a space between them
+abbrev pub both_at : {X Y : Type 0} → (List ℕ → Option X) → (List ℕ → Option Y) → List ℕ → Option (X × Y)
+both_at f g ws = do
   p ← cut ws
-  m ← found_number 0 65535 p.0
-  t ← station_at p.1
-  Some (events.Give m t)
+  x ← f p.0
+  y ← g p.1
+  Some (x, y)
+
+unfoldable pub give_at : List ℕ → Option Event
+give_at ws = both_at (found_number 0 65535) station_at ws >>= λ p. Some (events.Give p.0 p.1)
 
 unfoldable pub power_at : List ℕ → Option Event
-power_at ws = do
-  p ← cut ws
-  d ← desk_at p.0
-  choice ← choice_at p.1
-  Some (events.Power d choice)
+power_at ws = both_at desk_at choice_at ws >>= λ p. Some (events.Power p.0 p.1)
 
 -- a desk, and a number of calls
 unfoldable pub count_at : List ℕ → Option (DeskId × ℕ)
-count_at ws = do
-  p ← cut ws
-  d ← desk_at p.0
-  n ← found_number 1 1000 p.1
-  Some (d, n)
+count_at ws = both_at desk_at (found_number 1 1000) ws
 
 -- what the first word says of the others
 abbrev pub Reader : Type 0
@@ -93,7 +86,7 @@ readers =
     (codes "fail", λ ws. count_at ws >>= λ p. Some (events.FailAt p.0 p.1)) ∷
     (codes "stop", λ ws. count_at ws >>= λ p. Some (events.StopAt p.0 p.1)) ∷
     (codes "open", λ ws. desk_at ws >>= λ d. Some (events.Open d)) ∷
-    (codes "wipe", λ ws. board_at ws >>= λ n. Some (events.Wipe n)) ∷
+    (codes "wipe", λ ws. found_number 1 4 ws >>= λ n. Some (events.Wipe n)) ∷
     (codes "migrate", λ ws. desk_at ws >>= λ d. Some (events.Migrate d)) ∷ []
 
 abbrev pub pick : List ℕ → List (List ℕ × Reader) → Reader

@@ -2,7 +2,7 @@ use Rattle.std.proofs.Common.{◌≡◌, List, ℕ, Option, Some, None, refl, sy
 use Rattle.std.specs.Str.{IsUtf8}
 use Rattle.headline.specs.declared.event.Event.{Event}
 use Rattle.schedules.specs.inner.ScheduleReading.{event_at}
-use Rattle.schedules.proofs.EventTexts.{event_utf8}
+use Rattle.schedules.proofs.LineTexts.{event_utf8}
 use Rattle.schedules.proofs.event_line.event.Goals as goal
 
 no_text : (line : List ℕ) (o : Option Event) → event_at line ≡ o → (IsUtf8 line → ⊥) → None ≡ event_at line
