@@ -1,20 +1,15 @@
 -- What the bytes of a message are made of, and that no other message has them.
-use Rattle.std.proofs.Common.{◌≡◌, ◌∙◌, ◌<◌, ◌≤◌, ℕ, List, take, drop, length, replicate, Option, Some, None, arith, refl, sym, ap, slice_index, inl, inr, Bool, true, false, IsTrue, ◌↔◌}
+use Rattle.std.proofs.Common.{◌≡◌, ◌∙◌, ◌<◌, ◌≤◌, ℕ, List, ◌++◌, drop, length, replicate, Option, Some, None, arith, refl, sym, ap, slice_index, inl, inr, Bool, true, false, IsTrue, ◌↔◌}
 use Rattle.std.specs.Option.{option_map}
 use Rattle.std.proofs.lemmas.Nat.{from_be_bytes-to_be_bytes_2, from_be_bytes-to_be_bytes_4}
-use Rattle.std.proofs.lemmas.List.{length-append, length-drop, take-append-le, take_all}
-use Rattle.notation.specs.declared.entry.Entry.{Entry}
+use Rattle.std.proofs.lemmas.List.{length-drop, take-append-le, take_all}
+use Rattle.notation.specs.declared.entry.{Entry.Entry, Out.Out, Plain.Plain}
 use Rattle.notation.specs.declared.entry.Entry.TheVariants.{Write, Fix, Late}
-use Rattle.notation.specs.declared.entry.Out.{Out}
-use Rattle.notation.specs.declared.entry.Plain.{Plain}
-use Rattle.notation.specs.declared.entry.Plain.TheVariants as plains
 use Rattle.notation.specs.Code.{code, body as plain_body, out_code, spare_bytes}
 use Rattle.notation.proofs.Decoded.{code_once}
 use Rattle.agree_core.specs.declared.messages.Ask.{Ask as AnAsk}
-use Rattle.agree_core.specs.declared.messages.Asker.{Asker}
-use Rattle.agree_core.specs.declared.messages.DeskId.{DeskId}
-use Rattle.agree_core.specs.declared.messages.DeskId.TheVariants.{A, B}
-use Rattle.agree_core.specs.declared.messages.Message.{Message}
+use Rattle.agree_core.specs.declared.messages.{Asker.Asker, DeskId.DeskId, Message.Message}
+use Rattle.agree_core.specs.declared.messages.DeskId.TheVariants.{A}
 use Rattle.agree_core.specs.declared.messages.Message.TheVariants.{Vote, Ask}
 use Rattle.agree_core.specs.declared.messages.Vote.{Vote as AVote}
 use Rattle.agree_core.specs.declared.position.Position.{Position}
@@ -26,26 +21,18 @@ use Rattle.agree_core.specs.Ballots.{desk_number}
 use Rattle.wire.specs.Layout.{IsMessage, Says, asker_number, body, body_in, is_at, written}
 use Rattle.wire.specs.inner.Fields.{asker_numbered, desk_numbered, place_in, round_in}
 
-out_length : (o : Option Out) → length (out_code o) ≡ 4
+out_length : (o : Option Out) → length (out_code o ++ spare_bytes) ≡ 12
 out_length None = refl
 out_length (Some o) = refl
 
-body_length : (p : Plain) → length (plain_body p) ≡ 10
-body_length (plains.Innings s) = refl
-body_length (plains.Come n) = refl
-body_length (plains.Ball b) = let o = out_length b.out in omega (arith, o)
-body_length (plains.Gone l n) = refl
-body_length plains.Over = refl
-body_length (plains.Penalty s x y) = refl
-body_length plains.Swap = refl
-body_length (plains.End k) = refl
-body_length plains.Close = refl
-body_length plains.Void = refl
+body_length : (p : Plain) → length (plain_body p ++ spare_bytes) ≡ 18
+body_length (Plain.Ball b) = let o = out_length b.out in omega (arith, o)
+body_length _ = refl
 
 pub code_length : (e : Entry) → length (code e) ≡ 24
-code_length (Write p) = let b = body_length p in let all = length-append (plain_body p) spare_bytes in omega (arith, b, all)
-code_length (Fix place p) = let b = body_length p in let all = length-append (plain_body p) spare_bytes in omega (arith, b, all)
-code_length (Late place p) = let b = body_length p in let all = length-append (plain_body p) spare_bytes in omega (arith, b, all)
+code_length (Write p) = let b = body_length p in omega (arith, b)
+code_length (Fix place p) = let b = body_length p in omega (arith, b)
+code_length (Late place p) = let b = body_length p in omega (arith, b)
 
 pub message_body_length : (m : Message) → length (body m) ≡ 24
 message_body_length (Vote v) = code_length v.entry
@@ -73,12 +60,11 @@ round_part game m range = from_be_bytes-to_be_bytes_2 (is_at m).round (omega (ar
 
 pub desk_back : (d : DeskId) → desk_numbered (desk_number d) ≡ Some d
 desk_back A = refl
-desk_back B = refl
+desk_back _ = refl
 
 pub asker_back : (a : Asker) → asker_numbered (asker_number a) ≡ Some a
 asker_back Asker.A = refl
-asker_back Asker.B = refl
-asker_back Asker.Board = refl
+asker_back _ = refl
 
 -- the fields of bytes that say a message
 pub voter_of : (game : ℕ) (bytes : List ℕ) (v : AVote) → Says game bytes (Vote v) → desk_numbered (slice_index bytes 12) ≡ Some v.desk

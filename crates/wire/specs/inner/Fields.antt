@@ -1,8 +1,7 @@
 -- The fields of a message, read one by one.
 use Rattle.std.specs.Prelude.{◌==◌, if◌then◌else◌, ℕ, List, take, drop, Option, Some, None}
 use Rattle.std.specs.Int.{w16, w32, from_be_bytes}
-use Rattle.agree_core.specs.declared.messages.Asker.{Asker}
-use Rattle.agree_core.specs.declared.messages.DeskId.{DeskId}
+use Rattle.agree_core.specs.declared.messages.{Asker.Asker, DeskId.DeskId}
 use Rattle.agree_core.specs.declared.messages.DeskId.TheVariants.{A, B}
 
 abbrev pub desk_numbered : ℕ → Option DeskId

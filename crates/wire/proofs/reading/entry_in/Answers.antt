@@ -1,4 +1,3 @@
-use Rattle.std.proofs.Common.{◌∙◌, sym}
 use Rattle.wire.proofs.MessageLemmas.{short_body}
 use Rattle.wire.proofs.reading.entry_in.Goals as goal
 
