@@ -1,5 +1,5 @@
 -- What is so of each item of a list, and of each board.
-use Rattle.std.proofs.Common.{◌≡◌, ℕ, zero, suc, Some, List, [], ◌∷◌, ◌++◌, subst}
+use Rattle.std.proofs.Common.{arith, ◌≡◌, ℕ, zero, suc, Some, List, [], ◌∷◌, ◌++◌, subst}
 use Rattle.std.specs.Prelude.{slice_get, slice_set}
 use Rattle.agree_core.specs.Ballots.{AllVotes}
 use Rattle.agree_core.specs.Boards.{BoardState}
@@ -26,12 +26,10 @@ item_set P (x ∷ xs) zero k p h = (p, h.1)
 item_set P (x ∷ xs) (suc n) k p h = (h.0, item_set P xs n k p h.1)
 
 pub board_fine_at : (v : AllVotes) (boards : List BoardState) (n : ℕ) (k : BoardState) → board_at boards n ≡ Some k → Each (BoardFine v) boards → BoardFine v k
-board_fine_at v boards zero k e h = absurd (cc)
-board_fine_at v boards (suc n) k e h = item_at (BoardFine v) boards n k e h
+board_fine_at v boards n k h0 h1 = grind (arith, item_at)
 
 pub board_set : (v : AllVotes) (boards : List BoardState) (n : ℕ) (k : BoardState) → BoardFine v k → Each (BoardFine v) boards → Each (BoardFine v) (with_board boards n k)
-board_set v boards zero k f h = h
-board_set v boards (suc n) k f h = item_set (BoardFine v) boards n k f h
+board_set v boards n k h0 h1 = grind (arith, item_set)
 
 pub fresh_boards_fine : (v : AllVotes) (n : ℕ) → Each (BoardFine v) (fresh_boards n)
 fresh_boards_fine v zero = tt

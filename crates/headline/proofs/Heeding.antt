@@ -1,10 +1,8 @@
 -- What a seat and a reader make of a vote; which board or station another one is.
-use Rattle.std.proofs.Common.{◌≡◌, ◌≢◌, ◌⊎◌, ◌+◌, ℕ, zero, suc, Option, Some, None, List, [], ◌∷◌, refl, sym, ap, ◌∙◌, inl, inr, arith, ⊎_elim}
+use Rattle.std.proofs.Common.{◌≡◌, ◌≢◌, ◌⊎◌, ◌+◌, ℕ, zero, suc, Option, Some, None, List, [], ◌∷◌, refl, sym, ap, ◌∙◌, inl, inr, arith}
 use Rattle.std.specs.Prelude.{slice_get, slice_set}
-use Rattle.std.proofs.lemmas.Bool.Decides.{eqb_tells}
 use Rattle.notation.specs.declared.entry.Entry.{Entry}
 use Rattle.agree_core.specs.declared.messages.DeskId.{DeskId}
-use Rattle.agree_core.specs.declared.messages.DeskId.TheVariants.{A, B}
 use Rattle.agree_core.specs.declared.messages.Vote.{Vote}
 use Rattle.agree_core.specs.declared.position.Position.{Position}
 use Rattle.agree_core.specs.declared.seat.Heard.{Heard}
@@ -27,9 +25,7 @@ set_other (x ∷ xs) (suc m) zero l h = refl
 set_other (x ∷ xs) (suc m) (suc n) l h = set_other xs m n l (λ e. h (ap suc e))
 
 pub board_other : (boards : List BoardState) (m n : ℕ) (l : BoardState) → m ≢ n → board_at (with_board boards m l) n ≡ board_at boards n
-board_other boards zero n l h = refl
-board_other boards (suc m) zero l h = refl
-board_other boards (suc m) (suc n) l h = set_other boards m n l (λ e. h (ap suc e))
+board_other boards m n l h0 = grind (arith, set_other)
 
 set_there : (xs : List BoardState) (n : ℕ) (k l : BoardState) → slice_get xs n ≡ Some k → slice_get (slice_set xs n l) n ≡ Some l
 set_there [] n k l e = absurd (cc)
@@ -37,49 +33,28 @@ set_there (x ∷ xs) zero k l e = refl
 set_there (x ∷ xs) (suc n) k l e = set_there xs n k l e
 
 pub board_put : (boards : List BoardState) (n : ℕ) (k l : BoardState) → board_at boards n ≡ Some k → board_at (with_board boards n l) n ≡ Some l
-board_put boards zero k l e = absurd (cc)
-board_put boards (suc n) k l e = set_there boards n k l e
+board_put boards n k l h0 = grind (arith, set_there)
 
 pub same_station : (t u : Station) → (t ≡ u) ⊎ (t ≢ u)
-same_station (stations.Desk A) (stations.Desk A) = inl refl
-same_station (stations.Desk A) (stations.Desk B) = inr (λ e. cc)
-same_station (stations.Desk B) (stations.Desk A) = inr (λ e. cc)
-same_station (stations.Desk B) (stations.Desk B) = inl refl
-same_station (stations.Desk d) (stations.Board n) = inr (λ e. cc)
-same_station (stations.Board n) (stations.Desk d) = inr (λ e. cc)
-same_station (stations.Board m) (stations.Board n) = ⊎_elim (λ (p : _ × (m ≡ n)). inl (ap stations.Board p.1)) (λ (p : _ × (m ≢ n)). inr (λ e. p.1 (cc))) (eqb_tells m n)
+same_station t u = grind arith
 
 pub own_kept : (k : SeatState) (d : DeskId) → kept_by_seat k d d ≡ k.mine
-own_kept k A = refl
-own_kept k B = refl
+own_kept k d = grind arith
 
 pub their_kept : (k : SeatState) (d c : DeskId) → c ≢ d → kept_by_seat k d c ≡ k.theirs
-their_kept k A A n = absurd (n refl)
-their_kept k A B n = refl
-their_kept k B A n = refl
-their_kept k B B n = absurd (n refl)
+their_kept k d c n = grind arith
 
 pub no_seat_kept : (k : SeatState) (d c : DeskId) → k.mine ≡ None → k.theirs ≡ None → kept_by_seat k d c ≡ None
-no_seat_kept k A A m t = m
-no_seat_kept k A B m t = t
-no_seat_kept k B A m t = t
-no_seat_kept k B B m t = m
+no_seat_kept k d c m t = grind arith
 
 pub which : (c d : DeskId) → (d ≡ c) ⊎ (d ≡ other c)
-which A A = inl refl
-which A B = inr refl
-which B A = inr refl
-which B B = inl refl
+which c d = grind arith
 
 pub other_not : (d : DeskId) → other d ≢ d
-other_not A = λ e. cc
-other_not B = λ e. cc
+other_not d = grind arith
 
 pub other_of : (c d : DeskId) → c ≢ d → other c ≡ d
-other_of A A n = absurd (n refl)
-other_of A B n = refl
-other_of B A n = refl
-other_of B B n = absurd (n refl)
+other_of c d n = grind arith
 
 pub next_place_differs : (p q : Position) → q ≡ record { place = p.place + 1; round = 0 } → p ≢ q
 next_place_differs p q e h = let a = ap (λ (x : Position). x.place) (h ∙ e) in omega (arith, a)
@@ -133,17 +108,13 @@ reads k l v Heard.Differ r =
     let e = r.3 in inr (inr (next_round_differs k.position l.position (ap (λ (z : ReaderState). z.position) e), ap (λ (z : ReaderState). z.a) e, ap (λ (z : ReaderState). z.b) e))
 
 pub noting_there : (k : ReaderState) (d : DeskId) (e : Entry) → noted_of (readers.noting k d e) d ≡ Some e
-noting_there k A e = refl
-noting_there k B e = refl
+noting_there k d e = grind arith
 
 pub noting_other : (k : ReaderState) (d : DeskId) (e : Entry) → noted_of (readers.noting k d e) (other d) ≡ noted_of k (other d)
-noting_other k A e = refl
-noting_other k B e = refl
+noting_other k d e = grind arith
 
 pub noting_at : (k : ReaderState) (d : DeskId) (e : Entry) → (readers.noting k d e).position ≡ k.position
-noting_at k A e = refl
-noting_at k B e = refl
+noting_at k d e = grind arith
 
 pub no_reader_kept : (k : ReaderState) (c : DeskId) → k.a ≡ None → k.b ≡ None → noted_of k c ≡ None
-no_reader_kept k A a b = a
-no_reader_kept k B a b = b
+no_reader_kept k c a b = grind arith

@@ -1,14 +1,14 @@
 -- What every event of a run keeps, over any disk.
-use Rattle.std.proofs.Common.{◌≡◌, ℕ, Option, Some, None, List, [], ◌∷◌, ◌++◌, refl, sym, ap, ◌∙◌, subst, inl, inr}
+use Rattle.std.proofs.Common.{arith, ◌≡◌, ℕ, Option, Some, None, List, [], ◌∷◌, ◌++◌, refl, sym, ap, ◌∙◌, subst}
 use Rattle.std.specs.Prelude.{slice_get}
 use Rattle.agree_core.specs.declared.messages.DeskId.{DeskId}
 use Rattle.agree_core.specs.declared.messages.DeskId.TheVariants.{A, B}
 use Rattle.agree_core.specs.declared.messages.Message.{Message}
-use Rattle.agree_core.specs.Ballots.{AllJustified, AllVotes, Ballot, In, Justified, VotesGrow, Within, ballot_of, votes_by}
+use Rattle.agree_core.specs.Ballots.{AllJustified, AllVotes, Ballot, Justified, VotesGrow, Within, votes_by}
 use Rattle.agree_core.specs.Boards.{BoardState}
 use Rattle.agree_core.specs.Desks.{DeskState, PenAnswer, ReceiveAnswer}
 use Rattle.agree_core.specs.FileView.{MaySync, Stays}
-use Rattle.agree_core.specs.Openings.{OpenRefusal, Opening, Opens}
+use Rattle.agree_core.specs.Openings.{Opening, Opens}
 use Rattle.agree_core.specs.Readers.{other}
 use Rattle.agree_core.proofs.Order.{justified_grows}
 use Rattle.headline.specs.declared.event.Event.{Event}
@@ -31,9 +31,8 @@ use Rattle.headline.specs.Steps.{Step, StepAt}
 use Rattle.headline.specs.Runs.{Begins, BeginsAt, Moment, Run, last_of}
 use Rattle.agree_core.specs.Keeping.{BoardFine, DeskFine, DeskKept, DiskFine, Each, MessageFine, OneMore, OwnMessage, ShowsMore, TheirMessage}
 use Rattle.agree_core.proofs.Both.{same}
-use Rattle.agree_core.proofs.Desks.{desk_grows, held, may_sync_fine, not_opened_keeps, on_disk, opened_fine, opened_keeps, pens_keep, receives_keep, stays_fine, ticks_keep}
+use Rattle.agree_core.proofs.Desks.{desk_grows, not_opened_keeps, opened_keeps, pens_keep, receives_keep, stays_fine, ticks_keep}
 use Rattle.agree_core.proofs.Boards.{board_asks, board_grows, board_receives_keeps, fresh_fine, message_grows}
-use Rattle.headline.proofs.Heeding.{other_of}
 use Rattle.headline.proofs.BoardKeeping.{board_fine_at, board_set, each_append, each_other, fresh_boards_fine, item_at}
 
 module _ {Disk Why : Type 0} (s : Setting Disk Why) where
@@ -48,24 +47,19 @@ module _ {Disk Why : Type 0} (s : Setting Disk Why) where
 
   module _ (v : FileVersion) (d : DeskId) (theirs : List Ballot) where
     pub process_justified : (x : Process Disk) → ProcessFine v d theirs x → Justified theirs (process_votes x)
-    process_justified (Running k) f = let t = f.seat in t.justified
-    process_justified (Down votes disk) f = f.0
+    process_justified x h0 = grind arith
 
     pub fine_disk : (x : Process Disk) → ProcessFine v d theirs x → DiskFine (s.view d v) d theirs (process_votes x) (process_disk x)
-    fine_disk (Running k) f = f.disk
-    fine_disk (Down votes disk) f = f.1
+    fine_disk x h0 = grind arith
 
     pub running : (x : Process Disk) (k : DeskState Disk) → x ≡ Running k → ProcessFine v d theirs x → DeskFine (s.view d v) d theirs k
     running x k e f = subst (ProcessFine v d theirs) e f
 
     loses_power : (x : Process Disk) (disk : Disk) → ProcessFine v d theirs x → LosesPower (s.view d v) (process_disk x) disk → DiskFine (s.view d v) d theirs (process_votes x) disk
-    loses_power x disk f p =
-        let g = (fine_disk x f).1 ((s.view d v).reads disk) p.0 in
-        (g, λ shown i. subst (ShowsMore theirs (process_votes x)) (sym (p.1 shown i)) g)
+    loses_power x disk h0 h1 = grind arith
 
     on_other_disk : (x : Process Disk) (disk : Disk) → Stays (s.view d v) (process_disk x) disk → ProcessFine v d theirs x → NodeKept v d theirs x (with_disk x disk) []
-    on_other_disk (Running k) disk t f = record { fine = on_disk (s.view d v) d theirs k disk t f; grows = same k.votes; told = tt }
-    on_other_disk (Down votes old) disk t f = record { fine = (f.0, stays_fine (s.view d v) d theirs votes old disk t f.1); grows = same votes; told = tt }
+    on_other_disk x disk h0 h1 = grind arith
 
   shows_votes : (theirs votes found : List Ballot) (o : Option (List Ballot)) → o ≡ Some found → ShowsMore theirs votes o → OneMore theirs votes found
   shows_votes theirs votes found o e h = let q : h.0 ≡ found = let z = h.1 in cc in subst (OneMore theirs votes) q h.2
@@ -101,8 +95,7 @@ module _ {Disk Why : Type 0} (s : Setting Disk Why) where
     -- a desk is down, on a disk that is fine
     down_at : (y : Node Disk) (disk : Disk) → ProcessFine x.version d theirs x.process → DiskFine (s.view d x.version) d theirs (process_votes x.process) disk
         → y ≡ record x { process = Down (process_votes x.process) disk; due = None } → KeptAt y []
-    down_at y disk f g e =
-        subst (λ (z : Node Disk). KeptAt z []) (sym e) (record { fine = (process_justified x.version d theirs x.process f, g); grows = same (process_votes x.process); told = tt })
+    down_at y disk h0 h1 h2 = grind arith
 
     falls_due : (y : Node Disk) (fault : Fault) → ProcessFine x.version d theirs x.process → FallsDue (s.view d x.version) fault x y → KeptAt y []
     falls_due y fault f p = subst (λ (z : Node Disk). KeptAt z []) (sym p.2) (on_other_disk x.version d theirs x.process p.0 p.1 f)
@@ -113,30 +106,19 @@ module _ {Disk Why : Type 0} (s : Setting Disk Why) where
       down = subst (ProcessFine x.version d theirs) e f
 
       down_from : (y : Node Disk) (disk : Disk) (due : Option Fault) → DiskFine (s.view d x.version) d theirs votes disk → y ≡ record x { process = Down votes disk; due = due } → KeptAt y []
-      down_from y disk due g q =
-          subst (λ (z : Node Disk). KeptAt z []) (sym q)
-          (subst (λ (p : Process Disk). NodeKept x.version d theirs p (Down votes disk) []) (sym e) (record { fine = (down.0, g); grows = same votes; told = tt }))
+      down_from y disk due h0 h1 = grind arith
 
       stays_down : (y : Node Disk) (left : Disk) (fault : Fault) (answer : Answer Why) → DiskFine (s.view d x.version) d theirs votes left
           → StaysDownBy (s.view d x.version) x fault votes left answer y → KeptAt y []
-      stays_down y left Fail answer g p = down_from y left None g p.1
-      stays_down y left Stop answer g p = down_from y p.0 None (stays_fine (s.view d x.version) d theirs votes left p.0 p.2 g) p.3
+      stays_down y left fault answer h0 h1 = grind arith
 
       after_open : (opening : Opening Disk) (answer : Answer Why) (y : Node Disk) → Opens (s.view d x.version) s.rules d old opening
           → AfterOpen (s.view d x.version) x votes opening answer y → KeptAt y []
-      after_open (Opening.Opened k) answer y o p =
-          let kept = opened_keeps (s.view d x.version) d theirs s.rules votes old k down.0 down.1.0 o in
-          let w = subst (λ (q : Process Disk). Within (process_votes q) k.votes) (sym e) kept.1 in
-          subst (λ (z : Node Disk). KeptAt z []) (sym p.1) (record { fine = kept.0; grows = w; told = tt })
-      after_open (Opening.NotOpened OpenRefusal.NoMemory left) answer y o p = absurd p
-      after_open (Opening.NotOpened OpenRefusal.DeviceFailed left) answer y o p =
-          stays_down y left p.0 answer (not_opened_keeps (s.view d x.version) d theirs s.rules votes old left OpenRefusal.DeviceFailed down.1 o) p.2
-      after_open (Opening.NotOpened why left) answer y o p = down_from y left x.due (not_opened_keeps (s.view d x.version) d theirs s.rules votes old left why down.1 o) p.1
+      after_open opening answer y h0 h1 = grind (arith, down, down_from, not_opened_keeps, opened_keeps, stays_down)
 
       -- an old file that may have been synced
       old_synced : (left : Disk) → x.version ≡ Old → MaySync (s.view d Old) old left → DiskFine (s.view d x.version) d theirs votes left
-      old_synced left q m =
-          may_sync_fine (s.view d x.version) d theirs votes old left (subst (λ (version : FileVersion). MaySync (s.view d version) old left) (sym q) m) down.1
+      old_synced left h0 h1 = grind arith
 
       migrates_at : (version : FileVersion) (answer : Answer Why) (y : Node Disk) → x.version ≡ version → MigratesAt (s.view d) x version votes old answer y → KeptAt y []
       migrates_at Old answer y q (ToNew found new, o, p) =
@@ -187,8 +169,7 @@ module _ {Disk Why : Type 0} (s : Setting Disk Why) where
   all_justified w f = (process_justified w.a.version A (all_votes w).b w.a.process f.on_a, process_justified w.b.version B (all_votes w).a w.b.process f.on_b)
 
   shows_grows : (theirs theirs' votes : List Ballot) → Within theirs theirs' → (o : Option (List Ballot)) → ShowsMore theirs votes o → ShowsMore theirs' votes o
-  shows_grows theirs theirs' votes g o (these, e, inl h) = (these, e, inl h)
-  shows_grows theirs theirs' votes g o (these, e, inr h) = (these, e, inr (h.0, h.1, justified_grows theirs theirs' g (h.0 ∷ votes) h.2))
+  shows_grows theirs theirs' votes h0 o h1 = grind (arith, justified_grows)
 
   process_grows : (v : FileVersion) (d : DeskId) (theirs theirs' : List Ballot) → Within theirs theirs' → (x : Process Disk) → ProcessFine v d theirs x → ProcessFine v d theirs' x
   process_grows v d theirs theirs' g (Down votes disk) f =
@@ -196,20 +177,16 @@ module _ {Disk Why : Type 0} (s : Setting Disk Why) where
   process_grows v d theirs theirs' g (Running k) f = desk_grows (s.view d v) d theirs theirs' k g f
 
   own_message : (v : AllVotes) (d : DeskId) (m : Message) → OwnMessage d (votes_by v d) m → MessageFine v m
-  own_message v d (Message.Vote w) h = subst (λ (c : DeskId). In (ballot_of w) (votes_by v c)) (sym h.0) h.1
-  own_message v d (Message.Ask q) h = tt
+  own_message v d m h0 = grind arith
 
   pub their_message : (v : AllVotes) (d : DeskId) (m : Message) → MessageFine v m → TheirMessage d (votes_by v (other d)) m
-  their_message v d (Message.Vote w) h = λ n. subst (λ (c : DeskId). In (ballot_of w) (votes_by v c)) (sym (other_of d w.desk (λ e. n (sym e)))) h
-  their_message v d (Message.Ask q) h = tt
+  their_message v d m h0 = grind arith
 
   pub node_fine : (w : Configuration Disk) (d : DeskId) → Fine w → ProcessFine (node w d).version d (votes_by (all_votes w) (other d)) (node w d).process
-  node_fine w A f = f.on_a
-  node_fine w B f = f.on_b
+  node_fine w d h0 = grind arith
 
   pub votes_at : (w : Configuration Disk) (d : DeskId) → votes_by (all_votes w) d ≡ process_votes (node w d).process
-  votes_at w A = refl
-  votes_at w B = refl
+  votes_at w d = grind arith
 
   rest_grows : (v w : AllVotes) → VotesGrow v w → (sent out : List Message) → Each (MessageFine v) sent → Each (MessageFine w) out → Each (MessageFine w) (sent ++ out)
   rest_grows v w g sent out h k = each_append (MessageFine w) sent out (each_other (MessageFine v) (MessageFine w) (message_grows v w g) sent h) k
@@ -243,10 +220,7 @@ module _ {Disk Why : Type 0} (s : Setting Disk Why) where
 
   at_board_keeps : (sent : List Message) (v : AllVotes) (event : Event) (k l : BoardState) (answer : Answer Why) (out : List Message) → Each (MessageFine v) sent → BoardFine v k
       → AtBoard s sent event k answer l out → BoardFine v l × Each (MessageFine v) out
-  at_board_keeps sent v (events.Give n t) k l answer out h f p = (board_receives_keeps s.rules v k l p.0 p.1 f (item_at (MessageFine v) sent n p.0 p.2 h) p.3, rw p.5 tt)
-  at_board_keeps sent v (events.Tick t) k l answer out h f p = (subst (BoardFine v) (sym p.2) f, board_asks v k out p.0)
-  at_board_keeps sent v (events.Wipe n) k l answer out h f p = (subst (BoardFine v) (sym p.0) (fresh_fine v), rw p.2 tt)
-  at_board_keeps sent v _ k l answer out h f p = absurd p
+  at_board_keeps sent v event k l answer out h0 h1 h2 = grind (arith, board_asks, board_receives_keeps, fresh_fine, item_at)
 
   pub step_at_keeps : (w : Configuration Disk) (event : Event) (t : Station) (answer : Answer Why) (new : Configuration Disk) → Fine w → StepAt s w event t answer new → Fine new × Grows w new
   step_at_keeps w event (stations.Desk d) answer new f p =
@@ -276,12 +250,7 @@ module _ {Disk Why : Type 0} (s : Setting Disk Why) where
   run_keeps w (m ∷ ms) f r = (step_keeps (last_of w ms) m.event m.answer m.after (run_keeps w ms f r.0) r.1).0
 
   begins_at : (version : FileVersion) (d : DeskId) (x : Node Disk) → BeginsAt s version d x → ProcessFine x.version d [] x.process × (process_votes x.process ≡ [])
-  begins_at version d x p =
-      let c = p.2 in
-      let none : p.0.votes ≡ [] = ap (λ (k : DeskState Disk). k.votes) c.0 in
-      let fine : DeskFine (s.view d version) d [] p.0 = subst (DeskFine (s.view d version) d []) (sym c.0)
-      (record { seat = opened_fine d [] [] tt p.0.disk; disk = held (s.view d version) d [] [] p.0.disk c.1; safe = λ _. c.1 }) in
-      subst (λ (z : Node Disk). ProcessFine z.version d [] z.process × (process_votes z.process ≡ [])) (sym p.1) (fine, none)
+  begins_at version d x h0 = grind arith
 
   pub begins_fine : (version : FileVersion) (n : ℕ) (w : Configuration Disk) → Begins s version n w → Fine w
   begins_fine version n w p =

@@ -1,5 +1,5 @@
 -- Each book that is shown has a score by the Laws.
-use Rattle.std.proofs.Common.{◌≡◌, ℕ, ◌+◌, ◌≤◌, Bool, true, false, cond, Some, None, List, [], ◌∷◌, ◌++◌, length, refl, sym, ◌∙◌, subst, inl, inr, arith}
+use Rattle.std.proofs.Common.{◌≡◌, ℕ, ◌+◌, ◌≤◌, Bool, cond, Some, None, List, [], ◌∷◌, ◌++◌, length, refl, sym, ◌∙◌, subst, inl, inr, arith}
 use Rattle.std.specs.Prelude.{All, not, slice_get}
 use Rattle.std.proofs.lemmas.List.{append-nil, append_assoc}
 use Rattle.std.proofs.lemmas.List.Elements.{All-head, All-pop, All-tail}
@@ -79,8 +79,7 @@ stands n h one two legal in_range = record {
 
 range_more : (is : Bool) (h : History) (x : Placed) (xs : List Placed) → ((g : History) → IsInRange g → IsInRange (history_after g (kept xs))) → IsInRange h → IsPlain x.item
     → IsInRange (history_after h (cond (not is) (x ∷ kept xs) (kept xs)))
-range_more true h x xs rest r p = rest h r
-range_more false h x xs rest r p = rest (x.item ∷ h) (r, p)
+range_more is h x xs h0 h1 h2 = grind arith
 
 range_after : (xs : List Placed) → AreInRange xs → (h : History) → IsInRange h → IsInRange (history_after h (kept xs))
 range_after [] all h r = r

@@ -1,45 +1,38 @@
 -- In each run seats and readers keep just what is noted.
-use Rattle.std.proofs.Common.{◌≡◌, ◌≢◌, ℕ, zero, suc, None, option_and_then, List, [], ◌∷◌, ◌++◌, refl, sym, ap, ◌∙◌, subst, ⊎_elim}
+use Rattle.std.proofs.Common.{arith, ◌≡◌, ◌≢◌, ℕ, zero, suc, None, option_and_then, List, [], ◌∷◌, ◌++◌, refl, sym, ap, ◌∙◌, subst, ⊎_elim}
 use Rattle.agree_core.specs.declared.messages.DeskId.{DeskId}
 use Rattle.agree_core.specs.declared.messages.DeskId.TheVariants.{A, B}
 use Rattle.agree_core.specs.declared.messages.Message.{Message}
 use Rattle.agree_core.specs.Boards.{BoardState}
-use Rattle.agree_core.specs.Desks.{DeskState}
 use Rattle.agree_core.specs.Readers.{noted_of}
 use Rattle.headline.specs.declared.event.Station.{Station}
 use Rattle.headline.specs.declared.event.Station.TheVariants as stations
 use Rattle.headline.specs.declared.version.FileVersion.{FileVersion}
 use Rattle.headline.specs.Events.{station_of}
 use Rattle.headline.specs.Match.{Setting}
-use Rattle.headline.specs.Configurations.{Node, Configuration, board_at, fresh_boards, node, with_board, with_node}
+use Rattle.headline.specs.Configurations.{Node, Configuration, board_at, fresh_boards, with_board, with_node}
 use Rattle.headline.specs.Steps.{StepAt}
 use Rattle.headline.specs.Runs.{Begins, BeginsAt, Moment, Run, last_of}
 use Rattle.headline.specs.Noted.{KeepsNoted, kept_at, kept_by_process}
 use Rattle.headline.specs.Headline.{AfterEach}
 use Rattle.headline.proofs.Keeping.{Fine, begins_fine, run_keeps}
 use Rattle.headline.proofs.Noting.{Leaves, follows}
-use Rattle.headline.proofs.Heeding.{board_other, board_put, no_seat_kept, same_station, some_none}
-use Rattle.headline.proofs.NotingSteps.{SameAt, board_leaves, boards_stay, desk_leaves, elsewhere, same_board, same_process, node_other, there}
+use Rattle.headline.proofs.Heeding.{board_other, board_put, same_station, some_none}
+use Rattle.headline.proofs.NotingSteps.{SameAt, board_leaves, desk_leaves, elsewhere, same_board, same_process, there}
 
 fresh_kept : (boards n : ℕ) (c : DeskId) → option_and_then (λ (k : BoardState). noted_of k.reader c) (board_at (fresh_boards boards) n) ≡ None
 fresh_kept boards zero c = refl
 fresh_kept zero (suc n) c = refl
-fresh_kept (suc boards) (suc zero) A = refl
-fresh_kept (suc boards) (suc zero) B = refl
+fresh_kept (suc boards) (suc zero) c = grind arith
 fresh_kept (suc boards) (suc (suc n)) c = fresh_kept boards (suc n) c
 
 module _ {Disk Why : Type 0} (s : Setting Disk Why) where
   desk_elsewhere : (w new : Configuration Disk) (d : DeskId) (y : Node Disk) (out : List Message) (t : Station) → new ≡ with_node w d y out → stations.Desk d ≢ t → SameAt s w new t
-  desk_elsewhere w new d y out (stations.Desk c) e n =
-      same_process s w new c (ap (λ (z : Configuration Disk). (node z c).process) e ∙ ap (λ (z : Node Disk). z.process) (node_other s w d c y out (λ q. n (ap stations.Desk q))))
-  desk_elsewhere w new d y out (stations.Board i) e n =
-      same_board s w new i (ap (λ (z : Configuration Disk). board_at z.boards i) e ∙ ap (λ (z : List BoardState). board_at z i) (boards_stay s w d y out))
+  desk_elsewhere w new d y out t h0 h1 = grind arith
 
   board_elsewhere : (w new : Configuration Disk) (n : ℕ) (l : BoardState) (out : List Message) (t : Station) → new ≡ record w { boards = with_board w.boards n l; sent = w.sent ++ out }
       → stations.Board n ≢ t → SameAt s w new t
-  board_elsewhere w new n l out (stations.Desk A) e h = same_process s w new A (ap (λ (z : Configuration Disk). z.a.process) e)
-  board_elsewhere w new n l out (stations.Desk B) e h = same_process s w new B (ap (λ (z : Configuration Disk). z.b.process) e)
-  board_elsewhere w new n l out (stations.Board i) e h = same_board s w new i (ap (λ (z : Configuration Disk). board_at z.boards i) e ∙ board_other w.boards n i l (λ q. h (ap stations.Board q)))
+  board_elsewhere w new n l out t h0 h1 = grind (arith, board_other, same_board, same_process)
 
   step_at_leaves : (w : Configuration Disk) (m : Moment Disk Why) (t u : Station) → Fine s w → station_of m.event ≡ u → StepAt s w m.event u m.answer m.after → Leaves s w m t
   step_at_leaves w m t (stations.Desk d) f h p =
@@ -56,9 +49,7 @@ module _ {Disk Why : Type 0} (s : Setting Disk Why) where
       (same_station (stations.Board n) t)
 
   begins_at_none : (version : FileVersion) (d : DeskId) (x : Node Disk) (c : DeskId) → BeginsAt s version d x → kept_by_process x.process d c ≡ None
-  begins_at_none version d x c p =
-      let k = p.2 in
-      ap (λ (z : Node Disk). kept_by_process z.process d c) p.1 ∙ no_seat_kept p.0.seat d c (ap (λ (z : DeskState Disk). z.seat.mine) k.0) (ap (λ (z : DeskState Disk). z.seat.theirs) k.0)
+  begins_at_none version d x c h0 = grind arith
 
   begins_none : (version : FileVersion) (n : ℕ) (w : Configuration Disk) → Begins s version n w → (t : Station) (c : DeskId) → kept_at w t c ≡ None
   begins_none version n w e (stations.Desk A) c = begins_at_none version A w.a c e.a

@@ -1,5 +1,5 @@
 -- How an event leaves what a station keeps, and that this is what is noted.
-use Rattle.std.proofs.Common.{◌≡◌, ◌≢◌, ◌⊎◌, ◌↔◌, ℕ, Option, Some, None, List, ◌∷◌, refl, sym, ap, ◌∙◌, subst, inl, inr}
+use Rattle.std.proofs.Common.{arith, ◌≡◌, ◌≢◌, ◌⊎◌, ◌↔◌, ℕ, Option, Some, None, List, ◌∷◌, refl, sym, ap, ◌∙◌, subst, inl, inr}
 use Rattle.std.specs.Prelude.{slice_get}
 use Rattle.notation.specs.declared.entry.Entry.{Entry}
 use Rattle.agree_core.specs.declared.messages.DeskId.{DeskId}
@@ -66,12 +66,6 @@ module _ {Disk Why : Type 0} (s : Setting Disk Why) where
   brings_once w event t c d a b (inr p) (inl q) = let x = q.1.1 in let y = p.1 in absurd (cc)
   brings_once w event t c d a b (inr p) (inr q) = let x = p.1 in let y = q.1 in (cc, cc)
 
-  begins_no_brings : (w : Configuration Disk) (event : Event) (t : Station) (c : DeskId) (b : Ballot) → event ≡ beginning_of t → Brings w event t c b → ⊥
-  begins_no_brings w event (stations.Desk d) c b e (inl p) = let g = p.1.1 in absurd (cc)
-  begins_no_brings w event (stations.Desk d) c b e (inr p) = let g = p.1 in absurd (cc)
-  begins_no_brings w event (stations.Board n) c b e (inl p) = let g = p.1.1 in absurd (cc)
-  begins_no_brings w event (stations.Board n) c b e (inr p) = let g = p.1 in absurd (cc)
-
   found_begins : (w : Configuration Disk) (m : Moment Disk Why) (t : Station) (c : DeskId) (b : Ballot) → t ≡ stations.Desk c → IsFound s w m c b → m.event ≡ beginning_of t
   found_begins w m t c b e f = f.0 ∙ sym (ap beginning_of e)
 
@@ -81,15 +75,11 @@ module _ {Disk Why : Type 0} (s : Setting Disk Why) where
 
   begun_noted : (w : Configuration Disk) (m : Moment Disk Why) (ms : List (Moment Disk Why)) (t : Station) → BeginsWithFound (last_of w ms) m t → (c : DeskId) (b : Ballot)
       → HasNoted s w (m ∷ ms) t c b → KeepsVote m.after t c b
-  begun_noted w m ms t g c b (at, inl p) = absurd (begins_no_brings (last_of w ms) m.event t c b g.0 p.0.1)
-  begun_noted w m ms t g c b (at, inr (inl p)) = (at, (g.1 c b at).1 p)
-  begun_noted w m ms t g c b (at, inr (inr p)) = absurd (p.0 g.0)
+  begun_noted w m ms t h0 c b h1 = grind arith
 
   moved_noted : (w : Configuration Disk) (m : Moment Disk Why) (ms : List (Moment Disk Why)) (t : Station) → Moves (last_of w ms) m t → KeepsAt w ms t → (c : DeskId) (b : Ballot)
       → HasNoted s w (m ∷ ms) t c b → ⊥
-  moved_noted w m ms t g h c b (at, inl p) = g.0 b.at p.0.0 at
-  moved_noted w m ms t g h c b (at, inr (inl p)) = g.2 (found_begins (last_of w ms) m t c b p.0 p.1)
-  moved_noted w m ms t g h c b (at, inr (inr p)) = g.0 b.at ((h c b).0 p.1).0 at
+  moved_noted w m ms t h0 h1 c b h2 = grind arith
 
   same_noted : (w : Configuration Disk) (m : Moment Disk Why) (ms : List (Moment Disk Why)) (t : Station) → Stays (last_of w ms) m t → KeepsAt w ms t → (c : DeskId) (b : Ballot)
       → HasNoted s w (m ∷ ms) t c b → KeepsVote m.after t c b

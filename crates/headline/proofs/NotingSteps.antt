@@ -1,9 +1,8 @@
 -- How each event leaves what a station keeps.
-use Rattle.std.proofs.Common.{◌≡◌, ◌≢◌, ◌⊎◌, ℕ, Option, Some, None, option_map, option_and_then, List, [], ◌∷◌, length, refl, sym, ap, ◌∙◌, subst, inl, inr}
+use Rattle.std.proofs.Common.{arith, ◌≡◌, ◌≢◌, ◌⊎◌, ℕ, Option, Some, None, option_map, option_and_then, List, [], ◌∷◌, refl, sym, ap, ◌∙◌, subst, inl, inr}
 use Rattle.std.specs.Prelude.{slice_get}
 use Rattle.notation.specs.declared.entry.Entry.{Entry}
 use Rattle.agree_core.specs.declared.messages.DeskId.{DeskId}
-use Rattle.agree_core.specs.declared.messages.DeskId.TheVariants.{A, B}
 use Rattle.agree_core.specs.declared.messages.Message.{Message}
 use Rattle.agree_core.specs.declared.messages.Vote.{Vote}
 use Rattle.agree_core.specs.declared.position.Position.{Position}
@@ -13,7 +12,7 @@ use Rattle.agree_core.specs.Boards.{BoardAnswer, BoardReceives, BoardState, fres
 use Rattle.agree_core.specs.Books.{seat_of}
 use Rattle.agree_core.specs.Desks.{DeskState, PenAnswer, Pens, ReceiveAnswer, Receives}
 use Rattle.agree_core.specs.FileView.{FileView}
-use Rattle.agree_core.specs.Openings.{OpenRefusal, Opening, Opens}
+use Rattle.agree_core.specs.Openings.{Opening, Opens}
 use Rattle.agree_core.specs.Positions.{position_of}
 use Rattle.agree_core.specs.Readers.{ReaderState, noted_of, other}
 use Rattle.agree_core.specs.Seats.{Casts, SeatState}
@@ -24,13 +23,12 @@ use Rattle.headline.specs.declared.event.Station.TheVariants as stations
 use Rattle.headline.specs.declared.fault.Fault.TheVariants.{Fail, Stop}
 use Rattle.headline.specs.declared.fault.Fault.{Fault}
 use Rattle.headline.specs.declared.version.FileVersion.{FileVersion}
-use Rattle.headline.specs.declared.version.FileVersion.TheVariants.{Old, New}
 use Rattle.headline.specs.Events.{station_of}
 use Rattle.headline.specs.Match.{Setting}
-use Rattle.headline.specs.Configurations.{Process, Running, Down, Node, Configuration, board_at, node, process_disk, process_votes, all_votes, with_disk, with_node}
+use Rattle.headline.specs.Configurations.{Process, Running, Down, Node, Configuration, board_at, node, process_disk, process_votes, all_votes, with_node}
 use Rattle.headline.specs.Answers.{Answer}
 use Rattle.headline.specs.DeskFaults.{Breaks, FallsDue, StaysDownBy}
-use Rattle.headline.specs.Migrations.{Failed, MigratesAt, NotSound, ToNew}
+use Rattle.headline.specs.Migrations.{Failed, MigratesAt}
 use Rattle.headline.specs.DeskSteps.{AfterOpen, AfterPen, AfterReceive, AtDesk}
 use Rattle.headline.specs.BoardSteps.{AtBoard, board_told}
 use Rattle.headline.specs.Runs.{Moment}
@@ -38,22 +36,11 @@ use Rattle.headline.specs.Noted.{Brings, IsBrought, IsFound, IsVoteAnswer, begin
 use Rattle.headline.proofs.Heeding.{Heeds, Reads, heeds, next_place_differs, next_round_differs, no_reader_kept, no_seat_kept, reads, same_some, some_none, which}
 use Rattle.headline.proofs.Heeding.{noting_at, noting_other, noting_there, other_not, other_of, own_kept, their_kept}
 use Rattle.headline.proofs.Keeping.{Fine, running, node_fine}
-use Rattle.headline.proofs.Noting.{Begun, Gone, Leaves, More, Moved, Same}
+use Rattle.headline.proofs.Noting.{Begun, Gone, Leaves, More, Same}
 
 module _ {Disk Why : Type 0} (s : Setting Disk Why) where
   pub node_put : (w : Configuration Disk) (d : DeskId) (y : Node Disk) (out : List Message) → node (with_node w d y out) d ≡ y
-  node_put w A y out = refl
-  node_put w B y out = refl
-
-  pub node_other : (w : Configuration Disk) (c d : DeskId) (y : Node Disk) (out : List Message) → c ≢ d → node (with_node w c y out) d ≡ node w d
-  node_other w A A y out n = absurd (n refl)
-  node_other w A B y out n = refl
-  node_other w B A y out n = refl
-  node_other w B B y out n = absurd (n refl)
-
-  pub boards_stay : (w : Configuration Disk) (d : DeskId) (y : Node Disk) (out : List Message) → (with_node w d y out).boards ≡ w.boards
-  boards_stay w A y out = refl
-  boards_stay w B y out = refl
+  node_put w d y out = grind arith
 
   -- the station is at this position, and keeps these
   abbrev SeenAt : Configuration Disk → Station → Position → (DeskId → Option Entry) → Type 0
@@ -76,12 +63,10 @@ module _ {Disk Why : Type 0} (s : Setting Disk Why) where
 
   -- an event is for the station that it brings a vote to, or begins
   brings_here : (w : Configuration Disk) (event : Event) (t : Station) (c : DeskId) (b : Ballot) → Brings w event t c b → station_of event ≡ t
-  brings_here w event t c b (inl p) = let g = p.1 in ap station_of g.1
-  brings_here w event t c b (inr p) = ap station_of p.1 ∙ sym p.0
+  brings_here w event t c b h0 = grind arith
 
   begins_here : (event : Event) (t : Station) → event ≡ beginning_of t → station_of event ≡ t
-  begins_here event (stations.Desk d) e = ap station_of e
-  begins_here event (stations.Board n) e = ap station_of e
+  begins_here event t h0 = grind arith
 
   -- a desk that was put there
   pub there : (w new : Configuration Disk) (d : DeskId) (y : Node Disk) (out : List Message) → new ≡ with_node w d y out → node new d ≡ y
@@ -109,8 +94,7 @@ module _ {Disk Why : Type 0} (s : Setting Disk Why) where
 
     goes_far : (t : Station) (at next : Position) (kept then : DeskId → Option Entry) → m.event ≢ beginning_of t
         → SeenAt w t at kept → SeenAt m.after t next then → at ≢ next → ((c : DeskId) → then c ≡ None) → Leaves s w m t
-    goes_far t at next kept then n h g q none =
-        Moved (λ p x y. q (same_some (position_at w t) at p h.0 x ∙ same_some (position_at m.after t) p next y g.0), λ c. g.1 c ∙ none c, n)
+    goes_far t at next kept then h0 h1 h2 h3 h4 = grind arith
 
     -- a desk that runs on from one seat to another
     record Runs (d : DeskId) (k l : SeatState) : Type 0 where
@@ -120,16 +104,10 @@ module _ {Disk Why : Type 0} (s : Setting Disk Why) where
 
     runs_same : (d : DeskId) (k l : SeatState) → Runs d k l → l ≡ k
         → ((c : DeskId) (b : Ballot) → IsBrought w m (stations.Desk d) c b → kept_by_seat k d c ≡ None → ⊥) → Leaves s w m (stations.Desk d)
-    runs_same d k l r e f =
-        let g = r.from in
-        let h = r.to in
-        goes_same (stations.Desk d) r.on
-        (h.0 ∙ ap (λ (z : SeatState). Some z.position) e ∙ sym g.0, λ c. h.1 c ∙ ap (λ (z : SeatState). kept_by_seat z d c) e ∙ sym (g.1 c))
-        (λ c b i q. f c b i (sym (g.1 c) ∙ q))
+    runs_same d k l h0 h1 h2 = grind arith
 
     runs_far : (d : DeskId) (k l : SeatState) → Runs d k l → k.position ≢ l.position → l.mine ≡ None → l.theirs ≡ None → Leaves s w m (stations.Desk d)
-    runs_far d k l r n mine theirs =
-        goes_far (stations.Desk d) k.position l.position (λ c. kept_by_seat k d c) (λ c. kept_by_seat l d c) r.on r.from r.to n (λ c. no_seat_kept l d c mine theirs)
+    runs_far d k l h0 h1 h2 h3 = grind arith
 
     casts : (d : DeskId) (k l : SeatState) (e : Entry) (settled : Settled) → Runs d k l → m.event ≡ events.Pen d e → IsVoteAnswer m.answer → k.mine ≡ None
         → Casts k e settled l → Leaves s w m (stations.Desk d)
@@ -149,12 +127,7 @@ module _ {Disk Why : Type 0} (s : Setting Disk Why) where
     -- the vote of the message that was given
     same_vote : (n : ℕ) (t : Station) (v : Vote) (c : DeskId) (b : Ballot) → m.event ≡ events.Give n t → slice_get w.sent n ≡ Some (Message.Vote v)
         → Brings w m.event t c b → (v ≡ vote_of c b) × (t ≢ stations.Desk c)
-    same_vote n t v c b at e (inl p) =
-        let g = p.1 in
-        let number : n ≡ g.0 = let q = g.1 in cc in
-        let there : slice_get w.sent n ≡ Some (Message.Vote (vote_of c b)) = subst (λ (i : ℕ). slice_get w.sent i ≡ Some (Message.Vote (vote_of c b))) (sym number) g.2 in
-        (cc, p.0)
-    same_vote n t v c b at e (inr p) = let q = p.1 in absurd (cc)
+    same_vote n t v c b h0 h1 h2 = grind arith
 
     brought_as : (v : Vote) (at : Position) (n : ℕ) → position_of v ≡ at → slice_get w.sent n ≡ Some (Message.Vote v)
         → slice_get w.sent n ≡ Some (Message.Vote (vote_of v.desk (record { at = at; entry = v.entry })))
@@ -193,8 +166,7 @@ module _ {Disk Why : Type 0} (s : Setting Disk Why) where
 
       breaks : (k l : DeskState Disk) → m.event ≢ events.Open d → (node w d).process ≡ Running k → l.seat ≡ k.seat
           → Breaks (s.view d (node w d).version) (node w d) l m.answer y → Leaves s w m (stations.Desk d)
-      breaks k l n p q (Fail, u, b) = unheard k l Answer.DeviceFailed n p (ap (λ (z : Node Disk). z.process) b.1) q b.0 (λ x. x)
-      breaks k l n p q (Stop, u, b) = down_there l.votes b.0 (ap (λ (z : Node Disk). z.process) b.3)
+      breaks k l h0 h1 h2 h3 = grind arith
 
       pens : (k l : DeskState Disk) (e : Entry) (told : PenAnswer Why) (out : List Message) → m.event ≡ events.Pen d e → (node w d).process ≡ Running k
           → Pens (s.view d (node w d).version) s.rules k e told l out → AfterPen (s.view d (node w d).version) (node w d) told l m.answer y → Leaves s w m (stations.Desk d)
@@ -257,24 +229,15 @@ module _ {Disk Why : Type 0} (s : Setting Disk Why) where
 
       -- a desk that was down, and stays so
       stays_down : (view : FileView Disk) (x : Node Disk) (votes : List Ballot) (left : Disk) (fault : Fault) → StaysDownBy view x fault votes left m.answer y → Leaves s w m (stations.Desk d)
-      stays_down view x votes left Fail p = down_there votes left (ap (λ (z : Node Disk). z.process) p.1)
-      stays_down view x votes left Stop p = down_there votes p.0 (ap (λ (z : Node Disk). z.process) p.3)
+      stays_down view x votes left fault h0 = grind arith
 
       opened : (votes : List Ballot) (disk : Disk) (opening : Opening Disk) → m.event ≡ events.Open d → (node w d).process ≡ Down votes disk
           → Opens (s.view d (node w d).version) s.rules d disk opening → AfterOpen (s.view d (node w d).version) (node w d) votes opening m.answer y → Leaves s w m (stations.Desk d)
-      opened votes disk (Opening.Opened k) q e o a =
-          opens k k.votes (length k.book) q (ap (λ (z : Node Disk). z.process) a.1) (ap (λ (z : DeskState Disk). z.seat) o.3) a.0 (ap (s.view d (node w d).version).reads (ap process_disk e) ∙ o.0)
-      opened votes disk (Opening.NotOpened OpenRefusal.Unsound left) q e o a = down_there votes left (ap (λ (z : Node Disk). z.process) a.1)
-      opened votes disk (Opening.NotOpened (OpenRefusal.BadVotes place) left) q e o a = down_there votes left (ap (λ (z : Node Disk). z.process) a.1)
-      opened votes disk (Opening.NotOpened OpenRefusal.NoMemory left) q e o a = absurd a
-      opened votes disk (Opening.NotOpened OpenRefusal.DeviceFailed left) q e o a = stays_down (s.view d (node w d).version) (node w d) votes left a.0 a.2
+      opened votes disk opening h0 h1 h2 h3 = grind (arith, down_there, opens, stays_down)
 
       migrates : (x : Node Disk) (version : FileVersion) (votes : List Ballot) (disk : Disk) → x.process ≡ Down votes disk → MigratesAt (s.view d) x version votes disk m.answer y
           → Leaves s w m (stations.Desk d)
-      migrates x Old votes disk q (ToNew found new, h, p) = down_there votes new (ap (λ (z : Node Disk). z.process) p.1)
-      migrates x Old votes disk q (NotSound left, h, p) = down_there votes left (ap (λ (z : Node Disk). z.process) p.1)
-      migrates x Old votes disk q (Failed left, h, p) = stays_down (s.view d Old) x votes left p.0 p.2
-      migrates x New votes disk q p = down_there votes disk (ap (λ (z : Node Disk). z.process) p.1 ∙ q)
+      migrates x version votes disk h0 h1 = grind arith
 
       -- an event that neither brings a vote nor changes the desk's seat
       idle : m.event ≢ events.Open d → process_position y.process ≡ process_position (node w d).process
@@ -286,21 +249,10 @@ module _ {Disk Why : Type 0} (s : Setting Disk Why) where
 
       falls_due : (fault : Fault) → m.event ≢ events.Open d → ((c : DeskId) (b : Ballot) → Brings w m.event (stations.Desk d) c b → ⊥)
           → FallsDue (s.view d (node w d).version) fault (node w d) y → Leaves s w m (stations.Desk d)
-      falls_due fault n f p =
-          let q : y.process ≡ with_disk (node w d).process p.0 = ap (λ (z : Node Disk). z.process) p.2 in
-          idle n (ap process_position q ∙ position (node w d).process p.0) (λ c. ap (λ (z : Process Disk). kept_by_process z d c) q ∙ kept (node w d).process p.0 c) f
-        where
-          position : (x : Process Disk) (disk : Disk) → process_position (with_disk x disk) ≡ process_position x
-          position (Running k) disk = refl
-          position (Down votes old) disk = refl
-
-          kept : (x : Process Disk) (disk : Disk) (c : DeskId) → kept_by_process (with_disk x disk) d c ≡ kept_by_process x d c
-          kept (Running k) disk c = refl
-          kept (Down votes old) disk c = refl
+      falls_due fault h0 h1 h2 = grind (arith, idle)
 
     not_brought : (t : Station) → ((n : ℕ) → m.event ≢ events.Give n t) → ((c : DeskId) (e : Entry) → m.event ≢ events.Pen c e) → (c : DeskId) (b : Ballot) → Brings w m.event t c b → ⊥
-    not_brought t f g c b (inl p) = let h = p.1 in f h.0 h.1
-    not_brought t f g c b (inr p) = g c b.entry p.1
+    not_brought t h0 h1 c b h2 = grind arith
 
     -- what a step at a desk leaves there
     pub desk_leaves : (d : DeskId) (event : Event) (y : Node Disk) (out : List Message) → Fine s w → m.event ≡ event → station_of event ≡ stations.Desk d → node m.after d ≡ y
@@ -325,12 +277,7 @@ module _ {Disk Why : Type 0} (s : Setting Disk Why) where
     module _ (n : ℕ) (k l : BoardState) (here : board_at w.boards n ≡ Some k) (is : board_at m.after.boards n ≡ Some l) where
       board_stays : m.event ≢ events.Wipe n → l.reader ≡ k.reader → ((c : DeskId) (b : Ballot) → IsBrought w m (stations.Board n) c b → noted_of k.reader c ≡ None → ⊥)
           → Leaves s w m (stations.Board n)
-      board_stays x e f =
-          let g = at_board w n k here in
-          let h = at_board m.after n l is in
-          goes_same (stations.Board n) x
-          (h.0 ∙ ap (λ (z : ReaderState). Some z.position) e ∙ sym g.0, λ c. h.1 c ∙ ap (λ (z : ReaderState). noted_of z c) e ∙ sym (g.1 c))
-          (λ c b i none. f c b i (sym (g.1 c) ∙ none))
+      board_stays h0 h1 h2 = grind arith
 
       read : (i : ℕ) (v : Vote) → m.event ≡ events.Give i (stations.Board n) → slice_get w.sent i ≡ Some (Message.Vote v) → IsVoteAnswer m.answer
           → Reads k.reader v l.reader → Leaves s w m (stations.Board n)
@@ -358,10 +305,7 @@ module _ {Disk Why : Type 0} (s : Setting Disk Why) where
 
       -- a board that was wiped
       wiped : m.event ≡ events.Wipe n → l ≡ fresh_board → Leaves s w m (stations.Board n)
-      wiped q e = Begun (q, λ c b at. (λ k. absurd (some_none (kept_at m.after (stations.Board n) c) b.entry (none c) k), λ k. absurd (let z = k.0 in cc)))
-        where
-          none : (c : DeskId) → kept_at m.after (stations.Board n) c ≡ None
-          none c = (at_board m.after n l is).1 c ∙ no_reader_kept l.reader c (ap (λ (z : BoardState). z.reader.a) e) (ap (λ (z : BoardState). z.reader.b) e)
+      wiped h0 h1 = grind arith
 
     pub board_leaves : (n : ℕ) (event : Event) (k l : BoardState) (out : List Message) → m.event ≡ event → station_of event ≡ stations.Board n
         → board_at w.boards n ≡ Some k → board_at m.after.boards n ≡ Some l → AtBoard s w.sent event k m.answer l out → Leaves s w m (stations.Board n)

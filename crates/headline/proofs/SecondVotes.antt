@@ -1,87 +1,50 @@
 -- The call that brings the second of two equal votes takes their entry.
-use Rattle.std.proofs.Common.{◌≡◌, ◌≢◌, ◌⊎◌, ℕ, Option, Some, None, option_map, option_and_then, List, [], ◌∷◌, ◌++◌, refl, sym, ap, ◌∙◌, subst, inl, inr, ⊎_elim}
+use Rattle.std.proofs.Common.{arith, ◌≡◌, ◌≢◌, ◌⊎◌, ℕ, Option, Some, None, List, [], ◌∷◌, ◌++◌, refl, sym, ap, ◌∙◌, subst, inl, inr}
 use Rattle.std.specs.Prelude.{slice_get}
 use Rattle.notation.specs.declared.entry.Entry.{Entry}
 use Rattle.agree_core.specs.declared.messages.DeskId.{DeskId}
 use Rattle.agree_core.specs.declared.messages.DeskId.TheVariants.{A, B}
 use Rattle.agree_core.specs.declared.messages.Message.{Message}
 use Rattle.agree_core.specs.declared.messages.Vote.{Vote}
-use Rattle.agree_core.specs.declared.seat.Heard.{Heard}
-use Rattle.agree_core.specs.declared.seat.Settled.{Settled}
 use Rattle.agree_core.specs.Ballots.{Ballot, vote_of, votes_by}
 use Rattle.agree_core.specs.Boards.{BoardAnswer, BoardReceives, BoardState}
-use Rattle.agree_core.specs.Desks.{DeskState, PenAnswer, Pens, ReceiveAnswer, Receives, book_after, book_heard}
+use Rattle.agree_core.specs.Desks.{DeskState, ReceiveAnswer, Receives}
 use Rattle.agree_core.specs.Positions.{position_of}
-use Rattle.agree_core.specs.Readers.{Listens, ReaderState, ReaderWaits, noted_of, other}
-use Rattle.agree_core.specs.Seats.{Casts, Hears, SeatState}
-use Rattle.agree_core.proofs.Order.{not_before}
+use Rattle.agree_core.specs.Readers.{ReaderState, ReaderWaits, noted_of, other}
+use Rattle.agree_core.specs.Seats.{SeatState}
 use Rattle.headline.specs.declared.event.Event.{Event}
 use Rattle.headline.specs.declared.event.Event.TheVariants as events
 use Rattle.headline.specs.declared.event.Station.{Station}
 use Rattle.headline.specs.declared.event.Station.TheVariants as stations
-use Rattle.headline.specs.declared.fault.Fault.TheVariants.{Fail, Stop}
 use Rattle.headline.specs.declared.version.FileVersion.{FileVersion}
 use Rattle.headline.specs.Match.{Setting}
-use Rattle.headline.specs.Configurations.{Process, Running, Node, Configuration, board_at, node, all_votes, with_node}
+use Rattle.headline.specs.Configurations.{Running, Node, Configuration, board_at, node, all_votes, with_node}
 use Rattle.headline.specs.Answers.{Answer}
-use Rattle.headline.specs.DeskFaults.{Breaks}
-use Rattle.headline.specs.DeskSteps.{AfterPen, AfterReceive}
+use Rattle.headline.specs.DeskSteps.{AfterReceive}
 use Rattle.headline.specs.BoardSteps.{board_told}
 use Rattle.headline.specs.Steps.{Step}
 use Rattle.headline.specs.Runs.{Begins, Moment, Run, Shows, last_of, process_shows}
-use Rattle.headline.specs.Noted.{Brings, IsVoteAnswer, kept_at, kept_by_process, kept_by_seat, position_at, process_position}
+use Rattle.headline.specs.Noted.{Brings, IsVoteAnswer, kept_at, kept_by_seat, position_at}
 use Rattle.headline.specs.Headline.{NoneWaits, TakesSecond}
 use Rattle.headline.proofs.BoardKeeping.{board_fine_at}
 use Rattle.headline.proofs.Keeping.{Fine, begins_fine, run_keeps, running, node_fine}
-use Rattle.headline.proofs.Heeding.{board_put, other_not, same_some, their_kept}
-use Rattle.headline.proofs.NotingSteps.{node_put}
+use Rattle.headline.proofs.Heeding.{board_put, same_some}
 use Rattle.headline.proofs.NotedRuns.{keeps_noted}
 use Rattle.headline.proofs.Shown.{none_keeps_both}
 
 -- the other vote isn't there
 alone : (x y : Option Entry) (e : Entry) → (x ≡ None) ⊎ (y ≡ None) → x ≡ Some e → y ≡ None
-alone x y e (inl n) q = absurd (cc)
-alone x y e (inr n) q = n
-
-heard_second : (k l : SeatState) (v : Vote) (h : Heard) (book : List Entry) → v.desk ≢ k.desk → position_of v ≡ k.position → k.mine ≡ Some v.entry → k.theirs ≡ None → Hears k v h l
-    → book_heard h book v.entry ≡ book ++ v.entry ∷ []
-heard_second k l v Heard.Mine book o at m t p = absurd (o p.0)
-heard_second k l v Heard.Old book o at m t p = absurd (not_before (position_of v) k.position at p.1)
-heard_second k l v Heard.Ahead book o at m t p = absurd (not_before k.position (position_of v) (sym at) p.1)
-heard_second k l v Heard.TwoVotes book o at m t p = let q = p.1.1 in absurd (cc)
-heard_second k l v Heard.Agreed book o at m t p = refl
-heard_second k l v Heard.Differ book o at m t p = let q = p.2.1 in let same : v.entry ≡ p.2.0 = cc in absurd (p.2.2 same)
-heard_second k l v _ book o at m t p = absurd (cc)
-
-cast_second : (k l : SeatState) (e : Entry) (settled : Settled) (book : List Entry) → k.theirs ≡ Some e → Casts k e settled l → book_after settled book e ≡ book ++ e ∷ []
-cast_second k l e Settled.Pending book t p = let q = p.0 in absurd (cc)
-cast_second k l e Settled.Agreed book t p = refl
-cast_second k l e Settled.Differ book t p = let q = p.0.1 in let same : e ≡ p.0.0 = cc in absurd (p.0.2 same)
-
-listened_second : (k l : ReaderState) (v : Vote) (h : Heard) (book : List Entry) → position_of v ≡ k.position → noted_of k v.desk ≡ None → noted_of k (other v.desk) ≡ Some v.entry → Listens k v h l
-    → book_heard h book v.entry ≡ book ++ v.entry ∷ []
-listened_second k l v Heard.Mine book at m t p = absurd p
-listened_second k l v Heard.Old book at m t p = absurd (not_before (position_of v) k.position at p.0)
-listened_second k l v Heard.Ahead book at m t p = absurd (not_before k.position (position_of v) (sym at) p.0)
-listened_second k l v Heard.TwoVotes book at m t p = let q = p.1.1 in absurd (cc)
-listened_second k l v Heard.Agreed book at m t p = refl
-listened_second k l v Heard.Differ book at m t p = let q = p.2.1 in let same : v.entry ≡ p.2.0 = cc in absurd (p.2.2 same)
-listened_second k l v _ book at m t p = absurd (cc)
+alone x y e h q = grind arith
 
 reader_alone : (r : ReaderState) (c : DeskId) (e : Entry) → ReaderWaits r → noted_of r c ≡ Some e → noted_of r (other c) ≡ None
-reader_alone r A e w q = alone r.a r.b e w q
-reader_alone r B e w q = alone r.b r.a e (⊎_elim inr inl w) q
+reader_alone r c e h0 h1 = grind arith
 
 other_twice : (c : DeskId) → other (other c) ≡ c
-other_twice A = refl
-other_twice B = refl
+other_twice c = grind arith
 
 -- what a desk keeps of itself or of the other
 kept_own : (k : SeatState) (c d : DeskId) → other c ≢ d → kept_by_seat k d c ≡ k.mine
-kept_own k A A n = refl
-kept_own k A B n = absurd (n refl)
-kept_own k B A n = absurd (n refl)
-kept_own k B B n = refl
+kept_own k c d n = grind arith
 
 module _ {Disk Why : Type 0} (s : Setting Disk Why) where
   -- a station shows this book, and keeps this vote for its position
@@ -91,25 +54,15 @@ module _ {Disk Why : Type 0} (s : Setting Disk Why) where
   -- so its desk or board has them
   desk_keeps : (w : Configuration Disk) (d c : DeskId) (k : DeskState Disk) (book : List Entry) (b : Ballot) → (node w d).process ≡ Running k → Keeps w (stations.Desk d) book c b
       → (k.book ≡ book) × (k.seat.position ≡ b.at) × (kept_by_seat k.seat d c ≡ Some b.entry)
-  desk_keeps w d c k book b e h = (
-    subst (λ (x : Process Disk). process_shows x book) e h.0,
-    same_some (position_at w (stations.Desk d)) k.seat.position b.at (ap process_position e) h.1,
-    sym (ap (λ (x : Process Disk). kept_by_process x d c) e) ∙ h.2,
-  )
+  desk_keeps w d c k book b h0 h1 = grind arith
 
   board_keeps : (w : Configuration Disk) (n : ℕ) (c : DeskId) (k : BoardState) (book : List Entry) (b : Ballot) → board_at w.boards n ≡ Some k → Keeps w (stations.Board n) book c b
       → (k.book ≡ book) × (k.reader.position ≡ b.at) × (noted_of k.reader c ≡ Some b.entry)
-  board_keeps w n c k book b e h = (
-    let g = h.0 in ap (λ (x : BoardState). x.book) (same_some (board_at w.boards n) k g.0 e g.1) ∙ g.2,
-    same_some (position_at w (stations.Board n)) k.reader.position b.at (ap (option_map (λ (x : BoardState). x.reader.position)) e) h.1,
-    sym (ap (option_and_then (λ (x : BoardState). noted_of x.reader c)) e) ∙ h.2,
-  )
+  board_keeps w n c k book b h0 h1 = grind arith
 
   shows_at : (w new : Configuration Disk) (d : DeskId) (y : Node Disk) (out : List Message) (book : List Entry) → new ≡ with_node w d y out → process_shows y.process book
       → Shows new (stations.Desk d) book
-  shows_at w new d y out book e h =
-      let here : node new d ≡ y = ap (λ (z : Configuration Disk). node z d) e ∙ node_put s w d y out in
-      subst (λ (z : Node Disk). process_shows z.process book) (sym here) h
+  shows_at w new d y out book h0 h1 = grind arith
 
   -- a desk that runs on shows its book
   runs_on : (x y : Node Disk) (l : DeskState Disk) (book : List Entry) → y ≡ record x { process = Running l } → l.book ≡ book → process_shows y.process book
@@ -118,23 +71,7 @@ module _ {Disk Why : Type 0} (s : Setting Disk Why) where
   after_vote : (d : DeskId) (x : Node Disk) (k l : DeskState Disk) (v : Vote) (told : ReceiveAnswer) (out : List Message) (answer : Answer Why) (y : Node Disk) → IsVoteAnswer answer
       → v.desk ≢ k.seat.desk → position_of v ≡ k.seat.position → k.seat.mine ≡ Some v.entry → k.seat.theirs ≡ None → Receives (s.view d x.version) k (Message.Vote v) told l out
       → AfterReceive (s.view d x.version) x told l out answer y → process_shows y.process (k.book ++ v.entry ∷ [])
-  after_vote d x k l v ReceiveAnswer.Failed out answer y u o at m t r p = absurd (subst IsVoteAnswer p.0 u)
-  after_vote d x k l v (ReceiveAnswer.Told h) out answer y u o at m t r p =
-      let grown : l.book ≡ book_heard h k.book v.entry = ap (λ (z : DeskState Disk). z.book) r.3 in
-      runs_on x y l (k.book ++ v.entry ∷ []) p.1 (grown ∙ heard_second k.seat l.seat v h k.book o at m t r.1)
-  after_vote d x k l v _ out answer y u o at m t r p = absurd r
-
-  broken_not : (d : DeskId) (x : Node Disk) (l : DeskState Disk) (answer : Answer Why) (y : Node Disk) → Breaks (s.view d x.version) x l answer y → IsVoteAnswer answer → ⊥
-  broken_not d x l answer y (Fail, u, p) t = subst IsVoteAnswer p.0 t
-  broken_not d x l answer y (Stop, u, p) t = subst IsVoteAnswer p.1 t
-
-  second_pen : (d : DeskId) (x : Node Disk) (k l : DeskState Disk) (e : Entry) (told : PenAnswer Why) (out : List Message) (answer : Answer Why) (y : Node Disk) → k.seat.theirs ≡ Some e
-      → Pens (s.view d x.version) s.rules k e told l out → AfterPen (s.view d x.version) x told l answer y → IsVoteAnswer answer → process_shows y.process (k.book ++ e ∷ [])
-  second_pen d x k l e (PenAnswer.Penned settled) out answer y t r p i =
-      let c = r.1 in
-      runs_on x y l (k.book ++ e ∷ []) p.1 (c.1 ∙ cast_second k.seat l.seat e settled k.book t c.0)
-  second_pen d x k l e (PenAnswer.Refused why) out answer y t r p i = absurd (subst IsVoteAnswer p.0 i)
-  second_pen d x k l e PenAnswer.DeviceFailed out answer y t r p i = absurd (broken_not d x l answer y p i)
+  after_vote d x k l v told out answer y h0 h1 h2 h3 h4 h5 h6 = grind arith
 
   desk_given : (w : Configuration Disk) (d c : DeskId) (n : ℕ) (book : List Entry) (b : Ballot) (answer : Answer Why) (new : Configuration Disk) → Fine s w → Keeps w (stations.Desk d) book c b
       → other c ≢ d → slice_get w.sent n ≡ Some (Message.Vote (vote_of (other c) b)) → Step s w (events.Give n (stations.Desk d)) answer new → IsVoteAnswer answer
@@ -155,19 +92,11 @@ module _ {Disk Why : Type 0} (s : Setting Disk Why) where
 
   desk_penned : (w : Configuration Disk) (c : DeskId) (book : List Entry) (b : Ballot) (answer : Answer Why) (new : Configuration Disk) → Keeps w (stations.Desk (other c)) book c b
       → Step s w (events.Pen (other c) b.entry) answer new → IsVoteAnswer answer → Shows new (stations.Desk (other c)) (book ++ b.entry ∷ [])
-  desk_penned w c book b answer new g p t =
-      let q = p.2 in
-      let k = q.0 in
-      let h = desk_keeps w (other c) c k book b q.3 g in
-      let theirs : k.seat.theirs ≡ Some b.entry = sym (their_kept k.seat (other c) c (λ e. other_not c (sym e))) ∙ h.2 in
-      let shown = second_pen (other c) (node w (other c)) k q.1 b.entry q.2 p.1 answer p.0 theirs q.4 q.5 t in
-      shows_at w new (other c) p.0 p.1 (book ++ b.entry ∷ []) p.3 (subst (λ (o : List Entry). process_shows p.0.process (o ++ b.entry ∷ [])) h.0 shown)
+  desk_penned w c book b answer new h0 h1 h2 = grind arith
 
   board_told_second : (k l : BoardState) (v : Vote) (told : BoardAnswer) → position_of v ≡ k.reader.position → noted_of k.reader v.desk ≡ None → noted_of k.reader (other v.desk) ≡ Some v.entry
       → BoardReceives s.rules k (Message.Vote v) told l → IsVoteAnswer {Why = Why} (board_told told) → l.book ≡ k.book ++ v.entry ∷ []
-  board_told_second k l v (BoardAnswer.Told h) at m t r i = r.2 ∙ listened_second k.reader l.reader v h k.book at m t r.0
-  board_told_second k l v BoardAnswer.Asked at m t r i = absurd r
-  board_told_second k l v (BoardAnswer.BadVotes place) at m t r i = absurd i
+  board_told_second k l v told h0 h1 h2 h3 h4 = grind arith
 
   board_given : (w : Configuration Disk) (number : ℕ) (c : DeskId) (n : ℕ) (book : List Entry) (b : Ballot) (answer : Answer Why) (new : Configuration Disk) → Fine s w
       → Keeps w (stations.Board number) book c b → slice_get w.sent n ≡ Some (Message.Vote (vote_of (other c) b)) → Step s w (events.Give n (stations.Board number)) answer new → IsVoteAnswer answer

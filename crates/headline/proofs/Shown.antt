@@ -4,20 +4,19 @@ use Rattle.notation.specs.declared.entry.Entry.{Entry}
 use Rattle.agree_core.specs.declared.messages.DeskId.{DeskId}
 use Rattle.agree_core.specs.declared.messages.DeskId.TheVariants.{A, B}
 use Rattle.agree_core.specs.declared.messages.Message.{Message}
-use Rattle.agree_core.specs.Agreed.{AllSettled, EqualVotes}
+use Rattle.agree_core.specs.Agreed.{AllSettled}
 use Rattle.agree_core.specs.Ballots.{Ballot, Within, votes_by}
 use Rattle.agree_core.specs.Boards.{BoardState}
 use Rattle.agree_core.specs.Readers.{noted_of, other, ReaderWaits}
-use Rattle.agree_core.specs.Seats.{SeatState, SeatWaits}
 use Rattle.agree_core.proofs.FileBooks.{AllBoth}
 use Rattle.agree_core.proofs.Settling.{agreed_begins, one_book, one_vote_each, places_settled, rounds_differ}
 use Rattle.headline.specs.declared.event.Station.{Station}
 use Rattle.headline.specs.declared.event.Station.TheVariants as stations
 use Rattle.headline.specs.declared.version.FileVersion.{FileVersion}
 use Rattle.headline.specs.Match.{Setting}
-use Rattle.headline.specs.Configurations.{Process, Running, Down, Configuration, board_at, node, process_disk, process_votes, all_votes}
+use Rattle.headline.specs.Configurations.{Process, Configuration, board_at, node, process_disk, process_votes, all_votes}
 use Rattle.headline.specs.Runs.{AtEachMoment, AtSomeMoment, Moment, Run, Shows, last_of, process_shows}
-use Rattle.headline.specs.Noted.{kept_by_process, kept_by_seat}
+use Rattle.headline.specs.Noted.{kept_by_process}
 use Rattle.headline.specs.Besides.{KeepsVotes, KeptSafe, StandsFast, WithinAgreed}
 use Rattle.headline.specs.Headline.{ArePrefixes, AtEachEvent, ByBoth, NoneKeepsBoth}
 use Rattle.agree_core.specs.Keeping.{MessageFine, ShowsMore}
@@ -29,8 +28,7 @@ use Rattle.headline.proofs.Keeping.{Fine, Grows, ProcessFine, all_justified, fin
 module _ {Disk Why : Type 0} (s : Setting Disk Why) where
   process_both : (v : FileVersion) (d : DeskId) (theirs : List Ballot) (x : Process Disk) (book : List Entry) → ProcessFine s v d theirs x → process_shows x book
       → AllBoth (process_votes x) theirs 0 book
-  process_both v d theirs (Down votes disk) book f h = absurd h
-  process_both v d theirs (Running k) book f h = let g = f.seat in subst (AllBoth k.votes theirs 0) h g.both
+  process_both v d theirs x book h0 h1 = grind arith
 
   -- for each entry of a book that is shown both have a vote
   pub shown_both : (w : Configuration Disk) (t : Station) (book : List Entry) → Fine s w → Shows w t book → AllBoth (all_votes w).a (all_votes w).b 0 book
@@ -44,9 +42,7 @@ module _ {Disk Why : Type 0} (s : Setting Disk Why) where
   shown_settled w t book f h = both_settled (all_votes w) (all_justified s w f) 0 book (shown_both w t book f h)
 
   pub by_both : (w : Configuration Disk) → Fine s w → ByBoth w
-  by_both w f t xs place e h k =
-      let here : 0 + place ≡ place = omega arith in
-      subst (λ (p : ℕ). (round : ℕ) × EqualVotes (all_votes w) p round e) here (both_at (all_votes w).a (all_votes w).b 0 xs place e (shown_both w t xs f h) k)
+  by_both w h0 = grind (arith, both_at, shown_both)
 
   grows_on : (u v w : Configuration Disk) → Grows s u v → Grows s v w → Grows s u w
   grows_on u v w g h = (λ b i. h.0 b (g.0 b i), λ b i. h.1 b (g.1 b i))
@@ -80,20 +76,12 @@ module _ {Disk Why : Type 0} (s : Setting Disk Why) where
       let x = moment w ms (λ v. Shows v t xs) f r p in
       agreed_begins (all_votes x.0) (all_votes (last_of w ms)) x.2 (all_justified s (last_of w ms) (run_keeps s w ms f r)) xs agreed (shown_settled x.0 t xs x.1 x.3) g
 
-  seat_waits : (k : SeatState) (d : DeskId) (e f : Entry) → SeatWaits k → kept_by_seat k d A ≡ Some e → kept_by_seat k d B ≡ Some f → ⊥
-  seat_waits k A e f (inl w) p q = cc
-  seat_waits k A e f (inr w) p q = cc
-  seat_waits k B e f (inl w) p q = cc
-  seat_waits k B e f (inr w) p q = cc
-
   process_waits : (v : FileVersion) (d : DeskId) (theirs : List Ballot) (x : Process Disk) (e f : Entry) → ProcessFine s v d theirs x
       → kept_by_process x d A ≡ Some e → kept_by_process x d B ≡ Some f → ⊥
-  process_waits v d theirs (Running k) e f g p q = let h = g.seat in seat_waits k.seat d e f h.waits p q
-  process_waits v d theirs (Down votes disk) e f g p q = cc
+  process_waits v d theirs x e f h0 h1 h2 = grind arith
 
   reader_waits : (k : BoardState) (e f : Entry) → ReaderWaits k.reader → k.reader.a ≡ Some e → k.reader.b ≡ Some f → ⊥
-  reader_waits k e f (inl w) p q = cc
-  reader_waits k e f (inr w) p q = cc
+  reader_waits k e f w p q = grind arith
 
   abbrev kept_by_board : Option BoardState → DeskId → Option Entry
   kept_by_board board c = option_and_then (λ (k : BoardState). noted_of k.reader c) board
@@ -104,8 +92,7 @@ module _ {Disk Why : Type 0} (s : Setting Disk Why) where
   board_waits w n (Some k) e f g h p q = let fine = board_fine_at (all_votes w) w.boards n k h g.on_boards in reader_waits k e f fine.waits p q
 
   pub none_keeps_both : (w : Configuration Disk) → Fine s w → NoneKeepsBoth w
-  none_keeps_both w g (stations.Desk d) e f p q = process_waits (node w d).version d (votes_by (all_votes w) (other d)) (node w d).process e f (node_fine s w d g) p q
-  none_keeps_both w g (stations.Board n) e f p q = board_waits w n (board_at w.boards n) e f g refl p q
+  none_keeps_both w h0 = grind (arith, board_waits, node_fine, process_waits)
 
   image_has : (theirs votes : List Ballot) (o : Option (List Ballot)) → ShowsMore theirs votes o → (these : List Ballot) × (o ≡ Some these) × Within votes these
   image_has theirs votes o h = (h.0, h.1, more_within theirs votes h.0 h.2)

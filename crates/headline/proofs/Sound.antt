@@ -1,5 +1,5 @@
 -- No event of a run meets two votes of one desk, votes that are no book or a file that isn't sound.
-use Rattle.std.proofs.Common.{◌≡◌, ◌≢◌, ℕ, Bool, true, false, Option, Some, None, List, [], ◌∷◌, ◌++◌, length, refl, sym, ap, ◌∙◌, subst, inl, inr, arith, ⊎_elim}
+use Rattle.std.proofs.Common.{◌≡◌, ◌≢◌, ℕ, Bool, Option, Some, None, List, [], ◌∷◌, ◌++◌, length, refl, sym, ap, ◌∙◌, subst, inl, inr, arith, ⊎_elim}
 use Rattle.std.proofs.Common.{append-nil, append_assoc, length-append}
 use Rattle.std.specs.Prelude.{nat_eq}
 use Rattle.notation.specs.declared.entry.Entry.{Entry}
@@ -9,13 +9,13 @@ use Rattle.agree_core.specs.declared.messages.Message.{Message}
 use Rattle.agree_core.specs.declared.messages.Vote.{Vote}
 use Rattle.agree_core.specs.declared.seat.Heard.{Heard}
 use Rattle.agree_core.specs.Agreed.{AllSettled, BeginsWith}
-use Rattle.agree_core.specs.Ballots.{AllJustified, AllVotes, Ballot, In, Justified, Within, ballot_of, votes_by}
+use Rattle.agree_core.specs.Ballots.{AllJustified, AllVotes, Ballot, In, Justified, ballot_of, votes_by}
 use Rattle.agree_core.specs.Ballots as ballots
 use Rattle.agree_core.specs.Boards.{BoardAnswer, BoardReceives, BoardState}
 use Rattle.agree_core.specs.Books.{AllTaken, Rules, book_of, closing, voted_list}
-use Rattle.agree_core.specs.Desks.{DeskState, PenAnswer, ReceiveAnswer, Receives, next_ballot}
+use Rattle.agree_core.specs.Desks.{DeskState, PenAnswer, ReceiveAnswer, Receives}
 use Rattle.agree_core.specs.FileView.{FileView}
-use Rattle.agree_core.specs.Openings.{OpenRefusal, Opening, Opens}
+use Rattle.agree_core.specs.Openings.{Opening, Opens}
 use Rattle.agree_core.specs.Positions.{position_of}
 use Rattle.agree_core.specs.Readers.{Listens, ReaderState, noted_of, other}
 use Rattle.agree_core.specs.Seats.{Hears, SeatState}
@@ -27,23 +27,21 @@ use Rattle.headline.specs.declared.event.Event.{Event}
 use Rattle.headline.specs.declared.event.Event.TheVariants as events
 use Rattle.headline.specs.declared.event.Station.{Station}
 use Rattle.headline.specs.declared.event.Station.TheVariants as stations
-use Rattle.headline.specs.declared.fault.Fault.TheVariants.{Fail, Stop}
 use Rattle.headline.specs.declared.fault.Fault.{Fault}
 use Rattle.headline.specs.declared.version.FileVersion.{FileVersion}
-use Rattle.headline.specs.declared.version.FileVersion.TheVariants.{Old, New}
 use Rattle.headline.specs.Match.{Setting}
 use Rattle.headline.specs.Configurations.{Process, Down, Node, Configuration, node, process_disk, process_votes, all_votes}
 use Rattle.headline.specs.Events.{station_of}
 use Rattle.headline.specs.Answers.{Answer}
 use Rattle.headline.specs.DeskFaults.{Breaks, StaysDownBy}
-use Rattle.headline.specs.Migrations.{Failed, MigratesAt, NotSound, ToNew}
+use Rattle.headline.specs.Migrations.{MigratesAt}
 use Rattle.headline.specs.DeskSteps.{AfterOpen, AfterPen, AfterReceive, AtDesk}
 use Rattle.headline.specs.BoardSteps.{AtBoard, board_told}
 use Rattle.headline.specs.Steps.{StepAt}
 use Rattle.headline.specs.Runs.{Begins, Moment, Run, last_of}
 use Rattle.headline.specs.Besides.{IsSoundAnswer}
 use Rattle.headline.specs.Headline.{AtEachEvent}
-use Rattle.agree_core.specs.Keeping.{BoardFine, MessageFine, MineFine, NotedFine, SeatFine}
+use Rattle.agree_core.specs.Keeping.{BoardFine, MessageFine, NotedFine, SeatFine}
 use Rattle.agree_core.proofs.Both.{both_grow, both_settled, both_turned, more, same}
 use Rattle.headline.proofs.Heeding.{some_none}
 use Rattle.headline.proofs.BoardKeeping.{board_fine_at, item_at}
@@ -56,12 +54,10 @@ Lawful rules [] = Unit {0}
 Lawful rules (b ∷ bs) = AllTaken rules [] (voted_list (b ∷ bs)) × Lawful rules bs
 
 lawful_list : {Why : Type 0} (rules : Rules Why) (bs : List Ballot) → Lawful rules bs → AllTaken rules [] (voted_list bs)
-lawful_list rules [] h = tt
-lawful_list rules (b ∷ bs) h = h.0
+lawful_list rules bs h0 = grind arith
 
 closed_taken : {Why : Type 0} (rules : Rules Why) (kept : Bool) (book : List Entry) (e : Entry) → AllTaken rules [] book → AllTaken rules [] (book ++ e ∷ []) → AllTaken rules [] (closing kept book e)
-closed_taken rules true book e h k = h
-closed_taken rules false book e h k = k
+closed_taken rules kept book e h0 h1 = grind arith
 
 -- the book that a file shows is one that the rules take
 taken_book : {Why : Type 0} (rules : Rules Why) (b : Ballot) (bs : List Ballot) → Lawful rules bs → AllTaken rules [] (book_of (b ∷ bs))
@@ -98,28 +94,18 @@ one_of_length v a b j xs ys g h p q size =
 -- a desk has one vote at a position
 two_entries : (theirs votes : List Ballot) (x : Option Entry) (v : Vote) (e : Entry) (at : _) → Justified theirs votes → NotedFine votes at x → x ≡ Some e → In (ballot_of v) votes
     → position_of v ≡ at → v.entry ≢ e → ⊥
-two_entries theirs votes x v e at j n q i p unlike =
-    let k : In (record { at = at; entry = e }) votes = subst (NotedFine votes at) q n in
-    unlike (ap (λ (b : Ballot). b.entry) (one_vote theirs votes j (ballot_of v) (record { at = at; entry = e }) i k p))
+two_entries theirs votes x v e at h0 h1 h2 h3 h4 h5 = grind (arith, one_vote)
 
 module _ {Disk Why : Type 0} (s : Setting Disk Why) where
   pub justified_of : (w : Configuration Disk) (d : DeskId) → Fine s w → Justified (votes_by (all_votes w) (other d)) (votes_by (all_votes w) d)
-  justified_of w A f = (all_justified s w f).0
-  justified_of w B f = (all_justified s w f).1
+  justified_of w d h0 = grind arith
 
   justified_other : (w : Configuration Disk) (d : DeskId) → Fine s w → Justified (votes_by (all_votes w) d) (votes_by (all_votes w) (other d))
-  justified_other w A f = (all_justified s w f).1
-  justified_other w B f = (all_justified s w f).0
+  justified_other w d h0 = grind arith
 
   -- each pen is lawful
   lawful_pens : (w : Configuration Disk) (event : Event) (answer : Answer Why) → Fine s w → PensKeep s (λ d. Lawful s.rules) w event answer
-  lawful_pens w event answer f d k e q t i may old =
-      let fine = running s (node w d).version d (votes_by (all_votes w) (other d)) (node w d).process k i (node_fine s w d f) in
-      let seat = fine.seat in
-      let m : MineFine (votes_by (all_votes w) (other d)) k.votes k.book k.seat.position None = subst (MineFine (votes_by (all_votes w) (other d)) k.votes k.book k.seat.position) may.0.1 seat.mine in
-      let book : book_of (next_ballot k e ∷ k.votes) ≡ k.book = (m e).1 in
-      let next : s.rules (book_of (next_ballot k e ∷ k.votes)) e ≡ None = subst (λ (o : List Entry). s.rules o e ≡ None) (sym book) may.2 in
-      (taken_push s.rules [] (book_of (next_ballot k e ∷ k.votes)) e (taken_book s.rules (next_ballot k e) k.votes old) next, old)
+  lawful_pens w event answer h0 = grind (arith, node_fine, running, taken_book, taken_push)
 
   pub lawful_run : (version : FileVersion) (n : ℕ) (w : Configuration Disk) (ms : List (Moment Disk Why)) → Begins s version n w → Run s w ms → BothHold s (λ d. Lawful s.rules) (last_of w ms)
   lawful_run version n w [] e r = begins_hold s (λ d. Lawful s.rules) (λ d. tt) version n w e
@@ -149,8 +135,7 @@ module _ {Disk Why : Type 0} (s : Setting Disk Why) where
       turned w B book h = both_turned (all_votes w).b (all_votes w).a 0 book h
 
   told_sound : (event : Event) (h : Heard) → (h ≡ Heard.TwoVotes → ⊥) → IsSoundAnswer {Why = Why} event (Answer.Told h)
-  told_sound event Heard.TwoVotes n = n refl
-  told_sound event _ n = tt
+  told_sound event h h0 = grind arith
 
   module _ (event : Event) (answer : Answer Why) where
     sound_as : (told : Answer Why) → answer ≡ told → IsSoundAnswer event told → IsSoundAnswer event answer
@@ -158,53 +143,32 @@ module _ {Disk Why : Type 0} (s : Setting Disk Why) where
 
     module _ (view : FileView Disk) (x y : Node Disk) where
       broken_sound : (l : DeskState Disk) → Breaks view x l answer y → IsSoundAnswer event answer
-      broken_sound l (Fail, u, p) = sound_as Answer.DeviceFailed p.0 tt
-      broken_sound l (Stop, u, p) = sound_as Answer.Stopped p.1 tt
+      broken_sound l h0 = grind arith
 
       pen_sound : (told : PenAnswer Why) (l : DeskState Disk) → AfterPen view x told l answer y → IsSoundAnswer event answer
-      pen_sound (PenAnswer.Penned settled) l p = sound_as (Answer.Penned settled) p.0 tt
-      pen_sound (PenAnswer.Refused why) l p = sound_as (Answer.NotPenned why) p.0 tt
-      pen_sound PenAnswer.DeviceFailed l p = broken_sound l p
+      pen_sound told l h0 = grind arith
 
       stays_down_sound : (fault : Fault) (votes : List Ballot) (left : Disk) → StaysDownBy view x fault votes left answer y → IsSoundAnswer event answer
-      stays_down_sound Fail votes left p = sound_as Answer.DeviceFailed p.0 tt
-      stays_down_sound Stop votes left p = sound_as Answer.Stopped p.1 tt
+      stays_down_sound fault votes left h0 = grind arith
 
   two_at_desk : (w : Configuration Disk) (d : DeskId) (k : DeskState Disk) (v : Vote) (t : SeatState) → Fine s w → SeatFine d k.votes (votes_by (all_votes w) (other d)) k.seat k.book
       → MessageFine (all_votes w) (Message.Vote v) → Hears k.seat v Heard.TwoVotes t → ⊥
-  two_at_desk w d k v t f g m h =
-      let i = their_message s (all_votes w) d (Message.Vote v) m (λ e. h.0.0 (e ∙ sym g.desk)) in
-      two_entries (votes_by (all_votes w) d) (votes_by (all_votes w) (other d)) k.seat.theirs v h.1.0 k.seat.position (justified_other w d f) g.noted h.1.1 i h.0.1 h.1.2
+  two_at_desk w d k v t h0 h1 h2 h3 = grind (arith, justified_other, their_message, two_entries)
 
   receive_sound : (event : Event) (w : Configuration Disk) (d : DeskId) (x : Node Disk) (k l : DeskState Disk) (m : Message) (told : ReceiveAnswer) (out : List Message)
       (answer : Answer Why) (y : Node Disk) → Fine s w → SeatFine d k.votes (votes_by (all_votes w) (other d)) k.seat k.book → MessageFine (all_votes w) m
       → Receives (s.view d x.version) k m told l out → AfterReceive (s.view d x.version) x told l out answer y → IsSoundAnswer event answer
-  receive_sound event w d x k l m ReceiveAnswer.Failed out answer y f g i r p = sound_as event answer Answer.HasFailed p.0 tt
-  receive_sound event w d x k l m ReceiveAnswer.Asked out answer y f g i r p = sound_as event answer (Answer.Asked _) p.0 tt
-  receive_sound event w d x k l m ReceiveAnswer.DeviceFailed out answer y f g i r p = broken_sound event answer (s.view d x.version) x y l p
-  receive_sound event w d x k l (Message.Ask q) (ReceiveAnswer.Told h) out answer y f g i r p = absurd r
-  receive_sound event w d x k l (Message.Vote v) (ReceiveAnswer.Told h) out answer y f g i r p =
-      sound_as event answer (Answer.Told h) p.0 (told_sound event h (λ e. two_at_desk w d k v l.seat f g i (subst (λ (z : Heard). Hears k.seat v z l.seat) e r.1)))
+  receive_sound event w d x k l m told out answer y h0 h1 h2 h3 h4 = grind (arith, broken_sound, sound_as, told_sound, two_at_desk)
 
   open_sound : (event : Event) (d : DeskId) (theirs : List Ballot) (x : Node Disk) (votes : List Ballot) (old : Disk) (opening : Opening Disk) (answer : Answer Why) (y : Node Disk)
       → ProcessFine s x.version d theirs (Down votes old) → HeldBy s (Lawful s.rules) (s.view d x.version) votes old → Opens (s.view d x.version) s.rules d old opening
       → AfterOpen (s.view d x.version) x votes opening answer y → IsSoundAnswer event answer
-  open_sound event d theirs x votes old (Opening.Opened k) answer y f h o p = sound_as event answer (Answer.Opened _) p.0 tt
-  open_sound event d theirs x votes old (Opening.NotOpened OpenRefusal.Unsound left) answer y f h o p =
-      let g = f.1.0 in absurd (some_none ((s.view d x.version).reads old) g.0 o.0 g.1)
-  open_sound event d theirs x votes old (Opening.NotOpened (OpenRefusal.BadVotes place) left) answer y f h o p =
-      absurd (not_both s.rules [] (voted_list o.0) place (lawful_list s.rules o.0 (h.of_reads o.0 o.1)) o.2)
-  open_sound event d theirs x votes old (Opening.NotOpened OpenRefusal.NoMemory left) answer y f h o p = absurd p
-  open_sound event d theirs x votes old (Opening.NotOpened OpenRefusal.DeviceFailed left) answer y f h o p =
-      stays_down_sound event answer (s.view d x.version) x y p.0 votes left p.2
+  open_sound event d theirs x votes old opening answer y h0 h1 h2 h3 = grind (arith, lawful_list, not_both, some_none, sound_as, stays_down_sound)
 
   -- a file that is migrated is sound
   migrates_sound : (c d : DeskId) (theirs : List Ballot) (x : Node Disk) (version : FileVersion) (votes : List Ballot) (old : Disk) (answer : Answer Why) (y : Node Disk)
       → ProcessFine s version d theirs (Down votes old) → MigratesAt (s.view d) x version votes old answer y → IsSoundAnswer (events.Migrate c) answer
-  migrates_sound c d theirs x Old votes old answer y f (ToNew found new, m, p) = sound_as (events.Migrate c) answer (Answer.Migrated _) p.0 tt
-  migrates_sound c d theirs x Old votes old answer y f (NotSound left, m, p) = let g = f.1.0 in absurd (some_none ((s.view d Old).reads old) g.0 m.0 g.1)
-  migrates_sound c d theirs x Old votes old answer y f (Failed left, m, p) = stays_down_sound (events.Migrate c) answer (s.view d Old) x y p.0 votes left p.2
-  migrates_sound c d theirs x New votes old answer y f p = sound_as (events.Migrate c) answer Answer.OtherVersion p.0 tt
+  migrates_sound c d theirs x version votes old answer y h0 h1 = grind arith
 
   -- what an event at a desk is answered
   desk_sound : (w : Configuration Disk) (d : DeskId) (event : Event) (answer : Answer Why) (y : Node Disk) (out : List Message) → Fine s w → BothHold s (λ d. Lawful s.rules) w

@@ -38,15 +38,7 @@ marked_none items from o = record { over = []; seen = record { rest = refl }; wr
 
 marks-bowled : (item : Plain) (over : List Ball) → marks over ++ item_mark item ≡ marks (bowled item over)
 marks-bowled (plain.Ball b) over = refl
-marks-bowled (plain.Innings side) over = append-nil (marks over)
-marks-bowled (plain.Come p) over = append-nil (marks over)
-marks-bowled (plain.Gone how p) over = append-nil (marks over)
-marks-bowled plain.Over over = append-nil (marks over)
-marks-bowled (plain.Penalty side law part) over = append-nil (marks over)
-marks-bowled plain.Swap over = append-nil (marks over)
-marks-bowled (plain.End cause) over = append-nil (marks over)
-marks-bowled plain.Close over = append-nil (marks over)
-marks-bowled plain.Void over = append-nil (marks over)
+marks-bowled _ over = append-nil (marks over)
 
 pub marked_one : (items : List Placed) (from k : ℕ) (x : Placed) (o p q : Option (List ℕ)) → Marked items from k o p → slice_get items k ≡ Some x → Appends p q (item_mark x.item) → Marked items from (k + 1) o q
 marked_one items from k x o p q m here wrote = record {
@@ -72,15 +64,7 @@ counted_none items from = record { over = []; seen = record { rest = refl }; sum
 
 runs-bowled : (item : Plain) (over : List Ball) → tally runs_of over + item_runs item ≡ tally runs_of (bowled item over)
 runs-bowled (plain.Ball b) over = refl
-runs-bowled (plain.Innings side) over = omega arith
-runs-bowled (plain.Come p) over = omega arith
-runs-bowled (plain.Gone how p) over = omega arith
-runs-bowled plain.Over over = omega arith
-runs-bowled (plain.Penalty side law part) over = omega arith
-runs-bowled plain.Swap over = omega arith
-runs-bowled (plain.End cause) over = omega arith
-runs-bowled plain.Close over = omega arith
-runs-bowled plain.Void over = omega arith
+runs-bowled _ over = omega arith
 
 pub counted_one : (items : List Placed) (from k runs more : ℕ) (x : Placed) → Counted items from k runs → slice_get items k ≡ Some x → more ≡ item_runs x.item → more ≤ 260 → Counted items from (k + 1) (runs + more)
 counted_one items from k runs more x c here is most = record {

@@ -53,25 +53,19 @@ adds items k x here = λ over. ap (with_balls over) (next items k x here)
 balls_on : (items : List Placed) (k from : ℕ) (is_on : Bool) (b : Ball) (this last : List Ball) → Adds items k (plain.Ball b) → is_on ≡ are_some this →
     with_balls [] (drop from items) ≡ with_balls (this_or_last this last) (drop k items) →
     with_balls [] (drop (if is_on then from else k) items) ≡ with_balls (b ∷ this) (drop (k + 1) items)
-balls_on items k from true b [] last add on balls = absurd (cc)
-balls_on items k from false b [] last add on balls = add []
-balls_on items k from true b (c ∷ cs) last add on balls = balls ∙ add (c ∷ cs)
-balls_on items k from false b (c ∷ cs) last add on balls = absurd (cc)
+balls_on items k from is_on b [] last add on balls = rw on (add [])
+balls_on items k from is_on b (c ∷ cs) last add on balls = rw on (balls ∙ add (c ∷ cs))
 
 balls_called : (items : List Placed) (k from : ℕ) (is_on : Bool) (this last : List Ball) → Adds items k plain.Over → is_on ≡ are_some this →
     with_balls [] (drop from items) ≡ with_balls (this_or_last this last) (drop k items) →
     with_balls [] (drop (if is_on then from else k + 1) items) ≡ with_balls this (drop (k + 1) items)
-balls_called items k from true [] last add on balls = absurd (cc)
-balls_called items k from false [] last add on balls = refl
-balls_called items k from true (c ∷ cs) last add on balls = balls ∙ add (c ∷ cs)
-balls_called items k from false (c ∷ cs) last add on balls = absurd (cc)
+balls_called items k from is_on [] last add on balls = rw on refl
+balls_called items k from is_on (c ∷ cs) last add on balls = rw on (balls ∙ add (c ∷ cs))
 
 bowler_called : (is_on : Bool) (by : Option ℕ) (this last : List Ball) → is_on ≡ are_some this → by ≡ newest_bowler (this_or_last this last) →
     (if is_on then by else None) ≡ newest_bowler this
-bowler_called true by [] last on is = absurd (cc)
-bowler_called false by [] last on is = refl
-bowler_called true by (c ∷ cs) last on is = is
-bowler_called false by (c ∷ cs) last on is = absurd (cc)
+bowler_called is_on by [] last on is = rw on refl
+bowler_called is_on by (c ∷ cs) last on is = rw on is
 
 -- an item that is no delivery, and after which the over is as before
 stays : (items : List Placed) (k : ℕ) (item : Plain) (over : LastOver) (this last : List Ball) → Adds items k item → bowled item (this_or_last this last) ≡ this_or_last this last →
@@ -98,12 +92,7 @@ with_item_at items k plain.Over over h add at = record {
 }
 with_item_at items k (plain.Innings side) over h add at = anew items k
 with_item_at items k (plain.End cause) over h add at = anew items k
-with_item_at items k (plain.Come p) over h add at = stays items k (plain.Come p) over _ _ add refl at
-with_item_at items k (plain.Gone how p) over h add at = stays items k (plain.Gone how p) over _ _ add refl at
-with_item_at items k (plain.Penalty side law part) over h add at = stays items k (plain.Penalty side law part) over _ _ add refl at
-with_item_at items k plain.Swap over h add at = stays items k plain.Swap over _ _ add refl at
-with_item_at items k plain.Close over h add at = stays items k plain.Close over _ _ add refl at
-with_item_at items k plain.Void over h add at = stays items k plain.Void over _ _ add refl at
+with_item_at items k item over h add at = stays items k item over _ _ add refl at
 
 history-cons : (x : Placed) (xs : List Placed) (h : History) → history (x ∷ xs) ++ h ≡ history xs ++ x.item ∷ h
 history-cons x xs h = ap (λ u. u ++ h) (reverse_onto (map (λ y. y.item) xs) x.item []) ∙ append_assoc (history xs) (x.item ∷ []) h
@@ -119,15 +108,7 @@ taken_one items over k x m here stays =
 -- what is void is no delivery
 void_adds_none : (item : Plain) (over : List Ball) → is_void item ≡ true → bowled item over ≡ over
 void_adds_none (plain.Ball b) over void = absurd (cc)
-void_adds_none (plain.Innings side) over void = refl
-void_adds_none (plain.Come p) over void = refl
-void_adds_none (plain.Gone how p) over void = refl
-void_adds_none plain.Over over void = refl
-void_adds_none (plain.Penalty side law part) over void = refl
-void_adds_none plain.Swap over void = refl
-void_adds_none (plain.End cause) over void = refl
-void_adds_none plain.Close over void = refl
-void_adds_none plain.Void over void = refl
+void_adds_none _ over void = refl
 
 pub taken_not : (items : List Placed) (over : LastOver) (k : ℕ) (x : Placed) → Taken items over k → slice_get items k ≡ Some x → is_void x.item ≡ true → Taken items over (k + 1)
 taken_not items over k x m here void =

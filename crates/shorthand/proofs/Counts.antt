@@ -1,7 +1,7 @@
 -- How many players fit.
-use Rattle.std.proofs.Common.{◌≡◌, ℕ, zero, suc, ◌+◌, ◌≤◌, ◌<◌, Bool, true, false, List, [], ◌∷◌, filter, drop, length, get_or, Some, refl, ap, ◌∙◌, arith, lit≤}
+use Rattle.std.proofs.Common.{◌≡◌, ℕ, ◌+◌, ◌≤◌, ◌<◌, Bool, true, false, List, [], ◌∷◌, filter, drop, get_or, Some, refl, ap, ◌∙◌, arith}
 use Rattle.std.specs.Prelude.{slice_get}
-use Rattle.std.proofs.lemmas.List.{drop_all}
+use Rattle.std.proofs.lemmas.List.Elements.{All-from_recursion, All-get_or}
 use Rattle.ball_laws.specs.Over.{numbers}
 use Rattle.cards.proofs.Slots.{next}
 use Rattle.shorthand.specs.declared.names.Found.{Found}
@@ -33,20 +33,9 @@ fitting_not p found items k n here not =
     let all : filter p (drop k items) ≡ filter p (drop (k + 1) items) = ap (filter p) (next items k n here) ∙ rw not refl in
     rw all refl
 
-pub fitting_all : (p : ℕ → Bool) (found : Found) (items : List ℕ) (k : ℕ) → length items ≤ k → with_all found (filter p (drop k items)) ≡ found
-fitting_all p found items k end = rw (drop_all k items end) refl
+abbrev InRange : ℕ → Type 0
+InRange n = (1 ≤ n) × (n ≤ 11)
 
 -- a player's number
 pub number_in_range : (k : ℕ) → k < 11 → (1 ≤ get_or numbers k 0) × (get_or numbers k 0 ≤ 11)
-number_in_range zero lt = (lit≤ tt, lit≤ tt)
-number_in_range (suc zero) lt = (lit≤ tt, lit≤ tt)
-number_in_range (suc (suc zero)) lt = (lit≤ tt, lit≤ tt)
-number_in_range (suc (suc (suc zero))) lt = (lit≤ tt, lit≤ tt)
-number_in_range (suc (suc (suc (suc zero)))) lt = (lit≤ tt, lit≤ tt)
-number_in_range (suc (suc (suc (suc (suc zero))))) lt = (lit≤ tt, lit≤ tt)
-number_in_range (suc (suc (suc (suc (suc (suc zero)))))) lt = (lit≤ tt, lit≤ tt)
-number_in_range (suc (suc (suc (suc (suc (suc (suc zero))))))) lt = (lit≤ tt, lit≤ tt)
-number_in_range (suc (suc (suc (suc (suc (suc (suc (suc zero)))))))) lt = (lit≤ tt, lit≤ tt)
-number_in_range (suc (suc (suc (suc (suc (suc (suc (suc (suc zero))))))))) lt = (lit≤ tt, lit≤ tt)
-number_in_range (suc (suc (suc (suc (suc (suc (suc (suc (suc (suc zero)))))))))) lt = (lit≤ tt, lit≤ tt)
-number_in_range (suc (suc (suc (suc (suc (suc (suc (suc (suc (suc (suc k))))))))))) lt = absurd (omega (arith, lt))
+number_in_range k lt = All-get_or InRange numbers k 0 lt (All-from_recursion InRange numbers (grind arith))

@@ -4,3 +4,4 @@ pub mod Counts
 pub mod Standing
 pub mod Bowlers
 pub mod Meant
+pub mod Numerals

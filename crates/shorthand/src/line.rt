@@ -26,6 +26,7 @@ impl Model for Line {
 }
 
 /// The digits of a player's or a substitute's number.
+#[tactic(auto, using(crate::proofs::Numerals::to_twelve))]
 fn digits(number: u8) -> &'static str
     requires { number ≤ 12 }
     ensures { result.now ≡ decimal number }
