@@ -1,5 +1,5 @@
 -- What tells a day or a revision has its value: a text that is a day is the day's text.
-use Rattle.std.proofs.Common.{◌≡◌, ℕ, ◌+◌, ◌-◌, ◌*◌, ◌/◌, ◌%◌, ◌<◌, Bool, true, false, cond, ◌&&◌, ◌==◌, nat_le, pos, negsuc, List, [], ◌∷◌, ◌++◌, Option, Some, None, option_map, option_and_then, get_or, refl, sym, ap, ◌∙◌, arith, append_assoc, append-nil, lt-ltb, eqb-true}
+use Rattle.std.proofs.Common.{◌≡◌, ℕ, ◌+◌, ◌-◌, ◌*◌, ◌/◌, ◌%◌, ◌<◌, Bool, true, false, cond, ◌&&◌, ◌==◌, nat_le, pos, List, [], ◌∷◌, ◌++◌, Option, Some, None, option_map, option_and_then, get_or, refl, sym, ap, ◌∙◌, arith, append_assoc, append-nil, lt-ltb, eqb-true}
 use Rattle.std.specs.Prelude.{is_none}
 use Rattle.std.specs.Char.{is_ascii_digit}
 use Rattle.std.specs.Fmt.{decimal}
@@ -123,18 +123,8 @@ pub value_of_day : (d : Data) (day : Date) → day_of d ≡ Some day → IsValue
 unfolding datetime_text
 value_of_day (toml.string text) day e = ap string (sym (day_text text day e))
 value_of_day (toml.datetime dt) day e = ap string (parts_text dt.date dt.time dt.offset day e)
-value_of_day (toml.integer z) day e = absurd (none-some day e)
-value_of_day (toml.float x) day e = absurd (none-some day e)
-value_of_day (toml.boolean b) day e = absurd (none-some day e)
-value_of_day (toml.array ds) day e = absurd (none-some day e)
-value_of_day (toml.table ms) day e = absurd (none-some day e)
+value_of_day d day e = absurd (none-some day e)
 
 pub value_of_revision : (d : Data) (n : ℕ) → revision_of d ≡ Some n → IsValueOf d (number_value n)
 value_of_revision (toml.integer (pos m)) n e = ap (λ k. number (decimal k)) (sym (cond_some (nat_le 1 m) m n e).1)
-value_of_revision (toml.integer (negsuc m)) n e = absurd (none-some n e)
-value_of_revision (toml.string text) n e = absurd (none-some n e)
-value_of_revision (toml.datetime dt) n e = absurd (none-some n e)
-value_of_revision (toml.float x) n e = absurd (none-some n e)
-value_of_revision (toml.boolean b) n e = absurd (none-some n e)
-value_of_revision (toml.array ds) n e = absurd (none-some n e)
-value_of_revision (toml.table ms) n e = absurd (none-some n e)
+value_of_revision d n e = absurd (none-some n e)

@@ -1,15 +1,16 @@
 -- What stands at a key of `info`.
-use Rattle.std.proofs.Common.{◌≡◌, ℕ, Bool, true, false, cond, ◌||◌, bytes_eq, List, [], ◌∷◌, ◌++◌, Option, Some, None, option_map, Ordering, Less, Equal, Greater, nat_cmp, is_eq, codes, refl, sym, ap, ◌∙◌, subst, if◌then◌else◌}
+use Rattle.std.proofs.Common.{◌≡◌, ℕ, Bool, true, false, cond, ◌||◌, ◌&&◌, not, arith, append_assoc, bytes_eq, List, [], ◌∷◌, ◌++◌, Option, Some, None, option_map, Ordering, Less, Equal, Greater, nat_cmp, is_eq, codes, refl, sym, ap, ◌∙◌, subst, if◌then◌else◌}
 use Rattle.std.specs.Prelude.{is_some}
 use Rattle.std.specs.List.{list_any}
 use Rattle.std.specs.Ordering.{match_ordering}
 use Rattle.std.specs.Cmp.Lexicographic.{slice_cmp}
 use Rattle.std.proofs.lemmas.Bool.{or_parts, true≢false}
+use Rattle.std.proofs.lemmas.Option.{same_Some}
 use Rattle.std.proofs.lemmas.Map.Text.{is_eq-slice_cmp}
 use Rattle.std.proofs.lemmas.Slice.Eq.{bytes_eq-Decides}
 use Rattle.ball_laws.specs.History.{History}
 use Rattle.match_laws.specs.declared.outcome.Outcome.{Outcome}
-use Rattle.match_laws.specs.declared.outcome.Outcome.TheVariants.{Undecided, Draw, Tie, Runs, Wickets, InningsAnd, PenaltyRuns}
+use Rattle.match_laws.specs.declared.outcome.Outcome.TheVariants.{Undecided}
 use Rattle.match_laws.specs.Result.{outcome}
 use Rattle.cards.specs.Sheet.{Sheet}
 use Rattle.toml.specs.Data.{Data, Members, no_members, member, get_member}
@@ -31,9 +32,6 @@ get_member-cons key name d ms = by_order (slice_cmp nat_cmp key name) (Some d) (
 same_own : (key name : List ℕ) → bytes_eq key name ≡ true → is_own key ≡ is_own name
 same_own key name same = ap is_own ((bytes_eq-Decides key name).0 same)
 
-some : {A : Type 0} (x y : A) → Some x ≡ Some y → x ≡ y
-some x y e = ap (λ o. elim o [ None ↦ x | Some z ↦ z ]) e
-
 -- ---- what is handed on stands at its key
 
 module _ (key : List ℕ) (d : Data) where
@@ -54,7 +52,7 @@ module _ (key : List ℕ) (d : Data) where
       let value = sym (get_member-cons key name e ms) ∙ here in
       found_here (is_own name) (bytes_eq key name) name e (others ms) fs are (λ same. sym (same_own key name same) ∙ other) refl
       (λ gs these apart. found ms gs these (ap (λ b. cond b (Some e) (get_member key ms)) (sym apart) ∙ value) other)
-      (λ same. some e d (ap (λ b. cond b (Some e) (get_member key ms)) (sym same) ∙ value))
+      (λ same. same_Some e d (ap (λ b. cond b (Some e) (get_member key ms)) (sym same) ∙ value))
 
 -- ---- a key that isn't the export's own is handed on where the table has it
 
@@ -62,36 +60,23 @@ module _ (key : List ℕ) where
   abbrev has : List Field → Bool
   has fs = list_any (λ f. bytes_eq key f.0) fs
 
-  has_here : (own same : Bool) (name : List ℕ) (e : Data) (ms : Members) (fs : List Field) (o : Option Data) → AreFieldsOf (cond own ms (member name e ms)) fs → (same ≡ true → own ≡ false) → bytes_eq key name ≡ same
-      → ((gs : List Field) → AreFieldsOf ms gs → has gs ≡ is_some o) → has fs ≡ is_some (cond same (Some e) o)
-  has_here true true name e ms fs o are only is more = absurd (true≢false (only refl))
-  has_here true false name e ms fs o are only is more = more fs are
-  has_here false true name e ms fs o are only is more =
-      let (v, rest, whole, here, others) = are in
-      ap has whole ∙ ap (λ b. b || has rest) is
-  has_here false false name e ms fs o are only is more =
-      let (v, rest, whole, here, others) = are in
-      ap has whole ∙ (ap (λ b. b || has rest) is ∙ more rest others)
+  -- the fields behind a member's own, where it has one
+  has_here : (own : Bool) (name : List ℕ) (e : Data) (ms : Members) (fs : List Field) → AreFieldsOf (cond own ms (member name e ms)) fs
+      → (rest : List Field) × AreFieldsOf ms rest × (has fs ≡ ((not own && bytes_eq key name) || has rest))
+  has_here true name e ms fs are = (fs, are, refl)
+  has_here false name e ms fs are = let (v, rest, whole, here, others) = are in (rest, others, ap has whole)
 
   pub has_key : (ms : Members) (fs : List Field) → AreFieldsOf (others ms) fs → is_own key ≡ false → has fs ≡ is_some (get_member key ms)
   has_key no_members fs are other = ap has are
   has_key (member name e ms) fs are other =
-      has_here (is_own name) (bytes_eq key name) name e (others ms) fs (get_member key ms) are (λ same. sym (same_own key name same) ∙ other) refl (λ gs these. has_key ms gs these other)
-      ∙ ap is_some (sym (get_member-cons key name e ms))
+      let (rest, more, is) = has_here (is_own name) name e (others ms) fs are in
+      grind (arith, is, has_key ms rest more other, get_member-cons key name e ms, same_own key name)
 
   -- and one of its own isn't
-  left_here : (own same : Bool) (name : List ℕ) (e : Data) (ms : Members) (fs : List Field) → AreFieldsOf (cond own ms (member name e ms)) fs → (same ≡ true → own ≡ true) → bytes_eq key name ≡ same
-      → ((gs : List Field) → AreFieldsOf ms gs → has gs ≡ false) → has fs ≡ false
-  left_here true same name e ms fs are only is more = more fs are
-  left_here false true name e ms fs are only is more = absurd (true≢false (sym (only refl)))
-  left_here false false name e ms fs are only is more =
-      let (v, rest, whole, here, others) = are in
-      ap has whole ∙ (ap (λ b. b || has rest) is ∙ more rest others)
-
   left : (ms : Members) (fs : List Field) → AreFieldsOf (others ms) fs → is_own key ≡ true → has fs ≡ false
   left no_members fs are own = ap has are
   left (member name e ms) fs are own =
-      left_here (is_own name) (bytes_eq key name) name e (others ms) fs are (λ same. sym (same_own key name same) ∙ own) refl (λ gs these. left ms gs these own)
+      let (rest, more, is) = has_here (is_own name) name e (others ms) fs are in grind (arith, is, left ms rest more own, same_own key name)
 
 pub leaves_own : (document : Members) (given : List Field) → HandsOn document given → LeavesOwn given
 leaves_own document given are key own = left key (info_in document) given are own
@@ -111,12 +96,7 @@ module _ (key : List ℕ) where
 
   past_outcome : (s : Sheet) (o : Outcome) (fs : List Field) → bytes_eq key (codes "outcome") ≡ false → under (outcome_fields s o ++ fs) ≡ under fs
   past_outcome s Undecided fs apart = refl
-  past_outcome s Draw fs apart = past _ fs apart
-  past_outcome s Tie fs apart = past _ fs apart
-  past_outcome s (Runs side n) fs apart = past _ fs apart
-  past_outcome s (Wickets side n) fs apart = past _ fs apart
-  past_outcome s (InningsAnd side n) fs apart = past _ fs apart
-  past_outcome s (PenaltyRuns side) fs apart = past _ fs apart
+  past_outcome s o fs apart = past _ fs apart
 
   no_event : (given : List Field) (b : Bool) → list_any (λ f. bytes_eq key f.0) given ≡ true → has_event given ≡ false → bytes_eq key (codes "event") ≡ b → b ≡ false
   no_event given true here none same =
@@ -143,8 +123,7 @@ has_each_key s h document given are key d here other =
 
 pub in_a_row : (event : List Field) (teams players balls : Field) (result given : List Field)
     → ((((event ++ teams ∷ []) ++ players ∷ []) ++ balls ∷ []) ++ result) ++ given ≡ event ++ (teams ∷ players ∷ balls ∷ (result ++ given))
-in_a_row [] teams players balls result given = refl
-in_a_row (f ∷ fs) teams players balls result given = ap (λ gs. f ∷ gs) (in_a_row fs teams players balls result given)
+in_a_row event teams players balls result given = simp append_assoc
 
 pub is_some_map : {A B : Type 0} (f : A → B) (o : Option A) → is_some (option_map f o) ≡ is_some o
 is_some_map f None = refl

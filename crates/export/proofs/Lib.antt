@@ -3,6 +3,7 @@ pub mod Sifting
 pub mod EntryLemmas
 pub mod NameLemmas
 pub mod ReadLemmas
+pub mod Weights
 pub mod LawLemmas
 pub mod MiscountLemmas
 pub mod WicketLemmas

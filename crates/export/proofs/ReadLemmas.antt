@@ -1,11 +1,10 @@
 -- What is looked up in the value of an export.
-use Rattle.std.proofs.Common.{◌≡◌, ℕ, zero, suc, ◌+◌, ◌==◌, ◌&&◌, not, cond, Bool, true, false, List, [], ◌∷◌, ◌++◌, map, codes, refl, ap, ◌∙◌, append_assoc, if◌then◌else◌, Some, None}
+use Rattle.std.proofs.Common.{◌≡◌, ℕ, ◌+◌, ◌==◌, ◌&&◌, not, cond, Bool, true, false, List, [], ◌∷◌, ◌++◌, map, codes, refl, ap, ◌∙◌, append_assoc, eq-eqb, if◌then◌else◌, Some, None}
 use Rattle.std.specs.List.{flat_map}
 use Rattle.std.proofs.lemmas.List.Concat.{flat_map-cons}
-use Rattle.std.proofs.Math.Dec.{eqb-suc-suc}
 use Rattle.notation.specs.declared.entry.Side.{Side}
 use Rattle.notation.specs.declared.entry.Plain.{Plain}
-use Rattle.notation.specs.declared.entry.Plain.TheVariants.{Innings, Come, Ball as Bowl, Gone, Over, Penalty, Swap, End, Close, Void}
+use Rattle.notation.specs.declared.entry.Plain.TheVariants.{Ball as Bowl}
 use Rattle.ball_laws.specs.declared.ends.Ends.{Ends}
 use Rattle.ball_laws.specs.Runs.{all_runs, split_of_ball}
 use Rattle.cards.specs.Sheet.{Sheet}
@@ -17,10 +16,6 @@ use Rattle.export.specs.Notes.{is_ball, carried}
 use Rattle.export.specs.Deliveries.{listed, listed_of, penalties}
 use Rattle.export.specs.Innings.{deliveries_from, overs_from, over_of}
 use Rattle.export.specs.Laws.{at, elements, values_of, total_in}
-
-same_number : (n : ℕ) → (n == n) ≡ true
-same_number zero = refl
-same_number (suc n) = eqb-suc-suc n n ∙ same_number n
 
 pub elements-of : (vs : List Json) → elements (items_of vs) ≡ vs
 elements-of [] = refl
@@ -46,7 +41,7 @@ first_over true over next later here rest all none begins new on =
 first_over false over next later here rest all none begins new on = on
 
 begun_over : (ball same : Bool) (here rest other : List Json) → same ≡ true → ball ≡ true → cond ball (cond same (here ++ rest) []) other ≡ here ++ rest
-begun_over ball same here rest other e b = ap (λ t. cond t (cond same (here ++ rest) []) other) b ∙ ap (λ t. cond t (here ++ rest) []) e
+begun_over ball same here rest other e b = rw (b, e) refl
 
 -- ---- totals
 
@@ -71,7 +66,7 @@ module _ (s : Sheet) (side : Side) (f : Begun) (i : ℕ) where
       → in_over (over_of s side f i x.over early (x ∷ xs)) ≡ listed s side f i early x (carried xs) ++ deliveries_from s side f i x.over [] xs
   over_begins early x xs ball =
       elements-of (deliveries_from s side f i x.over early (x ∷ xs))
-      ∙ begun_over (is_ball x.item) (x.over == x.over) (listed s side f i early x (carried xs)) (deliveries_from s side f i x.over [] xs) (deliveries_from s side f i x.over early xs) (same_number x.over) ball
+      ∙ begun_over (is_ball x.item) (x.over == x.over) (listed s side f i early x (carried xs)) (deliveries_from s side f i x.over [] xs) (deliveries_from s side f i x.over early xs) (eq-eqb x.over x.over refl) ball
 
   overs_on : (k : ℕ) (xs : List Noted) → deliveries_from s side f i k [] xs ++ flat_map in_over (overs_from s side f i (Some k) [] xs) ≡ all_listed [] xs
   overs_on k [] = refl
@@ -93,13 +88,5 @@ module _ (s : Sheet) (side : Side) (f : Begun) (i : ℕ) where
     where
       of_item : (p : Plain) (ends : Ends) (late : List Noted) (going none : List Json) (ns : List ℕ) → map total_in going ≡ map number_value ns → map total_in none ≡ map number_value ns
           → map total_in (cond (is_ball p) (listed_of s side f i early p ends late ++ going) none) ≡ map number_value (own_total f i p late ++ ns)
-      of_item (Innings t) ends late going none ns a b = b
-      of_item (Come p) ends late going none ns a b = b
       of_item (Bowl b) ends late going none ns a e = ap (λ vs. number_value (all_runs (split_of_ball b) + penalties f i late) ∷ vs) a
-      of_item (Gone way p) ends late going none ns a b = b
-      of_item Over ends late going none ns a b = b
-      of_item (Penalty t l p) ends late going none ns a b = b
-      of_item Swap ends late going none ns a b = b
-      of_item (End c) ends late going none ns a b = b
-      of_item Close ends late going none ns a b = b
-      of_item Void ends late going none ns a b = b
+      of_item p ends late going none ns a b = b

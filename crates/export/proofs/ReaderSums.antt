@@ -1,17 +1,18 @@
 -- What such readers sum up for batters and bowlers is what the card has.
-use Rattle.std.proofs.Common.{◌≡◌, ℕ, ◌+◌, ◌*◌, ◌≤◌, ◌==◌, ◌&&◌, not, cond, if◌then◌else◌, Bool, true, false, List, [], ◌∷◌, All, refl, sym, ap, ◌∙◌, arith, eqb-true, eq-eqb, bytes_eq, codes}
+use Rattle.std.proofs.Common.{◌≡◌, ℕ, ◌+◌, ◌*◌, ◌≤◌, ◌==◌, ◌&&◌, not, cond, if◌then◌else◌, Bool, true, List, [], ◌∷◌, All, refl, ap, ◌∙◌, arith, eqb-true, eq-eqb, bytes_eq, codes}
 use Rattle.std.specs.List.{filter_map, list_all, list_any}
+use Rattle.std.proofs.lemmas.Bool.Decides.{nat_tests}
 use Rattle.std.proofs.lemmas.Slice.Eq.{bytes_eq-Decides}
 use Rattle.notation.specs.declared.entry.Ball.{Ball}
 use Rattle.notation.specs.declared.entry.Entry.{Entry}
 use Rattle.notation.specs.declared.entry.Side.{Side}
-use Rattle.notation.specs.declared.entry.Plain.TheVariants.{Innings, Come, Ball as Bowl, Gone, Over, Penalty, Swap, End, Close, Void}
+use Rattle.notation.specs.declared.entry.Plain.TheVariants.{Ball as Bowl, Over}
 use Rattle.notation.specs.Written.{IsEntry}
 use Rattle.ball_laws.specs.declared.ends.Ends.{Ends}
 use Rattle.ball_laws.specs.History.{History}
 use Rattle.ball_laws.specs.Over.{counting, counts, debit_of, is_wide_or_no_ball}
 use Rattle.ball_laws.specs.Sums.{count_of, one_if, tally}
-use Rattle.match_laws.specs.History.{Delivery, begun, deliveries, innings_overs, is_at, is_of, opponent, side_of, since_call}
+use Rattle.match_laws.specs.History.{Delivery, deliveries, innings_overs, opponent, side_of, since_call}
 use Rattle.match_laws.specs.Figures.{alone, bowler_in, batted_of, batter_runs, batting_order, bowled_by, bowler_balls, bowler_noballs, bowler_overs, bowler_runs, bowler_wickets, bowler_wides, bowling_order, counting_by, credited, faced, faced_of, fours, fours_of, is_odd_over, noballs_of, odd_overs, of_bowler, of_striker, shared_by, sixes, sixes_of, wides_of}
 use Rattle.corrections.specs.CleanList.{history_of}
 use Rattle.corrections.specs.Legal.{IsLegalBook}
@@ -25,19 +26,14 @@ use Rattle.export.proofs.ReaderLemmas.{bat_read, batter_read, boundary_read, bow
 use Rattle.export.proofs.SumLemmas.{sum_read}
 use Rattle.export.proofs.LineLemmas.{bowler_of, bowlers_named, by_players, comers, picked, picked-add, picked-own, picked-same, striker_of, strikers_named, takes}
 
--- two numbers of a delivery that add up to a third, under a test
-add_if : (b : Bool) (x y z m n k : ℕ) → m + n ≡ k → x + y ≡ z → (x + cond b m 0) + (y + cond b n 0) ≡ z + cond b k 0
-add_if true x y z m n k one e = omega (arith, one, e)
-add_if false x y z m n k one e = omega (arith, e)
-
 module _ (f g k : Ball → ℕ) (adds : (b : Ball) → f b + g b ≡ k b) (i p : ℕ) where
   striker_adds : (ds : List Delivery) → tally (of_striker f i p) ds + tally (of_striker g i p) ds ≡ tally (of_striker k i p) ds
   striker_adds [] = refl
-  striker_adds (d ∷ ds) = add_if (is_of i d && is_at d.striker p) _ _ _ (f d.ball) (g d.ball) (k d.ball) (adds d.ball) (striker_adds ds)
+  striker_adds (d ∷ ds) = grind (arith, adds d.ball, striker_adds ds)
 
   bowler_adds : (ds : List Delivery) → tally (of_bowler f i p) ds + tally (of_bowler g i p) ds ≡ tally (of_bowler k i p) ds
   bowler_adds [] = refl
-  bowler_adds (d ∷ ds) = add_if (is_of i d && ((d.ball).bowler == p)) _ _ _ (f d.ball) (g d.ball) (k d.ball) (adds d.ball) (bowler_adds ds)
+  bowler_adds (d ∷ ds) = grind (arith, adds d.ball, bowler_adds ds)
 
 module _ (s : Sheet) (n : ℕ) (book : List Entry) (all : All IsEntry book) (legal : IsLegalBook n book) (i : ℕ) (name : List ℕ) where
   abbrev h : History
@@ -95,22 +91,11 @@ abbrev counted_one : Ball → ℕ
 counted_one b = one_if (counts b)
 
 fair : (b : Ball) → counted_one b + dead_ball b ≡ one_if (not (is_wide_or_no_ball b.kind))
-fair b = step b.dead (is_wide_or_no_ball b.kind)
-  where
-    step : (d w : Bool) → one_if (not d && not w) + one_if (d && not w) ≡ one_if (not w)
-    step true true = refl
-    step true false = refl
-    step false true = refl
-    step false false = refl
+fair b = grind arith
 
 all_by : (p : ℕ) (bs : List Ball) → list_all (bowled_by p) bs ≡ true → counting_by p bs ≡ counting bs
 all_by p [] e = refl
-all_by p (b ∷ bs) e = step (bowled_by p b) (list_all (bowled_by p) bs) (counts b) (counting_by p bs) (counting bs) (all_by p bs) e
-  where
-    step : (t r c : Bool) (x y : ℕ) → (r ≡ true → x ≡ y) → (t && r) ≡ true → cond (t && c) (x + 1) x ≡ cond c (y + 1) y
-    step true r true x y f e = ap (λ k. k + 1) (f e)
-    step true r false x y f e = f e
-    step false r c x y f e = absurd cc
+all_by p (b ∷ bs) e = grind (arith, all_by p bs)
 
 alone_by : (p : ℕ) (bs : List Ball) → alone p bs ≡ true → counting_by p bs ≡ counting bs
 alone_by p [] e = refl
@@ -119,38 +104,14 @@ alone_by p (b ∷ bs) e = all_by p (b ∷ bs) e
 -- of the called overs, those that he bowled alone and the others
 overs_apart : (p : ℕ) (overs : List (List Ball)) → tally (counting_by p) overs ≡ tally (λ over. if alone p over then counting over else 0) overs + tally (shared_by p) overs
 overs_apart p [] = refl
-overs_apart p (over ∷ overs) = step (alone p over) refl (overs_apart p overs)
-  where
-    step : (b : Bool) → alone p over ≡ b → tally (counting_by p) overs ≡ tally (λ o. if alone p o then counting o else 0) overs + tally (shared_by p) overs
-        → tally (counting_by p) overs + counting_by p over ≡ (tally (λ o. if alone p o then counting o else 0) overs + cond b (counting over) 0) + (tally (shared_by p) overs + cond b 0 (counting_by p over))
-    step true is rest = let own = alone_by p over is in omega (arith, rest, own)
-    step false is rest = omega (arith, rest)
+overs_apart p (over ∷ overs) = grind (arith, overs_apart p overs, alone_by p over)
 
 -- each delivery of an innings is of a called over, or since the last call
 by_overs : (h : History) (i p : ℕ) → tally (of_bowler counted_one i p) (deliveries h) ≡ tally (counting_by p) (innings_overs h i) + counting_by p (since_call h i)
 by_overs [] i p = refl
-by_overs (Bowl b ∷ h) i p = step (begun h == i + 1) (b.bowler == p) (counts b) (since_call h i) refl (by_overs h i p)
-  where
-    step : (here his c : Bool) (bs : List Ball) → counting_by p (b ∷ bs) ≡ cond (his && c) (counting_by p bs + 1) (counting_by p bs) → tally (of_bowler counted_one i p) (deliveries h) ≡ tally (counting_by p) (innings_overs h i) + counting_by p bs
-        → tally (of_bowler counted_one i p) (deliveries h) + cond (here && his) (one_if c) 0 ≡ tally (counting_by p) (innings_overs h i) + counting_by p (cond here (b ∷ bs) bs)
-    step true true true bs is e = omega (arith, is, e)
-    step true true false bs is e = omega (arith, is, e)
-    step true false c bs is e = omega (arith, is, e)
-    step false his c bs is e = omega (arith, e)
-by_overs (Over ∷ h) i p = step (begun h == i + 1) (since_call h i) (innings_overs h i) (by_overs h i p)
-  where
-    step : (here : Bool) (bs : List Ball) (overs : List (List Ball)) → tally (of_bowler counted_one i p) (deliveries h) ≡ tally (counting_by p) overs + counting_by p bs
-        → tally (of_bowler counted_one i p) (deliveries h) ≡ tally (counting_by p) (cond here (bs ∷ overs) overs) + counting_by p (cond here [] bs)
-    step true bs overs e = omega (arith, e)
-    step false bs overs e = e
-by_overs (Innings s ∷ h) i p = by_overs h i p
-by_overs (Come q ∷ h) i p = by_overs h i p
-by_overs (Gone way q ∷ h) i p = by_overs h i p
-by_overs (Penalty s x y ∷ h) i p = by_overs h i p
-by_overs (Swap ∷ h) i p = by_overs h i p
-by_overs (End c ∷ h) i p = by_overs h i p
-by_overs (Close ∷ h) i p = by_overs h i p
-by_overs (Void ∷ h) i p = by_overs h i p
+by_overs (Bowl b ∷ h) i p = grind (arith, by_overs h i p)
+by_overs (Over ∷ h) i p = grind (arith, by_overs h i p)
+by_overs (x ∷ h) i p = by_overs h i p
 
 balls_of : (h : History) (i p : ℕ) → tally (of_bowler (λ b. one_if (not (is_wide_or_no_ball b.kind))) i p) (deliveries h) ≡ (over_balls h i p + bowler_balls h i p) + tally (of_bowler dead_ball i p) (deliveries h)
 unfolding bowler_balls
@@ -196,14 +157,7 @@ bowlers_add_up s n book all legal i name = bowler_adds_up s n book all legal i n
 
 sixes_each : (p : ℕ) (overs : List (List Ball)) → count_of is_odd_over overs ≡ 0 → tally (λ over. if alone p over then counting over else 0) overs ≡ 6 * count_of (alone p) overs
 sixes_each p [] e = refl
-sixes_each p (over ∷ overs) e = step (counting over == 6) (alone p over) refl (sixes_each p overs) e
-  where
-    step : (six his : Bool) → (counting over == 6) ≡ six → (count_of is_odd_over overs ≡ 0 → tally (λ o. if alone p o then counting o else 0) overs ≡ 6 * count_of (alone p) overs)
-        → cond (not six) (count_of is_odd_over overs + 1) (count_of is_odd_over overs) ≡ 0
-        → tally (λ o. if alone p o then counting o else 0) overs + cond his (counting over) 0 ≡ 6 * cond his (count_of (alone p) overs + 1) (count_of (alone p) overs)
-    step true true is rest e = let balls = eqb-true (counting over) 6 is in let others = rest e in omega (arith, balls, others)
-    step true false is rest e = let others = rest e in omega (arith, others)
-    step false his is rest e = absurd (omega (arith, e))
+sixes_each p (over ∷ overs) e = grind (arith, nat_tests, sixes_each p overs, eqb-true (counting over) 6)
 
 pub overs_are_sixes : (h : History) → OversAreSixes h
 unfolding odd_overs bowler_overs
@@ -212,15 +166,9 @@ overs_are_sixes h i p none = sixes_each p (innings_overs h i) none
 -- ---- names of their own
 
 told_apart_by : (s : Sheet) (side : Side) (order : List ℕ) (p q : ℕ) → HasOwnName s side order p → list_any (λ r. r == q) order ≡ true → bytes_eq (player_of s side p) (player_of s side q) ≡ (p == q)
-told_apart_by s side order p q has there = step (p == q) refl (bytes_eq (player_of s side p) (player_of s side q)) refl
-  where
-    step : (same : Bool) → (p == q) ≡ same → (b : Bool) → bytes_eq (player_of s side p) (player_of s side q) ≡ b → b ≡ same
-    step true is true e = refl
-    step false is false e = refl
-    step true is false e = sym e ∙ (bytes_eq-Decides (player_of s side p) (player_of s side q)).1 (ap (player_of s side) (eqb-true p q is))
-    step false is true e =
-        let same = has.own q there (sym ((bytes_eq-Decides (player_of s side p) (player_of s side q)).0 e)) in
-        sym (eq-eqb p q (sym same)) ∙ is
+told_apart_by s side order p q has there =
+    let same = bytes_eq-Decides (player_of s side p) (player_of s side q) in
+    grind (arith, same.0, same.1, λ (e : player_of s side q ≡ player_of s side p). has.own q there e, eqb-true p q, eq-eqb p q)
 
 pub names_tell_players : (s : Sheet) (h : History) (i p : ℕ) (figure : History → ℕ → ℕ → ℕ) → NamesTellPlayers s h i p figure
 unfolding batting_order bowling_order

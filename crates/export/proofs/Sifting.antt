@@ -1,16 +1,11 @@
 -- What a loop over a list keeps of it.
-use Rattle.std.proofs.Common.{◌≡◌, ℕ, zero, suc, ◌+◌, ◌≤◌, ◌==◌, cond, Bool, true, false, List, [], ◌∷◌, ◌++◌, length, drop, Some, refl, sym, ap, ◌∙◌, append-nil, append_assoc}
+use Rattle.std.proofs.Common.{◌≡◌, ℕ, ◌+◌, cond, Bool, true, false, List, [], ◌∷◌, ◌++◌, drop, Some, sym, ap, ◌∙◌, append_assoc}
 use Rattle.std.specs.Prelude.{slice_get, filter}
-use Rattle.std.proofs.lemmas.List.{drop_all}
-use Rattle.std.proofs.Math.Dec.{eqb-suc-suc}
 use Rattle.cards.proofs.Slots.{next}
 
 -- what is kept of the first k elements, with what is of the others, is all that is
 pub record Sifted {X : Type 0} (p : X → Bool) (xs : List X) (k : ℕ) (ys : List X) : Type 0 where
   pub whole : ys ++ filter p (drop k xs) ≡ filter p xs
-
-pub sifted_none : {X : Type 0} (p : X → Bool) (xs : List X) → Sifted p xs 0 []
-sifted_none p xs = record { whole = refl }
 
 pub sifted_one : {X : Type 0} (p : X → Bool) (xs : List X) (k : ℕ) (ys more : List X) (x : X) → Sifted p xs k ys → slice_get xs k ≡ Some x → p x ≡ true → more ≡ ys ++ x ∷ [] → Sifted p xs (k + 1) more
 sifted_one p xs k ys more x m here holds added = record {
@@ -22,13 +17,3 @@ pub sifted_not : {X : Type 0} (p : X → Bool) (xs : List X) (k : ℕ) (ys : Lis
 sifted_not p xs k ys x m here fails = record {
   whole = ap (λ zs. ys ++ zs) (sym (ap (λ b. cond b (x ∷ filter p (drop (k + 1) xs)) (filter p (drop (k + 1) xs))) fails)) ∙ (ap (λ zs. ys ++ filter p zs) (sym (next xs k x here)) ∙ m.whole);
 }
-
-pub sifted_all : {X : Type 0} (p : X → Bool) (xs : List X) (k : ℕ) (ys : List X) → Sifted p xs k ys → length xs ≤ k → ys ≡ filter p xs
-sifted_all p xs k ys m all = sym (append-nil ys) ∙ (ap (λ zs. ys ++ filter p zs) (sym (drop_all k xs all)) ∙ m.whole)
-
-pub is_same : (a b : ℕ) → a ≡ b → (a == b) ≡ true
-is_same a b e = rw (e) (is_itself b)
-  where
-    is_itself : (n : ℕ) → (n == n) ≡ true
-    is_itself zero = refl
-    is_itself (suc n) = eqb-suc-suc n n ∙ is_itself n

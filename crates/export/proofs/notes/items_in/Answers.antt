@@ -1,8 +1,8 @@
 use Rattle.std.proofs.Common.{◌==◌}
-use Rattle.std.proofs.lemmas.Bool.{ne_eqb}
+use Rattle.std.proofs.lemmas.Bool.{eq-eqb, ne_eqb}
 use Rattle.std.proofs.Common.{Bool}
 use Rattle.export.specs.declared.notes.Noted.{Noted}
-use Rattle.export.proofs.Sifting.{is_same, sifted_one, sifted_not}
+use Rattle.export.proofs.Sifting.{sifted_one, sifted_not}
 use Rattle.export.proofs.notes.items_in.Goals as goal
 use Rattle.export.proofs.notes.items_in.Goals.{then-noted-innings+in_ok-push, else-noted-innings}
 
@@ -12,7 +12,7 @@ loop-index-preserved c =
     let x = c.noted_at-noted.result in
     elim c.if-noted-innings.branch [
       | then-noted-innings+in_ok-push w ↦
-          rw (w.items-is) (sifted_one p _ _ _ _ x c.loop-index.invariant c.noted_at-noted.ensures (is_same _ _ w.if-noted-innings.true) w.in_ok-push.ensures.items)
+          rw (w.items-is) (sifted_one p _ _ _ _ x c.loop-index.invariant c.noted_at-noted.ensures (eq-eqb _ _ w.if-noted-innings.true) w.in_ok-push.ensures.items)
       | else-noted-innings w ↦
           rw (w.items-is) (sifted_not p _ _ _ x c.loop-index.invariant c.noted_at-noted.ensures (ne_eqb _ _ w.if-noted-innings.false))
     ]
