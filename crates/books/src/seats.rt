@@ -8,18 +8,6 @@ ghost use Rattle.books.specs.inner.Seats.{free_at};
 use agree_core::{DeskId, Heard, Seat, Settled, Vote};
 use notation::Entry;
 
-/// The vote of a desk for an entry in the first round of a place.
-fn first_vote(desk: DeskId, place: u32, entry: Entry) -> Vote
-    ensures { result ≡ record { desk = desk; place = place; round = 0; entry = entry } }
-{
-    Vote {
-        desk,
-        place,
-        round: 0,
-        entry,
-    }
-}
-
 /// Has both desks vote for an entry, each hearing the other's vote: both answer that it is agreed.
 pub fn agree(a: &mut Seat, b: &mut Seat, entry: &Entry, place: u32) -> bool
     requires places { place < PLACES }
@@ -29,9 +17,16 @@ pub fn agree(a: &mut Seat, b: &mut Seat, entry: &Entry, place: u32) -> bool
     ensures first { a.new ≡ free_at A (place + 1) }
     ensures second { b.new ≡ free_at B (place + 1) }
 {
-    let _pending = a.cast(*entry);
-    let _noted = b.hear(&first_vote(DeskId::A, place, *entry));
-    let settled = b.cast(*entry);
-    let heard = a.hear(&first_vote(DeskId::B, place, *entry));
+    let mut vote = Vote {
+        desk: DeskId::A,
+        place,
+        round: 0,
+        entry: *entry,
+    };
+    let _pending = a.cast(vote.entry);
+    let _noted = b.hear(&vote);
+    vote.desk = DeskId::B;
+    let settled = b.cast(vote.entry);
+    let heard = a.hear(&vote);
     settled == Settled::Agreed && heard == Heard::Agreed
 }

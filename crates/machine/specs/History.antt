@@ -1,12 +1,12 @@
 -- What a history tells: what a power loss may leave, and how many calls have failed.
-use Rattle.std.specs.Prelude.{ℕ, ◌+◌, take}
+use Rattle.std.specs.Prelude.{ℕ, ◌+◌}
 use Rattle.entry_log.specs.Disk.{Images, Faults, Ever, cut_to, only, written}
 use Rattle.machine.specs.declared.history.Failures.{Failures, Zero, More'}
 use Rattle.machine.specs.declared.history.History.{History, Synced, Written', Cut'}
 
 -- the bytes of the last sync, after each write and cut since
 abbrev pub left_of : History → Images
-left_of (Synced bytes len) = only (take len.value bytes.value.items)
+left_of (Synced bytes) = only bytes.value.items
 left_of (Written' marker before at count) = written at.value count.value (left_of before)
 left_of (Cut' marker before len) = cut_to len.value (left_of before)
 

@@ -1,7 +1,7 @@
 //! What was done to a file, as far as a power loss may undo it, and how many calls failed. Clauses alone read both: they
 //! take no memory, and have no last value.
 
-ghost use Rattle.std.specs.Prelude.{◌≡◌, ◌+◌, take};
+ghost use Rattle.std.specs.Prelude.{◌≡◌, ◌+◌};
 ghost use Rattle.entry_log.specs.Disk.{cut_to, only, written};
 
 use std::snapshot::Snapshot;
@@ -9,7 +9,7 @@ use std::snapshot::Snapshot;
 /// The bytes that the last sync left, and each write and cut since.
 #[derive(Drop)]
 pub enum History {
-    Synced(Snapshot<Vec<u8>>, Snapshot<usize>),
+    Synced(Snapshot<Vec<u8>>),
     Written(Snapshot<History>, Snapshot<usize>, Snapshot<usize>),
     Cut(Snapshot<History>, Snapshot<usize>),
 }
@@ -17,11 +17,11 @@ pub enum History {
 impl History {
     ghost use Rattle.machine.specs.History.{left_of};
 
-    /// A sync has left the first `len` of these bytes.
-    pub fn synced(bytes: &Vec<u8>, len: usize) -> History
-        ensures { left_of result ≡ only (take len bytes.now.items) }
+    /// A sync has left these bytes.
+    pub fn synced(bytes: &Vec<u8>) -> History
+        ensures { left_of result ≡ only bytes.now.items }
     {
-        History::Synced(Snapshot::of(bytes), Snapshot::of(&len))
+        History::Synced(Snapshot::of(bytes))
     }
 
     /// This history, and then a write of so many bytes, whether it failed or not.

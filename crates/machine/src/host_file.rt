@@ -64,3 +64,31 @@ impl Host for File {
         self.sync_all()
     }
 }
+
+/// No file: a disk on it keeps its bytes in memory alone. What is asked of it is done at once, and it has no byte itself.
+#[derive(Drop)]
+pub struct NoFile;
+
+impl Host for NoFile {
+    ghost calls = { λ _. None };
+
+    fn len(&mut self) -> io::Result<u64> {
+        Ok(0)
+    }
+
+    fn read_front(&mut self, _buffer: &mut [u8]) -> io::Result<()> {
+        Ok(())
+    }
+
+    fn write_at(&mut self, _at: u64, _bytes: &[u8]) -> io::Result<()> {
+        Ok(())
+    }
+
+    fn cut(&mut self, _len: u64) -> io::Result<()> {
+        Ok(())
+    }
+
+    fn sync(&mut self) -> io::Result<()> {
+        Ok(())
+    }
+}

@@ -69,7 +69,7 @@ pub fn renewed<F: Successor + Drop>(
         return Err((OpenFault::NoMemory, file));
     };
     match renew(&mut file, bytes) {
-        Ok(()) => Ok(FileDisk::over(file, held, bytes.len())),
+        Ok(()) => Ok(FileDisk::over(file, held, room)),
         Err(_) => Err((OpenFault::Host, file)),
     }
 }
