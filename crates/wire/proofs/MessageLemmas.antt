@@ -1,5 +1,5 @@
 -- What the bytes of a message are made of, and that no other message has them.
-use Rattle.std.proofs.Common.{◌≡◌, ◌∙◌, ◌<◌, ◌≤◌, ℕ, List, ◌++◌, drop, length, replicate, Option, Some, None, arith, refl, sym, ap, slice_index, inl, inr, Bool, true, false, IsTrue, ◌↔◌}
+use Rattle.std.proofs.Common.{◌≡◌, ◌∙◌, ◌<◌, ◌≤◌, ℕ, List, ◌++◌, drop, length, replicate, Option, Some, None, arith, refl, sym, ap, slice_index, inl, inr, Bool, false, true≢false, IsTrue, ◌↔◌}
 use Rattle.std.specs.Option.{option_map}
 use Rattle.std.proofs.lemmas.Nat.{from_be_bytes-to_be_bytes_2, from_be_bytes-to_be_bytes_4}
 use Rattle.std.proofs.lemmas.List.{length-drop, take-append-le, take_all}
@@ -146,8 +146,4 @@ not_full p h = (below PLACES p.place (λ e. h (inl e)), below ROUNDS p.round (λ
     ]
 
 pub tested_free : (p : Position) (full : Bool) → (IsTrue full ↔ IsFull p) → full ≡ false → InRange p
-tested_free p full t is_no = not_full p (λ f. not_true full is_no (t.1 f))
-  where
-    not_true : (b : Bool) → b ≡ false → IsTrue b → ⊥
-    not_true true e h = absurd (cc)
-    not_true false e h = absurd (cc)
+tested_free p full t is_no = not_full p (λ f. true≢false (sym (t.1 f) ∙ is_no))
