@@ -73,8 +73,8 @@ broken_down old new disk left x v cause seen down h d cap calm spent told b =
     let on = d.on_disk in
     let has : HasDisk (record old { disk = Some left; due = None }) (Down d.votes left) =
     record { disk = ap (λ o. disk_at o (Some left)) down; votes = ap (λ o. votes_at o old.votes) down ∙ sym d.many; cap = cap ∙ on.cap } in
-    broken old new old.desk (Some left) disk x (Down d.votes left) v (λ fault. StaysDownBy ((match_of old.game old.innings_a_side).view old.name v) x fault d.votes left) cause seen old.due refl h on.faults calm
-    (λ once. stays_down old disk left None x down h d cap (spent once)) has (refl, refl) (λ lowered s. (lowered, refl, s, refl)) told b
+    broken old new old.desk (Some left) disk x (Down d.votes left) v (λ fault. StaysDownBy ((match_of old.game old.innings_a_side).view old.name v) x fault d.votes left) cause seen old.due refl h
+    on.faults calm (λ once. stays_down old disk left None x down h d cap (spent once)) has (refl, refl) (λ lowered s. (lowered, refl, s, refl)) told b
 
 -- what comes of opening or migrating: a step of the definitions, or out of memory
 abbrev pub Outcome : (List Datagram → Site → Seen → Site → Type 0) → Site → Result Seen WorldRefusal → Site → Type 0

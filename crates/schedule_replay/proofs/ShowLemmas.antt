@@ -116,7 +116,8 @@ scored_board (Some k) book d s =
     let here : (λ (s : BoardState). s.book) (board_state k) ≡ book = ap (λ (s : BoardState). s.book) (let e = s.1 in let z : board_state k ≡ s.0 = cc in z) ∙ s.2 in
     (d.0, (ap length (sym here), d.1))
 
-scored : (code : World) (w : Configuration MemDisk) → HaveScores code → HasConfiguration code w → (t : Station) (book : List Entry) → Shows w t book → (score : Standing) × CodeShows code t (length book) score
+scored : (code : World) (w : Configuration MemDisk) → HaveScores code → HasConfiguration code w → (t : Station) (book : List Entry) → Shows w t book
+    → (score : Standing) × CodeShows code t (length book) score
 scored code w d h (stations.Desk A) book s = let is = h.sites A in scored_desk code.a code.a.desk code.a.disk w.a.process book is.process d.a_desk s
 scored code w d h (stations.Desk B) book s = let is = h.sites B in scored_desk code.b code.b.desk code.b.disk w.b.process book is.process d.b_desk s
 scored code w d h (stations.Board zero) book s = absurd (let e = s.1 in cc)

@@ -211,8 +211,9 @@ pub broken_site : (old new : Site) (k l : WorldDesk) (x : Node MemDisk) (cause :
 broken_site old new k l x cause seen here h o calm spent told b =
     let r = running_is old k x here h in
     let disk = r.on_disk in
-    broken old new (Some l) old.disk (disk_of k) x (Running (state_of l)) x.version (λ fault. BreaksBy ((match_of old.game old.innings_a_side).view old.name x.version) x fault (state_of l)) cause seen old.due
-    refl h disk.faults calm (λ once. runs_again old k l None x here h o (spent once)) (record { disk = refl; votes = refl; cap = o.cap ∙ disk.cap }) (refl, refl) (λ left s. (left, refl, s, refl)) told b
+    broken old new (Some l) old.disk (disk_of k) x (Running (state_of l)) x.version (λ fault. BreaksBy ((match_of old.game old.innings_a_side).view old.name x.version) x fault (state_of l))
+    cause seen old.due refl h disk.faults calm (λ once. runs_again old k l None x here h o (spent once))
+    (record { disk = refl; votes = refl; cap = o.cap ∙ disk.cap }) (refl, refl) (λ left s. (left, refl, s, refl)) told b
 
 -- the site after that is of the same match
 pub broken_same : (due : Option Fault) (cause : Cause) (old new : Site) (seen : Seen) → BreaksDown due cause old seen new → SameSite old new

@@ -208,13 +208,8 @@ desk_refuses d old new site event why e c (items, inr (none, want, grows, l)) w 
     let k = left d old new site event w e c l items h in
     (k.0, inr (cause_is d old w event e h ∙ none, want, grows, k.1), k.2)
 
-pub at_desk_ok : (d : DeskId) (old new : World) (site : Site) (event : Event) (result : Result Seen WorldRefusal) → station_of event ≡ stations.Desk d → Changes d old new site
+pub at_desk : (d : DeskId) (old new : World) (site : Site) (event : Event) (result : Result Seen WorldRefusal) → station_of event ≡ stations.Desk d → Changes d old new site
     → SiteTakes event (code_site old d) old.sent.items result site new.sent.items → OnOk result (HasPlan event (disk_at site.desk site.disk))
-    → OnOk result (asks_fault event ≡ false → KeepsDue (code_site old d) site) → IfOk result (λ seen. StepsTo event old seen new)
-at_desk_ok d old new site event (Ok seen) e c t planned counted = desk_steps d old new site event seen e c t planned counted
-at_desk_ok d old new site event (Err why) e c t planned counted = tt
-
-pub at_desk_err : (d : DeskId) (old new : World) (site : Site) (event : Event) (result : Result Seen WorldRefusal) → station_of event ≡ stations.Desk d → Changes d old new site
-    → SiteTakes event (code_site old d) old.sent.items result site new.sent.items → IfErr result (λ why. RefusesTo event old why new)
-at_desk_err d old new site event (Ok seen) e c t = tt
-at_desk_err d old new site event (Err why) e c t = desk_refuses d old new site event why e c t
+    → OnOk result (asks_fault event ≡ false → KeepsDue (code_site old d) site) → IfOk result (λ seen. StepsTo event old seen new) × IfErr result (λ why. RefusesTo event old why new)
+at_desk d old new site event (Ok seen) e c t planned counted = (desk_steps d old new site event seen e c t planned counted, tt)
+at_desk d old new site event (Err why) e c t planned counted = (tt, desk_refuses d old new site event why e c t)
