@@ -54,7 +54,7 @@ use Rattle.schedule_replay.specs.CodeWorlds.{RefusesTo, StepsTo, board_game, boa
 use Rattle.schedule_replay.specs.inner.WorldBoards.{AreFresh, BoardSteps, SameBoard}
 use Rattle.schedule_replay.proofs.TakeLemmas.{sending_grows}
 use Rattle.schedule_replay.proofs.GiveLemmas.{datagram_at, message_at, message_in, not_both}
-use Rattle.schedule_replay.proofs.SiteLemmas.{more_bytes, no_bytes}
+use Rattle.schedule_replay.proofs.SiteLemmas.{no_bytes, ticked}
 use Rattle.schedule_replay.proofs.WorldLemmas.{sent_length}
 
 -- what a board receives of bytes that say a message
@@ -80,15 +80,8 @@ board_gives k l n t d answer sent there takes messages b =
 pub board_ticks : (k : MatchBoard) (t : Station) (n : ℕ) (out before after : List Datagram) → AreSent (board_game k) (map (λ (d : Datagram). d.bytes) out) (BoardTicks (board_state k))
     → n ≡ length out → after ≡ before ++ out → BoardSteps (events.Tick t) k before (seens.Ticked n) k after
 board_ticks k t n out before after sent long added messages b =
-    let said : map (λ (d : Datagram). d.bytes) out ≡ map (written (board_game k)) sent.0 = sent.2 in
-    let many : n ≡ length sent.0 = long ∙ sym (length-map out (λ (d : Datagram). d.bytes)) ∙ ap length said ∙ length-map sent.0 (written (board_game k)) in (
-      sent.0,
-      Answer.Ticked n,
-      refl,
-      (sent.3, ap (λ (m : ℕ). Answer.Ticked m) many, refl),
-      more_bytes (board_game k) before after messages sent.0 (map (λ (d : Datagram). d.bytes) out) b sent.1 said
-          (ap (map (λ (d : Datagram). d.bytes)) added ∙ map-append (λ (d : Datagram). d.bytes) before out),
-    )
+    let z = ticked (board_game k) (BoardTicks (board_state k)) n out before after messages sent long added b in
+    (sent.0, Answer.Ticked n, refl, (sent.3, ap (λ (m : ℕ). Answer.Ticked m) z.0, refl), z.1)
 
 -- the world has this board in the place of that number
 pub record PutsBoard (n : ℕ) (old new : World) (l : MatchBoard) : Type 0 where
@@ -153,8 +146,7 @@ board_of n old event k w t h =
 put : (n : ℕ) (old new : World) (l : MatchBoard) (w : Configuration MemDisk) (out : List Message) → PutsBoard n old new l → IsBoardOf old.game old.innings_a_side l → HasConfiguration old w
     → AreBytesOf old.game new.sent.items (w.sent ++ out) → HasConfiguration new (record w { boards = with_board w.boards (suc (n - 1)) (board_state l); sent = w.sent ++ out })
 put n old new l w out c owner h b =
-    let boards : All (IsBoardOf old.game old.innings_a_side) new.boards.items = subst (All (IsBoardOf old.game old.innings_a_side)) (sym c.there)
-    (All-set (IsBoardOf old.game old.innings_a_side) old.boards.items (n - 1) l owner h.boards_are) in
+    let boards : All (IsBoardOf old.game old.innings_a_side) new.boards.items = rw c.there (All-set (IsBoardOf old.game old.innings_a_side) old.boards.items (n - 1) l owner h.boards_are) in
     record {
       sites = λ d. subst (λ (z : Site). HasNode z (node w d)) (sym (site_stays old new d c.a c.b)) (h.sites d);
       named = λ d. subst (λ (z : Site). IsSiteOf d new.game new.innings_a_side z) (sym (site_stays old new d c.a c.b)) (rw (c.same_game, c.same_innings) (h.named d));
@@ -181,11 +173,8 @@ pub board_steps : (n : ℕ) (old new : World) (k l : MatchBoard) (event same : E
     → BoardSteps same k before seen l after → StepsTo event old seen new
 board_steps n old new k l event same seen before after e t c owner q b a steps w h =
     let of = board_of n old event k w t h in
-    let own : AreBytesOf (board_game k) before w.sent = subst (λ (g : ℕ). AreBytesOf g before w.sent) (sym of.same_game)
-    (subst (λ (z : List Datagram). AreBytesOf old.game z w.sent) (sym b) h.bytes) in
-    let p = subst (λ (g : ℕ). BoardGives same k w.sent seen l after g (board_innings k)) of.same_game (steps w.sent own) in
-    let r = subst (λ (i : ℕ). BoardGives same k w.sent seen l after old.game i) of.same_innings p in
-    let given = subst (λ (v : Event). BoardGives v k w.sent seen l after old.game old.innings_a_side) (sym q) r in
+    let own : AreBytesOf (board_game k) before w.sent = rw (of.same_game, b) h.bytes in
+    let given : BoardGives event k w.sent seen l after old.game old.innings_a_side = rw (← of.same_game, ← of.same_innings, q) (steps w.sent own) in
     let world : Configuration MemDisk = record w { boards = with_board w.boards (suc (n - 1)) (board_state l); sent = w.sent ++ given.0 } in
     let there : board_at w.boards (suc (n - 1)) ≡ Some (board_state k) = ap (λ (bs : List BoardState). slice_get bs (n - 1)) h.board_states ∙ slice_get-map board_state old.boards.items (n - 1) ∙ ap
     (option_map board_state) t.here in

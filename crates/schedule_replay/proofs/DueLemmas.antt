@@ -10,7 +10,6 @@ use Rattle.vote_store.specs.declared.refusal.Refusal.{Refusal as VotesRefusal}
 use Rattle.vote_store.specs.declared.refusal.Refusal.TheVariants as votes
 use Rattle.headline.specs.declared.fault.Fault.{Fault}
 use Rattle.headline.specs.declared.fault.Fault.TheVariants.{Fail, Stop}
-use Rattle.headline.specs.declared.version.FileVersion.TheVariants.{New}
 use Rattle.schedule_replay.specs.declared.seen.Cause.{Cause}
 use Rattle.schedule_replay.specs.declared.seen.Seen.{Seen}
 use Rattle.schedule_replay.specs.declared.seen.WorldRefusal.{WorldRefusal}
@@ -32,13 +31,6 @@ keeps_running old k l here e = keeps_from old (record old { desk = Some l }) (di
 -- or it stays down
 pub keeps_down : (old : Site) (disk left : MemDisk) → old.desk ≡ None → old.disk ≡ Some disk → (faults_of left).due ≡ (faults_of disk).due → KeepsDue old (record old { disk = Some left })
 keeps_down old disk left down there e = keeps_from old (record old { disk = Some left }) disk left ((λ i. disk_at (down i) (there i))) (ap (λ (o : Option WorldDesk). disk_at o (Some left)) down) e
-
--- it is opened, or its file is migrated to another disk
-pub keeps_opened : (old : Site) (disk : MemDisk) (k : WorldDesk) (left : Option MemDisk) → old.desk ≡ None → old.disk ≡ Some disk → faults_of (disk_of k) ≡ faults_of disk → KeepsDue old (record old { desk = Some k; disk = left })
-keeps_opened old disk k left down there e = keeps_from old (record old { desk = Some k; disk = left }) disk (disk_of k) (λ i. disk_at (down i) (there i)) refl (ap (λ z. z.due) e)
-
-pub keeps_migrated : (old : Site) (disk made : MemDisk) → old.desk ≡ None → old.disk ≡ Some disk → (faults_of made).due ≡ (faults_of disk).due → KeepsDue old (record old { version = New; disk = Some made })
-keeps_migrated old disk made down there e = keeps_from old (record old { version = New; disk = Some made }) disk made (λ i. disk_at (down i) (there i)) (ap (λ (o : Option WorldDesk). disk_at o (Some made)) down) e
 
 -- nothing is due
 pub keeps_none : (old new : Site) → new.due ≡ None → KeepsDue old new

@@ -1,7 +1,6 @@
 -- A tick, an end, a fault and an opening at a site are steps of the definitions there.
 use Rattle.std.proofs.Common.{◌≡◌, ℕ, Option, Some, None, List, [], ◌++◌, length, map, refl, sym, ap, ◌∙◌, subst}
 use Rattle.std.specs.Prelude.{option_map}
-use Rattle.std.proofs.lemmas.List.{length-map, map-append}
 use Rattle.std.specs.Option.{is_none, is_some}
 use Rattle.entry_log.specs.Disk.{Images, IsImage, only}
 use Rattle.entry_log.specs.Format.{contents}
@@ -16,7 +15,6 @@ use Rattle.agree_core.specs.Desks.{DeskState, Ticks}
 use Rattle.agree_core.specs.FileView.{Stays}
 use Rattle.vote_store.specs.View.{file_view}
 use Rattle.wire.specs.declared.datagram.Datagram.{Datagram}
-use Rattle.wire.specs.Layout.{written}
 use Rattle.wire.specs.Sent.{AreSent}
 use Rattle.headline.specs.declared.event.Event.{Event}
 use Rattle.headline.specs.declared.event.Event.TheVariants as events
@@ -33,7 +31,7 @@ use Rattle.headline.specs.Match.{format_of, match_of, most_bytes}
 use Rattle.schedule_replay.proofs.OpenLemmas.{down_at, stays_down}
 use Rattle.schedule_replay.specs.inner.Sites.{HasNode, IsDue, IsProcess, IsWorldDisk, PutsDown, SiteSteps, disk_at}
 use Rattle.schedule_replay.specs.WorldDesks.{SameOwner, disk_of, game_of, state_of}
-use Rattle.schedule_replay.proofs.SiteLemmas.{HasDisk, down_is, has_disk, more_bytes, no_bytes, only_one, put_down_is, running_is, runs_again, sets_plan_stays}
+use Rattle.schedule_replay.proofs.SiteLemmas.{HasDisk, down_is, no_bytes, only_one, put_down_is, running_is, runs_again, sets_plan_stays, site_disk, ticked}
 
 -- what a tick hands out
 pub ticks : (site : Site) (k : WorldDesk) (t : Station) (n : ℕ) (out before after : List Datagram) → site.desk ≡ Some k
@@ -41,20 +39,9 @@ pub ticks : (site : Site) (k : WorldDesk) (t : Station) (n : ℕ) (out before af
 ticks site k t n out before after here sent long added x messages h b =
     let r = running_is site k x here h in
     let own = r.owner in
-    let said : map (λ (d : Datagram). d.bytes) out ≡ map (written site.game) sent.0 = subst (λ (g : ℕ). map (λ (d : Datagram). d.bytes) out ≡ map (written g) sent.0) own.same_game sent.2 in
-    let many : n ≡ length sent.0 = long ∙ sym (length-map out (λ (d : Datagram). d.bytes)) ∙ ap length said ∙ length-map sent.0 (written site.game) in (
-      x,
-      sent.0,
-      Answer.Ticked n,
-      refl,
-      (state_of k, r.process, sent.3, ap (λ (m : ℕ). Answer.Ticked m) many, refl),
-      h,
-      more_bytes site.game before after messages sent.0 (map (λ (d : Datagram). d.bytes) out) b sent.1 said
-          (ap (map (λ (d : Datagram). d.bytes)) added ∙ map-append (λ (d : Datagram). d.bytes) before out),
-    )
-
-site_disk : (site : Site) (x : Node MemDisk) → HasNode site x → HasDisk site x.process
-site_disk site x h = has_disk site site.desk site.disk x.process refl refl h.process
+    let s = subst (λ (g : ℕ). AreSent g (map (λ (d : Datagram). d.bytes) out) (Ticks (state_of k))) own.same_game sent in
+    let z = ticked site.game (Ticks (state_of k)) n out before after messages s long added b in
+    (x, s.0, Answer.Ticked n, refl, (state_of k, r.process, s.3, ap (λ (m : ℕ). Answer.Ticked m) z.0, refl), h, z.1)
 
 calm_disk : (site : Site) (x : Node MemDisk) → HasNode site x → HasDisk (record site { due = None }) x.process
 calm_disk site x h = let d = site_disk site x h in record { disk = d.disk; votes = d.votes; cap = d.cap }

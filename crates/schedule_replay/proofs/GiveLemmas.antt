@@ -160,7 +160,7 @@ give_breaks old new k l n t d r seen before here there step owner blame device b
     let out = nothing_out view (state_of k) (state_of l) given.message step.0 received in
     let bytes : AreBytesOf old.game before (messages ++ step.0) = rw out (no_bytes old.game before messages b) in
     let blamed = subst (λ (w : What). BlamesDisk whats.Device ⊤ (device_answer w) (faults_of (disk_of k)) (faults_of (disk_of l))) device blame in
-    let broken = broken_site old new k l x (causes.Desk refusals.Device) seen old.due refl here h owner (λ q. blamed.calm q tt refl) (λ o. blamed.spent o tt refl) refl broke in
+    let broken = broken_site old new k l x (causes.Desk refusals.Device) seen here h owner (λ q. blamed.calm q tt refl) (λ o. blamed.spent o tt refl) refl broke in
     (broken.0, step.0, broken.1, broken.2, (state_of k, state_of l, given.message, ReceiveAnswer.DeviceFailed, runs.process, given.there, received, broken.3), broken.4, bytes)
   where
     nothing_out : (view : FileView MemDisk) (k l : DeskState MemDisk) (m : Message) (out : List Message) → Receives view k m ReceiveAnswer.DeviceFailed l out → out ≡ []

@@ -109,15 +109,10 @@ record Left (old : Site) (disk last : MemDisk) : Type 0 where
   cap : cap_of last ≡ cap_of disk
 
 -- why it isn't migrated
-abbrev pub RefusedFor : Site → MemDisk → VotesRefusal → Type 0
-RefusedFor old moved why =
-    (why ≡ device) ⊎ ((why ≡ votes.NoMemory) ⊎ (file_votes (contents version_1) (desk_number old.name) old.game (file_of moved) ≡ Err why))
-
-fault_of : (old : Site) (moved : MemDisk) (why : VotesRefusal) → why ≢ device → why ≢ votes.NoMemory → RefusedFor old moved why
-    → file_votes (contents version_1) (desk_number old.name) old.game (file_of moved) ≡ Err why
-fault_of old moved why n k (inl e) = absurd (n e)
-fault_of old moved why n k (inr (inl e)) = absurd (k e)
-fault_of old moved why n k (inr (inr e)) = e
+abbrev pub RefusedFor : Site → MemDisk → MemDisk → VotesRefusal → Type 0
+RefusedFor old moved begun why =
+    (IsErrOf {T = Migrated MemDisk MemDisk} (Err why) not_empty → 0 < length (file_of begun))
+    × ((why ≡ device) ⊎ ((why ≡ votes.NoMemory) ⊎ ((why ≡ not_empty) ⊎ (file_votes (contents version_1) (desk_number old.name) old.game (file_of moved) ≡ Err why))))
 
 module _ (old : Site) (disk moved fresh begun left made last : MemDisk) (m : IsMoved old disk moved fresh begun) where
   returned : (why : VotesRefusal) → IsReturned old disk moved begun left made last why → Left old disk last
@@ -127,6 +122,18 @@ module _ (old : Site) (disk moved fresh begun left made last : MemDisk) (m : IsM
       let images = ⊎_elim (λ (e : images_of left ≡ images_of moved). inl (back.images ∙ e ∙ here.images))
       (λ (e : images_of left ≡ only (file_of moved)). inr (back.images ∙ e ∙ ap only here.file)) r.images in
       record { may = λ version. may_sync version old disk last (back.file ∙ r.seen ∙ here.file) images; cap = back.cap ∙ r.cap ∙ here.cap }
+
+  -- the new disk was empty
+  fault_of : (why : VotesRefusal) → why ≢ device → why ≢ votes.NoMemory → RefusedFor old moved begun why → file_votes (contents version_1) (desk_number old.name) old.game (file_of moved) ≡ Err why
+  fault_of why n k (some, inl e) = absurd (n e)
+  fault_of why n k (some, inr (inl e)) = absurd (k e)
+  fault_of why n k (some, inr (inr (inl e))) =
+      let begins = m.there in
+      let empty = m.fresh_is in
+      let none : length (file_of begun) ≡ 0 = ap length (begins.file ∙ empty.file) in
+      let long : 0 < length (file_of begun) = some (cc) in
+      absurd (omega arith)
+  fault_of why n k (some, inr (inr (inr e))) = e
 
   -- nothing has failed
   calm_faults : (why : VotesRefusal) → IsReturned old disk moved begun left made last why → why ≢ device → faults_of last ≡ faults_of disk
@@ -165,7 +172,7 @@ module _ (old : Site) (disk moved fresh begun left made last : MemDisk) (m : IsM
             let l = returned device r in
             let failed = at_new in
             let spent = λ (o : IsOnce (faults_of disk).due). r.due ∙ failed.spent (subst IsOnce (sym m.due) o) within in
-            let broken = broken_down old new disk last x versions.Old (causes.Migrate device) seen old.due refl down h d l.cap (λ n. failed.calm (m.due ∙ n) within) spent refl broke in
+            let broken = broken_down old new disk last x versions.Old (causes.Migrate device) seen down h d l.cap (λ n. failed.calm (m.due ∙ n) within) spent refl broke in
             let at = subst (λ (v : FileVersion). MigratesAt {Why = Refusal} (ViewAt old) x v d.votes disk broken.1 broken.0) (sym (h.version ∙ version)) (Failed last, l.may versions.Old, broken.3) in
             (broken.0, [], broken.1, broken.2, (d.votes, disk, d.process, at, refl), broken.4, no_bytes old.game sent messages b)
 
@@ -188,25 +195,11 @@ module _ (old : Site) (disk moved fresh begun left made last : MemDisk) (m : IsM
             (NotSound last, (none, l.may versions.Old), (which, refl)) in
             (y, [], answer, says, (d.votes, disk, d.process, at, refl), site, no_bytes old.game sent messages b)
 
-    pub not_migrated : (why : VotesRefusal) → IsReturned old disk moved begun left made last why → RefusedFor old moved why
+    pub not_migrated : (why : VotesRefusal) → IsReturned old disk moved begun left made last why → RefusedFor old moved begun why
         → NotFoundBy (wants_memory why) (is_failing why) (causes.Migrate why) (record old { disk = Some last }) result new → Outcome MigrateSteps old result new
     not_migrated votes.NoMemory r f n =
         let l = returned votes.NoMemory r in
         memory_is MigrateSteps old new result n.0 (syncs old new disk last down there l.cap (l.may old.version) (calm_faults votes.NoMemory r (λ q. (cc))) n.1)
     not_migrated (votes.File files.Device) r f n = failing r n
-    not_migrated (votes.File files.Version) r f n = faulty (votes.File files.Version) Answer.OtherVersion r (λ q. (cc)) (fault_of old moved _ (λ q. (cc)) (λ q. (cc)) f) refl (inr refl) n
-    not_migrated why r f n = faulty why Answer.Unsound r (λ q. (cc)) (fault_of old moved why (λ q. (cc)) (λ q. (cc)) f) refl (inl refl) n
-
--- a migration that found the new disk not empty, which it was
-pub refused_for : (old : Site) (disk moved fresh begun : MemDisk) (why : VotesRefusal) → IsMoved old disk moved fresh begun
-    → (IsErrOf {T = Migrated MemDisk MemDisk} (Err why) not_empty → 0 < length (file_of begun))
-    → (why ≡ device) ⊎ ((why ≡ votes.NoMemory) ⊎ ((why ≡ not_empty) ⊎ (file_votes (contents version_1) (desk_number old.name) old.game (file_of moved) ≡ Err why))) → RefusedFor old moved why
-refused_for old disk moved fresh begun why m n (inl e) = inl e
-refused_for old disk moved fresh begun why m n (inr (inl e)) = inr (inl e)
-refused_for old disk moved fresh begun why m n (inr (inr (inl e))) =
-    let begins = m.there in
-    let empty = m.fresh_is in
-    let none : length (file_of begun) ≡ 0 = ap length (begins.file ∙ empty.file) in
-    let some = n (cc) in
-    absurd (omega arith)
-refused_for old disk moved fresh begun why m n (inr (inr (inr e))) = inr (inr e)
+    not_migrated (votes.File files.Version) r f n = faulty (votes.File files.Version) Answer.OtherVersion r (λ q. (cc)) (fault_of _ (λ q. (cc)) (λ q. (cc)) f) refl (inr refl) n
+    not_migrated why r f n = faulty why Answer.Unsound r (λ q. (cc)) (fault_of why (λ q. (cc)) (λ q. (cc)) f) refl (inl refl) n

@@ -8,7 +8,6 @@ use Rattle.entry_log.specs.Blame.{BlamesDisk}
 use Rattle.entry_log.specs.Disk.{Faults, IsOnce, Never}
 use Rattle.entry_log.specs.MemDisk.{cap_of, faults_of}
 use Rattle.entry_log.specs.declared.mem_disk.MemDisk.{MemDisk}
-use Rattle.entry_log.specs.declared.mem_disk.plan.Plan.TheVariants.{Calm}
 use Rattle.entry_log.specs.declared.refusal.Refusal.TheVariants as files
 use Rattle.agree_core.specs.Ballots.{Ballot}
 use Rattle.agree_core.specs.Books.{Rules}
@@ -24,7 +23,6 @@ use Rattle.desk.specs.declared.refusal.OpenRefusal.{OpenRefusal}
 use Rattle.desk.specs.declared.refusal.OpenRefusal.TheVariants.{BadVotes, Votes}
 use Rattle.headline.specs.declared.event.Event.TheVariants as events
 use Rattle.headline.specs.declared.fault.Fault.{Fault}
-use Rattle.headline.specs.declared.fault.Fault.TheVariants.{Fail, Stop}
 use Rattle.schedule_replay.specs.declared.seen.Cause.{Cause}
 use Rattle.schedule_replay.specs.declared.seen.Cause.TheVariants as causes
 use Rattle.schedule_replay.specs.declared.seen.Seen.{Seen}
@@ -36,13 +34,13 @@ use Rattle.headline.specs.declared.version.FileVersion.{FileVersion}
 use Rattle.schedule_replay.specs.declared.world_desk.WorldDesk.{WorldDesk}
 use Rattle.headline.specs.Configurations.{Process, Running, Down, Node, process_disk, with_disk}
 use Rattle.headline.specs.Answers.{Answer}
-use Rattle.headline.specs.DeskFaults.{StaysDown}
+use Rattle.headline.specs.DeskFaults.{StaysDown, StaysDownBy}
 use Rattle.headline.specs.DeskSteps.{AfterOpen}
 use Rattle.headline.specs.Match.{Setting, match_of}
 use Rattle.schedule_replay.specs.Answers.{answer_of, is_failing, wants_memory}
 use Rattle.schedule_replay.specs.inner.Sites.{BreaksDown, IsDue, IsProcess, HasNode, IsWorldDisk, NotFoundBy, SameSite, SiteSteps, SyncsSite, disk_at, votes_at}
 use Rattle.schedule_replay.specs.WorldDesks.{IsWorldDeskOf, disk_of, state_of}
-use Rattle.schedule_replay.proofs.SiteLemmas.{HasDisk, broken_same, down_is, no_bytes, put_down_is, sets_plan_stays}
+use Rattle.schedule_replay.proofs.SiteLemmas.{HasDisk, broken, broken_same, down_is, no_bytes}
 
 -- a site whose desk is down
 pub record IsDown (site : Site) (disk : MemDisk) (x : Node MemDisk) : Type 0 where
@@ -66,34 +64,17 @@ stays_down site disk left due x down h d cap faults =
     let on_left : IsWorldDisk site.version due left = record { cap = cap ∙ on.cap; faults = faults } in
     record { version = h.version; process = down_is (record site { disk = Some left; due = due }) left d.votes down refl (sym d.many) on_left; due = refl }
 
--- a device call has failed at a desk that is down, by the fault that was due
-pub broken_down : (old new : Site) (disk left : MemDisk) (x : Node MemDisk) (v : FileVersion) (cause : Cause) (seen : Seen) (due : Option Fault) → old.due ≡ due → old.desk ≡ None → HasNode old x
-    → (d : IsDown old disk x) → cap_of left ≡ cap_of disk → ((faults_of disk).due ≡ Never → ⊥) → (IsOnce (faults_of disk).due → (faults_of left).due ≡ Never)
-    → answer_of (seens.Refused cause) ≡ Some Answer.DeviceFailed → BreaksDown due cause (record old { disk = Some left }) seen new
+-- a device call has failed at a desk that is down
+pub broken_down : (old new : Site) (disk left : MemDisk) (x : Node MemDisk) (v : FileVersion) (cause : Cause) (seen : Seen) → old.desk ≡ None → HasNode old x → (d : IsDown old disk x)
+    → cap_of left ≡ cap_of disk → ((faults_of disk).due ≡ Never → ⊥) → (IsOnce (faults_of disk).due → (faults_of left).due ≡ Never)
+    → answer_of (seens.Refused cause) ≡ Some Answer.DeviceFailed → BreaksDown old.due cause (record old { disk = Some left }) seen new
     → (y : Node MemDisk) × (answer : Answer Refusal) × (answer_of seen ≡ Some answer) × StaysDown ((match_of old.game old.innings_a_side).view old.name v) x d.votes left answer y × HasNode new y
-broken_down old new disk left x v cause seen None q down h d cap calm spent told b =
+broken_down old new disk left x v cause seen down h d cap calm spent told b =
     let on = d.on_disk in
-    absurd (calm (subst (λ (z : Option Fault). IsDue z (faults_of disk).due) q on.faults))
-broken_down old new disk left x v cause seen (Some Fail) q down h d cap calm spent told b =
-    let on = d.on_disk in
-    let once : IsOnce (faults_of disk).due = subst (λ (z : Option Fault). IsDue z (faults_of disk).due) q on.faults in
-    let y : Node MemDisk = record x { process = Down d.votes left; due = None } in
-    let is : HasNode new y = subst (λ (z : Site). HasNode z y) (sym b.1) (stays_down old disk left None x down h d cap (spent once)) in
-    (y, Answer.DeviceFailed, ap answer_of b.0 ∙ told, (Fail, h.due ∙ q, (refl, refl)), is)
-broken_down old new disk left x v cause seen (Some Stop) q down h d cap calm spent told b =
-    let on = d.on_disk in
-    let put = b.1 in
-    let p : Process MemDisk = Down d.votes left in
-    let site : Site = record old { disk = Some left; due = None } in
-    let has : HasDisk site p = record {
-      disk = ap (λ (o : Option WorldDesk). disk_at o (Some left)) down;
-      votes = ap (λ (o : Option WorldDesk). votes_at o old.votes) down ∙ sym d.many;
-      cap = cap ∙ on.cap;
-    } in
-    let lowered = put_down_is site new p has refl put in
-    let y : Node MemDisk = record x { process = Down d.votes lowered.0; due = None } in
-    let is : HasNode new y = record { version = h.version ∙ sym put.version; process = lowered.3; due = sym put.due } in
-    (y, Answer.Stopped, ap answer_of b.0, (Stop, h.due ∙ q, (lowered.0, refl, sets_plan_stays old.name v old.game Calm left lowered.0 lowered.2, refl)), is)
+    let has : HasDisk (record old { disk = Some left; due = None }) (Down d.votes left) =
+    record { disk = ap (λ o. disk_at o (Some left)) down; votes = ap (λ o. votes_at o old.votes) down ∙ sym d.many; cap = cap ∙ on.cap } in
+    broken old new old.desk (Some left) disk x (Down d.votes left) v (λ fault. StaysDownBy ((match_of old.game old.innings_a_side).view old.name v) x fault d.votes left) cause seen old.due refl h
+    on.faults calm (λ once. stays_down old disk left None x down h d cap (spent once)) has (refl, refl) (λ lowered s. (lowered, refl, s, refl)) told b
 
 -- what comes of opening or migrating: a step of the definitions, or out of memory
 abbrev pub Outcome : (List Datagram → Site → Seen → Site → Type 0) → Site → Result Seen WorldRefusal → Site → Type 0
@@ -194,32 +175,22 @@ module _ (old new : Site) (disk left : MemDisk) (down : old.desk ≡ None) (ther
         → (seen : Seen) × (result ≡ Ok seen) × BreaksDown old.due (causes.Open device) (record old { disk = Some left }) seen new → Outcome OpenSteps old result new
     failing may blame (seen, r, broke) = seen_is OpenSteps old new result seen r (λ sent x messages h b.
         let d = down_at old disk x down there h in
-        let broken = broken_down old new disk left x x.version (causes.Open device) seen old.due refl down h d cap (λ n. blame.calm n tt refl) (λ o. blame.spent o tt refl) refl broke in
+        let broken = broken_down old new disk left x x.version (causes.Open device) seen down h d cap (λ n. blame.calm n tt refl) (λ o. blame.spent o tt refl) refl broke in
         let now = subst (λ (v : FileVersion). MaySync (ViewAt old v) disk left) (sym h.version) may in
         (broken.0, [], broken.1, broken.2, (d.votes, disk, NotOpened openings.OpenRefusal.DeviceFailed left, d.process, now, broken.3, refl), broken.4, no_bytes old.game sent messages b))
 
     -- the votes file refused
-    not_found : (why : VotesRefusal) → Opens (ViewAt old old.version) (RulesAt old) old.name disk (NotOpened (open_cause (Votes why)) left) → OpenBlame disk (Votes why) left
+    pub not_found : (why : VotesRefusal) → Opens (ViewAt old old.version) (RulesAt old) old.name disk (NotOpened (open_cause (Votes why)) left) → OpenBlame disk (Votes why) left
         → NotFoundBy (wants_memory why) (is_failing why) (causes.Open (Votes why)) (record old { disk = Some left }) result new → Outcome OpenSteps old result new
     not_found votes.NoMemory o blame n = memory_is OpenSteps old new result n.0 (syncs o (blame.same (not_device (Votes votes.NoMemory) (λ q. (cc)))) n.1)
     not_found (votes.File files.Device) o blame n = failing o blame n
     not_found why o blame n = not_sound (Votes why) openings.OpenRefusal.Unsound Answer.Unsound o (λ x v. (refl, refl)) (blame.same (not_device (Votes why) (λ q. (cc)))) refl n
 
-    -- the same of a refusal that is told so
-    pub not_found_as : (why : OpenRefusal) (fault : VotesRefusal) → why ≡ Votes fault → Opens (ViewAt old old.version) (RulesAt old) old.name disk (NotOpened (open_cause why) left)
-        → OpenBlame disk why left → NotFoundBy (wants_memory fault) (is_failing fault) (causes.Open (Votes fault)) (record old { disk = Some left }) result new → Outcome OpenSteps old result new
-    not_found_as why fault e o blame n =
-        let opens = subst (λ (w : OpenRefusal). Opens (ViewAt old old.version) (RulesAt old) old.name disk (NotOpened (open_cause w) left)) e o in
-        not_found fault opens (subst (λ (w : OpenRefusal). OpenBlame disk w left) e blame) n
-
     -- the votes are no book
-    pub bad_votes_as : (why : OpenRefusal) (place : ℕ) → why ≡ BadVotes place → Opens (ViewAt old old.version) (RulesAt old) old.name disk (NotOpened (open_cause why) left)
-        → OpenBlame disk why left → (result ≡ Ok (seens.Refused (causes.Open why))) × (new ≡ record old { disk = Some left }) → Outcome OpenSteps old result new
-    bad_votes_as why place e o blame n =
-        let opens = subst (λ (w : OpenRefusal). Opens (ViewAt old old.version) (RulesAt old) old.name disk (NotOpened (open_cause w) left)) e o in
-        let same = subst (λ (w : OpenRefusal). OpenBlame disk w left) e blame in
-        let is = subst (λ (w : OpenRefusal). (result ≡ Ok (seens.Refused (causes.Open w))) × (new ≡ record old { disk = Some left })) e n in
-        not_sound (BadVotes place) (openings.OpenRefusal.BadVotes place) Answer.NoBook opens (λ x v. (refl, refl)) (same.same (not_device (BadVotes place) (λ q. (cc)))) refl is
+    pub bad_votes : (place : ℕ) → Opens (ViewAt old old.version) (RulesAt old) old.name disk (NotOpened (openings.OpenRefusal.BadVotes place) left) → OpenBlame disk (BadVotes place) left
+        → (result ≡ Ok (seens.Refused (causes.Open (BadVotes place)))) × (new ≡ record old { disk = Some left }) → Outcome OpenSteps old result new
+    bad_votes place o blame n =
+        not_sound (BadVotes place) (openings.OpenRefusal.BadVotes place) Answer.NoBook o (λ x v. (refl, refl)) (blame.same (not_device (BadVotes place) (λ q. (cc)))) refl n
 
 -- the site after that is of the same match
 pub not_found_same : (memory fails : Bool) (cause : Cause) (old new : Site) (result : Result Seen WorldRefusal) → NotFoundBy memory fails cause old result new → SameSite old new

@@ -1,6 +1,5 @@
 -- A pen at a site's desk is a step of the definitions there.
-use Rattle.std.proofs.Common.{◌≡◌, ◌≢◌, ℕ, ◌+◌, ◌≤◌, ◌<◌, Bool, true, false, Option, Some, None, List, [], ◌∷◌, ◌++◌, length, map, refl, sym, ap, ◌∙◌, subst, Result, Ok, Err}
-use Rattle.std.specs.Prelude.{IsErrOf}
+use Rattle.std.proofs.Common.{◌≡◌, ◌≢◌, ℕ, Bool, true, false, Some, List, ◌++◌, length, map, refl, sym, ap, append-nil, ◌∙◌, subst, Result, Err}
 use Rattle.notation.specs.declared.entry.Entry.{Entry}
 use Rattle.corrections.specs.declared.refusal.Refusal.{Refusal}
 use Rattle.entry_log.specs.MemDisk.{cap_of, faults_of}
@@ -72,26 +71,16 @@ pen_breaks old new k l e seen before here step owner blame broke x messages h b 
     let pens = of_match old.name x.version old.game old.innings_a_side k own (λ view rules. Pens view rules (state_of k) e PenAnswer.DeviceFailed (state_of l) step.0) step.3 in
     let cap : cap_of (disk_of k) ≡ _ = disk.cap ∙ ap Rattle.headline.specs.Match.most_bytes (sym (own.same_version ∙ h.version)) in
     let within : FitsOneMore k = has_room (Rattle.schedule_replay.specs.WorldDesks.version_of k) (length (own_votes k)) (cap_of (disk_of k)) pens.0.1.1 cap in
-    let broken = broken_site old new k l x (causes.Desk refusals.Device) seen old.due refl here h owner (λ n. blame.calm n within refl) (λ o. blame.spent o within refl) refl broke in
+    let broken = broken_site old new k l x (causes.Desk refusals.Device) seen here h owner (λ n. blame.calm n within refl) (λ o. blame.spent o within refl) refl broke in
     let bytes : AreBytesOf old.game before (messages ++ step.0) = rw pens.3 (no_bytes old.game before messages b) in
     (broken.0, step.0, broken.1, broken.2, (state_of k, state_of l, PenAnswer.DeviceFailed, r.process, pens, broken.3), broken.4, bytes)
-
-device_is : (why : DeskRefusal) → IsErrOf {T = Penned} (Err why) refusals.Device → why ≡ refusals.Device
-device_is why q = cc
-
-refused : (old new : Site) (k l : WorldDesk) (e : Entry) (why : DeskRefusal) (seen : Seen) (before : List Datagram) → old.desk ≡ Some k → PenSteps k e (Err why) l → SameOwner k l
-    → PenBlame k (Err why) l → why ≢ refusals.Device → pen_answer (Err why) ≢ PenAnswer.DeviceFailed → (seen ≡ seens.Refused (causes.Desk why)) × (new ≡ record old { desk = Some l })
-    → SiteSteps (events.Pen old.name e) old before seen new before
-refused old new k l e why seen before here step owner blame calm other (r, n) =
-    let steps = pen_runs_on old k l e (Err why) (seens.Refused (causes.Desk why)) before before here step owner (blame.same (λ q. calm (device_is why q))) other refl
-    (sym (Rattle.std.proofs.Common.append-nil (map (λ (d : Datagram). d.bytes) before))) in
-    subst (λ (z : Seen). SiteSteps (events.Pen old.name e) old before z new before) (sym r)
-    (subst (λ (z : Site). SiteSteps (events.Pen old.name e) old before (seens.Refused (causes.Desk why)) z before) (sym n) steps)
 
 pub pen_refused : (old new : Site) (k l : WorldDesk) (e : Entry) (why : DeskRefusal) (seen : Seen) (before : List Datagram) → old.desk ≡ Some k → PenSteps k e (Err why) l → SameOwner k l
     → PenBlame k (Err why) l → AfterRefusal why (record old { desk = Some l }) seen new → SiteSteps (events.Pen old.name e) old before seen new before
 pen_refused old new k l e refusals.Device seen before here step owner blame a = pen_breaks old new k l e seen before here step owner blame a
-pen_refused old new k l e why seen before here step owner blame a = refused old new k l e why seen before here step owner blame (λ q. (cc)) (λ q. (cc)) a
+pen_refused old new k l e why seen before here step owner blame a =
+    rw (a.0, a.1) (pen_runs_on old k l e (Err why) (seens.Refused (causes.Desk why)) before before here step owner (blame.same (λ q. (cc))) (λ q. (cc)) refl
+    (sym (append-nil (map (λ (d : Datagram). d.bytes) before))))
 
 -- the site after a refusal is of the same match
 pub refused_same : (device : Bool) (why : DeskRefusal) (old new : Site) (seen : Seen) → RefusedBy device why old seen new → SameSite old new

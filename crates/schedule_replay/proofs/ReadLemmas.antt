@@ -17,7 +17,7 @@ use Rattle.schedule_replay.specs.CodeWorlds.{HasConfiguration, code_site}
 use Rattle.schedule_replay.specs.inner.VotesFiles.{FilesRead, SiteReads}
 use Rattle.agree_core.specs.Keeping.{ShowsMore}
 use Rattle.headline.proofs.Keeping.{Fine, fine_disk, node_fine}
-use Rattle.schedule_replay.proofs.SiteLemmas.{has_disk}
+use Rattle.schedule_replay.proofs.SiteLemmas.{site_disk}
 
 one_left : (b : Ballot) (bs : List Ballot) → (c : Ballot) × (drop (length bs) (b ∷ bs) ≡ c ∷ [])
 one_left b [] = (b, refl)
@@ -43,21 +43,15 @@ first_are later votes found n e size =
 pub no_more : (later votes found : List Ballot) (n : ℕ) → found ≡ later ++ votes → n ≡ length votes → n ≤ length found
 no_more later votes found n e size = let l = ap length e in omega (arith, l, size, length-append later votes)
 
-same_disk : (a b : MemDisk) → Some a ≡ Some b → a ≡ b
-same_disk a b e = cc
-
-same_votes : (a b : List Ballot) → Some a ≡ Some b → a ≡ b
-same_votes a b e = cc
-
 -- a desk that is put down still reads so
 pub put_down_reads : (old new : Site) (disk : MemDisk) (x : Node MemDisk) → HasNode old x → SiteReads old.game old.innings_a_side old.name x → PutsDown old new → new.disk ≡ Some disk → (later : List Ballot) × (votes_shown (contents (format_of new.version)) new.name new.game (file_of disk) ≡ Some (later ++ process_votes x.process))
 put_down_reads old new disk x h reads put there =
-    let has = has_disk old old.desk old.disk x.process refl refl h.process in
+    let has = site_disk old x h in
     let d = put.disk in
     let same = put.same in
     let plan = d.4 in
-    let before : d.0 ≡ process_disk x.process = same_disk d.0 (process_disk x.process) (sym d.2 ∙ has.disk) in
-    let after : disk ≡ d.1 = same_disk disk d.1 (sym there ∙ d.3) in
+    let before : d.0 ≡ process_disk x.process = let z = sym d.2 ∙ has.disk in cc in
+    let after : disk ≡ d.1 = let z = sym there ∙ d.3 in cc in
     let file : file_of disk ≡ file_of (process_disk x.process) = ap file_of after ∙ plan.file ∙ ap file_of before in
     let version : new.version ≡ x.version = put.version ∙ sym h.version in
     (reads.0, (λ i. votes_shown (contents (format_of (version i))) (same.name i) (same.same_game i) (file i)) ∙ reads.1)
@@ -65,10 +59,10 @@ put_down_reads old new disk x h reads put there =
 -- and the first of the votes found are the desk's
 pub put_down_votes : (old new : Site) (disk : MemDisk) (x : Node MemDisk) (found : List Ballot) → HasNode old x → SiteReads old.game old.innings_a_side old.name x → PutsDown old new → new.disk ≡ Some disk → votes_shown (contents (format_of new.version)) new.name new.game (file_of disk) ≡ Some found → (new.votes ≤ length found) × (oldest new.votes found ≡ process_votes x.process)
 put_down_votes old new disk x found h reads put there shows =
-    let has = has_disk old old.desk old.disk x.process refl refl h.process in
+    let has = site_disk old x h in
     let read = put_down_reads old new disk x h reads put there in
     let votes = process_votes x.process in
-    let e : found ≡ read.0 ++ votes = same_votes found (read.0 ++ votes) (sym shows ∙ read.1) in
+    let e : found ≡ read.0 ++ votes = let z = sym shows ∙ read.1 in cc in
     let size : new.votes ≡ length votes = put.counted ∙ has.votes in
     (no_more read.0 votes found new.votes e size, first_are read.0 votes found new.votes e size)
 

@@ -165,11 +165,6 @@ module _ (game innings : ℕ) (version : FileVersion) (boards : ℕ) (events : L
         );
       }
 
-  -- the match that the world was made for
-  of_world : (world : World) (w after : Configuration MemDisk) (event : Event) (answer : Answer Refusal) → world.game ≡ game → world.innings_a_side ≡ innings
-      → Step (match_of world.game world.innings_a_side) w event answer after → Step (match_of game innings) w event answer after
-  of_world world w after event answer e f p = subst (λ (n : ℕ). Step (match_of game n) w event answer after) f (subst (λ (n : ℕ). Step (match_of n world.innings_a_side) w event answer after) e p)
-
   -- one event more
   pub steps_on : (number : ℕ) (event : Event) (world new : World) (outcomes : List Seen) (seen : Seen) (w : Configuration MemDisk) (ms : MatchRun) → number < length events
       → event ≡ slice_index_or events number event → IsAt game innings version boards events number world outcomes w ms → StepsTo event world seen new → KeepsMatch world new
@@ -177,7 +172,7 @@ module _ (game innings : ℕ) (version : FileVersion) (boards : ℕ) (events : L
   steps_on number event world new outcomes seen w ms less here at steps same =
       let run = at.run in
       let s = (steps (last_of w ms) at.has_configuration).1 in
-      let step = of_world world (last_of w ms) s.1 event s.0 at.same_game at.same_innings s.3 in
+      let step : Step (match_of game innings) (last_of w ms) event s.0 s.1 = rw (← at.same_game, ← at.same_innings) s.3 in
       let m : Moment MemDisk Refusal = record { event = event; answer = s.0; after = s.1 } in
       let next : take (number + 1) events ≡ take number events ++ event ∷ [] =
       let e : suc number ≡ number + 1 = omega arith in
@@ -208,9 +203,7 @@ module _ (game innings : ℕ) (version : FileVersion) (boards : ℕ) (events : L
       → (v : Configuration MemDisk) × (slice_get events number ≡ Some event) × RefusesEvent (match_of game innings) (last_of w ms) event why v
   refuses_at number event world new outcomes why w ms less here at refuses =
       let s = refuses (last_of w ms) at.has_configuration in
-      let refused = subst (λ (n : ℕ). RefusesEvent (match_of game n) (last_of w ms) event why s.0) at.same_innings
-      (subst (λ (n : ℕ). RefusesEvent (match_of n world.innings_a_side) (last_of w ms) event why s.0) at.same_game s.1) in
-      (s.0, slice_get-get_or events number event less ∙ ap Some (sym here), refused)
+      (s.0, slice_get-get_or events number event less ∙ ap Some (sym here), rw (← at.same_game, ← at.same_innings) s.1)
 
   -- some run ends so
   pub begins_taken : (world : World) → BeginsWorld game innings version boards world → HasTaken game innings version boards events 0 world
@@ -314,7 +307,4 @@ pub ends_of_match : (game innings : ℕ) (version : FileVersion) (boards : ℕ) 
     → IfErr r (EndsOrNeverBegins game innings version boards events)
 ends_of_match game innings version boards events world (Ok report) b h = h
 ends_of_match game innings version boards events world (Err end) b h =
-    inr (subst (λ g. EndsAt g innings version boards events end) b.same_game
-    (subst (λ i. EndsAt world.game i version boards events end) b.same_innings
-    (subst (λ v. EndsAt world.game world.innings_a_side v boards events end) b.same_version
-    (subst (λ n. EndsAt world.game world.innings_a_side (match_version world) n events end) b.same_boards h))))
+    inr (rw (← b.same_game, ← b.same_innings, ← b.same_version, ← b.same_boards) h)

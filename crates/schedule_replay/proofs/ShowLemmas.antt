@@ -20,7 +20,7 @@ use Rattle.schedule_replay.specs.declared.site.Site.{Site}
 use Rattle.schedule_replay.specs.declared.world.World.{World}
 use Rattle.schedule_replay.specs.declared.world_desk.WorldDesk.{WorldDesk}
 use Rattle.headline.specs.Configurations.{Process, Configuration, node}
-use Rattle.headline.specs.Runs.{process_shows}
+use Rattle.headline.specs.Runs.{Shows, process_shows}
 use Rattle.schedule_replay.specs.inner.Sites.{IsProcess}
 use Rattle.schedule_replay.specs.CodeWorlds.{IsBoardOf, HasConfiguration, MatchBoard, board_innings, board_state, code_site}
 use Rattle.headline.specs.Headline.{ShowScores, ShowsScore}
@@ -44,6 +44,14 @@ adds_book u innings book m score old new p h t n s = (
   λ c. (h t n s).1 (⊎_elim inl (λ e. inr (e.0, book_score_one innings book m n score s p e.1)) c),
 )
 
+-- what is shown of just one book is the score of that
+book_shows : (innings own : ℕ) (book : List Entry) (ShownBy : List Entry → Type 0) (n : ℕ) (score : Standing) → innings ≡ own → ((b : List Entry) → ShownBy b ↔ (book ≡ b))
+    → ((b : List Entry) × ShownBy b × (n ≡ length b) × IsScoreOf score innings b) ↔ IsBookScore own book n score
+book_shows innings own book ShownBy n score same one = (
+  λ c. rw (← same, (one c.0).0 c.1) (c.2, c.3),
+  λ c. let d : IsBookScore innings book n score = rw same c in (book, (one book).1 refl, d.0, d.1),
+)
+
 -- at a desk's place
 abbrev ProcessScore : ℕ → Process MemDisk → ℕ → Standing → Type 0
 ProcessScore innings p n score = (book : List Entry) × process_shows p book × (n ≡ length book) × IsScoreOf score innings book
@@ -52,15 +60,8 @@ desk_shows : (site : Site) (innings : ℕ) (desk : Option WorldDesk) (disk : Opt
     → IsProcess site desk disk p → ProcessScore innings p n score ↔ DeskShows desk n score
 desk_shows site innings (Some k) disk p n score e h =
     let own = h.0.owner in
-    let same : innings ≡ innings_of k = sym (own.same_innings ∙ e) in
-    let book = (λ (s : DeskState MemDisk). s.book) (state_of k) in (
-      λ c. let d = subst (λ (q : Process MemDisk). ProcessScore innings q n score) h.2 c in subst (λ (i : ℕ). IsBookScore i book n score) same
-          (subst (λ (b : List Entry). IsBookScore innings b n score) (sym d.1) (d.2, d.3)),
-      λ c. subst (λ (q : Process MemDisk). ProcessScore innings q n score) (sym h.2) (let d = subst (λ (i : ℕ). IsBookScore i book n score) (sym same) c in (book, refl, d.0, d.1)),
-    )
-desk_shows site innings None (Some disk) p n score e h =
-    let down = h.1.2 in
-    (λ c. let d = subst (λ (q : Process MemDisk). ProcessScore innings q n score) down c in absurd d.1, λ c. absurd c)
+    book_shows innings (innings_of k) ((λ (s : DeskState MemDisk). s.book) (state_of k)) (process_shows p) n score (sym (own.same_innings ∙ e)) (λ b. rw h.2 (λ s. s, λ s. s))
+desk_shows site innings None (Some disk) p n score e h = rw h.1.2 (λ c. absurd c.1, λ c. absurd c)
 desk_shows site innings None None p n score e h = absurd h
 
 -- at a board
@@ -71,12 +72,11 @@ board_shows : (innings : ℕ) (o : Option MatchBoard) (n : ℕ) (score : Standin
     → BoardScore innings (option_map board_state o) n score ↔ BoardShows o n score
 board_shows innings None n score h = (λ c. absurd (let e = c.1.1 in cc), λ c. absurd c)
 board_shows innings (Some k) n score h =
-    let same = h k refl in
-    let book = (λ (s : BoardState). s.book) (board_state k) in (
-      λ c. let here : book ≡ c.0 = ap (λ (s : BoardState). s.book) (let e = c.1.1 in let z : board_state k ≡ c.1.0 = cc in z) ∙ c.1.2 in subst (λ (i : ℕ). IsBookScore i book n score) (sym same)
-          (subst (λ (b : List Entry). IsBookScore innings b n score) (sym here) (c.2, c.3)),
-      λ c. let d = subst (λ (i : ℕ). IsBookScore i book n score) same c in (book, (board_state k, refl, refl), d.0, d.1),
-    )
+    book_shows innings (board_innings k) ((λ (s : BoardState). s.book) (board_state k)) (λ b. (s : BoardState) × (option_map board_state (Some k) ≡ Some s) × (s.book ≡ b)) n score (sym (h k refl))
+    (λ b. (λ s. ap (λ (z : BoardState). z.book) (let e = s.1 in let z : board_state k ≡ s.0 = cc in z) ∙ s.2, λ e. (board_state k, refl, e)))
+
+board_there : (code : World) (w : Configuration MemDisk) (i : ℕ) → HasConfiguration code w → slice_get w.boards i ≡ option_map board_state (slice_get code.boards.items i)
+board_there code w i h = ap (λ (bs : List BoardState). slice_get bs i) h.board_states ∙ slice_get-map board_state code.boards.items i
 
 board_of : (game innings : ℕ) (boards : List MatchBoard) (i : ℕ) (k : MatchBoard) → All (IsBoardOf game innings) boards → slice_get boards i ≡ Some k → board_innings k ≡ innings
 board_of game innings boards i k all e =
@@ -97,40 +97,34 @@ code_shows code w (stations.Desk d) n score h =
 code_shows code w (stations.Board zero) n score h = (λ c. absurd (let e = c.1.1 in cc), λ c. absurd c)
 code_shows code w (stations.Board (suc i)) n score h =
     let items = code.boards.items in
-    let there : slice_get w.boards i ≡ option_map board_state (slice_get items i) = ap (λ (bs : List BoardState). slice_get bs i) h.board_states ∙ slice_get-map board_state items i in
-    let all = h.boards_are in
-    let shows = board_shows code.innings_a_side (slice_get items i) n score (λ k e. board_of code.game code.innings_a_side items i k all e) in
-    subst (λ (o : Option BoardState). BoardScore code.innings_a_side o n score ↔ BoardShows (slice_get items i) n score) (sym there) shows
+    let shows = board_shows code.innings_a_side (slice_get items i) n score (λ k e. board_of code.game code.innings_a_side items i k h.boards_are e) in
+    subst (λ (o : Option BoardState). BoardScore code.innings_a_side o n score ↔ BoardShows (slice_get items i) n score) (sym (board_there code w i h)) shows
 
 -- what has a score shows it
-scored_desk : (site : Site) (innings : ℕ) (desk : Option WorldDesk) (disk : Option MemDisk) (p : Process MemDisk) (book : List Entry) → site.innings_a_side ≡ innings → IsProcess site desk disk p
-    → DeskHasScore desk → process_shows p book → (score : Standing) × ProcessScore innings p (length book) score
-scored_desk site innings (Some k) disk p book e h d s =
-    let own = h.0.owner in
+scored_desk : (site : Site) (desk : Option WorldDesk) (disk : Option MemDisk) (p : Process MemDisk) (book : List Entry) → IsProcess site desk disk p → DeskHasScore desk → process_shows p book
+    → (score : Standing) × DeskShows desk (length book) score
+scored_desk site (Some k) disk p book h d s =
     let here : (λ (s : DeskState MemDisk). s.book) (state_of k) ≡ book = subst (λ (q : Process MemDisk). process_shows q book) h.2 s in
-    (d.0, (book, s, refl, subst (λ (i : ℕ). IsScoreOf d.0 i book) (own.same_innings ∙ e) (subst (IsScoreOf d.0 (innings_of k)) here d.1)))
-scored_desk site innings None (Some disk) p book e h d s = absurd (subst (λ (q : Process MemDisk). process_shows q book) h.1.2 s)
-scored_desk site innings None None p book e h d s = absurd h
+    (d.0, (ap length (sym here), d.1))
+scored_desk site None (Some disk) p book h d s = absurd (subst (λ (q : Process MemDisk). process_shows q book) h.1.2 s)
+scored_desk site None None p book h d s = absurd h
 
-scored_board : (innings : ℕ) (o : Option MatchBoard) (book : List Entry) → ((k : MatchBoard) → o ≡ Some k → board_innings k ≡ innings) → BoardHasScore o
-    → (k : BoardState) × (option_map board_state o ≡ Some k) × (k.book ≡ book) → (score : Standing) × BoardScore innings (option_map board_state o) (length book) score
-scored_board innings None book h d s = absurd (let e = s.1 in cc)
-scored_board innings (Some k) book h d s =
+scored_board : (o : Option MatchBoard) (book : List Entry) → BoardHasScore o → (k : BoardState) × (option_map board_state o ≡ Some k) × (k.book ≡ book)
+    → (score : Standing) × BoardShows o (length book) score
+scored_board None book d s = absurd (let e = s.1 in cc)
+scored_board (Some k) book d s =
     let here : (λ (s : BoardState). s.book) (board_state k) ≡ book = ap (λ (s : BoardState). s.book) (let e = s.1 in let z : board_state k ≡ s.0 = cc in z) ∙ s.2 in
-    (d.0, (book, s, refl, subst (λ (i : ℕ). IsScoreOf d.0 i book) (h k refl) (subst (IsScoreOf d.0 (board_innings k)) here d.1)))
+    (d.0, (ap length (sym here), d.1))
+
+scored : (code : World) (w : Configuration MemDisk) → HaveScores code → HasConfiguration code w → (t : Station) (book : List Entry) → Shows w t book
+    → (score : Standing) × CodeShows code t (length book) score
+scored code w d h (stations.Desk A) book s = let is = h.sites A in scored_desk code.a code.a.desk code.a.disk w.a.process book is.process d.a_desk s
+scored code w d h (stations.Desk B) book s = let is = h.sites B in scored_desk code.b code.b.desk code.b.disk w.b.process book is.process d.b_desk s
+scored code w d h (stations.Board zero) book s = absurd (let e = s.1 in cc)
+scored code w d h (stations.Board (suc i)) book s = scored_board (slice_get code.boards.items i) book (d.of_boards i) (s.0, sym (board_there code w i h) ∙ s.1, s.2)
 
 pub code_scored : (code : World) (w : Configuration MemDisk) → HaveScores code → HasConfiguration code w → ShowScores code.innings_a_side w
-code_scored code w d h (stations.Desk A) book s =
-    let is = h.sites A in let own = h.named A in scored_desk code.a code.innings_a_side code.a.desk code.a.disk w.a.process book own.same_innings is.process d.a_desk s
-code_scored code w d h (stations.Desk B) book s =
-    let is = h.sites B in let own = h.named B in scored_desk code.b code.innings_a_side code.b.desk code.b.disk w.b.process book own.same_innings is.process d.b_desk s
-code_scored code w d h (stations.Board zero) book s = absurd (let e = s.1 in cc)
-code_scored code w d h (stations.Board (suc i)) book s =
-    let items = code.boards.items in
-    let there : slice_get w.boards i ≡ option_map board_state (slice_get items i) = ap (λ (bs : List BoardState). slice_get bs i) h.board_states ∙ slice_get-map board_state items i in
-    let all = h.boards_are in
-    let shown = scored_board code.innings_a_side (slice_get items i) book (λ k e. board_of code.game code.innings_a_side items i k all e) (d.of_boards i) (s.0, sym there ∙ s.1, s.2) in
-    (shown.0, subst (λ (o : Option BoardState). BoardScore code.innings_a_side o (length book) shown.0) (sym there) shown.1)
+code_scored code w d h t book s = let c = scored code w d h t book s in (c.0, (code_shows code w t (length book) c.0 h).1 c.1)
 
 split : (i n : ℕ) → i < n + 1 → (i < n) ⊎ (i ≡ n)
 split i n l = grind (arith, l)

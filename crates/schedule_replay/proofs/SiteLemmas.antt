@@ -1,6 +1,6 @@
 -- A site and its desk, as the definitions of a run see them.
 use Rattle.std.proofs.Common.{◌≡◌, ℕ, ◌+◌, ◌≤◌, ◌<◌, Option, Some, None, List, [], ◌∷◌, ◌++◌, length, map, refl, sym, ap, ◌∙◌, subst, arith, append-nil}
-use Rattle.std.proofs.lemmas.List.{map-append}
+use Rattle.std.proofs.lemmas.List.{length-map, map-append}
 use Rattle.std.proofs.lemmas.List.Elements.{All-append}
 use Rattle.std.specs.Prelude.{All, IsSome}
 use Rattle.corrections.specs.declared.refusal.Refusal.{Refusal}
@@ -17,10 +17,10 @@ use Rattle.agree_core.specs.Ballots.{Ballot}
 use Rattle.agree_core.specs.Books.{Rules}
 use Rattle.agree_core.specs.Desks.{DeskState, most_votes}
 use Rattle.agree_core.specs.FileView.{FileView, Stays}
-use Rattle.agree_core.specs.Openings.{Opening, Opens}
 use Rattle.vote_store.specs.View.{file_view, votes_shown}
 use Rattle.wire.specs.declared.datagram.Datagram.{Datagram}
 use Rattle.wire.specs.Layout.{IsMessage, written}
+use Rattle.wire.specs.Sent.{AreSent}
 use Rattle.headline.specs.declared.fault.Fault.{Fault}
 use Rattle.headline.specs.declared.fault.Fault.TheVariants.{Fail, Stop}
 use Rattle.schedule_replay.specs.declared.seen.Cause.{Cause}
@@ -32,11 +32,11 @@ use Rattle.headline.specs.declared.version.FileVersion.TheVariants as versions
 use Rattle.schedule_replay.specs.declared.world_desk.WorldDesk.{WorldDesk}
 use Rattle.headline.specs.Configurations.{Process, Running, Down, Node, process_disk, process_votes}
 use Rattle.headline.specs.Answers.{Answer}
-use Rattle.headline.specs.DeskFaults.{Breaks}
+use Rattle.headline.specs.DeskFaults.{Breaks, BreaksBy}
 use Rattle.headline.specs.Match.{format_of, match_of, most_bytes}
 use Rattle.schedule_replay.specs.Answers.{AreBytesOf, answer_of}
 use Rattle.schedule_replay.specs.inner.Sites.{BreaksDown, IsDue, IsProcess, HasNode, IsWorldDisk, PutsDown, SameSite, disk_at, votes_at}
-use Rattle.schedule_replay.specs.WorldDesks.{IsWorldDeskOf, SameOwner, disk_of, game_of, innings_of, rules_of, state_of, version_of, view_of}
+use Rattle.schedule_replay.specs.WorldDesks.{IsWorldDeskOf, SameOwner, disk_of, rules_of, state_of, view_of}
 
 abbrev pub own_votes : WorldDesk → List Ballot
 own_votes k = (λ (s : DeskState MemDisk). s.votes) (state_of k)
@@ -44,12 +44,7 @@ own_votes k = (λ (s : DeskState MemDisk). s.votes) (state_of k)
 -- what is said of its own view and rules is said of the match's
 pub of_match : (name : DeskId) (version : FileVersion) (game innings : ℕ) (k : WorldDesk) → IsWorldDeskOf name version game innings k → (P : FileView MemDisk → Rules Refusal → Type 0)
     → P (view_of k) (rules_of k) → P ((match_of game innings).view name version) (match_of game innings).rules
-of_match name version game innings k o P p =
-    let at = λ (d : DeskId) (v : FileVersion) (g n : ℕ). P ((match_of g n).view d v) (match_of g n).rules in
-    let q = subst (λ (d : DeskId). P ((match_of (game_of k) (innings_of k)).view d (version_of k)) (rules_of k)) o.same_name p in
-    let r = subst (λ (v : FileVersion). P ((match_of (game_of k) (innings_of k)).view name v) (rules_of k)) o.same_version q in
-    let t = subst (λ (g : ℕ). P ((match_of g (innings_of k)).view name version) (match_of g (innings_of k)).rules) o.same_game r in
-    subst (λ (n : ℕ). P ((match_of game n).view name version) (match_of game n).rules) o.same_innings t
+of_match name version game innings k o P p = rw (← o.same_name, ← o.same_version, ← o.same_game, ← o.same_innings) p
 
 -- the same desk after a call
 pub still_of : (name : DeskId) (version : FileVersion) (game innings : ℕ) (k l : WorldDesk) → IsWorldDeskOf name version game innings k → SameOwner k l → IsWorldDeskOf name version game innings l
@@ -112,6 +107,14 @@ more_bytes game old new messages out bytes b all e n =
 pub no_bytes : (game : ℕ) (sent : List Datagram) (messages : List Message) → AreBytesOf game sent messages → AreBytesOf game sent (messages ++ [])
 no_bytes game sent messages b = rw append-nil b
 
+-- what a tick hands out
+pub ticked : (game : ℕ) (Step : List Message → Type 0) (n : ℕ) (out before after : List Datagram) (messages : List Message) → (sent : AreSent game (map (λ (d : Datagram). d.bytes) out) Step)
+    → n ≡ length out → after ≡ before ++ out → AreBytesOf game before messages → (n ≡ length sent.0) × AreBytesOf game after (messages ++ sent.0)
+ticked game Step n out before after messages sent long added b = (
+  long ∙ sym (length-map out (λ (d : Datagram). d.bytes)) ∙ ap length sent.2 ∙ length-map sent.0 (written game),
+  more_bytes game before after messages sent.0 (map (λ (d : Datagram). d.bytes) out) b sent.1 sent.2 (ap (map (λ (d : Datagram). d.bytes)) added ∙ map-append (λ (d : Datagram). d.bytes) before out),
+)
+
 -- one datagram more
 pub pushed : (old new : List Datagram) (d : Datagram) → new ≡ old ++ d ∷ [] → map (λ (d : Datagram). d.bytes) new ≡ map (λ (d : Datagram). d.bytes) old ++ d.bytes ∷ []
 pushed old new d e = ap (map (λ (d : Datagram). d.bytes)) e ∙ map-append (λ (d : Datagram). d.bytes) old (d ∷ [])
@@ -147,7 +150,7 @@ pub record HasDisk (site : Site) (p : Process MemDisk) : Type 0 where
   pub votes : votes_at site.desk site.votes ≡ length (process_votes p)
   pub cap : cap_of (process_disk p) ≡ most_bytes site.version
 
-pub has_disk : (site : Site) (desk : Option WorldDesk) (disk : Option MemDisk) (p : Process MemDisk) → site.desk ≡ desk → site.disk ≡ disk → IsProcess site desk disk p → HasDisk site p
+has_disk : (site : Site) (desk : Option WorldDesk) (disk : Option MemDisk) (p : Process MemDisk) → site.desk ≡ desk → site.disk ≡ disk → IsProcess site desk disk p → HasDisk site p
 has_disk site (Some k) disk p d l (own, none, is) =
     let on = own.on_disk in
     record {
@@ -163,6 +166,9 @@ has_disk site None (Some disk) p d l (on, (votes, n, is)) =
     }
 has_disk site None None p d l h = absurd h
 
+pub site_disk : (site : Site) (x : Node MemDisk) → HasNode site x → HasDisk site x.process
+site_disk site x h = has_disk site site.desk site.disk x.process refl refl h.process
+
 -- a desk that is put down keeps its votes and its disk
 pub put_down_is : (old new : Site) (p : Process MemDisk) → HasDisk old p → old.due ≡ None → PutsDown old new
     → (after : MemDisk) × (new.disk ≡ Some after) × SetsPlan Calm (process_disk p) after × IsProcess new new.desk new.disk (Down (process_votes p) after)
@@ -176,32 +182,38 @@ put_down_is old new p h due put =
     let on : IsWorldDisk new.version new.due d.1 = record { cap = plan.cap ∙ h.cap ∙ ap most_bytes (sym put.version); faults = faults } in
     (d.1, d.3, plan, down_is new d.1 (process_votes p) put.desk d.3 (put.counted ∙ h.votes) on)
 
--- the site's desk has failed, or is down, by the fault that was due
-pub broken_site : (old new : Site) (k l : WorldDesk) (x : Node MemDisk) (cause : Cause) (seen : Seen) (due : Option Fault) → old.due ≡ due → old.desk ≡ Some k → HasNode old x → SameOwner k l
-    → ((faults_of (disk_of k)).due ≡ Never → ⊥) → (IsOnce (faults_of (disk_of k)).due → (faults_of (disk_of l)).due ≡ Never) → answer_of (seens.Refused cause) ≡ Some Answer.DeviceFailed
-    → BreaksDown due cause (record old { desk = Some l }) seen new
-    → (y : Node MemDisk) × (answer : Answer Refusal) × (answer_of seen ≡ Some answer) × Breaks ((match_of old.game old.innings_a_side).view old.name x.version) x (state_of l) answer y × HasNode new y
-broken_site old new k l x cause seen None d here h o calm spent told q =
-    let r = running_is old k x here h in
-    let disk = r.on_disk in
-    absurd (calm (subst (λ (z : Option Fault). IsDue z (faults_of (disk_of k)).due) d disk.faults))
-broken_site old new k l x cause seen (Some Fail) d here h o calm spent told q =
-    let r = running_is old k x here h in
-    let disk = r.on_disk in
-    let once : IsOnce (faults_of (disk_of k)).due = subst (λ (z : Option Fault). IsDue z (faults_of (disk_of k)).due) d disk.faults in
-    let y : Node MemDisk = record x { process = Running (state_of l); due = None } in
-    let is : HasNode new y = subst (λ (z : Site). HasNode z y) (sym q.1) (runs_again old k l None x here h o (spent once)) in
-    (y, Answer.DeviceFailed, ap answer_of q.0 ∙ told, (Fail, h.due ∙ d, (refl, refl)), is)
-broken_site old new k l x cause seen (Some Stop) d here h o calm spent told q =
-    let r = running_is old k x here h in
-    let disk = r.on_disk in
-    let put = q.1 in
-    let p : Process MemDisk = Running (state_of l) in
-    let has : HasDisk (record old { desk = Some l; due = None }) p = record { disk = refl; votes = refl; cap = o.cap ∙ disk.cap } in
-    let down = put_down_is (record old { desk = Some l; due = None }) new p has refl put in
-    let y : Node MemDisk = record x { process = Down (own_votes l) down.0; due = None } in
+-- a device call has failed, by the fault that was due: the site goes on with this process, or its desk is down
+pub broken : (old new : Site) (desk : Option WorldDesk) (disk : Option MemDisk) (before : MemDisk) (x : Node MemDisk) (p : Process MemDisk) (version : FileVersion)
+    (By : Fault → Answer Refusal → Node MemDisk → Type 0) (cause : Cause) (seen : Seen) (due : Option Fault) → old.due ≡ due → HasNode old x → IsDue old.due (faults_of before).due
+    → ((faults_of before).due ≡ Never → ⊥) → (IsOnce (faults_of before).due → HasNode (record old { desk = desk; disk = disk; due = None }) (record x { process = p; due = None }))
+    → HasDisk (record old { desk = desk; disk = disk; due = None }) p → By Fail Answer.DeviceFailed (record x { process = p; due = None })
+    → ((left : MemDisk) → Stays (file_view (contents (format_of version)) file_of images_of old.name old.game) (process_disk p) left
+    → By Stop Answer.Stopped (record x { process = Down (process_votes p) left; due = None }))
+    → answer_of (seens.Refused cause) ≡ Some Answer.DeviceFailed → BreaksDown due cause (record old { desk = desk; disk = disk }) seen new
+    → (y : Node MemDisk) × (answer : Answer Refusal) × (answer_of seen ≡ Some answer) × ((fault : Fault) × (x.due ≡ Some fault) × By fault answer y) × HasNode new y
+broken old new desk disk before x p version By cause seen None d h due calm again has fails stops told b = absurd (calm (subst (λ (z : Option Fault). IsDue z (faults_of before).due) d due))
+broken old new desk disk before x p version By cause seen (Some Fail) d h due calm again has fails stops told b =
+    let y : Node MemDisk = record x { process = p; due = None } in
+    let is : HasNode new y = rw b.1 (again (subst (λ (z : Option Fault). IsDue z (faults_of before).due) d due)) in
+    (y, Answer.DeviceFailed, ap answer_of b.0 ∙ told, (Fail, h.due ∙ d, fails), is)
+broken old new desk disk before x p version By cause seen (Some Stop) d h due calm again has fails stops told b =
+    let put = b.1 in
+    let down = put_down_is (record old { desk = desk; disk = disk; due = None }) new p has refl put in
+    let y : Node MemDisk = record x { process = Down (process_votes p) down.0; due = None } in
     let is : HasNode new y = record { version = h.version ∙ sym put.version; process = down.3; due = sym put.due } in
-    (y, Answer.Stopped, ap answer_of q.0, (Stop, h.due ∙ d, (down.0, refl, sets_plan_stays old.name x.version old.game Calm (disk_of l) down.0 down.2, refl)), is)
+    (y, Answer.Stopped, ap answer_of b.0, (Stop, h.due ∙ d, stops down.0 (sets_plan_stays old.name version old.game Calm (process_disk p) down.0 down.2)), is)
+
+-- so it is at a desk that runs
+pub broken_site : (old new : Site) (k l : WorldDesk) (x : Node MemDisk) (cause : Cause) (seen : Seen) → old.desk ≡ Some k → HasNode old x → SameOwner k l
+    → ((faults_of (disk_of k)).due ≡ Never → ⊥) → (IsOnce (faults_of (disk_of k)).due → (faults_of (disk_of l)).due ≡ Never) → answer_of (seens.Refused cause) ≡ Some Answer.DeviceFailed
+    → BreaksDown old.due cause (record old { desk = Some l }) seen new
+    → (y : Node MemDisk) × (answer : Answer Refusal) × (answer_of seen ≡ Some answer) × Breaks ((match_of old.game old.innings_a_side).view old.name x.version) x (state_of l) answer y × HasNode new y
+broken_site old new k l x cause seen here h o calm spent told b =
+    let r = running_is old k x here h in
+    let disk = r.on_disk in
+    broken old new (Some l) old.disk (disk_of k) x (Running (state_of l)) x.version (λ fault. BreaksBy ((match_of old.game old.innings_a_side).view old.name x.version) x fault (state_of l))
+    cause seen old.due refl h disk.faults calm (λ once. runs_again old k l None x here h o (spent once))
+    (record { disk = refl; votes = refl; cap = o.cap ∙ disk.cap }) (refl, refl) (λ left s. (left, refl, s, refl)) told b
 
 -- the site after that is of the same match
 pub broken_same : (due : Option Fault) (cause : Cause) (old new : Site) (seen : Seen) → BreaksDown due cause old seen new → SameSite old new
@@ -216,8 +228,3 @@ has_room versions.New n cap h e = let e' : cap ≡ 1048641 = e in omega arith
 pub some_is : (o : Option WorldDesk) → IsSome o → (k : WorldDesk) × (o ≡ Some k)
 some_is (Some k) h = (k, refl)
 some_is None h = absurd (cc)
-
--- a file is opened by the match's rules
-pub opens_as : {m n : ℕ} (game : ℕ) (name : DeskId) (version : FileVersion) (disk : MemDisk) (opening : Opening MemDisk) → m ≡ n
-    → Opens ((match_of game m).view name version) (match_of game m).rules name disk opening → Opens ((match_of game n).view name version) (match_of game n).rules name disk opening
-opens_as game name version disk opening e h = subst (λ (n : ℕ). Opens ((match_of game n).view name version) (match_of game n).rules name disk opening) e h

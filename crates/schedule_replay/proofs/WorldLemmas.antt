@@ -1,6 +1,6 @@
 -- What happens at a site is a step of the world.
 use Rattle.std.proofs.Common.{◌≡◌, ℕ, false, Option, Some, None, List, [], ◌++◌, length, map, refl, sym, ap, ◌∙◌, subst, inl, inr, Result, Ok, Err, append-nil}
-use Rattle.std.specs.Prelude.{All, IfErr, IfOk, OnOk}
+use Rattle.std.specs.Prelude.{IfErr, IfOk, OnOk}
 use Rattle.std.specs.Option.{is_none}
 use Rattle.std.proofs.lemmas.List.{length-map}
 use Rattle.corrections.specs.declared.refusal.Refusal.{Refusal}
@@ -32,8 +32,8 @@ use Rattle.schedule_replay.specs.Answers.{AreBytesOf, answer_of}
 use Rattle.schedule_replay.specs.Plans.{HasPlan, LeavesPlan, StaysDue, asks_fault, due_on}
 use Rattle.schedule_replay.specs.inner.Sites.{IsProcess, HasNode, KeepsDue, SiteLeft, SiteSteps, SiteTakes, SyncsSite, disk_at, site_cause}
 use Rattle.schedule_replay.specs.inner.Sites as sites
-use Rattle.schedule_replay.specs.CodeWorlds.{IsBoardOf, IsSiteOf, HasConfiguration, RefusesTo, StepsTo, board_state, code_site}
-use Rattle.schedule_replay.proofs.SiteLemmas.{HasDisk, has_disk}
+use Rattle.schedule_replay.specs.CodeWorlds.{IsSiteOf, HasConfiguration, RefusesTo, StepsTo, board_state, code_site}
+use Rattle.schedule_replay.proofs.SiteLemmas.{site_disk}
 
 down_is : (site : Site) (desk : Option WorldDesk) (disk : Option MemDisk) (p : Process MemDisk) → IsProcess site desk disk p → is_down p ≡ is_none desk
 down_is site (Some k) disk p h = ap is_down h.2
@@ -46,10 +46,7 @@ sent_length game sent messages b = sym (length-map messages (written game)) ∙ 
 
 -- what is so at a site of the match by its own names is so by the match's
 at_site : (name : DeskId) (game innings : ℕ) (site : Site) → IsSiteOf name game innings site → (P : DeskId → ℕ → ℕ → Type 0) → P site.name site.game site.innings_a_side → P name game innings
-at_site name game innings site h P p =
-    let q = subst (λ (d : DeskId). P d site.game site.innings_a_side) h.same_name p in
-    let r = subst (λ (n : ℕ). P name n site.innings_a_side) h.same_game q in
-    subst (λ (n : ℕ). P name game n) h.same_innings r
+at_site name game innings site h P p = rw (← h.same_name, ← h.same_game, ← h.same_innings) p
 
 -- the world has this site in the place of that desk's
 pub record Changes (d : DeskId) (old new : World) (site : Site) : Type 0 where
@@ -86,25 +83,15 @@ with_node_sent w B y out = refl
 put : (d : DeskId) (old new : World) (site : Site) (w : Configuration MemDisk) (y : Node MemDisk) (out : List Message) → Changes d old new site → HasConfiguration old w → HasNode site y
     → AreBytesOf old.game new.sent.items (w.sent ++ out) → HasConfiguration new (with_node w d y out)
 put d old new site w y out c h i b =
-    let named : IsSiteOf d new.game new.innings_a_side (code_site new d) =
     let n = h.named d in
     let s = c.same in
-    subst (IsSiteOf d new.game new.innings_a_side) (sym c.here)
-    (record { same_name = s.name ∙ n.same_name; same_game = s.same_game ∙ n.same_game ∙ sym c.same_game; same_innings = s.innings ∙ n.same_innings ∙ sym c.same_innings }) in
-    let others : (e : DeskId) → IsSiteOf e new.game new.innings_a_side
-    (code_site old e) = λ e. let n = h.named e in record { same_name = n.same_name; same_game = n.same_game ∙ sym c.same_game; same_innings = n.same_innings ∙ sym c.same_innings } in
-    let here : HasNode (code_site new d) y = subst (λ (z : Site). HasNode z y) (sym c.here) i in
-    let boards_game : All (IsBoardOf new.game new.innings_a_side) new.boards.items =
-    subst (λ (n : ℕ). All (IsBoardOf n new.innings_a_side) new.boards.items) (sym c.same_game)
-    (subst (λ (n : ℕ). All (IsBoardOf old.game n) new.boards.items) (sym c.same_innings) (subst (All (IsBoardOf old.game old.innings_a_side)) (sym c.boards) h.boards_are)) in
+    let own : IsSiteOf d old.game old.innings_a_side site = record { same_name = s.name ∙ n.same_name; same_game = s.same_game ∙ n.same_game; same_innings = s.innings ∙ n.same_innings } in
     record {
-      sites = λ e. site_there d e old new w y out c.there here h.sites;
-      named = λ e. name_there d e old new new.game new.innings_a_side c.there named others;
-      boards_are = boards_game;
+      sites = λ e. site_there d e old new w y out c.there (rw c.here i) h.sites;
+      named = λ e. name_there d e old new new.game new.innings_a_side c.there (rw (c.here, c.same_game, c.same_innings) own) (λ e. rw (c.same_game, c.same_innings) (h.named e));
+      boards_are = rw (c.same_game, c.same_innings, c.boards) h.boards_are;
       board_states = with_node_boards w d y out ∙ h.board_states ∙ ap (map board_state) (sym c.boards);
-      bytes =
-          subst (λ (n : ℕ). AreBytesOf n new.sent.items ((λ (v : Configuration MemDisk). v.sent) (with_node w d y out))) (sym c.same_game)
-          (subst (AreBytesOf old.game new.sent.items) (sym (with_node_sent w d y out)) b);
+      bytes = rw (c.same_game, with_node_sent w d y out) b;
     }
 
 unmoved : (d : DeskId) (w : Configuration MemDisk) → with_node w d (node w d) [] ≡ w
@@ -143,7 +130,7 @@ desk_eq c d q = cc
 plans : (d : DeskId) (w : Configuration MemDisk) (site : Site) (y : Node MemDisk) (out : List Message) (event : Event) → station_of event ≡ stations.Desk d → HasNode site y
     → HasPlan event (disk_at site.desk site.disk) → LeavesPlan event (with_node w d y out)
 plans d w site y out event e i h c q =
-    let has : HasDisk site y.process = has_disk site site.desk site.disk y.process refl refl i.process in
+    let has = site_disk site y i in
     let here : node (with_node w d y out) c ≡ y = ap (node (with_node w d y out)) (desk_eq d c (sym e ∙ q)) ∙ changed d in
     subst (λ (x : Node MemDisk). HasPlan event (Some (process_disk x.process))) (sym here) (subst (HasPlan event) has.disk h)
   where
@@ -154,8 +141,8 @@ plans d w site y out event e i h c q =
 -- what stays due at the site stays so in the world
 stays_due : (old new : Site) (x y : Node MemDisk) → HasNode old x → HasNode new y → KeepsDue old new → StaysDue y.due (Some (process_disk x.process)) (Some (process_disk y.process))
 stays_due old new x y h i keeps fault due =
-    let before : HasDisk old x.process = has_disk old old.desk old.disk x.process refl refl h.process in
-    let after : HasDisk new y.process = has_disk new new.desk new.disk y.process refl refl i.process in
+    let before = site_disk old x h in
+    let after = site_disk new y i in
     ap due_on (sym after.disk) ∙ keeps fault (sym i.due ∙ due) ∙ ap due_on before.disk
 
 counts : (d : DeskId) (w : Configuration MemDisk) (y : Node MemDisk) (out : List Message) → StaysDue y.due (Some (process_disk (node w d).process)) (Some (process_disk y.process)) → (c : DeskId)
@@ -172,7 +159,7 @@ pub desk_steps : (d : DeskId) (old new : World) (site : Site) (event : Event) (s
 desk_steps d old new site event seen e c takes planned counted w h =
     let names = h.named d in
     let here = code_site old d in
-    let own : AreBytesOf here.game old.sent.items w.sent = subst (λ (n : ℕ). AreBytesOf n old.sent.items w.sent) (sym names.same_game) h.bytes in
+    let own : AreBytesOf here.game old.sent.items w.sent = rw names.same_game h.bytes in
     let given = at_site d old.game old.innings_a_side here names (λ n g i. SiteGives (node w d) w.sent event seen site new.sent.items n g i) (takes.1 (node w d) w.sent (h.sites d) own) in
     let after : Configuration MemDisk = with_node w d given.0 given.1 in
     let step : StepAt (match_of old.game old.innings_a_side) w event (station_of event) given.2 after =
@@ -221,13 +208,8 @@ desk_refuses d old new site event why e c (items, inr (none, want, grows, l)) w 
     let k = left d old new site event w e c l items h in
     (k.0, inr (cause_is d old w event e h ∙ none, want, grows, k.1), k.2)
 
-pub at_desk_ok : (d : DeskId) (old new : World) (site : Site) (event : Event) (result : Result Seen WorldRefusal) → station_of event ≡ stations.Desk d → Changes d old new site
+pub at_desk : (d : DeskId) (old new : World) (site : Site) (event : Event) (result : Result Seen WorldRefusal) → station_of event ≡ stations.Desk d → Changes d old new site
     → SiteTakes event (code_site old d) old.sent.items result site new.sent.items → OnOk result (HasPlan event (disk_at site.desk site.disk))
-    → OnOk result (asks_fault event ≡ false → KeepsDue (code_site old d) site) → IfOk result (λ seen. StepsTo event old seen new)
-at_desk_ok d old new site event (Ok seen) e c t planned counted = desk_steps d old new site event seen e c t planned counted
-at_desk_ok d old new site event (Err why) e c t planned counted = tt
-
-pub at_desk_err : (d : DeskId) (old new : World) (site : Site) (event : Event) (result : Result Seen WorldRefusal) → station_of event ≡ stations.Desk d → Changes d old new site
-    → SiteTakes event (code_site old d) old.sent.items result site new.sent.items → IfErr result (λ why. RefusesTo event old why new)
-at_desk_err d old new site event (Ok seen) e c t = tt
-at_desk_err d old new site event (Err why) e c t = desk_refuses d old new site event why e c t
+    → OnOk result (asks_fault event ≡ false → KeepsDue (code_site old d) site) → IfOk result (λ seen. StepsTo event old seen new) × IfErr result (λ why. RefusesTo event old why new)
+at_desk d old new site event (Ok seen) e c t planned counted = (desk_steps d old new site event seen e c t planned counted, tt)
+at_desk d old new site event (Err why) e c t planned counted = (tt, desk_refuses d old new site event why e c t)

@@ -3,7 +3,7 @@
 ghost use Rattle.std.specs.Prelude.{◌≡◌, ◌≤◌, ◌<◌, [], IfOk, OnErr, OnOk, Contains};
 ghost use Rattle.notation.specs.declared.entry.TheConstants.{PLACES};
 ghost use Rattle.match_laws.specs.declared.standing.Standing.{Standing};
-ghost use Rattle.schedule_replay.specs.inner.ShownScores.{Adds, IsKept, IsStation, mark_of};
+ghost use Rattle.schedule_replay.specs.inner.ShownScores.{Adds, IsKept, IsStation, mark_of, most_marks};
 
 use agree_core::DeskId;
 use headline::Station;
@@ -21,7 +21,7 @@ fn mark_of(station: Station, length: u32) -> usize
     requires station { IsStation station }
     requires length { length ≤ PLACES }
     ensures mark { result ≡ mark_of station length }
-    ensures within { result < 49158 }
+    ensures within { result < most_marks }
 {
     let number = match station {
         Station::Desk(DeskId::A) => 0,

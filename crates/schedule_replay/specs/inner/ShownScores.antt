@@ -1,8 +1,9 @@
 -- Scores that stations have shown, each kept once.
-use Rattle.std.specs.Prelude.{◌≡◌, ◌⊎◌, ◌↔◌, ◌≤◌, ◌+◌, ◌*◌, ℕ, zero, suc, true, Some, None, Option, List, length, slice_get, Contains}
+use Rattle.std.specs.Prelude.{◌≡◌, ◌⊎◌, ◌↔◌, ◌≤◌, ◌+◌, ◌*◌, ℕ, zero, suc, Bool, true, false, Some, None, Option, List, length, get_or, slice_get, Contains}
 use Rattle.corrections.specs.Legal.{IsScoreOf}
 use Rattle.match_laws.specs.declared.standing.Standing.{Standing}
 use Rattle.notation.specs.declared.entry.Entry.{Entry}
+use Rattle.notation.specs.declared.entry.TheConstants.{PLACES}
 use Rattle.agree_core.specs.declared.messages.DeskId.TheVariants.{A, B}
 use Rattle.agree_core.specs.Boards.{BoardState}
 use Rattle.agree_core.specs.Desks.{DeskState}
@@ -29,19 +30,24 @@ abbrev pub IsStation : Station → Type 0
 IsStation (stations.Desk d) = Unit {0}
 IsStation (stations.Board n) = (1 ≤ n) × (n ≤ 4)
 
--- where the mark of a station and the length of a book stands
+-- where the mark of a station and the length of a book stands, of all marks: two desks and four boards have one for
+-- each length, from 0 on
 abbrev pub mark_of : Station → ℕ → ℕ
-mark_of t n = station_number t * 8193 + n
+mark_of t n = station_number t * (PLACES + 1) + n
+
+abbrev pub most_marks : ℕ
+most_marks = 6 * (PLACES + 1)
+
+abbrev pub IsMarked : List Bool → Station → ℕ → Type 0
+IsMarked marks t n = get_or marks (mark_of t n) false ≡ true
 
 -- a station and a length are marked just where they stand among the scores, and then they stand there once
 pub record IsKept (shown : ShownScores) : Type 0 where
-  pub long : length shown.marks.items ≡ 49158
-  pub marked : (t : Station) (n : ℕ) → IsStation t → n ≤ 8192
-      → slice_get shown.marks.items (mark_of t n) ≡ Some true
+  pub long : length shown.marks.items ≡ most_marks
+  pub marked : (t : Station) (n : ℕ) → IsStation t → n ≤ PLACES → IsMarked shown.marks.items t n
       → (score : Standing) × Contains shown.seen.items (t, n, score)
   pub known : (i : ℕ) (t : Station) (n : ℕ) (score : Standing)
-      → slice_get shown.seen.items i ≡ Some (t, n, score)
-      → slice_get shown.marks.items (mark_of t n) ≡ Some true
+      → slice_get shown.seen.items i ≡ Some (t, n, score) → IsMarked shown.marks.items t n
   pub once : StandOnce shown.seen.items
 
 -- just these lengths and scores of a station are added

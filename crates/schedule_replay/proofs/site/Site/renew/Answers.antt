@@ -1,15 +1,18 @@
-use Rattle.std.proofs.Common.{sym, refl, ◌∙◌, ℕ, subst, []}
+use Rattle.std.proofs.Common.{sym, refl, ◌∙◌, ℕ, subst, [], Option, Some}
 use Rattle.entry_log.specs.MemDisk.{IsFresh}
 use Rattle.schedule_replay.specs.declared.seen.Cause.TheVariants as causes
 use Rattle.schedule_replay.specs.Answers.{is_failing, wants_memory}
-use Rattle.schedule_replay.proofs.MigrateLemmas.{IsMoved, IsReturned, MigrateSteps, migrated, not_migrated, refused_for}
+use Rattle.headline.specs.declared.version.FileVersion.TheVariants.{New}
+use Rattle.schedule_replay.specs.declared.world_desk.WorldDesk.{WorldDesk}
+use Rattle.schedule_replay.specs.inner.Sites.{disk_at}
+use Rattle.schedule_replay.proofs.MigrateLemmas.{IsMoved, IsReturned, MigrateSteps, migrated, not_migrated}
 use Rattle.schedule_replay.proofs.OpenLemmas.{Outcome, not_found_same, stays_so}
 use Rattle.schedule_replay.proofs.site.Site.renew.Goals as goal
 use Rattle.schedule_replay.proofs.site.Site.renew.Goals.{After-not_found}
 use Rattle.std.proofs.Common.{◌≡◌, Err, ap}
 use Rattle.std.proofs.lemmas.Result.{err_from_is_err_and}
 use Rattle.schedule_replay.specs.declared.seen.WorldRefusal.TheVariants as refuses
-use Rattle.schedule_replay.proofs.DueLemmas.{keeps_down, keeps_migrated, keeps_not_found, no_failure}
+use Rattle.schedule_replay.proofs.DueLemmas.{keeps_down, keeps_from, keeps_not_found, no_failure}
 
 pub returns-in_err-new-clause-refused : goal.returns-in_err-new-clause-refused
 returns-in_err-new-clause-refused c =
@@ -34,9 +37,8 @@ refused_by c =
     let e = c.in-Err.ensures in
     let back : IsReturned c.args.self.now c.unwrap-old.result c.move_fault.new.self c.move_fault.new.other c.in-Err.old c.in-Err.new c.move_fault-in-Err.new.other c.in-Err.why =
     record { seen = e.old_seen; images = e.old_images; cap = e.old_cap; blame = e.blame; back = c.move_fault-in-Err.ensures.there; due = c.move_fault-in-Err.ensures.due } in
-    let why = refused_for c.args.self.now c.unwrap-old.result c.move_fault.new.self c.in_ok-new.new c.move_fault.new.other c.in-Err.why moved e.not_empty e.refused in
     not_migrated c.args.self.now c.unwrap-old.result c.move_fault.new.self c.in_ok-new.new c.move_fault.new.other c.in-Err.old c.in-Err.new c.move_fault-in-Err.new.other moved
-    c.not_found.new.self c.not_found.result c.requires.version c.requires.down (sym c.take.ensures.value ∙ c.unwrap-old.ensures) c.in-Err.why back why c.not_found.ensures.refused
+    c.not_found.new.self c.not_found.result c.requires.version c.requires.down (sym c.take.ensures.value ∙ c.unwrap-old.ensures) c.in-Err.why back (e.not_empty, e.refused) c.not_found.ensures.refused
 
 pub returns-in-Err-clause-step : goal.returns-in-Err-clause-step
 returns-in-Err-clause-step c = (refused_by (goal.at.returns-in-Err-clause-step c).After-not_found).0
@@ -70,7 +72,8 @@ pub returns-in-Ok-clause-counted : goal.returns-in-Ok-clause-counted
 returns-in-Ok-clause-counted c =
     let there = sym c.take.ensures.value ∙ c.unwrap-old.ensures in
     let same = c.in-Ok.ensures.blame.same (λ q. (cc)) in
-    keeps_migrated c.args.self.now c.unwrap-old.result c.in-Ok.migrated.new c.requires.down there (ap (λ z. z.due) same.1 ∙ c.move_fault.ensures.due)
+    keeps_from c.args.self.now (record c.args.self.now { version = New; disk = Some c.in-Ok.migrated.new }) c.unwrap-old.result c.in-Ok.migrated.new (λ i. disk_at (c.requires.down i) (there i))
+    (ap (λ (o : Option WorldDesk). disk_at o (Some c.in-Ok.migrated.new)) c.requires.down) (ap (λ z. z.due) same.1 ∙ c.move_fault.ensures.due)
 
 pub returns-in-Err-clause-counted : goal.returns-in-Err-clause-counted
 returns-in-Err-clause-counted c =
