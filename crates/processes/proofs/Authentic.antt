@@ -1,5 +1,5 @@
 -- What opened at a station was sent, since all that stations send are messages.
-use Rattle.std.proofs.Common.{arith, ◌≡◌, ℕ, Bool, true, false, nat_eq, List, [], ◌∷◌, ◌++◌, refl, sym, subst}
+use Rattle.std.proofs.Common.{arith, ◌≡◌, ℕ, Bool, true, nat_eq, List, [], ◌∷◌, ◌++◌, refl, sym, subst}
 use Rattle.std.specs.Prelude.{All}
 use Rattle.std.specs.List.{filter}
 use Rattle.std.proofs.lemmas.Bool.{eq-eqb}
@@ -17,13 +17,12 @@ use Rattle.headline.specs.Configurations.{Configuration, Node}
 use Rattle.live.specs.Boards as boards
 use Rattle.live.specs.Boards.{BoardCall, BoardTurn, board_kind}
 use Rattle.live.specs.Desks as desks
-use Rattle.live.specs.Desks.{DeskCall, DeskProcess, FitsLongest, desk_kind}
+use Rattle.live.specs.Desks.{DeskCall, DeskProcess}
 use Rattle.live.specs.declared.notices.Notice.{Notice}
 use Rattle.live.specs.Runs as own
 use Rattle.seal.proofs.Unforged.{opened_was_sent}
 use Rattle.processes.specs.Happenings.{BoardBegun, BoardCalled, BoardCame, DeskBegun, DeskCalled, DeskCame, DeskEnded, DeskGreeted, FileMigrated, Happening, PowerLost, WasSent, after}
-use Rattle.live.specs.DeskLife.{fresh}
-use Rattle.processes.specs.Lives.{Beginning, BoardProcess, CallsMade, CutOff, FileMigration, IsBoardLife, IsLife, IsNextStage, PowerLoss, ProcessEnd, Stage, after_life, board_calls, board_happens, calls_of, fresh_turn, life_happens, stage_happens}
+use Rattle.processes.specs.Lives.{BoardProcess, IsBoardLife, IsLife, IsNextStage, Stage, after_life, board_calls, board_happens, calls_of, fresh_turn, life_happens, stage_happens}
 use Rattle.processes.specs.Sealing.{BoardAuthentic, DeskAuthentic, IsAuthentic}
 use Rattle.processes.specs.Weaving as weaving
 use Rattle.processes.specs.Weaving.{NothingIsForged, is_at_board, is_at_desk}

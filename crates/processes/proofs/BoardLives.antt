@@ -1,7 +1,5 @@
 -- A board's processes, step by step.
-use Rattle.std.proofs.Common.{arith, ◌≡◌, ◌⊎◌, ℕ, Bool, true, false, nat_eq, List, [], ◌∷◌, length, refl, sym, subst, inl, inr}
-use Rattle.corrections.specs.CleanList.{history_of}
-use Rattle.cards.specs.Board.{board as board_text}
+use Rattle.std.proofs.Common.{arith, ◌≡◌, ◌⊎◌, ℕ, Bool, List, [], ◌∷◌, refl, sym, subst}
 use Rattle.cards.specs.Sheet.{Sheet}
 use Rattle.agree_core.specs.declared.messages.Message.{Message}
 use Rattle.agree_core.specs.Boards.{BoardState, fresh_board}
@@ -9,7 +7,7 @@ use Rattle.live.specs.Boards as boards
 use Rattle.live.specs.Boards.{BoardCall, BoardStep, BoardTurn, grown, shown, unless_stopped}
 use Rattle.live.specs.declared.notices.Notice.{Notice}
 use Rattle.live.specs.Runs as own
-use Rattle.processes.specs.Happenings.{BoardBegun, BoardCalled, DeskBegun, DeskCalled, DeskEnded, DeskGreeted, FileMigrated, Happening, PowerLost}
+use Rattle.processes.specs.Happenings.{BoardBegun, BoardCalled, Happening}
 use Rattle.processes.specs.Printing.{Prints}
 use Rattle.processes.specs.Lives.{BoardProcess, BoardRuns, IsBoardLife, board_calls, board_happens, fresh_turn}
 use Rattle.processes.proofs.Local.{Local, local-append, nexts}

@@ -5,7 +5,7 @@ use Rattle.corrections.specs.Refusal.{book_refusal}
 use Rattle.corrections.specs.declared.refusal.Refusal.{Refusal}
 use Rattle.agree_core.specs.declared.messages.Message.{Message}
 use Rattle.agree_core.specs.Boards.{BoardAnswer, BoardReceives, BoardState}
-use Rattle.wire.specs.declared.what.What.TheVariants.{Bad, Heard, Asked, Device, Failed}
+use Rattle.wire.specs.declared.what.What.TheVariants.{Bad, Heard, Asked}
 use Rattle.wire.specs.Layout.{Says}
 use Rattle.board.specs.declared.refusal.BoardRefusal.TheVariants.{BadVotes}
 use Rattle.headline.specs.declared.event.Event.TheVariants as events

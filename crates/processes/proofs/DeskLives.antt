@@ -1,5 +1,5 @@
 -- A desk's life, step by step.
-use Rattle.std.proofs.Common.{arith, ◌≡◌, ℕ, List, [], ◌∷◌, Err, refl, sym, ap, ◌∙◌, subst}
+use Rattle.std.proofs.Common.{◌≡◌, ℕ, List, [], ◌∷◌, Err, refl, sym, ap, ◌∙◌, subst}
 use Rattle.entry_log.specs.Disk.{Faults}
 use Rattle.cards.specs.Sheet.{Sheet}
 use Rattle.agree_core.specs.declared.messages.DeskId.{DeskId}
@@ -19,9 +19,9 @@ use Rattle.live.specs.declared.ends.DeskEnd.TheVariants.{Device}
 use Rattle.live.specs.declared.said.Said.TheVariants as said
 use Rattle.processes.specs.Printing.{Tells, greeting_of}
 use Rattle.live.specs.Runs as own
-use Rattle.processes.specs.Happenings.{BoardBegun, BoardCalled, DeskBegun, DeskCalled, DeskEnded, DeskGreeted, FileMigrated, Happening, PowerLost, begun, migrated}
+use Rattle.processes.specs.Happenings.{DeskBegun, DeskCalled, DeskEnded, DeskGreeted, FileMigrated, Happening, PowerLost, begun, migrated}
 use Rattle.live.specs.DeskLife.{BeginsOn, fresh}
-use Rattle.processes.specs.Lives.{Beginning, IsNextStage, CutOff, ProcessEnd, IsLife, FileMigration, PowerLoss, CallsMade, RunsFrom, Stage, after_calls, after_life, after_stage, calls_of, life_happens, stage_happens}
+use Rattle.processes.specs.Lives.{IsNextStage, CutOff, IsLife, CallsMade, RunsFrom, Stage, after_calls, after_life, after_stage, calls_of, life_happens, stage_happens}
 use Rattle.processes.proofs.Local.{Local, local-append, nexts, nexts-append}
 
 module _ {Disk : Type 0} where

@@ -7,7 +7,7 @@ use Rattle.notation.specs.declared.entry.Entry.{Entry}
 use Rattle.agree_core.specs.declared.messages.DeskId.{DeskId}
 use Rattle.agree_core.specs.declared.messages.DeskId.TheVariants.{A, B}
 use Rattle.agree_core.specs.declared.messages.Message.{Message}
-use Rattle.agree_core.specs.Desks.{DeskState, PenAnswer, Pens, ReceiveAnswer, Receives, Unchanged}
+use Rattle.agree_core.specs.Desks.{DeskState, PenAnswer, Pens, ReceiveAnswer, Receives}
 use Rattle.agree_core.specs.FileView.{FileView, Stays}
 use Rattle.wire.specs.declared.what.What.TheVariants as whats
 use Rattle.wire.specs.Layout.{Says}

@@ -2,8 +2,6 @@
 use Rattle.std.proofs.Common.{arith, refl}
 use Rattle.entry_log.specs.Format as format
 use Rattle.vote_store.specs.Sequence as sequence
-use Rattle.agree_core.specs.declared.messages.DeskId.TheVariants.{A, B}
-use Rattle.headline.specs.declared.version.FileVersion.TheVariants.{Old, New}
 use Rattle.processes.specs.Files.{EmptyFilesShowNone}
 
 pub empty_files : EmptyFilesShowNone

@@ -1,12 +1,12 @@
 -- The laws of flows.
-use Rattle.std.proofs.Common.{arith, ℕ, ◌≤◌, List, [], ◌∷◌, refl, subst, sym, ap, inl, inr}
+use Rattle.std.proofs.Common.{arith, ℕ, ◌≤◌, List, [], ◌∷◌, refl, subst, sym, inl, inr}
 use Rattle.notation.specs.declared.entry.Entry.{Entry}
 use Rattle.notation.specs.Written.{IsEntry}
 use Rattle.cards.specs.Sheet.{Sheet}
 use Rattle.entry_log.specs.Slots.{FileContents}
 use Rattle.entry_log.specs.Disk.{Images}
 use Rattle.agree_core.specs.declared.messages.DeskId.{DeskId}
-use Rattle.agree_core.specs.declared.messages.DeskId.TheVariants.{A, B}
+use Rattle.agree_core.specs.declared.messages.DeskId.TheVariants.{A}
 use Rattle.agree_core.specs.Ballots.{Ballot, In, votes_by}
 use Rattle.headline.proofs.Keeping.{begins_fine}
 use Rattle.headline.proofs.Shown.{each_moment, none_keeps_both}
@@ -16,11 +16,11 @@ use Rattle.headline.specs.Headline.{AfterEach, ArePenned, ByBoth, NoneKeepsBoth,
 use Rattle.headline.specs.Match.{Setting, setting_of}
 use Rattle.headline.specs.Runs.{Begins, Moment, Shows}
 use Rattle.headline.specs.declared.version.FileVersion.{FileVersion}
-use Rattle.headline.specs.Configurations.{Node, Configuration, all_votes}
+use Rattle.headline.specs.Configurations.{Configuration, all_votes}
 use Rattle.corrections.specs.declared.refusal.Refusal.{Refusal}
 use Rattle.live.specs.Desks as desks
 use Rattle.live.specs.Saying.{SaysEntry}
-use Rattle.processes.specs.Happenings.{BoardBegun, BoardCalled, DeskBegun, DeskCalled, DeskEnded, DeskGreeted, FileMigrated, Happening, PowerLost, after}
+use Rattle.processes.specs.Happenings.{Happening, after}
 use Rattle.processes.specs.Headline.{AtEachTime, TypesBallot, WasTyped}
 use Rattle.processes.specs.Laws.{FlowsAreRuns, FlowsHaveHeadline, IsFlow}
 use Rattle.processes.proofs.FlowSteps.{IsCalm}

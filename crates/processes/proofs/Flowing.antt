@@ -16,7 +16,7 @@ use Rattle.headline.specs.Headline.{AtEachEvent}
 use Rattle.headline.specs.Match.{Setting}
 use Rattle.headline.specs.Configurations.{Process, Running, Configuration, node}
 use Rattle.headline.specs.Runs.{AtEachMoment, AtSomeMoment, Moment, Run, WasPenned, last_of}
-use Rattle.processes.specs.Happenings.{BoardBegun, BoardCalled, DeskBegun, DeskCalled, DeskEnded, DeskGreeted, FileMigrated, Flow, Happening, PowerLost, after}
+use Rattle.processes.specs.Happenings.{DeskCalled, Flow, Happening, after}
 use Rattle.processes.specs.Headline.{AtEachTime, AtSomeTime, TypesBallot, WasTyped}
 use Rattle.processes.specs.Laws.{GoesThrough}
 use Rattle.processes.proofs.Going.{Fits, Leads, TypedAs, last_on, run_on}

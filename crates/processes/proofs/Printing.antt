@@ -1,10 +1,10 @@
 -- What may happen prints what is of its book.
-use Rattle.std.proofs.Common.{arith, ℕ, List, [], ◌∷◌}
+use Rattle.std.proofs.Common.{ℕ, List, [], ◌∷◌}
 use Rattle.agree_core.specs.declared.messages.DeskId.{DeskId}
 use Rattle.agree_core.specs.FileView.{FileView}
 use Rattle.headline.specs.declared.version.FileVersion.{FileVersion}
 use Rattle.headline.specs.Configurations.{Configuration}
-use Rattle.processes.specs.Happenings.{BoardBegun, BoardCalled, DeskBegun, DeskCalled, DeskEnded, DeskGreeted, FileMigrated, Flow, Happening, Happens, PowerLost, after}
+use Rattle.processes.specs.Happenings.{BoardCalled, DeskCalled, DeskGreeted, Flow, Happening, Happens, after}
 use Rattle.processes.specs.Headline.{PrintsItsBook}
 use Rattle.processes.specs.SecondVotes.{AtEachHappening}
 

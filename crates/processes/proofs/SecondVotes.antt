@@ -1,5 +1,5 @@
 -- What brings a second vote is an event that does, so the station takes their entry.
-use Rattle.std.proofs.Common.{arith, ◌≡◌, ◌≢◌, ℕ, List, [], ◌∷◌, ◌++◌, Some, Ok, refl, sym, ap, ◌∙◌, subst, inl, inr}
+use Rattle.std.proofs.Common.{◌≡◌, ◌≢◌, ℕ, List, [], ◌∷◌, ◌++◌, Some, Ok, refl, sym, ap, ◌∙◌, subst, inl, inr}
 use Rattle.std.specs.Prelude.{slice_get}
 use Rattle.notation.specs.declared.entry.Entry.{Entry}
 use Rattle.corrections.specs.Refusal.{book_refusal}
@@ -38,7 +38,7 @@ use Rattle.live.specs.Desks as desks
 use Rattle.live.specs.Desks.{DeskStep}
 use Rattle.live.specs.declared.said.Said.{Said}
 use Rattle.live.specs.declared.said.Said.TheVariants.{Penned}
-use Rattle.processes.specs.Happenings.{BoardBegun, BoardCalled, DeskBegun, DeskCalled, DeskEnded, DeskGreeted, FileMigrated, Flow, Happening, Happens, PowerLost, WasSent, after, with_process}
+use Rattle.processes.specs.Happenings.{BoardCalled, DeskCalled, Flow, Happening, Happens, WasSent, after, with_process}
 use Rattle.processes.specs.SecondVotes.{AtEachHappening, SayVote, TakesSecond}
 use Rattle.processes.proofs.BoardSteps.{with_it}
 use Rattle.processes.proofs.FlowSteps.{IsCalm}

@@ -1,5 +1,5 @@
 -- What the processes of `live` state is part of a station's life.
-use Rattle.std.proofs.Common.{arith, Result, Ok, Err, ◌≡◌, ℕ, List, ap, ◌∙◌, subst}
+use Rattle.std.proofs.Common.{arith, Result, ◌≡◌, ℕ, List, ap, ◌∙◌, subst}
 use Rattle.std.specs.Io.KnownBytes.{Appends}
 use Rattle.notation.specs.declared.entry.Entry.{Entry}
 use Rattle.corrections.specs.declared.book_of.BookOf.{Ghosts as Books}

@@ -1,5 +1,5 @@
 -- The laws of one moment.
-use Rattle.std.proofs.Common.{arith, ℕ, List, [], refl}
+use Rattle.std.proofs.Common.{ℕ, List, [], refl}
 use Rattle.entry_log.specs.Disk.{Images}
 use Rattle.headline.specs.Match.{setting_of}
 use Rattle.headline.specs.Configurations.{Running}
