@@ -1,5 +1,5 @@
 -- Files of both versions.
-use Rattle.std.proofs.Common.{arith, refl}
+use Rattle.std.proofs.Common.{arith}
 use Rattle.entry_log.specs.Format as format
 use Rattle.vote_store.specs.Sequence as sequence
 use Rattle.processes.specs.Files.{EmptyFilesShowNone}

@@ -18,7 +18,6 @@ use Rattle.headline.specs.Runs.{Begins, Moment, Shows}
 use Rattle.headline.specs.declared.version.FileVersion.{FileVersion}
 use Rattle.headline.specs.Configurations.{Configuration, all_votes}
 use Rattle.corrections.specs.declared.refusal.Refusal.{Refusal}
-use Rattle.live.specs.Desks as desks
 use Rattle.live.specs.Saying.{SaysEntry}
 use Rattle.processes.specs.Happenings.{Happening, after}
 use Rattle.processes.specs.Headline.{AtEachTime, TypesBallot, WasTyped}

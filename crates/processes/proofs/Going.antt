@@ -1,5 +1,5 @@
 -- Runs that go on.
-use Rattle.std.proofs.Common.{◌≡◌, ◌≤◌, List, [], ◌∷◌, ◌++◌, length, refl, sym, ◌∙◌, subst, arith}
+use Rattle.std.proofs.Common.{◌≡◌, ◌≤◌, List, [], ◌∷◌, ◌++◌, length, refl, sym, subst, arith}
 use Rattle.corrections.specs.declared.refusal.Refusal.{Refusal}
 use Rattle.headline.specs.declared.event.Event.{Event}
 use Rattle.headline.specs.Match.{Setting}
