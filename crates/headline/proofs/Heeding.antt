@@ -13,7 +13,6 @@ use Rattle.agree_core.specs.Readers as readers
 use Rattle.agree_core.specs.Seats.{Hears, SeatState}
 use Rattle.agree_core.proofs.Order.{not_before}
 use Rattle.headline.specs.declared.event.Station.{Station}
-use Rattle.headline.specs.declared.event.Station.TheVariants as stations
 use Rattle.headline.specs.Configurations.{board_at, with_board}
 use Rattle.headline.specs.Noted.{kept_by_seat}
 

@@ -28,7 +28,7 @@ use Rattle.headline.specs.Match.{Setting}
 use Rattle.headline.specs.Configurations.{Process, Running, Down, Node, Configuration, board_at, node, process_disk, process_votes, all_votes, with_node}
 use Rattle.headline.specs.Answers.{Answer}
 use Rattle.headline.specs.DeskFaults.{Breaks, FallsDue, StaysDownBy}
-use Rattle.headline.specs.Migrations.{Failed, MigratesAt}
+use Rattle.headline.specs.Migrations.{MigratesAt}
 use Rattle.headline.specs.DeskSteps.{AfterOpen, AfterPen, AfterReceive, AtDesk}
 use Rattle.headline.specs.BoardSteps.{AtBoard, board_told}
 use Rattle.headline.specs.Runs.{Moment}

@@ -1,5 +1,5 @@
 -- What each pen keeps of a desk's votes holds of its votes, of what is read and of every image.
-use Rattle.std.proofs.Common.{arith, ◌≡◌, ◌⊎◌, ℕ, Some, List, [], ◌∷◌, refl, sym, ap, ◌∙◌, subst, inl, inr}
+use Rattle.std.proofs.Common.{arith, ◌≡◌, ℕ, Some, List, [], ◌∷◌, refl, sym, ap, ◌∙◌, subst, inl, inr}
 use Rattle.notation.specs.declared.entry.Entry.{Entry}
 use Rattle.agree_core.specs.declared.messages.DeskId.{DeskId}
 use Rattle.agree_core.specs.declared.messages.DeskId.TheVariants.{A, B}

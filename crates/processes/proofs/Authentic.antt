@@ -1,5 +1,5 @@
 -- What opened at a station was sent, since all that stations send are messages.
-use Rattle.std.proofs.Common.{◌≡◌, ℕ, Bool, true, false, nat_eq, List, [], ◌∷◌, ◌++◌, refl, sym, subst}
+use Rattle.std.proofs.Common.{arith, ◌≡◌, ℕ, Bool, true, nat_eq, List, [], ◌∷◌, ◌++◌, refl, sym, subst}
 use Rattle.std.specs.Prelude.{All}
 use Rattle.std.specs.List.{filter}
 use Rattle.std.proofs.lemmas.Bool.{eq-eqb}
@@ -17,13 +17,12 @@ use Rattle.headline.specs.Configurations.{Configuration, Node}
 use Rattle.live.specs.Boards as boards
 use Rattle.live.specs.Boards.{BoardCall, BoardTurn, board_kind}
 use Rattle.live.specs.Desks as desks
-use Rattle.live.specs.Desks.{DeskCall, DeskProcess, FitsLongest, desk_kind}
+use Rattle.live.specs.Desks.{DeskCall, DeskProcess}
 use Rattle.live.specs.declared.notices.Notice.{Notice}
 use Rattle.live.specs.Runs as own
 use Rattle.seal.proofs.Unforged.{opened_was_sent}
 use Rattle.processes.specs.Happenings.{BoardBegun, BoardCalled, BoardCame, DeskBegun, DeskCalled, DeskCame, DeskEnded, DeskGreeted, FileMigrated, Happening, PowerLost, WasSent, after}
-use Rattle.live.specs.DeskLife.{fresh}
-use Rattle.processes.specs.Lives.{Beginning, BoardProcess, CallsMade, CutOff, FileMigration, IsBoardLife, IsLife, IsNextStage, PowerLoss, ProcessEnd, Stage, after_life, board_calls, board_happens, calls_of, fresh_turn, life_happens, stage_happens}
+use Rattle.processes.specs.Lives.{BoardProcess, IsBoardLife, IsLife, IsNextStage, Stage, after_life, board_calls, board_happens, calls_of, fresh_turn, life_happens, stage_happens}
 use Rattle.processes.specs.Sealing.{BoardAuthentic, DeskAuthentic, IsAuthentic}
 use Rattle.processes.specs.Weaving as weaving
 use Rattle.processes.specs.Weaving.{NothingIsForged, is_at_board, is_at_desk}
@@ -34,18 +33,11 @@ was_sent seal game sent message fine h m says = opened_was_sent seal game sent h
 
 desk_came : (seal : List ℕ) (game : ℕ) (sent : List Message) (call : DeskCall) → All IsMessage sent → DeskAuthentic seal game sent call → DeskCame game sent call
 desk_came seal game sent (desks.Given message what) fine h = was_sent seal game sent message fine h
-desk_came seal game sent (desks.Typed line said) fine h = tt
-desk_came seal game sent desks.TypingEnded fine h = tt
-desk_came seal game sent desks.Unopened fine h = tt
-desk_came seal game sent desks.Ticked fine h = tt
-desk_came seal game sent (desks.Reminded reminder) fine h = tt
-desk_came seal game sent desks.TurnEnded fine h = tt
+desk_came seal game sent _ fine h = tt
 
 board_came : (seal : List ℕ) (game : ℕ) (sent : List Message) (call : BoardCall) → All IsMessage sent → BoardAuthentic seal game sent call → BoardCame game sent call
 board_came seal game sent (boards.Given message answer) fine h = was_sent seal game sent message fine h
-board_came seal game sent boards.Unopened fine h = tt
-board_came seal game sent boards.Ticked fine h = tt
-board_came seal game sent boards.TurnEnded fine h = tt
+board_came seal game sent _ fine h = tt
 
 more_sent : (sent out : List Message) → All IsMessage sent → All IsMessage out → All IsMessage (sent ++ out)
 more_sent sent out h k = All-append IsMessage sent out h k
@@ -69,25 +61,18 @@ module _ {Disk : Type 0} where
   sends-append (x ∷ xs) ys h k = (h.0, sends-append xs ys h.1 k)
 
   first_sends : (q : Bool) (h : Happening Disk) (hs : List (Happening Disk)) → q ≡ true → EachSends (with_one q h hs) → Sends h
-  first_sends true h hs e s = s.0
-  first_sends false h hs e s = absurd (cc)
+  first_sends q h hs h0 h1 = grind arith
 
   rest_sends : (q : Bool) (h : Happening Disk) (hs : List (Happening Disk)) → EachSends (with_one q h hs) → EachSends hs
-  rest_sends true h hs s = s.1
-  rest_sends false h hs s = s
+  rest_sends q h hs h0 = grind arith
 
   -- what happened sends messages, where it does so at each station
   one_sends : (h : Happening Disk) (hs : List (Happening Disk)) → EachSends (with_one (is_at_desk A h) h (filter (is_at_desk A) hs)) → EachSends (with_one (is_at_desk B h) h (filter (is_at_desk B) hs))
       → ((n : ℕ) → EachSends (with_one (is_at_board n h) h (filter (is_at_board n) hs))) → Sends h
   one_sends (DeskCalled A s call out l text) hs a b t = a.0
   one_sends (DeskCalled B s call out l text) hs a b t = b.0
-  one_sends (DeskGreeted d sheet text) hs a b t = tt
-  one_sends (DeskEnded d disk) hs a b t = tt
-  one_sends (PowerLost d disk) hs a b t = tt
-  one_sends (DeskBegun d opening) hs a b t = tt
-  one_sends (FileMigrated d votes new) hs a b t = tt
   one_sends (BoardCalled n sheet call out l text) hs a b t = first_sends (nat_eq n n) (BoardCalled n sheet call out l text) (filter (is_at_board n) hs) (eq-eqb n n refl) (t n)
-  one_sends (BoardBegun n) hs a b t = tt
+  one_sends _ hs a b t = tt
 
   pub all_send : (hs : List (Happening Disk)) → EachSends (filter (is_at_desk A) hs) → EachSends (filter (is_at_desk B) hs) → ((n : ℕ) → EachSends (filter (is_at_board n) hs)) → EachSends hs
   all_send [] a b t = tt
@@ -116,14 +101,7 @@ module _ {Disk : Type 0} where
 
   -- so nothing comes that no station sent
   one_came : (seal : List ℕ) (game : ℕ) (v : Configuration Disk) (h : Happening Disk) → All IsMessage v.sent → weaving.Came seal game v h → Came game v h
-  one_came seal game v (DeskCalled d s call out l text) fine c = desk_came seal game v.sent call fine c
-  one_came seal game v (DeskGreeted d s text) fine c = tt
-  one_came seal game v (DeskEnded d disk) fine c = tt
-  one_came seal game v (PowerLost d disk) fine c = tt
-  one_came seal game v (DeskBegun d opening) fine c = tt
-  one_came seal game v (FileMigrated d votes new) fine c = tt
-  one_came seal game v (BoardCalled n sheet call out l text) fine c = board_came seal game v.sent call fine c
-  one_came seal game v (BoardBegun n) fine c = tt
+  one_came seal game v h h0 h1 = grind (arith, board_came, desk_came)
 
   pub nothing_early : (seal : List ℕ) (game : ℕ) (w : Configuration Disk) (hs : List (Happening Disk)) → w.sent ≡ [] → EachSends hs → NothingIsForged seal game w hs → NothingComesEarly game w hs
   nothing_early seal game w [] e s c = tt
@@ -137,12 +115,7 @@ module _ {Disk : Type 0} (view : FileVersion → FileView Disk) (seen : Disk →
   calls_send kind p s k (m ∷ ms) r = (r.1, calls_send kind p s k ms r.0)
 
   stage_sends : (x : Node Disk) (stage : Stage Disk) → IsNextStage view seen faults d game innings x stage → EachSends (stage_happens innings d stage)
-  stage_sends x (CallsMade s k ms) h = calls_send (desk_kind s (view x.version) (record { faults = faults; FitsLongest = FitsLongest h.1.0 h.1.1 }) game innings) (fresh k) s k ms h.1.2
-  stage_sends x (CutOff s call l) h = (All-nil IsMessage, tt)
-  stage_sends x (ProcessEnd disk) h = (tt, tt)
-  stage_sends x (PowerLoss disk) h = (tt, tt)
-  stage_sends x (Beginning opening) h = (tt, tt)
-  stage_sends x (FileMigration votes new) h = (tt, tt)
+  stage_sends x stage h0 = grind (arith, calls_send)
 
   pub life_sends : (x : Node Disk) (stages : List (Stage Disk)) → IsLife view seen faults d game innings x stages → EachSends (life_happens innings d stages)
   life_sends x [] h = tt

@@ -1,15 +1,12 @@
 -- A board's processes, step by step.
-use Rattle.std.proofs.Common.{◌≡◌, ◌⊎◌, ℕ, Bool, true, false, nat_eq, List, [], ◌∷◌, length, refl, sym, subst, inl, inr}
-use Rattle.corrections.specs.CleanList.{history_of}
-use Rattle.cards.specs.Board.{board as board_text}
+use Rattle.std.proofs.Common.{arith, ◌≡◌, ◌⊎◌, ℕ, Bool, List, [], ◌∷◌, refl, sym, subst}
 use Rattle.cards.specs.Sheet.{Sheet}
 use Rattle.agree_core.specs.declared.messages.Message.{Message}
 use Rattle.agree_core.specs.Boards.{BoardState, fresh_board}
-use Rattle.live.specs.Boards as boards
 use Rattle.live.specs.Boards.{BoardCall, BoardStep, BoardTurn, grown, shown, unless_stopped}
 use Rattle.live.specs.declared.notices.Notice.{Notice}
 use Rattle.live.specs.Runs as own
-use Rattle.processes.specs.Happenings.{BoardBegun, BoardCalled, DeskBegun, DeskCalled, DeskEnded, DeskGreeted, FileMigrated, Happening, PowerLost}
+use Rattle.processes.specs.Happenings.{BoardBegun, BoardCalled, Happening}
 use Rattle.processes.specs.Printing.{Prints}
 use Rattle.processes.specs.Lives.{BoardProcess, BoardRuns, IsBoardLife, board_calls, board_happens, fresh_turn}
 use Rattle.processes.proofs.Local.{Local, local-append, nexts}
@@ -19,12 +16,7 @@ module _ {Disk : Type 0} where
   abbrev pub next_board : BoardState → Happening Disk → BoardState
   next_board k (BoardCalled n sheet call out l text) = l
   next_board k (BoardBegun n) = fresh_board
-  next_board k (DeskGreeted d s text) = k
-  next_board k (DeskCalled d s call out l text) = k
-  next_board k (DeskEnded d disk) = k
-  next_board k (PowerLost d disk) = k
-  next_board k (DeskBegun d opening) = k
-  next_board k (FileMigrated d votes new) = k
+  next_board k _ = k
 
 module _ (Disk : Type 0) (game innings : ℕ) where
   -- it may happen at this board, but for what came
@@ -39,21 +31,14 @@ module _ (Disk : Type 0) (game innings : ℕ) where
   board_after = nexts next_board MayBoard
 
   grows_or_not : (q : Bool) (text : List ℕ) → (grown q text ≡ text) ⊎ (grown q text ≡ [])
-  grows_or_not true text = inr refl
-  grows_or_not false text = inl refl
+  grows_or_not q text = grind arith
 
   stopped_or_not : (q r : Bool) (text : List ℕ) → (unless_stopped q (grown r text) ≡ text) ⊎ (unless_stopped q (grown r text) ≡ [])
-  stopped_or_not true r text = inr refl
-  stopped_or_not false r text = grows_or_not r text
+  stopped_or_not q r text = grind (arith, grows_or_not)
 
   -- what a board prints is the six lines of its book, or nothing
   prints : (sheet : Sheet) (k l : BoardTurn) (call : BoardCall) (out : List Message) → BoardStep game innings k.board call out l.board → Prints sheet innings call l.board (shown sheet innings k call l)
-  prints sheet k l (boards.Given bytes answer) out h = refl
-  prints sheet k l boards.Unopened out h = refl
-  prints sheet k l boards.Ticked out h = refl
-  prints sheet k l boards.TurnEnded out h =
-      subst (λ (b : BoardState). Prints sheet innings boards.TurnEnded b (shown sheet innings k boards.TurnEnded l)) (sym h.0)
-      (stopped_or_not k.telling.is_stopped (nat_eq (length k.board.book) k.had) (board_text sheet innings (history_of k.board.book)))
+  prints sheet k l call out h0 = grind (arith, stopped_or_not)
 
   calls : (n : ℕ) (s : Sheet) (noted : List Notice) (ms : List (own.Moment BoardTurn BoardCall)) → BoardRuns game innings s noted ms
       → BoardLocal fresh_board (board_calls innings n s noted ms) × (board_after fresh_board (board_calls innings n s noted ms) ≡ (λ (k : BoardTurn). k.board) (own.last_of (fresh_turn noted) ms))

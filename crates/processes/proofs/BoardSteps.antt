@@ -1,11 +1,11 @@
 -- A moment of a board's process is an event.
-use Rattle.std.proofs.Common.{◌≡◌, ℕ, zero, suc, Some, List, [], ◌∷◌, ◌++◌, length, refl, sym, ap, ◌∙◌, subst, append-nil, Ok, Err}
+use Rattle.std.proofs.Common.{arith, ◌≡◌, ℕ, zero, suc, Some, List, [], ◌∷◌, ◌++◌, length, refl, sym, ap, ◌∙◌, subst, append-nil, Ok, Err}
 use Rattle.std.specs.Prelude.{slice_get, slice_set}
 use Rattle.corrections.specs.Refusal.{book_refusal}
 use Rattle.corrections.specs.declared.refusal.Refusal.{Refusal}
 use Rattle.agree_core.specs.declared.messages.Message.{Message}
 use Rattle.agree_core.specs.Boards.{BoardAnswer, BoardReceives, BoardState}
-use Rattle.wire.specs.declared.what.What.TheVariants.{Bad, Heard, Asked, Device, Failed}
+use Rattle.wire.specs.declared.what.What.TheVariants.{Bad, Heard, Asked}
 use Rattle.wire.specs.Layout.{Says}
 use Rattle.board.specs.declared.refusal.BoardRefusal.TheVariants.{BadVotes}
 use Rattle.headline.specs.declared.event.Event.TheVariants as events
@@ -25,8 +25,7 @@ same_item (y ∷ xs) zero x e = let q : x ≡ y = cc in ap (λ (z : BoardState).
 same_item (y ∷ xs) (suc n) x e = ap (λ (zs : List BoardState). y ∷ zs) (same_item xs n x e)
 
 pub same_board : (xs : List BoardState) (n : ℕ) (x : BoardState) → board_at xs n ≡ Some x → with_board xs n x ≡ xs
-same_board xs zero x e = refl
-same_board xs (suc n) x e = same_item xs n x e
+same_board xs n x h0 = grind (arith, same_item)
 
 -- the configuration with this board so, once these messages were handed out
 abbrev pub with_it : {Disk : Type 0} → Configuration Disk → ℕ → BoardState → List Message → Configuration Disk
@@ -48,11 +47,9 @@ module _ {Disk : Type 0} (s : Setting Disk Refusal) (game innings : ℕ) (rules 
       unmoved n k l out at h.0.1 h.1
   board_moment n k l (boards.Given bytes (Ok (Heard x))) out at came h = let t = h.0 in received n k l bytes t.0 (BoardAnswer.Told x) out at came t.1 t.2 h.1
   board_moment n k l (boards.Given bytes (Ok Asked)) out at came h = let t = h.0 in received n k l bytes t.0 BoardAnswer.Asked out at came t.1 t.2 h.1
-  board_moment n k l (boards.Given bytes (Ok Device)) out at came h = absurd h.0
-  board_moment n k l (boards.Given bytes (Ok Failed)) out at came h = absurd h.0
+  board_moment n k l (boards.Given bytes (Ok _)) out at came h = absurd h.0
   board_moment n k l (boards.Given bytes (Err (BadVotes p))) out at came h = let t = h.0 in received n k l bytes t.0 (BoardAnswer.BadVotes p) out at came t.1 t.2 h.1
-  board_moment n k l boards.Unopened out at came h = unmoved n k l out at h.0 h.1
   board_moment n k l boards.Ticked out at came h =
       one s (Fits what v) v (events.Tick (stations.Board n)) (answers.Ticked (length out)) (with_it v n l out) tt
       (k, l, out, at, (h.0, refl, h.1), refl)
-  board_moment n k l boards.TurnEnded out at came h = unmoved n k l out at h.0 h.1
+  board_moment n k l _ out at came h = unmoved n k l out at h.0 h.1

@@ -19,22 +19,20 @@ use Rattle.live.specs.declared.ends.DeskEnd.TheVariants.{Device}
 use Rattle.live.specs.declared.said.Said.TheVariants as said
 use Rattle.processes.specs.Printing.{Tells, greeting_of}
 use Rattle.live.specs.Runs as own
-use Rattle.processes.specs.Happenings.{BoardBegun, BoardCalled, DeskBegun, DeskCalled, DeskEnded, DeskGreeted, FileMigrated, Happening, PowerLost, begun, migrated}
+use Rattle.processes.specs.Happenings.{DeskBegun, DeskCalled, DeskEnded, DeskGreeted, FileMigrated, Happening, PowerLost, begun, migrated}
 use Rattle.live.specs.DeskLife.{BeginsOn, fresh}
-use Rattle.processes.specs.Lives.{Beginning, IsNextStage, CutOff, ProcessEnd, IsLife, FileMigration, PowerLoss, CallsMade, RunsFrom, Stage, after_calls, after_life, after_stage, calls_of, life_happens, stage_happens}
+use Rattle.processes.specs.Lives.{IsNextStage, CutOff, IsLife, CallsMade, RunsFrom, Stage, after_calls, after_life, after_stage, calls_of, life_happens, stage_happens}
 use Rattle.processes.proofs.Local.{Local, local-append, nexts, nexts-append}
 
 module _ {Disk : Type 0} where
   -- a desk after something that happens there
   abbrev pub next_desk : Node Disk → Happening Disk → Node Disk
-  next_desk x (DeskGreeted c s text) = x
   next_desk x (DeskCalled c s call out l text) = record x { process = Running l }
   next_desk x (DeskEnded c disk) = record x { process = Down (process_votes x.process) disk }
   next_desk x (PowerLost c disk) = record x { process = Down (process_votes x.process) disk }
   next_desk x (DeskBegun c opening) = record x { process = begun (process_votes x.process) opening }
   next_desk x (FileMigrated c votes new) = migrated x new
-  next_desk x (BoardCalled n sheet call out l text) = x
-  next_desk x (BoardBegun n) = x
+  next_desk x _ = x
 
 module _ {Disk : Type 0} (view : FileVersion → FileView Disk) (seen : Disk → List ℕ) (d : DeskId) (game innings : ℕ) where
   -- it may happen at this desk, but for what came
@@ -53,8 +51,7 @@ module _ {Disk : Type 0} (view : FileVersion → FileView Disk) (seen : Disk →
   MayDesk x (FileMigrated c votes new) =
       (had : List Ballot) × (disk : Disk) × (x.process ≡ Down had disk) × (x.version ≡ Old)
       × Migrates view disk (ToNew votes new)
-  MayDesk x (BoardCalled n sheet call out l text) = Unit {0}
-  MayDesk x (BoardBegun n) = Unit {0}
+  MayDesk x _ = Unit {0}
 
   abbrev pub DeskLocal : Node Disk → List (Happening Disk) → Type 0
   DeskLocal = Local next_desk MayDesk
@@ -83,40 +80,17 @@ module _ {Disk : Type 0} (view : FileVersion → FileView Disk) (seen : Disk →
 
   -- a call whose disk failed prints nothing
   silent : (s : Sheet) (k l : DeskState Disk) (call : DeskCall) → course_after call ≡ Err Device → Tells s innings k call l []
-  silent s k l (desks.Typed line said.Quit) e = absurd (cc)
-  silent s k l (desks.Typed line (said.Asks word)) e = absurd (cc)
-  silent s k l (desks.Typed line (said.Unclear unclear)) e = absurd (cc)
-  silent s k l (desks.Typed line (said.Fault fault)) e = absurd (cc)
-  silent s k l (desks.Typed line said.SayAgain) e = absurd (cc)
-  silent s k l (desks.Typed line said.NoneDiffers) e = absurd (cc)
-  silent s k l (desks.Typed line said.Waiting) e = absurd (cc)
   silent s k l (desks.Typed line (said.Refused refusals.Failed)) e = (fresh k, refl, tt, refl)
-  silent s k l (desks.Typed line (said.Refused refusals.Waiting)) e = absurd (cc)
-  silent s k l (desks.Typed line (said.Refused refusals.PlacesFull)) e = absurd (cc)
-  silent s k l (desks.Typed line (said.Refused refusals.RoundsFull)) e = absurd (cc)
-  silent s k l (desks.Typed line (said.Refused refusals.SlotsFull)) e = absurd (cc)
-  silent s k l (desks.Typed line (said.Refused (refusals.Book why))) e = absurd (cc)
   silent s k l (desks.Typed line (said.Refused refusals.Device)) e = (fresh k, refl, tt, refl)
-  silent s k l (desks.Typed line (said.Penned entry settled)) e = absurd (cc)
-  silent s k l desks.TypingEnded e = absurd (cc)
-  silent s k l (desks.Given bytes (whats.Bad fault)) e = absurd (cc)
-  silent s k l (desks.Given bytes (whats.Heard heard)) e = absurd (cc)
-  silent s k l (desks.Given bytes whats.Asked) e = absurd (cc)
   silent s k l (desks.Given bytes whats.Device) e = (fresh k, refl, tt, refl)
   silent s k l (desks.Given bytes whats.Failed) e = (fresh k, refl, tt, refl)
-  silent s k l desks.Unopened e = absurd (cc)
-  silent s k l desks.Ticked e = absurd (cc)
-  silent s k l (desks.Reminded reminder) e = absurd (cc)
-  silent s k l desks.TurnEnded e = absurd (cc)
+  silent s k l _ e = absurd (cc)
 
   one_stage : (x : Node Disk) (stage : Stage Disk) → IsNextStage view seen faults d game innings x stage → Goes x (stage_happens innings d stage) (after_stage x stage)
   one_stage x (CallsMade s k ms) h =
       subst (λ (p : Process Disk). Goes (with_run x p) (calls_of innings d s k ms) (with_run x (after_calls k ms))) (sym h.0) (calls x s k ms h.1)
   one_stage x (CutOff s call l) h = ((tt, (h.0, h.1, h.3, silent s h.0 l call h.2)), refl)
-  one_stage x (ProcessEnd disk) h = ((tt, h), refl)
-  one_stage x (PowerLoss disk) h = ((tt, h), refl)
-  one_stage x (Beginning opening) h = ((tt, h), refl)
-  one_stage x (FileMigration votes new) h = ((tt, h), refl)
+  one_stage x _ h = ((tt, h), refl)
 
   pub life : (x : Node Disk) (stages : List (Stage Disk)) → IsLife view seen faults d game innings x stages → Goes x (life_happens innings d stages) (after_life x stages)
   life x [] h = (tt, refl)

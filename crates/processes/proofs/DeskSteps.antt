@@ -1,5 +1,5 @@
 -- A moment of a desk's process is no event, one, or a fault that falls due and one.
-use Rattle.std.proofs.Common.{◌≡◌, ℕ, Option, Some, None, List, [], ◌++◌, length, refl, sym, ap, ◌∙◌, subst, append-nil}
+use Rattle.std.proofs.Common.{arith, Err, ◌≡◌, ℕ, Option, Some, None, List, [], ◌++◌, length, refl, sym, ap, ◌∙◌, subst, append-nil}
 use Rattle.corrections.specs.Refusal.{book_refusal}
 use Rattle.cards.specs.Sheet.{Sheet}
 use Rattle.corrections.specs.declared.refusal.Refusal.{Refusal}
@@ -7,14 +7,11 @@ use Rattle.notation.specs.declared.entry.Entry.{Entry}
 use Rattle.agree_core.specs.declared.messages.DeskId.{DeskId}
 use Rattle.agree_core.specs.declared.messages.DeskId.TheVariants.{A, B}
 use Rattle.agree_core.specs.declared.messages.Message.{Message}
-use Rattle.agree_core.specs.Desks as core
-use Rattle.agree_core.specs.Desks.{DeskState, PenAnswer, PenRefusal, Pens, ReceiveAnswer, Receives, Unchanged}
+use Rattle.agree_core.specs.Desks.{DeskState, PenAnswer, Pens, ReceiveAnswer, Receives}
 use Rattle.agree_core.specs.FileView.{FileView, Stays}
 use Rattle.wire.specs.declared.what.What.TheVariants as whats
 use Rattle.wire.specs.Layout.{Says}
-use Rattle.desk.specs.declared.refusal.Refusal as desk_refusals
-use Rattle.desk.specs.declared.refusal.Refusal.TheVariants as refusals
-use Rattle.agree_core.specs.declared.seat.Settled.{Settled}
+use Rattle.desk.specs.Answers.{pen_answer}
 use Rattle.live.specs.Saying.{SaysEntry}
 use Rattle.headline.specs.declared.event.Event.{Event}
 use Rattle.headline.specs.declared.event.Event.TheVariants as events
@@ -31,7 +28,8 @@ use Rattle.headline.specs.Steps.{StepAt}
 use Rattle.headline.specs.Events.{station_of}
 use Rattle.live.specs.Desks as desks
 use Rattle.live.specs.Desks.{DeskCall, DeskStep}
-use Rattle.live.specs.declared.said.Said.TheVariants.{Quit, Asks, Unclear, Fault as LineFaulty, SayAgain, NoneDiffers, Waiting, Refused, Penned}
+use Rattle.live.specs.declared.said.Said.TheVariants.{Refused, Penned}
+use Rattle.live.specs.declared.said.Said.{Said}
 use Rattle.processes.specs.Happenings.{WasSent, DeskCame, Happening, DeskCalled, with_process}
 use Rattle.processes.proofs.Going.{Fits, Leads, TypedAs, none, one, two}
 
@@ -41,8 +39,7 @@ module _ {Disk : Type 0} where
   unmoved v B = λ i. record { a = v.a; b = v.b; boards = v.boards; sent = append-nil v.sent i }
 
   pub node_put : (v : Configuration Disk) (d : DeskId) (x : Node Disk) (out : List Message) → node (with_node v d x out) d ≡ x
-  node_put v A x out = refl
-  node_put v B x out = refl
+  node_put v d x out = grind arith
 
   sent_put : (v : Configuration Disk) (d : DeskId) (x : Node Disk) → (λ (u : Configuration Disk). u.sent) (with_node v d x []) ≡ v.sent
   sent_put v A x = append-nil v.sent
@@ -79,9 +76,7 @@ module _ {Disk : Type 0} (s : Setting Disk Refusal) (v : Configuration Disk) (d 
 
   -- no event
   nothing : (k l : DeskState Disk) (out : List Message) → (node v d).process ≡ Running k → l ≡ k → out ≡ [] → Leads s (Fits what v) v (with_node v d (runs_on (node v d) l (node v d).due) out)
-  nothing k l out e same empty =
-      none s (Fits what v) v (with_node v d (runs_on (node v d) l (node v d).due) out)
-      (sym ((λ i. with_node v d (runs_on (node v d) (same i) (node v d).due) (empty i)) ∙ (ap (λ (x : Node Disk). with_node v d x []) (itself (node v d) k e) ∙ unmoved v d)))
+  nothing k l out h0 h1 h2 = grind (arith, itself, none, unmoved)
 
   -- a fault falls due, and then this happens
   pub after_fault : (x : Node Disk) (event : Event) (answer : Answer Refusal) (y : Node Disk) (out : List Message) → AtDesk s v.sent d (events.FailAt d 1) (node v d) answers.Done x [] → station_of event ≡ stations.Desk d → Fits what v (with_node v d x []) event → AtDesk s v.sent d event x answer y out → Leads s (Fits what v) v (with_node v d y out)
@@ -135,46 +130,27 @@ module _ {Disk : Type 0} (s : Setting Disk Refusal) (game innings : ℕ) (rules 
     still : (call : DeskCall) → l ≡ k → out ≡ [] → Moves call
     still call same empty = nothing s v d (DeskCalled d sheet call out l text) k l out at same empty
 
+    abbrev typed : List ℕ → Said → Happening Disk
+    typed line said = DeskCalled d sheet (desks.Typed line said) out l text
+
     -- the desk's scorer types a line that says an entry, and it is penned with this answer
-    abbrev SaysAndPens : List ℕ → PenAnswer Refusal → Type 0
-    SaysAndPens line told =
-        (e : Entry) × SaysEntry sheet k.book k.votes k.seat.position.round line e
-        × Pens (s.view d (node v d).version) (book_refusal innings) k e told l out
+    says_pens : (line : List ℕ) (said : Said) (e : Entry) (told : PenAnswer Refusal) → SaysEntry sheet k.book k.votes k.seat.position.round line e
+        → Pens (s.view d (node v d).version) s.rules k e told l out → Moves (desks.Typed line said)
+    says_pens line said e (PenAnswer.Penned settled) says h =
+        penned s v d (typed line said) k l e (PenAnswer.Penned settled) (answers.Penned settled) out at (λ u x. (refl, k, at, x, says)) h (refl, refl)
+    says_pens line said e (PenAnswer.Refused why) says h =
+        penned s v d (typed line said) k l e (PenAnswer.Refused why) (answers.NotPenned why) out at (λ u x. (refl, k, at, x, says)) h (refl, refl)
+    says_pens line said e PenAnswer.DeviceFailed says h = pen_failed s v d (typed line said) calm k l e out at (λ u x. (refl, k, at, x, says)) h
 
-    pens : (line : List ℕ) (told : PenAnswer Refusal) (h : SaysAndPens line told) → Pens (s.view d (node v d).version) s.rules k h.0 told l out
-    pens line told h = subst (λ r. Pens (s.view d (node v d).version) r k h.0 told l out) (sym rules) h.2
-
-    pens_entry : (line : List ℕ) (e : Entry) (settled : Settled) → SaysEntry sheet k.book k.votes k.seat.position.round line e × Pens (s.view d (node v d).version) (book_refusal innings) k e (PenAnswer.Penned settled) l out → Moves (desks.Typed line (Penned e settled))
-    pens_entry line e settled h =
-        penned s v d (DeskCalled d sheet (desks.Typed line (Penned e settled)) out l text) k l e (PenAnswer.Penned settled) (answers.Penned settled) out at (λ u x. (refl, k, at, x, h.0))
-        (pens line (PenAnswer.Penned settled) (e, h.0, h.1)) (refl, refl)
-
-    refuses : (line : List ℕ) (why : desk_refusals.Refusal) (cause : PenRefusal Refusal) → SaysAndPens line (PenAnswer.Refused cause) → Moves (desks.Typed line (Refused why))
-    refuses line why cause h =
-        penned s v d (DeskCalled d sheet (desks.Typed line (Refused why)) out l text) k l h.0 (PenAnswer.Refused cause) (answers.NotPenned cause) out at (λ u x. (refl, k, at, x, h.1))
-        (pens line (PenAnswer.Refused cause) h) (refl, refl)
-
-    fails : (line : List ℕ) → SaysAndPens line PenAnswer.DeviceFailed → Moves (desks.Typed line (Refused refusals.Device))
-    fails line h =
-        pen_failed s v d (DeskCalled d sheet (desks.Typed line (Refused refusals.Device)) out l text) calm k l h.0 out at (λ u x. (refl, k, at, x, h.1))
-        (pens line PenAnswer.DeviceFailed h)
+    by_rules : (e : Entry) (told : PenAnswer Refusal) → Pens (s.view d (node v d).version) (book_refusal innings) k e told l out → Pens (s.view d (node v d).version) s.rules k e told l out
+    by_rules e told h = subst (λ r. Pens (s.view d (node v d).version) r k e told l out) (sym rules) h
 
   pub desk_moment : (sheet : Sheet) (k l : DeskState Disk) (call : DeskCall) (out : List Message) → (node v d).process ≡ Running k → DeskCame game v.sent call → DeskStep sheet (s.view d (node v d).version) game innings k call out l → Leads s (Fits (DeskCalled d sheet call out l text) v) v (with_process v d (Running l) out)
-  desk_moment sheet k l (desks.Typed line Quit) out at came h = still sheet k l out at (desks.Typed line Quit) h.1 h.2
-  desk_moment sheet k l (desks.Typed line (Asks word)) out at came h = still sheet k l out at (desks.Typed line (Asks word)) h.1 h.2
-  desk_moment sheet k l (desks.Typed line (Unclear unclear)) out at came h = still sheet k l out at (desks.Typed line (Unclear unclear)) h.1 h.2
-  desk_moment sheet k l (desks.Typed line (LineFaulty fault)) out at came h = still sheet k l out at (desks.Typed line (LineFaulty fault)) h.1 h.2
-  desk_moment sheet k l (desks.Typed line SayAgain) out at came h = still sheet k l out at (desks.Typed line SayAgain) h.1 h.2
-  desk_moment sheet k l (desks.Typed line NoneDiffers) out at came h = still sheet k l out at (desks.Typed line NoneDiffers) h.1 h.2
-  desk_moment sheet k l (desks.Typed line Waiting) out at came h = still sheet k l out at (desks.Typed line Waiting) h.1 h.2
-  desk_moment sheet k l (desks.Typed line (Penned e settled)) out at came h = pens_entry sheet k l out at line e settled h
-  desk_moment sheet k l (desks.Typed line (Refused refusals.Failed)) out at came h = refuses sheet k l out at line refusals.Failed PenRefusal.Failed h
-  desk_moment sheet k l (desks.Typed line (Refused refusals.Waiting)) out at came h = refuses sheet k l out at line refusals.Waiting core.Waiting h
-  desk_moment sheet k l (desks.Typed line (Refused refusals.PlacesFull)) out at came h = refuses sheet k l out at line refusals.PlacesFull core.PlacesFull h
-  desk_moment sheet k l (desks.Typed line (Refused refusals.RoundsFull)) out at came h = refuses sheet k l out at line refusals.RoundsFull core.RoundsFull h
-  desk_moment sheet k l (desks.Typed line (Refused refusals.SlotsFull)) out at came h = refuses sheet k l out at line refusals.SlotsFull core.SlotsFull h
-  desk_moment sheet k l (desks.Typed line (Refused (refusals.Book why))) out at came h = refuses sheet k l out at line (refusals.Book why) (core.Illegal why) h
-  desk_moment sheet k l (desks.Typed line (Refused refusals.Device)) out at came h = fails sheet k l out at line h
+  desk_moment sheet k l (desks.Typed line (Penned e settled)) out at came h =
+      says_pens sheet k l out at line (Penned e settled) e (PenAnswer.Penned settled) h.0 (by_rules sheet k l out at e (PenAnswer.Penned settled) h.1)
+  desk_moment sheet k l (desks.Typed line (Refused why)) out at came h =
+      says_pens sheet k l out at line (Refused why) h.0 (pen_answer (Err why)) h.1 (by_rules sheet k l out at h.0 (pen_answer (Err why)) h.2)
+  desk_moment sheet k l (desks.Typed line said) out at came h = still sheet k l out at (desks.Typed line said) h.1 h.2
   desk_moment sheet k l (desks.Given bytes whats.Failed) out at came h = still sheet k l out at (desks.Given bytes whats.Failed) h.1 h.2
   desk_moment sheet k l (desks.Given bytes (whats.Bad fault)) out at came h = still sheet k l out at (desks.Given bytes (whats.Bad fault)) h.2 h.3
   desk_moment sheet k l (desks.Given bytes (whats.Heard x)) out at came h =
@@ -183,10 +159,7 @@ module _ {Disk : Type 0} (s : Setting Disk Refusal) (game innings : ℕ) (rules 
       received s v d (DeskCalled d sheet (desks.Given bytes whats.Asked) out l text) k l bytes h.0 ReceiveAnswer.Asked (answers.Asked (has_any out)) out game at came h.1 h.2 (refl, refl)
   desk_moment sheet k l (desks.Given bytes whats.Device) out at came h =
       ask_failed s v d (DeskCalled d sheet (desks.Given bytes whats.Device) out l text) calm k l bytes h.0 out game at came h.1 h.2
-  desk_moment sheet k l desks.Unopened out at came h = still sheet k l out at desks.Unopened h.0 h.1
   desk_moment sheet k l desks.Ticked out at came h =
       let e : (node v d).process ≡ Running l = at ∙ ap Running (sym h.1) in
       at_desk s v d (DeskCalled d sheet desks.Ticked out l text) (events.Tick (stations.Desk d)) (answers.Ticked (length out)) (runs_on (node v d) l (node v d).due) out refl tt (k, at, h.0, refl, itself (node v d) l e)
-  desk_moment sheet k l (desks.Reminded reminder) out at came h = still sheet k l out at (desks.Reminded reminder) h.0 h.1
-  desk_moment sheet k l desks.TypingEnded out at came h = still sheet k l out at desks.TypingEnded h.0 h.1
-  desk_moment sheet k l desks.TurnEnded out at came h = still sheet k l out at desks.TurnEnded h.0 h.1
+  desk_moment sheet k l call out at came h = still sheet k l out at call h.0 h.1

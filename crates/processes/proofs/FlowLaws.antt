@@ -1,12 +1,12 @@
 -- The laws of flows.
-use Rattle.std.proofs.Common.{ℕ, ◌≤◌, List, [], ◌∷◌, refl, subst, sym, ap, inl, inr}
+use Rattle.std.proofs.Common.{arith, ℕ, ◌≤◌, List, [], ◌∷◌, refl, subst, sym, inl, inr}
 use Rattle.notation.specs.declared.entry.Entry.{Entry}
 use Rattle.notation.specs.Written.{IsEntry}
 use Rattle.cards.specs.Sheet.{Sheet}
 use Rattle.entry_log.specs.Slots.{FileContents}
 use Rattle.entry_log.specs.Disk.{Images}
 use Rattle.agree_core.specs.declared.messages.DeskId.{DeskId}
-use Rattle.agree_core.specs.declared.messages.DeskId.TheVariants.{A, B}
+use Rattle.agree_core.specs.declared.messages.DeskId.TheVariants.{A}
 use Rattle.agree_core.specs.Ballots.{Ballot, In, votes_by}
 use Rattle.headline.proofs.Keeping.{begins_fine}
 use Rattle.headline.proofs.Shown.{each_moment, none_keeps_both}
@@ -16,11 +16,10 @@ use Rattle.headline.specs.Headline.{AfterEach, ArePenned, ByBoth, NoneKeepsBoth,
 use Rattle.headline.specs.Match.{Setting, setting_of}
 use Rattle.headline.specs.Runs.{Begins, Moment, Shows}
 use Rattle.headline.specs.declared.version.FileVersion.{FileVersion}
-use Rattle.headline.specs.Configurations.{Node, Configuration, all_votes}
+use Rattle.headline.specs.Configurations.{Configuration, all_votes}
 use Rattle.corrections.specs.declared.refusal.Refusal.{Refusal}
-use Rattle.live.specs.Desks as desks
 use Rattle.live.specs.Saying.{SaysEntry}
-use Rattle.processes.specs.Happenings.{BoardBegun, BoardCalled, DeskBegun, DeskCalled, DeskEnded, DeskGreeted, FileMigrated, Happening, PowerLost, after}
+use Rattle.processes.specs.Happenings.{Happening, after}
 use Rattle.processes.specs.Headline.{AtEachTime, TypesBallot, WasTyped}
 use Rattle.processes.specs.Laws.{FlowsAreRuns, FlowsHaveHeadline, IsFlow}
 use Rattle.processes.proofs.FlowSteps.{IsCalm}
@@ -30,30 +29,15 @@ use Rattle.processes.proofs.SecondVotes.{each_takes_second}
 
 -- a ballot that was typed has its numbers in their ranges
 said_entry : (x : Sheet) (book : List Entry) (votes : List Ballot) (round : ℕ) (line : List ℕ) (e : Entry) → SaysEntry x book votes round line e → IsEntry e
-said_entry x book votes round line e (inl h) = h.2.0
-said_entry x book votes round line e (inr h) = h.3
+said_entry x book votes round line e h0 = grind arith
 
 module _ {Disk : Type 0} where
   -- at the start no fault is due
   pub begins_calm : (s : Setting Disk Refusal) (version : FileVersion) (boards : ℕ) (w : Configuration Disk) → Begins s version boards w → IsCalm w
-  begins_calm s version boards w b A = ap (λ (x : Node Disk). x.due) b.a.1
-  begins_calm s version boards w b B = ap (λ (x : Node Disk). x.due) b.b.1
+  begins_calm s version boards w h0 = grind arith
 
   typed_here : (v : Configuration Disk) (what : Happening Disk) (d : DeskId) (b : Ballot) → TypesBallot v what d b → IsEntry b.entry
-  typed_here v (DeskCalled c x (desks.Typed line said) out l text) d b h = said_entry x (h.1).book (h.1).votes b.at.round line b.entry h.4
-  typed_here v (DeskCalled c x (desks.Given bytes answer) out l text) d b h = absurd h
-  typed_here v (DeskCalled c x desks.TypingEnded out l text) d b h = absurd h
-  typed_here v (DeskCalled c x desks.Unopened out l text) d b h = absurd h
-  typed_here v (DeskCalled c x desks.Ticked out l text) d b h = absurd h
-  typed_here v (DeskCalled c x (desks.Reminded reminder) out l text) d b h = absurd h
-  typed_here v (DeskCalled c x desks.TurnEnded out l text) d b h = absurd h
-  typed_here v (DeskGreeted c x text) d b h = absurd h
-  typed_here v (DeskEnded c disk) d b h = absurd h
-  typed_here v (PowerLost c disk) d b h = absurd h
-  typed_here v (DeskBegun c opening) d b h = absurd h
-  typed_here v (FileMigrated c votes new) d b h = absurd h
-  typed_here v (BoardCalled n sheet call out l text) d b h = absurd h
-  typed_here v (BoardBegun n) d b h = absurd h
+  typed_here v what d b h0 = grind (arith, said_entry)
 
   typed_entry : (w : Configuration Disk) (hs : List (Happening Disk)) (d : DeskId) (b : Ballot) → WasTyped w hs d b → IsEntry b.entry
   typed_entry w [] d b h = absurd h

@@ -1,5 +1,5 @@
 -- A flow of processes is a run, and what is so after some change is so at some moment.
-use Rattle.std.proofs.Common.{◌≡◌, ◌⊎◌, ℕ, List, [], ◌∷◌, ◌++◌, refl, sym, ◌∙◌, subst, inl, inr}
+use Rattle.std.proofs.Common.{arith, ◌≡◌, ◌⊎◌, ℕ, List, [], ◌∷◌, ◌++◌, refl, sym, ◌∙◌, subst, inl, inr}
 use Rattle.corrections.specs.Refusal.{book_refusal}
 use Rattle.cards.specs.Sheet.{Sheet}
 use Rattle.corrections.specs.declared.refusal.Refusal.{Refusal}
@@ -16,15 +16,14 @@ use Rattle.headline.specs.Headline.{AtEachEvent}
 use Rattle.headline.specs.Match.{Setting}
 use Rattle.headline.specs.Configurations.{Process, Running, Configuration, node}
 use Rattle.headline.specs.Runs.{AtEachMoment, AtSomeMoment, Moment, Run, WasPenned, last_of}
-use Rattle.processes.specs.Happenings.{BoardBegun, BoardCalled, DeskBegun, DeskCalled, DeskEnded, DeskGreeted, FileMigrated, Flow, Happening, PowerLost, after}
+use Rattle.processes.specs.Happenings.{DeskCalled, Flow, Happening, after}
 use Rattle.processes.specs.Headline.{AtEachTime, AtSomeTime, TypesBallot, WasTyped}
 use Rattle.processes.specs.Laws.{GoesThrough}
 use Rattle.processes.proofs.Going.{Fits, Leads, TypedAs, last_on, run_on}
 use Rattle.processes.proofs.FlowSteps.{IsCalm, calm_after, happening}
 
 sides : (X Y P Q : Type 0) → (X → P) → (Y → Q) → X ⊎ Y → P ⊎ Q
-sides X Y P Q f g (inl x) = inl (f x)
-sides X Y P Q f g (inr y) = inr (g y)
+sides X Y P Q h0 h1 h2 = grind arith
 
 module _ {Disk : Type 0} where
   same_desk : (k l : DeskState Disk) (p : Process Disk) → p ≡ Running k → p ≡ Running l → k ≡ l
@@ -41,19 +40,7 @@ module _ {Disk : Type 0} where
   types : (what : Happening Disk) (v u : Configuration Disk) (c : DeskId) (b : Ballot) (k : DeskState Disk) → TypedAs what v u c b.entry → (node u c).process ≡ Running k → k.seat.position ≡ b.at → TypesBallot v what c b
   types (DeskCalled A s (desks.Typed line said) out l text) v u c b k h at pos = typed_is v u c A s line said out l b k h at pos
   types (DeskCalled B s (desks.Typed line said) out l text) v u c b k h at pos = typed_is v u c B s line said out l b k h at pos
-  types (DeskCalled d s (desks.Given bytes answer) out l text) v u c b k h at pos = absurd h
-  types (DeskCalled d s desks.TypingEnded out l text) v u c b k h at pos = absurd h
-  types (DeskCalled d s desks.Unopened out l text) v u c b k h at pos = absurd h
-  types (DeskCalled d s desks.Ticked out l text) v u c b k h at pos = absurd h
-  types (DeskCalled d s (desks.Reminded reminder) out l text) v u c b k h at pos = absurd h
-  types (DeskCalled d s desks.TurnEnded out l text) v u c b k h at pos = absurd h
-  types (DeskGreeted d s text) v u c b k h at pos = absurd h
-  types (DeskEnded d disk) v u c b k h at pos = absurd h
-  types (PowerLost d disk) v u c b k h at pos = absurd h
-  types (DeskBegun d opening) v u c b k h at pos = absurd h
-  types (FileMigrated d votes new) v u c b k h at pos = absurd h
-  types (BoardCalled n sheet call out l text) v u c b k h at pos = absurd h
-  types (BoardBegun n) v u c b k h at pos = absurd h
+  types _ v u c b k h at pos = absurd h
 
   -- a ballot that was penned in the later events, or before
   penned_in : (what : Happening Disk) (w : Configuration Disk) (more rest : List (Moment Disk Refusal)) (v : Configuration Disk) → AtEachEvent (last_of w rest) more (λ u m. Fits what v u m.event) → (d : DeskId) (b : Ballot) → WasPenned w (more ++ rest) d b → TypesBallot v what d b ⊎ WasPenned w rest d b

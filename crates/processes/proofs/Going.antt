@@ -1,5 +1,5 @@
 -- Runs that go on.
-use Rattle.std.proofs.Common.{◌≡◌, ◌≤◌, List, [], ◌∷◌, ◌++◌, length, refl, sym, ◌∙◌, subst, arith}
+use Rattle.std.proofs.Common.{◌≡◌, ◌≤◌, List, [], ◌∷◌, ◌++◌, length, refl, sym, subst, arith}
 use Rattle.corrections.specs.declared.refusal.Refusal.{Refusal}
 use Rattle.headline.specs.declared.event.Event.{Event}
 use Rattle.headline.specs.Match.{Setting}
@@ -30,8 +30,7 @@ Fits what v u event = Unit {0}
 
 module _ {Disk : Type 0} where
   pub last_on : (w : Configuration Disk) (ms more : List (Moment Disk Refusal)) → last_of w (more ++ ms) ≡ last_of (last_of w ms) more
-  last_on w ms [] = refl
-  last_on w ms (m ∷ more) = refl
+  last_on w ms more = grind arith
 
 module _ {Disk : Type 0} (s : Setting Disk Refusal) where
   -- a run of at most two events from one configuration to the other, and what is so of each event
@@ -45,9 +44,7 @@ module _ {Disk : Type 0} (s : Setting Disk Refusal) where
   run_on w ms (m ∷ more) r q = (run_on w ms more r q.0, subst (λ (v : Configuration Disk). Step s v m.event m.answer m.after) (sym (last_on w ms more)) q.1)
 
   pub goes_from : (F : Configuration Disk → Event → Type 0) (w : Configuration Disk) (ms : List (Moment Disk Refusal)) (v new : Configuration Disk) → v ≡ last_of w ms → Run s w ms → Leads F v new → GoesOn s w ms new
-  goes_from F w ms v new e r h =
-      let at : Leads F (last_of w ms) new = subst (λ (u : Configuration Disk). Leads F u new) e h in
-      (at.0, at.1, run_on w ms at.0 r at.2, last_on w ms at.0 ∙ at.3)
+  goes_from F w ms v new h0 h1 h2 = grind (arith, last_on, run_on)
 
   pub none : (F : Configuration Disk → Event → Type 0) (v new : Configuration Disk) → v ≡ new → Leads F v new
   none F v new e = ([], omega arith, tt, e, tt)

@@ -38,7 +38,7 @@ use Rattle.live.specs.Desks as desks
 use Rattle.live.specs.Desks.{DeskStep}
 use Rattle.live.specs.declared.said.Said.{Said}
 use Rattle.live.specs.declared.said.Said.TheVariants.{Penned}
-use Rattle.processes.specs.Happenings.{BoardBegun, BoardCalled, DeskBegun, DeskCalled, DeskEnded, DeskGreeted, FileMigrated, Flow, Happening, Happens, PowerLost, WasSent, after, with_process}
+use Rattle.processes.specs.Happenings.{BoardCalled, DeskCalled, Flow, Happening, Happens, WasSent, after, with_process}
 use Rattle.processes.specs.SecondVotes.{AtEachHappening, SayVote, TakesSecond}
 use Rattle.processes.proofs.BoardSteps.{with_it}
 use Rattle.processes.proofs.FlowSteps.{IsCalm}
@@ -99,23 +99,12 @@ module _
       takes (DeskCalled d sheet (desks.Given bytes what) out l text) h = λ t book b c shown pos kept brought.
           let there = brought.1 in
           given d sheet h.0 l bytes there.0 out h.1 h.2 (subst (λ (z : What). DeskStep sheet (s.view d (node v d).version) game innings h.0 (desks.Given bytes z) out l) there.1 h.3) t book b c shown pos kept brought.0 there.2 there.3
-      takes (DeskCalled d sheet desks.TypingEnded out l text) h = λ t book b c shown pos kept brought. absurd brought.1
-      takes (DeskCalled d sheet desks.Unopened out l text) h = λ t book b c shown pos kept brought. absurd brought.1
-      takes (DeskCalled d sheet desks.Ticked out l text) h = λ t book b c shown pos kept brought. absurd brought.1
-      takes (DeskCalled d sheet (desks.Reminded reminder) out l text) h = λ t book b c shown pos kept brought. absurd brought.1
-      takes (DeskCalled d sheet desks.TurnEnded out l text) h = λ t book b c shown pos kept brought. absurd brought.1
+      takes (DeskCalled d sheet call out l text) h = λ t book b c shown pos kept brought. absurd brought.1
       takes (BoardCalled number sheet (boards.Given bytes answer) out l text) h = λ t book b c shown pos kept brought.
           let there = brought.1 in
           board_given number h.0 l bytes there.0 out h.1 h.2 (subst (λ z. BoardStep game innings h.0 (boards.Given bytes z) out l) there.1 h.3) t book b c shown pos kept brought.0 there.2
-      takes (BoardCalled number sheet boards.Unopened out l text) h = λ t book b c shown pos kept brought. absurd brought.1
-      takes (BoardCalled number sheet boards.Ticked out l text) h = λ t book b c shown pos kept brought. absurd brought.1
-      takes (BoardCalled number sheet boards.TurnEnded out l text) h = λ t book b c shown pos kept brought. absurd brought.1
-      takes (DeskGreeted d sheet text) h = λ t book b c shown pos kept brought. absurd brought
-      takes (DeskEnded d disk) h = λ t book b c shown pos kept brought. absurd brought
-      takes (PowerLost d disk) h = λ t book b c shown pos kept brought. absurd brought
-      takes (DeskBegun d opening) h = λ t book b c shown pos kept brought. absurd brought
-      takes (FileMigrated d votes new) h = λ t book b c shown pos kept brought. absurd brought
-      takes (BoardBegun number) h = λ t book b c shown pos kept brought. absurd brought
+      takes (BoardCalled number sheet call out l text) h = λ t book b c shown pos kept brought. absurd brought.1
+      takes _ h = λ t book b c shown pos kept brought. absurd brought
 
     pub each_takes_second : (hs : List (Happening Disk)) → Flow s.view game innings w hs → AtEachHappening w hs (TakesSecond game)
     each_takes_second [] f = tt

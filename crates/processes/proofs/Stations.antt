@@ -1,5 +1,5 @@
 -- What the processes of `live` state is part of a station's life.
-use Rattle.std.proofs.Common.{Result, Ok, Err, ◌≡◌, ℕ, List, ap, ◌∙◌, subst}
+use Rattle.std.proofs.Common.{arith, Result, ◌≡◌, ℕ, List, ap, ◌∙◌, subst}
 use Rattle.std.specs.Io.KnownBytes.{Appends}
 use Rattle.notation.specs.declared.entry.Entry.{Entry}
 use Rattle.corrections.specs.declared.book_of.BookOf.{Ghosts as Books}
@@ -21,8 +21,7 @@ use Rattle.processes.specs.Stations.{BeginningIsStage, BoardRunIsLife, DeskRunIs
 
 module _ {S B D : Type 0} {g : Files S D} {h : Disks D} {b : Books B} where
   pub beginning : (made : Result (Desk S B D g h b) (OpenRefusal × D)) → BeginningIsStage made
-  beginning (Ok k) disk d game innings creates opens = (creates, opens)
-  beginning (Err refused) disk d game innings creates opens = (λ none. tt, opens)
+  beginning made = grind arith
 
   pub desk_run : (old new : Desk S B D g h b) → DeskRunIsStage old new
   desk_run old new sheet before after typed types told tells turns result r =

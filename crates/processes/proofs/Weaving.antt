@@ -1,5 +1,5 @@
 -- Woven lives are a flow.
-use Rattle.std.proofs.Common.{◌≡◌, ◌<◌, length, ℕ, zero, suc, Bool, true, false, nat_eq, Option, Some, None, List, [], ◌∷◌, ◌++◌, cond, refl, sym, ap, ◌∙◌, subst, append-nil}
+use Rattle.std.proofs.Common.{arith, ◌≡◌, ◌<◌, length, ℕ, zero, suc, Bool, true, false, nat_eq, Option, Some, None, List, [], ◌∷◌, ◌++◌, cond, refl, sym, ap, ◌∙◌, subst, append-nil}
 use Rattle.std.proofs.lemmas.Bool.{eq-eqb}
 use Rattle.std.proofs.Math.Dec.{eqb-suc-suc, eqb-suc-zero, eqb-zero-suc}
 use Rattle.std.specs.List.{filter}
@@ -30,9 +30,7 @@ set_at (x ∷ xs) (suc n) (suc m) k l e = tested k l (slice_get (slice_set xs n 
 
 -- what a board's list has at one number after a change at another, or the same
 board_set : (xs : List BoardState) (n m : ℕ) (k l : BoardState) → board_at xs m ≡ Some k → board_at (with_board xs n l) m ≡ Some (cond (nat_eq m n) l k)
-board_set xs n zero k l e = absurd (cc)
-board_set xs zero (suc m) k l e = tested k l (slice_get xs m) (nat_eq (suc m) zero) false (eqb-suc-zero m) e
-board_set xs (suc n) (suc m) k l e = tested k l (slice_get (slice_set xs n l) m) (nat_eq (suc m) (suc n)) (nat_eq m n) (eqb-suc-suc m n) (set_at xs n m k l e)
+board_set xs n m k l h0 = grind (arith, eqb-suc-suc, eqb-suc-zero, set_at, tested)
 
 no_item : {X : Type 0} (x : X) (xs : List X) → x ∷ xs ≡ [] → ⊥
 no_item x xs e = absurd (cc)
@@ -52,8 +50,7 @@ abbrev pub with_one : {X : Type 0} → Bool → X → List X → List X
 with_one test x xs = cond test (x ∷ xs) xs
 
 tail : {State What : Type 0} (next : State → What → State) (May : State → What → Type 0) (s : State) (test : Bool) (x : What) (xs : List What) → Local next May s (with_one test x xs) → Local next May s xs
-tail next May s true x xs l = l.0
-tail next May s false x xs l = l
+tail next May s test x xs h0 = grind arith
 
 module _ {Disk : Type 0} (view : DeskId → FileVersion → FileView Disk) (seen : Disk → List ℕ) (game innings : ℕ) (w : Configuration Disk) where
   abbrev LocalA : List (Happening Disk) → Type 0

@@ -59,8 +59,7 @@ view d = file_view (toy New) (λ disk. disk) only d 7
 
 none_read : (d : DeskId) → votes_shown (toy New) d 7 disk_without ≡ Some []
 unfolding file_votes votes_after
-none_read A = refl
-none_read B = refl
+none_read d = grind arith
 
 one_read : (d : DeskId) → votes_shown (toy New) d 7 disk_with ≡ Some (the_vote ∷ [])
 unfolding file_votes votes_after
