@@ -269,6 +269,14 @@ module _ {S B D : Type 0} {g : Files S D} {h : Disks D} {b : Books B} where
   muted (Err ends.Write) sheet k l p q a b' x y s t v = silent sheet k l p q a b' x y s t v
   muted r sheet k l p q a b' x y s t v = v
 
+  -- an answer that is passed on
+  pub passed_on : {T : Type 0} (r : Result T DeskEnd) (met : DeskEnd) (sheet : Sheet) (k l : Desk S B D g h b) (p : DeskProcess D) (later : Warned) (turns : ℕ) (a b' : List Passed) (x y : List Input) (s t : Option (List ℕ)) →
+      IsErrAnd r (λ end. end ≡ met) → DeskGoes sheet k l p (process_of l later turns (ending met)) a b' x y (known_to met s) (known_to met t) →
+      DeskGoes sheet k l p (process_of l later turns (course_of r)) a b' x y (known_at r s) (known_at r t)
+  passed_on (Ok value) met sheet k l p later turns a b' x y s t e v = absurd e
+  passed_on (Err end) met sheet k l p later turns a b' x y s t e v =
+      subst (λ (d : DeskEnd). DeskGoes sheet k l p (process_of l later turns (ending d)) a b' x y (known_to d s) (known_to d t)) (sym e) v
+
   -- a turn is over, unless its flush failed
   pub turn_done : (answer : Result (Unit {0}) WriteFailed) (r : Course) (sheet : Sheet) (k l : Desk S B D g h b) (p : DeskProcess D) (warned : Warned) (turns : ℕ) (a b' : List Passed) (x y : List Input) (s t u : Option (List ℕ)) →
       r ≡ answer_of answer → DeskGoes sheet k l p (process_of l warned turns further) a b' x y s t → Keeps t u →
@@ -281,12 +289,7 @@ module _ {S B D : Type 0} {g : Files S D} {h : Disks D} {b : Books B} where
       subst (λ (o : Course). DeskGoes sheet k l p (process_of l warned (turns_after turns o) (course_of o)) a b' x y (known_at o s) (known_at o u)) (sym e)
       (silent sheet k l p (process_of l warned turns further) a b' x y s t v)
 
--- an answer that is passed on
-pub passed_on : {T : Type 0} (r : Result T DeskEnd) (met : DeskEnd) (P : Course → (Option (List ℕ) → Option (List ℕ)) → Type 0) → IsErrAnd r (λ end. end ≡ met) → P (ending met) (known_to met) → P (course_of r) (known_at r)
-passed_on (Ok value) met P h x = absurd h
-passed_on (Err end) met P h x = subst (λ (e : DeskEnd). P (ending e) (known_to e)) (sym h) x
-
--- the same in a turn
+-- an answer that is passed on in a turn
 pub turn_passed_on : {T : Type 0} (r : Result T DeskEnd) (met : DeskEnd) (turns : ℕ) (P : ℕ → Course → (Option (List ℕ) → Option (List ℕ)) → Type 0) → IsErrAnd r (λ end. end ≡ met) → P turns (ending met) (known_to met) →
     P (turns_after turns r) (course_of r) (known_at r)
 turn_passed_on (Ok value) met turns P h x = absurd h
