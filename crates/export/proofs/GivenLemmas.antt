@@ -8,7 +8,7 @@ use Rattle.json.specs.Print.{IsNumber}
 use Rattle.json.specs.Token.{Token, key}
 use Rattle.json.specs.Tree.{json_tokens}
 use Rattle.json_fields.specs.Values.{Field, fields_tokens}
-use Rattle.json_fields.proofs.Putting.{adds, starts}
+use Rattle.json_fields.proofs.Putting.{adds, joined, no_fields, one_field, starts}
 use Rattle.export.specs.Given.{IsFloatOf, IsValueOf, AreFieldsOf, is_own, others}
 use Rattle.export.specs.inner.Putting.{PutsGiven, PutsHanded}
 
@@ -18,18 +18,6 @@ float_null x e = rw e refl
 pub float_number : (x : Float) (text : List ℕ) → float_is_finite x ≡ true → IsNumber text → parse_float binary64 text ≡ Some x → IsFloatOf x (number text)
 float_number x text e n p = rw e (text, refl, n, p)
 
--- behind a token that opened
-pub behind : (old mid new ts us : List Token) → mid ≡ old ++ ts → new ≡ mid ++ us → new ≡ old ++ (ts ++ us)
-behind old mid new ts us a b = b ∙ (ap (λ x. x ++ us) a ∙ append_assoc old ts us)
-
-pub no_fields : (old : List Token) → old ≡ old ++ fields_tokens []
-unfolding fields_tokens
-no_fields old = sym (append-nil old)
-
-one_field : (name : List ℕ) (v : Json) → fields_tokens ((name, v) ∷ []) ≡ key name ∷ json_tokens v
-unfolding fields_tokens
-one_field name v = ap (λ ts. key name ∷ ts) (append-nil (json_tokens v))
-
 -- a member under a key of the export's own is left out
 pub left_out : (name : List ℕ) (d : Data) (old : List Token) → is_own name ≡ true → PutsHanded name d old old
 left_out name d old own = ([], rw own refl, no_fields old)
@@ -37,19 +25,19 @@ left_out name d old own = ([], rw own refl, no_fields old)
 pub put_so : (name : List ℕ) (d : Data) (old mid new : List Token) → is_own name ≡ false → mid ≡ old ++ key name ∷ []
     → (w : (v : Json) × IsValueOf d v × (new ≡ mid ++ json_tokens v)) → PutsHanded name d old new
 put_so name d old mid new other named w =
-    ((name, w.0) ∷ [], rw other (w.0, [], refl, w.1, refl), behind old mid new (key name ∷ []) (json_tokens w.0) named w.2 ∙ ap (λ ts. old ++ ts) (sym (one_field name w.0)))
+    ((name, w.0) ∷ [], rw other (w.0, [], refl, w.1, refl), joined old mid new (key name ∷ []) (json_tokens w.0) named w.2 ∙ ap (λ ts. old ++ ts) (sym (one_field (name, w.0))))
 
-joined : (own : Bool) (name : List ℕ) (d : Data) (ms : Members) (gs fs : List Field) → AreFieldsOf (if own then no_members else member name d no_members) gs → AreFieldsOf ms fs
+handed_more : (own : Bool) (name : List ℕ) (d : Data) (ms : Members) (gs fs : List Field) → AreFieldsOf (if own then no_members else member name d no_members) gs → AreFieldsOf ms fs
     → AreFieldsOf (if own then ms else member name d ms) (gs ++ fs)
-joined true name d ms gs fs none more = subst (λ hs. AreFieldsOf ms (hs ++ fs)) (sym none) more
-joined false name d ms gs fs one more =
+handed_more true name d ms gs fs none more = subst (λ hs. AreFieldsOf ms (hs ++ fs)) (sym none) more
+handed_more false name d ms gs fs one more =
     let (v, nothing, is, value, empty) = one in
     subst (λ hs. AreFieldsOf (member name d ms) (hs ++ fs)) (sym (is ∙ ap (λ hs. (name, v) ∷ hs) empty)) (v, fs, refl, value, more)
 
 -- one member, and those behind it
 pub puts_more : (name : List ℕ) (d : Data) (ms : Members) (old mid new : List Token) → PutsHanded name d old mid → PutsGiven ms mid new → PutsGiven (member name d ms) old new
 puts_more name d ms old mid new one more =
-    (one.0 ++ more.0, joined (is_own name) name d (others ms) one.0 more.0 one.1 more.1, (adds old mid new [] one.0 more.0 (starts old mid one.0 one.2) more.2).are)
+    (one.0 ++ more.0, handed_more (is_own name) name d (others ms) one.0 more.0 one.1 more.1, (adds old mid new [] one.0 more.0 (starts old mid one.0 one.2) more.2).are)
 
 pub puts_none : (old : List Token) → PutsGiven no_members old old
 puts_none old = ([], refl, no_fields old)

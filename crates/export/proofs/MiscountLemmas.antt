@@ -17,8 +17,7 @@ unfolding fields_tokens
 all_put mid all due none e = sym (append-nil mid) ∙ (ap (λ gs. mid ++ fields_tokens gs) (sym none) ∙ e)
 
 pub goes_on : (xs : List Noted) (k : ℕ) (x : Noted) → slice_get xs k ≡ Some x → is_miscounted x ≡ true → miscounts (drop k xs) ≡ miscount_of x ∷ miscounts (drop (k + 1) xs)
-goes_on xs k x here is = ap miscounts (next xs k x here) ∙ ap (λ b. cond b (miscount_of x ∷ miscounts (drop (k + 1) xs)) (miscounts (drop (k + 1) xs))) is
+goes_on xs k x here is = rw (next xs k x here, is) refl
 
 pub passes : (mid all : List Token) (xs : List Noted) (k : ℕ) (x : Noted) → slice_get xs k ≡ Some x → is_miscounted x ≡ false → mid ++ fields_tokens (miscounts (drop k xs)) ≡ all → mid ++ fields_tokens (miscounts (drop (k + 1) xs)) ≡ all
-passes mid all xs k x here is e =
-    ap (λ gs. mid ++ fields_tokens gs) (sym (ap miscounts (next xs k x here) ∙ ap (λ b. cond b (miscount_of x ∷ miscounts (drop (k + 1) xs)) (miscounts (drop (k + 1) xs))) is)) ∙ e
+passes mid all xs k x here is e = rw (next xs k x here, is) at e

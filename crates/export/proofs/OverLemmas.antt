@@ -29,10 +29,10 @@ all_put mid all due none e = no_values mid ∙ (ap (λ us. mid ++ values_tokens 
 
 module _ (xs : List Noted) (k : ℕ) (x : Noted) (here : slice_get xs k ≡ Some x) where
   pub carried_ends : is_ball x.item ≡ true → carried (drop k xs) ≡ []
-  carried_ends ball = ap carried (next xs k x here) ∙ ap (λ b. cond b [] (x ∷ carried (drop (k + 1) xs))) ball
+  carried_ends ball = rw (next xs k x here, ball) refl
 
   pub carried_more : is_ball x.item ≡ false → carried (drop k xs) ≡ x ∷ carried (drop (k + 1) xs)
-  carried_more other = ap carried (next xs k x here) ∙ ap (λ b. cond b [] (x ∷ carried (drop (k + 1) xs))) other
+  carried_more other = rw (next xs k x here, other) refl
 
 module _ (s : Sheet) (side : Side) (f : Begun) (i : ℕ) where
   pub deliveries_end : (over : ℕ) (early xs : List Noted) (k : ℕ) → length xs ≤ k → deliveries_from s side f i over early (drop k xs) ≡ []
@@ -44,30 +44,17 @@ module _ (s : Sheet) (side : Side) (f : Begun) (i : ℕ) where
   module _ (xs : List Noted) (k : ℕ) (x : Noted) (here : slice_get xs k ≡ Some x) where
     pub delivery_goes_on : (over : ℕ) (early : List Noted) → is_ball x.item ≡ true → (over == x.over) ≡ true
         → deliveries_from s side f i over early (drop k xs) ≡ listed s side f i early x (carried (drop (k + 1) xs)) ++ deliveries_from s side f i over [] (drop (k + 1) xs)
-    delivery_goes_on over early ball same =
-        ap (deliveries_from s side f i over early) (next xs k x here)
-        ∙ (ap (λ b. cond b (cond (over == x.over) (listed s side f i early x (carried (drop (k + 1) xs)) ++ deliveries_from s side f i over [] (drop (k + 1) xs)) []) (deliveries_from s side f i over early (drop (k + 1) xs))) ball
-        ∙ ap (λ b. cond b (listed s side f i early x (carried (drop (k + 1) xs)) ++ deliveries_from s side f i over [] (drop (k + 1) xs)) []) same)
+    delivery_goes_on over early ball same = rw (next xs k x here, ball, same) refl
 
     pub delivery_stops : (over : ℕ) (early : List Noted) → is_ball x.item ≡ true → (over == x.over) ≡ false → deliveries_from s side f i over early (drop k xs) ≡ []
-    delivery_stops over early ball other =
-        ap (deliveries_from s side f i over early) (next xs k x here)
-        ∙ (ap (λ b. cond b (cond (over == x.over) (listed s side f i early x (carried (drop (k + 1) xs)) ++ deliveries_from s side f i over [] (drop (k + 1) xs)) []) (deliveries_from s side f i over early (drop (k + 1) xs))) ball
-        ∙ ap (λ b. cond b (listed s side f i early x (carried (drop (k + 1) xs)) ++ deliveries_from s side f i over [] (drop (k + 1) xs)) []) other)
+    delivery_stops over early ball other = rw (next xs k x here, ball, other) refl
 
     pub delivery_passes : (over : ℕ) (early : List Noted) → is_ball x.item ≡ false → deliveries_from s side f i over early (drop k xs) ≡ deliveries_from s side f i over early (drop (k + 1) xs)
-    delivery_passes over early other =
-        ap (deliveries_from s side f i over early) (next xs k x here)
-        ∙ ap (λ b. cond b (cond (over == x.over) (listed s side f i early x (carried (drop (k + 1) xs)) ++ deliveries_from s side f i over [] (drop (k + 1) xs)) []) (deliveries_from s side f i over early (drop (k + 1) xs))) other
+    delivery_passes over early other = rw (next xs k x here, other) refl
 
     pub over_begins : (before : Option ℕ) (early : List Noted) → (is_ball x.item && not (is_at before x.over)) ≡ true
         → overs_from s side f i before early (drop k xs) ≡ over_of s side f i x.over early (drop k xs) ∷ overs_from s side f i (Some x.over) [] (drop (k + 1) xs)
-    over_begins before early begins =
-        ap (overs_from s side f i before early) (next xs k x here)
-        ∙ (ap (λ b. cond b (over_of s side f i x.over early (x ∷ drop (k + 1) xs) ∷ overs_from s side f i (Some x.over) [] (drop (k + 1) xs)) (overs_from s side f i before early (drop (k + 1) xs))) begins
-        ∙ ap (λ ys. over_of s side f i x.over early ys ∷ overs_from s side f i (Some x.over) [] (drop (k + 1) xs)) (sym (next xs k x here)))
+    over_begins before early begins = rw (next xs k x here, begins) refl
 
     pub over_passes : (before : Option ℕ) (early : List Noted) → (is_ball x.item && not (is_at before x.over)) ≡ false → overs_from s side f i before early (drop k xs) ≡ overs_from s side f i before early (drop (k + 1) xs)
-    over_passes before early goes_on =
-        ap (overs_from s side f i before early) (next xs k x here)
-        ∙ ap (λ b. cond b (over_of s side f i x.over early (x ∷ drop (k + 1) xs) ∷ overs_from s side f i (Some x.over) [] (drop (k + 1) xs)) (overs_from s side f i before early (drop (k + 1) xs))) goes_on
+    over_passes before early goes_on = rw (next xs k x here, goes_on) refl

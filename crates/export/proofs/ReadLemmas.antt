@@ -66,7 +66,8 @@ module _ (s : Sheet) (side : Side) (f : Begun) (i : ℕ) where
       → in_over (over_of s side f i x.over early (x ∷ xs)) ≡ listed s side f i early x (carried xs) ++ deliveries_from s side f i x.over [] xs
   over_begins early x xs ball =
       elements-of (deliveries_from s side f i x.over early (x ∷ xs))
-      ∙ begun_over (is_ball x.item) (x.over == x.over) (listed s side f i early x (carried xs)) (deliveries_from s side f i x.over [] xs) (deliveries_from s side f i x.over early xs) (eq-eqb x.over x.over refl) ball
+      ∙ begun_over (is_ball x.item) (x.over == x.over) (listed s side f i early x (carried xs)) (deliveries_from s side f i x.over [] xs)
+      (deliveries_from s side f i x.over early xs) (eq-eqb x.over x.over refl) ball
 
   overs_on : (k : ℕ) (xs : List Noted) → deliveries_from s side f i k [] xs ++ flat_map in_over (overs_from s side f i (Some k) [] xs) ≡ all_listed [] xs
   overs_on k [] = refl

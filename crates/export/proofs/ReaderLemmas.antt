@@ -27,7 +27,7 @@ use Rattle.match_laws.specs.Figures.{batted_of, credit_of, credited, faced_of, f
 use Rattle.match_laws.proofs.Bounds.{ball-small}
 use Rattle.cards.specs.Sheet.{Sheet, player_of}
 use Rattle.json.specs.Json.{Json, null}
-use Rattle.json_fields.specs.Values.{Field, array_of, count_field, flag_if, members_of, number_value}
+use Rattle.json_fields.specs.Values.{array_of, flag_if, members_of, number_field, number_value}
 use Rattle.export.specs.declared.notes.Noted.{Noted}
 use Rattle.export.specs.Wickets as listing
 use Rattle.export.specs.Wickets.{gone_of, has_wickets, how_words, is_gone, own_wickets}
@@ -45,21 +45,13 @@ one_more r = ne_eqb (1 + r) 0 (λ e. omega (arith, e))
 
 -- ---- the extras of a delivery
 
--- behind fields without the key, and before such fields
-passed : (key name : List ℕ) (z : Bool) (value : Json) (fs : List Field) → bytes_eq key name ≡ false → member_at key (members_of (cond z [] ((name, value) ∷ []) ++ fs)) ≡ member_at key (members_of fs)
-passed key name true value fs other = refl
-passed key name false value fs other = ap (λ b. cond b value (member_at key (members_of fs))) other
-
-in_front : (key : List ℕ) (xs ys : List Field) → member_at key (members_of ys) ≡ null → member_at key (members_of (xs ++ ys)) ≡ member_at key (members_of xs)
-in_front key [] ys none = none
-in_front key (x ∷ xs) ys none = ap (λ v. cond (bytes_eq key x.0) x.1 v) (in_front key xs ys none)
-
-alone_passed : (key name : List ℕ) (z : Bool) (value : Json) → bytes_eq key name ≡ false → member_at key (members_of (cond z [] ((name, value) ∷ []))) ≡ null
-alone_passed key name true value other = refl
-alone_passed key name false value other = ap (λ b. cond b value null) other
-
-count_read : (key : List ℕ) (n : ℕ) → bytes_eq key key ≡ true → n ≤ 25 → number_in (member_at key (members_of (count_field key n))) ≡ n
-count_read key n same small = grind (arith, same, number_again n small)
+-- the wides and the no balls are found, whatever else stands there
+extras_at : (w n b l p : Bool) (wides noballs : ℕ) (byes legs penalty : Json) → (w ≡ true → wides ≡ 0) → (n ≡ true → noballs ≡ 0) → wides ≤ 25 → noballs ≤ 25
+    → let there = members_of ((((cond w [] (number_field (codes "wides") wides ∷ []) ++ cond n [] (number_field (codes "noballs") noballs ∷ []))
+    ++ cond b [] ((codes "byes", byes) ∷ [])) ++ cond l [] ((codes "legbyes", legs) ∷ [])) ++ cond p [] ((codes "penalty", penalty) ∷ [])) in
+    (number_in (member_at (codes "wides") there) ≡ wides) × (number_in (member_at (codes "noballs") there) ≡ noballs)
+extras_at w n b l p wides noballs byes legs penalty no_wides no_noballs few less =
+    (grind (arith, no_wides, number_again wides few), grind (arith, no_noballs, number_again noballs less))
 
 -- what stands there, where the delivery has no extras at all
 extras_read : (key : List ℕ) (w e : Bool) (v x : Json) → at key (member_at (codes "extras") (members_of (cond w ((codes "wickets", v) ∷ []) [] ++ cond e [] ((codes "extras", x) ∷ [])))) ≡ cond e null (at key x)
@@ -72,31 +64,10 @@ module _ (x : Split) (penalty : ℕ) where
   abbrev extras_value : Json
   extras_value = (extras_field x penalty).1
 
-  wides_first : x.wides ≤ 25 → number_in (at (codes "wides") extras_value) ≡ x.wides
-  wides_first small =
-      let w = count_field (codes "wides") x.wides in
-      let n = count_field (codes "noballs") x.noballs in
-      let b = count_field (codes "byes") x.byes in
-      let l = count_field (codes "legbyes") x.legs in
-      let p = count_field (codes "penalty") penalty in
-      ap number_in (in_front (codes "wides") (((w ++ n) ++ b) ++ l) p (alone_passed (codes "wides") (codes "penalty") (penalty == 0) (number_value penalty) refl)
-      ∙ (in_front (codes "wides") ((w ++ n) ++ b) l (alone_passed (codes "wides") (codes "legbyes") (x.legs == 0) (number_value x.legs) refl)
-      ∙ (in_front (codes "wides") (w ++ n) b (alone_passed (codes "wides") (codes "byes") (x.byes == 0) (number_value x.byes) refl)
-      ∙ in_front (codes "wides") w n (alone_passed (codes "wides") (codes "noballs") (x.noballs == 0) (number_value x.noballs) refl))))
-      ∙ count_read (codes "wides") x.wides refl small
-
-  noballs_second : x.noballs ≤ 25 → number_in (at (codes "noballs") extras_value) ≡ x.noballs
-  noballs_second small =
-      let w = count_field (codes "wides") x.wides in
-      let n = count_field (codes "noballs") x.noballs in
-      let b = count_field (codes "byes") x.byes in
-      let l = count_field (codes "legbyes") x.legs in
-      let p = count_field (codes "penalty") penalty in
-      ap number_in (in_front (codes "noballs") (((w ++ n) ++ b) ++ l) p (alone_passed (codes "noballs") (codes "penalty") (penalty == 0) (number_value penalty) refl)
-      ∙ (in_front (codes "noballs") ((w ++ n) ++ b) l (alone_passed (codes "noballs") (codes "legbyes") (x.legs == 0) (number_value x.legs) refl)
-      ∙ (in_front (codes "noballs") (w ++ n) b (alone_passed (codes "noballs") (codes "byes") (x.byes == 0) (number_value x.byes) refl)
-      ∙ passed (codes "noballs") (codes "wides") (x.wides == 0) (number_value x.wides) n refl)))
-      ∙ count_read (codes "noballs") x.noballs refl small
+  extras_found : x.wides ≤ 25 → x.noballs ≤ 25 → (number_in (at (codes "wides") extras_value) ≡ x.wides) × (number_in (at (codes "noballs") extras_value) ≡ x.noballs)
+  extras_found few less =
+      extras_at (x.wides == 0) (x.noballs == 0) (x.byes == 0) (x.legs == 0) (penalty == 0) x.wides x.noballs (number_value x.byes) (number_value x.legs) (number_value penalty)
+      (eqb-true x.wides 0) (eqb-true x.noballs 0) few less
 
 -- ---- a delivery
 
@@ -125,13 +96,15 @@ module _ (s : Sheet) (side : Side) (penalty : ℕ) (early late : List Noted) (en
     wides_read =
         let x = split_of_ball b in
         ap number_in (extras_read (codes "wides") (has_wickets early b late) (extra_runs x + penalty == 0) (array_of (listing.wickets_of s side early ends b late)) (extras_value x penalty))
-        ∙ if_any (extra_runs x + penalty == 0) (at (codes "wides") (extras_value x penalty)) x.wides (λ none. let all = eqb-true (extra_runs x + penalty) 0 none in omega (arith, all)) (wides_first x penalty (ball-small b low).wides)
+        ∙ if_any (extra_runs x + penalty == 0) (at (codes "wides") (extras_value x penalty)) x.wides
+        (λ none. let all = eqb-true (extra_runs x + penalty) 0 none in omega (arith, all)) (extras_found x penalty (ball-small b low).wides (ball-small b low).noballs).0
 
     pub noballs_read : noballs_in delivery ≡ noballs_of b
     noballs_read =
         let x = split_of_ball b in
         ap number_in (extras_read (codes "noballs") (has_wickets early b late) (extra_runs x + penalty == 0) (array_of (listing.wickets_of s side early ends b late)) (extras_value x penalty))
-        ∙ if_any (extra_runs x + penalty == 0) (at (codes "noballs") (extras_value x penalty)) x.noballs (λ none. let all = eqb-true (extra_runs x + penalty) 0 none in omega (arith, all)) (noballs_second x penalty (ball-small b low).noballs)
+        ∙ if_any (extra_runs x + penalty == 0) (at (codes "noballs") (extras_value x penalty)) x.noballs
+        (λ none. let all = eqb-true (extra_runs x + penalty) 0 none in omega (arith, all)) (extras_found x penalty (ball-small b low).wides (ball-small b low).noballs).1
 
     pub faced_read : faced_in delivery ≡ faced_of b
     faced_read = ap (λ n. one_if (n == 0)) wides_read ∙ ap one_if (by_kind b.kind (runs_scored b.bound b.ran))

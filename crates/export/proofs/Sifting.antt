@@ -8,12 +8,7 @@ pub record Sifted {X : Type 0} (p : X → Bool) (xs : List X) (k : ℕ) (ys : Li
   pub whole : ys ++ filter p (drop k xs) ≡ filter p xs
 
 pub sifted_one : {X : Type 0} (p : X → Bool) (xs : List X) (k : ℕ) (ys more : List X) (x : X) → Sifted p xs k ys → slice_get xs k ≡ Some x → p x ≡ true → more ≡ ys ++ x ∷ [] → Sifted p xs (k + 1) more
-sifted_one p xs k ys more x m here holds added = record {
-  whole = ap (λ zs. zs ++ filter p (drop (k + 1) xs)) added ∙ (append_assoc ys (x ∷ []) (filter p (drop (k + 1) xs))
-      ∙ (ap (λ zs. ys ++ zs) (sym (ap (λ b. cond b (x ∷ filter p (drop (k + 1) xs)) (filter p (drop (k + 1) xs))) holds)) ∙ (ap (λ zs. ys ++ filter p zs) (sym (next xs k x here)) ∙ m.whole)));
-}
+sifted_one p xs k ys more x m here holds added = record { whole = rw (added, append_assoc) (rw (next xs k x here, holds) at m.whole) }
 
 pub sifted_not : {X : Type 0} (p : X → Bool) (xs : List X) (k : ℕ) (ys : List X) (x : X) → Sifted p xs k ys → slice_get xs k ≡ Some x → p x ≡ false → Sifted p xs (k + 1) ys
-sifted_not p xs k ys x m here fails = record {
-  whole = ap (λ zs. ys ++ zs) (sym (ap (λ b. cond b (x ∷ filter p (drop (k + 1) xs)) (filter p (drop (k + 1) xs))) fails)) ∙ (ap (λ zs. ys ++ filter p zs) (sym (next xs k x here)) ∙ m.whole);
-}
+sifted_not p xs k ys x m here fails = record { whole = rw (next xs k x here, fails) at m.whole }

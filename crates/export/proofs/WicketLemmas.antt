@@ -106,7 +106,8 @@ module _ (s : Sheet) (side : Side) where
   own_fell ends bowler None = refl
   own_fell ends bowler (Some out) = ap (λ b. cond (not b) 1 0) (how_fell (out.fielder == bowler) out.how)
 
-  all_fell : (penalty : ℕ) (early late : List Noted) (ends : Ends) (b : Ball) → count_of has_fallen (wickets_of (delivery_of s side penalty early ends b late)) ≡ gone early + cond (is_some b.out) 1 0 + gone late
+  all_fell : (penalty : ℕ) (early late : List Noted) (ends : Ends) (b : Ball)
+      → count_of has_fallen (wickets_of (delivery_of s side penalty early ends b late)) ≡ gone early + cond (is_some b.out) 1 0 + gone late
   all_fell penalty early late ends b = delivered has_fallen s side is_wicket (λ out. cond (is_some out) 1 0) one_fell own_fell (λ out none. grind (arith, none)) penalty early late ends b
 
 -- ---- all deliveries of an innings
@@ -116,7 +117,8 @@ module _ (s : Sheet) (side : Side) (f : Begun) (i : ℕ) where
   unfolding has_ball
   all_fallen early [] = omega arith
   all_fallen early (x ∷ xs) =
-      of_item x.item x.ends (carried xs) (all_listed s side f i [] xs) (all_listed s side f i early xs) (fell xs) (has_ball xs) (x ∷ carried xs) refl (let after = all_fallen [] xs in grind (arith, after)) (all_fallen early xs)
+      of_item x.item x.ends (carried xs) (all_listed s side f i [] xs) (all_listed s side f i early xs) (fell xs) (has_ball xs) (x ∷ carried xs) refl
+      (let after = all_fallen [] xs in grind (arith, after)) (all_fallen early xs)
     where
       of_item : (p : Plain) (ends : Ends) (cs : List Noted) (going none : List Json) (w : ℕ) (hb : Bool) (ys : List Noted) → gone ys ≡ cond (gone_fell p) (gone cs + 1) (gone cs) → fallen going + gone cs ≡ w → fallen none + gone cs ≡ w + cond hb (gone early) 0
           → fallen (cond (is_ball p) (listed_of s side f i early p ends cs ++ going) none) + gone (cond (is_ball p) [] ys) ≡ cond (is_wicket p) (w + 1) w + cond (is_ball p || hb) (gone early) 0

@@ -5,6 +5,7 @@ use Rattle.std.specs.List.{flat_map}
 use Rattle.std.proofs.lemmas.List.{take_all, take_more}
 use Rattle.std.proofs.lemmas.List.Concat.{flat_map-cons}
 use Rattle.std.proofs.lemmas.Grind.{flat_map-append}
+use Rattle.std.proofs.lemmas.Result.{on_ok_weaker}
 use Rattle.std.proofs.lemmas.Option.{get_or_from_slice_get, slice_get_within}
 use Rattle.json.specs.Json.{Json}
 use Rattle.json.specs.Token.{Token, begin_object, end_object, begin_array, end_array, key}
@@ -39,7 +40,7 @@ pub one_value : (v : Json) → values_tokens (v ∷ []) ≡ json_tokens v
 unfolding values_tokens
 one_value v = append-nil (json_tokens v)
 
-one_field : (f : Field) → fields_tokens (f ∷ []) ≡ key f.0 ∷ json_tokens f.1
+pub one_field : (f : Field) → fields_tokens (f ∷ []) ≡ key f.0 ∷ json_tokens f.1
 unfolding fields_tokens
 one_field f = ap (λ ts. key f.0 ∷ ts) (append-nil (json_tokens f.1))
 
@@ -54,7 +55,8 @@ begins old new head e = record { are = e ∙ ap (λ ts. old ++ ts) (sym (append-
 pub starts : (old new : List Token) (fs : List Field) → new ≡ old ++ fields_tokens fs → Fields old new [] fs
 starts old new fs e = record { are = e }
 
-joined : (old mid new ts us : List Token) → mid ≡ old ++ ts → new ≡ mid ++ us → new ≡ old ++ (ts ++ us)
+-- behind what was put before
+pub joined : (old mid new ts us : List Token) → mid ≡ old ++ ts → new ≡ mid ++ us → new ≡ old ++ (ts ++ us)
 joined old mid new ts us a b = b ∙ (ap (λ x. x ++ us) a ∙ append_assoc old ts us)
 
 more_fields : (head : List Token) (fs gs : List Field) → (head ++ fields_tokens fs) ++ fields_tokens gs ≡ head ++ fields_tokens (fs ++ gs)
@@ -65,47 +67,37 @@ adds old mid new head fs gs a b = record { are = joined old mid new (head ++ fie
 
 -- the last fields, which may fail
 pub ends : {T E : Type 0} (r : Result T E) (old mid new : List Token) (fs gs : List Field) → Fields old mid [] fs → OnOk r (new ≡ mid ++ fields_tokens gs) → OnOk r (new ≡ old ++ fields_tokens (fs ++ gs))
-ends (Ok _) old mid new fs gs a b = (adds old mid new [] fs gs a b).are
-ends (Err _) old mid new fs gs a b = tt
+ends r old mid new fs gs a b = on_ok_weaker r (λ last. (adds old mid new [] fs gs a last).are) b
 
-object_value : (old mid new : List Token) (fs : List Field) → Fields old mid (begin_object ∷ []) fs → new ≡ mid ++ end_object ∷ [] → new ≡ old ++ values_tokens (object_of fs ∷ [])
-object_value old mid new fs a b =
-    joined old mid new (begin_object ∷ fields_tokens fs) (end_object ∷ []) a.are b
-    ∙ ap (λ ts. old ++ ts) (sym (one_value (object_of fs) ∙ ap (λ ts. begin_object ∷ ts) (members_tokens-of fs)))
+-- an object or an array, whose last token may fail
+pub is_object : {T E : Type 0} (r : Result T E) (old mid new : List Token) (fs : List Field) → Fields old mid (begin_object ∷ []) fs → OnOk r (new ≡ mid ++ end_object ∷ [])
+    → OnOk r (new ≡ old ++ values_tokens (object_of fs ∷ []))
+is_object r old mid new fs a b = on_ok_weaker r (λ last.
+    joined old mid new (begin_object ∷ fields_tokens fs) (end_object ∷ []) a.are last
+    ∙ ap (λ ts. old ++ ts) (sym (one_value (object_of fs) ∙ ap (λ ts. begin_object ∷ ts) (members_tokens-of fs)))) b
 
-object_field : (old mid new : List Token) (name : List ℕ) (fs : List Field) → Fields old mid (key name ∷ begin_object ∷ []) fs → new ≡ mid ++ end_object ∷ [] → new ≡ old ++ fields_tokens ((name, object_of fs) ∷ [])
-object_field old mid new name fs a b =
-    joined old mid new (key name ∷ begin_object ∷ fields_tokens fs) (end_object ∷ []) a.are b
-    ∙ ap (λ ts. old ++ ts) (sym (one_field (name, object_of fs) ∙ ap (λ ts. key name ∷ begin_object ∷ ts) (members_tokens-of fs)))
-
-array_field : (old first mid new : List Token) (name : List ℕ) (vs : List Json) → first ≡ old ++ key name ∷ begin_array ∷ [] → mid ≡ first ++ values_tokens vs → new ≡ mid ++ end_array ∷ []
-    → new ≡ old ++ fields_tokens ((name, array_of vs) ∷ [])
-array_field old first mid new name vs a b c =
-    joined old mid new (key name ∷ begin_array ∷ values_tokens vs) (end_array ∷ []) (joined old first mid (key name ∷ begin_array ∷ []) (values_tokens vs) a b) c
-    ∙ ap (λ ts. old ++ ts) (sym (one_field (name, array_of vs) ∙ ap (λ ts. key name ∷ begin_array ∷ ts) (items_tokens-of vs)))
-
--- the same, where the last token may fail
-pub is_object : {T E : Type 0} (r : Result T E) (old mid new : List Token) (fs : List Field) → Fields old mid (begin_object ∷ []) fs → OnOk r (new ≡ mid ++ end_object ∷ []) → OnOk r (new ≡ old ++ values_tokens (object_of fs ∷ []))
-is_object (Ok _) old mid new fs a b = object_value old mid new fs a b
-is_object (Err _) old mid new fs a b = tt
-
-pub is_object_field : {T E : Type 0} (r : Result T E) (old mid new : List Token) (name : List ℕ) (fs : List Field) → Fields old mid (key name ∷ begin_object ∷ []) fs → OnOk r (new ≡ mid ++ end_object ∷ [])
-    → OnOk r (new ≡ old ++ fields_tokens ((name, object_of fs) ∷ []))
-is_object_field (Ok _) old mid new name fs a b = object_field old mid new name fs a b
-is_object_field (Err _) old mid new name fs a b = tt
+pub is_object_field : {T E : Type 0} (r : Result T E) (old mid new : List Token) (name : List ℕ) (fs : List Field) → Fields old mid (key name ∷ begin_object ∷ []) fs
+    → OnOk r (new ≡ mid ++ end_object ∷ []) → OnOk r (new ≡ old ++ fields_tokens ((name, object_of fs) ∷ []))
+is_object_field r old mid new name fs a b = on_ok_weaker r (λ last.
+    joined old mid new (key name ∷ begin_object ∷ fields_tokens fs) (end_object ∷ []) a.are last
+    ∙ ap (λ ts. old ++ ts) (sym (one_field (name, object_of fs) ∙ ap (λ ts. key name ∷ begin_object ∷ ts) (members_tokens-of fs)))) b
 
 pub is_array_field : {T E : Type 0} (r : Result T E) (old first mid new : List Token) (name : List ℕ) (vs : List Json) → first ≡ old ++ key name ∷ begin_array ∷ [] → mid ≡ first ++ values_tokens vs
     → OnOk r (new ≡ mid ++ end_array ∷ []) → OnOk r (new ≡ old ++ fields_tokens ((name, array_of vs) ∷ []))
-is_array_field (Ok _) old first mid new name vs a b c = array_field old first mid new name vs a b c
-is_array_field (Err _) old first mid new name vs a b c = tt
+is_array_field r old first mid new name vs a b c = on_ok_weaker r (λ last.
+    joined old mid new (key name ∷ begin_array ∷ values_tokens vs) (end_array ∷ []) (joined old first mid (key name ∷ begin_array ∷ []) (values_tokens vs) a b) last
+    ∙ ap (λ ts. old ++ ts) (sym (one_field (name, array_of vs) ∙ ap (λ ts. key name ∷ begin_array ∷ ts) (items_tokens-of vs)))) c
 
 -- one value more
 pub adds_values : (old mid new : List Token) (vs ws : List Json) → mid ≡ old ++ values_tokens vs → new ≡ mid ++ values_tokens ws → new ≡ old ++ values_tokens (vs ++ ws)
 adds_values old mid new vs ws a b = joined old mid new (values_tokens vs) (values_tokens ws) a b ∙ ap (λ ts. old ++ ts) (sym (values_tokens-append vs ws))
 
 pub ends_values : {T E : Type 0} (r : Result T E) (old mid new : List Token) (vs ws : List Json) → mid ≡ old ++ values_tokens vs → OnOk r (new ≡ mid ++ values_tokens ws) → OnOk r (new ≡ old ++ values_tokens (vs ++ ws))
-ends_values (Ok _) old mid new vs ws a b = adds_values old mid new vs ws a b
-ends_values (Err _) old mid new vs ws a b = tt
+ends_values r old mid new vs ws a b = on_ok_weaker r (adds_values old mid new vs ws a) b
+
+pub no_fields : (old : List Token) → old ≡ old ++ fields_tokens []
+unfolding fields_tokens
+no_fields old = sym (append-nil old)
 
 pub no_values : (old : List Token) → old ≡ old ++ values_tokens []
 unfolding values_tokens

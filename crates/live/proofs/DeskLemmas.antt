@@ -62,15 +62,9 @@ blamed r device course old new to from room b = record {
 
 -- a line that says no entry ends nothing for the disk
 no_blame : (sheet : Sheet) (book : List Entry) (votes : List Ballot) (differs is_cast : Bool) (line : List ℕ) (answer : Said) → ComesTo sheet book votes differs is_cast line answer → IsErrOf (end_of answer) ends.Device → ⊥
-no_blame sheet book votes differs is_cast line said.Quit h e = cc
-no_blame sheet book votes differs is_cast line (said.Asks word) h e = cc
-no_blame sheet book votes differs is_cast line (said.Unclear unclear) h e = cc
-no_blame sheet book votes differs is_cast line (said.Fault fault) h e = cc
-no_blame sheet book votes differs is_cast line said.SayAgain h e = cc
-no_blame sheet book votes differs is_cast line said.NoneDiffers h e = cc
-no_blame sheet book votes differs is_cast line said.Waiting h e = cc
 no_blame sheet book votes differs is_cast line (said.Refused why) h e = h
 no_blame sheet book votes differs is_cast line (said.Penned entry settled) h e = h
+no_blame sheet book votes differs is_cast line answer h e = cc
 
 -- the kind of a desk's runs, by what it depends on
 abbrev kind_with : {D : Type 0} → (DeskId → ℕ → FileView D) → (D → Faults) → (ℕ → ℕ) → Sheet → DeskId → ℕ → ℕ → ℕ → Kind (DeskProcess D) DeskCall
@@ -192,15 +186,9 @@ module _ {S B D : Type 0} {g : Files S D} {h : Disks D} {b : Books B} where
   -- a line that says no entry
   nothing_said : (sheet : Sheet) (k : Desk S B D g h b) (line : List ℕ) (answer : Said) → ComesTo sheet (state_of k).book (state_of k).votes (nat_lt 0 (state_of k).seat.position.round) (is_some (state_of k).seat.mine) line answer →
       DeskStep sheet (view_of k) (game_of k) (innings_of k) (state_of k) (Typed line answer) [] (state_of k)
-  nothing_said sheet k line said.Quit w = (w, refl, refl)
-  nothing_said sheet k line (said.Asks word) w = (w, refl, refl)
-  nothing_said sheet k line (said.Unclear unclear) w = (w, refl, refl)
-  nothing_said sheet k line (said.Fault fault) w = (w, refl, refl)
-  nothing_said sheet k line said.SayAgain w = (w, refl, refl)
-  nothing_said sheet k line said.NoneDiffers w = (w, refl, refl)
-  nothing_said sheet k line said.Waiting w = (w, refl, refl)
   nothing_said sheet k line (said.Refused why) w = absurd w
   nothing_said sheet k line (said.Penned e settled) w = absurd w
+  nothing_said sheet k line answer w = (w, refl, refl)
 
   pub unpenned : (sheet : Sheet) (k : Desk S B D g h b) (line : List ℕ) (answer : Said) (log : List Passed) → ComesTo sheet (state_of k).book (state_of k).votes (nat_lt 0 (state_of k).seat.position.round) (is_some (state_of k).seat.mine) line answer → Calls sheet k k (Typed line answer) log log
   unpenned sheet k line answer log w = unmoved sheet k (Typed line answer) log (nothing_said sheet k line answer w) (no_blame sheet (state_of k).book _ _ _ line answer w)
@@ -230,11 +218,7 @@ module _ {S B D : Type 0} {g : Files S D} {h : Disks D} {b : Books B} where
       let failed : Result Penned Refusal = Err refusals.Device in
       blamed failed refusals.Device (Err ends.Device) _ _ (λ q. refl) (λ q. refl) (λ q room. room (length (own_votes k) + 1) (omega (arith, r.0.1.1))) blame
   refuses k l e refusals.Failed out runs r blame = absurd (let path : true ≡ false = sym r.0 ∙ runs in (cc))
-  refuses k l e refusals.Waiting out runs r blame = blameless further _ _ (λ q. (cc)) (blame.same (λ q. (cc)))
-  refuses k l e refusals.PlacesFull out runs r blame = blameless further _ _ (λ q. (cc)) (blame.same (λ q. (cc)))
-  refuses k l e refusals.RoundsFull out runs r blame = blameless further _ _ (λ q. (cc)) (blame.same (λ q. (cc)))
-  refuses k l e refusals.SlotsFull out runs r blame = blameless further _ _ (λ q. (cc)) (blame.same (λ q. (cc)))
-  refuses k l e (refusals.Book why) out runs r blame = blameless further _ _ (λ q. (cc)) (blame.same (λ q. (cc)))
+  refuses k l e why out runs r blame = blameless further _ _ (λ q. (cc)) (blame.same (λ q. (cc)))
 
   pub refused : (sheet : Sheet) (k l : Desk S B D g h b) (line : List ℕ) (e : Entry) (why : Refusal) (log : List Passed) → SameOwner k l → SaysEntry sheet (state_of k).book (state_of k).votes (state_of k).seat.position.round line e →
       PenStep k e (Err why) l → PenBlame k (Err why) l → Calls sheet k l (Typed line (said.Refused why)) log log
@@ -253,9 +237,7 @@ module _ {S B D : Type 0} {g : Files S D} {h : Disks D} {b : Books B} where
       BlamesDisk ends.Device (FitsLongest g.room (h.cap (disk_of k))) (end_at what) (h.faults (disk_of k)) (h.faults (disk_of l))
   answers k l bytes whats.Device out runs r blame = blamed (device_answer whats.Device) whats.Device (Err ends.Device) _ _ (λ q. refl) (λ q. refl) (λ q room. tt) blame
   answers k l bytes whats.Failed out runs r blame = absurd (let path : true ≡ false = sym r.0 ∙ runs in (cc))
-  answers k l bytes (whats.Bad fault) out runs r blame = blameless further _ _ (λ q. (cc)) (blame.same (λ q. (cc)))
-  answers k l bytes (whats.Heard heard) out runs r blame = blameless further _ _ (λ q. (cc)) (blame.same (λ q. (cc)))
-  answers k l bytes whats.Asked out runs r blame = blameless further _ _ (λ q. (cc)) (blame.same (λ q. (cc)))
+  answers k l bytes what out runs r blame = blameless further _ _ (λ q. (cc)) (blame.same (λ q. (cc)))
 
   pub taken : (sheet : Sheet) (k l : Desk S B D g h b) (bytes : List ℕ) (what : What) (reply : Option (List ℕ)) (before after : List Passed) → SameOwner k l →
       AreSent (game_of k) (replied reply) (λ out. Takes (view_of k) (game_of k) (state_of k) bytes what (state_of l) out) →
@@ -284,11 +266,16 @@ module _ {S B D : Type 0} {g : Files S D} {h : Disks D} {b : Books B} where
   -- what was told so far is known only where a later write didn't fail
   pub muted : {T : Type 0} (r : Result T DeskEnd) (sheet : Sheet) (k l : Desk S B D g h b) (p q : DeskProcess D) (a b' : List Passed) (x y : List Input) (s t : Option (List ℕ)) →
       DeskGoes sheet k l p q a b' x y s t → DeskGoes sheet k l p q a b' x y (known_at r s) (known_at r t)
-  muted (Ok value) sheet k l p q a b' x y s t v = v
-  muted (Err ends.Quit) sheet k l p q a b' x y s t v = v
-  muted (Err ends.NoMoreLines) sheet k l p q a b' x y s t v = v
-  muted (Err ends.Device) sheet k l p q a b' x y s t v = v
   muted (Err ends.Write) sheet k l p q a b' x y s t v = silent sheet k l p q a b' x y s t v
+  muted r sheet k l p q a b' x y s t v = v
+
+  -- an answer that is passed on
+  pub passed_on : {T : Type 0} (r : Result T DeskEnd) (met : DeskEnd) (sheet : Sheet) (k l : Desk S B D g h b) (p : DeskProcess D) (later : Warned) (turns : ℕ) (a b' : List Passed) (x y : List Input) (s t : Option (List ℕ)) →
+      IsErrAnd r (λ end. end ≡ met) → DeskGoes sheet k l p (process_of l later turns (ending met)) a b' x y (known_to met s) (known_to met t) →
+      DeskGoes sheet k l p (process_of l later turns (course_of r)) a b' x y (known_at r s) (known_at r t)
+  passed_on (Ok value) met sheet k l p later turns a b' x y s t e v = absurd e
+  passed_on (Err end) met sheet k l p later turns a b' x y s t e v =
+      subst (λ (d : DeskEnd). DeskGoes sheet k l p (process_of l later turns (ending d)) a b' x y (known_to d s) (known_to d t)) (sym e) v
 
   -- a turn is over, unless its flush failed
   pub turn_done : (answer : Result (Unit {0}) WriteFailed) (r : Course) (sheet : Sheet) (k l : Desk S B D g h b) (p : DeskProcess D) (warned : Warned) (turns : ℕ) (a b' : List Passed) (x y : List Input) (s t u : Option (List ℕ)) →
@@ -302,12 +289,7 @@ module _ {S B D : Type 0} {g : Files S D} {h : Disks D} {b : Books B} where
       subst (λ (o : Course). DeskGoes sheet k l p (process_of l warned (turns_after turns o) (course_of o)) a b' x y (known_at o s) (known_at o u)) (sym e)
       (silent sheet k l p (process_of l warned turns further) a b' x y s t v)
 
--- an answer that is passed on
-pub passed_on : {T : Type 0} (r : Result T DeskEnd) (met : DeskEnd) (P : Course → (Option (List ℕ) → Option (List ℕ)) → Type 0) → IsErrAnd r (λ end. end ≡ met) → P (ending met) (known_to met) → P (course_of r) (known_at r)
-passed_on (Ok value) met P h x = absurd h
-passed_on (Err end) met P h x = subst (λ (e : DeskEnd). P (ending e) (known_to e)) (sym h) x
-
--- the same in a turn
+-- an answer that is passed on in a turn
 pub turn_passed_on : {T : Type 0} (r : Result T DeskEnd) (met : DeskEnd) (turns : ℕ) (P : ℕ → Course → (Option (List ℕ) → Option (List ℕ)) → Type 0) → IsErrAnd r (λ end. end ≡ met) → P turns (ending met) (known_to met) →
     P (turns_after turns r) (course_of r) (known_at r)
 turn_passed_on (Ok value) met turns P h x = absurd h

@@ -25,10 +25,8 @@ use Rattle.live.proofs.EndLemmas.{answer_blames, run_blames}
 use Rattle.live.proofs.TellingLemmas.{told_first}
 
 ended_at : {Disk : Type 0} (met : DeskEnd) (turns : ℕ) (last : DeskProcess Disk) → last.course ≡ ending met → Ended turns (Err met) last
-ended_at ends.Quit turns last e = e
-ended_at ends.NoMoreLines turns last e = e
-ended_at ends.Device turns last e = e
 ended_at ends.Write turns last e = λ q. let path : further ≡ Err ends.Device = sym e ∙ q in (cc)
+ended_at met turns last e = e
 
 not_the_disk : (course : Course) (end : DeskEnd) → course ≡ Err end → (end ≡ ends.Device → ⊥) → course ≡ Err ends.Device → ⊥
 not_the_disk course end e n q = let path : ◌≡◌ {A = Course} (Err end) (Err ends.Device) = sym e ∙ q in n (cc)
@@ -99,11 +97,8 @@ module _ {S B D : Type 0} {g : Files S D} {h : Disks D} {b : Books B} where
   -- the last flush leaves what was written
   flushed : (r : Result (Unit {0}) DeskEnd) (sheet : Sheet) (k l : Desk S B D g h b) (a b' : List Passed) (x y : List Input) (s t u : Option (List ℕ)) (turns : ℕ) → DeskRuns sheet k l a b' x y s t turns r → Keeps t u →
       DeskRuns sheet k l a b' x y s u turns r
-  flushed (Ok done) sheet k l a b' x y s t u turns v w = record { last = v.last; is = v.is; goes = kept sheet k l _ v.last a b' x y _ t u v.goes w; ended = v.ended }
-  flushed (Err ends.Quit) sheet k l a b' x y s t u turns v w = record { last = v.last; is = v.is; goes = kept sheet k l _ v.last a b' x y _ t u v.goes w; ended = v.ended }
-  flushed (Err ends.NoMoreLines) sheet k l a b' x y s t u turns v w = record { last = v.last; is = v.is; goes = kept sheet k l _ v.last a b' x y _ t u v.goes w; ended = v.ended }
-  flushed (Err ends.Device) sheet k l a b' x y s t u turns v w = record { last = v.last; is = v.is; goes = kept sheet k l _ v.last a b' x y _ t u v.goes w; ended = v.ended }
   flushed (Err ends.Write) sheet k l a b' x y s t u turns v w = record { last = v.last; is = v.is; goes = v.goes; ended = v.ended }
+  flushed r sheet k l a b' x y s t u turns v w = record { last = v.last; is = v.is; goes = kept sheet k l _ v.last a b' x y _ t u v.goes w; ended = v.ended }
 
   -- an end that isn't the disk's, and then a write that failed
   unwritten : (r : Result (Unit {0}) DeskEnd) (sheet : Sheet) (k l : Desk S B D g h b) (a b' : List Passed) (x y : List Input) (s t u : Option (List ℕ)) (turns : ℕ) → (last : DeskRuns sheet k l a b' x y s t turns r) → (last.last.course ≡ Err ends.Device → ⊥) →
@@ -114,17 +109,13 @@ module _ {S B D : Type 0} {g : Files S D} {h : Disks D} {b : Books B} where
   -- a run and its last flush
   pub told_last : (answer : Result (Unit {0}) WriteFailed) (r r' : Course) (sheet : Sheet) (k l : Desk S B D g h b) (a b' : List Passed) (x y : List Input) (s t u : Option (List ℕ)) (turns : ℕ) → r' ≡ end_told r (written answer) →
       DeskRuns sheet k l a b' x y s t turns r → Keeps t u → DeskRuns sheet k l a b' x y s u turns r'
-  told_last (Ok done) (Ok over) r' sheet k l a b' x y s t u turns e v w = subst (DeskRuns sheet k l a b' x y s u turns) (sym e) (flushed (Ok over) sheet k l a b' x y s t u turns v w)
-  told_last (Ok done) (Err ends.Quit) r' sheet k l a b' x y s t u turns e v w = subst (DeskRuns sheet k l a b' x y s u turns) (sym e) (flushed (Err ends.Quit) sheet k l a b' x y s t u turns v w)
-  told_last (Ok done) (Err ends.NoMoreLines) r' sheet k l a b' x y s t u turns e v w = subst (DeskRuns sheet k l a b' x y s u turns) (sym e) (flushed (Err ends.NoMoreLines) sheet k l a b' x y s t u turns v w)
-  told_last (Ok done) (Err ends.Write) r' sheet k l a b' x y s t u turns e v w = subst (DeskRuns sheet k l a b' x y s u turns) (sym e) (flushed (Err ends.Write) sheet k l a b' x y s t u turns v w)
-  told_last (Ok done) (Err ends.Device) r' sheet k l a b' x y s t u turns e v w = subst (DeskRuns sheet k l a b' x y s u turns) (sym e) (flushed (Err ends.Device) sheet k l a b' x y s t u turns v w)
-  told_last (Err fault) (Err ends.Device) r' sheet k l a b' x y s t u turns e v w = subst (DeskRuns sheet k l a b' x y s u turns) (sym e) (flushed (Err ends.Device) sheet k l a b' x y s t u turns v w)
   told_last (Err fault) (Ok over) r' sheet k l a b' x y s t u turns e v w =
       subst (DeskRuns sheet k l a b' x y s u turns) (sym e) (unwritten (Ok over) sheet k l a b' x y s t u turns v (λ q. let path : further ≡ Err ends.Device = sym v.ended.0 ∙ q in (cc)))
+  told_last (Err fault) (Err ends.Write) r' sheet k l a b' x y s t u turns e v w =
+      subst (DeskRuns sheet k l a b' x y s u turns) (sym e) (unwritten (Err ends.Write) sheet k l a b' x y s t u turns v v.ended)
   told_last (Err fault) (Err ends.Quit) r' sheet k l a b' x y s t u turns e v w =
       subst (DeskRuns sheet k l a b' x y s u turns) (sym e) (unwritten (Err ends.Quit) sheet k l a b' x y s t u turns v (not_the_disk v.last.course ends.Quit v.ended (λ q. (cc))))
   told_last (Err fault) (Err ends.NoMoreLines) r' sheet k l a b' x y s t u turns e v w =
       subst (DeskRuns sheet k l a b' x y s u turns) (sym e) (unwritten (Err ends.NoMoreLines) sheet k l a b' x y s t u turns v (not_the_disk v.last.course ends.NoMoreLines v.ended (λ q. (cc))))
-  told_last (Err fault) (Err ends.Write) r' sheet k l a b' x y s t u turns e v w =
-      subst (DeskRuns sheet k l a b' x y s u turns) (sym e) (unwritten (Err ends.Write) sheet k l a b' x y s t u turns v v.ended)
+  told_last (Ok done) (Err ends.Write) r' sheet k l a b' x y s t u turns e v w = subst (DeskRuns sheet k l a b' x y s u turns) (sym e) (flushed (Err ends.Write) sheet k l a b' x y s t u turns v w)
+  told_last answer r r' sheet k l a b' x y s t u turns e v w = subst (DeskRuns sheet k l a b' x y s u turns) (sym e) (flushed r sheet k l a b' x y s t u turns v w)

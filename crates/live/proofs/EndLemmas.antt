@@ -36,31 +36,17 @@ module _ {Disk : Type 0} (sheet : Sheet) (view : FileView Disk) (game innings : 
 
   -- a call that doesn't end the process leaves its desk running
   pub runs_on : (call : DeskCall) → DeskStep sheet view game innings k call out l → course_after call ≡ further → l.failed ≡ false
-  runs_on (Typed line said.Quit) r e = same_desk r.1
-  runs_on (Typed line (said.Asks word)) r e = same_desk r.1
-  runs_on (Typed line (said.Unclear unclear)) r e = same_desk r.1
-  runs_on (Typed line (said.Fault fault)) r e = same_desk r.1
-  runs_on (Typed line said.SayAgain) r e = same_desk r.1
-  runs_on (Typed line said.NoneDiffers) r e = same_desk r.1
-  runs_on (Typed line said.Waiting) r e = same_desk r.1
   runs_on (Typed line (said.Penned entry settled)) r e = r.1.1.2
   runs_on (Typed line (said.Refused refusals.Device)) r e = absurd (cc)
   runs_on (Typed line (said.Refused refusals.Failed)) r e = absurd (cc)
-  runs_on (Typed line (said.Refused refusals.Waiting)) r e = unchanged r.2.1
-  runs_on (Typed line (said.Refused refusals.PlacesFull)) r e = unchanged r.2.1
-  runs_on (Typed line (said.Refused refusals.RoundsFull)) r e = unchanged r.2.1
-  runs_on (Typed line (said.Refused refusals.SlotsFull)) r e = unchanged r.2.1
-  runs_on (Typed line (said.Refused (refusals.Book why))) r e = unchanged r.2.1
-  runs_on TypingEnded r e = same_desk r.0
-  runs_on Unopened r e = same_desk r.0
+  runs_on (Typed line (said.Refused why)) r e = unchanged r.2.1
+  runs_on (Typed line answer) r e = same_desk r.1
   runs_on (Given bytes (whats.Bad fault)) r e = same_desk r.2
   runs_on (Given bytes (whats.Heard h)) r e = hears r.0 h r.2
   runs_on (Given bytes whats.Asked) r e = asked r.0 r.2
-  runs_on (Given bytes whats.Device) r e = absurd (cc)
-  runs_on (Given bytes whats.Failed) r e = absurd (cc)
+  runs_on (Given bytes what) r e = absurd (cc)
   runs_on Ticked r e = same_desk r.1
-  runs_on (Reminded reminder) r e = same_desk r.0
-  runs_on TurnEnded r e = same_desk r.0
+  runs_on call r e = same_desk r.0
 
 -- the same blame, after calls that met no failure
 later : {W : Type 0} (course course' : Course) (start mid end : Faults) → mid ≡ start → course ≡ course' → BlamesDisk ends.Device W course mid end → BlamesDisk ends.Device W course' start end
@@ -101,6 +87,4 @@ module _ {Disk : Type 0} (sheet : Sheet) (view : FileView Disk) (disks : DiskVie
 pub answer_blames : {Disk W : Type 0} (turns : ℕ) (result : Result (Unit {0}) DeskEnd) (last : DeskProcess Disk) (old new : Faults) → Ended turns result last → BlamesDisk ends.Device W last.course old new → BlamesDisk ends.Device W result old new
 answer_blames turns (Ok done) last old new is b = blameless (Ok done) old new (λ q. (cc)) (b.same (not_ended last.course is.0))
 answer_blames turns (Err ends.Write) last old new is b = blameless (Err ends.Write) old new (λ q. (cc)) (b.same is)
-answer_blames {W = W} turns (Err ends.Quit) last old new is b = subst (λ (x : Course). BlamesDisk ends.Device W x old new) is b
-answer_blames {W = W} turns (Err ends.NoMoreLines) last old new is b = subst (λ (x : Course). BlamesDisk ends.Device W x old new) is b
-answer_blames {W = W} turns (Err ends.Device) last old new is b = subst (λ (x : Course). BlamesDisk ends.Device W x old new) is b
+answer_blames {W = W} turns result last old new is b = subst (λ (x : Course). BlamesDisk ends.Device W x old new) is b

@@ -46,71 +46,25 @@ only_cast s t v h none = let never = sym none ∙ h.2.1 in absurd (cc)
 
 -- nothing depends on a vote that is noted, unless one is penned that differs, or the scorer asks where the desk stands
 not_by_noted : {Disk : Type 0} (sheet : Sheet) (innings : ℕ) (k l : DeskProcess Disk) (call : DeskCall) (e f : Option Entry) → (IsPennedDiffering call → ⊥) → (AsksWhere call → ⊥) → told_of sheet innings (process_with k e) call (process_with l f) ≡ told_of sheet innings k call l
-not_by_noted sheet innings k l (Typed line said.Quit) e f n w = refl
 not_by_noted sheet innings k l (Typed line (said.Asks Word.Where)) e f n w = absurd (w (line, refl))
-not_by_noted sheet innings k l (Typed line (said.Asks (Word.Entries most))) e f n w = refl
-not_by_noted sheet innings k l (Typed line (said.Asks Word.Total)) e f n w = refl
-not_by_noted sheet innings k l (Typed line (said.Asks Word.Cards)) e f n w = refl
-not_by_noted sheet innings k l (Typed line (said.Asks Word.Sides)) e f n w = refl
-not_by_noted sheet innings k l (Typed line (said.Asks Word.Forms)) e f n w = refl
-not_by_noted sheet innings k l (Typed line (said.Asks (Word.More topic))) e f n w = refl
-not_by_noted sheet innings k l (Typed line (said.Unclear unclear)) e f n w = refl
-not_by_noted sheet innings k l (Typed line (said.Fault fault)) e f n w = refl
-not_by_noted sheet innings k l (Typed line said.SayAgain) e f n w = refl
-not_by_noted sheet innings k l (Typed line said.NoneDiffers) e f n w = refl
-not_by_noted sheet innings k l (Typed line said.Waiting) e f n w = refl
-not_by_noted sheet innings k l (Typed line (said.Refused why)) e f n w = refl
-not_by_noted sheet innings k l (Typed line (said.Penned own Settled.Pending)) e f n w = refl
-not_by_noted sheet innings k l (Typed line (said.Penned own Settled.Agreed)) e f n w = refl
 not_by_noted sheet innings k l (Typed line (said.Penned own Settled.Differ)) e f n w = absurd (n (line, own, refl))
-not_by_noted sheet innings k l TypingEnded e f n w = refl
-not_by_noted sheet innings k l (Given bytes what) e f n w = refl
-not_by_noted sheet innings k l Unopened e f n w = refl
-not_by_noted sheet innings k l Ticked e f n w = refl
-not_by_noted sheet innings k l (Reminded reminder) e f n w = refl
-not_by_noted sheet innings k l TurnEnded e f n w = refl
+not_by_noted sheet innings k l call e f n w = refl
 
 -- and there not on which
 not_by_which : {Disk : Type 0} (sheet : Sheet) (innings : ℕ) (k l : DeskProcess Disk) (call : DeskCall) (e f : Entry) (o p : Option Entry) → (IsPennedDiffering call → ⊥)
     → told_of sheet innings (process_with k (Some e)) call (process_with l o) ≡ told_of sheet innings (process_with k (Some f)) call (process_with l p)
-not_by_which sheet innings k l (Typed line said.Quit) e f o p n = refl
-not_by_which sheet innings k l (Typed line (said.Asks word)) e f o p n = refl
-not_by_which sheet innings k l (Typed line (said.Unclear unclear)) e f o p n = refl
-not_by_which sheet innings k l (Typed line (said.Fault fault)) e f o p n = refl
-not_by_which sheet innings k l (Typed line said.SayAgain) e f o p n = refl
-not_by_which sheet innings k l (Typed line said.NoneDiffers) e f o p n = refl
-not_by_which sheet innings k l (Typed line said.Waiting) e f o p n = refl
-not_by_which sheet innings k l (Typed line (said.Refused why)) e f o p n = refl
-not_by_which sheet innings k l (Typed line (said.Penned own Settled.Pending)) e f o p n = refl
-not_by_which sheet innings k l (Typed line (said.Penned own Settled.Agreed)) e f o p n = refl
 not_by_which sheet innings k l (Typed line (said.Penned own Settled.Differ)) e f o p n = absurd (n (line, own, refl))
-not_by_which sheet innings k l TypingEnded e f o p n = refl
-not_by_which sheet innings k l (Given bytes what) e f o p n = refl
-not_by_which sheet innings k l Unopened e f o p n = refl
-not_by_which sheet innings k l Ticked e f o p n = refl
-not_by_which sheet innings k l (Reminded reminder) e f o p n = refl
-not_by_which sheet innings k l TurnEnded e f o p n = refl
+not_by_which sheet innings k l call e f o p n = refl
 
 -- nor does it whether the scorer may be reminded
 told_of_any : {Disk : Type 0} (k : DeskProcess Disk) (reminder : Reminder) (e f : Entry) → MayRemind (process_with k (Some e)) reminder → MayRemind (process_with k (Some f)) reminder
 told_of_any k HasWritten e f may = may
-told_of_any k IsMissed e f may = may
-told_of_any k IsHeard e f may = may
+told_of_any k reminder e f may = may
 
 -- of what came, but of a vote that differs, nothing depends on the entry that came
 pub came_but_differing : (sheet : Sheet) (innings place : ℕ) (own one other : Option Entry) (book : List Entry) (warned : Warned) (what : What) → (what ≡ whats.Heard Heard.Differ → ⊥) → came_text sheet innings place own one book warned what ≡ came_text sheet innings place own other book warned what
-came_but_differing sheet innings place own one other book warned (whats.Bad fault) n = refl
-came_but_differing sheet innings place own one other book warned whats.Asked n = refl
-came_but_differing sheet innings place own one other book warned whats.Device n = refl
-came_but_differing sheet innings place own one other book warned whats.Failed n = refl
-came_but_differing sheet innings place own one other book warned (whats.Heard Heard.Mine) n = refl
-came_but_differing sheet innings place own one other book warned (whats.Heard Heard.Old) n = refl
-came_but_differing sheet innings place own one other book warned (whats.Heard Heard.Ahead) n = refl
-came_but_differing sheet innings place own one other book warned (whats.Heard Heard.Again) n = refl
-came_but_differing sheet innings place own one other book warned (whats.Heard Heard.TwoVotes) n = refl
-came_but_differing sheet innings place own one other book warned (whats.Heard Heard.Noted) n = refl
-came_but_differing sheet innings place own one other book warned (whats.Heard Heard.Agreed) n = refl
 came_but_differing sheet innings place own one other book warned (whats.Heard Heard.Differ) n = absurd (n refl)
+came_but_differing sheet innings place own one other book warned what n = refl
 
 pub hides_the_other : {Disk : Type 0} (view : FileView Disk) → HidesTheOther view
 hides_the_other view = record {

@@ -19,46 +19,15 @@ writing_stays : (w : Warned) (call : DeskCall) → brings_news call ≡ false �
 writing_stays w (Given bytes (whats.Heard Heard.Noted)) n e = absurd (cc)
 writing_stays w (Given bytes (whats.Heard Heard.Agreed)) n e = absurd (cc)
 writing_stays w (Given bytes (whats.Heard Heard.Differ)) n e = absurd (cc)
-writing_stays w (Given bytes (whats.Heard Heard.Mine)) n e = e
-writing_stays w (Given bytes (whats.Heard Heard.Old)) n e = e
-writing_stays w (Given bytes (whats.Heard Heard.Ahead)) n e = e
-writing_stays w (Given bytes (whats.Heard Heard.Again)) n e = e
-writing_stays w (Given bytes (whats.Heard Heard.TwoVotes)) n e = e
-writing_stays w (Given bytes (whats.Bad fault)) n e = e
-writing_stays w (Given bytes whats.Asked) n e = e
-writing_stays w (Given bytes whats.Device) n e = e
-writing_stays w (Given bytes whats.Failed) n e = e
-writing_stays w (Typed line said) n e = e
-writing_stays w TypingEnded n e = e
-writing_stays w Unopened n e = e
-writing_stays w Ticked n e = e
 writing_stays w (Reminded HasWritten) n e = refl
-writing_stays w (Reminded IsMissed) n e = e
-writing_stays w (Reminded IsHeard) n e = e
-writing_stays w TurnEnded n e = e
+writing_stays w call n e = e
 
 -- what is told of silence is told by these two alone
 silence_stays : (w : Warned) (call : DeskCall) (silent : Bool) → (call ≡ Reminded IsMissed → ⊥) → (call ≡ Reminded IsHeard → ⊥) → w.of_silence ≡ silent → (warned_at w call).of_silence ≡ silent
 silence_stays w (Given bytes (whats.Heard Heard.Noted)) silent m h e = e
-silence_stays w (Given bytes (whats.Heard Heard.Agreed)) silent m h e = e
-silence_stays w (Given bytes (whats.Heard Heard.Differ)) silent m h e = e
-silence_stays w (Given bytes (whats.Heard Heard.Mine)) silent m h e = e
-silence_stays w (Given bytes (whats.Heard Heard.Old)) silent m h e = e
-silence_stays w (Given bytes (whats.Heard Heard.Ahead)) silent m h e = e
-silence_stays w (Given bytes (whats.Heard Heard.Again)) silent m h e = e
-silence_stays w (Given bytes (whats.Heard Heard.TwoVotes)) silent m h e = e
-silence_stays w (Given bytes (whats.Bad fault)) silent m h e = e
-silence_stays w (Given bytes whats.Asked) silent m h e = e
-silence_stays w (Given bytes whats.Device) silent m h e = e
-silence_stays w (Given bytes whats.Failed) silent m h e = e
-silence_stays w (Typed line said) silent m h e = e
-silence_stays w TypingEnded silent m h e = e
-silence_stays w Unopened silent m h e = e
-silence_stays w Ticked silent m h e = e
-silence_stays w (Reminded HasWritten) silent m h e = e
 silence_stays w (Reminded IsMissed) silent m h e = absurd (m refl)
 silence_stays w (Reminded IsHeard) silent m h e = absurd (h refl)
-silence_stays w TurnEnded silent m h e = e
+silence_stays w call silent m h e = e
 
 module _ {Disk : Type 0} (sheet : Sheet) (view : FileView Disk) (disks : DiskView Disk) (game innings : ℕ) where
   abbrev Steps : DeskProcess Disk → DeskCall → List Message → DeskProcess Disk → Type 0

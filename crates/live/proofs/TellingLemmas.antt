@@ -20,34 +20,16 @@ use Rattle.live.specs.declared.ends.DeskEnd.{DeskEnd}
 use Rattle.live.specs.declared.ends.DeskEnd.TheVariants as ends
 
 course_at : (course : Course) (end : DeskEnd) → course ≡ Err end → (end ≡ ends.Write → ⊥) → ending end ≡ course
-course_at course ends.Quit e n = sym e
-course_at course ends.NoMoreLines e n = sym e
-course_at course ends.Device e n = sym e
 course_at course ends.Write e n = absurd (n refl)
+course_at course end e n = sym e
 
 said_no_write : (answer : Said) (end : DeskEnd) → end_of answer ≡ Err end → end ≡ ends.Write → ⊥
-said_no_write said.Quit end e w = cc
-said_no_write (said.Asks word) end e w = cc
-said_no_write (said.Unclear unclear) end e w = cc
-said_no_write (said.Fault fault) end e w = cc
-said_no_write said.SayAgain end e w = cc
-said_no_write said.NoneDiffers end e w = cc
-said_no_write said.Waiting end e w = cc
-said_no_write (said.Penned entry settled) end e w = cc
 said_no_write (said.Refused refusals.Failed) end e w = cc
-said_no_write (said.Refused refusals.Waiting) end e w = cc
-said_no_write (said.Refused refusals.PlacesFull) end e w = cc
-said_no_write (said.Refused refusals.RoundsFull) end e w = cc
-said_no_write (said.Refused refusals.SlotsFull) end e w = cc
-said_no_write (said.Refused (refusals.Book why)) end e w = cc
-said_no_write (said.Refused refusals.Device) end e w = cc
+said_no_write answer end e w = cc
 
 came_no_write : (what : What) (end : DeskEnd) → end_at what ≡ Err end → end ≡ ends.Write → ⊥
-came_no_write (whats.Bad fault) end e w = cc
-came_no_write (whats.Heard heard) end e w = cc
-came_no_write whats.Asked end e w = cc
 came_no_write whats.Device end e w = cc
-came_no_write whats.Failed end e w = cc
+came_no_write what end e w = cc
 
 -- a line at which the process ends
 pub said_course : (answer : Said) (end : DeskEnd) → end_of answer ≡ Err end → ending end ≡ end_of answer
@@ -59,27 +41,14 @@ came_course what end e = course_at (end_at what) end e (came_no_write what end e
 -- nothing is told of an end
 pub said_nothing : (sheet : Sheet) (innings : ℕ) (at : Position) (own other : Option Entry) (silent : Bool) (book : List Entry) (answer : Said) (end : DeskEnd) (s : Option (List ℕ)) → end_of answer ≡ Err end → Appends s s (said_text sheet innings at own other silent book answer)
 said_nothing sheet innings at own other silent book said.Quit end s e = appends_none s
-said_nothing sheet innings at own other silent book (said.Asks word) end s e = absurd (cc)
-said_nothing sheet innings at own other silent book (said.Unclear unclear) end s e = absurd (cc)
-said_nothing sheet innings at own other silent book (said.Fault fault) end s e = absurd (cc)
-said_nothing sheet innings at own other silent book said.SayAgain end s e = absurd (cc)
-said_nothing sheet innings at own other silent book said.NoneDiffers end s e = absurd (cc)
-said_nothing sheet innings at own other silent book said.Waiting end s e = absurd (cc)
-said_nothing sheet innings at own other silent book (said.Penned entry settled) end s e = absurd (cc)
 said_nothing sheet innings at own other silent book (said.Refused refusals.Failed) end s e = appends_none s
-said_nothing sheet innings at own other silent book (said.Refused refusals.Waiting) end s e = absurd (cc)
-said_nothing sheet innings at own other silent book (said.Refused refusals.PlacesFull) end s e = absurd (cc)
-said_nothing sheet innings at own other silent book (said.Refused refusals.RoundsFull) end s e = absurd (cc)
-said_nothing sheet innings at own other silent book (said.Refused refusals.SlotsFull) end s e = absurd (cc)
-said_nothing sheet innings at own other silent book (said.Refused (refusals.Book why)) end s e = absurd (cc)
 said_nothing sheet innings at own other silent book (said.Refused refusals.Device) end s e = appends_none s
+said_nothing sheet innings at own other silent book answer end s e = absurd (cc)
 
 pub came_nothing : (sheet : Sheet) (innings place : ℕ) (own other : Option Entry) (book : List Entry) (warned : Warned) (what : What) (end : DeskEnd) (s : Option (List ℕ)) → end_at what ≡ Err end → Appends s s (came_text sheet innings place own other book warned what)
-came_nothing sheet innings place own other book warned (whats.Bad fault) end s e = absurd (cc)
-came_nothing sheet innings place own other book warned (whats.Heard heard) end s e = absurd (cc)
-came_nothing sheet innings place own other book warned whats.Asked end s e = absurd (cc)
 came_nothing sheet innings place own other book warned whats.Device end s e = appends_none s
 came_nothing sheet innings place own other book warned whats.Failed end s e = appends_none s
+came_nothing sheet innings place own other book warned what end s e = absurd (cc)
 
 -- a text is told, or a write failed
 pub tells : (answer : Result (Unit {0}) WriteFailed) (r : Course) (s t : Option (List ℕ)) (text : List ℕ) → r ≡ written answer → OnOk answer (Appends s t text) → Appends (known_at r s) (known_at r t) text

@@ -17,7 +17,7 @@ use Rattle.match_laws.specs.History.{begun, is_open, since_call}
 use Rattle.match_laws.specs.Figures.{wickets, falls, with_fall, balls}
 use Rattle.match_laws.specs.Refusals.{IsLegal}
 use Rattle.match_laws.specs.Result.{current}
-use Rattle.match_laws.proofs.LegalLemmas.{taken}
+use Rattle.match_laws.proofs.LegalLemmas.{current-open, taken}
 use Rattle.match_laws.proofs.ScoreLemmas.{since_call-none}
 
 -- ---- a fall for each wicket
@@ -32,10 +32,9 @@ fell fs (Some p) t k is e = let one = length_push fs (record { player = p; total
 
 fell-out : (o : Option Out) (here : Bool) (ends : Ends) (fs : List Fall) (t k : ℕ) → has_vacancy ends ≡ false → length fs ≡ k →
     length (with_fall fs (if here then dismissed o ends else None) t) ≡ (if is_some o && here then k + 1 else k)
-fell-out None true ends fs t k full e = e
-fell-out None false ends fs t k full e = e
 fell-out (Some o) true ends fs t k full e = fell fs (dismissed (Some o) ends) t k (full-dismissed o ends full) e
-fell-out (Some o) false ends fs t k full e = e
+fell-out None true ends fs t k full e = e
+fell-out o false ends fs t k full e = grind (arith, e)
 
 fell-gone : (here : Bool) (p : ℕ) (fs : List Fall) (t k : ℕ) → length fs ≡ k → length (with_fall fs (if here then Some p else None) t) ≡ (if here then k + 1 else k)
 fell-gone true p fs t k e = fell fs (Some p) t k refl e
@@ -44,54 +43,26 @@ fell-gone false p fs t k e = e
 pub falls-wickets : (n : ℕ) (h : History) (i : ℕ) → IsLegal n h → length (falls h i) ≡ wickets h i
 unfolding falls wickets
 falls-wickets n [] i legal = refl
-falls-wickets n (Innings s ∷ h) i legal = falls-wickets n h i legal.0
-falls-wickets n (Come p ∷ h) i legal = falls-wickets n h i legal.0
 falls-wickets n (Bowl b ∷ h) i legal =
     let ends = (state_after h).ends in
     let full = ball-row ends (bowled_in b.bowler (state_after h).last_over) (length (state_after h).this_over) b (taken n h (Bowl b) refl legal.1).ball in
     fell-out b.out (begun h == i + 1) ends (falls h i) _ _ full (falls-wickets n h i legal.0)
-falls-wickets n (Gone TimedOut p ∷ h) i legal = fell-gone (begun h == i + 1) p (falls h i) _ _ (falls-wickets n h i legal.0)
-falls-wickets n (Gone RetiredOut p ∷ h) i legal = fell-gone (begun h == i + 1) p (falls h i) _ _ (falls-wickets n h i legal.0)
 falls-wickets n (Gone RetiredHurt p ∷ h) i legal = falls-wickets n h i legal.0
-falls-wickets n (Gone RunOut p ∷ h) i legal = fell-gone (begun h == i + 1) p (falls h i) _ _ (falls-wickets n h i legal.0)
-falls-wickets n (Over ∷ h) i legal = falls-wickets n h i legal.0
-falls-wickets n (Penalty s x y ∷ h) i legal = falls-wickets n h i legal.0
-falls-wickets n (Swap ∷ h) i legal = falls-wickets n h i legal.0
-falls-wickets n (End cause ∷ h) i legal = falls-wickets n h i legal.0
-falls-wickets n (Close ∷ h) i legal = falls-wickets n h i legal.0
-falls-wickets n (Void ∷ h) i legal = falls-wickets n h i legal.0
+falls-wickets n (Gone way p ∷ h) i legal = fell-gone (begun h == i + 1) p (falls h i) _ _ (falls-wickets n h i legal.0)
+falls-wickets n (x ∷ h) i legal = falls-wickets n h i legal.0
 
 -- ---- this over
 
--- an innings has begun where one is open
-open-begun : (h : History) → is_open h ≡ true → 1 ≤ begun h
-open-begun [] is = absurd cc
-open-begun (Innings s ∷ h) is = omega arith
-open-begun (Come p ∷ h) is = open-begun h is
-open-begun (Bowl b ∷ h) is = open-begun h is
-open-begun (Gone way p ∷ h) is = open-begun h is
-open-begun (Over ∷ h) is = open-begun h is
-open-begun (Penalty s x y ∷ h) is = open-begun h is
-open-begun (Swap ∷ h) is = open-begun h is
-open-begun (End cause ∷ h) is = absurd cc
-open-begun (Close ∷ h) is = open-begun h is
-open-begun (Void ∷ h) is = open-begun h is
-
 here : (h : History) → is_open h ≡ true → eqb (begun h) (current h + 1) ≡ true
-here h is = let some = open-begun h is in eq-eqb (begun h) (current h + 1) (omega (arith, some))
+here h is = eq-eqb (begun h) (current h + 1) (current-open h is)
 
 pub this_over-since : (h : History) → is_open h ≡ true → (state_after h).this_over ≡ since_call h (current h)
 this_over-since [] is = absurd cc
 this_over-since (Innings s ∷ h) is = sym (since_call-none h (current (Innings s ∷ h)) (omega arith))
-this_over-since (Come p ∷ h) is = this_over-since h is
 this_over-since (Bowl b ∷ h) is = rw (here h is) (ap (λ bs. b ∷ bs) (this_over-since h is))
-this_over-since (Gone way p ∷ h) is = this_over-since h is
 this_over-since (Over ∷ h) is = rw (here h is) refl
-this_over-since (Penalty s x y ∷ h) is = this_over-since h is
-this_over-since (Swap ∷ h) is = this_over-since h is
 this_over-since (End cause ∷ h) is = absurd cc
-this_over-since (Close ∷ h) is = this_over-since h is
-this_over-since (Void ∷ h) is = this_over-since h is
+this_over-since (x ∷ h) is = this_over-since h is
 
 pub counts_this_over : (h : History) → is_open h ≡ true → counting (state_after h).this_over ≡ balls h (current h)
 unfolding balls

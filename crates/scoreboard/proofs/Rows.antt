@@ -1,9 +1,7 @@
--- The values of a list, put one by one: of a table that is filled from the front, or of a slice.
+-- The values of a table that is filled from the front, put one by one.
 use Rattle.std.proofs.Common.{◌≡◌, ℕ, zero, suc, ◌+◌, ◌≤◌, List, [], ◌∷◌, ◌++◌, length, Option, Some, None, arith, refl, sym, ap, ◌∙◌, append-nil, append_assoc, drop}
 use Rattle.std.specs.Prelude.{slice_get, map}
-use Rattle.std.specs.List.{flat_map}
 use Rattle.std.proofs.lemmas.List.{drop_all}
-use Rattle.std.proofs.lemmas.List.Concat.{flat_map-cons}
 use Rattle.match_laws.specs.Parts.{from_front}
 use Rattle.json.specs.Json.{Json}
 use Rattle.json.specs.Token.{Token}
@@ -11,8 +9,6 @@ use Rattle.json_fields.specs.Values.{values_tokens}
 use Rattle.json_fields.proofs.Putting.{adds_values, no_values}
 use Rattle.cards.proofs.Slots.{next}
 use Rattle.scoreboard.specs.Innings.{values_from}
-
--- ---- tables that are filled from the front
 
 -- the values of the places that are filled, numbered from n
 abbrev pub slot_values : {X : Type 0} → (ℕ → X → Json) → ℕ → List (Option X) → List Json
@@ -29,31 +25,20 @@ pub record SoFar {X : Type 0} (value : ℕ → X → Json) (slots : List (Option
 pub begins : {X : Type 0} (value : ℕ → X → Json) (slots : List (Option X)) (first : ℕ) (old : List Token) → SoFar value slots 0 first old old
 begins value slots first old = record { values = []; put = no_values old; whole = ap (λ n. slot_values value n slots) (let e : 0 + first ≡ first = omega arith in e) }
 
-slot_values-next : {X : Type 0} (value : ℕ → X → Json) (slots : List (Option X)) (i first : ℕ) (s : Option X) → slice_get slots i ≡ Some s →
-    slot_values value (i + first) (drop i slots) ≡ slot_values value (i + first) (s ∷ drop (i + 1) slots)
-slot_values-next value slots i first s e = ap (slot_values value (i + first)) (next slots i s e)
-
-numbered_on : {X : Type 0} (value : ℕ → X → Json) (slots : List (Option X)) (i first : ℕ) → slot_values value (i + 1 + first) slots ≡ slot_values value (i + first + 1) slots
-numbered_on value slots i first = ap (λ n. slot_values value n slots) (let e : i + 1 + first ≡ i + first + 1 = omega arith in e)
-
 pub goes_on : {X : Type 0} (value : ℕ → X → Json) (slots : List (Option X)) (i first : ℕ) (x : X) (old mid new : List Token) → SoFar value slots i first old mid →
     slice_get slots i ≡ Some (Some x) → new ≡ mid ++ values_tokens (value (i + first) x ∷ []) → SoFar value slots (i + 1) first old new
 goes_on value slots i first x old mid new m e put =
-    let here = value (i + first) x ∷ [] in record {
+    let here = value (i + first) x ∷ [] in
+    let on : i + 1 + first ≡ i + first + 1 = omega arith in record {
       values = m.values ++ here;
       put = adds_values old mid new m.values here m.put put;
-      whole = ap (λ u. (m.values ++ here) ++ u) (numbered_on value (drop (i + 1) slots) i first)
-          ∙ (append_assoc m.values here (slot_values value (i + first + 1) (drop (i + 1) slots))
-          ∙ (sym (ap (λ u. m.values ++ u) (slot_values-next value slots i first (Some x) e)) ∙ m.whole));
+      whole = rw (on, append_assoc) (rw (next slots i (Some x) e) at m.whole);
     }
 
 pub skips : {X : Type 0} (value : ℕ → X → Json) (slots : List (Option X)) (i first : ℕ) (old mid : List Token) → SoFar value slots i first old mid →
     slice_get slots i ≡ Some None → SoFar value slots (i + 1) first old mid
-skips value slots i first old mid m e = record {
-  values = m.values;
-  put = m.put;
-  whole = ap (λ u. m.values ++ u) (numbered_on value (drop (i + 1) slots) i first) ∙ (sym (ap (λ u. m.values ++ u) (slot_values-next value slots i first None e)) ∙ m.whole);
-}
+skips value slots i first old mid m e =
+    let on : i + 1 + first ≡ i + first + 1 = omega arith in record { values = m.values; put = m.put; whole = rw on (rw (next slots i None e) at m.whole) }
 
 slot_values-empty : {X : Type 0} (value : ℕ → X → Json) (k n : ℕ) → slot_values value n (from_front k []) ≡ []
 slot_values-empty value zero n = refl
@@ -86,10 +71,3 @@ ends value k first i xs slots old new m end is small =
 pub ends_map : {X : Type 0} (value : X → Json) (k i : ℕ) (xs : List X) (slots : List (Option X)) (old new : List Token) → SoFar (λ n. value) slots i 0 old new → k ≤ i →
     slots ≡ from_front k xs → length xs ≤ k → new ≡ old ++ values_tokens (map value xs)
 ends_map value k i xs slots old new m end is small = ends (λ n. value) k 0 i xs slots old new m end is small ∙ ap (λ vs. old ++ values_tokens vs) (values_from-map value 0 xs)
-
--- ---- slices
-
--- what is made of each element, one by one
-pub each-map : {X : Type 0} (f : X → Json) (xs : List X) → flat_map (λ x. f x ∷ []) xs ≡ map f xs
-each-map f [] = refl
-each-map f (x ∷ xs) = flat_map-cons (λ x. f x ∷ []) x xs ∙ ap (λ u. f x ∷ u) (each-map f xs)

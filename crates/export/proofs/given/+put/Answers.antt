@@ -9,11 +9,10 @@ use Rattle.json.specs.Json.{boolean, number, string}
 use Rattle.json.specs.Token.{begin_array, begin_object, key}
 use Rattle.json.specs.Tree.{json_tokens, items_tokens, members_tokens}
 use Rattle.json_fields.specs.Values.{PutsValues, array_of, object_of, items_of, members_of}
-use Rattle.json_fields.proofs.Putting.{one_value}
+use Rattle.json_fields.proofs.Putting.{joined, one_value}
 use Rattle.std.specs.Fmt.{signed_decimal}
 use Rattle.toml_datetime.specs.Text.{datetime_text}
 use Rattle.export.specs.inner.Putting.{PutsItems, PutsMembers}
-use Rattle.export.proofs.GivenLemmas.{behind}
 use Rattle.export.proofs.given.+put.Goals as goal
 
 pub put_value-returns-in-String : goal.put_value-returns-in-String
@@ -45,7 +44,7 @@ put_value-returns-in_ok-token-in-Array t c =
     on_ok_weaker c.put_items.result (λ w. (
       array_of w.0,
       rw seen (w.0, refl, w.1),
-      behind c.args.out.now c.token-in-Array.new.self _ (begin_array ∷ []) (items_tokens (items_of w.0)) c.in_ok-token-in-Array.ensures.ok w.2,
+      joined c.args.out.now c.token-in-Array.new.self _ (begin_array ∷ []) (items_tokens (items_of w.0)) c.in_ok-token-in-Array.ensures.ok w.2,
     )) c.put_items.ensures
 
 pub put_value-returns-in_ok-token-in-Table : goal.put_value-returns-in_ok-token-in-Table
@@ -54,7 +53,7 @@ put_value-returns-in_ok-token-in-Table t c =
     on_ok_weaker c.put_members.result (λ w. (
       object_of w.0,
       rw seen (w.0, refl, w.1),
-      behind c.args.out.now c.token-in-Table.new.self _ (begin_object ∷ []) (members_tokens (members_of w.0)) c.in_ok-token-in-Table.ensures.ok w.2,
+      joined c.args.out.now c.token-in-Table.new.self _ (begin_object ∷ []) (members_tokens (members_of w.0)) c.in_ok-token-in-Table.ensures.ok w.2,
     )) c.put_members.ensures
 
 pub put_items-loop-item-preserved : goal.put_items-loop-item-preserved
@@ -67,7 +66,7 @@ put_items-loop-item-preserved t c =
     λ end rest. l.invariant end (subst (λ ys. PutsItems (items_view ys) l.out end) (sym here) (
       w.0 ∷ rest.0,
       (w.0, rest.0, refl, w.1, rest.1),
-      behind l.out _ end (json_tokens w.0) (items_tokens (items_of rest.0)) w.2 rest.2,
+      joined l.out _ end (json_tokens w.0) (items_tokens (items_of rest.0)) w.2 rest.2,
     ))
 
 pub put_items-returns : goal.put_items-returns
@@ -91,8 +90,8 @@ put_members-loop-key-preserved t c =
     λ end rest. l.invariant end (subst (λ es. PutsMembers (members_view es) l.out end) (sym step) (
       (k, w.0) ∷ rest.0,
       (w.0, rest.0, refl, w.1, rest.1),
-      behind l.out c.token.new.self end (key k ∷ []) (json_tokens w.0 ++ members_tokens (members_of rest.0)) named
-          (behind c.token.new.self _ end (json_tokens w.0) (members_tokens (members_of rest.0)) w.2 rest.2),
+      joined l.out c.token.new.self end (key k ∷ []) (json_tokens w.0 ++ members_tokens (members_of rest.0)) named
+          (joined c.token.new.self _ end (json_tokens w.0) (members_tokens (members_of rest.0)) w.2 rest.2),
     ))
 
 pub put_members-returns : goal.put_members-returns

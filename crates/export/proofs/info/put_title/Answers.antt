@@ -1,7 +1,7 @@
 use Rattle.std.proofs.Common.{◌≡◌, false, codes, refl, sym, ◌∙◌, arith}
 use Rattle.std.proofs.lemmas.Grind.{common_steps}
 use Rattle.toml.specs.View.{table_view}
-use Rattle.export.proofs.GivenLemmas.{no_fields}
+use Rattle.json_fields.proofs.Putting.{no_fields}
 use Rattle.export.proofs.HandedLemmas.{has_key}
 use Rattle.export.proofs.info.put_title.Goals as goal
 

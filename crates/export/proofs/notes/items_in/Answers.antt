@@ -1,6 +1,5 @@
-use Rattle.std.proofs.Common.{◌==◌}
+use Rattle.std.proofs.Common.{◌==◌, Bool}
 use Rattle.std.proofs.lemmas.Bool.{eq-eqb, ne_eqb}
-use Rattle.std.proofs.Common.{Bool}
 use Rattle.export.specs.declared.notes.Noted.{Noted}
 use Rattle.export.proofs.Sifting.{sifted_one, sifted_not}
 use Rattle.export.proofs.notes.items_in.Goals as goal

@@ -1,7 +1,3 @@
-use Rattle.std.proofs.Common.{List, Option, ℕ}
-use Rattle.streams.specs.Watched.{stream_of}
-use Rattle.live.specs.Desks.{DeskGoes, process_of}
-use Rattle.live.specs.Ends.{Course, further}
 use Rattle.live.proofs.DeskLemmas.{muted, passed_on, then}
 use Rattle.live.proofs.desk_loop.listen.Goals as goal
 
@@ -9,10 +5,7 @@ pub returns-in_err-take_all-clause-goes : goal.returns-in_err-take_all-clause-go
 returns-in_err-take_all-clause-goes g c =
     let old = c.args in
     let new = c.take_all.new in
-    λ typed turns. passed_on c.from_residual.result c.in_err-take_all.field-0.0
-    (λ (course : Course) (known : Option (List ℕ) → Option (List ℕ)). DeskGoes old.sheet.now old.desk.now new.desk (process_of old.desk.now old.between.now.warned turns further)
-    (process_of new.desk new.between.warned turns course) (g.L.Link.log old.link.now) (g.L.Link.log new.link) typed typed
-    (known (g.W.Write.contents (stream_of old.out.now))) (known (g.W.Write.contents (stream_of new.out))))
+    λ typed turns. passed_on c.from_residual.result c.in_err-take_all.field-0.0 old.sheet.now _ _ _ _ _ _ _ typed typed _ _
     c.from_residual.ensures.1 (c.in_err-take_all.ensures.goes typed turns)
 
 pub returns-clause-goes : goal.returns-clause-goes

@@ -1,8 +1,5 @@
-use Rattle.std.proofs.Common.{Bool, Err, List, Option, Result, ℕ}
-use Rattle.streams.specs.Watched.{stream_of}
-use Rattle.live.specs.Desks.{DeskGoes, process_of}
+use Rattle.std.proofs.Common.{Bool, Err, Result}
 use Rattle.live.specs.declared.ends.DeskEnd.{DeskEnd}
-use Rattle.live.specs.Ends.{Course, further}
 use Rattle.live.proofs.DeskLemmas.{muted, passed_on, rests, then}
 use Rattle.live.proofs.desk_loop.take_all.Goals as goal
 
@@ -22,9 +19,6 @@ returns-in_err-take_next-clause-goes g c =
     let old = c.args in
     let new = c.take_next.new in
     let met : Result Bool DeskEnd = Err c.in_err-take_next.field-0.0 in
-    λ typed turns. passed_on c.from_residual.result c.in_err-take_next.field-0.0
-    (λ (course : Course) (known : Option (List ℕ) → Option (List ℕ)). DeskGoes sheet old.desk.now new.desk (process_of old.desk.now old.between.now.warned turns further)
-    (process_of new.desk new.between.warned turns course) (g.L.Link.log old.link.now) (g.L.Link.log new.link) typed typed
-    (known (g.W.Write.contents (stream_of old.out.now))) (known (g.W.Write.contents (stream_of new.out))))
+    λ typed turns. passed_on c.from_residual.result c.in_err-take_next.field-0.0 sheet _ _ _ _ _ _ _ typed typed _ _
     c.from_residual.ensures.1
     (then sheet _ _ _ _ _ _ _ _ _ typed typed typed _ _ _ (muted met sheet _ _ _ _ _ _ typed typed _ _ (c.loop.invariant typed turns)) (c.in_err-take_next.ensures.goes typed turns))

@@ -1,7 +1,4 @@
-use Rattle.std.proofs.Common.{List, Option, sym, ℕ}
-use Rattle.streams.specs.Watched.{stream_of}
-use Rattle.live.specs.Desks.{DeskGoes, process_of}
-use Rattle.live.specs.Ends.{Course, further}
+use Rattle.std.proofs.Common.{sym}
 use Rattle.live.proofs.DeskLemmas.{logged, passed_on, passes, then}
 use Rattle.live.proofs.desk_loop.take_next.Goals as goal
 
@@ -9,10 +6,7 @@ pub returns-in_err-hear-in-Datagram-clause-goes : goal.returns-in_err-hear-in-Da
 returns-in_err-hear-in-Datagram-clause-goes g c =
     let sheet = c.args.sheet.now in
     let warned = c.args.between.now.warned in
-    λ typed turns. passed_on c.from_residual.result c.in_err-hear-in-Datagram.field-0.0
-    (λ (course : Course) (known : Option (List ℕ) → Option (List ℕ)). DeskGoes sheet c.args.desk.now c.hear.new.desk (process_of c.args.desk.now warned turns further)
-    (process_of c.hear.new.desk c.hear.new.between.warned turns course) (g.L.Link.log c.args.link.now) (g.L.Link.log c.hear.new.link) typed typed
-    (known (g.W.Write.contents (stream_of c.args.out.now))) (known (g.W.Write.contents (stream_of c.hear.new.out))))
+    λ typed turns. passed_on c.from_residual.result c.in_err-hear-in-Datagram.field-0.0 sheet _ _ _ _ _ _ _ typed typed _ _
     c.from_residual.ensures.1
     (then sheet _ _ _ _ _ _ _ _ _ typed typed typed _ _ _ (c.say.ensures sheet typed warned turns _) (c.in_err-hear-in-Datagram.ensures.goes _ typed turns c.in-Datagram.ensures.1))
 
@@ -26,10 +20,7 @@ returns-in_err-pass_over-in-Unopened-clause-goes g c =
     let sheet = c.args.sheet.now in
     let warned = c.args.between.now.warned in
     let passed = c.in_err-pass_over-in-Unopened.ensures in
-    λ typed turns. passed_on c.from_residual-in_err-pass_over-in-Unopened.result c.in_err-pass_over-in-Unopened.field-0.0
-    (λ (course : Course) (known : Option (List ℕ) → Option (List ℕ)). DeskGoes sheet c.args.desk.now c.args.desk.now (process_of c.args.desk.now warned turns further)
-    (process_of c.args.desk.now c.pass_over.new.between.warned turns course) (g.L.Link.log c.args.link.now) (g.L.Link.log c.take.new.self) typed typed
-    (known (g.W.Write.contents (stream_of c.args.out.now))) (known (g.W.Write.contents (stream_of c.pass_over.new.out))))
+    λ typed turns. passed_on c.from_residual-in_err-pass_over-in-Unopened.result c.in_err-pass_over-in-Unopened.field-0.0 sheet _ _ _ _ _ _ _ typed typed _ _
     c.from_residual-in_err-pass_over-in-Unopened.ensures.1
     (then sheet _ _ _ _ _ _ _ _ _ typed typed typed _ _ _ (c.say.ensures sheet typed warned turns _)
     (logged sheet _ _ _ _ _ _ _ typed typed _ _ (sym c.in-Unopened.ensures) (passes sheet c.args.desk.now warned _ turns _ _ typed _ _ passed.warned passed.course passed.text)))

@@ -1,7 +1,3 @@
-use Rattle.std.proofs.Common.{List, Option, ℕ}
-use Rattle.streams.specs.Watched.{stream_of}
-use Rattle.live.specs.Desks.{DeskGoes, process_of}
-use Rattle.live.specs.Ends.{Course, further}
 use Rattle.live.proofs.DeskLemmas.{muted, passed_on, then}
 use Rattle.live.proofs.reminding.remind.Goals as goal
 
@@ -9,10 +5,7 @@ pub returns-in_err-remind_of_writing-clause-goes : goal.returns-in_err-remind_of
 returns-in_err-remind_of_writing-clause-goes g c =
     let desk = c.args.desk.now in
     let new = c.remind_of_writing.new in
-    λ sheet log typed turns. passed_on c.from_residual.result c.in_err-remind_of_writing.field-0.0
-    (λ (course : Course) (known : Option (List ℕ) → Option (List ℕ)). DeskGoes sheet desk desk (process_of desk c.args.between.now.warned turns further)
-    (process_of desk new.between.warned turns course) log log typed typed
-    (known (g.W.Write.contents (stream_of c.args.out.now))) (known (g.W.Write.contents (stream_of new.out))))
+    λ sheet log typed turns. passed_on c.from_residual.result c.in_err-remind_of_writing.field-0.0 sheet _ _ _ _ _ _ _ typed typed _ _
     c.from_residual.ensures.1 (c.in_err-remind_of_writing.ensures.goes sheet log typed turns)
 
 pub returns-clause-goes : goal.returns-clause-goes

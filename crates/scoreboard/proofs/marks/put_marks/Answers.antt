@@ -3,7 +3,7 @@ use Rattle.json.specs.Json.{string}
 use Rattle.json_fields.specs.Values.{values_tokens}
 use Rattle.json_fields.proofs.Putting.{adds_each, begins_each, ends_each}
 use Rattle.scoreboard.specs.Marks.{mark_of}
-use Rattle.scoreboard.proofs.Rows.{each-map}
+use Rattle.std.proofs.lemmas.List.Concat.{flat_map_single}
 use Rattle.scoreboard.proofs.marks.put_marks.Goals as goal
 
 pub loop-index-init : goal.loop-index-init
@@ -15,4 +15,4 @@ loop-index-preserved c = adds_each _ _ _ (λ b. string (mark_of b) ∷ []) c.arg
 pub returns : goal.returns
 returns c =
     ends_each _ _ (λ b. string (mark_of b) ∷ []) c.args.over.now c.loop-index.index c.loop-index.invariant c.loop-index-test.false
-    ∙ ap (λ vs. c.args.out.now ++ values_tokens vs) (each-map (λ b. string (mark_of b)) c.args.over.now)
+    ∙ ap (λ vs. c.args.out.now ++ values_tokens vs) (flat_map_single (λ b. string (mark_of b)) c.args.over.now)
