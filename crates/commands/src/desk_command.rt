@@ -6,14 +6,16 @@ ghost use Rattle.commands.specs.DeskCommand as ends;
 use agree_core::DeskId;
 use cards::MatchSheet;
 use corrections::CheckedBook;
-use entry_log::{Disk, MemDisk, Slots};
-use live::{DeskEnd, LifeEnd, begin_desk, keep_desk};
-use machine::{Address, Keyboard, MOST_PEERS, MonotonicClock};
+use desk::restore::Restoring;
+use entry_log::Slots;
+use live::{DeskEnd, LifeEnd, keep_desk};
+use machine::{Address, FileDisk, Keyboard, MOST_PEERS, MonotonicClock, NoFile};
 use setup::{
     Sealing, StopFault, Stopped, VotesDisk, empty_disk, kept_votes, output, renewed_disk,
     told_sheet_at,
 };
 use std::net::SocketAddr;
+use vote_store::Votes;
 
 /// An empty book of the sheet's match.
 fn empty_book(rt: &HostRuntime, sheet: &MatchSheet) -> Result<CheckedBook, Stopped<'static>>
@@ -25,32 +27,29 @@ fn empty_book(rt: &HostRuntime, sheet: &MatchSheet) -> Result<CheckedBook, Stopp
     ))
 }
 
-/// Refuses votes on a disk that aren't the desk's, or are no legal book, as the desk would that begins on them.
-fn judge_on<'a, D: Disk + Drop>(
+/// These bytes, unless they aren't the desk's votes, or are no legal book: they are refused as the desk would refuse them
+/// that begins on them. No disk is asked, and the bytes aren't copied.
+fn judged<'a>(
     rt: &HostRuntime,
     sheet: &MatchSheet,
     desk: DeskId,
-    disk: D,
+    bytes: Vec<u8>,
     path: &'a str,
-) -> Result<(), Stopped<'a>> {
-    let book = empty_book(rt, sheet)?;
-    match begin_desk::<Slots<D>, CheckedBook>(rt.alloc(), disk, desk, sheet.game(), book) {
-        Ok(_desk) => Ok(()),
+) -> Result<Vec<u8>, Stopped<'a>> {
+    let disk = FileDisk::in_memory(bytes);
+    let restoring = Restoring::new(empty_book(rt, sheet)?);
+    match Votes::<Slots<FileDisk<NoFile>>>::open_with(
+        rt.alloc(),
+        disk,
+        desk,
+        sheet.game(),
+        restoring,
+    ) {
+        Ok((votes, restoring)) => match restoring.end(desk) {
+            Ok(_) => Ok(votes.into_disk().into_bytes()),
+            Err(why) => Err(Stopped::at(path, StopFault::from(why))),
+        },
         Err((why, _disk)) => Err(Stopped::at(path, StopFault::from(why))),
-    }
-}
-
-/// Refuses bytes that aren't the desk's votes, or are no legal book.
-fn judge<'a>(
-    rt: &HostRuntime,
-    sheet: &MatchSheet,
-    desk: DeskId,
-    bytes: &[u8],
-    path: &'a str,
-) -> Result<(), Stopped<'a>> {
-    match MemDisk::of(rt.alloc(), bytes, bytes.len()) {
-        Ok(disk) => judge_on(rt, sheet, desk, disk, path),
-        Err(why) => Err(Stopped::at(path, StopFault::from(why))),
     }
 }
 
@@ -66,7 +65,7 @@ fn disk_at<'r, 'a>(
     if bytes.is_empty() {
         return empty_disk(rt, path, file);
     }
-    judge(rt, sheet, desk, bytes.as_slice(), path)?;
+    let bytes = judged(rt, sheet, desk, bytes, path)?;
     renewed_disk(rt, path, file, bytes.as_slice())
 }
 
