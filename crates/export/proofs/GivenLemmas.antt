@@ -1,5 +1,5 @@
 -- What a sheet's table [info] hands on, value by value.
-use Rattle.std.proofs.Common.{◌≡◌, ℕ, Bool, true, false, Float, List, [], ◌∷◌, ◌++◌, Some, refl, sym, ap, ◌∙◌, subst, append-nil, append_assoc, if◌then◌else◌}
+use Rattle.std.proofs.Common.{◌≡◌, ℕ, Bool, true, false, Float, List, [], ◌∷◌, ◌++◌, Some, refl, sym, ap, ◌∙◌, subst, if◌then◌else◌}
 use Rattle.std.specs.Float.{binary64, float_is_finite}
 use Rattle.fast_float.specs.Parse.{parse_float}
 use Rattle.toml.specs.Data.{Data, Members, no_members, member}
@@ -7,7 +7,7 @@ use Rattle.json.specs.Json.{Json, null, number}
 use Rattle.json.specs.Print.{IsNumber}
 use Rattle.json.specs.Token.{Token, key}
 use Rattle.json.specs.Tree.{json_tokens}
-use Rattle.json_fields.specs.Values.{Field, fields_tokens}
+use Rattle.json_fields.specs.Values.{Field}
 use Rattle.json_fields.proofs.Putting.{adds, joined, no_fields, one_field, starts}
 use Rattle.export.specs.Given.{IsFloatOf, IsValueOf, AreFieldsOf, is_own, others}
 use Rattle.export.specs.inner.Putting.{PutsGiven, PutsHanded}

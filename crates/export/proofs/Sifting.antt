@@ -1,5 +1,5 @@
 -- What a loop over a list keeps of it.
-use Rattle.std.proofs.Common.{◌≡◌, ℕ, ◌+◌, cond, Bool, true, false, List, [], ◌∷◌, ◌++◌, drop, Some, sym, ap, ◌∙◌, append_assoc}
+use Rattle.std.proofs.Common.{◌≡◌, ℕ, ◌+◌, Bool, true, false, List, [], ◌∷◌, ◌++◌, drop, Some, append_assoc}
 use Rattle.std.specs.Prelude.{slice_get, filter}
 use Rattle.cards.proofs.Slots.{next}
 

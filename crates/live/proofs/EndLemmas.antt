@@ -13,7 +13,7 @@ use Rattle.wire.specs.declared.what.What.TheVariants as whats
 use Rattle.desk.specs.declared.refusal.Refusal.TheVariants as refusals
 use Rattle.live.specs.Ends.{Course, further}
 use Rattle.live.specs.Runs.{Moment, Run, last_of}
-use Rattle.live.specs.Desks.{DeskCall, DeskProcess, DeskStep, DiskView, Ended, Given, Reminded, Ticked, TurnEnded, Typed, TypingEnded, Unopened, course_after, desk_kind}
+use Rattle.live.specs.Desks.{DeskCall, DeskProcess, DeskStep, DiskView, Ended, Given, Ticked, Typed, course_after, desk_kind}
 use Rattle.live.specs.declared.said.Said.TheVariants as said
 use Rattle.live.specs.declared.ends.DeskEnd.{DeskEnd}
 use Rattle.live.specs.declared.ends.DeskEnd.TheVariants as ends

@@ -18,10 +18,10 @@ use Rattle.wire.specs.declared.what.What.TheVariants as whats
 use Rattle.cards.specs.Sheet.{Sheet}
 use Rattle.screen.specs.declared.word.Word.{Word}
 use Rattle.live.specs.declared.reminder.Reminder.{Reminder}
-use Rattle.live.specs.declared.reminder.Reminder.TheVariants.{HasWritten, IsHeard, IsMissed}
+use Rattle.live.specs.declared.reminder.Reminder.TheVariants.{HasWritten}
 use Rattle.live.specs.declared.said.Said.TheVariants as said
 use Rattle.live.specs.declared.warned.Warned.{Warned}
-use Rattle.live.specs.Desks.{DeskCall, DeskProcess, Given, MayRemind, Reminded, Ticked, TurnEnded, Typed, TypingEnded, Unopened, entry_in, own_line, told_of}
+use Rattle.live.specs.Desks.{DeskCall, DeskProcess, MayRemind, Typed, entry_in, own_line, told_of}
 use Rattle.live.specs.Hidden.{AsksWhere, HidesTheOther, IsPennedDiffering, TellsBoth, process_with}
 use Rattle.live.specs.Texts.{came_text, differs_text}
 

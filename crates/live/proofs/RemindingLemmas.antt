@@ -7,7 +7,7 @@ use Rattle.agree_core.specs.declared.seat.Heard.{Heard}
 use Rattle.agree_core.specs.FileView.{FileView}
 use Rattle.cards.specs.Sheet.{Sheet}
 use Rattle.wire.specs.declared.what.What.TheVariants as whats
-use Rattle.live.specs.Desks.{DeskCall, DeskProcess, DiskView, Given, MayCall, ProcessStep, Reminded, Ticked, TurnEnded, Typed, TypingEnded, Unopened, desk_kind, warned_at}
+use Rattle.live.specs.Desks.{DeskCall, DeskProcess, DiskView, Given, MayCall, ProcessStep, Reminded, desk_kind, warned_at}
 use Rattle.live.specs.Reminding.{BringsNone, IsNot, RemindsOnce, brings_news}
 use Rattle.live.specs.Runs.{Moment, Run, last_of}
 use Rattle.live.specs.declared.reminder.Reminder.{Reminder}

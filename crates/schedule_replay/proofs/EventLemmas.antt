@@ -13,7 +13,6 @@ use Rattle.entry_log.specs.declared.mem_disk.plan.Plan.TheVariants.{Calm}
 use Rattle.agree_core.specs.declared.messages.Message.{Message}
 use Rattle.agree_core.specs.Desks.{DeskState, Ticks}
 use Rattle.agree_core.specs.FileView.{Stays}
-use Rattle.vote_store.specs.View.{file_view}
 use Rattle.wire.specs.declared.datagram.Datagram.{Datagram}
 use Rattle.wire.specs.Sent.{AreSent}
 use Rattle.headline.specs.declared.event.Event.{Event}

@@ -26,11 +26,11 @@ use Rattle.headline.specs.Events.{station_of}
 use Rattle.headline.specs.Answers.{Answer}
 use Rattle.headline.specs.DeskSteps.{AtDesk}
 use Rattle.headline.specs.Steps.{StepAt}
-use Rattle.schedule_replay.specs.Refusals.{LeftByWant, RefusesEvent, down_at, first_cause, is_down, no_station, refusal_of}
+use Rattle.schedule_replay.specs.Refusals.{LeftByWant, down_at, first_cause, is_down, no_station, refusal_of}
 use Rattle.headline.specs.Match.{match_of}
 use Rattle.schedule_replay.specs.Answers.{AreBytesOf, answer_of}
 use Rattle.schedule_replay.specs.Plans.{HasPlan, LeavesPlan, StaysDue, asks_fault, due_on}
-use Rattle.schedule_replay.specs.inner.Sites.{IsProcess, HasNode, KeepsDue, SiteLeft, SiteSteps, SiteTakes, SyncsSite, disk_at, site_cause}
+use Rattle.schedule_replay.specs.inner.Sites.{IsProcess, HasNode, KeepsDue, SiteLeft, SiteTakes, SyncsSite, disk_at, site_cause}
 use Rattle.schedule_replay.specs.inner.Sites as sites
 use Rattle.schedule_replay.specs.CodeWorlds.{IsSiteOf, HasConfiguration, RefusesTo, StepsTo, board_state, code_site}
 use Rattle.schedule_replay.proofs.SiteLemmas.{site_disk}

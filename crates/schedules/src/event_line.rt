@@ -1,6 +1,6 @@
 //! One line of a schedule.
 
-ghost use Rattle.std.specs.Prelude.{◌≡◌, ◌≤◌, IfSome, MatchOption, Some, None};
+ghost use Rattle.std.specs.Prelude.{◌≡◌, MatchOption, Some, None};
 ghost use Rattle.notation.specs.Written.{found_number};
 ghost use Rattle.schedules.specs.inner.ScheduleReading.{choice_at, cut, count_at, desk_at, event_at, fill_at, give_at, line_says, pen_at, pick, power_at, readers, station_at};
 

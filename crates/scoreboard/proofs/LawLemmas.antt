@@ -1,11 +1,11 @@
 -- What a board's figures add up to.
-use Rattle.std.proofs.Common.{◌≡◌, ℕ, ◌+◌, ◌≤◌, Bool, true, false, Some, None, Option, List, [], ◌∷◌, length, eqb, refl, sym, ap, arith}
+use Rattle.std.proofs.Common.{◌≡◌, ℕ, ◌+◌, Bool, true, false, Some, None, Option, List, [], ◌∷◌, length, eqb, refl, sym, ap, arith}
 use Rattle.std.specs.Prelude.{◌==◌, ◌&&◌, is_some, if◌then◌else◌}
 use Rattle.std.proofs.lemmas.Bool.{eq-eqb}
 use Rattle.std.proofs.lemmas.List.{length_push}
 use Rattle.notation.specs.declared.entry.Out.{Out}
-use Rattle.notation.specs.declared.entry.Leave.TheVariants.{TimedOut, RetiredOut, RetiredHurt, RunOut}
-use Rattle.notation.specs.declared.entry.Plain.TheVariants.{Innings, Come, Ball as Bowl, Gone, Over, Penalty, Swap, End, Close, Void}
+use Rattle.notation.specs.declared.entry.Leave.TheVariants.{RetiredHurt}
+use Rattle.notation.specs.declared.entry.Plain.TheVariants.{Innings, Ball as Bowl, Gone, Over, End}
 use Rattle.ball_laws.specs.declared.ends.Ends.{Ends}
 use Rattle.ball_laws.specs.History.{History}
 use Rattle.ball_laws.specs.Laws.{state_after}
