@@ -1,12 +1,7 @@
 -- What every call of a desk keeps, over any disk.
 use Rattle.std.proofs.Common.{◌≡◌, ◌≢◌, ◌⊎◌, ℕ, ◌+◌, true, true≢false, Option, Some, None, List, [], ◌∷◌, ◌++◌, length, refl, sym, ap, ◌∙◌, subst, inl, inr, arith, ⊎_elim, length-append}
 use Rattle.notation.specs.declared.entry.Entry.{Entry}
-use Rattle.agree_core.specs.declared.messages.DeskId.{DeskId}
-use Rattle.agree_core.specs.declared.messages.Message.{Message}
-use Rattle.agree_core.specs.declared.messages.Vote.{Vote}
-use Rattle.agree_core.specs.declared.position.Position.{Position}
-use Rattle.agree_core.specs.declared.seat.Heard.{Heard}
-use Rattle.agree_core.specs.declared.seat.Settled.{Settled}
+use Rattle.agree_core.specs.declared.{messages.DeskId.DeskId, messages.Message.Message, messages.Vote.Vote, position.Position.Position, seat.Heard.Heard, seat.Settled.Settled}
 use Rattle.agree_core.specs.Ballots.{Ballot, Follows, In, Justified, Within, ballot_of}
 use Rattle.agree_core.specs.Books.{Rules, book_of}
 use Rattle.agree_core.specs.Desks.{DeskState, Fails, PenAnswer, Pens, ReceiveAnswer, Receives, Ticks, Unchanged, ask_other, asker, book_after, book_heard, next_ballot, own_vote}

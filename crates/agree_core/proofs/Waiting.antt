@@ -1,11 +1,8 @@
 -- No seat and no reader keeps both votes of its position.
 use Rattle.std.proofs.Common.{◌≡◌, None, inl, inr, refl}
 use Rattle.notation.specs.declared.entry.Entry.{Entry}
-use Rattle.agree_core.specs.declared.messages.DeskId.{DeskId}
+use Rattle.agree_core.specs.declared.{messages.DeskId.DeskId, messages.Vote.Vote, seat.Heard.Heard, seat.Settled.Settled}
 use Rattle.agree_core.specs.declared.messages.DeskId.TheVariants.{A, B}
-use Rattle.agree_core.specs.declared.messages.Vote.{Vote}
-use Rattle.agree_core.specs.declared.seat.Heard.{Heard}
-use Rattle.agree_core.specs.declared.seat.Settled.{Settled}
 use Rattle.agree_core.specs.Seats.{Casts, Hears, SeatState, SeatWaits}
 use Rattle.agree_core.specs.Readers.{Listens, ReaderState, ReaderWaits, noted_of, noting, other}
 

@@ -1,10 +1,8 @@
 -- What the desks voted: a desk's part is a list of ballots, the newest first.
 use Rattle.std.specs.Prelude.{◌≡◌, ◌≢◌, ◌-◌, ◌⊎◌, ℕ, List, [], ◌∷◌, length, drop}
 use Rattle.notation.specs.declared.entry.Entry.{Entry}
-use Rattle.agree_core.specs.declared.messages.DeskId.{DeskId}
+use Rattle.agree_core.specs.declared.{messages.DeskId.DeskId, messages.Vote.Vote, position.Position.Position}
 use Rattle.agree_core.specs.declared.messages.DeskId.TheVariants.{A, B}
-use Rattle.agree_core.specs.declared.messages.Vote.{Vote}
-use Rattle.agree_core.specs.declared.position.Position.{Position}
 use Rattle.agree_core.specs.Positions.{InRange, first, next_place, next_round, position_of}
 
 -- a desk's number on files and in datagrams

@@ -1,9 +1,7 @@
 -- What a board does at each call, by cases of its answer.
 use Rattle.std.specs.Prelude.{◌≡◌, ◌≢◌, ◌⊎◌, ℕ, None, List, [], ◌∷◌}
 use Rattle.notation.specs.declared.entry.Entry.{Entry}
-use Rattle.agree_core.specs.declared.messages.Asker.{Asker}
-use Rattle.agree_core.specs.declared.messages.Message.{Message}
-use Rattle.agree_core.specs.declared.seat.Heard.{Heard}
+use Rattle.agree_core.specs.declared.{messages.Asker.Asker, messages.Message.Message, seat.Heard.Heard}
 use Rattle.agree_core.specs.Positions.{InRange, IsFull, first}
 use Rattle.agree_core.specs.Readers.{ReaderState, Listens, reading}
 use Rattle.agree_core.specs.Books.{Rules}

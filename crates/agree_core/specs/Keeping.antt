@@ -1,9 +1,7 @@
 -- What every call of a desk and of a board keeps: seat, reader and book are those of the votes.
 use Rattle.std.specs.Prelude.{◌≡◌, ◌≢◌, ◌⊎◌, false, Option, Some, None, List, [], ◌∷◌, length}
 use Rattle.notation.specs.declared.entry.Entry.{Entry}
-use Rattle.agree_core.specs.declared.messages.DeskId.{DeskId}
-use Rattle.agree_core.specs.declared.messages.Message.{Message}
-use Rattle.agree_core.specs.declared.position.Position.{Position}
+use Rattle.agree_core.specs.declared.{messages.DeskId.DeskId, messages.Message.Message, position.Position.Position}
 use Rattle.agree_core.specs.Agreed.{AllBoth}
 use Rattle.agree_core.specs.Ballots.{AllVotes, Ballot, Follows, In, Justified, Within, ballot_of, votes_by}
 use Rattle.agree_core.specs.Boards.{BoardState}

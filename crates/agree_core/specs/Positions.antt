@@ -1,9 +1,7 @@
 -- Places of a book, rounds of voting on them, and their order.
 use Rattle.std.specs.Prelude.{◌≡◌, ◌<◌, ◌≤◌, ◌+◌, ◌⊎◌, Bool, true, false}
-use Rattle.agree_core.specs.declared.position.Position.{Position}
+use Rattle.agree_core.specs.declared.{position.Position.Position, position.TheConstants.ROUNDS, messages.Vote.Vote}
 use Rattle.notation.specs.declared.entry.TheConstants.{PLACES}
-use Rattle.agree_core.specs.declared.position.TheConstants.{ROUNDS}
-use Rattle.agree_core.specs.declared.messages.Vote.{Vote}
 
 -- a position at which a vote can be cast or asked for
 abbrev pub InRange : Position → Type 0

@@ -1,11 +1,8 @@
 -- A board's view of the current round, and what a vote makes of it.
 use Rattle.std.specs.Prelude.{◌≡◌, ◌≢◌, ◌⊎◌, Option, Some, None}
 use Rattle.notation.specs.declared.entry.Entry.{Entry}
-use Rattle.agree_core.specs.declared.messages.DeskId.{DeskId}
+use Rattle.agree_core.specs.declared.{messages.DeskId.DeskId, messages.Vote.Vote, position.Position.Position, seat.Heard.Heard}
 use Rattle.agree_core.specs.declared.messages.DeskId.TheVariants.{A, B}
-use Rattle.agree_core.specs.declared.messages.Vote.{Vote}
-use Rattle.agree_core.specs.declared.position.Position.{Position}
-use Rattle.agree_core.specs.declared.seat.Heard.{Heard}
 use Rattle.agree_core.specs.Positions.{Before, next_place, next_round, position_of}
 
 -- a board at a position, and each desk's vote there

@@ -1,13 +1,8 @@
 -- Worked calls of a desk and of a board, at the first place, over disks that show two lists of votes.
 use Rattle.std.specs.Prelude.{◌≡◌, ◌⊎◌, ℕ, false, true, Option, Some, None, List, [], ◌∷◌}
 use Rattle.notation.specs.declared.entry.Entry.{Entry}
-use Rattle.agree_core.specs.declared.messages.Asker.{Asker}
-use Rattle.agree_core.specs.declared.messages.DeskId.{DeskId}
+use Rattle.agree_core.specs.declared.{messages.Asker.Asker, messages.DeskId.DeskId, messages.Message.Message, position.Position.Position, seat.Heard.Heard, seat.Settled.Settled}
 use Rattle.agree_core.specs.declared.messages.DeskId.TheVariants.{A, B}
-use Rattle.agree_core.specs.declared.messages.Message.{Message}
-use Rattle.agree_core.specs.declared.position.Position.{Position}
-use Rattle.agree_core.specs.declared.seat.Heard.{Heard}
-use Rattle.agree_core.specs.declared.seat.Settled.{Settled}
 use Rattle.agree_core.specs.Ballots.{Ballot, ballot_at, vote_of}
 use Rattle.agree_core.specs.Boards.{BoardAnswer, BoardReceives, BoardState, fresh_board}
 use Rattle.agree_core.specs.Books.{Rules}

@@ -2,8 +2,7 @@
 use Rattle.std.proofs.Common.{◌≡◌, ℕ, ◌==◌, Bool, true, false, if◌then◌else◌, List, Result, Ok, ap}
 use Rattle.std.specs.Prelude.{slice_get, unwrap_or}
 use Rattle.notation.specs.declared.entry.Entry.{Entry}
-use Rattle.agree_core.specs.declared.position.Position.{Position}
-use Rattle.agree_core.specs.declared.messages.DeskId.{DeskId}
+use Rattle.agree_core.specs.declared.{position.Position.Position, messages.DeskId.DeskId}
 use Rattle.agree_core.specs.Ballots.{Ballot, In, desk_number}
 use Rattle.entry_log.specs.Format.{contents}
 use Rattle.entry_log.specs.Version1.{version_1}

@@ -8,7 +8,6 @@ use Rattle.agree_core.specs.Agreed.{IsAgreedList}
 use Rattle.agree_core.specs.Ballots.{AllVotes}
 use Rattle.agree_core.specs.Books.{AllTaken, FirstRefused}
 use Rattle.vote_store.specs.declared.refusal.Refusal.{Refusal}
-use Rattle.vote_store.specs.declared.refusal.Refusal.TheVariants as refusals
 use Rattle.cards.specs.Sheet.{Sheet}
 use Rattle.books.specs.CardBook.{votes_in_file}
 use Rattle.books.specs.declared.fault.BothFault.{BothFault}
@@ -48,5 +47,5 @@ WhyNoBookOfBoth s a b fault = WhyNotOpened s.game a b fault
 
 -- the fault of a desk's votes file that is refused: being out of memory is its own
 abbrev pub of_file : DeskId → Refusal → BothFault
-of_file desk refusals.NoMemory = NoMemory
+of_file desk Refusal.NoMemory = NoMemory
 of_file desk why = Votes desk why

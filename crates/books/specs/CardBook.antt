@@ -11,14 +11,9 @@ use Rattle.entry_log.specs.Version2.{version_2}
 use Rattle.vote_store.specs.declared.refusal.Refusal.{Refusal}
 use Rattle.vote_store.specs.Sequence.{file_votes}
 use Rattle.cards.specs.Sheet.{Sheet}
-use Rattle.vote_store.specs.declared.refusal.Refusal.TheVariants as votes
 use Rattle.desk.specs.declared.refusal.OpenRefusal.{OpenRefusal}
-use Rattle.desk.specs.declared.refusal.OpenRefusal.TheVariants as openings
-use Rattle.books.specs.declared.fault.BookFault.{BookFault}
+use Rattle.books.specs.declared.{fault.BookFault.BookFault, rejected.Rejected.Rejected, source.Source.Source}
 use Rattle.books.specs.declared.fault.BookFault.TheVariants.{NoMemory, Line, Votes, BadVotes}
-use Rattle.books.specs.declared.rejected.Rejected.{Rejected}
-use Rattle.books.specs.declared.source.Source.{Source}
-use Rattle.books.specs.declared.source.Source.TheVariants as source
 use Rattle.books.specs.declared.source.Source.TheVariants.{Lines}
 use Rattle.notation.specs.Lines.{lines_of}
 use Rattle.books.specs.Taking.{answer_to, book_after}
@@ -77,18 +72,18 @@ WhyNoBookOfVotes innings (Ok votes) fault = NamesBadVotes (book_refusal innings)
 -- the book of an input, with the match and the innings of a sheet
 abbrev pub IsBookFrom : Source → Sheet → List ℕ → List Entry → Type 0
 IsBookFrom Lines s input book = IsBookOfLines s.innings input book
-IsBookFrom (source.Votes desk) s input book = IsBookOfVotes s.innings (votes_in_file desk s.game input) book
+IsBookFrom (Source.Votes desk) s input book = IsBookOfVotes s.innings (votes_in_file desk s.game input) book
 
 abbrev pub WhyNoBook : Source → Sheet → List ℕ → BookFault → Type 0
 WhyNoBook Lines s input fault = WhyNoBookOfLines s.innings input fault
-WhyNoBook (source.Votes desk) s input fault = WhyNoBookOfVotes s.innings (votes_in_file desk s.game input) fault
+WhyNoBook (Source.Votes desk) s input fault = WhyNoBookOfVotes s.innings (votes_in_file desk s.game input) fault
 
 -- the fault of a votes file that is refused: being out of memory is its own
 abbrev pub of_votes : Refusal → BookFault
-of_votes votes.NoMemory = NoMemory
+of_votes Refusal.NoMemory = NoMemory
 of_votes why = Votes why
 
 -- the same of a file whose votes are no legal book
 abbrev pub of_opening : OpenRefusal → BookFault
-of_opening (openings.Votes why) = of_votes why
-of_opening (openings.BadVotes place) = BadVotes place
+of_opening (OpenRefusal.Votes why) = of_votes why
+of_opening (OpenRefusal.BadVotes place) = BadVotes place

@@ -2,16 +2,14 @@
 use Rattle.std.specs.Prelude.{◌≡◌, ℕ, zero, suc, Bool, true, false, ◌&&◌, if◌then◌else◌, List, [], ◌∷◌, ◌++◌, length, count_by, Option, Some, None, is_some, is_none, IfSome, codes, decimal}
 use Rattle.std.specs.List.{flat_map}
 use Rattle.std.specs.Str.{bytes_eq}
-use Rattle.notation.specs.declared.entry.Entry.{Entry}
-use Rattle.notation.specs.declared.entry.TheConstants.{PLACES}
+use Rattle.notation.specs.declared.entry.{Entry.Entry, TheConstants.PLACES}
 use Rattle.notation.specs.Written.{IsEntry, text_of}
 use Rattle.agree_core.specs.declared.position.TheConstants.{ROUNDS}
 use Rattle.agree_core.specs.Agreed.{IsAgreedList}
 use Rattle.agree_core.specs.Ballots.{AllVotes}
 use Rattle.books.specs.BothFiles.{HaveVotes}
 use Rattle.books.specs.DeskVotes.{entry_at}
-use Rattle.books.specs.declared.compare.Difference.{Difference}
-use Rattle.books.specs.declared.compare.Comparison.{Comparison}
+use Rattle.books.specs.declared.compare.{Difference.Difference, Comparison.Comparison}
 
 -- both are written alike, or both are missing
 abbrev pub is_alike : Option Entry → Option Entry → Bool

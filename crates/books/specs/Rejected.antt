@@ -4,9 +4,8 @@ use Rattle.notation.specs.LineFault.{number_of as fault_number, name_of as fault
 use Rattle.match_laws.specs.LawRefusal.{number_of as law_number}
 use Rattle.corrections.specs.Refusal as refusals
 use Rattle.corrections.specs.declared.refusal.Refusal.TheVariants.{Later}
-use Rattle.books.specs.declared.rejected.Refusal.{Refusal}
+use Rattle.books.specs.declared.rejected.{Refusal.Refusal, Rejected.Rejected}
 use Rattle.books.specs.declared.rejected.Refusal.TheVariants.{PlacesFull, Book}
-use Rattle.books.specs.declared.rejected.Rejected.{Rejected}
 use Rattle.books.specs.declared.rejected.Rejected.TheVariants.{Fault, Refused}
 
 abbrev pub number_of : Refusal → ℕ

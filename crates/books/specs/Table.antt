@@ -2,8 +2,7 @@
 use Rattle.std.specs.Prelude.{◌≡◌, ℕ, List, length, Result, Ok, Err, IsOk}
 use Rattle.notation.specs.declared.entry.Entry.{Entry}
 use Rattle.agree_core.specs.declared.messages.DeskId.TheVariants.{A, B}
-use Rattle.books.specs.declared.table.Table.{Table}
-use Rattle.books.specs.declared.rejected.Rejected.{Rejected}
+use Rattle.books.specs.declared.{table.Table.Table, rejected.Rejected.Rejected}
 use Rattle.books.specs.inner.Seats.{free_at}
 
 -- the entries that both desks have agreed

@@ -1,9 +1,7 @@
 -- Which entries are taken: what the entries taken so far make of a line, in a match of so many innings a side.
 use Rattle.std.specs.Prelude.{ℕ, Bool, nat_le, if◌then◌else◌, List, [], ◌∷◌, ◌++◌, length}
 use Rattle.std.specs.Prelude.{Option, Some, None, Result, Ok, Err}
-use Rattle.notation.specs.declared.entry.Entry.{Entry}
-use Rattle.notation.specs.declared.entry.TheConstants.{PLACES}
-use Rattle.notation.specs.declared.fault.LineFault.{LineFault}
+use Rattle.notation.specs.declared.{entry.Entry.Entry, entry.TheConstants.PLACES, fault.LineFault.LineFault}
 use Rattle.notation.specs.Reading.{line_answer}
 use Rattle.corrections.specs.declared.refusal.Refusal.{Refusal as BookRefusal}
 use Rattle.corrections.specs.Refusal.{book_refusal}

@@ -3,11 +3,8 @@ use Rattle.std.proofs.Common.{◌≡◌, ◌<◌, ℕ, ◌+◌, Some, List, [], 
 use Rattle.std.proofs.Math.Seq.{take-length}
 use Rattle.entry_log.specs.declared.mem_disk.MemDisk.{MemDisk}
 use Rattle.cards.specs.Sheet.{Sheet}
-use Rattle.headline.specs.declared.event.Event.{Event}
-use Rattle.schedule_replay.specs.declared.seen.Seen.{Seen}
-use Rattle.schedule_replay.specs.declared.seen.WorldRefusal.{WorldRefusal}
-use Rattle.headline.specs.declared.version.FileVersion.{FileVersion}
-use Rattle.schedule_replay.specs.declared.world.World.{World}
+use Rattle.headline.specs.declared.{event.Event.Event, version.FileVersion.FileVersion}
+use Rattle.schedule_replay.specs.declared.{seen.Seen.Seen, seen.WorldRefusal.WorldRefusal, world.World.World}
 use Rattle.schedule_replay.specs.CodeWorlds.{BeginsWorld, HasConfiguration, RefusesTo, KeepsMatch, StepsTo}
 use Rattle.schedule_replay.specs.Replays.{IsRunOf, MatchRun}
 use Rattle.headline.specs.Runs.{last_of}

@@ -6,20 +6,15 @@ use Rattle.agree_core.specs.declared.messages.DeskId.{DeskId}
 use Rattle.agree_core.specs.declared.messages.DeskId.TheVariants.{A, B}
 use Rattle.cards.specs.Sheet.{Sheet}
 use Rattle.toml.specs.Data.{Members}
-use Rattle.streams.specs.declared.input.InputFault.{InputFault}
-use Rattle.streams.specs.declared.input.InputFault.TheVariants as inputs
-use Rattle.streams.specs.declared.watched.Watched.{Watched}
+use Rattle.streams.specs.declared.{input.InputFault.InputFault, watched.Watched.Watched}
 use Rattle.streams.specs.Watched.{Prints}
 use Rattle.books.specs.BothFiles.{IsBookOfBoth, WhyNoBookOfBoth, WhyNotOpened}
 use Rattle.books.specs.Card.{card_text}
 use Rattle.books.specs.Comparing.{IsComparison, comparison_text}
-use Rattle.books.specs.declared.compare.Comparison.{Comparison}
-use Rattle.books.specs.declared.fault.BothFault.{BothFault}
-use Rattle.books.specs.declared.fault.BothFault.TheVariants as both
+use Rattle.books.specs.declared.{compare.Comparison.Comparison, fault.BothFault.BothFault}
 use Rattle.export.specs.Names.{told_apart}
 use Rattle.export.specs.Value.{IsExport}
 use Rattle.setup.specs.declared.fault.StopFault.{StopFault}
-use Rattle.setup.specs.declared.fault.StopFault.TheVariants as stops
 use Rattle.commands.specs.declared.both_files.BothPrintFault.{BothPrintFault}
 use Rattle.commands.specs.declared.both_files.BothPrintFault.TheVariants.{NoMemory, Read, Write, Book}
 
@@ -46,12 +41,12 @@ module _ {S : Type 0} (contents : S → Option (List ℕ)) (old new : Watched S)
 
 -- a desk's file isn't read to its end
 abbrev pub of_input : DeskId → InputFault → BothPrintFault
-of_input desk inputs.NoMemory = NoMemory
-of_input desk inputs.Read = Read desk
+of_input desk InputFault.NoMemory = NoMemory
+of_input desk InputFault.Read = Read desk
 
 -- both files have no book: being out of memory is its own
 abbrev pub of_book : BothFault → BothPrintFault
-of_book both.NoMemory = NoMemory
+of_book BothFault.NoMemory = NoMemory
 of_book why = Book why
 
 -- out of memory, or a read failed
@@ -78,14 +73,14 @@ WhyNotCompared s a b (Book why) = WhyNotOpened s.game a b why
 -- the file of desk B is at fault
 abbrev pub is_of_second : BothPrintFault → Bool
 is_of_second (Read B) = true
-is_of_second (Book (both.Votes B why)) = true
+is_of_second (Book (BothFault.Votes B why)) = true
 is_of_second fault = false
 
 -- what standard error is told, and the status, go by
 abbrev pub stop_of : BothPrintFault → StopFault
-stop_of NoMemory = stops.NoMemory
-stop_of (Read desk) = stops.Read
-stop_of Write = stops.Write
-stop_of (Book both.NoMemory) = stops.NoMemory
-stop_of (Book (both.Votes desk why)) = stops.VotesNamed why
-stop_of (Book (both.BadVotes place)) = stops.BadVotes place
+stop_of NoMemory = StopFault.NoMemory
+stop_of (Read desk) = StopFault.Read
+stop_of Write = StopFault.Write
+stop_of (Book BothFault.NoMemory) = StopFault.NoMemory
+stop_of (Book (BothFault.Votes desk why)) = StopFault.VotesNamed why
+stop_of (Book (BothFault.BadVotes place)) = StopFault.BadVotes place

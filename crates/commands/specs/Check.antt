@@ -9,9 +9,7 @@ use Rattle.notation.specs.Lines.{lines_of}
 use Rattle.books.specs.Taking.{answer_to, book_after, with_taken}
 use Rattle.books.specs.Rejected.{rejection_line}
 use Rattle.streams.specs.declared.input.InputFault.{InputFault}
-use Rattle.streams.specs.declared.input.InputFault.TheVariants as inputs
 use Rattle.setup.specs.declared.fault.StopFault.{StopFault}
-use Rattle.setup.specs.declared.fault.StopFault.TheVariants as stops
 use Rattle.commands.specs.declared.check.CheckFault.{CheckFault}
 use Rattle.commands.specs.declared.check.CheckFault.TheVariants.{NoMemory, Read, Write}
 
@@ -53,11 +51,11 @@ output_of innings input =
 
 -- the fault of an input that isn't read to its end
 abbrev pub of_input : InputFault → CheckFault
-of_input inputs.NoMemory = NoMemory
-of_input inputs.Read = Read
+of_input InputFault.NoMemory = NoMemory
+of_input InputFault.Read = Read
 
 -- what standard error is told, and the status, go by
 abbrev pub stop_of : CheckFault → StopFault
-stop_of NoMemory = stops.NoMemory
-stop_of Read = stops.Read
-stop_of Write = stops.Write
+stop_of NoMemory = StopFault.NoMemory
+stop_of Read = StopFault.Read
+stop_of Write = StopFault.Write

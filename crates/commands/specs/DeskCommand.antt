@@ -5,7 +5,6 @@ use Rattle.live.specs.declared.desk_life.LifeEnd.TheVariants.{Ended, NotBegun}
 use Rattle.live.specs.declared.ends.DeskEnd.TheVariants.{Device, NoMoreLines, Quit, Write}
 use Rattle.setup.specs.Fault.{of_opening}
 use Rattle.setup.specs.declared.fault.StopFault.{StopFault}
-use Rattle.setup.specs.declared.fault.StopFault.TheVariants as stops
 
 -- why it ends with a fault, by how its desk's process ended and whether its keyboard failed: where its scorer stopped,
 -- there is none
@@ -13,7 +12,7 @@ abbrev pub stop_of : Result (Unit {0}) LifeEnd → Bool → Option StopFault
 stop_of (Ok done) failed = None
 stop_of (Err (NotBegun why)) failed = Some (of_opening why)
 stop_of (Err (Ended Quit)) failed = None
-stop_of (Err (Ended NoMoreLines)) true = Some stops.Read
+stop_of (Err (Ended NoMoreLines)) true = Some StopFault.Read
 stop_of (Err (Ended NoMoreLines)) false = None
-stop_of (Err (Ended Write)) failed = Some stops.Write
-stop_of (Err (Ended Device)) failed = Some stops.Disk
+stop_of (Err (Ended Write)) failed = Some StopFault.Write
+stop_of (Err (Ended Device)) failed = Some StopFault.Disk

@@ -4,14 +4,11 @@ use Rattle.entry_log.specs.Disk.{Images}
 use Rattle.entry_log.specs.Format.{contents}
 use Rattle.entry_log.specs.Version1.{version_1}
 use Rattle.vote_store.specs.Migrated.{IsMigrated}
-use Rattle.vote_store.specs.declared.migration.Migrated.{Migrated}
+use Rattle.vote_store.specs.declared.{migration.Migrated.Migrated, refusal.Refusal.Refusal}
 use Rattle.vote_store.specs.Refusal.{not_empty}
 use Rattle.vote_store.specs.Sequence.{file_votes}
-use Rattle.vote_store.specs.declared.refusal.Refusal.{Refusal}
-use Rattle.vote_store.specs.declared.refusal.Refusal.TheVariants as votes
 use Rattle.entry_log.specs.declared.refusal.Refusal.TheVariants as files
 use Rattle.setup.specs.declared.fault.StopFault.{StopFault}
-use Rattle.setup.specs.declared.fault.StopFault.TheVariants as stops
 use Rattle.commands.specs.declared.migrate.MigrateFault.{MigrateFault}
 use Rattle.commands.specs.declared.migrate.MigrateFault.TheVariants.{NoMemory, Write, Device, Votes}
 
@@ -43,13 +40,13 @@ old_left (Err ended) = ended.1
 
 -- the fault of a votes file that is refused: being out of memory and a failing disk are their own
 abbrev pub of_votes : Refusal → MigrateFault
-of_votes votes.NoMemory = NoMemory
-of_votes (votes.File files.Device) = Device
+of_votes Refusal.NoMemory = NoMemory
+of_votes (Refusal.File files.Device) = Device
 of_votes why = Votes why
 
 -- what standard error is told, and the status, go by
 abbrev pub stop_of : MigrateFault → StopFault
-stop_of NoMemory = stops.NoMemory
-stop_of Write = stops.Write
-stop_of Device = stops.Write
-stop_of (Votes why) = stops.Votes why
+stop_of NoMemory = StopFault.NoMemory
+stop_of Write = StopFault.Write
+stop_of Device = StopFault.Write
+stop_of (Votes why) = StopFault.Votes why

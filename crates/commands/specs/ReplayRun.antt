@@ -3,13 +3,10 @@
 use Rattle.std.specs.Prelude.{◌≡◌, ◌+◌, ℕ, ⊤, Bool, true, false, Some, List, ◌++◌, length, slice_get, take, Option}
 use Rattle.entry_log.specs.declared.mem_disk.MemDisk.{MemDisk}
 use Rattle.cards.specs.Sheet.{Sheet}
-use Rattle.streams.specs.declared.watched.Watched.{Watched}
+use Rattle.streams.specs.declared.{watched.Watched.Watched, input.InputFault.InputFault}
 use Rattle.streams.specs.Watched.{Prints}
-use Rattle.headline.specs.declared.event.Event.{Event}
-use Rattle.schedule_replay.specs.declared.report.Report.{Report}
-use Rattle.schedule_replay.specs.declared.seen.Seen.{Seen}
-use Rattle.schedule_replay.specs.declared.seen.WorldRefusal.{WorldRefusal}
-use Rattle.headline.specs.declared.version.FileVersion.{FileVersion}
+use Rattle.headline.specs.declared.{event.Event.Event, version.FileVersion.FileVersion}
+use Rattle.schedule_replay.specs.declared.{report.Report.Report, seen.Seen.Seen, seen.WorldRefusal.WorldRefusal}
 use Rattle.schedule_replay.specs.CodeWorlds.{HasConfiguration}
 use Rattle.notation.specs.Lines.{lines_of}
 use Rattle.headline.specs.Match.{match_of}
@@ -20,14 +17,9 @@ use Rattle.schedules.specs.ScheduleLines.{HasFault, IsScheduleOf}
 use Rattle.schedule_replay.specs.SeenWords.{refusal_number}
 use Rattle.headline.specs.Configurations.{Configuration}
 use Rattle.schedules.specs.declared.schedule_fault.ScheduleFault.{ScheduleFault}
-use Rattle.schedules.specs.declared.schedule_fault.ScheduleFault.TheVariants as schedules
-use Rattle.streams.specs.declared.input.InputFault.{InputFault}
-use Rattle.streams.specs.declared.input.InputFault.TheVariants as inputs
 use Rattle.setup.specs.declared.fault.StopFault.{StopFault}
-use Rattle.setup.specs.declared.fault.StopFault.TheVariants as stops
-use Rattle.commands.specs.declared.replay.ReplayFault.{ReplayFault}
+use Rattle.commands.specs.declared.replay.{ReplayFault.ReplayFault, step.Stepped.Stepped}
 use Rattle.commands.specs.declared.replay.ReplayFault.TheVariants.{NoMemory, Read, Write, Schedule}
-use Rattle.commands.specs.declared.replay.step.Stepped.{Stepped}
 use Rattle.commands.specs.declared.replay.step.Stepped.TheVariants.{Whole, Refused}
 use Rattle.commands.specs.Replay.{event_lines, last_lines, refusal_line}
 
@@ -97,20 +89,20 @@ WhyNoReplay input (Schedule why) = HasFault (lines_of input) why
 
 -- the fault of an input that isn't read to its end
 abbrev pub of_input : InputFault → ReplayFault
-of_input inputs.NoMemory = NoMemory
-of_input inputs.Read = Read
+of_input InputFault.NoMemory = NoMemory
+of_input InputFault.Read = Read
 
 -- the fault of a schedule that is refused: being out of memory is its own
 abbrev pub of_schedule : ScheduleFault → ReplayFault
-of_schedule schedules.NoMemory = NoMemory
+of_schedule ScheduleFault.NoMemory = NoMemory
 of_schedule why = Schedule why
 
 -- what standard error is told, and the status, go by
 abbrev pub stop_of : ReplayFault → StopFault
-stop_of NoMemory = stops.NoMemory
-stop_of Read = stops.Read
-stop_of Write = stops.Write
-stop_of (Schedule why) = stops.Schedule why
+stop_of NoMemory = StopFault.NoMemory
+stop_of Read = StopFault.Read
+stop_of Write = StopFault.Write
+stop_of (Schedule why) = StopFault.Schedule why
 
 -- ---- for private functions
 

@@ -6,10 +6,7 @@ use Rattle.std.specs.Fmt.{decimal}
 use Rattle.std.proofs.lemmas.Bool.{and_parts}
 use Rattle.std.proofs.lemmas.Bool.Decides.{nat_tests}
 use Rattle.std.proofs.lemmas.Option.{cond_some, none-some, option_and_then_some, same_Some}
-use Rattle.toml_datetime.specs.declared.datetime.Date.{Date}
-use Rattle.toml_datetime.specs.declared.datetime.Time.{Time}
-use Rattle.toml_datetime.specs.declared.datetime.Offset.{Offset}
-use Rattle.toml_datetime.specs.declared.datetime.Datetime.{Datetime}
+use Rattle.toml_datetime.specs.declared.datetime.{Date.Date, Time.Time, Offset.Offset, Datetime.Datetime}
 use Rattle.toml_datetime.specs.Valid.{is_valid_date}
 use Rattle.toml_datetime.specs.Parse.{after_byte, after_date, after_time, colon, dash, full_date, is_time_delim, parse_datetime, partial_time, time_offset, two_digits, whole}
 use Rattle.toml_datetime.specs.Text.{date_text, datetime_text, delim_text, offset_text, part_text, time_text, two_wide}

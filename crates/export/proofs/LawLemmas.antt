@@ -4,10 +4,8 @@ use Rattle.std.specs.List.{flat_map, list_any}
 use Rattle.std.proofs.lemmas.Bool.{eqb-true}
 use Rattle.std.proofs.lemmas.Bool.Decides.{nat_tests}
 use Rattle.notation.specs.declared.entry.Side.TheVariants.{Home, Away}
-use Rattle.notation.specs.declared.entry.Ball.{Ball}
-use Rattle.notation.specs.declared.entry.Plain.{Plain}
+use Rattle.notation.specs.declared.entry.{Ball.Ball, Plain.Plain, Entry.Entry}
 use Rattle.notation.specs.declared.entry.Plain.TheVariants.{Ball as Bowl, Gone, Penalty}
-use Rattle.notation.specs.declared.entry.Entry.{Entry}
 use Rattle.notation.specs.declared.entry.Leave.TheVariants.{RetiredHurt}
 use Rattle.ball_laws.specs.History.{History, is_wicket}
 use Rattle.std.specs.Prelude.{is_some}
@@ -24,8 +22,7 @@ use Rattle.corrections.specs.Legal.{IsLegalBook}
 use Rattle.corrections.proofs.LegalLemmas.{history_after-clean, scored_legal}
 use Rattle.corrections.proofs.ScoringLemmas.{first_refused-cons}
 use Rattle.cards.specs.Sheet.{Sheet}
-use Rattle.export.specs.declared.begun.Begun.{Begun}
-use Rattle.export.specs.declared.notes.Noted.{Noted}
+use Rattle.export.specs.declared.{begun.Begun.Begun, notes.Noted.Noted}
 use Rattle.export.specs.Notes.{note, notes, begun_of, awards_to, is_awarded, is_ball, carried, items_in, earlier_of}
 use Rattle.export.specs.Deliveries.{penalties}
 use Rattle.json.specs.Json.{Json, null}

@@ -4,10 +4,8 @@ use Rattle.std.specs.Cmp.{nat_eq_equiv}
 use Rattle.std.proofs.lemmas.Bool.{or_left, or_right}
 use Rattle.std.proofs.lemmas.Bool.Decides.{nat_tests}
 use Rattle.std.specs.List.{cons_option, filter_map, list_any}
-use Rattle.notation.specs.declared.entry.Ball.{Ball}
+use Rattle.notation.specs.declared.entry.{Ball.Ball, Out.Out, Who.Who}
 use Rattle.notation.specs.declared.entry.Leave.TheVariants.{TimedOut}
-use Rattle.notation.specs.declared.entry.Out.{Out}
-use Rattle.notation.specs.declared.entry.Who.{Who}
 use Rattle.notation.specs.declared.entry.Who.TheVariants.{Striker, Other}
 use Rattle.notation.specs.declared.entry.Plain.TheVariants.{Innings, Come, Ball as Bowl, Gone, Over, Swap, End}
 use Rattle.ball_laws.specs.declared.ends.Ends.{Ends}

@@ -2,11 +2,9 @@
 use Rattle.std.proofs.Common.{◌≡◌, ℕ, ◌+◌, ◌≤◌, List, [], ◌∷◌, ◌++◌, length, drop, Some, None, true, false, refl, sym, ap, ◌∙◌, append-nil, append_assoc}
 use Rattle.std.specs.Prelude.{Result, Ok, Err, slice_get}
 use Rattle.std.proofs.lemmas.List.{drop_all}
-use Rattle.notation.specs.declared.entry.Plain.{Plain}
-use Rattle.notation.specs.declared.entry.Entry.{Entry}
+use Rattle.notation.specs.declared.entry.{Plain.Plain, Entry.Entry}
 use Rattle.ball_laws.specs.History.{History}
-use Rattle.match_laws.specs.declared.standing.Standing.{Standing}
-use Rattle.match_laws.specs.declared.refusals.LawRefusal.{LawRefusal}
+use Rattle.match_laws.specs.declared.{standing.Standing.Standing, refusals.LawRefusal.LawRefusal}
 use Rattle.match_laws.specs.History.{is_void}
 use Rattle.match_laws.specs.Refusals.{refusal}
 use Rattle.match_laws.specs.Stands.{StandsFor, IsStep, answer_with}
@@ -18,8 +16,7 @@ use Rattle.corrections.specs.Legal.{IsLegalBook}
 use Rattle.corrections.proofs.LegalLemmas.{history_after-clean, scored_legal}
 use Rattle.corrections.proofs.ScoringLemmas.{first_refused-cons, kept_first, kept_not}
 use Rattle.cards.proofs.Slots.{next}
-use Rattle.export.specs.declared.notes.Noted.{Noted}
-use Rattle.export.specs.declared.begun.Begun.{Begun}
+use Rattle.export.specs.declared.{notes.Noted.Noted, begun.Begun.Begun}
 use Rattle.export.specs.Notes.{note, notes, begun_of}
 
 -- what was noted of the first k items of what stands, none of which is refused, and the match after them

@@ -10,8 +10,7 @@ use Rattle.json.specs.Json.{Json}
 use Rattle.json.specs.Token.{Token}
 use Rattle.json_fields.specs.Values.{values_tokens}
 use Rattle.json_fields.proofs.Putting.{adds_values, no_values}
-use Rattle.export.specs.declared.begun.Begun.{Begun}
-use Rattle.export.specs.declared.notes.Noted.{Noted}
+use Rattle.export.specs.declared.{begun.Begun.Begun, notes.Noted.Noted}
 use Rattle.export.specs.Notes.{is_ball, carried}
 use Rattle.export.specs.Deliveries.{listed}
 use Rattle.export.specs.Innings.{deliveries_from, overs_from, over_of}

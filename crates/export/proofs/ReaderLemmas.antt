@@ -4,21 +4,14 @@ use Rattle.std.specs.Prelude.{is_some}
 use Rattle.std.specs.List.{list_any}
 use Rattle.std.proofs.lemmas.Bool.Decides.{nat_tests}
 use Rattle.std.proofs.lemmas.Fmt.{digits_value-decimal}
-use Rattle.notation.specs.declared.entry.Side.{Side}
-use Rattle.notation.specs.declared.entry.Ball.{Ball}
-use Rattle.notation.specs.declared.entry.Bound.{Bound}
+use Rattle.notation.specs.declared.entry.{Side.Side, Ball.Ball, Bound.Bound, How.How, Kind.Kind, Out.Out, Plain.Plain}
 use Rattle.notation.specs.declared.entry.Bound.TheVariants.{Run}
-use Rattle.notation.specs.declared.entry.How.{How}
 use Rattle.notation.specs.declared.entry.How.TheVariants.{Caught}
-use Rattle.notation.specs.declared.entry.Kind.{Kind}
 use Rattle.notation.specs.declared.entry.Kind.TheVariants.{Bat, Wide, Nb}
 use Rattle.notation.specs.declared.entry.Leave.TheVariants.{TimedOut}
-use Rattle.notation.specs.declared.entry.Out.{Out}
-use Rattle.notation.specs.declared.entry.Plain.{Plain}
 use Rattle.notation.specs.declared.entry.Plain.TheVariants.{Gone}
 use Rattle.notation.proofs.Numbers.{own}
-use Rattle.ball_laws.specs.declared.ends.Ends.{Ends}
-use Rattle.ball_laws.specs.declared.runs.Split.{Split}
+use Rattle.ball_laws.specs.declared.{ends.Ends.Ends, runs.Split.Split}
 use Rattle.ball_laws.specs.Over.{debit_of, is_wide_or_no_ball}
 use Rattle.ball_laws.specs.Runs.{credits, is_six, is_struck, runs_scored, split, split_of_ball}
 use Rattle.ball_laws.specs.Sums.{count_of, one_if}

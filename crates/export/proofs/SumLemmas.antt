@@ -3,11 +3,8 @@ use Rattle.std.proofs.Common.{◌≡◌, ℕ, ◌+◌, ◌≤◌, ◌==◌, cond
 use Rattle.std.specs.List.{AllByRecursion, flat_map}
 use Rattle.std.proofs.lemmas.Bool.{cond_both}
 use Rattle.std.proofs.lemmas.List.Elements.{All-append, All-cons, All-filter, All-from_recursion, All-nil, recursion_from_All}
-use Rattle.notation.specs.declared.entry.Side.{Side}
-use Rattle.notation.specs.declared.entry.Ball.{Ball}
-use Rattle.notation.specs.declared.entry.Plain.{Plain}
+use Rattle.notation.specs.declared.entry.{Side.Side, Ball.Ball, Plain.Plain, Entry.Entry}
 use Rattle.notation.specs.declared.entry.Plain.TheVariants.{Ball as Bowl}
-use Rattle.notation.specs.declared.entry.Entry.{Entry}
 use Rattle.notation.specs.declared.entry.Entry.TheVariants.{Write, Fix, Late}
 use Rattle.notation.specs.Written.{IsEntry, IsPlain}
 use Rattle.ball_laws.specs.declared.ends.Ends.{Ends}
@@ -20,8 +17,7 @@ use Rattle.corrections.specs.Legal.{IsLegalBook}
 use Rattle.corrections.proofs.LegalLemmas.{history_after-clean, scored_legal}
 use Rattle.cards.specs.Sheet.{Sheet}
 use Rattle.json.specs.Json.{Json}
-use Rattle.export.specs.declared.begun.Begun.{Begun}
-use Rattle.export.specs.declared.notes.Noted.{Noted}
+use Rattle.export.specs.declared.{begun.Begun.Begun, notes.Noted.Noted}
 use Rattle.export.specs.Notes.{begun_of, carried, is_ball, items_in, notes}
 use Rattle.export.specs.Deliveries.{delivery_of, listed_of, penalties}
 use Rattle.export.specs.Innings.{overs_of}

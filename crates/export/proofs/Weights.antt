@@ -1,9 +1,7 @@
 -- A number of each delivery: its sum over the items of an innings is that over the deliveries of the Laws.
 use Rattle.std.proofs.Common.{◌≡◌, ℕ, suc, ◌+◌, ◌==◌, cond, if◌then◌else◌, List, [], ◌∷◌, None, Option, refl, ap, ◌∙◌, arith, add-one}
 use Rattle.std.proofs.Math.Dec.{eqb-suc-suc}
-use Rattle.notation.specs.declared.entry.Ball.{Ball}
-use Rattle.notation.specs.declared.entry.Leave.{Leave}
-use Rattle.notation.specs.declared.entry.Plain.{Plain}
+use Rattle.notation.specs.declared.entry.{Ball.Ball, Leave.Leave, Plain.Plain}
 use Rattle.notation.specs.declared.entry.Plain.TheVariants.{Ball as Bowl, Gone}
 use Rattle.ball_laws.specs.History.{History}
 use Rattle.ball_laws.specs.Laws.{state_after}

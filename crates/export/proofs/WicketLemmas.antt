@@ -2,14 +2,9 @@
 use Rattle.std.proofs.Common.{◌≡◌, ◌≢◌, ℕ, ◌+◌, ◌==◌, ◌&&◌, ◌||◌, not, cond, Bool, true, false, List, [], ◌∷◌, ◌++◌, codes, Option, Some, None, refl, sym, ap, ◌∙◌, arith}
 use Rattle.std.specs.Prelude.{bytes_eq, is_some}
 use Rattle.std.specs.List.{flat_map}
-use Rattle.notation.specs.declared.entry.Side.{Side}
-use Rattle.notation.specs.declared.entry.Ball.{Ball}
-use Rattle.notation.specs.declared.entry.Entry.{Entry}
-use Rattle.notation.specs.declared.entry.How.{How}
+use Rattle.notation.specs.declared.entry.{Side.Side, Ball.Ball, Entry.Entry, How.How, Out.Out, Plain.Plain}
 use Rattle.notation.specs.declared.entry.How.TheVariants.{Caught}
 use Rattle.notation.specs.declared.entry.Leave.TheVariants.{TimedOut}
-use Rattle.notation.specs.declared.entry.Out.{Out}
-use Rattle.notation.specs.declared.entry.Plain.{Plain}
 use Rattle.notation.specs.declared.entry.Plain.TheVariants.{Ball as Bowl, Gone}
 use Rattle.ball_laws.specs.declared.ends.Ends.{Ends}
 use Rattle.ball_laws.specs.History.{is_wicket}
@@ -21,8 +16,7 @@ use Rattle.corrections.specs.Legal.{IsLegalBook}
 use Rattle.cards.specs.Sheet.{Sheet}
 use Rattle.json.specs.Json.{Json}
 use Rattle.json_fields.specs.Values.{array_of, members_of}
-use Rattle.export.specs.declared.begun.Begun.{Begun}
-use Rattle.export.specs.declared.notes.Noted.{Noted}
+use Rattle.export.specs.declared.{begun.Begun.Begun, notes.Noted.Noted}
 use Rattle.export.specs.Notes.{begun_of, carried, is_ball, items_in}
 use Rattle.export.specs.Wickets as listing
 use Rattle.export.specs.Wickets.{departures, gone_of, has_gone, has_wickets, how_words, is_gone, own_wickets}

@@ -1,20 +1,15 @@
 -- Deliveries, each with what it carries. s is the sheet, side the side that bats in innings i, f which innings each side
 -- began first, early the items before the first delivery of the innings, and late those up to the next delivery.
 use Rattle.std.specs.Prelude.{ℕ, ◌+◌, ◌*◌, ◌==◌, Bool, not, ◌&&◌, ◌||◌, if◌then◌else◌, List, [], ◌∷◌, ◌++◌, length, filter, codes}
-use Rattle.notation.specs.declared.entry.Side.{Side}
-use Rattle.notation.specs.declared.entry.Ball.{Ball}
-use Rattle.notation.specs.declared.entry.Plain.{Plain}
-use Rattle.notation.specs.declared.entry.Plain.TheVariants as plain
-use Rattle.ball_laws.specs.declared.ends.Ends.{Ends}
-use Rattle.ball_laws.specs.declared.runs.Split.{Split}
+use Rattle.notation.specs.declared.entry.{Side.Side, Ball.Ball, Plain.Plain}
+use Rattle.ball_laws.specs.declared.{ends.Ends.Ends, runs.Split.Split}
 use Rattle.ball_laws.specs.Runs.{all_runs, split_of_ball, is_six}
 use Rattle.match_laws.specs.History.{opponent}
 use Rattle.match_laws.specs.Figures.{is_four}
 use Rattle.cards.specs.Sheet.{Sheet, player_of}
 use Rattle.json.specs.Json.{Json}
 use Rattle.json_fields.specs.Values.{Field, object_of, text_field, number_field, count_field, flag_if}
-use Rattle.export.specs.declared.begun.Begun.{Begun}
-use Rattle.export.specs.declared.notes.Noted.{Noted}
+use Rattle.export.specs.declared.{begun.Begun.Begun, notes.Noted.Noted}
 use Rattle.export.specs.Notes.{is_awarded}
 use Rattle.export.specs.Wickets.{batter_value, wickets_fields}
 
@@ -71,7 +66,7 @@ delivery_of s side penalty early ends b late =
 
 -- what is listed of an item: a delivery
 abbrev pub listed_of : Sheet → Side → Begun → ℕ → List Noted → Plain → Ends → List Noted → List Json
-listed_of s side f i early (plain.Ball b) ends late = delivery_of s side (penalties f i late) early ends b late ∷ []
+listed_of s side f i early (Plain.Ball b) ends late = delivery_of s side (penalties f i late) early ends b late ∷ []
 listed_of s side f i early _ ends late = []
 
 abbrev pub listed : Sheet → Side → Begun → ℕ → List Noted → Noted → List Noted → List Json

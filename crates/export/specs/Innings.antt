@@ -2,10 +2,7 @@
 -- the items of all innings with where they stand.
 use Rattle.std.specs.Prelude.{ℕ, ◌+◌, ◌-◌, ◌*◌, ◌==◌, nat_lt, Bool, false, true, not, ◌&&◌, if◌then◌else◌, List, [], ◌∷◌, ◌++◌, filter, Option, Some, None, codes}
 use Rattle.std.specs.List.{list_any}
-use Rattle.notation.specs.declared.entry.Side.{Side}
-use Rattle.notation.specs.declared.entry.Cause.TheVariants as cause
-use Rattle.notation.specs.declared.entry.Plain.{Plain}
-use Rattle.notation.specs.declared.entry.Plain.TheVariants as plain
+use Rattle.notation.specs.declared.entry.{Side.Side, Cause.Cause, Plain.Plain}
 use Rattle.ball_laws.specs.History.{History}
 use Rattle.match_laws.specs.History.{begun, side_of, opponent, is_at}
 use Rattle.match_laws.specs.Figures.{total}
@@ -13,8 +10,7 @@ use Rattle.match_laws.specs.Result.{side_total}
 use Rattle.cards.specs.Sheet.{Sheet, name_of}
 use Rattle.json.specs.Json.{Json}
 use Rattle.json_fields.specs.Values.{Field, array_of, object_of, text_field, number_field, count_field, flag_if, up_to}
-use Rattle.export.specs.declared.begun.Begun.{Begun}
-use Rattle.export.specs.declared.notes.Noted.{Noted}
+use Rattle.export.specs.declared.{begun.Begun.Begun, notes.Noted.Noted}
 use Rattle.export.specs.Notes.{begun_of, items_in, is_ball, carried}
 use Rattle.export.specs.Miscounts.{miscounted_fields}
 use Rattle.export.specs.Deliveries.{listed, penalties}
@@ -47,11 +43,11 @@ module _ (s : Sheet) (side : Side) (f : Begun) (i : ℕ) where
   overs_of xs = overs_from None (carried xs) xs
 
 abbrev pub is_declaration : Plain → Bool
-is_declaration (plain.End cause.Declared) = true
+is_declaration (Plain.End Cause.Declared) = true
 is_declaration _ = false
 
 abbrev pub is_forfeiture : Plain → Bool
-is_forfeiture (plain.End cause.Forfeited) = true
+is_forfeiture (Plain.End Cause.Forfeited) = true
 is_forfeiture _ = false
 
 -- these items have the captain's declaration, or his forfeiture

@@ -3,8 +3,7 @@ use Rattle.std.specs.Prelude.{ℕ, Bool, true, ◌&&◌, nat_le, if◌then◌els
 use Rattle.toml.specs.Data.{Data, string, datetime, Members, get_member, as_integer}
 use Rattle.toml_datetime.specs.Parse.{parse_datetime}
 use Rattle.toml_datetime.specs.Text.{date_text}
-use Rattle.toml_datetime.specs.declared.datetime.Date.{Date}
-use Rattle.toml_datetime.specs.declared.datetime.Datetime.{Datetime}
+use Rattle.toml_datetime.specs.declared.datetime.{Date.Date, Datetime.Datetime}
 use Rattle.json.specs.Json.{Json}
 use Rattle.json_fields.specs.Values.{Field, object_of, text_field, number_field}
 use Rattle.export.specs.Given.{table_in}

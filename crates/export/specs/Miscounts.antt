@@ -2,12 +2,11 @@
 use Rattle.std.specs.Prelude.{◌==◌, Bool, true, false, not, ◌&&◌, if◌then◌else◌, List, [], ◌∷◌, codes, decimal}
 use Rattle.std.specs.List.{list_any}
 use Rattle.notation.specs.declared.entry.Plain.{Plain}
-use Rattle.notation.specs.declared.entry.Plain.TheVariants as plain
 use Rattle.json_fields.specs.Values.{Field, object_of, number_field}
 use Rattle.export.specs.declared.notes.Noted.{Noted}
 
 abbrev pub is_call : Plain → Bool
-is_call plain.Over = true
+is_call Plain.Over = true
 is_call _ = false
 
 abbrev pub is_miscounted : Noted → Bool

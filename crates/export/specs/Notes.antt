@@ -1,17 +1,14 @@
 -- The clean list with where each item stands in the match.
 use Rattle.std.specs.Prelude.{ℕ, ◌==◌, Bool, true, false, if◌then◌else◌, List, [], ◌∷◌, filter, Option, None}
-use Rattle.notation.specs.declared.entry.Side.{Side}
+use Rattle.notation.specs.declared.entry.{Side.Side, Plain.Plain}
 use Rattle.notation.specs.declared.entry.Side.TheVariants.{Home, Away}
-use Rattle.notation.specs.declared.entry.Plain.{Plain}
-use Rattle.notation.specs.declared.entry.Plain.TheVariants as plain
 use Rattle.ball_laws.specs.History.{History}
 use Rattle.ball_laws.specs.Laws.{state_after}
 use Rattle.match_laws.specs.History.{begun, latest_of, first_of, or_else, is_at}
 use Rattle.match_laws.specs.Figures.{balls, overs}
 use Rattle.match_laws.specs.Result.{current}
 use Rattle.corrections.specs.declared.placed.Placed.{Placed}
-use Rattle.export.specs.declared.begun.Begun.{Begun}
-use Rattle.export.specs.declared.notes.Noted.{Noted}
+use Rattle.export.specs.declared.{begun.Begun.Begun, notes.Noted.Noted}
 
 -- how many overs were called in the innings that began last
 abbrev pub overs_called : History → ℕ
@@ -40,7 +37,7 @@ latest_in f Away = f.away_latest
 
 -- the innings that the side of an award had begun last before it
 abbrev pub earlier_of : History → Plain → Option ℕ
-earlier_of h (plain.Penalty to law part) = latest_of h to
+earlier_of h (Plain.Penalty to law part) = latest_of h to
 earlier_of h _ = None
 
 -- an item of the clean list after a history
@@ -66,14 +63,14 @@ items_in i xs = filter (λ x. x.innings == i) xs
 -- the item awards penalty runs that count in innings i (Law 41): the innings that its side began last before it, else
 -- its first
 abbrev pub awards_to : Begun → ℕ → Plain → Option ℕ → Bool
-awards_to f i (plain.Penalty to law part) earlier = is_at (or_else earlier (first_in f to)) i
+awards_to f i (Plain.Penalty to law part) earlier = is_at (or_else earlier (first_in f to)) i
 awards_to f i _ earlier = false
 
 abbrev pub is_awarded : Begun → ℕ → Noted → Bool
 is_awarded f i x = awards_to f i x.item x.earlier
 
 abbrev pub is_ball : Plain → Bool
-is_ball (plain.Ball b) = true
+is_ball (Plain.Ball b) = true
 is_ball _ = false
 
 -- what a delivery carries: the items behind it, up to the next one

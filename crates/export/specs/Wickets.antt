@@ -1,15 +1,7 @@
 -- Who is out, and how. s is the sheet, and side the side that bats.
 use Rattle.std.specs.Prelude.{ℕ, ◌==◌, Bool, true, false, ◌||◌, if◌then◌else◌, List, [], ◌∷◌, ◌++◌, Option, Some, None, is_some, codes}
 use Rattle.std.specs.List.{list_any, flat_map}
-use Rattle.notation.specs.declared.entry.Side.{Side}
-use Rattle.notation.specs.declared.entry.Ball.{Ball}
-use Rattle.notation.specs.declared.entry.How.{How}
-use Rattle.notation.specs.declared.entry.How.TheVariants as how
-use Rattle.notation.specs.declared.entry.Leave.{Leave}
-use Rattle.notation.specs.declared.entry.Leave.TheVariants as leave
-use Rattle.notation.specs.declared.entry.Out.{Out}
-use Rattle.notation.specs.declared.entry.Plain.{Plain}
-use Rattle.notation.specs.declared.entry.Plain.TheVariants as plain
+use Rattle.notation.specs.declared.entry.{Side.Side, Ball.Ball, How.How, Leave.Leave, Out.Out, Plain.Plain}
 use Rattle.ball_laws.specs.declared.ends.Ends.{Ends}
 use Rattle.ball_laws.specs.Ends.{batter_at}
 use Rattle.match_laws.specs.History.{opponent}
@@ -24,20 +16,20 @@ abbrev pub catch_words : Bool → List ℕ
 catch_words own = if own then codes "caught and bowled" else codes "caught"
 
 abbrev pub how_words : Bool → How → List ℕ
-how_words own how.Bowled = codes "bowled"
-how_words own how.Caught = catch_words own
-how_words own how.Lbw = codes "lbw"
-how_words own how.Stumped = codes "stumped"
-how_words own how.HitWicket = codes "hit wicket"
-how_words own how.HitTwice = codes "hit the ball twice"
-how_words own how.Obstructing = codes "obstructing the field"
-how_words own how.RunOut = codes "run out"
+how_words own How.Bowled = codes "bowled"
+how_words own How.Caught = catch_words own
+how_words own How.Lbw = codes "lbw"
+how_words own How.Stumped = codes "stumped"
+how_words own How.HitWicket = codes "hit wicket"
+how_words own How.HitTwice = codes "hit the ball twice"
+how_words own How.Obstructing = codes "obstructing the field"
+how_words own How.RunOut = codes "run out"
 
 abbrev pub leave_words : Leave → List ℕ
-leave_words leave.TimedOut = codes "timed out"
-leave_words leave.RetiredOut = codes "retired out"
-leave_words leave.RetiredHurt = codes "retired hurt"
-leave_words leave.RunOut = codes "run out"
+leave_words Leave.TimedOut = codes "timed out"
+leave_words Leave.RetiredOut = codes "retired out"
+leave_words Leave.RetiredHurt = codes "retired hurt"
+leave_words Leave.RunOut = codes "run out"
 
 -- the name of who is at an end
 abbrev pub batter_value : Sheet → Side → Option ℕ → Json
@@ -75,11 +67,11 @@ departure_of s side way p =
     ++ text_field (codes "kind") (leave_words way) ∷ [])
 
 abbrev pub is_gone : Plain → Bool
-is_gone (plain.Gone way p) = true
+is_gone (Plain.Gone way p) = true
 is_gone _ = false
 
 abbrev pub gone_of : Sheet → Side → Plain → List Json
-gone_of s side (plain.Gone way p) = departure_of s side way p ∷ []
+gone_of s side (Plain.Gone way p) = departure_of s side way p ∷ []
 gone_of s side _ = []
 
 -- who went, of these items

@@ -1,8 +1,7 @@
 -- Worked documents of sheets: what is said of the file, and what is refused.
 use Rattle.std.specs.Prelude.{◌≡◌, ℕ, true, false, pos, negsuc, List, [], ◌∷◌, Some, None, codes}
 use Rattle.toml.specs.Data.{Data, Members, no_members, member, datetime, string, integer, table}
-use Rattle.toml_datetime.specs.declared.datetime.Date.{Date}
-use Rattle.toml_datetime.specs.declared.datetime.Time.{Time}
+use Rattle.toml_datetime.specs.declared.datetime.{Date.Date, Time.Time}
 use Rattle.json_fields.specs.Values.{Field, object_of, text_field, number_field}
 use Rattle.export.specs.Document.{is_fine_document}
 use Rattle.export.specs.Meta.{meta_of}

@@ -1,14 +1,11 @@
 -- What the words on the command line ask for, and what is told where they ask for nothing.
 use Rattle.std.specs.Prelude.{ℕ, ◌≤◌, ◌++◌, ⊤, List, codes}
 use Rattle.clap.specs.declared.error.kind.ErrorKind as clap
-use Rattle.clap.specs.declared.error.kind.ErrorKind.TheVariants as claps
+use Rattle.clap.specs.declared.error.kind.ErrorKind.{ErrorKind}
 use Rattle.std.specs.declared.io.ErrorKind as host
 use Rattle.std.specs.declared.io.ErrorKind.TheVariants as hosts
-use Rattle.ground.specs.declared.status.Status.{Status}
-use Rattle.ground.specs.declared.status.Status.TheVariants as statuses
-use Rattle.ground.specs.declared.words.Task.{Task}
+use Rattle.ground.specs.declared.{status.Status.Status, words.Task.Task, words.WordsFault.WordsFault}
 use Rattle.ground.specs.declared.words.Task.TheVariants.{Check, Replay}
-use Rattle.ground.specs.declared.words.WordsFault.{WordsFault}
 use Rattle.ground.specs.declared.words.WordsFault.TheVariants.{NotUnderstood, NoMemory}
 
 -- what no words ask for: `check` in a match of two innings a side
@@ -28,12 +25,12 @@ of_host kind = NotUnderstood
 
 -- why `clap` doesn't take them: out of memory, or they are none of the program's forms
 abbrev pub of_parse : clap.ErrorKind → WordsFault
-of_parse claps.OutOfMemory = NoMemory
+of_parse ErrorKind.OutOfMemory = NoMemory
 of_parse kind = NotUnderstood
 
 abbrev pub words_status : WordsFault → Status
-words_status NotUnderstood = statuses.Words
-words_status NoMemory = statuses.Failed
+words_status NotUnderstood = Status.Words
+words_status NoMemory = Status.Failed
 
 -- what standard error is told
 abbrev pub words_text : WordsFault → List ℕ

@@ -1,9 +1,8 @@
 -- What every event of a run keeps, over any disk.
 use Rattle.std.proofs.Common.{arith, ◌≡◌, ℕ, Option, Some, None, List, [], ◌∷◌, ◌++◌, refl, sym, ap, ◌∙◌, subst}
 use Rattle.std.specs.Prelude.{slice_get}
-use Rattle.agree_core.specs.declared.messages.DeskId.{DeskId}
+use Rattle.agree_core.specs.declared.messages.{DeskId.DeskId, Message.Message}
 use Rattle.agree_core.specs.declared.messages.DeskId.TheVariants.{A, B}
-use Rattle.agree_core.specs.declared.messages.Message.{Message}
 use Rattle.agree_core.specs.Ballots.{AllJustified, AllVotes, Ballot, Justified, VotesGrow, Within, votes_by}
 use Rattle.agree_core.specs.Boards.{BoardState}
 use Rattle.agree_core.specs.Desks.{DeskState, PenAnswer, ReceiveAnswer}
@@ -11,13 +10,8 @@ use Rattle.agree_core.specs.FileView.{MaySync, Stays}
 use Rattle.agree_core.specs.Openings.{Opening, Opens}
 use Rattle.agree_core.specs.Readers.{other}
 use Rattle.agree_core.proofs.Order.{justified_grows}
-use Rattle.headline.specs.declared.event.Event.{Event}
-use Rattle.headline.specs.declared.event.Event.TheVariants as events
-use Rattle.headline.specs.declared.event.Station.{Station}
-use Rattle.headline.specs.declared.event.Station.TheVariants as stations
+use Rattle.headline.specs.declared.{event.Event.Event, event.Station.Station, fault.Fault.Fault, version.FileVersion.FileVersion}
 use Rattle.headline.specs.declared.fault.Fault.TheVariants.{Fail, Stop}
-use Rattle.headline.specs.declared.fault.Fault.{Fault}
-use Rattle.headline.specs.declared.version.FileVersion.{FileVersion}
 use Rattle.headline.specs.declared.version.FileVersion.TheVariants.{Old, New}
 use Rattle.headline.specs.Match.{Setting}
 use Rattle.headline.specs.Configurations.{Process, Running, Down, Node, Configuration, node, process_disk, process_votes, all_votes, with_disk, with_node}
@@ -136,25 +130,25 @@ module _ {Disk Why : Type 0} (s : Setting Disk Why) where
   pub at_desk_keeps : (sent : List Message) (d : DeskId) (theirs : List Ballot) (event : Event) (x : Node Disk) (answer : Answer Why) (y : Node Disk) (out : List Message)
       → ((n : ℕ) (m : Message) → slice_get sent n ≡ Some m → TheirMessage d theirs m) → ProcessFine x.version d theirs x.process
       → AtDesk s sent d event x answer y out → KeptAt d theirs x y out
-  at_desk_keeps sent d theirs (events.Pen c e) x answer y out t f p =
+  at_desk_keeps sent d theirs (Event.Pen c e) x answer y out t f p =
       let kept = pens_keep (s.view d x.version) d theirs s.rules p.0 p.1 e p.2 out (running x.version d theirs x.process p.0 p.3 f) p.4 in
       after_pen d theirs x p.0 p.1 out p.3 kept p.2 answer y p.5
-  at_desk_keeps sent d theirs (events.Give n u) x answer y out t f p =
+  at_desk_keeps sent d theirs (Event.Give n u) x answer y out t f p =
       let kept = receives_keep (s.view d x.version) d theirs p.0 p.1 p.2 p.3 out (running x.version d theirs x.process p.0 p.4 f) (t n p.2 p.5) p.6 in
       after_receive d theirs x p.0 p.1 out p.4 kept p.3 answer y p.7
-  at_desk_keeps sent d theirs (events.Tick u) x answer y out t f p =
+  at_desk_keeps sent d theirs (Event.Tick u) x answer y out t f p =
       let kept = ticks_keep (s.view d x.version) d theirs p.0 out (running x.version d theirs x.process p.0 p.1 f) p.2 in
       runs_on d theirs x p.0 p.0 out p.1 kept y x.due (p.4 ∙ ap (λ (z : Process Disk). record x { process = z }) p.1)
-  at_desk_keeps sent d theirs (events.Kill c) x answer y out t f p =
+  at_desk_keeps sent d theirs (Event.Kill c) x answer y out t f p =
       let h = p.2 in
       let disk = stays_fine (s.view d x.version) d theirs (process_votes x.process) (process_disk x.process) h.0 h.1 (fine_disk x.version d theirs x.process f) in
       rw p.4 (down_at d theirs x y h.0 f disk h.2)
-  at_desk_keeps sent d theirs (events.Power c choice) x answer y out t f p = rw p.4 (down_at d theirs x y p.0 f (loses_power x.version d theirs x.process p.0 f p.1) p.2)
-  at_desk_keeps sent d theirs (events.FailAt c n) x answer y out t f p = rw p.2 (falls_due d theirs x y Fail f p.0)
-  at_desk_keeps sent d theirs (events.StopAt c n) x answer y out t f p = rw p.2 (falls_due d theirs x y Stop f p.0)
-  at_desk_keeps sent d theirs (events.Open c) x answer y out t f p = rw p.6 (after_open d theirs x p.0 p.1 p.3 f p.2 answer y p.4 p.5)
-  at_desk_keeps sent d theirs (events.Migrate c) x answer y out t f p = rw p.4 (migrates_at d theirs x p.0 p.1 p.2 f x.version answer y refl p.3)
-  at_desk_keeps sent d theirs (events.Wipe n) x answer y out t f p = absurd p
+  at_desk_keeps sent d theirs (Event.Power c choice) x answer y out t f p = rw p.4 (down_at d theirs x y p.0 f (loses_power x.version d theirs x.process p.0 f p.1) p.2)
+  at_desk_keeps sent d theirs (Event.FailAt c n) x answer y out t f p = rw p.2 (falls_due d theirs x y Fail f p.0)
+  at_desk_keeps sent d theirs (Event.StopAt c n) x answer y out t f p = rw p.2 (falls_due d theirs x y Stop f p.0)
+  at_desk_keeps sent d theirs (Event.Open c) x answer y out t f p = rw p.6 (after_open d theirs x p.0 p.1 p.3 f p.2 answer y p.4 p.5)
+  at_desk_keeps sent d theirs (Event.Migrate c) x answer y out t f p = rw p.4 (migrates_at d theirs x p.0 p.1 p.2 f x.version answer y refl p.3)
+  at_desk_keeps sent d theirs (Event.Wipe n) x answer y out t f p = absurd p
 
   pub record Fine (w : Configuration Disk) : Type 0 where
     pub on_a : ProcessFine w.a.version A (all_votes w).b w.a.process
@@ -223,12 +217,12 @@ module _ {Disk Why : Type 0} (s : Setting Disk Why) where
   at_board_keeps sent v event k l answer out h0 h1 h2 = grind (arith, board_asks, board_receives_keeps, fresh_fine, item_at)
 
   pub step_at_keeps : (w : Configuration Disk) (event : Event) (t : Station) (answer : Answer Why) (new : Configuration Disk) → Fine w → StepAt s w event t answer new → Fine new × Grows w new
-  step_at_keeps w event (stations.Desk d) answer new f p =
+  step_at_keeps w event (Station.Desk d) answer new f p =
       let v = all_votes w in
       let told : (n : ℕ) (m : Message) → slice_get w.sent n ≡ Some m → TheirMessage d (votes_by v (other d)) m = λ n m e. their_message v d m (item_at (MessageFine v) w.sent n m e f.on_sent) in
       let k = at_desk_keeps w.sent d (votes_by v (other d)) event (node w d) answer p.0 p.1 told (node_fine w d f) p.2 in
       subst (λ (z : Configuration Disk). Fine z × Grows w z) (sym p.3) (node_changed w d p.0 p.1 f k)
-  step_at_keeps w event (stations.Board n) answer new f p =
+  step_at_keeps w event (Station.Board n) answer new f p =
       let v = all_votes w in
       let k = board_fine_at v w.boards n p.0 p.3 f.on_boards in
       let h = at_board_keeps w.sent v event p.0 p.1 answer p.2 f.on_sent k p.4 in

@@ -2,15 +2,10 @@
 use Rattle.std.proofs.Common.{arith, ◌≡◌, ◌≢◌, ◌⊎◌, ◌↔◌, ℕ, Option, Some, None, List, ◌∷◌, refl, sym, ap, ◌∙◌, subst, inl, inr}
 use Rattle.std.specs.Prelude.{slice_get}
 use Rattle.notation.specs.declared.entry.Entry.{Entry}
-use Rattle.agree_core.specs.declared.messages.DeskId.{DeskId}
-use Rattle.agree_core.specs.declared.messages.Message.{Message}
-use Rattle.agree_core.specs.declared.messages.Vote.{Vote}
-use Rattle.agree_core.specs.declared.position.Position.{Position}
+use Rattle.agree_core.specs.declared.{messages.DeskId.DeskId, messages.Message.Message, messages.Vote.Vote, position.Position.Position}
 use Rattle.agree_core.specs.Ballots.{Ballot, vote_of}
 use Rattle.agree_core.specs.Readers.{other}
-use Rattle.headline.specs.declared.event.Event.{Event}
-use Rattle.headline.specs.declared.event.Station.{Station}
-use Rattle.headline.specs.declared.event.Station.TheVariants as stations
+use Rattle.headline.specs.declared.event.{Event.Event, Station.Station}
 use Rattle.headline.specs.Match.{Setting}
 use Rattle.headline.specs.Configurations.{Configuration}
 use Rattle.headline.specs.Runs.{Moment, last_of}
@@ -44,7 +39,7 @@ module _ {Disk Why : Type 0} (s : Setting Disk Why) where
 
   abbrev pub BeginsWithFound : Configuration Disk → Moment Disk Why → Station → Type 0
   BeginsWithFound w m t =
-      (m.event ≡ beginning_of t) × ((c : DeskId) (b : Ballot) → position_at m.after t ≡ Some b.at → (kept_at m.after t c ≡ Some b.entry) ↔ ((t ≡ stations.Desk c) × IsFound s w m c b))
+      (m.event ≡ beginning_of t) × ((c : DeskId) (b : Ballot) → position_at m.after t ≡ Some b.at → (kept_at m.after t c ≡ Some b.entry) ↔ ((t ≡ Station.Desk c) × IsFound s w m c b))
 
   pub data Leaves (w : Configuration Disk) (m : Moment Disk Why) (t : Station) : Type 0 where
     Gone : position_at m.after t ≡ None → Leaves w m t
@@ -66,7 +61,7 @@ module _ {Disk Why : Type 0} (s : Setting Disk Why) where
   brings_once w event t c d a b (inr p) (inl q) = let x = q.1.1 in let y = p.1 in absurd (cc)
   brings_once w event t c d a b (inr p) (inr q) = let x = p.1 in let y = q.1 in (cc, cc)
 
-  found_begins : (w : Configuration Disk) (m : Moment Disk Why) (t : Station) (c : DeskId) (b : Ballot) → t ≡ stations.Desk c → IsFound s w m c b → m.event ≡ beginning_of t
+  found_begins : (w : Configuration Disk) (m : Moment Disk Why) (t : Station) (c : DeskId) (b : Ballot) → t ≡ Station.Desk c → IsFound s w m c b → m.event ≡ beginning_of t
   found_begins w m t c b e f = f.0 ∙ sym (ap beginning_of e)
 
   -- what is noted is kept, at this station
@@ -114,7 +109,7 @@ module _ {Disk Why : Type 0} (s : Setting Disk Why) where
       at = same_some (position_at m.after t) a.at b.at g.at k.0
 
       either : (c ≡ d) ⊎ (c ≡ other d) → (IsBrought (last_of w ms) m t c b × ((e : Entry) → HasNoted s w ms t c (record { at = b.at; entry = e }) → ⊥))
-          ⊎ (((t ≡ stations.Desk c) × IsFound s (last_of w ms) m c b) ⊎ ((m.event ≢ beginning_of t) × HasNoted s w ms t c b))
+          ⊎ (((t ≡ Station.Desk c) × IsFound s (last_of w ms) m c b) ⊎ ((m.event ≢ beginning_of t) × HasNoted s w ms t c b))
       either (inl e) =
           let entry : a.entry ≡ b.entry = same_some (kept_at m.after t d) a.entry b.entry g.has (sym (ap (λ (c : DeskId). kept_at m.after t c) e) ∙ k.1) in
           let same : a ≡ b = λ i. record { at = at i; entry = entry i } in

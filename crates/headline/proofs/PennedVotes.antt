@@ -1,19 +1,13 @@
 -- What each pen keeps of a desk's votes holds of its votes, of what is read and of every image.
 use Rattle.std.proofs.Common.{arith, ◌≡◌, ℕ, Some, List, [], ◌∷◌, refl, sym, ap, ◌∙◌, subst, inl, inr}
 use Rattle.notation.specs.declared.entry.Entry.{Entry}
-use Rattle.agree_core.specs.declared.messages.DeskId.{DeskId}
+use Rattle.agree_core.specs.declared.messages.{DeskId.DeskId, Message.Message}
 use Rattle.agree_core.specs.declared.messages.DeskId.TheVariants.{A, B}
-use Rattle.agree_core.specs.declared.messages.Message.{Message}
 use Rattle.agree_core.specs.Ballots.{Ballot, In}
 use Rattle.agree_core.specs.Desks.{DeskState, MayPen, PenAnswer, Pens, ReceiveAnswer, Receives, next_ballot}
 use Rattle.agree_core.specs.FileView.{FileView, Stays}
 use Rattle.agree_core.specs.Openings.{Opening, Opens}
-use Rattle.headline.specs.declared.event.Event.{Event}
-use Rattle.headline.specs.declared.event.Event.TheVariants as events
-use Rattle.headline.specs.declared.event.Station.{Station}
-use Rattle.headline.specs.declared.event.Station.TheVariants as stations
-use Rattle.headline.specs.declared.fault.Fault.{Fault}
-use Rattle.headline.specs.declared.version.FileVersion.{FileVersion}
+use Rattle.headline.specs.declared.{event.Event.Event, event.Station.Station, fault.Fault.Fault, version.FileVersion.FileVersion}
 use Rattle.headline.specs.Match.{Setting}
 use Rattle.headline.specs.Configurations.{Process, Running, Node, Configuration, node, process_disk, process_votes, with_disk, with_node}
 use Rattle.headline.specs.Answers.{Answer}
@@ -91,27 +85,27 @@ module _ {Disk Why : Type 0} (s : Setting Disk Why) where
 
   abbrev pub PenKeeps : (List Ballot → Type 0) → Event → Answer Why → Node Disk → Type 0
   PenKeeps Q event answer x =
-      (c : DeskId) (k : DeskState Disk) (e : Entry) → event ≡ events.Pen c e → MayStore answer → x.process ≡ Running k → MayPen s.rules k e → Q k.votes → Q (next_ballot k e ∷ k.votes)
+      (c : DeskId) (k : DeskState Disk) (e : Entry) → event ≡ Event.Pen c e → MayStore answer → x.process ≡ Running k → MayPen s.rules k e → Q k.votes → Q (next_ballot k e ∷ k.votes)
 
   desk_holds : (Q : List Ballot → Type 0) (sent : List Message) (d : DeskId) (event : Event) (x : Node Disk) (answer : Answer Why) (y : Node Disk) (out : List Message)
       → PenKeeps Q event answer x → NodeHolds Q (s.view d) x → AtDesk s sent d event x answer y out → NodeHolds Q (s.view d) y
-  desk_holds Q sent d (events.Pen c e) x answer y out f h p =
+  desk_holds Q sent d (Event.Pen c e) x answer y out f h p =
       let keeps = λ (t : Stores p.2). f c p.0 e refl (stored (s.view d x.version) x p.1 p.2 answer y p.5 t) p.3 in
       after_pen Q (s.view d) x answer y p.1 p.2 (pen_holds Q (s.view d x.version) p.0 p.1 e p.2 out keeps (subst (ProcessHolds Q (s.view d x.version)) p.3 h) p.4) p.5
-  desk_holds Q sent d (events.Give n t) x answer y out f h p =
+  desk_holds Q sent d (Event.Give n t) x answer y out f h p =
       after_receive Q (s.view d) x answer y p.1 p.3 out (receive_holds Q (s.view d x.version) p.0 p.1 p.2 p.3 out (subst (ProcessHolds Q (s.view d x.version)) p.4 h) p.6) p.7
-  desk_holds Q sent d (events.Tick t) x answer y out f h p = subst (NodeHolds Q (s.view d)) (sym p.4) h
-  desk_holds Q sent d (events.Kill c) x answer y out f h p =
+  desk_holds Q sent d (Event.Tick t) x answer y out f h p = subst (NodeHolds Q (s.view d)) (sym p.4) h
+  desk_holds Q sent d (Event.Kill c) x answer y out f h p =
       let g = p.2 in
       subst (NodeHolds Q (s.view d)) (sym g.2) (stays Q (s.view d x.version) (process_votes x.process) (process_disk x.process) g.0 g.1 h)
-  desk_holds Q sent d (events.Power c choice) x answer y out f h p =
+  desk_holds Q sent d (Event.Power c choice) x answer y out f h p =
       subst (NodeHolds Q (s.view d)) (sym p.2) (loses_power Q (s.view d x.version) (process_votes x.process) (process_disk x.process) p.0 p.1 h)
-  desk_holds Q sent d (events.FailAt c n) x answer y out f h p = let g = p.0 in subst (NodeHolds Q (s.view d)) (sym g.2) (on_other_disk Q (s.view d x.version) x.process g.0 g.1 h)
-  desk_holds Q sent d (events.StopAt c n) x answer y out f h p = let g = p.0 in subst (NodeHolds Q (s.view d)) (sym g.2) (on_other_disk Q (s.view d x.version) x.process g.0 g.1 h)
-  desk_holds Q sent d (events.Open c) x answer y out f h p = after_open Q (s.view d) x answer y d p.0 p.1 p.2 (subst (ProcessHolds Q (s.view d x.version)) p.3 h) p.4 p.5
-  desk_holds Q sent d (events.Migrate c) x answer y out f h p =
+  desk_holds Q sent d (Event.FailAt c n) x answer y out f h p = let g = p.0 in subst (NodeHolds Q (s.view d)) (sym g.2) (on_other_disk Q (s.view d x.version) x.process g.0 g.1 h)
+  desk_holds Q sent d (Event.StopAt c n) x answer y out f h p = let g = p.0 in subst (NodeHolds Q (s.view d)) (sym g.2) (on_other_disk Q (s.view d x.version) x.process g.0 g.1 h)
+  desk_holds Q sent d (Event.Open c) x answer y out f h p = after_open Q (s.view d) x answer y d p.0 p.1 p.2 (subst (ProcessHolds Q (s.view d x.version)) p.3 h) p.4 p.5
+  desk_holds Q sent d (Event.Migrate c) x answer y out f h p =
       migrates_at Q (s.view d) x answer y x.version p.0 p.1 refl h (subst (ProcessHolds Q (s.view d x.version)) p.2 h) p.3
-  desk_holds Q sent d (events.Wipe n) x answer y out f h p = absurd p
+  desk_holds Q sent d (Event.Wipe n) x answer y out f h p = absurd p
 
   abbrev pub BothHold : (DeskId → List Ballot → Type 0) → Configuration Disk → Type 0
   BothHold Q w = (d : DeskId) → NodeHolds (Q d) (s.view d) (node w d)
@@ -125,20 +119,20 @@ module _ {Disk Why : Type 0} (s : Setting Disk Why) where
   -- each pen of this event keeps it
   abbrev pub PensKeep : (DeskId → List Ballot → Type 0) → Configuration Disk → Event → Answer Why → Type 0
   PensKeep Q w event answer =
-      (d : DeskId) (k : DeskState Disk) (e : Entry) → event ≡ events.Pen d e → MayStore answer
+      (d : DeskId) (k : DeskState Disk) (e : Entry) → event ≡ Event.Pen d e → MayStore answer
       → (node w d).process ≡ Running k → MayPen s.rules k e → Q d k.votes → Q d (next_ballot k e ∷ k.votes)
 
   pub step_holds : (Q : DeskId → List Ballot → Type 0) (w : Configuration Disk) (event : Event) (answer : Answer Why) (new : Configuration Disk)
       → PensKeep Q w event answer → BothHold Q w → Step s w event answer new → BothHold Q new
   step_holds Q w event answer new f h p = at_station (station_of event) refl p
     where
-      keeps : (d : DeskId) → station_of event ≡ stations.Desk d → PenKeeps (Q d) event answer (node w d)
-      keeps d e c k g q t i m v = f d k g (q ∙ ap (λ (z : DeskId). events.Pen z g) (let u = sym (ap station_of q) ∙ e in cc)) t i m v
+      keeps : (d : DeskId) → station_of event ≡ Station.Desk d → PenKeeps (Q d) event answer (node w d)
+      keeps d e c k g q t i m v = f d k g (q ∙ ap (λ (z : DeskId). Event.Pen z g) (let u = sym (ap station_of q) ∙ e in cc)) t i m v
 
       at_station : (t : Station) → station_of event ≡ t → StepAt s w event t answer new → BothHold Q new
-      at_station (stations.Desk d) e p c = subst (BothHold Q) (sym p.3) (put Q w d p.0 p.1 h (desk_holds (Q d) w.sent d event (node w d) answer p.0 p.1 (keeps d e) (h d) p.2)) c
-      at_station (stations.Board n) e p A = subst (NodeHolds (Q A) (s.view A)) (sym (ap (λ (z : Configuration Disk). z.a) p.5)) (h A)
-      at_station (stations.Board n) e p B = subst (NodeHolds (Q B) (s.view B)) (sym (ap (λ (z : Configuration Disk). z.b) p.5)) (h B)
+      at_station (Station.Desk d) e p c = subst (BothHold Q) (sym p.3) (put Q w d p.0 p.1 h (desk_holds (Q d) w.sent d event (node w d) answer p.0 p.1 (keeps d e) (h d) p.2)) c
+      at_station (Station.Board n) e p A = subst (NodeHolds (Q A) (s.view A)) (sym (ap (λ (z : Configuration Disk). z.a) p.5)) (h A)
+      at_station (Station.Board n) e p B = subst (NodeHolds (Q B) (s.view B)) (sym (ap (λ (z : Configuration Disk). z.b) p.5)) (h B)
 
   pub begins_hold : (Q : DeskId → List Ballot → Type 0) → ((d : DeskId) → Q d []) → (version : FileVersion) (n : ℕ) (w : Configuration Disk) → Begins s version n w → BothHold Q w
   begins_hold Q h0 version n w h1 = grind arith
@@ -161,7 +155,7 @@ module _ {Disk Why : Type 0} (s : Setting Disk Why) where
       now : (m : Moment Disk Why) (ms : List (Moment Disk Why)) → PensKeep (ThesePenned w (m ∷ ms)) (last_of w ms) m.event m.answer
       now m ms d k g q t i may old b (inl j) =
           let entry : b.entry ≡ g = ap (λ (c : Ballot). c.entry) j in
-          inl (q ∙ ap (events.Pen d) (sym entry), (k, i, ap (λ (c : Ballot). c.at) (sym j)), t)
+          inl (q ∙ ap (Event.Pen d) (sym entry), (k, i, ap (λ (c : Ballot). c.at) (sym j)), t)
       now m ms d k g q t i may old b (inr j) = old b j
 
   pub all_penned : (version : FileVersion) (n : ℕ) (w : Configuration Disk) (ms : List (Moment Disk Why)) → Begins s version n w → Run s w ms → ArePenned w ms

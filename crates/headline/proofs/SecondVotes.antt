@@ -2,21 +2,15 @@
 use Rattle.std.proofs.Common.{arith, ◌≡◌, ◌≢◌, ◌⊎◌, ℕ, Option, Some, None, List, [], ◌∷◌, ◌++◌, sym, ap, ◌∙◌, subst, inl, inr}
 use Rattle.std.specs.Prelude.{slice_get}
 use Rattle.notation.specs.declared.entry.Entry.{Entry}
-use Rattle.agree_core.specs.declared.messages.DeskId.{DeskId}
+use Rattle.agree_core.specs.declared.messages.{DeskId.DeskId, Message.Message, Vote.Vote}
 use Rattle.agree_core.specs.declared.messages.DeskId.TheVariants.{A, B}
-use Rattle.agree_core.specs.declared.messages.Message.{Message}
-use Rattle.agree_core.specs.declared.messages.Vote.{Vote}
 use Rattle.agree_core.specs.Ballots.{Ballot, vote_of, votes_by}
 use Rattle.agree_core.specs.Boards.{BoardAnswer, BoardReceives, BoardState}
 use Rattle.agree_core.specs.Desks.{DeskState, ReceiveAnswer, Receives}
 use Rattle.agree_core.specs.Positions.{position_of}
 use Rattle.agree_core.specs.Readers.{ReaderState, ReaderWaits, noted_of, other}
 use Rattle.agree_core.specs.Seats.{SeatState}
-use Rattle.headline.specs.declared.event.Event.{Event}
-use Rattle.headline.specs.declared.event.Event.TheVariants as events
-use Rattle.headline.specs.declared.event.Station.{Station}
-use Rattle.headline.specs.declared.event.Station.TheVariants as stations
-use Rattle.headline.specs.declared.version.FileVersion.{FileVersion}
+use Rattle.headline.specs.declared.{event.Event.Event, event.Station.Station, version.FileVersion.FileVersion}
 use Rattle.headline.specs.Match.{Setting}
 use Rattle.headline.specs.Configurations.{Running, Node, Configuration, board_at, node, all_votes, with_node}
 use Rattle.headline.specs.Answers.{Answer}
@@ -52,16 +46,16 @@ module _ {Disk Why : Type 0} (s : Setting Disk Why) where
   Keeps w t book c b = Shows w t book × (position_at w t ≡ Some b.at) × (kept_at w t c ≡ Some b.entry)
 
   -- so its desk or board has them
-  desk_keeps : (w : Configuration Disk) (d c : DeskId) (k : DeskState Disk) (book : List Entry) (b : Ballot) → (node w d).process ≡ Running k → Keeps w (stations.Desk d) book c b
+  desk_keeps : (w : Configuration Disk) (d c : DeskId) (k : DeskState Disk) (book : List Entry) (b : Ballot) → (node w d).process ≡ Running k → Keeps w (Station.Desk d) book c b
       → (k.book ≡ book) × (k.seat.position ≡ b.at) × (kept_by_seat k.seat d c ≡ Some b.entry)
   desk_keeps w d c k book b h0 h1 = grind arith
 
-  board_keeps : (w : Configuration Disk) (n : ℕ) (c : DeskId) (k : BoardState) (book : List Entry) (b : Ballot) → board_at w.boards n ≡ Some k → Keeps w (stations.Board n) book c b
+  board_keeps : (w : Configuration Disk) (n : ℕ) (c : DeskId) (k : BoardState) (book : List Entry) (b : Ballot) → board_at w.boards n ≡ Some k → Keeps w (Station.Board n) book c b
       → (k.book ≡ book) × (k.reader.position ≡ b.at) × (noted_of k.reader c ≡ Some b.entry)
   board_keeps w n c k book b h0 h1 = grind arith
 
   shows_at : (w new : Configuration Disk) (d : DeskId) (y : Node Disk) (out : List Message) (book : List Entry) → new ≡ with_node w d y out → process_shows y.process book
-      → Shows new (stations.Desk d) book
+      → Shows new (Station.Desk d) book
   shows_at w new d y out book h0 h1 = grind arith
 
   -- a desk that runs on shows its book
@@ -73,9 +67,9 @@ module _ {Disk Why : Type 0} (s : Setting Disk Why) where
       → AfterReceive (s.view d x.version) x told l out answer y → process_shows y.process (k.book ++ v.entry ∷ [])
   after_vote d x k l v told out answer y h0 h1 h2 h3 h4 h5 h6 = grind arith
 
-  desk_given : (w : Configuration Disk) (d c : DeskId) (n : ℕ) (book : List Entry) (b : Ballot) (answer : Answer Why) (new : Configuration Disk) → Fine s w → Keeps w (stations.Desk d) book c b
-      → other c ≢ d → slice_get w.sent n ≡ Some (Message.Vote (vote_of (other c) b)) → Step s w (events.Give n (stations.Desk d)) answer new → IsVoteAnswer answer
-      → Shows new (stations.Desk d) (book ++ b.entry ∷ [])
+  desk_given : (w : Configuration Disk) (d c : DeskId) (n : ℕ) (book : List Entry) (b : Ballot) (answer : Answer Why) (new : Configuration Disk) → Fine s w → Keeps w (Station.Desk d) book c b
+      → other c ≢ d → slice_get w.sent n ≡ Some (Message.Vote (vote_of (other c) b)) → Step s w (Event.Give n (Station.Desk d)) answer new → IsVoteAnswer answer
+      → Shows new (Station.Desk d) (book ++ b.entry ∷ [])
   desk_given w d c n book b answer new f g apart sent p i =
       let q = p.2 in
       let k = q.0 in
@@ -90,8 +84,8 @@ module _ {Disk Why : Type 0} (s : Setting Disk Why) where
       (alone k.seat.mine k.seat.theirs b.entry seat.waits mine) received q.7 in
       shows_at w new d p.0 p.1 (book ++ b.entry ∷ []) p.3 (subst (λ (o : List Entry). process_shows p.0.process (o ++ b.entry ∷ [])) h.0 shown)
 
-  desk_penned : (w : Configuration Disk) (c : DeskId) (book : List Entry) (b : Ballot) (answer : Answer Why) (new : Configuration Disk) → Keeps w (stations.Desk (other c)) book c b
-      → Step s w (events.Pen (other c) b.entry) answer new → IsVoteAnswer answer → Shows new (stations.Desk (other c)) (book ++ b.entry ∷ [])
+  desk_penned : (w : Configuration Disk) (c : DeskId) (book : List Entry) (b : Ballot) (answer : Answer Why) (new : Configuration Disk) → Keeps w (Station.Desk (other c)) book c b
+      → Step s w (Event.Pen (other c) b.entry) answer new → IsVoteAnswer answer → Shows new (Station.Desk (other c)) (book ++ b.entry ∷ [])
   desk_penned w c book b answer new h0 h1 h2 = grind arith
 
   board_told_second : (k l : BoardState) (v : Vote) (told : BoardAnswer) → position_of v ≡ k.reader.position → noted_of k.reader v.desk ≡ None → noted_of k.reader (other v.desk) ≡ Some v.entry
@@ -99,8 +93,8 @@ module _ {Disk Why : Type 0} (s : Setting Disk Why) where
   board_told_second k l v told h0 h1 h2 h3 h4 = grind arith
 
   board_given : (w : Configuration Disk) (number : ℕ) (c : DeskId) (n : ℕ) (book : List Entry) (b : Ballot) (answer : Answer Why) (new : Configuration Disk) → Fine s w
-      → Keeps w (stations.Board number) book c b → slice_get w.sent n ≡ Some (Message.Vote (vote_of (other c) b)) → Step s w (events.Give n (stations.Board number)) answer new → IsVoteAnswer answer
-      → Shows new (stations.Board number) (book ++ b.entry ∷ [])
+      → Keeps w (Station.Board number) book c b → slice_get w.sent n ≡ Some (Message.Vote (vote_of (other c) b)) → Step s w (Event.Give n (Station.Board number)) answer new → IsVoteAnswer answer
+      → Shows new (Station.Board number) (book ++ b.entry ∷ [])
   board_given w number c n book b answer new f g sent p i =
       let q = p.4 in
       let k = p.0 in
@@ -117,9 +111,9 @@ module _ {Disk Why : Type 0} (s : Setting Disk Why) where
 
   second_taken : (w : Configuration Disk) (event : Event) (answer : Answer Why) (new : Configuration Disk) (t : Station) (book : List Entry) (b : Ballot) (c : DeskId) → Fine s w → Keeps w t book c b
       → Brings w event t (other c) b → Step s w event answer new → IsVoteAnswer answer → Shows new t (book ++ b.entry ∷ [])
-  second_taken w event answer new (stations.Desk d) book b c f h (inl (apart, (n, e, sent))) p i =
-      desk_given w d c n book b answer new f h (λ q. apart (ap stations.Desk (sym q))) sent (subst (λ (z : Event). Step s w z answer new) e p) i
-  second_taken w event answer new (stations.Board number) book b c f h (inl (apart, (n, e, sent))) p i =
+  second_taken w event answer new (Station.Desk d) book b c f h (inl (apart, (n, e, sent))) p i =
+      desk_given w d c n book b answer new f h (λ q. apart (ap Station.Desk (sym q))) sent (subst (λ (z : Event). Step s w z answer new) e p) i
+  second_taken w event answer new (Station.Board number) book b c f h (inl (apart, (n, e, sent))) p i =
       board_given w number c n book b answer new f h sent (subst (λ (z : Event). Step s w z answer new) e p) i
   second_taken w event answer new t book b c f h (inr (here, e)) p i =
       subst (λ (z : Station). Shows new z (book ++ b.entry ∷ [])) (sym here)

@@ -1,18 +1,15 @@
 -- What stations show in a run is one book, of entries that both desks voted for.
 use Rattle.std.proofs.Common.{◌≡◌, ℕ, Option, Some, None, option_and_then, List, [], ◌∷◌, subst, inl, inr, arith}
 use Rattle.notation.specs.declared.entry.Entry.{Entry}
-use Rattle.agree_core.specs.declared.messages.DeskId.{DeskId}
+use Rattle.agree_core.specs.declared.messages.{DeskId.DeskId, Message.Message}
 use Rattle.agree_core.specs.declared.messages.DeskId.TheVariants.{A, B}
-use Rattle.agree_core.specs.declared.messages.Message.{Message}
 use Rattle.agree_core.specs.Agreed.{AllSettled}
 use Rattle.agree_core.specs.Ballots.{Ballot, Within, votes_by}
 use Rattle.agree_core.specs.Boards.{BoardState}
 use Rattle.agree_core.specs.Readers.{noted_of, other, ReaderWaits}
 use Rattle.agree_core.proofs.FileBooks.{AllBoth}
 use Rattle.agree_core.proofs.Settling.{agreed_begins, one_book, one_vote_each, places_settled, rounds_differ}
-use Rattle.headline.specs.declared.event.Station.{Station}
-use Rattle.headline.specs.declared.event.Station.TheVariants as stations
-use Rattle.headline.specs.declared.version.FileVersion.{FileVersion}
+use Rattle.headline.specs.declared.{event.Station.Station, version.FileVersion.FileVersion}
 use Rattle.headline.specs.Match.{Setting}
 use Rattle.headline.specs.Configurations.{Process, Configuration, board_at, node, process_disk, process_votes, all_votes}
 use Rattle.headline.specs.Runs.{AtEachMoment, AtSomeMoment, Moment, Run, Shows, last_of, process_shows}
@@ -32,9 +29,9 @@ module _ {Disk Why : Type 0} (s : Setting Disk Why) where
 
   -- for each entry of a book that is shown both have a vote
   pub shown_both : (w : Configuration Disk) (t : Station) (book : List Entry) → Fine s w → Shows w t book → AllBoth (all_votes w).a (all_votes w).b 0 book
-  shown_both w (stations.Desk A) book f h = process_both w.a.version A (all_votes w).b w.a.process book f.on_a h
-  shown_both w (stations.Desk B) book f h = both_turned (all_votes w).b (all_votes w).a 0 book (process_both w.b.version B (all_votes w).a w.b.process book f.on_b h)
-  shown_both w (stations.Board n) book f h =
+  shown_both w (Station.Desk A) book f h = process_both w.a.version A (all_votes w).b w.a.process book f.on_a h
+  shown_both w (Station.Desk B) book f h = both_turned (all_votes w).b (all_votes w).a 0 book (process_both w.b.version B (all_votes w).a w.b.process book f.on_b h)
+  shown_both w (Station.Board n) book f h =
       let k = board_fine_at (all_votes w) w.boards n h.0 h.1 f.on_boards in
       subst (AllBoth (all_votes w).a (all_votes w).b 0) h.2 k.both
 

@@ -3,11 +3,8 @@ use Rattle.std.proofs.Common.{◌≡◌, ◌≢◌, ℕ, Bool, Option, Some, Non
 use Rattle.std.proofs.Common.{append-nil, append_assoc, length-append}
 use Rattle.std.specs.Prelude.{nat_eq}
 use Rattle.notation.specs.declared.entry.Entry.{Entry}
-use Rattle.agree_core.specs.declared.messages.DeskId.{DeskId}
+use Rattle.agree_core.specs.declared.{messages.DeskId.DeskId, messages.Message.Message, messages.Vote.Vote, seat.Heard.Heard}
 use Rattle.agree_core.specs.declared.messages.DeskId.TheVariants.{A, B}
-use Rattle.agree_core.specs.declared.messages.Message.{Message}
-use Rattle.agree_core.specs.declared.messages.Vote.{Vote}
-use Rattle.agree_core.specs.declared.seat.Heard.{Heard}
 use Rattle.agree_core.specs.Agreed.{AllSettled, BeginsWith}
 use Rattle.agree_core.specs.Ballots.{AllJustified, AllVotes, Ballot, In, Justified, ballot_of, votes_by}
 use Rattle.agree_core.specs.Ballots as ballots
@@ -23,12 +20,7 @@ use Rattle.agree_core.proofs.FileBooks.{AllBoth, book_agreed, book_long}
 use Rattle.agree_core.proofs.Order.{in_sequence, one_vote}
 use Rattle.agree_core.proofs.Settling.{one_book}
 use Rattle.agree_core.proofs.Taken.{not_both, taken_push}
-use Rattle.headline.specs.declared.event.Event.{Event}
-use Rattle.headline.specs.declared.event.Event.TheVariants as events
-use Rattle.headline.specs.declared.event.Station.{Station}
-use Rattle.headline.specs.declared.event.Station.TheVariants as stations
-use Rattle.headline.specs.declared.fault.Fault.{Fault}
-use Rattle.headline.specs.declared.version.FileVersion.{FileVersion}
+use Rattle.headline.specs.declared.{event.Event.Event, event.Station.Station, fault.Fault.Fault, version.FileVersion.FileVersion}
 use Rattle.headline.specs.Match.{Setting}
 use Rattle.headline.specs.Configurations.{Process, Down, Node, Configuration, node, process_disk, process_votes, all_votes}
 use Rattle.headline.specs.Events.{station_of}
@@ -167,29 +159,29 @@ module _ {Disk Why : Type 0} (s : Setting Disk Why) where
 
   -- a file that is migrated is sound
   migrates_sound : (c d : DeskId) (theirs : List Ballot) (x : Node Disk) (version : FileVersion) (votes : List Ballot) (old : Disk) (answer : Answer Why) (y : Node Disk)
-      → ProcessFine s version d theirs (Down votes old) → MigratesAt (s.view d) x version votes old answer y → IsSoundAnswer (events.Migrate c) answer
+      → ProcessFine s version d theirs (Down votes old) → MigratesAt (s.view d) x version votes old answer y → IsSoundAnswer (Event.Migrate c) answer
   migrates_sound c d theirs x version votes old answer y h0 h1 = grind arith
 
   -- what an event at a desk is answered
   desk_sound : (w : Configuration Disk) (d : DeskId) (event : Event) (answer : Answer Why) (y : Node Disk) (out : List Message) → Fine s w → BothHold s (λ d. Lawful s.rules) w
       → AtDesk s w.sent d event (node w d) answer y out → IsSoundAnswer event answer
-  desk_sound w d (events.Pen c e) answer y out f l p = pen_sound (events.Pen c e) answer (s.view d (node w d).version) (node w d) y p.2 p.1 p.5
-  desk_sound w d (events.Give n t) answer y out f l p =
+  desk_sound w d (Event.Pen c e) answer y out f l p = pen_sound (Event.Pen c e) answer (s.view d (node w d).version) (node w d) y p.2 p.1 p.5
+  desk_sound w d (Event.Give n t) answer y out f l p =
       let fine = running s (node w d).version d (votes_by (all_votes w) (other d)) (node w d).process p.0 p.4 (node_fine s w d f) in
-      receive_sound (events.Give n t) w d (node w d) p.0 p.1 p.2 p.3 out answer y f fine.seat (item_at (MessageFine (all_votes w)) w.sent n p.2 p.5 f.on_sent) p.6 p.7
-  desk_sound w d (events.Tick t) answer y out f l p = sound_as (events.Tick t) answer (Answer.Ticked _) p.3 tt
-  desk_sound w d (events.Kill c) answer y out f l p = sound_as (events.Kill c) answer Answer.Done p.3 tt
-  desk_sound w d (events.Power c choice) answer y out f l p = sound_as (events.Power c choice) answer Answer.Done p.3 tt
-  desk_sound w d (events.FailAt c n) answer y out f l p = sound_as (events.FailAt c n) answer Answer.Done p.1 tt
-  desk_sound w d (events.StopAt c n) answer y out f l p = sound_as (events.StopAt c n) answer Answer.Done p.1 tt
-  desk_sound w d (events.Open c) answer y out f l p =
-      open_sound (events.Open c) d (votes_by (all_votes w) (other d)) (node w d) p.0 p.1 p.2 answer y
+      receive_sound (Event.Give n t) w d (node w d) p.0 p.1 p.2 p.3 out answer y f fine.seat (item_at (MessageFine (all_votes w)) w.sent n p.2 p.5 f.on_sent) p.6 p.7
+  desk_sound w d (Event.Tick t) answer y out f l p = sound_as (Event.Tick t) answer (Answer.Ticked _) p.3 tt
+  desk_sound w d (Event.Kill c) answer y out f l p = sound_as (Event.Kill c) answer Answer.Done p.3 tt
+  desk_sound w d (Event.Power c choice) answer y out f l p = sound_as (Event.Power c choice) answer Answer.Done p.3 tt
+  desk_sound w d (Event.FailAt c n) answer y out f l p = sound_as (Event.FailAt c n) answer Answer.Done p.1 tt
+  desk_sound w d (Event.StopAt c n) answer y out f l p = sound_as (Event.StopAt c n) answer Answer.Done p.1 tt
+  desk_sound w d (Event.Open c) answer y out f l p =
+      open_sound (Event.Open c) d (votes_by (all_votes w) (other d)) (node w d) p.0 p.1 p.2 answer y
       (subst (ProcessFine s (node w d).version d (votes_by (all_votes w) (other d))) p.3 (node_fine s w d f))
       (subst (λ (z : Process Disk). HeldBy s (Lawful s.rules) (s.view d (node w d).version) (process_votes z) (process_disk z)) p.3 (l d)) p.4 p.5
-  desk_sound w d (events.Migrate c) answer y out f l p =
+  desk_sound w d (Event.Migrate c) answer y out f l p =
       migrates_sound c d (votes_by (all_votes w) (other d)) (node w d) (node w d).version p.0 p.1 answer y
       (subst (ProcessFine s (node w d).version d (votes_by (all_votes w) (other d))) p.2 (node_fine s w d f)) p.3
-  desk_sound w d (events.Wipe n) answer y out f l p = absurd p
+  desk_sound w d (Event.Wipe n) answer y out f l p = absurd p
 
   board_told_sound : (event : Event) (w : Configuration Disk) (k l : BoardState) (m : Message) (told : BoardAnswer) → Fine s w → BothHold s (λ d. Lawful s.rules) w → BoardFine (all_votes w) k
       → MessageFine (all_votes w) m → BoardReceives s.rules k m told l → IsSoundAnswer {Why = Why} event (board_told told)
@@ -207,16 +199,16 @@ module _ {Disk Why : Type 0} (s : Setting Disk Why) where
 
   board_sound : (w : Configuration Disk) (event : Event) (k : BoardState) (answer : Answer Why) (l : BoardState) (out : List Message) → Fine s w → BothHold s (λ d. Lawful s.rules) w
       → BoardFine (all_votes w) k → AtBoard s w.sent event k answer l out → IsSoundAnswer event answer
-  board_sound w (events.Give n t) k answer l out f h b p =
-      sound_as (events.Give n t) answer (board_told p.1) p.4 (board_told_sound (events.Give n t) w k l p.0 p.1 f h b (item_at (MessageFine (all_votes w)) w.sent n p.0 p.2 f.on_sent) p.3)
-  board_sound w (events.Tick t) k answer l out f h b p = sound_as (events.Tick t) answer (Answer.Ticked _) p.1 tt
-  board_sound w (events.Wipe n) k answer l out f h b p = sound_as (events.Wipe n) answer Answer.Done p.1 tt
+  board_sound w (Event.Give n t) k answer l out f h b p =
+      sound_as (Event.Give n t) answer (board_told p.1) p.4 (board_told_sound (Event.Give n t) w k l p.0 p.1 f h b (item_at (MessageFine (all_votes w)) w.sent n p.0 p.2 f.on_sent) p.3)
+  board_sound w (Event.Tick t) k answer l out f h b p = sound_as (Event.Tick t) answer (Answer.Ticked _) p.1 tt
+  board_sound w (Event.Wipe n) k answer l out f h b p = sound_as (Event.Wipe n) answer Answer.Done p.1 tt
   board_sound w _ k answer l out f h b p = absurd p
 
   station_sound : (w : Configuration Disk) (event : Event) (t : Station) (answer : Answer Why) (new : Configuration Disk) → Fine s w → BothHold s (λ d. Lawful s.rules) w
       → StepAt s w event t answer new → IsSoundAnswer event answer
-  station_sound w event (stations.Desk d) answer new f l p = desk_sound w d event answer p.0 p.1 f l p.2
-  station_sound w event (stations.Board n) answer new f l p = board_sound w event p.0 answer p.1 p.2 f l (board_fine_at (all_votes w) w.boards n p.0 p.3 f.on_boards) p.4
+  station_sound w event (Station.Desk d) answer new f l p = desk_sound w d event answer p.0 p.1 f l p.2
+  station_sound w event (Station.Board n) answer new f l p = board_sound w event p.0 answer p.1 p.2 f l (board_fine_at (all_votes w) w.boards n p.0 p.3 f.on_boards) p.4
 
   pub sound_answers : (version : FileVersion) (n : ℕ) (w : Configuration Disk) (ms : List (Moment Disk Why)) → Begins s version n w → Run s w ms
       → AtEachEvent w ms (λ v m. IsSoundAnswer m.event m.answer)

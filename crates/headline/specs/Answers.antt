@@ -1,7 +1,6 @@
 -- Answers to events.
 use Rattle.std.specs.Prelude.{ℕ, Bool}
-use Rattle.agree_core.specs.declared.seat.Heard.{Heard}
-use Rattle.agree_core.specs.declared.seat.Settled.{Settled}
+use Rattle.agree_core.specs.declared.seat.{Heard.Heard, Settled.Settled}
 use Rattle.agree_core.specs.Desks.{PenRefusal}
 
 -- what an event is answered

@@ -1,16 +1,11 @@
 -- What holds in every run beside the headline: no vote is lost, files keep them, and which answers never come.
 use Rattle.std.specs.Prelude.{◌≡◌, ℕ, Option, Some, List, slice_get}
 use Rattle.notation.specs.declared.entry.Entry.{Entry}
-use Rattle.agree_core.specs.declared.messages.DeskId.{DeskId}
-use Rattle.agree_core.specs.declared.messages.Message.{Message}
-use Rattle.agree_core.specs.declared.messages.Vote.{Vote}
-use Rattle.agree_core.specs.declared.seat.Heard.{Heard}
+use Rattle.agree_core.specs.declared.{messages.DeskId.DeskId, messages.Message.Message, messages.Vote.Vote, seat.Heard.Heard}
 use Rattle.agree_core.specs.Agreed.{BeginsWith, IsAgreedList}
 use Rattle.agree_core.specs.Ballots.{AllVotes, Ballot, In, VotesGrow, Within, ballot_of, votes_by}
 use Rattle.agree_core.specs.Laws.{OneVoteEach, PlacesSettled, RoundsDiffer}
-use Rattle.headline.specs.declared.event.Event.{Event}
-use Rattle.headline.specs.declared.event.Event.TheVariants as events
-use Rattle.headline.specs.declared.event.Station.{Station}
+use Rattle.headline.specs.declared.event.{Event.Event, Station.Station}
 use Rattle.headline.specs.Match.{Setting}
 use Rattle.headline.specs.Configurations.{Configuration, node, process_disk, all_votes}
 use Rattle.headline.specs.Answers.{Answer}
@@ -40,7 +35,7 @@ pub record VotesStand (v : AllVotes) : Type 0 where
   pub places : PlacesSettled v
 
 abbrev pub IsMigration : Event → Type 0
-IsMigration (events.Migrate d) = Unit {0}
+IsMigration (Event.Migrate d) = Unit {0}
 IsMigration _ = ⊥
 
 -- neither two votes of one desk for a position, nor votes that are no book, nor a file that isn't sound; and that a

@@ -3,7 +3,6 @@ use Rattle.std.specs.Prelude.{◌≡◌, false, Some, List, [], length, slice_ge
 use Rattle.agree_core.specs.declared.messages.Message.{Message}
 use Rattle.agree_core.specs.Boards.{BoardState, BoardAnswer, BoardReceives, BoardTicks, fresh_board}
 use Rattle.headline.specs.declared.event.Event.{Event}
-use Rattle.headline.specs.declared.event.Event.TheVariants as events
 use Rattle.headline.specs.Match.{Setting}
 use Rattle.headline.specs.Answers.{Answer, Ticked, Told, Asked, BadVotes, Done}
 
@@ -18,19 +17,19 @@ abbrev pub AtBoard :
     {Disk Why : Type 0} → Setting Disk Why → List Message → Event
     → BoardState → Answer Why → BoardState → List Message → Type 0
 -- it is given the message of this number
-AtBoard s sent (events.Give n t) k answer l out =
+AtBoard s sent (Event.Give n t) k answer l out =
     (m : Message) × (received : BoardAnswer) × (slice_get sent n ≡ Some m)
     × BoardReceives s.rules k m received l × (answer ≡ board_told received) × (out ≡ [])
 -- it asks for what it lacks, and is as it was
-AtBoard s sent (events.Tick t) k answer l out =
+AtBoard s sent (Event.Tick t) k answer l out =
     BoardTicks k out × (answer ≡ Ticked (length out)) × (l ≡ k)
 -- it begins empty
-AtBoard s sent (events.Wipe n) k answer l out = (l ≡ fresh_board) × (answer ≡ Done) × (out ≡ [])
+AtBoard s sent (Event.Wipe n) k answer l out = (l ≡ fresh_board) × (answer ≡ Done) × (out ≡ [])
 -- all else is for desks
-AtBoard s sent (events.Pen d e) k answer l out = ⊥
-AtBoard s sent (events.Kill d) k answer l out = ⊥
-AtBoard s sent (events.Power d choice) k answer l out = ⊥
-AtBoard s sent (events.FailAt d n) k answer l out = ⊥
-AtBoard s sent (events.StopAt d n) k answer l out = ⊥
-AtBoard s sent (events.Open d) k answer l out = ⊥
-AtBoard s sent (events.Migrate d) k answer l out = ⊥
+AtBoard s sent (Event.Pen d e) k answer l out = ⊥
+AtBoard s sent (Event.Kill d) k answer l out = ⊥
+AtBoard s sent (Event.Power d choice) k answer l out = ⊥
+AtBoard s sent (Event.FailAt d n) k answer l out = ⊥
+AtBoard s sent (Event.StopAt d n) k answer l out = ⊥
+AtBoard s sent (Event.Open d) k answer l out = ⊥
+AtBoard s sent (Event.Migrate d) k answer l out = ⊥

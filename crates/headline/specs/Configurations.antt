@@ -1,13 +1,11 @@
 -- A configuration: two desks with a file each, boards, and every message ever handed out.
 use Rattle.std.specs.Prelude.{ℕ, zero, suc, Option, None, List, [], ◌∷◌, ◌++◌, slice_get, slice_set}
-use Rattle.agree_core.specs.declared.messages.DeskId.{DeskId}
+use Rattle.agree_core.specs.declared.messages.{DeskId.DeskId, Message.Message}
 use Rattle.agree_core.specs.declared.messages.DeskId.TheVariants.{A, B}
-use Rattle.agree_core.specs.declared.messages.Message.{Message}
 use Rattle.agree_core.specs.Ballots.{Ballot, AllVotes}
 use Rattle.agree_core.specs.Boards.{BoardState, fresh_board}
 use Rattle.agree_core.specs.Desks.{DeskState}
-use Rattle.headline.specs.declared.fault.Fault.{Fault}
-use Rattle.headline.specs.declared.version.FileVersion.{FileVersion}
+use Rattle.headline.specs.declared.{fault.Fault.Fault, version.FileVersion.FileVersion}
 
 -- a desk that runs, or one that is down: its votes and its disk alone
 pub data Process (Disk : Type 0) : Type 0 where

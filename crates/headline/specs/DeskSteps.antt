@@ -1,13 +1,11 @@
 -- What an event does at the desk that it names, by cases of the event and its answer.
 use Rattle.std.specs.Prelude.{◌≡◌, Bool, true, false, Some, None, List, [], ◌∷◌, length, slice_get}
-use Rattle.agree_core.specs.declared.messages.DeskId.{DeskId}
-use Rattle.agree_core.specs.declared.messages.Message.{Message}
+use Rattle.agree_core.specs.declared.messages.{DeskId.DeskId, Message.Message}
 use Rattle.agree_core.specs.Ballots.{Ballot}
 use Rattle.agree_core.specs.Desks.{DeskState, PenAnswer, Pens, ReceiveAnswer, Receives, Ticks}
 use Rattle.agree_core.specs.FileView.{FileView}
 use Rattle.agree_core.specs.Openings.{OpenRefusal, Opening, Opens}
 use Rattle.headline.specs.declared.event.Event.{Event}
-use Rattle.headline.specs.declared.event.Event.TheVariants as events
 use Rattle.headline.specs.declared.fault.Fault.TheVariants.{Fail, Stop}
 use Rattle.headline.specs.Match.{Setting}
 use Rattle.headline.specs.Configurations.{Running, Down, Node, process_disk, process_votes}
@@ -60,37 +58,37 @@ abbrev pub AtDesk :
     {Disk Why : Type 0} → Setting Disk Why → List Message → DeskId → Event
     → Node Disk → Answer Why → Node Disk → List Message → Type 0
 -- its scorer pens an entry, while it runs
-AtDesk s sent d (events.Pen c e) x answer y out =
+AtDesk s sent d (Event.Pen c e) x answer y out =
     (k : DeskState _) × (l : DeskState _) × (penned : PenAnswer _) × (x.process ≡ Running k)
     × Pens (s.view d x.version) s.rules k e penned l out × AfterPen (s.view d x.version) x penned l answer y
 -- while it runs it is given the message of this number
-AtDesk s sent d (events.Give n t) x answer y out =
+AtDesk s sent d (Event.Give n t) x answer y out =
     (k : DeskState _) × (l : DeskState _) × (m : Message) × (received : ReceiveAnswer)
     × (x.process ≡ Running k) × (slice_get sent n ≡ Some m)
     × Receives (s.view d x.version) k m received l out × AfterReceive (s.view d x.version) x received l out answer y
 -- while it runs it says what it has to say, and is as it was
-AtDesk s sent d (events.Tick t) x answer y out =
+AtDesk s sent d (Event.Tick t) x answer y out =
     (k : DeskState _) × (x.process ≡ Running k) × Ticks k out × (answer ≡ Ticked (length out)) × (y ≡ x)
 -- its process ends, while it runs
-AtDesk s sent d (events.Kill c) x answer y out =
+AtDesk s sent d (Event.Kill c) x answer y out =
     (k : DeskState _) × (x.process ≡ Running k) × Ends (s.view d x.version) x y × (answer ≡ Done) × (out ≡ [])
 -- running or down, it loses power; it has the votes that it had
-AtDesk s sent d (events.Power c choice) x answer y out =
+AtDesk s sent d (Event.Power c choice) x answer y out =
     (disk : _) × LosesPower (s.view d x.version) (process_disk x.process) disk
     × (y ≡ record x { process = Down (process_votes x.process) disk; due = None }) × (answer ≡ Done) × (out ≡ [])
 -- running or down, its disk is to fail; which call that is, by n, the disk counts
-AtDesk s sent d (events.FailAt c n) x answer y out =
+AtDesk s sent d (Event.FailAt c n) x answer y out =
     FallsDue (s.view d x.version) Fail x y × (answer ≡ Done) × (out ≡ [])
 -- the same, and then all later calls
-AtDesk s sent d (events.StopAt c n) x answer y out =
+AtDesk s sent d (Event.StopAt c n) x answer y out =
     FallsDue (s.view d x.version) Stop x y × (answer ≡ Done) × (out ≡ [])
 -- while it is down it is opened from its file
-AtDesk s sent d (events.Open c) x answer y out =
+AtDesk s sent d (Event.Open c) x answer y out =
     (votes : List Ballot) × (disk : _) × (opening : Opening _) × (x.process ≡ Down votes disk)
     × Opens (s.view d x.version) s.rules d disk opening × AfterOpen (s.view d x.version) x votes opening answer y × (out ≡ [])
 -- while it is down its file is migrated
-AtDesk s sent d (events.Migrate c) x answer y out =
+AtDesk s sent d (Event.Migrate c) x answer y out =
     (votes : List Ballot) × (disk : _) × (x.process ≡ Down votes disk)
     × MigratesAt (s.view d) x x.version votes disk answer y × (out ≡ [])
 -- a desk isn't wiped
-AtDesk s sent d (events.Wipe n) x answer y out = ⊥
+AtDesk s sent d (Event.Wipe n) x answer y out = ⊥

@@ -1,18 +1,13 @@
 -- What a station has noted, told by the events of a run and their answers.
 use Rattle.std.specs.Prelude.{◌≡◌, ◌≢◌, ◌⊎◌, ◌↔◌, ℕ, Option, Some, None, option_map, option_and_then, List, [], ◌∷◌, slice_get}
 use Rattle.notation.specs.declared.entry.Entry.{Entry}
-use Rattle.agree_core.specs.declared.messages.DeskId.{DeskId}
+use Rattle.agree_core.specs.declared.{messages.DeskId.DeskId, messages.Message.Message, position.Position.Position}
 use Rattle.agree_core.specs.declared.messages.DeskId.TheVariants.{A, B}
-use Rattle.agree_core.specs.declared.messages.Message.{Message}
-use Rattle.agree_core.specs.declared.position.Position.{Position}
 use Rattle.agree_core.specs.Ballots.{Ballot, vote_of}
 use Rattle.agree_core.specs.Boards.{BoardState}
 use Rattle.agree_core.specs.Readers.{noted_of}
 use Rattle.agree_core.specs.Seats.{SeatState}
-use Rattle.headline.specs.declared.event.Event.{Event}
-use Rattle.headline.specs.declared.event.Event.TheVariants as events
-use Rattle.headline.specs.declared.event.Station.{Station}
-use Rattle.headline.specs.declared.event.Station.TheVariants as stations
+use Rattle.headline.specs.declared.event.{Event.Event, Station.Station}
 use Rattle.headline.specs.Match.{Setting}
 use Rattle.headline.specs.Configurations.{Process, Running, Down, Configuration, board_at, node, process_disk}
 use Rattle.headline.specs.Answers.{Answer}
@@ -24,21 +19,21 @@ process_position (Running k) = Some k.seat.position
 process_position (Down votes disk) = None
 
 abbrev pub position_at : {Disk : Type 0} → Configuration Disk → Station → Option Position
-position_at w (stations.Desk d) = process_position (node w d).process
-position_at w (stations.Board n) = option_map (λ (k : BoardState). k.reader.position) (board_at w.boards n)
+position_at w (Station.Desk d) = process_position (node w d).process
+position_at w (Station.Board n) = option_map (λ (k : BoardState). k.reader.position) (board_at w.boards n)
 
 -- the event by which a station begins again
 abbrev pub beginning_of : Station → Event
-beginning_of (stations.Desk d) = events.Open d
-beginning_of (stations.Board n) = events.Wipe n
+beginning_of (Station.Desk d) = Event.Open d
+beginning_of (Station.Board n) = Event.Wipe n
 
 -- the event brings a desk's vote to the station: it is given to another station than that desk, or the
 -- desk's own scorer pens it
 abbrev pub Brings : {Disk : Type 0} → Configuration Disk → Event → Station → DeskId → Ballot → Type 0
 Brings w event t c b =
-    ((t ≢ stations.Desk c)
-    × ((n : ℕ) × (event ≡ events.Give n t) × (slice_get w.sent n ≡ Some (Message.Vote (vote_of c b)))))
-    ⊎ ((t ≡ stations.Desk c) × (event ≡ events.Pen c b.entry))
+    ((t ≢ Station.Desk c)
+    × ((n : ℕ) × (event ≡ Event.Give n t) × (slice_get w.sent n ≡ Some (Message.Vote (vote_of c b)))))
+    ⊎ ((t ≡ Station.Desk c) × (event ≡ Event.Pen c b.entry))
 
 -- it was penned, or told as a vote: the call wasn't refused
 abbrev pub IsVoteAnswer : {Why : Type 0} → Answer Why → Type 0
@@ -53,7 +48,7 @@ IsBrought w m t c b = (position_at w t ≡ Some b.at) × Brings w m.event t c b 
 -- the desk is opened from its file, whose last vote this is
 abbrev pub IsFound : {Disk Why : Type 0} → Setting Disk Why → Configuration Disk → Moment Disk Why → DeskId → Ballot → Type 0
 IsFound s w m d b =
-    (m.event ≡ events.Open d) × ((length : ℕ) × (m.answer ≡ Answer.Opened length))
+    (m.event ≡ Event.Open d) × ((length : ℕ) × (m.answer ≡ Answer.Opened length))
     × ((before : List Ballot) × ((s.view d (node w d).version).reads (process_disk (node w d).process) ≡ Some (b ∷ before)))
 
 -- A station that isn't down has noted this vote of a desk for its position. It is its own vote, penned with Ok or
@@ -68,7 +63,7 @@ HasNoted s w (m ∷ ms) t c b =
     (position_at m.after t ≡ Some b.at)
     × ((IsBrought (last_of w ms) m t c b
     × ((e : Entry) → HasNoted s w ms t c (record { at = b.at; entry = e }) → ⊥))
-    ⊎ (((t ≡ stations.Desk c) × IsFound s (last_of w ms) m c b)
+    ⊎ (((t ≡ Station.Desk c) × IsFound s (last_of w ms) m c b)
     ⊎ ((m.event ≢ beginning_of t) × HasNoted s w ms t c b)))
 
 -- what a desk's seat, or a board's reader, keeps as a desk's vote for its position
@@ -83,8 +78,8 @@ kept_by_process (Running k) d c = kept_by_seat k.seat d c
 kept_by_process (Down votes disk) d c = None
 
 abbrev pub kept_at : {Disk : Type 0} → Configuration Disk → Station → DeskId → Option Entry
-kept_at w (stations.Desk d) c = kept_by_process (node w d).process d c
-kept_at w (stations.Board n) c = option_and_then (λ (k : BoardState). noted_of k.reader c) (board_at w.boards n)
+kept_at w (Station.Desk d) c = kept_by_process (node w d).process d c
+kept_at w (Station.Board n) c = option_and_then (λ (k : BoardState). noted_of k.reader c) (board_at w.boards n)
 
 -- seats and readers keep just the votes that are noted
 abbrev pub KeepsNoted : {Disk Why : Type 0} → Setting Disk Why → Configuration Disk → List (Moment Disk Why) → Type 0

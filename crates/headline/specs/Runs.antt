@@ -7,11 +7,7 @@ use Rattle.agree_core.specs.Ballots.{Ballot}
 use Rattle.agree_core.specs.Boards.{BoardState}
 use Rattle.agree_core.specs.Desks.{DeskState}
 use Rattle.agree_core.specs.Openings.{Creates}
-use Rattle.headline.specs.declared.event.Event.{Event}
-use Rattle.headline.specs.declared.event.Event.TheVariants as events
-use Rattle.headline.specs.declared.event.Station.{Station}
-use Rattle.headline.specs.declared.event.Station.TheVariants as stations
-use Rattle.headline.specs.declared.version.FileVersion.{FileVersion}
+use Rattle.headline.specs.declared.{event.Event.Event, event.Station.Station, version.FileVersion.FileVersion}
 use Rattle.headline.specs.Match.{Setting}
 use Rattle.headline.specs.Configurations.{Process, Running, Down, Node, Configuration, board_at, fresh_boards, node}
 use Rattle.headline.specs.Answers.{Answer}
@@ -75,8 +71,8 @@ process_shows (Down votes disk) book = ⊥
 
 -- a station that isn't down shows this book
 abbrev pub Shows : {Disk : Type 0} → Configuration Disk → Station → List Entry → Type 0
-Shows w (stations.Desk d) book = process_shows (node w d).process book
-Shows w (stations.Board n) book = (k : BoardState) × (board_at w.boards n ≡ Some k) × (k.book ≡ book)
+Shows w (Station.Desk d) book = process_shows (node w d).process book
+Shows w (Station.Board n) book = (k : BoardState) × (board_at w.boards n ≡ Some k) × (k.book ≡ book)
 
 -- a pen that was so answered may have stored its vote: it was taken, or cut off
 abbrev pub MayStore : {Why : Type 0} → Answer Why → Type 0
@@ -89,7 +85,7 @@ MayStore _ = ⊥
 abbrev pub PensBallot :
     {Disk Why : Type 0} → Configuration Disk → Event → Answer Why → DeskId → Ballot → Type 0
 PensBallot w event answer d b =
-    (event ≡ events.Pen d b.entry)
+    (event ≡ Event.Pen d b.entry)
     × ((k : DeskState _) × ((node w d).process ≡ Running k) × (k.seat.position ≡ b.at))
     × MayStore answer
 

@@ -2,9 +2,7 @@
 use Rattle.std.specs.Prelude.{◌≡◌, Some, List, ◌++◌}
 use Rattle.agree_core.specs.declared.messages.Message.{Message}
 use Rattle.agree_core.specs.Boards.{BoardState}
-use Rattle.headline.specs.declared.event.Event.{Event}
-use Rattle.headline.specs.declared.event.Station.{Station}
-use Rattle.headline.specs.declared.event.Station.TheVariants as stations
+use Rattle.headline.specs.declared.event.{Event.Event, Station.Station}
 use Rattle.headline.specs.Events.{station_of}
 use Rattle.headline.specs.Match.{Setting}
 use Rattle.headline.specs.Configurations.{Node, Configuration, board_at, node, with_board, with_node}
@@ -15,10 +13,10 @@ use Rattle.headline.specs.BoardSteps.{AtBoard}
 -- an event changes the station that it is for, and adds to the messages what that hands out
 abbrev pub StepAt :
     {Disk Why : Type 0} → Setting Disk Why → Configuration Disk → Event → Station → Answer Why → Configuration Disk → Type 0
-StepAt s w event (stations.Desk d) answer new =
+StepAt s w event (Station.Desk d) answer new =
     (y : Node _) × (out : List Message) × AtDesk s w.sent d event (node w d) answer y out
     × (new ≡ with_node w d y out)
-StepAt s w event (stations.Board n) answer new =
+StepAt s w event (Station.Board n) answer new =
     (k : BoardState) × (l : BoardState) × (out : List Message) × (board_at w.boards n ≡ Some k)
     × AtBoard s w.sent event k answer l out
     × (new ≡ record w { boards = with_board w.boards n l; sent = w.sent ++ out })

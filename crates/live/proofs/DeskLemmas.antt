@@ -11,10 +11,8 @@ use Rattle.notation.specs.declared.entry.Entry.{Entry}
 use Rattle.corrections.specs.declared.book_of.BookOf.{Ghosts as Books}
 use Rattle.entry_log.specs.Blame.{BlamesDisk}
 use Rattle.entry_log.specs.Disk.{Faults}
-use Rattle.entry_log.specs.declared.disk.Disk.{Ghosts as Disks}
-use Rattle.entry_log.specs.declared.slots_of.SlotsOf.{Ghosts as Files}
-use Rattle.agree_core.specs.declared.messages.DeskId.{DeskId}
-use Rattle.agree_core.specs.declared.messages.Message.{Message}
+use Rattle.entry_log.specs.declared.{disk.Disk.Ghosts as Disks, slots_of.SlotsOf.Ghosts as Files}
+use Rattle.agree_core.specs.declared.messages.{DeskId.DeskId, Message.Message}
 use Rattle.agree_core.specs.Ballots.{Ballot}
 use Rattle.agree_core.specs.Desks.{Pens, Ticks}
 use Rattle.agree_core.specs.FileView.{FileView}
@@ -22,12 +20,8 @@ use Rattle.vote_store.specs.View.{file_view}
 use Rattle.wire.specs.Layout.{IsMessage}
 use Rattle.wire.specs.Sent.{AreSent}
 use Rattle.wire.specs.declared.what.What.{What}
-use Rattle.wire.specs.declared.what.What.TheVariants as whats
 use Rattle.desk.specs.Answers.{device_answer, pen_answer, replied, sent}
-use Rattle.desk.specs.declared.desk.Desk.{Desk}
-use Rattle.desk.specs.declared.desk.Penned.{Penned}
-use Rattle.desk.specs.declared.refusal.Refusal.{Refusal}
-use Rattle.desk.specs.declared.refusal.Refusal.TheVariants as refusals
+use Rattle.desk.specs.declared.{desk.Desk.Desk, desk.Penned.Penned, refusal.Refusal.Refusal}
 use Rattle.desk.specs.Desk.{SameOwner, desk_of, disk_of, game_of, rules_of, state_of, view_of, own_votes}
 use Rattle.desk.specs.Takes.{Takes}
 use Rattle.live.specs.Passed.{Passed, Came, Sent, sends, sent_bytes}
@@ -37,22 +31,17 @@ use Rattle.live.specs.Typing.{Input, Line, End}
 use Rattle.live.specs.Texts.{came_text, reminder_text, said_text, unopened_text, warned_after, warned_reminded, warned_unopened}
 use Rattle.live.specs.Ends.{Course, course_of, end_at, end_of, ending, further, known_at, known_to, turns_after, written as answer_of}
 use Rattle.live.specs.Desks.{Blames, Calls, DeskCall, DeskGoes, DeskProcess, DeskStep, Given, FitsLongest, MayCall, MayRemind, Reminded, Ticked, TurnEnded, Typed, TypingEnded, Unopened, after_call, course_after, desk_kind, disks_of, entry_in, given, innings_of, kind_of, own_line, process_of, told_of, typed}
-use Rattle.live.specs.declared.reminder.Reminder.{Reminder}
-use Rattle.live.specs.declared.said.Said.{Said}
-use Rattle.live.specs.declared.said.Said.TheVariants as said
-use Rattle.live.specs.declared.warned.Warned.{Warned}
-use Rattle.live.specs.declared.ends.DeskEnd.{DeskEnd}
-use Rattle.live.specs.declared.ends.DeskEnd.TheVariants as ends
+use Rattle.live.specs.declared.{reminder.Reminder.Reminder, said.Said.Said, warned.Warned.Warned, ends.DeskEnd.DeskEnd}
 use Rattle.live.proofs.RunLemmas.{both, one, stays, unsaid}
 
 -- no device call failed
-pub blameless : {W : Type 0} (course : Course) (old new : Faults) → (IsErrOf course ends.Device → ⊥) → new ≡ old → BlamesDisk ends.Device W course old new
+pub blameless : {W : Type 0} (course : Course) (old new : Faults) → (IsErrOf course DeskEnd.Device → ⊥) → new ≡ old → BlamesDisk DeskEnd.Device W course old new
 blameless course old new n same =
     record { failed = λ e. absurd (n e); same = λ m. same; calm = λ due room e. n e; spent = λ due room e. absurd (n e) }
 
 -- the same blame, of another answer
-pub blamed : {T E V W : Type 0} (r : Result T E) (device : E) (course : Course) (old new : Faults) → (IsErrOf course ends.Device → IsErrOf r device) → (IsErrOf r device → IsErrOf course ends.Device) →
-    (IsErrOf r device → W → V) → BlamesDisk device V r old new → BlamesDisk ends.Device W course old new
+pub blamed : {T E V W : Type 0} (r : Result T E) (device : E) (course : Course) (old new : Faults) → (IsErrOf course DeskEnd.Device → IsErrOf r device) → (IsErrOf r device → IsErrOf course DeskEnd.Device) →
+    (IsErrOf r device → W → V) → BlamesDisk device V r old new → BlamesDisk DeskEnd.Device W course old new
 blamed r device course old new to from room b = record {
   failed = λ e. b.failed (to e);
   same = λ n. b.same (λ e. n (from e));
@@ -61,9 +50,9 @@ blamed r device course old new to from room b = record {
 }
 
 -- a line that says no entry ends nothing for the disk
-no_blame : (sheet : Sheet) (book : List Entry) (votes : List Ballot) (differs is_cast : Bool) (line : List ℕ) (answer : Said) → ComesTo sheet book votes differs is_cast line answer → IsErrOf (end_of answer) ends.Device → ⊥
-no_blame sheet book votes differs is_cast line (said.Refused why) h e = h
-no_blame sheet book votes differs is_cast line (said.Penned entry settled) h e = h
+no_blame : (sheet : Sheet) (book : List Entry) (votes : List Ballot) (differs is_cast : Bool) (line : List ℕ) (answer : Said) → ComesTo sheet book votes differs is_cast line answer → IsErrOf (end_of answer) DeskEnd.Device → ⊥
+no_blame sheet book votes differs is_cast line (Said.Refused why) h e = h
+no_blame sheet book votes differs is_cast line (Said.Penned entry settled) h e = h
 no_blame sheet book votes differs is_cast line answer h e = cc
 
 -- the kind of a desk's runs, by what it depends on
@@ -141,7 +130,7 @@ module _ {S B D : Type 0} {g : Files S D} {h : Disks D} {b : Books B} where
       called sheet k l (Given bytes what) warned turns (process_of l later turns course) log before after x x s t tt c came (sym (append-nil x))
       (ap (λ (w : Warned). process_of l w turns course) after_warning ∙ ap (λ (o : Course). process_of l (warned_after warned what) turns o) is) text
 
-  unmoved : (sheet : Sheet) (k : Desk S B D g h b) (call : DeskCall) (log : List Passed) → DeskStep sheet (view_of k) (game_of k) (innings_of k) (state_of k) call [] (state_of k) → (IsErrOf (course_after call) ends.Device → ⊥) → Calls sheet k k call log log
+  unmoved : (sheet : Sheet) (k : Desk S B D g h b) (call : DeskCall) (log : List Passed) → DeskStep sheet (view_of k) (game_of k) (innings_of k) (state_of k) call [] (state_of k) → (IsErrOf (course_after call) DeskEnd.Device → ⊥) → Calls sheet k k call log log
   unmoved sheet k call log step n =
       record { same = same_here k; out = []; fine = All-nil IsMessage; passed = sym (append-nil log); step = step; blame = λ runs. blameless (course_after call) _ _ n refl }
 
@@ -165,9 +154,9 @@ module _ {S B D : Type 0} {g : Files S D} {h : Disks D} {b : Books B} where
 
   -- its scorer types no more
   pub typing_over : (sheet : Sheet) (k : Desk S B D g h b) (warned : Warned) (turns : ℕ) (log : List Passed) (x y : List Input) (s : Option (List ℕ)) → y ≡ x ++ End ∷ [] →
-      DeskGoes sheet k k (process_of k warned turns further) (process_of k warned turns (Err ends.NoMoreLines)) log log x y s s
+      DeskGoes sheet k k (process_of k warned turns further) (process_of k warned turns (Err DeskEnd.NoMoreLines)) log log x y s s
   typing_over sheet k warned turns log x y s types =
-      called sheet k k TypingEnded warned turns (process_of k warned turns (Err ends.NoMoreLines)) log log log x y s s tt (unmoved sheet k TypingEnded log (refl, refl) (λ e. (cc))) (sym (append-nil log)) types refl (appends_none s)
+      called sheet k k TypingEnded warned turns (process_of k warned turns (Err DeskEnd.NoMoreLines)) log log log x y s s tt (unmoved sheet k TypingEnded log (refl, refl) (λ e. (cc))) (sym (append-nil log)) types refl (appends_none s)
 
   -- its turn is over
   pub turn_over : (sheet : Sheet) (k : Desk S B D g h b) (warned : Warned) (turns : ℕ) (log : List Passed) (x : List Input) (s : Option (List ℕ)) →
@@ -186,8 +175,8 @@ module _ {S B D : Type 0} {g : Files S D} {h : Disks D} {b : Books B} where
   -- a line that says no entry
   nothing_said : (sheet : Sheet) (k : Desk S B D g h b) (line : List ℕ) (answer : Said) → ComesTo sheet (state_of k).book (state_of k).votes (nat_lt 0 (state_of k).seat.position.round) (is_some (state_of k).seat.mine) line answer →
       DeskStep sheet (view_of k) (game_of k) (innings_of k) (state_of k) (Typed line answer) [] (state_of k)
-  nothing_said sheet k line (said.Refused why) w = absurd w
-  nothing_said sheet k line (said.Penned e settled) w = absurd w
+  nothing_said sheet k line (Said.Refused why) w = absurd w
+  nothing_said sheet k line (Said.Penned e settled) w = absurd w
   nothing_said sheet k line answer w = (w, refl, refl)
 
   pub unpenned : (sheet : Sheet) (k : Desk S B D g h b) (line : List ℕ) (answer : Said) (log : List Passed) → ComesTo sheet (state_of k).book (state_of k).votes (nat_lt 0 (state_of k).seat.position.round) (is_some (state_of k).seat.mine) line answer → Calls sheet k k (Typed line answer) log log
@@ -197,31 +186,31 @@ module _ {S B D : Type 0} {g : Files S D} {h : Disks D} {b : Books B} where
   PenStep k e r l = AreSent (game_of k) (sent r) (λ out. Pens (view_of k) (rules_of k) (state_of k) e (pen_answer r) (state_of l) out)
 
   abbrev PenBlame : Desk S B D g h b → Result Penned Refusal → Desk S B D g h b → Type 0
-  PenBlame k r l = BlamesDisk refusals.Device (g.room (length (own_votes k) + 1) ≤ h.cap (disk_of k)) r (h.faults (disk_of k)) (h.faults (disk_of l))
+  PenBlame k r l = BlamesDisk Refusal.Device (g.room (length (own_votes k) + 1) ≤ h.cap (disk_of k)) r (h.faults (disk_of k)) (h.faults (disk_of l))
 
   -- the entry is penned
   pub penned : (sheet : Sheet) (k l : Desk S B D g h b) (line : List ℕ) (e : Entry) (p : Penned) (before after : List Passed) → SameOwner k l → SaysEntry sheet (state_of k).book (state_of k).votes (state_of k).seat.position.round line e →
-      PenStep k e (Ok p) l → PenBlame k (Ok p) l → after ≡ before ++ Sent p.send ∷ [] → Calls sheet k l (Typed line (said.Penned e p.settled)) before after
+      PenStep k e (Ok p) l → PenBlame k (Ok p) l → after ≡ before ++ Sent p.send ∷ [] → Calls sheet k l (Typed line (Said.Penned e p.settled)) before after
   penned sheet k l line e p before after same says step blame sent' = record {
     same = same;
     out = step.0;
     fine = step.1;
     passed = sent' ∙ ap (λ (xs : List (List ℕ)). before ++ sent_bytes xs) step.2;
     step = (says, step.3);
-    blame = λ runs. blameless (end_of (said.Penned e p.settled)) _ _ (λ q. (cc)) (blame.same (λ q. (cc)));
+    blame = λ runs. blameless (end_of (Said.Penned e p.settled)) _ _ (λ q. (cc)) (blame.same (λ q. (cc)));
   }
 
   -- a refusal blames the disk as the pen did
   refuses : (k l : Desk S B D g h b) (e : Entry) (why : Refusal) (out : List Message) → (state_of k).failed ≡ false → Pens (view_of k) (rules_of k) (state_of k) e (pen_answer (Err why)) (state_of l) out →
-      PenBlame k (Err why) l → BlamesDisk ends.Device (FitsLongest g.room (h.cap (disk_of k))) (end_of (said.Refused why)) (h.faults (disk_of k)) (h.faults (disk_of l))
-  refuses k l e refusals.Device out runs r blame =
-      let failed : Result Penned Refusal = Err refusals.Device in
-      blamed failed refusals.Device (Err ends.Device) _ _ (λ q. refl) (λ q. refl) (λ q room. room (length (own_votes k) + 1) (omega (arith, r.0.1.1))) blame
-  refuses k l e refusals.Failed out runs r blame = absurd (let path : true ≡ false = sym r.0 ∙ runs in (cc))
+      PenBlame k (Err why) l → BlamesDisk DeskEnd.Device (FitsLongest g.room (h.cap (disk_of k))) (end_of (Said.Refused why)) (h.faults (disk_of k)) (h.faults (disk_of l))
+  refuses k l e Refusal.Device out runs r blame =
+      let failed : Result Penned Refusal = Err Refusal.Device in
+      blamed failed Refusal.Device (Err DeskEnd.Device) _ _ (λ q. refl) (λ q. refl) (λ q room. room (length (own_votes k) + 1) (omega (arith, r.0.1.1))) blame
+  refuses k l e Refusal.Failed out runs r blame = absurd (let path : true ≡ false = sym r.0 ∙ runs in (cc))
   refuses k l e why out runs r blame = blameless further _ _ (λ q. (cc)) (blame.same (λ q. (cc)))
 
   pub refused : (sheet : Sheet) (k l : Desk S B D g h b) (line : List ℕ) (e : Entry) (why : Refusal) (log : List Passed) → SameOwner k l → SaysEntry sheet (state_of k).book (state_of k).votes (state_of k).seat.position.round line e →
-      PenStep k e (Err why) l → PenBlame k (Err why) l → Calls sheet k l (Typed line (said.Refused why)) log log
+      PenStep k e (Err why) l → PenBlame k (Err why) l → Calls sheet k l (Typed line (Said.Refused why)) log log
   refused sheet k l line e why log same says step blame = record {
     same = same;
     out = step.0;
@@ -233,15 +222,15 @@ module _ {S B D : Type 0} {g : Files S D} {h : Disks D} {b : Books B} where
 
   -- what it answers to bytes blames the disk as the call did
   answers : (k l : Desk S B D g h b) (bytes : List ℕ) (what : What) (out : List Message) → (state_of k).failed ≡ false → Takes (view_of k) (game_of k) (state_of k) bytes what (state_of l) out →
-      BlamesDisk whats.Device ⊤ (device_answer what) (h.faults (disk_of k)) (h.faults (disk_of l)) →
-      BlamesDisk ends.Device (FitsLongest g.room (h.cap (disk_of k))) (end_at what) (h.faults (disk_of k)) (h.faults (disk_of l))
-  answers k l bytes whats.Device out runs r blame = blamed (device_answer whats.Device) whats.Device (Err ends.Device) _ _ (λ q. refl) (λ q. refl) (λ q room. tt) blame
-  answers k l bytes whats.Failed out runs r blame = absurd (let path : true ≡ false = sym r.0 ∙ runs in (cc))
+      BlamesDisk What.Device ⊤ (device_answer what) (h.faults (disk_of k)) (h.faults (disk_of l)) →
+      BlamesDisk DeskEnd.Device (FitsLongest g.room (h.cap (disk_of k))) (end_at what) (h.faults (disk_of k)) (h.faults (disk_of l))
+  answers k l bytes What.Device out runs r blame = blamed (device_answer What.Device) What.Device (Err DeskEnd.Device) _ _ (λ q. refl) (λ q. refl) (λ q room. tt) blame
+  answers k l bytes What.Failed out runs r blame = absurd (let path : true ≡ false = sym r.0 ∙ runs in (cc))
   answers k l bytes what out runs r blame = blameless further _ _ (λ q. (cc)) (blame.same (λ q. (cc)))
 
   pub taken : (sheet : Sheet) (k l : Desk S B D g h b) (bytes : List ℕ) (what : What) (reply : Option (List ℕ)) (before after : List Passed) → SameOwner k l →
       AreSent (game_of k) (replied reply) (λ out. Takes (view_of k) (game_of k) (state_of k) bytes what (state_of l) out) →
-      BlamesDisk whats.Device ⊤ (device_answer what) (h.faults (disk_of k)) (h.faults (disk_of l)) → after ≡ before ++ sent_bytes (replied reply) → Calls sheet k l (Given bytes what) before after
+      BlamesDisk What.Device ⊤ (device_answer what) (h.faults (disk_of k)) (h.faults (disk_of l)) → after ≡ before ++ sent_bytes (replied reply) → Calls sheet k l (Given bytes what) before after
   taken sheet k l bytes what reply before after same step blame sent' = record {
     same = same;
     out = step.0;
@@ -266,7 +255,7 @@ module _ {S B D : Type 0} {g : Files S D} {h : Disks D} {b : Books B} where
   -- what was told so far is known only where a later write didn't fail
   pub muted : {T : Type 0} (r : Result T DeskEnd) (sheet : Sheet) (k l : Desk S B D g h b) (p q : DeskProcess D) (a b' : List Passed) (x y : List Input) (s t : Option (List ℕ)) →
       DeskGoes sheet k l p q a b' x y s t → DeskGoes sheet k l p q a b' x y (known_at r s) (known_at r t)
-  muted (Err ends.Write) sheet k l p q a b' x y s t v = silent sheet k l p q a b' x y s t v
+  muted (Err DeskEnd.Write) sheet k l p q a b' x y s t v = silent sheet k l p q a b' x y s t v
   muted r sheet k l p q a b' x y s t v = v
 
   -- an answer that is passed on

@@ -2,17 +2,15 @@
 use Rattle.std.proofs.Common.{◌≡◌, ◌<◌, ◌∙◌, Err, List, Option, Result, length, refl, subst, ℕ}
 use Rattle.corrections.specs.declared.book_of.BookOf.{Ghosts as Books}
 use Rattle.entry_log.specs.Disk.{Faults}
-use Rattle.entry_log.specs.declared.disk.Disk.{Ghosts as Disks}
-use Rattle.entry_log.specs.declared.slots_of.SlotsOf.{Ghosts as Files}
+use Rattle.entry_log.specs.declared.{disk.Disk.Ghosts as Disks, slots_of.SlotsOf.Ghosts as Files}
 use Rattle.agree_core.specs.declared.messages.DeskId.{DeskId}
 use Rattle.agree_core.specs.FileView.{FileView}
 use Rattle.agree_core.specs.Openings.{Creates, NotOpened, Opened, Opens}
 use Rattle.corrections.specs.Refusal.{book_refusal}
 use Rattle.desk.specs.Answers.{open_cause}
-use Rattle.desk.specs.declared.refusal.OpenRefusal.{OpenRefusal}
+use Rattle.desk.specs.declared.{refusal.OpenRefusal.OpenRefusal, desk.Desk.Desk}
 use Rattle.vote_store.specs.View.{file_view}
 use Rattle.cards.specs.Sheet.{Sheet}
-use Rattle.desk.specs.declared.desk.Desk.{Desk}
 use Rattle.desk.specs.Desk.{IsDeskOf, desk_of, disk_of, game_of, state_of}
 use Rattle.live.specs.DeskLife.{DeskLives, Follows, ended, fresh}
 use Rattle.live.specs.declared.desk_life.LifeEnd.TheVariants.{NotBegun}

@@ -6,8 +6,7 @@ use Rattle.cards.specs.Sheet.{Sheet}
 use Rattle.streams.specs.declared.watched.WriteFailed.{WriteFailed}
 use Rattle.corrections.specs.declared.book_of.BookOf.{Ghosts as Books}
 use Rattle.entry_log.specs.Blame.{BlamesDisk}
-use Rattle.entry_log.specs.declared.disk.Disk.{Ghosts as Disks}
-use Rattle.entry_log.specs.declared.slots_of.SlotsOf.{Ghosts as Files}
+use Rattle.entry_log.specs.declared.{disk.Disk.Ghosts as Disks, slots_of.SlotsOf.Ghosts as Files}
 use Rattle.agree_core.specs.Desks.{DeskState}
 use Rattle.desk.specs.declared.desk.Desk.{Desk}
 use Rattle.desk.specs.Desk.{disk_of, game_of, state_of, view_of}
@@ -17,19 +16,17 @@ use Rattle.live.specs.Typing.{Input}
 use Rattle.live.specs.Texts.{greeting, unwarned}
 use Rattle.live.specs.Ends.{Course, end_told, ending, further, known_to, written}
 use Rattle.live.specs.Desks.{DeskGoes, DeskProcess, DeskRuns, Ended, FitsLongest, disks_of, innings_of, own_line, process_of}
-use Rattle.live.specs.declared.warned.Warned.{Warned}
-use Rattle.live.specs.declared.ends.DeskEnd.{DeskEnd}
-use Rattle.live.specs.declared.ends.DeskEnd.TheVariants as ends
+use Rattle.live.specs.declared.{warned.Warned.Warned, ends.DeskEnd.DeskEnd}
 use Rattle.live.proofs.DeskLemmas.{kept, muted, rests, same_here, silent, then}
 use Rattle.live.proofs.EndLemmas.{answer_blames, run_blames}
 use Rattle.live.proofs.TellingLemmas.{told_first}
 
 ended_at : {Disk : Type 0} (met : DeskEnd) (turns : ℕ) (last : DeskProcess Disk) → last.course ≡ ending met → Ended turns (Err met) last
-ended_at ends.Write turns last e = λ q. let path : further ≡ Err ends.Device = sym e ∙ q in (cc)
+ended_at DeskEnd.Write turns last e = λ q. let path : further ≡ Err DeskEnd.Device = sym e ∙ q in (cc)
 ended_at met turns last e = e
 
-not_the_disk : (course : Course) (end : DeskEnd) → course ≡ Err end → (end ≡ ends.Device → ⊥) → course ≡ Err ends.Device → ⊥
-not_the_disk course end e n q = let path : ◌≡◌ {A = Course} (Err end) (Err ends.Device) = sym e ∙ q in n (cc)
+not_the_disk : (course : Course) (end : DeskEnd) → course ≡ Err end → (end ≡ DeskEnd.Device → ⊥) → course ≡ Err DeskEnd.Device → ⊥
+not_the_disk course end e n q = let path : ◌≡◌ {A = Course} (Err end) (Err DeskEnd.Device) = sym e ∙ q in n (cc)
 
 module _ {S B D : Type 0} {g : Files S D} {h : Disks D} {b : Books B} where
   abbrev greeting_of : Sheet → Desk S B D g h b → List ℕ
@@ -57,12 +54,12 @@ module _ {S B D : Type 0} {g : Files S D} {h : Disks D} {b : Books B} where
       }
 
   -- the greeting couldn't be told
-  pub not_greeted : (r : Result (Unit {0}) DeskEnd) (met : DeskEnd) (sheet : Sheet) (k : Desk S B D g h b) (turns : ℕ) (a : List Passed) (x : List Input) (s t : Option (List ℕ)) → IsErrAnd r (λ end. end ≡ met) → met ≡ ends.Write →
+  pub not_greeted : (r : Result (Unit {0}) DeskEnd) (met : DeskEnd) (sheet : Sheet) (k : Desk S B D g h b) (turns : ℕ) (a : List Passed) (x : List Input) (s t : Option (List ℕ)) → IsErrAnd r (λ end. end ≡ met) → met ≡ DeskEnd.Write →
       DeskRuns sheet k k a a x x s t turns r
   not_greeted (Ok done) met sheet k turns a x s t e w = absurd e
   not_greeted (Err end) met sheet k turns a x s t e w =
       let p = process_of k unwarned 0 further in
-      let failed : DeskRuns sheet k k a a x x s t turns (Err ends.Write) = record { last = p; is = refl; goes = rests sheet k p a x Option.None; ended = λ q. (cc) } in
+      let failed : DeskRuns sheet k k a a x x s t turns (Err DeskEnd.Write) = record { last = p; is = refl; goes = rests sheet k p a x Option.None; ended = λ q. (cc) } in
       subst (λ (d : DeskEnd). DeskRuns sheet k k a a x x s t turns (Err d)) (sym (e ∙ w)) failed
 
   -- a turn ended the process
@@ -87,22 +84,22 @@ module _ {S B D : Type 0} {g : Files S D} {h : Disks D} {b : Books B} where
 
   -- a run blames the disk only where it failed in the run
   pub blames : (sheet : Sheet) (k l : Desk S B D g h b) (a b' : List Passed) (x y : List Input) (s t : Option (List ℕ)) (turns : ℕ) (r : Result (Unit {0}) DeskEnd) → DeskRuns sheet k l a b' x y s t turns r → (state_of k).failed ≡ false →
-      BlamesDisk ends.Device (FitsLongest g.room (h.cap (disk_of k))) r (h.faults (disk_of k)) (h.faults (disk_of l))
+      BlamesDisk DeskEnd.Device (FitsLongest g.room (h.cap (disk_of k))) r (h.faults (disk_of k)) (h.faults (disk_of l))
   blames sheet k l a b' x y s t turns r runs sound =
       let m = runs.goes.goes in
       let last = run_blames sheet (view_of k) (disks_of k) (game_of k) (innings_of k) (process_of k unwarned 0 further) runs.last m.moments refl sound m.run m.last in
-      let here = subst (λ (d : DeskState D). BlamesDisk ends.Device (FitsLongest g.room (h.cap (disk_of k))) runs.last.course (h.faults (disk_of k)) (h.faults d.disk)) runs.is last in
+      let here = subst (λ (d : DeskState D). BlamesDisk DeskEnd.Device (FitsLongest g.room (h.cap (disk_of k))) runs.last.course (h.faults (disk_of k)) (h.faults d.disk)) runs.is last in
       answer_blames turns r runs.last (h.faults (disk_of k)) (h.faults (disk_of l)) runs.ended here
 
   -- the last flush leaves what was written
   flushed : (r : Result (Unit {0}) DeskEnd) (sheet : Sheet) (k l : Desk S B D g h b) (a b' : List Passed) (x y : List Input) (s t u : Option (List ℕ)) (turns : ℕ) → DeskRuns sheet k l a b' x y s t turns r → Keeps t u →
       DeskRuns sheet k l a b' x y s u turns r
-  flushed (Err ends.Write) sheet k l a b' x y s t u turns v w = record { last = v.last; is = v.is; goes = v.goes; ended = v.ended }
+  flushed (Err DeskEnd.Write) sheet k l a b' x y s t u turns v w = record { last = v.last; is = v.is; goes = v.goes; ended = v.ended }
   flushed r sheet k l a b' x y s t u turns v w = record { last = v.last; is = v.is; goes = kept sheet k l _ v.last a b' x y _ t u v.goes w; ended = v.ended }
 
   -- an end that isn't the disk's, and then a write that failed
-  unwritten : (r : Result (Unit {0}) DeskEnd) (sheet : Sheet) (k l : Desk S B D g h b) (a b' : List Passed) (x y : List Input) (s t u : Option (List ℕ)) (turns : ℕ) → (last : DeskRuns sheet k l a b' x y s t turns r) → (last.last.course ≡ Err ends.Device → ⊥) →
-      DeskRuns sheet k l a b' x y s u turns (Err ends.Write)
+  unwritten : (r : Result (Unit {0}) DeskEnd) (sheet : Sheet) (k l : Desk S B D g h b) (a b' : List Passed) (x y : List Input) (s t u : Option (List ℕ)) (turns : ℕ) → (last : DeskRuns sheet k l a b' x y s t turns r) → (last.last.course ≡ Err DeskEnd.Device → ⊥) →
+      DeskRuns sheet k l a b' x y s u turns (Err DeskEnd.Write)
   unwritten r sheet k l a b' x y s t u turns v n =
       record { last = v.last; is = v.is; goes = silent sheet k l _ v.last a b' x y _ _ v.goes; ended = n }
 
@@ -110,12 +107,12 @@ module _ {S B D : Type 0} {g : Files S D} {h : Disks D} {b : Books B} where
   pub told_last : (answer : Result (Unit {0}) WriteFailed) (r r' : Course) (sheet : Sheet) (k l : Desk S B D g h b) (a b' : List Passed) (x y : List Input) (s t u : Option (List ℕ)) (turns : ℕ) → r' ≡ end_told r (written answer) →
       DeskRuns sheet k l a b' x y s t turns r → Keeps t u → DeskRuns sheet k l a b' x y s u turns r'
   told_last (Err fault) (Ok over) r' sheet k l a b' x y s t u turns e v w =
-      subst (DeskRuns sheet k l a b' x y s u turns) (sym e) (unwritten (Ok over) sheet k l a b' x y s t u turns v (λ q. let path : further ≡ Err ends.Device = sym v.ended.0 ∙ q in (cc)))
-  told_last (Err fault) (Err ends.Write) r' sheet k l a b' x y s t u turns e v w =
-      subst (DeskRuns sheet k l a b' x y s u turns) (sym e) (unwritten (Err ends.Write) sheet k l a b' x y s t u turns v v.ended)
-  told_last (Err fault) (Err ends.Quit) r' sheet k l a b' x y s t u turns e v w =
-      subst (DeskRuns sheet k l a b' x y s u turns) (sym e) (unwritten (Err ends.Quit) sheet k l a b' x y s t u turns v (not_the_disk v.last.course ends.Quit v.ended (λ q. (cc))))
-  told_last (Err fault) (Err ends.NoMoreLines) r' sheet k l a b' x y s t u turns e v w =
-      subst (DeskRuns sheet k l a b' x y s u turns) (sym e) (unwritten (Err ends.NoMoreLines) sheet k l a b' x y s t u turns v (not_the_disk v.last.course ends.NoMoreLines v.ended (λ q. (cc))))
-  told_last (Ok done) (Err ends.Write) r' sheet k l a b' x y s t u turns e v w = subst (DeskRuns sheet k l a b' x y s u turns) (sym e) (flushed (Err ends.Write) sheet k l a b' x y s t u turns v w)
+      subst (DeskRuns sheet k l a b' x y s u turns) (sym e) (unwritten (Ok over) sheet k l a b' x y s t u turns v (λ q. let path : further ≡ Err DeskEnd.Device = sym v.ended.0 ∙ q in (cc)))
+  told_last (Err fault) (Err DeskEnd.Write) r' sheet k l a b' x y s t u turns e v w =
+      subst (DeskRuns sheet k l a b' x y s u turns) (sym e) (unwritten (Err DeskEnd.Write) sheet k l a b' x y s t u turns v v.ended)
+  told_last (Err fault) (Err DeskEnd.Quit) r' sheet k l a b' x y s t u turns e v w =
+      subst (DeskRuns sheet k l a b' x y s u turns) (sym e) (unwritten (Err DeskEnd.Quit) sheet k l a b' x y s t u turns v (not_the_disk v.last.course DeskEnd.Quit v.ended (λ q. (cc))))
+  told_last (Err fault) (Err DeskEnd.NoMoreLines) r' sheet k l a b' x y s t u turns e v w =
+      subst (DeskRuns sheet k l a b' x y s u turns) (sym e) (unwritten (Err DeskEnd.NoMoreLines) sheet k l a b' x y s t u turns v (not_the_disk v.last.course DeskEnd.NoMoreLines v.ended (λ q. (cc))))
+  told_last (Ok done) (Err DeskEnd.Write) r' sheet k l a b' x y s t u turns e v w = subst (DeskRuns sheet k l a b' x y s u turns) (sym e) (flushed (Err DeskEnd.Write) sheet k l a b' x y s t u turns v w)
   told_last answer r r' sheet k l a b' x y s t u turns e v w = subst (DeskRuns sheet k l a b' x y s u turns) (sym e) (flushed r sheet k l a b' x y s t u turns v w)

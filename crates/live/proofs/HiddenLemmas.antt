@@ -1,11 +1,7 @@
 -- What a scorer can't see.
 use Rattle.std.proofs.Common.{◌≡◌, ℕ, List, Option, None, Some, inl, inr, arith, refl, sym, ap, ◌∙◌}
 use Rattle.notation.specs.declared.entry.Entry.{Entry}
-use Rattle.agree_core.specs.declared.messages.Message.{Message}
-use Rattle.agree_core.specs.declared.messages.Vote.{Vote}
-use Rattle.agree_core.specs.declared.position.Position.{Position}
-use Rattle.agree_core.specs.declared.seat.Heard.{Heard}
-use Rattle.agree_core.specs.declared.seat.Settled.{Settled}
+use Rattle.agree_core.specs.declared.{messages.Message.Message, messages.Vote.Vote, position.Position.Position, seat.Heard.Heard, seat.Settled.Settled}
 use Rattle.agree_core.specs.Seats.{SeatState, Hears, IsForNow}
 use Rattle.agree_core.specs.FileView.{FileView}
 use Rattle.agree_core.specs.Positions.{Before, position_of}
@@ -14,13 +10,10 @@ use Rattle.vote_store.proofs.RecordLemmas.{entry_coded-code}
 use Rattle.wire.specs.Layout.{Says}
 use Rattle.wire.proofs.MessageLemmas.{code_in}
 use Rattle.wire.specs.declared.what.What.{What}
-use Rattle.wire.specs.declared.what.What.TheVariants as whats
 use Rattle.cards.specs.Sheet.{Sheet}
 use Rattle.screen.specs.declared.word.Word.{Word}
-use Rattle.live.specs.declared.reminder.Reminder.{Reminder}
+use Rattle.live.specs.declared.{reminder.Reminder.Reminder, said.Said.Said, warned.Warned.Warned}
 use Rattle.live.specs.declared.reminder.Reminder.TheVariants.{HasWritten}
-use Rattle.live.specs.declared.said.Said.TheVariants as said
-use Rattle.live.specs.declared.warned.Warned.{Warned}
 use Rattle.live.specs.Desks.{DeskCall, DeskProcess, MayRemind, Typed, entry_in, own_line, told_of}
 use Rattle.live.specs.Hidden.{AsksWhere, HidesTheOther, IsPennedDiffering, TellsBoth, process_with}
 use Rattle.live.specs.Texts.{came_text, differs_text}
@@ -46,14 +39,14 @@ only_cast s t v h none = let never = sym none ∙ h.2.1 in absurd (cc)
 
 -- nothing depends on a vote that is noted, unless one is penned that differs, or the scorer asks where the desk stands
 not_by_noted : {Disk : Type 0} (sheet : Sheet) (innings : ℕ) (k l : DeskProcess Disk) (call : DeskCall) (e f : Option Entry) → (IsPennedDiffering call → ⊥) → (AsksWhere call → ⊥) → told_of sheet innings (process_with k e) call (process_with l f) ≡ told_of sheet innings k call l
-not_by_noted sheet innings k l (Typed line (said.Asks Word.Where)) e f n w = absurd (w (line, refl))
-not_by_noted sheet innings k l (Typed line (said.Penned own Settled.Differ)) e f n w = absurd (n (line, own, refl))
+not_by_noted sheet innings k l (Typed line (Said.Asks Word.Where)) e f n w = absurd (w (line, refl))
+not_by_noted sheet innings k l (Typed line (Said.Penned own Settled.Differ)) e f n w = absurd (n (line, own, refl))
 not_by_noted sheet innings k l call e f n w = refl
 
 -- and there not on which
 not_by_which : {Disk : Type 0} (sheet : Sheet) (innings : ℕ) (k l : DeskProcess Disk) (call : DeskCall) (e f : Entry) (o p : Option Entry) → (IsPennedDiffering call → ⊥)
     → told_of sheet innings (process_with k (Some e)) call (process_with l o) ≡ told_of sheet innings (process_with k (Some f)) call (process_with l p)
-not_by_which sheet innings k l (Typed line (said.Penned own Settled.Differ)) e f o p n = absurd (n (line, own, refl))
+not_by_which sheet innings k l (Typed line (Said.Penned own Settled.Differ)) e f o p n = absurd (n (line, own, refl))
 not_by_which sheet innings k l call e f o p n = refl
 
 -- nor does it whether the scorer may be reminded
@@ -62,8 +55,8 @@ told_of_any k HasWritten e f may = may
 told_of_any k reminder e f may = may
 
 -- of what came, but of a vote that differs, nothing depends on the entry that came
-pub came_but_differing : (sheet : Sheet) (innings place : ℕ) (own one other : Option Entry) (book : List Entry) (warned : Warned) (what : What) → (what ≡ whats.Heard Heard.Differ → ⊥) → came_text sheet innings place own one book warned what ≡ came_text sheet innings place own other book warned what
-came_but_differing sheet innings place own one other book warned (whats.Heard Heard.Differ) n = absurd (n refl)
+pub came_but_differing : (sheet : Sheet) (innings place : ℕ) (own one other : Option Entry) (book : List Entry) (warned : Warned) (what : What) → (what ≡ What.Heard Heard.Differ → ⊥) → came_text sheet innings place own one book warned what ≡ came_text sheet innings place own other book warned what
+came_but_differing sheet innings place own one other book warned (What.Heard Heard.Differ) n = absurd (n refl)
 came_but_differing sheet innings place own one other book warned what n = refl
 
 pub hides_the_other : {Disk : Type 0} (view : FileView Disk) → HidesTheOther view

@@ -2,29 +2,27 @@
 use Rattle.std.proofs.Common.{◌≡◌, ℕ, Bool, true, false, List, [], ◌∷◌, refl, sym, ap, ◌∙◌, subst}
 use Rattle.std.specs.Prelude.{All}
 use Rattle.std.proofs.lemmas.List.Elements.{All-cons, All-head, All-nil, All-tail}
-use Rattle.agree_core.specs.declared.messages.Message.{Message}
-use Rattle.agree_core.specs.declared.seat.Heard.{Heard}
+use Rattle.agree_core.specs.declared.{messages.Message.Message, seat.Heard.Heard}
 use Rattle.agree_core.specs.FileView.{FileView}
 use Rattle.cards.specs.Sheet.{Sheet}
-use Rattle.wire.specs.declared.what.What.TheVariants as whats
+use Rattle.wire.specs.declared.what.What.{What}
 use Rattle.live.specs.Desks.{DeskCall, DeskProcess, DiskView, Given, MayCall, ProcessStep, Reminded, desk_kind, warned_at}
 use Rattle.live.specs.Reminding.{BringsNone, IsNot, RemindsOnce, brings_news}
 use Rattle.live.specs.Runs.{Moment, Run, last_of}
-use Rattle.live.specs.declared.reminder.Reminder.{Reminder}
+use Rattle.live.specs.declared.{reminder.Reminder.Reminder, warned.Warned.Warned}
 use Rattle.live.specs.declared.reminder.Reminder.TheVariants.{HasWritten, IsHeard, IsMissed}
-use Rattle.live.specs.declared.warned.Warned.{Warned}
 
 -- what was told stays told
 writing_stays : (w : Warned) (call : DeskCall) → brings_news call ≡ false → w.of_writing ≡ true → (warned_at w call).of_writing ≡ true
-writing_stays w (Given bytes (whats.Heard Heard.Noted)) n e = absurd (cc)
-writing_stays w (Given bytes (whats.Heard Heard.Agreed)) n e = absurd (cc)
-writing_stays w (Given bytes (whats.Heard Heard.Differ)) n e = absurd (cc)
+writing_stays w (Given bytes (What.Heard Heard.Noted)) n e = absurd (cc)
+writing_stays w (Given bytes (What.Heard Heard.Agreed)) n e = absurd (cc)
+writing_stays w (Given bytes (What.Heard Heard.Differ)) n e = absurd (cc)
 writing_stays w (Reminded HasWritten) n e = refl
 writing_stays w call n e = e
 
 -- what is told of silence is told by these two alone
 silence_stays : (w : Warned) (call : DeskCall) (silent : Bool) → (call ≡ Reminded IsMissed → ⊥) → (call ≡ Reminded IsHeard → ⊥) → w.of_silence ≡ silent → (warned_at w call).of_silence ≡ silent
-silence_stays w (Given bytes (whats.Heard Heard.Noted)) silent m h e = e
+silence_stays w (Given bytes (What.Heard Heard.Noted)) silent m h e = e
 silence_stays w (Reminded IsMissed) silent m h e = absurd (m refl)
 silence_stays w (Reminded IsHeard) silent m h e = absurd (h refl)
 silence_stays w call silent m h e = e

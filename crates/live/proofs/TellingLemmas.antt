@@ -8,27 +8,22 @@ use Rattle.streams.specs.declared.watched.WriteFailed.{WriteFailed}
 use Rattle.notation.specs.declared.entry.Entry.{Entry}
 use Rattle.agree_core.specs.declared.position.Position.{Position}
 use Rattle.wire.specs.declared.what.What.{What}
-use Rattle.wire.specs.declared.what.What.TheVariants as whats
-use Rattle.desk.specs.declared.refusal.Refusal.TheVariants as refusals
+use Rattle.desk.specs.declared.refusal.Refusal.{Refusal}
 use Rattle.live.specs.Ends.{Course, course_of, ending, end_at, end_of, further, known_at, written}
 use Rattle.live.specs.Runs.{with_text}
 use Rattle.live.specs.Texts.{came_text, said_text}
-use Rattle.live.specs.declared.said.Said.{Said}
-use Rattle.live.specs.declared.said.Said.TheVariants as said
-use Rattle.live.specs.declared.warned.Warned.{Warned}
-use Rattle.live.specs.declared.ends.DeskEnd.{DeskEnd}
-use Rattle.live.specs.declared.ends.DeskEnd.TheVariants as ends
+use Rattle.live.specs.declared.{said.Said.Said, warned.Warned.Warned, ends.DeskEnd.DeskEnd}
 
-course_at : (course : Course) (end : DeskEnd) → course ≡ Err end → (end ≡ ends.Write → ⊥) → ending end ≡ course
-course_at course ends.Write e n = absurd (n refl)
+course_at : (course : Course) (end : DeskEnd) → course ≡ Err end → (end ≡ DeskEnd.Write → ⊥) → ending end ≡ course
+course_at course DeskEnd.Write e n = absurd (n refl)
 course_at course end e n = sym e
 
-said_no_write : (answer : Said) (end : DeskEnd) → end_of answer ≡ Err end → end ≡ ends.Write → ⊥
-said_no_write (said.Refused refusals.Failed) end e w = cc
+said_no_write : (answer : Said) (end : DeskEnd) → end_of answer ≡ Err end → end ≡ DeskEnd.Write → ⊥
+said_no_write (Said.Refused Refusal.Failed) end e w = cc
 said_no_write answer end e w = cc
 
-came_no_write : (what : What) (end : DeskEnd) → end_at what ≡ Err end → end ≡ ends.Write → ⊥
-came_no_write whats.Device end e w = cc
+came_no_write : (what : What) (end : DeskEnd) → end_at what ≡ Err end → end ≡ DeskEnd.Write → ⊥
+came_no_write What.Device end e w = cc
 came_no_write what end e w = cc
 
 -- a line at which the process ends
@@ -40,14 +35,14 @@ came_course what end e = course_at (end_at what) end e (came_no_write what end e
 
 -- nothing is told of an end
 pub said_nothing : (sheet : Sheet) (innings : ℕ) (at : Position) (own other : Option Entry) (silent : Bool) (book : List Entry) (answer : Said) (end : DeskEnd) (s : Option (List ℕ)) → end_of answer ≡ Err end → Appends s s (said_text sheet innings at own other silent book answer)
-said_nothing sheet innings at own other silent book said.Quit end s e = appends_none s
-said_nothing sheet innings at own other silent book (said.Refused refusals.Failed) end s e = appends_none s
-said_nothing sheet innings at own other silent book (said.Refused refusals.Device) end s e = appends_none s
+said_nothing sheet innings at own other silent book Said.Quit end s e = appends_none s
+said_nothing sheet innings at own other silent book (Said.Refused Refusal.Failed) end s e = appends_none s
+said_nothing sheet innings at own other silent book (Said.Refused Refusal.Device) end s e = appends_none s
 said_nothing sheet innings at own other silent book answer end s e = absurd (cc)
 
 pub came_nothing : (sheet : Sheet) (innings place : ℕ) (own other : Option Entry) (book : List Entry) (warned : Warned) (what : What) (end : DeskEnd) (s : Option (List ℕ)) → end_at what ≡ Err end → Appends s s (came_text sheet innings place own other book warned what)
-came_nothing sheet innings place own other book warned whats.Device end s e = appends_none s
-came_nothing sheet innings place own other book warned whats.Failed end s e = appends_none s
+came_nothing sheet innings place own other book warned What.Device end s e = appends_none s
+came_nothing sheet innings place own other book warned What.Failed end s e = appends_none s
 came_nothing sheet innings place own other book warned what end s e = absurd (cc)
 
 -- a text is told, or a write failed

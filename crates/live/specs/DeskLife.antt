@@ -8,9 +8,8 @@ use Rattle.agree_core.specs.Openings.{Creates, NotOpened, Opened, Opening, Opens
 use Rattle.cards.specs.Sheet.{Sheet}
 use Rattle.desk.specs.declared.refusal.OpenRefusal.{OpenRefusal}
 use Rattle.desk.specs.Answers.{open_cause}
-use Rattle.live.specs.declared.desk_life.LifeEnd.{LifeEnd}
+use Rattle.live.specs.declared.{desk_life.LifeEnd.LifeEnd, ends.DeskEnd.DeskEnd}
 use Rattle.live.specs.declared.desk_life.LifeEnd.TheVariants.{Ended as EndedSo, NotBegun}
-use Rattle.live.specs.declared.ends.DeskEnd.{DeskEnd}
 use Rattle.live.specs.Desks.{DeskProcess, DiskView, Ended, desk_kind, own_line}
 use Rattle.live.specs.Ends.{further, known_at}
 use Rattle.live.specs.Passed.{Passed}

@@ -5,8 +5,7 @@ use Rattle.corrections.specs.declared.book_of.BookOf.{Ghosts as Books}
 use Rattle.corrections.specs.Refusal.{book_refusal}
 use Rattle.entry_log.specs.Blame.{BlamesDisk}
 use Rattle.entry_log.specs.Disk.{Faults}
-use Rattle.entry_log.specs.declared.disk.Disk.{Ghosts as Disks}
-use Rattle.entry_log.specs.declared.slots_of.SlotsOf.{Ghosts as Files}
+use Rattle.entry_log.specs.declared.{disk.Disk.Ghosts as Disks, slots_of.SlotsOf.Ghosts as Files}
 use Rattle.agree_core.specs.declared.messages.Message.{Message}
 use Rattle.agree_core.specs.Desks.{DeskState, Ticks, most_votes}
 use Rattle.agree_core.specs.FileView.{FileView}
@@ -17,12 +16,9 @@ use Rattle.cards.specs.Sheet.{Sheet}
 use Rattle.desk.specs.declared.desk.Desk.{Desk}
 use Rattle.desk.specs.Desk.{SameOwner, book_of, disk_of, game_of, last_entry, state_of, view_of}
 use Rattle.desk.specs.Takes.{Takes}
-use Rattle.live.specs.declared.ends.DeskEnd.{DeskEnd}
+use Rattle.live.specs.declared.{ends.DeskEnd.DeskEnd, reminder.Reminder.Reminder, said.Said.Said, warned.Warned.Warned}
 use Rattle.live.specs.declared.ends.DeskEnd.TheVariants.{NoMoreLines, Device, Write}
-use Rattle.live.specs.declared.reminder.Reminder.{Reminder}
 use Rattle.live.specs.declared.reminder.Reminder.TheVariants.{HasWritten, IsHeard, IsMissed}
-use Rattle.live.specs.declared.said.Said.{Said}
-use Rattle.live.specs.declared.warned.Warned.{Warned}
 use Rattle.live.specs.Ends.{Course, end_at, end_of, further, known_at}
 use Rattle.live.specs.Passed.{Passed, Came, sends}
 use Rattle.live.specs.Runs.{Goes, Kind, with_text}

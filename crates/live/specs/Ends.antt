@@ -1,13 +1,10 @@
 -- How a desk's process ends.
 use Rattle.std.specs.Prelude.{◌+◌, ℕ, List, Option, None, Result, Ok, Err}
 use Rattle.wire.specs.declared.what.What.{What}
-use Rattle.wire.specs.declared.what.What.TheVariants as whats
-use Rattle.desk.specs.declared.refusal.Refusal.TheVariants as refusals
+use Rattle.desk.specs.declared.refusal.Refusal.{Refusal}
 use Rattle.streams.specs.declared.watched.WriteFailed.{WriteFailed}
-use Rattle.live.specs.declared.ends.DeskEnd.{DeskEnd}
+use Rattle.live.specs.declared.{ends.DeskEnd.DeskEnd, said.Said.Said}
 use Rattle.live.specs.declared.ends.DeskEnd.TheVariants.{Quit, Device, Write}
-use Rattle.live.specs.declared.said.Said.{Said}
-use Rattle.live.specs.declared.said.Said.TheVariants as said
 
 -- how a desk's process goes on: further, or to an end
 abbrev pub Course : Type 0
@@ -18,15 +15,15 @@ further = Ok tt
 
 -- after what a line came to: it ends at `quit` and at a failed disk
 abbrev pub end_of : Said → Course
-end_of said.Quit = Err Quit
-end_of (said.Refused refusals.Device) = Err Device
-end_of (said.Refused refusals.Failed) = Err Device
+end_of Said.Quit = Err Quit
+end_of (Said.Refused Refusal.Device) = Err Device
+end_of (Said.Refused Refusal.Failed) = Err Device
 end_of answer = further
 
 -- after the answer to bytes that came
 abbrev pub end_at : What → Course
-end_at whats.Device = Err Device
-end_at whats.Failed = Err Device
+end_at What.Device = Err Device
+end_at What.Failed = Err Device
 end_at what = further
 
 -- a failed write ends the process, whatever its desk would do

@@ -3,10 +3,7 @@
 use Rattle.std.specs.Prelude.{◌≡◌, ◌≢◌, ◌∷◌, ℕ, List, [], Option, Some, None}
 use Rattle.notation.specs.declared.entry.Entry.{Entry}
 use Rattle.corrections.specs.declared.refusal.Refusal.{Refusal as BookRefusal}
-use Rattle.agree_core.specs.declared.messages.Message.{Message}
-use Rattle.agree_core.specs.declared.messages.Vote.{Vote}
-use Rattle.agree_core.specs.declared.seat.Heard.{Heard}
-use Rattle.agree_core.specs.declared.seat.Settled.{Settled}
+use Rattle.agree_core.specs.declared.{messages.Message.Message, messages.Vote.Vote, seat.Heard.Heard, seat.Settled.Settled}
 use Rattle.agree_core.specs.Books.{Rules}
 use Rattle.agree_core.specs.Seats.{SeatState, Hears, IsForNow}
 use Rattle.agree_core.specs.Desks as desks
@@ -14,11 +11,9 @@ use Rattle.agree_core.specs.Desks.{DeskState, Pens, next_ballot}
 use Rattle.agree_core.specs.FileView.{FileView, Holds}
 use Rattle.wire.specs.Layout.{Says}
 use Rattle.wire.specs.declared.what.What.{What}
-use Rattle.wire.specs.declared.what.What.TheVariants as whats
 use Rattle.cards.specs.Sheet.{Sheet}
 use Rattle.screen.specs.declared.word.Word.{Word}
-use Rattle.live.specs.declared.reminder.Reminder.{Reminder}
-use Rattle.live.specs.declared.said.Said.TheVariants as said
+use Rattle.live.specs.declared.{reminder.Reminder.Reminder, said.Said.Said}
 use Rattle.live.specs.Desks.{DeskCall, DeskProcess, Given, MayRemind, Typed, own_line, told_of}
 use Rattle.live.specs.Texts.{at_place, both_lines}
 
@@ -34,11 +29,11 @@ process_with k e = record k { desk = desk_with k.desk e }
 
 -- the scorer's line casts a vote that differs from the other's
 abbrev pub IsPennedDiffering : DeskCall → Type 0
-IsPennedDiffering call = (line : List ℕ) × (own : Entry) × (call ≡ Typed line (said.Penned own Settled.Differ))
+IsPennedDiffering call = (line : List ℕ) × (own : Entry) × (call ≡ Typed line (Said.Penned own Settled.Differ))
 
 -- the scorer asks where the desk stands
 abbrev pub AsksWhere : DeskCall → Type 0
-AsksWhere call = (line : List ℕ) × (call ≡ Typed line (said.Asks Word.Where))
+AsksWhere call = (line : List ℕ) × (call ≡ Typed line (Said.Asks Word.Where))
 
 -- Of the other desk's vote of a position its scorer is told that it came, and nothing that depends on its entry, until the
 -- own one is stored: until that is cast, the other's is answered with `Noted` whatever it says, and nothing is told then; a
@@ -50,9 +45,9 @@ pub record HidesTheOther {Disk : Type 0} (view : FileView Disk) : Type 0 where
   pub answer : (s t : SeatState) (v : Vote) (h : Heard) → s.mine ≡ None → s.theirs ≡ None → IsForNow s v → Hears s v h t
       → h ≡ Heard.Noted
   pub silent : (sheet : Sheet) (innings : ℕ) (k l : DeskProcess Disk) (bytes : List ℕ)
-      → told_of sheet innings k (Given bytes (whats.Heard Heard.Noted)) l ≡ []
+      → told_of sheet innings k (Given bytes (What.Heard Heard.Noted)) l ≡ []
   pub bytes : (sheet : Sheet) (innings : ℕ) (k l : DeskProcess Disk) (one other : List ℕ) (what : What)
-      → what ≢ whats.Heard Heard.Differ
+      → what ≢ What.Heard Heard.Differ
       → told_of sheet innings k (Given one what) l ≡ told_of sheet innings k (Given other what) l
   pub cast : (s t : SeatState) (v : Vote) → Hears s v Heard.Differ t → s.mine ≢ None
   pub noted : (sheet : Sheet) (innings : ℕ) (k l : DeskProcess Disk) (call : DeskCall) (e f : Option Entry)
@@ -73,9 +68,9 @@ pub record HidesTheOther {Disk : Type 0} (view : FileView Disk) : Type 0 where
 pub record TellsBoth (Disk : Type 0) : Type 0 where
   pub penned : (sheet : Sheet) (innings : ℕ) (k l : DeskProcess Disk) (line : List ℕ) (own other : Entry)
       → k.desk.seat.theirs ≡ Some other
-      → told_of sheet innings k (Typed line (said.Penned own Settled.Differ)) l
+      → told_of sheet innings k (Typed line (Said.Penned own Settled.Differ)) l
       ≡ at_place k.desk.seat.position.place (both_lines own other)
   pub came : (sheet : Sheet) (innings game : ℕ) (k l : DeskProcess Disk) (bytes : List ℕ) (v : Vote) (own : Entry)
       → own_line k.desk ≡ Some own → Says game bytes (Message.Vote v)
-      → told_of sheet innings k (Given bytes (whats.Heard Heard.Differ)) l
+      → told_of sheet innings k (Given bytes (What.Heard Heard.Differ)) l
       ≡ at_place k.desk.seat.position.place (both_lines own v.entry)

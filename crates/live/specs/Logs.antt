@@ -1,13 +1,10 @@
 -- What a log tells.
 use Rattle.std.specs.Prelude.{List, [], ◌∷◌, ◌++◌, take}
-use Rattle.live.specs.declared.log.CarriedLog.{CarriedLog}
-use Rattle.live.specs.declared.log.CarriedLog as carried
-use Rattle.live.specs.declared.log.InputLog.{InputLog}
-use Rattle.live.specs.declared.log.InputLog as inputs
-use Rattle.live.specs.declared.log.Log.{Log, Empty, Sent', Came'}
-use Rattle.live.specs.declared.log.NoticeLog.{NoticeLog}
-use Rattle.live.specs.declared.log.NoticeLog as noticed
+use Rattle.live.specs.declared.log.{CarriedLog.CarriedLog, InputLog.InputLog, Log.Log, Log.Empty, Log.Sent', Log.Came', NoticeLog.NoticeLog}
 use Rattle.live.specs.declared.notices.Notice.{Notice}
+use Rattle.live.specs.declared.log.CarriedLog as carried
+use Rattle.live.specs.declared.log.InputLog as inputs
+use Rattle.live.specs.declared.log.NoticeLog as noticed
 use Rattle.live.specs.Passed.{Passed, Sent, Came}
 use Rattle.live.specs.Typing.{Input, Line, End}
 

@@ -1,14 +1,11 @@
 -- What a board tells of what it can't take.
 use Rattle.std.specs.Prelude.{ℕ, Bool, true, false, List, [], ◌∷◌, ◌++◌, codes, Result, Ok, Err}
-use Rattle.agree_core.specs.declared.seat.Heard.TheVariants as heards
+use Rattle.agree_core.specs.declared.seat.Heard.{Heard}
 use Rattle.wire.specs.declared.what.What.{What}
-use Rattle.wire.specs.declared.what.What.TheVariants as whats
 use Rattle.board.specs.declared.refusal.BoardRefusal.{BoardRefusal}
-use Rattle.board.specs.declared.refusal.BoardRefusal.TheVariants as refusals
 use Rattle.live.specs.Texts.{at_place, bad_text, unopened_line, unwarned, warned_after, warned_unopened}
-use Rattle.live.specs.declared.notices.Notice.{Notice}
+use Rattle.live.specs.declared.notices.{Notice.Notice, Telling.Telling}
 use Rattle.live.specs.declared.notices.Notice.TheVariants.{Bytes, Unopened, TwoVotes, BadVotes}
-use Rattle.live.specs.declared.notices.Telling.{Telling}
 
 -- the line of a notice
 abbrev pub notice_text : Notice → List ℕ
@@ -29,10 +26,10 @@ noted false notices notice = notices ++ notice ∷ []
 -- the notices after the answer to bytes that came: of bytes that are no message of the match and of two votes of one
 -- desk one each, until a vote that it takes comes, and of refused votes one
 abbrev pub notices_after : Telling → List Notice → Result What BoardRefusal → List Notice
-notices_after k notices (Ok (whats.Bad fault)) = noted k.warned.of_bytes notices (Bytes fault)
-notices_after k notices (Ok (whats.Heard heards.TwoVotes)) = noted k.warned.of_votes notices TwoVotes
+notices_after k notices (Ok (What.Bad fault)) = noted k.warned.of_bytes notices (Bytes fault)
+notices_after k notices (Ok (What.Heard Heard.TwoVotes)) = noted k.warned.of_votes notices TwoVotes
 notices_after k notices (Ok what) = notices
-notices_after k notices (Err (refusals.BadVotes place)) = noted k.is_stopped notices (BadVotes place)
+notices_after k notices (Err (BoardRefusal.BadVotes place)) = noted k.is_stopped notices (BadVotes place)
 
 -- the notices once bytes came that don't open: one, until a vote that it takes comes
 abbrev pub notices_unopened : Telling → List Notice → List Notice

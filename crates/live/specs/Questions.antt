@@ -6,7 +6,6 @@ use Rattle.cards.specs.Sheet.{Sheet, team_of}
 use Rattle.screen.specs.Sentences.{of_fault}
 use Rattle.screen.specs.Sides.{listed}
 use Rattle.shorthand.specs.declared.unclear.Unclear.{Unclear}
-use Rattle.shorthand.specs.declared.unclear.Unclear.TheVariants as unclear
 use Rattle.shorthand.specs.Candidates.{candidates}
 
 -- a word, a number and a name
@@ -22,8 +21,8 @@ abbrev pub fault_text : LineFault → List ℕ
 fault_text fault = explained (codes "fault") (number_of fault) (name_of fault) (of_fault fault)
 
 abbrev pub unclear_text : Sheet → Unclear → List ℕ
-unclear_text sheet (unclear.Fault fault) = fault_text fault
-unclear_text sheet unclear.WhoBowls = codes "who bowls? begin with the bowler, as 10: .\n"
-unclear_text sheet (unclear.NoSuchPlayer name) = codes "no such player: " ++ name.bytes ++ codes "\n"
-unclear_text sheet (unclear.WhichPlayer side name) =
+unclear_text sheet (Unclear.Fault fault) = fault_text fault
+unclear_text sheet Unclear.WhoBowls = codes "who bowls? begin with the bowler, as 10: .\n"
+unclear_text sheet (Unclear.NoSuchPlayer name) = codes "no such player: " ++ name.bytes ++ codes "\n"
+unclear_text sheet (Unclear.WhichPlayer side name) =
     codes "which one? " ++ listed (team_of sheet side) true (candidates (team_of sheet side) name.bytes) ++ codes "\n"

@@ -1,10 +1,9 @@
 -- What a scorer is told of the other desk by the clock comes once.
 use Rattle.std.specs.Prelude.{◌≡◌, ◌≢◌, ℕ, Bool, true, false, List, All}
-use Rattle.agree_core.specs.declared.messages.Message.{Message}
-use Rattle.agree_core.specs.declared.seat.Heard.{Heard}
+use Rattle.agree_core.specs.declared.{messages.Message.Message, seat.Heard.Heard}
 use Rattle.agree_core.specs.FileView.{FileView}
 use Rattle.cards.specs.Sheet.{Sheet}
-use Rattle.wire.specs.declared.what.What.TheVariants as whats
+use Rattle.wire.specs.declared.what.What.{What}
 use Rattle.live.specs.Desks.{DeskCall, DeskProcess, DiskView, Given, ProcessStep, Reminded, desk_kind}
 use Rattle.live.specs.Runs.{Moment, Run}
 use Rattle.live.specs.Texts.{unwarned}
@@ -13,9 +12,9 @@ use Rattle.live.specs.declared.reminder.Reminder.TheVariants.{HasWritten, IsHear
 
 -- a vote of the other desk that is news comes
 abbrev pub brings_news : DeskCall → Bool
-brings_news (Given bytes (whats.Heard Heard.Noted)) = true
-brings_news (Given bytes (whats.Heard Heard.Agreed)) = true
-brings_news (Given bytes (whats.Heard Heard.Differ)) = true
+brings_news (Given bytes (What.Heard Heard.Noted)) = true
+brings_news (Given bytes (What.Heard Heard.Agreed)) = true
+brings_news (Given bytes (What.Heard Heard.Differ)) = true
 brings_news call = false
 
 module _ {Disk : Type 0} where

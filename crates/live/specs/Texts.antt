@@ -1,8 +1,7 @@
 -- What a desk's scorer is told.
 use Rattle.std.specs.Prelude.{ℕ, ◌==◌, Bool, true, false, if◌then◌else◌, nat_lt, is_some, Option, Some, None, List, [], ◌++◌, slice_get, codes, decimal}
-use Rattle.notation.specs.declared.entry.Entry.{Entry}
+use Rattle.notation.specs.declared.entry.{Entry.Entry, Plain.Plain}
 use Rattle.notation.specs.declared.entry.Entry.TheVariants.{Write}
-use Rattle.notation.specs.declared.entry.Plain.TheVariants as plain
 use Rattle.notation.specs.Written.{text_of}
 use Rattle.ball_laws.specs.History.{History}
 use Rattle.match_laws.specs.History.{begun}
@@ -11,16 +10,11 @@ use Rattle.match_laws.specs.Result.{current}
 use Rattle.match_laws.specs.LawRefusal.{number_of as law_number}
 use Rattle.corrections.specs.declared.refusal.Refusal.TheVariants.{Later}
 use Rattle.corrections.specs.CleanList.{history_of}
-use Rattle.agree_core.specs.declared.position.Position.{Position}
-use Rattle.agree_core.specs.declared.seat.Settled.{Settled}
-use Rattle.agree_core.specs.declared.seat.Heard.{Heard}
+use Rattle.agree_core.specs.declared.{position.Position.Position, seat.Settled.Settled, seat.Heard.Heard}
 use Rattle.wire.specs.Fault.{number_of as wire_number, name_of as wire_name}
-use Rattle.wire.specs.declared.fault.WireFault.{WireFault}
-use Rattle.wire.specs.declared.what.What.{What}
-use Rattle.wire.specs.declared.what.What.TheVariants as whats
+use Rattle.wire.specs.declared.{fault.WireFault.WireFault, what.What.What}
 use Rattle.desk.specs.Refusal.{number_of, name_of}
 use Rattle.desk.specs.declared.refusal.Refusal.{Refusal}
-use Rattle.desk.specs.declared.refusal.Refusal.TheVariants as refusals
 use Rattle.cards.specs.Sheet.{Sheet}
 use Rattle.screen.specs.Row.{row}
 use Rattle.screen.specs.OverCheck.{over_check}
@@ -30,17 +24,12 @@ use Rattle.screen.specs.Sides.{both_sides}
 use Rattle.screen.specs.Help.{help, help_on}
 use Rattle.screen.specs.Sentences.{of_book, of_desk}
 use Rattle.screen.specs.declared.word.Word.{Word}
-use Rattle.screen.specs.declared.word.Word.TheVariants as words
-use Rattle.live.specs.declared.reminder.Reminder.{Reminder}
-use Rattle.live.specs.declared.reminder.Reminder.TheVariants as reminders
-use Rattle.live.specs.declared.said.Said.{Said}
-use Rattle.live.specs.declared.said.Said.TheVariants as said
-use Rattle.live.specs.declared.warned.Warned.{Warned}
+use Rattle.live.specs.declared.{reminder.Reminder.Reminder, said.Said.Said, warned.Warned.Warned}
 use Rattle.live.specs.Questions.{explained, fault_text, numbered, unclear_text}
 
 -- the umpire calls over
 abbrev pub is_over : Entry → Bool
-is_over (Write plain.Over) = true
+is_over (Write Plain.Over) = true
 is_over e = false
 
 -- a place and what is told of it
@@ -75,9 +64,9 @@ agreed sheet innings place book = agreed_at sheet innings place (history_of book
 
 -- of a correction, the first place that it leaves refused, and why
 abbrev pub refused_text : Refusal → List ℕ
-refused_text refusals.Failed = []
-refused_text refusals.Device = []
-refused_text (refusals.Book (Later place why)) =
+refused_text Refusal.Failed = []
+refused_text Refusal.Device = []
+refused_text (Refusal.Book (Later place why)) =
     codes "refused 32 Later " ++ decimal place ++ codes " " ++ decimal (law_number why)
     ++ codes ": " ++ of_book (Later place why) ++ codes "\n"
 refused_text why = explained (codes "refused") (number_of why) (name_of why) (of_desk why)
@@ -117,9 +106,9 @@ abbrev pub silence : List ℕ
 silence = codes "the other desk isn't heard\n"
 
 abbrev pub reminder_text : ℕ → Reminder → List ℕ
-reminder_text place reminders.HasWritten = writing place
-reminder_text place reminders.IsMissed = silence
-reminder_text place reminders.IsHeard = codes "the other desk is heard again\n"
+reminder_text place Reminder.HasWritten = writing place
+reminder_text place Reminder.IsMissed = silence
+reminder_text place Reminder.IsHeard = codes "the other desk is heard again\n"
 
 -- what is known of the other desk where the scorer asks: that it has written, where its vote is noted and the own one
 -- isn't cast; that it isn't heard, where that was told and it wasn't heard since
@@ -138,29 +127,29 @@ standing sheet innings book at own waited silent =
 
 -- what is shown of a word, where a desk stands so
 abbrev pub word_text : Sheet → ℕ → Position → Option Entry → Bool → Bool → List Entry → Word → List ℕ
-word_text sheet innings at own waited silent book words.Where = standing sheet innings book at own waited silent
-word_text sheet innings at own waited silent book (words.Entries most) = listing most book
-word_text sheet innings at own waited silent book words.Total = over_check sheet (history_of book)
-word_text sheet innings at own waited silent book words.Cards = both_cards sheet (history_of book)
-word_text sheet innings at own waited silent book words.Sides = both_sides sheet
-word_text sheet innings at own waited silent book words.Forms = help
-word_text sheet innings at own waited silent book (words.More topic) = help_on topic
+word_text sheet innings at own waited silent book Word.Where = standing sheet innings book at own waited silent
+word_text sheet innings at own waited silent book (Word.Entries most) = listing most book
+word_text sheet innings at own waited silent book Word.Total = over_check sheet (history_of book)
+word_text sheet innings at own waited silent book Word.Cards = both_cards sheet (history_of book)
+word_text sheet innings at own waited silent book Word.Sides = both_sides sheet
+word_text sheet innings at own waited silent book Word.Forms = help
+word_text sheet innings at own waited silent book (Word.More topic) = help_on topic
 
 -- of a line at this position, with the desk's own vote there and the other desk's before it, where the scorer was told
 -- that the other desk isn't heard or not, and with the book after it
 abbrev pub said_text : Sheet → ℕ → Position → Option Entry → Option Entry → Bool → List Entry → Said → List ℕ
-said_text sheet innings at own other silent book said.Quit = []
-said_text sheet innings at own other silent book (said.Asks word) =
+said_text sheet innings at own other silent book Said.Quit = []
+said_text sheet innings at own other silent book (Said.Asks word) =
     word_text sheet innings at own (is_waited_for own other) silent book word
-said_text sheet innings at own other silent book (said.Unclear unclear) = unclear_text sheet unclear
-said_text sheet innings at own other silent book (said.Fault fault) = fault_text fault
-said_text sheet innings at own other silent book said.SayAgain =
+said_text sheet innings at own other silent book (Said.Unclear unclear) = unclear_text sheet unclear
+said_text sheet innings at own other silent book (Said.Fault fault) = fault_text fault
+said_text sheet innings at own other silent book Said.SayAgain =
     at_place at.place (codes "differs: begin the line with again")
-said_text sheet innings at own other silent book said.NoneDiffers =
+said_text sheet innings at own other silent book Said.NoneDiffers =
     at_place at.place (codes "doesn't differ: leave out again")
-said_text sheet innings at own other silent book said.Waiting = refused_text refusals.Waiting
-said_text sheet innings at own other silent book (said.Refused why) = refused_text why
-said_text sheet innings at own other silent book (said.Penned e settled) =
+said_text sheet innings at own other silent book Said.Waiting = refused_text Refusal.Waiting
+said_text sheet innings at own other silent book (Said.Refused why) = refused_text why
+said_text sheet innings at own other silent book (Said.Penned e settled) =
     settled_text sheet innings at.place other book e settled
 
 -- of a peer, unless it was told
@@ -190,8 +179,8 @@ heard_text sheet innings place own other book warned heard = []
 
 -- of what came at this place, likewise
 abbrev pub came_text : Sheet → ℕ → ℕ → Option Entry → Option Entry → List Entry → Warned → What → List ℕ
-came_text sheet innings place own other book warned (whats.Bad fault) = warning warned.of_bytes (bad_text fault)
-came_text sheet innings place own other book warned (whats.Heard heard) =
+came_text sheet innings place own other book warned (What.Bad fault) = warning warned.of_bytes (bad_text fault)
+came_text sheet innings place own other book warned (What.Heard heard) =
     heard_text sheet innings place own other book warned heard
 came_text sheet innings place own other book warned what = []
 
@@ -213,12 +202,12 @@ abbrev pub unwarned_but : Warned → Warned
 unwarned_but warned = record unwarned { of_silence = warned.of_silence }
 
 abbrev pub warned_after : Warned → What → Warned
-warned_after warned (whats.Bad fault) = record warned { of_bytes = true }
-warned_after warned (whats.Heard Heard.Mine) = record warned { of_desk = true }
-warned_after warned (whats.Heard Heard.TwoVotes) = record warned { of_votes = true }
-warned_after warned (whats.Heard Heard.Noted) = unwarned_but warned
-warned_after warned (whats.Heard Heard.Agreed) = unwarned_but warned
-warned_after warned (whats.Heard Heard.Differ) = unwarned_but warned
+warned_after warned (What.Bad fault) = record warned { of_bytes = true }
+warned_after warned (What.Heard Heard.Mine) = record warned { of_desk = true }
+warned_after warned (What.Heard Heard.TwoVotes) = record warned { of_votes = true }
+warned_after warned (What.Heard Heard.Noted) = unwarned_but warned
+warned_after warned (What.Heard Heard.Agreed) = unwarned_but warned
+warned_after warned (What.Heard Heard.Differ) = unwarned_but warned
 warned_after warned what = warned
 
 -- once bytes came that don't open
@@ -227,6 +216,6 @@ warned_unopened warned = record warned { of_seal = true }
 
 -- once this was told of the other desk
 abbrev pub warned_reminded : Warned → Reminder → Warned
-warned_reminded warned reminders.HasWritten = record warned { of_writing = true }
-warned_reminded warned reminders.IsMissed = record warned { of_silence = true }
-warned_reminded warned reminders.IsHeard = record warned { of_silence = false }
+warned_reminded warned Reminder.HasWritten = record warned { of_writing = true }
+warned_reminded warned Reminder.IsMissed = record warned { of_silence = true }
+warned_reminded warned Reminder.IsHeard = record warned { of_silence = false }

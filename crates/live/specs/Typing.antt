@@ -1,7 +1,6 @@
 -- What a scorer types.
 use Rattle.std.specs.Prelude.{◌≡◌, ◌≤◌, ℕ, List, [], ◌∷◌, ◌++◌, take}
 use Rattle.live.specs.declared.keys.Typed.{Typed}
-use Rattle.live.specs.declared.keys.Typed.TheVariants as typed
 
 -- a line, or the end of all lines
 pub data Input : Type 0 where
@@ -10,6 +9,6 @@ pub data Input : Type 0 where
 
 -- what was told: nothing, the front of the buffer as a line, or the end
 abbrev pub IsTyped : Typed → List ℕ → List Input → List Input → Type 0
-IsTyped typed.Nothing buffer before after = after ≡ before
-IsTyped (typed.Line count) buffer before after = (count ≤ 128) × (after ≡ before ++ Line (take count buffer) ∷ [])
-IsTyped typed.Ended buffer before after = after ≡ before ++ End ∷ []
+IsTyped Typed.Nothing buffer before after = after ≡ before
+IsTyped (Typed.Line count) buffer before after = (count ≤ 128) × (after ≡ before ++ Line (take count buffer) ∷ [])
+IsTyped Typed.Ended buffer before after = after ≡ before ++ End ∷ []

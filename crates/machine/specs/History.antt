@@ -1,8 +1,7 @@
 -- What a history tells: what a power loss may leave, and how many calls have failed.
 use Rattle.std.specs.Prelude.{ℕ, ◌+◌}
 use Rattle.entry_log.specs.Disk.{Images, Faults, Ever, cut_to, only, written}
-use Rattle.machine.specs.declared.history.Failures.{Failures, Zero, More'}
-use Rattle.machine.specs.declared.history.History.{History, Synced, Written', Cut'}
+use Rattle.machine.specs.declared.history.{Failures.Failures, Failures.Zero, Failures.More', History.History, History.Synced, History.Written', History.Cut'}
 
 -- the bytes of the last sync, after each write and cut since
 abbrev pub left_of : History → Images

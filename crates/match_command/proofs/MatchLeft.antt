@@ -9,17 +9,14 @@ use Rattle.entry_log.specs.Disk.{Images, written}
 use Rattle.entry_log.specs.Format.{contents, room}
 use Rattle.entry_log.specs.Slots.{StaysOrBegins}
 use Rattle.entry_log.specs.Version2.{version_2}
-use Rattle.entry_log.specs.declared.disk.Disk.{Ghosts as Disks}
-use Rattle.entry_log.specs.declared.slots_of.SlotsOf.{Ghosts as Files}
+use Rattle.entry_log.specs.declared.{disk.Disk.Ghosts as Disks, slots_of.SlotsOf.Ghosts as Files}
 use Rattle.agree_core.specs.declared.messages.DeskId.{DeskId}
-use Rattle.agree_core.specs.declared.messages.DeskId.TheVariants as desks
 use Rattle.agree_core.specs.FileView.{FileView}
 use Rattle.vote_store.specs.View.{file_view}
 use Rattle.cards.specs.Sheet.{Sheet}
 use Rattle.desk.specs.declared.desk.Desk.{Desk}
 use Rattle.desk.specs.Desk.{desk_of, disk_of, game_of}
 use Rattle.match_command.specs.declared.match_run.fault.MatchFault.{MatchFault}
-use Rattle.match_command.specs.declared.match_run.fault.MatchFault.TheVariants as faults
 use Rattle.books.specs.CardBook.{IsBookOfLines}
 use Rattle.books.specs.Taking.{book_after}
 use Rattle.vote_store.specs.Migrated.{answer_of}
@@ -32,9 +29,9 @@ all_first innings input book b = ap (λ (ls : List (List ℕ)). book_after innin
 
 module _ {D : Type 0} (seen : D → List ℕ) (images : D → Images) (s : Sheet) (input : List ℕ) where
   -- the second desk wasn't made
-  pub second_not_made : (a b x y : D) (fault : MatchFault) → (fault ≡ faults.NoMemory) ⊎ (fault ≡ faults.Device) → (fault ≡ faults.NoMemory → Stays seen images b y)
+  pub second_not_made : (a b x y : D) (fault : MatchFault) → (fault ≡ MatchFault.NoMemory) ⊎ (fault ≡ MatchFault.Device) → (fault ≡ MatchFault.NoMemory → Stays seen images b y)
       → StaysOrBegins seen images (room version_2 0) b y →
-      KeepsBook seen images s desks.A x [] → Leaves seen images s input fault a b x y
+      KeepsBook seen images s DeskId.A x [] → Leaves seen images s input fault a b x y
   second_not_made a b x y fault (inl is) stays left keeps = subst (λ (f : MatchFault). Leaves seen images s input f a b x y) (sym is) (inr keeps, stays is)
   second_not_made a b x y fault (inr is) stays left keeps = subst (λ (f : MatchFault). Leaves seen images s input f a b x y) (sym is) (inl (inr keeps, left))
 
@@ -51,10 +48,10 @@ module _ {D : Type 0} (seen : D → List ℕ) (images : D → Images) (s : Sheet
 
   -- both disks stayed before
   pub leaves_from : (a b a' b' x y : D) (fault : MatchFault) → Stays seen images a a' → Stays seen images b b' → Leaves seen images s input fault a' b' x y → Leaves seen images s input fault a b x y
-  leaves_from a b a' b' x y faults.Device p q (inl l) = inl (or_from _ _ (begins_from (room version_2 0) a a' x p) l.0, begins_from (room version_2 0) b b' y q l.1)
-  leaves_from a b a' b' x y faults.Device p q (inr l) = inr l
-  leaves_from a b a' b' x y faults.NoMemory p q l = (or_from _ _ (stays_from a a' x p) l.0, stays_from b b' y q l.1)
-  leaves_from a b a' b' x y faults.NotEmpty p q l = (stays_from a a' x p l.0, stays_from b b' y q l.1)
+  leaves_from a b a' b' x y MatchFault.Device p q (inl l) = inl (or_from _ _ (begins_from (room version_2 0) a a' x p) l.0, begins_from (room version_2 0) b b' y q l.1)
+  leaves_from a b a' b' x y MatchFault.Device p q (inr l) = inr l
+  leaves_from a b a' b' x y MatchFault.NoMemory p q l = (or_from _ _ (stays_from a a' x p) l.0, stays_from b b' y q l.1)
+  leaves_from a b a' b' x y MatchFault.NotEmpty p q l = (stays_from a a' x p l.0, stays_from b b' y q l.1)
   leaves_from a b a' b' x y _ p q l = l
 
   -- the answer that was met
@@ -64,40 +61,40 @@ module _ {D : Type 0} (seen : D → List ℕ) (images : D → Images) (s : Sheet
   met_left a b (Err e) met is l = subst (λ (m : MatchFault × D × D). Leaves seen images s input m.0 a b m.1 m.2) (sym is) l
 
 abbrev pub LeavesOf : {D : Type 0} (view : DeskId → FileView D) → ℕ → List ℕ → MatchFault → D → D → Type 0
-LeavesOf view innings input (faults.Line number why) x y =
-    (n : ℕ) × (number ≡ n + 1) × (HoldsBook (view desks.A) x (entries_of_first n innings input) × HoldsBook (view desks.B) y (entries_of_first n innings input))
-LeavesOf view innings input (faults.NotAgreed place) x y =
-    HoldsBook (view desks.A) x (entries_of_first (place + 1) innings input) × HoldsBook (view desks.B) y (entries_of_first (place + 1) innings input)
-LeavesOf view innings input faults.Write x y =
-    HoldsBook (view desks.A) x (entries_of_first (length (lines_of input)) innings input) × HoldsBook (view desks.B) y (entries_of_first (length (lines_of input)) innings input)
-LeavesOf view innings input faults.Device x y =
-    (n : ℕ) × HoldsEither (view desks.A) x (entries_of_first n innings input) (entries_of_first (n + 1) innings input)
-    × HoldsEither (view desks.B) y (entries_of_first n innings input) (entries_of_first (n + 1) innings input)
+LeavesOf view innings input (MatchFault.Line number why) x y =
+    (n : ℕ) × (number ≡ n + 1) × (HoldsBook (view DeskId.A) x (entries_of_first n innings input) × HoldsBook (view DeskId.B) y (entries_of_first n innings input))
+LeavesOf view innings input (MatchFault.NotAgreed place) x y =
+    HoldsBook (view DeskId.A) x (entries_of_first (place + 1) innings input) × HoldsBook (view DeskId.B) y (entries_of_first (place + 1) innings input)
+LeavesOf view innings input MatchFault.Write x y =
+    HoldsBook (view DeskId.A) x (entries_of_first (length (lines_of input)) innings input) × HoldsBook (view DeskId.B) y (entries_of_first (length (lines_of input)) innings input)
+LeavesOf view innings input MatchFault.Device x y =
+    (n : ℕ) × HoldsEither (view DeskId.A) x (entries_of_first n innings input) (entries_of_first (n + 1) innings input)
+    × HoldsEither (view DeskId.B) y (entries_of_first n innings input) (entries_of_first (n + 1) innings input)
 LeavesOf view innings input fault x y = ⊥
 
-module _ {S B D : Type 0} {g : Files S D} {h : Disks D} {b : Books B} (x y : Desk S B D g h b) (game innings : ℕ) (input : List ℕ) (is_a : desk_of x ≡ desks.A) (is_b : desk_of y ≡ desks.B)
+module _ {S B D : Type 0} {g : Files S D} {h : Disks D} {b : Books B} (x y : Desk S B D g h b) (game innings : ℕ) (input : List ℕ) (is_a : desk_of x ≡ DeskId.A) (is_b : desk_of y ≡ DeskId.B)
     (game_a : game_of x ≡ game) (game_b : game_of y ≡ game) where
-  at_a : (n : ℕ) → DiskHolds x (entries_of_first n innings input) → HoldsBook (file_view g.contents h.seen h.images desks.A game) (disk_of x) (entries_of_first n innings input)
-  at_a n held = keeps_book x desks.A game (entries_of_first n innings input) is_a game_a held
+  at_a : (n : ℕ) → DiskHolds x (entries_of_first n innings input) → HoldsBook (file_view g.contents h.seen h.images DeskId.A game) (disk_of x) (entries_of_first n innings input)
+  at_a n held = keeps_book x DeskId.A game (entries_of_first n innings input) is_a game_a held
 
-  at_b : (n : ℕ) → DiskHolds y (entries_of_first n innings input) → HoldsBook (file_view g.contents h.seen h.images desks.B game) (disk_of y) (entries_of_first n innings input)
-  at_b n held = keeps_book y desks.B game (entries_of_first n innings input) is_b game_b held
+  at_b : (n : ℕ) → DiskHolds y (entries_of_first n innings input) → HoldsBook (file_view g.contents h.seen h.images DeskId.B game) (disk_of y) (entries_of_first n innings input)
+  at_b n held = keeps_book y DeskId.B game (entries_of_first n innings input) is_b game_b held
 
   pub lines_left : (fault : MatchFault) → LinesLeave innings input fault x y → LeavesOf (λ d. file_view g.contents h.seen h.images d game) innings input fault (disk_of x) (disk_of y)
-  lines_left (faults.Line number why) l = (l.0, l.1, (at_a l.0 l.2, at_b l.0 l.3))
-  lines_left (faults.NotAgreed place) l = (at_a (place + 1) l.0, at_b (place + 1) l.1)
-  lines_left faults.Write l = (at_a (length (lines_of input)) l.0, at_b (length (lines_of input)) l.1)
-  lines_left faults.Device l = (
+  lines_left (MatchFault.Line number why) l = (l.0, l.1, (at_a l.0 l.2, at_b l.0 l.3))
+  lines_left (MatchFault.NotAgreed place) l = (at_a (place + 1) l.0, at_b (place + 1) l.1)
+  lines_left MatchFault.Write l = (at_a (length (lines_of input)) l.0, at_b (length (lines_of input)) l.1)
+  lines_left MatchFault.Device l = (
     l.0,
-    keeps_either x desks.A game (entries_of_first l.0 innings input) (entries_of_first (l.0 + 1) innings input) is_a game_a l.1,
-    keeps_either y desks.B game (entries_of_first l.0 innings input) (entries_of_first (l.0 + 1) innings input) is_b game_b l.2,
+    keeps_either x DeskId.A game (entries_of_first l.0 innings input) (entries_of_first (l.0 + 1) innings input) is_a game_a l.1,
+    keeps_either y DeskId.B game (entries_of_first l.0 innings input) (entries_of_first (l.0 + 1) innings input) is_b game_b l.2,
   )
   lines_left _ l = absurd l
 
 -- what the desks leave is what the run does
 pub run_leaves : {D : Type 0} (seen : D → List ℕ) (images : D → Images) (s : Sheet) (input : List ℕ) (a b x y : D) (fault : MatchFault) →
     LeavesOf (λ d. file_view (contents version_2) seen images d s.game) s.innings input fault x y → Leaves seen images s input fault a b x y
-run_leaves seen images s input a b x y faults.Device l = inr l
-run_leaves seen images s input a b x y faults.NoMemory l = absurd l
-run_leaves seen images s input a b x y faults.NotEmpty l = absurd l
+run_leaves seen images s input a b x y MatchFault.Device l = inr l
+run_leaves seen images s input a b x y MatchFault.NoMemory l = absurd l
+run_leaves seen images s input a b x y MatchFault.NotEmpty l = absurd l
 run_leaves seen images s input a b x y _ l = l

@@ -4,26 +4,24 @@ use Rattle.std.specs.Prelude.{IsErrAnd}
 use Rattle.std.proofs.Math.Seq.{take-append_seam}
 use Rattle.std.specs.Prelude.{take}
 use Rattle.corrections.specs.declared.book_of.BookOf.{Ghosts as Books}
-use Rattle.entry_log.specs.declared.disk.Disk.{Ghosts as Disks}
-use Rattle.entry_log.specs.declared.slots_of.SlotsOf.{Ghosts as Files}
+use Rattle.entry_log.specs.declared.{disk.Disk.Ghosts as Disks, slots_of.SlotsOf.Ghosts as Files}
 use Rattle.desk.specs.declared.desk.Desk.{Desk}
 use Rattle.notation.specs.Lines.{lines_of}
 use Rattle.books.specs.declared.rejected.Rejected.{Rejected}
 use Rattle.books.specs.Taking.{answer_to, book_after, with_taken}
 use Rattle.notation.specs.declared.entry.Entry.{Entry}
 use Rattle.match_command.specs.declared.match_run.fault.MatchFault.{MatchFault}
-use Rattle.match_command.specs.declared.match_run.fault.MatchFault.TheVariants as faults
 use Rattle.books.proofs.TakenLines.{Midway, first_refused}
 use Rattle.match_command.specs.MatchRun.{WhyNoMatch, entries_of_first}
 use Rattle.match_command.specs.inner.Turns.{DiskHolds, LineLeaves, LinesLeave, WhyNotAgreed}
 
 module _ (innings : ℕ) (input line : List ℕ) (rest : List (List ℕ)) (number : ℕ) (book : List Entry) (m : Midway innings input (line ∷ rest) number book) where
   pub refused : (n k : ℕ) (fault : MatchFault) → n ≡ innings → k ≡ number + 1 → WhyNotAgreed (answer_to n book line) book k fault → WhyNoMatch innings input [] [] fault
-  refused n k (faults.Line at why) same numbered w =
+  refused n k (MatchFault.Line at why) same numbered w =
       let is : at ≡ number + 1 = w.0 ∙ numbered in
       rw is (first_refused innings input line rest number book m n why same w.1)
-  refused n k (faults.NotAgreed place) same numbered w = let l = m.numbered in let b = m.long in omega (arith, w)
-  refused n k faults.Device same numbered w = tt
+  refused n k (MatchFault.NotAgreed place) same numbered w = let l = m.numbered in let b = m.long in omega (arith, w)
+  refused n k MatchFault.Device same numbered w = tt
   refused n k _ same numbered w = absurd w
 
 -- the error that is passed on is the one that was met
@@ -66,12 +64,12 @@ module _ {S B D : Type 0} {g : Files S D} {h : Disks D} {b : Books B} (x y : Des
   left_by : (book more : List Entry) (number k : ℕ) (answer : Result Entry Rejected) (fault : MatchFault) → entries_of_first number innings input ≡ book
       → entries_of_first (number + 1) innings input ≡ more → length book ≡ number → k ≡ number + 1 →
       WhyNotAgreed answer book k fault → LineLeaves book more fault x y → LinesLeave innings input fault x y
-  left_by book more number k answer (faults.Line at why) e f long n w l =
+  left_by book more number k answer (MatchFault.Line at why) e f long n w l =
       (number, w.0 ∙ n, subst (DiskHolds x) (sym e) l.0, subst (DiskHolds y) (sym e) l.1)
-  left_by book more number k answer (faults.NotAgreed place) e f long n w l =
+  left_by book more number k answer (MatchFault.NotAgreed place) e f long n w l =
       let here : entries_of_first (place + 1) innings input ≡ more = ap (λ (i : ℕ). entries_of_first (i + 1) innings input) (w ∙ long) ∙ f in
       (subst (DiskHolds x) (sym here) l.0, subst (DiskHolds y) (sym here) l.1)
-  left_by book more number k answer faults.Device e f long n w l =
+  left_by book more number k answer MatchFault.Device e f long n w l =
       (number, rw (e, f) l.0, rw (e, f) l.1)
   left_by book more number k answer _ e f long n w l = absurd w
 

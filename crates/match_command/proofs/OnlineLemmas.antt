@@ -7,27 +7,21 @@ use Rattle.std.proofs.lemmas.List.Elements.{All-append, All-cons, All-contains, 
 use Rattle.std.proofs.lemmas.Option.{slice_get_within}
 use Rattle.notation.specs.declared.entry.Entry.{Entry}
 use Rattle.corrections.proofs.LegalLemmas.{slice_get-append_left, slice_get-last}
-use Rattle.agree_core.specs.declared.messages.DeskId.{DeskId}
+use Rattle.agree_core.specs.declared.{messages.DeskId.DeskId, messages.Message.Message, messages.Vote.Vote as AVote, position.Position.Position, seat.Heard.Heard}
+use Rattle.agree_core.specs.declared.messages.Asker.{Asker}
 use Rattle.agree_core.specs.declared.messages.DeskId.TheVariants.{A, B}
-use Rattle.agree_core.specs.declared.messages.Message.{Message}
 use Rattle.agree_core.specs.declared.messages.Message.TheVariants.{Vote, Ask}
-use Rattle.agree_core.specs.declared.messages.Vote.{Vote as AVote}
-use Rattle.agree_core.specs.declared.position.Position.{Position}
-use Rattle.agree_core.specs.declared.seat.Heard.{Heard}
 use Rattle.agree_core.specs.Boards as boards
 use Rattle.agree_core.specs.Boards.{BoardReceives, BoardState}
 use Rattle.agree_core.specs.Books.{Rules}
-use Rattle.agree_core.specs.declared.messages.Asker.{Asker}
 use Rattle.agree_core.specs.Desks.{ask_for, book_heard}
 use Rattle.agree_core.specs.Positions.{first, next_place, position_of}
 use Rattle.agree_core.specs.Readers.{Listens, ReaderState, noted_of, noting, other, reading}
 use Rattle.wire.specs.declared.what.What.{What}
-use Rattle.wire.specs.declared.what.What.TheVariants as whats
 use Rattle.wire.specs.Layout.{IsMessage, Says, written}
 use Rattle.wire.proofs.MessageLemmas.{says_once}
-use Rattle.board.specs.declared.refusal.BoardRefusal.{BoardRefusal}
+use Rattle.board.specs.declared.{refusal.BoardRefusal.BoardRefusal, board.Board.Board}
 use Rattle.board.specs.declared.refusal.BoardRefusal.TheVariants.{BadVotes}
-use Rattle.board.specs.declared.board.Board.{Board}
 use Rattle.board.specs.Board.{game_of, state_of}
 use Rattle.board.specs.Takes.{Takes}
 use Rattle.live.specs.Boards.{Asks}
@@ -113,11 +107,11 @@ module _ (entries : List Entry) where
 
   board_takes : {Why : Type 0} (rules : Rules Why) (game : ℕ) (k l : BoardState) (bytes : List ℕ) (answer : Result What BoardRefusal) (m : Message) →
       Says game bytes m → SpeaksOf entries m → Follows entries k → Takes rules game k bytes answer l → Follows entries l
-  board_takes rules game k l bytes (Ok (whats.Bad fault)) m y s f t = subst (Follows entries) (sym t.1) f
-  board_takes rules game k l bytes (Ok (whats.Heard h)) m y s f (Vote v, says, r) = board_hears k l v h (subst (SpeaksOf entries) (sym (says_once game bytes (Vote v) m says y)) s) f r.0 r.2
-  board_takes rules game k l bytes (Ok (whats.Heard h)) m y s f (Ask q, says, r) = absurd r
-  board_takes rules game k l bytes (Ok whats.Asked) m y s f (Vote v, says, r) = absurd r
-  board_takes rules game k l bytes (Ok whats.Asked) m y s f (Ask q, says, r) = subst (Follows entries) (sym r) f
+  board_takes rules game k l bytes (Ok (What.Bad fault)) m y s f t = subst (Follows entries) (sym t.1) f
+  board_takes rules game k l bytes (Ok (What.Heard h)) m y s f (Vote v, says, r) = board_hears k l v h (subst (SpeaksOf entries) (sym (says_once game bytes (Vote v) m says y)) s) f r.0 r.2
+  board_takes rules game k l bytes (Ok (What.Heard h)) m y s f (Ask q, says, r) = absurd r
+  board_takes rules game k l bytes (Ok What.Asked) m y s f (Vote v, says, r) = absurd r
+  board_takes rules game k l bytes (Ok What.Asked) m y s f (Ask q, says, r) = subst (Follows entries) (sym r) f
   board_takes rules game k l bytes (Err (BadVotes place)) m y s f (Vote v, says, r) = subst (Follows entries) (sym r.3) f
   board_takes rules game k l bytes (Err (BadVotes place)) m y s f (Ask q, says, r) = absurd r
   board_takes rules game k l bytes _ m y s f t = absurd t

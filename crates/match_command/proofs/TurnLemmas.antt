@@ -5,36 +5,24 @@ use Rattle.std.specs.Prelude.{IfErr, IsErrOf, OnOk, slice_get}
 use Rattle.std.specs.List.{All}
 use Rattle.std.proofs.lemmas.Bool.Decides.{nat_tests}
 use Rattle.std.proofs.lemmas.List.Elements.{All-append, All-cons, All-nil}
-use Rattle.notation.specs.declared.entry.Entry.{Entry}
+use Rattle.notation.specs.declared.entry.{Entry.Entry, TheConstants.PLACES}
 use Rattle.corrections.specs.declared.book_of.BookOf.{Ghosts as Books}
 use Rattle.corrections.proofs.LegalLemmas.{slice_get-last}
 use Rattle.entry_log.specs.Blame.{BlamesDisk}
 use Rattle.entry_log.specs.Disk.{Images, IsImage}
 use Rattle.entry_log.specs.Slots.{FileContents}
-use Rattle.entry_log.specs.declared.disk.Disk.{Ghosts as Disks}
-use Rattle.entry_log.specs.declared.slots_of.SlotsOf.{Ghosts as Files}
-use Rattle.agree_core.specs.declared.messages.Ask.{Ask}
-use Rattle.agree_core.specs.declared.messages.Asker.{Asker}
-use Rattle.agree_core.specs.declared.messages.DeskId.{DeskId}
-use Rattle.agree_core.specs.declared.messages.Message.{Message}
-use Rattle.agree_core.specs.declared.messages.Vote.{Vote}
-use Rattle.agree_core.specs.declared.position.Position.{Position}
-use Rattle.agree_core.specs.declared.seat.Heard.{Heard}
-use Rattle.agree_core.specs.declared.seat.Settled.{Settled}
+use Rattle.entry_log.specs.declared.{disk.Disk.Ghosts as Disks, slots_of.SlotsOf.Ghosts as Files}
+use Rattle.agree_core.specs.declared.{messages.Ask.Ask, messages.Asker.Asker, messages.DeskId.DeskId, messages.Message.Message, messages.Vote.Vote, position.Position.Position}
+use Rattle.agree_core.specs.declared.seat.{Heard.Heard, Settled.Settled}
 use Rattle.agree_core.specs.Ballots.{Ballot, In, ballot_at, vote_of}
-use Rattle.notation.specs.declared.entry.TheConstants.{PLACES}
 use Rattle.agree_core.specs.Desks.{CastsAndStores, DeskState, Pens, Receives, Replies, Ticks, ask_other, asker, book_after, book_heard, next_ballot, own_vote}
 use Rattle.agree_core.specs.Desks as desks
 use Rattle.agree_core.specs.FileView.{FileView, Holds, MayHold, Stays}
 use Rattle.agree_core.specs.Openings.{Creates}
 use Rattle.agree_core.specs.Seats.{Casts, Hears, SeatState}
 use Rattle.wire.specs.declared.what.What.{What}
-use Rattle.wire.specs.declared.what.What.TheVariants as whats
 use Rattle.wire.specs.Sent.{AreSent}
-use Rattle.desk.specs.declared.desk.Desk.{Desk}
-use Rattle.desk.specs.declared.desk.Penned.{Penned}
-use Rattle.desk.specs.declared.refusal.Refusal.{Refusal as PenRefusal}
-use Rattle.desk.specs.declared.refusal.Refusal.TheVariants as refusals
+use Rattle.desk.specs.declared.{desk.Desk.Desk, desk.Penned.Penned, refusal.Refusal.Refusal as PenRefusal}
 use Rattle.desk.specs.Answers.{pen_answer, sent}
 use Rattle.desk.specs.Desk.{IsDeskOf, SameOwner, desk_of, disk_of, game_of, rules_of, state_of, view_of, own_votes}
 use Rattle.desk.specs.Takes.{Takes}
@@ -43,12 +31,10 @@ use Rattle.match_command.specs.MatchRun.{HoldsBook, HoldsEither, votes_for}
 use Rattle.cards.specs.Sheet.{Sheet, plain_sheet}
 use Rattle.books.specs.Taking.{answer_to, is_full, taking, with_taken}
 use Rattle.match_command.specs.declared.match_run.fault.MatchFault.{MatchFault}
-use Rattle.match_command.specs.declared.match_run.fault.MatchFault.TheVariants as faults
 use Rattle.live.specs.Desks.{Calls, DeskCall, Given, Ticked}
 use Rattle.live.specs.Ends.{end_at, further}
 use Rattle.live.specs.Passed.{Passed, sends}
 use Rattle.live.specs.declared.ends.DeskEnd.{DeskEnd}
-use Rattle.live.specs.declared.ends.DeskEnd.TheVariants as ends
 use Rattle.agree_core.specs.Boards.{BoardState}
 use Rattle.board.specs.declared.board.Board.{Board}
 use Rattle.board.specs.Board as boards
@@ -175,13 +161,13 @@ module _ {Disk : Type 0} (view : FileView Disk) where
     AnAsk : (q : Ask) → Receives view k (Message.Ask q) desks.Asked l out → Taking k l out
 
   taken : (game : ℕ) (k l : DeskState Disk) (bytes : List ℕ) (what : What) (out : List Message) → end_at what ≡ further → Takes view game k bytes what l out → Taking k l out
-  taken game k l bytes (whats.Bad fault) out n r = NoMessage r.2 r.3
-  taken game k l bytes (whats.Heard h) out n (Message.Vote v, says, r) = AVote v h r
-  taken game k l bytes (whats.Heard h) out n (Message.Ask q, says, r) = absurd r
-  taken game k l bytes whats.Asked out n (Message.Vote v, says, r) = absurd r
-  taken game k l bytes whats.Asked out n (Message.Ask q, says, r) = AnAsk q r
-  taken game k l bytes whats.Device out n r = absurd (cc)
-  taken game k l bytes whats.Failed out n r = absurd (cc)
+  taken game k l bytes (What.Bad fault) out n r = NoMessage r.2 r.3
+  taken game k l bytes (What.Heard h) out n (Message.Vote v, says, r) = AVote v h r
+  taken game k l bytes (What.Heard h) out n (Message.Ask q, says, r) = absurd r
+  taken game k l bytes What.Asked out n (Message.Vote v, says, r) = absurd r
+  taken game k l bytes What.Asked out n (Message.Ask q, says, r) = AnAsk q r
+  taken game k l bytes What.Device out n r = absurd (cc)
+  taken game k l bytes What.Failed out n r = absurd (cc)
 
   takes : (entries : List Entry) (k l : DeskState Disk) (out : List Message) → IsInTurn view entries k → Taking k l out → IsInTurn view entries l
   takes entries k l out t (NoMessage e none) = subst (IsInTurn view entries) (sym e) t
@@ -218,12 +204,12 @@ module _ {Disk : Type 0} (view : FileView Disk) where
 not_full : (book : List Entry) → length book < PLACES → is_full book ≡ false
 not_full book l = grind (arith, nat_tests)
 
-not_device : (what : What) → end_at what ≡ further → IsErrOf (end_at what) ends.Device → ⊥
+not_device : (what : What) → end_at what ≡ further → IsErrOf (end_at what) DeskEnd.Device → ⊥
 not_device what n e = cc
 
-pub at_device : (what : What) (end : DeskEnd) → end_at what ≡ Err end → IsErrOf (end_at what) ends.Device
-at_device whats.Device end e = refl
-at_device whats.Failed end e = refl
+pub at_device : (what : What) (end : DeskEnd) → end_at what ≡ Err end → IsErrOf (end_at what) DeskEnd.Device
+at_device What.Device end e = refl
+at_device What.Failed end e = refl
 at_device _ end e = cc
 
 free : (book : List Entry) (seat : SeatState) (m : Option Entry) → GoesWith book seat book → seat.mine ≡ m → seat.mine ≡ None
@@ -325,7 +311,7 @@ module _ {S B D : Type 0} {g : Files S D} {h : Disks D} {b : Books B} where
 
   abbrev PenBlame : Desk S B D g h b → Result Penned PenRefusal → Desk S B D g h b → Type 0
   PenBlame old told new =
-      BlamesDisk refusals.Device (g.room (length (own_votes old) + 1) ≤ h.cap (disk_of old)) told (h.faults (disk_of old)) (h.faults (disk_of new))
+      BlamesDisk PenRefusal.Device (g.room (length (own_votes old) + 1) ≤ h.cap (disk_of old)) told (h.faults (disk_of old)) (h.faults (disk_of new))
 
   takes_entry : (old : Desk S B D g h b) (e : Entry) → IsLevel old → desks.MayPen (rules_of old) (state_of old) e → taking (innings_at old) (book_at old) e ≡ Ok e
   takes_entry old e l may =
@@ -344,15 +330,15 @@ module _ {S B D : Type 0} {g : Files S D} {h : Disks D} {b : Books B} where
   -- or it hasn't
   pub refused : (old new : Desk S B D g h b) (e : Entry) (number place : ℕ) (why : PenRefusal) → IsLevel old → SameOwner old new → PenSteps old e (Err why) new
       → PenLeaves e (pen_fault number place why) old new
-  refused old new e number place refusals.PlacesFull l o step = refused_holds old new l o step.3.1
-  refused old new e number place (refusals.Book why) l o step = refused_holds old new l o step.3.1
-  refused old new e number place refusals.Device l o step =
+  refused old new e number place PenRefusal.PlacesFull l o step = refused_holds old new l o step.3.1
+  refused old new e number place (PenRefusal.Book why) l o step = refused_holds old new l o step.3.1
+  refused old new e number place PenRefusal.Device l o step =
       let either = may_cast (view_of old) (state_of old) (disk_of new) e l step.3.1 in
       (takes_entry old e l step.3.0, subst (λ (v : FileView D). HoldsEither v (disk_of new) (book_at old) (book_at old ++ e ∷ [])) (same_view old new o) either)
-  refused old new e number place refusals.Failed l o step = absurd (let runs = l.running in let fails = step.3.0 in cc)
-  refused old new e number place refusals.Waiting l o step = no_wait (book_at old) (state_of old).seat l.goes step.3.0.1
-  refused old new e number place refusals.RoundsFull l o step = absurd (let first = level_round (book_at old) (state_of old).seat l.goes in omega (arith, step.3.0.2))
-  refused old new e number place refusals.SlotsFull l o step =
+  refused old new e number place PenRefusal.Failed l o step = absurd (let runs = l.running in let fails = step.3.0 in cc)
+  refused old new e number place PenRefusal.Waiting l o step = no_wait (book_at old) (state_of old).seat l.goes step.3.0.1
+  refused old new e number place PenRefusal.RoundsFull l o step = absurd (let first = level_round (book_at old) (state_of old).seat l.goes in omega (arith, step.3.0.2))
+  refused old new e number place PenRefusal.SlotsFull l o step =
       let many : length (own_votes old) ≡ (state_of old).seat.position.place = ap length l.votes ∙ votes_length (book_at old) ∙ l.goes.place in
       absurd (omega (arith, step.3.0.1.0, step.3.0.2))
 
@@ -443,8 +429,8 @@ module _ {S B D : Type 0} {g : Files S D} {h : Disks D} {b : Books B} where
   pub first_left : (a a1 b0 : Desk S B D g h b) (line : List ℕ) (e : Entry) (fault : MatchFault) → answer_to (innings_at a) (book_at a) line ≡ taking (innings_at a) (book_at a) e
       → PenLeaves e fault a a1 → DiskHolds b0 (book_at a) →
       LineLeaves (book_at a) (with_taken (answer_to (innings_at a) (book_at a) line) (book_at a)) fault a1 b0
-  first_left a a1 b0 line e (faults.Line number why) is p d = (p, d)
-  first_left a a1 b0 line e faults.Device is p d =
+  first_left a a1 b0 line e (MatchFault.Line number why) is p d = (p, d)
+  first_left a a1 b0 line e MatchFault.Device is p d =
       let more : with_taken (answer_to (innings_at a) (book_at a) line) (book_at a) ≡ book_at a ++ e ∷ [] = ap (λ r. with_taken r (book_at a)) (is ∙ p.0) in
       (subst (DiskHoldsEither a1 (book_at a)) (sym more) p.1, either_book b0 (book_at a) (with_taken (answer_to (innings_at a) (book_at a) line) (book_at a)) d)
   first_left a a1 b0 line e _ is p d = absurd p
@@ -453,8 +439,8 @@ module _ {S B D : Type 0} {g : Files S D} {h : Disks D} {b : Books B} where
   pub second_left : (a1 b0 b1 : Desk S B D g h b) (book more : List Entry) (number : ℕ) (e : Entry) (fault : MatchFault) → more ≡ book ++ e ∷ [] → book_at b0 ≡ book
       → taking (innings_at b0) (book_at b0) e ≡ Ok e →
       WhyNotAgreed (taking (innings_at b0) (book_at b0) e) (book_at b0) number fault → PenLeaves e fault b0 b1 → DiskHolds a1 (book ++ e ∷ []) → LineLeaves book more fault a1 b1
-  second_left a1 b0 b1 book more number e (faults.Line at why) is same taken w p d = absurd (let both : Ok e ≡ Err why = sym taken ∙ w.1 in cc)
-  second_left a1 b0 b1 book more number e faults.Device is same taken w p d =
+  second_left a1 b0 b1 book more number e (MatchFault.Line at why) is same taken w p d = absurd (let both : Ok e ≡ Err why = sym taken ∙ w.1 in cc)
+  second_left a1 b0 b1 book more number e MatchFault.Device is same taken w p d =
       let there : DiskHolds a1 more = subst (DiskHolds a1) (sym is) d in
       let here = subst (λ (es : List Entry). DiskHoldsEither b1 es (es ++ e ∷ [])) same p.1 in
       (either_more a1 book more there, subst (DiskHoldsEither b1 book) (sym is) here)
@@ -462,7 +448,7 @@ module _ {S B D : Type 0} {g : Files S D} {h : Disks D} {b : Books B} where
 
   -- both have penned it, and it isn't agreed
   pub third_left : (r : Result (Unit {0}) MatchFault) (a1 a2 b1 b2 : Desk S B D g h b) (book more : List Entry) (place : ℕ)
-      → IfErr r (λ fault. (fault ≡ faults.Device) ⊎ (fault ≡ faults.NotAgreed place)) →
+      → IfErr r (λ fault. (fault ≡ MatchFault.Device) ⊎ (fault ≡ MatchFault.NotAgreed place)) →
       KeepsDisk a1 a2 → KeepsDisk b1 b2 → DiskHolds a1 more → DiskHolds b1 more → IfErr r (λ fault. LineLeaves book more fault a2 b2)
   third_left (Ok done) a1 a2 b1 b2 book more place only da db x y = tt
   third_left (Err fault) a1 a2 b1 b2 book more place (inl is) da db x y =

@@ -19,12 +19,11 @@ use Rattle.cards.specs.Board.{board}
 use Rattle.cards.specs.Sheet.{Sheet}
 use Rattle.streams.specs.Watched.{Prints}
 use Rattle.streams.specs.declared.watched.Watched.{Watched}
-use Rattle.books.specs.declared.fault.BookFault.TheVariants as books
+use Rattle.books.specs.declared.fault.BookFault.{BookFault}
 use Rattle.books.specs.CardBook.{IsBookOfLines, NamesFirstRejected}
 use Rattle.books.specs.Taking.{book_after}
 use Rattle.live.specs.Passed.{Passed, Sent, Came}
 use Rattle.setup.specs.declared.fault.StopFault.{StopFault}
-use Rattle.setup.specs.declared.fault.StopFault.TheVariants as stops
 use Rattle.match_command.specs.declared.match_run.fault.MatchFault.{MatchFault}
 use Rattle.match_command.specs.declared.match_run.fault.MatchFault.TheVariants.{NoMemory, Write, Device, NotEmpty, Line, NotAgreed}
 
@@ -138,7 +137,7 @@ module _ {D : Type 0} where
 
 -- the first line that isn't taken; that a disk has a file; or which line isn't agreed, its place counted from 0
 abbrev pub WhyNoMatch : ℕ → List ℕ → List ℕ → List ℕ → MatchFault → Type 0
-WhyNoMatch innings input a b (Line number why) = NamesFirstRejected innings input (books.Line number why)
+WhyNoMatch innings input a b (Line number why) = NamesFirstRejected innings input (BookFault.Line number why)
 WhyNoMatch innings input a b NotEmpty = (0 < length a) ⊎ (0 < length b)
 WhyNoMatch innings input a b (NotAgreed place) = place < length (lines_of input)
 WhyNoMatch innings input a b NoMemory = Unit {0}
@@ -147,9 +146,9 @@ WhyNoMatch innings input a b Write = Unit {0}
 
 -- what standard error is told, and the status, go by
 abbrev pub stop_of : MatchFault → StopFault
-stop_of NoMemory = stops.NoMemory
-stop_of Write = stops.Write
-stop_of Device = stops.Write
-stop_of NotEmpty = stops.Votes not_empty
-stop_of (Line number why) = stops.Line number why
-stop_of (NotAgreed place) = stops.NotAgreed place
+stop_of NoMemory = StopFault.NoMemory
+stop_of Write = StopFault.Write
+stop_of Device = StopFault.Write
+stop_of NotEmpty = StopFault.Votes not_empty
+stop_of (Line number why) = StopFault.Line number why
+stop_of (NotAgreed place) = StopFault.NotAgreed place

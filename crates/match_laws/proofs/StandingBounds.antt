@@ -2,16 +2,13 @@
 use Rattle.std.proofs.Common.{◌≡◌, ℕ, ◌<◌, ◌≤◌, false, Some, ap, sym, ◌∙◌, arith, get_or}
 use Rattle.std.proofs.Math.Bridge.{le_prop}
 use Rattle.std.proofs.Math.Logic.{∥∥₁_elim}
-use Rattle.notation.specs.declared.entry.Side.{Side}
-use Rattle.notation.specs.declared.entry.Plain.{Plain}
+use Rattle.notation.specs.declared.entry.{Side.Side, Plain.Plain}
 use Rattle.notation.specs.declared.entry.Plain.TheVariants.{Innings}
 use Rattle.ball_laws.specs.History.{History}
-use Rattle.match_laws.specs.declared.standing.Standing.{Standing}
-use Rattle.match_laws.specs.declared.score.InningsScore.{InningsScore}
+use Rattle.match_laws.specs.declared.{standing.Standing.Standing, score.InningsScore.InningsScore, sides.SideRecord.SideRecord}
 use Rattle.match_laws.specs.History.{side_of, begun, is_void}
 use Rattle.match_laws.specs.Figures.{total}
 use Rattle.match_laws.specs.Result.{share, current}
-use Rattle.match_laws.specs.declared.sides.SideRecord.{SideRecord}
 use Rattle.match_laws.specs.Parts.{score_of, side_record}
 use Rattle.match_laws.specs.inner.Added.{IsSmallScore, IsSmallRecord}
 use Rattle.match_laws.specs.Stands.{StandsFor, IsKept, CanTake}

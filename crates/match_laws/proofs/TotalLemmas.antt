@@ -1,8 +1,7 @@
 -- An innings' runs, by who struck and by who bowled.
 use Rattle.std.proofs.Common.{◌≡◌, ℕ, zero, suc, ◌+◌, Bool, true, false, Some, None, Option, List, [], ◌∷◌, length, refl, ap, ◌∙◌, arith}
 use Rattle.std.specs.Prelude.{◌==◌, ◌&&◌, if◌then◌else◌}
-use Rattle.notation.specs.declared.entry.Ball.{Ball}
-use Rattle.notation.specs.declared.entry.Kind.{Kind}
+use Rattle.notation.specs.declared.entry.{Ball.Ball, Kind.Kind}
 use Rattle.notation.specs.declared.entry.Kind.TheVariants.{Bat, Bye, Leg, Wide, Nb, NbBye, NbLeg}
 use Rattle.notation.specs.declared.entry.Plain.TheVariants.{Innings, Come, Ball as Bowl, Gone, Over, Penalty, Swap, End, Close, Void}
 use Rattle.notation.specs.Written.{IsPlayer}

@@ -8,8 +8,7 @@ use Rattle.agree_core.specs.Boards.{BoardAnswer, BoardReceives, BoardState}
 use Rattle.wire.specs.declared.what.What.TheVariants.{Bad, Heard, Asked}
 use Rattle.wire.specs.Layout.{Says}
 use Rattle.board.specs.declared.refusal.BoardRefusal.TheVariants.{BadVotes}
-use Rattle.headline.specs.declared.event.Event.TheVariants as events
-use Rattle.headline.specs.declared.event.Station.TheVariants as stations
+use Rattle.headline.specs.declared.event.{Event.Event, Station.Station}
 use Rattle.headline.specs.Match.{Setting}
 use Rattle.headline.specs.Configurations.{Configuration, board_at, with_board}
 use Rattle.headline.specs.Answers as answers
@@ -35,7 +34,7 @@ module _ {Disk : Type 0} (s : Setting Disk Refusal) (game innings : ℕ) (rules 
   received : (n : ℕ) (k l : BoardState) (bytes : List ℕ) (m : Message) (told : BoardAnswer) (out : List Message) → board_at v.boards n ≡ Some k → BoardCame game v.sent (boards.Given bytes (Ok Asked)) → Says game bytes m → BoardReceives (book_refusal innings) k m told l → out ≡ [] → Leads s (Fits what v) v (with_it v n l out)
   received n k l bytes m told out at came says got empty =
       let found = came m says in
-      one s (Fits what v) v (events.Give found.0 (stations.Board n)) (board_told told) (with_it v n l out) tt
+      one s (Fits what v) v (Event.Give found.0 (Station.Board n)) (board_told told) (with_it v n l out) tt
       (k, l, out, at, (m, told, found.1, subst (λ r. BoardReceives r k m told l) (sym rules) got, refl, empty), refl)
 
   unmoved : (n : ℕ) (k l : BoardState) (out : List Message) → board_at v.boards n ≡ Some k → l ≡ k → out ≡ [] → Leads s (Fits what v) v (with_it v n l out)
@@ -50,6 +49,6 @@ module _ {Disk : Type 0} (s : Setting Disk Refusal) (game innings : ℕ) (rules 
   board_moment n k l (boards.Given bytes (Ok _)) out at came h = absurd h.0
   board_moment n k l (boards.Given bytes (Err (BadVotes p))) out at came h = let t = h.0 in received n k l bytes t.0 (BoardAnswer.BadVotes p) out at came t.1 t.2 h.1
   board_moment n k l boards.Ticked out at came h =
-      one s (Fits what v) v (events.Tick (stations.Board n)) (answers.Ticked (length out)) (with_it v n l out) tt
+      one s (Fits what v) v (Event.Tick (Station.Board n)) (answers.Ticked (length out)) (with_it v n l out) tt
       (k, l, out, at, (h.0, refl, h.1), refl)
   board_moment n k l _ out at came h = unmoved n k l out at h.0 h.1

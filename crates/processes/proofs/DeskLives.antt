@@ -11,12 +11,12 @@ use Rattle.headline.specs.declared.version.FileVersion.TheVariants.{Old}
 use Rattle.headline.specs.Configurations.{Process, Running, Down, Node, process_disk, process_votes}
 use Rattle.headline.specs.DeskFaults.{LosesPower}
 use Rattle.headline.specs.Migrations.{Migrates, ToNew}
-use Rattle.desk.specs.declared.refusal.Refusal.TheVariants as refusals
-use Rattle.wire.specs.declared.what.What.TheVariants as whats
+use Rattle.desk.specs.declared.refusal.Refusal.{Refusal}
+use Rattle.wire.specs.declared.what.What.{What}
 use Rattle.live.specs.Desks as desks
 use Rattle.live.specs.Desks.{DeskCall, DeskProcess, DeskStep, course_after, told_of}
 use Rattle.live.specs.declared.ends.DeskEnd.TheVariants.{Device}
-use Rattle.live.specs.declared.said.Said.TheVariants as said
+use Rattle.live.specs.declared.said.Said.{Said}
 use Rattle.processes.specs.Printing.{Tells, greeting_of}
 use Rattle.live.specs.Runs as own
 use Rattle.processes.specs.Happenings.{DeskBegun, DeskCalled, DeskEnded, DeskGreeted, FileMigrated, Happening, PowerLost, begun, migrated}
@@ -80,10 +80,10 @@ module _ {Disk : Type 0} (view : FileVersion → FileView Disk) (seen : Disk →
 
   -- a call whose disk failed prints nothing
   silent : (s : Sheet) (k l : DeskState Disk) (call : DeskCall) → course_after call ≡ Err Device → Tells s innings k call l []
-  silent s k l (desks.Typed line (said.Refused refusals.Failed)) e = (fresh k, refl, tt, refl)
-  silent s k l (desks.Typed line (said.Refused refusals.Device)) e = (fresh k, refl, tt, refl)
-  silent s k l (desks.Given bytes whats.Device) e = (fresh k, refl, tt, refl)
-  silent s k l (desks.Given bytes whats.Failed) e = (fresh k, refl, tt, refl)
+  silent s k l (desks.Typed line (Said.Refused Refusal.Failed)) e = (fresh k, refl, tt, refl)
+  silent s k l (desks.Typed line (Said.Refused Refusal.Device)) e = (fresh k, refl, tt, refl)
+  silent s k l (desks.Given bytes What.Device) e = (fresh k, refl, tt, refl)
+  silent s k l (desks.Given bytes What.Failed) e = (fresh k, refl, tt, refl)
   silent s k l _ e = absurd (cc)
 
   one_stage : (x : Node Disk) (stage : Stage Disk) → IsNextStage view seen faults d game innings x stage → Goes x (stage_happens innings d stage) (after_stage x stage)

@@ -4,20 +4,15 @@ use Rattle.corrections.specs.Refusal.{book_refusal}
 use Rattle.cards.specs.Sheet.{Sheet}
 use Rattle.corrections.specs.declared.refusal.Refusal.{Refusal}
 use Rattle.notation.specs.declared.entry.Entry.{Entry}
-use Rattle.agree_core.specs.declared.messages.DeskId.{DeskId}
+use Rattle.agree_core.specs.declared.messages.{DeskId.DeskId, Message.Message}
 use Rattle.agree_core.specs.declared.messages.DeskId.TheVariants.{A, B}
-use Rattle.agree_core.specs.declared.messages.Message.{Message}
 use Rattle.agree_core.specs.Desks.{DeskState, PenAnswer, Pens, ReceiveAnswer, Receives}
 use Rattle.agree_core.specs.FileView.{FileView, Stays}
-use Rattle.wire.specs.declared.what.What.TheVariants as whats
+use Rattle.wire.specs.declared.what.What.{What}
 use Rattle.wire.specs.Layout.{Says}
 use Rattle.desk.specs.Answers.{pen_answer}
 use Rattle.live.specs.Saying.{SaysEntry}
-use Rattle.headline.specs.declared.event.Event.{Event}
-use Rattle.headline.specs.declared.event.Event.TheVariants as events
-use Rattle.headline.specs.declared.event.Station.{Station}
-use Rattle.headline.specs.declared.event.Station.TheVariants as stations
-use Rattle.headline.specs.declared.fault.Fault.{Fault}
+use Rattle.headline.specs.declared.{event.Event.Event, event.Station.Station, fault.Fault.Fault}
 use Rattle.headline.specs.declared.fault.Fault.TheVariants.{Fail}
 use Rattle.headline.specs.Match.{Setting}
 use Rattle.headline.specs.Configurations.{Process, Running, Node, Configuration, node, process_disk, with_disk, with_node}
@@ -65,11 +60,11 @@ module _ {Disk : Type 0} (s : Setting Disk Refusal) (v : Configuration Disk) (d 
   abbrev view : FileView Disk
   view = s.view d (node v d).version
 
-  pub at_desk : (event : Event) (answer : Answer Refusal) (y : Node Disk) (out : List Message) → station_of event ≡ stations.Desk d → Fits what v v event → AtDesk s v.sent d event (node v d) answer y out → Leads s (Fits what v) v (with_node v d y out)
+  pub at_desk : (event : Event) (answer : Answer Refusal) (y : Node Disk) (out : List Message) → station_of event ≡ Station.Desk d → Fits what v v event → AtDesk s v.sent d event (node v d) answer y out → Leads s (Fits what v) v (with_node v d y out)
   at_desk event answer y out e f h = one s (Fits what v) v event answer (with_node v d y out) f (subst (λ (t : Station). StepAt s v event t answer (with_node v d y out)) (sym e) (y, out, h, refl))
 
   -- a fault falls due
-  falls : (k : DeskState Disk) → (node v d).process ≡ Running k → AtDesk s v.sent d (events.FailAt d 1) (node v d) answers.Done (runs_on (node v d) k (Some Fail)) []
+  falls : (k : DeskState Disk) → (node v d).process ≡ Running k → AtDesk s v.sent d (Event.FailAt d 1) (node v d) answers.Done (runs_on (node v d) k (Some Fail)) []
   falls k e =
       let p : Running k ≡ with_disk (node v d).process k.disk = ap (λ (q : Process Disk). with_disk q k.disk) (sym e) in
       ((k.disk, subst (λ (q : Process Disk). Stays view (process_disk q) k.disk) (sym e) (stays_refl view k.disk), λ i. record { version = (node v d).version; process = p i; due = Some Fail }), refl, refl)
@@ -79,7 +74,7 @@ module _ {Disk : Type 0} (s : Setting Disk Refusal) (v : Configuration Disk) (d 
   nothing k l out h0 h1 h2 = grind (arith, itself, none, unmoved)
 
   -- a fault falls due, and then this happens
-  pub after_fault : (x : Node Disk) (event : Event) (answer : Answer Refusal) (y : Node Disk) (out : List Message) → AtDesk s v.sent d (events.FailAt d 1) (node v d) answers.Done x [] → station_of event ≡ stations.Desk d → Fits what v (with_node v d x []) event → AtDesk s v.sent d event x answer y out → Leads s (Fits what v) v (with_node v d y out)
+  pub after_fault : (x : Node Disk) (event : Event) (answer : Answer Refusal) (y : Node Disk) (out : List Message) → AtDesk s v.sent d (Event.FailAt d 1) (node v d) answers.Done x [] → station_of event ≡ Station.Desk d → Fits what v (with_node v d x []) event → AtDesk s v.sent d event x answer y out → Leads s (Fits what v) v (with_node v d y out)
   after_fault x event answer y out fall st f h =
       let u : Configuration Disk = with_node v d x [] in
       let new : Configuration Disk = with_node u d y out in
@@ -87,10 +82,10 @@ module _ {Disk : Type 0} (s : Setting Disk Refusal) (v : Configuration Disk) (d 
       subst (λ (xs : List Message). AtDesk s xs d event (node u d) answer y out) (sym (sent_put v d x))
       (subst (λ (z : Node Disk). AtDesk s v.sent d event z answer y out) (sym (node_put v d x [])) h) in
       subst (Leads s (Fits what v) v) (put_again v d x y out)
-      (two s (Fits what v) v (events.FailAt d 1) event answers.Done answer u new tt f (x, [], fall, refl)
+      (two s (Fits what v) v (Event.FailAt d 1) event answers.Done answer u new tt f (x, [], fall, refl)
       (subst (λ (t : Station). StepAt s u event t answer new) (sym st) (y, out, moved, refl)))
 
-  broken : (k : DeskState Disk) (event : Event) (answer : Answer Refusal) (y : Node Disk) (out : List Message) → (node v d).process ≡ Running k → station_of event ≡ stations.Desk d → Fits what v (with_node v d (runs_on (node v d) k (Some Fail)) []) event → AtDesk s v.sent d event (runs_on (node v d) k (Some Fail)) answer y out → Leads s (Fits what v) v (with_node v d y out)
+  broken : (k : DeskState Disk) (event : Event) (answer : Answer Refusal) (y : Node Disk) (out : List Message) → (node v d).process ≡ Running k → station_of event ≡ Station.Desk d → Fits what v (with_node v d (runs_on (node v d) k (Some Fail)) []) event → AtDesk s v.sent d event (runs_on (node v d) k (Some Fail)) answer y out → Leads s (Fits what v) v (with_node v d y out)
   broken k event answer y out e st f h = after_fault (runs_on (node v d) k (Some Fail)) event answer y out (falls k e) st f h
 
   abbrev pub Goes : DeskState Disk → List Message → Type 0
@@ -101,25 +96,25 @@ module _ {Disk : Type 0} (s : Setting Disk Refusal) (v : Configuration Disk) (d 
   spent l out calm h = subst (λ (due : Option Fault). Leads s (Fits what v) v (with_node v d (runs_on (node v d) l due) out)) (sym calm) h
 
   penned : (k l : DeskState Disk) (e : Entry) (told : PenAnswer Refusal) (answer : Answer Refusal) (out : List Message) → (node v d).process ≡ Running k → ((u : Configuration Disk) → (node u d).process ≡ Running k → TypedAs what v u d e) → Pens view s.rules k e told l out → AfterPen view (node v d) told l answer (runs_on (node v d) l (node v d).due) → Goes l out
-  penned k l e told answer out at typed h after = at_desk (events.Pen d e) answer (runs_on (node v d) l (node v d).due) out refl (typed v at) (k, l, told, at, h, after)
+  penned k l e told answer out at typed h after = at_desk (Event.Pen d e) answer (runs_on (node v d) l (node v d).due) out refl (typed v at) (k, l, told, at, h, after)
 
   pen_failed : (node v d).due ≡ None → (k l : DeskState Disk) (e : Entry) (out : List Message) → (node v d).process ≡ Running k → ((u : Configuration Disk) → (node u d).process ≡ Running k → TypedAs what v u d e) → Pens view s.rules k e PenAnswer.DeviceFailed l out → Goes l out
   pen_failed calm k l e out at typed h =
       spent l out calm
-      (broken k (events.Pen d e) answers.DeviceFailed (runs_on (node v d) l None) out at refl
+      (broken k (Event.Pen d e) answers.DeviceFailed (runs_on (node v d) l None) out at refl
       (typed (with_node v d (runs_on (node v d) k (Some Fail)) []) (ap (λ (z : Node Disk). z.process) (node_put v d (runs_on (node v d) k (Some Fail)) [])))
       (k, l, PenAnswer.DeviceFailed, refl, h, (Fail, refl, (refl, refl))))
 
   received : (k l : DeskState Disk) (bytes : List ℕ) (m : Message) (told : ReceiveAnswer) (answer : Answer Refusal) (out : List Message) (game : ℕ) → (node v d).process ≡ Running k → WasSent game v.sent bytes → Says game bytes m → Receives view k m told l out → AfterReceive view (node v d) told l out answer (runs_on (node v d) l (node v d).due) → Goes l out
   received k l bytes m told answer out game at came says h after =
       let found = came m says in
-      at_desk (events.Give found.0 (stations.Desk d)) answer (runs_on (node v d) l (node v d).due) out refl tt (k, l, m, told, at, found.1, h, after)
+      at_desk (Event.Give found.0 (Station.Desk d)) answer (runs_on (node v d) l (node v d).due) out refl tt (k, l, m, told, at, found.1, h, after)
 
   ask_failed : (node v d).due ≡ None → (k l : DeskState Disk) (bytes : List ℕ) (m : Message) (out : List Message) (game : ℕ) → (node v d).process ≡ Running k → WasSent game v.sent bytes → Says game bytes m → Receives view k m ReceiveAnswer.DeviceFailed l out → Goes l out
   ask_failed calm k l bytes m out game at came says h =
       let found = came m says in
       spent l out calm
-      (broken k (events.Give found.0 (stations.Desk d)) answers.DeviceFailed (runs_on (node v d) l None) out at refl tt
+      (broken k (Event.Give found.0 (Station.Desk d)) answers.DeviceFailed (runs_on (node v d) l None) out at refl tt
       (k, l, m, ReceiveAnswer.DeviceFailed, refl, found.1, h, (Fail, refl, (refl, refl))))
 
 module _ {Disk : Type 0} (s : Setting Disk Refusal) (game innings : ℕ) (rules : s.rules ≡ book_refusal innings) (v : Configuration Disk) (d : DeskId) (calm : (node v d).due ≡ None) (text : List ℕ) where
@@ -151,15 +146,15 @@ module _ {Disk : Type 0} (s : Setting Disk Refusal) (game innings : ℕ) (rules 
   desk_moment sheet k l (desks.Typed line (Refused why)) out at came h =
       says_pens sheet k l out at line (Refused why) h.0 (pen_answer (Err why)) h.1 (by_rules sheet k l out at h.0 (pen_answer (Err why)) h.2)
   desk_moment sheet k l (desks.Typed line said) out at came h = still sheet k l out at (desks.Typed line said) h.1 h.2
-  desk_moment sheet k l (desks.Given bytes whats.Failed) out at came h = still sheet k l out at (desks.Given bytes whats.Failed) h.1 h.2
-  desk_moment sheet k l (desks.Given bytes (whats.Bad fault)) out at came h = still sheet k l out at (desks.Given bytes (whats.Bad fault)) h.2 h.3
-  desk_moment sheet k l (desks.Given bytes (whats.Heard x)) out at came h =
-      received s v d (DeskCalled d sheet (desks.Given bytes (whats.Heard x)) out l text) k l bytes h.0 (ReceiveAnswer.Told x) (answers.Told x) out game at came h.1 h.2 (refl, refl)
-  desk_moment sheet k l (desks.Given bytes whats.Asked) out at came h =
-      received s v d (DeskCalled d sheet (desks.Given bytes whats.Asked) out l text) k l bytes h.0 ReceiveAnswer.Asked (answers.Asked (has_any out)) out game at came h.1 h.2 (refl, refl)
-  desk_moment sheet k l (desks.Given bytes whats.Device) out at came h =
-      ask_failed s v d (DeskCalled d sheet (desks.Given bytes whats.Device) out l text) calm k l bytes h.0 out game at came h.1 h.2
+  desk_moment sheet k l (desks.Given bytes What.Failed) out at came h = still sheet k l out at (desks.Given bytes What.Failed) h.1 h.2
+  desk_moment sheet k l (desks.Given bytes (What.Bad fault)) out at came h = still sheet k l out at (desks.Given bytes (What.Bad fault)) h.2 h.3
+  desk_moment sheet k l (desks.Given bytes (What.Heard x)) out at came h =
+      received s v d (DeskCalled d sheet (desks.Given bytes (What.Heard x)) out l text) k l bytes h.0 (ReceiveAnswer.Told x) (answers.Told x) out game at came h.1 h.2 (refl, refl)
+  desk_moment sheet k l (desks.Given bytes What.Asked) out at came h =
+      received s v d (DeskCalled d sheet (desks.Given bytes What.Asked) out l text) k l bytes h.0 ReceiveAnswer.Asked (answers.Asked (has_any out)) out game at came h.1 h.2 (refl, refl)
+  desk_moment sheet k l (desks.Given bytes What.Device) out at came h =
+      ask_failed s v d (DeskCalled d sheet (desks.Given bytes What.Device) out l text) calm k l bytes h.0 out game at came h.1 h.2
   desk_moment sheet k l desks.Ticked out at came h =
       let e : (node v d).process ≡ Running l = at ∙ ap Running (sym h.1) in
-      at_desk s v d (DeskCalled d sheet desks.Ticked out l text) (events.Tick (stations.Desk d)) (answers.Ticked (length out)) (runs_on (node v d) l (node v d).due) out refl tt (k, at, h.0, refl, itself (node v d) l e)
+      at_desk s v d (DeskCalled d sheet desks.Ticked out l text) (Event.Tick (Station.Desk d)) (answers.Ticked (length out)) (runs_on (node v d) l (node v d).due) out refl tt (k, at, h.0, refl, itself (node v d) l e)
   desk_moment sheet k l call out at came h = still sheet k l out at call h.0 h.1

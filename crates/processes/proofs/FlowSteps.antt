@@ -2,21 +2,16 @@
 use Rattle.std.proofs.Common.{◌≡◌, ℕ, Option, Some, None, List, [], ◌++◌, length, refl, sym, ap, subst, append-nil}
 use Rattle.corrections.specs.Refusal.{book_refusal}
 use Rattle.corrections.specs.declared.refusal.Refusal.{Refusal}
-use Rattle.agree_core.specs.declared.messages.DeskId.{DeskId}
+use Rattle.agree_core.specs.declared.messages.{DeskId.DeskId, Message.Message}
 use Rattle.agree_core.specs.declared.messages.DeskId.TheVariants.{A, B}
-use Rattle.agree_core.specs.declared.messages.Message.{Message}
 use Rattle.agree_core.specs.Ballots.{Ballot}
 use Rattle.agree_core.specs.Boards.{BoardState, fresh_board}
 use Rattle.agree_core.specs.Desks.{DeskState}
 use Rattle.agree_core.specs.FileView.{MaySync, Stays}
 use Rattle.agree_core.specs.Openings.{OpenRefusal, Opening, Opens}
-use Rattle.entry_log.specs.declared.mem_disk.choice.Choice.TheVariants as choices
-use Rattle.headline.specs.declared.event.Event.{Event}
-use Rattle.headline.specs.declared.event.Event.TheVariants as events
-use Rattle.headline.specs.declared.event.Station.TheVariants as stations
-use Rattle.headline.specs.declared.fault.Fault.{Fault}
+use Rattle.entry_log.specs.declared.mem_disk.choice.Choice.{Choice}
+use Rattle.headline.specs.declared.{event.Event.Event, event.Station.Station, fault.Fault.Fault, version.FileVersion.FileVersion}
 use Rattle.headline.specs.declared.fault.Fault.TheVariants.{Fail}
-use Rattle.headline.specs.declared.version.FileVersion.{FileVersion}
 use Rattle.headline.specs.declared.version.FileVersion.TheVariants.{Old, New}
 use Rattle.headline.specs.Match.{Setting}
 use Rattle.headline.specs.Configurations.{Process, Running, Down, Node, Configuration, board_at, node, process_disk, process_votes, with_board, with_disk, with_node}
@@ -44,22 +39,22 @@ module _ {Disk : Type 0} (s : Setting Disk Refusal) (v : Configuration Disk) (wh
     as_before : (p : Process Disk) → Reaches (with_node v d (placed p None) []) → Reaches (with_process v d p [])
     as_before p h = subst (λ (due : Option Fault). Reaches (with_node v d (placed p due) [])) (sym calm) h
 
-    by_event : (event : Event) (answer : Answer Refusal) (p : Process Disk) (due : Option Fault) → station_of event ≡ stations.Desk d → Fits what v v event → AtDesk s v.sent d event (node v d) answer (placed p due) [] → Reaches (with_node v d (placed p due) [])
+    by_event : (event : Event) (answer : Answer Refusal) (p : Process Disk) (due : Option Fault) → station_of event ≡ Station.Desk d → Fits what v v event → AtDesk s v.sent d event (node v d) answer (placed p due) [] → Reaches (with_node v d (placed p due) [])
     by_event event answer p due e f h = at_desk s v d what event answer (placed p due) [] e f h
 
     ended : (k : DeskState Disk) (disk : Disk) → (node v d).process ≡ Running k → Stays (s.view d (node v d).version) k.disk disk → Reaches (with_process v d (Down (process_votes (node v d).process) disk) [])
     ended k disk at h =
         as_before (Down (process_votes (node v d).process) disk)
-        (by_event (events.Kill d) answers.Done (Down (process_votes (node v d).process) disk) None refl tt
+        (by_event (Event.Kill d) answers.Done (Down (process_votes (node v d).process) disk) None refl tt
         (k, at, (disk, subst (λ (q : Process Disk). Stays (s.view d (node v d).version) (process_disk q) disk) (sym at) h, refl), refl, refl))
 
     power_lost : (disk : Disk) → LosesPower (s.view d (node v d).version) (process_disk (node v d).process) disk → Reaches (with_process v d (Down (process_votes (node v d).process) disk) [])
     power_lost disk h =
         as_before (Down (process_votes (node v d).process) disk)
-        (by_event (events.Power d choices.Kept) answers.Done (Down (process_votes (node v d).process) disk) None refl tt (disk, h, refl, refl, refl))
+        (by_event (Event.Power d Choice.Kept) answers.Done (Down (process_votes (node v d).process) disk) None refl tt (disk, h, refl, refl, refl))
 
     -- a fault falls due at a desk that is down
-    fault_down : (votes : List Ballot) (disk : Disk) → (node v d).process ≡ Down votes disk → AtDesk s v.sent d (events.FailAt d 1) (node v d) answers.Done (placed (Down votes disk) (Some Fail)) []
+    fault_down : (votes : List Ballot) (disk : Disk) → (node v d).process ≡ Down votes disk → AtDesk s v.sent d (Event.FailAt d 1) (node v d) answers.Done (placed (Down votes disk) (Some Fail)) []
     fault_down votes disk at =
         let p : Down votes disk ≡ with_disk (node v d).process disk = ap (λ (q : Process Disk). with_disk q disk) (sym at) in
         ((disk, subst (λ (q : Process Disk). Stays (s.view d (node v d).version) (process_disk q) disk) (sym at) (stays_refl (s.view d (node v d).version) disk), λ i. placed (p i) (Some Fail)), refl, refl)
@@ -67,16 +62,16 @@ module _ {Disk : Type 0} (s : Setting Disk Refusal) (v : Configuration Disk) (wh
     not_opened : (votes : List Ballot) (disk left : Disk) → (node v d).process ≡ Down votes disk → MaySync (s.view d (node v d).version) disk left → Reaches (with_process v d (Down votes left) [])
     not_opened votes disk left at h =
         as_before (Down votes left)
-        (after_fault s v d what (placed (Down votes disk) (Some Fail)) (events.Open d) answers.DeviceFailed (placed (Down votes left) None) [] (fault_down votes disk at) refl tt
+        (after_fault s v d what (placed (Down votes disk) (Some Fail)) (Event.Open d) answers.DeviceFailed (placed (Down votes left) None) [] (fault_down votes disk at) refl tt
         (votes, disk, Opening.NotOpened OpenRefusal.DeviceFailed left, refl, h, (Fail, refl, (refl, refl)), refl))
 
     opened : (votes : List Ballot) (disk : Disk) (opening : Opening Disk) → (node v d).process ≡ Down votes disk → Opens (s.view d (node v d).version) s.rules d disk opening → Reaches (with_process v d (begun votes opening) [])
     opened votes disk (Opening.Opened k) at h =
-        by_event (events.Open d) (answers.Opened (length k.book)) (Running k) (node v d).due refl tt (votes, disk, Opening.Opened k, at, h, (refl, refl), refl)
+        by_event (Event.Open d) (answers.Opened (length k.book)) (Running k) (node v d).due refl tt (votes, disk, Opening.Opened k, at, h, (refl, refl), refl)
     opened votes disk (Opening.NotOpened OpenRefusal.Unsound left) at h =
-        by_event (events.Open d) answers.Unsound (Down votes left) (node v d).due refl tt (votes, disk, Opening.NotOpened OpenRefusal.Unsound left, at, h, (refl, refl), refl)
+        by_event (Event.Open d) answers.Unsound (Down votes left) (node v d).due refl tt (votes, disk, Opening.NotOpened OpenRefusal.Unsound left, at, h, (refl, refl), refl)
     opened votes disk (Opening.NotOpened (OpenRefusal.BadVotes place) left) at h =
-        by_event (events.Open d) answers.NoBook (Down votes left) (node v d).due refl tt (votes, disk, Opening.NotOpened (OpenRefusal.BadVotes place) left, at, h, (refl, refl), refl)
+        by_event (Event.Open d) answers.NoBook (Down votes left) (node v d).due refl tt (votes, disk, Opening.NotOpened (OpenRefusal.BadVotes place) left, at, h, (refl, refl), refl)
     opened votes disk (Opening.NotOpened OpenRefusal.NoMemory left) at h = not_opened votes disk left at h
     opened votes disk (Opening.NotOpened OpenRefusal.DeviceFailed left) at h = not_opened votes disk left at h
 
@@ -86,13 +81,13 @@ module _ {Disk : Type 0} (s : Setting Disk Refusal) (v : Configuration Disk) (wh
       let y : Node Disk = record (node v d) { version = New; process = Down had new } in
       let at_old : MigratesAt {Why = Refusal} (s.view d) (node v d) Old had disk (answers.Migrated (length votes)) y = (ToNew votes new, h, (refl, refl)) in
       subst (λ (p : Process Disk). Reaches (with_node v d (record (node v d) { version = New; process = Down (process_votes p) new }) [])) (sym at)
-      (at_desk s v d what (events.Migrate d) (answers.Migrated (length votes)) y [] refl tt
+      (at_desk s v d what (Event.Migrate d) (answers.Migrated (length votes)) y [] refl tt
       (had, disk, at, subst (λ (z : FileVersion). MigratesAt {Why = Refusal} (s.view d) (node v d) z had disk (answers.Migrated (length votes)) y) (sym old) at_old, refl))
 
   wiped : (n : ℕ) (k : BoardState) → board_at v.boards n ≡ Some k → Reaches (record v { boards = with_board v.boards n fresh_board })
   wiped n k at =
       subst (λ (sent : List Message). Reaches (record v { boards = with_board v.boards n fresh_board; sent = sent })) (append-nil v.sent)
-      (one s (Fits what v) v (events.Wipe n) answers.Done (with_it v n fresh_board []) tt (k, fresh_board, [], at, (refl, refl, refl), refl))
+      (one s (Fits what v) v (Event.Wipe n) answers.Done (with_it v n fresh_board []) tt (k, fresh_board, [], at, (refl, refl, refl), refl))
 
 module _ {Disk : Type 0} where
   -- no fault is due

@@ -3,10 +3,8 @@ use Rattle.std.proofs.Common.{arith, ◌≡◌, ◌⊎◌, ℕ, List, [], ◌∷
 use Rattle.corrections.specs.Refusal.{book_refusal}
 use Rattle.cards.specs.Sheet.{Sheet}
 use Rattle.corrections.specs.declared.refusal.Refusal.{Refusal}
-use Rattle.agree_core.specs.declared.messages.DeskId.{DeskId}
+use Rattle.agree_core.specs.declared.{messages.DeskId.DeskId, messages.Message.Message, position.Position.Position}
 use Rattle.agree_core.specs.declared.messages.DeskId.TheVariants.{A, B}
-use Rattle.agree_core.specs.declared.messages.Message.{Message}
-use Rattle.agree_core.specs.declared.position.Position.{Position}
 use Rattle.agree_core.specs.Ballots.{Ballot}
 use Rattle.agree_core.specs.Desks.{DeskState}
 use Rattle.live.specs.Desks as desks

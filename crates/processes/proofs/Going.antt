@@ -4,7 +4,6 @@ use Rattle.corrections.specs.declared.refusal.Refusal.{Refusal}
 use Rattle.headline.specs.declared.event.Event.{Event}
 use Rattle.headline.specs.Match.{Setting}
 use Rattle.headline.specs.Configurations.{Running, Configuration, node}
-use Rattle.headline.specs.declared.event.Event.TheVariants as events
 use Rattle.agree_core.specs.Desks.{DeskState}
 use Rattle.agree_core.specs.declared.messages.DeskId.{DeskId}
 use Rattle.notation.specs.declared.entry.Entry.{Entry}
@@ -25,7 +24,7 @@ TypedAs (DeskCalled d s (desks.Typed line said) out l text) v u c e =
 TypedAs what v u c e = ⊥
 
 abbrev pub Fits : {Disk : Type 0} → Happening Disk → Configuration Disk → Configuration Disk → Event → Type 0
-Fits what v u (events.Pen c e) = TypedAs what v u c e
+Fits what v u (Event.Pen c e) = TypedAs what v u c e
 Fits what v u event = Unit {0}
 
 module _ {Disk : Type 0} where

@@ -5,10 +5,8 @@ use Rattle.notation.specs.declared.entry.Entry.{Entry}
 use Rattle.corrections.specs.Refusal.{book_refusal}
 use Rattle.corrections.specs.declared.refusal.Refusal.{Refusal}
 use Rattle.cards.specs.Sheet.{Sheet}
-use Rattle.agree_core.specs.declared.messages.DeskId.{DeskId}
-use Rattle.agree_core.specs.declared.messages.Message.{Message}
+use Rattle.agree_core.specs.declared.{messages.DeskId.DeskId, messages.Message.Message, seat.Settled.Settled}
 use Rattle.agree_core.specs.declared.seat.Heard as hearing
-use Rattle.agree_core.specs.declared.seat.Settled.{Settled}
 use Rattle.agree_core.specs.Ballots.{Ballot, vote_of}
 use Rattle.agree_core.specs.Boards.{BoardAnswer, BoardReceives, BoardState}
 use Rattle.agree_core.specs.Desks.{DeskState, PenAnswer, Pens, ReceiveAnswer}
@@ -17,11 +15,7 @@ use Rattle.wire.specs.Layout.{Says}
 use Rattle.wire.specs.declared.what.What.{What}
 use Rattle.wire.specs.declared.what.What.TheVariants.{Heard}
 use Rattle.wire.proofs.MessageLemmas.{says_once}
-use Rattle.headline.specs.declared.event.Event.{Event}
-use Rattle.headline.specs.declared.event.Event.TheVariants as events
-use Rattle.headline.specs.declared.event.Station.{Station}
-use Rattle.headline.specs.declared.event.Station.TheVariants as stations
-use Rattle.headline.specs.declared.version.FileVersion.{FileVersion}
+use Rattle.headline.specs.declared.{event.Event.Event, event.Station.Station, version.FileVersion.FileVersion}
 use Rattle.headline.specs.Answers as answers
 use Rattle.headline.specs.Answers.{Answer}
 use Rattle.headline.specs.Configurations.{Configuration, Running, board_at, node}
@@ -44,7 +38,7 @@ use Rattle.processes.proofs.BoardSteps.{with_it}
 use Rattle.processes.proofs.FlowSteps.{IsCalm}
 use Rattle.processes.proofs.Flowing.{flow_runs}
 
-desk_in : (d c : DeskId) → stations.Desk d ≡ stations.Desk c → d ≡ c
+desk_in : (d c : DeskId) → Station.Desk d ≡ Station.Desk c → d ≡ c
 desk_in d c p = cc
 
 module _
@@ -68,29 +62,29 @@ module _
       sent_vote : (bytes : List ℕ) (m : Message) (c : DeskId) (b : Ballot) → Says game bytes m → SayVote game bytes c b → (i : ℕ) → slice_get v.sent i ≡ Some m → slice_get v.sent i ≡ Some (Message.Vote (vote_of c b))
       sent_vote bytes m c b says vote i at = at ∙ ap Some (says_once game bytes m (Message.Vote (vote_of c b)) says vote)
 
-      given : (d : DeskId) (sheet : Sheet) (k l : DeskState Disk) (bytes : List ℕ) (heard : hearing.Heard) (out : List Message) → (node v d).process ≡ Running k → WasSent game v.sent bytes → DeskStep sheet (s.view d (node v d).version) game innings k (desks.Given bytes (Heard heard)) out l → (t : Station) (book : List Entry) (b : Ballot) (c : DeskId) → Shows v t book → (position_at v t ≡ Some b.at) → (kept_at v t c ≡ Some b.entry) → t ≡ stations.Desk d → d ≢ other c → SayVote game bytes (other c) b → Shows (with_process v d (Running l) out) t (book ++ b.entry ∷ [])
+      given : (d : DeskId) (sheet : Sheet) (k l : DeskState Disk) (bytes : List ℕ) (heard : hearing.Heard) (out : List Message) → (node v d).process ≡ Running k → WasSent game v.sent bytes → DeskStep sheet (s.view d (node v d).version) game innings k (desks.Given bytes (Heard heard)) out l → (t : Station) (book : List Entry) (b : Ballot) (c : DeskId) → Shows v t book → (position_at v t ≡ Some b.at) → (kept_at v t c ≡ Some b.entry) → t ≡ Station.Desk d → d ≢ other c → SayVote game bytes (other c) b → Shows (with_process v d (Running l) out) t (book ++ b.entry ∷ [])
       given d sheet k l bytes heard out at came h t book b c shown pos kept here apart says =
           let found = came h.0 h.1 in
-          by_event (events.Give found.0 (stations.Desk d)) (answers.Told heard) (with_process v d (Running l) out)
+          by_event (Event.Give found.0 (Station.Desk d)) (answers.Told heard) (with_process v d (Running l) out)
           (record (node v d) { process = Running l }, out, (k, l, h.0, ReceiveAnswer.Told heard, at, found.1, h.2, (refl, refl)), refl)
           tt t book b c shown pos kept
-          (inl (λ q. apart (desk_in d (other c) (sym here ∙ q)), (found.0, ap (events.Give found.0) (sym here), sent_vote bytes h.0 (other c) b h.1 says found.0 found.1)))
+          (inl (λ q. apart (desk_in d (other c) (sym here ∙ q)), (found.0, ap (Event.Give found.0) (sym here), sent_vote bytes h.0 (other c) b h.1 says found.0 found.1)))
 
-      penned : (d : DeskId) (sheet : Sheet) (k l : DeskState Disk) (line : List ℕ) (e : Entry) (settled : Settled) (out : List Message) → (node v d).process ≡ Running k → DeskStep sheet (s.view d (node v d).version) game innings k (desks.Typed line (Penned e settled)) out l → (t : Station) (book : List Entry) (b : Ballot) (c : DeskId) → Shows v t book → (position_at v t ≡ Some b.at) → (kept_at v t c ≡ Some b.entry) → t ≡ stations.Desk d → e ≡ b.entry → d ≡ other c → Shows (with_process v d (Running l) out) t (book ++ b.entry ∷ [])
+      penned : (d : DeskId) (sheet : Sheet) (k l : DeskState Disk) (line : List ℕ) (e : Entry) (settled : Settled) (out : List Message) → (node v d).process ≡ Running k → DeskStep sheet (s.view d (node v d).version) game innings k (desks.Typed line (Penned e settled)) out l → (t : Station) (book : List Entry) (b : Ballot) (c : DeskId) → Shows v t book → (position_at v t ≡ Some b.at) → (kept_at v t c ≡ Some b.entry) → t ≡ Station.Desk d → e ≡ b.entry → d ≡ other c → Shows (with_process v d (Running l) out) t (book ++ b.entry ∷ [])
       penned d sheet k l line e settled out at h t book b c shown pos kept here same own =
-          by_event (events.Pen d e) (answers.Penned settled) (with_process v d (Running l) out)
+          by_event (Event.Pen d e) (answers.Penned settled) (with_process v d (Running l) out)
           (record (node v d) { process = Running l }, out, (k, l, PenAnswer.Penned settled, at, subst (λ r. Pens (s.view d (node v d).version) r k e (PenAnswer.Penned settled) l out) (sym rules) h.1, (refl, refl)), refl)
           tt t book b c shown pos kept
-          (inr (here ∙ ap stations.Desk own, λ i. events.Pen (own i) (same i)))
+          (inr (here ∙ ap Station.Desk own, λ i. Event.Pen (own i) (same i)))
 
-      board_given : (number : ℕ) (k l : BoardState) (bytes : List ℕ) (heard : hearing.Heard) (out : List Message) → board_at v.boards number ≡ Some k → WasSent game v.sent bytes → BoardStep game innings k (boards.Given bytes (Ok (Heard heard))) out l → (t : Station) (book : List Entry) (b : Ballot) (c : DeskId) → Shows v t book → (position_at v t ≡ Some b.at) → (kept_at v t c ≡ Some b.entry) → t ≡ stations.Board number → SayVote game bytes (other c) b → Shows (with_it v number l out) t (book ++ b.entry ∷ [])
+      board_given : (number : ℕ) (k l : BoardState) (bytes : List ℕ) (heard : hearing.Heard) (out : List Message) → board_at v.boards number ≡ Some k → WasSent game v.sent bytes → BoardStep game innings k (boards.Given bytes (Ok (Heard heard))) out l → (t : Station) (book : List Entry) (b : Ballot) (c : DeskId) → Shows v t book → (position_at v t ≡ Some b.at) → (kept_at v t c ≡ Some b.entry) → t ≡ Station.Board number → SayVote game bytes (other c) b → Shows (with_it v number l out) t (book ++ b.entry ∷ [])
       board_given number k l bytes heard out at came h t book b c shown pos kept here says =
           let got = h.0 in
           let found = came got.0 got.1 in
-          by_event (events.Give found.0 (stations.Board number)) (answers.Told heard) (with_it v number l out)
+          by_event (Event.Give found.0 (Station.Board number)) (answers.Told heard) (with_it v number l out)
           (k, l, out, at, (got.0, BoardAnswer.Told heard, found.1, subst (λ r. BoardReceives r k got.0 (BoardAnswer.Told heard) l) (sym rules) got.2, refl, h.1), refl)
           tt t book b c shown pos kept
-          (inl (λ q. absurd (cc), (found.0, ap (events.Give found.0) (sym here), sent_vote bytes got.0 (other c) b got.1 says found.0 found.1)))
+          (inl (λ q. absurd (cc), (found.0, ap (Event.Give found.0) (sym here), sent_vote bytes got.0 (other c) b got.1 says found.0 found.1)))
 
       takes : (what : Happening Disk) → Happens s.view game innings v what → TakesSecond game v what
       takes (DeskCalled d sheet (desks.Typed line said) out l text) h = λ t book b c shown pos kept brought.

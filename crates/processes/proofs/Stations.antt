@@ -3,14 +3,12 @@ use Rattle.std.proofs.Common.{arith, Result, ◌≡◌, ℕ, List, ap, ◌∙◌
 use Rattle.std.specs.Io.KnownBytes.{Appends}
 use Rattle.notation.specs.declared.entry.Entry.{Entry}
 use Rattle.corrections.specs.declared.book_of.BookOf.{Ghosts as Books}
-use Rattle.entry_log.specs.declared.disk.Disk.{Ghosts as Disks}
-use Rattle.entry_log.specs.declared.slots_of.SlotsOf.{Ghosts as Files}
+use Rattle.entry_log.specs.declared.{disk.Disk.Ghosts as Disks, slots_of.SlotsOf.Ghosts as Files}
 use Rattle.agree_core.specs.Boards.{BoardState}
 use Rattle.board.specs.declared.board.Board.{Board}
 use Rattle.board.specs.Board as board
-use Rattle.desk.specs.declared.desk.Desk.{Desk}
+use Rattle.desk.specs.declared.{desk.Desk.Desk, refusal.OpenRefusal.OpenRefusal}
 use Rattle.desk.specs.Desk.{disk_of}
-use Rattle.desk.specs.declared.refusal.OpenRefusal.{OpenRefusal}
 use Rattle.headline.specs.Configurations.{Running}
 use Rattle.live.specs.Boards as boards
 use Rattle.live.specs.Boards.{BoardTurn, board_kind}

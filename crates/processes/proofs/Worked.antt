@@ -11,8 +11,7 @@ use Rattle.match_laws.specs.Refusals as rules
 use Rattle.corrections.specs.Refusal.{book_refusal}
 use Rattle.entry_log.specs.Blame.{BlamesDisk}
 use Rattle.entry_log.specs.Disk.{IsImage, only}
-use Rattle.agree_core.specs.declared.messages.DeskId.{DeskId}
-use Rattle.agree_core.specs.declared.messages.Message.{Message}
+use Rattle.agree_core.specs.declared.{messages.DeskId.DeskId, messages.Message.Message, seat.Settled.Settled}
 use Rattle.agree_core.specs.Ballots.{vote_of}
 use Rattle.corrections.specs.CleanList.{clean, clean_items_of, history_of}
 use Rattle.match_laws.specs.Figures.{penalty_runs, total}
@@ -20,7 +19,6 @@ use Rattle.match_laws.specs.History.{begun_by}
 use Rattle.match_laws.specs.Result.{is_decided, outcome, side_total, target}
 use Rattle.agree_core.specs.declared.messages.DeskId.TheVariants.{A, B}
 use Rattle.agree_core.specs.declared.seat.Heard as hearing
-use Rattle.agree_core.specs.declared.seat.Settled.{Settled}
 use Rattle.agree_core.specs.FileView.{FileView, Holds, Stays}
 use Rattle.agree_core.specs.Openings.{NotOpened, Opened, OpenRefusal}
 use Rattle.cards.specs.Sheet.{Sheet}

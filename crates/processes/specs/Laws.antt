@@ -5,8 +5,7 @@ use Rattle.cards.specs.Sheet.{Sheet}
 use Rattle.entry_log.specs.Disk.{Images}
 use Rattle.entry_log.specs.Slots.{FileContents}
 use Rattle.vote_store.specs.View.{file_view}
-use Rattle.agree_core.specs.declared.messages.DeskId.{DeskId}
-use Rattle.agree_core.specs.declared.messages.Message.{Message}
+use Rattle.agree_core.specs.declared.messages.{DeskId.DeskId, Message.Message}
 use Rattle.agree_core.specs.Boards.{BoardState}
 use Rattle.agree_core.specs.Desks.{DeskState}
 use Rattle.headline.specs.declared.version.FileVersion.{FileVersion}

@@ -1,16 +1,13 @@
 -- What brings the second of two equal votes to a station that keeps the first.
 use Rattle.std.specs.Prelude.{◌≡◌, ◌≢◌, ℕ, List, [], ◌∷◌, ◌++◌, Some, Ok}
 use Rattle.notation.specs.declared.entry.Entry.{Entry}
-use Rattle.agree_core.specs.declared.messages.DeskId.{DeskId}
-use Rattle.agree_core.specs.declared.messages.Message.{Message}
+use Rattle.agree_core.specs.declared.{messages.DeskId.DeskId, messages.Message.Message, seat.Settled.Settled}
 use Rattle.agree_core.specs.declared.seat.Heard as hearing
-use Rattle.agree_core.specs.declared.seat.Settled.{Settled}
 use Rattle.agree_core.specs.Ballots.{Ballot, vote_of}
 use Rattle.agree_core.specs.Readers.{other}
 use Rattle.wire.specs.declared.what.What.TheVariants.{Heard}
 use Rattle.wire.specs.Layout.{Says}
 use Rattle.headline.specs.declared.event.Station.{Station}
-use Rattle.headline.specs.declared.event.Station.TheVariants as stations
 use Rattle.headline.specs.Configurations.{Configuration}
 use Rattle.headline.specs.Noted.{kept_at, position_at}
 use Rattle.headline.specs.Runs.{Shows}
@@ -40,8 +37,8 @@ BoardBrings game call c b = ⊥
 
 -- what happened brings the station a desk's vote for this ballot
 abbrev pub Brings : {Disk : Type 0} → ℕ → Happening Disk → Station → DeskId → Ballot → Type 0
-Brings game (DeskCalled d s call out l text) t c b = (t ≡ stations.Desk d) × DeskBrings game d call c b
-Brings game (BoardCalled n s call out l text) t c b = (t ≡ stations.Board n) × BoardBrings game call c b
+Brings game (DeskCalled d s call out l text) t c b = (t ≡ Station.Desk d) × DeskBrings game d call c b
+Brings game (BoardCalled n s call out l text) t c b = (t ≡ Station.Board n) × BoardBrings game call c b
 Brings game what t c b = ⊥
 
 -- where it brings the second of two equal votes of its position to a station that keeps the first, that station's book

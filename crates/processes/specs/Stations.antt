@@ -3,8 +3,7 @@ use Rattle.std.specs.Prelude.{◌≡◌, ◌<◌, ℕ, List, ◌++◌, length, O
 use Rattle.std.specs.Io.KnownBytes.{Appends}
 use Rattle.notation.specs.declared.entry.Entry.{Entry}
 use Rattle.corrections.specs.declared.book_of.BookOf.{Ghosts as Books}
-use Rattle.entry_log.specs.declared.disk.Disk.{Ghosts as Disks}
-use Rattle.entry_log.specs.declared.slots_of.SlotsOf.{Ghosts as Files}
+use Rattle.entry_log.specs.declared.{disk.Disk.Ghosts as Disks, slots_of.SlotsOf.Ghosts as Files}
 use Rattle.corrections.specs.Refusal.{book_refusal}
 use Rattle.vote_store.specs.View.{file_view}
 use Rattle.agree_core.specs.declared.messages.DeskId.{DeskId}
@@ -15,9 +14,8 @@ use Rattle.cards.specs.Sheet.{Sheet}
 use Rattle.streams.specs.declared.watched.WriteFailed.{WriteFailed}
 use Rattle.board.specs.declared.board.Board.{Board}
 use Rattle.board.specs.Board as board
-use Rattle.desk.specs.declared.desk.Desk.{Desk}
+use Rattle.desk.specs.declared.{desk.Desk.Desk, refusal.OpenRefusal.OpenRefusal}
 use Rattle.desk.specs.Desk.{game_of, opening, state_of, view_of}
-use Rattle.desk.specs.declared.refusal.OpenRefusal.{OpenRefusal}
 use Rattle.live.specs.Boards as boards
 use Rattle.live.specs.Boards.{BoardCall, BoardTurn, board_kind}
 use Rattle.live.specs.Desks.{DeskCall, DeskProcess, DeskRuns, innings_of, kind_of}
@@ -27,8 +25,7 @@ use Rattle.live.specs.Passed.{Passed}
 use Rattle.live.specs.Runs as own
 use Rattle.live.specs.Runs.{with_text}
 use Rattle.live.specs.Typing.{Input}
-use Rattle.live.specs.declared.ends.DeskEnd.{DeskEnd}
-use Rattle.live.specs.declared.notices.Notice.{Notice}
+use Rattle.live.specs.declared.{ends.DeskEnd.DeskEnd, notices.Notice.Notice}
 use Rattle.live.specs.DeskLife.{BeginsOn, fresh}
 use Rattle.processes.specs.Lives.{BoardRuns, RunsFrom, after_calls, fresh_turn}
 use Rattle.processes.specs.Printing.{greeting_of}

@@ -10,33 +10,19 @@ use Rattle.std.proofs.lemmas.List.Elements.{All-get_or, All-nil, All-push, All-s
 use Rattle.std.proofs.lemmas.Option.{get_or_from_slice_get, slice_get-get_or, slice_get-map, slice_get_within}
 use Rattle.corrections.specs.declared.refusal.Refusal.{Refusal}
 use Rattle.entry_log.specs.declared.mem_disk.MemDisk.{MemDisk}
-use Rattle.agree_core.specs.declared.messages.DeskId.{DeskId}
+use Rattle.agree_core.specs.declared.messages.{DeskId.DeskId, Message.Message}
 use Rattle.agree_core.specs.declared.messages.DeskId.TheVariants.{A, B}
-use Rattle.agree_core.specs.declared.messages.Message.{Message}
 use Rattle.agree_core.specs.Boards.{BoardAnswer, BoardReceives, BoardState, BoardTicks, fresh_board}
 use Rattle.agree_core.specs.Books.{Rules}
 use Rattle.board.specs.declared.refusal.BoardRefusal.{BoardRefusal}
-use Rattle.board.specs.declared.refusal.BoardRefusal.TheVariants as refusals
 use Rattle.board.specs.Takes.{Takes}
-use Rattle.wire.specs.declared.datagram.Datagram.{Datagram}
-use Rattle.wire.specs.declared.what.What.{What}
-use Rattle.wire.specs.declared.what.What.TheVariants as whats
+use Rattle.wire.specs.declared.{datagram.Datagram.Datagram, what.What.What}
 use Rattle.wire.specs.Layout.{IsMessage, Says, written}
 use Rattle.wire.specs.Sent.{AreSent}
 use Rattle.wire.proofs.FaultLemmas.{reads_once}
 use Rattle.wire.proofs.MessageLemmas.{says_once}
-use Rattle.headline.specs.declared.event.Event.{Event}
-use Rattle.headline.specs.declared.event.Event.TheVariants as events
-use Rattle.headline.specs.declared.event.Station.{Station}
-use Rattle.headline.specs.declared.event.Station.TheVariants as stations
-use Rattle.schedule_replay.specs.declared.seen.Seen.{Seen}
-use Rattle.schedule_replay.specs.declared.seen.Seen.TheVariants as seens
-use Rattle.schedule_replay.specs.declared.seen.WorldRefusal.{WorldRefusal}
-use Rattle.schedule_replay.specs.declared.seen.WorldRefusal.TheVariants as refuses
-use Rattle.schedule_replay.specs.declared.site.Site.{Site}
-use Rattle.headline.specs.declared.version.FileVersion.{FileVersion}
-use Rattle.schedule_replay.specs.declared.world_desk.WorldDesk.{WorldDesk}
-use Rattle.schedule_replay.specs.declared.world.World.{World}
+use Rattle.headline.specs.declared.{event.Event.Event, event.Station.Station, version.FileVersion.FileVersion}
+use Rattle.schedule_replay.specs.declared.{seen.Seen.Seen, seen.WorldRefusal.WorldRefusal, site.Site.Site, world_desk.WorldDesk.WorldDesk, world.World.World}
 use Rattle.headline.specs.Configurations.{Running, Node, Configuration, board_at, fresh_boards, node, process_disk, with_board}
 use Rattle.headline.specs.Events.{station_of}
 use Rattle.headline.specs.Answers.{Answer}
@@ -60,16 +46,16 @@ use Rattle.schedule_replay.proofs.WorldLemmas.{sent_length}
 -- what a board receives of bytes that say a message
 takes_as : (rules : Rules Refusal) (game : ℕ) (k l : BoardState) (bytes : List ℕ) (answer : Result What BoardRefusal) (m : Message) → Says game bytes m → Takes rules game k bytes answer l
     → (received : BoardAnswer) × (answer_of (board_seen answer) ≡ Some (board_told received)) × BoardReceives rules k m received l
-takes_as rules game k l bytes (Ok (whats.Bad fault)) m s t = absurd (not_both m fault (reads_once game bytes (Ok m) (Err fault) s t.0))
-takes_as rules game k l bytes (Ok (whats.Heard h)) m s t = (BoardAnswer.Told h, refl, subst (λ (x : Message). BoardReceives rules k x (BoardAnswer.Told h) l) (says_once game bytes t.0 m t.1 s) t.2)
-takes_as rules game k l bytes (Ok whats.Asked) m s t = (BoardAnswer.Asked, refl, subst (λ (x : Message). BoardReceives rules k x BoardAnswer.Asked l) (says_once game bytes t.0 m t.1 s) t.2)
-takes_as rules game k l bytes (Err (refusals.BadVotes place)) m s t =
+takes_as rules game k l bytes (Ok (What.Bad fault)) m s t = absurd (not_both m fault (reads_once game bytes (Ok m) (Err fault) s t.0))
+takes_as rules game k l bytes (Ok (What.Heard h)) m s t = (BoardAnswer.Told h, refl, subst (λ (x : Message). BoardReceives rules k x (BoardAnswer.Told h) l) (says_once game bytes t.0 m t.1 s) t.2)
+takes_as rules game k l bytes (Ok What.Asked) m s t = (BoardAnswer.Asked, refl, subst (λ (x : Message). BoardReceives rules k x BoardAnswer.Asked l) (says_once game bytes t.0 m t.1 s) t.2)
+takes_as rules game k l bytes (Err (BoardRefusal.BadVotes place)) m s t =
     (BoardAnswer.BadVotes place, refl, subst (λ (x : Message). BoardReceives rules k x (BoardAnswer.BadVotes place) l) (says_once game bytes t.0 m t.1 s) t.2)
 takes_as rules game k l bytes _ m s t = absurd t
 
 -- the board is given a message that was sent
 pub board_gives : (k l : MatchBoard) (n : ℕ) (t : Station) (d : Datagram) (answer : Result What BoardRefusal) (sent : List Datagram) → slice_get sent n ≡ Some d
-    → Takes (match_of (board_game k) (board_innings k)).rules (board_game k) (board_state k) d.bytes answer (board_state l) → BoardSteps (events.Give n t) k sent (board_seen answer) l sent
+    → Takes (match_of (board_game k) (board_innings k)).rules (board_game k) (board_state k) d.bytes answer (board_state l) → BoardSteps (Event.Give n t) k sent (board_seen answer) l sent
 board_gives k l n t d answer sent there takes messages b =
     let found = message_at (written (board_game k)) messages n d.bytes (ap (λ (z : List (List ℕ)). slice_get z n) (sym b.1) ∙ datagram_at sent n d there) in
     let taken = takes_as (match_of (board_game k) (board_innings k)).rules (board_game k) (board_state k) (board_state l) d.bytes answer found.0
@@ -78,7 +64,7 @@ board_gives k l n t d answer sent there takes messages b =
 
 -- what a tick hands out
 pub board_ticks : (k : MatchBoard) (t : Station) (n : ℕ) (out before after : List Datagram) → AreSent (board_game k) (map (λ (d : Datagram). d.bytes) out) (BoardTicks (board_state k))
-    → n ≡ length out → after ≡ before ++ out → BoardSteps (events.Tick t) k before (seens.Ticked n) k after
+    → n ≡ length out → after ≡ before ++ out → BoardSteps (Event.Tick t) k before (Seen.Ticked n) k after
 board_ticks k t n out before after sent long added messages b =
     let z = ticked (board_game k) (BoardTicks (board_state k)) n out before after messages sent long added b in
     (sent.0, Answer.Ticked n, refl, (sent.3, ap (λ (m : ℕ). Answer.Ticked m) z.0, refl), z.1)
@@ -106,12 +92,12 @@ none_there [] n = sym (leb-zero n)
 none_there (x ∷ xs) zero = sym (leb-suc-zero (length xs))
 none_there (x ∷ xs) (suc n) = none_there xs n ∙ sym (leb-suc-suc (length xs) n)
 
-no_station_is : (old : World) (w : Configuration MemDisk) (n : ℕ) → HasConfiguration old w → no_station w (stations.Board n) ≡ no_board (length old.boards.items) n
+no_station_is : (old : World) (w : Configuration MemDisk) (n : ℕ) → HasConfiguration old w → no_station w (Station.Board n) ≡ no_board (length old.boards.items) n
 no_station_is old w zero h = refl
 no_station_is old w (suc n) h = ap (λ (bs : List BoardState). is_none (slice_get bs n)) h.board_states ∙ none_there old.boards.items n
 
 -- the first cause against an event at a board
-cause_is : (n : ℕ) (old : World) (w : Configuration MemDisk) (event : Event) → station_of event ≡ stations.Board n → HasConfiguration old w
+cause_is : (n : ℕ) (old : World) (w : Configuration MemDisk) (event : Event) → station_of event ≡ Station.Board n → HasConfiguration old w
     → refusal_of w event ≡ first_cause (no_board (length old.boards.items) n) false (length old.sent.items) event
 cause_is n old w event e h =
     let missing = no_station_is old w n h in
@@ -168,7 +154,7 @@ same_disks w v a b A fault due = ap (λ (z : Node MemDisk). due_on (Some (proces
 same_disks w v a b B fault due = ap (λ (z : Node MemDisk). due_on (Some (process_disk z.process))) b
 
 -- an event that a board has taken
-pub board_steps : (n : ℕ) (old new : World) (k l : MatchBoard) (event same : Event) (seen : Seen) (before after : List Datagram) → station_of event ≡ stations.Board n → IsThere n old event k
+pub board_steps : (n : ℕ) (old new : World) (k l : MatchBoard) (event same : Event) (seen : Seen) (before after : List Datagram) → station_of event ≡ Station.Board n → IsThere n old event k
     → PutsBoard n old new l → (IsBoardOf old.game old.innings_a_side k → IsBoardOf old.game old.innings_a_side l) → event ≡ same → before ≡ old.sent.items → after ≡ new.sent.items
     → BoardSteps same k before seen l after → StepsTo event old seen new
 board_steps n old new k l event same seen before after e t c owner q b a steps w h =
@@ -179,7 +165,7 @@ board_steps n old new k l event same seen before after e t c owner q b a steps w
     let there : board_at w.boards (suc (n - 1)) ≡ Some (board_state k) = ap (λ (bs : List BoardState). slice_get bs (n - 1)) h.board_states ∙ slice_get-map board_state old.boards.items (n - 1) ∙ ap
     (option_map board_state) t.here in
     let step : StepAt (match_of old.game old.innings_a_side) w event (station_of event) given.1 world =
-    subst (λ (u : Station). StepAt (match_of old.game old.innings_a_side) w event u given.1 world) (sym (e ∙ ap stations.Board t.number))
+    subst (λ (u : Station). StepAt (match_of old.game old.innings_a_side) w event u given.1 world) (sym (e ∙ ap Station.Board t.number))
     (board_state k, board_state l, given.0, there, given.3, refl) in
     let put_there = put n old new l w given.0 c (owner of) h (subst (λ (z : List Datagram). AreBytesOf old.game z (w.sent ++ given.0)) a given.4) in
     (cause_is n old w event e h ∙ t.none, (given.1, world, given.2, step, put_there, λ d f. absurd (let z = sym e ∙ f in cc), λ none. same_disks w world refl refl))
@@ -209,35 +195,35 @@ stays old new w s h = record {
 abbrev pub WhyNot : (Event → Bool) → ℕ → World → Event → WorldRefusal → Type 0
 WhyNot may n old event why =
     let cause = first_cause (no_board (length old.boards.items) n) false (length old.sent.items) event in
-    (cause ≡ Some why) ⊎ ((cause ≡ None) × (why ≡ refuses.NoMemory) × (may event ≡ true))
+    (cause ≡ Some why) ⊎ ((cause ≡ None) × (why ≡ WorldRefusal.NoMemory) × (may event ≡ true))
 
 -- an event that a board hasn't taken
-pub board_refuses : (n : ℕ) (old new : World) (event : Event) (why : WorldRefusal) → station_of event ≡ stations.Board n → StaysSo old new
+pub board_refuses : (n : ℕ) (old new : World) (event : Event) (why : WorldRefusal) → station_of event ≡ Station.Board n → StaysSo old new
     → WhyNot may_grow n old event why → RefusesTo event old why new
 board_refuses n old new event why e s (inl cause) w h = (w, inl (cause_is n old w event e h ∙ cause, refl), stays old new w s h)
 board_refuses n old new event why e s (inr (none, want, grows)) w h = (w, inr (cause_is n old w event e h ∙ none, want, grows, left n event e w), stays old new w s h)
   where
-    left : (n : ℕ) (event : Event) → station_of event ≡ stations.Board n → (w : Configuration MemDisk) → LeftByWant (match_of old.game old.innings_a_side) w event w
-    left n (events.Open d) e w = absurd (cc)
-    left n (events.Migrate d) e w = absurd (cc)
+    left : (n : ℕ) (event : Event) → station_of event ≡ Station.Board n → (w : Configuration MemDisk) → LeftByWant (match_of old.game old.innings_a_side) w event w
+    left n (Event.Open d) e w = absurd (cc)
+    left n (Event.Migrate d) e w = absurd (cc)
     left n _ e w = refl
 
 -- one that was refused before anything was done, out of memory where it may send
-pub board_admits_not : (n : ℕ) (old new : World) (event : Event) (why : WorldRefusal) → station_of event ≡ stations.Board n → StaysSo old new
+pub board_admits_not : (n : ℕ) (old new : World) (event : Event) (why : WorldRefusal) → station_of event ≡ Station.Board n → StaysSo old new
     → WhyNot may_send n old event why → RefusesTo event old why new
 board_admits_not n old new event why e s c =
-    board_refuses n old new event why e s (⊎_elim inl (λ (r : _ × (why ≡ refuses.NoMemory) × (may_send event ≡ true)). inr (r.0, r.1, sending_grows event r.2)) c)
+    board_refuses n old new event why e s (⊎_elim inl (λ (r : _ × (why ≡ WorldRefusal.NoMemory) × (may_send event ≡ true)). inr (r.0, r.1, sending_grows event r.2)) c)
 
 -- the board begins empty, or is as it was where it is out of memory
-pub wipes : (n m : ℕ) (old new : World) (k l : MatchBoard) (event : Event) (result : Result Seen WorldRefusal) → station_of event ≡ stations.Board n → IsThere n old event k → PutsBoard n old new l
-    → event ≡ events.Wipe m → new.sent.items ≡ old.sent.items → IfOk result (λ seen. (n : ℕ) (sent : List Datagram) → BoardSteps (events.Wipe n) k sent seen l sent)
+pub wipes : (n m : ℕ) (old new : World) (k l : MatchBoard) (event : Event) (result : Result Seen WorldRefusal) → station_of event ≡ Station.Board n → IsThere n old event k → PutsBoard n old new l
+    → event ≡ Event.Wipe m → new.sent.items ≡ old.sent.items → IfOk result (λ seen. (n : ℕ) (sent : List Datagram) → BoardSteps (Event.Wipe n) k sent seen l sent)
     → OnOk result (IsBoardOf old.game old.innings_a_side l) → IfOk result (λ seen. StepsTo event old seen new)
 wipes n m old new k l event (Ok seen) e t c q items steps owner =
-    board_steps n old new k l event (events.Wipe m) seen old.sent.items old.sent.items e t c (λ of. owner) q refl (sym items) (steps m old.sent.items)
+    board_steps n old new k l event (Event.Wipe m) seen old.sent.items old.sent.items e t c (λ of. owner) q refl (sym items) (steps m old.sent.items)
 wipes n m old new k l event (Err why) e t c q items steps owner = tt
 
-pub not_wiped : (n m : ℕ) (old new : World) (k l : MatchBoard) (event : Event) (result : Result Seen WorldRefusal) → station_of event ≡ stations.Board n → IsThere n old event k
-    → PutsBoard n old new l → event ≡ events.Wipe m → new.sent.items ≡ old.sent.items → IfErr result (λ why. (why ≡ refuses.NoMemory) × (l ≡ k)) → IfErr result (λ why. RefusesTo event old why new)
+pub not_wiped : (n m : ℕ) (old new : World) (k l : MatchBoard) (event : Event) (result : Result Seen WorldRefusal) → station_of event ≡ Station.Board n → IsThere n old event k
+    → PutsBoard n old new l → event ≡ Event.Wipe m → new.sent.items ≡ old.sent.items → IfErr result (λ why. (why ≡ WorldRefusal.NoMemory) × (l ≡ k)) → IfErr result (λ why. RefusesTo event old why new)
 not_wiped n m old new k l event (Ok seen) e t c q items refused = tt
 not_wiped n m old new k l event (Err why) e t c q items (want, same) =
     let boards : new.boards.items ≡ old.boards.items = c.there ∙ ap (slice_set old.boards.items (n - 1))

@@ -2,19 +2,12 @@
 use Rattle.std.proofs.Common.{◌≡◌, ◌∙◌, Bool, true, false, true≢false, Option, Some, None, refl, sym, ap, subst, Result}
 use Rattle.std.specs.Prelude.{OnOk}
 use Rattle.entry_log.specs.MemDisk.{faults_of}
-use Rattle.entry_log.specs.declared.mem_disk.MemDisk.{MemDisk}
+use Rattle.entry_log.specs.declared.{mem_disk.MemDisk.MemDisk, refusal.Refusal.Refusal}
 use Rattle.desk.specs.declared.refusal.Refusal.{Refusal as DeskRefusal}
-use Rattle.desk.specs.declared.refusal.Refusal.TheVariants as refusals
-use Rattle.entry_log.specs.declared.refusal.Refusal.TheVariants as files
 use Rattle.vote_store.specs.declared.refusal.Refusal.{Refusal as VotesRefusal}
-use Rattle.vote_store.specs.declared.refusal.Refusal.TheVariants as votes
 use Rattle.headline.specs.declared.fault.Fault.{Fault}
 use Rattle.headline.specs.declared.fault.Fault.TheVariants.{Fail, Stop}
-use Rattle.schedule_replay.specs.declared.seen.Cause.{Cause}
-use Rattle.schedule_replay.specs.declared.seen.Seen.{Seen}
-use Rattle.schedule_replay.specs.declared.seen.WorldRefusal.{WorldRefusal}
-use Rattle.schedule_replay.specs.declared.site.Site.{Site}
-use Rattle.schedule_replay.specs.declared.world_desk.WorldDesk.{WorldDesk}
+use Rattle.schedule_replay.specs.declared.{seen.Cause.Cause, seen.Seen.Seen, seen.WorldRefusal.WorldRefusal, site.Site.Site, world_desk.WorldDesk.WorldDesk}
 use Rattle.schedule_replay.specs.Answers.{is_device, is_failing}
 use Rattle.schedule_replay.specs.Plans.{due_on}
 use Rattle.schedule_replay.specs.inner.Sites.{AfterRefusal, BreaksDown, KeepsDue, NotFoundBy, RefusedBy, disk_at}
@@ -46,10 +39,10 @@ refuses : (device : Bool) (why : DeskRefusal) (old mid : Site) (seen : Seen) (ne
 refuses true why old mid seen new f r = keeps_none old new (breaks_none mid.due _ mid seen new r)
 refuses false why old mid seen new f r = subst (KeepsDue old) (sym r.1) (f refl)
 
-not_that : (why : DeskRefusal) → is_device why ≡ false → why ≡ refusals.Device → ⊥
+not_that : (why : DeskRefusal) → is_device why ≡ false → why ≡ DeskRefusal.Device → ⊥
 not_that why n e = true≢false (sym (ap is_device e) ∙ n)
 
-pub keeps_refused : (why : DeskRefusal) (old new : Site) (k l : WorldDesk) (seen : Seen) → old.desk ≡ Some k → ((why ≡ refusals.Device → ⊥) → faults_of (disk_of l) ≡ faults_of (disk_of k)) → AfterRefusal why (record old { desk = Some l }) seen new → KeepsDue old new
+pub keeps_refused : (why : DeskRefusal) (old new : Site) (k l : WorldDesk) (seen : Seen) → old.desk ≡ Some k → ((why ≡ DeskRefusal.Device → ⊥) → faults_of (disk_of l) ≡ faults_of (disk_of k)) → AfterRefusal why (record old { desk = Some l }) seen new → KeepsDue old new
 keeps_refused why old new k l seen here same r = refuses (is_device why) why old (record old { desk = Some l }) seen new (λ n. keeps_running old k l here (same (not_that why n))) r
 
 -- the votes of a desk that is down aren't found
@@ -60,5 +53,5 @@ keeps_not_found false true cause old mid new result f n =
 keeps_not_found false false cause old mid new result f n =
     subst (λ (z : Result Seen WorldRefusal). OnOk z (KeepsDue old new)) (sym n.0) (subst (KeepsDue old) (sym n.1) (f refl))
 
-pub no_failure : (why : VotesRefusal) → is_failing why ≡ false → why ≡ votes.File files.Device → ⊥
+pub no_failure : (why : VotesRefusal) → is_failing why ≡ false → why ≡ VotesRefusal.File Refusal.Device → ⊥
 no_failure why n e = true≢false (sym (ap is_failing e) ∙ n)

@@ -6,22 +6,15 @@ use Rattle.entry_log.specs.Disk.{Images, IsImage, only}
 use Rattle.entry_log.specs.Format.{contents}
 use Rattle.entry_log.specs.MemDisk.{SetsPlan, call_count, cap_of, faults_of, file_of, images_of, plan_of}
 use Rattle.entry_log.specs.Plan.{due_of}
-use Rattle.entry_log.specs.declared.mem_disk.MemDisk.{MemDisk}
-use Rattle.entry_log.specs.declared.mem_disk.choice.Choice.{Choice}
-use Rattle.entry_log.specs.declared.mem_disk.plan.Plan.{Plan}
+use Rattle.entry_log.specs.declared.mem_disk.{MemDisk.MemDisk, choice.Choice.Choice, plan.Plan.Plan}
 use Rattle.entry_log.specs.declared.mem_disk.plan.Plan.TheVariants.{Calm}
 use Rattle.agree_core.specs.declared.messages.Message.{Message}
 use Rattle.agree_core.specs.Desks.{DeskState, Ticks}
 use Rattle.agree_core.specs.FileView.{Stays}
 use Rattle.wire.specs.declared.datagram.Datagram.{Datagram}
 use Rattle.wire.specs.Sent.{AreSent}
-use Rattle.headline.specs.declared.event.Event.{Event}
-use Rattle.headline.specs.declared.event.Event.TheVariants as events
-use Rattle.headline.specs.declared.event.Station.{Station}
-use Rattle.headline.specs.declared.fault.Fault.{Fault}
-use Rattle.schedule_replay.specs.declared.seen.Seen.TheVariants as seens
-use Rattle.schedule_replay.specs.declared.site.Site.{Site}
-use Rattle.schedule_replay.specs.declared.world_desk.WorldDesk.{WorldDesk}
+use Rattle.headline.specs.declared.{event.Event.Event, event.Station.Station, fault.Fault.Fault}
+use Rattle.schedule_replay.specs.declared.{seen.Seen.Seen, site.Site.Site, world_desk.WorldDesk.WorldDesk}
 use Rattle.headline.specs.Configurations.{Process, Running, Down, Node, process_disk, process_votes, with_disk}
 use Rattle.headline.specs.Answers.{Answer}
 use Rattle.headline.specs.DeskFaults.{FallsDue, LosesPower}
@@ -34,7 +27,7 @@ use Rattle.schedule_replay.proofs.SiteLemmas.{HasDisk, down_is, no_bytes, only_o
 
 -- what a tick hands out
 pub ticks : (site : Site) (k : WorldDesk) (t : Station) (n : ℕ) (out before after : List Datagram) → site.desk ≡ Some k
-    → AreSent (game_of k) (map (λ (d : Datagram). d.bytes) out) (Ticks (state_of k)) → n ≡ length out → after ≡ before ++ out → SiteSteps (events.Tick t) site before (seens.Ticked n) site after
+    → AreSent (game_of k) (map (λ (d : Datagram). d.bytes) out) (Ticks (state_of k)) → n ≡ length out → after ≡ before ++ out → SiteSteps (Event.Tick t) site before (Seen.Ticked n) site after
 ticks site k t n out before after here sent long added x messages h b =
     let r = running_is site k x here h in
     let own = r.owner in
@@ -46,7 +39,7 @@ calm_disk : (site : Site) (x : Node MemDisk) → HasNode site x → HasDisk (rec
 calm_disk site x h = let d = site_disk site x h in record { disk = d.disk; votes = d.votes; cap = d.cap }
 
 -- the desk's process ends
-pub kills : (old new : Site) (k : WorldDesk) (sent : List Datagram) → old.desk ≡ Some k → PutsDown (record old { due = None }) new → SiteSteps (events.Kill old.name) old sent seens.Done new sent
+pub kills : (old new : Site) (k : WorldDesk) (sent : List Datagram) → old.desk ≡ Some k → PutsDown (record old { due = None }) new → SiteSteps (Event.Kill old.name) old sent Seen.Done new sent
 kills old new k sent here put x messages h b =
     let r = running_is old k x here h in
     let down = put_down_is (record old { due = None }) new x.process (calm_disk old x h) refl put in
@@ -76,7 +69,7 @@ pub record IsLeft (choice : Choice) (old new : MemDisk) : Type 0 where
 
 -- its power is lost: what was put down is an image of what was there
 pub powers : (old mid new : Site) (choice : Choice) (there left : MemDisk) (sent : List Datagram) → PutsDown (record old { due = None }) mid → mid.disk ≡ Some there → IsLeft choice there left
-    → new ≡ record mid { disk = Some left } → SiteSteps (events.Power old.name choice) old sent seens.Done new sent
+    → new ≡ record mid { disk = Some left } → SiteSteps (Event.Power old.name choice) old sent Seen.Done new sent
 powers old mid new choice there left sent put at lost is x messages h b =
     let down = put_down_is (record old { due = None }) mid x.process (calm_disk old x h) refl put in
     let same_disk : down.0 ≡ there = let z = sym at ∙ down.1 in cc in
@@ -111,7 +104,7 @@ module _ (old : Site) (fault : Fault) (plan : Plan) (event : Event) (step : Faul
 
   -- one that runs
   pub falls_running : (k l : WorldDesk) → old.desk ≡ Some k → SetsPlan plan (disk_of k) (disk_of l) → state_of l ≡ record (state_of k) { disk = disk_of l } → SameOwner k l
-      → SiteSteps event old sent seens.Done (record old { desk = Some l; due = Some fault }) sent
+      → SiteSteps event old sent Seen.Done (record old { desk = Some l; due = Some fault }) sent
   falls_running k l here sets state owner x messages h b =
       let r = running_is old k x here h in
       let shown : Running (state_of l) ≡ with_disk x.process (disk_of l) =
@@ -124,7 +117,7 @@ module _ (old : Site) (fault : Fault) (plan : Plan) (event : Event) (step : Faul
 
   -- and one that is down
   pub falls_down : (disk left : MemDisk) → old.desk ≡ None → old.disk ≡ Some disk → SetsPlan plan disk left
-      → SiteSteps event old sent seens.Done (record old { disk = Some left; due = Some fault }) sent
+      → SiteSteps event old sent Seen.Done (record old { disk = Some left; due = Some fault }) sent
   falls_down disk left down there sets x messages h b =
       let d = down_at old disk x down there h in
       let same : Down d.votes left ≡ with_disk x.process left = ap (λ (z : Process MemDisk). with_disk z left) (sym d.process) in

@@ -11,10 +11,7 @@ use Rattle.entry_log.specs.declared.mem_disk.MemDisk.{MemDisk}
 use Rattle.agree_core.specs.declared.messages.Message.{Message}
 use Rattle.agree_core.specs.Desks.{DeskState, ReceiveAnswer, Receives, Unchanged}
 use Rattle.agree_core.specs.FileView.{FileView}
-use Rattle.wire.specs.declared.datagram.Datagram.{Datagram}
-use Rattle.wire.specs.declared.fault.WireFault.{WireFault}
-use Rattle.wire.specs.declared.what.What.{What}
-use Rattle.wire.specs.declared.what.What.TheVariants as whats
+use Rattle.wire.specs.declared.{datagram.Datagram.Datagram, fault.WireFault.WireFault, what.What.What}
 use Rattle.wire.specs.Layout.{IsMessage, Says, written}
 use Rattle.wire.specs.Sent.{AreSent}
 use Rattle.wire.proofs.FaultLemmas.{reads_once}
@@ -23,12 +20,8 @@ use Rattle.desk.specs.declared.desk.Received.{Received}
 use Rattle.desk.specs.declared.refusal.Refusal.TheVariants as refusals
 use Rattle.desk.specs.Answers.{device_answer, replied}
 use Rattle.desk.specs.Takes.{Takes}
-use Rattle.headline.specs.declared.event.Event.TheVariants as events
-use Rattle.headline.specs.declared.event.Station.{Station}
-use Rattle.schedule_replay.specs.declared.seen.Cause.TheVariants as causes
-use Rattle.schedule_replay.specs.declared.seen.Seen.{Seen}
-use Rattle.schedule_replay.specs.declared.site.Site.{Site}
-use Rattle.schedule_replay.specs.declared.world_desk.WorldDesk.{WorldDesk}
+use Rattle.headline.specs.declared.event.{Event.Event, Station.Station}
+use Rattle.schedule_replay.specs.declared.{seen.Cause.Cause, seen.Seen.Seen, site.Site.Site, world_desk.WorldDesk.WorldDesk}
 use Rattle.headline.specs.Configurations.{Running, Node}
 use Rattle.headline.specs.Answers.{Answer}
 use Rattle.headline.specs.DeskSteps.{AfterReceive, has_any}
@@ -40,23 +33,23 @@ use Rattle.schedule_replay.proofs.SiteLemmas.{Runs, broken_site, more_bytes, no_
 
 -- what is received of bytes that say a message; they have no fault
 abbrev pub received_as : What → Option ReceiveAnswer
-received_as (whats.Bad fault) = None
-received_as (whats.Heard h) = Some (ReceiveAnswer.Told h)
-received_as whats.Asked = Some ReceiveAnswer.Asked
-received_as whats.Device = Some ReceiveAnswer.DeviceFailed
-received_as whats.Failed = Some ReceiveAnswer.Failed
+received_as (What.Bad fault) = None
+received_as (What.Heard h) = Some (ReceiveAnswer.Told h)
+received_as What.Asked = Some ReceiveAnswer.Asked
+received_as What.Device = Some ReceiveAnswer.DeviceFailed
+received_as What.Failed = Some ReceiveAnswer.Failed
 
 pub not_both : (m : Message) (fault : WireFault) → Ok m ≡ Err fault → ⊥
 not_both m fault e = cc
 
 pub takes_as : {Disk : Type 0} (view : FileView Disk) (game : ℕ) (k l : DeskState Disk) (bytes : List ℕ) (what : What) (out : List Message) (m : Message) → Says game bytes m
     → Takes view game k bytes what l out → (received : ReceiveAnswer) × (received_as what ≡ Some received) × Receives view k m received l out
-takes_as view game k l bytes (whats.Bad fault) out m s t = absurd (not_both m fault (reads_once game bytes (Ok m) (Err fault) s t.1))
-takes_as view game k l bytes whats.Failed out m s t =
+takes_as view game k l bytes (What.Bad fault) out m s t = absurd (not_both m fault (reads_once game bytes (Ok m) (Err fault) s t.1))
+takes_as view game k l bytes What.Failed out m s t =
     (ReceiveAnswer.Failed, refl, (t.0, subst (λ (x : DeskState _). Unchanged view k x) (sym t.1) ((refl, λ image. (λ shown. shown, λ shown. shown)), refl), t.2))
-takes_as view game k l bytes (whats.Heard h) out m s t = (ReceiveAnswer.Told h, refl, subst (λ (x : Message). Receives view k x (ReceiveAnswer.Told h) l out) (says_once game bytes t.0 m t.1 s) t.2)
-takes_as view game k l bytes whats.Asked out m s t = (ReceiveAnswer.Asked, refl, subst (λ (x : Message). Receives view k x ReceiveAnswer.Asked l out) (says_once game bytes t.0 m t.1 s) t.2)
-takes_as view game k l bytes whats.Device out m s t =
+takes_as view game k l bytes (What.Heard h) out m s t = (ReceiveAnswer.Told h, refl, subst (λ (x : Message). Receives view k x (ReceiveAnswer.Told h) l out) (says_once game bytes t.0 m t.1 s) t.2)
+takes_as view game k l bytes What.Asked out m s t = (ReceiveAnswer.Asked, refl, subst (λ (x : Message). Receives view k x ReceiveAnswer.Asked l out) (says_once game bytes t.0 m t.1 s) t.2)
+takes_as view game k l bytes What.Device out m s t =
     (ReceiveAnswer.DeviceFailed, refl, subst (λ (x : Message). Receives view k x ReceiveAnswer.DeviceFailed l out) (says_once game bytes t.0 m t.1 s) t.2)
 
 -- what a running desk then answers
@@ -90,16 +83,16 @@ any_reply game (Some bytes) (m ∷ ms) e = refl
 any_reply game _ _ e = absurd (cc)
 
 -- what is seen is the answer
-seen_is : (what : What) (reply : Option (List ℕ)) (received : ReceiveAnswer) (out : List Message) → received_as what ≡ Some received → what ≢ whats.Device → has_any out ≡ is_some reply
+seen_is : (what : What) (reply : Option (List ℕ)) (received : ReceiveAnswer) (out : List Message) → received_as what ≡ Some received → what ≢ What.Device → has_any out ≡ is_some reply
     → answer_of (given_seen what reply) ≡ Some (answer_to received out)
-seen_is (whats.Bad fault) reply received out e n h = absurd (cc)
-seen_is (whats.Heard heard) reply received out e n h = let q : received ≡ ReceiveAnswer.Told heard = cc in rw q refl
-seen_is whats.Asked reply received out e n h = let q : received ≡ ReceiveAnswer.Asked = cc in rw (q, h) refl
-seen_is whats.Device reply received out e n h = absurd (n refl)
-seen_is whats.Failed reply received out e n h = let q : received ≡ ReceiveAnswer.Failed = cc in rw q refl
+seen_is (What.Bad fault) reply received out e n h = absurd (cc)
+seen_is (What.Heard heard) reply received out e n h = let q : received ≡ ReceiveAnswer.Told heard = cc in rw q refl
+seen_is What.Asked reply received out e n h = let q : received ≡ ReceiveAnswer.Asked = cc in rw (q, h) refl
+seen_is What.Device reply received out e n h = absurd (n refl)
+seen_is What.Failed reply received out e n h = let q : received ≡ ReceiveAnswer.Failed = cc in rw q refl
 
-not_failed : (what : What) (received : ReceiveAnswer) → received_as what ≡ Some received → what ≢ whats.Device → received ≢ ReceiveAnswer.DeviceFailed
-not_failed whats.Device received e n q = n refl
+not_failed : (what : What) (received : ReceiveAnswer) → received_as what ≡ Some received → what ≢ What.Device → received ≢ ReceiveAnswer.DeviceFailed
+not_failed What.Device received e n q = n refl
 not_failed _ received e n q = cc
 
 pub datagram_at : (sent : List Datagram) (n : ℕ) (d : Datagram) → slice_get sent n ≡ Some d → slice_get (map (λ (x : Datagram). x.bytes) sent) n ≡ Some d.bytes
@@ -129,9 +122,9 @@ given_as old k l n d r x messages before there step runs b =
 
 -- the site's desk is given a message that was sent
 pub give_runs_on : (old : Site) (k l : WorldDesk) (n : ℕ) (t : Station) (d : Datagram) (r : Received) (before after : List Datagram) → old.desk ≡ Some k → slice_get before n ≡ Some d
-    → GiveSteps k d.bytes r l → SameOwner k l → faults_of (disk_of l) ≡ faults_of (disk_of k) → r.what ≢ whats.Device
+    → GiveSteps k d.bytes r l → SameOwner k l → faults_of (disk_of l) ≡ faults_of (disk_of k) → r.what ≢ What.Device
     → map (λ (x : Datagram). x.bytes) after ≡ map (λ (x : Datagram). x.bytes) before ++ replied r.reply
-    → SiteSteps (events.Give n t) old before (given_seen r.what r.reply) (record old { desk = Some l }) after
+    → SiteSteps (Event.Give n t) old before (given_seen r.what r.reply) (record old { desk = Some l }) after
 give_runs_on old k l n t d r before after here there step owner faults calm bytes x messages h b =
     let runs = running_is old k x here h in
     let given = given_as old k l n d r x messages before there step runs b in
@@ -148,34 +141,34 @@ give_runs_on old k l n t d r before after here there step owner faults calm byte
 
 -- a device call of the desk failed as it answered an ask
 pub give_breaks : (old new : Site) (k l : WorldDesk) (n : ℕ) (t : Station) (d : Datagram) (r : Received) (seen : Seen) (before : List Datagram) → old.desk ≡ Some k → slice_get before n ≡ Some d
-    → GiveSteps k d.bytes r l → SameOwner k l → BlamesDisk whats.Device ⊤ (device_answer r.what) (faults_of (disk_of k)) (faults_of (disk_of l)) → r.what ≡ whats.Device
-    → BreaksDown old.due (causes.Desk refusals.Device) (record old { desk = Some l }) seen new → SiteSteps (events.Give n t) old before seen new before
+    → GiveSteps k d.bytes r l → SameOwner k l → BlamesDisk What.Device ⊤ (device_answer r.what) (faults_of (disk_of k)) (faults_of (disk_of l)) → r.what ≡ What.Device
+    → BreaksDown old.due (Cause.Desk refusals.Device) (record old { desk = Some l }) seen new → SiteSteps (Event.Give n t) old before seen new before
 give_breaks old new k l n t d r seen before here there step owner blame device broke x messages h b =
     let runs = running_is old k x here h in
     let given = given_as old k l n d r x messages before there step runs b in
     let view = (match_of old.game old.innings_a_side).view old.name x.version in
-    let failed : Takes view old.game (state_of k) d.bytes whats.Device (state_of l) step.0 = subst (λ (w : What). Takes view old.game (state_of k) d.bytes w (state_of l) step.0) device given.takes in
+    let failed : Takes view old.game (state_of k) d.bytes What.Device (state_of l) step.0 = subst (λ (w : What). Takes view old.game (state_of k) d.bytes w (state_of l) step.0) device given.takes in
     let received = subst (λ (z : Message). Receives view (state_of k) z ReceiveAnswer.DeviceFailed (state_of l) step.0)
     (says_once old.game d.bytes failed.0 given.message failed.1 given.says) failed.2 in
     let out = nothing_out view (state_of k) (state_of l) given.message step.0 received in
     let bytes : AreBytesOf old.game before (messages ++ step.0) = rw out (no_bytes old.game before messages b) in
-    let blamed = subst (λ (w : What). BlamesDisk whats.Device ⊤ (device_answer w) (faults_of (disk_of k)) (faults_of (disk_of l))) device blame in
-    let broken = broken_site old new k l x (causes.Desk refusals.Device) seen here h owner (λ q. blamed.calm q tt refl) (λ o. blamed.spent o tt refl) refl broke in
+    let blamed = subst (λ (w : What). BlamesDisk What.Device ⊤ (device_answer w) (faults_of (disk_of k)) (faults_of (disk_of l))) device blame in
+    let broken = broken_site old new k l x (Cause.Desk refusals.Device) seen here h owner (λ q. blamed.calm q tt refl) (λ o. blamed.spent o tt refl) refl broke in
     (broken.0, step.0, broken.1, broken.2, (state_of k, state_of l, given.message, ReceiveAnswer.DeviceFailed, runs.process, given.there, received, broken.3), broken.4, bytes)
   where
     nothing_out : (view : FileView MemDisk) (k l : DeskState MemDisk) (m : Message) (out : List Message) → Receives view k m ReceiveAnswer.DeviceFailed l out → out ≡ []
     nothing_out view k l (Message.Vote v) out h = absurd h
     nothing_out view k l (Message.Ask q) out h = h.3
 
-pub fault_is : (what : What) → is_fault what ≡ true → what ≡ whats.Device
-fault_is whats.Device e = refl
+pub fault_is : (what : What) → is_fault what ≡ true → what ≡ What.Device
+fault_is What.Device e = refl
 fault_is _ e = absurd (cc)
 
-pub fault_not : (what : What) → is_fault what ≡ false → what ≢ whats.Device
+pub fault_not : (what : What) → is_fault what ≡ false → what ≢ What.Device
 fault_not what e q = let t : is_fault what ≡ true = ap is_fault q in absurd (cc)
 
-pub calm_answer : (what : What) → what ≢ whats.Device → IsErrOf (device_answer what) whats.Device → ⊥
-calm_answer whats.Device n e = n refl
+pub calm_answer : (what : What) → what ≢ What.Device → IsErrOf (device_answer what) What.Device → ⊥
+calm_answer What.Device n e = n refl
 calm_answer _ n e = cc
 
 pub stands_at : (sent : List Datagram) (n : ℕ) (d : Datagram) → n < length sent → d ≡ slice_index_or sent n d → slice_get sent n ≡ Some d

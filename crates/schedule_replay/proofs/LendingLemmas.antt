@@ -4,10 +4,7 @@ use Rattle.std.specs.Prelude.{All, option_map}
 use Rattle.entry_log.specs.declared.mem_disk.MemDisk.{MemDisk}
 use Rattle.agree_core.specs.declared.messages.DeskId.{DeskId}
 use Rattle.agree_core.specs.declared.messages.DeskId.TheVariants.{A, B}
-use Rattle.schedule_replay.specs.declared.any_desk.AnyDesk.{AnyDesk}
-use Rattle.schedule_replay.specs.declared.site.Site.{Site}
-use Rattle.schedule_replay.specs.declared.world.World.{World}
-use Rattle.schedule_replay.specs.declared.world_desk.WorldDesk.{WorldDesk}
+use Rattle.schedule_replay.specs.declared.{any_desk.AnyDesk.AnyDesk, site.Site.Site, world.World.World, world_desk.WorldDesk.WorldDesk}
 use Rattle.headline.specs.Configurations.{Process, Node, Configuration}
 use Rattle.schedule_replay.specs.inner.Sites.{IsProcess, HasNode}
 use Rattle.schedule_replay.specs.WorldDesks.{game_of, innings_of, state_of}

@@ -7,30 +7,21 @@ use Rattle.entry_log.specs.Disk.{Faults, Images, IsImage, IsOnce, only}
 use Rattle.entry_log.specs.Format.{contents, room}
 use Rattle.entry_log.specs.Version1.{version_1}
 use Rattle.entry_log.specs.Version2.{version_2}
-use Rattle.entry_log.specs.declared.slot.TheConstants.{MAX_SLOTS}
+use Rattle.entry_log.specs.declared.{slot.TheConstants.MAX_SLOTS, mem_disk.MemDisk.MemDisk}
 use Rattle.entry_log.specs.MemDisk.{IsFresh, SetsPlan, call_count, cap_of, faults_of, file_of, images_of, plan_of}
 use Rattle.entry_log.specs.Plan.{due_of}
-use Rattle.entry_log.specs.declared.mem_disk.MemDisk.{MemDisk}
 use Rattle.entry_log.specs.declared.mem_disk.plan.Plan.TheVariants.{Calm}
 use Rattle.entry_log.specs.declared.refusal.Refusal.TheVariants as files
 use Rattle.agree_core.specs.Ballots.{Ballot, desk_number}
 use Rattle.agree_core.specs.FileView.{Holds, MaySync}
-use Rattle.vote_store.specs.declared.migration.Migrated.{Migrated}
-use Rattle.vote_store.specs.declared.refusal.Refusal.{Refusal as VotesRefusal}
-use Rattle.vote_store.specs.declared.refusal.Refusal.TheVariants as votes
+use Rattle.vote_store.specs.declared.{migration.Migrated.Migrated, refusal.Refusal.Refusal as VotesRefusal}
 use Rattle.vote_store.specs.Migrated.{BlamesEither, HasFailed, IsMigrated, old_votes}
 use Rattle.vote_store.specs.Refusal.{device, not_empty}
 use Rattle.vote_store.specs.Sequence.{file_votes, or_none}
 use Rattle.vote_store.specs.View.{file_view, votes_shown, where_sound}
 use Rattle.wire.specs.declared.datagram.Datagram.{Datagram}
-use Rattle.headline.specs.declared.event.Event.TheVariants as events
-use Rattle.schedule_replay.specs.declared.seen.Cause.TheVariants as causes
-use Rattle.schedule_replay.specs.declared.seen.Seen.{Seen}
-use Rattle.schedule_replay.specs.declared.seen.Seen.TheVariants as seens
-use Rattle.schedule_replay.specs.declared.seen.WorldRefusal.{WorldRefusal}
-use Rattle.schedule_replay.specs.declared.site.Site.{Site}
-use Rattle.headline.specs.declared.version.FileVersion.{FileVersion}
-use Rattle.headline.specs.declared.version.FileVersion.TheVariants as versions
+use Rattle.headline.specs.declared.{event.Event.Event, version.FileVersion.FileVersion}
+use Rattle.schedule_replay.specs.declared.{seen.Cause.Cause, seen.Seen.Seen, seen.WorldRefusal.WorldRefusal, site.Site.Site}
 use Rattle.headline.specs.Configurations.{Down, Node}
 use Rattle.headline.specs.Answers.{Answer}
 use Rattle.headline.specs.Migrations.{Failed, MigratesAt, NotSound, ToNew}
@@ -41,11 +32,11 @@ use Rattle.schedule_replay.proofs.SiteLemmas.{down_is, no_bytes, only_one}
 use Rattle.schedule_replay.proofs.OpenLemmas.{Outcome, ViewAt, broken_down, down_at, memory_is, seen_is, still_down, syncs}
 
 abbrev pub MigrateSteps : List Datagram → Site → Seen → Site → Type 0
-MigrateSteps sent old seen new = SiteSteps (events.Migrate old.name) old sent seen new sent
+MigrateSteps sent old seen new = SiteSteps (Event.Migrate old.name) old sent seen new sent
 
 -- a file of the new version isn't migrated
-pub of_new : (old : Site) (disk : MemDisk) (sent : List Datagram) → old.version ≡ versions.New → old.desk ≡ None → old.disk ≡ Some disk
-    → SiteSteps (events.Migrate old.name) old sent (seens.Refused (causes.Migrate (votes.File files.Version))) old sent
+pub of_new : (old : Site) (disk : MemDisk) (sent : List Datagram) → old.version ≡ FileVersion.New → old.desk ≡ None → old.disk ≡ Some disk
+    → SiteSteps (Event.Migrate old.name) old sent (Seen.Refused (Cause.Migrate (VotesRefusal.File files.Version))) old sent
 of_new old disk sent new down there x messages h b =
     let d = down_at old disk x down there h in
     let at : MigratesAt {Why = Refusal} (ViewAt old) x x.version d.votes disk Answer.OtherVersion x = subst
@@ -54,16 +45,16 @@ of_new old disk sent new down there x messages h b =
 
 -- the votes of the old file
 pub record IsMoved (old : Site) (disk moved fresh new : MemDisk) : Type 0 where
-  pub fresh_is : IsFresh [] (most_bytes versions.New) fresh
+  pub fresh_is : IsFresh [] (most_bytes FileVersion.New) fresh
   pub here : SetsPlan Calm disk moved
   pub there : SetsPlan (plan_of disk) fresh new
   pub due : (faults_of new).due ≡ (faults_of disk).due
 
 -- the file is migrated
-pub migrated : (old : Site) (disk moved fresh begun made : MemDisk) (n : ℕ) (sent : List Datagram) → old.version ≡ versions.Old → old.desk ≡ None → old.disk ≡ Some disk
+pub migrated : (old : Site) (disk moved fresh begun made : MemDisk) (n : ℕ) (sent : List Datagram) → old.version ≡ FileVersion.Old → old.desk ≡ None → old.disk ≡ Some disk
     → IsMoved old disk moved fresh begun → IsMigrated (desk_number old.name) old.game (file_of moved) (images_of made) n
     → Holds (file_view (contents version_2) file_of images_of old.name old.game) made (old_votes (desk_number old.name) old.game (file_of moved)) → cap_of made ≡ cap_of begun
-    → faults_of made ≡ faults_of begun → SiteSteps (events.Migrate old.name) old sent (seens.Migrated n) (record old { version = versions.New; disk = Some made }) sent
+    → faults_of made ≡ faults_of begun → SiteSteps (Event.Migrate old.name) old sent (Seen.Migrated n) (record old { version = FileVersion.New; disk = Some made }) sent
 migrated old disk moved fresh begun made n sent version down there m is holds cap faults x messages h b =
     let d = down_at old disk x down there h in
     let on = d.on_disk in
@@ -72,15 +63,15 @@ migrated old disk moved fresh begun made n sent version down there m is holds ca
     let empty = m.fresh_is in
     let found : votes_shown (contents version_1) old.name old.game (file_of disk) ≡ Some is.votes =
     ap (λ (file : List ℕ). votes_shown (contents version_1) old.name old.game file) (sym moves.file) ∙ ap where_sound is.found in
-    let held : Holds (ViewAt old versions.New) made is.votes =
-    subst (λ (vs : List Ballot). Holds (ViewAt old versions.New) made vs) (ap or_none is.found) holds in
-    let y : Node MemDisk = record x { version = versions.New; process = Down d.votes made } in
+    let held : Holds (ViewAt old FileVersion.New) made is.votes =
+    subst (λ (vs : List Ballot). Holds (ViewAt old FileVersion.New) made vs) (ap or_none is.found) holds in
+    let y : Node MemDisk = record x { version = FileVersion.New; process = Down d.votes made } in
     let at : MigratesAt {Why = Refusal} (ViewAt old) x x.version d.votes disk (Answer.Migrated n) y =
     subst (λ (v : FileVersion). MigratesAt {Why = Refusal} (ViewAt old) x v d.votes disk (Answer.Migrated n) y) (sym (h.version ∙ version))
     (ToNew is.votes made, (found, held), (ap (λ (k : ℕ). Answer.Migrated k) is.many, refl)) in
     let due : (faults_of made).due ≡ (faults_of disk).due = ap (λ (z : Faults). z.due) faults ∙ m.due in
-    let on_made : IsWorldDisk versions.New old.due made = record { cap = cap ∙ begins.cap ∙ empty.cap; faults = subst (IsDue old.due) (sym due) on.faults } in
-    let new : Site = record old { version = versions.New; disk = Some made } in
+    let on_made : IsWorldDisk FileVersion.New old.due made = record { cap = cap ∙ begins.cap ∙ empty.cap; faults = subst (IsDue old.due) (sym due) on.faults } in
+    let new : Site = record old { version = FileVersion.New; disk = Some made } in
     let site : HasNode new y = record { version = refl; process = down_is new made d.votes down refl (sym d.many) on_made; due = h.due } in
     (y, [], Answer.Migrated n, refl, (d.votes, disk, d.process, at, refl), site, no_bytes old.game sent messages b)
 
@@ -112,7 +103,7 @@ record Left (old : Site) (disk last : MemDisk) : Type 0 where
 abbrev pub RefusedFor : Site → MemDisk → MemDisk → VotesRefusal → Type 0
 RefusedFor old moved begun why =
     (IsErrOf {T = Migrated MemDisk MemDisk} (Err why) not_empty → 0 < length (file_of begun))
-    × ((why ≡ device) ⊎ ((why ≡ votes.NoMemory) ⊎ ((why ≡ not_empty) ⊎ (file_votes (contents version_1) (desk_number old.name) old.game (file_of moved) ≡ Err why))))
+    × ((why ≡ device) ⊎ ((why ≡ VotesRefusal.NoMemory) ⊎ ((why ≡ not_empty) ⊎ (file_votes (contents version_1) (desk_number old.name) old.game (file_of moved) ≡ Err why))))
 
 module _ (old : Site) (disk moved fresh begun left made last : MemDisk) (m : IsMoved old disk moved fresh begun) where
   returned : (why : VotesRefusal) → IsReturned old disk moved begun left made last why → Left old disk last
@@ -124,7 +115,7 @@ module _ (old : Site) (disk moved fresh begun left made last : MemDisk) (m : IsM
       record { may = λ version. may_sync version old disk last (back.file ∙ r.seen ∙ here.file) images; cap = back.cap ∙ r.cap ∙ here.cap }
 
   -- the new disk was empty
-  fault_of : (why : VotesRefusal) → why ≢ device → why ≢ votes.NoMemory → RefusedFor old moved begun why → file_votes (contents version_1) (desk_number old.name) old.game (file_of moved) ≡ Err why
+  fault_of : (why : VotesRefusal) → why ≢ device → why ≢ VotesRefusal.NoMemory → RefusedFor old moved begun why → file_votes (contents version_1) (desk_number old.name) old.game (file_of moved) ≡ Err why
   fault_of why n k (some, inl e) = absurd (n e)
   fault_of why n k (some, inr (inl e)) = absurd (k e)
   fault_of why n k (some, inr (inr (inl e))) =
@@ -146,8 +137,8 @@ module _ (old : Site) (disk moved fresh begun left made last : MemDisk) (m : IsM
       let due : (faults_of last).due ≡ (faults_of disk).due = r.due ∙ ap (λ (z : Faults). z.due) same.1 ∙ m.due in
       λ i. record { count = count i; due = due i }
 
-  module _ (new : Site) (result : Result Seen WorldRefusal) (version : old.version ≡ versions.Old) (down : old.desk ≡ None) (there : old.disk ≡ Some disk) where
-    failing : IsReturned old disk moved begun left made last device → (seen : Seen) × (result ≡ Ok seen) × BreaksDown old.due (causes.Migrate device) (record old { disk = Some last }) seen new
+  module _ (new : Site) (result : Result Seen WorldRefusal) (version : old.version ≡ FileVersion.Old) (down : old.desk ≡ None) (there : old.disk ≡ Some disk) where
+    failing : IsReturned old disk moved begun left made last device → (seen : Seen) × (result ≡ Ok seen) × BreaksDown old.due (Cause.Migrate device) (record old { disk = Some last }) seen new
         → Outcome MigrateSteps old result new
     failing r (seen, is, broke) = seen_is MigrateSteps old new result seen is steps
       where
@@ -172,18 +163,18 @@ module _ (old : Site) (disk moved fresh begun left made last : MemDisk) (m : IsM
             let l = returned device r in
             let failed = at_new in
             let spent = λ (o : IsOnce (faults_of disk).due). r.due ∙ failed.spent (subst IsOnce (sym m.due) o) within in
-            let broken = broken_down old new disk last x versions.Old (causes.Migrate device) seen down h d l.cap (λ n. failed.calm (m.due ∙ n) within) spent refl broke in
-            let at = subst (λ (v : FileVersion). MigratesAt {Why = Refusal} (ViewAt old) x v d.votes disk broken.1 broken.0) (sym (h.version ∙ version)) (Failed last, l.may versions.Old, broken.3) in
+            let broken = broken_down old new disk last x FileVersion.Old (Cause.Migrate device) seen down h d l.cap (λ n. failed.calm (m.due ∙ n) within) spent refl broke in
+            let at = subst (λ (v : FileVersion). MigratesAt {Why = Refusal} (ViewAt old) x v d.votes disk broken.1 broken.0) (sym (h.version ∙ version)) (Failed last, l.may FileVersion.Old, broken.3) in
             (broken.0, [], broken.1, broken.2, (d.votes, disk, d.process, at, refl), broken.4, no_bytes old.game sent messages b)
 
     -- the old file isn't sound
     faulty : (why : VotesRefusal) (answer : Answer Refusal) → IsReturned old disk moved begun left made last why → why ≢ device
-        → file_votes (contents version_1) (desk_number old.name) old.game (file_of moved) ≡ Err why → answer_of (seens.Refused (causes.Migrate why)) ≡ Some answer
-        → (answer ≡ Answer.Unsound) ⊎ (answer ≡ Answer.OtherVersion) → (result ≡ Ok (seens.Refused (causes.Migrate why))) × (new ≡ record old { disk = Some last })
+        → file_votes (contents version_1) (desk_number old.name) old.game (file_of moved) ≡ Err why → answer_of (Seen.Refused (Cause.Migrate why)) ≡ Some answer
+        → (answer ≡ Answer.Unsound) ⊎ (answer ≡ Answer.OtherVersion) → (result ≡ Ok (Seen.Refused (Cause.Migrate why))) × (new ≡ record old { disk = Some last })
         → Outcome MigrateSteps old result new
-    faulty why answer r n fault says which (is, e) = seen_is MigrateSteps old new result (seens.Refused (causes.Migrate why)) is steps
+    faulty why answer r n fault says which (is, e) = seen_is MigrateSteps old new result (Seen.Refused (Cause.Migrate why)) is steps
       where
-        steps : (sent : List Datagram) → MigrateSteps sent old (seens.Refused (causes.Migrate why)) new
+        steps : (sent : List Datagram) → MigrateSteps sent old (Seen.Refused (Cause.Migrate why)) new
         steps sent x messages h b =
             let d = down_at old disk x down there h in
             let here = m.here in
@@ -192,14 +183,14 @@ module _ (old : Site) (disk moved fresh begun left made last : MemDisk) (m : IsM
             let site = subst (λ (z : Site). HasNode z y) (sym e) (still_down old new disk last down there l.cap x h d (calm_faults why r n)) in
             let none = ap (votes_shown (contents version_1) old.name old.game) (sym here.file) ∙ ap where_sound fault in
             let at = subst (λ (v : FileVersion). MigratesAt {Why = Refusal} (ViewAt old) x v d.votes disk answer y) (sym (h.version ∙ version))
-            (NotSound last, (none, l.may versions.Old), (which, refl)) in
+            (NotSound last, (none, l.may FileVersion.Old), (which, refl)) in
             (y, [], answer, says, (d.votes, disk, d.process, at, refl), site, no_bytes old.game sent messages b)
 
     pub not_migrated : (why : VotesRefusal) → IsReturned old disk moved begun left made last why → RefusedFor old moved begun why
-        → NotFoundBy (wants_memory why) (is_failing why) (causes.Migrate why) (record old { disk = Some last }) result new → Outcome MigrateSteps old result new
-    not_migrated votes.NoMemory r f n =
-        let l = returned votes.NoMemory r in
-        memory_is MigrateSteps old new result n.0 (syncs old new disk last down there l.cap (l.may old.version) (calm_faults votes.NoMemory r (λ q. (cc))) n.1)
-    not_migrated (votes.File files.Device) r f n = failing r n
-    not_migrated (votes.File files.Version) r f n = faulty (votes.File files.Version) Answer.OtherVersion r (λ q. (cc)) (fault_of _ (λ q. (cc)) (λ q. (cc)) f) refl (inr refl) n
+        → NotFoundBy (wants_memory why) (is_failing why) (Cause.Migrate why) (record old { disk = Some last }) result new → Outcome MigrateSteps old result new
+    not_migrated VotesRefusal.NoMemory r f n =
+        let l = returned VotesRefusal.NoMemory r in
+        memory_is MigrateSteps old new result n.0 (syncs old new disk last down there l.cap (l.may old.version) (calm_faults VotesRefusal.NoMemory r (λ q. (cc))) n.1)
+    not_migrated (VotesRefusal.File files.Device) r f n = failing r n
+    not_migrated (VotesRefusal.File files.Version) r f n = faulty (VotesRefusal.File files.Version) Answer.OtherVersion r (λ q. (cc)) (fault_of _ (λ q. (cc)) (λ q. (cc)) f) refl (inr refl) n
     not_migrated why r f n = faulty why Answer.Unsound r (λ q. (cc)) (fault_of why (λ q. (cc)) (λ q. (cc)) f) refl (inl refl) n

@@ -9,7 +9,6 @@ use Rattle.match_laws.specs.declared.standing.Standing.{Standing}
 use Rattle.notation.specs.declared.entry.TheConstants.{PLACES}
 use Rattle.agree_core.specs.declared.messages.DeskId.TheVariants.{A, B}
 use Rattle.headline.specs.declared.event.Station.{Station}
-use Rattle.headline.specs.declared.event.Station.TheVariants as stations
 use Rattle.schedule_replay.specs.declared.shown_scores.ShownScores.{ShownScores}
 use Rattle.schedule_replay.specs.Replays.{StandOnce}
 use Rattle.schedule_replay.specs.inner.ShownScores.{Adds, IsKept, IsMarked, IsStation, mark_of, most_marks, station_number}
@@ -19,19 +18,19 @@ Shown = Station × ℕ × Standing
 
 -- boards are numbered from 1 on
 abbrev pub FromOne : Station → Type 0
-FromOne (stations.Desk d) = Unit {0}
-FromOne (stations.Board n) = 1 ≤ n
+FromOne (Station.Desk d) = Unit {0}
+FromOne (Station.Board n) = 1 ≤ n
 
 from_one : (t : Station) → IsStation t → FromOne t
-from_one (stations.Desk d) p = tt
-from_one (stations.Board n) p = p.0
+from_one (Station.Desk d) p = tt
+from_one (Station.Board n) p = p.0
 
 -- stations have numbers of their own
 pub same_station : (t u : Station) → FromOne t → FromOne u → station_number t ≡ station_number u → t ≡ u
-same_station (stations.Desk A) (stations.Desk A) p q e = refl
-same_station (stations.Desk B) (stations.Desk B) p q e = refl
-same_station (stations.Board m) (stations.Board n) p q e = let f : m ≡ n = omega (arith, e) in ap stations.Board f
-same_station (stations.Board m) (stations.Desk A) p q e = absurd (omega arith)
+same_station (Station.Desk A) (Station.Desk A) p q e = refl
+same_station (Station.Desk B) (Station.Desk B) p q e = refl
+same_station (Station.Board m) (Station.Board n) p q e = let f : m ≡ n = omega (arith, e) in ap Station.Board f
+same_station (Station.Board m) (Station.Desk A) p q e = absurd (omega arith)
 same_station _ _ p q e = absurd (omega arith)
 
 -- and so have a station and a length

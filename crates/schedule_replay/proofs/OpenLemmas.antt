@@ -16,22 +16,12 @@ use Rattle.agree_core.specs.FileView.{FileView, MaySync}
 use Rattle.agree_core.specs.Openings.{NotOpened, Opened, Opening, Opens}
 use Rattle.agree_core.specs.Openings as openings
 use Rattle.vote_store.specs.declared.refusal.Refusal.{Refusal as VotesRefusal}
-use Rattle.vote_store.specs.declared.refusal.Refusal.TheVariants as votes
 use Rattle.wire.specs.declared.datagram.Datagram.{Datagram}
 use Rattle.desk.specs.Answers.{device, open_cause}
 use Rattle.desk.specs.declared.refusal.OpenRefusal.{OpenRefusal}
 use Rattle.desk.specs.declared.refusal.OpenRefusal.TheVariants.{BadVotes, Votes}
-use Rattle.headline.specs.declared.event.Event.TheVariants as events
-use Rattle.headline.specs.declared.fault.Fault.{Fault}
-use Rattle.schedule_replay.specs.declared.seen.Cause.{Cause}
-use Rattle.schedule_replay.specs.declared.seen.Cause.TheVariants as causes
-use Rattle.schedule_replay.specs.declared.seen.Seen.{Seen}
-use Rattle.schedule_replay.specs.declared.seen.Seen.TheVariants as seens
-use Rattle.schedule_replay.specs.declared.seen.WorldRefusal.{WorldRefusal}
-use Rattle.schedule_replay.specs.declared.seen.WorldRefusal.TheVariants as refuses
-use Rattle.schedule_replay.specs.declared.site.Site.{Site}
-use Rattle.headline.specs.declared.version.FileVersion.{FileVersion}
-use Rattle.schedule_replay.specs.declared.world_desk.WorldDesk.{WorldDesk}
+use Rattle.headline.specs.declared.{event.Event.Event, fault.Fault.Fault, version.FileVersion.FileVersion}
+use Rattle.schedule_replay.specs.declared.{seen.Cause.Cause, seen.Seen.Seen, seen.WorldRefusal.WorldRefusal, site.Site.Site, world_desk.WorldDesk.WorldDesk}
 use Rattle.headline.specs.Configurations.{Process, Running, Down, Node, process_disk, with_disk}
 use Rattle.headline.specs.Answers.{Answer}
 use Rattle.headline.specs.DeskFaults.{StaysDown, StaysDownBy}
@@ -67,7 +57,7 @@ stays_down site disk left due x down h d cap faults =
 -- a device call has failed at a desk that is down
 pub broken_down : (old new : Site) (disk left : MemDisk) (x : Node MemDisk) (v : FileVersion) (cause : Cause) (seen : Seen) → old.desk ≡ None → HasNode old x → (d : IsDown old disk x)
     → cap_of left ≡ cap_of disk → ((faults_of disk).due ≡ Never → ⊥) → (IsOnce (faults_of disk).due → (faults_of left).due ≡ Never)
-    → answer_of (seens.Refused cause) ≡ Some Answer.DeviceFailed → BreaksDown old.due cause (record old { disk = Some left }) seen new
+    → answer_of (Seen.Refused cause) ≡ Some Answer.DeviceFailed → BreaksDown old.due cause (record old { disk = Some left }) seen new
     → (y : Node MemDisk) × (answer : Answer Refusal) × (answer_of seen ≡ Some answer) × StaysDown ((match_of old.game old.innings_a_side).view old.name v) x d.votes left answer y × HasNode new y
 broken_down old new disk left x v cause seen down h d cap calm spent told b =
     let on = d.on_disk in
@@ -80,16 +70,16 @@ broken_down old new disk left x v cause seen down h d cap calm spent told b =
 abbrev pub Outcome : (List Datagram → Site → Seen → Site → Type 0) → Site → Result Seen WorldRefusal → Site → Type 0
 Outcome Steps old result new =
     IfOk result (λ seen. (sent : List Datagram) → Steps sent old seen new)
-    × OnErr result ((result ≡ Err refuses.NoMemory) × SyncsSite old new)
+    × OnErr result ((result ≡ Err WorldRefusal.NoMemory) × SyncsSite old new)
 
 abbrev pub OpenSteps : List Datagram → Site → Seen → Site → Type 0
-OpenSteps sent old seen new = SiteSteps (events.Open old.name) old sent seen new sent
+OpenSteps sent old seen new = SiteSteps (Event.Open old.name) old sent seen new sent
 
 pub seen_is : (Steps : List Datagram → Site → Seen → Site → Type 0) (old new : Site) (result : Result Seen WorldRefusal) (seen : Seen) → result ≡ Ok seen
     → ((sent : List Datagram) → Steps sent old seen new) → Outcome Steps old result new
 seen_is Steps old new result seen e h = subst (λ (z : Result Seen WorldRefusal). Outcome Steps old z new) (sym e) (h, tt)
 
-pub memory_is : (Steps : List Datagram → Site → Seen → Site → Type 0) (old new : Site) (result : Result Seen WorldRefusal) → result ≡ Err refuses.NoMemory → SyncsSite old new
+pub memory_is : (Steps : List Datagram → Site → Seen → Site → Type 0) (old new : Site) (result : Result Seen WorldRefusal) → result ≡ Err WorldRefusal.NoMemory → SyncsSite old new
     → Outcome Steps old result new
 memory_is Steps old new result e h = subst (λ (z : Result Seen WorldRefusal). Outcome Steps old z new) (sym e) (tt, (refl, h))
 
@@ -103,7 +93,7 @@ RulesAt site = (λ (s : Setting MemDisk Refusal). s.rules) (match_of site.game s
 pub opened : (old : Site) (l : WorldDesk) (disk : MemDisk) (left : Option MemDisk) (n : ℕ) (sent : List Datagram) → left ≡ None → old.desk ≡ None → old.disk ≡ Some disk
     → Opens (ViewAt old old.version) (RulesAt old) old.name disk (Opened (state_of l)) → IsWorldDeskOf old.name old.version old.game old.innings_a_side l → cap_of (disk_of l) ≡ cap_of disk
     → faults_of (disk_of l) ≡ faults_of disk → n ≡ length ((λ (s : DeskState MemDisk). s.book) (state_of l))
-    → SiteSteps (events.Open old.name) old sent (seens.Opened n) (record old { desk = Some l; disk = left }) sent
+    → SiteSteps (Event.Open old.name) old sent (Seen.Opened n) (record old { desk = Some l; disk = left }) sent
 opened old l disk left n sent none down there opens own cap faults many x messages h b =
     let d = down_at old disk x down there h in
     let on = d.on_disk in
@@ -163,32 +153,32 @@ module _ (old new : Site) (disk left : MemDisk) (down : old.desk ≡ None) (ther
     -- because of what is in the file
     not_sound : (why : OpenRefusal) (told : openings.OpenRefusal) (answer : Answer Refusal) → Opens (ViewAt old old.version) (RulesAt old) old.name disk (NotOpened told left)
         → ((x : Node MemDisk) (votes : List Ballot) → AfterOpen (ViewAt old x.version) x votes (NotOpened told left) answer (record x { process = Down votes left }))
-        → faults_of left ≡ faults_of disk → answer_of (seens.Refused (causes.Open why)) ≡ Some answer
-        → (result ≡ Ok (seens.Refused (causes.Open why))) × (new ≡ record old { disk = Some left }) → Outcome OpenSteps old result new
-    not_sound why told answer opens after faults says (r, e) = seen_is OpenSteps old new result (seens.Refused (causes.Open why)) r (λ sent x messages h b.
+        → faults_of left ≡ faults_of disk → answer_of (Seen.Refused (Cause.Open why)) ≡ Some answer
+        → (result ≡ Ok (Seen.Refused (Cause.Open why))) × (new ≡ record old { disk = Some left }) → Outcome OpenSteps old result new
+    not_sound why told answer opens after faults says (r, e) = seen_is OpenSteps old new result (Seen.Refused (Cause.Open why)) r (λ sent x messages h b.
         let d = down_at old disk x down there h in
         let is = subst (λ (z : Site). HasNode z (record x { process = Down d.votes left })) (sym e) (still_down x h d faults) in
         let now = subst (λ (v : FileVersion). Opens (ViewAt old v) (RulesAt old) old.name disk (NotOpened told left)) (sym h.version) opens in
         (record x { process = Down d.votes left }, [], answer, says, (d.votes, disk, NotOpened told left, d.process, now, after x d.votes, refl), is, no_bytes old.game sent messages b))
 
     failing : MaySync (ViewAt old old.version) disk left → OpenBlame disk device left
-        → (seen : Seen) × (result ≡ Ok seen) × BreaksDown old.due (causes.Open device) (record old { disk = Some left }) seen new → Outcome OpenSteps old result new
+        → (seen : Seen) × (result ≡ Ok seen) × BreaksDown old.due (Cause.Open device) (record old { disk = Some left }) seen new → Outcome OpenSteps old result new
     failing may blame (seen, r, broke) = seen_is OpenSteps old new result seen r (λ sent x messages h b.
         let d = down_at old disk x down there h in
-        let broken = broken_down old new disk left x x.version (causes.Open device) seen down h d cap (λ n. blame.calm n tt refl) (λ o. blame.spent o tt refl) refl broke in
+        let broken = broken_down old new disk left x x.version (Cause.Open device) seen down h d cap (λ n. blame.calm n tt refl) (λ o. blame.spent o tt refl) refl broke in
         let now = subst (λ (v : FileVersion). MaySync (ViewAt old v) disk left) (sym h.version) may in
         (broken.0, [], broken.1, broken.2, (d.votes, disk, NotOpened openings.OpenRefusal.DeviceFailed left, d.process, now, broken.3, refl), broken.4, no_bytes old.game sent messages b))
 
     -- the votes file refused
     pub not_found : (why : VotesRefusal) → Opens (ViewAt old old.version) (RulesAt old) old.name disk (NotOpened (open_cause (Votes why)) left) → OpenBlame disk (Votes why) left
-        → NotFoundBy (wants_memory why) (is_failing why) (causes.Open (Votes why)) (record old { disk = Some left }) result new → Outcome OpenSteps old result new
-    not_found votes.NoMemory o blame n = memory_is OpenSteps old new result n.0 (syncs o (blame.same (not_device (Votes votes.NoMemory) (λ q. (cc)))) n.1)
-    not_found (votes.File files.Device) o blame n = failing o blame n
+        → NotFoundBy (wants_memory why) (is_failing why) (Cause.Open (Votes why)) (record old { disk = Some left }) result new → Outcome OpenSteps old result new
+    not_found VotesRefusal.NoMemory o blame n = memory_is OpenSteps old new result n.0 (syncs o (blame.same (not_device (Votes VotesRefusal.NoMemory) (λ q. (cc)))) n.1)
+    not_found (VotesRefusal.File files.Device) o blame n = failing o blame n
     not_found why o blame n = not_sound (Votes why) openings.OpenRefusal.Unsound Answer.Unsound o (λ x v. (refl, refl)) (blame.same (not_device (Votes why) (λ q. (cc)))) refl n
 
     -- the votes are no book
     pub bad_votes : (place : ℕ) → Opens (ViewAt old old.version) (RulesAt old) old.name disk (NotOpened (openings.OpenRefusal.BadVotes place) left) → OpenBlame disk (BadVotes place) left
-        → (result ≡ Ok (seens.Refused (causes.Open (BadVotes place)))) × (new ≡ record old { disk = Some left }) → Outcome OpenSteps old result new
+        → (result ≡ Ok (Seen.Refused (Cause.Open (BadVotes place)))) × (new ≡ record old { disk = Some left }) → Outcome OpenSteps old result new
     bad_votes place o blame n =
         not_sound (BadVotes place) (openings.OpenRefusal.BadVotes place) Answer.NoBook o (λ x v. (refl, refl)) (blame.same (not_device (BadVotes place) (λ q. (cc)))) refl n
 

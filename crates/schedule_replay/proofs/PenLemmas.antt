@@ -10,16 +10,10 @@ use Rattle.entry_log.specs.Blame.{BlamesDisk}
 use Rattle.wire.specs.declared.datagram.Datagram.{Datagram}
 use Rattle.wire.specs.Layout.{written}
 use Rattle.wire.specs.Sent.{AreSent}
-use Rattle.desk.specs.declared.desk.Penned.{Penned}
-use Rattle.desk.specs.declared.refusal.Refusal.{Refusal as DeskRefusal}
-use Rattle.desk.specs.declared.refusal.Refusal.TheVariants as refusals
+use Rattle.desk.specs.declared.{desk.Penned.Penned, refusal.Refusal.Refusal as DeskRefusal}
 use Rattle.desk.specs.Answers.{pen_answer, sent}
-use Rattle.headline.specs.declared.event.Event.TheVariants as events
-use Rattle.schedule_replay.specs.declared.seen.Cause.TheVariants as causes
-use Rattle.schedule_replay.specs.declared.seen.Seen.{Seen}
-use Rattle.schedule_replay.specs.declared.seen.Seen.TheVariants as seens
-use Rattle.schedule_replay.specs.declared.site.Site.{Site}
-use Rattle.schedule_replay.specs.declared.world_desk.WorldDesk.{WorldDesk}
+use Rattle.headline.specs.declared.event.Event.{Event}
+use Rattle.schedule_replay.specs.declared.{seen.Cause.Cause, seen.Seen.Seen, site.Site.Site, world_desk.WorldDesk.WorldDesk}
 use Rattle.headline.specs.Configurations.{Running, Node}
 use Rattle.headline.specs.DeskSteps.{AfterPen}
 use Rattle.headline.specs.Match.{match_of}
@@ -33,7 +27,7 @@ PenSteps k e told l =
     AreSent (game_of k) (sent told) (λ out. Pens (view_of k) (rules_of k) (state_of k) e (pen_answer told) (state_of l) out)
 
 abbrev pub PenBlame : WorldDesk → Result Penned DeskRefusal → WorldDesk → Type 0
-PenBlame k told l = BlamesDisk refusals.Device (FitsOneMore k) told (faults_of (disk_of k)) (faults_of (disk_of l))
+PenBlame k told l = BlamesDisk DeskRefusal.Device (FitsOneMore k) told (faults_of (disk_of k)) (faults_of (disk_of l))
 
 -- after a pen that didn't fail at the device
 after_pen : (view : FileView MemDisk) (x : Node MemDisk) (told : PenAnswer Refusal) (l : DeskState MemDisk) → told ≢ PenAnswer.DeviceFailed
@@ -44,7 +38,7 @@ after_pen view x _ l n = (refl, refl)
 -- the desk of a site has penned, or refused to
 pub pen_runs_on : (old : Site) (k l : WorldDesk) (e : Entry) (told : Result Penned DeskRefusal) (seen : Seen) (before after : List Datagram) → old.desk ≡ Some k → PenSteps k e told l → SameOwner k l
     → faults_of (disk_of l) ≡ faults_of (disk_of k) → pen_answer told ≢ PenAnswer.DeviceFailed → answer_of seen ≡ Some (told_to_pen (pen_answer told))
-    → map (λ (d : Datagram). d.bytes) after ≡ map (λ (d : Datagram). d.bytes) before ++ sent told → SiteSteps (events.Pen old.name e) old before seen (record old { desk = Some l }) after
+    → map (λ (d : Datagram). d.bytes) after ≡ map (λ (d : Datagram). d.bytes) before ++ sent told → SiteSteps (Event.Pen old.name e) old before seen (record old { desk = Some l }) after
 pen_runs_on old k l e told seen before after here step owner faults n a bytes x messages h b =
     let r = running_is old k x here h in
     let own = r.owner in
@@ -61,8 +55,8 @@ pen_runs_on old k l e told seen before after here step owner faults n a bytes x 
     )
 
 -- a device call of the desk failed as it penned
-pen_breaks : (old new : Site) (k l : WorldDesk) (e : Entry) (seen : Seen) (before : List Datagram) → old.desk ≡ Some k → PenSteps k e (Err refusals.Device) l → SameOwner k l
-    → PenBlame k (Err refusals.Device) l → AfterRefusal refusals.Device (record old { desk = Some l }) seen new → SiteSteps (events.Pen old.name e) old before seen new before
+pen_breaks : (old new : Site) (k l : WorldDesk) (e : Entry) (seen : Seen) (before : List Datagram) → old.desk ≡ Some k → PenSteps k e (Err DeskRefusal.Device) l → SameOwner k l
+    → PenBlame k (Err DeskRefusal.Device) l → AfterRefusal DeskRefusal.Device (record old { desk = Some l }) seen new → SiteSteps (Event.Pen old.name e) old before seen new before
 pen_breaks old new k l e seen before here step owner blame broke x messages h b =
     let r = running_is old k x here h in
     let own = r.owner in
@@ -71,18 +65,18 @@ pen_breaks old new k l e seen before here step owner blame broke x messages h b 
     let pens = of_match old.name x.version old.game old.innings_a_side k own (λ view rules. Pens view rules (state_of k) e PenAnswer.DeviceFailed (state_of l) step.0) step.3 in
     let cap : cap_of (disk_of k) ≡ _ = disk.cap ∙ ap Rattle.headline.specs.Match.most_bytes (sym (own.same_version ∙ h.version)) in
     let within : FitsOneMore k = has_room (Rattle.schedule_replay.specs.WorldDesks.version_of k) (length (own_votes k)) (cap_of (disk_of k)) pens.0.1.1 cap in
-    let broken = broken_site old new k l x (causes.Desk refusals.Device) seen here h owner (λ n. blame.calm n within refl) (λ o. blame.spent o within refl) refl broke in
+    let broken = broken_site old new k l x (Cause.Desk DeskRefusal.Device) seen here h owner (λ n. blame.calm n within refl) (λ o. blame.spent o within refl) refl broke in
     let bytes : AreBytesOf old.game before (messages ++ step.0) = rw pens.3 (no_bytes old.game before messages b) in
     (broken.0, step.0, broken.1, broken.2, (state_of k, state_of l, PenAnswer.DeviceFailed, r.process, pens, broken.3), broken.4, bytes)
 
 pub pen_refused : (old new : Site) (k l : WorldDesk) (e : Entry) (why : DeskRefusal) (seen : Seen) (before : List Datagram) → old.desk ≡ Some k → PenSteps k e (Err why) l → SameOwner k l
-    → PenBlame k (Err why) l → AfterRefusal why (record old { desk = Some l }) seen new → SiteSteps (events.Pen old.name e) old before seen new before
-pen_refused old new k l e refusals.Device seen before here step owner blame a = pen_breaks old new k l e seen before here step owner blame a
+    → PenBlame k (Err why) l → AfterRefusal why (record old { desk = Some l }) seen new → SiteSteps (Event.Pen old.name e) old before seen new before
+pen_refused old new k l e DeskRefusal.Device seen before here step owner blame a = pen_breaks old new k l e seen before here step owner blame a
 pen_refused old new k l e why seen before here step owner blame a =
-    rw (a.0, a.1) (pen_runs_on old k l e (Err why) (seens.Refused (causes.Desk why)) before before here step owner (blame.same (λ q. (cc))) (λ q. (cc)) refl
+    rw (a.0, a.1) (pen_runs_on old k l e (Err why) (Seen.Refused (Cause.Desk why)) before before here step owner (blame.same (λ q. (cc))) (λ q. (cc)) refl
     (sym (append-nil (map (λ (d : Datagram). d.bytes) before))))
 
 -- the site after a refusal is of the same match
 pub refused_same : (device : Bool) (why : DeskRefusal) (old new : Site) (seen : Seen) → RefusedBy device why old seen new → SameSite old new
-refused_same true why old new seen q = broken_same old.due (causes.Desk why) old new seen q
+refused_same true why old new seen q = broken_same old.due (Cause.Desk why) old new seen q
 refused_same false why old new seen q = subst (SameSite old) (sym q.1) (record { name = refl; same_game = refl; innings = refl })

@@ -8,8 +8,7 @@ use Rattle.agree_core.specs.Ballots.{Ballot, oldest, votes_by}
 use Rattle.agree_core.specs.Readers.{other}
 use Rattle.agree_core.specs.Books.{book_of}
 use Rattle.vote_store.specs.View.{votes_shown}
-use Rattle.schedule_replay.specs.declared.site.Site.{Site}
-use Rattle.schedule_replay.specs.declared.world.World.{World}
+use Rattle.schedule_replay.specs.declared.{site.Site.Site, world.World.World}
 use Rattle.headline.specs.Configurations.{Node, Configuration, node, process_disk, process_votes, all_votes}
 use Rattle.headline.specs.Match.{format_of, match_of}
 use Rattle.schedule_replay.specs.inner.Sites.{HasNode, PutsDown}

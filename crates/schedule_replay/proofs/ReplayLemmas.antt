@@ -14,15 +14,9 @@ use Rattle.agree_core.specs.Agreed.{BeginsWith, IsAgreedList}
 use Rattle.agree_core.specs.Boards.{BoardState}
 use Rattle.agree_core.specs.Books.{IsAgreedByFiles}
 use Rattle.agree_core.specs.declared.messages.DeskId.TheVariants.{A, B}
-use Rattle.headline.specs.declared.event.Event.{Event}
-use Rattle.headline.specs.declared.event.Station.{Station}
-use Rattle.headline.specs.declared.event.Station.TheVariants as stations
-use Rattle.schedule_replay.specs.declared.report.Report.{Report}
-use Rattle.schedule_replay.specs.declared.seen.Seen.{Seen}
-use Rattle.schedule_replay.specs.declared.seen.WorldRefusal.{WorldRefusal}
+use Rattle.headline.specs.declared.{event.Event.Event, event.Station.Station, version.FileVersion.FileVersion}
+use Rattle.schedule_replay.specs.declared.{report.Report.Report, seen.Seen.Seen, seen.WorldRefusal.WorldRefusal, world.World.World}
 use Rattle.schedule_replay.specs.declared.seen.WorldRefusal.TheVariants.{NoMemory}
-use Rattle.headline.specs.declared.version.FileVersion.{FileVersion}
-use Rattle.schedule_replay.specs.declared.world.World.{World}
 use Rattle.headline.specs.Configurations.{Configuration, all_votes, with_board}
 use Rattle.headline.specs.Events.{station_of}
 use Rattle.headline.specs.Answers.{Answer}
@@ -53,9 +47,9 @@ with_board_many boards (suc n) k = length-set boards n k
 module _ (game innings : ℕ) where
   step_many : (w : Configuration MemDisk) (event : Event) (t : Station) (answer : Answer Refusal) (new : Configuration MemDisk) → StepAt (match_of game innings) w event t answer new
       → length new.boards ≡ length w.boards
-  step_many w event (stations.Desk A) answer new p = ap (λ (v : Configuration MemDisk). length v.boards) p.3
-  step_many w event (stations.Desk B) answer new p = ap (λ (v : Configuration MemDisk). length v.boards) p.3
-  step_many w event (stations.Board n) answer new p = ap (λ (v : Configuration MemDisk). length v.boards) p.5 ∙ with_board_many w.boards n p.1
+  step_many w event (Station.Desk A) answer new p = ap (λ (v : Configuration MemDisk). length v.boards) p.3
+  step_many w event (Station.Desk B) answer new p = ap (λ (v : Configuration MemDisk). length v.boards) p.3
+  step_many w event (Station.Board n) answer new p = ap (λ (v : Configuration MemDisk). length v.boards) p.5 ∙ with_board_many w.boards n p.1
 
   pub run_many : (version : FileVersion) (boards : ℕ) (w : Configuration MemDisk) (ms : MatchRun) → Begins (match_of game innings) version boards w → Run (match_of game innings) w ms
       → length (last_of w ms).boards ≡ boards

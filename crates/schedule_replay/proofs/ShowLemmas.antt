@@ -15,10 +15,7 @@ use Rattle.agree_core.specs.declared.messages.DeskId.TheVariants.{A, B}
 use Rattle.agree_core.specs.Boards.{BoardState}
 use Rattle.agree_core.specs.Desks.{DeskState}
 use Rattle.headline.specs.declared.event.Station.{Station}
-use Rattle.headline.specs.declared.event.Station.TheVariants as stations
-use Rattle.schedule_replay.specs.declared.site.Site.{Site}
-use Rattle.schedule_replay.specs.declared.world.World.{World}
-use Rattle.schedule_replay.specs.declared.world_desk.WorldDesk.{WorldDesk}
+use Rattle.schedule_replay.specs.declared.{site.Site.Site, world.World.World, world_desk.WorldDesk.WorldDesk}
 use Rattle.headline.specs.Configurations.{Process, Configuration, node}
 use Rattle.headline.specs.Runs.{Shows, process_shows}
 use Rattle.schedule_replay.specs.inner.Sites.{IsProcess}
@@ -89,13 +86,13 @@ turned f g = (λ p. g.1 (f.0 p), λ r. f.1 (g.0 r))
 
 -- what a station of a world shows
 pub code_shows : (code : World) (w : Configuration MemDisk) (t : Station) (n : ℕ) (score : Standing) → HasConfiguration code w → ShowsScore code.innings_a_side w t n score ↔ CodeShows code t n score
-code_shows code w (stations.Desk d) n score h =
+code_shows code w (Station.Desk d) n score h =
     let site = code_site code d in
     let is = h.sites d in
     let own = h.named d in
     desk_shows site code.innings_a_side site.desk site.disk (node w d).process n score own.same_innings is.process
-code_shows code w (stations.Board zero) n score h = (λ c. absurd (let e = c.1.1 in cc), λ c. absurd c)
-code_shows code w (stations.Board (suc i)) n score h =
+code_shows code w (Station.Board zero) n score h = (λ c. absurd (let e = c.1.1 in cc), λ c. absurd c)
+code_shows code w (Station.Board (suc i)) n score h =
     let items = code.boards.items in
     let shows = board_shows code.innings_a_side (slice_get items i) n score (λ k e. board_of code.game code.innings_a_side items i k h.boards_are e) in
     subst (λ (o : Option BoardState). BoardScore code.innings_a_side o n score ↔ BoardShows (slice_get items i) n score) (sym (board_there code w i h)) shows
@@ -118,10 +115,10 @@ scored_board (Some k) book d s =
 
 scored : (code : World) (w : Configuration MemDisk) → HaveScores code → HasConfiguration code w → (t : Station) (book : List Entry) → Shows w t book
     → (score : Standing) × CodeShows code t (length book) score
-scored code w d h (stations.Desk A) book s = let is = h.sites A in scored_desk code.a code.a.desk code.a.disk w.a.process book is.process d.a_desk s
-scored code w d h (stations.Desk B) book s = let is = h.sites B in scored_desk code.b code.b.desk code.b.disk w.b.process book is.process d.b_desk s
-scored code w d h (stations.Board zero) book s = absurd (let e = s.1 in cc)
-scored code w d h (stations.Board (suc i)) book s = scored_board (slice_get code.boards.items i) book (d.of_boards i) (s.0, sym (board_there code w i h) ∙ s.1, s.2)
+scored code w d h (Station.Desk A) book s = let is = h.sites A in scored_desk code.a code.a.desk code.a.disk w.a.process book is.process d.a_desk s
+scored code w d h (Station.Desk B) book s = let is = h.sites B in scored_desk code.b code.b.desk code.b.disk w.b.process book is.process d.b_desk s
+scored code w d h (Station.Board zero) book s = absurd (let e = s.1 in cc)
+scored code w d h (Station.Board (suc i)) book s = scored_board (slice_get code.boards.items i) book (d.of_boards i) (s.0, sym (board_there code w i h) ∙ s.1, s.2)
 
 pub code_scored : (code : World) (w : Configuration MemDisk) → HaveScores code → HasConfiguration code w → ShowScores code.innings_a_side w
 code_scored code w d h t book s = let c = scored code w d h t book s in (c.0, (code_shows code w t (length book) c.0 h).1 c.1)
@@ -155,14 +152,14 @@ board_one (Some k) n score other p q = (book_score_one (board_innings k) ((λ (s
 board_one None n score other p q = absurd p
 
 code_one : (code : World) (t : Station) (n : ℕ) (score other : Standing) → CodeShows code t n score → CodeShows code t n other → other ≡ score
-code_one code (stations.Desk d) n score other p q = desk_one (code_site code d).desk n score other p q
-code_one code (stations.Board zero) n score other p q = absurd p
-code_one code (stations.Board (suc i)) n score other p q = board_one (slice_get code.boards.items i) n score other p q
+code_one code (Station.Desk d) n score other p q = desk_one (code_site code d).desk n score other p q
+code_one code (Station.Board zero) n score other p q = absurd p
+code_one code (Station.Board (suc i)) n score other p q = board_one (slice_get code.boards.items i) n score other p q
 
 shows_from_one : (code : World) (t : Station) (n : ℕ) (score : Standing) → CodeShows code t n score → FromOne t
-shows_from_one code (stations.Desk d) n score h = tt
-shows_from_one code (stations.Board zero) n score h = absurd h
-shows_from_one code (stations.Board (suc i)) n score h = omega arith
+shows_from_one code (Station.Desk d) n score h = tt
+shows_from_one code (Station.Board zero) n score h = absurd h
+shows_from_one code (Station.Board (suc i)) n score h = omega arith
 
 -- the stations below this number are noted
 abbrev pub NotedBelow : World → ℕ → List Shown → List Shown → Type 0
@@ -227,46 +224,46 @@ all_noted code k old new enough h w is t n score = (
     within (x ∷ xs) (suc i) n score b = let l = within xs i n score b in omega (arith, l)
 
     small : (t : Station) (n : ℕ) (score : Standing) → CodeShows code t n score → station_number t < k
-    small (stations.Desk A) n score p = omega (arith, enough)
-    small (stations.Desk B) n score p = omega (arith, enough)
-    small (stations.Board zero) n score p = absurd p
-    small (stations.Board (suc i)) n score p = let l = within code.boards.items i n score p in omega (arith, enough, l)
+    small (Station.Desk A) n score p = omega (arith, enough)
+    small (Station.Desk B) n score p = omega (arith, enough)
+    small (Station.Board zero) n score p = absurd p
+    small (Station.Board (suc i)) n score p = let l = within code.boards.items i n score p in omega (arith, enough, l)
 
 -- the place of a desk is noted by its own name
-desk_name : (code : World) (old : List Shown) (w : Configuration MemDisk) (d : DeskId) → IsNotable code old w → stations.Desk (code_site code d).name ≡ stations.Desk d
-desk_name code old w d h = let is = h.has_configuration in let own = is.named d in ap stations.Desk own.same_name
+desk_name : (code : World) (old : List Shown) (w : Configuration MemDisk) (d : DeskId) → IsNotable code old w → Station.Desk (code_site code d).name ≡ Station.Desk d
+desk_name code old w d h = let is = h.has_configuration in let own = is.named d in ap Station.Desk own.same_name
 
 pub desk_one_noted : (code : World) (w : Configuration MemDisk) (k : ℕ) (d : DeskId) (old mid : List Shown) → IsNotable code old w → NotedBelow code k old mid → (n : ℕ) (score other : Standing)
-    → Contains mid (stations.Desk (code_site code d).name, n, other) → DeskShows (code_site code d).desk n score → other ≡ score
+    → Contains mid (Station.Desk (code_site code d).name, n, other) → DeskShows (code_site code d).desk n score → other ≡ score
 desk_one_noted code w k d old mid h noted n score other c shows =
-    one_noted code w k (stations.Desk d) old mid h noted n score other (subst (λ (t : Station). Contains mid (t, n, other)) (desk_name code old w d h) c) shows
+    one_noted code w k (Station.Desk d) old mid h noted n score other (subst (λ (t : Station). Contains mid (t, n, other)) (desk_name code old w d h) c) shows
 
-pub desk_noted_next : (code : World) (w : Configuration MemDisk) (k : ℕ) (d : DeskId) (old mid new : List Shown) → IsNotable code old w → station_number (stations.Desk d) ≡ k
-    → NotedBelow code k old mid → Adds (stations.Desk (code_site code d).name) (DeskShows (code_site code d).desk) mid new → NotedBelow code (k + 1) old new
+pub desk_noted_next : (code : World) (w : Configuration MemDisk) (k : ℕ) (d : DeskId) (old mid new : List Shown) → IsNotable code old w → station_number (Station.Desk d) ≡ k
+    → NotedBelow code k old mid → Adds (Station.Desk (code_site code d).name) (DeskShows (code_site code d).desk) mid new → NotedBelow code (k + 1) old new
 desk_noted_next code w k d old mid new h number noted adds =
-    noted_next code k (stations.Desk d) old mid new tt number noted (subst (λ (t : Station). Adds t (DeskShows (code_site code d).desk) mid new) (desk_name code old w d h) adds)
+    noted_next code k (Station.Desk d) old mid new tt number noted (subst (λ (t : Station). Adds t (DeskShows (code_site code d).desk) mid new) (desk_name code old w d h) adds)
 
 -- and a board by its number
-board_number : (i : ℕ) → stations.Board (suc i) ≡ stations.Board (i + 1)
-board_number i = let e : suc i ≡ i + 1 = omega arith in ap stations.Board e
+board_number : (i : ℕ) → Station.Board (suc i) ≡ Station.Board (i + 1)
+board_number i = let e : suc i ≡ i + 1 = omega arith in ap Station.Board e
 
 board_scores : (code : World) (i : ℕ) (k : MatchBoard) (m : ℕ) (score : Standing) → slice_get code.boards.items i ≡ Some k
-    → IsBookScore (board_innings k) ((λ (s : BoardState). s.book) (board_state k)) m score → CodeShows code (stations.Board (suc i)) m score
+    → IsBookScore (board_innings k) ((λ (s : BoardState). s.book) (board_state k)) m score → CodeShows code (Station.Board (suc i)) m score
 board_scores code i k m score e h = subst (λ (o : Option MatchBoard). BoardShows o m score) (sym e) h
 
 pub board_one_noted : (code : World) (w : Configuration MemDisk) (i : ℕ) (k : MatchBoard) (m : ℕ) (score : Standing) (old mid : List Shown) → IsNotable code old w
     → slice_get code.boards.items i ≡ Some k → IsBookScore (board_innings k) ((λ (s : BoardState). s.book) (board_state k)) m score → NotedBelow code (i + 2) old mid → (other : Standing)
-    → Contains mid (stations.Board (i + 1), m, other) → other ≡ score
+    → Contains mid (Station.Board (i + 1), m, other) → other ≡ score
 board_one_noted code w i k m score old mid h e b noted other c =
-    one_noted code w (i + 2) (stations.Board (suc i)) old mid h noted m score other (subst (λ (t : Station). Contains mid (t, m, other)) (sym (board_number i)) c) (board_scores code i k m score e b)
+    one_noted code w (i + 2) (Station.Board (suc i)) old mid h noted m score other (subst (λ (t : Station). Contains mid (t, m, other)) (sym (board_number i)) c) (board_scores code i k m score e b)
 
 pub board_noted_next : (code : World) (i : ℕ) (k : MatchBoard) (m : ℕ) (score : Standing) (old mid new : List Shown) → slice_get code.boards.items i ≡ Some k
-    → IsBookScore (board_innings k) ((λ (s : BoardState). s.book) (board_state k)) m score → NotedBelow code (i + 2) old mid → Adds (stations.Board (i + 1)) (λ n s. (n ≡ m) × (s ≡ score)) mid new
+    → IsBookScore (board_innings k) ((λ (s : BoardState). s.book) (board_state k)) m score → NotedBelow code (i + 2) old mid → Adds (Station.Board (i + 1)) (λ n s. (n ≡ m) × (s ≡ score)) mid new
     → NotedBelow code (i + 1 + 2) old new
 board_noted_next code i k m score old mid new e b noted adds =
-    let own = adds_book (stations.Board (suc i)) (board_innings k) ((λ (s : BoardState). s.book) (board_state k)) m score mid new b
+    let own = adds_book (Station.Board (suc i)) (board_innings k) ((λ (s : BoardState). s.book) (board_state k)) m score mid new b
     (subst (λ (t : Station). Adds t (λ n s. (n ≡ m) × (s ≡ score)) mid new) (sym (board_number i)) adds) in
-    let here = subst (λ (o : Option MatchBoard). Adds (stations.Board (suc i)) (BoardShows o) mid new) (sym e) own in
-    let number : station_number (stations.Board (suc i)) ≡ i + 2 = omega arith in
+    let here = subst (λ (o : Option MatchBoard). Adds (Station.Board (suc i)) (BoardShows o) mid new) (sym e) own in
+    let number : station_number (Station.Board (suc i)) ≡ i + 2 = omega arith in
     let next : i + 2 + 1 ≡ i + 1 + 2 = omega arith in
-    subst (λ (n : ℕ). NotedBelow code n old new) next (noted_next code (i + 2) (stations.Board (suc i)) old mid new (omega arith) number noted here)
+    subst (λ (n : ℕ). NotedBelow code n old new) next (noted_next code (i + 2) (Station.Board (suc i)) old mid new (omega arith) number noted here)

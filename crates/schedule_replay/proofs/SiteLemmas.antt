@@ -8,11 +8,9 @@ use Rattle.entry_log.specs.Disk.{Faults, IsImage, IsOnce, Never, only}
 use Rattle.entry_log.specs.Format.{contents, room}
 use Rattle.entry_log.specs.MemDisk.{SetsPlan, call_count, cap_of, faults_of, file_of, images_of, plan_of}
 use Rattle.entry_log.specs.Plan.{due_of}
-use Rattle.entry_log.specs.declared.mem_disk.MemDisk.{MemDisk}
-use Rattle.entry_log.specs.declared.mem_disk.plan.Plan.{Plan}
+use Rattle.entry_log.specs.declared.mem_disk.{MemDisk.MemDisk, plan.Plan.Plan}
 use Rattle.entry_log.specs.declared.mem_disk.plan.Plan.TheVariants.{Calm}
-use Rattle.agree_core.specs.declared.messages.DeskId.{DeskId}
-use Rattle.agree_core.specs.declared.messages.Message.{Message}
+use Rattle.agree_core.specs.declared.messages.{DeskId.DeskId, Message.Message}
 use Rattle.agree_core.specs.Ballots.{Ballot}
 use Rattle.agree_core.specs.Books.{Rules}
 use Rattle.agree_core.specs.Desks.{DeskState, most_votes}
@@ -21,15 +19,9 @@ use Rattle.vote_store.specs.View.{file_view, votes_shown}
 use Rattle.wire.specs.declared.datagram.Datagram.{Datagram}
 use Rattle.wire.specs.Layout.{IsMessage, written}
 use Rattle.wire.specs.Sent.{AreSent}
-use Rattle.headline.specs.declared.fault.Fault.{Fault}
+use Rattle.headline.specs.declared.{fault.Fault.Fault, version.FileVersion.FileVersion}
 use Rattle.headline.specs.declared.fault.Fault.TheVariants.{Fail, Stop}
-use Rattle.schedule_replay.specs.declared.seen.Cause.{Cause}
-use Rattle.schedule_replay.specs.declared.seen.Seen.{Seen}
-use Rattle.schedule_replay.specs.declared.seen.Seen.TheVariants as seens
-use Rattle.schedule_replay.specs.declared.site.Site.{Site}
-use Rattle.headline.specs.declared.version.FileVersion.{FileVersion}
-use Rattle.headline.specs.declared.version.FileVersion.TheVariants as versions
-use Rattle.schedule_replay.specs.declared.world_desk.WorldDesk.{WorldDesk}
+use Rattle.schedule_replay.specs.declared.{seen.Cause.Cause, seen.Seen.Seen, site.Site.Site, world_desk.WorldDesk.WorldDesk}
 use Rattle.headline.specs.Configurations.{Process, Running, Down, Node, process_disk, process_votes}
 use Rattle.headline.specs.Answers.{Answer}
 use Rattle.headline.specs.DeskFaults.{Breaks, BreaksBy}
@@ -189,7 +181,7 @@ pub broken : (old new : Site) (desk : Option WorldDesk) (disk : Option MemDisk) 
     → HasDisk (record old { desk = desk; disk = disk; due = None }) p → By Fail Answer.DeviceFailed (record x { process = p; due = None })
     → ((left : MemDisk) → Stays (file_view (contents (format_of version)) file_of images_of old.name old.game) (process_disk p) left
     → By Stop Answer.Stopped (record x { process = Down (process_votes p) left; due = None }))
-    → answer_of (seens.Refused cause) ≡ Some Answer.DeviceFailed → BreaksDown due cause (record old { desk = desk; disk = disk }) seen new
+    → answer_of (Seen.Refused cause) ≡ Some Answer.DeviceFailed → BreaksDown due cause (record old { desk = desk; disk = disk }) seen new
     → (y : Node MemDisk) × (answer : Answer Refusal) × (answer_of seen ≡ Some answer) × ((fault : Fault) × (x.due ≡ Some fault) × By fault answer y) × HasNode new y
 broken old new desk disk before x p version By cause seen None d h due calm again has fails stops told b = absurd (calm (subst (λ (z : Option Fault). IsDue z (faults_of before).due) d due))
 broken old new desk disk before x p version By cause seen (Some Fail) d h due calm again has fails stops told b =
@@ -205,7 +197,7 @@ broken old new desk disk before x p version By cause seen (Some Stop) d h due ca
 
 -- so it is at a desk that runs
 pub broken_site : (old new : Site) (k l : WorldDesk) (x : Node MemDisk) (cause : Cause) (seen : Seen) → old.desk ≡ Some k → HasNode old x → SameOwner k l
-    → ((faults_of (disk_of k)).due ≡ Never → ⊥) → (IsOnce (faults_of (disk_of k)).due → (faults_of (disk_of l)).due ≡ Never) → answer_of (seens.Refused cause) ≡ Some Answer.DeviceFailed
+    → ((faults_of (disk_of k)).due ≡ Never → ⊥) → (IsOnce (faults_of (disk_of k)).due → (faults_of (disk_of l)).due ≡ Never) → answer_of (Seen.Refused cause) ≡ Some Answer.DeviceFailed
     → BreaksDown old.due cause (record old { desk = Some l }) seen new
     → (y : Node MemDisk) × (answer : Answer Refusal) × (answer_of seen ≡ Some answer) × Breaks ((match_of old.game old.innings_a_side).view old.name x.version) x (state_of l) answer y × HasNode new y
 broken_site old new k l x cause seen here h o calm spent told b =
@@ -222,8 +214,8 @@ broken_same _ cause old new seen q = subst (SameSite old) (sym q.1) (record { na
 
 -- the file has room for one vote more
 pub has_room : (version : FileVersion) (n cap : ℕ) → n < most_votes → cap ≡ most_bytes version → room (format_of version) (n + 1) ≤ cap
-has_room versions.Old n cap h e = let e' : cap ≡ 524321 = e in omega arith
-has_room versions.New n cap h e = let e' : cap ≡ 1048641 = e in omega arith
+has_room FileVersion.Old n cap h e = let e' : cap ≡ 524321 = e in omega arith
+has_room FileVersion.New n cap h e = let e' : cap ≡ 1048641 = e in omega arith
 
 pub some_is : (o : Option WorldDesk) → IsSome o → (k : WorldDesk) × (o ≡ Some k)
 some_is (Some k) h = (k, refl)

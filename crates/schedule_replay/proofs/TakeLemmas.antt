@@ -5,12 +5,7 @@ use Rattle.std.proofs.Math.Bool.{not}
 use Rattle.std.specs.Option.{is_none, is_some}
 use Rattle.wire.specs.declared.datagram.Datagram.{Datagram}
 use Rattle.headline.specs.declared.event.Event.{Event}
-use Rattle.headline.specs.declared.event.Event.TheVariants as events
-use Rattle.schedule_replay.specs.declared.seen.Seen.{Seen}
-use Rattle.schedule_replay.specs.declared.seen.WorldRefusal.{WorldRefusal}
-use Rattle.schedule_replay.specs.declared.seen.WorldRefusal.TheVariants as refuses
-use Rattle.schedule_replay.specs.declared.site.Site.{Site}
-use Rattle.schedule_replay.specs.declared.world_desk.WorldDesk.{WorldDesk}
+use Rattle.schedule_replay.specs.declared.{seen.Seen.Seen, seen.WorldRefusal.WorldRefusal, site.Site.Site, world_desk.WorldDesk.WorldDesk}
 use Rattle.schedule_replay.specs.Refusals.{may_grow, may_send}
 use Rattle.schedule_replay.specs.inner.Sites.{SiteLeft, SiteSteps, SiteTakes, site_cause}
 use Rattle.schedule_replay.proofs.OpenLemmas.{stays_so}
@@ -24,23 +19,23 @@ none_of None false e = absurd (cc)
 
 -- an event that may want memory
 pub wants_so : (event same : Event) (old new : Site) (sent roomy : List Datagram) (result : Result Seen WorldRefusal) → event ≡ same → site_cause old sent event ≡ None → roomy ≡ sent
-    → IfOk result (λ seen. (z : List Datagram) → SiteSteps same old z seen new z) → OnErr result ((result ≡ Err refuses.NoMemory) × SiteLeft same old new) → may_grow same ≡ true
+    → IfOk result (λ seen. (z : List Datagram) → SiteSteps same old z seen new z) → OnErr result ((result ≡ Err WorldRefusal.NoMemory) × SiteLeft same old new) → may_grow same ≡ true
     → SiteTakes event old sent result new roomy
 wants_so event same old new sent roomy (Ok seen) q cause e h k g = (cause, rw (q, e) (h sent))
 wants_so event same old new sent roomy (Err why) q cause e h k g = (e, inr (cause, let z = k.0 in cc, ap may_grow q ∙ g, rw q k.1))
 
 -- what may send may take memory
 pub sending_grows : (event : Event) → may_send event ≡ true → may_grow event ≡ true
-sending_grows (events.Open d) e = refl
+sending_grows (Event.Open d) e = refl
 sending_grows _ e = cc
 
 -- an event that isn't taken
 pub refused : (event : Event) (old : Site) (sent roomy : List Datagram) (why : WorldRefusal) → roomy ≡ sent
-    → (site_cause old sent event ≡ Some why) ⊎ ((site_cause old sent event ≡ None) × (why ≡ refuses.NoMemory) × (may_send event ≡ true)) → SiteTakes event old sent (Err why) old roomy
+    → (site_cause old sent event ≡ Some why) ⊎ ((site_cause old sent event ≡ None) × (why ≡ WorldRefusal.NoMemory) × (may_send event ≡ true)) → SiteTakes event old sent (Err why) old roomy
 refused event old sent roomy why e (inl cause) = (e, inl (cause, refl))
 refused event old sent roomy why e (inr (cause, want, sends)) = (e, inr (cause, want, sending_grows event sends, left event))
   where
     left : (event : Event) → SiteLeft event old old
-    left (events.Open d) = stays_so old
-    left (events.Migrate d) = stays_so old
+    left (Event.Open d) = stays_so old
+    left (Event.Migrate d) = stays_so old
     left _ = refl

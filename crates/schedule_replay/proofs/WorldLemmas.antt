@@ -5,22 +5,14 @@ use Rattle.std.specs.Option.{is_none}
 use Rattle.std.proofs.lemmas.List.{length-map}
 use Rattle.corrections.specs.declared.refusal.Refusal.{Refusal}
 use Rattle.entry_log.specs.declared.mem_disk.MemDisk.{MemDisk}
-use Rattle.agree_core.specs.declared.messages.DeskId.{DeskId}
+use Rattle.agree_core.specs.declared.messages.{DeskId.DeskId, Message.Message}
 use Rattle.agree_core.specs.declared.messages.DeskId.TheVariants.{A, B}
-use Rattle.agree_core.specs.declared.messages.Message.{Message}
 use Rattle.agree_core.specs.FileView.{MaySync}
 use Rattle.agree_core.specs.Readers.{other}
 use Rattle.wire.specs.declared.datagram.Datagram.{Datagram}
 use Rattle.wire.specs.Layout.{written}
-use Rattle.headline.specs.declared.event.Event.{Event}
-use Rattle.headline.specs.declared.event.Event.TheVariants as events
-use Rattle.headline.specs.declared.event.Station.{Station}
-use Rattle.headline.specs.declared.event.Station.TheVariants as stations
-use Rattle.schedule_replay.specs.declared.seen.Seen.{Seen}
-use Rattle.schedule_replay.specs.declared.seen.WorldRefusal.{WorldRefusal}
-use Rattle.schedule_replay.specs.declared.site.Site.{Site}
-use Rattle.schedule_replay.specs.declared.world.World.{World}
-use Rattle.schedule_replay.specs.declared.world_desk.WorldDesk.{WorldDesk}
+use Rattle.headline.specs.declared.event.{Event.Event, Station.Station}
+use Rattle.schedule_replay.specs.declared.{seen.Seen.Seen, seen.WorldRefusal.WorldRefusal, site.Site.Site, world.World.World, world_desk.WorldDesk.WorldDesk}
 use Rattle.headline.specs.Configurations.{Process, Node, Configuration, node, process_disk, with_disk, with_node}
 use Rattle.headline.specs.Events.{station_of}
 use Rattle.headline.specs.Answers.{Answer}
@@ -108,7 +100,7 @@ stays d old new site w c e items h =
     subst (HasConfiguration new) (unmoved d w) (put d old new site w (node w d) [] c h (subst (λ (z : Site). HasNode z (node w d)) (sym e) (h.sites d)) (no_bytes d old new w items h))
 
 -- the first cause at the site is that of the world
-cause_is : (d : DeskId) (old : World) (w : Configuration MemDisk) (event : Event) → station_of event ≡ stations.Desk d → HasConfiguration old w
+cause_is : (d : DeskId) (old : World) (w : Configuration MemDisk) (event : Event) → station_of event ≡ Station.Desk d → HasConfiguration old w
     → refusal_of w event ≡ site_cause (code_site old d) old.sent.items event
 cause_is d old w event e h =
     let site = code_site old d in
@@ -123,11 +115,11 @@ SiteGives x messages event seen new after name game innings =
     (y : Node MemDisk) × (out : List Message) × (answer : Answer Refusal) × (answer_of seen ≡ Some answer)
     × AtDesk (match_of game innings) messages name event x answer y out × HasNode new y × AreBytesOf game after (messages ++ out)
 
-desk_eq : (c d : DeskId) → stations.Desk c ≡ stations.Desk d → d ≡ c
+desk_eq : (c d : DeskId) → Station.Desk c ≡ Station.Desk d → d ≡ c
 desk_eq c d q = cc
 
 -- what the site plans is planned in the world
-plans : (d : DeskId) (w : Configuration MemDisk) (site : Site) (y : Node MemDisk) (out : List Message) (event : Event) → station_of event ≡ stations.Desk d → HasNode site y
+plans : (d : DeskId) (w : Configuration MemDisk) (site : Site) (y : Node MemDisk) (out : List Message) (event : Event) → station_of event ≡ Station.Desk d → HasNode site y
     → HasPlan event (disk_at site.desk site.disk) → LeavesPlan event (with_node w d y out)
 plans d w site y out event e i h c q =
     let has = site_disk site y i in
@@ -153,7 +145,7 @@ counts B w y out h A = λ fault due. refl
 counts B w y out h B = h
 
 -- an event that a site has taken
-pub desk_steps : (d : DeskId) (old new : World) (site : Site) (event : Event) (seen : Seen) → station_of event ≡ stations.Desk d → Changes d old new site
+pub desk_steps : (d : DeskId) (old new : World) (site : Site) (event : Event) (seen : Seen) → station_of event ≡ Station.Desk d → Changes d old new site
     → SiteTakes event (code_site old d) old.sent.items (Ok seen) site new.sent.items → HasPlan event (disk_at site.desk site.disk) → (asks_fault event ≡ false → KeepsDue (code_site old d) site)
     → StepsTo event old seen new
 desk_steps d old new site event seen e c takes planned counted w h =
@@ -194,21 +186,21 @@ synced d c old new site w q change syncs items h =
     )
 
 -- what being out of memory leaves
-left : (d : DeskId) (old new : World) (site : Site) (event : Event) (w : Configuration MemDisk) → station_of event ≡ stations.Desk d → Changes d old new site → SiteLeft event (code_site old d) site
+left : (d : DeskId) (old new : World) (site : Site) (event : Event) (w : Configuration MemDisk) → station_of event ≡ Station.Desk d → Changes d old new site → SiteLeft event (code_site old d) site
     → new.sent.items ≡ old.sent.items → HasConfiguration old w → (v : Configuration MemDisk) × LeftByWant (match_of old.game old.innings_a_side) w event v × HasConfiguration new v
-left d old new site (events.Open c) w e change l items h = synced d c old new site w (sym (desk_eq c d e)) change l items h
-left d old new site (events.Migrate c) w e change l items h = synced d c old new site w (sym (desk_eq c d e)) change l items h
+left d old new site (Event.Open c) w e change l items h = synced d c old new site w (sym (desk_eq c d e)) change l items h
+left d old new site (Event.Migrate c) w e change l items h = synced d c old new site w (sym (desk_eq c d e)) change l items h
 left d old new site _ w e change l items h = (w, refl, stays d old new site w change l items h)
 
 -- an event that a site hasn't taken
-pub desk_refuses : (d : DeskId) (old new : World) (site : Site) (event : Event) (why : WorldRefusal) → station_of event ≡ stations.Desk d → Changes d old new site
+pub desk_refuses : (d : DeskId) (old new : World) (site : Site) (event : Event) (why : WorldRefusal) → station_of event ≡ Station.Desk d → Changes d old new site
     → SiteTakes event (code_site old d) old.sent.items (Err why) site new.sent.items → RefusesTo event old why new
 desk_refuses d old new site event why e c (items, inl (cause, same)) w h = (w, inl (cause_is d old w event e h ∙ cause, refl), stays d old new site w c same items h)
 desk_refuses d old new site event why e c (items, inr (none, want, grows, l)) w h =
     let k = left d old new site event w e c l items h in
     (k.0, inr (cause_is d old w event e h ∙ none, want, grows, k.1), k.2)
 
-pub at_desk : (d : DeskId) (old new : World) (site : Site) (event : Event) (result : Result Seen WorldRefusal) → station_of event ≡ stations.Desk d → Changes d old new site
+pub at_desk : (d : DeskId) (old new : World) (site : Site) (event : Event) (result : Result Seen WorldRefusal) → station_of event ≡ Station.Desk d → Changes d old new site
     → SiteTakes event (code_site old d) old.sent.items result site new.sent.items → OnOk result (HasPlan event (disk_at site.desk site.disk))
     → OnOk result (asks_fault event ≡ false → KeepsDue (code_site old d) site) → IfOk result (λ seen. StepsTo event old seen new) × IfErr result (λ why. RefusesTo event old why new)
 at_desk d old new site event (Ok seen) e c t planned counted = (desk_steps d old new site event seen e c t planned counted, tt)

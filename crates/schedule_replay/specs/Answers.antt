@@ -3,21 +3,14 @@ use Rattle.std.specs.Prelude.{◌≡◌, ℕ, Bool, true, false, List, map, All,
 use Rattle.corrections.specs.declared.refusal.Refusal.{Refusal}
 use Rattle.entry_log.specs.declared.refusal.Refusal.TheVariants as files
 use Rattle.vote_store.specs.declared.refusal.Refusal.{Refusal as VotesRefusal}
-use Rattle.vote_store.specs.declared.refusal.Refusal.TheVariants as votes
 use Rattle.agree_core.specs.declared.messages.Message.{Message}
 use Rattle.agree_core.specs.Desks.{PenAnswer}
 use Rattle.agree_core.specs.Openings.{OpenRefusal}
-use Rattle.wire.specs.declared.datagram.Datagram.{Datagram}
-use Rattle.wire.specs.declared.what.What.{What}
-use Rattle.wire.specs.declared.what.What.TheVariants as whats
+use Rattle.wire.specs.declared.{datagram.Datagram.Datagram, what.What.What}
 use Rattle.wire.specs.Layout.{IsMessage, written}
 use Rattle.desk.specs.declared.refusal.Refusal.{Refusal as DeskRefusal}
-use Rattle.desk.specs.declared.refusal.Refusal.TheVariants as refusals
 use Rattle.desk.specs.Answers.{open_cause, pen_answer}
-use Rattle.schedule_replay.specs.declared.seen.Cause.{Cause}
-use Rattle.schedule_replay.specs.declared.seen.Cause.TheVariants as causes
-use Rattle.schedule_replay.specs.declared.seen.Seen.{Seen}
-use Rattle.schedule_replay.specs.declared.seen.Seen.TheVariants as seens
+use Rattle.schedule_replay.specs.declared.seen.{Cause.Cause, Seen.Seen}
 use Rattle.headline.specs.Answers.{Answer}
 
 -- what a pen answers
@@ -34,35 +27,35 @@ told_to_open OpenRefusal.DeviceFailed = Some Answer.DeviceFailed
 
 -- why a file isn't migrated; being out of memory is no answer
 abbrev pub told_to_migrate : VotesRefusal → Option (Answer Refusal)
-told_to_migrate votes.NoMemory = None
-told_to_migrate (votes.File files.Device) = Some Answer.DeviceFailed
-told_to_migrate (votes.File files.Version) = Some Answer.OtherVersion
-told_to_migrate (votes.File fault) = Some Answer.Unsound
-told_to_migrate (votes.NotASequence slot) = Some Answer.Unsound
+told_to_migrate VotesRefusal.NoMemory = None
+told_to_migrate (VotesRefusal.File files.Device) = Some Answer.DeviceFailed
+told_to_migrate (VotesRefusal.File files.Version) = Some Answer.OtherVersion
+told_to_migrate (VotesRefusal.File fault) = Some Answer.Unsound
+told_to_migrate (VotesRefusal.NotASequence slot) = Some Answer.Unsound
 
 abbrev pub told_by : Cause → Option (Answer Refusal)
-told_by (causes.Desk why) = Some (told_to_pen (pen_answer (Err why)))
-told_by (causes.Open why) = told_to_open (open_cause why)
-told_by (causes.Migrate why) = told_to_migrate why
+told_by (Cause.Desk why) = Some (told_to_pen (pen_answer (Err why)))
+told_by (Cause.Open why) = told_to_open (open_cause why)
+told_by (Cause.Migrate why) = told_to_migrate why
 
 abbrev pub is_device : DeskRefusal → Bool
-is_device refusals.Device = true
+is_device DeskRefusal.Device = true
 is_device _ = false
 
 -- the answer that is seen; bytes that are no message are none
 abbrev pub answer_of : Seen → Option (Answer Refusal)
-answer_of (seens.Penned settled) = Some (Answer.Penned settled)
-answer_of (seens.Refused cause) = told_by cause
-answer_of seens.Stopped = Some Answer.Stopped
-answer_of (seens.Ticked n) = Some (Answer.Ticked n)
-answer_of (seens.Heard h) = Some (Answer.Told h)
-answer_of (seens.Asked replied) = Some (Answer.Asked replied)
-answer_of (seens.Bad fault) = None
-answer_of seens.BadVotes = Some Answer.BadVotes
-answer_of seens.Failed = Some Answer.HasFailed
-answer_of (seens.Opened n) = Some (Answer.Opened n)
-answer_of (seens.Migrated n) = Some (Answer.Migrated n)
-answer_of seens.Done = Some Answer.Done
+answer_of (Seen.Penned settled) = Some (Answer.Penned settled)
+answer_of (Seen.Refused cause) = told_by cause
+answer_of Seen.Stopped = Some Answer.Stopped
+answer_of (Seen.Ticked n) = Some (Answer.Ticked n)
+answer_of (Seen.Heard h) = Some (Answer.Told h)
+answer_of (Seen.Asked replied) = Some (Answer.Asked replied)
+answer_of (Seen.Bad fault) = None
+answer_of Seen.BadVotes = Some Answer.BadVotes
+answer_of Seen.Failed = Some Answer.HasFailed
+answer_of (Seen.Opened n) = Some (Answer.Opened n)
+answer_of (Seen.Migrated n) = Some (Answer.Migrated n)
+answer_of Seen.Done = Some Answer.Done
 
 -- these are the bytes of the messages
 abbrev pub AreBytesOf : ℕ → List Datagram → List Message → Type 0
@@ -70,21 +63,21 @@ AreBytesOf game sent messages = All IsMessage messages × (map (λ d. d.bytes) s
 
 -- what is seen where a desk was given bytes, but for a failing device
 abbrev pub given_seen : What → Option (List ℕ) → Seen
-given_seen (whats.Bad fault) reply = seens.Bad fault
-given_seen (whats.Heard h) reply = seens.Heard h
-given_seen whats.Asked reply = seens.Asked (is_some reply)
-given_seen whats.Device reply = seens.Failed
-given_seen whats.Failed reply = seens.Failed
+given_seen (What.Bad fault) reply = Seen.Bad fault
+given_seen (What.Heard h) reply = Seen.Heard h
+given_seen What.Asked reply = Seen.Asked (is_some reply)
+given_seen What.Device reply = Seen.Failed
+given_seen What.Failed reply = Seen.Failed
 
 abbrev pub is_fault : What → Bool
-is_fault whats.Device = true
+is_fault What.Device = true
 is_fault _ = false
 
 -- why a votes file isn't found: out of memory, or its disk failed
 abbrev pub wants_memory : VotesRefusal → Bool
-wants_memory votes.NoMemory = true
+wants_memory VotesRefusal.NoMemory = true
 wants_memory _ = false
 
 abbrev pub is_failing : VotesRefusal → Bool
-is_failing (votes.File files.Device) = true
+is_failing (VotesRefusal.File files.Device) = true
 is_failing _ = false

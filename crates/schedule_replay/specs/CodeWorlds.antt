@@ -1,24 +1,17 @@
 -- The configuration that a world has.
 use Rattle.std.specs.Prelude.{◌≡◌, ℕ, length, map, All, Some, None, Result, Ok, Err}
 use Rattle.corrections.specs.Book.{Contents}
-use Rattle.corrections.specs.declared.checked_book.CheckedBook.{CheckedBook}
+use Rattle.corrections.specs.declared.{checked_book.CheckedBook.CheckedBook, refusal.Refusal.Refusal}
 use Rattle.corrections.specs.contracts.checked_book.CheckedBookBookOf.TheImpl as book_impl
-use Rattle.corrections.specs.declared.refusal.Refusal.{Refusal}
 use Rattle.entry_log.specs.declared.mem_disk.MemDisk.{MemDisk}
 use Rattle.agree_core.specs.declared.messages.DeskId.{DeskId}
 use Rattle.agree_core.specs.declared.messages.DeskId.TheVariants.{A, B}
 use Rattle.agree_core.specs.Boards.{BoardState}
-use Rattle.board.specs.declared.board.Board.{Board}
+use Rattle.board.specs.declared.{board.Board.Board, refusal.BoardRefusal.BoardRefusal}
 use Rattle.board.specs.Board as board
-use Rattle.board.specs.declared.refusal.BoardRefusal.{BoardRefusal}
 use Rattle.wire.specs.declared.what.What.{What}
-use Rattle.headline.specs.declared.event.Event.{Event}
-use Rattle.schedule_replay.specs.declared.seen.Seen.{Seen}
-use Rattle.schedule_replay.specs.declared.seen.Seen.TheVariants as seens
-use Rattle.schedule_replay.specs.declared.seen.WorldRefusal.{WorldRefusal}
-use Rattle.schedule_replay.specs.declared.site.Site.{Site}
-use Rattle.headline.specs.declared.version.FileVersion.{FileVersion}
-use Rattle.schedule_replay.specs.declared.world.World.{World}
+use Rattle.headline.specs.declared.{event.Event.Event, version.FileVersion.FileVersion}
+use Rattle.schedule_replay.specs.declared.{seen.Seen.Seen, seen.WorldRefusal.WorldRefusal, site.Site.Site, world.World.World}
 use Rattle.headline.specs.Configurations.{Configuration, node}
 use Rattle.headline.specs.Answers.{Answer}
 use Rattle.headline.specs.Steps.{Step}
@@ -50,7 +43,7 @@ board_innings k = (λ (b : Contents). b.innings_a_side) (board.book_of k)
 -- what is seen of a board's answer
 abbrev pub board_seen : Result What BoardRefusal → Seen
 board_seen (Ok what) = given_seen what None
-board_seen (Err why) = seens.BadVotes
+board_seen (Err why) = Seen.BadVotes
 
 pub record IsBoardOf (game innings : ℕ) (k : MatchBoard) : Type 0 where
   pub same_game : board_game k ≡ game

@@ -4,10 +4,7 @@ use Rattle.std.proofs.Math.Bool.{not}
 use Rattle.std.specs.Option.{is_none}
 use Rattle.agree_core.specs.declared.messages.DeskId.{DeskId}
 use Rattle.agree_core.specs.FileView.{MaySync}
-use Rattle.headline.specs.declared.event.Event.{Event}
-use Rattle.headline.specs.declared.event.Event.TheVariants as events
-use Rattle.headline.specs.declared.event.Station.{Station}
-use Rattle.headline.specs.declared.event.Station.TheVariants as stations
+use Rattle.headline.specs.declared.event.{Event.Event, Station.Station}
 use Rattle.schedule_replay.specs.declared.seen.WorldRefusal.{WorldRefusal}
 use Rattle.schedule_replay.specs.declared.seen.WorldRefusal.TheVariants.{NoMessage, NoStation, WorldFull, Down, Up, NoMemory}
 use Rattle.headline.specs.Configurations as configurations
@@ -20,8 +17,8 @@ is_down (configurations.Running k) = false
 is_down (configurations.Down votes disk) = true
 
 abbrev pub is_desk : Station → Bool
-is_desk (stations.Desk d) = true
-is_desk (stations.Board n) = false
+is_desk (Station.Desk d) = true
+is_desk (Station.Board n) = false
 
 -- of so many boards, numbered from 1, there is none of this number
 abbrev pub no_board : ℕ → ℕ → Bool
@@ -30,30 +27,30 @@ no_board boards (suc n) = nat_le boards n
 
 -- there is no such board
 abbrev pub no_station : {Disk : Type 0} → Configuration Disk → Station → Bool
-no_station w (stations.Desk d) = false
-no_station w (stations.Board n) = is_none (board_at w.boards n)
+no_station w (Station.Desk d) = false
+no_station w (Station.Board n) = is_none (board_at w.boards n)
 
 abbrev pub down_at : {Disk : Type 0} → Configuration Disk → Station → Bool
-down_at w (stations.Desk d) = is_down (node w d).process
-down_at w (stations.Board n) = false
+down_at w (Station.Desk d) = is_down (node w d).process
+down_at w (Station.Board n) = false
 
 -- the event asks that the desk runs
 abbrev pub asks_up : Event → Bool
-asks_up (events.Pen d e) = true
-asks_up (events.Tick t) = true
-asks_up (events.Give n t) = true
-asks_up (events.Kill d) = true
+asks_up (Event.Pen d e) = true
+asks_up (Event.Tick t) = true
+asks_up (Event.Give n t) = true
+asks_up (Event.Kill d) = true
 asks_up _ = false
 
 -- the event asks that the desk is down
 abbrev pub asks_down : Event → Bool
-asks_down (events.Open d) = true
-asks_down (events.Migrate d) = true
+asks_down (Event.Open d) = true
+asks_down (Event.Migrate d) = true
 asks_down _ = false
 
 -- no message of this number was handed out, so many being
 abbrev pub no_message : ℕ → Event → Bool
-no_message sent (events.Give n t) = nat_le sent n
+no_message sent (Event.Give n t) = nat_le sent n
 no_message sent _ = false
 
 -- how many messages leave room for what one event hands out
@@ -62,19 +59,19 @@ most_sent = 65534
 
 -- the event may hand out messages
 abbrev pub may_send : Event → Bool
-may_send (events.Pen d e) = true
-may_send (events.Tick t) = true
-may_send (events.Give n t) = true
+may_send (Event.Pen d e) = true
+may_send (Event.Tick t) = true
+may_send (Event.Give n t) = true
 may_send _ = false
 
 -- the event may take memory: for messages, for what a desk is opened to, for a new file or for an empty board
 abbrev pub may_grow : Event → Bool
-may_grow (events.Pen d e) = true
-may_grow (events.Tick t) = true
-may_grow (events.Give n t) = true
-may_grow (events.Open d) = true
-may_grow (events.Wipe n) = true
-may_grow (events.Migrate d) = true
+may_grow (Event.Pen d e) = true
+may_grow (Event.Tick t) = true
+may_grow (Event.Give n t) = true
+may_grow (Event.Open d) = true
+may_grow (Event.Wipe n) = true
+may_grow (Event.Migrate d) = true
 may_grow _ = false
 
 abbrev pub first_row : List (WorldRefusal × Bool) → Option WorldRefusal
@@ -103,8 +100,8 @@ MaySyncAt s w d v =
 -- to be migrated, may be synced
 abbrev pub LeftByWant :
     {Disk Why : Type 0} → Setting Disk Why → Configuration Disk → Event → Configuration Disk → Type 0
-LeftByWant s w (events.Open d) v = MaySyncAt s w d v
-LeftByWant s w (events.Migrate d) v = MaySyncAt s w d v
+LeftByWant s w (Event.Open d) v = MaySyncAt s w d v
+LeftByWant s w (Event.Migrate d) v = MaySyncAt s w d v
 LeftByWant s w _ v = v ≡ w
 
 -- the world doesn't take this event, and goes on so: it stays, where a cause stands against the event; where

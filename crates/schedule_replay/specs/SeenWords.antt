@@ -1,17 +1,10 @@
 -- The words for what an event is answered, and the number of each refusal.
 use Rattle.std.specs.Prelude.{ℕ, Bool, true, false, List, ◌++◌, codes, decimal, Option, Some, None}
-use Rattle.agree_core.specs.declared.seat.Heard.{Heard}
-use Rattle.agree_core.specs.declared.seat.Heard.TheVariants as heards
-use Rattle.agree_core.specs.declared.seat.Settled.{Settled}
-use Rattle.agree_core.specs.declared.seat.Settled.TheVariants as settleds
+use Rattle.agree_core.specs.declared.seat.{Heard.Heard, Settled.Settled}
 use Rattle.desk.specs.Refusal as desk
 use Rattle.vote_store.specs.Refusal as votes
 use Rattle.wire.specs.Fault as wire
-use Rattle.schedule_replay.specs.declared.seen.Cause.{Cause}
-use Rattle.schedule_replay.specs.declared.seen.Cause.TheVariants as causes
-use Rattle.schedule_replay.specs.declared.seen.Seen.{Seen}
-use Rattle.schedule_replay.specs.declared.seen.Seen.TheVariants as seens
-use Rattle.schedule_replay.specs.declared.seen.WorldRefusal.{WorldRefusal}
+use Rattle.schedule_replay.specs.declared.seen.{Cause.Cause, Seen.Seen, WorldRefusal.WorldRefusal}
 use Rattle.schedule_replay.specs.declared.seen.WorldRefusal.TheVariants.{NoMessage, NoStation, WorldFull, Down, Up, NoMemory}
 
 -- being out of memory has no number
@@ -24,24 +17,24 @@ refusal_number Up = Some 84
 refusal_number NoMemory = None
 
 abbrev pub cause_number : Cause → Option ℕ
-cause_number (causes.Desk why) = Some (desk.number_of why)
-cause_number (causes.Open why) = desk.open_number_of why
-cause_number (causes.Migrate why) = votes.number why
+cause_number (Cause.Desk why) = Some (desk.number_of why)
+cause_number (Cause.Open why) = desk.open_number_of why
+cause_number (Cause.Migrate why) = votes.number why
 
 abbrev pub settled_words : Settled → List ℕ
-settled_words settleds.Pending = codes "pending"
-settled_words settleds.Agreed = codes "agreed"
-settled_words settleds.Differ = codes "differ"
+settled_words Settled.Pending = codes "pending"
+settled_words Settled.Agreed = codes "agreed"
+settled_words Settled.Differ = codes "differ"
 
 abbrev pub heard_words : Heard → List ℕ
-heard_words heards.Mine = codes "mine"
-heard_words heards.Old = codes "old"
-heard_words heards.Ahead = codes "ahead"
-heard_words heards.Again = codes "again"
-heard_words heards.TwoVotes = codes "two"
-heard_words heards.Noted = codes "noted"
-heard_words heards.Agreed = codes "agreed"
-heard_words heards.Differ = codes "differ"
+heard_words Heard.Mine = codes "mine"
+heard_words Heard.Old = codes "old"
+heard_words Heard.Ahead = codes "ahead"
+heard_words Heard.Again = codes "again"
+heard_words Heard.TwoVotes = codes "two"
+heard_words Heard.Noted = codes "noted"
+heard_words Heard.Agreed = codes "agreed"
+heard_words Heard.Differ = codes "differ"
 
 abbrev pub asked_words : Bool → List ℕ
 asked_words true = codes "answered"
@@ -52,15 +45,15 @@ refused_words (Some n) = codes "refused " ++ decimal n
 refused_words None = codes "no memory"
 
 abbrev pub seen_words : Seen → List ℕ
-seen_words (seens.Penned settled) = settled_words settled
-seen_words (seens.Refused why) = refused_words (cause_number why)
-seen_words seens.Stopped = codes "stopped"
-seen_words (seens.Ticked n) = codes "sent " ++ decimal n
-seen_words (seens.Heard heard) = heard_words heard
-seen_words (seens.Asked replied) = asked_words replied
-seen_words (seens.Bad fault) = codes "bad " ++ decimal (wire.number_of fault)
-seen_words seens.BadVotes = codes "refused 64"
-seen_words seens.Failed = codes "failed"
-seen_words (seens.Opened n) = codes "opened " ++ decimal n
-seen_words (seens.Migrated n) = codes "migrated " ++ decimal n
-seen_words seens.Done = codes "done"
+seen_words (Seen.Penned settled) = settled_words settled
+seen_words (Seen.Refused why) = refused_words (cause_number why)
+seen_words Seen.Stopped = codes "stopped"
+seen_words (Seen.Ticked n) = codes "sent " ++ decimal n
+seen_words (Seen.Heard heard) = heard_words heard
+seen_words (Seen.Asked replied) = asked_words replied
+seen_words (Seen.Bad fault) = codes "bad " ++ decimal (wire.number_of fault)
+seen_words Seen.BadVotes = codes "refused 64"
+seen_words Seen.Failed = codes "failed"
+seen_words (Seen.Opened n) = codes "opened " ++ decimal n
+seen_words (Seen.Migrated n) = codes "migrated " ++ decimal n
+seen_words Seen.Done = codes "done"

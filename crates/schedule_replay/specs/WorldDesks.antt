@@ -14,14 +14,13 @@ use Rattle.desk.specs.Answers.{open_cause}
 use Rattle.desk.specs.Desk as desk
 use Rattle.desk.specs.declared.refusal.OpenRefusal.{OpenRefusal}
 use Rattle.headline.specs.declared.version.FileVersion.{FileVersion}
-use Rattle.headline.specs.declared.version.FileVersion.TheVariants as versions
 use Rattle.schedule_replay.specs.declared.world_desk.WorldDesk.{WorldDesk}
 use Rattle.schedule_replay.specs.declared.world_desk.WorldDesk.TheVariants.{Old, New}
 use Rattle.headline.specs.Match.{Setting, format_of, match_of}
 
 abbrev pub version_of : WorldDesk → FileVersion
-version_of (Old k) = versions.Old
-version_of (New k) = versions.New
+version_of (Old k) = FileVersion.Old
+version_of (New k) = FileVersion.New
 
 abbrev pub name_of : WorldDesk → DeskId
 name_of (Old k) = desk.desk_of k

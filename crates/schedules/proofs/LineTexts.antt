@@ -9,9 +9,7 @@ use Rattle.std.proofs.lemmas.List.{take-append-drop}
 use Rattle.std.proofs.lemmas.Str.{IsAscii-append, IsUtf8-from_ascii}
 use Rattle.std.proofs.lemmas.Bool.{and_parts, ltb-true}
 use Rattle.std.proofs.lemmas.Str.Ascii.{IsAscii-cons, IsAscii-nil}
-use Rattle.notation.specs.declared.entry.Entry.{Entry}
-use Rattle.notation.specs.declared.entry.Entry.TheVariants as entries
-use Rattle.notation.specs.declared.fault.LineFault.{LineFault}
+use Rattle.notation.specs.declared.{entry.Entry.Entry, fault.LineFault.LineFault}
 use Rattle.notation.specs.Reading.{line_answer}
 use Rattle.notation.specs.Written.{found_number, is_number, text_of}
 use Rattle.notation.proofs.Faults.{fault_of, line_fault}
@@ -22,11 +20,7 @@ use Rattle.notation.proofs.Texts.{line_again, line_found}
 use Rattle.agree_core.specs.declared.messages.DeskId.{DeskId}
 use Rattle.agree_core.specs.declared.messages.DeskId.TheVariants.{A, B}
 use Rattle.entry_log.specs.declared.mem_disk.choice.Choice.{Choice}
-use Rattle.entry_log.specs.declared.mem_disk.choice.Choice.TheVariants as choices
-use Rattle.headline.specs.declared.event.Event.{Event}
-use Rattle.headline.specs.declared.event.Event.TheVariants as events
-use Rattle.headline.specs.declared.event.Station.{Station}
-use Rattle.headline.specs.declared.event.Station.TheVariants as stations
+use Rattle.headline.specs.declared.event.{Event.Event, Station.Station}
 use Rattle.schedules.specs.declared.schedule_fault.ScheduleFault.{ScheduleFault}
 use Rattle.schedules.specs.declared.schedule_fault.ScheduleFault.TheVariants.{NoMemory, BadEvent, BadEntry}
 use Rattle.schedules.specs.ScheduleLines.{choice_words, desk_word, event_text, pen_line, station_word, HasBadEntry, IsNoEvent, IsWrittenChoice, IsWrittenEvent, IsWrittenStation}
@@ -115,20 +109,20 @@ no_desk n h = rw (decimal_digit n (omega arith), ne_eqb (48 + n) 97 (omega arith
 
 station_again : (t : Station) → IsWrittenStation t → station_at (station_word t) ≡ Some t
 unfolding station_at
-station_again (stations.Desk d) h = rw (desk_again d) refl
-station_again (stations.Board n) h = let b = number 1 4 (lit< tt) in rw (no_desk n h.1, b.again n h) refl
+station_again (Station.Desk d) h = rw (desk_again d) refl
+station_again (Station.Board n) h = let b = number 1 4 (lit< tt) in rw (no_desk n h.1, b.again n h) refl
 
 station_found : (w : List ℕ) (o : Option DeskId) (t : Station) → desk_at w ≡ o → board_station o w ≡ Some t → IsWrittenStation t × (w ≡ station_word t)
-station_found w (Some d) t is h = let e : stations.Desk d ≡ t = cc in rw (← e) (tt, desk_found w d is)
+station_found w (Some d) t is h = let e : Station.Desk d ≡ t = cc in rw (← e) (tt, desk_found w d is)
 station_found w None t is h =
     let p = bind_some (found_number 1 4 w) _ t h in
-    let e : stations.Board p.0 ≡ t = cc in
+    let e : Station.Board p.0 ≡ t = cc in
     let b = number 1 4 (lit< tt) in
     rw (← e) (b.found w p.0 p.1)
 
 station_ascii : (t : Station) → IsWrittenStation t → IsAscii (station_word t)
-station_ascii (stations.Desk d) h = desk_ascii d
-station_ascii (stations.Board n) h = IsAscii-decimal n (omega (arith, h.1))
+station_ascii (Station.Desk d) h = desk_ascii d
+station_ascii (Station.Board n) h = IsAscii-decimal n (omega (arith, h.1))
 
 station : Reading station_at station_word IsWrittenStation
 unfolding station_at
@@ -141,7 +135,7 @@ choice_text c = join_with_byte 32 (choice_words c)
 
 choice_again : (c : Choice) → IsWrittenChoice c → choice_at (choice_text c) ≡ Some c
 unfolding choice_at fill_at cut
-choice_again (choices.Fill v) h = let n = number 0 255 (lit< tt) in rw (n.again v (omega arith, h)) refl
+choice_again (Choice.Fill v) h = let n = number 0 255 (lit< tt) in rw (n.again v (omega arith, h)) refl
 choice_again _ h = refl
 
 fill_found : (w : List ℕ) (c : Choice) → fill_at w ≡ Some c → IsWrittenChoice c × (w ≡ choice_text c)
@@ -149,7 +143,7 @@ unfolding fill_at
 fill_found w c h =
     let p = bind_some (cut w) _ c h in
     let q = bind_some (cond (bytes_eq (p.0).0 (codes "fill")) (found_number 0 255 (p.0).1) None) _ c p.2 in
-    let e : choices.Fill q.0 ≡ c = cc in
+    let e : Choice.Fill q.0 ≡ c = cc in
     elim (chosen _ (found_number 0 255 (p.0).1) None (Some q.0) q.1) [
       | inl r ↦
           let value = number 0 255 (lit< tt) in
@@ -161,20 +155,20 @@ fill_found w c h =
 
 choice_found : (w : List ℕ) (c : Choice) → choice_at w ≡ Some c → IsWrittenChoice c × (w ≡ choice_text c)
 unfolding choice_at
-choice_found w c h = elim (one_of w (codes "lost") choices.Lost c _ h) [
+choice_found w c h = elim (one_of w (codes "lost") Choice.Lost c _ h) [
   | inl p ↦ rw (← p.1) (tt, p.0)
-  | inr r ↦ elim (one_of w (codes "kept") choices.Kept c (fill_at w) r) [ inl p ↦ rw (← p.1) (tt, p.0) | inr q ↦ fill_found w c q ]
+  | inr r ↦ elim (one_of w (codes "kept") Choice.Kept c (fill_at w) r) [ inl p ↦ rw (← p.1) (tt, p.0) | inr q ↦ fill_found w c q ]
 ]
 
 choice_ascii : (c : Choice) → IsWrittenChoice c → IsAscii (choice_text c)
-choice_ascii choices.Lost h = ascii_of (codes "lost") refl
-choice_ascii choices.Kept h = ascii_of (codes "kept") refl
-choice_ascii (choices.Fill v) h = spaced_ascii (codes "fill") (decimal v) (ascii_of (codes "fill") refl) (IsAscii-decimal v (omega (arith, h)))
+choice_ascii Choice.Lost h = ascii_of (codes "lost") refl
+choice_ascii Choice.Kept h = ascii_of (codes "kept") refl
+choice_ascii (Choice.Fill v) h = spaced_ascii (codes "fill") (decimal v) (ascii_of (codes "fill") refl) (IsAscii-decimal v (omega (arith, h)))
 
-power_text : (d : DeskId) (c : Choice) → codes "power" ++ (32 ∷ (desk_word d ++ (32 ∷ choice_text c))) ≡ event_text (events.Power d c)
-power_text d choices.Lost = refl
-power_text d choices.Kept = refl
-power_text d (choices.Fill v) = refl
+power_text : (d : DeskId) (c : Choice) → codes "power" ++ (32 ∷ (desk_word d ++ (32 ∷ choice_text c))) ≡ event_text (Event.Power d c)
+power_text d Choice.Lost = refl
+power_text d Choice.Kept = refl
+power_text d (Choice.Fill v) = refl
 
 -- what stands behind the first word
 
@@ -215,15 +209,15 @@ pick_reads first (r ∷ rs) all ws e h = elim (chosen (bytes_eq first r.0) (r.1 
 all_read : AllRead readers
 unfolding give_at power_at
 all_read =
-    let tick = reads (codes "tick") events.Tick station refl (λ t h. h) (λ t. refl) in
-    let given = reads (codes "give") (λ p. events.Give p.0 p.1) give refl (λ p h. (h.0.1, h.1)) (λ p. refl) in
-    let kill = reads (codes "kill") events.Kill desk refl (λ d h. tt) (λ d. refl) in
-    let lost = reads (codes "power") (λ p. events.Power p.0 p.1) power refl (λ p h. h.1) (λ p. power_text p.0 p.1) in
-    let fail = reads (codes "fail") (λ p. events.FailAt p.0 p.1) count refl (λ p h. h.1) (λ p. refl) in
-    let stop = reads (codes "stop") (λ p. events.StopAt p.0 p.1) count refl (λ p h. h.1) (λ p. refl) in
-    let opens = reads (codes "open") events.Open desk refl (λ d h. tt) (λ d. refl) in
-    let wipe = reads (codes "wipe") events.Wipe (number 1 4 (lit< tt)) refl (λ n h. h) (λ n. refl) in
-    let migrate = reads (codes "migrate") events.Migrate desk refl (λ d h. tt) (λ d. refl) in
+    let tick = reads (codes "tick") Event.Tick station refl (λ t h. h) (λ t. refl) in
+    let given = reads (codes "give") (λ p. Event.Give p.0 p.1) give refl (λ p h. (h.0.1, h.1)) (λ p. refl) in
+    let kill = reads (codes "kill") Event.Kill desk refl (λ d h. tt) (λ d. refl) in
+    let lost = reads (codes "power") (λ p. Event.Power p.0 p.1) power refl (λ p h. h.1) (λ p. power_text p.0 p.1) in
+    let fail = reads (codes "fail") (λ p. Event.FailAt p.0 p.1) count refl (λ p h. h.1) (λ p. refl) in
+    let stop = reads (codes "stop") (λ p. Event.StopAt p.0 p.1) count refl (λ p h. h.1) (λ p. refl) in
+    let opens = reads (codes "open") Event.Open desk refl (λ d h. tt) (λ d. refl) in
+    let wipe = reads (codes "wipe") Event.Wipe (number 1 4 (lit< tt)) refl (λ n h. h) (λ n. refl) in
+    let migrate = reads (codes "migrate") Event.Migrate desk refl (λ d h. tt) (λ d. refl) in
     (tick, (given, (kill, (lost, (fail, (stop, (opens, (wipe, (migrate, tt)))))))))
 
 -- what is read is the line of the event, and bytes that are no text are none
@@ -239,8 +233,8 @@ pub event_utf8 : (line : List ℕ) (e : Event) → event_at line ≡ Some e → 
 event_utf8 line e h = let p = event_found line e h in IsUtf8-from_ascii line p.2
 
 -- a pen line, with the line of its entry
-pen_text : (d : DeskId) (e : Entry) → event_text (events.Pen d e) ≡ pen_line d (text_of e)
-pen_text d (entries.Write p) = rw (words_are p) refl
+pen_text : (d : DeskId) (e : Entry) → event_text (Event.Pen d e) ≡ pen_line d (text_of e)
+pen_text d (Entry.Write p) = rw (words_are p) refl
 pen_text d _ = refl
 
 pen_again : (d : DeskId) (entry : List ℕ) → pen_at (pen_line d entry) ≡ Some (d, entry)
@@ -251,17 +245,17 @@ pen_again B entry = refl
 -- the line of an event says that event
 pub says_again : (n : ℕ) (e : Event) → IsWrittenEvent e → line_says n (event_text e) ≡ Ok e
 unfolding line_says pen_at event_at cut give_at power_at
-says_again n (events.Pen d e) h =
+says_again n (Event.Pen d e) h =
     ap (line_says n) (pen_text d e) ∙ (ap (λ o. pen_or n o (pen_line d (text_of e))) (pen_again d (text_of e)) ∙ ap (penned n d) (line_again e h))
-says_again n (events.Tick t) h = rw (station_again t h) refl
-says_again n (events.Give m t) h = rw (give.again (m, t) ((omega arith, h.0), h.1)) refl
-says_again n (events.Kill d) h = rw (desk_again d) refl
-says_again n (events.Power d c) h = ap (line_says n) (sym (power_text d c)) ∙ rw (power.again (d, c) (tt, h)) refl
-says_again n (events.FailAt d k) h = rw (count.again (d, k) (tt, h)) refl
-says_again n (events.StopAt d k) h = rw (count.again (d, k) (tt, h)) refl
-says_again n (events.Open d) h = rw (desk_again d) refl
-says_again n (events.Wipe k) h = let b = number 1 4 (lit< tt) in rw (b.again k h) refl
-says_again n (events.Migrate d) h = rw (desk_again d) refl
+says_again n (Event.Tick t) h = rw (station_again t h) refl
+says_again n (Event.Give m t) h = rw (give.again (m, t) ((omega arith, h.0), h.1)) refl
+says_again n (Event.Kill d) h = rw (desk_again d) refl
+says_again n (Event.Power d c) h = ap (line_says n) (sym (power_text d c)) ∙ rw (power.again (d, c) (tt, h)) refl
+says_again n (Event.FailAt d k) h = rw (count.again (d, k) (tt, h)) refl
+says_again n (Event.StopAt d k) h = rw (count.again (d, k) (tt, h)) refl
+says_again n (Event.Open d) h = rw (desk_again d) refl
+says_again n (Event.Wipe k) h = let b = number 1 4 (lit< tt) in rw (b.again k h) refl
+says_again n (Event.Migrate d) h = rw (desk_again d) refl
 
 start_found : (start line rest : List ℕ) → after_start start line ≡ Some rest → line ≡ start ++ rest
 start_found start line rest h = elim (one_of (take (length start) line) start (drop (length start) line) rest None h) [

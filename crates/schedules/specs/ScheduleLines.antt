@@ -7,11 +7,7 @@ use Rattle.notation.specs.Fault.{first_fault}
 use Rattle.agree_core.specs.declared.messages.DeskId.{DeskId}
 use Rattle.agree_core.specs.declared.messages.DeskId.TheVariants.{A, B}
 use Rattle.entry_log.specs.declared.mem_disk.choice.Choice.{Choice}
-use Rattle.entry_log.specs.declared.mem_disk.choice.Choice.TheVariants as choices
-use Rattle.headline.specs.declared.event.Event.{Event}
-use Rattle.headline.specs.declared.event.Event.TheVariants as events
-use Rattle.headline.specs.declared.event.Station.{Station}
-use Rattle.headline.specs.declared.event.Station.TheVariants as stations
+use Rattle.headline.specs.declared.event.{Event.Event, Station.Station}
 use Rattle.schedules.specs.declared.schedule_fault.ScheduleFault.{ScheduleFault}
 use Rattle.schedules.specs.declared.schedule_fault.ScheduleFault.TheVariants.{NoMemory, BadEvent, BadEntry}
 
@@ -20,26 +16,26 @@ desk_word A = codes "a"
 desk_word B = codes "b"
 
 abbrev pub station_word : Station → Token
-station_word (stations.Desk d) = desk_word d
-station_word (stations.Board n) = decimal n
+station_word (Station.Desk d) = desk_word d
+station_word (Station.Board n) = decimal n
 
 abbrev pub choice_words : Choice → List Token
-choice_words choices.Lost = codes "lost" ∷ []
-choice_words choices.Kept = codes "kept" ∷ []
-choice_words (choices.Fill v) = codes "fill" ∷ decimal v ∷ []
+choice_words Choice.Lost = codes "lost" ∷ []
+choice_words Choice.Kept = codes "kept" ∷ []
+choice_words (Choice.Fill v) = codes "fill" ∷ decimal v ∷ []
 
 -- the words of an event
 abbrev pub event_words : Event → List Token
-event_words (events.Pen d e) = codes "pen" ∷ desk_word d ∷ entry_words e
-event_words (events.Tick t) = codes "tick" ∷ station_word t ∷ []
-event_words (events.Give m t) = codes "give" ∷ decimal m ∷ station_word t ∷ []
-event_words (events.Kill d) = codes "kill" ∷ desk_word d ∷ []
-event_words (events.Power d choice) = codes "power" ∷ desk_word d ∷ choice_words choice
-event_words (events.FailAt d n) = codes "fail" ∷ desk_word d ∷ decimal n ∷ []
-event_words (events.StopAt d n) = codes "stop" ∷ desk_word d ∷ decimal n ∷ []
-event_words (events.Open d) = codes "open" ∷ desk_word d ∷ []
-event_words (events.Wipe n) = codes "wipe" ∷ decimal n ∷ []
-event_words (events.Migrate d) = codes "migrate" ∷ desk_word d ∷ []
+event_words (Event.Pen d e) = codes "pen" ∷ desk_word d ∷ entry_words e
+event_words (Event.Tick t) = codes "tick" ∷ station_word t ∷ []
+event_words (Event.Give m t) = codes "give" ∷ decimal m ∷ station_word t ∷ []
+event_words (Event.Kill d) = codes "kill" ∷ desk_word d ∷ []
+event_words (Event.Power d choice) = codes "power" ∷ desk_word d ∷ choice_words choice
+event_words (Event.FailAt d n) = codes "fail" ∷ desk_word d ∷ decimal n ∷ []
+event_words (Event.StopAt d n) = codes "stop" ∷ desk_word d ∷ decimal n ∷ []
+event_words (Event.Open d) = codes "open" ∷ desk_word d ∷ []
+event_words (Event.Wipe n) = codes "wipe" ∷ decimal n ∷ []
+event_words (Event.Migrate d) = codes "migrate" ∷ desk_word d ∷ []
 
 -- the line of an event: its words with one space between them
 abbrev pub event_text : Event → List ℕ
@@ -54,11 +50,11 @@ abbrev pub IsWrittenBoard : ℕ → Type 0
 IsWrittenBoard n = (1 ≤ n) × (n ≤ 4)
 
 abbrev pub IsWrittenStation : Station → Type 0
-IsWrittenStation (stations.Desk d) = Unit {0}
-IsWrittenStation (stations.Board n) = IsWrittenBoard n
+IsWrittenStation (Station.Desk d) = Unit {0}
+IsWrittenStation (Station.Board n) = IsWrittenBoard n
 
 abbrev pub IsWrittenChoice : Choice → Type 0
-IsWrittenChoice (choices.Fill v) = v ≤ 255
+IsWrittenChoice (Choice.Fill v) = v ≤ 255
 IsWrittenChoice _ = Unit {0}
 
 abbrev pub IsWrittenCount : ℕ → Type 0
@@ -66,13 +62,13 @@ IsWrittenCount n = (1 ≤ n) × (n ≤ 1000)
 
 -- an event that has a line: its numbers are in their ranges
 abbrev pub IsWrittenEvent : Event → Type 0
-IsWrittenEvent (events.Pen d e) = IsEntry e
-IsWrittenEvent (events.Tick t) = IsWrittenStation t
-IsWrittenEvent (events.Give m t) = (m ≤ 65535) × IsWrittenStation t
-IsWrittenEvent (events.Power d choice) = IsWrittenChoice choice
-IsWrittenEvent (events.FailAt d n) = IsWrittenCount n
-IsWrittenEvent (events.StopAt d n) = IsWrittenCount n
-IsWrittenEvent (events.Wipe n) = IsWrittenBoard n
+IsWrittenEvent (Event.Pen d e) = IsEntry e
+IsWrittenEvent (Event.Tick t) = IsWrittenStation t
+IsWrittenEvent (Event.Give m t) = (m ≤ 65535) × IsWrittenStation t
+IsWrittenEvent (Event.Power d choice) = IsWrittenChoice choice
+IsWrittenEvent (Event.FailAt d n) = IsWrittenCount n
+IsWrittenEvent (Event.StopAt d n) = IsWrittenCount n
+IsWrittenEvent (Event.Wipe n) = IsWrittenBoard n
 IsWrittenEvent _ = Unit {0}
 
 -- these lines are those of these events, one after another

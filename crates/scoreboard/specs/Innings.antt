@@ -2,10 +2,7 @@
 use Rattle.std.specs.Prelude.{ℕ, ◌+◌, ◌==◌, Bool, not, ◌&&◌, List, [], ◌∷◌, ◌++◌, map, codes, decimal}
 use Rattle.notation.specs.declared.entry.Side.{Side}
 use Rattle.ball_laws.specs.History.{History}
-use Rattle.match_laws.specs.declared.score.Extras.{Extras}
-use Rattle.match_laws.specs.declared.rows.BattingRow.{BattingRow}
-use Rattle.match_laws.specs.declared.rows.BowlingRow.{BowlingRow}
-use Rattle.match_laws.specs.declared.rows.Fall.{Fall}
+use Rattle.match_laws.specs.declared.{score.Extras.Extras, rows.BattingRow.BattingRow, rows.BowlingRow.BowlingRow, rows.Fall.Fall}
 use Rattle.match_laws.specs.History.{begun, side_of, opponent, is_open}
 use Rattle.match_laws.specs.Figures.{total, wickets, overs, balls, batting_order, bowling_order, falls}
 use Rattle.match_laws.specs.Parts.{extras_of, batting_row_of, bowling_row_of}

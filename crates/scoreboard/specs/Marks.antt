@@ -1,7 +1,6 @@
 -- A delivery as an over's row shows it: its runs, what they came off, and `W` where a wicket fell.
 use Rattle.std.specs.Prelude.{ℕ, ◌==◌, if◌then◌else◌, Bool, List, [], ◌++◌, is_some, codes, decimal}
-use Rattle.notation.specs.declared.entry.Ball.{Ball}
-use Rattle.notation.specs.declared.entry.Kind.{Kind}
+use Rattle.notation.specs.declared.entry.{Ball.Ball, Kind.Kind}
 use Rattle.notation.specs.declared.entry.Kind.TheVariants.{Bat, Bye, Leg, Wide, Nb, NbBye, NbLeg}
 use Rattle.match_laws.specs.Figures.{runs_of}
 

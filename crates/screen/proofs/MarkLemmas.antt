@@ -3,9 +3,7 @@ use Rattle.std.proofs.Common.{◌≡◌, ℕ, ◌+◌, ◌*◌, ◌≤◌, List,
 use Rattle.std.specs.Prelude.{slice_get}
 use Rattle.std.specs.Io.KnownBytes.{Appends}
 use Rattle.std.proofs.lemmas.List.{drop_all}
-use Rattle.notation.specs.declared.entry.Ball.{Ball}
-use Rattle.notation.specs.declared.entry.Plain.{Plain}
-use Rattle.notation.specs.declared.entry.Plain.TheVariants as plain
+use Rattle.notation.specs.declared.entry.{Ball.Ball, Plain.Plain}
 use Rattle.ball_laws.specs.Sums.{tally}
 use Rattle.match_laws.specs.Figures.{runs_of}
 use Rattle.corrections.specs.declared.placed.Placed.{Placed}
@@ -37,7 +35,7 @@ pub marked_none : (items : List Placed) (from : ℕ) (o : Option (List ℕ)) →
 marked_none items from o = record { over = []; seen = record { rest = refl }; written = appends_none o }
 
 marks-bowled : (item : Plain) (over : List Ball) → marks over ++ item_mark item ≡ marks (bowled item over)
-marks-bowled (plain.Ball b) over = refl
+marks-bowled (Plain.Ball b) over = refl
 marks-bowled _ over = append-nil (marks over)
 
 pub marked_one : (items : List Placed) (from k : ℕ) (x : Placed) (o p q : Option (List ℕ)) → Marked items from k o p → slice_get items k ≡ Some x → Appends p q (item_mark x.item) → Marked items from (k + 1) o q
@@ -63,7 +61,7 @@ pub counted_none : (items : List Placed) (from : ℕ) → Counted items from fro
 counted_none items from = record { over = []; seen = record { rest = refl }; sum = refl; most = omega arith }
 
 runs-bowled : (item : Plain) (over : List Ball) → tally runs_of over + item_runs item ≡ tally runs_of (bowled item over)
-runs-bowled (plain.Ball b) over = refl
+runs-bowled (Plain.Ball b) over = refl
 runs-bowled _ over = omega arith
 
 pub counted_one : (items : List Placed) (from k runs more : ℕ) (x : Placed) → Counted items from k runs → slice_get items k ≡ Some x → more ≡ item_runs x.item → more ≤ 260 → Counted items from (k + 1) (runs + more)

@@ -3,16 +3,13 @@ use Rattle.std.proofs.Common.{◌≡◌, ℕ, ◌+◌, ◌≤◌, List, [], ◌�
 use Rattle.std.specs.Prelude.{slice_get}
 use Rattle.std.proofs.lemmas.Grind.{reverse_onto}
 use Rattle.std.proofs.lemmas.List.{drop_all}
-use Rattle.notation.specs.declared.entry.Entry.{Entry}
+use Rattle.notation.specs.declared.entry.{Entry.Entry, Ball.Ball, Plain.Plain}
 use Rattle.ball_laws.specs.History.{History}
 use Rattle.ball_laws.specs.Laws.{state_after}
 use Rattle.match_laws.specs.History.{is_void, or_else}
 use Rattle.corrections.specs.declared.placed.Placed.{Placed}
 use Rattle.corrections.specs.CleanList.{clean, history, history_of, kept, clean_items_of}
 use Rattle.corrections.proofs.ScoringLemmas.{kept_first, kept_not}
-use Rattle.notation.specs.declared.entry.Ball.{Ball}
-use Rattle.notation.specs.declared.entry.Plain.{Plain}
-use Rattle.notation.specs.declared.entry.Plain.TheVariants as plain
 use Rattle.cards.proofs.Slots.{next}
 use Rattle.screen.specs.declared.over.LastOver.{LastOver}
 use Rattle.screen.specs.Overs.{IsOverOf, are_some, bowled, with_balls}
@@ -50,13 +47,13 @@ Adds items k item = (over : List Ball) → with_balls over (drop k items) ≡ wi
 adds : (items : List Placed) (k : ℕ) (x : Placed) → slice_get items k ≡ Some x → Adds items k x.item
 adds items k x here = λ over. ap (with_balls over) (next items k x here)
 
-balls_on : (items : List Placed) (k from : ℕ) (is_on : Bool) (b : Ball) (this last : List Ball) → Adds items k (plain.Ball b) → is_on ≡ are_some this →
+balls_on : (items : List Placed) (k from : ℕ) (is_on : Bool) (b : Ball) (this last : List Ball) → Adds items k (Plain.Ball b) → is_on ≡ are_some this →
     with_balls [] (drop from items) ≡ with_balls (this_or_last this last) (drop k items) →
     with_balls [] (drop (if is_on then from else k) items) ≡ with_balls (b ∷ this) (drop (k + 1) items)
 balls_on items k from is_on b [] last add on balls = rw on (add [])
 balls_on items k from is_on b (c ∷ cs) last add on balls = rw on (balls ∙ add (c ∷ cs))
 
-balls_called : (items : List Placed) (k from : ℕ) (is_on : Bool) (this last : List Ball) → Adds items k plain.Over → is_on ≡ are_some this →
+balls_called : (items : List Placed) (k from : ℕ) (is_on : Bool) (this last : List Ball) → Adds items k Plain.Over → is_on ≡ are_some this →
     with_balls [] (drop from items) ≡ with_balls (this_or_last this last) (drop k items) →
     with_balls [] (drop (if is_on then from else k + 1) items) ≡ with_balls this (drop (k + 1) items)
 balls_called items k from is_on [] last add on balls = rw on refl
@@ -80,18 +77,18 @@ anew : (items : List Placed) (k : ℕ) → IsOverAt items (k + 1) (none_to (k + 
 anew items k = record { on = refl; bowler = refl; balls = refl }
 
 with_item_at : (items : List Placed) (k : ℕ) (item : Plain) (over : LastOver) (h : History) → Adds items k item → AtHistory items k over h → AtHistory items (k + 1) (with_item over k item) (item ∷ h)
-with_item_at items k (plain.Ball b) over h add at = record {
+with_item_at items k (Plain.Ball b) over h add at = record {
   on = refl;
   bowler = refl;
   balls = balls_on items k over.from over.is_on b (state_after h).this_over (state_after h).last_over add at.on at.balls;
 }
-with_item_at items k plain.Over over h add at = record {
+with_item_at items k Plain.Over over h add at = record {
   on = refl;
   bowler = bowler_called over.is_on over.bowler (state_after h).this_over (state_after h).last_over at.on at.bowler;
   balls = balls_called items k over.from over.is_on (state_after h).this_over (state_after h).last_over add at.on at.balls;
 }
-with_item_at items k (plain.Innings side) over h add at = anew items k
-with_item_at items k (plain.End cause) over h add at = anew items k
+with_item_at items k (Plain.Innings side) over h add at = anew items k
+with_item_at items k (Plain.End cause) over h add at = anew items k
 with_item_at items k item over h add at = stays items k item over _ _ add refl at
 
 history-cons : (x : Placed) (xs : List Placed) (h : History) → history (x ∷ xs) ++ h ≡ history xs ++ x.item ∷ h
@@ -107,7 +104,7 @@ taken_one items over k x m here stays =
 
 -- what is void is no delivery
 void_adds_none : (item : Plain) (over : List Ball) → is_void item ≡ true → bowled item over ≡ over
-void_adds_none (plain.Ball b) over void = absurd (cc)
+void_adds_none (Plain.Ball b) over void = absurd (cc)
 void_adds_none _ over void = refl
 
 pub taken_not : (items : List Placed) (over : LastOver) (k : ℕ) (x : Placed) → Taken items over k → slice_get items k ≡ Some x → is_void x.item ≡ true → Taken items over (k + 1)

@@ -1,8 +1,6 @@
 -- The over of the last delivery, as it is found among what stands in a book.
 use Rattle.std.specs.Prelude.{◌≡◌, Bool, true, false, List, [], ◌∷◌, drop}
-use Rattle.notation.specs.declared.entry.Ball.{Ball}
-use Rattle.notation.specs.declared.entry.Plain.{Plain}
-use Rattle.notation.specs.declared.entry.Plain.TheVariants as plain
+use Rattle.notation.specs.declared.entry.{Ball.Ball, Plain.Plain}
 use Rattle.ball_laws.specs.History.{History}
 use Rattle.ball_laws.specs.Laws.{state_after}
 use Rattle.corrections.specs.declared.placed.Placed.{Placed}
@@ -11,7 +9,7 @@ use Rattle.screen.specs.Play.{bowler_now, over_now}
 
 -- the deliveries of an over, the newest first, with the item more
 abbrev pub bowled : Plain → List Ball → List Ball
-bowled (plain.Ball b) over = b ∷ over
+bowled (Plain.Ball b) over = b ∷ over
 bowled _ over = over
 
 -- with all that stands here

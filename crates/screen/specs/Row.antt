@@ -1,7 +1,6 @@
 -- How a match stands, in one row. s is the sheet, n the innings a side, h the history and i the innings.
 use Rattle.std.specs.Prelude.{ℕ, ◌==◌, if◌then◌else◌, Bool, List, [], ◌∷◌, ◌++◌, Option, Some, None, codes, decimal}
-use Rattle.notation.specs.declared.entry.Ball.{Ball}
-use Rattle.notation.specs.declared.entry.Side.{Side}
+use Rattle.notation.specs.declared.entry.{Ball.Ball, Side.Side}
 use Rattle.ball_laws.specs.History.{History}
 use Rattle.ball_laws.specs.Laws.{state_after}
 use Rattle.match_laws.specs.declared.rows.BowlingRow.{BowlingRow}

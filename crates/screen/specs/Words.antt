@@ -4,10 +4,8 @@ use Rattle.std.specs.List.{list_all}
 use Rattle.notation.specs.Written.{Token, tokens, found_number}
 use Rattle.match_laws.specs.History.{or_else}
 use Rattle.cards.specs.Sheet.{is_printable}
-use Rattle.screen.specs.declared.topic.Topic.{Topic}
+use Rattle.screen.specs.declared.{topic.Topic.Topic, word.Word.Word}
 use Rattle.screen.specs.declared.topic.Topic.TheVariants.{Innings, In, Ball, Gone, Over, Penalty, Swap, End, Close, Void, Fix, Late, Again, Listing, Score, Card, Players, Quit, Short}
-use Rattle.screen.specs.declared.word.Word.{Word}
-use Rattle.screen.specs.declared.word.Word.TheVariants as words
 
 -- the words that begin a line of an entry, but marks
 abbrev pub line_topic : Token → Option Topic
@@ -45,19 +43,19 @@ topic_of t = or_else (line_topic t) (desk_topic t)
 -- one token; nothing at all is an empty one
 abbrev pub single : Token → Option Word
 single t =
-    if length t == 0 then Some words.Where
-    else if bytes_eq t (codes "list") then Some (words.Entries 12)
-    else if bytes_eq t (codes "score") then Some words.Total
-    else if bytes_eq t (codes "card") then Some words.Cards
-    else if bytes_eq t (codes "players") then Some words.Sides
-    else if bytes_eq t (codes "help") then Some words.Forms
+    if length t == 0 then Some Word.Where
+    else if bytes_eq t (codes "list") then Some (Word.Entries 12)
+    else if bytes_eq t (codes "score") then Some Word.Total
+    else if bytes_eq t (codes "card") then Some Word.Cards
+    else if bytes_eq t (codes "players") then Some Word.Sides
+    else if bytes_eq t (codes "help") then Some Word.Forms
     else None
 
 -- two tokens
 abbrev pub pair : Token → Token → Option Word
 pair t u =
-    if bytes_eq t (codes "list") then option_map words.Entries (found_number 1 200 u)
-    else if bytes_eq t (codes "help") then option_map words.More (topic_of u)
+    if bytes_eq t (codes "list") then option_map Word.Entries (found_number 1 200 u)
+    else if bytes_eq t (codes "help") then option_map Word.More (topic_of u)
     else None
 
 abbrev pub word_from : List Token → Option Word

@@ -1,61 +1,54 @@
 -- Why a command ended: the lines that standard error has of it, and whether something is refused.
 use Rattle.std.specs.Prelude.{ℕ, List, ◌++◌, codes, decimal, Bool, true, false, Option, Some, None}
 use Rattle.streams.specs.declared.input.InputFault.{InputFault}
-use Rattle.streams.specs.declared.input.InputFault.TheVariants as inputs
 use Rattle.cards.specs.SheetFault as sheet
 use Rattle.cards.specs.declared.fault.SheetFault.{SheetFault}
-use Rattle.cards.specs.declared.fault.SheetFault.TheVariants as sheets
 use Rattle.schedules.specs.ScheduleFault as schedule
 use Rattle.schedules.specs.declared.schedule_fault.ScheduleFault.{ScheduleFault}
-use Rattle.schedules.specs.declared.schedule_fault.ScheduleFault.TheVariants as schedules
 use Rattle.vote_store.specs.Refusal.{number, name}
 use Rattle.vote_store.specs.declared.refusal.Refusal.{Refusal}
-use Rattle.vote_store.specs.declared.refusal.Refusal.TheVariants as votes
 use Rattle.entry_log.specs.declared.refusal.Refusal.TheVariants as files
 use Rattle.desk.specs.declared.refusal.OpenRefusal.{OpenRefusal}
-use Rattle.desk.specs.declared.refusal.OpenRefusal.TheVariants as openings
 use Rattle.books.specs.declared.fault.BookFault.{BookFault}
-use Rattle.books.specs.declared.fault.BookFault.TheVariants as books
 use Rattle.books.specs.Rejected.{rejection_line}
-use Rattle.setup.specs.declared.fault.StopFault.{StopFault}
+use Rattle.setup.specs.declared.fault.{StopFault.StopFault, TheConstants.TURNS}
 use Rattle.setup.specs.declared.fault.StopFault.TheVariants.{NoMemory, Read, Write, Sheet, Schedule, Votes, VotesNamed, BadVotes, Line, NotAgreed, Listen, Disk}
-use Rattle.setup.specs.declared.fault.TheConstants.{TURNS}
 
 -- an input isn't read to its end
 abbrev pub of_input : InputFault → StopFault
-of_input inputs.NoMemory = NoMemory
-of_input inputs.Read = Read
+of_input InputFault.NoMemory = NoMemory
+of_input InputFault.Read = Read
 
 -- a votes file is refused: being out of memory is its own, and so is a failing disk, which is told as a failed write
 abbrev pub of_votes : Refusal → StopFault
-of_votes votes.NoMemory = NoMemory
-of_votes (votes.File files.Device) = Write
+of_votes Refusal.NoMemory = NoMemory
+of_votes (Refusal.File files.Device) = Write
 of_votes why = Votes why
 
 -- no desk is made on a votes file
 abbrev pub of_opening : OpenRefusal → StopFault
-of_opening (openings.Votes why) = of_votes why
-of_opening (openings.BadVotes place) = BadVotes place
+of_opening (OpenRefusal.Votes why) = of_votes why
+of_opening (OpenRefusal.BadVotes place) = BadVotes place
 
 -- an input has no book
 abbrev pub of_book : BookFault → StopFault
-of_book books.NoMemory = NoMemory
-of_book (books.Votes why) = Votes why
-of_book (books.BadVotes place) = BadVotes place
-of_book (books.Line number why) = Line number why
+of_book BookFault.NoMemory = NoMemory
+of_book (BookFault.Votes why) = Votes why
+of_book (BookFault.BadVotes place) = BadVotes place
+of_book (BookFault.Line number why) = Line number why
 
 -- whether a votes file is refused for what it holds, and no memory or disk is to blame
 abbrev pub is_file_refusal : Refusal → Bool
-is_file_refusal votes.NoMemory = false
-is_file_refusal (votes.File files.Device) = false
+is_file_refusal Refusal.NoMemory = false
+is_file_refusal (Refusal.File files.Device) = false
 is_file_refusal why = true
 
 -- whether a sheet, a schedule, a votes file or a line is refused for what it holds, and no memory, stream, socket or disk
 -- is to blame
 abbrev pub is_refusal : StopFault → Bool
-is_refusal (Sheet sheets.NoMemory) = false
+is_refusal (Sheet SheetFault.NoMemory) = false
 is_refusal (Sheet why) = true
-is_refusal (Schedule schedules.NoMemory) = false
+is_refusal (Schedule ScheduleFault.NoMemory) = false
 is_refusal (Schedule why) = true
 is_refusal (Votes why) = is_file_refusal why
 is_refusal (VotesNamed why) = is_file_refusal why
@@ -80,12 +73,12 @@ schedule_line why = numbered_line (codes "schedule") (schedule.number_of why) (s
 
 -- a disk that fails is told as an output that does
 abbrev pub votes_line : Refusal → List ℕ
-votes_line (votes.File files.Device) = codes "cannot write\n"
+votes_line (Refusal.File files.Device) = codes "cannot write\n"
 votes_line why = numbered_line (codes "votes") (number why) (name why)
 
 -- the same of one of two files, which is named
 abbrev pub named_votes_line : List ℕ → Refusal → List ℕ
-named_votes_line path (votes.File files.Device) = codes "cannot write\n"
+named_votes_line path (Refusal.File files.Device) = codes "cannot write\n"
 named_votes_line path why = numbered_line (codes "votes " ++ path) (number why) (name why)
 
 -- the line of a place that so many turns of each station didn't agree

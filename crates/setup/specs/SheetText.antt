@@ -1,24 +1,20 @@
 -- What a file tells of a match sheet.
 use Rattle.std.specs.Prelude.{◌≢◌, ℕ, List, ⊤, Result, Ok, Err}
 use Rattle.streams.specs.declared.input.InputFault.{InputFault}
-use Rattle.streams.specs.declared.input.InputFault.TheVariants as inputs
 use Rattle.cards.specs.Sheet as sheets
 use Rattle.cards.specs.Reading.{IsReading}
 use Rattle.cards.specs.declared.fault.SheetFault.{SheetFault}
-use Rattle.cards.specs.declared.fault.SheetFault.TheVariants as causes
-use Rattle.setup.specs.declared.fault.StopFault.{StopFault}
-use Rattle.setup.specs.declared.fault.StopFault.TheVariants as stops
-use Rattle.setup.specs.declared.sheet.NoSheet.{NoSheet}
+use Rattle.setup.specs.declared.{fault.StopFault.StopFault, sheet.NoSheet.NoSheet}
 use Rattle.setup.specs.declared.sheet.NoSheet.TheVariants.{NoMemory, Read, Refused}
 
 -- the file isn't read to its end
 abbrev pub of_input : InputFault → NoSheet
-of_input inputs.NoMemory = NoMemory
-of_input inputs.Read = Read
+of_input InputFault.NoMemory = NoMemory
+of_input InputFault.Read = Read
 
 -- the sheet is refused: being out of memory is its own
 abbrev pub of_sheet : SheetFault → NoSheet
-of_sheet causes.NoMemory = NoMemory
+of_sheet SheetFault.NoMemory = NoMemory
 of_sheet why = Refused why
 
 -- the sheet, or the sheet's fault, is what the bytes of the file are read as
@@ -29,11 +25,11 @@ Tells bytes (Err fault) = ⊤
 
 -- no sheet is refused for being out of memory
 abbrev pub IsSheetFault : NoSheet → Type 0
-IsSheetFault (Refused why) = why ≢ causes.NoMemory
+IsSheetFault (Refused why) = why ≢ SheetFault.NoMemory
 IsSheetFault fault = ⊤
 
 -- what standard error is told, and the status, go by
 abbrev pub stop_of : NoSheet → StopFault
-stop_of NoMemory = stops.NoMemory
-stop_of Read = stops.Read
-stop_of (Refused why) = stops.Sheet why
+stop_of NoMemory = StopFault.NoMemory
+stop_of Read = StopFault.Read
+stop_of (Refused why) = StopFault.Sheet why

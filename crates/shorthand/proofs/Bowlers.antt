@@ -1,8 +1,6 @@
 -- Who bowls and bats by what stands, and by the Laws' history of the book.
 use Rattle.std.proofs.Common.{◌≡◌, ◌⊎◌, Bool, true, false, List, [], ◌∷◌, inl, inr, refl, ap, ◌∙◌}
-use Rattle.notation.specs.declared.entry.Plain.{Plain}
-use Rattle.notation.specs.declared.entry.Plain.TheVariants as plains
-use Rattle.notation.specs.declared.entry.Entry.{Entry}
+use Rattle.notation.specs.declared.entry.{Plain.Plain, Entry.Entry}
 use Rattle.ball_laws.specs.History.{History, open_over}
 use Rattle.match_laws.specs.History.{is_void, last_side}
 use Rattle.corrections.specs.declared.placed.Placed.{Placed}
@@ -19,15 +17,15 @@ record AreAlike (g h : History) : Type 0 where
   side : last_side g ≡ last_side h
 
 alike_more : (g h : History) (x : Plain) → AreAlike g h → AreAlike (x ∷ g) (x ∷ h)
-alike_more g h (plains.Innings s) e = record { over = refl; side = refl }
-alike_more g h (plains.Ball b) e = record { over = ap (λ bs. b ∷ bs) e.over; side = e.side }
-alike_more g h plains.Over e = record { over = refl; side = e.side }
-alike_more g h (plains.End c) e = record { over = refl; side = e.side }
+alike_more g h (Plain.Innings s) e = record { over = refl; side = refl }
+alike_more g h (Plain.Ball b) e = record { over = ap (λ bs. b ∷ bs) e.over; side = e.side }
+alike_more g h Plain.Over e = record { over = refl; side = e.side }
+alike_more g h (Plain.End c) e = record { over = refl; side = e.side }
 alike_more g h _ e = record { over = e.over; side = e.side }
 
 -- a `void` adds nothing
 alike_void : (g h : History) (x : Plain) → is_void x ≡ true → AreAlike g h → AreAlike (x ∷ g) h
-alike_void g h plains.Void v e = record { over = e.over; side = e.side }
+alike_void g h Plain.Void v e = record { over = e.over; side = e.side }
 alike_void g h _ v e = absurd (cc)
 
 either_way : (b : Bool) → (b ≡ true) ⊎ (b ≡ false)

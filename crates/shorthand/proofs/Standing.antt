@@ -3,9 +3,7 @@ use Rattle.std.proofs.Common.{◌≡◌, ◌&&◌, ℕ, ◌≤◌, nat_le, nat_l
 use Rattle.std.specs.Prelude.{OnErr, MatchResult}
 use Rattle.std.proofs.lemmas.Bool.{leb-true, le-leb}
 use Rattle.arrayvec.specs.ArrayString.{ArrayString as Text}
-use Rattle.notation.specs.declared.fault.LineFault.{LineFault}
-use Rattle.notation.specs.declared.fault.LineFault.TheVariants as faults
-use Rattle.notation.specs.declared.entry.Entry.{Entry}
+use Rattle.notation.specs.declared.{fault.LineFault.LineFault, entry.Entry.Entry}
 use Rattle.notation.specs.Written.{tokens, text_of, is_spaced}
 use Rattle.notation.specs.Reading.{line_answer}
 use Rattle.notation.specs.inner.TokenReading.{all_of}
@@ -76,9 +74,9 @@ taken_lines_are_read = record {
 -- an entry's line is tokens with one space between them
 entry_apart : (line : List ℕ) (e : Entry) → line_answer line ≡ Ok e → is_spaced line ≡ true
 unfolding line_answer
-entry_apart line e h = elim (chosen (nat_lt 96 (length line)) (Err faults.TooLong) _ (Ok e) h) [
+entry_apart line e h = elim (chosen (nat_lt 96 (length line)) (Err LineFault.TooLong) _ (Ok e) h) [
   | inl p ↦ let q = p.1 in absurd (cc)
-  | inr p ↦ elim (chosen (is_spaced line) (all_of (tokens line)) (Err faults.Spaces) (Ok e) p.1) [
+  | inr p ↦ elim (chosen (is_spaced line) (all_of (tokens line)) (Err LineFault.Spaces) (Ok e) p.1) [
     | inl q ↦ q.0
     | inr q ↦ let r = q.1 in absurd (cc)
   ]
@@ -90,11 +88,11 @@ of_line f g read one other is = let e : g ≡ f = cc in rw (← e) is
 
 pub other_fault : (line : List ℕ) (f : LineFault) → line_answer line ≡ Err f → is_spaced line ≡ false → is_of_line f ≡ true
 unfolding line_answer
-other_fault line f h apart = elim (chosen (nat_lt 96 (length line)) (Err faults.TooLong) _ (Err f) h) [
-  | inl p ↦ of_line f faults.TooLong (Err faults.TooLong) refl p.1 refl
-  | inr p ↦ elim (chosen (is_spaced line) (all_of (tokens line)) (Err faults.Spaces) (Err f) p.1) [
+other_fault line f h apart = elim (chosen (nat_lt 96 (length line)) (Err LineFault.TooLong) _ (Err f) h) [
+  | inl p ↦ of_line f LineFault.TooLong (Err LineFault.TooLong) refl p.1 refl
+  | inr p ↦ elim (chosen (is_spaced line) (all_of (tokens line)) (Err LineFault.Spaces) (Err f) p.1) [
     | inl q ↦ absurd (let never : true ≡ false = sym q.0 ∙ apart in (cc))
-    | inr q ↦ of_line f faults.Spaces (Err faults.Spaces) refl q.1 refl
+    | inr q ↦ of_line f LineFault.Spaces (Err LineFault.Spaces) refl q.1 refl
   ]
 ]
 

@@ -2,8 +2,7 @@
 use Rattle.std.proofs.Common.{◌≡◌, ℕ, List, [], drop}
 use Rattle.ball_laws.specs.History.{History}
 use Rattle.corrections.specs.declared.placed.Placed.{Placed}
-use Rattle.shorthand.specs.declared.point.Point.{Point}
-use Rattle.shorthand.specs.declared.point.Belongs.{Belongs}
+use Rattle.shorthand.specs.declared.point.{Point.Point, Belongs.Belongs}
 use Rattle.shorthand.specs.Points.{history_to, point_of}
 
 -- the point of what was walked over, the k first items of a list, of which none ends the walk

@@ -5,15 +5,12 @@ use Rattle.std.specs.List.{list_any, position_or_len, before_first, after_first}
 use Rattle.std.specs.Str.{bytes_eq}
 use Rattle.notation.specs.Written.{Token, tokens, how_text, all_hows, who_text, all_whos, kind_text, all_kinds, found_number}
 use Rattle.notation.specs.Reading.{line_answer}
-use Rattle.notation.specs.declared.fault.LineFault.{LineFault}
+use Rattle.notation.specs.declared.{fault.LineFault.LineFault, entry.Entry.Entry, entry.Side.Side}
 use Rattle.notation.specs.declared.fault.LineFault.TheVariants.{TooLong, Spaces}
-use Rattle.notation.specs.declared.entry.Entry.{Entry}
-use Rattle.notation.specs.declared.entry.Side.{Side}
 use Rattle.match_laws.specs.History.{opponent}
 use Rattle.cards.specs.Sheet.{Sheet}
-use Rattle.shorthand.specs.declared.point.Belongs.{Belongs}
+use Rattle.shorthand.specs.declared.point.{Belongs.Belongs, Point.Point}
 use Rattle.shorthand.specs.declared.point.Belongs.TheVariants.{Last, At, After}
-use Rattle.shorthand.specs.declared.point.Point.{Point}
 use Rattle.shorthand.specs.Lines.{Reason, Fault, WhoBowls, Word, as_typed, joined}
 use Rattle.shorthand.specs.Names.{player, fielder, is_digit_first}
 use Rattle.shorthand.specs.Marks.{mark}

@@ -1,11 +1,6 @@
 -- What holds of all lines.
 use Rattle.std.specs.Prelude.{◌≡◌, ◌⊎◌, ◌≤◌, ℕ, Some, None, List, [], ◌∷◌, length, Ok, Err}
-use Rattle.notation.specs.declared.entry.Ball.{Ball}
-use Rattle.notation.specs.declared.entry.Side.{Side}
-use Rattle.notation.specs.declared.entry.Cause.{Cause}
-use Rattle.notation.specs.declared.entry.Plain.TheVariants as plains
-use Rattle.notation.specs.declared.entry.Entry.{Entry}
-use Rattle.notation.specs.declared.fault.LineFault.{LineFault}
+use Rattle.notation.specs.declared.{entry.Ball.Ball, entry.Side.Side, entry.Cause.Cause, entry.Plain.Plain, entry.Entry.Entry, fault.LineFault.LineFault}
 use Rattle.notation.specs.Written.{IsEntry, Token, text_of}
 use Rattle.notation.specs.Reading.{line_answer}
 use Rattle.ball_laws.specs.History.{History}
@@ -36,10 +31,10 @@ pub record TakenLinesAreRead : Type 0 where
 -- history of the book: there is none after `over`, where an innings begins or has ended, and before the first delivery
 pub record BowlerLeftOutIsTheLast : Type 0 where
   pub of_book : (book : List Entry) → point_at book Last ≡ point_of (history_of book)
-  pub delivery : (h : History) (b : Ball) → (point_of (plains.Ball b ∷ h)).bowler ≡ Some b.bowler
-  pub over : (h : History) → (point_of (plains.Over ∷ h)).bowler ≡ None
-  pub innings : (h : History) (side : Side) → (point_of (plains.Innings side ∷ h)).bowler ≡ None
-  pub ended : (h : History) (cause : Cause) → (point_of (plains.End cause ∷ h)).bowler ≡ None
+  pub delivery : (h : History) (b : Ball) → (point_of (Plain.Ball b ∷ h)).bowler ≡ Some b.bowler
+  pub over : (h : History) → (point_of (Plain.Over ∷ h)).bowler ≡ None
+  pub innings : (h : History) (side : Side) → (point_of (Plain.Innings side ∷ h)).bowler ≡ None
+  pub ended : (h : History) (cause : Cause) → (point_of (Plain.End cause ∷ h)).bowler ≡ None
   pub nothing : (point_of []).bowler ≡ None
 
 -- a name means the one player of the team whose last word it is, or the one who has a word that begins so

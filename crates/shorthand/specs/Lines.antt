@@ -1,11 +1,9 @@
 -- A line that is written word by word: its text, or what isn't clear in it.
 use Rattle.std.specs.Prelude.{ℕ, nat_le, length, if◌then◌else◌, List, [], ◌∷◌, ◌++◌, map, Result, Ok, Err}
 use Rattle.notation.specs.Written.{Token}
-use Rattle.notation.specs.declared.fault.LineFault.{LineFault}
+use Rattle.notation.specs.declared.{fault.LineFault.LineFault, entry.Side.Side}
 use Rattle.notation.specs.declared.fault.LineFault.TheVariants.{TooLong}
-use Rattle.notation.specs.declared.entry.Side.{Side}
 use Rattle.shorthand.specs.declared.unclear.Unclear.{Unclear}
-use Rattle.shorthand.specs.declared.unclear.Unclear.TheVariants as unclear
 
 -- what isn't clear in a line: its words, who bowls, or which player of a side a name means
 pub data Reason : Type 0 where
@@ -15,10 +13,10 @@ pub data Reason : Type 0 where
   WhichPlayer : Side → Token → Reason
 
 abbrev pub reason_of : Unclear → Reason
-reason_of (unclear.Fault f) = Fault f
-reason_of unclear.WhoBowls = WhoBowls
-reason_of (unclear.NoSuchPlayer t) = NoSuchPlayer t.bytes
-reason_of (unclear.WhichPlayer side t) = WhichPlayer side t.bytes
+reason_of (Unclear.Fault f) = Fault f
+reason_of Unclear.WhoBowls = WhoBowls
+reason_of (Unclear.NoSuchPlayer t) = NoSuchPlayer t.bytes
+reason_of (Unclear.WhichPlayer side t) = WhichPlayer side t.bytes
 
 -- a word of the line, or why there is none
 abbrev pub Word : Type 0

@@ -9,9 +9,8 @@ use Rattle.notation.specs.declared.fault.LineFault.TheVariants.{TooLong}
 use Rattle.notation.specs.Written.{Token, tokens}
 use Rattle.ball_laws.specs.Over.{numbers}
 use Rattle.cards.specs.Sheet.{Sheet, Team, player_in, team_of}
-use Rattle.shorthand.specs.declared.names.Fit.{Fit}
+use Rattle.shorthand.specs.declared.names.{Fit.Fit, Found.Found}
 use Rattle.shorthand.specs.declared.names.Fit.TheVariants.{LastWord, Beginning}
-use Rattle.shorthand.specs.declared.names.Found.{Found}
 use Rattle.shorthand.specs.declared.names.Found.TheVariants.{NoOne, One, Several}
 use Rattle.shorthand.specs.Lines.{Reason, Fault, NoSuchPlayer, WhichPlayer, Word}
 

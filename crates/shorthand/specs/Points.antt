@@ -1,15 +1,13 @@
 -- Who bowls and who bats where a line belongs.
 use Rattle.std.specs.Prelude.{ℕ, ◌==◌, nat_lt, Bool, false, if◌then◌else◌, Option, Some, None, List, [], ◌∷◌, unwrap_or}
-use Rattle.notation.specs.declared.entry.Ball.{Ball}
+use Rattle.notation.specs.declared.entry.{Ball.Ball, Entry.Entry}
 use Rattle.notation.specs.declared.entry.Side.TheVariants.{Home}
-use Rattle.notation.specs.declared.entry.Entry.{Entry}
 use Rattle.ball_laws.specs.History.{History, open_over}
 use Rattle.match_laws.specs.History.{last_side}
 use Rattle.corrections.specs.declared.placed.Placed.{Placed}
 use Rattle.corrections.specs.CleanList.{clean_items_of}
-use Rattle.shorthand.specs.declared.point.Belongs.{Belongs}
+use Rattle.shorthand.specs.declared.point.{Belongs.Belongs, Point.Point}
 use Rattle.shorthand.specs.declared.point.Belongs.TheVariants.{At, After}
-use Rattle.shorthand.specs.declared.point.Point.{Point}
 
 -- the bowler of the first of these deliveries, if there is one
 abbrev pub bowler_of : List Ball → Option ℕ

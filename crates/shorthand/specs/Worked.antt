@@ -4,9 +4,8 @@ use Rattle.std.specs.Prelude.{◌≡◌, ℕ, false, None, List, [], ◌∷◌, 
 use Rattle.notation.specs.declared.entry.Side.TheVariants.{Home, Away}
 use Rattle.notation.specs.declared.entry.Kind.TheVariants.{Bat}
 use Rattle.notation.specs.declared.entry.Bound.TheVariants.{Run}
-use Rattle.notation.specs.declared.entry.Plain.{Plain}
+use Rattle.notation.specs.declared.entry.{Plain.Plain, Entry.Entry}
 use Rattle.notation.specs.declared.entry.Plain.TheVariants.{Innings, Come, Ball as Bowl, Over}
-use Rattle.notation.specs.declared.entry.Entry.{Entry}
 use Rattle.notation.specs.declared.entry.Entry.TheVariants.{Write, Late}
 use Rattle.notation.specs.Written.{tokens}
 use Rattle.cards.specs.Sheet.{Sheet, Team}

@@ -1,7 +1,6 @@
 -- How the calls on a stream ended.
 use Rattle.std.specs.Prelude.{ℕ, zero, suc, Bool, true, false}
-use Rattle.streams.specs.declared.calls.Calls.{Calls, NoneYet, Done', Failed', HandedOn'}
-use Rattle.streams.specs.declared.watched.Health.{Health}
+use Rattle.streams.specs.declared.{calls.Calls.Calls, calls.Calls.NoneYet, calls.Calls.Done', calls.Calls.Failed', calls.Calls.HandedOn', watched.Health.Health}
 use Rattle.streams.specs.declared.watched.Health.TheVariants.{Sound, Failed}
 
 -- how many have failed

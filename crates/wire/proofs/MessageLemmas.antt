@@ -3,18 +3,14 @@ use Rattle.std.proofs.Common.{◌≡◌, ◌∙◌, ◌<◌, ◌≤◌, ℕ, Lis
 use Rattle.std.specs.Option.{option_map}
 use Rattle.std.proofs.lemmas.Nat.{from_be_bytes-to_be_bytes_2, from_be_bytes-to_be_bytes_4}
 use Rattle.std.proofs.lemmas.List.{length-drop, take-append-le, take_all}
-use Rattle.notation.specs.declared.entry.{Entry.Entry, Out.Out, Plain.Plain}
+use Rattle.notation.specs.declared.entry.{Entry.Entry, Out.Out, Plain.Plain, TheConstants.PLACES}
 use Rattle.notation.specs.declared.entry.Entry.TheVariants.{Write, Fix, Late}
 use Rattle.notation.specs.Code.{code, body as plain_body, out_code, spare_bytes}
 use Rattle.notation.proofs.Decoded.{code_once}
-use Rattle.agree_core.specs.declared.messages.Ask.{Ask as AnAsk}
-use Rattle.agree_core.specs.declared.messages.{Asker.Asker, DeskId.DeskId, Message.Message}
+use Rattle.agree_core.specs.declared.messages.{Ask.Ask as AnAsk, Asker.Asker, DeskId.DeskId, Message.Message, Vote.Vote as AVote}
+use Rattle.agree_core.specs.declared.position.{Position.Position, TheConstants.ROUNDS}
 use Rattle.agree_core.specs.declared.messages.DeskId.TheVariants.{A}
 use Rattle.agree_core.specs.declared.messages.Message.TheVariants.{Vote, Ask}
-use Rattle.agree_core.specs.declared.messages.Vote.{Vote as AVote}
-use Rattle.agree_core.specs.declared.position.Position.{Position}
-use Rattle.notation.specs.declared.entry.TheConstants.{PLACES}
-use Rattle.agree_core.specs.declared.position.TheConstants.{ROUNDS}
 use Rattle.agree_core.specs.Positions.{InRange, IsFull}
 use Rattle.agree_core.proofs.Order.{compare}
 use Rattle.agree_core.specs.Ballots.{desk_number}

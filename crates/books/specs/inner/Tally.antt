@@ -1,8 +1,7 @@
 -- How many differences there are of each kind.
 use Rattle.std.specs.Prelude.{List, count_by}
 use Rattle.books.specs.Comparing.{is_of_a_alone, is_of_b_alone, is_of_both}
-use Rattle.books.specs.declared.compare.Difference.{Difference}
-use Rattle.books.specs.declared.compare.Tally.{Tally}
+use Rattle.books.specs.declared.compare.{Difference.Difference, Tally.Tally}
 
 abbrev pub tally_of : List Difference → Tally
 tally_of ds = record {

@@ -1,7 +1,6 @@
 -- The text of some words, one behind the other.
 use Rattle.std.specs.Prelude.{ℕ, List, ◌++◌, codes, decimal}
-use Rattle.cards.specs.declared.dismissals.Words.{Words}
-use Rattle.cards.specs.declared.results.ResultWords.{ResultWords}
+use Rattle.cards.specs.declared.{dismissals.Words.Words, results.ResultWords.ResultWords}
 use Rattle.cards.specs.declared.results.ResultWords.TheVariants.{Plain, Counted}
 
 abbrev pub words_in : Words → List ℕ

@@ -1,8 +1,7 @@
 -- What the datagrams of a match tell, and what a board makes of them.
 use Rattle.std.specs.Prelude.{◌≡◌, ℕ, List, ◌++◌, All, Some, length, slice_get}
 use Rattle.notation.specs.declared.entry.Entry.{Entry}
-use Rattle.agree_core.specs.declared.messages.DeskId.{DeskId}
-use Rattle.agree_core.specs.declared.messages.Message.{Message}
+use Rattle.agree_core.specs.declared.messages.{DeskId.DeskId, Message.Message}
 use Rattle.agree_core.specs.declared.messages.Message.TheVariants.{Vote, Ask}
 use Rattle.agree_core.specs.Boards.{BoardState}
 use Rattle.agree_core.specs.Readers.{noted_of}

@@ -4,19 +4,14 @@ use Rattle.notation.specs.declared.entry.Entry.{Entry}
 use Rattle.notation.specs.Lines.{lines_of}
 use Rattle.corrections.specs.declared.book_of.BookOf.{Ghosts as Books}
 use Rattle.entry_log.specs.Disk.{Never}
-use Rattle.entry_log.specs.declared.disk.Disk.{Ghosts as Disks}
-use Rattle.entry_log.specs.declared.slots_of.SlotsOf.{Ghosts as Files}
-use Rattle.agree_core.specs.declared.messages.DeskId.TheVariants as desks
+use Rattle.entry_log.specs.declared.{disk.Disk.Ghosts as Disks, slots_of.SlotsOf.Ghosts as Files}
+use Rattle.agree_core.specs.declared.messages.DeskId.{DeskId}
 use Rattle.agree_core.specs.Boards.{BoardState}
 use Rattle.agree_core.specs.Desks.{DeskState, most_votes}
 use Rattle.agree_core.specs.FileView.{FileView, Holds}
 use Rattle.agree_core.specs.Seats.{SeatState}
-use Rattle.desk.specs.declared.desk.Desk.{Desk}
-use Rattle.desk.specs.declared.refusal.Refusal.{Refusal as PenRefusal}
-use Rattle.desk.specs.declared.refusal.Refusal.TheVariants as pens
-use Rattle.desk.specs.declared.refusal.OpenRefusal.{OpenRefusal}
-use Rattle.desk.specs.declared.refusal.OpenRefusal.TheVariants as openings
-use Rattle.vote_store.specs.declared.refusal.Refusal.TheVariants as votes
+use Rattle.desk.specs.declared.{desk.Desk.Desk, refusal.Refusal.Refusal as PenRefusal, refusal.OpenRefusal.OpenRefusal}
+use Rattle.vote_store.specs.declared.refusal.Refusal.{Refusal}
 use Rattle.desk.specs.Desk.{SameOwner, book_of, desk_of, disk_of, game_of, state_of, view_of}
 use Rattle.board.specs.declared.board.Board.{Board}
 use Rattle.board.specs.Board as boards
@@ -26,7 +21,6 @@ use Rattle.books.specs.declared.rejected.Rejected.TheVariants.{Refused}
 use Rattle.books.specs.Taking.{taking}
 use Rattle.live.specs.Passed.{Passed}
 use Rattle.match_command.specs.declared.match_run.fault.MatchFault.{MatchFault}
-use Rattle.match_command.specs.declared.match_run.fault.MatchFault.TheVariants as faults
 use Rattle.match_command.specs.declared.match_run.fault.MatchFault.TheVariants.{Device, Write, Line, NotAgreed}
 use Rattle.match_command.specs.inner.Online.{IsOnline}
 use Rattle.match_command.specs.MatchRun.{HoldsEither, Stays, entries_of_first, votes_for}
@@ -56,15 +50,15 @@ WhyNotAgreed answer book n _ = ⊥
 
 -- the fault of a run where a desk refuses to pen the entry of a line, at this place
 abbrev pub pen_fault : ℕ → ℕ → PenRefusal → MatchFault
-pen_fault number place pens.PlacesFull = Line number (Refused PlacesFull)
-pen_fault number place (pens.Book why) = Line number (Refused (Book why))
-pen_fault number place pens.Device = Device
-pen_fault number place pens.Failed = Device
+pen_fault number place PenRefusal.PlacesFull = Line number (Refused PlacesFull)
+pen_fault number place (PenRefusal.Book why) = Line number (Refused (Book why))
+pen_fault number place PenRefusal.Device = Device
+pen_fault number place PenRefusal.Failed = Device
 pen_fault number place _ = NotAgreed place
 
 -- The fault of a run where no desk is made on an empty disk: out of memory, or the disk's. No other refusal comes.
 abbrev pub creation_fault : OpenRefusal → MatchFault
-creation_fault (openings.Votes votes.NoMemory) = faults.NoMemory
+creation_fault (OpenRefusal.Votes Refusal.NoMemory) = MatchFault.NoMemory
 creation_fault why = Device
 
 -- the board as the definitions of its calls see it
@@ -161,8 +155,8 @@ module _ {S B D : Type 0} {g : Files S D} {h : Disks D} {b : Books B} where
 
   -- both desks have agreed the same entries, of one match, and the board has as many
   pub record AreLevel (a b' : Desk S B D g h b) (k : Board B b) : Type 0 where
-    pub is_a : desk_of a ≡ desks.A
-    pub is_b : desk_of b' ≡ desks.B
+    pub is_a : desk_of a ≡ DeskId.A
+    pub is_b : desk_of b' ≡ DeskId.B
     pub game : game_of b' ≡ game_of a
     pub innings : innings_at b' ≡ innings_at a
     pub level_a : IsLevel a

@@ -1,13 +1,11 @@
 -- The bowling table of an innings: the eleven bowlers' rows, and the order in which they first bowled.
 use Rattle.std.specs.Prelude.{ℕ, ◌+◌, ◌-◌, ◌<◌, ◌^◌, ◌==◌, Bool, true, false}
-use Rattle.notation.specs.declared.entry.Ball.{Ball}
-use Rattle.notation.specs.declared.entry.Plain.{Plain}
+use Rattle.notation.specs.declared.entry.{Ball.Ball, Plain.Plain}
 use Rattle.notation.specs.declared.entry.Plain as plain
 use Rattle.ball_laws.specs.declared.over.OverNow.{OverNow}
 use Rattle.ball_laws.specs.History.{History}
 use Rattle.ball_laws.specs.Over.{counts, debit_of}
-use Rattle.match_laws.specs.declared.rows.BowlingRow.{BowlingRow}
-use Rattle.match_laws.specs.declared.bowling.BowlingTable.{BowlingTable}
+use Rattle.match_laws.specs.declared.{rows.BowlingRow.BowlingRow, bowling.BowlingTable.BowlingTable}
 use Rattle.ball_laws.specs.Sums.{one_if}
 use Rattle.match_laws.specs.Figures.{wides_of, noballs_of, credited, bowling_order}
 use Rattle.match_laws.specs.Parts.{from_front, bowling_row_of}

@@ -1,8 +1,7 @@
 -- Reading the 24 bytes of an entry, which may be the code of no entry: then the entry's code is another.
 use Rattle.std.specs.Prelude.{ℕ, ◌==◌, ◌&&◌, nat_le, List, [], ◌∷◌, if◌then◌else◌, Option, Some, None, slice_index}
 use Rattle.std.specs.Int.{w32, from_be_bytes}
-use Rattle.notation.specs.declared.entry.{Bound.Bound, Out.Out, Ball.Ball, Plain.Plain, Entry.Entry}
-use Rattle.notation.specs.declared.words.First.{First}
+use Rattle.notation.specs.declared.{entry.Bound.Bound, entry.Out.Out, entry.Ball.Ball, entry.Plain.Plain, entry.Entry.Entry, words.First.First}
 use Rattle.notation.specs.inner.TokenReading.{all_firsts}
 use Rattle.notation.specs.Written.{all_sides, all_kinds, all_hows, all_whos, all_leaves, all_causes}
 use Rattle.notation.specs.Code.{side_code, kind_code, bound_code, how_code, who_code, leave_code, cause_code}

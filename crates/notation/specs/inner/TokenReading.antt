@@ -2,10 +2,8 @@
 use Rattle.std.specs.Prelude.{◌≡◌, ℕ, List, [], ◌∷◌, codes, Bool, true, false, if◌then◌else◌, Option, Some, None, Result, Ok, Err}
 use Rattle.std.specs.Str.{bytes_eq}
 use Rattle.std.specs.Str.Parse.{digits_value}
-use Rattle.notation.specs.declared.fault.LineFault.{LineFault}
+use Rattle.notation.specs.declared.{fault.LineFault.LineFault, entry.Bound.Bound, entry.Out.Out, entry.Ball.Ball, entry.Plain.Plain, entry.Entry.Entry, words.First.First}
 use Rattle.notation.specs.declared.fault.LineFault.TheVariants.{UnknownWord, BadNumber, Missing, Extra}
-use Rattle.notation.specs.declared.entry.{Bound.Bound, Out.Out, Ball.Ball, Plain.Plain, Entry.Entry}
-use Rattle.notation.specs.declared.words.First.{First}
 use Rattle.notation.specs.Written.{Token, side_text, kind_text, how_text, who_text, leave_text, cause_text, all_sides, all_kinds, all_hows, all_whos, all_leaves, all_causes, is_number}
 
 infixl 10 ◌>>=◌

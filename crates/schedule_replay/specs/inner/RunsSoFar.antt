@@ -1,12 +1,10 @@
 -- A run of a code's world over the first of its events.
 use Rattle.std.specs.Prelude.{◌≡◌, ℕ, List, take}
 use Rattle.entry_log.specs.declared.mem_disk.MemDisk.{MemDisk}
-use Rattle.headline.specs.declared.event.Event.{Event}
-use Rattle.headline.specs.declared.version.FileVersion.{FileVersion}
+use Rattle.headline.specs.declared.{event.Event.Event, version.FileVersion.FileVersion}
 use Rattle.headline.specs.Configurations.{Configuration}
 use Rattle.headline.specs.Runs.{last_of}
-use Rattle.schedule_replay.specs.declared.seen.Seen.{Seen}
-use Rattle.schedule_replay.specs.declared.world.World.{World}
+use Rattle.schedule_replay.specs.declared.{seen.Seen.Seen, world.World.World}
 use Rattle.schedule_replay.specs.CodeWorlds.{HasConfiguration}
 use Rattle.schedule_replay.specs.Replays.{IsRunOf, MatchRun}
 

@@ -2,16 +2,12 @@
 use Rattle.std.specs.Prelude.{◌≡◌, ◌⊎◌, ◌↔◌, ◌≤◌, ◌+◌, ◌*◌, ℕ, zero, suc, Bool, true, false, Some, None, Option, List, length, get_or, slice_get, Contains}
 use Rattle.corrections.specs.Legal.{IsScoreOf}
 use Rattle.match_laws.specs.declared.standing.Standing.{Standing}
-use Rattle.notation.specs.declared.entry.Entry.{Entry}
-use Rattle.notation.specs.declared.entry.TheConstants.{PLACES}
+use Rattle.notation.specs.declared.entry.{Entry.Entry, TheConstants.PLACES}
 use Rattle.agree_core.specs.declared.messages.DeskId.TheVariants.{A, B}
 use Rattle.agree_core.specs.Boards.{BoardState}
 use Rattle.agree_core.specs.Desks.{DeskState}
 use Rattle.headline.specs.declared.event.Station.{Station}
-use Rattle.headline.specs.declared.event.Station.TheVariants as stations
-use Rattle.schedule_replay.specs.declared.shown_scores.ShownScores.{ShownScores}
-use Rattle.schedule_replay.specs.declared.world.World.{World}
-use Rattle.schedule_replay.specs.declared.world_desk.WorldDesk.{WorldDesk}
+use Rattle.schedule_replay.specs.declared.{shown_scores.ShownScores.ShownScores, world.World.World, world_desk.WorldDesk.WorldDesk}
 use Rattle.schedule_replay.specs.CodeWorlds.{HasConfiguration, MatchBoard, board_innings, board_state, code_site}
 use Rattle.headline.specs.Headline.{ShowsScore}
 use Rattle.schedule_replay.specs.Replays.{StandOnce}
@@ -21,14 +17,14 @@ use Rattle.entry_log.specs.declared.mem_disk.MemDisk.{MemDisk}
 
 -- desks have numbers 0 and 1, and the boards those from 2 on
 abbrev pub station_number : Station → ℕ
-station_number (stations.Desk A) = 0
-station_number (stations.Desk B) = 1
-station_number (stations.Board n) = n + 1
+station_number (Station.Desk A) = 0
+station_number (Station.Desk B) = 1
+station_number (Station.Board n) = n + 1
 
 -- boards are numbered from 1 on, and there are at most four
 abbrev pub IsStation : Station → Type 0
-IsStation (stations.Desk d) = Unit {0}
-IsStation (stations.Board n) = (1 ≤ n) × (n ≤ 4)
+IsStation (Station.Desk d) = Unit {0}
+IsStation (Station.Board n) = (1 ≤ n) × (n ≤ 4)
 
 -- where the mark of a station and the length of a book stands, of all marks: two desks and four boards have one for
 -- each length, from 0 on
@@ -74,9 +70,9 @@ BoardShows (Some k) n score =
 
 -- what a station of a world shows
 abbrev pub CodeShows : World → Station → ℕ → Standing → Type 0
-CodeShows world (stations.Desk d) n score = DeskShows (code_site world d).desk n score
-CodeShows world (stations.Board zero) n score = ⊥
-CodeShows world (stations.Board (suc i)) n score = BoardShows (slice_get world.boards.items i) n score
+CodeShows world (Station.Desk d) n score = DeskShows (code_site world d).desk n score
+CodeShows world (Station.Board zero) n score = ⊥
+CodeShows world (Station.Board (suc i)) n score = BoardShows (slice_get world.boards.items i) n score
 
 -- a desk that runs has a score
 abbrev pub DeskHasScore : Option WorldDesk → Type 0

@@ -6,27 +6,16 @@ use Rattle.entry_log.specs.Disk.{Due, IsOnce, Never}
 use Rattle.entry_log.specs.declared.mem_disk.MemDisk.{MemDisk}
 use Rattle.entry_log.specs.MemDisk.{SetsPlan, cap_of, faults_of}
 use Rattle.entry_log.specs.declared.mem_disk.plan.Plan.TheVariants.{Calm}
-use Rattle.agree_core.specs.declared.messages.DeskId.{DeskId}
-use Rattle.agree_core.specs.declared.messages.Message.{Message}
+use Rattle.agree_core.specs.declared.messages.{DeskId.DeskId, Message.Message}
 use Rattle.agree_core.specs.Ballots.{Ballot}
 use Rattle.agree_core.specs.Desks.{DeskState}
 use Rattle.agree_core.specs.FileView.{MaySync}
 use Rattle.agree_core.specs.Openings.{Creates}
 use Rattle.wire.specs.declared.datagram.Datagram.{Datagram}
 use Rattle.desk.specs.declared.refusal.Refusal.{Refusal as DeskRefusal}
-use Rattle.schedule_replay.specs.declared.seen.Cause.{Cause}
-use Rattle.schedule_replay.specs.declared.seen.Cause.TheVariants as causes
-use Rattle.schedule_replay.specs.declared.seen.Seen.{Seen}
-use Rattle.schedule_replay.specs.declared.seen.Seen.TheVariants as seens
-use Rattle.schedule_replay.specs.declared.seen.WorldRefusal.{WorldRefusal}
-use Rattle.schedule_replay.specs.declared.seen.WorldRefusal.TheVariants as worlds_refuse
-use Rattle.headline.specs.declared.event.Event.{Event}
-use Rattle.headline.specs.declared.event.Event.TheVariants as events
-use Rattle.headline.specs.declared.fault.Fault.{Fault}
+use Rattle.schedule_replay.specs.declared.{seen.Cause.Cause, seen.Seen.Seen, seen.WorldRefusal.WorldRefusal, world_desk.WorldDesk.WorldDesk, site.Site.Site}
+use Rattle.headline.specs.declared.{event.Event.Event, fault.Fault.Fault, version.FileVersion.FileVersion}
 use Rattle.headline.specs.declared.fault.Fault.TheVariants.{Fail, Stop}
-use Rattle.headline.specs.declared.version.FileVersion.{FileVersion}
-use Rattle.schedule_replay.specs.declared.world_desk.WorldDesk.{WorldDesk}
-use Rattle.schedule_replay.specs.declared.site.Site.{Site}
 use Rattle.headline.specs.Configurations.{Process, Running, Down, Node, process_disk, with_disk}
 use Rattle.headline.specs.Answers.{Answer}
 use Rattle.headline.specs.DeskSteps.{AtDesk}
@@ -111,8 +100,8 @@ SyncsSite old new =
 
 -- the site after it was out of memory
 abbrev pub SiteLeft : Event → Site → Site → Type 0
-SiteLeft (events.Open d) old new = SyncsSite old new
-SiteLeft (events.Migrate d) old new = SyncsSite old new
+SiteLeft (Event.Open d) old new = SyncsSite old new
+SiteLeft (Event.Migrate d) old new = SyncsSite old new
 SiteLeft _ old new = new ≡ old
 
 -- the first cause against an event at a site
@@ -127,7 +116,7 @@ SiteTakes event old sent (Ok seen) new sent' =
 SiteTakes event old sent (Err why) new sent' =
     (sent' ≡ sent)
     × (((site_cause old sent event ≡ Some why) × (new ≡ old))
-    ⊎ ((site_cause old sent event ≡ None) × (why ≡ worlds_refuse.NoMemory) × (may_grow event ≡ true)
+    ⊎ ((site_cause old sent event ≡ None) × (why ≡ WorldRefusal.NoMemory) × (may_grow event ≡ true)
     × SiteLeft event old new))
 
 -- the disk of a desk, and the number of its votes, whether it runs or is down
@@ -155,21 +144,21 @@ pub record PutsDown (old new : Site) : Type 0 where
 
 -- a device call has failed, for this cause to be told; where that was a stop, the desk is down
 abbrev pub BreaksDown : Option Fault → Cause → Site → Seen → Site → Type 0
-BreaksDown (Some Stop) cause old seen new = (seen ≡ seens.Stopped) × PutsDown (record old { due = None }) new
-BreaksDown (Some Fail) cause old seen new = (seen ≡ seens.Refused cause) × (new ≡ record old { due = None })
-BreaksDown None cause old seen new = (seen ≡ seens.Refused cause) × (new ≡ record old { due = None })
+BreaksDown (Some Stop) cause old seen new = (seen ≡ Seen.Stopped) × PutsDown (record old { due = None }) new
+BreaksDown (Some Fail) cause old seen new = (seen ≡ Seen.Refused cause) × (new ≡ record old { due = None })
+BreaksDown None cause old seen new = (seen ≡ Seen.Refused cause) × (new ≡ record old { due = None })
 
 -- the desk has refused: it runs on, unless a device call has failed
 abbrev pub RefusedBy : Bool → DeskRefusal → Site → Seen → Site → Type 0
-RefusedBy true why old seen new = BreaksDown old.due (causes.Desk why) old seen new
-RefusedBy false why old seen new = (seen ≡ seens.Refused (causes.Desk why)) × (new ≡ old)
+RefusedBy true why old seen new = BreaksDown old.due (Cause.Desk why) old seen new
+RefusedBy false why old seen new = (seen ≡ Seen.Refused (Cause.Desk why)) × (new ≡ old)
 
 abbrev pub AfterRefusal : DeskRefusal → Site → Seen → Site → Type 0
 AfterRefusal why old seen new = RefusedBy (is_device why) why old seen new
 
 -- the votes of a desk that is down aren't found: out of memory, its disk failed, or there is this cause
 abbrev pub NotFoundBy : Bool → Bool → Cause → Site → Result Seen WorldRefusal → Site → Type 0
-NotFoundBy true failing cause old result new = (result ≡ Err worlds_refuse.NoMemory) × (new ≡ old)
+NotFoundBy true failing cause old result new = (result ≡ Err WorldRefusal.NoMemory) × (new ≡ old)
 NotFoundBy false true cause old result new =
     (seen : Seen) × (result ≡ Ok seen) × BreaksDown old.due cause old seen new
-NotFoundBy false false cause old result new = (result ≡ Ok (seens.Refused cause)) × (new ≡ old)
+NotFoundBy false false cause old result new = (result ≡ Ok (Seen.Refused cause)) × (new ≡ old)

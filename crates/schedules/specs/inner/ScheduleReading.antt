@@ -2,18 +2,13 @@
 -- ScheduleLines.
 use Rattle.std.specs.Prelude.{ℕ, ◌==◌, if◌then◌else◌, List, [], ◌∷◌, codes, drop, take, length, Option, Some, None, Result, Ok, Err}
 use Rattle.std.specs.Str.{bytes_eq}
-use Rattle.notation.specs.declared.entry.Entry.{Entry}
-use Rattle.notation.specs.declared.fault.LineFault.{LineFault}
+use Rattle.notation.specs.declared.{entry.Entry.Entry, fault.LineFault.LineFault}
 use Rattle.notation.specs.Reading.{line_answer}
 use Rattle.notation.specs.Written.{found_number}
 use Rattle.agree_core.specs.declared.messages.DeskId.{DeskId}
 use Rattle.agree_core.specs.declared.messages.DeskId.TheVariants.{A, B}
 use Rattle.entry_log.specs.declared.mem_disk.choice.Choice.{Choice}
-use Rattle.entry_log.specs.declared.mem_disk.choice.Choice.TheVariants as choices
-use Rattle.headline.specs.declared.event.Event.{Event}
-use Rattle.headline.specs.declared.event.Event.TheVariants as events
-use Rattle.headline.specs.declared.event.Station.{Station}
-use Rattle.headline.specs.declared.event.Station.TheVariants as stations
+use Rattle.headline.specs.declared.event.{Event.Event, Station.Station}
 use Rattle.schedules.specs.declared.schedule_fault.ScheduleFault.{ScheduleFault}
 use Rattle.schedules.specs.declared.schedule_fault.ScheduleFault.TheVariants.{BadEvent, BadEntry}
 
@@ -35,10 +30,10 @@ unfoldable pub desk_at : List ℕ → Option DeskId
 desk_at w = if bytes_eq w (codes "a") then Some A else if bytes_eq w (codes "b") then Some B else None
 
 abbrev pub board_station : Option DeskId → List ℕ → Option Station
-board_station (Some d) w = Some (stations.Desk d)
+board_station (Some d) w = Some (Station.Desk d)
 board_station None w = do
   n ← found_number 1 4 w
-  Some (stations.Board n)
+  Some (Station.Board n)
 
 unfoldable pub station_at : List ℕ → Option Station
 station_at w = board_station (desk_at w) w
@@ -47,12 +42,12 @@ unfoldable pub fill_at : List ℕ → Option Choice
 fill_at ws = do
   p ← cut ws
   v ← (if bytes_eq p.0 (codes "fill") then found_number 0 255 p.1 else None)
-  Some (choices.Fill v)
+  Some (Choice.Fill v)
 
 unfoldable pub choice_at : List ℕ → Option Choice
 choice_at ws =
-    if bytes_eq ws (codes "lost") then Some choices.Lost
-    else if bytes_eq ws (codes "kept") then Some choices.Kept
+    if bytes_eq ws (codes "lost") then Some Choice.Lost
+    else if bytes_eq ws (codes "kept") then Some Choice.Kept
     else fill_at ws
 
 -- two parts with a space between them
@@ -64,10 +59,10 @@ both_at f g ws = do
   Some (x, y)
 
 unfoldable pub give_at : List ℕ → Option Event
-give_at ws = both_at (found_number 0 65535) station_at ws >>= λ p. Some (events.Give p.0 p.1)
+give_at ws = both_at (found_number 0 65535) station_at ws >>= λ p. Some (Event.Give p.0 p.1)
 
 unfoldable pub power_at : List ℕ → Option Event
-power_at ws = both_at desk_at choice_at ws >>= λ p. Some (events.Power p.0 p.1)
+power_at ws = both_at desk_at choice_at ws >>= λ p. Some (Event.Power p.0 p.1)
 
 -- a desk, and a number of calls
 unfoldable pub count_at : List ℕ → Option (DeskId × ℕ)
@@ -79,15 +74,15 @@ Reader = List ℕ → Option Event
 
 abbrev pub readers : List (List ℕ × Reader)
 readers =
-    (codes "tick", λ ws. station_at ws >>= λ t. Some (events.Tick t)) ∷
+    (codes "tick", λ ws. station_at ws >>= λ t. Some (Event.Tick t)) ∷
     (codes "give", give_at) ∷
-    (codes "kill", λ ws. desk_at ws >>= λ d. Some (events.Kill d)) ∷
+    (codes "kill", λ ws. desk_at ws >>= λ d. Some (Event.Kill d)) ∷
     (codes "power", power_at) ∷
-    (codes "fail", λ ws. count_at ws >>= λ p. Some (events.FailAt p.0 p.1)) ∷
-    (codes "stop", λ ws. count_at ws >>= λ p. Some (events.StopAt p.0 p.1)) ∷
-    (codes "open", λ ws. desk_at ws >>= λ d. Some (events.Open d)) ∷
-    (codes "wipe", λ ws. found_number 1 4 ws >>= λ n. Some (events.Wipe n)) ∷
-    (codes "migrate", λ ws. desk_at ws >>= λ d. Some (events.Migrate d)) ∷ []
+    (codes "fail", λ ws. count_at ws >>= λ p. Some (Event.FailAt p.0 p.1)) ∷
+    (codes "stop", λ ws. count_at ws >>= λ p. Some (Event.StopAt p.0 p.1)) ∷
+    (codes "open", λ ws. desk_at ws >>= λ d. Some (Event.Open d)) ∷
+    (codes "wipe", λ ws. found_number 1 4 ws >>= λ n. Some (Event.Wipe n)) ∷
+    (codes "migrate", λ ws. desk_at ws >>= λ d. Some (Event.Migrate d)) ∷ []
 
 abbrev pub pick : List ℕ → List (List ℕ × Reader) → Reader
 pick first [] ws = None
@@ -114,7 +109,7 @@ unfoldable pub pen_at : List ℕ → Option (DeskId × List ℕ)
 pen_at line = pen_of (after_start (codes "pen a ") line) (after_start (codes "pen b ") line)
 
 abbrev pub penned : ℕ → DeskId → Result Entry LineFault → Result Event ScheduleFault
-penned n d (Ok e) = Ok (events.Pen d e)
+penned n d (Ok e) = Ok (Event.Pen d e)
 penned n d (Err fault) = Err (BadEntry n fault)
 
 abbrev pub event_or : ℕ → Option Event → Result Event ScheduleFault

@@ -2,18 +2,17 @@
 use Rattle.std.specs.Prelude.{ℕ, ◌-◌, List, [], Bool, nat_le, ◌&&◌, decimal, length}
 use Rattle.cards.specs.Columns.{spaces}
 use Rattle.notation.specs.declared.entry.Plain.{Plain}
-use Rattle.notation.specs.declared.entry.Plain.TheVariants as plain
 use Rattle.match_laws.specs.Figures.{runs_of}
 use Rattle.screen.specs.Row.{spaced_mark}
 
 -- nothing, but for a delivery
 abbrev pub item_mark : Plain → List ℕ
-item_mark (plain.Ball b) = spaced_mark b
+item_mark (Plain.Ball b) = spaced_mark b
 item_mark _ = []
 
 -- its runs
 abbrev pub item_runs : Plain → ℕ
-item_runs (plain.Ball b) = runs_of b
+item_runs (Plain.Ball b) = runs_of b
 item_runs _ = 0
 
 -- what stands before a place, so that it ends in its fourth column

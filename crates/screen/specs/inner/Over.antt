@@ -1,7 +1,6 @@
 -- How the over of the last delivery goes on.
 use Rattle.std.specs.Prelude.{ℕ, ◌+◌, true, false, Some, None, if◌then◌else◌}
 use Rattle.notation.specs.declared.entry.Plain.{Plain}
-use Rattle.notation.specs.declared.entry.Plain.TheVariants as plain
 use Rattle.screen.specs.declared.over.LastOver.{LastOver}
 
 -- no delivery up to this place
@@ -21,8 +20,8 @@ called over place = record {
 }
 
 abbrev pub with_item : LastOver → ℕ → Plain → LastOver
-with_item over place (plain.Ball b) = with_ball over place b.bowler
-with_item over place plain.Over = called over place
-with_item over place (plain.Innings side) = none_to (place + 1)
-with_item over place (plain.End cause) = none_to (place + 1)
+with_item over place (Plain.Ball b) = with_ball over place b.bowler
+with_item over place Plain.Over = called over place
+with_item over place (Plain.Innings side) = none_to (place + 1)
+with_item over place (Plain.End cause) = none_to (place + 1)
 with_item over place _ = over

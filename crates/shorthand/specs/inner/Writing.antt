@@ -1,7 +1,6 @@
 -- A line that is being written, and the players that were found so far.
 use Rattle.std.specs.Prelude.{ℕ, List, Option, Some, None, Result, Ok, Err}
-use Rattle.shorthand.specs.declared.unclear.Unclear.{Unclear}
-use Rattle.shorthand.specs.declared.names.Found.{Found}
+use Rattle.shorthand.specs.declared.{unclear.Unclear.Unclear, names.Found.Found}
 use Rattle.shorthand.specs.declared.names.Found.TheVariants.{NoOne, One, Several}
 use Rattle.shorthand.specs.Lines.{Reason, reason_of}
 

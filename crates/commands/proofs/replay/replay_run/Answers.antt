@@ -5,8 +5,7 @@ use Rattle.streams.specs.declared.watched.Watched.{Watched}
 use Rattle.streams.specs.Watched.{stream_of}
 use Rattle.notation.specs.Lines.{lines_of}
 use Rattle.schedules.specs.ScheduleLines.{IsScheduleOf}
-use Rattle.headline.specs.declared.event.Event.{Event}
-use Rattle.headline.specs.declared.version.FileVersion.{FileVersion}
+use Rattle.headline.specs.declared.{event.Event.Event, version.FileVersion.FileVersion}
 use Rattle.commands.specs.declared.replay.ReplayFault.{ReplayFault}
 use Rattle.commands.specs.ReplayRun.{PrintsReplay, PrintsRun}
 use Rattle.commands.proofs.replay.replay_run.Goals as goal

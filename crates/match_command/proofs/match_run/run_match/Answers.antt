@@ -1,6 +1,6 @@
 use Rattle.std.proofs.Common.{◌≡◌, ◌∙◌, ℕ, sym, subst}
 use Rattle.corrections.specs.CleanList.{history_of}
-use Rattle.agree_core.specs.declared.messages.DeskId.TheVariants as desks
+use Rattle.agree_core.specs.declared.messages.DeskId.{DeskId}
 use Rattle.entry_log.specs.Format.{contents}
 use Rattle.entry_log.specs.Version2.{version_2}
 use Rattle.vote_store.specs.View.{file_view}
@@ -31,8 +31,8 @@ returns-in-Ok-clause-agreed g c =
     record {
       book = book;
       taken = subst (λ (n : ℕ). IsBookOfLines n c.args.input.now book) made.innings ended.book;
-      at_a = subst (λ x. KeepsBook seen images s desks.A x book) (sym c.into_disks-a.ensures.a) (keeps_book at.a desks.A s.game book ended.level.is_a game ended.level.level_a.held);
-      at_b = subst (λ x. KeepsBook seen images s desks.B x book) (sym c.into_disks-a.ensures.b) (keeps_book at.b desks.B s.game book ended.level.is_b (ended.level.game ∙ game) (subst (λ es. DiskHolds at.b es) ended.level.book ended.level.level_b.held));
+      at_a = subst (λ x. KeepsBook seen images s DeskId.A x book) (sym c.into_disks-a.ensures.a) (keeps_book at.a DeskId.A s.game book ended.level.is_a game ended.level.level_a.held);
+      at_b = subst (λ x. KeepsBook seen images s DeskId.B x book) (sym c.into_disks-a.ensures.b) (keeps_book at.b DeskId.B s.game book ended.level.is_b (ended.level.game ∙ game) (subst (λ es. DiskHolds at.b es) ended.level.book ended.level.level_b.held));
       shown = shown;
       long = ended.level.long;
       written = subst (λ (n : ℕ). Prints g.W.Write.contents c.args.writer.now c.play-answer.new.writer (board s n (history_of shown))) made.innings ended.written;

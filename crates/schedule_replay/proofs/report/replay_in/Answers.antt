@@ -1,7 +1,6 @@
 use Rattle.std.proofs.Common.{◌≡◌, ◌+◌, ◌++◌, ◌∷◌, ◌∙◌, [], List, Result, Ok, Err, OnOk, false, refl, sym, arith, subst}
 use Rattle.std.specs.Prelude.{is_err}
-use Rattle.schedule_replay.specs.declared.report.Report.{Report}
-use Rattle.schedule_replay.specs.declared.seen.Seen.{Seen}
+use Rattle.schedule_replay.specs.declared.{report.Report.Report, seen.Seen.Seen}
 use Rattle.schedule_replay.specs.CodeWorlds.{boards_of, match_version}
 use Rattle.schedule_replay.proofs.ReplayLemmas.{IsAfter, all_read, begins_taken, ends_at, ends_unreported, first_notable, first_noted, goes_on, has_taken, next_notable, next_noted, own_match, reported, takes_on}
 use Rattle.schedule_replay.proofs.report.replay_in.Goals as goal

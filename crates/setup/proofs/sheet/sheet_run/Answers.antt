@@ -3,7 +3,6 @@ use Rattle.std.specs.Prelude.{IfSome}
 use Rattle.cards.specs.Sheet.{Sheet}
 use Rattle.cards.specs.Reading.{IsReading}
 use Rattle.cards.specs.declared.fault.SheetFault.{SheetFault}
-use Rattle.cards.specs.declared.fault.SheetFault.TheVariants as causes
 use Rattle.streams.specs.Watched.{stream_of}
 use Rattle.setup.specs.declared.sheet.NoSheet.{NoSheet}
 use Rattle.setup.specs.SheetText.{Tells, of_sheet}
@@ -11,16 +10,16 @@ use Rattle.setup.proofs.sheet.sheet_run.Goals as goal
 
 -- what is read of a sheet that is refused, but for being out of memory
 abbrev IsRead : List ℕ → SheetFault → Type 0
-IsRead bytes why = (◌≡◌ {A = Result Sheet SheetFault} (Err why) (Err causes.NoMemory) → ⊥) → IsReading bytes (Err why)
+IsRead bytes why = (◌≡◌ {A = Result Sheet SheetFault} (Err why) (Err SheetFault.NoMemory) → ⊥) → IsReading bytes (Err why)
 
 tells : (bytes : List ℕ) (why : SheetFault) → IsRead bytes why → Tells bytes (Err (of_sheet why))
-tells bytes causes.NoMemory read = tt
-tells bytes causes.NotToml read = read (λ e. cc)
-tells bytes causes.MissingKey read = read (λ e. cc)
-tells bytes causes.WrongKind read = read (λ e. cc)
-tells bytes causes.BadText read = read (λ e. cc)
-tells bytes causes.BadNumber read = read (λ e. cc)
-tells bytes causes.NotEleven read = read (λ e. cc)
+tells bytes SheetFault.NoMemory read = tt
+tells bytes SheetFault.NotToml read = read (λ e. cc)
+tells bytes SheetFault.MissingKey read = read (λ e. cc)
+tells bytes SheetFault.WrongKind read = read (λ e. cc)
+tells bytes SheetFault.BadText read = read (λ e. cc)
+tells bytes SheetFault.BadNumber read = read (λ e. cc)
+tells bytes SheetFault.NotEleven read = read (λ e. cc)
 
 of_file : (o : Option (List ℕ)) (items : List ℕ) (fault : NoSheet) → Tells items (Err fault) → IfSome o (λ bytes. items ≡ bytes) → IfSome o (λ bytes. Tells bytes (Err fault))
 of_file None items fault told whole = tt

@@ -1,5 +1,5 @@
 use Rattle.std.proofs.Common.{Option, sym, subst, Result, Ok, Err, OnOk}
-use Rattle.headline.specs.declared.event.Station.TheVariants as stations
+use Rattle.headline.specs.declared.event.Station.{Station}
 use Rattle.schedule_replay.specs.declared.world_desk.WorldDesk.{WorldDesk}
 use Rattle.schedule_replay.specs.inner.ShownScores.{Adds, DeskHasScore, DeskShows}
 use Rattle.schedule_replay.proofs.ShowLemmas.{adds_book}
@@ -17,8 +17,8 @@ on_ok (Err fault) f h = tt
 pub returns-in-Some-clause-noted : goal.returns-in-Some-clause-noted
 returns-in-Some-clause-noted c =
     on_ok c.note.result
-    (λ h. subst (λ (o : Option WorldDesk). Adds (stations.Desk c.args.self.now.name) (DeskShows o) c.args.shown.now.seen.items c.note.new.self.seen.items) (sym c.in-Some.is)
-    (adds_book (stations.Desk c.args.self.now.name) _ _ c.book_len.result c.shown.result.now c.args.shown.now.seen.items c.note.new.self.seen.items (c.book_len.ensures.entries, c.shown.ensures) h))
+    (λ h. subst (λ (o : Option WorldDesk). Adds (Station.Desk c.args.self.now.name) (DeskShows o) c.args.shown.now.seen.items c.note.new.self.seen.items) (sym c.in-Some.is)
+    (adds_book (Station.Desk c.args.self.now.name) _ _ c.book_len.result c.shown.result.now c.args.shown.now.seen.items c.note.new.self.seen.items (c.book_len.ensures.entries, c.shown.ensures) h))
     c.note.ensures.noted
 
 pub returns-in-Some-clause-scored : goal.returns-in-Some-clause-scored

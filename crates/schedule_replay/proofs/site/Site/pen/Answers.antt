@@ -1,6 +1,6 @@
 use Rattle.std.proofs.Common.{refl, sym, ◌∙◌, Ok}
 use Rattle.schedule_replay.specs.Answers.{is_device}
-use Rattle.schedule_replay.specs.declared.seen.Seen.TheVariants as seens
+use Rattle.schedule_replay.specs.declared.seen.Seen.{Seen}
 use Rattle.schedule_replay.proofs.PenLemmas.{pen_refused, pen_runs_on, refused_same}
 use Rattle.schedule_replay.proofs.SiteLemmas.{pushed}
 use Rattle.schedule_replay.proofs.site.Site.pen.Goals as goal
@@ -8,7 +8,7 @@ use Rattle.schedule_replay.proofs.DueLemmas.{keeps_refused, keeps_running}
 
 pub returns-in-Ok-clause-step : goal.returns-in-Ok-clause-step
 returns-in-Ok-clause-step c =
-    pen_runs_on c.args.self.now c.unwrap-desk.result c.pen-penned.new.self c.args.entry.now (Ok c.in-Ok.penned) (seens.Penned c.in-Ok.penned.settled)
+    pen_runs_on c.args.self.now c.unwrap-desk.result c.pen-penned.new.self c.args.entry.now (Ok c.in-Ok.penned) (Seen.Penned c.in-Ok.penned.settled)
     c.args.sent.now.items c.push.new.self.items (sym c.take.ensures.value ∙ c.unwrap-desk.ensures)
     c.in-Ok.ensures.step c.in-Ok.ensures.owner (c.in-Ok.ensures.blame.same (λ e. (cc))) (λ e. (cc)) refl (pushed c.args.sent.now.items c.push.new.self.items _ (rw c.unwrap.ensures at c.push.ensures.items))
 

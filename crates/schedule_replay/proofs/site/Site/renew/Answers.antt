@@ -1,9 +1,8 @@
 use Rattle.std.proofs.Common.{sym, refl, ◌∙◌, ℕ, subst, [], Option, Some}
 use Rattle.entry_log.specs.MemDisk.{IsFresh}
-use Rattle.schedule_replay.specs.declared.seen.Cause.TheVariants as causes
+use Rattle.schedule_replay.specs.declared.{seen.Cause.Cause, world_desk.WorldDesk.WorldDesk, seen.WorldRefusal.WorldRefusal}
 use Rattle.schedule_replay.specs.Answers.{is_failing, wants_memory}
 use Rattle.headline.specs.declared.version.FileVersion.TheVariants.{New}
-use Rattle.schedule_replay.specs.declared.world_desk.WorldDesk.{WorldDesk}
 use Rattle.schedule_replay.specs.inner.Sites.{disk_at}
 use Rattle.schedule_replay.proofs.MigrateLemmas.{IsMoved, IsReturned, MigrateSteps, migrated, not_migrated}
 use Rattle.schedule_replay.proofs.OpenLemmas.{Outcome, not_found_same, stays_so}
@@ -11,13 +10,12 @@ use Rattle.schedule_replay.proofs.site.Site.renew.Goals as goal
 use Rattle.schedule_replay.proofs.site.Site.renew.Goals.{After-not_found}
 use Rattle.std.proofs.Common.{◌≡◌, Err, ap}
 use Rattle.std.proofs.lemmas.Result.{err_from_is_err_and}
-use Rattle.schedule_replay.specs.declared.seen.WorldRefusal.TheVariants as refuses
 use Rattle.schedule_replay.proofs.DueLemmas.{keeps_down, keeps_from, keeps_not_found, no_failure}
 
 pub returns-in_err-new-clause-refused : goal.returns-in_err-new-clause-refused
 returns-in_err-new-clause-refused c =
     let why = err_from_is_err_and c.from_residual.result c.from_residual.ensures.1 in
-    let e : c.from_residual.result ≡ Err refuses.NoMemory = why.1 ∙ ap Err why.2 in
+    let e : c.from_residual.result ≡ Err WorldRefusal.NoMemory = why.1 ∙ ap Err why.2 in
     rw e (refl, stays_so c.args.self.now)
 
 pub returns-in-Ok-clause-step : goal.returns-in-Ok-clause-step
@@ -48,7 +46,7 @@ returns-in-Err-clause-refused c = (refused_by (goal.at.returns-in-Err-clause-ref
 
 pub returns-in-Err-clause-same : goal.returns-in-Err-clause-same
 returns-in-Err-clause-same c =
-    let s = not_found_same (wants_memory c.in-Err.why) (is_failing c.in-Err.why) (causes.Migrate c.in-Err.why) _ c.not_found.new.self c.not_found.result c.not_found.ensures.refused in
+    let s = not_found_same (wants_memory c.in-Err.why) (is_failing c.in-Err.why) (Cause.Migrate c.in-Err.why) _ c.not_found.new.self c.not_found.result c.not_found.ensures.refused in
     record { name = s.name; same_game = s.same_game; innings = s.innings }
 
 pub invariant_of-new : goal.invariant_of-new
@@ -78,7 +76,7 @@ returns-in-Ok-clause-counted c =
 pub returns-in-Err-clause-counted : goal.returns-in-Err-clause-counted
 returns-in-Err-clause-counted c =
     let there = sym c.take.ensures.value ∙ c.unwrap-old.ensures in
-    keeps_not_found (wants_memory c.in-Err.why) (is_failing c.in-Err.why) (causes.Migrate c.in-Err.why) c.args.self.now _ c.not_found.new.self c.not_found.result
+    keeps_not_found (wants_memory c.in-Err.why) (is_failing c.in-Err.why) (Cause.Migrate c.in-Err.why) c.args.self.now _ c.not_found.new.self c.not_found.result
     (λ n.
     let same = c.in-Err.ensures.blame.same (λ q. no_failure c.in-Err.why n (cc)) in
     keeps_down c.args.self.now c.unwrap-old.result c.move_fault-in-Err.new.other c.requires.down there (c.move_fault-in-Err.ensures.due ∙ ap (λ z. z.due) same.1 ∙ c.move_fault.ensures.due))
