@@ -1,5 +1,5 @@
 -- What every call of a board keeps.
-use Rattle.std.proofs.Common.{◌≡◌, ℕ, ◌+◌, Option, Some, None, List, [], ◌∷◌, ◌++◌, length, refl, sym, ap, ◌∙◌, subst, inl, inr, arith, length-append}
+use Rattle.std.proofs.Common.{◌≡◌, ℕ, Option, Some, None, List, [], ◌∷◌, length, refl, inl, inr, arith, length-append}
 use Rattle.notation.specs.declared.entry.Entry.{Entry}
 use Rattle.agree_core.specs.declared.{messages.DeskId.DeskId, messages.Message.Message, messages.Vote.Vote, position.Position.Position, seat.Heard.Heard}
 use Rattle.agree_core.specs.declared.messages.DeskId.TheVariants.{A, B}
@@ -19,7 +19,8 @@ pub votes_grow : (v w : AllVotes) → VotesGrow v w → (d : DeskId) → Within 
 votes_grow v w g A = g.0
 votes_grow v w g B = g.1
 
-pub noted_grows : (votes votes' : List Ballot) → Within votes votes' → (at : Position) (x : Option Entry) → NotedFine votes at x → NotedFine votes' at x
+pub noted_grows : (votes votes' : List Ballot) → Within votes votes' → (at : Position) (x : Option Entry)
+    → NotedFine votes at x → NotedFine votes' at x
 noted_grows votes votes' g at None h = tt
 noted_grows votes votes' g at (Some e) h = g (record { at = at; entry = e }) h
 
@@ -35,32 +36,25 @@ pub message_grows : (v w : AllVotes) → VotesGrow v w → (m : Message) → Mes
 message_grows v w g (Message.Vote x) f = votes_grow v w g x.desk (ballot_of x) f
 message_grows v w g (Message.Ask q) f = tt
 
-both_voted : (v : AllVotes) (d : DeskId) (place round : ℕ) (e : Entry) → In (ballot_at place round e) (votes_by v d) → In (ballot_at place round e) (votes_by v (other d)) → EqualVotes v place round e
-both_voted v A place round e i j = (i, j)
-both_voted v B place round e i j = (j, i)
+both_voted : (v : AllVotes) (d : DeskId) (place round : ℕ) (e : Entry) → In (ballot_at place round e) (votes_by v d)
+    → In (ballot_at place round e) (votes_by v (other d)) → EqualVotes v place round e
+both_voted v d place round e i j = grind arith
 
 nothing_noted : (v : AllVotes) (p : Position) (d : DeskId) → NotedFine (votes_by v d) p (noted_of (reading p) d)
-nothing_noted v p A = tt
-nothing_noted v p B = tt
+nothing_noted v p d = grind arith
 
-noted_there : (v : AllVotes) (r : ReaderState) (c : DeskId) (e : Entry) → ((d : DeskId) → NotedFine (votes_by v d) r.position (noted_of r d)) → In (record { at = r.position; entry = e }) (votes_by v c) → (d : DeskId) → NotedFine (votes_by v d) (noting r c e).position (noted_of (noting r c e) d)
-noted_there v r A e f i A = i
-noted_there v r A e f i B = f B
-noted_there v r B e f i A = f A
-noted_there v r B e f i B = i
-
-noting_stays : (r : ReaderState) (c : DeskId) (e : Entry) → (noting r c e).position ≡ r.position
-noting_stays r A e = refl
-noting_stays r B e = refl
-
-at_reader : (votes : List Ballot) (v : Vote) (at : Position) → position_of v ≡ at → In (ballot_of v) votes → In (record { at = at; entry = v.entry }) votes
-at_reader votes v at e i = subst (λ (p : Position). In (record { at = p; entry = v.entry }) votes) e i
+noted_there : (v : AllVotes) (r : ReaderState) (c : DeskId) (e : Entry)
+    → ((d : DeskId) → NotedFine (votes_by v d) r.position (noted_of r d))
+    → In (record { at = r.position; entry = e }) (votes_by v c)
+    → (d : DeskId) → NotedFine (votes_by v d) (noting r c e).position (noted_of (noting r c e) d)
+noted_there v r c e f i d = grind (arith, f d)
 
 -- the board after a vote, its book being so
-pub listens_keep : (v : AllVotes) (k l : BoardState) (x : Vote) (h : Heard) → BoardFine v k → In (ballot_of x) (votes_by v x.desk) → Listens k.reader x h l.reader → l.book ≡ book_heard h k.book x.entry → BoardFine v l
+listens_keep : (v : AllVotes) (k l : BoardState) (x : Vote) (h : Heard) → BoardFine v k → In (ballot_of x) (votes_by v x.desk)
+    → Listens k.reader x h l.reader → l.book ≡ book_heard h k.book x.entry → BoardFine v l
 listens_keep v k l x h f i c e = record {
-  both = rw e (grown h c).0;
-  long = rw e (grown h c).1;
+  both = rw e (both h c);
+  long = rw e (long h c);
   noted = noted h c;
   waits = listens_wait k.reader l.reader x h f.waits c;
 }
@@ -68,44 +62,35 @@ listens_keep v k l x h f i c e = record {
     at : Position
     at = k.reader.position
 
-    stays : l.reader ≡ k.reader → AllBoth v.a v.b 0 k.book × (length k.book ≡ l.reader.position.place)
-    stays q = (f.both, f.long ∙ ap (λ (r : ReaderState). r.position.place) (sym q))
+    there : position_of x ≡ at → In (record { at = at; entry = x.entry }) (votes_by v x.desk)
+    there p = rw (← p) i
 
-    grown : (h : Heard) → Listens k.reader x h l.reader → AllBoth v.a v.b 0 (book_heard h k.book x.entry) × (length (book_heard h k.book x.entry) ≡ l.reader.position.place)
-    grown Heard.Mine c = absurd c
-    grown Heard.Old c = stays c.1
-    grown Heard.Ahead c = stays c.1
-    grown Heard.Again c = stays c.2
-    grown Heard.TwoVotes c = stays c.2
-    grown Heard.Noted c = (f.both, f.long ∙ ap (λ (p : Position). p.place) (sym (noting_stays k.reader x.desk x.entry)) ∙ ap (λ (r : ReaderState). r.position.place) (sym c.3))
-    grown Heard.Differ c = (f.both, f.long ∙ ap (λ (r : ReaderState). r.position.place) (sym c.3))
-    grown Heard.Agreed c =
-        let i' : In (record { at = at; entry = x.entry }) (votes_by v x.desk) = at_reader (votes_by v x.desk) x at c.0 i in
-        let j : In (record { at = at; entry = x.entry }) (votes_by v (other x.desk)) = subst (NotedFine (votes_by v (other x.desk)) at) c.2 (f.noted (other x.desk)) in
-        let size : at.place ≡ 0 + length k.book = let l = f.long in omega arith in
-        let long : length (k.book ++ x.entry ∷ []) ≡ at.place + 1 = let l = f.long in omega (arith, length-append k.book (x.entry ∷ [])) in
-        (both_push v.a v.b 0 k.book x.entry at.place at.round size f.both (both_voted v x.desk at.place at.round x.entry i' j), long ∙ ap (λ (r : ReaderState). r.position.place) (sym c.3))
+    both : (h : Heard) → Listens k.reader x h l.reader → AllBoth v.a v.b 0 (book_heard h k.book x.entry)
+    both Heard.Agreed c =
+        let j : In (record { at = at; entry = x.entry }) (votes_by v (other x.desk)) = rw c.2 at (f.noted (other x.desk)) in
+        both_push v.a v.b 0 k.book x.entry at.place at.round (omega (arith, f.long)) f.both
+        (both_voted v x.desk at.place at.round x.entry (there c.0) j)
+    both _ c = f.both
+
+    long : (h : Heard) → Listens k.reader x h l.reader → length (book_heard h k.book x.entry) ≡ l.reader.position.place
+    long h c = grind (arith, f.long, length-append k.book (x.entry ∷ []))
 
     noted : (h : Heard) → Listens k.reader x h l.reader → (d : DeskId) → NotedFine (votes_by v d) l.reader.position (noted_of l.reader d)
     noted Heard.Mine c d = absurd c
-    noted Heard.Old c d = rw c.1 (f.noted d)
-    noted Heard.Ahead c d = rw c.1 (f.noted d)
-    noted Heard.Again c d = rw c.2 (f.noted d)
-    noted Heard.TwoVotes c d = rw c.2 (f.noted d)
-    noted Heard.Noted c d = rw c.3 (noted_there v k.reader x.desk x.entry f.noted (at_reader (votes_by v x.desk) x at c.0 i) d)
+    noted Heard.Noted c d = rw c.3 (noted_there v k.reader x.desk x.entry f.noted (there c.0) d)
     noted Heard.Differ c d = rw c.3 (nothing_noted v (next_round at) d)
     noted Heard.Agreed c d = rw c.3 (nothing_noted v (next_place at) d)
+    noted _ c d = grind (arith, f.noted d)
 
 pub fresh_fine : (v : AllVotes) → BoardFine v fresh_board
 fresh_fine v = record { both = tt; long = refl; noted = nothing_noted v first; waits = inl refl }
 
-pub board_receives_keeps : {Why : Type 0} (rules : Rules Why) (v : AllVotes) (k l : BoardState) (m : Message) (told : BoardAnswer) → BoardFine v k → MessageFine v m → BoardReceives rules k m told l → BoardFine v l
+pub board_receives_keeps : {Why : Type 0} (rules : Rules Why) (v : AllVotes) (k l : BoardState) (m : Message) (told : BoardAnswer)
+    → BoardFine v k → MessageFine v m → BoardReceives rules k m told l → BoardFine v l
 board_receives_keeps rules v k l (Message.Vote x) (BoardAnswer.Told h) f i p = listens_keep v k l x h f i p.0 p.2
-board_receives_keeps rules v k l (Message.Vote x) BoardAnswer.Asked f i p = absurd p
-board_receives_keeps rules v k l (Message.Vote x) (BoardAnswer.BadVotes place) f i p = subst (BoardFine v) (sym p.3) f
-board_receives_keeps rules v k l (Message.Ask q) BoardAnswer.Asked f i p = subst (BoardFine v) (sym p) f
-board_receives_keeps rules v k l (Message.Ask q) (BoardAnswer.Told h) f i p = absurd p
-board_receives_keeps rules v k l (Message.Ask q) (BoardAnswer.BadVotes place) f i p = absurd p
+board_receives_keeps rules v k l (Message.Vote x) (BoardAnswer.BadVotes place) f i p = rw p.3 f
+board_receives_keeps rules v k l (Message.Ask q) BoardAnswer.Asked f i p = rw p f
+board_receives_keeps rules v k l _ _ f i p = absurd p
 
 -- what a board hands out are asks
 pub board_asks : (v : AllVotes) (k : BoardState) (out : List Message) → BoardTicks k out → Each (MessageFine v) out

@@ -1,11 +1,9 @@
 -- Books whose entries both desks have voted for, place by place.
-use Rattle.std.proofs.Common.{◌≡◌, ℕ, zero, suc, ◌+◌, Some, List, [], ◌∷◌, ◌++◌, length, subst, inr, arith}
+use Rattle.std.proofs.Common.{◌≡◌, ℕ, zero, suc, ◌+◌, Some, List, [], ◌∷◌, ◌++◌, length, inr, arith}
 use Rattle.std.specs.Prelude.{slice_get}
 use Rattle.notation.specs.declared.entry.Entry.{Entry}
-use Rattle.agree_core.specs.Agreed.{AllSettled, EqualVotes}
-use Rattle.agree_core.specs.Ballots.{AllJustified, AllVotes, Ballot, Justified, Within, ballot_at}
-use Rattle.agree_core.specs.Books.{book_of}
-use Rattle.agree_core.proofs.FileBooks.{AllBoth, book_agreed}
+use Rattle.agree_core.specs.Agreed.{AllBoth, AllSettled, EqualVotes}
+use Rattle.agree_core.specs.Ballots.{AllJustified, AllVotes, Ballot, Within, ballot_at}
 use Rattle.agree_core.proofs.Settling.{equal_votes_settle}
 
 pub same : (xs : List Ballot) → Within xs xs
@@ -14,14 +12,16 @@ same xs b i = i
 pub more : (b : Ballot) (xs : List Ballot) → Within xs (b ∷ xs)
 more b xs c i = inr i
 
-pub both_grow : (own own' theirs theirs' : List Ballot) → Within own own' → Within theirs theirs' → (place : ℕ) (es : List Entry) → AllBoth own theirs place es → AllBoth own' theirs' place es
+pub both_grow : (own own' theirs theirs' : List Ballot) → Within own own' → Within theirs theirs'
+    → (place : ℕ) (es : List Entry) → AllBoth own theirs place es → AllBoth own' theirs' place es
 both_grow own own' theirs theirs' g h place [] s = tt
 both_grow own own' theirs theirs' g h place (e ∷ es) s =
     ((s.0.0, (g (ballot_at place s.0.0 e) s.0.1.0, h (ballot_at place s.0.0 e) s.0.1.1)), both_grow own own' theirs theirs' g h (place + 1) es s.1)
 
-pub both_push : (own theirs : List Ballot) (place : ℕ) (es : List Entry) (e : Entry) (next round : ℕ) → next ≡ place + length es → AllBoth own theirs place es → EqualVotes (record { a = own; b = theirs }) next round e → AllBoth own theirs place (es ++ e ∷ [])
-both_push own theirs place [] e next round q s t = let r : next ≡ place = omega arith in ((round, subst (λ (p : ℕ). EqualVotes (record { a = own; b = theirs }) p round e) r t), tt)
-both_push own theirs place (x ∷ xs) e next round q s t = let r : next ≡ place + 1 + length xs = omega arith in (s.0, both_push own theirs (place + 1) xs e next round r s.1 t)
+pub both_push : (own theirs : List Ballot) (place : ℕ) (es : List Entry) (e : Entry) (next round : ℕ) → next ≡ place + length es
+    → AllBoth own theirs place es → EqualVotes (record { a = own; b = theirs }) next round e → AllBoth own theirs place (es ++ e ∷ [])
+both_push own theirs place [] e next round q s t = let r : next ≡ place = omega arith in ((round, rw r at t), tt)
+both_push own theirs place (x ∷ xs) e next round q s t = (s.0, both_push own theirs (place + 1) xs e next round (omega arith) s.1 t)
 
 pub both_turned : (own theirs : List Ballot) (place : ℕ) (es : List Entry) → AllBoth own theirs place es → AllBoth theirs own place es
 both_turned own theirs place [] s = tt
@@ -31,18 +31,15 @@ pub both_settled : (v : AllVotes) → AllJustified v → (place : ℕ) (es : Lis
 both_settled v j place [] s = tt
 both_settled v j place (e ∷ es) s = ((s.0.0, equal_votes_settle v j place s.0.0 e s.0.1), both_settled v j (place + 1) es s.1)
 
-pub book_both : (theirs votes : List Ballot) → Justified theirs votes → AllBoth votes theirs 0 (book_of votes)
-book_both theirs [] j = tt
-book_both theirs (b ∷ bs) j = book_agreed theirs b bs j
-
 -- the votes for one of its entries
-pub both_at : (own theirs : List Ballot) (place : ℕ) (es : List Entry) (n : ℕ) (e : Entry) → AllBoth own theirs place es → slice_get es n ≡ Some e → (round : ℕ) × EqualVotes (record { a = own; b = theirs }) (place + n) round e
+pub both_at : (own theirs : List Ballot) (place : ℕ) (es : List Entry) (n : ℕ) (e : Entry) → AllBoth own theirs place es → slice_get es n ≡ Some e
+    → (round : ℕ) × EqualVotes (record { a = own; b = theirs }) (place + n) round e
 both_at own theirs place [] n e h k = absurd (cc)
 both_at own theirs place (x ∷ es) zero e h k =
     let it : x ≡ e = cc in
-    let here : place ≡ place + 0 = omega arith in
-    (h.0.0, subst (λ (p : ℕ). EqualVotes (record { a = own; b = theirs }) p h.0.0 e) here (subst (EqualVotes (record { a = own; b = theirs }) place h.0.0) it h.0.1))
+    let here : place + 0 ≡ place = omega arith in
+    (h.0.0, rw (← it, here) h.0.1)
 both_at own theirs place (x ∷ es) (suc n) e h k =
     let later = both_at own theirs (place + 1) es n e h.1 k in
-    let here : place + 1 + n ≡ place + suc n = omega arith in
-    (later.0, subst (λ (p : ℕ). EqualVotes (record { a = own; b = theirs }) p later.0 e) here later.1)
+    let here : place + suc n ≡ place + 1 + n = omega arith in
+    (later.0, rw here later.1)

@@ -1,9 +1,9 @@
 -- Positions fall along a desk's votes, and a later round tells that both desks differed before.
-use Rattle.std.proofs.Common.{◌≡◌, ◌≢◌, ◌⊎◌, ℕ, ◌+◌, ◌<◌, List, [], ◌∷◌, refl, sym, ap, ◌∙◌, subst, inl, inr, arith, ⊎_elim}
+use Rattle.std.proofs.Common.{◌≡◌, ◌≢◌, ◌⊎◌, ℕ, ◌+◌, ◌<◌, List, [], ◌∷◌, refl, ap, inl, inr, arith}
 use Rattle.notation.specs.declared.entry.Entry.{Entry}
 use Rattle.agree_core.specs.declared.position.Position.{Position}
-use Rattle.agree_core.specs.Positions.{Before, first, next_place, next_round}
-use Rattle.agree_core.specs.Ballots.{Ballot, In, Within, ballot_at, Differed, Follows, Justified, IsSequence, ComesNext}
+use Rattle.agree_core.specs.Positions.{Before, next_place, next_round}
+use Rattle.agree_core.specs.Ballots.{Ballot, In, Within, ballot_at, Differed, Follows, Justified, IsSequence}
 
 abbrev pub NextRound : List Ballot → Ballot → Ballot → Type 0
 NextRound theirs b c = (c.at ≡ next_round b.at) × Differed theirs b
@@ -24,32 +24,25 @@ pub compare : (a b : ℕ) → (a < b) ⊎ ((a ≡ b) ⊎ (b < a))
 compare a b = grind arith
 
 before_trans : (p q r : Position) → Before p q → Before q r → Before p r
-before_trans p q r (inl h) (inl k) = inl (omega arith)
-before_trans p q r (inl h) (inr k) = inl (omega arith)
-before_trans p q r (inr h) (inl k) = inl (omega arith)
-before_trans p q r (inr h) (inr k) = inr (h.0 ∙ k.0, omega arith)
+before_trans p q r h k = grind arith
 
 pub not_before : (p q : Position) → p ≡ q → Before p q → ⊥
-not_before p q e (inl h) = let f = place_of p q e in omega arith
-not_before p q e (inr h) = let f = round_of p q e in omega arith
+not_before p q e h = grind arith
 
 follows_later : (theirs : List Ballot) (c b : Ballot) (bs : List Ballot) → Follows theirs c (b ∷ bs) → Before b.at c.at
-follows_later theirs c b bs (inl n) = let r = round_of c.at (next_round b.at) n.0 in inr (sym (place_of c.at (next_round b.at) n.0), omega arith)
-follows_later theirs c b bs (inr n) = let p = place_of c.at (next_place b.at) n.0 in inl (omega arith)
+follows_later theirs c b bs h = grind arith
 
 -- every vote before this one is for an earlier position
-pub earlier : (theirs : List Ballot) (b : Ballot) (bs : List Ballot) → Justified theirs (b ∷ bs) → (c : Ballot) → In c bs → Before c.at b.at
+pub earlier : (theirs : List Ballot) (b : Ballot) (bs : List Ballot) → Justified theirs (b ∷ bs)
+    → (c : Ballot) → In c bs → Before c.at b.at
 earlier theirs b [] j c i = absurd i
-earlier theirs b (x ∷ xs) j c (inl e) = subst (λ (y : Ballot). Before y.at b.at) (sym e) (follows_later theirs b x xs j.1)
-earlier theirs b (x ∷ xs) j c (inr i) = before_trans c.at x.at b.at (earlier theirs x xs j.2 c i) (follows_later theirs b x xs j.1)
+earlier theirs b (x ∷ xs) j c i = grind (arith, earlier theirs x xs j.2 c, follows_later theirs b x xs j.1)
 
 -- a desk has one vote at a position
 pub one_vote : (theirs bs : List Ballot) → Justified theirs bs → (b c : Ballot) → In b bs → In c bs → b.at ≡ c.at → b ≡ c
 one_vote theirs [] j b c i k e = absurd i
-one_vote theirs (x ∷ xs) j b c (inl p) (inl q) e = p ∙ sym q
-one_vote theirs (x ∷ xs) j b c (inl p) (inr q) e = absurd (not_before c.at x.at (sym e ∙ position_is b x p) (earlier theirs x xs j c q))
-one_vote theirs (x ∷ xs) j b c (inr p) (inl q) e = absurd (not_before b.at x.at (e ∙ position_is c x q) (earlier theirs x xs j b p))
-one_vote theirs (x ∷ xs) j b c (inr p) (inr q) e = one_vote theirs xs j.2 b c p q e
+one_vote theirs (x ∷ xs) j b c i k e =
+    grind (arith, earlier theirs x xs j b, earlier theirs x xs j c, one_vote theirs xs j.2 b c)
 
 -- both desks voted in this round, and differed
 abbrev pub BothDiffered : List Ballot → List Ballot → ℕ → ℕ → Type 0
@@ -59,64 +52,53 @@ one_more : (own theirs : List Ballot) (x : Ballot) (place round : ℕ) → BothD
 one_more own theirs x place round h = (h.0, h.1, inr h.2, h.3, h.4)
 
 -- the round of this vote, where both differed
-here_differed : (theirs : List Ballot) (y : Ballot) (ys : List Ballot) (place round : ℕ) → place ≡ y.at.place → round ≡ y.at.round → Differed theirs y → BothDiffered (y ∷ ys) theirs place round
-here_differed theirs y ys place round p r d =
-    let mine : ballot_at place round y.entry ≡ y = λ i. ballot_at (p i) (r i) y.entry in
-    let yours : ballot_at place round d.0 ≡ record { at = y.at; entry = d.0 } = λ i. ballot_at (p i) (r i) d.0 in
-    (y.entry, d.0, inl mine, subst (λ (z : Ballot). In z theirs) (sym yours) d.1, d.2)
+here_differed : (theirs : List Ballot) (y : Ballot) (ys : List Ballot) (place round : ℕ) → place ≡ y.at.place
+    → round ≡ y.at.round → Differed theirs y → BothDiffered (y ∷ ys) theirs place round
+here_differed theirs y ys place round p r d = (y.entry, d.0, inl (rw (p, r) refl), rw (p, r) d.1, d.2)
 
 -- a vote of a later round tells that both desks differed in each round before
-pub differed : (theirs bs : List Ballot) → Justified theirs bs → (b : Ballot) → In b bs → (place round : ℕ) → place ≡ b.at.place → round < b.at.round → BothDiffered bs theirs place round
+pub differed : (theirs bs : List Ballot) → Justified theirs bs → (b : Ballot) → In b bs
+    → (place round : ℕ) → place ≡ b.at.place → round < b.at.round → BothDiffered bs theirs place round
 differed theirs [] j b i place round e h = absurd i
-differed theirs (x ∷ []) j b (inl p) place round e h = absurd (let f = round_of b.at first (position_is b x p ∙ j.1) in omega arith)
-differed theirs (x ∷ []) j b (inr i) place round e h = absurd i
-differed theirs (x ∷ y ∷ ys) j b (inr i) place round e h = one_more (y ∷ ys) theirs x place round (differed theirs (y ∷ ys) j.2 b i place round e h)
-differed theirs (x ∷ y ∷ ys) j b (inl p) place round e h =
-    ⊎_elim
-    (λ (n : NextRound theirs y x).
-    let f = round_of b.at (next_round y.at) (position_is b x p ∙ n.0) in
-    let same : place ≡ y.at.place = e ∙ place_of b.at (next_round y.at) (position_is b x p ∙ n.0) in
-    one_more (y ∷ ys) theirs x place round (
-    ⊎_elim
-    (λ (q : round < y.at.round). differed theirs (y ∷ ys) j.2 y (inl refl) place round same q)
-    (λ (q : (round ≡ y.at.round) ⊎ (y.at.round < round)). here_differed theirs y ys place round same (⊎_elim (λ (t : round ≡ y.at.round). t) (λ (t : y.at.round < round). absurd (omega arith)) q) n.1)
-    (compare round y.at.round)
-    ))
-    (λ (n : NextPlace theirs y x). absurd (let f = round_of b.at (next_place y.at) (position_is b x p ∙ n.0) in omega arith))
-    j.1
+differed theirs (x ∷ []) j b i place round e h = absurd (grind arith)
+differed theirs (x ∷ y ∷ ys) j b (inr i) place round e h =
+    one_more (y ∷ ys) theirs x place round (differed theirs (y ∷ ys) j.2 b i place round e h)
+differed theirs (x ∷ y ∷ ys) (r, inl n, j) b (inl p) place round e h =
+    let same : place ≡ y.at.place = grind arith in
+    one_more (y ∷ ys) theirs x place round (elim (compare round y.at.round) [
+      | inl q ↦ differed theirs (y ∷ ys) j y (inl refl) place round same q
+      | inr q ↦ here_differed theirs y ys place round same (grind arith) n.1
+    ])
+differed theirs (x ∷ y ∷ ys) (r, inr n, j) b (inl p) place round e h = absurd (grind arith)
 
 -- a vote of a later place tells that the other desk has the last vote before
-pub place_closed : (theirs bs : List Ballot) → Justified theirs bs → (place : ℕ) (g : Entry) → In (ballot_at (place + 1) 0 g) bs → (round : ℕ) × (e : Entry) × In (ballot_at place round e) bs × In (ballot_at place round e) theirs
+pub place_closed : (theirs bs : List Ballot) → Justified theirs bs → (place : ℕ) (g : Entry)
+    → In (ballot_at (place + 1) 0 g) bs
+    → (round : ℕ) × (e : Entry) × In (ballot_at place round e) bs × In (ballot_at place round e) theirs
 place_closed theirs [] j place g i = absurd i
 place_closed theirs (x ∷ xs) j place g (inr i) =
     let h = place_closed theirs xs j.2 place g i in (h.0, h.1, inr h.2, h.3)
-place_closed theirs (x ∷ []) j place g (inl p) = absurd (let f = place_of (ballot_at (place + 1) 0 g).at first (position_is (ballot_at (place + 1) 0 g) x p ∙ j.1) in omega arith)
-place_closed theirs (x ∷ y ∷ ys) j place g (inl p) =
-    ⊎_elim
-    (λ (n : NextRound theirs y x). absurd (let f = round_of (ballot_at (place + 1) 0 g).at (next_round y.at) (position_is (ballot_at (place + 1) 0 g) x p ∙ n.0) in omega arith))
-    (λ (n : NextPlace theirs y x).
-    let f = place_of (ballot_at (place + 1) 0 g).at (next_place y.at) (position_is (ballot_at (place + 1) 0 g) x p ∙ n.0) in
-    let same : place ≡ y.at.place = omega arith in
-    let it : ballot_at place y.at.round y.entry ≡ y = λ i. ballot_at (same i) y.at.round y.entry in
-    (y.at.round, y.entry, inr (inl it), subst (λ (z : Ballot). In z theirs) (sym it) n.1))
-    j.1
+place_closed theirs (x ∷ []) j place g (inl p) = absurd (grind arith)
+place_closed theirs (x ∷ y ∷ ys) (r, inl n, j) place g (inl p) = absurd (grind arith)
+place_closed theirs (x ∷ y ∷ ys) (r, inr n, j) place g (inl p) =
+    let same : place ≡ y.at.place = grind arith in
+    (y.at.round, y.entry, inr (inl (rw same refl)), rw same n.1)
 
 -- votes that follow one another go up by a round or a place
 pub in_sequence : (theirs bs : List Ballot) → Justified theirs bs → IsSequence bs
 in_sequence theirs [] j = tt
 in_sequence theirs (b ∷ []) j = (j.0, j.1, tt)
-in_sequence theirs (c ∷ b ∷ bs) j = (j.0, next c b bs j.1, in_sequence theirs (b ∷ bs) j.2)
-  where
-    next : (c b : Ballot) (bs : List Ballot) → Follows theirs c (b ∷ bs) → ComesNext c (b ∷ bs)
-    next c b bs (inl n) = inl n.0
-    next c b bs (inr n) = inr n.0
+in_sequence theirs (c ∷ b ∷ bs) j = grind (arith, in_sequence theirs (b ∷ bs) j.2)
 
 -- they still follow one another once the other desk has voted more
-pub justified_grows : (theirs theirs' : List Ballot) → Within theirs theirs' → (bs : List Ballot) → Justified theirs bs → Justified theirs' bs
+pub follows_grows : (theirs theirs' : List Ballot) → Within theirs theirs' → (c : Ballot) (bs : List Ballot)
+    → Follows theirs c bs → Follows theirs' c bs
+follows_grows theirs theirs' g c [] n = n
+follows_grows theirs theirs' g c (b ∷ bs) (inl n) = inl (n.0, (n.1.0, g (record { at = b.at; entry = n.1.0 }) n.1.1, n.1.2))
+follows_grows theirs theirs' g c (b ∷ bs) (inr n) = inr (n.0, g b n.1)
+
+pub justified_grows : (theirs theirs' : List Ballot) → Within theirs theirs' → (bs : List Ballot)
+    → Justified theirs bs → Justified theirs' bs
 justified_grows theirs theirs' g [] j = tt
-justified_grows theirs theirs' g (b ∷ []) j = j
-justified_grows theirs theirs' g (c ∷ b ∷ bs) j = (j.0, next c b bs j.1, justified_grows theirs theirs' g (b ∷ bs) j.2)
-  where
-    next : (c b : Ballot) (bs : List Ballot) → Follows theirs c (b ∷ bs) → Follows theirs' c (b ∷ bs)
-    next c b bs (inl n) = inl (n.0, (n.1.0, g (record { at = b.at; entry = n.1.0 }) n.1.1, n.1.2))
-    next c b bs (inr n) = inr (n.0, g b n.1)
+justified_grows theirs theirs' g (b ∷ bs) j =
+    (j.0, follows_grows theirs theirs' g b bs j.1, justified_grows theirs theirs' g bs j.2)

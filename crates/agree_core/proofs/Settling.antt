@@ -5,14 +5,15 @@ use Rattle.agree_core.specs.declared.messages.DeskId.TheVariants.{A, B}
 use Rattle.agree_core.specs.Agreed.{EqualVotes, SettledAt, AllSettled, Unsettled, IsAgreedList, BeginsWith}
 use Rattle.agree_core.specs.Ballots.{Ballot, AllVotes, AllJustified, Justified, In, VotesGrow, ballot_at}
 use Rattle.agree_core.specs.Laws.{SettledOnce, EqualVotesSettle, OneBook, OneVoteEach, RoundsDiffer, PlacesSettled}
-use Rattle.agree_core.proofs.Order.{compare, differed, one_vote, place_closed}
+use Rattle.agree_core.proofs.Order.{differed, one_vote, place_closed}
 
 -- both have this ballot
 abbrev pub Both : List Ballot → List Ballot → ℕ → ℕ → Entry → Type 0
 Both own theirs place round e = In (ballot_at place round e) own × In (ballot_at place round e) theirs
 
 -- no vote is cast past the round in which a place is settled
-pub none_later : (own theirs : List Ballot) → Justified theirs own → Justified own theirs → (place r s : ℕ) (e f : Entry) → Both own theirs place r e → In (ballot_at place s f) own → r < s → ⊥
+pub none_later : (own theirs : List Ballot) → Justified theirs own → Justified own theirs → (place r s : ℕ) (e f : Entry)
+    → Both own theirs place r e → In (ballot_at place s f) own → r < s → ⊥
 none_later own theirs jo jt place r s e f h i less =
     let d = differed theirs own jo (ballot_at place s f) i place r refl less in
     let p = one_vote theirs own jo (ballot_at place r d.0) (ballot_at place r e) d.2 h.0 refl in
@@ -20,14 +21,12 @@ none_later own theirs jo jt place r s e f h i less =
     d.4 (ap (λ (b : Ballot). b.entry) (p ∙ sym q))
 
 -- a place is settled once
-pub both_once : (own theirs : List Ballot) → Justified theirs own → Justified own theirs → (place r s : ℕ) (e f : Entry) → Both own theirs place r e → Both own theirs place s f → (r ≡ s) × (e ≡ f)
+pub both_once : (own theirs : List Ballot) → Justified theirs own → Justified own theirs → (place r s : ℕ) (e f : Entry)
+    → Both own theirs place r e → Both own theirs place s f → (r ≡ s) × (e ≡ f)
 both_once own theirs jo jt place r s e f h k =
-    ⊎_elim
-    (λ (q : r < s). absurd (none_later own theirs jo jt place r s e f h k.0 q))
-    (⊎_elim
-    (λ (q : r ≡ s). (q, ap (λ (b : Ballot). b.entry) (one_vote theirs own jo (ballot_at place r e) (ballot_at place s f) h.0 k.0 (λ i. record { place = place; round = q i }))))
-    (λ (q : s < r). absurd (none_later own theirs jo jt place s r f e k h.0 q)))
-    (compare r s)
+    let before = none_later own theirs jo jt place r s e f h k.0 in
+    let after = none_later own theirs jo jt place s r f e k h.0 in
+    grind (arith, before, after, one_vote theirs own jo (ballot_at place r e) (ballot_at place s f) h.0 k.0)
 
 pub settled_once : (v : AllVotes) → AllJustified v → SettledOnce v
 settled_once v j place r s e f h k = both_once v.a v.b j.0 j.1 place r s e f h k
@@ -79,7 +78,8 @@ one_of w j place (x ∷ xs) (y ∷ ys) s t =
 pub one_book : (w : AllVotes) → AllJustified w → OneBook w
 one_book w j u v xs ys g h s t = one_of w j 0 xs ys (all_settled_grow u w g j 0 xs s) (all_settled_grow v w h j 0 ys t)
 
-begins_from : (w : AllVotes) → AllJustified w → (place next : ℕ) (xs ys : List Entry) → AllSettled w place xs → AllSettled w place ys → next ≡ place + length ys → Unsettled w next → BeginsWith ys xs
+begins_from : (w : AllVotes) → AllJustified w → (place next : ℕ) (xs ys : List Entry)
+    → AllSettled w place xs → AllSettled w place ys → next ≡ place + length ys → Unsettled w next → BeginsWith ys xs
 begins_from w j place next [] ys s t n u = (ys, refl)
 begins_from w j place next (x ∷ xs) [] s t n u = let same : next ≡ place = omega arith in absurd (u s.0.0 x (subst (λ (p : ℕ). EqualVotes w p s.0.0 x) (sym same) s.0.1.0))
 begins_from w j place next (x ∷ xs) (y ∷ ys) s t n u =
@@ -97,10 +97,8 @@ agreed_begins v w g j xs ys s a =
 
 same_list : (xs ys : List Entry) → BeginsWith ys xs → BeginsWith xs ys → xs ≡ ys
 same_list xs ys ([], h) k = sym (append-nil xs) ∙ h
-same_list xs ys (e ∷ rest, h) k = absurd (longer (ap length h) (ap length k.1))
-  where
-    longer : length (xs ++ e ∷ rest) ≡ length ys → length (ys ++ k.0) ≡ length xs → ⊥
-    longer p q = omega (arith, length-append xs (e ∷ rest), length-append ys k.0)
+same_list xs ys (e ∷ rest, h) k =
+    absurd (omega (arith, ap length h, ap length k.1, length-append xs (e ∷ rest), length-append ys k.0))
 
 -- there is one agreed list
 pub agreed_once : (v : AllVotes) → AllJustified v → (xs ys : List Entry) → IsAgreedList v xs → IsAgreedList v ys → xs ≡ ys

@@ -9,7 +9,7 @@ use Rattle.agree_core.specs.FileView.{Holds, Stays}
 use Rattle.agree_core.specs.WorkedSteps.{DiffersAndAgrees, FailedAndOpened, Shown, StoppedAndOpened, VotesOfNoBook, shows, synced}
 
 other_desk : B ≢ A
-other_desk e = absurd (cc)
+other_desk e = cc
 
 holds : (votes : List Ballot) → Holds shows (synced votes) votes
 holds votes = (refl, λ image i. elim i [ inl e ↦ e | inr e ↦ e ])
@@ -20,7 +20,7 @@ stays disk = (refl, λ image. (λ i. i, λ i. i))
 module _ {Why : Type 0} (rules : Rules Why) where
   pub differs_and_agrees : (four six : Entry) → rules [] four ≡ None → rules [] six ≡ None → six ≢ four → DiffersAndAgrees rules four six
   differs_and_agrees four six f s unlike = (
-    (((refl, refl), ((omega arith, omega arith), omega arith), f), ((refl, refl), refl, refl, refl, holds _), refl),
+    (((refl, refl), omega arith, f), ((refl, refl), refl, refl, refl, holds _), refl),
     (refl, ((other_desk, refl), refl, (four, refl, unlike), refl), stays _, refl, refl),
     (((refl, refl), ((omega arith, omega arith), omega arith), s), ((refl, refl), refl, refl, refl, holds _), refl),
     (refl, ((other_desk, refl), refl, refl, refl), stays _, refl, refl),

@@ -1,37 +1,28 @@
 -- The worked votes follow one another, and settle what they should.
-use Rattle.std.proofs.Common.{◌≢◌, ℕ, ◌<◌, List, [], ◌∷◌, refl, sym, ap, inl, inr, arith}
+use Rattle.std.proofs.Common.{◌≢◌, List, [], ◌∷◌, refl, sym, inl, inr, arith}
 use Rattle.notation.specs.declared.entry.Entry.{Entry}
-use Rattle.agree_core.specs.Positions.{InRange}
-use Rattle.agree_core.specs.Agreed.{EqualVotes}
 use Rattle.agree_core.specs.Ballots.{AllJustified, Ballot, In, Justified, ballot_at}
 use Rattle.agree_core.specs.Books.{Rules}
-use Rattle.agree_core.specs.Rows.{FileOfSecondRound, LeastRound, RefusedInTurn, SecondRound, agreeing, differing, three, twice}
+use Rattle.agree_core.specs.Rows.{FileOfSecondRound, LeastRound, RefusedInTurn, SecondRound, agreeing, differing, three}
 use Rattle.agree_core.proofs.FileBooks.{agreed_by_files}
 
-in_range : (place round : ℕ) → place < 10 → round < 10 → InRange (record { place = place; round = round })
-in_range place round h k = (omega arith, omega arith)
-
-three_justified : (p q r : Entry) (theirs : List Ballot) → In (ballot_at 1 0 q) theirs → In (ballot_at 0 0 p) theirs → Justified theirs (three p q r)
-three_justified p q r theirs h k =
-    (in_range 2 0 (omega arith) (omega arith), inr (refl, h), (in_range 1 0 (omega arith) (omega arith), inr (refl, k), (in_range 0 0 (omega arith) (omega arith), refl, tt)))
+three_justified : (p q r : Entry) (theirs : List Ballot) → In (ballot_at 1 0 q) theirs → In (ballot_at 0 0 p) theirs
+    → Justified theirs (three p q r)
+three_justified p q r theirs h k = grind arith
 
 one_round : (p q r last other : Entry) → Justified (ballot_at 3 0 other ∷ three p q r) (ballot_at 3 0 last ∷ three p q r)
-one_round p q r last other =
-    (in_range 3 0 (omega arith) (omega arith), inr (refl, inr (inl refl)), three_justified p q r (ballot_at 3 0 other ∷ three p q r) (inr (inr (inl refl))) (inr (inr (inr (inl refl)))))
+one_round p q r last other = grind arith
 
-two_rounds : (p q r mine other last : Entry) → mine ≢ other → Justified (ballot_at 3 1 last ∷ ballot_at 3 0 other ∷ three p q r) (ballot_at 3 1 last ∷ ballot_at 3 0 mine ∷ three p q r)
+two_rounds : (p q r mine other last : Entry) → mine ≢ other
+    → Justified (ballot_at 3 1 last ∷ ballot_at 3 0 other ∷ three p q r) (ballot_at 3 1 last ∷ ballot_at 3 0 mine ∷ three p q r)
 two_rounds p q r mine other last h = (
-  in_range 3 1 (omega arith) (omega arith),
+  (omega arith, omega arith),
   inl (refl, (other, inr (inl refl), h)),
-  (in_range 3 0 (omega arith) (omega arith), inr (refl, inr (inr (inl refl))), three_justified p q r (ballot_at 3 1 last ∷ ballot_at 3 0 other ∷ three p q r) (inr (inr (inr (inl refl)))) (inr (inr (inr (inr (inl refl)))))),
+  grind (arith, three_justified p q r (ballot_at 3 1 last ∷ ballot_at 3 0 other ∷ three p q r)),
 )
 
 elsewhere : (p q r four six : Entry) → four ≢ six → In (ballot_at 3 0 four) (ballot_at 3 0 six ∷ three p q r) → ⊥
-elsewhere p q r four six h (inl e) = h (ap (λ (b : Ballot). b.entry) e)
-elsewhere p q r four six h (inr (inl e)) = let k = ap (λ (b : Ballot). b.at.place) e in omega arith
-elsewhere p q r four six h (inr (inr (inl e))) = let k = ap (λ (b : Ballot). b.at.place) e in omega arith
-elsewhere p q r four six h (inr (inr (inr (inl e)))) = let k = ap (λ (b : Ballot). b.at.place) e in omega arith
-elsewhere p q r four six h (inr (inr (inr (inr e)))) = e
+elsewhere p q r four six h i = grind arith
 
 pub second_round : (p q r four six : Entry) → four ≢ six → SecondRound p q r four six
 second_round p q r four six h =
@@ -46,11 +37,8 @@ second_round p q r four six h =
 pub file_of_second_round : (p q r four six : Entry) → FileOfSecondRound p q r four six
 file_of_second_round p q r four six = (refl, refl, refl)
 
-none_before : (e f : Entry) (r : ℕ) (g : Entry) → r < 0 → EqualVotes (twice e f) 0 r g → ⊥
-none_before e f r g h k = omega arith
-
 pub least_round : (e f : Entry) → LeastRound e f
-least_round e f = (((inr (inl refl), inr (inl refl)), none_before e f), λ s. s.1 0 e (omega arith) (inr (inl refl), inr (inl refl)))
+least_round e f = (((inr (inl refl), inr (inl refl)), λ r g h k. omega arith), λ s. s.1 0 e (omega arith) (inr (inl refl), inr (inl refl)))
 
 pub refused_in_turn : {Why : Type 0} (rules : Rules Why) (e f : Entry) → RefusedInTurn rules e f
 refused_in_turn rules e f = (λ h. inl (h, refl), λ h k. inr (h, inl (k, refl)))

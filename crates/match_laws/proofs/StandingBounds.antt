@@ -6,9 +6,9 @@ use Rattle.notation.specs.declared.entry.{Side.Side, Plain.Plain}
 use Rattle.notation.specs.declared.entry.Plain.TheVariants.{Innings}
 use Rattle.ball_laws.specs.History.{History}
 use Rattle.match_laws.specs.declared.{standing.Standing.Standing, score.InningsScore.InningsScore, sides.SideRecord.SideRecord}
-use Rattle.match_laws.specs.History.{side_of, begun, is_void}
+use Rattle.match_laws.specs.History.{side_of, is_void}
 use Rattle.match_laws.specs.Figures.{total}
-use Rattle.match_laws.specs.Result.{share, current}
+use Rattle.match_laws.specs.Result.{share}
 use Rattle.match_laws.specs.Parts.{score_of, side_record}
 use Rattle.match_laws.specs.inner.Added.{IsSmallScore, IsSmallRecord}
 use Rattle.match_laws.specs.Stands.{StandsFor, IsKept, CanTake}
@@ -28,61 +28,45 @@ pub kept_total : (m : Standing) → ∥ IsKept m ∥₁ → (k : ℕ) (d : Innin
 kept_total m kept k d lt = ∥∥₁_elim kept le_prop (λ w. (small_at m w.innings_a_side w.history w.stands k d lt).total)
 
 begun_low : (m : Standing) → IsKept m → m.begun ≤ 4
-begun_low m w =
-    let few = begun_few w.innings_a_side w.history ((w.stands).one_or_two).1 (w.stands).legal in
-    let same = (w.stands).begun in
-    omega arith
+begun_low m w = omega (arith, begun_few w.innings_a_side w.history ((w.stands).one_or_two).1 (w.stands).legal, (w.stands).begun)
 
 pub kept_begun : (m : Standing) → ∥ IsKept m ∥₁ → m.begun ≤ 4
 kept_begun m kept = ∥∥₁_elim kept le_prop (begun_low m)
 
 -- ten wickets at most
 pub kept_few : (m : Standing) → ∥ IsKept m ∥₁ → (k : ℕ) (d : InningsScore) → k < 4 → (get_or m.scores k d).wickets ≤ 10
-kept_few m kept k d lt =
-    ∥∥₁_elim kept le_prop (λ w. rw (score_at m w.innings_a_side w.history w.stands k d lt) (wickets-ten w.innings_a_side w.history k (w.stands).legal))
-
-pub kept_share : (m : Standing) (k : ℕ) (d : InningsScore) (runs : ℕ) → ∥ IsKept m ∥₁ → k < 4 → runs ≤ (get_or m.scores k d).total → runs ≤ 245760
-kept_share m k d runs kept lt le = let small = kept_total m kept k d lt in omega arith
+kept_few m kept k d lt = ∥∥₁_elim kept le_prop (λ w. rw (score_at m w.innings_a_side w.history w.stands k d lt)
+    (wickets-ten w.innings_a_side w.history k (w.stands).legal))
 
 -- the share of a side in an innings
-pub share_at : (m : Standing) (n : ℕ) (h : History) → StandsFor m n h → (k : ℕ) (d : InningsScore) → k < 4 → (side : Side) → share (get_or m.scores k d).side side (get_or m.scores k d).total ≡ share (side_of h k) side (total h k)
+pub share_at : (m : Standing) (n : ℕ) (h : History) → StandsFor m n h → (k : ℕ) (d : InningsScore) → k < 4 → (side : Side) →
+    share (get_or m.scores k d).side side (get_or m.scores k d).total ≡ share (side_of h k) side (total h k)
 share_at m n h s k d lt side = ap (λ v. share v.side side v.total) (score_at m n h s k d lt)
 
 -- ---- an innings' score and a side's record have room
 
-small_prop : (s : InningsScore) → IsProp (IsSmallScore s)
-small_prop s = hlevel le_prop
-
-record_prop : (r : SideRecord) → IsProp (IsSmallRecord r)
-record_prop r = hlevel le_prop
-
 pub kept_score : (m : Standing) → ∥ IsKept m ∥₁ → (k : ℕ) (d : InningsScore) → k < 4 → IsSmallScore (get_or m.scores k d)
-kept_score m kept k d lt = ∥∥₁_elim kept (small_prop (get_or m.scores k d)) (λ w. small_at m w.innings_a_side w.history w.stands k d lt)
+kept_score m kept k d lt = ∥∥₁_elim kept (hlevel le_prop) (λ w. small_at m w.innings_a_side w.history w.stands k d lt)
 
--- a score that is that of the current innings for each history
-pub kept_current : (m : Standing) (s : InningsScore) → ∥ IsKept m ∥₁ → ((n : ℕ) → (h : History) → StandsFor m n h → s ≡ score_of h (current h)) → IsSmallScore s
-kept_current m s kept is = ∥∥₁_elim kept (small_prop s) (λ w. rw (is w.innings_a_side w.history w.stands) (score-small w.history (current w.history) (w.stands).in_range (entries_few w.innings_a_side w.history (w.stands).legal)))
-
-pub kept_record : (m : Standing) (side : Side) (r : SideRecord) → ∥ IsKept m ∥₁ → ((n : ℕ) → (h : History) → StandsFor m n h → r ≡ side_record h side) → IsSmallRecord r
-kept_record m side r kept is = ∥∥₁_elim kept (record_prop r) (λ w. rw (is w.innings_a_side w.history w.stands) (record-small w.history side (entries_few w.innings_a_side w.history (w.stands).legal)))
+-- a side's record, by what it is for each history
+pub kept_record : (m : Standing) (side : Side) (r : SideRecord) → ∥ IsKept m ∥₁ →
+    ((n : ℕ) → (h : History) → StandsFor m n h → r ≡ side_record h side) → IsSmallRecord r
+kept_record m side r kept is = ∥∥₁_elim kept (hlevel le_prop) (λ w. rw (is w.innings_a_side w.history w.stands)
+    (record-small w.history side (entries_few w.innings_a_side w.history (w.stands).legal)))
 
 -- where an innings can begin there is room for it
 pub room_begun : (m : Standing) (s : Side) → ∥ CanTake m (Innings s) ∥₁ → m.begun < 4
-room_begun m s can = ∥∥₁_elim can le_prop (λ w. below (begun_room w.innings_a_side w.history s ((w.stands).one_or_two).1 (w.stands).legal w.taken) (w.stands).begun)
-  where
-    below : {a b : ℕ} → a < 4 → b ≡ a → b < 4
-    below lt e = omega arith
+room_begun m s can = ∥∥₁_elim can le_prop (λ w.
+    omega (arith, begun_room w.innings_a_side w.history s ((w.stands).one_or_two).1 (w.stands).legal w.taken, (w.stands).begun))
 
 -- the innings that a side began last has a place
-pub kept_latest : (m : Standing) (side : Side) (r : SideRecord) (k : ℕ) → ∥ IsKept m ∥₁ → ((n : ℕ) → (h : History) → StandsFor m n h → r ≡ side_record h side) → r.latest ≡ Some k → k < 4
-kept_latest m side r k kept is e = ∥∥₁_elim kept le_prop (λ w. below w (latest_of-begun w.history side k (sym (ap (λ v. v.latest) (is w.innings_a_side w.history w.stands)) ∙ e)))
-  where
-    below : (w : IsKept m) → k < begun w.history → k < 4
-    below w lt = let few = begun_few w.innings_a_side w.history ((w.stands).one_or_two).1 (w.stands).legal in omega arith
+pub kept_latest : (m : Standing) (side : Side) (r : SideRecord) (k : ℕ) → ∥ IsKept m ∥₁ →
+    ((n : ℕ) → (h : History) → StandsFor m n h → r ≡ side_record h side) → r.latest ≡ Some k → k < 4
+kept_latest m side r k kept is e = ∥∥₁_elim kept le_prop (λ w.
+    let began = latest_of-begun w.history side k (sym (ap (λ v. v.latest) (is w.innings_a_side w.history w.stands)) ∙ e) in
+    omega (arith, began, begun_few w.innings_a_side w.history ((w.stands).one_or_two).1 (w.stands).legal))
 
 -- there is room for one entry more
 pub room_taken : (m : Standing) (x : Plain) → is_void x ≡ false → ∥ CanTake m x ∥₁ → m.taken < 8192
-room_taken m x v can = ∥∥₁_elim can le_prop (λ w. below ((taken w.innings_a_side w.history x v w.taken).room) (w.stands).taken)
-  where
-    below : {a b : ℕ} → a < 8192 → b ≡ a → b < 8192
-    below lt e = omega arith
+room_taken m x v can = ∥∥₁_elim can le_prop (λ w.
+    omega (arith, (taken w.innings_a_side w.history x v w.taken).room, (w.stands).taken))

@@ -1,18 +1,17 @@
 -- What the bytes of a message are made of, and that no other message has them.
-use Rattle.std.proofs.Common.{◌≡◌, ◌∙◌, ◌<◌, ◌≤◌, ℕ, List, ◌++◌, drop, length, replicate, Option, Some, None, arith, refl, sym, ap, slice_index, inl, inr, Bool, false, true≢false, IsTrue, ◌↔◌}
+use Rattle.std.proofs.Common.{◌≡◌, ◌∙◌, ◌<◌, ℕ, List, ◌++◌, drop, length, replicate, Option, Some, None, arith, refl, sym, ap, slice_index, Bool, false, true≢false, IsTrue, ◌↔◌}
 use Rattle.std.specs.Option.{option_map}
 use Rattle.std.proofs.lemmas.Nat.{from_be_bytes-to_be_bytes_2, from_be_bytes-to_be_bytes_4}
 use Rattle.std.proofs.lemmas.List.{length-drop, take-append-le, take_all}
-use Rattle.notation.specs.declared.entry.{Entry.Entry, Out.Out, Plain.Plain, TheConstants.PLACES}
+use Rattle.notation.specs.declared.entry.{Entry.Entry, Out.Out, Plain.Plain}
 use Rattle.notation.specs.declared.entry.Entry.TheVariants.{Write, Fix, Late}
 use Rattle.notation.specs.Code.{code, body as plain_body, out_code, spare_bytes}
 use Rattle.notation.proofs.Decoded.{code_once}
 use Rattle.agree_core.specs.declared.messages.{Ask.Ask as AnAsk, Asker.Asker, DeskId.DeskId, Message.Message, Vote.Vote as AVote}
-use Rattle.agree_core.specs.declared.position.{Position.Position, TheConstants.ROUNDS}
+use Rattle.agree_core.specs.declared.position.{Position.Position}
 use Rattle.agree_core.specs.declared.messages.DeskId.TheVariants.{A}
 use Rattle.agree_core.specs.declared.messages.Message.TheVariants.{Vote, Ask}
 use Rattle.agree_core.specs.Positions.{InRange, IsFull}
-use Rattle.agree_core.proofs.Order.{compare}
 use Rattle.agree_core.specs.Ballots.{desk_number}
 use Rattle.wire.specs.Layout.{IsMessage, Says, asker_number, body, body_in, is_at, written}
 use Rattle.wire.specs.inner.Fields.{asker_numbered, desk_numbered, place_in, round_in}
@@ -98,16 +97,14 @@ pub vote_by_kind : (bytes : List ℕ) (o : Option AVote) → slice_index bytes 3
     → (game : ℕ) (m : Message) → Says game bytes m → option_map Vote o ≡ Some m
 vote_by_kind bytes o k again game (Vote v) s = ap (option_map Vote) (again game v s)
 vote_by_kind bytes o k again game (Ask q) s =
-    let other : 1 ≡ 2 = sym k ∙ ap (λ (l : List ℕ). slice_index l 3) s.1 in
-    absurd (cc)
+    let other : 1 ≡ 2 = sym k ∙ ap (λ (l : List ℕ). slice_index l 3) s.1 in absurd (cc)
 
 pub ask_by_kind : (bytes : List ℕ) (o : Option AnAsk) → slice_index bytes 3 ≡ 2
     → ((game : ℕ) (q : AnAsk) → Says game bytes (Ask q) → o ≡ Some q)
     → (game : ℕ) (m : Message) → Says game bytes m → option_map Ask o ≡ Some m
 ask_by_kind bytes o k again game (Ask q) s = ap (option_map Ask) (again game q s)
 ask_by_kind bytes o k again game (Vote v) s =
-    let other : 2 ≡ 1 = sym k ∙ ap (λ (l : List ℕ). slice_index l 3) s.1 in
-    absurd (cc)
+    let other : 2 ≡ 1 = sym k ∙ ap (λ (l : List ℕ). slice_index l 3) s.1 in absurd (cc)
 
 -- no two messages share bytes
 pub message_once : (g h : ℕ) (m n : Message) → IsMessage m → IsMessage n → written g m ≡ written h n → m ≡ n
@@ -132,14 +129,7 @@ says_once game bytes m n s t = message_once game game m n s.0 t.0 (sym s.1 ∙ t
 
 -- a position that isn't full is in range
 pub not_full : (p : Position) → (IsFull p → ⊥) → InRange p
-not_full p h = (below PLACES p.place (λ e. h (inl e)), below ROUNDS p.round (λ e. h (inr e)))
-  where
-    below : (n k : ℕ) → (n ≤ k → ⊥) → k < n
-    below n k f = elim (compare k n) [
-      | inl less ↦ less
-      | inr (inl same) ↦ absurd (f (omega (arith, same)))
-      | inr (inr more) ↦ absurd (f (omega (arith, more)))
-    ]
+not_full p h = grind arith
 
 pub tested_free : (p : Position) (full : Bool) → (IsTrue full ↔ IsFull p) → full ≡ false → InRange p
 tested_free p full t is_no = not_full p (λ f. true≢false (sym (t.1 f) ∙ is_no))
