@@ -1,7 +1,8 @@
 -- The agreed list of a desk's first votes and the other's, one vote more at a time.
-use Rattle.std.proofs.Common.{◌≡◌, ℕ, ◌+◌, ◌-◌, ◌<◌, ◌≤◌, List, [], ◌∷◌, ◌++◌, length, drop, get_or, zero, suc, refl, sym, ap, ◌∙◌, subst, inl, inr, arith, length-append}
+use Rattle.std.proofs.Common.{◌≡◌, ℕ, ◌+◌, ◌-◌, ◌<◌, ◌≤◌, List, [], ◌∷◌, ◌++◌, length, sym, ap, ◌∙◌, inl, inr, arith, length-append}
 use Rattle.std.specs.List.{All}
-use Rattle.std.proofs.lemmas.List.Elements.{All-append}
+use Rattle.std.proofs.lemmas.List.{drop_all}
+use Rattle.std.proofs.lemmas.List.Elements.{All-append, All-cons, All-nil}
 use Rattle.notation.specs.declared.entry.Entry.{Entry}
 use Rattle.notation.specs.Written.{IsEntry}
 use Rattle.agree_core.specs.declared.messages.Vote.{Vote}
@@ -15,7 +16,7 @@ abbrev pub both : List Ballot → List Ballot → AllVotes
 both own theirs = record { a = own; b = theirs }
 
 -- none of the votes settle nothing
-pub none_agreed : (theirs : List Ballot) → IsAgreedList (both [] theirs) []
+none_agreed : (theirs : List Ballot) → IsAgreedList (both [] theirs) []
 none_agreed theirs = (tt, λ r e h. h.0)
 
 -- a sequence has one vote at a position
@@ -26,27 +27,25 @@ one_vote (x ∷ xs) s b c (inl p) (inr q) e = absurd (not_before c.at x.at (sym 
 one_vote (x ∷ xs) s b c (inr p) (inl q) e = absurd (not_before b.at x.at (e ∙ ap (λ (y : Ballot). y.at) q) (earlier x xs s.1 s.2 b p))
 one_vote (x ∷ xs) s b c (inr p) (inr q) e = one_vote xs s.2 b c p q e
 
-all_settled_push : (v : AllVotes) (place next : ℕ) (es : List Entry) (e : Entry) → next ≡ place + length es → AllSettled v place es → SettledAt v next e → AllSettled v place (es ++ e ∷ [])
-all_settled_push v place next [] e n a s = let same : next ≡ place = omega arith in (subst (λ (p : ℕ). SettledAt v p e) same s, tt)
-all_settled_push v place next (x ∷ xs) e n a s = let more : next ≡ place + 1 + length xs = omega arith in (a.0, all_settled_push v (place + 1) next xs e more a.1 s)
+all_settled_push : (v : AllVotes) (place next : ℕ) (es : List Entry) (e : Entry) → next ≡ place + length es → AllSettled v place es → SettledAt v next e →
+    AllSettled v place (es ++ e ∷ [])
+all_settled_push v place next [] e n a s = let same : next ≡ place = omega arith in (rw same at s, tt)
+all_settled_push v place next (x ∷ xs) e n a s = (a.0, all_settled_push v (place + 1) next xs e (omega arith) a.1 s)
 
 module _ (own theirs : List Ballot) (b : Ballot) (s : IsSequence (b ∷ own)) where
-  place_is : (place round : ℕ) (e : Entry) → ballot_at place round e ≡ b → place ≡ b.at.place
-  place_is place round e p = ap (λ (y : Ballot). y.at.place) p
+  is_at : {place round : ℕ} {e : Entry} → ballot_at place round e ≡ b → (place ≡ b.at.place) × (round ≡ b.at.round)
+  is_at p = (ap (λ (y : Ballot). y.at.place) p, ap (λ (y : Ballot). y.at.round) p)
 
-  round_is : (place round : ℕ) (e : Entry) → ballot_at place round e ≡ b → round ≡ b.at.round
-  round_is place round e p = ap (λ (y : Ballot). y.at.round) p
-
-  not_so_late : (place r round : ℕ) → place ≡ b.at.place → r ≡ b.at.round → r < round → Before (record { place = place; round = round }) b.at → ⊥
-  not_so_late place r round p q less (inl h) = omega arith
-  not_so_late place r round p q less (inr h) = omega arith
+  not_so_late : (place round : ℕ) → place ≡ b.at.place → b.at.round < round → Before (record { place = place; round = round }) b.at → ⊥
+  not_so_late place round p less h = grind arith
 
   -- a place that is settled stays so
   still_settled : (place : ℕ) (e : Entry) → SettledAt (both own theirs) place e → SettledAt (both (b ∷ own) theirs) place e
   still_settled place e (round, (equal, least)) = (round, ((inr equal.0, equal.1), none))
     where
       none : (r : ℕ) (f : Entry) → r < round → EqualVotes (both (b ∷ own) theirs) place r f → ⊥
-      none r f less (inl p, j) = not_so_late place r round (place_is place r f p) (round_is place r f p) less (earlier b own s.1 s.2 (ballot_at place round e) equal.0)
+      none r f less (inl p, j) =
+          let at = is_at p in not_so_late place round at.0 (omega (arith, at.1)) (earlier b own s.1 s.2 (ballot_at place round e) equal.0)
       none r f less (inr i, j) = least r f less (i, j)
 
   all_still_settled : (place : ℕ) (es : List Entry) → AllSettled (both own theirs) place es → AllSettled (both (b ∷ own) theirs) place es
@@ -54,37 +53,35 @@ module _ (own theirs : List Ballot) (b : Ballot) (s : IsSequence (b ∷ own)) wh
   all_still_settled place (e ∷ es) a = (still_settled place e a.0, all_still_settled (place + 1) es a.1)
 
   -- a vote that the other desk lacks, or that is for another place, settles nothing
-  pub settles_nothing : (xs : List Entry) → IsAgreedList (both own theirs) xs → (b.at.place ≡ length xs → In b theirs → ⊥) → IsAgreedList (both (b ∷ own) theirs) xs
+  settles_nothing : (xs : List Entry) → IsAgreedList (both own theirs) xs → (b.at.place ≡ length xs → In b theirs → ⊥) →
+      IsAgreedList (both (b ∷ own) theirs) xs
   settles_nothing xs a other = (all_still_settled 0 xs a.0, none)
     where
       none : Unsettled (both (b ∷ own) theirs) (length xs)
-      none r e (inl p, j) = other (sym (place_is (length xs) r e p)) (subst (λ (y : Ballot). In y theirs) p j)
+      none r e (inl p, j) = other (sym (is_at p).0) (rw p at j)
       none r e (inr i, j) = a.1 r e (i, j)
 
-  past : (place : ℕ) (r : ℕ) → place ≡ b.at.place + 1 → Before (record { place = place; round = r }) b.at → ⊥
-  past place r p (inl h) = omega arith
-  past place r p (inr h) = omega arith
-
   -- a vote for the next place that the other desk has too settles it
-  pub settles_next : (xs : List Entry) → IsAgreedList (both own theirs) xs → b.at.place ≡ length xs → In b theirs → IsAgreedList (both (b ∷ own) theirs) (xs ++ b.entry ∷ [])
+  settles_next : (xs : List Entry) → IsAgreedList (both own theirs) xs → b.at.place ≡ length xs → In b theirs →
+      IsAgreedList (both (b ∷ own) theirs) (xs ++ b.entry ∷ [])
   settles_next xs a here i = (all_settled_push (both (b ∷ own) theirs) 0 (length xs) xs b.entry (omega arith) (all_still_settled 0 xs a.0) settled, none)
     where
       is : ballot_at (length xs) b.at.round b.entry ≡ b
       is = λ k. ballot_at (sym here k) b.at.round b.entry
 
       least : (r : ℕ) (f : Entry) → r < b.at.round → EqualVotes (both (b ∷ own) theirs) (length xs) r f → ⊥
-      least r f less (inl p, j) = let same = round_is (length xs) r f p in omega arith
+      least r f less (inl p, j) = omega (arith, (is_at p).1)
       least r f less (inr k, j) = a.1 r f (k, j)
 
       settled : SettledAt (both (b ∷ own) theirs) (length xs) b.entry
-      settled = (b.at.round, ((inl is, subst (λ (y : Ballot). In y theirs) (sym is) i), least))
+      settled = (b.at.round, ((inl is, rw is i), least))
 
       long : length (xs ++ b.entry ∷ []) ≡ b.at.place + 1
       long = omega (arith, here, length-append xs (b.entry ∷ []))
 
       none : Unsettled (both (b ∷ own) theirs) (length (xs ++ b.entry ∷ []))
-      none r e (inl p, j) = let same = place_is (length (xs ++ b.entry ∷ [])) r e p in omega (arith, long)
-      none r e (inr k, j) = past (length (xs ++ b.entry ∷ [])) r long (earlier b own s.1 s.2 (ballot_at (length (xs ++ b.entry ∷ [])) r e) k)
+      none r e (inl p, j) = omega (arith, long, (is_at p).0)
+      none r e (inr k, j) = let late = earlier b own s.1 s.2 (ballot_at (length (xs ++ b.entry ∷ [])) r e) k in grind (arith, long, late)
 
 -- the agreed list of the first votes of one desk and all of the other's
 pub record AgreedSoFar (votes theirs : List Ballot) (i : ℕ) (xs : List Entry) : Type 0 where
@@ -92,38 +89,31 @@ pub record AgreedSoFar (votes theirs : List Ballot) (i : ℕ) (xs : List Entry) 
   pub entries : All IsEntry xs
   pub places : length xs ≤ 8192
 
-none_yet : (votes : List Ballot) → oldest 0 votes ≡ []
-none_yet votes = let all : length votes - 0 ≡ length votes = omega arith in ap (λ (n : ℕ). drop n votes) all ∙ drop-all votes
-  where
-    drop-all : (vs : List Ballot) → drop (length vs) vs ≡ []
-    drop-all [] = refl
-    drop-all (v ∷ vs) = drop-all vs
-
 pub begun : (votes theirs : List Ballot) → AgreedSoFar votes theirs 0 []
 begun votes theirs = record {
-  agreed = subst (λ (vs : List Ballot). IsAgreedList (both vs theirs) []) (sym (none_yet votes)) (none_agreed theirs);
-  entries = λ k d less. absurd (omega arith);
+  agreed = rw (drop_all (length votes - 0) votes (omega arith)) (none_agreed theirs);
+  entries = All-nil IsEntry;
   places = omega arith;
 }
 
-module _ (votes theirs : List Ballot) (i : ℕ) (vote : Vote) (xs : List Entry) (sound : IsVotes votes) (next : oldest (i + 1) votes ≡ ballot_of vote ∷ oldest i votes) (a : AgreedSoFar votes theirs i xs) where
-  sequence : IsSequence (ballot_of vote ∷ oldest i votes)
-  sequence = subst IsSequence next (fewer (length votes - (i + 1)) votes sound).sequence
+module _
+    {votes theirs : List Ballot} {i : ℕ} (vote : Vote) {xs : List Entry} (sound : IsVotes votes)
+    (next : oldest (i + 1) votes ≡ ballot_of vote ∷ oldest i votes) (a : AgreedSoFar votes theirs i xs)
+  where
+    sequence : IsSequence (ballot_of vote ∷ oldest i votes)
+    sequence = rw next at (fewer (length votes - (i + 1)) votes sound).sequence
 
-  pub passed : (vote.place ≡ length xs → In (ballot_of vote) theirs → ⊥) → AgreedSoFar votes theirs (i + 1) xs
-  passed other = record {
-    agreed = subst (λ (vs : List Ballot). IsAgreedList (both vs theirs) xs) (sym next) (settles_nothing (oldest i votes) theirs (ballot_of vote) sequence xs a.agreed other);
-    entries = a.entries;
-    places = a.places;
-  }
+    pub passed : (vote.place ≡ length xs → In (ballot_of vote) theirs → ⊥) → AgreedSoFar votes theirs (i + 1) xs
+    passed other = record {
+      agreed = rw next (settles_nothing (oldest i votes) theirs (ballot_of vote) sequence xs a.agreed other);
+      entries = a.entries;
+      places = a.places;
+    }
 
-  pub taken : IsEntry vote.entry → InRange (position_of vote) → vote.place ≡ length xs → In (ballot_of vote) theirs → AgreedSoFar votes theirs (i + 1) (xs ++ vote.entry ∷ [])
-  taken e r here h = record {
-    agreed = subst (λ (vs : List Ballot). IsAgreedList (both vs theirs) (xs ++ vote.entry ∷ [])) (sym next) (settles_next (oldest i votes) theirs (ballot_of vote) sequence xs a.agreed here h);
-    entries = All-append IsEntry xs (vote.entry ∷ []) a.entries (one vote.entry e);
-    places = let p = r.0 in omega (arith, length-append xs (vote.entry ∷ []), here, p);
-  }
-    where
-      one : (x : Entry) → IsEntry x → (k : ℕ) (d : Entry) → k < 1 → IsEntry (get_or (x ∷ []) k d)
-      one x h zero d less = h
-      one x h (suc k) d less = absurd (omega arith)
+    pub taken : IsEntry vote.entry → InRange (position_of vote) → vote.place ≡ length xs → In (ballot_of vote) theirs →
+        AgreedSoFar votes theirs (i + 1) (xs ++ vote.entry ∷ [])
+    taken e r here h = record {
+      agreed = rw next (settles_next (oldest i votes) theirs (ballot_of vote) sequence xs a.agreed here h);
+      entries = All-append IsEntry xs (vote.entry ∷ []) a.entries (All-cons IsEntry vote.entry [] e (All-nil IsEntry));
+      places = omega (arith, length-append xs (vote.entry ∷ []), here, r.0);
+    }

@@ -1,12 +1,12 @@
 -- The book of both files, where it is made of their agreed list.
-use Rattle.std.proofs.Common.{◌≡◌, ℕ, List, [], Result, Ok, Err, sym, ◌∙◌, subst}
+use Rattle.std.proofs.Common.{◌≡◌, ℕ, List, [], Result, Ok, Err}
 use Rattle.std.specs.Prelude.{IfErr, IfOk}
 use Rattle.notation.specs.declared.entry.Entry.{Entry}
 use Rattle.corrections.specs.Book.{Contents}
 use Rattle.corrections.specs.Refusal.{book_refusal}
 use Rattle.agree_core.specs.Agreed.{IsAgreedList}
 use Rattle.agree_core.specs.Ballots.{AllVotes}
-use Rattle.agree_core.specs.Books.{AllTaken, FirstRefused}
+use Rattle.agree_core.specs.Books.{AllTaken}
 use Rattle.cards.specs.Sheet.{Sheet}
 use Rattle.books.specs.BothFiles.{HaveVotes, IsBookOfBoth, WhyNoBookOfBoth}
 use Rattle.books.specs.declared.fault.BothFault.{BothFault}
@@ -14,30 +14,16 @@ use Rattle.books.specs.declared.fault.BothFault.TheVariants.{NoMemory, Votes, Ba
 use Rattle.books.specs.inner.Both.{NamesRefused}
 
 module _
-    (s : Sheet) (a b : List ℕ) (v : AllVotes) (list given : List Entry) (innings : ℕ) (read : HaveVotes s.game a b v)
+    (s : Sheet) {a b : List ℕ} {v : AllVotes} {list given : List Entry} {innings : ℕ} (read : HaveVotes s.game a b v)
     (agreed : IsAgreedList v list) (same : given ≡ list) (side : innings ≡ s.innings)
   where
-    pub made : (r : Result Contents BothFault) → IfOk r (λ book. book.entries ≡ given) → IfOk r (λ book. AllTaken (book_refusal innings) [] book.entries) → IfOk r (λ book. IsBookOfBoth s a b book.entries)
-    made (Ok book) e t = record {
-      votes = v;
-      read = read;
-      agreed = subst (IsAgreedList v) (sym (e ∙ same)) agreed;
-      taken = subst (λ (n : ℕ). AllTaken (book_refusal n) [] book.entries) side t;
-    }
+    pub made : (r : Result Contents BothFault) → IfOk r (λ book. book.entries ≡ given) →
+        IfOk r (λ book. AllTaken (book_refusal innings) [] book.entries) → IfOk r (λ book. IsBookOfBoth s a b book.entries)
+    made (Ok book) e t = record { votes = v; read = read; agreed = rw (e, same) agreed; taken = rw (← side) t }
     made (Err why) e t = tt
-
-    pub of_one_match : (r : Result Contents BothFault) → IfOk r (λ book. book.innings_a_side ≡ innings) → IfOk r (λ book. book.innings_a_side ≡ s.innings)
-    of_one_match (Ok book) e = e ∙ side
-    of_one_match (Err why) e = tt
 
     pub not_made : (r : Result Contents BothFault) → IfErr r (NamesRefused (book_refusal innings) given) → IfErr r (WhyNoBookOfBoth s a b)
     not_made (Ok book) h = tt
     not_made (Err NoMemory) h = tt
     not_made (Err (Votes desk why)) h = absurd h
-    not_made (Err (BadVotes place)) h = record {
-      votes = v;
-      read = read;
-      list = list;
-      agreed = agreed;
-      refused = subst (λ (n : ℕ). FirstRefused (book_refusal n) [] list place) side (subst (λ (l : List Entry). FirstRefused (book_refusal innings) [] l place) same h);
-    }
+    not_made (Err (BadVotes place)) h = record { votes = v; read = read; list = list; agreed = agreed; refused = rw (← side, ← same) h }

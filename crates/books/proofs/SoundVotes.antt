@@ -1,15 +1,12 @@
 -- The votes of a desk's file are a sequence, so it has one vote at a position.
-use Rattle.std.proofs.Common.{◌≡◌, ℕ, ◌==◌, Bool, true, false, if◌then◌else◌, List, Result, Ok, ap}
-use Rattle.std.specs.Prelude.{slice_get, unwrap_or}
+use Rattle.std.proofs.Common.{◌≡◌, ℕ, List, Ok, ap, arith}
 use Rattle.notation.specs.declared.entry.Entry.{Entry}
 use Rattle.agree_core.specs.declared.{position.Position.Position, messages.DeskId.DeskId}
 use Rattle.agree_core.specs.Ballots.{Ballot, In, desk_number}
 use Rattle.entry_log.specs.Format.{contents}
 use Rattle.entry_log.specs.Version1.{version_1}
 use Rattle.entry_log.specs.Version2.{version_2}
-use Rattle.vote_store.specs.declared.refusal.Refusal.{Refusal}
 use Rattle.vote_store.specs.Laws.{IsVotes}
-use Rattle.vote_store.specs.Sequence.{file_votes}
 use Rattle.vote_store.proofs.FileLemmas.{file_votes-votes, first_are_votes}
 use Rattle.books.specs.CardBook.{votes_in_file}
 use Rattle.books.specs.declared.desk_votes.DeskVotes.{DeskVotes}
@@ -21,17 +18,12 @@ pub are_votes : (votes : DeskVotes) → IsVotes (read_votes votes)
 are_votes (Old votes) = first_are_votes _ _ _ _ _
 are_votes (New votes) = first_are_votes _ _ _ _ _
 
-pub one_entry : (votes : DeskVotes) (at : Position) (e f : Entry) → In (record { at = at; entry = e }) (read_votes votes) → In (record { at = at; entry = f }) (read_votes votes) → e ≡ f
-one_entry votes at e f i j =
-    ap (λ (b : Ballot). b.entry) (one_vote (read_votes votes) (are_votes votes).sequence (record { at = at; entry = e }) (record { at = at; entry = f }) i j (λ _. at))
-
-by_version : (old : Bool) (x y : Result (List Ballot) Refusal) (votes : List Ballot) → (if old then x else y) ≡ Ok votes → (x ≡ Ok votes → IsVotes votes) → (y ≡ Ok votes → IsVotes votes) → IsVotes votes
-by_version true x y votes e first second = first e
-by_version false x y votes e first second = second e
+pub one_entry : (votes : DeskVotes) (at : Position) (e f : Entry) → In (record { at = at; entry = e }) (read_votes votes) →
+    In (record { at = at; entry = f }) (read_votes votes) → e ≡ f
+one_entry votes at e f i j = ap (λ (b : Ballot). b.entry) (one_vote (read_votes votes) (are_votes votes).sequence _ _ i j (λ _. at))
 
 -- what a file of either version has
 pub in_file : (desk : DeskId) (game : ℕ) (file : List ℕ) (votes : List Ballot) → votes_in_file desk game file ≡ Ok votes → IsVotes votes
 in_file desk game file votes e =
-    by_version (unwrap_or (slice_get file 7) 0 == 1) (file_votes (contents version_1) (desk_number desk) game file) (file_votes (contents version_2) (desk_number desk) game file) votes e
-    (file_votes-votes (contents version_1) (desk_number desk) game file votes)
-    (file_votes-votes (contents version_2) (desk_number desk) game file votes)
+    let old = file_votes-votes (contents version_1) (desk_number desk) game file votes in
+    let new = file_votes-votes (contents version_2) (desk_number desk) game file votes in grind (arith, old, new)

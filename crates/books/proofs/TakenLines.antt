@@ -1,5 +1,5 @@
 -- Lines that are taken one after the other, up to the first that isn't.
-use Rattle.std.proofs.Common.{◌≡◌, ◌+◌, ℕ, Some, List, [], ◌∷◌, ◌++◌, length, length-append, refl, sym, ap, ◌∙◌, subst, arith, Result, Ok, Err}
+use Rattle.std.proofs.Common.{◌≡◌, ◌+◌, ℕ, Some, List, [], ◌∷◌, length, length-append, refl, sym, arith, Result, Ok, Err}
 use Rattle.std.specs.Prelude.{IsOk}
 use Rattle.notation.specs.declared.entry.Entry.{Entry}
 use Rattle.notation.specs.Lines.{lines_of}
@@ -19,31 +19,22 @@ begins innings input lines book e none = rw (e, none) (record { numbered = omega
 
 module _ (innings : ℕ) (input line : List ℕ) (rest : List (List ℕ)) (number : ℕ) (book : List Entry) (m : Midway innings input (line ∷ rest) number book) where
   -- by what is answered to this line
-  abbrev First : Result Entry Rejected → Type 0
-  First answer = elim answer [
-    | Ok e ↦ first_rejected innings (number + 1 + 1) (book ++ e ∷ []) rest
-    | Err why ↦ Some (number + 1, why)
-  ] ≡ first_rejected innings 1 [] (lines_of input)
-
   agreed : (answer : Result Entry Rejected) → answer_to innings book line ≡ answer → IsOk answer → Midway innings input rest (number + 1) (with_taken answer book)
   agreed (Ok e) a ok = record {
     numbered = omega (arith, m.numbered);
     long = omega (arith, m.long, length-append book (e ∷ []));
-    taken = subst (λ (r : Result Entry Rejected). book_after innings (with_taken r book) rest ≡ book_after innings [] (lines_of input)) a m.taken;
-    rejected = subst First a m.rejected;
+    taken = rw a at m.taken;
+    rejected = rw (a, first_rejected) at m.rejected;
   }
   agreed (Err why) a ok = absurd (cc)
 
   -- the line is taken too
   pub goes_on : (n : ℕ) (new : List Entry) → n ≡ innings → IsOk (answer_to n book line) → new ≡ with_taken (answer_to n book line) book → Midway innings input rest (number + 1) new
-  goes_on n new same ok taken =
-      let k = agreed (answer_to innings book line) refl (subst (λ (i : ℕ). IsOk (answer_to i book line)) same ok) in
-      subst (Midway innings input rest (number + 1)) (sym (taken ∙ ap (λ (i : ℕ). with_taken (answer_to i book line) book) same)) k
+  goes_on n new same ok taken = rw (taken, same) (agreed (answer_to innings book line) refl (rw same at ok))
 
   -- or not: then it is the first that isn't
   pub first_refused : (n : ℕ) (why : Rejected) → n ≡ innings → answer_to n book line ≡ Err why → first_rejected innings 1 [] (lines_of input) ≡ Some (number + 1, why)
-  first_refused n why same e = sym (subst First (subst (λ (i : ℕ). answer_to i book line ≡ Err why) same e) m.rejected)
+  first_refused n why same e = sym (rw (rw same at e, first_rejected) at m.rejected)
 
 pub ends : (innings : ℕ) (input : List ℕ) (lines : List (List ℕ)) (number : ℕ) (book : List Entry) → lines ≡ [] → Midway innings input lines number book → IsBookOfLines innings input book
-ends innings input lines number book none m =
-    let l = subst (λ (ls : List (List ℕ)). Midway innings input ls number book) none m in record { taken = sym l.rejected; entries = l.taken }
+ends innings input lines number book none m = let l = rw none at m in record { taken = sym l.rejected; entries = l.taken }

@@ -1,5 +1,41 @@
 -- What tells a day or a revision has its value: a text that is a day is the day's text.
-use Rattle.std.proofs.Common.{◌≡◌, ℕ, ◌+◌, ◌-◌, ◌*◌, ◌/◌, ◌%◌, ◌<◌, Bool, true, false, cond, ◌&&◌, ◌==◌, nat_le, pos, List, [], ◌∷◌, ◌++◌, Option, Some, None, option_map, option_and_then, get_or, refl, sym, ap, ◌∙◌, arith, append_assoc, append-nil, lt-ltb, eqb-true}
+use Rattle.std.proofs.Common.{
+  ◌≡◌,
+  ℕ,
+  ◌+◌,
+  ◌-◌,
+  ◌*◌,
+  ◌/◌,
+  ◌%◌,
+  ◌<◌,
+  Bool,
+  true,
+  false,
+  cond,
+  ◌&&◌,
+  ◌==◌,
+  nat_le,
+  pos,
+  List,
+  [],
+  ◌∷◌,
+  ◌++◌,
+  Option,
+  Some,
+  None,
+  option_map,
+  option_and_then,
+  get_or,
+  refl,
+  sym,
+  ap,
+  ◌∙◌,
+  arith,
+  append_assoc,
+  append-nil,
+  lt-ltb,
+  eqb-true,
+}
 use Rattle.std.specs.Prelude.{is_none}
 use Rattle.std.specs.Char.{is_ascii_digit}
 use Rattle.std.specs.Fmt.{decimal}
@@ -8,7 +44,20 @@ use Rattle.std.proofs.lemmas.Bool.Decides.{nat_tests}
 use Rattle.std.proofs.lemmas.Option.{cond_some, none-some, option_and_then_some, same_Some}
 use Rattle.toml_datetime.specs.declared.datetime.{Date.Date, Time.Time, Offset.Offset, Datetime.Datetime}
 use Rattle.toml_datetime.specs.Valid.{is_valid_date}
-use Rattle.toml_datetime.specs.Parse.{after_byte, after_date, after_time, colon, dash, full_date, is_time_delim, parse_datetime, partial_time, time_offset, two_digits, whole}
+use Rattle.toml_datetime.specs.Parse.{
+  after_byte,
+  after_date,
+  after_time,
+  colon,
+  dash,
+  full_date,
+  is_time_delim,
+  parse_datetime,
+  partial_time,
+  time_offset,
+  two_digits,
+  whole,
+}
 use Rattle.toml_datetime.specs.Text.{date_text, datetime_text, delim_text, offset_text, part_text, time_text, two_wide}
 use Rattle.toml.specs.Data as toml
 use Rattle.toml.specs.Data.{Data}
@@ -74,7 +123,8 @@ full_date_back text p e =
 
 -- ---- a date-time that is a day alone
 
-mapped : (d : Date) (t : Time) (o : Option Offset) (dt : Datetime) (day : Date) → option_map (λ x. record { date = Some d; time = Some t; offset = Some x }) o ≡ Some dt → local_date dt ≡ Some day → ⊥
+mapped : (d : Date) (t : Time) (o : Option Offset) (dt : Datetime) (day : Date) →
+    option_map (λ x. record { date = Some d; time = Some t; offset = Some x }) o ≡ Some dt → local_date dt ≡ Some day → ⊥
 mapped d t None dt day e is = none-some dt e
 mapped d t (Some x) dt day e is = none-some day (ap local_date (same_Some _ dt e) ∙ is)
 
@@ -94,7 +144,8 @@ after_day d [] dt day e is = (refl, same_Some d day (ap local_date (same_Some _ 
 after_day d (c ∷ rest) dt day e is = absurd (delimited (is_time_delim c) d (partial_time rest) dt day e is)
 
 parsed_day : (b : Bool) (o : Option Time) (text : List ℕ) (dt : Datetime) (day : Date)
-    → cond b (option_map (λ t. record { date = None; time = Some t; offset = None }) o) (option_and_then (λ date. after_date date.0 date.1) (full_date text)) ≡ Some dt
+    → cond b (option_map (λ t. record { date = None; time = Some t; offset = None }) o)
+    (option_and_then (λ date. after_date date.0 date.1) (full_date text)) ≡ Some dt
     → local_date dt ≡ Some day → text ≡ date_text day
 parsed_day true None text dt day e is = absurd (none-some dt e)
 parsed_day true (Some t) text dt day e is = absurd (none-some day (ap local_date (same_Some _ dt e) ∙ is))

@@ -1,5 +1,5 @@
 -- Each entry of a book stands once, at its place.
-use Rattle.std.proofs.Common.{◌≡◌, ℕ, zero, suc, ◌<◌, ◌≤◌, List, [], ◌∷◌, ◌++◌, length, Some, sym, ap, ◌∙◌, subst, arith, inl, inr, length-append}
+use Rattle.std.proofs.Common.{◌≡◌, ℕ, zero, suc, ◌<◌, ◌≤◌, List, [], ◌∷◌, length, Some, refl, ap, ◌∙◌, arith, inl, inr, length-append}
 use Rattle.std.proofs.lemmas.Bool.{cases_lt}
 use Rattle.std.specs.Prelude.{slice_get}
 use Rattle.std.proofs.lemmas.Option.{slice_get_cases, slice_get_within}
@@ -9,7 +9,6 @@ use Rattle.json.specs.Json.{Json}
 use Rattle.json_fields.specs.Values.{up_to}
 use Rattle.export.specs.Entries.{entry_at, entry_of}
 use Rattle.export.specs.Laws.{HasEachEntry}
-use Rattle.json_fields.proofs.Putting.{up_to-zero, up_to-suc}
 
 abbrev at : List Entry → ℕ → List Json
 at book p = entry_at book p (slice_get book p)
@@ -24,29 +23,24 @@ one_long book p lt = elim ((slice_get_cases book p).1) [
 ]
 
 count : (book : List Entry) (n : ℕ) → n ≤ length book → length (up_to (at book) n) ≡ n
-count book zero le = ap length (up_to-zero (at book))
+unfolding up_to
+count book zero le = refl
 count book (suc n) le =
-    let before = count book n (omega arith) in
-    let one = one_long book n (omega arith) in
-    let more = ap length (up_to-suc (at book) n) in
-    let both = length-append (up_to (at book) n) (at book n) in
-    omega (arith, before, one, more, both)
+    omega (arith, count book n (omega arith), one_long book n (omega arith), length-append (up_to (at book) n) (at book n))
 
-each : (book : List Entry) (n p : ℕ) (e : Entry) → n ≤ length book → p < n → slice_get book p ≡ Some e → slice_get (up_to (at book) n) p ≡ Some (entry_of book p e)
-each book zero p e le lt is = absurd (omega (arith, lt))
+each : (book : List Entry) (n p : ℕ) (e : Entry) → n ≤ length book → p < n → slice_get book p ≡ Some e →
+    slice_get (up_to (at book) n) p ≡ Some (entry_of book p e)
+unfolding up_to
+each book zero p e le lt is = absurd (omega arith)
 each book (suc n) p e le lt is =
     let long = count book n (omega arith) in
-    rw (up_to-suc (at book) n)
-    (elim (cases_lt p n) [
-      | inl below ↦
-          slice_get-append_left (up_to (at book) n) (at book n) p (omega (arith, long, below)) ∙ each book n p e (omega arith) below is
+    elim (cases_lt p n) [
+      | inl below ↦ slice_get-append_left (up_to (at book) n) (at book n) p (omega (arith, long, below)) ∙ each book n p e (omega arith) below is
       | inr above ↦
-          let same : p ≡ n = omega (arith, lt, above) in
-          let here : at book n ≡ entry_of book p e ∷ [] = ap (at book) (sym same) ∙ one_entry book p e is in
-          let spot : length (up_to (at book) n) ≡ p = omega (arith, long, same) in
-          subst (λ k. slice_get (up_to (at book) n ++ at book n) k ≡ Some (entry_of book p e)) spot
-          (rw here (slice_get-last (up_to (at book) n) (entry_of book p e)))
-    ])
+          let same : n ≡ p = omega (arith, lt, above) in
+          let here : at book n ≡ entry_of book p e ∷ [] = rw same (one_entry book p e is) in
+          rw here (rw (long ∙ same) at (slice_get-last (up_to (at book) n) (entry_of book p e)))
+    ]
 
 pub has_each : (book : List Entry) → HasEachEntry book
 has_each book = record {

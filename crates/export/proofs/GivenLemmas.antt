@@ -1,5 +1,5 @@
 -- What a sheet's table [info] hands on, value by value.
-use Rattle.std.proofs.Common.{◌≡◌, ℕ, Bool, true, false, Float, List, [], ◌∷◌, ◌++◌, Some, refl, sym, ap, ◌∙◌, subst, if◌then◌else◌}
+use Rattle.std.proofs.Common.{◌≡◌, ℕ, Bool, true, false, Float, List, [], ◌∷◌, ◌++◌, Some, refl, if◌then◌else◌, append_assoc}
 use Rattle.std.specs.Float.{binary64, float_is_finite}
 use Rattle.fast_float.specs.Parse.{parse_float}
 use Rattle.toml.specs.Data.{Data, Members, no_members, member}
@@ -8,7 +8,7 @@ use Rattle.json.specs.Print.{IsNumber}
 use Rattle.json.specs.Token.{Token, key}
 use Rattle.json.specs.Tree.{json_tokens}
 use Rattle.json_fields.specs.Values.{Field}
-use Rattle.json_fields.proofs.Putting.{adds, joined, no_fields, one_field, starts}
+use Rattle.json_fields.proofs.Putting.{adds_fields, no_fields, one_field}
 use Rattle.export.specs.Given.{IsFloatOf, IsValueOf, AreFieldsOf, is_own, others}
 use Rattle.export.specs.inner.Putting.{PutsGiven, PutsHanded}
 
@@ -22,22 +22,21 @@ float_number x text e n p = rw e (text, refl, n, p)
 pub left_out : (name : List ℕ) (d : Data) (old : List Token) → is_own name ≡ true → PutsHanded name d old old
 left_out name d old own = ([], rw own refl, no_fields old)
 
-pub put_so : (name : List ℕ) (d : Data) (old mid new : List Token) → is_own name ≡ false → mid ≡ old ++ key name ∷ []
-    → (w : (v : Json) × IsValueOf d v × (new ≡ mid ++ json_tokens v)) → PutsHanded name d old new
+pub put_so : (name : List ℕ) (d : Data) (old mid new : List Token) → is_own name ≡ false → mid ≡ old ++ key name ∷ [] →
+    (w : (v : Json) × IsValueOf d v × (new ≡ mid ++ json_tokens v)) → PutsHanded name d old new
 put_so name d old mid new other named w =
-    ((name, w.0) ∷ [], rw other (w.0, [], refl, w.1, refl), joined old mid new (key name ∷ []) (json_tokens w.0) named w.2 ∙ ap (λ ts. old ++ ts) (sym (one_field (name, w.0))))
+    ((name, w.0) ∷ [], rw other (w.0, [], refl, w.1, refl), rw w.2 (rw (named, one_field (name, w.0), append_assoc old) refl))
 
-handed_more : (own : Bool) (name : List ℕ) (d : Data) (ms : Members) (gs fs : List Field) → AreFieldsOf (if own then no_members else member name d no_members) gs → AreFieldsOf ms fs
-    → AreFieldsOf (if own then ms else member name d ms) (gs ++ fs)
-handed_more true name d ms gs fs none more = subst (λ hs. AreFieldsOf ms (hs ++ fs)) (sym none) more
-handed_more false name d ms gs fs one more =
-    let (v, nothing, is, value, empty) = one in
-    subst (λ hs. AreFieldsOf (member name d ms) (hs ++ fs)) (sym (is ∙ ap (λ hs. (name, v) ∷ hs) empty)) (v, fs, refl, value, more)
+handed_more : (own : Bool) (name : List ℕ) (d : Data) (ms : Members) (gs fs : List Field) → AreFieldsOf (if own then no_members else member name d no_members) gs →
+    AreFieldsOf ms fs → AreFieldsOf (if own then ms else member name d ms) (gs ++ fs)
+handed_more true name d ms gs fs none more = rw none more
+handed_more false name d ms gs fs (v, nothing, is, value, empty) more = rw (is, empty) (v, fs, refl, value, more)
 
 -- one member, and those behind it
-pub puts_more : (name : List ℕ) (d : Data) (ms : Members) (old mid new : List Token) → PutsHanded name d old mid → PutsGiven ms mid new → PutsGiven (member name d ms) old new
+pub puts_more : (name : List ℕ) (d : Data) (ms : Members) (old mid new : List Token) → PutsHanded name d old mid → PutsGiven ms mid new →
+    PutsGiven (member name d ms) old new
 puts_more name d ms old mid new one more =
-    (one.0 ++ more.0, handed_more (is_own name) name d (others ms) one.0 more.0 one.1 more.1, (adds old mid new [] one.0 more.0 (starts old mid one.0 one.2) more.2).are)
+    (one.0 ++ more.0, handed_more (is_own name) name d (others ms) one.0 more.0 one.1 more.1, adds_fields old mid new one.0 more.0 one.2 more.2)
 
 pub puts_none : (old : List Token) → PutsGiven no_members old old
 puts_none old = ([], refl, no_fields old)

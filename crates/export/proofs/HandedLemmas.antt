@@ -1,5 +1,39 @@
 -- What stands at a key of `info`.
-use Rattle.std.proofs.Common.{◌≡◌, ℕ, Bool, true, false, cond, ◌||◌, ◌&&◌, not, arith, append_assoc, bytes_eq, List, [], ◌∷◌, ◌++◌, Option, Some, None, option_map, Ordering, Less, Equal, Greater, nat_cmp, is_eq, codes, refl, sym, ap, ◌∙◌, subst, if◌then◌else◌}
+use Rattle.std.proofs.Common.{
+  ◌≡◌,
+  ℕ,
+  Bool,
+  true,
+  false,
+  cond,
+  ◌||◌,
+  ◌&&◌,
+  not,
+  arith,
+  append_assoc,
+  bytes_eq,
+  List,
+  [],
+  ◌∷◌,
+  ◌++◌,
+  Option,
+  Some,
+  None,
+  option_map,
+  Ordering,
+  Less,
+  Equal,
+  Greater,
+  nat_cmp,
+  is_eq,
+  codes,
+  refl,
+  sym,
+  ap,
+  ◌∙◌,
+  subst,
+  if◌then◌else◌,
+}
 use Rattle.std.specs.Prelude.{is_some}
 use Rattle.std.specs.List.{list_any}
 use Rattle.std.specs.Ordering.{match_ordering}
@@ -35,8 +69,10 @@ same_own key name same = ap is_own ((bytes_eq-Decides key name).0 same)
 -- ---- what is handed on stands at its key
 
 module _ (key : List ℕ) (d : Data) where
-  found_here : (own same : Bool) (name : List ℕ) (e : Data) (ms : Members) (fs : List Field) → AreFieldsOf (cond own ms (member name e ms)) fs → (same ≡ true → own ≡ false) → bytes_eq key name ≡ same
-      → ((gs : List Field) → AreFieldsOf ms gs → same ≡ false → IsValueOf d (member_at key (members_of gs))) → (same ≡ true → e ≡ d) → IsValueOf d (member_at key (members_of fs))
+  found_here : (own same : Bool) (name : List ℕ) (e : Data) (ms : Members) (fs : List Field) → AreFieldsOf (cond own ms (member name e ms)) fs →
+      (same ≡ true → own ≡ false) → bytes_eq key name ≡ same →
+      ((gs : List Field) → AreFieldsOf ms gs → same ≡ false → IsValueOf d (member_at key (members_of gs))) → (same ≡ true → e ≡ d) →
+      IsValueOf d (member_at key (members_of fs))
   found_here true true name e ms fs are only is more value = absurd (true≢false (only refl))
   found_here true false name e ms fs are only is more value = more fs are refl
   found_here false true name e ms fs are only is more value =
@@ -46,7 +82,8 @@ module _ (key : List ℕ) (d : Data) where
       let (v, rest, whole, here, others) = are in
       subst (λ gs. IsValueOf d (member_at key (members_of gs))) (sym whole) (rw is (more rest others refl))
 
-  found : (ms : Members) (fs : List Field) → AreFieldsOf (others ms) fs → get_member key ms ≡ Some d → is_own key ≡ false → IsValueOf d (member_at key (members_of fs))
+  found : (ms : Members) (fs : List Field) → AreFieldsOf (others ms) fs → get_member key ms ≡ Some d → is_own key ≡ false →
+      IsValueOf d (member_at key (members_of fs))
   found no_members fs are here other = absurd (true≢false (ap is_some (sym here)))
   found (member name e ms) fs are here other =
       let value = sym (get_member-cons key name e ms) ∙ here in
@@ -98,13 +135,15 @@ module _ (key : List ℕ) where
   past_outcome s Undecided fs apart = refl
   past_outcome s o fs apart = past _ fs apart
 
-  no_event : (given : List Field) (b : Bool) → list_any (λ f. bytes_eq key f.0) given ≡ true → has_event given ≡ false → bytes_eq key (codes "event") ≡ b → b ≡ false
+  no_event : (given : List Field) (b : Bool) → list_any (λ f. bytes_eq key f.0) given ≡ true →
+      has_event given ≡ false → bytes_eq key (codes "event") ≡ b → b ≡ false
   no_event given true here none same =
       let event = (bytes_eq-Decides key (codes "event")).0 same in
       absurd (true≢false (sym here ∙ (ap (λ k. list_any (λ f. bytes_eq k f.0) given) event ∙ none)))
   no_event given false here none same = refl
 
-  past_own : (s : Sheet) (h : History) (given : List Field) → is_own key ≡ false → list_any (λ f. bytes_eq key f.0) given ≡ true → at key (info_of s h given) ≡ under given
+  past_own : (s : Sheet) (h : History) (given : List Field) → is_own key ≡ false → list_any (λ f. bytes_eq key f.0) given ≡ true →
+      at key (info_of s h given) ≡ under given
   past_own s h given other here =
       let (three, result) = or_parts _ (bytes_eq key (codes "outcome")) other in
       let (two, balls) = or_parts _ (bytes_eq key (codes "balls_per_over")) three in
@@ -112,7 +151,8 @@ module _ (key : List ℕ) where
       let last = outcome_fields s (outcome s.innings h) ++ given in
       let each = number_field (codes "balls_per_over") 6 in
       past_event (has_event given) (event_field s) (teams_field s ∷ players_field s ∷ each ∷ last) (λ none. no_event given (bytes_eq key (codes "event")) here none refl)
-      ∙ (past (teams_field s) (players_field s ∷ each ∷ last) teams ∙ (past (players_field s) (each ∷ last) players ∙ (past each last balls ∙ past_outcome s (outcome s.innings h) given result)))
+      ∙ (past (teams_field s) (players_field s ∷ each ∷ last) teams ∙ (past (players_field s) (each ∷ last) players
+      ∙ (past each last balls ∙ past_outcome s (outcome s.innings h) given result)))
 
 pub has_each_key : (s : Sheet) (h : History) (document : Members) (given : List Field) → HandsOn document given → HasEachKey s h document given
 has_each_key s h document given are key d here other =

@@ -1,12 +1,36 @@
 -- What the deliveries and the penalty runs of an export add up to.
-use Rattle.std.proofs.Common.{◌≡◌, ℕ, ◌+◌, ◌*◌, ◌==◌, ◌&&◌, cond, Bool, true, false, List, [], ◌∷◌, ◌++◌, filter, map, nat_lt, codes, None, Option, refl, sym, ap, ◌∙◌, arith}
+use Rattle.std.proofs.Common.{
+  ◌≡◌,
+  ℕ,
+  ◌+◌,
+  ◌*◌,
+  ◌==◌,
+  ◌&&◌,
+  cond,
+  Bool,
+  true,
+  false,
+  List,
+  [],
+  ◌∷◌,
+  ◌++◌,
+  filter,
+  map,
+  nat_lt,
+  codes,
+  None,
+  Option,
+  refl,
+  sym,
+  ap,
+  ◌∙◌,
+  arith,
+}
 use Rattle.std.specs.List.{flat_map, list_any}
 use Rattle.std.proofs.lemmas.Bool.{eqb-true}
 use Rattle.std.proofs.lemmas.Bool.Decides.{nat_tests}
-use Rattle.notation.specs.declared.entry.Side.TheVariants.{Home, Away}
 use Rattle.notation.specs.declared.entry.{Ball.Ball, Plain.Plain, Entry.Entry}
-use Rattle.notation.specs.declared.entry.Plain.TheVariants.{Ball as Bowl, Gone, Penalty}
-use Rattle.notation.specs.declared.entry.Leave.TheVariants.{RetiredHurt}
+use Rattle.notation.specs.declared.entry.Plain.TheVariants.{Ball as Bowl, Gone}
 use Rattle.ball_laws.specs.History.{History, is_wicket}
 use Rattle.std.specs.Prelude.{is_some}
 use Rattle.ball_laws.specs.Sums.{tally, count_of}
@@ -23,15 +47,15 @@ use Rattle.corrections.proofs.LegalLemmas.{history_after-clean, scored_legal}
 use Rattle.corrections.proofs.ScoringLemmas.{first_refused-cons}
 use Rattle.cards.specs.Sheet.{Sheet}
 use Rattle.export.specs.declared.{begun.Begun.Begun, notes.Noted.Noted}
-use Rattle.export.specs.Notes.{note, notes, begun_of, awards_to, is_awarded, is_ball, carried, items_in, earlier_of}
+use Rattle.export.specs.Notes.{note, notes, begun_of, awards_to, is_awarded, carried, items_in, earlier_of}
 use Rattle.export.specs.Deliveries.{penalties}
 use Rattle.json.specs.Json.{Json, null}
 use Rattle.json_fields.specs.Values.{Field, members_of, number_field, object_of, flag_if}
 use Rattle.export.specs.Innings.{runs_before, runs_after, penalty_field, needed_in, overs_of, is_declared, is_forfeited}
 use Rattle.export.specs.Miscounts.{is_miscounted, miscounts}
 use Rattle.export.specs.Laws.{IsCount, TotalsAddUp, at, noted_items, member_at, total_in}
-use Rattle.export.proofs.Weights.{ball_here, gone_here, in_innings, noted_weight, weight, weights_in, weights_so_far}
-use Rattle.export.proofs.ReadLemmas.{elements-of, in_over, overs_all, own_total, totals_of, totals_read}
+use Rattle.export.proofs.Weights.{ball_here, gone_here, in_innings, noted_weight, weights_in, weights_so_far}
+use Rattle.export.proofs.ReadLemmas.{elements-of, in_over, overs_all, totals_of, totals_read}
 
 -- the runs of a delivery, whoever faced it
 abbrev own_runs : Option ℕ → Ball → ℕ
@@ -45,11 +69,11 @@ wickets_listed xs i = count_of (λ x. is_wicket x.item && (x.innings == i)) xs
 
 same_wicket : (n : ℕ) (h : History) (x : Plain) (i : ℕ) → refusal n h x ≡ None → (is_wicket x && (current h == i)) ≡ (is_wicket x && (begun h == i + 1))
 same_wicket n h (Bowl b) i e = ap (λ t. is_some b.out && t) (sym (ball_here n h b i e))
-same_wicket n h (Gone RetiredHurt p) i e = refl
-same_wicket n h (Gone way p) i e = sym (gone_here n h way p i e)
+same_wicket n h (Gone way p) i e = grind (arith, gone_here n h way p i e)
 same_wicket n h x i e = refl
 
-wickets_so_far : (n : ℕ) (h : History) (xs : List Placed) (i : ℕ) → first_refused n h xs ≡ None → wickets_listed (notes h xs) i + wickets h i ≡ wickets (history_after h xs) i
+wickets_so_far : (n : ℕ) (h : History) (xs : List Placed) (i : ℕ) → first_refused n h xs ≡ None →
+    wickets_listed (notes h xs) i + wickets h i ≡ wickets (history_after h xs) i
 unfolding wickets
 wickets_so_far n h [] i e = omega arith
 wickets_so_far n h (x ∷ xs) i e =
@@ -62,45 +86,21 @@ penalties-cons : (f : Begun) (i : ℕ) (x : Noted) (xs : List Noted) → penalti
 penalties-cons f i x xs = grind arith
 
 module _ (f : Begun) (i : ℕ) where
-  behind : (t r a c pa px v : ℕ) → px ≡ v + c → pa ≡ v + a → t + c ≡ r + a → t + px ≡ r + 0 + pa
-  behind t r a c pa px v p q ih = omega (arith, p, q, ih)
-
-  -- one item more: a delivery with what it carries, or what another carries
-  with_item : (p : Plain) (striker e : Option ℕ) (x : Noted) (cs : List Noted) (ts : List ℕ) (r a c pa : ℕ)
-      → penalties f i (x ∷ cs) ≡ cond (awards_to f i p e) 5 0 + c → pa ≡ cond (awards_to f i p e) 5 0 + a → c ≡ penalties f i cs → tally (λ k. k) ts + c ≡ r + a
-      → tally (λ k. k) (own_total f i p cs ++ ts) + penalties f i (cond (is_ball p) [] (x ∷ cs)) ≡ r + weight own_runs p striker + pa
-  with_item (Bowl b) striker e x cs ts r a c pa px q same ih = rw (← same) (omega (arith, q, ih))
-  with_item p striker e x cs ts r a c pa px q same ih = behind (tally (λ k. k) ts) r a c pa (penalties f i (x ∷ cs)) (cond (awards_to f i p e) 5 0) px q ih
-
   -- the totals of the deliveries, and what was awarded before the first, are all that stands there
   totals_sum : (xs : List Noted) → tally (λ k. k) (totals_of f i xs) + penalties f i (carried xs) ≡ tally (noted_weight own_runs) xs + penalties f i xs
   totals_sum [] = refl
-  totals_sum (x ∷ xs) =
-      with_item x.item (x.ends).striker x.earlier x (carried xs) (totals_of f i xs) (tally (noted_weight own_runs) xs) (penalties f i xs) (penalties f i (carried xs)) (penalties f i (x ∷ xs))
-      (penalties-cons f i x (carried xs)) (penalties-cons f i x xs) refl (totals_sum xs)
+  totals_sum (x ∷ xs) = grind (arith, totals_sum xs, penalties-cons f i x xs, penalties-cons f i x (carried xs))
 
   -- an item stands in this innings, in one before it or in one after it
-  in_one : (m : ℕ) (v p q r : ℕ) → cond (m == i) (v + p) p + (cond (nat_lt m i) (v + q) q + cond (nat_lt i m) (v + r) r) ≡ v + (p + (q + r))
-  in_one m v p q r = grind (arith, nat_tests)
-
-  if_cons : (b : Bool) (x : Noted) (xs : List Noted) → penalties f i (cond b (x ∷ xs) xs) ≡ cond b (cond (is_awarded f i x) 5 0 + penalties f i xs) (penalties f i xs)
-  if_cons true x xs = penalties-cons f i x xs
-  if_cons false x xs = refl
-
-  places : (xs : List Noted) → penalties f i (items_in i xs) + (penalties f i (filter (λ x. nat_lt x.innings i) xs) + penalties f i (filter (λ x. nat_lt i x.innings) xs)) ≡ penalties f i xs
+  places : (xs : List Noted) → penalties f i (items_in i xs)
+      + (penalties f i (filter (λ x. nat_lt x.innings i) xs) + penalties f i (filter (λ x. nat_lt i x.innings) xs)) ≡ penalties f i xs
   places [] = refl
-  places (x ∷ xs) =
-      let own = if_cons (x.innings == i) x (items_in i xs) in
-      let before = if_cons (nat_lt x.innings i) x (filter (λ y. nat_lt y.innings i) xs) in
-      let after = if_cons (nat_lt i x.innings) x (filter (λ y. nat_lt i y.innings) xs) in
-      let one = in_one x.innings (cond (is_awarded f i x) 5 0) (penalties f i (items_in i xs)) (penalties f i (filter (λ y. nat_lt y.innings i) xs)) (penalties f i (filter (λ y. nat_lt i y.innings) xs)) in
-      let all = penalties-cons f i x xs in
-      let rest = places xs in
-      omega (arith, own, before, after, one, all, rest)
+  places (x ∷ xs) = grind (arith, nat_tests, places xs)
 
   -- all that a reader adds up
-  added_up : (xs : List Noted) → tally (λ k. k) (totals_of f i (items_in i xs)) + runs_before f i xs + runs_after f i xs ≡ weights_in own_runs i xs + penalties f i xs
-  added_up xs = let sum = totals_sum (items_in i xs) in let own = in_innings own_runs i xs in let all = places xs in omega (arith, sum, own, all)
+  added_up : (xs : List Noted) → tally (λ k. k) (totals_of f i (items_in i xs)) + runs_before f i xs + runs_after f i xs
+      ≡ weights_in own_runs i xs + penalties f i xs
+  added_up xs = omega (arith, totals_sum (items_in i xs), in_innings own_runs i xs, places xs)
 
 -- ---- and the awards are those of the Laws
 
@@ -109,17 +109,13 @@ counts_at h i a = is_at (award_innings h a) i
 
 awards_one : (h : History) (i : ℕ) (g : History) (x : Plain)
     → cond (awards_to (begun_of h) i x (earlier_of g x)) 5 0 + 5 * count_of (counts_at h i) (awards g) ≡ 5 * count_of (counts_at h i) (awards (x ∷ g))
-awards_one h i g (Penalty Home law part) = grind arith
-awards_one h i g (Penalty Away law part) = grind arith
-awards_one h i g x = omega arith
+awards_one h i g x = grind arith
 
-awards_so_far : (h : History) (i : ℕ) (g : History) (xs : List Placed) → penalties (begun_of h) i (notes g xs) + 5 * count_of (counts_at h i) (awards g) ≡ 5 * count_of (counts_at h i) (awards (history_after g xs))
+awards_so_far : (h : History) (i : ℕ) (g : History) (xs : List Placed) →
+    penalties (begun_of h) i (notes g xs) + 5 * count_of (counts_at h i) (awards g) ≡ 5 * count_of (counts_at h i) (awards (history_after g xs))
 awards_so_far h i g [] = omega arith
 awards_so_far h i g (x ∷ xs) =
-    let one = awards_one h i g x.item in
-    let more = penalties-cons (begun_of h) i (note g x) (notes (x.item ∷ g) xs) in
-    let rest = awards_so_far h i (x.item ∷ g) xs in
-    omega (arith, one, more, rest)
+    omega (arith, awards_one h i g x.item, penalties-cons (begun_of h) i (note g x) (notes (x.item ∷ g) xs), awards_so_far h i (x.item ∷ g) xs)
 
 pub wickets_added : (n : ℕ) (book : List Entry) → IsLegalBook n book → (i : ℕ) → wickets_listed (noted_items book) i ≡ wickets (history_of book) i
 unfolding wickets
@@ -128,8 +124,10 @@ wickets_added n book legal i =
     rw (← history_after-clean book) (omega (arith, fallen))
 
 -- the totals of the deliveries of an innings and its penalty runs are its total
-total_added : (n : ℕ) (book : List Entry) → IsLegalBook n book → (i : ℕ)
-    → tally (λ k. k) (totals_of (begun_of (history_of book)) i (items_in i (noted_items book))) + runs_before (begun_of (history_of book)) i (noted_items book) + runs_after (begun_of (history_of book)) i (noted_items book) ≡ total (history_of book) i
+total_added : (n : ℕ) (book : List Entry) → IsLegalBook n book → (i : ℕ) →
+    let f = begun_of (history_of book) in
+    let xs = noted_items book in
+    tally (λ k. k) (totals_of f i (items_in i xs)) + runs_before f i xs + runs_after f i xs ≡ total (history_of book) i
 unfolding total penalty_runs
 total_added n book legal i =
     let h = history_after [] (clean book) in
@@ -140,25 +138,25 @@ total_added n book legal i =
 
 -- ---- what a reader looks up
 
-pre_post : (no_pre no_post : Bool) (n m : ℕ) → (no_pre ≡ true → n ≡ 0) → (no_post ≡ true → m ≡ 0)
-    → let there = members_of (cond no_pre [] (number_field (codes "pre") n ∷ []) ++ cond no_post [] (number_field (codes "post") m ∷ [])) in
+pre_post : (no_pre no_post : Bool) (n m : ℕ) → (no_pre ≡ true → n ≡ 0) → (no_post ≡ true → m ≡ 0) →
+    let there = members_of (cond no_pre [] (number_field (codes "pre") n ∷ []) ++ cond no_post [] (number_field (codes "post") m ∷ [])) in
     IsCount n (member_at (codes "pre") there) × IsCount m (member_at (codes "post") there)
-pre_post true true n m pre post = (pre refl, post refl)
-pre_post true false n m pre post = (pre refl, refl)
-pre_post false true n m pre post = (refl, post refl)
-pre_post false false n m pre post = (refl, refl)
+pre_post no_pre no_post n m pre post = grind (arith, pre, post)
 
 -- behind the penalty runs nothing has their key
 none_there : (d e t m : Bool) (runs overs : Json)
-    → member_at (codes "penalty_runs") (members_of (((flag_if d (codes "declared") ++ flag_if e (codes "forfeited")) ++ cond t ((codes "target", runs) ∷ []) []) ++ cond m ((codes "miscounted_overs", overs) ∷ []) [])) ≡ null
+    → member_at (codes "penalty_runs") (members_of (((flag_if d (codes "declared") ++ flag_if e (codes "forfeited"))
+    ++ cond t ((codes "target", runs) ∷ []) []) ++ cond m ((codes "miscounted_overs", overs) ∷ []) [])) ≡ null
 none_there d e t m runs overs = grind arith
 
 abbrev rest : Bool → Bool → Bool → Bool → Bool → ℕ → ℕ → Json → Json → List Field
 rest z d e t m before after runs overs =
-    (((cond z [] (penalty_field before after ∷ []) ++ flag_if d (codes "declared")) ++ flag_if e (codes "forfeited")) ++ cond t ((codes "target", runs) ∷ []) []) ++ cond m ((codes "miscounted_overs", overs) ∷ []) []
+    (((cond z [] (penalty_field before after ∷ []) ++ flag_if d (codes "declared")) ++ flag_if e (codes "forfeited"))
+    ++ cond t ((codes "target", runs) ∷ []) []) ++ cond m ((codes "miscounted_overs", overs) ∷ []) []
 
 rest_read : (d e t m : Bool) (before after : ℕ) (runs overs : Json) (z : Bool) → (z ≡ true → before + after ≡ 0)
-    → let there = member_at (codes "penalty_runs") (members_of (rest z d e t m before after runs overs)) in IsCount before (at (codes "pre") there) × IsCount after (at (codes "post") there)
+    → let there = member_at (codes "penalty_runs") (members_of (rest z d e t m before after runs overs)) in
+    IsCount before (at (codes "pre") there) × IsCount after (at (codes "post") there)
 rest_read d e t m before after runs overs true none = let sum = none refl in rw (none_there d e t m runs overs) (omega (arith, sum), omega (arith, sum))
 rest_read d e t m before after runs overs false none = pre_post (before == 0) (after == 0) before after (eqb-true before 0) (eqb-true after 0)
 

@@ -1,13 +1,10 @@
 pub mod Noting
-pub mod Sifting
 pub mod EntryLemmas
 pub mod NameLemmas
 pub mod ReadLemmas
 pub mod Weights
 pub mod LawLemmas
-pub mod MiscountLemmas
 pub mod WicketLemmas
-pub mod OverLemmas
 pub mod LineLemmas
 pub mod ReaderLemmas
 pub mod SumLemmas

@@ -1,19 +1,43 @@
 -- What is summed up by names is what the players of these names have: sums over deliveries, and over who batted or bowled.
-use Rattle.std.proofs.Common.{◌≡◌, ℕ, zero, suc, ◌+◌, ◌≤◌, ◌==◌, ◌&&◌, ◌||◌, cond, if◌then◌else◌, Bool, true, false, List, [], ◌∷◌, ◌++◌, Option, Some, None, refl, sym, ap, ◌∙◌, arith, add-one, zero-add, eqb-true, eq-eqb}
+use Rattle.std.proofs.Common.{
+  ◌≡◌,
+  ℕ,
+  ◌+◌,
+  ◌==◌,
+  ◌&&◌,
+  ◌||◌,
+  cond,
+  if◌then◌else◌,
+  Bool,
+  true,
+  false,
+  List,
+  [],
+  ◌∷◌,
+  ◌++◌,
+  Option,
+  Some,
+  None,
+  refl,
+  sym,
+  ◌∙◌,
+  arith,
+  eqb-true,
+  eq-eqb,
+}
 use Rattle.std.specs.Cmp.{nat_eq_equiv}
 use Rattle.std.proofs.lemmas.Bool.{or_left, or_right}
-use Rattle.std.proofs.lemmas.Bool.Decides.{nat_tests}
+use Rattle.std.proofs.lemmas.List.Folds.{list_any-append}
 use Rattle.std.specs.List.{cons_option, filter_map, list_any}
-use Rattle.notation.specs.declared.entry.{Ball.Ball, Out.Out, Who.Who}
+use Rattle.notation.specs.declared.entry.{Ball.Ball, Out.Out}
 use Rattle.notation.specs.declared.entry.Leave.TheVariants.{TimedOut}
-use Rattle.notation.specs.declared.entry.Who.TheVariants.{Striker, Other}
 use Rattle.notation.specs.declared.entry.Plain.TheVariants.{Innings, Come, Ball as Bowl, Gone, Over, Swap, End}
 use Rattle.ball_laws.specs.declared.ends.Ends.{Ends}
-use Rattle.ball_laws.specs.Ends.{ends_after, vacated, without}
+use Rattle.ball_laws.specs.Ends.{ends_after, vacated}
 use Rattle.std.specs.Prelude.{is_none}
 use Rattle.ball_laws.specs.History.{History}
 use Rattle.ball_laws.specs.Laws.{state_after}
-use Rattle.ball_laws.specs.Sums.{count_of, one_if, tally}
+use Rattle.ball_laws.specs.Sums.{tally}
 use Rattle.match_laws.specs.History.{Delivery, annotated, begun, deliveries, is_at, is_of, note_of}
 use Rattle.match_laws.specs.Figures.{bowler_in, comer, named_once}
 
@@ -22,28 +46,12 @@ use Rattle.match_laws.specs.Figures.{bowler_in, comer, named_once}
 abbrev pub among : ℕ → List ℕ → Bool
 among k ps = list_any (λ q. q == k) ps
 
-abbrev times : ℕ → List ℕ → ℕ
-times k ps = count_of (λ q. q == k) ps
-
 is_itself : (n : ℕ) → (n == n) ≡ true
 is_itself n = eq-eqb n n refl
 
-none_times : (k : ℕ) (ps : List ℕ) → among k ps ≡ false → times k ps ≡ 0
-none_times k [] e = refl
-none_times k (q ∷ ps) e = grind (arith, none_times k ps)
-
-some_times : (k : ℕ) (ps : List ℕ) → among k ps ≡ true → 1 ≤ times k ps
-some_times k [] e = absurd cc
-some_times k (q ∷ ps) e = grind (arith, some_times k ps)
-
-times-push : (k p : ℕ) (ps : List ℕ) → times k (ps ++ p ∷ []) ≡ times k ps + one_if (p == k)
-times-push k p [] = omega arith
-times-push k p (q ∷ ps) = grind (arith, times-push k p ps)
-
-times_once : (k : ℕ) (ps : List ℕ) → times k (named_once ps) ≡ one_if (among k ps)
-times_once k [] = refl
-times_once k (p ∷ ps) =
-    grind (arith, nat_tests, times_once k ps, times-push k p (named_once ps), some_times p (named_once ps), none_times p (named_once ps), eqb-true p k)
+among_once : (k : ℕ) (ps : List ℕ) → among k (named_once ps) ≡ among k ps
+among_once k [] = refl
+among_once k (p ∷ ps) = grind (arith, among_once k ps, list_any-append (λ q. q == k) (named_once ps) (p ∷ []), eqb-true p k)
 
 -- ---- sums over players whom a test takes
 
@@ -51,43 +59,38 @@ abbrev pub picked : (ℕ → Bool) → (ℕ → ℕ) → List ℕ → ℕ
 picked test figure ps = tally (λ p. if test p then figure p else 0) ps
 
 module _ (test : ℕ → Bool) where
-  pub picked-same : (f g : ℕ → ℕ) (ps : List ℕ) → ((p : ℕ) → f p ≡ g p) → picked test f ps ≡ picked test g ps
-  picked-same f g [] e = refl
-  picked-same f g (p ∷ ps) e = grind (arith, picked-same f g ps e, e p)
-
-  pub picked-add : (f g : ℕ → ℕ) (ps : List ℕ) → picked test (λ p. f p + g p) ps ≡ picked test f ps + picked test g ps
-  picked-add f g [] = refl
-  picked-add f g (p ∷ ps) = grind (arith, picked-add f g ps)
+  pub picked-sum : (f g k : ℕ → ℕ) → ((p : ℕ) → f p + g p ≡ k p) → (ps : List ℕ) → picked test f ps + picked test g ps ≡ picked test k ps
+  picked-sum f g k e [] = refl
+  picked-sum f g k e (p ∷ ps) = grind (arith, picked-sum f g k e ps, e p)
 
   picked-none : (ps : List ℕ) → picked test (λ p. 0) ps ≡ 0
   picked-none [] = refl
   picked-none (p ∷ ps) = grind (arith, picked-none ps)
 
-  abbrev repeated : ℕ → ℕ → ℕ
-  repeated zero w = 0
-  repeated (suc t) w = repeated t w + w
-
-  repeated-more : (t w : ℕ) → repeated (t + 1) w ≡ repeated t w + w
-  repeated-more t w = ap (λ n. repeated n w) (add-one t)
+  picked-push : (f : ℕ → ℕ) (ps : List ℕ) (p : ℕ) → picked test f (ps ++ p ∷ []) ≡ picked test f ps + cond (test p) (f p) 0
+  picked-push f [] p = refl
+  picked-push f (q ∷ ps) p = omega (arith, picked-push f ps p)
 
   -- a number of one player alone
-  picked-one : (k n : ℕ) (ps : List ℕ) → picked test (λ p. if k == p then n else 0) ps ≡ repeated (times k ps) (cond (test k) n 0)
+  picked-one : (k n : ℕ) (ps : List ℕ) → picked test (λ p. if k == p then n else 0) (named_once ps) ≡ cond (among k ps) (cond (test k) n 0) 0
   picked-one k n [] = refl
-  picked-one k n (p ∷ ps) = grind (arith, picked-one k n ps, repeated-more (times k ps) (cond (test k) n 0), nat_eq_equiv.symm p k, eqb-true k p)
+  picked-one k n (p ∷ ps) =
+      let more = picked-push (λ q. if k == q then n else 0) (named_once ps) p in
+      grind (arith, picked-one k n ps, more, among_once k ps, nat_eq_equiv.symm p k, eqb-true k p)
 
 -- a player of his own name
 module _ (test : ℕ → Bool) (figure : ℕ → ℕ) (p : ℕ) where
-  only : (ps : List ℕ) → ((q : ℕ) → among q ps ≡ true → test q ≡ (p == q)) → picked test figure ps ≡ picked (λ q. true) (λ q. if p == q then figure p else 0) ps
+  only : (ps : List ℕ) → ((q : ℕ) → among q ps ≡ true → test q ≡ (p == q)) →
+      picked test figure ps ≡ picked (λ q. true) (λ q. if p == q then figure p else 0) ps
   only [] each = refl
   only (x ∷ ps) each =
       let rest = only ps (λ q there. each q (or_right (x == q) (among q ps) there)) in
-      let same = each x (or_left (x == x) (among x ps) (is_itself x)) in
-      grind (arith, rest, same, eqb-true p x)
+      let same = each x (or_left (x == x) (among x ps) (is_itself x)) in grind (arith, rest, same, eqb-true p x)
 
-  pub picked-own : (ps : List ℕ) → among p (named_once ps) ≡ true → ((q : ℕ) → among q (named_once ps) ≡ true → test q ≡ (p == q)) → picked test figure (named_once ps) ≡ figure p
+  pub picked-own : (ps : List ℕ) → among p (named_once ps) ≡ true → ((q : ℕ) → among q (named_once ps) ≡ true → test q ≡ (p == q)) →
+      picked test figure (named_once ps) ≡ figure p
   picked-own ps there each =
-      let once : times p (named_once ps) ≡ 1 = grind (arith, some_times p (named_once ps) there, times_once p ps) in
-      only (named_once ps) each ∙ (picked-one (λ q. true) p (figure p) (named_once ps) ∙ (ap (λ t. repeated (λ q. true) t (figure p)) once ∙ zero-add (figure p)))
+      only (named_once ps) each ∙ (picked-one (λ q. true) p (figure p) ps ∙ rw (sym (among_once p ps) ∙ there) refl)
 
 abbrev pub takes : (ℕ → Bool) → Option ℕ → Bool
 takes test None = false
@@ -109,23 +112,20 @@ module _ (i : ℕ) (key : Delivery → Option ℕ) where
   named_more o ps (d ∷ ds) named = (named_more o ps ds named.0, λ k of at. among_more o k ps (named.1 k of at))
 
   module _ (test : ℕ → Bool) (f : Ball → ℕ) (ps : List ℕ) where
-    one_delivery : (b : Bool) (o : Option ℕ) (n : ℕ) → ((k : ℕ) → b ≡ true → is_at o k ≡ true → among k ps ≡ true)
-        → cond b (cond (takes test o) n 0) 0 ≡ picked test (λ p. if b && is_at o p then n else 0) (named_once ps)
+    one_delivery : (b : Bool) (o : Option ℕ) (n : ℕ) → ((k : ℕ) → b ≡ true → is_at o k ≡ true → among k ps ≡ true) →
+        cond b (cond (takes test o) n 0) 0 ≡ picked test (λ p. if b && is_at o p then n else 0) (named_once ps)
     one_delivery false o n named = sym (picked-none test (named_once ps))
     one_delivery true None n named = sym (picked-none test (named_once ps))
-    one_delivery true (Some k) n named =
-        let once : times k (named_once ps) ≡ 1 = times_once k ps ∙ ap one_if (named k refl (is_itself k)) in
-        sym (picked-one test k n (named_once ps) ∙ (ap (λ t. repeated test t (cond (test k) n 0)) once ∙ zero-add (cond (test k) n 0)))
+    one_delivery true (Some k) n named = sym (picked-one test k n ps ∙ rw (named k refl (is_itself k)) refl)
 
-    pub by_players : (ds : List Delivery) → AreNamed ps ds
-        → tally (λ d. cond (is_of i d) (cond (takes test (key d)) (f d.ball) 0) 0) ds
+    pub by_players : (ds : List Delivery) → AreNamed ps ds →
+        tally (λ d. cond (is_of i d) (cond (takes test (key d)) (f d.ball) 0) 0) ds
         ≡ picked test (λ p. tally (λ d. if is_of i d && is_at (key d) p then f d.ball else 0) ds) (named_once ps)
     by_players [] named = sym (picked-none test (named_once ps))
     by_players (d ∷ ds) named =
-        let rest = by_players ds named.0 in
-        let one = one_delivery (is_of i d) (key d) (f d.ball) named.1 in
-        let both = picked-add test (λ p. tally (λ c. if is_of i c && is_at (key c) p then f c.ball else 0) ds) (λ p. if is_of i d && is_at (key d) p then f d.ball else 0) (named_once ps) in
-        omega (arith, rest, one, both)
+        let of = λ (c : Delivery) (p : ℕ). if is_of i c && is_at (key c) p then f c.ball else 0 in
+        let both = picked-sum test (λ p. tally (λ c. of c p) ds) (of d) (λ p. tally (λ c. of c p) (d ∷ ds)) (λ p. refl) (named_once ps) in
+        omega (arith, by_players ds named.0, one_delivery (is_of i d) (key d) (f d.ball) named.1, both)
 
 -- ---- who bowls
 
@@ -142,20 +142,16 @@ abbrev at_ends : ℕ → Ends → Bool
 at_ends k e = is_at e.striker k || is_at e.other k
 
 -- who is at an end now was at one before
-stays_without : (k : ℕ) (who : Who) (e : Ends) → at_ends k (without who e) ≡ true → at_ends k e ≡ true
-stays_without k Striker e at = grind arith
-stays_without k Other e at = grind arith
-
 stays_bowled : (k : ℕ) (o : Option Out) (b : Ball) (e : Ends) → at_ends k (ends_after o b e) ≡ true → at_ends k e ≡ true
-stays_bowled k None b e at = grind arith
-stays_bowled k (Some o) b e at = stays_without k o.who e (grind arith)
+stays_bowled k o b e at = grind arith
 
 stays_vacated : (k p : ℕ) (e : Ends) → at_ends k (vacated p e) ≡ true → at_ends k e ≡ true
 stays_vacated k p e at = grind arith
 
-came : (k p : ℕ) (st ot : Option ℕ) → at_ends k (cond (is_none st) (record { striker = Some p; other = ot }) (record { striker = st; other = Some p })) ≡ true → ((p == k) || (is_at st k || is_at ot k)) ≡ true
-came k p None ot at = at
-came k p (Some q) ot at = grind arith
+came : (k p : ℕ) (st ot : Option ℕ) →
+    at_ends k (cond (is_none st) (record { striker = Some p; other = ot }) (record { striker = st; other = Some p })) ≡ true →
+    ((p == k) || (is_at st k || is_at ot k)) ≡ true
+came k p st ot at = grind arith
 
 abbrev pub comers : History → ℕ → List ℕ
 comers h i = filter_map (comer i) (annotated h)

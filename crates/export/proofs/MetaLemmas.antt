@@ -25,7 +25,8 @@ fine_parts document fine =
     let (two, created) = and_parts _ (is_fine day_of (meta_at (codes "created") document)) three in
     (created, revision)
 
-at_created : (document : Members) (o : Option Date) → created_in document ≡ o → in_meta (codes "created") document ≡ elim o [ None ↦ null | Some day ↦ string (date_text day) ]
+at_created : (document : Members) (o : Option Date) → created_in document ≡ o →
+    in_meta (codes "created") document ≡ elim o [ None ↦ null | Some day ↦ string (date_text day) ]
 at_created document None e = rw e
 at_created document (Some day) e = rw e
 

@@ -1,17 +1,16 @@
 -- What is looked up in the value of an export.
-use Rattle.std.proofs.Common.{◌≡◌, ℕ, ◌+◌, ◌==◌, ◌&&◌, not, cond, Bool, true, false, List, [], ◌∷◌, ◌++◌, map, codes, refl, ap, ◌∙◌, append_assoc, eq-eqb, if◌then◌else◌, Some, None}
+use Rattle.std.proofs.Common.{◌≡◌, ℕ, ◌+◌, true, List, [], ◌∷◌, ◌++◌, map, codes, refl, ap, ◌∙◌, append_assoc, arith, eq-eqb, if◌then◌else◌, Some, None}
 use Rattle.std.specs.List.{flat_map}
 use Rattle.std.proofs.lemmas.List.Concat.{flat_map-cons}
 use Rattle.notation.specs.declared.entry.{Side.Side, Plain.Plain}
 use Rattle.notation.specs.declared.entry.Plain.TheVariants.{Ball as Bowl}
-use Rattle.ball_laws.specs.declared.ends.Ends.{Ends}
 use Rattle.ball_laws.specs.Runs.{all_runs, split_of_ball}
 use Rattle.cards.specs.Sheet.{Sheet}
 use Rattle.json.specs.Json.{Json}
 use Rattle.json_fields.specs.Values.{items_of, number_value}
 use Rattle.export.specs.declared.{begun.Begun.Begun, notes.Noted.Noted}
 use Rattle.export.specs.Notes.{is_ball, carried}
-use Rattle.export.specs.Deliveries.{listed, listed_of, penalties}
+use Rattle.export.specs.Deliveries.{listed, penalties}
 use Rattle.export.specs.Innings.{deliveries_from, overs_from, over_of}
 use Rattle.export.specs.Laws.{at, elements, values_of, total_in}
 
@@ -23,23 +22,6 @@ elements-of (v ∷ vs) = ap (λ ws. v ∷ ws) (elements-of vs)
 
 abbrev pub in_over : Json → List Json
 in_over over = values_of (at (codes "deliveries") over)
-
--- a delivery goes on with the over, or begins the next one, or there is none
-same_over : (ball same : Bool) (over : Json) (next later here rest going all : List Json) → (ball ≡ true → in_over over ≡ here ++ rest) → rest ++ flat_map in_over next ≡ all → going ++ flat_map in_over later ≡ all
-    → cond ball (cond same (here ++ going) []) going ++ flat_map in_over (cond (ball && not same) (over ∷ next) later) ≡ cond ball (here ++ all) all
-same_over true true over next later here rest going all begins new on = append_assoc here going (flat_map in_over later) ∙ ap (λ vs. here ++ vs) on
-same_over true false over next later here rest going all begins new on =
-    flat_map-cons in_over over next ∙ (ap (λ vs. vs ++ flat_map in_over next) (begins refl) ∙ (append_assoc here rest (flat_map in_over next) ∙ ap (λ vs. here ++ vs) new))
-same_over false same over next later here rest going all begins new on = on
-
-first_over : (ball : Bool) (over : Json) (next later here rest all none : List Json) → (ball ≡ true → in_over over ≡ here ++ rest) → rest ++ flat_map in_over next ≡ all → flat_map in_over later ≡ none
-    → flat_map in_over (cond (ball && true) (over ∷ next) later) ≡ cond ball (here ++ all) none
-first_over true over next later here rest all none begins new on =
-    flat_map-cons in_over over next ∙ (ap (λ vs. vs ++ flat_map in_over next) (begins refl) ∙ (append_assoc here rest (flat_map in_over next) ∙ ap (λ vs. here ++ vs) new))
-first_over false over next later here rest all none begins new on = on
-
-begun_over : (ball same : Bool) (here rest other : List Json) → same ≡ true → ball ≡ true → cond ball (cond same (here ++ rest) []) other ≡ here ++ rest
-begun_over ball same here rest other e b = rw (b, e) refl
 
 -- ---- totals
 
@@ -60,32 +42,18 @@ module _ (s : Sheet) (side : Side) (f : Begun) (i : ℕ) where
   all_listed early (x ∷ xs) =
       if is_ball x.item then listed s side f i early x (carried xs) ++ all_listed [] xs else all_listed early xs
 
-  over_begins : (early : List Noted) (x : Noted) (xs : List Noted) → is_ball x.item ≡ true
-      → in_over (over_of s side f i x.over early (x ∷ xs)) ≡ listed s side f i early x (carried xs) ++ deliveries_from s side f i x.over [] xs
-  over_begins early x xs ball =
-      elements-of (deliveries_from s side f i x.over early (x ∷ xs))
-      ∙ begun_over (is_ball x.item) (x.over == x.over) (listed s side f i early x (carried xs)) (deliveries_from s side f i x.over [] xs)
-      (deliveries_from s side f i x.over early xs) (eq-eqb x.over x.over refl) ball
+  over_begins : (early : List Noted) (x : Noted) (xs : List Noted) → is_ball x.item ≡ true →
+      in_over (over_of s side f i x.over early (x ∷ xs)) ≡ listed s side f i early x (carried xs) ++ deliveries_from s side f i x.over [] xs
+  over_begins early x xs ball = elements-of (deliveries_from s side f i x.over early (x ∷ xs)) ∙ rw (ball, eq-eqb x.over x.over refl) refl
 
   overs_on : (k : ℕ) (xs : List Noted) → deliveries_from s side f i k [] xs ++ flat_map in_over (overs_from s side f i (Some k) [] xs) ≡ all_listed [] xs
   overs_on k [] = refl
-  overs_on k (x ∷ xs) =
-      same_over (is_ball x.item) (k == x.over) (over_of s side f i x.over [] (x ∷ xs)) (overs_from s side f i (Some x.over) [] xs) (overs_from s side f i (Some k) [] xs)
-      (listed s side f i [] x (carried xs)) (deliveries_from s side f i x.over [] xs) (deliveries_from s side f i k [] xs) (all_listed [] xs)
-      (over_begins [] x xs) (overs_on x.over xs) (overs_on k xs)
+  overs_on k (x ∷ xs) = grind (arith, append_assoc, flat_map-cons in_over, over_begins [] x xs, overs_on x.over xs, overs_on k xs)
 
   pub overs_all : (early xs : List Noted) → flat_map in_over (overs_from s side f i None early xs) ≡ all_listed early xs
   overs_all early [] = refl
-  overs_all early (x ∷ xs) =
-      first_over (is_ball x.item) (over_of s side f i x.over early (x ∷ xs)) (overs_from s side f i (Some x.over) [] xs) (overs_from s side f i None early xs)
-      (listed s side f i early x (carried xs)) (deliveries_from s side f i x.over [] xs) (all_listed [] xs) (all_listed early xs)
-      (over_begins early x xs) (overs_on x.over xs) (overs_all early xs)
+  overs_all early (x ∷ xs) = grind (arith, append_assoc, flat_map-cons in_over, over_begins early x xs, overs_on x.over xs, overs_all early xs)
 
   pub totals_read : (early xs : List Noted) → map total_in (all_listed early xs) ≡ map number_value (totals_of f i xs)
   totals_read early [] = refl
-  totals_read early (x ∷ xs) = of_item x.item x.ends (carried xs) (all_listed [] xs) (all_listed early xs) (totals_of f i xs) (totals_read [] xs) (totals_read early xs)
-    where
-      of_item : (p : Plain) (ends : Ends) (late : List Noted) (going none : List Json) (ns : List ℕ) → map total_in going ≡ map number_value ns → map total_in none ≡ map number_value ns
-          → map total_in (cond (is_ball p) (listed_of s side f i early p ends late ++ going) none) ≡ map number_value (own_total f i p late ++ ns)
-      of_item (Bowl b) ends late going none ns a e = ap (λ vs. number_value (all_runs (split_of_ball b) + penalties f i late) ∷ vs) a
-      of_item p ends late going none ns a b = b
+  totals_read early (x ∷ xs) = grind (arith, totals_read [] xs, totals_read early xs)

@@ -1,5 +1,5 @@
 -- What such readers sum up for batters and bowlers is what the card has.
-use Rattle.std.proofs.Common.{◌≡◌, ℕ, ◌+◌, ◌*◌, ◌≤◌, ◌==◌, ◌&&◌, not, cond, if◌then◌else◌, Bool, true, List, [], ◌∷◌, All, refl, ap, ◌∙◌, arith, eqb-true, eq-eqb, bytes_eq, codes}
+use Rattle.std.proofs.Common.{◌≡◌, ℕ, ◌+◌, ◌*◌, ◌≤◌, ◌==◌, ◌&&◌, not, cond, if◌then◌else◌, Bool, true, List, [], ◌∷◌, All, Option, Some, refl, ◌∙◌, arith, eqb-true, eq-eqb, bytes_eq, codes}
 use Rattle.std.specs.List.{filter_map, list_all, list_any}
 use Rattle.std.proofs.lemmas.Bool.Decides.{nat_tests}
 use Rattle.std.proofs.lemmas.Slice.Eq.{bytes_eq-Decides}
@@ -10,8 +10,38 @@ use Rattle.ball_laws.specs.declared.ends.Ends.{Ends}
 use Rattle.ball_laws.specs.History.{History}
 use Rattle.ball_laws.specs.Over.{counting, counts, debit_of, is_wide_or_no_ball}
 use Rattle.ball_laws.specs.Sums.{count_of, one_if, tally}
-use Rattle.match_laws.specs.History.{Delivery, deliveries, innings_overs, opponent, side_of, since_call}
-use Rattle.match_laws.specs.Figures.{alone, bowler_in, batted_of, batter_runs, batting_order, bowled_by, bowler_balls, bowler_noballs, bowler_overs, bowler_runs, bowler_wickets, bowler_wides, bowling_order, counting_by, credited, faced, faced_of, fours, fours_of, is_odd_over, noballs_of, odd_overs, of_bowler, of_striker, shared_by, sixes, sixes_of, wides_of}
+use Rattle.match_laws.specs.History.{Delivery, deliveries, innings_overs, is_at, is_of, opponent, side_of, since_call}
+use Rattle.match_laws.specs.Figures.{
+  alone,
+  bowler_in,
+  batted_of,
+  batter_runs,
+  batting_order,
+  bowled_by,
+  bowler_balls,
+  bowler_noballs,
+  bowler_overs,
+  bowler_runs,
+  bowler_wickets,
+  bowler_wides,
+  bowling_order,
+  counting_by,
+  credited,
+  faced,
+  faced_of,
+  fours,
+  fours_of,
+  is_odd_over,
+  named_once,
+  noballs_of,
+  odd_overs,
+  of_bowler,
+  of_striker,
+  shared_by,
+  sixes,
+  sixes_of,
+  wides_of,
+}
 use Rattle.corrections.specs.CleanList.{history_of}
 use Rattle.corrections.specs.Legal.{IsLegalBook}
 use Rattle.cards.specs.Sheet.{Sheet, player_of}
@@ -19,76 +49,106 @@ use Rattle.json.specs.Json.{Json}
 use Rattle.export.specs.declared.notes.Noted.{Noted}
 use Rattle.export.specs.Deliveries.{delivery_of, is_run}
 use Rattle.export.specs.Laws.{at, innings_at, is_text}
-use Rattle.export.specs.Readers.{BatterAddsUp, BattersAddUp, BowlerAddsUp, BowlersAddUp, OversAreSixes, HasOwnName, NamesTellPlayers, bat_runs, boundary_in, bowled_in, credited_in, dead_ball, debited_in, faced_in, four_outrun, noballs_in, over_balls, six_outrun, summed, wides_in}
-use Rattle.export.proofs.ReaderLemmas.{bat_read, batter_read, boundary_read, bowled_read, credited_read, debited_read, faced_read, fours_told, noballs_read, sixes_told, wides_read}
+use Rattle.export.specs.Readers.{
+  BatterAddsUp,
+  BowlerAddsUp,
+  OversAreSixes,
+  HasOwnName,
+  NamesTellPlayers,
+  bat_runs,
+  boundary_in,
+  bowled_in,
+  credited_in,
+  dead_ball,
+  debited_in,
+  faced_in,
+  four_outrun,
+  noballs_in,
+  over_balls,
+  six_outrun,
+  summed,
+  wides_in,
+}
+use Rattle.export.proofs.ReaderLemmas.{
+  bat_read,
+  batter_read,
+  boundary_read,
+  bowled_read,
+  credited_read,
+  debited_read,
+  faced_read,
+  fours_told,
+  noballs_read,
+  sixes_told,
+  wides_read,
+}
 use Rattle.export.proofs.SumLemmas.{sum_read}
-use Rattle.export.proofs.LineLemmas.{bowler_of, bowlers_named, by_players, comers, picked, picked-add, picked-own, picked-same, striker_of, strikers_named, takes}
+use Rattle.export.proofs.LineLemmas.{AreNamed, bowlers_named, by_players, comers, picked, picked-own, picked-sum, strikers_named, takes}
 
-module _ (f g k : Ball → ℕ) (adds : (b : Ball) → f b + g b ≡ k b) (i p : ℕ) where
-  striker_adds : (ds : List Delivery) → tally (of_striker f i p) ds + tally (of_striker g i p) ds ≡ tally (of_striker k i p) ds
-  striker_adds [] = refl
-  striker_adds (d ∷ ds) = grind (arith, adds d.ball, striker_adds ds)
+module _ (t : Delivery → Bool) (f g k : Ball → ℕ) (adds : (b : Ball) → f b + g b ≡ k b) where
+  tally-sum : (ds : List Delivery) → tally (λ d. if t d then f d.ball else 0) ds + tally (λ d. if t d then g d.ball else 0) ds
+      ≡ tally (λ d. if t d then k d.ball else 0) ds
+  tally-sum [] = refl
+  tally-sum (d ∷ ds) = grind (arith, adds d.ball, tally-sum ds)
 
-  bowler_adds : (ds : List Delivery) → tally (of_bowler f i p) ds + tally (of_bowler g i p) ds ≡ tally (of_bowler k i p) ds
-  bowler_adds [] = refl
-  bowler_adds (d ∷ ds) = grind (arith, adds d.ball, bowler_adds ds)
+-- a value of each delivery that is a number of the ball
+abbrev Reads : Sheet → Side → (Json → ℕ) → (Ball → ℕ) → Type 0
+Reads s side g f = (penalty : ℕ) (early late : List Noted) (ends : Ends) (b : Ball) → b.ran ≤ 20 → g (delivery_of s side penalty early ends b late) ≡ f b
 
 module _ (s : Sheet) (n : ℕ) (book : List Entry) (all : All IsEntry book) (legal : IsLegalBook n book) (i : ℕ) (name : List ℕ) where
   abbrev h : History
   h = history_of book
 
-  abbrev bats : ℕ → Bool
-  bats p = bytes_eq name (player_of s (side_of h i) p)
-
-  abbrev bowls : ℕ → Bool
-  bowls p = bytes_eq name (player_of s (opponent (side_of h i)) p)
-
-  -- what is summed up of a value that is a number of the ball
-  batter_sum : (g : Json → ℕ) (f : Ball → ℕ) → ((penalty : ℕ) (early late : List Noted) (ends : Ends) (b : Ball) → b.ran ≤ 20 → g (delivery_of s (side_of h i) penalty early ends b late) ≡ f b)
-      → summed (codes "batter") g name (innings_at s book i) ≡ picked bats (λ p. tally (of_striker f i p) (deliveries h)) (batting_order h i)
-  unfolding batting_order
-  batter_sum g f reads =
-      sum_read (λ striker b. cond (takes bats striker) (f b) 0) s n book i (λ d. if is_text name (at (codes "batter") d) then g d else 0) all legal
-      (λ penalty early late ends b low. ap (λ t. cond t (g (delivery_of s (side_of h i) penalty early ends b late)) 0) (batter_read s (side_of h i) penalty early late ends b name) ∙ ap (λ m. cond (takes bats ends.striker) m 0) (reads penalty early late ends b low))
-      ∙ by_players i striker_of bats f (comers h i) (deliveries h) (strikers_named h i)
-
-  bowler_sum : (g : Json → ℕ) (f : Ball → ℕ) → ((penalty : ℕ) (early late : List Noted) (ends : Ends) (b : Ball) → b.ran ≤ 20 → g (delivery_of s (side_of h i) penalty early ends b late) ≡ f b)
-      → summed (codes "bowler") g name (innings_at s book i) ≡ picked bowls (λ p. tally (of_bowler f i p) (deliveries h)) (bowling_order h i)
-  unfolding bowling_order
-  bowler_sum g f reads =
-      sum_read (λ striker b. cond (bowls b.bowler) (f b) 0) s n book i (λ d. if is_text name (at (codes "bowler") d) then g d else 0) all legal
-      (λ penalty early late ends b low. ap (λ m. cond (bowls b.bowler) m 0) (reads penalty early late ends b low))
-      ∙ by_players i bowler_of bowls f _ (deliveries h) (bowlers_named i (deliveries h))
+  -- what is summed up by the name of a player who has to do with the ball
+  module _ (key : List ℕ) (who : Option ℕ → Ball → Option ℕ) (test : ℕ → Bool) (names : List ℕ)
+      (told : (penalty : ℕ) (early late : List Noted) (ends : Ends) (b : Ball) →
+      is_text name (at key (delivery_of s (side_of h i) penalty early ends b late)) ≡ takes test (who ends.striker b))
+      (named : AreNamed i (λ d. who d.striker d.ball) names (deliveries h)) where
+    name_sum : (g : Json → ℕ) (f : Ball → ℕ) → Reads s (side_of h i) g f → summed key g name (innings_at s book i)
+        ≡ picked test (λ p. tally (λ d. if is_of i d && is_at (who d.striker d.ball) p then f d.ball else 0) (deliveries h)) (named_once names)
+    name_sum g f reads =
+        sum_read (λ striker b. cond (takes test (who striker b)) (f b) 0) s n book i (λ d. if is_text name (at key d) then g d else 0) all legal
+        (λ penalty early late ends b low. rw (told penalty early late ends b, reads penalty early late ends b low) refl)
+        ∙ by_players i (λ d. who d.striker d.ball) test f names (deliveries h) named
 
   -- ---- batters
 
-  boundaries : (m : ℕ) (out all_of : Ball → ℕ) → ((b : Ball) → one_if ((batted_of b == m) && not (is_run b)) + out b ≡ all_of b)
-      → summed (codes "batter") (boundary_in m) name (innings_at s book i) + picked bats (λ p. tally (of_striker out i p) (deliveries h)) (batting_order h i) ≡ picked bats (λ p. tally (of_striker all_of i p) (deliveries h)) (batting_order h i)
+  abbrev bats : ℕ → Bool
+  bats p = bytes_eq name (player_of s (side_of h i) p)
+
+  batter_sum : (g : Json → ℕ) (f : Ball → ℕ) → Reads s (side_of h i) g f → summed (codes "batter") g name (innings_at s book i)
+      ≡ picked bats (λ p. tally (of_striker f i p) (deliveries h)) (batting_order h i)
+  unfolding batting_order
+  batter_sum = name_sum (codes "batter") (λ striker b. striker) bats (comers h i)
+      (λ penalty early late ends b. batter_read s (side_of h i) penalty early late ends b name) (strikers_named h i)
+
+  boundaries : (m : ℕ) (out all_of : Ball → ℕ) → ((b : Ball) → one_if ((batted_of b == m) && not (is_run b)) + out b ≡ all_of b) →
+      summed (codes "batter") (boundary_in m) name (innings_at s book i) + picked bats (λ p. tally (of_striker out i p) (deliveries h)) (batting_order h i)
+      ≡ picked bats (λ p. tally (of_striker all_of i p) (deliveries h)) (batting_order h i)
   boundaries m out all_of adds =
       let told : Ball → ℕ = λ b. one_if ((batted_of b == m) && not (is_run b)) in
-      let sum = batter_sum (boundary_in m) told (λ penalty early late ends b low. boundary_read s (side_of h i) penalty early late ends b low m) in
-      let both = picked-add bats (λ p. tally (of_striker told i p) (deliveries h)) (λ p. tally (of_striker out i p) (deliveries h)) (batting_order h i) in
-      let each = picked-same bats (λ p. tally (of_striker told i p) (deliveries h) + tally (of_striker out i p) (deliveries h)) (λ p. tally (of_striker all_of i p) (deliveries h)) (batting_order h i) (λ p. striker_adds told out all_of adds i p (deliveries h)) in
-      omega (arith, sum, both, each)
+      rw (batter_sum (boundary_in m) told (boundary_read m s (side_of h i)))
+      (picked-sum bats (λ p. tally (of_striker told i p) (deliveries h)) (λ p. tally (of_striker out i p) (deliveries h)) _
+      (λ p. tally-sum (λ d. is_of i d && is_at d.striker p) told out all_of adds (deliveries h)) (batting_order h i))
 
-  batter_adds_up : BatterAddsUp s h i (innings_at s book i) name
+  pub batter_adds_up : BatterAddsUp s h i (innings_at s book i) name
   unfolding batter_runs faced fours sixes
   batter_adds_up = record {
-    runs = batter_sum bat_runs batted_of (λ penalty early late ends b low. bat_read s (side_of h i) penalty early late ends b low);
-    balls = batter_sum faced_in faced_of (λ penalty early late ends b low. faced_read s (side_of h i) penalty early late ends b low);
+    runs = batter_sum bat_runs batted_of (bat_read s (side_of h i));
+    balls = batter_sum faced_in faced_of (faced_read s (side_of h i));
     fours = boundaries 4 four_outrun fours_of fours_told;
     sixes = boundaries 6 six_outrun sixes_of sixes_told;
   }
-
-pub batters_add_up : (s : Sheet) (n : ℕ) (book : List Entry) → All IsEntry book → IsLegalBook n book → BattersAddUp s book
-batters_add_up s n book all legal i name = batter_adds_up s n book all legal i name
 
 -- ---- a bowler's balls
 
 abbrev counted_one : Ball → ℕ
 counted_one b = one_if (counts b)
 
-fair : (b : Ball) → counted_one b + dead_ball b ≡ one_if (not (is_wide_or_no_ball b.kind))
+abbrev bowled_one : Ball → ℕ
+bowled_one b = one_if (not (is_wide_or_no_ball b.kind))
+
+fair : (b : Ball) → counted_one b + dead_ball b ≡ bowled_one b
 fair b = grind arith
 
 all_by : (p : ℕ) (bs : List Ball) → list_all (bowled_by p) bs ≡ true → counting_by p bs ≡ counting bs
@@ -100,24 +160,25 @@ alone_by p [] e = refl
 alone_by p (b ∷ bs) e = all_by p (b ∷ bs) e
 
 -- of the called overs, those that he bowled alone and the others
-overs_apart : (p : ℕ) (overs : List (List Ball)) → tally (counting_by p) overs ≡ tally (λ over. if alone p over then counting over else 0) overs + tally (shared_by p) overs
+overs_apart : (p : ℕ) (overs : List (List Ball)) → tally (counting_by p) overs
+    ≡ tally (λ over. if alone p over then counting over else 0) overs + tally (shared_by p) overs
 overs_apart p [] = refl
 overs_apart p (over ∷ overs) = grind (arith, overs_apart p overs, alone_by p over)
 
 -- each delivery of an innings is of a called over, or since the last call
-by_overs : (h : History) (i p : ℕ) → tally (of_bowler counted_one i p) (deliveries h) ≡ tally (counting_by p) (innings_overs h i) + counting_by p (since_call h i)
+by_overs : (h : History) (i p : ℕ) → tally (of_bowler counted_one i p) (deliveries h)
+    ≡ tally (counting_by p) (innings_overs h i) + counting_by p (since_call h i)
 by_overs [] i p = refl
 by_overs (Bowl b ∷ h) i p = grind (arith, by_overs h i p)
 by_overs (Over ∷ h) i p = grind (arith, by_overs h i p)
 by_overs (x ∷ h) i p = by_overs h i p
 
-balls_of : (h : History) (i p : ℕ) → tally (of_bowler (λ b. one_if (not (is_wide_or_no_ball b.kind))) i p) (deliveries h) ≡ (over_balls h i p + bowler_balls h i p) + tally (of_bowler dead_ball i p) (deliveries h)
+balls_of : (h : History) (i p : ℕ) → over_balls h i p + bowler_balls h i p + tally (of_bowler dead_ball i p) (deliveries h)
+    ≡ tally (of_bowler bowled_one i p) (deliveries h)
 unfolding bowler_balls
 balls_of h i p =
-    let dead = bowler_adds counted_one dead_ball (λ b. one_if (not (is_wide_or_no_ball b.kind))) fair i p (deliveries h) in
-    let overs = by_overs h i p in
-    let apart = overs_apart p (innings_overs h i) in
-    omega (arith, dead, overs, apart)
+    let dead = tally-sum (λ d. is_of i d && ((d.ball).bowler == p)) counted_one dead_ball bowled_one fair (deliveries h) in
+    omega (arith, dead, by_overs h i p, overs_apart p (innings_overs h i))
 
 -- ---- bowlers
 
@@ -128,32 +189,37 @@ module _ (s : Sheet) (n : ℕ) (book : List Entry) (all : All IsEntry book) (leg
   abbrev named : ℕ → Bool
   named p = bytes_eq name (player_of s (opponent (side_of history i)) p)
 
+  bowler_sum : (g : Json → ℕ) (f : Ball → ℕ) → Reads s (side_of history i) g f → summed (codes "bowler") g name (innings_at s book i)
+      ≡ picked named (λ p. tally (of_bowler f i p) (deliveries history)) (bowling_order history i)
+  unfolding bowling_order
+  bowler_sum = name_sum s n book all legal i name (codes "bowler") (λ striker b. Some b.bowler) named (filter_map (bowler_in i) (deliveries history))
+      (λ penalty early late ends b. refl) (bowlers_named i (deliveries history))
+
   bowlers_balls : summed (codes "bowler") bowled_in name (innings_at s book i)
-      ≡ picked named (over_balls history i) (bowling_order history i) + picked named (bowler_balls history i) (bowling_order history i) + picked named (λ p. tally (of_bowler dead_ball i p) (deliveries history)) (bowling_order history i)
+      ≡ picked named (over_balls history i) (bowling_order history i) + picked named (bowler_balls history i) (bowling_order history i)
+      + picked named (λ p. tally (of_bowler dead_ball i p) (deliveries history)) (bowling_order history i)
   bowlers_balls =
       let order = bowling_order history i in
-      let sum = bowler_sum s n book all legal i name bowled_in (λ b. one_if (not (is_wide_or_no_ball b.kind))) (λ penalty early late ends b low. bowled_read s (side_of history i) penalty early late ends b low) in
-      let each = picked-same named (λ p. tally (of_bowler (λ b. one_if (not (is_wide_or_no_ball b.kind))) i p) (deliveries history)) (λ p. (over_balls history i p + bowler_balls history i p) + tally (of_bowler dead_ball i p) (deliveries history)) order (λ p. balls_of history i p) in
-      let outer = picked-add named (λ p. over_balls history i p + bowler_balls history i p) (λ p. tally (of_bowler dead_ball i p) (deliveries history)) order in
-      let inner = picked-add named (over_balls history i) (bowler_balls history i) order in
-      omega (arith, sum, each, outer, inner)
+      let own = λ (p : ℕ). over_balls history i p + bowler_balls history i p in
+      let inner = picked-sum named (over_balls history i) (bowler_balls history i) own (λ p. refl) order in
+      let outer = picked-sum named own (λ p. tally (of_bowler dead_ball i p) (deliveries history)) (λ p. tally (of_bowler bowled_one i p) (deliveries history))
+      (balls_of history i) order in
+      omega (arith, bowler_sum bowled_in bowled_one (bowled_read s (side_of history i)), inner, outer)
 
-  bowler_adds_up : BowlerAddsUp s history i (innings_at s book i) name
+  pub bowler_adds_up : BowlerAddsUp s history i (innings_at s book i) name
   unfolding bowler_runs bowler_wickets bowler_wides bowler_noballs
   bowler_adds_up = record {
     balls = bowlers_balls;
-    runs = bowler_sum s n book all legal i name debited_in debit_of (λ penalty early late ends b low. debited_read s (side_of history i) penalty early late ends b low);
-    wickets = bowler_sum s n book all legal i name credited_in credited (λ penalty early late ends b low. credited_read s (side_of history i) penalty early late ends b);
-    wides = bowler_sum s n book all legal i name wides_in wides_of (λ penalty early late ends b low. wides_read s (side_of history i) penalty early late ends b low);
-    noballs = bowler_sum s n book all legal i name noballs_in noballs_of (λ penalty early late ends b low. noballs_read s (side_of history i) penalty early late ends b low);
+    runs = bowler_sum debited_in debit_of (debited_read s (side_of history i));
+    wickets = bowler_sum credited_in credited (λ penalty early late ends b low. credited_read s (side_of history i) penalty early late ends b);
+    wides = bowler_sum wides_in wides_of (wides_read s (side_of history i));
+    noballs = bowler_sum noballs_in noballs_of (noballs_read s (side_of history i));
   }
-
-pub bowlers_add_up : (s : Sheet) (n : ℕ) (book : List Entry) → All IsEntry book → IsLegalBook n book → BowlersAddUp s book
-bowlers_add_up s n book all legal i name = bowler_adds_up s n book all legal i name
 
 -- ---- overs of six
 
-sixes_each : (p : ℕ) (overs : List (List Ball)) → count_of is_odd_over overs ≡ 0 → tally (λ over. if alone p over then counting over else 0) overs ≡ 6 * count_of (alone p) overs
+sixes_each : (p : ℕ) (overs : List (List Ball)) → count_of is_odd_over overs ≡ 0 →
+    tally (λ over. if alone p over then counting over else 0) overs ≡ 6 * count_of (alone p) overs
 sixes_each p [] e = refl
 sixes_each p (over ∷ overs) e = grind (arith, nat_tests, sixes_each p overs, eqb-true (counting over) 6)
 
@@ -163,14 +229,19 @@ overs_are_sixes h i p none = sixes_each p (innings_overs h i) none
 
 -- ---- names of their own
 
-told_apart_by : (s : Sheet) (side : Side) (order : List ℕ) (p q : ℕ) → HasOwnName s side order p → list_any (λ r. r == q) order ≡ true → bytes_eq (player_of s side p) (player_of s side q) ≡ (p == q)
-told_apart_by s side order p q has there =
+told_apart_by : (s : Sheet) (side : Side) (order : List ℕ) (p : ℕ) → HasOwnName s side order p → (q : ℕ) → list_any (λ r. r == q) order ≡ true →
+    bytes_eq (player_of s side p) (player_of s side q) ≡ (p == q)
+told_apart_by s side order p has q there =
     let same = bytes_eq-Decides (player_of s side p) (player_of s side q) in
     grind (arith, same.0, same.1, λ (e : player_of s side q ≡ player_of s side p). has.own q there e, eqb-true p q, eq-eqb p q)
+
+own_name : (s : Sheet) (side : Side) (figure : ℕ → ℕ) (p : ℕ) (names : List ℕ) → HasOwnName s side (named_once names) p →
+    picked (λ q. bytes_eq (player_of s side p) (player_of s side q)) figure (named_once names) ≡ figure p
+own_name s side figure p names has = picked-own _ figure p names has.listed (told_apart_by s side (named_once names) p has)
 
 pub names_tell_players : (s : Sheet) (h : History) (i p : ℕ) (figure : History → ℕ → ℕ → ℕ) → NamesTellPlayers s h i p figure
 unfolding batting_order bowling_order
 names_tell_players s h i p figure = record {
-  batters = λ has. picked-own (λ q. bytes_eq (player_of s (side_of h i) p) (player_of s (side_of h i) q)) (figure h i) p (comers h i) has.listed (λ q there. told_apart_by s (side_of h i) (batting_order h i) p q has there);
-  bowlers = λ has. picked-own (λ q. bytes_eq (player_of s (opponent (side_of h i)) p) (player_of s (opponent (side_of h i)) q)) (figure h i) p (filter_map (bowler_in i) (deliveries h)) has.listed (λ q there. told_apart_by s (opponent (side_of h i)) (bowling_order h i) p q has there);
+  batters = own_name s (side_of h i) (figure h i) p (comers h i);
+  bowlers = own_name s (opponent (side_of h i)) (figure h i) p (filter_map (bowler_in i) (deliveries h));
 }

@@ -1,5 +1,5 @@
 -- A sum over the deliveries of an export is one over those of the Laws, where each value is read as a number of its ball.
-use Rattle.std.proofs.Common.{◌≡◌, ℕ, ◌+◌, ◌≤◌, ◌==◌, cond, if◌then◌else◌, List, [], ◌∷◌, ◌++◌, All, Option, refl, ap, ◌∙◌, arith}
+use Rattle.std.proofs.Common.{◌≡◌, ℕ, ◌+◌, ◌≤◌, ◌==◌, if◌then◌else◌, List, [], ◌∷◌, ◌++◌, All, Option, refl, ap, ◌∙◌, arith}
 use Rattle.std.specs.List.{AllByRecursion, flat_map}
 use Rattle.std.proofs.lemmas.Bool.{cond_both}
 use Rattle.std.proofs.lemmas.List.Elements.{All-append, All-cons, All-filter, All-from_recursion, All-nil, recursion_from_All}
@@ -18,7 +18,7 @@ use Rattle.corrections.proofs.LegalLemmas.{history_after-clean, scored_legal}
 use Rattle.cards.specs.Sheet.{Sheet}
 use Rattle.json.specs.Json.{Json}
 use Rattle.export.specs.declared.{begun.Begun.Begun, notes.Noted.Noted}
-use Rattle.export.specs.Notes.{begun_of, carried, is_ball, items_in, notes}
+use Rattle.export.specs.Notes.{begun_of, carried, items_in, notes}
 use Rattle.export.specs.Deliveries.{delivery_of, listed_of, penalties}
 use Rattle.export.specs.Innings.{overs_of}
 use Rattle.export.specs.Laws.{deliveries_in, innings_at, noted_items}
@@ -71,29 +71,31 @@ notes_plain h (x ∷ xs) are = (are.0, notes_plain (x.item ∷ h) xs are.1)
 
 module _ (w : Option ℕ → Ball → ℕ) where
   module _ (s : Sheet) (side : Side) (f : Begun) (i : ℕ) (g : Json → ℕ)
-      (reads : (penalty : ℕ) (early late : List Noted) (ends : Ends) (b : Ball) → b.ran ≤ 20 → g (delivery_of s side penalty early ends b late) ≡ w ends.striker b) where
+      (reads : (penalty : ℕ) (early late : List Noted) (ends : Ends) (b : Ball) → b.ran ≤ 20 →
+      g (delivery_of s side penalty early ends b late) ≡ w ends.striker b) where
+    one_sum : (early : List Noted) (p : Plain) (ends : Ends) (late : List Noted) → IsPlain p →
+        tally g (listed_of s side f i early p ends late) ≡ weight w p ends.striker
+    one_sum early (Bowl b) ends late is = omega (arith, reads (penalties f i late) early late ends b is.ran)
+    one_sum early p ends late is = refl
+
     listed_sum : (early xs : List Noted) → AllByRecursion IsPlainNoted xs → tally g (all_listed s side f i early xs) ≡ tally (noted_weight w) xs
     listed_sum early [] are = refl
-    listed_sum early (x ∷ xs) are = of_item x.item x.ends (carried xs) (all_listed s side f i [] xs) (all_listed s side f i early xs) are.0 (listed_sum [] xs are.1) (listed_sum early xs are.1)
-      where
-        of_item : (p : Plain) (ends : Ends) (late : List Noted) (going others : List Json) → IsPlain p → tally g going ≡ tally (noted_weight w) xs → tally g others ≡ tally (noted_weight w) xs
-            → tally g (cond (is_ball p) (listed_of s side f i early p ends late ++ going) others) ≡ tally (noted_weight w) xs + weight w p ends.striker
-        of_item (Bowl b) ends late going others is a e = let one = reads (penalties f i late) early late ends b is.ran in omega (arith, one, a)
-        of_item p ends late going others is a e = omega (arith, e)
+    listed_sum early (x ∷ xs) are = grind (arith, one_sum early x.item x.ends (carried xs) are.0, listed_sum [] xs are.1, listed_sum early xs are.1)
 
   pub sum_read : (s : Sheet) (n : ℕ) (book : List Entry) (i : ℕ) (g : Json → ℕ) → All IsEntry book → IsLegalBook n book
-      → ((penalty : ℕ) (early late : List Noted) (ends : Ends) (b : Ball) → b.ran ≤ 20 → g (delivery_of s (side_of (history_of book) i) penalty early ends b late) ≡ w ends.striker b)
+      → ((penalty : ℕ) (early late : List Noted) (ends : Ends) (b : Ball) → b.ran ≤ 20 →
+      g (delivery_of s (side_of (history_of book) i) penalty early ends b late) ≡ w ends.striker b)
       → tally g (deliveries_in (innings_at s book i)) ≡ tally (delivery_weight w i) (deliveries (history_of book))
   sum_read s n book i g all legal reads =
       let h = history_of book in
       let f = begun_of h in
       let ys = items_in i (noted_items book) in
       let side = side_of h i in
-      let same : deliveries_in (innings_at s book i) ≡ all_listed s side f i (carried ys) ys = ap (flat_map in_over) (elements-of (overs_of s side f i ys)) ∙ overs_all s side f i (carried ys) ys in
+      let same : deliveries_in (innings_at s book i) ≡ all_listed s side f i (carried ys) ys =
+      ap (flat_map in_over) (elements-of (overs_of s side f i ys)) ∙ overs_all s side f i (carried ys) ys in
       let noted = notes_plain [] (clean book) (recursion_from_All IsPlainItem (clean book) (clean_plain book all)) in
-      let are = recursion_from_All IsPlainNoted ys (All-filter (λ x. x.innings == i) IsPlainNoted (noted_items book) (All-from_recursion IsPlainNoted (noted_items book) noted)) in
-      let listed = ap (tally g) same ∙ listed_sum s side f i g reads (carried ys) ys are in
-      let own = in_innings w i (noted_items book) in
+      let plain = All-filter (λ x. x.innings == i) IsPlainNoted (noted_items book) (All-from_recursion IsPlainNoted (noted_items book) noted) in
+      let listed = ap (tally g) same ∙ listed_sum s side f i g reads (carried ys) ys (recursion_from_All IsPlainNoted ys plain) in
       let far = weights_so_far w n [] (clean book) i (scored_legal n book legal) in
       let last = ap (λ k. tally (delivery_weight w i) (deliveries k)) (history_after-clean book) in
-      omega (arith, listed, own, far, last)
+      omega (arith, listed, in_innings w i (noted_items book), far, last)

@@ -1,11 +1,8 @@
 -- The wickets that a reader finds in an export.
-use Rattle.std.proofs.Common.{◌≡◌, ◌≢◌, ℕ, ◌+◌, ◌==◌, ◌&&◌, ◌||◌, not, cond, Bool, true, false, List, [], ◌∷◌, ◌++◌, codes, Option, Some, None, refl, sym, ap, ◌∙◌, arith}
+use Rattle.std.proofs.Common.{◌≡◌, ◌≢◌, ℕ, ◌+◌, ◌==◌, ◌&&◌, ◌||◌, not, cond, Bool, false, List, [], ◌∷◌, ◌++◌, codes, Option, Some, None, refl, ap, ◌∙◌, arith}
 use Rattle.std.specs.Prelude.{bytes_eq, is_some}
 use Rattle.std.specs.List.{flat_map}
 use Rattle.notation.specs.declared.entry.{Side.Side, Ball.Ball, Entry.Entry, How.How, Out.Out, Plain.Plain}
-use Rattle.notation.specs.declared.entry.How.TheVariants.{Caught}
-use Rattle.notation.specs.declared.entry.Leave.TheVariants.{TimedOut}
-use Rattle.notation.specs.declared.entry.Plain.TheVariants.{Ball as Bowl, Gone}
 use Rattle.ball_laws.specs.declared.ends.Ends.{Ends}
 use Rattle.ball_laws.specs.History.{is_wicket}
 use Rattle.ball_laws.specs.Runs.{split_of_ball}
@@ -20,7 +17,7 @@ use Rattle.export.specs.declared.{begun.Begun.Begun, notes.Noted.Noted}
 use Rattle.export.specs.Notes.{begun_of, carried, is_ball, items_in}
 use Rattle.export.specs.Wickets as listing
 use Rattle.export.specs.Wickets.{departures, gone_of, has_gone, has_wickets, how_words, is_gone, own_wickets}
-use Rattle.export.specs.Deliveries.{delivery_of, extra_runs, extras_field, listed_of, penalties}
+use Rattle.export.specs.Deliveries.{delivery_of, extra_runs, extras_field, penalties}
 use Rattle.export.specs.Innings.{overs_of}
 use Rattle.export.specs.Laws.{WicketsAddUp, deliveries_in, has_fallen, innings_at, noted_items, member_at, values_of, wickets_of}
 use Rattle.export.proofs.ReadLemmas.{all_listed, elements-of, in_over, overs_all}
@@ -49,10 +46,10 @@ count_append p (x ∷ xs) ys = grind (arith, count_append p xs ys)
 
 -- ---- the wickets that a reader finds of a delivery and takes by a test: those of who went before it or behind it, and its own
 
-looked_up : (w e : Bool) (v x : Json) → values_of (member_at (codes "wickets") (members_of (cond w ((codes "wickets", v) ∷ []) [] ++ cond e [] ((codes "extras", x) ∷ [])))) ≡ cond w (values_of v) []
-looked_up true e v x = refl
-looked_up false true v x = refl
-looked_up false false v x = refl
+looked_up : (w e : Bool) (v x : Json) →
+    values_of (member_at (codes "wickets") (members_of (cond w ((codes "wickets", v) ∷ []) [] ++ cond e [] ((codes "extras", x) ∷ []))))
+    ≡ cond w (values_of v) []
+looked_up w e v x = grind arith
 
 module _ (takes : Json → Bool) (s : Sheet) (side : Side) (goes : Plain → Bool) (own : Option Out → ℕ)
     (one_gone : (p : Plain) → count_of takes (gone_of s side p) ≡ cond (is_gone p && goes p) 1 0)
@@ -69,32 +66,32 @@ module _ (takes : Json → Bool) (s : Sheet) (side : Side) (goes : Plain → Boo
   none_gone [] e = refl
   none_gone (x ∷ xs) e = grind (arith, none_gone xs)
 
-  counted : (has : Bool) (ws : List Json) (n : ℕ) → count_of takes ws ≡ n → (has ≡ false → n ≡ 0) → count_of takes (cond has ws []) ≡ n
-  counted true ws n e none = e
-  counted false ws n e none = sym (none refl)
-
-  pub delivered : (penalty : ℕ) (early late : List Noted) (ends : Ends) (b : Ball) → count_of takes (wickets_of (delivery_of s side penalty early ends b late)) ≡ went early + own b.out + went late
+  pub delivered : (penalty : ℕ) (early late : List Noted) (ends : Ends) (b : Ball) →
+      count_of takes (wickets_of (delivery_of s side penalty early ends b late)) ≡ went early + own b.out + went late
   delivered penalty early late ends b =
       let first = departures s side early in
       let out = own_wickets s side ends b.bowler b.out in
       let ws = listing.wickets_of s side early ends b late in
-      let has = has_wickets early b late in
-      let all : count_of takes ws ≡ went early + own b.out + went late
-      = grind (arith, count_append takes (first ++ out) (departures s side late), count_append takes first out, all_gone early, one_out ends b.bowler b.out, all_gone late) in
-      ap (count_of takes) (looked_up has (extra_runs (split_of_ball b) + penalty == 0) (array_of ws) ((extras_field (split_of_ball b) penalty).1) ∙ ap (λ vs. cond has vs []) (elements-of ws))
-      ∙ counted has ws _ all (λ none. grind (arith, none_gone early, none_out b.out, none_gone late, none))
+      let all : count_of takes ws ≡ went early + own b.out + went late =
+      grind (
+        arith,
+        count_append takes (first ++ out) (departures s side late),
+        count_append takes first out,
+        all_gone early,
+        one_out ends b.bowler b.out,
+        all_gone late,
+      ) in
+      let read = looked_up (has_wickets early b late) (extra_runs (split_of_ball b) + penalty == 0) (array_of ws) ((extras_field (split_of_ball b) penalty).1) in
+      rw (read, elements-of ws) (grind (arith, all, none_gone early, none_out b.out, none_gone late))
 
 -- ---- those that have fallen
 
 how_fell : (own : Bool) (how : How) → bytes_eq (codes "retired hurt") (how_words own how) ≡ false
-how_fell true Caught = refl
-how_fell false Caught = refl
-how_fell own how = refl
+how_fell own how = grind arith
 
 module _ (s : Sheet) (side : Side) where
   one_fell : (p : Plain) → count_of has_fallen (gone_of s side p) ≡ cond (gone_fell p) 1 0
-  one_fell (Gone TimedOut p) = refl
-  one_fell p = refl
+  one_fell p = grind arith
 
   own_fell : (ends : Ends) (bowler : ℕ) (out : Option Out) → count_of has_fallen (own_wickets s side ends bowler out) ≡ cond (is_some out) 1 0
   own_fell ends bowler None = refl
@@ -102,7 +99,8 @@ module _ (s : Sheet) (side : Side) where
 
   all_fell : (penalty : ℕ) (early late : List Noted) (ends : Ends) (b : Ball)
       → count_of has_fallen (wickets_of (delivery_of s side penalty early ends b late)) ≡ gone early + cond (is_some b.out) 1 0 + gone late
-  all_fell penalty early late ends b = delivered has_fallen s side is_wicket (λ out. cond (is_some out) 1 0) one_fell own_fell (λ out none. grind (arith, none)) penalty early late ends b
+  all_fell penalty early late ends b =
+      delivered has_fallen s side is_wicket (λ out. cond (is_some out) 1 0) one_fell own_fell (λ out none. grind (arith, none)) penalty early late ends b
 
 -- ---- all deliveries of an innings
 
@@ -110,15 +108,7 @@ module _ (s : Sheet) (side : Side) (f : Begun) (i : ℕ) where
   all_fallen : (early xs : List Noted) → fallen (all_listed s side f i early xs) + gone (carried xs) ≡ fell xs + cond (has_ball xs) (gone early) 0
   unfolding has_ball
   all_fallen early [] = omega arith
-  all_fallen early (x ∷ xs) =
-      of_item x.item x.ends (carried xs) (all_listed s side f i [] xs) (all_listed s side f i early xs) (fell xs) (has_ball xs) (x ∷ carried xs) refl
-      (let after = all_fallen [] xs in grind (arith, after)) (all_fallen early xs)
-    where
-      of_item : (p : Plain) (ends : Ends) (cs : List Noted) (going none : List Json) (w : ℕ) (hb : Bool) (ys : List Noted) → gone ys ≡ cond (gone_fell p) (gone cs + 1) (gone cs) → fallen going + gone cs ≡ w → fallen none + gone cs ≡ w + cond hb (gone early) 0
-          → fallen (cond (is_ball p) (listed_of s side f i early p ends cs ++ going) none) + gone (cond (is_ball p) [] ys) ≡ cond (is_wicket p) (w + 1) w + cond (is_ball p || hb) (gone early) 0
-      of_item (Bowl b) ends cs going none w hb ys e a ih = grind (arith, all_fell s side (penalties f i cs) early cs ends b)
-      of_item (Gone TimedOut p) ends cs going none w hb ys e a ih = omega (arith, e, ih)
-      of_item p ends cs going none w hb ys e a ih = omega (arith, e, ih)
+  all_fallen early (x ∷ xs) = grind (arith, all_fallen [] xs, all_fallen early xs, all_fell s side (penalties f i (carried xs)) early (carried xs) x.ends)
 
   none_listed : (early xs : List Noted) → has_ball xs ≡ false → all_listed s side f i early xs ≡ []
   unfolding has_ball
@@ -139,7 +129,9 @@ wickets_add_up s n book legal i some =
     let ys = items_in i (noted_items book) in
     let side = side_of h i in
     let listed = all_listed s side f i (carried ys) ys in
-    let same : deliveries_in (innings_at s book i) ≡ listed = ap (flat_map in_over) (elements-of (overs_of s side f i ys)) ∙ overs_all s side f i (carried ys) ys in
+    let same : deliveries_in (innings_at s book i) ≡ listed =
+    ap (flat_map in_over) (elements-of (overs_of s side f i ys)) ∙ overs_all s side f i (carried ys) ys in
     ap fallen same
-    ∙ (where_any (has_ball ys) listed (fallen listed) (fell ys) (gone (carried ys)) (none_listed s side f i (carried ys) ys) (λ e. some (same ∙ e)) (all_fallen s side f i (carried ys) ys)
+    ∙ (where_any (has_ball ys) listed (fallen listed) (fell ys) (gone (carried ys)) (none_listed s side f i (carried ys) ys) (λ e. some (same ∙ e))
+    (all_fallen s side f i (carried ys) ys)
     ∙ (own_wickets_here i (noted_items book) ∙ wickets_added n book legal i))

@@ -9,7 +9,25 @@ use Rattle.ball_laws.specs.Over.{counting, is_wide_or_no_ball}
 use Rattle.ball_laws.specs.Runs.{is_six, is_struck}
 use Rattle.ball_laws.specs.Sums.{tally, count_of, one_if}
 use Rattle.match_laws.specs.History.{deliveries, innings_overs, opponent, side_of}
-use Rattle.match_laws.specs.Figures.{alone, batter_runs, batting_order, bowler_balls, bowler_noballs, bowler_overs, bowler_runs, bowler_wickets, bowler_wides, bowling_order, faced, fours, is_four, odd_overs, of_bowler, of_striker, sixes}
+use Rattle.match_laws.specs.Figures.{
+  alone,
+  batter_runs,
+  batting_order,
+  bowler_balls,
+  bowler_noballs,
+  bowler_overs,
+  bowler_runs,
+  bowler_wickets,
+  bowler_wides,
+  bowling_order,
+  faced,
+  fours,
+  is_four,
+  odd_overs,
+  of_bowler,
+  of_striker,
+  sixes,
+}
 use Rattle.corrections.specs.CleanList.{history_of}
 use Rattle.cards.specs.Sheet.{Sheet, player_of}
 use Rattle.json.specs.Json.{Json, boolean, number}
@@ -116,7 +134,8 @@ pub record BatterAddsUp (s : Sheet) (h : History) (i : ℕ) (innings : Json) (na
 
 -- the same for a bowler's: his balls are those of the overs that he bowled alone, his balls of other overs, and dead ones
 pub record BowlerAddsUp (s : Sheet) (h : History) (i : ℕ) (innings : Json) (name : List ℕ) : Type 0 where
-  pub balls : summed (codes "bowler") bowled_in name innings ≡ of_bowlers s h i name over_balls + of_bowlers s h i name bowler_balls + of_bowlers s h i name dead_balls
+  pub balls : summed (codes "bowler") bowled_in name innings
+      ≡ of_bowlers s h i name over_balls + of_bowlers s h i name bowler_balls + of_bowlers s h i name dead_balls
   pub runs : summed (codes "bowler") debited_in name innings ≡ of_bowlers s h i name bowler_runs
   pub wickets : summed (codes "bowler") credited_in name innings ≡ of_bowlers s h i name bowler_wickets
   pub wides : summed (codes "bowler") wides_in name innings ≡ of_bowlers s h i name bowler_wides

@@ -1,5 +1,4 @@
--- What the public calls claim: Value with all that it cites (Marks, Innings, Now), and Laws. inner: for private functions only.
-pub mod Marks
+-- What the public calls claim: Value with all that it cites (Innings, Now, and the marks of `cards`), and Laws. inner: for private functions only.
 pub mod Innings
 pub mod Now
 pub mod Value

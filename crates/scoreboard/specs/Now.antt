@@ -11,7 +11,7 @@ use Rattle.cards.specs.Sheet.{Sheet}
 use Rattle.cards.specs.Results.{result_text}
 use Rattle.json.specs.Json.{Json, null, string}
 use Rattle.json_fields.specs.Values.{Field, array_of, object_of, number_value}
-use Rattle.scoreboard.specs.Marks.{mark_of}
+use Rattle.cards.specs.Marks.{mark_of}
 
 -- a number, if there is one
 abbrev pub number_or_null : Option ℕ → Json

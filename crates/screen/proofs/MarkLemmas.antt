@@ -17,10 +17,12 @@ use Rattle.screen.specs.inner.Items.{item_mark, item_runs}
 pub record Seen (items : List Placed) (from k : ℕ) (over : List Ball) : Type 0 where
   pub rest : with_balls [] (drop from items) ≡ with_balls over (drop k items)
 
-seen_one : (items : List Placed) (from k : ℕ) (x : Placed) (over : List Ball) → Seen items from k over → slice_get items k ≡ Some x → Seen items from (k + 1) (bowled x.item over)
+seen_one : (items : List Placed) (from k : ℕ) (x : Placed) (over : List Ball) → Seen items from k over → slice_get items k ≡ Some x
+    → Seen items from (k + 1) (bowled x.item over)
 seen_one items from k x over s here = record { rest = s.rest ∙ ap (with_balls over) (next items k x here) }
 
-seen_all : (items : List Placed) (from k : ℕ) (over : List Ball) → Seen items from k over → length items ≤ k → over ≡ with_balls [] (drop from items)
+seen_all : (items : List Placed) (from k : ℕ) (over : List Ball) → Seen items from k over → length items ≤ k
+    → over ≡ with_balls [] (drop from items)
 seen_all items from k over s end = sym (s.rest ∙ ap (with_balls over) (drop_all k items end))
 
 -- ---- marks
@@ -35,17 +37,18 @@ pub marked_none : (items : List Placed) (from : ℕ) (o : Option (List ℕ)) →
 marked_none items from o = record { over = []; seen = record { rest = refl }; written = appends_none o }
 
 marks-bowled : (item : Plain) (over : List Ball) → marks over ++ item_mark item ≡ marks (bowled item over)
-marks-bowled (Plain.Ball b) over = refl
-marks-bowled _ over = append-nil (marks over)
+marks-bowled item over = grind (arith, append-nil)
 
-pub marked_one : (items : List Placed) (from k : ℕ) (x : Placed) (o p q : Option (List ℕ)) → Marked items from k o p → slice_get items k ≡ Some x → Appends p q (item_mark x.item) → Marked items from (k + 1) o q
+pub marked_one : (items : List Placed) (from k : ℕ) (x : Placed) (o p q : Option (List ℕ)) → Marked items from k o p
+    → slice_get items k ≡ Some x → Appends p q (item_mark x.item) → Marked items from (k + 1) o q
 marked_one items from k x o p q m here wrote = record {
   over = bowled x.item m.over;
   seen = seen_one items from k x m.over m.seen here;
   written = rw (← marks-bowled x.item m.over) (appends_both o p q (marks m.over) (item_mark x.item) m.written wrote);
 }
 
-pub marked_all : (items : List Placed) (from k : ℕ) (o p : Option (List ℕ)) → Marked items from k o p → length items ≤ k → Appends o p (marks (with_balls [] (drop from items)))
+pub marked_all : (items : List Placed) (from k : ℕ) (o p : Option (List ℕ)) → Marked items from k o p → length items ≤ k
+    → Appends o p (marks (with_balls [] (drop from items)))
 marked_all items from k o p m end = rw (← seen_all items from k m.over m.seen end) m.written
 
 -- ---- runs
@@ -61,10 +64,10 @@ pub counted_none : (items : List Placed) (from : ℕ) → Counted items from fro
 counted_none items from = record { over = []; seen = record { rest = refl }; sum = refl; most = omega arith }
 
 runs-bowled : (item : Plain) (over : List Ball) → tally runs_of over + item_runs item ≡ tally runs_of (bowled item over)
-runs-bowled (Plain.Ball b) over = refl
-runs-bowled _ over = omega arith
+runs-bowled item over = grind arith
 
-pub counted_one : (items : List Placed) (from k runs more : ℕ) (x : Placed) → Counted items from k runs → slice_get items k ≡ Some x → more ≡ item_runs x.item → more ≤ 260 → Counted items from (k + 1) (runs + more)
+pub counted_one : (items : List Placed) (from k runs more : ℕ) (x : Placed) → Counted items from k runs → slice_get items k ≡ Some x
+    → more ≡ item_runs x.item → more ≤ 260 → Counted items from (k + 1) (runs + more)
 counted_one items from k runs more x c here is most = record {
   over = bowled x.item c.over;
   seen = seen_one items from k x c.over c.seen here;
@@ -72,5 +75,6 @@ counted_one items from k runs more x c here is most = record {
   most = omega (arith, c.most, most);
 }
 
-pub counted_all : (items : List Placed) (from k runs : ℕ) → Counted items from k runs → length items ≤ k → runs ≡ tally runs_of (with_balls [] (drop from items))
+pub counted_all : (items : List Placed) (from k runs : ℕ) → Counted items from k runs → length items ≤ k
+    → runs ≡ tally runs_of (with_balls [] (drop from items))
 counted_all items from k runs c end = c.sum ∙ ap (tally runs_of) (seen_all items from k c.over c.seen end)

@@ -1,5 +1,6 @@
 -- The over of the last delivery, item by item.
-use Rattle.std.proofs.Common.{◌≡◌, ℕ, ◌+◌, ◌≤◌, List, [], ◌∷◌, ◌++◌, length, drop, map, Bool, true, false, Option, Some, None, if◌then◌else◌, refl, sym, ap, ◌∙◌, append-nil, append_assoc, subst}
+use Rattle.std.proofs.Common.{arith, ◌≡◌, ℕ, ◌+◌, ◌≤◌, List, [], ◌∷◌, ◌++◌, length, drop, map, true, false}
+use Rattle.std.proofs.Common.{Some, refl, sym, ap, ◌∙◌, append-nil, append_assoc, subst}
 use Rattle.std.specs.Prelude.{slice_get}
 use Rattle.std.proofs.lemmas.Grind.{reverse_onto}
 use Rattle.std.proofs.lemmas.List.{drop_all}
@@ -47,86 +48,74 @@ Adds items k item = (over : List Ball) → with_balls over (drop k items) ≡ wi
 adds : (items : List Placed) (k : ℕ) (x : Placed) → slice_get items k ≡ Some x → Adds items k x.item
 adds items k x here = λ over. ap (with_balls over) (next items k x here)
 
-balls_on : (items : List Placed) (k from : ℕ) (is_on : Bool) (b : Ball) (this last : List Ball) → Adds items k (Plain.Ball b) → is_on ≡ are_some this →
-    with_balls [] (drop from items) ≡ with_balls (this_or_last this last) (drop k items) →
-    with_balls [] (drop (if is_on then from else k) items) ≡ with_balls (b ∷ this) (drop (k + 1) items)
-balls_on items k from is_on b [] last add on balls = rw on (add [])
-balls_on items k from is_on b (c ∷ cs) last add on balls = rw on (balls ∙ add (c ∷ cs))
+module _ (items : List Placed) (k : ℕ) (over : LastOver) where
+  ball_on : (b : Ball) (this last : List Ball) → Adds items k (Plain.Ball b) → IsOverAt items k over this last
+      → IsOverAt items (k + 1) (with_item over k (Plain.Ball b)) (b ∷ this) last
+  ball_on b [] last add at = record { on = refl; bowler = refl; balls = rw at.on (add []) }
+  ball_on b (c ∷ cs) last add at = record { on = refl; bowler = refl; balls = rw at.on (at.balls ∙ add (c ∷ cs)) }
 
-balls_called : (items : List Placed) (k from : ℕ) (is_on : Bool) (this last : List Ball) → Adds items k Plain.Over → is_on ≡ are_some this →
-    with_balls [] (drop from items) ≡ with_balls (this_or_last this last) (drop k items) →
-    with_balls [] (drop (if is_on then from else k + 1) items) ≡ with_balls this (drop (k + 1) items)
-balls_called items k from is_on [] last add on balls = rw on refl
-balls_called items k from is_on (c ∷ cs) last add on balls = rw on (balls ∙ add (c ∷ cs))
+  over_called : (this last : List Ball) → Adds items k Plain.Over → IsOverAt items k over this last
+      → IsOverAt items (k + 1) (with_item over k Plain.Over) [] this
+  over_called [] last add at = record { on = refl; bowler = rw at.on; balls = rw at.on }
+  over_called (c ∷ cs) last add at = record { on = refl; bowler = rw at.on at.bowler; balls = rw at.on (at.balls ∙ add (c ∷ cs)) }
 
-bowler_called : (is_on : Bool) (by : Option ℕ) (this last : List Ball) → is_on ≡ are_some this → by ≡ newest_bowler (this_or_last this last) →
-    (if is_on then by else None) ≡ newest_bowler this
-bowler_called is_on by [] last on is = rw on refl
-bowler_called is_on by (c ∷ cs) last on is = rw on is
+  -- an item that is no delivery, and after which the over is as before
+  stays : (item : Plain) (this last : List Ball) → Adds items k item → bowled item (this_or_last this last) ≡ this_or_last this last
+      → IsOverAt items k over this last → IsOverAt items (k + 1) over this last
+  stays item this last add same at = record {
+    on = at.on;
+    bowler = at.bowler;
+    balls = at.balls ∙ (add (this_or_last this last) ∙ ap (λ over. with_balls over (drop (k + 1) items)) same);
+  }
 
--- an item that is no delivery, and after which the over is as before
-stays : (items : List Placed) (k : ℕ) (item : Plain) (over : LastOver) (this last : List Ball) → Adds items k item → bowled item (this_or_last this last) ≡ this_or_last this last →
-    IsOverAt items k over this last → IsOverAt items (k + 1) over this last
-stays items k item over this last add same at = record {
-  on = at.on;
-  bowler = at.bowler;
-  balls = at.balls ∙ (add (this_or_last this last) ∙ ap (λ over. with_balls over (drop (k + 1) items)) same);
-}
+  anew : IsOverAt items (k + 1) (none_to (k + 1)) [] []
+  anew = record { on = refl; bowler = refl; balls = refl }
 
-anew : (items : List Placed) (k : ℕ) → IsOverAt items (k + 1) (none_to (k + 1)) [] []
-anew items k = record { on = refl; bowler = refl; balls = refl }
-
-with_item_at : (items : List Placed) (k : ℕ) (item : Plain) (over : LastOver) (h : History) → Adds items k item → AtHistory items k over h → AtHistory items (k + 1) (with_item over k item) (item ∷ h)
-with_item_at items k (Plain.Ball b) over h add at = record {
-  on = refl;
-  bowler = refl;
-  balls = balls_on items k over.from over.is_on b (state_after h).this_over (state_after h).last_over add at.on at.balls;
-}
-with_item_at items k Plain.Over over h add at = record {
-  on = refl;
-  bowler = bowler_called over.is_on over.bowler (state_after h).this_over (state_after h).last_over at.on at.bowler;
-  balls = balls_called items k over.from over.is_on (state_after h).this_over (state_after h).last_over add at.on at.balls;
-}
-with_item_at items k (Plain.Innings side) over h add at = anew items k
-with_item_at items k (Plain.End cause) over h add at = anew items k
-with_item_at items k item over h add at = stays items k item over _ _ add refl at
+  with_item_at : (item : Plain) (h : History) → Adds items k item → AtHistory items k over h → AtHistory items (k + 1) (with_item over k item) (item ∷ h)
+  with_item_at (Plain.Ball b) h add at = ball_on b _ _ add at
+  with_item_at Plain.Over h add at = over_called _ _ add at
+  with_item_at (Plain.Innings side) h add at = anew
+  with_item_at (Plain.End cause) h add at = anew
+  with_item_at item h add at = stays item _ _ add refl at
 
 history-cons : (x : Placed) (xs : List Placed) (h : History) → history (x ∷ xs) ++ h ≡ history xs ++ x.item ∷ h
 history-cons x xs h = ap (λ u. u ++ h) (reverse_onto (map (λ y. y.item) xs) x.item []) ∙ append_assoc (history xs) (x.item ∷ []) h
 
-pub taken_one : (items : List Placed) (over : LastOver) (k : ℕ) (x : Placed) → Taken items over k → slice_get items k ≡ Some x → is_void x.item ≡ false → Taken items (with_item over k x.item) (k + 1)
+pub taken_one : (items : List Placed) (over : LastOver) (k : ℕ) (x : Placed) → Taken items over k → slice_get items k ≡ Some x
+    → is_void x.item ≡ false → Taken items (with_item over k x.item) (k + 1)
 taken_one items over k x m here stays =
     let split : kept (drop k items) ≡ x ∷ kept (drop (k + 1) items) = ap kept (next items k x here) ∙ kept_first x (drop (k + 1) items) stays in record {
       before = x.item ∷ m.before;
-      is = with_item_at items k x.item over m.before (adds items k x here) m.is;
+      is = with_item_at items k over x.item m.before (adds items k x here) m.is;
       whole = sym (history-cons x (kept (drop (k + 1) items)) m.before) ∙ (ap (λ xs. history xs ++ m.before) (sym split) ∙ m.whole);
     }
 
 -- what is void is no delivery
 void_adds_none : (item : Plain) (over : List Ball) → is_void item ≡ true → bowled item over ≡ over
-void_adds_none (Plain.Ball b) over void = absurd (cc)
-void_adds_none _ over void = refl
+void_adds_none item over void = grind arith
 
-pub taken_not : (items : List Placed) (over : LastOver) (k : ℕ) (x : Placed) → Taken items over k → slice_get items k ≡ Some x → is_void x.item ≡ true → Taken items over (k + 1)
+pub taken_not : (items : List Placed) (over : LastOver) (k : ℕ) (x : Placed) → Taken items over k → slice_get items k ≡ Some x
+    → is_void x.item ≡ true → Taken items over (k + 1)
 taken_not items over k x m here void =
     let same : kept (drop k items) ≡ kept (drop (k + 1) items) = ap kept (next items k x here) ∙ kept_not x (drop (k + 1) items) void in record {
       before = m.before;
-      is = stays items k x.item over _ _ (adds items k x here) (void_adds_none x.item _ void) m.is;
+      is = stays items k over x.item _ _ (adds items k x here) (void_adds_none x.item _ void) m.is;
       whole = ap (λ xs. history xs ++ m.before) (sym same) ∙ m.whole;
     }
 
 -- who bowled the last delivery of this over, or of the last one, bowled that of the one of the two that has it
 pub newest_of : (this last : List Ball) → newest_bowler (this_or_last this last) ≡ or_else (newest_bowler this) (newest_bowler last)
-newest_of [] last = refl
-newest_of (b ∷ bs) last = refl
+newest_of this last = grind arith
 
-pub taken_all : (book : List Entry) (items : List Placed) (over : LastOver) (k : ℕ) → Taken items over k → length items ≤ k → items ≡ clean_items_of book → IsOverOf (clean_items_of book) over (history_of book)
+pub taken_all : (book : List Entry) (items : List Placed) (over : LastOver) (k : ℕ) → Taken items over k → length items ≤ k
+    → items ≡ clean_items_of book → IsOverOf (clean_items_of book) over (history_of book)
 unfolding history_of clean
 taken_all book items over k m end is =
-    let all : m.before ≡ history_of book = ap (λ xs. history (kept xs) ++ m.before) (sym (drop_all k items end)) ∙ (m.whole ∙ ap (λ xs. history (kept xs)) is) in
+    let all : m.before ≡ history_of book =
+    ap (λ xs. history (kept xs) ++ m.before) (sym (drop_all k items end)) ∙ (m.whole ∙ ap (λ xs. history (kept xs)) is) in
     let of_items : IsOverOf items over m.before = record {
       on = m.is.on;
       bowler = m.is.bowler ∙ newest_of (state_after m.before).this_over (state_after m.before).last_over;
       balls = m.is.balls ∙ ap (with_balls (over_now m.before)) (drop_all k items end);
     } in
-    subst (λ h. IsOverOf (clean_items_of book) over h) all (subst (λ xs. IsOverOf xs over m.before) is of_items)
+    subst (IsOverOf (clean_items_of book) over) all (rw is at of_items)

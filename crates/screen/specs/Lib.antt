@@ -1,6 +1,5 @@
--- What is claimed: Row, with Marks, Play and Overs; OverCheck, Both, Listing, Sides, Sentences, Words, Help. inner: for private
+-- What is claimed: Row, with Play and Overs; OverCheck, Both, Listing, Sides, Sentences, Words, Help. inner: for private
 -- functions only.
-pub mod Marks
 pub mod Play
 pub mod Overs
 pub mod Row

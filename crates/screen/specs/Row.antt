@@ -10,7 +10,7 @@ use Rattle.match_laws.specs.Parts.{bowling_row_of}
 use Rattle.match_laws.specs.Result.{current, outcome}
 use Rattle.cards.specs.Sheet.{Sheet, name_of, player_of}
 use Rattle.cards.specs.Bowling.{fielding, overs_of}
-use Rattle.screen.specs.Marks.{mark_of}
+use Rattle.cards.specs.Marks.{mark_of}
 use Rattle.screen.specs.Play.{bowler_now, needs}
 use Rattle.cards.specs.Results.{counted, result_text}
 

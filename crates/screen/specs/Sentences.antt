@@ -3,7 +3,8 @@ use Rattle.std.specs.Prelude.{ℕ, List, codes}
 use Rattle.notation.specs.declared.fault.LineFault.{LineFault}
 use Rattle.notation.specs.declared.fault.LineFault.TheVariants.{TooLong, UnknownWord, BadNumber, Missing, Extra, Spaces}
 use Rattle.ball_laws.specs.declared.refusals.BallRefusal.{BallRefusal}
-use Rattle.ball_laws.specs.declared.refusals.BallRefusal.TheVariants.{NoBatter, BowlerTwoOvers, NotOutSoHere, WrongBatter, RunsWithOut, BoundaryAndOut, SixNotStruck, CrossedNotHere, OverLong, NoBall, NoVacancy, NotAvailable, NotIn}
+use Rattle.ball_laws.specs.declared.refusals.BallRefusal.TheVariants.{NoBatter, BowlerTwoOvers, NotOutSoHere, WrongBatter, RunsWithOut, BoundaryAndOut}
+use Rattle.ball_laws.specs.declared.refusals.BallRefusal.TheVariants.{SixNotStruck, CrossedNotHere, OverLong, NoBall, NoVacancy, NotAvailable, NotIn}
 use Rattle.match_laws.specs.declared.refusals.LawRefusal.{LawRefusal}
 use Rattle.match_laws.specs.declared.refusals.LawRefusal.TheVariants.{Ball, NotInPlay, WrongSide, InningsOpen, MatchWon, MatchClosed, EndNotSo, TooMany}
 use Rattle.corrections.specs.declared.refusal.Refusal.{Refusal as BookRefusal}

@@ -1,4 +1,3 @@
 -- What serves private functions only.
 pub mod Items
-pub mod MarkText
 pub mod Over

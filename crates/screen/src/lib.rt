@@ -4,7 +4,6 @@
 
 mod both;
 mod listing;
-mod mark;
 mod marks;
 mod over;
 mod over_check;

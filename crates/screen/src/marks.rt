@@ -4,14 +4,14 @@ ghost use Rattle.std.specs.Prelude.{◌≡◌, ◌≤◌, ◌++◌, [], OnErr, O
 ghost use Rattle.notation.specs.declared.entry.TheConstants.{PLACES};
 ghost use Rattle.ball_laws.specs.Sums.{tally};
 ghost use Rattle.match_laws.specs.Figures.{runs_of};
-ghost use Rattle.screen.specs.inner.MarkText.{mark_text};
+ghost use Rattle.cards.specs.Marks.{mark_text};
 ghost use Rattle.screen.specs.Overs.{with_balls};
 ghost use Rattle.streams.specs.Watched.{Prints, has_failed};
 ghost use Rattle.screen.specs.Row as rows;
 ghost use Rattle.screen.specs.inner.Items as items;
 
-use crate::mark::{Mark, all_runs, mark_of};
 use crate::over::place_of;
+use cards::{Mark, all_runs, mark_of};
 use corrections::Placed;
 use notation::{Ball, Plain};
 use std::io::Write;

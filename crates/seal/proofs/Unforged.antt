@@ -1,8 +1,8 @@
 -- What opens was sent.
-use Rattle.std.proofs.Common.{◌≡◌, ◌∙◌, ℕ, zero, suc, List, [], ◌∷◌, length, map, sym, refl, ap, Some, None, arith, replicate, length-append}
+use Rattle.std.proofs.Common.{◌≡◌, ◌∙◌, ℕ, zero, suc, List, [], ◌∷◌, length, map, sym, refl, ap, Some, arith, replicate, length-append}
 use Rattle.std.specs.Prelude.{All, slice_get}
 use Rattle.agree_core.specs.declared.messages.Message.{Message}
-use Rattle.wire.specs.Layout.{IsMessage, Says, body, written}
+use Rattle.wire.specs.Layout.{IsMessage, body, written}
 use Rattle.wire.proofs.MessageLemmas.{message_once, message_body_length}
 use Rattle.seal.specs.Sealed.{sealed}
 use Rattle.seal.proofs.SealedForms.{front}

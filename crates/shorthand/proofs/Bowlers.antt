@@ -1,5 +1,6 @@
 -- Who bowls and bats by what stands, and by the Laws' history of the book.
-use Rattle.std.proofs.Common.{◌≡◌, ◌⊎◌, Bool, true, false, List, [], ◌∷◌, inl, inr, refl, ap, ◌∙◌}
+use Rattle.std.proofs.Common.{arith, ◌≡◌, true, List, [], ◌∷◌, inl, inr, refl, ap, ◌∙◌}
+use Rattle.std.proofs.lemmas.Bool.{cases_Bool}
 use Rattle.notation.specs.declared.entry.{Plain.Plain, Entry.Entry}
 use Rattle.ball_laws.specs.History.{History, open_over}
 use Rattle.match_laws.specs.History.{is_void, last_side}
@@ -17,24 +18,15 @@ record AreAlike (g h : History) : Type 0 where
   side : last_side g ≡ last_side h
 
 alike_more : (g h : History) (x : Plain) → AreAlike g h → AreAlike (x ∷ g) (x ∷ h)
-alike_more g h (Plain.Innings s) e = record { over = refl; side = refl }
-alike_more g h (Plain.Ball b) e = record { over = ap (λ bs. b ∷ bs) e.over; side = e.side }
-alike_more g h Plain.Over e = record { over = refl; side = e.side }
-alike_more g h (Plain.End c) e = record { over = refl; side = e.side }
-alike_more g h _ e = record { over = e.over; side = e.side }
+alike_more g h x e = grind arith
 
 -- a `void` adds nothing
 alike_void : (g h : History) (x : Plain) → is_void x ≡ true → AreAlike g h → AreAlike (x ∷ g) h
-alike_void g h Plain.Void v e = record { over = e.over; side = e.side }
-alike_void g h _ v e = absurd (cc)
-
-either_way : (b : Bool) → (b ≡ true) ⊎ (b ≡ false)
-either_way true = inl refl
-either_way false = inr refl
+alike_void g h x v e = grind arith
 
 walked : (g h : History) (xs : List Placed) → AreAlike g h → AreAlike (history_to Last g xs) (history_after h (kept xs))
 walked g h [] e = e
-walked g h (x ∷ xs) e = elim (either_way (is_void x.item)) [
+walked g h (x ∷ xs) e = elim (cases_Bool (is_void x.item)) [
   | inl v ↦ rw (kept_not x xs v) (walked (x.item ∷ g) h xs (alike_void g h x.item v e))
   | inr v ↦ rw (kept_first x xs v) (walked (x.item ∷ g) (x.item ∷ h) xs (alike_more g h x.item e))
 ]

@@ -1,5 +1,5 @@
 -- How many players fit.
-use Rattle.std.proofs.Common.{◌≡◌, ℕ, ◌+◌, ◌≤◌, ◌<◌, Bool, true, false, List, [], ◌∷◌, filter, drop, get_or, Some, refl, ap, ◌∙◌, arith}
+use Rattle.std.proofs.Common.{◌≡◌, ℕ, ◌+◌, ◌≤◌, ◌<◌, Bool, true, false, List, [], ◌∷◌, filter, drop, get_or, Some, refl, arith}
 use Rattle.std.specs.Prelude.{slice_get}
 use Rattle.std.proofs.lemmas.List.Elements.{All-from_recursion, All-get_or}
 use Rattle.ball_laws.specs.Over.{numbers}
@@ -18,20 +18,15 @@ several [] = refl
 several (n ∷ ns) = several ns
 
 pub with_all-none : (ns : List ℕ) → with_all NoOne ns ≡ found_in ns
-with_all-none [] = refl
-with_all-none (n ∷ []) = refl
-with_all-none (n ∷ m ∷ ns) = several ns
+with_all-none ns = grind (arith, several)
 
 -- a player more is looked at, who fits or doesn't
-pub fitting_one : (p : ℕ → Bool) (found : Found) (items : List ℕ) (k n : ℕ) → slice_get items k ≡ Some n → p n ≡ true → with_all (and_one found n) (filter p (drop (k + 1) items)) ≡ with_all found (filter p (drop k items))
-fitting_one p found items k n here fits =
-    let all : filter p (drop k items) ≡ n ∷ filter p (drop (k + 1) items) = ap (filter p) (next items k n here) ∙ rw fits refl in
-    rw all refl
+module _ (p : ℕ → Bool) (found : Found) (items : List ℕ) (k n : ℕ) (here : slice_get items k ≡ Some n) where
+  pub fitting_one : p n ≡ true → with_all (and_one found n) (filter p (drop (k + 1) items)) ≡ with_all found (filter p (drop k items))
+  fitting_one fits = rw (next items k n here, fits)
 
-pub fitting_not : (p : ℕ → Bool) (found : Found) (items : List ℕ) (k n : ℕ) → slice_get items k ≡ Some n → p n ≡ false → with_all found (filter p (drop (k + 1) items)) ≡ with_all found (filter p (drop k items))
-fitting_not p found items k n here not =
-    let all : filter p (drop k items) ≡ filter p (drop (k + 1) items) = ap (filter p) (next items k n here) ∙ rw not refl in
-    rw all refl
+  pub fitting_not : p n ≡ false → with_all found (filter p (drop (k + 1) items)) ≡ with_all found (filter p (drop k items))
+  fitting_not not = rw (next items k n here, not)
 
 abbrev InRange : ℕ → Type 0
 InRange n = (1 ≤ n) × (n ≤ 11)

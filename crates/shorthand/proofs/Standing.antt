@@ -1,17 +1,18 @@
 -- What lines are in full, as whoever reads lines judges them.
-use Rattle.std.proofs.Common.{◌≡◌, ◌&&◌, ℕ, ◌≤◌, nat_le, nat_lt, List, [], ◌∷◌, length, Bool, true, false, Result, Ok, Err, refl, inl, inr, sym, ap, ◌∙◌, arith, IfOk, lit≤}
+use Rattle.std.proofs.Common.{◌≡◌, ◌&&◌, ℕ, ◌≤◌, nat_le, List, [], ◌∷◌, length, true, false}
+use Rattle.std.proofs.Common.{Result, Ok, Err, refl, inl, inr, sym, ap, ◌∙◌, arith, IfOk, lit≤}
 use Rattle.std.specs.Prelude.{OnErr, MatchResult}
-use Rattle.std.proofs.lemmas.Bool.{leb-true, le-leb}
+use Rattle.std.proofs.lemmas.Bool.{le-leb}
+use Rattle.std.proofs.lemmas.Bool.Decides.{nat_tests}
 use Rattle.arrayvec.specs.ArrayString.{ArrayString as Text}
 use Rattle.notation.specs.declared.{fault.LineFault.LineFault, entry.Entry.Entry}
 use Rattle.notation.specs.Written.{tokens, text_of, is_spaced}
 use Rattle.notation.specs.Reading.{line_answer}
-use Rattle.notation.specs.inner.TokenReading.{all_of}
 use Rattle.notation.proofs.Found.{chosen}
 use Rattle.notation.proofs.Texts.{length-text, line_again, line_found}
 use Rattle.cards.specs.Sheet.{Sheet}
 use Rattle.shorthand.specs.declared.unclear.Unclear.{Unclear}
-use Rattle.shorthand.specs.Lines.{Reason, reason_of, Fault, Word, joined, plus, plus_all, spaced, within}
+use Rattle.shorthand.specs.Lines.{Reason, reason_of, Fault, Word, joined, plus, plus_all}
 use Rattle.shorthand.specs.Full.{in_full, is_of_line, put_in_full, words_in_full}
 use Rattle.shorthand.specs.Laws.{FullLinesStand, IsReadOrRefused, TakenLinesAreRead}
 
@@ -24,27 +25,18 @@ full_lines_stand s book e h = ap (put_in_full s book (text_of e)) (line_again e 
 abbrev Fits : Result (List ℕ) Reason → Type 0
 Fits line = IfOk line (λ text. length text ≤ 96)
 
-within_fits : (text : List ℕ) (b : Bool) → nat_le (length text) 96 ≡ b → Fits (within text)
-within_fits text true e = rw e (leb-true (length text) 96 e)
-within_fits text false e = rw e tt
-
 plus_fits : (line : Result (List ℕ) Reason) (w : Word) → Fits (plus line w)
-plus_fits (Ok text) (Ok w) = within_fits (spaced text w) (nat_le (length (spaced text w)) 96) refl
-plus_fits (Ok text) (Err reason) = tt
-plus_fits (Err reason) w = tt
+plus_fits line w = grind (arith, nat_tests)
 
 plus_all_fits : (line : Result (List ℕ) Reason) (ws : List Word) → Fits line → Fits (plus_all line ws)
 plus_all_fits line [] h = h
 plus_all_fits line (w ∷ ws) h = plus_all_fits (plus line w) ws (plus_fits line w)
 
-fits_it : (line : Result (List ℕ) Reason) (text : List ℕ) → Fits line → line ≡ Ok text → length text ≤ 96
-fits_it (Ok t) text h e = let same : t ≡ text = cc in rw (← same) h
-fits_it (Err reason) text h e = absurd (cc)
-
 word_by_word_fits : (s : Sheet) (book : List Entry) (line text : List ℕ) → joined (words_in_full s book (tokens line)) ≡ Ok text → length text ≤ 96
-word_by_word_fits s book line text e = fits_it (joined (words_in_full s book (tokens line))) text (plus_all_fits (Ok []) (words_in_full s book (tokens line)) (lit≤ tt)) e
+word_by_word_fits s book line text e = rw e at (plus_all_fits (Ok []) (words_in_full s book (tokens line)) (lit≤ tt))
 
-put_fits : (s : Sheet) (book : List Entry) (line text : List ℕ) (read : Result Entry LineFault) → line_answer line ≡ read → put_in_full s book line read ≡ Ok text → length text ≤ 96
+put_fits : (s : Sheet) (book : List Entry) (line text : List ℕ) (read : Result Entry LineFault) → line_answer line ≡ read
+    → put_in_full s book line read ≡ Ok text → length text ≤ 96
 put_fits s book line text (Ok e) r h =
     let found = line_found line e r in
     let most = length-text e found.0 in
@@ -74,36 +66,22 @@ taken_lines_are_read = record {
 -- an entry's line is tokens with one space between them
 entry_apart : (line : List ℕ) (e : Entry) → line_answer line ≡ Ok e → is_spaced line ≡ true
 unfolding line_answer
-entry_apart line e h = elim (chosen (nat_lt 96 (length line)) (Err LineFault.TooLong) _ (Ok e) h) [
-  | inl p ↦ let q = p.1 in absurd (cc)
-  | inr p ↦ elim (chosen (is_spaced line) (all_of (tokens line)) (Err LineFault.Spaces) (Ok e) p.1) [
-    | inl q ↦ q.0
-    | inr q ↦ let r = q.1 in absurd (cc)
-  ]
-]
+entry_apart line e h = grind arith
 
 -- and what isn't such a line has a fault of the line
-of_line : (f g : LineFault) (read : Result Entry LineFault) → read ≡ Err g → read ≡ Err f → is_of_line g ≡ true → is_of_line f ≡ true
-of_line f g read one other is = let e : g ≡ f = cc in rw (← e) is
-
 pub other_fault : (line : List ℕ) (f : LineFault) → line_answer line ≡ Err f → is_spaced line ≡ false → is_of_line f ≡ true
 unfolding line_answer
-other_fault line f h apart = elim (chosen (nat_lt 96 (length line)) (Err LineFault.TooLong) _ (Err f) h) [
-  | inl p ↦ of_line f LineFault.TooLong (Err LineFault.TooLong) refl p.1 refl
-  | inr p ↦ elim (chosen (is_spaced line) (all_of (tokens line)) (Err LineFault.Spaces) (Err f) p.1) [
-    | inl q ↦ absurd (let never : true ≡ false = sym q.0 ∙ apart in (cc))
-    | inr q ↦ of_line f LineFault.Spaces (Err LineFault.Spaces) refl q.1 refl
-  ]
-]
+other_fault line f h apart = grind arith
 
 -- an entry's line, taken as it stands
-pub stands_whole : (s : Sheet) (book : List Entry) (line : List ℕ) (e : Entry) (r : Result Text Unclear) → line_answer line ≡ Ok e → IfOk r (λ t. t.bytes ≡ line) → OnErr r ((is_spaced line && nat_le (length line) 96) ≡ false) → MatchResult r (λ t. in_full s book line ≡ Ok t.bytes) (λ u. in_full s book line ≡ Err (reason_of u))
+pub stands_whole : (s : Sheet) (book : List Entry) (line : List ℕ) (e : Entry) (r : Result Text Unclear) → line_answer line ≡ Ok e
+    → IfOk r (λ t. t.bytes ≡ line) → OnErr r ((is_spaced line && nat_le (length line) 96) ≡ false)
+    → MatchResult r (λ t. in_full s book line ≡ Ok t.bytes) (λ u. in_full s book line ≡ Err (reason_of u))
 unfolding in_full
 stands_whole s book line e (Ok t) h text none = ap (put_in_full s book line) h ∙ ap Ok (sym text)
 stands_whole s book line e (Err u) h text none =
     let found = line_found line e h in
     let most = length-text e found.0 in
     let short : length line ≤ 96 = omega (arith, ap length found.1, most) in
-    let apart : is_spaced line ≡ true = entry_apart line e h in
-    let never : true ≡ false = rw (apart, le-leb (length line) 96 short) at none in
+    let never : true ≡ false = rw (entry_apart line e h, le-leb (length line) 96 short) at none in
     absurd (cc)

@@ -1,6 +1,7 @@
 -- What a line of a scorer is in full, word by word, in the order of the table that scorers have. What no rule speaks
 -- of stays as it is, so that whoever reads the line in full finds its faults.
-use Rattle.std.specs.Prelude.{ℕ, ◌==◌, nat_lt, length, Bool, true, false, ◌||◌, ◌&&◌, if◌then◌else◌, Option, Some, None, List, [], ◌∷◌, map, codes, decimal, is_some, Result, Ok, Err}
+use Rattle.std.specs.Prelude.{ℕ, ◌==◌, nat_lt, length, Bool, true, false, ◌||◌, ◌&&◌, if◌then◌else◌}
+use Rattle.std.specs.Prelude.{Option, Some, None, List, [], ◌∷◌, map, codes, decimal, is_some, Result, Ok, Err}
 use Rattle.std.specs.List.{list_any, position_or_len, before_first, after_first}
 use Rattle.std.specs.Str.{bytes_eq}
 use Rattle.notation.specs.Written.{Token, tokens, how_text, all_hows, who_text, all_whos, kind_text, all_kinds, found_number}

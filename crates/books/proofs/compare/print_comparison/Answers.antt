@@ -9,5 +9,5 @@ always (Err _) p = tt
 
 pub returns-clause-text : goal.returns-clause-text
 returns-clause-text g c =
-    rw (← c.as_slice-differences.ensures.value)
-    (always c.flush.result (appends_kept _ _ _ _ (appends_both _ _ _ _ _ c.in_ok-print_differences.ensures.text c.in_ok-print_sum.ensures.text) c.flush.ensures.bytes))
+    let both = appends_both _ _ _ _ _ c.in_ok-print_differences.ensures.text c.in_ok-print_sum.ensures.text in
+    rw (← c.as_slice-differences.ensures.value) (always c.flush.result (appends_kept _ _ _ _ both c.flush.ensures.bytes))

@@ -1,7 +1,6 @@
-use Rattle.std.proofs.Common.{◌≡◌, ◌∙◌, List, Result, Ok, length, sym, ap, subst}
+use Rattle.std.proofs.Common.{◌≡◌, ◌∙◌, List, Result, Ok, length, sym, ap}
 use Rattle.agree_core.specs.declared.messages.DeskId.TheVariants.{A, B}
-use Rattle.agree_core.specs.Agreed.{IsAgreedList}
-use Rattle.agree_core.specs.Ballots.{AllVotes, Ballot}
+use Rattle.agree_core.specs.Ballots.{Ballot}
 use Rattle.vote_store.specs.declared.refusal.Refusal.{Refusal}
 use Rattle.books.proofs.OneList.{one_list}
 use Rattle.books.proofs.SameVotes.{no_difference, same_votes}
@@ -17,8 +16,7 @@ returns-clause-counted _ = λ s a b c book compared made.
     let second = same_ok made.votes.b compared.votes.b _ made.read.second compared.read.second in
     let votes : made.votes ≡ compared.votes = λ i. record { a = first i; b = second i } in
     let sound = (in_file A s.game a compared.votes.a compared.read.first).sequence in
-    let same = one_list compared.votes sound compared.list book compared.agreed_list (subst (λ (v : AllVotes). IsAgreedList v book) votes made.agreed) in
-    compared.agreed ∙ ap length same
+    compared.agreed ∙ ap length (one_list compared.votes sound compared.list book compared.agreed_list (rw votes at made.agreed))
 
 pub returns-clause-nothing_told : goal.returns-clause-nothing_told
 returns-clause-nothing_told _ = λ game a b v read.

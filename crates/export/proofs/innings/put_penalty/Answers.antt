@@ -1,5 +1,7 @@
-use Rattle.json_fields.proofs.Putting.{adds, begins, is_object_field}
+use Rattle.json_fields.proofs.Putting.{◌▸◌, begins, is_object_field}
 use Rattle.export.proofs.innings.put_penalty.Goals as goal
 
 pub returns : goal.returns
-returns c = is_object_field c.end_object.result _ _ _ _ _ (adds _ _ _ _ _ _ (adds _ _ _ _ _ _ (begins _ _ _ c.in_ok-begin_field.ensures) c.in_ok-put_awarded.ensures) c.in_ok-put_awarded-2.ensures) c.end_object.ensures
+returns c =
+    is_object_field c.end_object.result _
+    (begins c.in_ok-begin_field.ensures ▸ c.in_ok-put_awarded.ensures ▸ c.in_ok-put_awarded-2.ensures) c.end_object.ensures

@@ -1,17 +1,20 @@
-use Rattle.std.proofs.Common.{sym, ap, ◌∙◌}
+use Rattle.std.proofs.Common.{sym, ◌∙◌}
 use Rattle.std.proofs.lemmas.List.{drop_all}
-use Rattle.export.specs.Miscounts.{miscounts}
-use Rattle.export.proofs.MiscountLemmas.{all_put, goes_on, one_put, passes}
+use Rattle.cards.proofs.Slots.{next}
+use Rattle.json_fields.proofs.Putting.{fields_due, no_fields}
 use Rattle.export.proofs.miscounts.put_each.Goals as goal
 use Rattle.export.proofs.miscounts.put_each.Goals.{then-is_miscounted+in_ok-put_miscount, else-is_miscounted}
 
 pub loop-index-preserved : goal.loop-index-preserved
-loop-index-preserved c = elim c.if-is_miscounted.branch [
-  | then-is_miscounted+in_ok-put_miscount w ↦
-      rw w.out-is (one_put _ _ _ _ _ _ (goes_on c.args.items.now c.loop-index.index c.noted_at-noted.result c.noted_at-noted.ensures (sym c.is_miscounted.ensures ∙ w.if-is_miscounted.true)) c.loop-index.invariant w.in_ok-put_miscount.ensures)
-  | else-is_miscounted w ↦
-      rw w.out-is (passes _ _ c.args.items.now c.loop-index.index c.noted_at-noted.result c.noted_at-noted.ensures (sym c.is_miscounted.ensures ∙ w.if-is_miscounted.false) c.loop-index.invariant)
-]
+loop-index-preserved c =
+    let here = next c.args.items.now c.loop-index.index c.noted_at-noted.result c.noted_at-noted.ensures in
+    elim c.if-is_miscounted.branch [
+      | then-is_miscounted+in_ok-put_miscount w ↦
+          let is = sym c.is_miscounted.ensures ∙ w.if-is_miscounted.true in
+          rw w.out-is (fields_due _ _ _ _ _ w.in_ok-put_miscount.ensures (rw (here, is) at c.loop-index.invariant))
+      | else-is_miscounted w ↦
+          let not = sym c.is_miscounted.ensures ∙ w.if-is_miscounted.false in rw w.out-is (rw (here, not) at c.loop-index.invariant)
+    ]
 
 pub returns : goal.returns
-returns c = all_put _ _ _ (ap miscounts (drop_all c.loop-index.index c.args.items.now c.loop-index-test.false)) c.loop-index.invariant
+returns c = no_fields _ ∙ (rw (drop_all _ _ c.loop-index-test.false) at c.loop-index.invariant)

@@ -1,5 +1,5 @@
-use Rattle.export.proofs.ReaderSums.{batters_add_up}
+use Rattle.export.proofs.ReaderSums.{batter_adds_up}
 use Rattle.export.proofs.readers.batters_add_up.Goals as goal
 
 pub returns : goal.returns
-returns c s n book all legal = batters_add_up s n book all legal
+returns c s n book all legal i name = batter_adds_up s n book all legal i name

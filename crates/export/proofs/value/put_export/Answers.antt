@@ -1,6 +1,6 @@
 use Rattle.std.proofs.Common.{subst}
 use Rattle.std.proofs.lemmas.Result.{on_ok_weaker}
-use Rattle.json_fields.proofs.Putting.{adds, begins, is_object}
+use Rattle.json_fields.proofs.Putting.{◌▸◌, begins, is_object}
 use Rattle.export.specs.Given.{AreFieldsOf, others}
 use Rattle.export.proofs.value.put_export.Goals as goal
 
@@ -9,8 +9,8 @@ returns g c =
     let s = c.requires.stands in
     let put = c.in_ok-put_info.ensures _ s in
     let hands_on = subst (λ ms. AreFieldsOf (others ms) put.0) c.info_or.ensures put.1 in
-    let meta = adds _ _ _ _ _ _ (begins _ _ _ c.in_ok-begin_object.ensures) c.in_ok-put_meta.ensures in
-    let info = adds _ _ _ _ _ _ meta put.2 in
-    let innings = adds _ _ _ _ _ _ info (c.in_ok-put_all_innings.ensures _ _ s c.requires.begun) in
-    let own = adds _ _ _ _ _ _ innings c.in_ok-put_own.ensures in
-    rw (← c.requires.noted) (on_ok_weaker c.end_object.result (λ e. (put.0, hands_on, e)) (is_object c.end_object.result _ _ _ _ own c.end_object.ensures))
+    let meta = begins c.in_ok-begin_object.ensures ▸ c.in_ok-put_meta.ensures in
+    let info = meta ▸ put.2 in
+    let innings = info ▸ (c.in_ok-put_all_innings.ensures _ _ s c.requires.begun) in
+    let own = innings ▸ c.in_ok-put_own.ensures in
+    rw (← c.requires.noted) (on_ok_weaker c.end_object.result (λ e. (put.0, hands_on, e)) (is_object c.end_object.result _ own c.end_object.ensures))

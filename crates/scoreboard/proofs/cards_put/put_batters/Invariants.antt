@@ -1,8 +1,10 @@
+use Rattle.std.proofs.Common.{◌∷◌, []}
 use Rattle.match_laws.specs.Stands.{ForEachHistory}
+use Rattle.cards.proofs.Slots.{SoFar}
 use Rattle.scoreboard.specs.Innings.{batter_of}
-use Rattle.scoreboard.proofs.Rows.{SoFar}
+use Rattle.scoreboard.proofs.Rows.{PutsValues}
 use Rattle.scoreboard.proofs.cards_put.put_batters.Given as goal
 
 abbrev pub invariant-loop-place : goal.invariant-loop-place
 invariant-loop-place l = ForEachHistory l.score (λ n h.
-    SoFar (λ k. batter_of l.sheet h l.innings) l.order l.place 0 l.initial.out l.out)
+    SoFar PutsValues (λ k p. batter_of l.sheet h l.innings p ∷ []) l.order l.place 0 l.initial.out l.out)

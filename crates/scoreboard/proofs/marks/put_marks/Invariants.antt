@@ -2,7 +2,7 @@ use Rattle.std.proofs.Common.{◌≡◌, ◌++◌, ◌∷◌, [], take}
 use Rattle.std.specs.List.{flat_map}
 use Rattle.json.specs.Json.{string}
 use Rattle.json_fields.specs.Values.{values_tokens}
-use Rattle.scoreboard.specs.Marks.{mark_of}
+use Rattle.cards.specs.Marks.{mark_of}
 use Rattle.scoreboard.proofs.marks.put_marks.Given as goal
 
 -- the deliveries so far are put

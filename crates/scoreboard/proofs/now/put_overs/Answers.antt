@@ -3,5 +3,5 @@ use Rattle.scoreboard.proofs.now.put_overs.Goals as goal
 
 pub returns : goal.returns
 returns c =
-    let this = starts _ _ _ (rw c.as_slice.ensures.value at c.in_ok-put_over.ensures) in
-    ends c.put_over-2.result _ _ _ _ _ this (rw c.as_slice-2.ensures.value at c.put_over-2.ensures)
+    ends c.put_over-2.result _ _
+    (starts (rw c.as_slice.ensures.value at c.in_ok-put_over.ensures)) (rw c.as_slice-2.ensures.value at c.put_over-2.ensures)

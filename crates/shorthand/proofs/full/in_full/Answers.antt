@@ -9,4 +9,7 @@ returns-in_err-text-in-Err g c =
     absurd (cc)
 
 pub returns-in-Ok : goal.returns-in-Ok
-returns-in-Ok g c = stands_whole c.args.sheet.now (g.B.BookOf.content c.args.book.now) c.args.line.now c.in-Ok.field-0 c.as_it_stands.result (sym c.in-Ok.ensures.exact) c.as_it_stands.ensures.text c.as_it_stands.ensures.none
+returns-in-Ok g c =
+    let as_it_stands = c.as_it_stands.ensures in
+    stands_whole c.args.sheet.now (g.B.BookOf.content c.args.book.now) c.args.line.now c.in-Ok.field-0 c.as_it_stands.result
+    (sym c.in-Ok.ensures.exact) as_it_stands.text as_it_stands.none

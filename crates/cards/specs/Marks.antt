@@ -3,6 +3,7 @@ use Rattle.std.specs.Prelude.{ℕ, ◌==◌, if◌then◌else◌, Bool, List, []
 use Rattle.notation.specs.declared.entry.{Ball.Ball, Kind.Kind}
 use Rattle.notation.specs.declared.entry.Kind.TheVariants.{Bat, Bye, Leg, Wide, Nb, NbBye, NbLeg}
 use Rattle.match_laws.specs.Figures.{runs_of}
+use Rattle.cards.specs.declared.mark.Mark.{Mark}
 
 -- byes, leg byes, wides and no balls (Laws 21 to 23)
 abbrev pub kind_mark : Kind → List ℕ
@@ -29,3 +30,8 @@ mark runs kind is_out =
 -- all runs of the delivery are shown, a Wide's and a No ball's own too
 abbrev pub mark_of : Ball → List ℕ
 mark_of b = mark (runs_of b) b.kind (is_some b.out)
+
+-- the text of a mark
+abbrev pub mark_text : Mark → List ℕ
+mark_text (Mark.Dot text) = text.now
+mark_text (Mark.Runs count kind wicket) = decimal count ++ kind.now ++ wicket.now

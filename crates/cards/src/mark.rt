@@ -2,8 +2,8 @@
 
 ghost use Rattle.std.specs.Prelude.{◌≡◌, ◌≤◌};
 ghost use Rattle.match_laws.specs.Figures.{runs_of};
-ghost use Rattle.screen.specs.Marks as laws;
-ghost use Rattle.screen.specs.inner.MarkText.{mark_text};
+ghost use Rattle.cards.specs.Marks as laws;
+ghost use Rattle.cards.specs.Marks.{mark_text};
 
 use ball_laws::runs_of;
 use notation::{Ball, Kind};
