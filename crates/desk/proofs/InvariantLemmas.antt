@@ -1,12 +1,12 @@
 -- What a desk keeps of its votes, as it opens, casts and hears.
-use Rattle.std.proofs.Common.{◌≡◌, ◌∙◌, ◌+◌, ◌==◌, ℕ, true, Option, Some, None, IfSome, List, [], ◌∷◌, ◌++◌, length, refl, sym, ap, subst, append-nil, append_assoc}
-use Rattle.std.proofs.lemmas.Bool.{and_from, or_left, or_right}
-use Rattle.std.proofs.lemmas.Bool.Decides.{Decides-eqb}
+use Rattle.std.proofs.Common.{◌≡◌, ◌∙◌, ◌+◌, ℕ, true, Some, None, IfSome, List, [], ◌∷◌, ◌++◌, length, refl, sym, ap, append-nil, append_assoc, arith}
+use Rattle.std.proofs.lemmas.Bool.{or_left, or_right}
 use Rattle.std.proofs.lemmas.List.{length-append}
 use Rattle.notation.specs.declared.entry.Entry.{Entry}
 use Rattle.notation.specs.Written.{IsEntry}
 use Rattle.corrections.specs.Refusal.{book_refusal}
-use Rattle.agree_core.specs.declared.{messages.DeskId.DeskId, messages.Vote.Vote, position.Position.Position, seat.Heard.Heard, seat.Settled.Settled}
+use Rattle.agree_core.specs.declared.{messages.DeskId.DeskId, messages.Vote.Vote, position.Position.Position}
+use Rattle.agree_core.specs.declared.seat.{Heard.Heard, Settled.Settled}
 use Rattle.agree_core.specs.Ballots.{Ballot}
 use Rattle.agree_core.specs.Books.{AllTaken, Rules, book_of, seat_of, voted_list}
 use Rattle.agree_core.specs.Desks.{book_after, book_heard}
@@ -14,7 +14,7 @@ use Rattle.agree_core.specs.Positions.{next_place, next_round}
 use Rattle.agree_core.specs.Seats.{Casts, Hears, SeatState, waiting}
 use Rattle.agree_core.proofs.FileBooks.{book_long}
 use Rattle.vote_store.specs.Sequence.{comes_next, is_at, last_position}
-use Rattle.vote_store.proofs.SequenceLemmas.{IsVotes}
+use Rattle.vote_store.proofs.SequenceLemmas.{IsVotes, is_at-same}
 use Rattle.desk.specs.inner.Kept.{IsCast, IsNext, newest}
 
 pub record IsKept (n : ℕ) (book : List Entry) (seat : SeatState) (votes : List Ballot) : Type 0 where
@@ -23,15 +23,8 @@ pub record IsKept (n : ℕ) (book : List Entry) (seat : SeatState) (votes : List
   pub next : IsNext seat votes
   pub noted : IfSome seat.theirs IsEntry
 
--- the same book, seat and votes
-pub kept_as : (n : ℕ) (book book' : List Entry) (seat seat' : SeatState) (votes votes' : List Ballot)
-    → IsKept n book seat votes → book' ≡ book → seat' ≡ seat → votes' ≡ votes → IsKept n book' seat' votes'
-kept_as n book book' seat seat' votes votes' k b s v =
-    subst (λ (x : List Entry). IsKept n x seat' votes') (sym b)
-    (subst (λ (x : SeatState). IsKept n book x votes') (sym s)
-    (subst (λ (x : List Ballot). IsKept n book seat x) (sym v) k))
-
-last_legal : {Why : Type 0} (rules : Rules Why) (book xs : List Entry) (e : Entry) → AllTaken rules book (xs ++ e ∷ []) → rules (book ++ xs) e ≡ None
+last_legal : {Why : Type 0} (rules : Rules Why) (book xs : List Entry) (e : Entry)
+    → AllTaken rules book (xs ++ e ∷ []) → rules (book ++ xs) e ≡ None
 last_legal rules book [] e t = rw append-nil t.0
 last_legal rules book (x ∷ xs) e t = rw (sym (append_assoc book (x ∷ []) xs)) (last_legal rules (book ++ x ∷ []) xs e t.1)
 
@@ -41,83 +34,57 @@ pub opened_kept : (n : ℕ) (d : DeskId) (votes : List Ballot) → IsVotes votes
 opened_kept n d [] fine taken = record { as_long = refl; cast = λ e h. absurd (cc); next = λ h. refl; noted = tt }
 opened_kept n d (b ∷ rest) fine taken = record {
   as_long = book_long b rest fine.sequence;
-  cast = λ e h.
-      let is : b.entry ≡ e = cc in
-      record {
-        legal = subst (λ (x : Entry). book_refusal n (book_of (b ∷ rest)) x ≡ None) is (last_legal (book_refusal n) [] (book_of (b ∷ rest)) b.entry taken);
-        last = ap (λ (x : Entry). Some (record { at = b.at; entry = x })) is;
-      };
+  cast = λ e h. let is : e ≡ b.entry = cc in rw is (record { legal = last_legal (book_refusal n) [] (book_of (b ∷ rest)) b.entry taken; last = refl });
   next = λ h. absurd (cc);
   noted = tt;
 }
-
-same_place : (p : Position) → is_at p p ≡ true
-same_place p = and_from (p.place == p.place) (p.round == p.round) ((Decides-eqb p.place p.place).1 refl) ((Decides-eqb p.round p.round).1 refl)
 
 -- behind a vote at this position come the next round and the next place
 next_is : (p : Position) (votes : List Ballot) (e : Entry) → newest votes ≡ Some (record { at = p; entry = e })
     → (comes_next (next_place p) (last_position votes) ≡ true) × (comes_next (next_round p) (last_position votes) ≡ true)
 next_is p [] e h = absurd (cc)
-next_is p (b ∷ rest) e h =
-    let at : b.at ≡ p = ap (λ (o : Option Ballot). at_or p o) h in (
-      subst (λ (q : Position). comes_next (next_place p) (Some q) ≡ true) (sym at) (or_right (is_at (next_place p) (next_round p)) (is_at (next_place p) (next_place p)) (same_place (next_place p))),
-      subst (λ (q : Position). comes_next (next_round p) (Some q) ≡ true) (sym at) (or_left (is_at (next_round p) (next_round p)) (is_at (next_round p) (next_place p)) (same_place (next_round p))),
-    )
-  where
-    at_or : Position → Option Ballot → Position
-    at_or q None = q
-    at_or q (Some c) = c.at
-
-one_longer : (book : List Entry) (e : Entry) → length (book ++ e ∷ []) ≡ length book + 1
-one_longer book e = length-append book (e ∷ [])
+next_is p (b ∷ rest) e h = let at : b.at ≡ p = cc in rw at (
+  or_right (is_at (next_place p) (next_round p)) _ (is_at-same (next_place p) _ refl),
+  or_left _ (is_at (next_round p) (next_place p)) (is_at-same (next_round p) _ refl),
+)
 
 -- both desks have voted, for this entry or not
-settled_kept : (n : ℕ) (book : List Entry) (s t : SeatState) (votes : List Ballot) (e : Entry) → length book ≡ s.position.place
-    → newest votes ≡ Some (record { at = s.position; entry = e })
-    → t ≡ waiting s.desk (next_place s.position) → IsKept n (book ++ e ∷ []) t votes
-settled_kept n book s t votes e long last is = subst (λ (x : SeatState). IsKept n (book ++ e ∷ []) x votes) (sym is) (record {
-  as_long = one_longer book e ∙ ap (λ (k : ℕ). k + 1) long;
-  cast = λ f h. absurd (cc);
-  next = λ h. (next_is s.position votes e last).0;
-  noted = tt;
-})
+module _ (n : ℕ) (book : List Entry) (s t : SeatState) (votes : List Ballot) (e : Entry) (long : length book ≡ s.position.place)
+    (last : newest votes ≡ Some (record { at = s.position; entry = e })) where
+  settled_kept : t ≡ waiting s.desk (next_place s.position) → IsKept n (book ++ e ∷ []) t votes
+  settled_kept is = rw is (record {
+    as_long = length-append book (e ∷ []) ∙ ap (λ (k : ℕ). k + 1) long;
+    cast = λ f h. absurd (cc);
+    next = λ h. (next_is s.position votes e last).0;
+    noted = tt;
+  })
 
-differed_kept : (n : ℕ) (book : List Entry) (s t : SeatState) (votes : List Ballot) (e : Entry) → length book ≡ s.position.place
-    → newest votes ≡ Some (record { at = s.position; entry = e })
-    → t ≡ waiting s.desk (next_round s.position) → IsKept n book t votes
-differed_kept n book s t votes e long last is = subst (λ (x : SeatState). IsKept n book x votes) (sym is) (record {
-  as_long = long;
-  cast = λ f h. absurd (cc);
-  next = λ h. (next_is s.position votes e last).1;
-  noted = tt;
-})
+  differed_kept : t ≡ waiting s.desk (next_round s.position) → IsKept n book t votes
+  differed_kept is = rw is (record {
+    as_long = long;
+    cast = λ f h. absurd (cc);
+    next = λ h. (next_is s.position votes e last).1;
+    noted = tt;
+  })
 
 -- once a vote is cast and stored
 pub cast_kept : (n : ℕ) (book : List Entry) (s t : SeatState) (votes : List Ballot) (e : Entry) (settled : Settled)
     → length book ≡ s.position.place → book_refusal n book e ≡ None → Casts s e settled t
     → IsKept n (book_after settled book e) t (record { at = s.position; entry = e } ∷ votes)
-cast_kept n book s t votes e Settled.Pending long legal c =
-    subst (λ (x : SeatState). IsKept n book x (record { at = s.position; entry = e } ∷ votes)) (sym c.1) (record {
-      as_long = long;
-      cast = λ f h. let is : e ≡ f = cc in record {
-        legal = subst (λ (x : Entry). book_refusal n book x ≡ None) is legal;
-        last = ap (λ (x : Entry). Some (record { at = s.position; entry = x })) is;
-      };
-      next = λ h. absurd (cc);
-      noted = tt;
-    })
+cast_kept n book s t votes e Settled.Pending long legal c = rw c.1 (record {
+  as_long = long;
+  cast = λ f h. let is : f ≡ e = cc in rw is (record { legal = legal; last = refl });
+  next = λ h. absurd (cc);
+  noted = tt;
+})
 cast_kept n book s t votes e Settled.Agreed long legal c = settled_kept n book s t _ e long refl c.1
 cast_kept n book s t votes e Settled.Differ long legal c = differed_kept n book s t _ e long refl c.1
 
 -- once a vote is heard
 pub heard_kept : (n : ℕ) (book : List Entry) (s t : SeatState) (votes : List Ballot) (v : Vote) (heard : Heard)
     → IsEntry v.entry → IsKept n book s votes → Hears s v heard t → IsKept n (book_heard heard book v.entry) t votes
-heard_kept n book s t votes v Heard.Mine entry k h = subst (λ (x : SeatState). IsKept n book x votes) (sym h.1) k
-heard_kept n book s t votes v Heard.Old entry k h = subst (λ (x : SeatState). IsKept n book x votes) (sym h.2) k
-heard_kept n book s t votes v Heard.Ahead entry k h = subst (λ (x : SeatState). IsKept n book x votes) (sym h.2) k
-heard_kept n book s t votes v Heard.Again entry k h = subst (λ (x : SeatState). IsKept n book x votes) (sym h.2) k
-heard_kept n book s t votes v Heard.TwoVotes entry k h = subst (λ (x : SeatState). IsKept n book x votes) (sym h.2) k
-heard_kept n book s t votes v Heard.Noted entry k h = subst (λ (x : SeatState). IsKept n book x votes) (sym h.3) (record {
+heard_kept n book s t votes v Heard.Mine entry k h = rw h.1 k
+heard_kept n book s t votes v Heard.Noted entry k h = rw h.3 (record {
   as_long = k.as_long;
   cast = λ f g. absurd (cc);
   next = λ g. k.next h.2;
@@ -125,44 +92,26 @@ heard_kept n book s t votes v Heard.Noted entry k h = subst (λ (x : SeatState).
 })
 heard_kept n book s t votes v Heard.Agreed entry k h = settled_kept n book s t votes v.entry k.as_long (k.cast v.entry h.2).last h.3
 heard_kept n book s t votes v Heard.Differ entry k h = differed_kept n book s t votes h.2.0 k.as_long (k.cast h.2.0 h.2.1).last h.3
+heard_kept n book s t votes v heard entry k h = rw h.2 k
 
 pub seat_desk : (d : DeskId) (votes : List Ballot) → (seat_of d votes).desk ≡ d
-seat_desk d [] = refl
-seat_desk d (b ∷ rest) = refl
+seat_desk d votes = grind arith
 
 -- a seat stays the same desk's
 pub hears_desk : (s t : SeatState) (v : Vote) (heard : Heard) → Hears s v heard t → t.desk ≡ s.desk
-hears_desk s t v Heard.Mine h = ap (λ (x : SeatState). x.desk) h.1
-hears_desk s t v Heard.Old h = ap (λ (x : SeatState). x.desk) h.2
-hears_desk s t v Heard.Ahead h = ap (λ (x : SeatState). x.desk) h.2
-hears_desk s t v Heard.Again h = ap (λ (x : SeatState). x.desk) h.2
-hears_desk s t v Heard.TwoVotes h = ap (λ (x : SeatState). x.desk) h.2
-hears_desk s t v Heard.Noted h = ap (λ (x : SeatState). x.desk) h.3
-hears_desk s t v Heard.Agreed h = ap (λ (x : SeatState). x.desk) h.3
-hears_desk s t v Heard.Differ h = ap (λ (x : SeatState). x.desk) h.3
+hears_desk s t v heard h = grind arith
 
 pub casts_desk : (s t : SeatState) (e : Entry) (settled : Settled) → Casts s e settled t → t.desk ≡ s.desk
-casts_desk s t e Settled.Pending h = ap (λ (x : SeatState). x.desk) h.1
-casts_desk s t e Settled.Agreed h = ap (λ (x : SeatState). x.desk) h.1
-casts_desk s t e Settled.Differ h = ap (λ (x : SeatState). x.desk) h.1
+casts_desk s t e settled h = grind arith
 
 -- the book stays, unless both desks agree
-pub heard_book : (heard : Heard) (book : List Entry) (e : Entry) → (heard ≡ Heard.Agreed → ⊥) → book ≡ book_heard heard book e
-heard_book Heard.Mine book e n = refl
-heard_book Heard.Old book e n = refl
-heard_book Heard.Ahead book e n = refl
-heard_book Heard.Again book e n = refl
-heard_book Heard.TwoVotes book e n = refl
-heard_book Heard.Noted book e n = refl
-heard_book Heard.Agreed book e n = absurd (n refl)
-heard_book Heard.Differ book e n = refl
+heard_book : (heard : Heard) (book : List Entry) (e : Entry) → (heard ≡ Heard.Agreed → ⊥) → book_heard heard book e ≡ book
+heard_book heard book e n = grind arith
 
 pub cast_book : (settled : Settled) (book : List Entry) (e : Entry) → (settled ≡ Settled.Agreed → ⊥) → book ≡ book_after settled book e
-cast_book Settled.Pending book e n = refl
-cast_book Settled.Agreed book e n = absurd (n refl)
-cast_book Settled.Differ book e n = refl
+cast_book settled book e n = grind arith
 
 pub still_kept : (n : ℕ) (book : List Entry) (s t : SeatState) (votes : List Ballot) (v : Vote) (heard : Heard)
     → IsEntry v.entry → IsKept n book s votes → Hears s v heard t → (heard ≡ Heard.Agreed → ⊥) → IsKept n book t votes
 still_kept n book s t votes v heard entry k h not_agreed =
-    kept_as n (book_heard heard book v.entry) book t t votes votes (heard_kept n book s t votes v heard entry k h) (heard_book heard book v.entry not_agreed) refl refl
+    rw (heard_book heard book v.entry not_agreed) at (heard_kept n book s t votes v heard entry k h)

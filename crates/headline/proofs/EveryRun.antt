@@ -2,10 +2,10 @@
 use Rattle.std.proofs.Common.{ℕ, List}
 use Rattle.agree_core.proofs.FileBooks.{agreed_by_files}
 use Rattle.headline.specs.declared.version.FileVersion.{FileVersion}
-use Rattle.headline.specs.Match.{Setting}
+use Rattle.headline.specs.Setting.{Setting}
 use Rattle.headline.specs.Configurations.{Configuration, all_votes}
 use Rattle.headline.specs.Runs.{Begins, Moment, Run, last_of}
-use Rattle.headline.specs.Noted.{KeepsNoted}
+use Rattle.headline.specs.Kept.{KeepsNoted}
 use Rattle.headline.specs.Besides.{StandsFast}
 use Rattle.headline.specs.Headline.{ByBoth, Headline, NoneWaits, TakesSecond}
 use Rattle.headline.specs.Laws.{HoldsInRun}

@@ -13,16 +13,17 @@ use Rattle.agree_core.proofs.Order.{justified_grows}
 use Rattle.headline.specs.declared.{event.Event.Event, event.Station.Station, fault.Fault.Fault, version.FileVersion.FileVersion}
 use Rattle.headline.specs.declared.fault.Fault.TheVariants.{Fail, Stop}
 use Rattle.headline.specs.declared.version.FileVersion.TheVariants.{Old, New}
-use Rattle.headline.specs.Match.{Setting}
+use Rattle.headline.specs.Setting.{Setting}
 use Rattle.headline.specs.Configurations.{Process, Running, Down, Node, Configuration, node, process_disk, process_votes, all_votes, with_disk, with_node}
 use Rattle.headline.specs.Events.{station_of}
 use Rattle.headline.specs.Answers.{Answer}
 use Rattle.headline.specs.DeskFaults.{Breaks, FallsDue, LosesPower, StaysDownBy}
 use Rattle.headline.specs.Migrations.{MigratesAt, ToNew, NotSound, Failed}
-use Rattle.headline.specs.DeskSteps.{AfterOpen, AfterPen, AfterReceive, AtDesk}
+use Rattle.headline.specs.DeskSteps.{AtDesk}
 use Rattle.headline.specs.BoardSteps.{AtBoard}
 use Rattle.headline.specs.Steps.{Step, StepAt}
 use Rattle.headline.specs.Runs.{Begins, BeginsAt, Moment, Run, last_of}
+use Rattle.headline.specs.DeskAnswers.{AfterOpen, AfterPen, AfterReceive}
 use Rattle.agree_core.specs.Keeping.{BoardFine, DeskFine, DeskKept, DiskFine, Each, MessageFine, OneMore, OwnMessage, ShowsMore, TheirMessage}
 use Rattle.agree_core.proofs.Both.{same}
 use Rattle.agree_core.proofs.Desks.{desk_grows, not_opened_keeps, opened_keeps, pens_keep, receives_keep, stays_fine, ticks_keep}

@@ -28,11 +28,12 @@ use Rattle.agree_core.specs.Agreed.{AllBoth}
 use Rattle.agree_core.specs.Ballots.{Ballot, In, VotesGrow, ballot_at}
 use Rattle.agree_core.proofs.Both.{both_at, both_settled, same}
 use Rattle.headline.specs.declared.version.FileVersion.{FileVersion}
-use Rattle.headline.specs.Match.{Setting}
+use Rattle.headline.specs.Setting.{Setting}
 use Rattle.headline.specs.Configurations.{Configuration, all_votes}
 use Rattle.headline.specs.Events.{IsEvent}
-use Rattle.headline.specs.Runs.{AtEachMoment, Begins, Moment, Run, WasPenned, events_of, last_of}
+use Rattle.headline.specs.Runs.{AtEachMoment, Begins, Moment, Run, events_of, last_of}
 use Rattle.headline.specs.Headline.{HasRanges, ShowScores}
+use Rattle.headline.specs.Penned.{WasPenned}
 use Rattle.headline.proofs.Keeping.{Fine, all_justified, begins_fine, run_keeps}
 use Rattle.headline.proofs.PennedVotes.{BothHold, all_penned}
 use Rattle.headline.proofs.Shown.{shown_both}
@@ -171,7 +172,7 @@ module _ {Disk Why : Type 0} (s : Setting Disk Why) (innings : ℕ) (laws : Rule
         let f = run_keeps s w ms (begins_fine s version n w e) r in
         let penned = all_penned s version n w ms e r in
         let k = rest_scored v f (lawful_run s version n w ms e r) (λ b i. entries b (penned A b i)) [] book (none_scored innings one two) (shown_both s v t book f shows) in
-        (k.0, (book, shows, refl, record { legal = k.1.legal; score = k.1.scored }))
+        (k.0, record { legal = k.1.legal; score = k.1.scored })
 
     each_scored : (version : FileVersion) (n : ℕ) (w : Configuration Disk) (ms : List (Moment Disk Why)) → Begins s version n w → Run s w ms → All IsEvent (events_of ms)
         → AtEachMoment w ms (ShowScores innings)

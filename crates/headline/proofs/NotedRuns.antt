@@ -6,12 +6,11 @@ use Rattle.agree_core.specs.Boards.{BoardState}
 use Rattle.agree_core.specs.Readers.{noted_of}
 use Rattle.headline.specs.declared.{event.Station.Station, version.FileVersion.FileVersion}
 use Rattle.headline.specs.Events.{station_of}
-use Rattle.headline.specs.Match.{Setting}
+use Rattle.headline.specs.Setting.{Setting}
 use Rattle.headline.specs.Configurations.{Node, Configuration, board_at, fresh_boards, with_board, with_node}
 use Rattle.headline.specs.Steps.{StepAt}
-use Rattle.headline.specs.Runs.{Begins, BeginsAt, Moment, Run, last_of}
-use Rattle.headline.specs.Noted.{KeepsNoted, kept_at, kept_by_process}
-use Rattle.headline.specs.Headline.{AfterEach}
+use Rattle.headline.specs.Runs.{Begins, BeginsAt, Moment, Run, last_of, AfterEach}
+use Rattle.headline.specs.Kept.{KeepsNoted, kept_at, kept_by_process}
 use Rattle.headline.proofs.Keeping.{Fine, begins_fine, run_keeps}
 use Rattle.headline.proofs.Noting.{Leaves, follows}
 use Rattle.headline.proofs.Heeding.{board_other, board_put, same_station, some_none}

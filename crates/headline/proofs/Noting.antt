@@ -6,11 +6,12 @@ use Rattle.agree_core.specs.declared.{messages.DeskId.DeskId, messages.Message.M
 use Rattle.agree_core.specs.Ballots.{Ballot, vote_of}
 use Rattle.agree_core.specs.Readers.{other}
 use Rattle.headline.specs.declared.event.{Event.Event, Station.Station}
-use Rattle.headline.specs.Match.{Setting}
+use Rattle.headline.specs.Setting.{Setting}
 use Rattle.headline.specs.Configurations.{Configuration}
 use Rattle.headline.specs.Runs.{Moment, last_of}
 use Rattle.headline.proofs.Heeding.{same_some, some_none, which}
-use Rattle.headline.specs.Noted.{Brings, HasNoted, IsBrought, IsFound, beginning_of, kept_at, position_at}
+use Rattle.headline.specs.Noted.{Brings, HasNoted, IsBrought, IsFound, beginning_of, position_at}
+use Rattle.headline.specs.Kept.{kept_at}
 
 module _ {Disk Why : Type 0} (s : Setting Disk Why) where
   -- the station at its position keeps this vote

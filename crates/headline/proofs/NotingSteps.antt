@@ -15,15 +15,17 @@ use Rattle.agree_core.specs.Seats.{Casts, SeatState}
 use Rattle.headline.specs.declared.{event.Event.Event, event.Station.Station, fault.Fault.Fault, version.FileVersion.FileVersion}
 use Rattle.headline.specs.declared.fault.Fault.TheVariants.{Fail, Stop}
 use Rattle.headline.specs.Events.{station_of}
-use Rattle.headline.specs.Match.{Setting}
+use Rattle.headline.specs.Setting.{Setting}
 use Rattle.headline.specs.Configurations.{Process, Running, Down, Node, Configuration, board_at, node, process_disk, process_votes, all_votes, with_node}
-use Rattle.headline.specs.Answers.{Answer}
+use Rattle.headline.specs.Answers.{Answer, board_told}
 use Rattle.headline.specs.DeskFaults.{Breaks, FallsDue, StaysDownBy}
 use Rattle.headline.specs.Migrations.{MigratesAt}
-use Rattle.headline.specs.DeskSteps.{AfterOpen, AfterPen, AfterReceive, AtDesk}
-use Rattle.headline.specs.BoardSteps.{AtBoard, board_told}
+use Rattle.headline.specs.DeskSteps.{AtDesk}
+use Rattle.headline.specs.BoardSteps.{AtBoard}
 use Rattle.headline.specs.Runs.{Moment}
-use Rattle.headline.specs.Noted.{Brings, IsBrought, IsFound, IsVoteAnswer, beginning_of, kept_at, kept_by_process, kept_by_seat, position_at, process_position}
+use Rattle.headline.specs.Noted.{Brings, IsBrought, IsFound, IsVoteAnswer, beginning_of, position_at, process_position}
+use Rattle.headline.specs.DeskAnswers.{AfterOpen, AfterPen, AfterReceive}
+use Rattle.headline.specs.Kept.{kept_at, kept_by_process, kept_by_seat}
 use Rattle.headline.proofs.Heeding.{Heeds, Reads, heeds, next_place_differs, next_round_differs, no_reader_kept, no_seat_kept, reads, same_some, some_none, which}
 use Rattle.headline.proofs.Heeding.{noting_at, noting_other, noting_there, other_not, other_of, own_kept, their_kept}
 use Rattle.headline.proofs.Keeping.{Fine, running, node_fine}

@@ -8,16 +8,18 @@ use Rattle.agree_core.specs.Desks.{DeskState, MayPen, PenAnswer, Pens, ReceiveAn
 use Rattle.agree_core.specs.FileView.{FileView, Stays}
 use Rattle.agree_core.specs.Openings.{Opening, Opens}
 use Rattle.headline.specs.declared.{event.Event.Event, event.Station.Station, fault.Fault.Fault, version.FileVersion.FileVersion}
-use Rattle.headline.specs.Match.{Setting}
+use Rattle.headline.specs.Setting.{Setting}
 use Rattle.headline.specs.Configurations.{Process, Running, Node, Configuration, node, process_disk, process_votes, with_disk, with_node}
 use Rattle.headline.specs.Answers.{Answer}
 use Rattle.headline.specs.DeskFaults.{Breaks, LosesPower, StaysDownBy}
 use Rattle.headline.specs.Migrations.{MigratesAt}
-use Rattle.headline.specs.DeskSteps.{AfterOpen, AfterPen, AfterReceive, AtDesk}
+use Rattle.headline.specs.DeskSteps.{AtDesk}
 use Rattle.headline.specs.Events.{station_of}
 use Rattle.headline.specs.Steps.{Step, StepAt}
-use Rattle.headline.specs.Runs.{Begins, MayStore, Moment, Run, WasPenned, last_of}
-use Rattle.headline.specs.Headline.{AfterEach, ArePenned}
+use Rattle.headline.specs.Runs.{Begins, Moment, Run, last_of, AfterEach}
+use Rattle.headline.specs.Headline.{ArePenned}
+use Rattle.headline.specs.DeskAnswers.{AfterOpen, AfterPen, AfterReceive}
+use Rattle.headline.specs.Penned.{MayStore, WasPenned}
 use Rattle.headline.proofs.Keeping.{votes_at}
 
 module _ {Disk Why : Type 0} (s : Setting Disk Why) where

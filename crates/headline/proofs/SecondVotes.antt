@@ -11,15 +11,15 @@ use Rattle.agree_core.specs.Positions.{position_of}
 use Rattle.agree_core.specs.Readers.{ReaderState, ReaderWaits, noted_of, other}
 use Rattle.agree_core.specs.Seats.{SeatState}
 use Rattle.headline.specs.declared.{event.Event.Event, event.Station.Station, version.FileVersion.FileVersion}
-use Rattle.headline.specs.Match.{Setting}
+use Rattle.headline.specs.Setting.{Setting}
 use Rattle.headline.specs.Configurations.{Running, Node, Configuration, board_at, node, all_votes, with_node}
-use Rattle.headline.specs.Answers.{Answer}
-use Rattle.headline.specs.DeskSteps.{AfterReceive}
-use Rattle.headline.specs.BoardSteps.{board_told}
+use Rattle.headline.specs.Answers.{Answer, board_told}
+use Rattle.headline.specs.DeskAnswers.{AfterReceive}
 use Rattle.headline.specs.Steps.{Step}
 use Rattle.headline.specs.Runs.{Begins, Moment, Run, Shows, last_of, process_shows}
-use Rattle.headline.specs.Noted.{Brings, IsVoteAnswer, kept_at, kept_by_seat, position_at}
+use Rattle.headline.specs.Noted.{Brings, IsVoteAnswer, position_at}
 use Rattle.headline.specs.Headline.{NoneWaits, TakesSecond}
+use Rattle.headline.specs.Kept.{kept_at, kept_by_seat}
 use Rattle.headline.proofs.BoardKeeping.{board_fine_at}
 use Rattle.headline.proofs.Keeping.{Fine, begins_fine, run_keeps, running, node_fine}
 use Rattle.headline.proofs.Heeding.{board_put, same_some}

@@ -10,12 +10,12 @@ use Rattle.agree_core.specs.Readers.{noted_of, other, ReaderWaits}
 use Rattle.agree_core.proofs.FileBooks.{AllBoth}
 use Rattle.agree_core.proofs.Settling.{agreed_begins, one_book, one_vote_each, places_settled, rounds_differ}
 use Rattle.headline.specs.declared.{event.Station.Station, version.FileVersion.FileVersion}
-use Rattle.headline.specs.Match.{Setting}
+use Rattle.headline.specs.Setting.{Setting}
 use Rattle.headline.specs.Configurations.{Process, Configuration, board_at, node, process_disk, process_votes, all_votes}
 use Rattle.headline.specs.Runs.{AtEachMoment, AtSomeMoment, Moment, Run, Shows, last_of, process_shows}
-use Rattle.headline.specs.Noted.{kept_by_process}
-use Rattle.headline.specs.Besides.{KeepsVotes, KeptSafe, StandsFast, WithinAgreed}
-use Rattle.headline.specs.Headline.{ArePrefixes, AtEachEvent, ByBoth, NoneKeepsBoth}
+use Rattle.headline.specs.Kept.{kept_by_process, NoneKeepsBoth}
+use Rattle.headline.specs.Besides.{KeepsVotes, KeptSafe, StandsFast, WithinAgreed, AtEachEvent}
+use Rattle.headline.specs.Headline.{ArePrefixes, ByBoth}
 use Rattle.agree_core.specs.Keeping.{MessageFine, ShowsMore}
 use Rattle.agree_core.proofs.Both.{both_at, both_settled, both_turned, same}
 use Rattle.agree_core.proofs.Desks.{more_within}

@@ -21,18 +21,18 @@ use Rattle.agree_core.proofs.Order.{in_sequence, one_vote}
 use Rattle.agree_core.proofs.Settling.{one_book}
 use Rattle.agree_core.proofs.Taken.{not_both, taken_push}
 use Rattle.headline.specs.declared.{event.Event.Event, event.Station.Station, fault.Fault.Fault, version.FileVersion.FileVersion}
-use Rattle.headline.specs.Match.{Setting}
+use Rattle.headline.specs.Setting.{Setting}
 use Rattle.headline.specs.Configurations.{Process, Down, Node, Configuration, node, process_disk, process_votes, all_votes}
 use Rattle.headline.specs.Events.{station_of}
-use Rattle.headline.specs.Answers.{Answer}
+use Rattle.headline.specs.Answers.{Answer, board_told}
 use Rattle.headline.specs.DeskFaults.{Breaks, StaysDownBy}
 use Rattle.headline.specs.Migrations.{MigratesAt}
-use Rattle.headline.specs.DeskSteps.{AfterOpen, AfterPen, AfterReceive, AtDesk}
-use Rattle.headline.specs.BoardSteps.{AtBoard, board_told}
+use Rattle.headline.specs.DeskSteps.{AtDesk}
+use Rattle.headline.specs.BoardSteps.{AtBoard}
 use Rattle.headline.specs.Steps.{StepAt}
 use Rattle.headline.specs.Runs.{Begins, Moment, Run, last_of}
-use Rattle.headline.specs.Besides.{IsSoundAnswer}
-use Rattle.headline.specs.Headline.{AtEachEvent}
+use Rattle.headline.specs.Besides.{IsSoundAnswer, AtEachEvent}
+use Rattle.headline.specs.DeskAnswers.{AfterOpen, AfterPen, AfterReceive}
 use Rattle.agree_core.specs.Keeping.{BoardFine, MessageFine, NotedFine, SeatFine}
 use Rattle.agree_core.proofs.Both.{both_grow, both_settled, both_turned, more, same}
 use Rattle.headline.proofs.Heeding.{some_none}

@@ -1,6 +1,7 @@
 -- Answers to events.
-use Rattle.std.specs.Prelude.{ℕ, Bool}
+use Rattle.std.specs.Prelude.{ℕ, Bool, false}
 use Rattle.agree_core.specs.declared.seat.{Heard.Heard, Settled.Settled}
+use Rattle.agree_core.specs.Boards.{BoardAnswer}
 use Rattle.agree_core.specs.Desks.{PenRefusal}
 
 -- what an event is answered
@@ -32,3 +33,9 @@ pub data Answer (Why : Type 0) : Type 0 where
   OtherVersion : Answer Why
   -- all else is done, and says nothing
   Done : Answer Why
+
+-- what a board's answer tells
+abbrev pub board_told : {Why : Type 0} → BoardAnswer → Answer Why
+board_told (BoardAnswer.Told h) = Told h
+board_told BoardAnswer.Asked = Asked false
+board_told (BoardAnswer.BadVotes place) = BadVotes

@@ -1,15 +1,22 @@
 -- What holds in every run beside the headline: no vote is lost, files keep them, and which answers never come.
-use Rattle.std.specs.Prelude.{◌≡◌, ℕ, Option, Some, List, slice_get}
+use Rattle.std.specs.Prelude.{◌≡◌, ℕ, Option, Some, List, [], ◌∷◌, slice_get}
 use Rattle.notation.specs.declared.entry.Entry.{Entry}
 use Rattle.agree_core.specs.declared.{messages.DeskId.DeskId, messages.Message.Message, messages.Vote.Vote, seat.Heard.Heard}
 use Rattle.agree_core.specs.Agreed.{BeginsWith, IsAgreedList}
 use Rattle.agree_core.specs.Ballots.{AllVotes, Ballot, In, VotesGrow, Within, ballot_of, votes_by}
 use Rattle.agree_core.specs.Laws.{OneVoteEach, PlacesSettled, RoundsDiffer}
 use Rattle.headline.specs.declared.event.{Event.Event, Station.Station}
-use Rattle.headline.specs.Match.{Setting}
+use Rattle.headline.specs.Setting.{Setting}
 use Rattle.headline.specs.Configurations.{Configuration, node, process_disk, all_votes}
 use Rattle.headline.specs.Answers.{Answer}
 use Rattle.headline.specs.Runs.{AtSomeMoment, Moment, Shows, last_of}
+
+-- each event from this configuration on
+abbrev pub AtEachEvent :
+    {Disk Why : Type 0} → Configuration Disk → List (Moment Disk Why)
+    → (Configuration Disk → Moment Disk Why → Type 0) → Type 0
+AtEachEvent w [] P = Unit {0}
+AtEachEvent w (m ∷ ms) P = AtEachEvent w ms P × P (last_of w ms) m
 
 -- the agreed list of the last votes begins with each book that is shown
 abbrev pub WithinAgreed : {Disk Why : Type 0} → Configuration Disk → List (Moment Disk Why) → Type 0

@@ -1,16 +1,10 @@
 -- What an event does at the board that it names, by cases of the event.
-use Rattle.std.specs.Prelude.{◌≡◌, false, Some, List, [], length, slice_get}
+use Rattle.std.specs.Prelude.{◌≡◌, Some, List, [], length, slice_get}
 use Rattle.agree_core.specs.declared.messages.Message.{Message}
 use Rattle.agree_core.specs.Boards.{BoardState, BoardAnswer, BoardReceives, BoardTicks, fresh_board}
 use Rattle.headline.specs.declared.event.Event.{Event}
-use Rattle.headline.specs.Match.{Setting}
-use Rattle.headline.specs.Answers.{Answer, Ticked, Told, Asked, BadVotes, Done}
-
--- what a board's answer tells
-abbrev pub board_told : {Why : Type 0} → BoardAnswer → Answer Why
-board_told (BoardAnswer.Told h) = Told h
-board_told BoardAnswer.Asked = Asked false
-board_told (BoardAnswer.BadVotes place) = BadVotes
+use Rattle.headline.specs.Setting.{Setting}
+use Rattle.headline.specs.Answers.{Answer, Ticked, Done, board_told}
 
 -- what an event does at the board that it names, what that hands out and answers
 abbrev pub AtBoard :
@@ -26,10 +20,4 @@ AtBoard s sent (Event.Tick t) k answer l out =
 -- it begins empty
 AtBoard s sent (Event.Wipe n) k answer l out = (l ≡ fresh_board) × (answer ≡ Done) × (out ≡ [])
 -- all else is for desks
-AtBoard s sent (Event.Pen d e) k answer l out = ⊥
-AtBoard s sent (Event.Kill d) k answer l out = ⊥
-AtBoard s sent (Event.Power d choice) k answer l out = ⊥
-AtBoard s sent (Event.FailAt d n) k answer l out = ⊥
-AtBoard s sent (Event.StopAt d n) k answer l out = ⊥
-AtBoard s sent (Event.Open d) k answer l out = ⊥
-AtBoard s sent (Event.Migrate d) k answer l out = ⊥
+AtBoard s sent _ k answer l out = ⊥

@@ -9,40 +9,12 @@ use Rattle.agree_core.specs.Agreed.{BeginsWith, EqualVotes}
 use Rattle.agree_core.specs.Ballots.{Ballot, In, votes_by}
 use Rattle.agree_core.specs.Readers.{other}
 use Rattle.headline.specs.declared.event.Station.{Station}
-use Rattle.headline.specs.Match.{Setting}
+use Rattle.headline.specs.Setting.{Setting}
 use Rattle.headline.specs.Configurations.{Configuration, all_votes}
 use Rattle.headline.specs.Events.{IsEvent}
-use Rattle.headline.specs.Runs.{AtEachMoment, AtSomeMoment, Moment, Shows, WasPenned, events_of, last_of}
-use Rattle.headline.specs.Noted.{HasNoted, IsBrought, kept_at}
-
--- no running station has noted both votes of its position
-abbrev pub NoneWaits : {Disk Why : Type 0} → Setting Disk Why → Configuration Disk → List (Moment Disk Why) → Type 0
-NoneWaits s w ms =
-    (t : Station) (b c : Ballot) → HasNoted s w ms t A b → HasNoted s w ms t B c → ⊥
-
--- the last event, where it brings the second of two equal votes of its position to a station that has noted the
--- first, makes that station's book one longer by their entry
-abbrev pub TakesSecond : {Disk Why : Type 0} → Setting Disk Why → Configuration Disk → List (Moment Disk Why) → Type 0
-TakesSecond s w [] = Unit {0}
-TakesSecond s w (m ∷ ms) =
-    (t : Station) (book : List Entry) (b : Ballot) (c : DeskId) → Shows (last_of w ms) t book → HasNoted s w ms t c b
-    → IsBrought (last_of w ms) m t (other c) b → Shows m.after t (book ++ b.entry ∷ [])
-
--- no station keeps both votes of its position
-abbrev pub NoneKeepsBoth : {Disk : Type 0} → Configuration Disk → Type 0
-NoneKeepsBoth w = (t : Station) (e f : Entry) → kept_at w t A ≡ Some e → kept_at w t B ≡ Some f → ⊥
-
--- at the start of a run and after each of its events, it is so of what has happened
-abbrev pub AfterEach : {Disk Why : Type 0} → List (Moment Disk Why) → (List (Moment Disk Why) → Type 0) → Type 0
-AfterEach [] P = P []
-AfterEach (m ∷ ms) P = P (m ∷ ms) × AfterEach ms P
-
--- each event from this configuration on
-abbrev pub AtEachEvent :
-    {Disk Why : Type 0} → Configuration Disk → List (Moment Disk Why)
-    → (Configuration Disk → Moment Disk Why → Type 0) → Type 0
-AtEachEvent w [] P = Unit {0}
-AtEachEvent w (m ∷ ms) P = AtEachEvent w ms P × P (last_of w ms) m
+use Rattle.headline.specs.Runs.{AfterEach, AtEachMoment, AtSomeMoment, Moment, Shows, events_of, last_of}
+use Rattle.headline.specs.Noted.{HasNoted, IsBrought}
+use Rattle.headline.specs.Penned.{WasPenned}
 
 -- of two books that are shown at any two moments, by whatever stations, one is a prefix of the other
 abbrev pub ArePrefixes : {Disk Why : Type 0} → Configuration Disk → List (Moment Disk Why) → Type 0
@@ -61,25 +33,37 @@ abbrev pub ArePenned : {Disk Why : Type 0} → Configuration Disk → List (Mome
 ArePenned w ms =
     (d : DeskId) (b : Ballot) → In b (votes_by (all_votes (last_of w ms)) d) → WasPenned w ms d b
 
--- a station that isn't down shows a book of so many entries, whose score by the Laws is this
+-- a station shows a book of so many entries, whose score by the Laws is this
 abbrev pub ShowsScore : {Disk : Type 0} → ℕ → Configuration Disk → Station → ℕ → Standing → Type 0
 ShowsScore innings v t n score =
     (book : List Entry) × Shows v t book × (n ≡ length book) × IsScoreOf score innings book
 
--- each station that isn't down shows a book that has a score by the Laws
+-- each book that a station shows has a score by the Laws
 abbrev pub ShowScores : {Disk : Type 0} → ℕ → Configuration Disk → Type 0
-ShowScores innings v =
-    (t : Station) (book : List Entry) → Shows v t book → (score : Standing) × ShowsScore innings v t (length book) score
+ShowScores innings v = (t : Station) (book : List Entry) → Shows v t book → (score : Standing) × IsScoreOf score innings book
 
 -- the match has one or two innings a side, and the numbers of what was penned are in their ranges
 abbrev pub HasRanges : {Disk Why : Type 0} → ℕ → List (Moment Disk Why) → Type 0
 HasRanges innings ms = (1 ≤ innings) × (innings ≤ 2) × All IsEvent (events_of ms)
 
--- books of one length have one score by the Laws, whichever stations show them at whatever moments
+-- books of one length, which by the first claim are one book, have one score, whichever stations show them whenever
 abbrev pub HaveOneScore : {Disk Why : Type 0} → ℕ → Configuration Disk → List (Moment Disk Why) → Type 0
 HaveOneScore innings w ms =
-    (t u : Station) (n : ℕ) (score other : Standing) → AtSomeMoment w ms (λ v. ShowsScore innings v t n score)
-    → AtSomeMoment w ms (λ v. ShowsScore innings v u n other) → score ≡ other
+    (t u : Station) (n : ℕ) (score that : Standing) → AtSomeMoment w ms (λ v. ShowsScore innings v t n score)
+    → AtSomeMoment w ms (λ v. ShowsScore innings v u n that) → score ≡ that
+
+-- where the last event brings the second of two equal votes to a station that has noted the first, both for the
+-- station's position, its book is one longer by their entry
+abbrev pub TakesSecond : {Disk Why : Type 0} → Setting Disk Why → Configuration Disk → List (Moment Disk Why) → Type 0
+TakesSecond s w [] = Unit {0}
+TakesSecond s w (m ∷ ms) =
+    (t : Station) (book : List Entry) (b : Ballot) (c : DeskId) → Shows (last_of w ms) t book → HasNoted s w ms t c b
+    → IsBrought (last_of w ms) m t (other c) b → Shows m.after t (book ++ b.entry ∷ [])
+
+-- no station is left with both votes of its position noted, be they equal or not: it has gone on with the second
+abbrev pub NoneWaits : {Disk Why : Type 0} → Setting Disk Why → Configuration Disk → List (Moment Disk Why) → Type 0
+NoneWaits s w ms =
+    (t : Station) (a b : Ballot) → HasNoted s w ms t A a → HasNoted s w ms t B b → ⊥
 
 -- the headline, of a run of a match with so many innings a side
 pub record Headline
@@ -89,9 +73,10 @@ pub record Headline
   pub prefixes : ArePrefixes w ms
   -- both scorers voted in one round for each entry of a book, and each vote was penned before
   pub by_both : AtEachMoment w ms ByBoth × AfterEach ms (ArePenned w)
-  -- each score is the Laws' score of its book: each book that is shown has one, and books of one length have the same
+  -- each score is the Laws' score of its book: in a match with such ranges each book that is shown has one; and books
+  -- of one length have the same (that what is printed is this one, is said where it is printed)
   pub scored : HasRanges innings ms → AtEachMoment w ms (ShowScores innings)
   pub scores : HaveOneScore innings w ms
-  -- a running station that noted both equal votes of its position has the entry: the call that notes the second
-  -- makes its book longer by it, and no station is left with both
+  -- a running station that noted both equal votes of its position has the entry: the call that brings the second makes
+  -- its book longer by it, and no station is left with both
   pub has_entry : AfterEach ms (TakesSecond s w) × AfterEach ms (NoneWaits s w)

@@ -8,11 +8,12 @@ use Rattle.agree_core.specs.Agreed.{IsAgreedList}
 use Rattle.agree_core.specs.Books.{IsAgreedByFiles}
 use Rattle.headline.specs.declared.version.FileVersion.{FileVersion}
 use Rattle.headline.specs.Configurations.{Configuration, all_votes}
-use Rattle.headline.specs.Runs.{AtEachMoment, Begins, Moment, Run, last_of}
-use Rattle.headline.specs.Noted.{KeepsNoted}
-use Rattle.headline.specs.Besides.{IsSoundAnswer, KeepsVotes, StandsFast, WithinAgreed}
-use Rattle.headline.specs.Headline.{AfterEach, AtEachEvent, Headline}
-use Rattle.headline.specs.Match.{Setting, setting_of}
+use Rattle.headline.specs.Runs.{AtEachMoment, Begins, Moment, Run, last_of, AfterEach}
+use Rattle.headline.specs.Kept.{KeepsNoted}
+use Rattle.headline.specs.Besides.{IsSoundAnswer, KeepsVotes, StandsFast, WithinAgreed, AtEachEvent}
+use Rattle.headline.specs.Headline.{Headline}
+use Rattle.headline.specs.Match.{setting_of}
+use Rattle.headline.specs.Setting.{Setting}
 
 -- the list that both files show is the agreed list of the last votes
 abbrev pub FilesShowAgreed : {Disk Why : Type 0} → Configuration Disk → List (Moment Disk Why) → Type 0

@@ -1,16 +1,22 @@
--- What is claimed: Laws and Headline, with Besides, over the runs of Runs and Noted; Match is the setting. A step of a run is Steps, by
--- what desks (DeskSteps, Migrations, DeskFaults) and boards (BoardSteps) do and answer (Answers) in Configurations at Events.
+-- What is claimed: Laws and Headline, with Besides and Kept, over Runs, by what was Penned and Noted in them; Match is the Setting of
+-- a match. A step of a run is Steps, by what desks (DeskSteps, DeskAnswers, Mishaps, DeskFaults, Migrations) and boards (BoardSteps) do and answer
+-- (Answers) in Configurations at Events.
+pub mod Setting
 pub mod Match
 pub mod Events
 pub mod Configurations
 pub mod Answers
 pub mod DeskFaults
 pub mod Migrations
+pub mod DeskAnswers
+pub mod Mishaps
 pub mod DeskSteps
 pub mod BoardSteps
 pub mod Steps
 pub mod Runs
+pub mod Penned
 pub mod Noted
+pub mod Kept
 pub mod Headline
 pub mod Besides
 pub mod Laws

@@ -1,4 +1,4 @@
--- The setting of a match.
+-- The setting of a match: what files and books it goes by.
 use Rattle.std.specs.Prelude.{ℕ, List}
 use Rattle.corrections.specs.declared.refusal.Refusal.{Refusal}
 use Rattle.corrections.specs.Refusal.{book_refusal}
@@ -9,19 +9,11 @@ use Rattle.entry_log.specs.MemDisk.{file_of, images_of}
 use Rattle.entry_log.specs.Slots.{FileContents}
 use Rattle.entry_log.specs.Version1.{version_1}
 use Rattle.entry_log.specs.Version2.{version_2}
-use Rattle.agree_core.specs.declared.messages.DeskId.{DeskId}
-use Rattle.agree_core.specs.Books.{Rules}
 use Rattle.agree_core.specs.Desks.{most_votes}
-use Rattle.agree_core.specs.FileView.{FileView}
 use Rattle.vote_store.specs.View.{file_view}
 use Rattle.headline.specs.declared.version.FileVersion.{FileVersion}
+use Rattle.headline.specs.Setting.{Setting}
 use Rattle.headline.specs.declared.version.FileVersion.TheVariants.{Old, New}
-
--- what a match is recorded by: how a disk shows each desk's votes, in a file of either version, and the
--- rules of a book
-pub record Setting (Disk Why : Type 0) : Type 1 where
-  pub view : DeskId → FileVersion → FileView Disk
-  pub rules : Rules Why
 
 abbrev pub format_of : FileVersion → Format
 format_of Old = version_1

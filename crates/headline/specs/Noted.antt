@@ -1,14 +1,11 @@
 -- What a station has noted, told by the events of a run and their answers.
-use Rattle.std.specs.Prelude.{◌≡◌, ◌≢◌, ◌⊎◌, ◌↔◌, ℕ, Option, Some, None, option_map, option_and_then, List, [], ◌∷◌, slice_get}
+use Rattle.std.specs.Prelude.{◌≡◌, ◌≢◌, ◌⊎◌, ℕ, Option, Some, None, option_map, List, [], ◌∷◌, slice_get}
 use Rattle.notation.specs.declared.entry.Entry.{Entry}
 use Rattle.agree_core.specs.declared.{messages.DeskId.DeskId, messages.Message.Message, position.Position.Position}
-use Rattle.agree_core.specs.declared.messages.DeskId.TheVariants.{A, B}
 use Rattle.agree_core.specs.Ballots.{Ballot, vote_of}
 use Rattle.agree_core.specs.Boards.{BoardState}
-use Rattle.agree_core.specs.Readers.{noted_of}
-use Rattle.agree_core.specs.Seats.{SeatState}
 use Rattle.headline.specs.declared.event.{Event.Event, Station.Station}
-use Rattle.headline.specs.Match.{Setting}
+use Rattle.headline.specs.Setting.{Setting}
 use Rattle.headline.specs.Configurations.{Process, Running, Down, Configuration, board_at, node, process_disk}
 use Rattle.headline.specs.Answers.{Answer}
 use Rattle.headline.specs.Runs.{Moment, last_of}
@@ -27,62 +24,44 @@ abbrev pub beginning_of : Station → Event
 beginning_of (Station.Desk d) = Event.Open d
 beginning_of (Station.Board n) = Event.Wipe n
 
--- the event brings a desk's vote to the station: it is given to another station than that desk, or the
--- desk's own scorer pens it
+-- the event brings a desk's vote to the station: it is given to it, where that is another than the desk; or the station is
+-- the desk, and its scorer pens the entry (a desk's own vote that is given back to it counts for nothing)
 abbrev pub Brings : {Disk : Type 0} → Configuration Disk → Event → Station → DeskId → Ballot → Type 0
 Brings w event t c b =
     ((t ≢ Station.Desk c)
     × ((n : ℕ) × (event ≡ Event.Give n t) × (slice_get w.sent n ≡ Some (Message.Vote (vote_of c b)))))
     ⊎ ((t ≡ Station.Desk c) × (event ≡ Event.Pen c b.entry))
 
--- it was penned, or told as a vote: the call wasn't refused
+-- it was penned, or given and told what it came to: the call wasn't refused
 abbrev pub IsVoteAnswer : {Why : Type 0} → Answer Why → Type 0
 IsVoteAnswer (Answer.Penned settled) = Unit {0}
 IsVoteAnswer (Answer.Told heard) = Unit {0}
 IsVoteAnswer _ = ⊥
 
--- a desk's vote for the position that the station is at is brought to it, in a call that isn't refused
+-- a desk's vote for the position at which the station was before the event is brought to it, in a call that isn't refused
 abbrev pub IsBrought : {Disk Why : Type 0} → Configuration Disk → Moment Disk Why → Station → DeskId → Ballot → Type 0
 IsBrought w m t c b = (position_at w t ≡ Some b.at) × Brings w m.event t c b × IsVoteAnswer m.answer
 
--- the desk is opened from its file, whose last vote this is
+-- the desk is opened from its file, whose newest vote this is
 abbrev pub IsFound : {Disk Why : Type 0} → Setting Disk Why → Configuration Disk → Moment Disk Why → DeskId → Ballot → Type 0
 IsFound s w m d b =
-    (m.event ≡ Event.Open d) × ((length : ℕ) × (m.answer ≡ Answer.Opened length))
+    (m.event ≡ Event.Open d) × ((entries : ℕ) × (m.answer ≡ Answer.Opened entries))
     × ((before : List Ballot) × ((s.view d (node w d).version).reads (process_disk (node w d).process) ≡ Some (b ∷ before)))
 
--- A station that isn't down has noted this vote of a desk for its position. It is its own vote, penned with Ok or
--- found as the last vote when it was opened; or the first vote of another desk for that position that was given to it
--- since it began, in a call that wasn't refused.
+-- A station that isn't down has noted this vote of a desk for its position: a desk its own, answered as penned or found
+-- as the last one when it was opened; and any station the first of another desk that was given to it there since it
+-- began, in a call that wasn't refused. These are just the votes that its seat or reader has (`KeepsNoted`), told by what
+-- happened, and not by what it keeps.
 abbrev pub HasNoted :
     {Disk Why : Type 0} → Setting Disk Why → Configuration Disk → List (Moment Disk Why) → Station → DeskId → Ballot → Type 0
 -- at the start of a run none is noted
 HasNoted s w [] t c b = ⊥
--- it was brought in the last event, as the first; or found in it; or noted before, and the station went on
+-- it is for the position at which the station is after the last event; and it was brought in that event, where no vote of
+-- that desk was noted there before it; or it was found in that event; or it was noted before it, and the station didn't
+-- begin again
 HasNoted s w (m ∷ ms) t c b =
     (position_at m.after t ≡ Some b.at)
     × ((IsBrought (last_of w ms) m t c b
     × ((e : Entry) → HasNoted s w ms t c (record { at = b.at; entry = e }) → ⊥))
     ⊎ (((t ≡ Station.Desk c) × IsFound s (last_of w ms) m c b)
     ⊎ ((m.event ≢ beginning_of t) × HasNoted s w ms t c b)))
-
--- what a desk's seat, or a board's reader, keeps as a desk's vote for its position
-abbrev pub kept_by_seat : SeatState → DeskId → DeskId → Option Entry
-kept_by_seat seat A A = seat.mine
-kept_by_seat seat A B = seat.theirs
-kept_by_seat seat B A = seat.theirs
-kept_by_seat seat B B = seat.mine
-
-abbrev pub kept_by_process : {Disk : Type 0} → Process Disk → DeskId → DeskId → Option Entry
-kept_by_process (Running k) d c = kept_by_seat k.seat d c
-kept_by_process (Down votes disk) d c = None
-
-abbrev pub kept_at : {Disk : Type 0} → Configuration Disk → Station → DeskId → Option Entry
-kept_at w (Station.Desk d) c = kept_by_process (node w d).process d c
-kept_at w (Station.Board n) c = option_and_then (λ (k : BoardState). noted_of k.reader c) (board_at w.boards n)
-
--- seats and readers keep just the votes that are noted
-abbrev pub KeepsNoted : {Disk Why : Type 0} → Setting Disk Why → Configuration Disk → List (Moment Disk Why) → Type 0
-KeepsNoted s w ms =
-    (t : Station) (c : DeskId) (b : Ballot) → HasNoted s w ms t c b
-    ↔ ((position_at (last_of w ms) t ≡ Some b.at) × (kept_at (last_of w ms) t c ≡ Some b.entry))

@@ -3,12 +3,11 @@ use Rattle.std.specs.Prelude.{◌≡◌, ◌⊎◌, ℕ, Some, None, List, [], �
 use Rattle.notation.specs.declared.entry.Entry.{Entry}
 use Rattle.agree_core.specs.declared.messages.DeskId.{DeskId}
 use Rattle.agree_core.specs.declared.messages.DeskId.TheVariants.{A, B}
-use Rattle.agree_core.specs.Ballots.{Ballot}
 use Rattle.agree_core.specs.Boards.{BoardState}
 use Rattle.agree_core.specs.Desks.{DeskState}
 use Rattle.agree_core.specs.Openings.{Creates}
 use Rattle.headline.specs.declared.{event.Event.Event, event.Station.Station, version.FileVersion.FileVersion}
-use Rattle.headline.specs.Match.{Setting}
+use Rattle.headline.specs.Setting.{Setting}
 use Rattle.headline.specs.Configurations.{Process, Running, Down, Node, Configuration, board_at, fresh_boards, node}
 use Rattle.headline.specs.Answers.{Answer}
 use Rattle.headline.specs.Steps.{Step}
@@ -39,7 +38,7 @@ abbrev pub last_of : {Disk Why : Type 0} → Configuration Disk → List (Moment
 last_of w [] = w
 last_of w (m ∷ ms) = m.after
 
--- from this configuration on, each moment is a step from the one before
+-- from this configuration on, each moment is a step from the one before; that a match begins so is said apart (`Begins`)
 abbrev pub Run : {Disk Why : Type 0} → Setting Disk Why → Configuration Disk → List (Moment Disk Why) → Type 0
 Run s w [] = Unit {0}
 Run s w (m ∷ ms) = Run s w ms × Step s (last_of w ms) m.event m.answer m.after
@@ -55,6 +54,11 @@ abbrev pub AtEachMoment :
     {Disk Why : Type 0} → Configuration Disk → List (Moment Disk Why) → (Configuration Disk → Type 0) → Type 0
 AtEachMoment w [] P = P w
 AtEachMoment w (m ∷ ms) P = P m.after × AtEachMoment w ms P
+
+-- at the start of a run and after each of its events, it is so of what has happened
+abbrev pub AfterEach : {Disk Why : Type 0} → List (Moment Disk Why) → (List (Moment Disk Why) → Type 0) → Type 0
+AfterEach [] P = P []
+AfterEach (m ∷ ms) P = P (m ∷ ms) × AfterEach ms P
 
 -- its events and its answers, the oldest first
 abbrev pub events_of : {Disk Why : Type 0} → List (Moment Disk Why) → List Event
@@ -73,24 +77,3 @@ process_shows (Down votes disk) book = ⊥
 abbrev pub Shows : {Disk : Type 0} → Configuration Disk → Station → List Entry → Type 0
 Shows w (Station.Desk d) book = process_shows (node w d).process book
 Shows w (Station.Board n) book = (k : BoardState) × (board_at w.boards n ≡ Some k) × (k.book ≡ book)
-
--- a pen that was so answered may have stored its vote: it was taken, or cut off
-abbrev pub MayStore : {Why : Type 0} → Answer Why → Type 0
-MayStore (Answer.Penned settled) = Unit {0}
-MayStore Answer.DeviceFailed = Unit {0}
-MayStore Answer.Stopped = Unit {0}
-MayStore _ = ⊥
-
--- the desk runs, at the ballot's position, and its scorer pens the ballot's entry, which isn't refused
-abbrev pub PensBallot :
-    {Disk Why : Type 0} → Configuration Disk → Event → Answer Why → DeskId → Ballot → Type 0
-PensBallot w event answer d b =
-    (event ≡ Event.Pen d b.entry)
-    × ((k : DeskState _) × ((node w d).process ≡ Running k) × (k.seat.position ≡ b.at))
-    × MayStore answer
-
--- in one of these events the desk's scorer penned this ballot
-abbrev pub WasPenned :
-    {Disk Why : Type 0} → Configuration Disk → List (Moment Disk Why) → DeskId → Ballot → Type 0
-WasPenned w [] d b = ⊥
-WasPenned w (m ∷ ms) d b = PensBallot (last_of w ms) m.event m.answer d b ⊎ WasPenned w ms d b

@@ -22,7 +22,7 @@ pub enum Event {
     Give(u32, Station),
     /// The desk's process ends.
     Kill(DeskId),
-    /// The desk and its disk lose power.
+    /// The desk and its disk lose power; which image is found then is a choice.
     Power(DeskId, Choice),
     /// The n-th device call of the desk from now on fails.
     FailAt(DeskId, u32),

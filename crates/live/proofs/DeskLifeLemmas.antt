@@ -11,7 +11,7 @@ use Rattle.desk.specs.Answers.{open_cause}
 use Rattle.desk.specs.declared.{refusal.OpenRefusal.OpenRefusal, desk.Desk.Desk}
 use Rattle.vote_store.specs.View.{file_view}
 use Rattle.cards.specs.Sheet.{Sheet}
-use Rattle.desk.specs.Desk.{IsDeskOf, desk_of, disk_of, game_of, state_of}
+use Rattle.desk.specs.Desk.{IsDeskOf, disk_of, game_of, state_of}
 use Rattle.live.specs.DeskLife.{DeskLives, Follows, ended, fresh}
 use Rattle.live.specs.declared.desk_life.LifeEnd.TheVariants.{NotBegun}
 use Rattle.live.specs.Desks.{DeskRuns, DiskView, FitsLongest, desk_kind, own_line}
@@ -26,48 +26,42 @@ use Rattle.live.specs.declared.ends.DeskEnd.{DeskEnd}
 abbrev disks_with : {D : Type 0} → (D → Faults) → (ℕ → ℕ) → ℕ → DiskView D
 disks_with faults room most = record { faults = faults; FitsLongest = FitsLongest room most }
 
-module _ {S B D : Type 0} {g : Files S D} {h : Disks D} {b : Books B} where
+module _ {S B D : Type 0} {g : Files S D} {h : Disks D} {b : Books B} {k l : Desk S B D g h b} {sheet : Sheet} {d : DeskId} {innings : ℕ}
+    {before after : List Passed} {typed types : List Input} {told tells : Option (List ℕ)} {turns : ℕ} {end : Result (Unit {0}) DeskEnd} where
   -- the run of a desk that is of this match is one of the desk that was opened in it
-  ran : (k l : Desk S B D g h b) (sheet : Sheet) (d : DeskId) (innings cap : ℕ) (before after : List Passed) (typed types : List Input) (told tells : Option (List ℕ)) (turns : ℕ) (end : Result (Unit {0}) DeskEnd)
-      → IsDeskOf d sheet.game innings k → h.cap (disk_of k) ≡ cap → DeskRuns sheet k l before after typed types told tells turns end
-      → Follows sheet (file_view g.contents h.seen h.images d sheet.game) (disks_with h.faults g.room cap) innings (Opened (state_of k)) before after typed types told tells turns (ended end)
-  ran k l sheet d innings cap before after typed types told tells turns end own cap_is r =
-      let P : DeskId → ℕ → ℕ → ℕ → Type 0 = λ e game sides room.
-      Goes (desk_kind sheet (file_view g.contents h.seen h.images e game) (disks_with h.faults g.room room) game sides) (fresh (state_of k)) r.last before after typed types
-      (known_at end (with_text told (greeting sheet sides (state_of k).book (state_of k).seat.position (own_line (state_of k))))) (known_at end tells) in
-      let here = r.goes.goes in
-      let capped = subst (P (desk_of k) (game_of k) (b.innings_a_side ((λ (x : Desk S B D g h b). x.book) k))) cap_is here in
-      let sided = subst (λ (sides : ℕ). P (desk_of k) (game_of k) sides cap) own.innings_a_side capped in
-      let gamed = subst (λ (game : ℕ). P (desk_of k) game innings cap) own.same_game sided in
-      let goes = subst (λ (e : DeskId). P e sheet.game innings cap) own.same_desk gamed in
-      (end, r.last, refl, goes, r.ended)
+  ran : (most : ℕ) → IsDeskOf d sheet.game innings k → h.cap (disk_of k) ≡ most → DeskRuns sheet k l before after typed types told tells turns end
+      → Follows sheet (file_view g.contents h.seen h.images d sheet.game) (disks_with h.faults g.room most) innings (Opened (state_of k))
+      before after typed types told tells turns (ended end)
+  ran most own cap_is r =
+      let P : ℕ → Type 0 = λ game.
+      Goes (desk_kind sheet (file_view g.contents h.seen h.images d game) (disks_with h.faults g.room most) game innings) (fresh (state_of k)) r.last
+      before after typed types
+      (known_at end (with_text told (greeting sheet innings (state_of k).book (state_of k).seat.position (own_line (state_of k))))) (known_at end tells) in
+      let here : P (game_of k) = rw (← own.same_desk, ← own.innings_a_side, ← cap_is) r.goes.goes in
+      (end, r.last, refl, subst P own.same_game here, r.ended)
 
   -- a desk that has begun on this disk, and then ran
-  pub begun_ran : (k l : Desk S B D g h b) (sheet : Sheet) (d : DeskId) (game innings : ℕ) (disk : D) (before after : List Passed) (typed types : List Input) (told tells : Option (List ℕ)) (turns : ℕ) (end : Result (Unit {0}) DeskEnd)
-      → game ≡ sheet.game
+  pub begun_ran : (disk : D) {game : ℕ} → game ≡ sheet.game
       → (length (h.seen disk) ≡ 0 → Creates (file_view g.contents h.seen h.images d game) d (state_of k))
       → (0 < length (h.seen disk) → Opens (file_view g.contents h.seen h.images d game) (book_refusal innings) d disk (Opened (state_of k)))
       → IsDeskOf d game innings k → h.cap (disk_of k) ≡ h.cap disk → DeskRuns sheet k l before after typed types told tells turns end
-      → DeskLives (file_view g.contents h.seen h.images d sheet.game) h.seen (disks_with h.faults g.room (h.cap disk)) sheet innings d disk before after typed types told tells turns (ended end)
-  begun_ran k l sheet d game innings disk before after typed types told tells turns end is creates opens own cap_is r =
-      let view : ℕ → FileView D = λ n. file_view g.contents h.seen h.images d n in
+      → DeskLives (file_view g.contents h.seen h.images d sheet.game) h.seen (disks_with h.faults g.room (h.cap disk)) sheet innings d disk
+      before after typed types told tells turns (ended end)
+  begun_ran disk is creates opens own cap_is r =
       let here : IsDeskOf d sheet.game innings k = record { same_desk = own.same_desk; same_game = own.same_game ∙ is; innings_a_side = own.innings_a_side } in
       record {
         opening = Opened (state_of k);
-        begins = (
-          λ none. subst (λ n. Creates (view n) d (state_of k)) is (creates none),
-          λ some. subst (λ n. Opens (view n) (book_refusal innings) d disk (Opened (state_of k))) is (opens some),
-        );
-        follows = ran k l sheet d innings (h.cap disk) before after typed types told tells turns end here cap_is r;
+        begins = (λ none. rw (← is) (creates none), λ some. rw (← is) (opens some));
+        follows = ran (h.cap disk) here cap_is r;
       }
 
 -- one that was refused
-pub not_begun : {D : Type 0} (view : ℕ → FileView D) (seen : D → List ℕ) (disks : DiskView D) (why : OpenRefusal) (left : D) (sheet : Sheet) (d : DeskId) (game innings : ℕ) (disk : D) (log : List Passed) (typed : List Input) (told : Option (List ℕ)) (turns : ℕ)
-    → game ≡ sheet.game
+pub not_begun : {D : Type 0} (view : ℕ → FileView D) (seen : D → List ℕ) (disks : DiskView D) (why : OpenRefusal) (left : D) (sheet : Sheet) (d : DeskId)
+    (game innings : ℕ) (disk : D) (log : List Passed) (typed : List Input) (told : Option (List ℕ)) (turns : ℕ) → game ≡ sheet.game
     → (0 < length (seen disk) → Opens (view game) (book_refusal innings) d disk (NotOpened (open_cause why) left))
     → DeskLives (view sheet.game) seen disks sheet innings d disk log log typed typed told told turns (Err (NotBegun why))
 not_begun view seen disks why left sheet d game innings disk log typed told turns is opens = record {
   opening = NotOpened (open_cause why) left;
-  begins = (λ none. tt, λ some. subst (λ n. Opens (view n) (book_refusal innings) d disk (NotOpened (open_cause why) left)) is (opens some));
+  begins = (λ none. tt, λ some. rw (← is) (opens some));
   follows = (why, refl, refl, refl, refl, refl);
 }

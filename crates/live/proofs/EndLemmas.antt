@@ -1,55 +1,27 @@
 -- How a run of a desk's process ends, and what it blames its disk for.
-use Rattle.std.proofs.Common.{◌≡◌, ℕ, List, [], ◌∷◌, Result, Ok, Err, false, refl, sym, ap, ◌∙◌, subst}
+use Rattle.std.proofs.Common.{arith, ◌≡◌, ℕ, List, [], ◌∷◌, Result, Ok, Err, false, refl, sym, ap, ◌∙◌}
 use Rattle.std.specs.Prelude.{IsErrOf}
 use Rattle.entry_log.specs.Blame.{BlamesDisk}
 use Rattle.entry_log.specs.Disk.{Faults}
 use Rattle.cards.specs.Sheet.{Sheet}
-use Rattle.agree_core.specs.declared.{messages.Message.Message, seat.Heard.Heard}
-use Rattle.agree_core.specs.Desks as desks
-use Rattle.agree_core.specs.Desks.{DeskState, Receives}
+use Rattle.agree_core.specs.declared.{messages.Message.Message}
+use Rattle.agree_core.specs.Desks.{DeskState}
 use Rattle.agree_core.specs.FileView.{FileView}
-use Rattle.wire.specs.declared.what.What.{What}
-use Rattle.desk.specs.declared.refusal.Refusal.{Refusal}
 use Rattle.live.specs.Ends.{Course, further}
 use Rattle.live.specs.Runs.{Moment, Run, last_of}
-use Rattle.live.specs.Desks.{DeskCall, DeskProcess, DeskStep, DiskView, Ended, Given, Ticked, Typed, course_after, desk_kind}
-use Rattle.live.specs.declared.{said.Said.Said, ends.DeskEnd.DeskEnd}
+use Rattle.live.specs.Desks.{DeskCall, DeskProcess, DeskStep, DiskView, Ended, course_after, desk_kind}
+use Rattle.live.specs.declared.{ends.DeskEnd.DeskEnd}
 use Rattle.live.proofs.DeskLemmas.{blameless}
 
 module _ {Disk : Type 0} (sheet : Sheet) (view : FileView Disk) (game innings : ℕ) (k l : DeskState Disk) (out : List Message) (runs : k.failed ≡ false) where
-  same_desk : l ≡ k → l.failed ≡ false
-  same_desk e = ap (λ (x : DeskState Disk). x.failed) e ∙ runs
-
-  unchanged : desks.Unchanged view k l → l.failed ≡ false
-  unchanged u = ap (λ (x : DeskState Disk). x.failed) u.1 ∙ runs
-
-  hears : (m : Message) (h : Heard) → Receives view k m (desks.Told h) l out → l.failed ≡ false
-  hears (Message.Vote v) h r = ap (λ (x : DeskState Disk). x.failed) r.3 ∙ runs
-  hears (Message.Ask q) h r = absurd r
-
-  asked : (m : Message) → Receives view k m desks.Asked l out → l.failed ≡ false
-  asked (Message.Vote v) r = absurd r
-  asked (Message.Ask q) r = unchanged r.1
-
   -- a call that doesn't end the process leaves its desk running
   pub runs_on : (call : DeskCall) → DeskStep sheet view game innings k call out l → course_after call ≡ further → l.failed ≡ false
-  runs_on (Typed line (Said.Penned entry settled)) r e = r.1.1.2
-  runs_on (Typed line (Said.Refused Refusal.Device)) r e = absurd (cc)
-  runs_on (Typed line (Said.Refused Refusal.Failed)) r e = absurd (cc)
-  runs_on (Typed line (Said.Refused why)) r e = unchanged r.2.1
-  runs_on (Typed line answer) r e = same_desk r.1
-  runs_on (Given bytes (What.Bad fault)) r e = same_desk r.2
-  runs_on (Given bytes (What.Heard h)) r e = hears r.0 h r.2
-  runs_on (Given bytes What.Asked) r e = asked r.0 r.2
-  runs_on (Given bytes what) r e = absurd (cc)
-  runs_on Ticked r e = same_desk r.1
-  runs_on call r e = same_desk r.0
+  runs_on call r e = grind arith
 
 -- the same blame, after calls that met no failure
-later : {W : Type 0} (course course' : Course) (start mid end : Faults) → mid ≡ start → course ≡ course' → BlamesDisk DeskEnd.Device W course mid end → BlamesDisk DeskEnd.Device W course' start end
-later {W = W} course course' start mid end e f b =
-    let c = subst (λ (x : Faults). BlamesDisk DeskEnd.Device W course x end) e b in
-    subst (λ (x : Course). BlamesDisk DeskEnd.Device W x start end) f c
+later : {W : Type 0} (course course' : Course) (start mid end : Faults) → mid ≡ start → course ≡ course' → BlamesDisk DeskEnd.Device W course mid end
+    → BlamesDisk DeskEnd.Device W course' start end
+later course course' start mid end e f b = rw (← e, ← f) b
 
 not_ended : (course : Course) → course ≡ further → IsErrOf course DeskEnd.Device → ⊥
 not_ended course e f = let path : further ≡ Err DeskEnd.Device = sym e ∙ f in (cc)
@@ -60,7 +32,8 @@ module _ {Disk : Type 0} (sheet : Sheet) (view : FileView Disk) (disks : DiskVie
     blame : BlamesDisk DeskEnd.Device disks.FitsLongest q.course (disks.faults p.desk.disk) (disks.faults q.desk.disk)
     running : q.course ≡ further → q.desk.failed ≡ false
 
-  stands : (p : DeskProcess Disk) (ms : List (Moment (DeskProcess Disk) DeskCall)) → p.course ≡ further → p.desk.failed ≡ false → Run (desk_kind sheet view disks game innings) p ms → Stands p (last_of p ms)
+  stands : (p : DeskProcess Disk) (ms : List (Moment (DeskProcess Disk) DeskCall)) → p.course ≡ further → p.desk.failed ≡ false
+      → Run (desk_kind sheet view disks game innings) p ms → Stands p (last_of p ms)
   stands p [] e f r = record { blame = blameless p.course _ _ (not_ended p.course e) refl; running = λ x. f }
   stands p (m ∷ ms) e f r =
       let q = last_of p ms in
@@ -75,13 +48,14 @@ module _ {Disk : Type 0} (sheet : Sheet) (view : FileView Disk) (disks : DiskVie
       }
 
   -- a run blames the disk where its last call does
-  pub run_blames : (p q : DeskProcess Disk) (ms : List (Moment (DeskProcess Disk) DeskCall)) → p.course ≡ further → p.desk.failed ≡ false → Run (desk_kind sheet view disks game innings) p ms → last_of p ms ≡ q →
-      BlamesDisk DeskEnd.Device disks.FitsLongest q.course (disks.faults p.desk.disk) (disks.faults q.desk.disk)
-  run_blames p q ms e f r is =
-      subst (λ (x : DeskProcess Disk). BlamesDisk DeskEnd.Device disks.FitsLongest x.course (disks.faults p.desk.disk) (disks.faults x.desk.disk)) is (stands p ms e f r).blame
+  pub run_blames : (p q : DeskProcess Disk) (ms : List (Moment (DeskProcess Disk) DeskCall)) → p.course ≡ further → p.desk.failed ≡ false
+      → Run (desk_kind sheet view disks game innings) p ms → last_of p ms ≡ q
+      → BlamesDisk DeskEnd.Device disks.FitsLongest q.course (disks.faults p.desk.disk) (disks.faults q.desk.disk)
+  run_blames p q ms e f r is = rw (← is) (stands p ms e f r).blame
 
 -- the answer of a process blames the disk as its last call does
-pub answer_blames : {Disk W : Type 0} (turns : ℕ) (result : Result (Unit {0}) DeskEnd) (last : DeskProcess Disk) (old new : Faults) → Ended turns result last → BlamesDisk DeskEnd.Device W last.course old new → BlamesDisk DeskEnd.Device W result old new
+pub answer_blames : {Disk W : Type 0} (turns : ℕ) (result : Result (Unit {0}) DeskEnd) (last : DeskProcess Disk) (old new : Faults) → Ended turns result last
+    → BlamesDisk DeskEnd.Device W last.course old new → BlamesDisk DeskEnd.Device W result old new
 answer_blames turns (Ok done) last old new is b = blameless (Ok done) old new (λ q. (cc)) (b.same (not_ended last.course is.0))
 answer_blames turns (Err DeskEnd.Write) last old new is b = blameless (Err DeskEnd.Write) old new (λ q. (cc)) (b.same is)
-answer_blames {W = W} turns result last old new is b = subst (λ (x : Course). BlamesDisk DeskEnd.Device W x old new) is b
+answer_blames turns result last old new is b = rw (← is) b

@@ -1,69 +1,55 @@
 -- What a scorer can't see.
-use Rattle.std.proofs.Common.{◌≡◌, ℕ, List, Option, None, Some, inl, inr, arith, refl, sym, ap, ◌∙◌}
+use Rattle.std.proofs.Common.{◌≡◌, ℕ, List, Option, None, Some, arith, refl, ap, ◌∙◌}
 use Rattle.notation.specs.declared.entry.Entry.{Entry}
-use Rattle.agree_core.specs.declared.{messages.Message.Message, messages.Vote.Vote, position.Position.Position, seat.Heard.Heard, seat.Settled.Settled}
+use Rattle.agree_core.specs.declared.{messages.Message.Message, messages.Vote.Vote, position.Position.Position, seat.Heard.Heard}
 use Rattle.agree_core.specs.Seats.{SeatState, Hears, IsForNow}
 use Rattle.agree_core.specs.FileView.{FileView}
-use Rattle.agree_core.specs.Positions.{Before, position_of}
+use Rattle.agree_core.specs.Positions.{Before}
 use Rattle.vote_store.specs.Record.{entry_coded}
 use Rattle.vote_store.proofs.RecordLemmas.{entry_coded-code}
 use Rattle.wire.specs.Layout.{Says}
 use Rattle.wire.proofs.MessageLemmas.{code_in}
 use Rattle.wire.specs.declared.what.What.{What}
 use Rattle.cards.specs.Sheet.{Sheet}
-use Rattle.screen.specs.declared.word.Word.{Word}
-use Rattle.live.specs.declared.{reminder.Reminder.Reminder, said.Said.Said, warned.Warned.Warned}
-use Rattle.live.specs.declared.reminder.Reminder.TheVariants.{HasWritten}
-use Rattle.live.specs.Desks.{DeskCall, DeskProcess, MayRemind, Typed, entry_in, own_line, told_of}
+use Rattle.live.specs.declared.{reminder.Reminder.Reminder, warned.Warned.Warned}
+use Rattle.live.specs.Desks.{DeskCall, DeskProcess, MayRemind, entry_in, own_line, told_of}
 use Rattle.live.specs.Hidden.{AsksWhere, HidesTheOther, IsPennedDiffering, TellsBoth, process_with}
 use Rattle.live.specs.Texts.{came_text, differs_text}
 
 not_before : (p q : Position) → p ≡ q → Before p q → ⊥
-not_before p q e b = elim b [
-  | inl less ↦ omega (arith, less, ap (λ (r : Position). r.place) e)
-  | inr less ↦ omega (arith, less.1, ap (λ (r : Position). r.round) e)
-]
+not_before p q e b = grind arith
 
 only_noted : (s t : SeatState) (v : Vote) (h : Heard) → s.mine ≡ None → s.theirs ≡ None → IsForNow s v → Hears s v h t → h ≡ Heard.Noted
-only_noted s t v Heard.Mine mine theirs now h = absurd (now.0 h.0)
-only_noted s t v Heard.Old mine theirs now h = absurd (not_before (position_of v) s.position now.1 h.1)
-only_noted s t v Heard.Ahead mine theirs now h = absurd (not_before s.position (position_of v) (sym now.1) h.1)
-only_noted s t v Heard.Again mine theirs now h = let never = sym theirs ∙ h.1 in absurd (cc)
-only_noted s t v Heard.TwoVotes mine theirs now h = let never = sym theirs ∙ h.1.1 in absurd (cc)
-only_noted s t v Heard.Noted mine theirs now h = refl
-only_noted s t v Heard.Agreed mine theirs now h = let never = sym mine ∙ h.2 in absurd (cc)
-only_noted s t v Heard.Differ mine theirs now h = let never = sym mine ∙ h.2.1 in absurd (cc)
+only_noted s t v h mine theirs now hears = grind (arith, not_before)
 
 only_cast : (s t : SeatState) (v : Vote) → Hears s v Heard.Differ t → s.mine ≡ None → ⊥
-only_cast s t v h none = let never = sym none ∙ h.2.1 in absurd (cc)
+only_cast s t v h none = cc (none, h.2.1)
 
 -- nothing depends on a vote that is noted, unless one is penned that differs, or the scorer asks where the desk stands
-not_by_noted : {Disk : Type 0} (sheet : Sheet) (innings : ℕ) (k l : DeskProcess Disk) (call : DeskCall) (e f : Option Entry) → (IsPennedDiffering call → ⊥) → (AsksWhere call → ⊥) → told_of sheet innings (process_with k e) call (process_with l f) ≡ told_of sheet innings k call l
-not_by_noted sheet innings k l (Typed line (Said.Asks Word.Where)) e f n w = absurd (w (line, refl))
-not_by_noted sheet innings k l (Typed line (Said.Penned own Settled.Differ)) e f n w = absurd (n (line, own, refl))
-not_by_noted sheet innings k l call e f n w = refl
+not_by_noted : {Disk : Type 0} (sheet : Sheet) (innings : ℕ) (k l : DeskProcess Disk) (call : DeskCall) (e f : Option Entry) → (IsPennedDiffering call → ⊥)
+    → (AsksWhere call → ⊥) → told_of sheet innings (process_with k e) call (process_with l f) ≡ told_of sheet innings k call l
+not_by_noted sheet innings k l call e f n w = grind arith
 
 -- and there not on which
 not_by_which : {Disk : Type 0} (sheet : Sheet) (innings : ℕ) (k l : DeskProcess Disk) (call : DeskCall) (e f : Entry) (o p : Option Entry) → (IsPennedDiffering call → ⊥)
     → told_of sheet innings (process_with k (Some e)) call (process_with l o) ≡ told_of sheet innings (process_with k (Some f)) call (process_with l p)
-not_by_which sheet innings k l (Typed line (Said.Penned own Settled.Differ)) e f o p n = absurd (n (line, own, refl))
-not_by_which sheet innings k l call e f o p n = refl
+not_by_which sheet innings k l call e f o p n = grind arith
 
 -- nor does it whether the scorer may be reminded
 told_of_any : {Disk : Type 0} (k : DeskProcess Disk) (reminder : Reminder) (e f : Entry) → MayRemind (process_with k (Some e)) reminder → MayRemind (process_with k (Some f)) reminder
-told_of_any k HasWritten e f may = may
-told_of_any k reminder e f may = may
+told_of_any k reminder e f may = grind arith
 
 -- of what came, but of a vote that differs, nothing depends on the entry that came
-pub came_but_differing : (sheet : Sheet) (innings place : ℕ) (own one other : Option Entry) (book : List Entry) (warned : Warned) (what : What) → (what ≡ What.Heard Heard.Differ → ⊥) → came_text sheet innings place own one book warned what ≡ came_text sheet innings place own other book warned what
-came_but_differing sheet innings place own one other book warned (What.Heard Heard.Differ) n = absurd (n refl)
-came_but_differing sheet innings place own one other book warned what n = refl
+pub came_but_differing : (sheet : Sheet) (innings place : ℕ) (own one other : Option Entry) (book : List Entry) (warned : Warned) (what : What)
+    → (what ≡ What.Heard Heard.Differ → ⊥) → came_text sheet innings place own one book warned what ≡ came_text sheet innings place own other book warned what
+came_but_differing sheet innings place own one other book warned what n = grind arith
 
 pub hides_the_other : {Disk : Type 0} (view : FileView Disk) → HidesTheOther view
 hides_the_other view = record {
   answer = only_noted;
   silent = λ sheet innings k l bytes. refl;
-  bytes = λ sheet innings k l one other what n. came_but_differing sheet innings k.desk.seat.position.place (own_line k.desk) (entry_in one) (entry_in other) l.desk.book k.warned what n;
+  bytes = λ sheet innings k l one other what n.
+      came_but_differing sheet innings k.desk.seat.position.place (own_line k.desk) (entry_in one) (entry_in other) l.desk.book k.warned what n;
   cast = only_cast;
   noted = not_by_noted;
   whether = not_by_which;

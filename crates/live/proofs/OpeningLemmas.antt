@@ -14,7 +14,8 @@ pub opening_more : (seal : List ℕ) (carried : List Passed) (p : Passed) → op
 opening_more seal carried p = flat_map-append (opening_of seal) carried (p ∷ []) ∙ ap (λ (l : List Passed). opening seal carried ++ l) (append-nil (opening_of seal p))
 
 -- a message that was sent
-pub sent_more : (seal : List ℕ) (old new : List Passed) (m bytes : List ℕ) → length m ≡ 48 → bytes ≡ sealed seal m → new ≡ old ++ Sent bytes ∷ [] → opening seal new ≡ opening seal old ++ Sent m ∷ []
+pub sent_more : (seal : List ℕ) (old new : List Passed) (m bytes : List ℕ) → length m ≡ 48 → bytes ≡ sealed seal m → new ≡ old ++ Sent bytes ∷ []
+    → opening seal new ≡ opening seal old ++ Sent m ∷ []
 sent_more seal old new m bytes h e is =
     ap (opening seal) is ∙ opening_more seal old (Sent bytes) ∙ ap (λ (l : List ℕ). opening seal old ++ Sent l ∷ []) (front seal m bytes h e)
 
@@ -35,8 +36,7 @@ front_size seal bytes e =
     omega (arith, behind, both, size, front)
 
 closed : (b : Bool) (bytes : List ℕ) → (b ≡ true → ⊥) → came_open b bytes ≡ []
-closed true bytes n = absurd (n refl)
-closed false bytes n = refl
+closed b bytes n = grind arith
 
 -- bytes that are no message's sealed form open as nothing
 pub opens_not : (seal bytes : List ℕ) → ((m : List ℕ) → length m ≡ 48 → bytes ≡ sealed seal m → ⊥) → opening_of seal (Came bytes) ≡ []
@@ -44,11 +44,13 @@ opens_not seal bytes none = closed (opens seal bytes) bytes (λ t.
     let same = (bytes_eq-Decides bytes (sealed seal (take 48 bytes))).0 t in none (take 48 bytes) (front_size seal bytes same) same)
 
 -- one that came and opens, and one that doesn't
-pub came_more : (seal : List ℕ) (old new : List Passed) (m bytes : List ℕ) → length m ≡ 48 → bytes ≡ sealed seal m → new ≡ old ++ Came bytes ∷ [] → opening seal new ≡ opening seal old ++ Came m ∷ []
+pub came_more : (seal : List ℕ) (old new : List Passed) (m bytes : List ℕ) → length m ≡ 48 → bytes ≡ sealed seal m → new ≡ old ++ Came bytes ∷ []
+    → opening seal new ≡ opening seal old ++ Came m ∷ []
 came_more seal old new m bytes h e is =
     ap (opening seal) is ∙ opening_more seal old (Came bytes) ∙ ap (λ (l : List Passed). opening seal old ++ l) (opens_as seal m bytes h e)
 
-pub came_none : (seal : List ℕ) (old new : List Passed) (bytes : List ℕ) → ((m : List ℕ) → length m ≡ 48 → bytes ≡ sealed seal m → ⊥) → new ≡ old ++ Came bytes ∷ [] → opening seal new ≡ opening seal old
+pub came_none : (seal : List ℕ) (old new : List Passed) (bytes : List ℕ) → ((m : List ℕ) → length m ≡ 48 → bytes ≡ sealed seal m → ⊥)
+    → new ≡ old ++ Came bytes ∷ [] → opening seal new ≡ opening seal old
 came_none seal old new bytes none is =
     ap (opening seal) is ∙ opening_more seal old (Came bytes) ∙ ap (λ (l : List Passed). opening seal old ++ l) (opens_not seal bytes none) ∙ append-nil (opening seal old)
 

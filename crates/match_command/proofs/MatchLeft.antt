@@ -1,17 +1,16 @@
 -- What is left of both disks of a match that is ended by a fault.
-use Rattle.std.proofs.Common.{◌≡◌, ◌⊎◌, ◌+◌, ℕ, List, [], sym, ap, ◌∙◌, subst, inl, inr, length, Result, Ok, Err}
+use Rattle.std.proofs.Common.{arith, ◌≡◌, ◌⊎◌, ◌+◌, ℕ, List, [], sym, ap, ◌∙◌, subst, inl, inr, length, Result, Ok, Err}
 use Rattle.std.specs.Prelude.{IfErr, IsErrAnd}
 use Rattle.std.proofs.Math.Seq.{take-length}
 use Rattle.notation.specs.declared.entry.Entry.{Entry}
 use Rattle.notation.specs.Lines.{lines_of}
 use Rattle.corrections.specs.declared.book_of.BookOf.{Ghosts as Books}
-use Rattle.entry_log.specs.Disk.{Images, written}
+use Rattle.entry_log.specs.Disk.{Images}
 use Rattle.entry_log.specs.Format.{contents, room}
-use Rattle.entry_log.specs.Slots.{StaysOrBegins}
+use Rattle.entry_log.specs.Slots.{FileContents, StaysOrBegins}
 use Rattle.entry_log.specs.Version2.{version_2}
 use Rattle.entry_log.specs.declared.{disk.Disk.Ghosts as Disks, slots_of.SlotsOf.Ghosts as Files}
 use Rattle.agree_core.specs.declared.messages.DeskId.{DeskId}
-use Rattle.agree_core.specs.FileView.{FileView}
 use Rattle.vote_store.specs.View.{file_view}
 use Rattle.cards.specs.Sheet.{Sheet}
 use Rattle.desk.specs.declared.desk.Desk.{Desk}
@@ -39,16 +38,15 @@ module _ {D : Type 0} (seen : D → List ℕ) (images : D → Images) (s : Sheet
   stays_from a b x s t = (t.0 ∙ s.0, t.1 ∙ s.1)
 
   begins_from : (n : ℕ) (a b x : D) → Stays seen images a b → StaysOrBegins seen images n b x → StaysOrBegins seen images n a x
-  begins_from n a b x s (inl t) = inl (stays_from a b x s t)
-  begins_from n a b x s (inr t) = inr (ap length (sym s.0) ∙ t.0, t.1 ∙ ap (λ (i : Images). written 0 n i) s.1)
+  begins_from n a b x s t = grind arith
 
   or_from : {X : Type 0} (P Q : Type 0) → (P → Q) → P ⊎ X → Q ⊎ X
-  or_from P Q f (inl p) = inl (f p)
-  or_from P Q f (inr q) = inr q
+  or_from P Q f o = grind (arith, f)
 
   -- both disks stayed before
   pub leaves_from : (a b a' b' x y : D) (fault : MatchFault) → Stays seen images a a' → Stays seen images b b' → Leaves seen images s input fault a' b' x y → Leaves seen images s input fault a b x y
-  leaves_from a b a' b' x y MatchFault.Device p q (inl l) = inl (or_from _ _ (begins_from (room version_2 0) a a' x p) l.0, begins_from (room version_2 0) b b' y q l.1)
+  leaves_from a b a' b' x y MatchFault.Device p q (inl l) =
+      inl (or_from _ _ (begins_from (room version_2 0) a a' x p) l.0, begins_from (room version_2 0) b b' y q l.1)
   leaves_from a b a' b' x y MatchFault.Device p q (inr l) = inr l
   leaves_from a b a' b' x y MatchFault.NoMemory p q l = (or_from _ _ (stays_from a a' x p) l.0, stays_from b b' y q l.1)
   leaves_from a b a' b' x y MatchFault.NotEmpty p q l = (stays_from a a' x p l.0, stays_from b b' y q l.1)
@@ -60,41 +58,33 @@ module _ {D : Type 0} (seen : D → List ℕ) (images : D → Images) (s : Sheet
   met_left a b (Ok disks) met is l = tt
   met_left a b (Err e) met is l = subst (λ (m : MatchFault × D × D). Leaves seen images s input m.0 a b m.1 m.2) (sym is) l
 
-abbrev pub LeavesOf : {D : Type 0} (view : DeskId → FileView D) → ℕ → List ℕ → MatchFault → D → D → Type 0
-LeavesOf view innings input (MatchFault.Line number why) x y =
-    (n : ℕ) × (number ≡ n + 1) × (HoldsBook (view DeskId.A) x (entries_of_first n innings input) × HoldsBook (view DeskId.B) y (entries_of_first n innings input))
-LeavesOf view innings input (MatchFault.NotAgreed place) x y =
-    HoldsBook (view DeskId.A) x (entries_of_first (place + 1) innings input) × HoldsBook (view DeskId.B) y (entries_of_first (place + 1) innings input)
-LeavesOf view innings input MatchFault.Write x y =
-    HoldsBook (view DeskId.A) x (entries_of_first (length (lines_of input)) innings input) × HoldsBook (view DeskId.B) y (entries_of_first (length (lines_of input)) innings input)
-LeavesOf view innings input MatchFault.Device x y =
-    (n : ℕ) × HoldsEither (view DeskId.A) x (entries_of_first n innings input) (entries_of_first (n + 1) innings input)
-    × HoldsEither (view DeskId.B) y (entries_of_first n innings input) (entries_of_first (n + 1) innings input)
-LeavesOf view innings input fault x y = ⊥
+-- what the desks leave is what the run does, where their files are of version 2
+module _ {S B D : Type 0} {g : Files S D} {h : Disks D} {b : Books B} (x y : Desk S B D g h b) (s : Sheet) (input : List ℕ)
+    (is : g.contents ≡ contents version_2) (is_a : desk_of x ≡ DeskId.A) (is_b : desk_of y ≡ DeskId.B) (game_a : game_of x ≡ s.game)
+    (game_b : game_of y ≡ s.game) where
+  at_a : (n : ℕ) → DiskHolds x (entries_of_first n s.innings input) → KeepsBook h.seen h.images s DeskId.A (disk_of x) (entries_of_first n s.innings input)
+  at_a n held =
+      subst (λ (c : FileContents). HoldsBook (file_view c h.seen h.images DeskId.A s.game) (disk_of x) (entries_of_first n s.innings input)) is
+      (keeps_book x DeskId.A s.game (entries_of_first n s.innings input) is_a game_a held)
 
-module _ {S B D : Type 0} {g : Files S D} {h : Disks D} {b : Books B} (x y : Desk S B D g h b) (game innings : ℕ) (input : List ℕ) (is_a : desk_of x ≡ DeskId.A) (is_b : desk_of y ≡ DeskId.B)
-    (game_a : game_of x ≡ game) (game_b : game_of y ≡ game) where
-  at_a : (n : ℕ) → DiskHolds x (entries_of_first n innings input) → HoldsBook (file_view g.contents h.seen h.images DeskId.A game) (disk_of x) (entries_of_first n innings input)
-  at_a n held = keeps_book x DeskId.A game (entries_of_first n innings input) is_a game_a held
+  at_b : (n : ℕ) → DiskHolds y (entries_of_first n s.innings input) → KeepsBook h.seen h.images s DeskId.B (disk_of y) (entries_of_first n s.innings input)
+  at_b n held =
+      subst (λ (c : FileContents). HoldsBook (file_view c h.seen h.images DeskId.B s.game) (disk_of y) (entries_of_first n s.innings input)) is
+      (keeps_book y DeskId.B s.game (entries_of_first n s.innings input) is_b game_b held)
 
-  at_b : (n : ℕ) → DiskHolds y (entries_of_first n innings input) → HoldsBook (file_view g.contents h.seen h.images DeskId.B game) (disk_of y) (entries_of_first n innings input)
-  at_b n held = keeps_book y DeskId.B game (entries_of_first n innings input) is_b game_b held
-
-  pub lines_left : (fault : MatchFault) → LinesLeave innings input fault x y → LeavesOf (λ d. file_view g.contents h.seen h.images d game) innings input fault (disk_of x) (disk_of y)
-  lines_left (MatchFault.Line number why) l = (l.0, l.1, (at_a l.0 l.2, at_b l.0 l.3))
-  lines_left (MatchFault.NotAgreed place) l = (at_a (place + 1) l.0, at_b (place + 1) l.1)
-  lines_left MatchFault.Write l = (at_a (length (lines_of input)) l.0, at_b (length (lines_of input)) l.1)
-  lines_left MatchFault.Device l = (
-    l.0,
-    keeps_either x DeskId.A game (entries_of_first l.0 innings input) (entries_of_first (l.0 + 1) innings input) is_a game_a l.1,
-    keeps_either y DeskId.B game (entries_of_first l.0 innings input) (entries_of_first (l.0 + 1) innings input) is_b game_b l.2,
-  )
-  lines_left _ l = absurd l
-
--- what the desks leave is what the run does
-pub run_leaves : {D : Type 0} (seen : D → List ℕ) (images : D → Images) (s : Sheet) (input : List ℕ) (a b x y : D) (fault : MatchFault) →
-    LeavesOf (λ d. file_view (contents version_2) seen images d s.game) s.innings input fault x y → Leaves seen images s input fault a b x y
-run_leaves seen images s input a b x y MatchFault.Device l = inr l
-run_leaves seen images s input a b x y MatchFault.NoMemory l = absurd l
-run_leaves seen images s input a b x y MatchFault.NotEmpty l = absurd l
-run_leaves seen images s input a b x y _ l = l
+  pub lines_left : (a b' : D) (fault : MatchFault) → LinesLeave s.innings input fault x y
+      → Leaves h.seen h.images s input fault a b' (disk_of x) (disk_of y)
+  lines_left a b' (MatchFault.Line number why) l = (l.0, l.1, (at_a l.0 l.2, at_b l.0 l.3))
+  lines_left a b' (MatchFault.NotAgreed place) l = (at_a (place + 1) l.0, at_b (place + 1) l.1)
+  lines_left a b' MatchFault.Write l = (at_a (length (lines_of input)) l.0, at_b (length (lines_of input)) l.1)
+  lines_left a b' MatchFault.Device l =
+      let book = entries_of_first l.0 s.innings input in
+      let more = entries_of_first (l.0 + 1) s.innings input in
+      let either = λ (d : DeskId) (k : D) (c : FileContents). HoldsEither (file_view c h.seen h.images d s.game) k book more in
+      inr (
+        l.0,
+        subst (either DeskId.A (disk_of x)) is (keeps_either x DeskId.A s.game book more is_a game_a l.1),
+        subst (either DeskId.B (disk_of y)) is (keeps_either y DeskId.B s.game book more is_b game_b l.2),
+      )
+  lines_left a b' MatchFault.NoMemory l = absurd l
+  lines_left a b' MatchFault.NotEmpty l = absurd l

@@ -1,5 +1,5 @@
 -- The lines of a match: the first that isn't agreed ends it.
-use Rattle.std.proofs.Common.{◌≡◌, ◌+◌, ℕ, List, ◌∷◌, [], ◌++◌, ◌∙◌, length, refl, sym, ap, subst, arith, append_assoc, length-append, Result, Ok, Err}
+use Rattle.std.proofs.Common.{◌≡◌, ◌+◌, ℕ, List, ◌∷◌, [], ◌++◌, ◌∙◌, length, refl, sym, ap, subst, arith, append_assoc, length-append, Result, Err}
 use Rattle.std.specs.Prelude.{IsErrAnd}
 use Rattle.std.proofs.Math.Seq.{take-append_seam}
 use Rattle.std.specs.Prelude.{take}
@@ -26,8 +26,7 @@ module _ (innings : ℕ) (input line : List ℕ) (rest : List (List ℕ)) (numbe
 
 -- the error that is passed on is the one that was met
 pub same_error : {T : Type 0} (r : Result T MatchFault) (met fault : MatchFault) → IsErrAnd r (λ e. e ≡ met) → r ≡ Err fault → ◌≡◌ {A = Result T MatchFault} (Err met) (Err fault)
-same_error (Ok x) met fault h e = absurd (cc)
-same_error (Err why) met fault h e = rw (← h) e
+same_error r met fault h e = grind arith
 
 -- the lines before those that are left were taken, so many, and gave this book
 pub record Reached (innings : ℕ) (input : List ℕ) (lines : List (List ℕ)) (number : ℕ) (book : List Entry) : Type 0 where

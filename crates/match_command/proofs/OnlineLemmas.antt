@@ -46,8 +46,7 @@ still : (entries : List Entry) (e : Entry) (place : ℕ) (x : Entry) → slice_g
 still entries e place x s = slice_get-append_left entries (e ∷ []) place (slice_get_within entries place x s) ∙ s
 
 speaks_more : (entries : List Entry) (e : Entry) (m : Message) → SpeaksOf entries m → SpeaksOf (entries ++ e ∷ []) m
-speaks_more entries e (Vote v) s = (s.0, still entries e v.place v.entry s.1)
-speaks_more entries e (Ask q) s = tt
+speaks_more entries e m s = grind (arith, still entries e)
 
 module _ (entries : List Entry) where
   follows : (r : ReaderState) (book : List Entry) (l : BoardState) (rest : List Entry) → entries ≡ book ++ rest → r.position ≡ record { place = length book; round = 0 } →
@@ -59,8 +58,7 @@ module _ (entries : List Entry) where
   stays k l f reader same = follows k.reader k.book l f.rest f.book f.position f.noted reader same
 
   none : (p : Position) (place : ℕ) (d : DeskId) (e : Entry) → noted_of (reading p) d ≡ Some e → slice_get entries place ≡ Some e
-  none p place A e m = absurd (cc)
-  none p place B e m = absurd (cc)
+  none p place d e m = grind arith
 
   -- a vote for the board's position is for its next entry
   now : (k : BoardState) (v : AVote) → SpeaksOf entries (Vote v) → Follows entries k → position_of v ≡ k.reader.position → slice_get entries (length k.book) ≡ Some v.entry
@@ -70,14 +68,10 @@ module _ (entries : List Entry) where
   NotedFor r place = (d : DeskId) (e : Entry) → noted_of r d ≡ Some e → slice_get entries place ≡ Some e
 
   same_place : (r : ReaderState) (d : DeskId) (x : Entry) → (noting r d x).position ≡ r.position
-  same_place r A x = refl
-  same_place r B x = refl
+  same_place r d x = grind arith
 
   notes : (r : ReaderState) (place : ℕ) (d : DeskId) (x : Entry) → NotedFor r place → slice_get entries place ≡ Some x → NotedFor (noting r d x) place
-  notes r place A x n s A e m = let same : x ≡ e = cc in subst (λ (y : Entry). slice_get entries place ≡ Some y) same s
-  notes r place A x n s B e m = n B e m
-  notes r place B x n s A e m = n A e m
-  notes r place B x n s B e m = let same : x ≡ e = cc in subst (λ (y : Entry). slice_get entries place ≡ Some y) same s
+  notes r place d x n s other e m = grind (arith, n A e, n B e)
 
   -- what is left has the entry that comes next
   rest_is : (book rest : List Entry) (e : Entry) → entries ≡ book ++ rest → slice_get entries (length book) ≡ Some e → (more : List Entry) × (entries ≡ (book ++ e ∷ []) ++ more)
@@ -188,8 +182,7 @@ asked_online content board start entries log new asks o =
     says_more (game_of board) start entries (sends (game_of board) asks.out) log new (state_of content board) said asks.passed o
 
 none_noted : (d : DeskId) (e : Entry) → noted_of (reading first) d ≡ Some e → slice_get [] 0 ≡ Some e
-none_noted A e m = absurd (cc)
-none_noted B e m = absurd (cc)
+none_noted d e m = grind arith
 
 -- nothing has passed yet
 pub fresh_online : (game : ℕ) (log : List Passed) (k : BoardState) → k ≡ boards.fresh_board → IsOnline game log [] log k

@@ -9,12 +9,10 @@ use Rattle.notation.specs.declared.entry.{Entry.Entry, TheConstants.PLACES}
 use Rattle.corrections.specs.declared.book_of.BookOf.{Ghosts as Books}
 use Rattle.corrections.proofs.LegalLemmas.{slice_get-last}
 use Rattle.entry_log.specs.Blame.{BlamesDisk}
-use Rattle.entry_log.specs.Disk.{Images, IsImage}
-use Rattle.entry_log.specs.Slots.{FileContents}
 use Rattle.entry_log.specs.declared.{disk.Disk.Ghosts as Disks, slots_of.SlotsOf.Ghosts as Files}
 use Rattle.agree_core.specs.declared.{messages.Ask.Ask, messages.Asker.Asker, messages.DeskId.DeskId, messages.Message.Message, messages.Vote.Vote, position.Position.Position}
 use Rattle.agree_core.specs.declared.seat.{Heard.Heard, Settled.Settled}
-use Rattle.agree_core.specs.Ballots.{Ballot, In, ballot_at, vote_of}
+use Rattle.agree_core.specs.Ballots.{Ballot, In, ballot_at}
 use Rattle.agree_core.specs.Desks.{CastsAndStores, DeskState, Pens, Receives, Replies, Ticks, ask_other, asker, book_after, book_heard, next_ballot, own_vote}
 use Rattle.agree_core.specs.Desks as desks
 use Rattle.agree_core.specs.FileView.{FileView, Holds, MayHold, Stays}
@@ -26,7 +24,7 @@ use Rattle.desk.specs.declared.{desk.Desk.Desk, desk.Penned.Penned, refusal.Refu
 use Rattle.desk.specs.Answers.{pen_answer, sent}
 use Rattle.desk.specs.Desk.{IsDeskOf, SameOwner, desk_of, disk_of, game_of, rules_of, state_of, view_of, own_votes}
 use Rattle.desk.specs.Takes.{Takes}
-use Rattle.vote_store.specs.View.{file_view, votes_shown}
+use Rattle.vote_store.specs.View.{file_view}
 use Rattle.match_command.specs.MatchRun.{HoldsBook, HoldsEither, votes_for}
 use Rattle.cards.specs.Sheet.{Sheet, plain_sheet}
 use Rattle.books.specs.Taking.{answer_to, is_full, taking, with_taken}
@@ -35,7 +33,6 @@ use Rattle.live.specs.Desks.{Calls, DeskCall, Given, Ticked}
 use Rattle.live.specs.Ends.{end_at, further}
 use Rattle.live.specs.Passed.{Passed, sends}
 use Rattle.live.specs.declared.ends.DeskEnd.{DeskEnd}
-use Rattle.agree_core.specs.Boards.{BoardState}
 use Rattle.board.specs.declared.board.Board.{Board}
 use Rattle.board.specs.Board as boards
 use Rattle.board.specs.Board.{SameMatch}
@@ -45,30 +42,22 @@ use Rattle.match_command.specs.inner.Turns.{KeepsOnline, KeepsTurn, LineLeaves, 
 use Rattle.match_command.proofs.OnlineLemmas.{more, out_said, says_more}
 use Rattle.match_command.proofs.VoteLists.{voted_votes, votes_in, votes_last, votes_length}
 
-one_longer : (book : List Entry) (e : Entry) (n : ℕ) → length book ≡ n → length (book ++ e ∷ []) ≡ n + 1
-one_longer book e n l = omega (arith, length-append book (e ∷ []))
-
 shorter : (book : List Entry) (e : Entry) → length book < length (book ++ e ∷ [])
 shorter book e = omega (arith, length-append book (e ∷ []))
 
-no_shorter : (book : List Entry) → length book < length book → ⊥
-no_shorter book l = omega (arith, l)
-
-own_shorter : (book entries : List Entry) (e : Entry) → entries ≡ book ++ e ∷ [] → length book < length entries
-own_shorter book entries e own = rw own (shorter book e)
-
--- a seat whose book has all entries is in the first round
-level_round : (entries : List Entry) (seat : SeatState) → GoesWith entries seat entries → seat.position.round ≡ 0
-level_round entries seat g = elim g.round [ inl r ↦ r | inr w ↦ absurd (no_shorter entries w.1) ]
-
-first_at : (at : Position) (n : ℕ) → n ≡ at.place → at.round ≡ 0 → at ≡ record { place = n; round = 0 }
-first_at at n p r = λ i. record { place = sym p i; round = r i }
+-- a seat whose book has all entries is in the first round, and has no vote that waits
+level_free : (book : List Entry) (seat : SeatState) → GoesWith book seat book → (seat.position.round ≡ 0) × (seat.mine ≡ None)
+level_free book seat g = (elim g.round [ inl r ↦ r | inr w ↦ absurd (omega arith) ], none seat.mine refl)
+  where
+    none : (m : Option Entry) → seat.mine ≡ m → seat.mine ≡ None
+    none None e = e
+    none (Some x) e = absurd (omega (arith, ap length (g.own x e), length-append book (x ∷ [])))
 
 -- a desk's own vote is of its entries
-own_speaks : (entries : List Entry) (d : DeskId) (at : Position) (mine : Option Entry) → ((e : Entry) → mine ≡ Some e → (at.round ≡ 0) × (slice_get entries at.place ≡ Some e))
-    → All (SpeaksOf entries) (own_vote d at mine)
+own_speaks : (entries : List Entry) (d : DeskId) (at : Position) (mine : Option Entry)
+    → ((e : Entry) → mine ≡ Some e → (at.round ≡ 0) × (slice_get entries at.place ≡ Some e)) → All (SpeaksOf entries) (own_vote d at mine)
 own_speaks entries d at None h = All-nil (SpeaksOf entries)
-own_speaks entries d at (Some e) h = All-cons (SpeaksOf entries) (Message.Vote (vote_of d (record { at = at; entry = e }))) [] (h e refl) (All-nil (SpeaksOf entries))
+own_speaks entries d at (Some e) h = All-cons (SpeaksOf entries) _ [] (h e refl) (All-nil (SpeaksOf entries))
 
 other_speaks : (entries : List Entry) (a : Asker) (at : Position) (theirs : Option Entry) → All (SpeaksOf entries) (ask_other a at theirs)
 other_speaks entries a at None = All-cons (SpeaksOf entries) (desks.ask_for a at) [] tt (All-nil (SpeaksOf entries))
@@ -76,12 +65,37 @@ other_speaks entries a at (Some e) = All-nil (SpeaksOf entries)
 
 in_first_round : (entries book : List Entry) (seat : SeatState) (e : Entry) → GoesWith entries seat book → seat.mine ≡ Some e
     → (seat.position.round ≡ 0) × (slice_get entries seat.position.place ≡ Some e)
-in_first_round entries book seat e g m =
-    let own = g.own e m in
-    let at : slice_get entries (length book) ≡ Some e = rw own (slice_get-last book e) in (
-      elim g.round [ inl r ↦ r | inr w ↦ absurd (let none = w.0 in cc) ],
-      subst (λ (n : ℕ). slice_get entries n ≡ Some e) g.place at,
-    )
+in_first_round entries book seat e g m = (
+  elim g.round [ inl r ↦ r | inr w ↦ absurd (let none = w.0 in cc) ],
+  rw (← g.place, g.own e m) (slice_get-last book e),
+)
+
+cast : (s t : SeatState) (book : List Entry) (e : Entry) (settled : Settled) → length book ≡ s.position.place → s.position.round ≡ 0
+    → Casts s e settled t → GoesWith (book ++ e ∷ []) t (book_after settled book e)
+cast s t book e settled l r c = grind (arith, shorter, length-append {A = Entry})
+
+hears : (entries book : List Entry) (s t : SeatState) (v : Vote) (h : Heard) → GoesWith entries s book → Hears s v h t
+    → GoesWith entries t (book_heard h book v.entry)
+hears entries book s t v Heard.Noted g c = rw c.3 (record {
+  place = g.place;
+  book = g.book;
+  own = λ f m. absurd (cc);
+  round = elim g.round [ inl r ↦ inl r | inr w ↦ inr (refl, w.1) ];
+})
+hears entries book s t v Heard.Agreed g c = rw c.3 (record {
+  place = omega (arith, g.place, length-append book (v.entry ∷ []));
+  book = inl (sym (g.own v.entry c.2));
+  own = λ f m. absurd (cc);
+  round = inl refl;
+})
+hears entries book s t v Heard.Differ g c = rw c.3 (record {
+  place = g.place;
+  book = g.book;
+  own = λ f m. absurd (cc);
+  round = inr (refl, rw (g.own c.2.0 c.2.1) (shorter book c.2.0));
+})
+hears entries book s t v Heard.Mine g c = rw c.1 g
+hears entries book s t v _ g c = rw c.2 g
 
 module _ {Disk : Type 0} (view : FileView Disk) where
   pub begins : (d : DeskId) (k : DeskState Disk) → Creates view d k → IsInTurn view [] k
@@ -92,154 +106,87 @@ module _ {Disk : Type 0} (view : FileView Disk) where
     goes = record { place = refl; book = inl refl; own = λ e m. absurd (cc); round = inl refl };
   })
 
-  cast : (s t : SeatState) (book : List Entry) (e : Entry) (settled : Settled) → length book ≡ s.position.place → s.position.round ≡ 0 → Casts s e settled t
-      → GoesWith (book ++ e ∷ []) t (book_after settled book e)
-  cast s t book e Settled.Pending l r c =
-      rw c.1 (record { place = l; book = inr (shorter book e); own = λ f m. let same : e ≡ f = cc in ap (λ (x : Entry). book ++ x ∷ []) same; round = inl r })
-  cast s t book e Settled.Agreed l r c =
-      rw c.1 (record { place = one_longer book e s.position.place l; book = inl refl; own = λ f m. absurd (cc); round = inl refl })
-  cast s t book e Settled.Differ l r c =
-      rw c.1 (record { place = l; book = inr (shorter book e); own = λ f m. absurd (cc); round = inr (refl, shorter book e) })
-
   -- the vote that is cast is the next of the entries' votes
   next_vote : (k : DeskState Disk) (e : Entry) → IsInTurn view k.book k → next_ballot k e ∷ k.votes ≡ votes_for (k.book ++ e ∷ [])
   next_vote k e t =
-      let at : k.seat.position ≡ record { place = length k.book; round = 0 } = first_at k.seat.position (length k.book) t.goes.place (level_round k.book k.seat t.goes) in
-      ap (λ (p : Position). record { at = p; entry = e } ∷ k.votes) at ∙ (ap (λ (vs : List Ballot). ballot_at (length k.book) 0 e ∷ vs) t.votes ∙ sym (votes_last k.book e))
+      let first = level_free k.book k.seat t.goes in
+      let at : k.seat.position ≡ record { place = length k.book; round = 0 } = λ i. record { place = sym t.goes.place i; round = first.0 i } in
+      (λ i. record { at = at i; entry = e } ∷ t.votes i) ∙ sym (votes_last k.book e)
 
   -- the vote is cast and stored
-  pub casts : (k l : DeskState Disk) (e : Entry) (settled : Settled) → IsInTurn view k.book k → CastsAndStores view k e settled l → IsInTurn view (k.book ++ e ∷ []) l
-  casts k l e settled t c =
-      let with : GoesWith (k.book ++ e ∷ []) l.seat (book_after settled k.book e) = cast k.seat l.seat k.book e settled t.goes.place (level_round k.book k.seat t.goes) c.0 in
-      record {
-        running = c.2;
-        votes = c.3 ∙ next_vote k e t;
-        held = subst (Holds view l.disk) (next_vote k e t) c.4;
-        goes = subst (GoesWith (k.book ++ e ∷ []) l.seat) (sym c.1) with;
-      }
+  pub casts : (k l : DeskState Disk) (e : Entry) (settled : Settled) → IsInTurn view k.book k → CastsAndStores view k e settled l
+      → IsInTurn view (k.book ++ e ∷ []) l
+  casts k l e settled t c = record {
+    running = c.2;
+    votes = c.3 ∙ next_vote k e t;
+    held = subst (Holds view l.disk) (next_vote k e t) c.4;
+    goes = rw c.1 (cast k.seat l.seat k.book e settled t.goes.place (level_free k.book k.seat t.goes).0 c.0);
+  }
 
   -- the vote may be stored or not
-  pub may_cast : (k : DeskState Disk) (disk : Disk) (e : Entry) → IsInTurn view k.book k → MayHold view disk k.votes (next_ballot k e) → HoldsEither view disk k.book (k.book ++ e ∷ [])
-  may_cast k disk e t h = record {
-    read = elim h.0 [ inl r ↦ inl (r ∙ ap Some t.votes) | inr r ↦ inr (r ∙ ap Some (next_vote k e t)) ];
-    images = λ image i. elim (h.1 image i) [ inl r ↦ inl (r ∙ ap Some t.votes) | inr r ↦ inr (r ∙ ap Some (next_vote k e t)) ];
-  }
+  pub may_cast : (k : DeskState Disk) (disk : Disk) (e : Entry) → IsInTurn view k.book k → MayHold view disk k.votes (next_ballot k e)
+      → HoldsEither view disk k.book (k.book ++ e ∷ [])
+  may_cast k disk e t h =
+      let either = rw (next_vote k e t, t.votes) at h in
+      record { read = either.0; images = either.1 }
 
   stays_held : (old new : Disk) (votes : List Ballot) → Stays view old new → Holds view old votes → Holds view new votes
   stays_held old new votes s h = (s.0 ∙ h.0, λ image i. h.1 image ((s.1 image).0 i))
 
   -- another seat and book go with the same votes
-  goes_on : (entries : List Entry) (k : DeskState Disk) (seat : SeatState) (book : List Entry) (disk : Disk) → IsInTurn view entries k → Stays view k.disk disk → GoesWith entries seat book
-      → IsInTurn view entries (record k { seat = seat; book = book; disk = disk })
+  goes_on : (entries : List Entry) (k : DeskState Disk) (seat : SeatState) (book : List Entry) (disk : Disk) → IsInTurn view entries k
+      → Stays view k.disk disk → GoesWith entries seat book → IsInTurn view entries (record k { seat = seat; book = book; disk = disk })
   goes_on entries k seat book disk t s with =
       record { running = t.running; votes = t.votes; held = stays_held k.disk disk (votes_for entries) s t.held; goes = with }
 
-  hears : (entries : List Entry) (k : DeskState Disk) (seat : SeatState) (v : Vote) (h : Heard) → IsInTurn view entries k → Hears k.seat v h seat → GoesWith entries seat (book_heard h k.book v.entry)
-  hears entries k seat v Heard.Mine t h = rw h.1 t.goes
-  hears entries k seat v Heard.Noted t h =
-      rw h.3 (record {
-        place = t.goes.place;
-        book = t.goes.book;
-        own = λ f m. absurd (cc);
-        round = elim t.goes.round [ inl r ↦ inl r | inr w ↦ inr (refl, w.1) ];
-      })
-  hears entries k seat v Heard.Agreed t h =
-      rw h.3 (record { place = one_longer k.book v.entry k.seat.position.place t.goes.place; book = inl (sym (t.goes.own v.entry h.2)); own = λ f m. absurd (cc); round = inl refl })
-  hears entries k seat v Heard.Differ t h =
-      rw h.3 (record {
-        place = t.goes.place;
-        book = t.goes.book;
-        own = λ f m. absurd (cc);
-        round = inr (refl, own_shorter k.book entries h.2.0 (t.goes.own h.2.0 h.2.1));
-      })
-  hears entries k seat v _ t h = rw h.2 t.goes
-
-  -- what comes of bytes, where no device call failed: no message, a vote that is heard, or an ask
-  data Taking (k l : DeskState Disk) (out : List Message) : Type 0 where
-    NoMessage : l ≡ k → out ≡ [] → Taking k l out
-    AVote : (v : Vote) (h : Heard) → Receives view k (Message.Vote v) (desks.Told h) l out → Taking k l out
-    AnAsk : (q : Ask) → Receives view k (Message.Ask q) desks.Asked l out → Taking k l out
-
-  taken : (game : ℕ) (k l : DeskState Disk) (bytes : List ℕ) (what : What) (out : List Message) → end_at what ≡ further → Takes view game k bytes what l out → Taking k l out
-  taken game k l bytes (What.Bad fault) out n r = NoMessage r.2 r.3
-  taken game k l bytes (What.Heard h) out n (Message.Vote v, says, r) = AVote v h r
-  taken game k l bytes (What.Heard h) out n (Message.Ask q, says, r) = absurd r
-  taken game k l bytes What.Asked out n (Message.Vote v, says, r) = absurd r
-  taken game k l bytes What.Asked out n (Message.Ask q, says, r) = AnAsk q r
-  taken game k l bytes What.Device out n r = absurd (cc)
-  taken game k l bytes What.Failed out n r = absurd (cc)
-
-  takes : (entries : List Entry) (k l : DeskState Disk) (out : List Message) → IsInTurn view entries k → Taking k l out → IsInTurn view entries l
-  takes entries k l out t (NoMessage e none) = subst (IsInTurn view entries) (sym e) t
-  takes entries k l out t (AVote v h r) = subst (IsInTurn view entries) (sym r.3) (goes_on entries k l.seat (book_heard h k.book v.entry) l.disk t r.2 (hears entries k l.seat v h t r.1))
-  takes entries k l out t (AnAsk q r) = subst (IsInTurn view entries) (sym r.1.1) (goes_on entries k k.seat k.book l.disk t r.1.0 t.goes)
-
-  -- and the desk still runs
-  still_runs : (k l : DeskState Disk) (out : List Message) → k.failed ≡ false → Taking k l out → l.failed ≡ false
-  still_runs k l out n (NoMessage e none) = ap (λ (x : DeskState Disk). x.failed) e ∙ n
-  still_runs k l out n (AVote v h r) = ap (λ (x : DeskState Disk). x.failed) r.3 ∙ n
-  still_runs k l out n (AnAsk q r) = ap (λ (x : DeskState Disk). x.failed) r.1.1 ∙ n
-
-  replies : (entries : List Entry) (k : DeskState Disk) (q : Ask) (out : List Message) → IsInTurn view entries k → Replies k q out → All (SpeaksOf entries) out
+  replies : (entries : List Entry) (k : DeskState Disk) (q : Ask) (out : List Message) → IsInTurn view entries k → Replies k q out
+      → All (SpeaksOf entries) out
   replies entries k q out t (inl r) =
-      let found = votes_in entries (ballot_at q.place q.round r.0) (subst (λ (vs : List Ballot). In (ballot_at q.place q.round r.0) vs) t.votes r.1) in
-      subst (All (SpeaksOf entries)) (sym r.2) (All-cons (SpeaksOf entries) (Message.Vote (vote_of k.seat.desk (ballot_at q.place q.round r.0))) [] found (All-nil (SpeaksOf entries)))
-  replies entries k q out t (inr r) = subst (All (SpeaksOf entries)) (sym r.1) (All-nil (SpeaksOf entries))
+      let found = votes_in entries (ballot_at q.place q.round r.0) (subst (In (ballot_at q.place q.round r.0)) t.votes r.1) in
+      rw r.2 (All-cons (SpeaksOf entries) _ [] found (All-nil (SpeaksOf entries)))
+  replies entries k q out t (inr r) = rw r.1 (All-nil (SpeaksOf entries))
 
-  -- what it replies is of its entries
-  takes_speaks : (entries : List Entry) (k l : DeskState Disk) (out : List Message) → IsInTurn view entries k → Taking k l out → All (SpeaksOf entries) out
-  takes_speaks entries k l out t (NoMessage e none) = subst (All (SpeaksOf entries)) (sym none) (All-nil (SpeaksOf entries))
-  takes_speaks entries k l out t (AVote v h r) = subst (All (SpeaksOf entries)) (sym r.4) (All-nil (SpeaksOf entries))
-  takes_speaks entries k l out t (AnAsk q r) = replies entries k q out t r.2
+  -- what comes of bytes, where no device call failed: it goes on with the same votes, and what it replies is of its entries
+  record Went (k l : DeskState Disk) (out : List Message) : Type 0 where
+    turn : (entries : List Entry) → IsInTurn view entries k → IsInTurn view entries l
+    speaks : (entries : List Entry) → IsInTurn view entries k → All (SpeaksOf entries) out
+    running : l.failed ≡ k.failed
 
-  -- what it says unasked too
+  went : (game : ℕ) (k l : DeskState Disk) (bytes : List ℕ) (what : What) (out : List Message) → end_at what ≡ further
+      → Takes view game k bytes what l out → Went k l out
+  went game k l bytes (What.Bad fault) out n r =
+      rw (r.2, r.3) (record { turn = λ entries t. t; speaks = λ entries t. All-nil (SpeaksOf entries); running = refl })
+  went game k l bytes (What.Heard h) out n (Message.Vote v, says, r) = record {
+    turn = λ entries t.
+        subst (IsInTurn view entries) (sym r.3) (goes_on entries k l.seat (book_heard h k.book v.entry) l.disk t r.2 (hears entries k.book k.seat l.seat v h t.goes r.1));
+    speaks = λ entries t. rw r.4 (All-nil (SpeaksOf entries));
+    running = ap (λ (x : DeskState Disk). x.failed) r.3;
+  }
+  went game k l bytes (What.Heard h) out n (Message.Ask q, says, r) = absurd r
+  went game k l bytes What.Asked out n (Message.Vote v, says, r) = absurd r
+  went game k l bytes What.Asked out n (Message.Ask q, says, r) = record {
+    turn = λ entries t. subst (IsInTurn view entries) (sym r.1.1) (goes_on entries k k.seat k.book l.disk t r.1.0 t.goes);
+    speaks = λ entries t. replies entries k q out t r.2;
+    running = ap (λ (x : DeskState Disk). x.failed) r.1.1;
+  }
+  went game k l bytes _ out n r = absurd (cc)
+
+  -- what it says unasked is of its entries too
   pub ticks_speak : (entries : List Entry) (k : DeskState Disk) (out : List Message) → IsInTurn view entries k → Ticks k out → All (SpeaksOf entries) out
-  ticks_speak entries k out t (inl w) =
-      let own = own_speaks entries k.seat.desk k.seat.position k.seat.mine (λ e m. in_first_round entries k.book k.seat e t.goes m) in
-      let all = All-append (SpeaksOf entries) (own_vote k.seat.desk k.seat.position k.seat.mine) (ask_other (asker k.seat.desk) k.seat.position k.seat.theirs) own
-      (other_speaks entries (asker k.seat.desk) k.seat.position k.seat.theirs) in
-      subst (All (SpeaksOf entries)) (sym w.2) all
-  ticks_speak entries k out t (inr w) = subst (All (SpeaksOf entries)) (sym w.1) (All-nil (SpeaksOf entries))
+  ticks_speak entries k out t (inl w) = rw w.2 (All-append (SpeaksOf entries) _ _
+      (own_speaks entries k.seat.desk k.seat.position k.seat.mine (λ e m. in_first_round entries k.book k.seat e t.goes m))
+      (other_speaks entries (asker k.seat.desk) k.seat.position k.seat.theirs))
+  ticks_speak entries k out t (inr w) = rw w.1 (All-nil (SpeaksOf entries))
 
 not_full : (book : List Entry) → length book < PLACES → is_full book ≡ false
 not_full book l = grind (arith, nat_tests)
 
-not_device : (what : What) → end_at what ≡ further → IsErrOf (end_at what) DeskEnd.Device → ⊥
-not_device what n e = cc
-
 pub at_device : (what : What) (end : DeskEnd) → end_at what ≡ Err end → IsErrOf (end_at what) DeskEnd.Device
-at_device What.Device end e = refl
-at_device What.Failed end e = refl
-at_device _ end e = cc
-
-free : (book : List Entry) (seat : SeatState) (m : Option Entry) → GoesWith book seat book → seat.mine ≡ m → seat.mine ≡ None
-free book seat None g e = e
-free book seat (Some x) g e = absurd (no_shorter book (own_shorter book book x (g.own x e)))
-
--- at the level nothing but its book or the number of places stands against a pen
-no_wait : (book : List Entry) (seat : SeatState) → GoesWith book seat book → (seat.mine ≡ None → ⊥) → ⊥
-no_wait book seat g w = w (free book seat seat.mine g refl)
-
-too_short : (book : List Entry) (e : Entry) (n : ℕ) → length book < n → n < length (book ++ e ∷ []) → ⊥
-too_short book e n l m = omega (arith, l, m, length-append book (e ∷ []))
-
-as_long : (book : List Entry) (e : Entry) (new : List Entry) (place n : ℕ) → new ≡ book ++ e ∷ [] → place ≡ length book → place < n → length new ≤ n
-as_long book e new place n is at l = omega (arith, ap length is, at, l, length-append book (e ∷ []))
-
--- what is read of a disk, and its images, as a desk's file
-abbrev HoldsOf : FileContents → DeskId → ℕ → List ℕ → Images → List Ballot → Type 0
-HoldsOf contents d game read left votes =
-    (votes_shown contents d game read ≡ Some votes)
-    × ((image : Option (List Ballot)) → ((file : List ℕ) × IsImage left file × (votes_shown contents d game file ≡ image)) → image ≡ Some votes)
-
-pub ok_map : {T E : Type 0} {P Q : Type 0} (r : Result T E) → (P → Q) → OnOk r P → OnOk r Q
-ok_map (Ok value) f p = f p
-ok_map (Err why) f p = tt
+at_device what end e = grind arith
 
 module _ {S B D : Type 0} {g : Files S D} {h : Disks D} {b : Books B} where
   view_is : (desk : Desk S B D g h b) (d : DeskId) (game : ℕ) → desk_of desk ≡ d → game_of desk ≡ game → view_of desk ≡ file_view g.contents h.seen h.images d game
-  view_is desk d game is_d of_game =
-      ap (λ (x : DeskId). file_view g.contents h.seen h.images x (game_of desk)) is_d ∙ ap (λ (n : ℕ). file_view g.contents h.seen h.images d n) of_game
+  view_is desk d game is_d of_game = λ i. file_view g.contents h.seen h.images (is_d i) (of_game i)
 
   same_view : (old new : Desk S B D g h b) → SameOwner old new → view_of old ≡ view_of new
   same_view old new o = sym (view_is new (desk_of old) (game_of old) o.desk o.game)
@@ -263,38 +210,33 @@ module _ {S B D : Type 0} {g : Files S D} {h : Disks D} {b : Books B} where
   calm_still : (old new : Desk S B D g h b) → SameOwner old new → (state_of new).failed ≡ false → h.faults (disk_of new) ≡ h.faults (disk_of old) → IsCalm old → IsCalm new
   calm_still old new o runs f c = record { running = runs; never = ap (λ x. x.due) f ∙ c.never; room = λ n l. subst (λ (m : ℕ). g.room n ≤ m) (sym o.cap) (c.room n l) }
 
-  -- it was given bytes, and goes on
-  pub kept : (old new : Desk S B D g h b) (bytes : List ℕ) (what : What) (before after : List Passed) → ((s : Sheet) → Calls s old new (Given bytes what) before after) → end_at what ≡ further
-      → KeepsTurn old new
-  kept old new bytes what before after f n =
-      let c = f (plain_sheet 0 1) in
-      let went = taken (view_of old) (game_of old) (state_of old) (state_of new) bytes what c.out n c.step in
-      record {
-        turn = λ entries t. in_view entries old new c.same (takes (view_of old) entries (state_of old) (state_of new) c.out t went);
-        calm = λ q. calm_still old new c.same (still_runs (view_of old) (state_of old) (state_of new) c.out q.running went) ((c.blame q.running).same (not_device what n)) q;
-      }
-
   -- no fault is met at a calm disk
   pub meets_none : (old new : Desk S B D g h b) (bytes : List ℕ) (what : What) (before after : List Passed) (end : DeskEnd) → ((s : Sheet) → Calls s old new (Given bytes what) before after)
       → end_at what ≡ Err end → IsCalm old → ⊥
   meets_none old new bytes what before after end f e q = let c = f (plain_sheet 0 1) in (c.blame q.running).calm q.never q.room (at_device what end e)
 
-  called_online : (s : Sheet) (old new : Desk S B D g h b) (call : DeskCall) (entries : List Entry) (before after : List Passed) (c : Calls s old new call before after) → All (SpeaksOf entries) c.out
-      → StaysOnline (game_of old) entries before after
+  called_online : (s : Sheet) (old new : Desk S B D g h b) (call : DeskCall) (entries : List Entry) (before after : List Passed)
+      (c : Calls s old new call before after) → All (SpeaksOf entries) c.out → StaysOnline (game_of old) entries before after
   called_online s old new call entries before after c speak start k o =
       says_more (game_of old) start entries (sends (game_of old) c.out) before after k (out_said (game_of old) entries c.out c.fine speak) c.passed o
 
-  -- what it replied is of its entries
-  pub replied_online : (old new : Desk S B D g h b) (bytes : List ℕ) (what : What) (entries : List Entry) (before after : List Passed)
-      → ((s : Sheet) → Calls s old new (Given bytes what) before after) → end_at what ≡ further → InTurn entries old → StaysOnline (game_of old) entries before after
-  replied_online old new bytes what entries before after f n t =
+  -- it was given bytes, and goes on; what it replied is of its entries
+  pub given : (old new : Desk S B D g h b) (bytes : List ℕ) (what : What) (before after : List Passed)
+      → ((s : Sheet) → Calls s old new (Given bytes what) before after) → end_at what ≡ further
+      → KeepsTurn old new × ((entries : List Entry) → InTurn entries old → StaysOnline (game_of old) entries before after)
+  given old new bytes what before after f n =
       let c = f (plain_sheet 0 1) in
-      called_online (plain_sheet 0 1) old new (Given bytes what) entries before after c
-      (takes_speaks (view_of old) entries (state_of old) (state_of new) c.out t (taken (view_of old) (game_of old) (state_of old) (state_of new) bytes what c.out n c.step))
+      let w = went (view_of old) (game_of old) (state_of old) (state_of new) bytes what c.out n c.step in (
+        record {
+          turn = λ entries t. in_view entries old new c.same (w.turn entries t);
+          calm = λ q. calm_still old new c.same (w.running ∙ q.running) ((c.blame q.running).same (λ e. (cc))) q;
+        },
+        λ entries t. called_online (plain_sheet 0 1) old new (Given bytes what) entries before after c (w.speaks entries t),
+      )
 
-  -- what it said unasked too
-  pub ticked_online : (desk : Desk S B D g h b) (entries : List Entry) (before after : List Passed) → ((s : Sheet) → Calls s desk desk Ticked before after) → InTurn entries desk
-      → StaysOnline (game_of desk) entries before after
+  -- what it said unasked is too
+  pub ticked_online : (desk : Desk S B D g h b) (entries : List Entry) (before after : List Passed)
+      → ((s : Sheet) → Calls s desk desk Ticked before after) → InTurn entries desk → StaysOnline (game_of desk) entries before after
   ticked_online desk entries before after f t =
       let c = f (plain_sheet 0 1) in
       called_online (plain_sheet 0 1) desk desk Ticked entries before after c (ticks_speak (view_of desk) entries (state_of desk) c.out t c.step.0)
@@ -323,9 +265,11 @@ module _ {S B D : Type 0} {g : Files S D} {h : Disks D} {b : Books B} where
       let t = casts (view_of old) (state_of old) (state_of new) e penned.settled l step.3.1 in
       record { taken = takes_entry old e l step.3.0; turn = in_view (book_at old ++ e ∷ []) old new o t; calm = calm_still old new o t.running (blame.same (λ q. (cc))) }
 
-  refused_holds : (old new : Desk S B D g h b) → IsLevel old → SameOwner old new → desks.Unchanged (view_of old) (state_of old) (state_of new) → DiskHolds new (book_at old)
+  refused_holds : (old new : Desk S B D g h b) → IsLevel old → SameOwner old new → desks.Unchanged (view_of old) (state_of old) (state_of new)
+      → DiskHolds new (book_at old)
   refused_holds old new l o u =
-      subst (λ (v : FileView D). Holds v (disk_of new) (votes_for (book_at old))) (same_view old new o) (stays_held (view_of old) (disk_of old) (disk_of new) (votes_for (book_at old)) u.0 l.held)
+      subst (λ (v : FileView D). Holds v (disk_of new) (votes_for (book_at old))) (same_view old new o)
+      (stays_held (view_of old) (disk_of old) (disk_of new) (votes_for (book_at old)) u.0 l.held)
 
   -- or it hasn't
   pub refused : (old new : Desk S B D g h b) (e : Entry) (number place : ℕ) (why : PenRefusal) → IsLevel old → SameOwner old new → PenSteps old e (Err why) new
@@ -336,18 +280,16 @@ module _ {S B D : Type 0} {g : Files S D} {h : Disks D} {b : Books B} where
       let either = may_cast (view_of old) (state_of old) (disk_of new) e l step.3.1 in
       (takes_entry old e l step.3.0, subst (λ (v : FileView D). HoldsEither v (disk_of new) (book_at old) (book_at old ++ e ∷ [])) (same_view old new o) either)
   refused old new e number place PenRefusal.Failed l o step = absurd (let runs = l.running in let fails = step.3.0 in cc)
-  refused old new e number place PenRefusal.Waiting l o step = no_wait (book_at old) (state_of old).seat l.goes step.3.0.1
-  refused old new e number place PenRefusal.RoundsFull l o step = absurd (let first = level_round (book_at old) (state_of old).seat l.goes in omega (arith, step.3.0.2))
+  refused old new e number place PenRefusal.Waiting l o step = absurd (step.3.0.1 (level_free (book_at old) (state_of old).seat l.goes).1)
+  refused old new e number place PenRefusal.RoundsFull l o step =
+      absurd (omega (arith, (level_free (book_at old) (state_of old).seat l.goes).0, step.3.0.2))
   refused old new e number place PenRefusal.SlotsFull l o step =
-      let many : length (own_votes old) ≡ (state_of old).seat.position.place = ap length l.votes ∙ votes_length (book_at old) ∙ l.goes.place in
-      absurd (omega (arith, step.3.0.1.0, step.3.0.2))
+      absurd (omega (arith, ap length l.votes, votes_length (book_at old), l.goes.place, step.3.0.1.0, step.3.0.2))
 
   -- nothing was written since
   pub still_holds : (old new : Desk S B D g h b) (book : List Entry) → KeepsDisk old new → DiskHolds old book → DiskHolds new book
   still_holds old new book k held =
-      let there = subst (λ (read : List ℕ). HoldsOf g.contents (desk_of old) (game_of old) read (h.images (disk_of old)) (votes_for book)) (sym k.disk.0) held in
-      let left = subst (λ (i : Images). HoldsOf g.contents (desk_of old) (game_of old) (h.seen (disk_of new)) i (votes_for book)) (sym k.disk.1) there in
-      subst (λ (v : FileView D). Holds v (disk_of new) (votes_for book)) (same_view old new k.owner) left
+      subst (λ (v : FileView D). Holds v (disk_of new) (votes_for book)) (same_view old new k.owner) (rw (k.disk.0, k.disk.1) held)
 
   pub either_more : (desk : Desk S B D g h b) (book more : List Entry) → DiskHolds desk more → DiskHoldsEither desk book more
   either_more desk book more d = record { read = inr d.0; images = λ image i. inr (d.1 image i) }
@@ -372,25 +314,21 @@ module _ {S B D : Type 0} {g : Files S D} {h : Disks D} {b : Books B} where
   both_disks k l m x y = record { owner = both_owners k l m x.owner y.owner; disk = (y.disk.0 ∙ x.disk.0, y.disk.1 ∙ x.disk.1) }
 
   -- a turn of each station
-  pub one_round : (a0 a b0 b' : Desk S B D g h b) (k0 k l : Board B b) (log0 log log1 log2 log3 : List Passed) → KeepsTurn a0 a → KeepsTurn b0 b' → KeepsDisk a0 a → KeepsDisk b0 b'
-      → boards.game_of k ≡ boards.game_of k0 →
-      KeepsOnline a0 b0 k0 k log0 log → ((entries : List Entry) → InTurn entries a → StaysOnline (game_of a) entries log log1)
-      → ((entries : List Entry) → InTurn entries b' → StaysOnline (game_of b') entries log1 log2) →
-      ((start : List Passed) (entries : List Entry) → IsOnline (boards.game_of k) start entries log2 (board_at k) → IsOnline (boards.game_of k) start entries log3 (board_at l))
-      → KeepsOnline a0 b0 k0 l log0 log3
-  one_round a0 a b0 b' k0 k l log0 log log1 log2 log3 ka kb da db same before at_a at_b at_board start entries ta tb gb gk o =
-      let with_game = λ (n : ℕ) (m : ℕ) (e : n ≡ m) (xs : List Passed) (s : BoardState) (i : IsOnline n start entries xs s). subst (λ (j : ℕ). IsOnline j start entries xs s) e i in
+  pub one_round : {a0 a b0 b' : Desk S B D g h b} (k0 k l : Board B b) {log0 log log1 log2 log3 : List Passed} → KeepsTurn a0 a → KeepsTurn b0 b'
+      → KeepsDisk a0 a → KeepsDisk b0 b' → boards.game_of k ≡ boards.game_of k0 → KeepsOnline a0 b0 k0 k log0 log
+      → ((entries : List Entry) → InTurn entries a → StaysOnline (game_of a) entries log log1)
+      → ((entries : List Entry) → InTurn entries b' → StaysOnline (game_of b') entries log1 log2)
+      → ((start : List Passed) (entries : List Entry) → IsOnline (boards.game_of k) start entries log2 (board_at k)
+      → IsOnline (boards.game_of k) start entries log3 (board_at l)) → KeepsOnline a0 b0 k0 l log0 log3
+  one_round k0 k l ka kb da db same before at_a at_b at_board start entries ta tb gb gk o =
       let one = before start entries ta tb gb gk o in
-      let two = at_a entries (ka.turn entries ta) start (board_at k) (with_game (game_of a0) (game_of a) (sym da.owner.game) log (board_at k) one) in
-      let is_b = db.owner.game ∙ gb in
-      let three = at_b entries (kb.turn entries tb) start (board_at k) (with_game (game_of a) (game_of b') (da.owner.game ∙ sym is_b) log1 (board_at k) two) in
-      let is_k = same ∙ gk in
-      let four = at_board start entries (with_game (game_of b') (boards.game_of k) (is_b ∙ sym is_k) log2 (board_at k) three) in
-      with_game (boards.game_of k) (game_of a0) is_k log3 (board_at l) four
+      let two = (rw da.owner.game at (at_a entries (ka.turn entries ta))) start (board_at k) one in
+      let three = (rw (db.owner.game ∙ gb) at (at_b entries (kb.turn entries tb))) start (board_at k) two in
+      (rw (same ∙ gk) at (at_board start entries)) three
 
   -- its place is agreed
   settled : (book : List Entry) (e : Entry) (desk : Desk S B D g h b) → InTurn (book ++ e ∷ []) desk → length book < length (book_at desk) → book_at desk ≡ book ++ e ∷ []
-  settled book e desk t l = elim t.goes.book [ inl same ↦ same | inr less ↦ absurd (too_short book e (length (book_at desk)) l less) ]
+  settled book e desk t l = elim t.goes.book [ inl same ↦ same | inr less ↦ absurd (omega (arith, length-append book (e ∷ []))) ]
 
   level_at : (book : List Entry) (desk : Desk S B D g h b) → InTurn book desk → book_at desk ≡ book → IsLevel desk
   level_at book desk t same = subst (λ (es : List Entry). InTurn es desk) (sym same) t
@@ -405,22 +343,18 @@ module _ {S B D : Type 0} {g : Files S D} {h : Disks D} {b : Books B} where
   agreed (Ok done) a a1 a2 b0 b1 b2 k l e place level va vb oa ob at da db ka kb same la lb lk =
       let turn_a = ka.turn (book_at a ++ e ∷ []) va.turn in
       let turn_b = kb.turn (book_at b0 ++ e ∷ []) vb.turn in
-      let book_a = settled (book_at a) e a2 turn_a (subst (λ (n : ℕ). n < length (book_at a2)) at la) in
-      let book_b = settled (book_at b0) e b2 turn_b (subst (λ (n : ℕ). n < length (book_at b2)) (at ∙ ap length (sym level.book)) lb) in
+      let book_a = settled (book_at a) e a2 turn_a (rw at at la) in
+      let book_b = settled (book_at b0) e b2 turn_b (rw (at ∙ ap length (sym level.book)) at lb) in
       let owner_a = both_owners a a1 a2 oa da.owner in
       let owner_b = both_owners b0 b1 b2 ob db.owner in (
-        record {
-          is_a = owner_a.desk ∙ level.is_a;
-          is_b = owner_b.desk ∙ level.is_b;
-          game = owner_b.game ∙ (level.game ∙ sym owner_a.game);
-          innings = owner_b.innings_a_side ∙ (level.innings ∙ sym owner_a.innings_a_side);
-          level_a = level_at (book_at a ++ e ∷ []) a2 turn_a book_a;
-          level_b = level_at (book_at b0 ++ e ∷ []) b2 turn_b book_b;
-          book = book_b ∙ (ap (λ (es : List Entry). es ++ e ∷ []) level.book ∙ sym book_a);
-          board_game = same.game ∙ (level.board_game ∙ sym owner_a.game);
-          board_innings = same.innings_a_side ∙ (level.board_innings ∙ sym owner_a.innings_a_side);
-          long = as_long (book_at a) e (book_at a2) place (length (b.content (boards.book_of l))) book_a at lk;
-        },
+        grind (
+          arith,
+          owner_a,
+          owner_b,
+          level_at (book_at a ++ e ∷ []) a2 turn_a book_a,
+          level_at (book_at b0 ++ e ∷ []) b2 turn_b book_b,
+          length-append (book_at a) (e ∷ []),
+        ),
         book_a,
         λ calm. record { calm_a = ka.calm (va.calm calm.calm_a); calm_b = kb.calm (vb.calm calm.calm_b) },
       )
@@ -464,8 +398,8 @@ module _ {S B D : Type 0} {g : Files S D} {h : Disks D} {b : Books B} where
   agreed_online (Err why) a a1 a2 b0 b1 k l e log new level va vb oa ob keeps book = tt
   agreed_online (Ok done) a a1 a2 b0 b1 k l e log new level va vb oa ob keeps book = λ start o.
       let es = book_at a ++ e ∷ [] in
+      let more_b : InTurn es b1 = subst (λ (xs : List Entry). InTurn (xs ++ e ∷ []) b1) level.book vb.turn in
       let one = subst (λ (n : ℕ). IsOnline n start es log (board_at k)) (sym oa.game) (more (game_of a) start (book_at a) e log (board_at k) o) in
-      let turn_b : InTurn es b1 = subst (λ (xs : List Entry). InTurn (xs ++ e ∷ []) b1) level.book vb.turn in
-      let two = keeps start es va.turn turn_b (ob.game ∙ (level.game ∙ sym oa.game)) (level.board_game ∙ sym oa.game) one in
+      let two = keeps start es va.turn more_b (ob.game ∙ (level.game ∙ sym oa.game)) (level.board_game ∙ sym oa.game) one in
       let three = subst (λ (n : ℕ). IsOnline n start es new (board_at l)) oa.game two in
       subst (λ (xs : List Entry). IsOnline (game_of a) start xs new (board_at l)) (sym book) three

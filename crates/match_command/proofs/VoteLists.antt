@@ -1,5 +1,5 @@
 -- The votes for a list of entries, one each.
-use Rattle.std.proofs.Common.{◌≡◌, ◌+◌, ℕ, Some, List, [], ◌∷◌, ◌++◌, length, refl, sym, ap, ◌∙◌, subst, inl, inr, arith, append-nil, append_assoc, length-append, suc}
+use Rattle.std.proofs.Common.{◌≡◌, ◌+◌, ℕ, Some, List, [], ◌∷◌, ◌++◌, length, refl, sym, ap, ◌∙◌, subst, arith, append-nil, append_assoc, length-append, suc}
 use Rattle.std.specs.Prelude.{slice_get}
 use Rattle.std.proofs.lemmas.Option.{slice_get_within}
 use Rattle.notation.specs.declared.entry.Entry.{Entry}
@@ -56,9 +56,13 @@ is_last pre e n b l q = rw (q, l) (refl, slice_get-last pre e)
 
 in_more : (pre : List Entry) (e : Entry) (vs : List Ballot) → length vs ≡ length pre → ((b : Ballot) → In b vs → IsFor pre b) → (c : Ballot) → In c (ballot_at (length vs) 0 e ∷ vs)
     → IsFor (pre ++ e ∷ []) c
-in_more pre e vs l each c (inl q) = is_last pre e (length vs) c l q
-in_more pre e vs l each c (inr j) =
-    let k = each c j in (k.0, slice_get-append_left pre (e ∷ []) c.at.place (slice_get_within pre c.at.place c.entry k.1) ∙ k.1)
+in_more pre e vs l each c i = grind (
+  arith,
+  is_last pre e (length vs) c l,
+  each c,
+  slice_get-append_left pre (e ∷ []) c.at.place,
+  slice_get_within pre c.at.place c.entry,
+)
 
 with_in : (es pre : List Entry) (vs : List Ballot) → length vs ≡ length pre → ((b : Ballot) → In b vs → IsFor pre b) → (b : Ballot) → In b (with_votes_for es vs) → IsFor (pre ++ es) b
 with_in [] pre vs l each b i = subst (λ (xs : List Entry). IsFor xs b) (sym (append-nil pre)) (each b i)

@@ -1,5 +1,5 @@
 -- What opened at a station was sent, since all that stations send are messages.
-use Rattle.std.proofs.Common.{arith, ◌≡◌, ℕ, Bool, true, nat_eq, List, [], ◌∷◌, ◌++◌, refl, sym, subst}
+use Rattle.std.proofs.Common.{arith, ◌≡◌, ℕ, Bool, true, nat_eq, List, [], ◌∷◌, ◌++◌, refl}
 use Rattle.std.specs.Prelude.{All}
 use Rattle.std.specs.List.{filter}
 use Rattle.std.proofs.lemmas.Bool.{eq-eqb}
@@ -20,7 +20,7 @@ use Rattle.live.specs.Desks.{DeskCall, DeskProcess}
 use Rattle.live.specs.declared.notices.Notice.{Notice}
 use Rattle.live.specs.Runs as own
 use Rattle.seal.proofs.Unforged.{opened_was_sent}
-use Rattle.processes.specs.Happenings.{BoardBegun, BoardCalled, BoardCame, DeskBegun, DeskCalled, DeskCame, DeskEnded, DeskGreeted, FileMigrated, Happening, PowerLost, WasSent, after}
+use Rattle.processes.specs.Happenings.{BoardBegun, BoardCalled, BoardCame, DeskCalled, DeskCame, Happening, WasSent, after, after_one}
 use Rattle.processes.specs.Lives.{BoardProcess, IsBoardLife, IsLife, IsNextStage, Stage, after_life, board_calls, board_happens, calls_of, fresh_turn, life_happens, stage_happens}
 use Rattle.processes.specs.Sealing.{BoardAuthentic, DeskAuthentic, IsAuthentic}
 use Rattle.processes.specs.Weaving as weaving
@@ -66,14 +66,16 @@ module _ {Disk : Type 0} where
   rest_sends q h hs h0 = grind arith
 
   -- what happened sends messages, where it does so at each station
-  one_sends : (h : Happening Disk) (hs : List (Happening Disk)) → EachSends (with_one (is_at_desk A h) h (filter (is_at_desk A) hs)) → EachSends (with_one (is_at_desk B h) h (filter (is_at_desk B) hs))
+  one_sends : (h : Happening Disk) (hs : List (Happening Disk)) → EachSends (with_one (is_at_desk A h) h (filter (is_at_desk A) hs))
+      → EachSends (with_one (is_at_desk B h) h (filter (is_at_desk B) hs))
       → ((n : ℕ) → EachSends (with_one (is_at_board n h) h (filter (is_at_board n) hs))) → Sends h
   one_sends (DeskCalled A s call out l text) hs a b t = a.0
   one_sends (DeskCalled B s call out l text) hs a b t = b.0
   one_sends (BoardCalled n sheet call out l text) hs a b t = first_sends (nat_eq n n) (BoardCalled n sheet call out l text) (filter (is_at_board n) hs) (eq-eqb n n refl) (t n)
   one_sends _ hs a b t = tt
 
-  pub all_send : (hs : List (Happening Disk)) → EachSends (filter (is_at_desk A) hs) → EachSends (filter (is_at_desk B) hs) → ((n : ℕ) → EachSends (filter (is_at_board n) hs)) → EachSends hs
+  pub all_send : (hs : List (Happening Disk)) → EachSends (filter (is_at_desk A) hs) → EachSends (filter (is_at_desk B) hs)
+      → ((n : ℕ) → EachSends (filter (is_at_board n) hs)) → EachSends hs
   all_send [] a b t = tt
   all_send (h ∷ hs) a b t = (
     one_sends h hs a b t,
@@ -82,34 +84,29 @@ module _ {Disk : Type 0} where
   )
 
   -- all that was sent are messages
-  pub all_messages : (w : Configuration Disk) (hs : List (Happening Disk)) → w.sent ≡ [] → EachSends hs → All IsMessage ((λ (v : Configuration Disk). v.sent) (after w hs))
-  all_messages w [] e s = subst (All IsMessage) (sym e) (All-nil IsMessage)
-  all_messages w (DeskCalled A sheet call out l text ∷ hs) e s = more_sent _ out (all_messages w hs e s.1) s.0
-  all_messages w (DeskCalled B sheet call out l text ∷ hs) e s = more_sent _ out (all_messages w hs e s.1) s.0
-  all_messages w (DeskGreeted d sheet text ∷ hs) e s = all_messages w hs e s.1
-  all_messages w (DeskEnded A disk ∷ hs) e s = none_sent _ (all_messages w hs e s.1)
-  all_messages w (DeskEnded B disk ∷ hs) e s = none_sent _ (all_messages w hs e s.1)
-  all_messages w (PowerLost A disk ∷ hs) e s = none_sent _ (all_messages w hs e s.1)
-  all_messages w (PowerLost B disk ∷ hs) e s = none_sent _ (all_messages w hs e s.1)
-  all_messages w (DeskBegun A opening ∷ hs) e s = none_sent _ (all_messages w hs e s.1)
-  all_messages w (DeskBegun B opening ∷ hs) e s = none_sent _ (all_messages w hs e s.1)
-  all_messages w (FileMigrated A votes new ∷ hs) e s = none_sent _ (all_messages w hs e s.1)
-  all_messages w (FileMigrated B votes new ∷ hs) e s = none_sent _ (all_messages w hs e s.1)
-  all_messages w (BoardCalled n sheet call out l text ∷ hs) e s = more_sent _ out (all_messages w hs e s.1) s.0
-  all_messages w (BoardBegun n ∷ hs) e s = all_messages w hs e s.1
+  still_messages : (v : Configuration Disk) (h : Happening Disk) → All IsMessage v.sent → Sends h
+      → All IsMessage ((λ (u : Configuration Disk). u.sent) (after_one v h))
+  still_messages v h fine sends = grind (arith, more_sent, none_sent)
+
+  pub all_messages : (w : Configuration Disk) (hs : List (Happening Disk)) → w.sent ≡ [] → EachSends hs
+      → All IsMessage ((λ (v : Configuration Disk). v.sent) (after w hs))
+  all_messages w [] e s = rw e (All-nil IsMessage)
+  all_messages w (h ∷ hs) e s = still_messages (after w hs) h (all_messages w hs e s.1) s.0
 
   -- so nothing comes that no station sent
   one_came : (seal : List ℕ) (game : ℕ) (v : Configuration Disk) (h : Happening Disk) → All IsMessage v.sent → weaving.Came seal game v h → Came game v h
   one_came seal game v h h0 h1 = grind (arith, board_came, desk_came)
 
-  pub nothing_early : (seal : List ℕ) (game : ℕ) (w : Configuration Disk) (hs : List (Happening Disk)) → w.sent ≡ [] → EachSends hs → NothingIsForged seal game w hs → NothingComesEarly game w hs
+  pub nothing_early : (seal : List ℕ) (game : ℕ) (w : Configuration Disk) (hs : List (Happening Disk)) → w.sent ≡ [] → EachSends hs
+      → NothingIsForged seal game w hs → NothingComesEarly game w hs
   nothing_early seal game w [] e s c = tt
   nothing_early seal game w (h ∷ hs) e s c =
       (nothing_early seal game w hs e s.1 c.0, one_came seal game (after w hs) h (all_messages w hs e s.1) c.1)
 
 -- what happens in lives sends messages
 module _ {Disk : Type 0} (view : FileVersion → FileView Disk) (seen : Disk → List ℕ) (faults : Disk → Faults) (d : DeskId) (game innings : ℕ) where
-  calls_send : (kind : own.Kind (DeskProcess Disk) DeskCall) (p : DeskProcess Disk) (s : Sheet) (k : DeskState Disk) (ms : List (own.Moment (DeskProcess Disk) DeskCall)) → own.Run kind p ms → EachSends (calls_of innings d s k ms)
+  calls_send : (kind : own.Kind (DeskProcess Disk) DeskCall) (p : DeskProcess Disk) (s : Sheet) (k : DeskState Disk) (ms : List (own.Moment (DeskProcess Disk) DeskCall))
+      → own.Run kind p ms → EachSends (calls_of innings d s k ms)
   calls_send kind p s k [] r = (tt, tt)
   calls_send kind p s k (m ∷ ms) r = (r.1, calls_send kind p s k ms r.0)
 
@@ -122,7 +119,8 @@ module _ {Disk : Type 0} (view : FileVersion → FileView Disk) (seen : Disk →
       sends-append (stage_happens innings d stage) (life_happens innings d stages) (stage_sends (after_life x stages) stage h.1) (life_sends x stages h.0)
 
 module _ (Disk : Type 0) (game innings : ℕ) where
-  board_sends : (kind : own.Kind BoardTurn BoardCall) (k : BoardTurn) (n : ℕ) (s : Sheet) (noted : List Notice) (ms : List (own.Moment BoardTurn BoardCall)) → own.Run kind k ms → EachSends {Disk = Disk} (board_calls innings n s noted ms)
+  board_sends : (kind : own.Kind BoardTurn BoardCall) (k : BoardTurn) (n : ℕ) (s : Sheet) (noted : List Notice) (ms : List (own.Moment BoardTurn BoardCall))
+      → own.Run kind k ms → EachSends {Disk = Disk} (board_calls innings n s noted ms)
   board_sends kind k n s noted [] r = tt
   board_sends kind k n s noted (m ∷ ms) r = (r.1, board_sends kind k n s noted ms r.0)
 

@@ -1,5 +1,5 @@
 -- A board's processes, step by step.
-use Rattle.std.proofs.Common.{arith, ◌≡◌, ◌⊎◌, ℕ, Bool, List, [], ◌∷◌, refl, sym, subst}
+use Rattle.std.proofs.Common.{arith, ◌≡◌, ◌⊎◌, ℕ, Bool, List, [], ◌∷◌, refl}
 use Rattle.cards.specs.Sheet.{Sheet}
 use Rattle.agree_core.specs.declared.messages.Message.{Message}
 use Rattle.agree_core.specs.Boards.{BoardState, fresh_board}
@@ -37,17 +37,18 @@ module _ (Disk : Type 0) (game innings : ℕ) where
   stopped_or_not q r text = grind (arith, grows_or_not)
 
   -- what a board prints is the six lines of its book, or nothing
-  prints : (sheet : Sheet) (k l : BoardTurn) (call : BoardCall) (out : List Message) → BoardStep game innings k.board call out l.board → Prints sheet innings call l.board (shown sheet innings k call l)
+  prints : (sheet : Sheet) (k l : BoardTurn) (call : BoardCall) (out : List Message) → BoardStep game innings k.board call out l.board
+      → Prints sheet innings call l.board (shown sheet innings k call l)
   prints sheet k l call out h0 = grind (arith, stopped_or_not)
 
   calls : (n : ℕ) (s : Sheet) (noted : List Notice) (ms : List (own.Moment BoardTurn BoardCall)) → BoardRuns game innings s noted ms
-      → BoardLocal fresh_board (board_calls innings n s noted ms) × (board_after fresh_board (board_calls innings n s noted ms) ≡ (λ (k : BoardTurn). k.board) (own.last_of (fresh_turn noted) ms))
+      → BoardLocal fresh_board (board_calls innings n s noted ms)
+      × (board_after fresh_board (board_calls innings n s noted ms) ≡ (λ (k : BoardTurn). k.board) (own.last_of (fresh_turn noted) ms))
   calls n s noted [] r = (tt, refl)
   calls n s noted (m ∷ ms) r =
       let before = calls n s noted ms r.0 in
       let k : BoardTurn = own.last_of (fresh_turn noted) ms in
-      let text = shown s innings k m.call m.after in
-      ((before.0, subst (λ (b : BoardState). MayBoard b (BoardCalled n s m.call m.out ((λ (t : BoardTurn). t.board) m.after) text)) (sym before.1) (r.2.1, prints s k m.after m.call m.out r.2.1)), refl)
+      ((before.0, rw before.1 (r.2.1, prints s k m.after m.call m.out r.2.1)), refl)
 
   pub board_life : (n : ℕ) (k : BoardState) (ps : List BoardProcess) → IsBoardLife game innings ps → BoardLocal k (board_happens innings n ps)
   board_life n k [] h = tt

@@ -1,5 +1,5 @@
 -- A moment of a board's process is an event.
-use Rattle.std.proofs.Common.{arith, ◌≡◌, ℕ, zero, suc, Some, List, [], ◌∷◌, ◌++◌, length, refl, sym, ap, ◌∙◌, subst, append-nil, Ok, Err}
+use Rattle.std.proofs.Common.{arith, ◌≡◌, ℕ, zero, suc, Some, List, [], ◌∷◌, ◌++◌, length, refl, sym, ap, ◌∙◌, append-nil, Ok, Err}
 use Rattle.std.specs.Prelude.{slice_get, slice_set}
 use Rattle.corrections.specs.Refusal.{book_refusal}
 use Rattle.corrections.specs.declared.refusal.Refusal.{Refusal}
@@ -9,10 +9,10 @@ use Rattle.wire.specs.declared.what.What.TheVariants.{Bad, Heard, Asked}
 use Rattle.wire.specs.Layout.{Says}
 use Rattle.board.specs.declared.refusal.BoardRefusal.TheVariants.{BadVotes}
 use Rattle.headline.specs.declared.event.{Event.Event, Station.Station}
-use Rattle.headline.specs.Match.{Setting}
+use Rattle.headline.specs.Setting.{Setting}
 use Rattle.headline.specs.Configurations.{Configuration, board_at, with_board}
 use Rattle.headline.specs.Answers as answers
-use Rattle.headline.specs.BoardSteps.{board_told}
+use Rattle.headline.specs.Answers.{board_told}
 use Rattle.live.specs.Boards as boards
 use Rattle.live.specs.Boards.{BoardCall, BoardStep}
 use Rattle.processes.specs.Happenings.{BoardCame, Happening}
@@ -31,17 +31,21 @@ abbrev pub with_it : {Disk : Type 0} → Configuration Disk → ℕ → BoardSta
 with_it v n l out = record v { boards = with_board v.boards n l; sent = v.sent ++ out }
 
 module _ {Disk : Type 0} (s : Setting Disk Refusal) (game innings : ℕ) (rules : s.rules ≡ book_refusal innings) (v : Configuration Disk) (what : Happening Disk) where
-  received : (n : ℕ) (k l : BoardState) (bytes : List ℕ) (m : Message) (told : BoardAnswer) (out : List Message) → board_at v.boards n ≡ Some k → BoardCame game v.sent (boards.Given bytes (Ok Asked)) → Says game bytes m → BoardReceives (book_refusal innings) k m told l → out ≡ [] → Leads s (Fits what v) v (with_it v n l out)
+  received : (n : ℕ) (k l : BoardState) (bytes : List ℕ) (m : Message) (told : BoardAnswer) (out : List Message) → board_at v.boards n ≡ Some k
+      → BoardCame game v.sent (boards.Given bytes (Ok Asked)) → Says game bytes m → BoardReceives (book_refusal innings) k m told l → out ≡ []
+      → Leads s (Fits what v) v (with_it v n l out)
   received n k l bytes m told out at came says got empty =
       let found = came m says in
       one s (Fits what v) v (Event.Give found.0 (Station.Board n)) (board_told told) (with_it v n l out) tt
-      (k, l, out, at, (m, told, found.1, subst (λ r. BoardReceives r k m told l) (sym rules) got, refl, empty), refl)
+      (k, l, out, at, (m, told, found.1, rw rules got, refl, empty), refl)
 
   unmoved : (n : ℕ) (k l : BoardState) (out : List Message) → board_at v.boards n ≡ Some k → l ≡ k → out ≡ [] → Leads s (Fits what v) v (with_it v n l out)
   unmoved n k l out at same empty =
-      none s (Fits what v) v (with_it v n l out) (sym ((λ i. record v { boards = with_board v.boards n (same i); sent = v.sent ++ empty i }) ∙ (λ i. record v { boards = same_board v.boards n k at i; sent = append-nil v.sent i })))
+      none s (Fits what v) v (with_it v n l out)
+      (sym ((λ i. record v { boards = with_board v.boards n (same i); sent = v.sent ++ empty i }) ∙ (λ i. record v { boards = same_board v.boards n k at i; sent = append-nil v.sent i })))
 
-  pub board_moment : (n : ℕ) (k l : BoardState) (call : BoardCall) (out : List Message) → board_at v.boards n ≡ Some k → BoardCame game v.sent call → BoardStep game innings k call out l → Leads s (Fits what v) v (with_it v n l out)
+  pub board_moment : (n : ℕ) (k l : BoardState) (call : BoardCall) (out : List Message) → board_at v.boards n ≡ Some k → BoardCame game v.sent call
+      → BoardStep game innings k call out l → Leads s (Fits what v) v (with_it v n l out)
   board_moment n k l (boards.Given bytes (Ok (Bad fault))) out at came h =
       unmoved n k l out at h.0.1 h.1
   board_moment n k l (boards.Given bytes (Ok (Heard x))) out at came h = let t = h.0 in received n k l bytes t.0 (BoardAnswer.Told x) out at came t.1 t.2 h.1

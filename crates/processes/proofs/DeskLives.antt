@@ -66,17 +66,16 @@ module _ {Disk : Type 0} (view : FileVersion → FileView Disk) (seen : Disk →
   abbrev with_run : Node Disk → Process Disk → Node Disk
   with_run x p = record x { process = p }
 
-  calls : (x : Node Disk) (s : Sheet) (k : DeskState Disk) (ms : List (own.Moment (DeskProcess Disk) DeskCall)) → RunsFrom s (view x.version) faults game innings k ms → Goes (with_run x (Running k)) (calls_of innings d s k ms) (with_run x (after_calls k ms))
+  calls : (x : Node Disk) (s : Sheet) (k : DeskState Disk) (ms : List (own.Moment (DeskProcess Disk) DeskCall))
+      → RunsFrom s (view x.version) faults game innings k ms → Goes (with_run x (Running k)) (calls_of innings d s k ms) (with_run x (after_calls k ms))
   calls x s k [] r = ((tt, (k, refl, refl)), refl)
   calls x s k (m ∷ ms) r =
       let before = calls x s k ms (r.0, r.1, r.2.0) in
       let p : DeskProcess Disk = own.last_of (fresh k) ms in
       let last : DeskState Disk = (λ (p : DeskProcess Disk). p.desk) p in
       let this : Happening Disk = DeskCalled d s m.call m.out ((λ (p : DeskProcess Disk). p.desk) m.after) (told_of s innings p m.call m.after) in
-      let may : MayDesk view seen d game innings (with_run x (Running last)) this = (last, refl, r.2.2.1, (p, refl, r.2.2.4, ap (told_of s innings p m.call) r.2.2.3)) in (
-        (before.0, subst (λ (y : Node Disk). MayDesk view seen d game innings y this) (sym before.1) may),
-        ap (λ (y : Node Disk). next_desk y this) before.1,
-      )
+      let may : MayDesk view seen d game innings (with_run x (Running last)) this = (last, refl, r.2.2.1, (p, refl, r.2.2.4, ap (told_of s innings p m.call) r.2.2.3)) in
+      ((before.0, rw before.1 may), ap (λ (y : Node Disk). next_desk y this) before.1)
 
   -- a call whose disk failed prints nothing
   silent : (s : Sheet) (k l : DeskState Disk) (call : DeskCall) → course_after call ≡ Err Device → Tells s innings k call l []

@@ -12,11 +12,13 @@ use Rattle.headline.proofs.Keeping.{begins_fine}
 use Rattle.headline.proofs.Shown.{each_moment, none_keeps_both}
 use Rattle.headline.proofs.EveryRun.{holds_in_run}
 use Rattle.headline.proofs.LawScores.{shown_scored}
-use Rattle.headline.specs.Headline.{AfterEach, ArePenned, ByBoth, NoneKeepsBoth, ShowScores, ShowsScore}
-use Rattle.headline.specs.Match.{Setting, setting_of}
-use Rattle.headline.specs.Runs.{Begins, Moment, Shows}
+use Rattle.headline.specs.Headline.{ArePenned, ByBoth, ShowScores, ShowsScore}
+use Rattle.headline.specs.Match.{setting_of}
+use Rattle.headline.specs.Runs.{Begins, Moment, Shows, AfterEach}
 use Rattle.headline.specs.declared.version.FileVersion.{FileVersion}
 use Rattle.headline.specs.Configurations.{Configuration, all_votes}
+use Rattle.headline.specs.Kept.{NoneKeepsBoth}
+use Rattle.headline.specs.Setting.{Setting}
 use Rattle.corrections.specs.declared.refusal.Refusal.{Refusal}
 use Rattle.live.specs.Saying.{SaysEntry}
 use Rattle.processes.specs.Happenings.{Happening, after}

@@ -1,5 +1,5 @@
 -- What happens to a process is a run of at most two events.
-use Rattle.std.proofs.Common.{◌≡◌, ℕ, Option, Some, None, List, [], ◌++◌, length, refl, sym, ap, subst, append-nil}
+use Rattle.std.proofs.Common.{arith, ◌≡◌, ℕ, Option, Some, None, List, [], length, refl, sym, subst, append-nil}
 use Rattle.corrections.specs.Refusal.{book_refusal}
 use Rattle.corrections.specs.declared.refusal.Refusal.{Refusal}
 use Rattle.agree_core.specs.declared.messages.{DeskId.DeskId, Message.Message}
@@ -10,17 +10,16 @@ use Rattle.agree_core.specs.Desks.{DeskState}
 use Rattle.agree_core.specs.FileView.{MaySync, Stays}
 use Rattle.agree_core.specs.Openings.{OpenRefusal, Opening, Opens}
 use Rattle.entry_log.specs.declared.mem_disk.choice.Choice.{Choice}
-use Rattle.headline.specs.declared.{event.Event.Event, event.Station.Station, fault.Fault.Fault, version.FileVersion.FileVersion}
+use Rattle.headline.specs.declared.{event.Event.Event, fault.Fault.Fault}
 use Rattle.headline.specs.declared.fault.Fault.TheVariants.{Fail}
 use Rattle.headline.specs.declared.version.FileVersion.TheVariants.{Old, New}
-use Rattle.headline.specs.Match.{Setting}
-use Rattle.headline.specs.Configurations.{Process, Running, Down, Node, Configuration, board_at, node, process_disk, process_votes, with_board, with_disk, with_node}
+use Rattle.headline.specs.Setting.{Setting}
+use Rattle.headline.specs.Configurations.{Process, Running, Down, Node, Configuration, board_at, node, process_disk, process_votes, with_board, with_node}
 use Rattle.headline.specs.Answers as answers
 use Rattle.headline.specs.Answers.{Answer}
 use Rattle.headline.specs.DeskFaults.{LosesPower}
 use Rattle.headline.specs.Migrations.{Migrates, MigratesAt, ToNew}
 use Rattle.headline.specs.DeskSteps.{AtDesk}
-use Rattle.headline.specs.Events.{station_of}
 use Rattle.processes.specs.Happenings.{Happening, DeskCalled, DeskEnded, DeskGreeted, PowerLost, DeskBegun, FileMigrated, BoardCalled, BoardBegun, Happens, after_one, begun, migrated, with_process}
 use Rattle.processes.proofs.Going.{Fits, Leads, none, one}
 use Rattle.processes.proofs.BoardSteps.{board_moment, with_it}
@@ -37,52 +36,53 @@ module _ {Disk : Type 0} (s : Setting Disk Refusal) (v : Configuration Disk) (wh
 
     -- no fault is due, as before
     as_before : (p : Process Disk) → Reaches (with_node v d (placed p None) []) → Reaches (with_process v d p [])
-    as_before p h = subst (λ (due : Option Fault). Reaches (with_node v d (placed p due) [])) (sym calm) h
+    as_before p h = rw calm h
 
-    by_event : (event : Event) (answer : Answer Refusal) (p : Process Disk) (due : Option Fault) → station_of event ≡ Station.Desk d → Fits what v v event → AtDesk s v.sent d event (node v d) answer (placed p due) [] → Reaches (with_node v d (placed p due) [])
-    by_event event answer p due e f h = at_desk s v d what event answer (placed p due) [] e f h
-
-    ended : (k : DeskState Disk) (disk : Disk) → (node v d).process ≡ Running k → Stays (s.view d (node v d).version) k.disk disk → Reaches (with_process v d (Down (process_votes (node v d).process) disk) [])
+    ended : (k : DeskState Disk) (disk : Disk) → (node v d).process ≡ Running k → Stays (s.view d (node v d).version) k.disk disk
+        → Reaches (with_process v d (Down (process_votes (node v d).process) disk) [])
     ended k disk at h =
         as_before (Down (process_votes (node v d).process) disk)
-        (by_event (Event.Kill d) answers.Done (Down (process_votes (node v d).process) disk) None refl tt
-        (k, at, (disk, subst (λ (q : Process Disk). Stays (s.view d (node v d).version) (process_disk q) disk) (sym at) h, refl), refl, refl))
+        (at_desk s v d what (Event.Kill d) answers.Done (placed (Down (process_votes (node v d).process) disk) None) [] refl tt
+        (k, at, (disk, rw at h, refl), refl, refl))
 
-    power_lost : (disk : Disk) → LosesPower (s.view d (node v d).version) (process_disk (node v d).process) disk → Reaches (with_process v d (Down (process_votes (node v d).process) disk) [])
+    power_lost : (disk : Disk) → LosesPower (s.view d (node v d).version) (process_disk (node v d).process) disk
+        → Reaches (with_process v d (Down (process_votes (node v d).process) disk) [])
     power_lost disk h =
         as_before (Down (process_votes (node v d).process) disk)
-        (by_event (Event.Power d Choice.Kept) answers.Done (Down (process_votes (node v d).process) disk) None refl tt (disk, h, refl, refl, refl))
+        (at_desk s v d what (Event.Power d Choice.Kept) answers.Done (placed (Down (process_votes (node v d).process) disk) None) [] refl tt (disk, h, refl, refl, refl))
 
     -- a fault falls due at a desk that is down
-    fault_down : (votes : List Ballot) (disk : Disk) → (node v d).process ≡ Down votes disk → AtDesk s v.sent d (Event.FailAt d 1) (node v d) answers.Done (placed (Down votes disk) (Some Fail)) []
-    fault_down votes disk at =
-        let p : Down votes disk ≡ with_disk (node v d).process disk = ap (λ (q : Process Disk). with_disk q disk) (sym at) in
-        ((disk, subst (λ (q : Process Disk). Stays (s.view d (node v d).version) (process_disk q) disk) (sym at) (stays_refl (s.view d (node v d).version) disk), λ i. placed (p i) (Some Fail)), refl, refl)
+    fault_down : (votes : List Ballot) (disk : Disk) → (node v d).process ≡ Down votes disk
+        → AtDesk s v.sent d (Event.FailAt d 1) (node v d) answers.Done (placed (Down votes disk) (Some Fail)) []
+    fault_down votes disk at = rw at ((disk, stays_refl (s.view d (node v d).version) disk, refl), refl, refl)
 
-    not_opened : (votes : List Ballot) (disk left : Disk) → (node v d).process ≡ Down votes disk → MaySync (s.view d (node v d).version) disk left → Reaches (with_process v d (Down votes left) [])
+    not_opened : (votes : List Ballot) (disk left : Disk) → (node v d).process ≡ Down votes disk → MaySync (s.view d (node v d).version) disk left
+        → Reaches (with_process v d (Down votes left) [])
     not_opened votes disk left at h =
         as_before (Down votes left)
         (after_fault s v d what (placed (Down votes disk) (Some Fail)) (Event.Open d) answers.DeviceFailed (placed (Down votes left) None) [] (fault_down votes disk at) refl tt
         (votes, disk, Opening.NotOpened OpenRefusal.DeviceFailed left, refl, h, (Fail, refl, (refl, refl)), refl))
 
-    opened : (votes : List Ballot) (disk : Disk) (opening : Opening Disk) → (node v d).process ≡ Down votes disk → Opens (s.view d (node v d).version) s.rules d disk opening → Reaches (with_process v d (begun votes opening) [])
+    opened : (votes : List Ballot) (disk : Disk) (opening : Opening Disk) → (node v d).process ≡ Down votes disk
+        → Opens (s.view d (node v d).version) s.rules d disk opening → Reaches (with_process v d (begun votes opening) [])
     opened votes disk (Opening.Opened k) at h =
-        by_event (Event.Open d) (answers.Opened (length k.book)) (Running k) (node v d).due refl tt (votes, disk, Opening.Opened k, at, h, (refl, refl), refl)
+        at_desk s v d what (Event.Open d) (answers.Opened (length k.book)) (placed (Running k) (node v d).due) [] refl tt (votes, disk, Opening.Opened k, at, h, (refl, refl), refl)
     opened votes disk (Opening.NotOpened OpenRefusal.Unsound left) at h =
-        by_event (Event.Open d) answers.Unsound (Down votes left) (node v d).due refl tt (votes, disk, Opening.NotOpened OpenRefusal.Unsound left, at, h, (refl, refl), refl)
+        at_desk s v d what (Event.Open d) answers.Unsound (placed (Down votes left) (node v d).due) [] refl tt
+        (votes, disk, Opening.NotOpened OpenRefusal.Unsound left, at, h, (refl, refl), refl)
     opened votes disk (Opening.NotOpened (OpenRefusal.BadVotes place) left) at h =
-        by_event (Event.Open d) answers.NoBook (Down votes left) (node v d).due refl tt (votes, disk, Opening.NotOpened (OpenRefusal.BadVotes place) left, at, h, (refl, refl), refl)
-    opened votes disk (Opening.NotOpened OpenRefusal.NoMemory left) at h = not_opened votes disk left at h
-    opened votes disk (Opening.NotOpened OpenRefusal.DeviceFailed left) at h = not_opened votes disk left at h
+        at_desk s v d what (Event.Open d) answers.NoBook (placed (Down votes left) (node v d).due) [] refl tt
+        (votes, disk, Opening.NotOpened (OpenRefusal.BadVotes place) left, at, h, (refl, refl), refl)
+    opened votes disk (Opening.NotOpened why left) at h = not_opened votes disk left at h
 
   -- the file of a desk that is down is migrated
-  file_migrated : (d : DeskId) (had votes : List Ballot) (disk new : Disk) → (node v d).process ≡ Down had disk → (node v d).version ≡ Old → Migrates (s.view d) disk (ToNew votes new) → Reaches (with_node v d (migrated (node v d) new) [])
+  file_migrated : (d : DeskId) (had votes : List Ballot) (disk new : Disk) → (node v d).process ≡ Down had disk → (node v d).version ≡ Old
+      → Migrates (s.view d) disk (ToNew votes new) → Reaches (with_node v d (migrated (node v d) new) [])
   file_migrated d had votes disk new at old h =
       let y : Node Disk = record (node v d) { version = New; process = Down had new } in
       let at_old : MigratesAt {Why = Refusal} (s.view d) (node v d) Old had disk (answers.Migrated (length votes)) y = (ToNew votes new, h, (refl, refl)) in
       subst (λ (p : Process Disk). Reaches (with_node v d (record (node v d) { version = New; process = Down (process_votes p) new }) [])) (sym at)
-      (at_desk s v d what (Event.Migrate d) (answers.Migrated (length votes)) y [] refl tt
-      (had, disk, at, subst (λ (z : FileVersion). MigratesAt {Why = Refusal} (s.view d) (node v d) z had disk (answers.Migrated (length votes)) y) (sym old) at_old, refl))
+      (at_desk s v d what (Event.Migrate d) (answers.Migrated (length votes)) y [] refl tt (had, disk, at, rw old at_old, refl))
 
   wiped : (n : ℕ) (k : BoardState) → board_at v.boards n ≡ Some k → Reaches (record v { boards = with_board v.boards n fresh_board })
   wiped n k at =
@@ -104,25 +104,19 @@ module _ {Disk : Type 0} where
   calm_put v c d p out = calm_node v c d (record (node v d) { process = p }) out (c d)
 
   calm_boards : (v : Configuration Disk) → IsCalm v → (boards : List BoardState) (sent : List Message) → IsCalm (record v { boards = boards; sent = sent })
-  calm_boards v c boards sent A = c A
-  calm_boards v c boards sent B = c B
+  calm_boards v c boards sent = grind arith
 
   -- so it stays
   pub calm_after : (v : Configuration Disk) → IsCalm v → (what : Happening Disk) → IsCalm (after_one v what)
-  calm_after v c (DeskGreeted d sheet text) = c
-  calm_after v c (DeskCalled d sheet call out l text) = calm_put v c d (Running l) out
-  calm_after v c (DeskEnded d disk) = calm_put v c d (Down (process_votes (node v d).process) disk) []
-  calm_after v c (PowerLost d disk) = calm_put v c d (Down (process_votes (node v d).process) disk) []
-  calm_after v c (DeskBegun d opening) = calm_put v c d (begun (process_votes (node v d).process) opening) []
-  calm_after v c (FileMigrated d votes new) = calm_node v c d (migrated (node v d) new) [] (c d)
-  calm_after v c (BoardCalled n sheet call out l text) = calm_boards v c (with_board v.boards n l) (v.sent ++ out)
-  calm_after v c (BoardBegun n) = calm_boards v c (with_board v.boards n fresh_board) v.sent
+  calm_after v c what = grind (arith, calm_boards, calm_node, calm_put)
 
 module _ {Disk : Type 0} (s : Setting Disk Refusal) (game innings : ℕ) (rules : s.rules ≡ book_refusal innings) (v : Configuration Disk) (calm : IsCalm v) where
-  opens : (what : Happening Disk) (d : DeskId) (votes : List Ballot) (disk : Disk) (opening : Opening Disk) → (node v d).process ≡ Down votes disk → Opens (s.view d (node v d).version) (book_refusal innings) d disk opening → Leads s (Fits what v) v (with_process v d (begun (process_votes (node v d).process) opening) [])
+  opens : (what : Happening Disk) (d : DeskId) (votes : List Ballot) (disk : Disk) (opening : Opening Disk) → (node v d).process ≡ Down votes disk
+      → Opens (s.view d (node v d).version) (book_refusal innings) d disk opening
+      → Leads s (Fits what v) v (with_process v d (begun (process_votes (node v d).process) opening) [])
   opens what d votes disk opening at h =
       subst (λ (p : Process Disk). Leads s (Fits what v) v (with_process v d (begun (process_votes p) opening) [])) (sym at)
-      (opened s v what d (calm d) votes disk opening at (subst (λ r. Opens (s.view d (node v d).version) r d disk opening) (sym rules) h))
+      (opened s v what d (calm d) votes disk opening at (rw rules h))
 
   pub happening : (what : Happening Disk) → Happens s.view game innings v what → Leads s (Fits what v) v (after_one v what)
   happening (DeskGreeted d sheet text) h = none s (Fits (DeskGreeted d sheet text) v) v v refl

@@ -1,8 +1,8 @@
 -- Runs that go on.
-use Rattle.std.proofs.Common.{◌≡◌, ◌≤◌, List, [], ◌∷◌, ◌++◌, length, refl, sym, subst, arith}
+use Rattle.std.proofs.Common.{◌≡◌, ◌≤◌, List, [], ◌∷◌, ◌++◌, length, refl, arith}
 use Rattle.corrections.specs.declared.refusal.Refusal.{Refusal}
 use Rattle.headline.specs.declared.event.Event.{Event}
-use Rattle.headline.specs.Match.{Setting}
+use Rattle.headline.specs.Setting.{Setting}
 use Rattle.headline.specs.Configurations.{Running, Configuration, node}
 use Rattle.agree_core.specs.Desks.{DeskState}
 use Rattle.agree_core.specs.declared.messages.DeskId.{DeskId}
@@ -13,7 +13,7 @@ use Rattle.processes.specs.Happenings.{Happening, DeskCalled}
 use Rattle.headline.specs.Answers.{Answer}
 use Rattle.headline.specs.Steps.{Step}
 use Rattle.headline.specs.Runs.{Moment, Run, last_of}
-use Rattle.headline.specs.Headline.{AtEachEvent}
+use Rattle.headline.specs.Besides.{AtEachEvent}
 use Rattle.processes.specs.Laws.{GoesOn}
 
 -- the event of this configuration fits what happened in the other: a pen is a line that the desk's scorer typed
@@ -40,16 +40,21 @@ module _ {Disk : Type 0} (s : Setting Disk Refusal) where
 
   pub run_on : (w : Configuration Disk) (ms more : List (Moment Disk Refusal)) → Run s w ms → Run s (last_of w ms) more → Run s w (more ++ ms)
   run_on w ms [] r q = r
-  run_on w ms (m ∷ more) r q = (run_on w ms more r q.0, subst (λ (v : Configuration Disk). Step s v m.event m.answer m.after) (sym (last_on w ms more)) q.1)
+  run_on w ms (m ∷ more) r q = (run_on w ms more r q.0, rw (last_on w ms more) q.1)
 
-  pub goes_from : (F : Configuration Disk → Event → Type 0) (w : Configuration Disk) (ms : List (Moment Disk Refusal)) (v new : Configuration Disk) → v ≡ last_of w ms → Run s w ms → Leads F v new → GoesOn s w ms new
+  pub goes_from : (F : Configuration Disk → Event → Type 0) (w : Configuration Disk) (ms : List (Moment Disk Refusal)) (v new : Configuration Disk)
+      → v ≡ last_of w ms → Run s w ms → Leads F v new → GoesOn s w ms new
   goes_from F w ms v new h0 h1 h2 = grind (arith, last_on, run_on)
 
   pub none : (F : Configuration Disk → Event → Type 0) (v new : Configuration Disk) → v ≡ new → Leads F v new
   none F v new e = ([], omega arith, tt, e, tt)
 
-  pub one : (F : Configuration Disk → Event → Type 0) (v : Configuration Disk) (event : Event) (answer : Answer Refusal) (new : Configuration Disk) → F v event → Step s v event answer new → Leads F v new
+  pub one : (F : Configuration Disk → Event → Type 0) (v : Configuration Disk) (event : Event) (answer : Answer Refusal) (new : Configuration Disk) → F v event
+      → Step s v event answer new → Leads F v new
   one F v event answer new f h = (record { event = event; answer = answer; after = new } ∷ [], omega arith, (tt, h), refl, (tt, f))
 
-  pub two : (F : Configuration Disk → Event → Type 0) (v : Configuration Disk) (first second : Event) (answer told : Answer Refusal) (u new : Configuration Disk) → F v first → F u second → Step s v first answer u → Step s u second told new → Leads F v new
-  two F v first second answer told u new f g h j = (record { event = second; answer = told; after = new } ∷ record { event = first; answer = answer; after = u } ∷ [], omega arith, ((tt, h), j), refl, ((tt, f), g))
+  pub two : (F : Configuration Disk → Event → Type 0) (v : Configuration Disk) (first second : Event) (answer told : Answer Refusal) (u new : Configuration Disk)
+      → F v first → F u second → Step s v first answer u → Step s u second told new → Leads F v new
+  two F v first second answer told u new f g h j =
+      let moments : List (Moment Disk Refusal) = record { event = second; answer = told; after = new } ∷ record { event = first; answer = answer; after = u } ∷ [] in
+      (moments, omega arith, ((tt, h), j), refl, ((tt, f), g))

@@ -39,7 +39,8 @@ module _ {B : Type 0} {g : _} (content : B → List Entry) (innings_of : B → �
       let kind = board_kind sheet (board.game_of old) (innings_of (board.book_of old)) in (
         goes.moments,
         subst (λ (k : BoardState). own.Run kind (boards.begun k 0 untold noted) goes.moments) new_board goes.run,
-        subst (λ (k : BoardState). (λ (t : BoardTurn). t.board) (own.last_of (boards.begun k 0 untold noted) goes.moments) ≡ board.state_of content new) new_board (ap (λ (t : BoardTurn). t.board) goes.last ∙ r.is),
+        subst (λ (k : BoardState). (λ (t : BoardTurn). t.board) (own.last_of (boards.begun k 0 untold noted) goes.moments) ≡ board.state_of content new) new_board
+            (ap (λ (t : BoardTurn). t.board) goes.last ∙ r.is),
         goes.passed,
         subst (λ (k : BoardState). Appends (own.known result told) (own.known result tells) (own.printed_in kind (boards.begun k 0 untold noted) goes.moments)) new_board goes.printed,
       )

@@ -1,5 +1,6 @@
 -- Woven lives are a flow.
-use Rattle.std.proofs.Common.{arith, ◌≡◌, ◌<◌, length, ℕ, zero, suc, Bool, true, false, nat_eq, Option, Some, None, List, [], ◌∷◌, ◌++◌, cond, refl, sym, ap, ◌∙◌, subst, append-nil}
+use Rattle.std.proofs.Common.{arith, ◌≡◌, ◌<◌, length, ℕ, zero, suc, Bool, true, false, nat_eq}
+use Rattle.std.proofs.Common.{Option, Some, None, List, [], ◌∷◌, ◌++◌, cond, refl, sym, ap, ◌∙◌, subst, append-nil}
 use Rattle.std.proofs.lemmas.Bool.{eq-eqb}
 use Rattle.std.proofs.Math.Dec.{eqb-suc-suc, eqb-suc-zero, eqb-zero-suc}
 use Rattle.std.specs.List.{filter}
@@ -11,14 +12,14 @@ use Rattle.agree_core.specs.FileView.{FileView}
 use Rattle.headline.specs.declared.version.FileVersion.{FileVersion}
 use Rattle.headline.specs.Configurations.{Process, Node, Configuration, board_at, node, process_disk, with_board, with_node}
 use Rattle.processes.specs.Happenings.{BoardBegun, BoardCalled, BoardCame, DeskBegun, DeskCalled, DeskCame, DeskEnded, DeskGreeted, FileMigrated, Flow, Happening, Happens, PowerLost, after, after_one}
-use Rattle.processes.specs.Weaving.{is_at_board, is_at_desk}
+use Rattle.processes.specs.Weaving.{is_at_board, is_at_desk, same_desk}
 use Rattle.processes.proofs.BoardLives.{BoardLocal, MayBoard, board_after, next_board}
 use Rattle.processes.proofs.Local.{Local}
 use Rattle.processes.proofs.DeskLives.{DeskLocal, MayDesk, desk_after, next_desk}
 
 -- by a test that is false, or true
 tested : (k l : BoardState) (o : Option BoardState) (p q : Bool) → p ≡ q → o ≡ Some (cond q l k) → o ≡ Some (cond p l k)
-tested k l o p q e h = subst (λ (b : Bool). o ≡ Some (cond b l k)) (sym e) h
+tested k l o p q e h = rw e h
 
 set_at : (xs : List BoardState) (n m : ℕ) (k l : BoardState) → slice_get xs m ≡ Some k → slice_get (slice_set xs n l) m ≡ Some (cond (nat_eq m n) l k)
 set_at [] n m k l e = absurd (cc)
@@ -48,7 +49,8 @@ NothingComesEarly game w (h ∷ hs) = NothingComesEarly game w hs × Came game (
 abbrev pub with_one : {X : Type 0} → Bool → X → List X → List X
 with_one test x xs = cond test (x ∷ xs) xs
 
-tail : {State What : Type 0} (next : State → What → State) (May : State → What → Type 0) (s : State) (test : Bool) (x : What) (xs : List What) → Local next May s (with_one test x xs) → Local next May s xs
+tail : {State What : Type 0} (next : State → What → State) (May : State → What → Type 0) (s : State) (test : Bool) (x : What) (xs : List What)
+    → Local next May s (with_one test x xs) → Local next May s xs
 tail next May s test x xs h0 = grind arith
 
 module _ {Disk : Type 0} (view : DeskId → FileVersion → FileView Disk) (seen : Disk → List ℕ) (game innings : ℕ) (w : Configuration Disk) where
@@ -71,39 +73,40 @@ module _ {Disk : Type 0} (view : DeskId → FileVersion → FileView Disk) (seen
     pub boards : (n : ℕ) (k : BoardState) → board_at w.boards n ≡ Some k → board_at v.boards n ≡ Some (board_after Disk game innings k (bs n))
 
   module _ (v : Configuration Disk) (xs ys : List (Happening Disk)) (bs : ℕ → List (Happening Disk)) (s : Stands v xs ys bs) (h : Happening Disk) where
-    may_a : LocalA (h ∷ xs) → MayDesk (view A) seen A game innings v.a h
-    may_a r = subst (λ (x : Node Disk). MayDesk (view A) seen A game innings x h) (sym s.a_is) r.1
-
-    may_b : LocalB (h ∷ ys) → MayDesk (view B) seen B game innings v.b h
-    may_b r = subst (λ (x : Node Disk). MayDesk (view B) seen B game innings x h) (sym s.b_is) r.1
-
-    stands_a : (out : List Message) → Stands (with_node v A (next_desk v.a h) out) (h ∷ xs) ys bs
-    stands_a out = record { a_is = ap (λ (x : Node Disk). next_desk x h) s.a_is; b_is = s.b_is; boards = s.boards }
-
-    stands_b : (out : List Message) → Stands (with_node v B (next_desk v.b h) out) xs (h ∷ ys) bs
-    stands_b out = record { a_is = s.a_is; b_is = ap (λ (x : Node Disk). next_desk x h) s.b_is; boards = s.boards }
+    at_desk : (d : DeskId) (out : List Message) → LocalA (with_one (same_desk A d) h xs) → LocalB (with_one (same_desk B d) h ys)
+        → MayDesk (view d) seen d game innings (node v d) h
+        × Stands (with_node v d (next_desk (node v d) h) out) (with_one (same_desk A d) h xs) (with_one (same_desk B d) h ys) bs
+    at_desk A out a b = (rw s.a_is a.1, record { a_is = ap (λ (x : Node Disk). next_desk x h) s.a_is; b_is = s.b_is; boards = s.boards })
+    at_desk B out a b = (rw s.b_is b.1, record { a_is = s.a_is; b_is = ap (λ (x : Node Disk). next_desk x h) s.b_is; boards = s.boards })
 
     -- the board is there, and it may happen there
-    at_there : (n : ℕ) (o : Option BoardState) → board_at w.boards n ≡ o → ((k : BoardState) → board_at w.boards n ≡ Some k → BoardLocal Disk game innings k (h ∷ bs n)) → (board_at w.boards n ≡ None → h ∷ bs n ≡ []) → (k : BoardState) × (board_at v.boards n ≡ Some k) × MayBoard Disk game innings k h
+    at_there : (n : ℕ) (o : Option BoardState) → board_at w.boards n ≡ o
+        → ((k : BoardState) → board_at w.boards n ≡ Some k → BoardLocal Disk game innings k (h ∷ bs n)) → (board_at w.boards n ≡ None → h ∷ bs n ≡ [])
+        → (k : BoardState) × (board_at v.boards n ≡ Some k) × MayBoard Disk game innings k h
     at_there n (Some k) e t f = (board_after Disk game innings k (bs n), s.boards n k e, (t k e).1)
     at_there n None e t f = absurd (no_item h (bs n) (f e))
 
-    there : (n : ℕ) → LocalBoards (λ m. with_one (nat_eq m n) h (bs m)) → NoOthers (λ m. with_one (nat_eq m n) h (bs m)) → (k : BoardState) × (board_at v.boards n ≡ Some k) × MayBoard Disk game innings k h
+    there : (n : ℕ) → LocalBoards (λ m. with_one (nat_eq m n) h (bs m)) → NoOthers (λ m. with_one (nat_eq m n) h (bs m))
+        → (k : BoardState) × (board_at v.boards n ≡ Some k) × MayBoard Disk game innings k h
     there n t f =
         at_there n (board_at w.boards n) refl
         (λ k e. subst (λ (q : Bool). BoardLocal Disk game innings k (with_one q h (bs n))) (eq-eqb n n refl) (t n k e))
         (λ e. subst (λ (q : Bool). with_one q h (bs n) ≡ []) (eq-eqb n n refl) (f n e))
 
-    pushed : (j l : BoardState) (m : ℕ) (q : Bool) → next_board (board_after Disk game innings j (bs m)) h ≡ l → cond q l (board_after Disk game innings j (bs m)) ≡ board_after Disk game innings j (with_one q h (bs m))
+    pushed : (j l : BoardState) (m : ℕ) (q : Bool) → next_board (board_after Disk game innings j (bs m)) h ≡ l
+        → cond q l (board_after Disk game innings j (bs m)) ≡ board_after Disk game innings j (with_one q h (bs m))
     pushed j l m true e = sym e
     pushed j l m false e = refl
 
-    stands_board : (n : ℕ) (l : BoardState) (out : List Message) → ((k : BoardState) → next_board k h ≡ l) → Stands (record v { boards = with_board v.boards n l; sent = v.sent ++ out }) xs ys (λ m. with_one (nat_eq m n) h (bs m))
+    stands_board : (n : ℕ) (l : BoardState) (out : List Message) → ((k : BoardState) → next_board k h ≡ l)
+        → Stands (record v { boards = with_board v.boards n l; sent = v.sent ++ out }) xs ys (λ m. with_one (nat_eq m n) h (bs m))
     stands_board n l out e =
         record {
           a_is = s.a_is;
           b_is = s.b_is;
-          boards = λ m j at. board_set v.boards n m (board_after Disk game innings j (bs m)) l (s.boards m j at) ∙ ap Some (pushed j l m (nat_eq m n) (e (board_after Disk game innings j (bs m))));
+          boards = λ m j at.
+              let was = board_after Disk game innings j (bs m) in
+              board_set v.boards n m was l (s.boards m j at) ∙ ap Some (pushed j l m (nat_eq m n) (e was));
         }
 
   abbrev pub HasBytes : Configuration Disk → Type 0
@@ -119,35 +122,25 @@ module _ {Disk : Type 0} (view : DeskId → FileVersion → FileView Disk) (seen
       × Stands (after_one v h) (with_one (is_at_desk A h) h xs) (with_one (is_at_desk B h) h ys) (λ n. with_one (is_at_board n h) h (bs n))
 
   moves : (h : Happening Disk) → Moves h
-  moves (DeskGreeted A sheet text) v xs ys bs s a b t o f c =
-      (may_a v xs ys bs s (DeskGreeted A sheet text) a, record { a_is = s.a_is; b_is = s.b_is; boards = s.boards })
-  moves (DeskGreeted B sheet text) v xs ys bs s a b t o f c =
-      (may_b v xs ys bs s (DeskGreeted B sheet text) b, record { a_is = s.a_is; b_is = s.b_is; boards = s.boards })
-  moves (DeskCalled A sheet call out l text) v xs ys bs s a b t o f c =
-      let m = may_a v xs ys bs s (DeskCalled A sheet call out l text) a in
-      ((m.0, m.1, c, m.2, m.3), stands_a v xs ys bs s (DeskCalled A sheet call out l text) out)
-  moves (DeskCalled B sheet call out l text) v xs ys bs s a b t o f c =
-      let m = may_b v xs ys bs s (DeskCalled B sheet call out l text) b in
-      ((m.0, m.1, c, m.2, m.3), stands_b v xs ys bs s (DeskCalled B sheet call out l text) out)
-  moves (DeskEnded A disk) v xs ys bs s a b t o f c = (may_a v xs ys bs s (DeskEnded A disk) a, stands_a v xs ys bs s (DeskEnded A disk) [])
-  moves (DeskEnded B disk) v xs ys bs s a b t o f c = (may_b v xs ys bs s (DeskEnded B disk) b, stands_b v xs ys bs s (DeskEnded B disk) [])
-  moves (PowerLost A disk) v xs ys bs s a b t o f c = (may_a v xs ys bs s (PowerLost A disk) a, stands_a v xs ys bs s (PowerLost A disk) [])
-  moves (PowerLost B disk) v xs ys bs s a b t o f c = (may_b v xs ys bs s (PowerLost B disk) b, stands_b v xs ys bs s (PowerLost B disk) [])
-  moves (DeskBegun A opening) v xs ys bs s a b t o f c =
-      let m = may_a v xs ys bs s (DeskBegun A opening) a in
-      ((m.0, m.1, m.2, m.3.1 (subst (λ (p : Process Disk). 0 < length (seen (process_disk p))) m.2 (f A))), stands_a v xs ys bs s (DeskBegun A opening) [])
-  moves (DeskBegun B opening) v xs ys bs s a b t o f c =
-      let m = may_b v xs ys bs s (DeskBegun B opening) b in
-      ((m.0, m.1, m.2, m.3.1 (subst (λ (p : Process Disk). 0 < length (seen (process_disk p))) m.2 (f B))), stands_b v xs ys bs s (DeskBegun B opening) [])
-  moves (FileMigrated A votes new) v xs ys bs s a b t o f c = (may_a v xs ys bs s (FileMigrated A votes new) a, stands_a v xs ys bs s (FileMigrated A votes new) [])
-  moves (FileMigrated B votes new) v xs ys bs s a b t o f c = (may_b v xs ys bs s (FileMigrated B votes new) b, stands_b v xs ys bs s (FileMigrated B votes new) [])
+  moves (DeskGreeted A sheet text) v xs ys bs s a b t o f c = (rw s.a_is a.1, record { a_is = s.a_is; b_is = s.b_is; boards = s.boards })
+  moves (DeskGreeted B sheet text) v xs ys bs s a b t o f c = (rw s.b_is b.1, record { a_is = s.a_is; b_is = s.b_is; boards = s.boards })
+  moves (DeskCalled d sheet call out l text) v xs ys bs s a b t o f c =
+      let m = at_desk v xs ys bs s (DeskCalled d sheet call out l text) d out a b in
+      ((m.0.0, m.0.1, c, m.0.2, m.0.3), m.1)
+  moves (DeskEnded d disk) v xs ys bs s a b t o f c = at_desk v xs ys bs s (DeskEnded d disk) d [] a b
+  moves (PowerLost d disk) v xs ys bs s a b t o f c = at_desk v xs ys bs s (PowerLost d disk) d [] a b
+  moves (DeskBegun d opening) v xs ys bs s a b t o f c =
+      let m = at_desk v xs ys bs s (DeskBegun d opening) d [] a b in
+      ((m.0.0, m.0.1, m.0.2, m.0.3.1 (subst (λ (p : Process Disk). 0 < length (seen (process_disk p))) m.0.2 (f d))), m.1)
+  moves (FileMigrated d votes new) v xs ys bs s a b t o f c = at_desk v xs ys bs s (FileMigrated d votes new) d [] a b
   moves (BoardCalled n sheet call out l text) v xs ys bs s a b t o f c =
       let m = there v xs ys bs s (BoardCalled n sheet call out l text) n t o in
       ((m.0, m.1, c, m.2.0, m.2.1), stands_board v xs ys bs s (BoardCalled n sheet call out l text) n l out (λ k. refl))
   moves (BoardBegun n) v xs ys bs s a b t o f c =
       let m = there v xs ys bs s (BoardBegun n) n t o in
       let stands = stands_board v xs ys bs s (BoardBegun n) n fresh_board [] (λ k. refl) in
-      ((m.0, m.1), subst (λ (sent : List Message). Stands (record v { boards = with_board v.boards n fresh_board; sent = sent }) xs ys (λ m. with_one (nat_eq m n) (BoardBegun n) (bs m))) (append-nil v.sent) stands)
+      let boards = with_board v.boards n fresh_board in
+      ((m.0, m.1), subst (λ (sent : List Message). Stands (record v { boards = boards; sent = sent }) xs ys (λ m. with_one (nat_eq m n) (BoardBegun n) (bs m))) (append-nil v.sent) stands)
 
   no_tail : (q : Bool) (h : Happening Disk) (xs : List (Happening Disk)) → with_one q h xs ≡ [] → xs ≡ []
   no_tail true h xs e = absurd (no_item h xs e)
@@ -156,7 +149,9 @@ module _ {Disk : Type 0} (view : DeskId → FileVersion → FileView Disk) (seen
   abbrev of_boards : List (Happening Disk) → ℕ → List (Happening Disk)
   of_boards hs n = filter (is_at_board n) hs
 
-  weaves : (hs : List (Happening Disk)) → NothingComesEarly game w hs → LocalA (filter (is_at_desk A) hs) → LocalB (filter (is_at_desk B) hs) → LocalBoards (of_boards hs) → NoOthers (of_boards hs) → ((gs : List (Happening Disk)) → Flow view game innings w gs → HasBytes (after w gs)) → Flow view game innings w hs × Stands (after w hs) (filter (is_at_desk A) hs) (filter (is_at_desk B) hs) (of_boards hs)
+  weaves : (hs : List (Happening Disk)) → NothingComesEarly game w hs → LocalA (filter (is_at_desk A) hs) → LocalB (filter (is_at_desk B) hs)
+      → LocalBoards (of_boards hs) → NoOthers (of_boards hs) → ((gs : List (Happening Disk)) → Flow view game innings w gs → HasBytes (after w gs))
+      → Flow view game innings w hs × Stands (after w hs) (filter (is_at_desk A) hs) (filter (is_at_desk B) hs) (of_boards hs)
   weaves [] c a b t o f = (tt, record { a_is = refl; b_is = refl; boards = λ n k e. e })
   weaves (h ∷ hs) c a b t o f =
       let before = weaves hs c.0 (tail next_desk (MayDesk (view A) seen A game innings) w.a (is_at_desk A h) h (filter (is_at_desk A) hs) a)
@@ -166,5 +161,7 @@ module _ {Disk : Type 0} (view : DeskId → FileVersion → FileView Disk) (seen
       let m = moves h (after w hs) (filter (is_at_desk A) hs) (filter (is_at_desk B) hs) (of_boards hs) before.1 a b t o (f hs before.0) c.1 in
       ((before.0, m.0), m.1)
 
-  pub woven : (hs : List (Happening Disk)) → NothingComesEarly game w hs → LocalA (filter (is_at_desk A) hs) → LocalB (filter (is_at_desk B) hs) → LocalBoards (of_boards hs) → NoOthers (of_boards hs) → ((gs : List (Happening Disk)) → Flow view game innings w gs → HasBytes (after w gs)) → Flow view game innings w hs
+  pub woven : (hs : List (Happening Disk)) → NothingComesEarly game w hs → LocalA (filter (is_at_desk A) hs) → LocalB (filter (is_at_desk B) hs)
+      → LocalBoards (of_boards hs) → NoOthers (of_boards hs) → ((gs : List (Happening Disk)) → Flow view game innings w gs → HasBytes (after w gs))
+      → Flow view game innings w hs
   woven hs c a b t o f = let g = weaves hs c a b t o f in g.0

@@ -55,7 +55,9 @@ now_so P w (x ∷ hs) h = h.0
 
 module _ {Disk : Type 0} (seen : Disk → List ℕ) (images : Disk → Images) (faults : Disk → Faults) where
   -- so at each desk there are bytes
-  has_bytes : (contents : FileVersion → FileContents) (game innings : ℕ) (version : FileVersion) (boards : ℕ) (w : Configuration Disk) (hs : List (Happening Disk)) → NoneShowNone contents game → IsFlow seen images contents game innings version boards w hs → (d : DeskId) → 0 < length (seen (process_disk (node (after w hs) d).process))
+  has_bytes : (contents : FileVersion → FileContents) (game innings : ℕ) (version : FileVersion) (boards : ℕ) (w : Configuration Disk) (hs : List (Happening Disk))
+      → NoneShowNone contents game → IsFlow seen images contents game innings version boards w hs → (d : DeskId)
+      → 0 < length (seen (process_disk (node (after w hs) d).process))
   has_bytes contents game innings version boards w hs none f d =
       let s = setting_of contents seen images game innings in
       let p = flow_runs s game innings refl w (begins_calm s version boards w f.0) hs f.1 in

@@ -1,6 +1,6 @@
 -- The worked life is such as what happens to processes.
 use Rattle.std.proofs.Common.{◌≡◌, ℕ, zero, suc, Some, None, List, [], ◌∷◌, Ok, refl, sym, ap, ◌∙◌, inl, arith}
-use Rattle.std.specs.Prelude.{codes}
+use Rattle.std.specs.Prelude.{All, codes}
 use Rattle.std.specs.Fmt.{digits}
 use Rattle.std.specs.List.{filter}
 use Rattle.std.proofs.lemmas.Bool.{ne_eqb}
@@ -44,7 +44,8 @@ use Rattle.live.specs.Saying.{SaysEntry}
 use Rattle.processes.specs.Lives.{Beginning, BoardProcess, BoardRuns, CallsMade, IsBoardLife, IsLife, ProcessEnd, RunsFrom, Stage, board_happens, fresh_turn, life_happens}
 use Rattle.processes.specs.Sealing.{IsAuthentic}
 use Rattle.processes.specs.Weaving.{is_at_board, is_at_desk, start}
-use Rattle.processes.specs.Worked.{LivedIsWoven, a_again, a_bytes, a_penned, a_says, b_bytes, b_noted, b_penned, b_says, board_agreed, board_noted, disk_with, disk_without, lived, new_desk, no_faults, the_vote, toy}
+use Rattle.processes.specs.Worked.{LivedIsWoven, a_again, a_bytes, a_penned, a_says, b_bytes, b_noted, b_penned, b_says}
+use Rattle.processes.specs.Worked.{board_agreed, board_noted, disk_with, disk_without, lived, new_desk, no_faults, the_vote, toy}
 
 only_is : (file image : List ℕ) → IsImage (only file) image → image ≡ file
 only_is [] [] h = refl
@@ -81,8 +82,20 @@ taken n = refl
 blameless : (within : Type 0) (disk left : List ℕ) → BlamesDisk Device within further (no_faults disk) (no_faults left)
 blameless within disk left = record { failed = λ h. cc; same = λ h. refl; calm = λ due fits h. cc; spent = λ once fits h. cc }
 
+still : {X within : Type 0} → X → BlamesDisk Device within further (no_faults disk_without) (no_faults disk_without)
+still {within = within} x = blameless within disk_without disk_without
+
+stores : {X within : Type 0} → X → BlamesDisk Device within further (no_faults disk_without) (no_faults disk_with)
+stores {within = within} x = blameless within disk_without disk_with
+
 is_message : (d : DeskId) → IsMessage (Message.Vote (vote_of d the_vote))
 is_message d = ((omega arith, omega arith), tt)
+
+none_out : All IsMessage []
+none_out = All-nil IsMessage
+
+vote_out : (d : DeskId) → All IsMessage (Message.Vote (vote_of d the_vote) ∷ [])
+vote_out d = All-cons IsMessage (Message.Vote (vote_of d the_vote)) [] (is_message d) none_out
 
 -- a station had sealed it
 a_sealed : (seal : List ℕ) (more : List Message) → IsAuthentic seal 7 (a_says ∷ more) a_bytes
@@ -109,101 +122,59 @@ module _ (s : Sheet) where
   says : SaysEntry s [] [] 0 (codes "void") (Write Void)
   says = inl (codes "void", refl, (tt, full_lines_stand s [] (Write Void) tt))
 
-  a_runs : RunsFrom s (view A) no_faults 7 1 (new_desk A) (pens ∷ [])
-  a_runs = (
-    (λ n. n),
-    0,
-    (
-      tt,
-      All-cons IsMessage a_says [] (is_message A) (All-nil IsMessage),
-      (
-        refl,
-        (says, (((refl, refl), ((omega arith, omega arith), omega arith), taken 1), ((refl, refl), refl, refl, refl, holds_one A), refl)),
-        (λ sound. blameless _ disk_without disk_with),
-        refl,
-        tt,
-      ),
-    ),
-  )
+  a_pens : desks.DeskStep s (view A) 7 1 (new_desk A) (desks.Typed (codes "void") (Penned (Write Void) Settled.Pending)) (a_says ∷ []) a_penned
+  a_pens = (says, (((refl, refl), ((omega arith, omega arith), omega arith), taken 1), ((refl, refl), refl, refl, refl, holds_one A), refl))
 
-  a_lives : IsLife (λ version. file_view (toy version) (λ disk. disk) only A 7) (λ disk. disk) no_faults A 7 1 (node (start New 1 (new_desk A) (new_desk B)) A) life_of_a
-  a_lives = (
-    (
-      (
-        (
-          (tt, (refl, a_runs)),
-          (a_penned, refl, stays A disk_with),
-        ),
-        (the_vote ∷ [], disk_with, refl, ((λ none. tt), (λ some. inl (stays A disk_with)))),
-      ),
-      (the_vote ∷ [], disk_with, refl, ((λ none. absurd (omega (arith, none))), (λ some. (one_read A, (taken 1, tt), holds_one A, refl)))),
-    ),
-    (refl, ((λ n. n), 0, tt)),
-  )
+  a_runs : RunsFrom s (view A) no_faults 7 1 (new_desk A) (pens ∷ [])
+  a_runs = ((λ n. n), 0, (tt, vote_out A, (refl, a_pens, stores, refl, tt)))
+
+  abbrev LivesAsA : List (Stage (List ℕ)) → Type 0
+  LivesAsA = IsLife (λ version. file_view (toy version) (λ disk. disk) only A 7) (λ disk. disk) no_faults A 7 1 (node (start New 1 (new_desk A) (new_desk B)) A)
+
+  a_not_opened : LivesAsA (Beginning (NotOpened OpenRefusal.DeviceFailed disk_with) ∷ ProcessEnd disk_with ∷ CallsMade s (new_desk A) (pens ∷ []) ∷ [])
+  a_not_opened = (((tt, (refl, a_runs)), (a_penned, refl, stays A disk_with)), (the_vote ∷ [], disk_with, refl, ((λ none. tt), (λ some. inl (stays A disk_with)))))
+
+  a_opened : LivesAsA (Beginning (Opened a_again) ∷ Beginning (NotOpened OpenRefusal.DeviceFailed disk_with) ∷ ProcessEnd disk_with ∷ CallsMade s (new_desk A) (pens ∷ []) ∷ [])
+  a_opened = (a_not_opened, (the_vote ∷ [], disk_with, refl, ((λ none. absurd (omega (arith, none))), (λ some. (one_read A, (taken 1, tt), holds_one A, refl)))))
+
+  a_lives : LivesAsA life_of_a
+  a_lives = (a_opened, (refl, ((λ n. n), 0, tt)))
 
   -- ---- desk B
-
-  abbrev notes : own.Moment (desks.DeskProcess (List ℕ)) desks.DeskCall
-  notes = record {
-    call = desks.Given a_bytes (Heard hearing.Heard.Noted);
-    out = [];
-    after = desks.after_call (fresh (new_desk B)) (desks.Given a_bytes (Heard hearing.Heard.Noted)) b_noted;
-  }
 
   abbrev b_knows : desks.DeskProcess (List ℕ)
   b_knows = desks.after_call (fresh (new_desk B)) (desks.Given a_bytes (Heard hearing.Heard.Noted)) b_noted
 
+  abbrev b_reminded : desks.DeskProcess (List ℕ)
+  b_reminded = desks.after_call b_knows (desks.Reminded HasWritten) b_noted
+
+  abbrev notes : own.Moment (desks.DeskProcess (List ℕ)) desks.DeskCall
+  notes = record { call = desks.Given a_bytes (Heard hearing.Heard.Noted); out = []; after = b_knows }
+
   abbrev reminds : own.Moment (desks.DeskProcess (List ℕ)) desks.DeskCall
-  reminds = record {
-    call = desks.Reminded HasWritten;
-    out = [];
-    after = desks.after_call b_knows (desks.Reminded HasWritten) b_noted;
-  }
+  reminds = record { call = desks.Reminded HasWritten; out = []; after = b_reminded }
 
   abbrev pens_too : own.Moment (desks.DeskProcess (List ℕ)) desks.DeskCall
   pens_too = record {
     call = desks.Typed (codes "void") (Penned (Write Void) Settled.Agreed);
     out = b_says ∷ [];
-    after = desks.after_call (desks.after_call b_knows (desks.Reminded HasWritten) b_noted)
-        (desks.Typed (codes "void") (Penned (Write Void) Settled.Agreed)) b_penned;
+    after = desks.after_call b_reminded (desks.Typed (codes "void") (Penned (Write Void) Settled.Agreed)) b_penned;
   }
 
+  b_notes : desks.DeskStep s (view B) 7 1 (new_desk B) (desks.Given a_bytes (Heard hearing.Heard.Noted)) [] b_noted
+  b_notes = (a_says, (is_message A, refl), (refl, (((λ e. cc), refl), refl, refl, refl), stays B disk_without, refl, refl))
+
+  b_pens : desks.DeskStep s (view B) 7 1 b_noted (desks.Typed (codes "void") (Penned (Write Void) Settled.Agreed)) (b_says ∷ []) b_penned
+  b_pens = (says, (((refl, refl), ((omega arith, omega arith), omega arith), taken 1), ((refl, refl), refl, refl, refl, holds_one B), refl))
+
+  abbrev kind_of_b : own.Kind (desks.DeskProcess (List ℕ)) desks.DeskCall
+  kind_of_b = desks.desk_kind s (view B) (record { faults = no_faults; FitsLongest = desks.FitsLongest (λ n. n) 0 }) 7 1
+
+  b_is_told : own.Run kind_of_b (fresh (new_desk B)) (reminds ∷ notes ∷ [])
+  b_is_told = ((tt, none_out, (refl, b_notes, still, refl, tt)), none_out, (refl, (refl, refl), still, refl, (refl, refl, refl)))
+
   b_runs : RunsFrom s (view B) no_faults 7 1 (new_desk B) (pens_too ∷ reminds ∷ notes ∷ [])
-  b_runs = (
-    (λ n. n),
-    0,
-    (
-      (
-        (
-          tt,
-          All-nil IsMessage,
-          (
-            refl,
-            (a_says, (is_message A, refl), (refl, (((λ e. cc), refl), refl, refl, refl), stays B disk_without, refl, refl)),
-            (λ sound. blameless _ disk_without disk_without),
-            refl,
-            tt,
-          ),
-        ),
-        All-nil IsMessage,
-        (
-          refl,
-          (refl, refl),
-          (λ sound. blameless _ disk_without disk_without),
-          refl,
-          (refl, refl, refl),
-        ),
-      ),
-      All-cons IsMessage b_says [] (is_message B) (All-nil IsMessage),
-      (
-        refl,
-        (says, (((refl, refl), ((omega arith, omega arith), omega arith), taken 1), ((refl, refl), refl, refl, refl, holds_one B), refl)),
-        (λ sound. blameless _ disk_without disk_with),
-        refl,
-        tt,
-      ),
-    ),
-  )
+  b_runs = ((λ n. n), 0, (b_is_told, vote_out B, (refl, b_pens, stores, refl, tt)))
 
   abbrev life_at : DeskId → List (Stage (List ℕ))
   life_at A = life_of_a
@@ -218,20 +189,17 @@ module _ (s : Sheet) where
 
   -- ---- the board
 
+  abbrev after_noted : boards.BoardTurn
+  after_noted = boards.after_call (fresh_turn []) (boards.Given a_bytes (Ok (Heard hearing.Heard.Noted))) board_noted
+
+  abbrev after_agreed : boards.BoardTurn
+  after_agreed = boards.after_call after_noted (boards.Given b_bytes (Ok (Heard hearing.Heard.Agreed))) board_agreed
+
   abbrev hears : own.Moment boards.BoardTurn boards.BoardCall
-  hears = record {
-    call = boards.Given a_bytes (Ok (Heard hearing.Heard.Noted));
-    out = [];
-    after = boards.after_call (fresh_turn []) (boards.Given a_bytes (Ok (Heard hearing.Heard.Noted))) board_noted;
-  }
+  hears = record { call = boards.Given a_bytes (Ok (Heard hearing.Heard.Noted)); out = []; after = after_noted }
 
   abbrev hears_both : own.Moment boards.BoardTurn boards.BoardCall
-  hears_both = record {
-    call = boards.Given b_bytes (Ok (Heard hearing.Heard.Agreed));
-    out = [];
-    after = boards.after_call (boards.after_call (fresh_turn []) (boards.Given a_bytes (Ok (Heard hearing.Heard.Noted))) board_noted)
-        (boards.Given b_bytes (Ok (Heard hearing.Heard.Agreed))) board_agreed;
-  }
+  hears_both = record { call = boards.Given b_bytes (Ok (Heard hearing.Heard.Agreed)); out = []; after = after_agreed }
 
   abbrev shows : own.Moment boards.BoardTurn boards.BoardCall
   shows = record { call = boards.TurnEnded; out = []; after = boards.begun board_agreed 1 untold [] }
@@ -239,20 +207,14 @@ module _ (s : Sheet) where
   abbrev board_life : BoardProcess
   board_life = record { sheet = s; noted = []; calls = shows ∷ hears_both ∷ hears ∷ [] }
 
+  board_notes : boards.TurnStep 7 1 (fresh_turn []) (boards.Given a_bytes (Ok (Heard hearing.Heard.Noted))) [] after_noted
+  board_notes = (omega arith, ((a_says, (is_message A, refl), ((refl, refl, refl, refl), (λ e. cc), refl)), refl), refl)
+
+  board_agrees : boards.TurnStep 7 1 after_noted (boards.Given b_bytes (Ok (Heard hearing.Heard.Agreed))) [] after_agreed
+  board_agrees = (omega arith, ((b_says, (is_message B, refl), ((refl, refl, refl, refl), (λ e. taken 1), refl)), refl), refl)
+
   board_runs : BoardRuns 7 1 s [] (shows ∷ hears_both ∷ hears ∷ [])
-  board_runs = (
-    (
-      (
-        tt,
-        All-nil IsMessage,
-        (omega arith, ((a_says, (is_message A, refl), ((refl, refl, refl, refl), (λ e. cc), refl)), refl), refl),
-      ),
-      All-nil IsMessage,
-      (omega arith, ((b_says, (is_message B, refl), ((refl, refl, refl, refl), (λ e. taken 1), refl)), refl), refl),
-    ),
-    All-nil IsMessage,
-    (tt, (refl, refl), refl),
-  )
+  board_runs = (((tt, none_out, board_notes), none_out, board_agrees), none_out, (tt, (refl, refl), refl))
 
   elsewhere : (n : ℕ) → filter (is_at_board (suc (suc n))) (lived s) ≡ []
   elsewhere n = rw (ne_eqb (suc (suc n)) 1 (λ e. omega (arith, e))) refl

@@ -9,7 +9,8 @@ use Rattle.agree_core.specs.Desks.{DeskState}
 use Rattle.headline.specs.declared.event.Station.{Station}
 use Rattle.headline.specs.Configurations.{Running, Configuration, all_votes, node}
 use Rattle.headline.specs.Runs.{Shows}
-use Rattle.headline.specs.Headline.{ByBoth, NoneKeepsBoth, ShowScores, ShowsScore}
+use Rattle.headline.specs.Headline.{ByBoth, ShowScores, ShowsScore}
+use Rattle.headline.specs.Kept.{NoneKeepsBoth}
 use Rattle.live.specs.Desks as desks
 use Rattle.live.specs.Saying.{SaysEntry}
 use Rattle.processes.specs.Happenings.{BoardCalled, DeskCalled, DeskGreeted, Happening, after}

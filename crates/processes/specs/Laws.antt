@@ -12,7 +12,8 @@ use Rattle.headline.specs.declared.version.FileVersion.{FileVersion}
 use Rattle.headline.specs.Configurations.{Running, Configuration, board_at, node, with_board}
 use Rattle.headline.specs.Runs.{Begins, Moment, Run, last_of}
 use Rattle.headline.specs.Laws.{HoldsInRun}
-use Rattle.headline.specs.Match.{Setting, setting_of}
+use Rattle.headline.specs.Match.{setting_of}
+use Rattle.headline.specs.Setting.{Setting}
 use Rattle.live.specs.Boards.{BoardCall, BoardStep}
 use Rattle.live.specs.Desks.{DeskCall, DeskStep}
 use Rattle.processes.specs.Happenings.{BoardCame, DeskCame, Flow, Happening, after, with_process}

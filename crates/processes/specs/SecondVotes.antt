@@ -9,8 +9,9 @@ use Rattle.wire.specs.declared.what.What.TheVariants.{Heard}
 use Rattle.wire.specs.Layout.{Says}
 use Rattle.headline.specs.declared.event.Station.{Station}
 use Rattle.headline.specs.Configurations.{Configuration}
-use Rattle.headline.specs.Noted.{kept_at, position_at}
+use Rattle.headline.specs.Noted.{position_at}
 use Rattle.headline.specs.Runs.{Shows}
+use Rattle.headline.specs.Kept.{kept_at}
 use Rattle.live.specs.Boards as boards
 use Rattle.live.specs.Boards.{BoardCall}
 use Rattle.live.specs.Desks as desks

@@ -1,13 +1,11 @@
 -- An event at a board is a step of the definitions there, and a step of the world.
-use Rattle.std.proofs.Common.{◌≡◌, ◌⊎◌, ℕ, zero, suc, ◌+◌, ◌-◌, ◌<◌, Bool, true, false, Option, Some, None, List, []}
+use Rattle.std.proofs.Common.{◌≡◌, ◌⊎◌, ℕ, zero, suc, ◌+◌, ◌-◌, Bool, true, false, Option, Some, None, List, []}
 use Rattle.std.proofs.Common.{◌∷◌, ◌++◌, length, map, refl, sym, ap, ◌∙◌, subst, inl, inr, Result, Ok, Err, add-one, arith, ⊎_elim}
-use Rattle.std.specs.Prelude.{All, IfErr, IfOk, OnOk, get_or, nat_le, option_map, slice_get, slice_set}
-use Rattle.std.specs.Option.{is_none}
-use Rattle.std.proofs.Math.Dec.{leb-zero, leb-suc-zero, leb-suc-suc}
+use Rattle.std.specs.Prelude.{IfErr, IfOk, OnOk, get_or, option_map, slice_get, slice_set}
 use Rattle.std.proofs.lemmas.List.{length-map, map-append, map-set, set-get_or}
-use Rattle.std.proofs.lemmas.Bool.{leb-false}
-use Rattle.std.proofs.lemmas.List.Elements.{All-get_or, All-nil, All-push, All-set}
-use Rattle.std.proofs.lemmas.Option.{get_or_from_slice_get, slice_get-get_or, slice_get-map, slice_get_within}
+use Rattle.std.proofs.lemmas.Bool.Decides.{nat_tests}
+use Rattle.std.proofs.lemmas.List.Elements.{All-nil, All-push, All-set}
+use Rattle.std.proofs.lemmas.Option.{get_or_from_slice_get, slice_get-get_or, slice_get-map, slice_get_cases}
 use Rattle.corrections.specs.declared.refusal.Refusal.{Refusal}
 use Rattle.entry_log.specs.declared.mem_disk.MemDisk.{MemDisk}
 use Rattle.agree_core.specs.declared.messages.{DeskId.DeskId, Message.Message}
@@ -23,34 +21,33 @@ use Rattle.wire.proofs.FaultLemmas.{reads_once}
 use Rattle.wire.proofs.MessageLemmas.{says_once}
 use Rattle.headline.specs.declared.{event.Event.Event, event.Station.Station, version.FileVersion.FileVersion}
 use Rattle.schedule_replay.specs.declared.{seen.Seen.Seen, seen.WorldRefusal.WorldRefusal, site.Site.Site, world_desk.WorldDesk.WorldDesk, world.World.World}
-use Rattle.headline.specs.Configurations.{Running, Node, Configuration, board_at, fresh_boards, node, process_disk, with_board}
+use Rattle.headline.specs.Configurations.{Running, Node, Configuration, board_at, fresh_boards, with_board}
 use Rattle.headline.specs.Events.{station_of}
-use Rattle.headline.specs.Answers.{Answer}
-use Rattle.headline.specs.BoardSteps.{AtBoard, board_told}
+use Rattle.headline.specs.Answers.{Answer, board_told}
+use Rattle.headline.specs.BoardSteps.{AtBoard}
 use Rattle.headline.specs.Steps.{StepAt}
-use Rattle.schedule_replay.specs.Refusals.{LeftByWant, down_at, first_cause, may_grow, may_send, no_board, no_station, refusal_of}
+use Rattle.schedule_replay.specs.Refusals.{LeftByWant, first_cause, may_grow, may_send, no_board, refusal_of}
 use Rattle.headline.specs.Match.{match_of}
 use Rattle.schedule_replay.specs.Answers.{AreBytesOf, answer_of}
 use Rattle.headline.specs.Runs.{Begins, BeginsAt}
 use Rattle.schedule_replay.specs.inner.Sites.{BeginsSite, IsProcess, HasNode}
 use Rattle.schedule_replay.specs.WorldDesks.{state_of}
-use Rattle.schedule_replay.specs.Plans.{StaysDue, due_on}
-use Rattle.schedule_replay.specs.CodeWorlds.{BeginsWorld, boards_of, match_version, IsBoardOf, IsSiteOf, HasConfiguration, MatchBoard}
+use Rattle.schedule_replay.specs.CodeWorlds.{BeginsWorld, boards_of, match_version, IsBoardOf, HasConfiguration, MatchBoard}
 use Rattle.schedule_replay.specs.CodeWorlds.{RefusesTo, StepsTo, board_game, board_innings, board_seen, board_state, code_site}
 use Rattle.schedule_replay.specs.inner.WorldBoards.{AreFresh, BoardSteps, SameBoard}
 use Rattle.schedule_replay.proofs.TakeLemmas.{sending_grows}
-use Rattle.schedule_replay.proofs.GiveLemmas.{datagram_at, message_at, message_in, not_both}
+use Rattle.schedule_replay.proofs.GiveLemmas.{all_at, datagram_at, message_at, not_both}
 use Rattle.schedule_replay.proofs.SiteLemmas.{no_bytes, ticked}
 use Rattle.schedule_replay.proofs.WorldLemmas.{sent_length}
 
 -- what a board receives of bytes that say a message
-takes_as : (rules : Rules Refusal) (game : ℕ) (k l : BoardState) (bytes : List ℕ) (answer : Result What BoardRefusal) (m : Message) → Says game bytes m → Takes rules game k bytes answer l
-    → (received : BoardAnswer) × (answer_of (board_seen answer) ≡ Some (board_told received)) × BoardReceives rules k m received l
+takes_as : (rules : Rules Refusal) (game : ℕ) (k l : BoardState) (bytes : List ℕ) (answer : Result What BoardRefusal) (m : Message)
+    → Says game bytes m → Takes rules game k bytes answer l → (received : BoardAnswer) × (answer_of (board_seen answer) ≡ Some (board_told received)) × BoardReceives rules k m received l
 takes_as rules game k l bytes (Ok (What.Bad fault)) m s t = absurd (not_both m fault (reads_once game bytes (Ok m) (Err fault) s t.0))
-takes_as rules game k l bytes (Ok (What.Heard h)) m s t = (BoardAnswer.Told h, refl, subst (λ (x : Message). BoardReceives rules k x (BoardAnswer.Told h) l) (says_once game bytes t.0 m t.1 s) t.2)
-takes_as rules game k l bytes (Ok What.Asked) m s t = (BoardAnswer.Asked, refl, subst (λ (x : Message). BoardReceives rules k x BoardAnswer.Asked l) (says_once game bytes t.0 m t.1 s) t.2)
+takes_as rules game k l bytes (Ok (What.Heard h)) m s t = (BoardAnswer.Told h, refl, rw (says_once game bytes t.0 m t.1 s) at t.2)
+takes_as rules game k l bytes (Ok What.Asked) m s t = (BoardAnswer.Asked, refl, rw (says_once game bytes t.0 m t.1 s) at t.2)
 takes_as rules game k l bytes (Err (BoardRefusal.BadVotes place)) m s t =
-    (BoardAnswer.BadVotes place, refl, subst (λ (x : Message). BoardReceives rules k x (BoardAnswer.BadVotes place) l) (says_once game bytes t.0 m t.1 s) t.2)
+    (BoardAnswer.BadVotes place, refl, rw (says_once game bytes t.0 m t.1 s) at t.2)
 takes_as rules game k l bytes _ m s t = absurd t
 
 -- the board is given a message that was sent
@@ -59,7 +56,7 @@ pub board_gives : (k l : MatchBoard) (n : ℕ) (t : Station) (d : Datagram) (ans
 board_gives k l n t d answer sent there takes messages b =
     let found = message_at (written (board_game k)) messages n d.bytes (ap (λ (z : List (List ℕ)). slice_get z n) (sym b.1) ∙ datagram_at sent n d there) in
     let taken = takes_as (match_of (board_game k) (board_innings k)).rules (board_game k) (board_state k) (board_state l) d.bytes answer found.0
-    (message_in messages n found.0 b.0 found.1, found.2) takes in
+    (all_at IsMessage messages n found.0 b.0 found.1, found.2) takes in
     ([], board_told taken.0, taken.1, (found.0, taken.0, found.1, taken.2, refl, refl), no_bytes (board_game k) sent messages b)
 
 -- what a tick hands out
@@ -84,62 +81,41 @@ pub record IsThere (n : ℕ) (old : World) (event : Event) (k : MatchBoard) : Ty
   pub none : first_cause (no_board (length old.boards.items) n) false (length old.sent.items) event ≡ None
 
 site_stays : (old new : World) (d : DeskId) → new.a ≡ old.a → new.b ≡ old.b → code_site new d ≡ code_site old d
-site_stays old new A a b = a
-site_stays old new B a b = b
-
-none_there : (xs : List MatchBoard) (n : ℕ) → is_none (slice_get (map board_state xs) n) ≡ nat_le (length xs) n
-none_there [] n = sym (leb-zero n)
-none_there (x ∷ xs) zero = sym (leb-suc-zero (length xs))
-none_there (x ∷ xs) (suc n) = none_there xs n ∙ sym (leb-suc-suc (length xs) n)
-
-no_station_is : (old : World) (w : Configuration MemDisk) (n : ℕ) → HasConfiguration old w → no_station w (Station.Board n) ≡ no_board (length old.boards.items) n
-no_station_is old w zero h = refl
-no_station_is old w (suc n) h = ap (λ (bs : List BoardState). is_none (slice_get bs n)) h.board_states ∙ none_there old.boards.items n
+site_stays old new d a b = grind arith
 
 -- the first cause against an event at a board
 cause_is : (n : ℕ) (old : World) (w : Configuration MemDisk) (event : Event) → station_of event ≡ Station.Board n → HasConfiguration old w
     → refusal_of w event ≡ first_cause (no_board (length old.boards.items) n) false (length old.sent.items) event
-cause_is n old w event e h =
-    let missing = no_station_is old w n h in
-    let many = sent_length old.game old.sent.items w.sent h.bytes in
-    (λ j. first_cause (no_station w (e j)) (down_at w (e j)) (length w.sent) event) ∙ (λ j. first_cause (missing j) false (many j) event)
-
-not_missing : (missing : Bool) (sent : ℕ) (event : Event) → first_cause missing false sent event ≡ None → missing ≡ false
-not_missing true sent event e = absurd (cc)
-not_missing false sent event e = refl
-
-in_range : (boards n : ℕ) → no_board boards n ≡ false → (n ≡ suc (n - 1)) × (n - 1 < boards)
-in_range boards zero e = absurd (cc)
-in_range boards (suc n) e = let less = leb-false boards n e in (omega arith, omega (arith, less))
+cause_is n old w event e h = grind (
+  arith,
+  nat_tests,
+  h.board_states,
+  slice_get-map board_state old.boards.items,
+  slice_get_cases old.boards.items,
+  sent_length old.game old.sent.items w.sent h.bytes,
+)
 
 -- where no cause stands there is the board of this number
-pub is_there : (n : ℕ) (old : World) (event : Event) (k : MatchBoard) (missing : Bool) → missing ≡ no_board (length old.boards.items) n
-    → first_cause missing false (length old.sent.items) event ≡ None → k ≡ get_or old.boards.items (n - 1) k → IsThere n old event k
-is_there n old event k missing m none e =
-    let range = in_range (length old.boards.items) n (sym m ∙ not_missing missing (length old.sent.items) event none) in
-    record {
-      number = range.0;
-      here = slice_get-get_or old.boards.items (n - 1) k range.1 ∙ ap Some (sym e);
-      none = subst (λ (b : Bool). first_cause b false (length old.sent.items) event ≡ None) m none;
-    }
+pub is_there : {n many : ℕ} {old : World} (event : Event) {k : MatchBoard} {missing : Bool} → missing ≡ no_board many n
+    → many ≡ length old.boards.items → first_cause missing false (length old.sent.items) event ≡ None → k ≡ get_or old.boards.items (n - 1) k
+    → IsThere n old event k
+is_there {n = n} {old = old} event {k = k} m many none e =
+    grind (arith, nat_tests, slice_get-get_or old.boards.items (n - 1) k)
 
 board_of : (n : ℕ) (old : World) (event : Event) (k : MatchBoard) (w : Configuration MemDisk) → IsThere n old event k → HasConfiguration old w → IsBoardOf old.game old.innings_a_side k
-board_of n old event k w t h =
-    subst (IsBoardOf old.game old.innings_a_side) (get_or_from_slice_get old.boards.items (n - 1) k k t.here)
-    (All-get_or (IsBoardOf old.game old.innings_a_side) old.boards.items (n - 1) k (slice_get_within old.boards.items (n - 1) k t.here) h.boards_are)
+board_of n old event k w t h = all_at (IsBoardOf old.game old.innings_a_side) old.boards.items (n - 1) k h.boards_are t.here
 
 -- the world after one of its boards has changed
 put : (n : ℕ) (old new : World) (l : MatchBoard) (w : Configuration MemDisk) (out : List Message) → PutsBoard n old new l → IsBoardOf old.game old.innings_a_side l → HasConfiguration old w
     → AreBytesOf old.game new.sent.items (w.sent ++ out) → HasConfiguration new (record w { boards = with_board w.boards (suc (n - 1)) (board_state l); sent = w.sent ++ out })
-put n old new l w out c owner h b =
-    let boards : All (IsBoardOf old.game old.innings_a_side) new.boards.items = rw c.there (All-set (IsBoardOf old.game old.innings_a_side) old.boards.items (n - 1) l owner h.boards_are) in
-    record {
-      sites = λ d. subst (λ (z : Site). HasNode z (node w d)) (sym (site_stays old new d c.a c.b)) (h.sites d);
-      named = λ d. subst (λ (z : Site). IsSiteOf d new.game new.innings_a_side z) (sym (site_stays old new d c.a c.b)) (rw (c.same_game, c.same_innings) (h.named d));
-      boards_are = rw (c.same_game, c.same_innings) boards;
-      board_states = ap (λ (bs : List BoardState). slice_set bs (n - 1) (board_state l)) h.board_states ∙ sym (map-set board_state old.boards.items (n - 1) l) ∙ ap (map board_state) (sym c.there);
-      bytes = subst (λ (g : ℕ). AreBytesOf g new.sent.items (w.sent ++ out)) (sym c.same_game) b;
-    }
+put n old new l w out c owner h b = grind (
+  arith,
+  site_stays old new,
+  h.sites,
+  h.named,
+  map-set board_state old.boards.items (n - 1) l,
+  All-set (IsBoardOf old.game old.innings_a_side) old.boards.items (n - 1) l owner h.boards_are,
+)
 
 -- what a board's step gives, by the match's names
 abbrev BoardGives : Event → MatchBoard → List Message → Seen → MatchBoard → List Datagram → ℕ → ℕ → Type 0
@@ -147,11 +123,6 @@ BoardGives event k messages seen l after game innings =
     (out : List Message) × (answer : Answer Refusal) × (answer_of seen ≡ Some answer)
     × AtBoard (match_of game innings) messages event (board_state k) answer (board_state l) out
     × AreBytesOf game after (messages ++ out)
-
--- an event at a board leaves each desk's disk
-same_disks : (w v : Configuration MemDisk) → v.a ≡ w.a → v.b ≡ w.b → (d : DeskId) → StaysDue (node v d).due (Some (process_disk (node w d).process)) (Some (process_disk (node v d).process))
-same_disks w v a b A fault due = ap (λ (z : Node MemDisk). due_on (Some (process_disk z.process))) a
-same_disks w v a b B fault due = ap (λ (z : Node MemDisk). due_on (Some (process_disk z.process))) b
 
 -- an event that a board has taken
 pub board_steps : (n : ℕ) (old new : World) (k l : MatchBoard) (event same : Event) (seen : Seen) (before after : List Datagram) → station_of event ≡ Station.Board n → IsThere n old event k
@@ -168,7 +139,7 @@ board_steps n old new k l event same seen before after e t c owner q b a steps w
     subst (λ (u : Station). StepAt (match_of old.game old.innings_a_side) w event u given.1 world) (sym (e ∙ ap Station.Board t.number))
     (board_state k, board_state l, given.0, there, given.3, refl) in
     let put_there = put n old new l w given.0 c (owner of) h (subst (λ (z : List Datagram). AreBytesOf old.game z (w.sent ++ given.0)) a given.4) in
-    (cause_is n old w event e h ∙ t.none, (given.1, world, given.2, step, put_there, λ d f. absurd (let z = sym e ∙ f in cc), λ none. same_disks w world refl refl))
+    (cause_is n old w event e h ∙ t.none, (given.1, world, given.2, step, put_there, λ d f. absurd (let z = sym e ∙ f in cc), λ none d fault due. grind arith))
 
 pub same_owner : (game innings : ℕ) (k l : MatchBoard) → SameBoard k l → IsBoardOf game innings k → IsBoardOf game innings l
 same_owner game innings k l s of = record { same_game = s.same_game ∙ of.same_game; same_innings = s.same_innings ∙ of.same_innings }
@@ -183,13 +154,7 @@ pub record StaysSo (old new : World) : Type 0 where
   pub same_innings : new.innings_a_side ≡ old.innings_a_side
 
 stays : (old new : World) (w : Configuration MemDisk) → StaysSo old new → HasConfiguration old w → HasConfiguration new w
-stays old new w s h = record {
-  sites = λ d. subst (λ (z : Site). HasNode z (node w d)) (sym (site_stays old new d s.a s.b)) (h.sites d);
-  named = λ d. subst (λ (z : Site). IsSiteOf d new.game new.innings_a_side z) (sym (site_stays old new d s.a s.b)) (rw (s.same_game, s.same_innings) (h.named d));
-  boards_are = rw (s.same_game, s.same_innings, s.boards) h.boards_are;
-  board_states = h.board_states ∙ ap (map board_state) (sym s.boards);
-  bytes = rw (s.same_game, s.sent) h.bytes;
-}
+stays old new w s h = grind (arith, site_stays old new, h.sites, h.named)
 
 -- a cause stands against it, or there is no memory, which it may want
 abbrev pub WhyNot : (Event → Bool) → ℕ → World → Event → WorldRefusal → Type 0
@@ -204,9 +169,7 @@ board_refuses n old new event why e s (inl cause) w h = (w, inl (cause_is n old 
 board_refuses n old new event why e s (inr (none, want, grows)) w h = (w, inr (cause_is n old w event e h ∙ none, want, grows, left n event e w), stays old new w s h)
   where
     left : (n : ℕ) (event : Event) → station_of event ≡ Station.Board n → (w : Configuration MemDisk) → LeftByWant (match_of old.game old.innings_a_side) w event w
-    left n (Event.Open d) e w = absurd (cc)
-    left n (Event.Migrate d) e w = absurd (cc)
-    left n _ e w = refl
+    left n event e w = grind arith
 
 -- one that was refused before anything was done, out of memory where it may send
 pub board_admits_not : (n : ℕ) (old new : World) (event : Event) (why : WorldRefusal) → station_of event ≡ Station.Board n → StaysSo old new
@@ -215,20 +178,21 @@ board_admits_not n old new event why e s c =
     board_refuses n old new event why e s (⊎_elim inl (λ (r : _ × (why ≡ WorldRefusal.NoMemory) × (may_send event ≡ true)). inr (r.0, r.1, sending_grows event r.2)) c)
 
 -- the board begins empty, or is as it was where it is out of memory
-pub wipes : (n m : ℕ) (old new : World) (k l : MatchBoard) (event : Event) (result : Result Seen WorldRefusal) → station_of event ≡ Station.Board n → IsThere n old event k → PutsBoard n old new l
-    → event ≡ Event.Wipe m → new.sent.items ≡ old.sent.items → IfOk result (λ seen. (n : ℕ) (sent : List Datagram) → BoardSteps (Event.Wipe n) k sent seen l sent)
-    → OnOk result (IsBoardOf old.game old.innings_a_side l) → IfOk result (λ seen. StepsTo event old seen new)
-wipes n m old new k l event (Ok seen) e t c q items steps owner =
-    board_steps n old new k l event (Event.Wipe m) seen old.sent.items old.sent.items e t c (λ of. owner) q refl (sym items) (steps m old.sent.items)
-wipes n m old new k l event (Err why) e t c q items steps owner = tt
-
-pub not_wiped : (n m : ℕ) (old new : World) (k l : MatchBoard) (event : Event) (result : Result Seen WorldRefusal) → station_of event ≡ Station.Board n → IsThere n old event k
-    → PutsBoard n old new l → event ≡ Event.Wipe m → new.sent.items ≡ old.sent.items → IfErr result (λ why. (why ≡ WorldRefusal.NoMemory) × (l ≡ k)) → IfErr result (λ why. RefusesTo event old why new)
-not_wiped n m old new k l event (Ok seen) e t c q items refused = tt
-not_wiped n m old new k l event (Err why) e t c q items (want, same) =
+pub wipes : (n m : ℕ) (old new : World) (k l : MatchBoard) (event : Event) (result : Result Seen WorldRefusal)
+    → station_of event ≡ Station.Board n → IsThere n old event k → PutsBoard n old new l → event ≡ Event.Wipe m → new.sent.items ≡ old.sent.items
+    → IfOk result (λ seen. (n : ℕ) (sent : List Datagram) → BoardSteps (Event.Wipe n) k sent seen l sent)
+    → OnOk result (IsBoardOf old.game old.innings_a_side l) → IfErr result (λ why. (why ≡ WorldRefusal.NoMemory) × (l ≡ k))
+    → IfOk result (λ seen. StepsTo event old seen new) × IfErr result (λ why. RefusesTo event old why new)
+wipes n m old new k l event (Ok seen) e t c q items steps owner refused = (
+  board_steps n old new k l event (Event.Wipe m) seen old.sent.items old.sent.items e t c (λ of. owner) q refl (sym items) (steps m old.sent.items),
+  tt,
+)
+wipes n m old new k l event (Err why) e t c q items steps owner (want, same) =
     let boards : new.boards.items ≡ old.boards.items = c.there ∙ ap (slice_set old.boards.items (n - 1))
     (same ∙ sym (get_or_from_slice_get old.boards.items (n - 1) k k t.here)) ∙ set-get_or old.boards.items (n - 1) k in
-    board_refuses n old new event why e (record { a = c.a; b = c.b; boards = boards; sent = items; same_game = c.same_game; same_innings = c.same_innings }) (inr (t.none, want, ap may_grow q))
+    let so : StaysSo old new =
+    record { a = c.a; b = c.b; boards = boards; sent = items; same_game = c.same_game; same_innings = c.same_innings } in
+    (tt, board_refuses n old new event why e so (inr (t.none, want, ap may_grow q)))
 
 -- a desk that was just created
 site_begins : (version : FileVersion) (name : DeskId) (game innings : ℕ) (site : Site) → BeginsSite version name game innings site
@@ -258,8 +222,8 @@ begins world version boards a b fresh sent =
     let w : Configuration MemDisk = record { a = x.0; b = y.0; boards = fresh_boards boards; sent = [] } in
     let many : boards_of world ≡ boards = sym (length-map world.boards.items board_state) ∙ ap length fresh.states ∙ fresh_many boards in
     let is : HasConfiguration world w = record {
-      sites = sites w x.1 y.1;
-      named = named;
+      sites = λ d. grind (arith, x.1, y.1);
+      named = λ d. grind arith;
       boards_are = fresh.of_match;
       board_states = sym fresh.states;
       bytes = (All-nil IsMessage, ap (map (λ (d : Datagram). d.bytes)) sent);
@@ -269,14 +233,6 @@ begins world version boards a b fresh sent =
     subst (λ (v : FileVersion). Begins (match_of world.game world.innings_a_side) v (boards_of world) w) (sym a.same_version)
     (subst (λ (n : ℕ). Begins (match_of world.game world.innings_a_side) version n w) (sym many) begin) in
     record { is_new = (w, is, own); same_game = refl; same_innings = refl; same_version = a.same_version; same_boards = many }
-  where
-    sites : (w : Configuration MemDisk) → HasNode world.a w.a → HasNode world.b w.b → (d : DeskId) → HasNode (code_site world d) (node w d)
-    sites w i j A = i
-    sites w i j B = j
-
-    named : (d : DeskId) → IsSiteOf d world.game world.innings_a_side (code_site world d)
-    named A = record { same_name = a.same_name; same_game = a.same_game; same_innings = a.same_innings }
-    named B = record { same_name = b.same_name; same_game = b.same_game; same_innings = b.same_innings }
 
 -- one board more
 pub one_more : (game innings n : ℕ) (boards : List MatchBoard) (k : MatchBoard) → AreFresh game innings n boards → board_state k ≡ fresh_board → IsBoardOf game innings k

@@ -1,20 +1,20 @@
 -- A fault that stays due at a site is due at the same call of its disk.
-use Rattle.std.proofs.Common.{◌≡◌, ◌∙◌, Bool, true, false, true≢false, Option, Some, None, refl, sym, ap, subst, Result}
+use Rattle.std.proofs.Common.{arith, ◌≡◌, ◌∙◌, Bool, false, true≢false, Option, Some, None, refl, sym, ap, Result}
 use Rattle.std.specs.Prelude.{OnOk}
 use Rattle.entry_log.specs.MemDisk.{faults_of}
 use Rattle.entry_log.specs.declared.{mem_disk.MemDisk.MemDisk, refusal.Refusal.Refusal}
 use Rattle.desk.specs.declared.refusal.Refusal.{Refusal as DeskRefusal}
 use Rattle.vote_store.specs.declared.refusal.Refusal.{Refusal as VotesRefusal}
 use Rattle.headline.specs.declared.fault.Fault.{Fault}
-use Rattle.headline.specs.declared.fault.Fault.TheVariants.{Fail, Stop}
 use Rattle.schedule_replay.specs.declared.{seen.Cause.Cause, seen.Seen.Seen, seen.WorldRefusal.WorldRefusal, site.Site.Site, world_desk.WorldDesk.WorldDesk}
-use Rattle.schedule_replay.specs.Answers.{is_device, is_failing}
+use Rattle.schedule_replay.specs.Answers.{is_failing}
 use Rattle.schedule_replay.specs.Plans.{due_on}
-use Rattle.schedule_replay.specs.inner.Sites.{AfterRefusal, BreaksDown, KeepsDue, NotFoundBy, RefusedBy, disk_at}
+use Rattle.schedule_replay.specs.inner.Sites.{AfterRefusal, BreaksDown, KeepsDue, NotFoundBy, disk_at}
 use Rattle.schedule_replay.specs.WorldDesks.{disk_of}
 
 -- from one disk to another, on which the same is due
-pub keeps_from : (old new : Site) (before after : MemDisk) → disk_at old.desk old.disk ≡ Some before → disk_at new.desk new.disk ≡ Some after → (faults_of after).due ≡ (faults_of before).due → KeepsDue old new
+pub keeps_from : (old new : Site) (before after : MemDisk) → disk_at old.desk old.disk ≡ Some before → disk_at new.desk new.disk ≡ Some after
+    → (faults_of after).due ≡ (faults_of before).due → KeepsDue old new
 keeps_from old new before after p q e fault due = ap due_on q ∙ ap Some e ∙ sym (ap due_on p)
 
 -- the desk runs on
@@ -30,28 +30,24 @@ pub keeps_none : (old new : Site) → new.due ≡ None → KeepsDue old new
 keeps_none old new none fault due = absurd (cc)
 
 pub breaks_none : (due : Option Fault) (cause : Cause) (mid : Site) (seen : Seen) (new : Site) → BreaksDown due cause mid seen new → new.due ≡ None
-breaks_none None cause mid seen new b = ap (λ (z : Site). z.due) b.1
-breaks_none (Some Fail) cause mid seen new b = ap (λ (z : Site). z.due) b.1
-breaks_none (Some Stop) cause mid seen new b = let put = b.1 in put.due
+breaks_none due cause mid seen new b = grind arith
 
--- a running desk has refused
-refuses : (device : Bool) (why : DeskRefusal) (old mid : Site) (seen : Seen) (new : Site) → (device ≡ false → KeepsDue old mid) → RefusedBy device why mid seen new → KeepsDue old new
-refuses true why old mid seen new f r = keeps_none old new (breaks_none mid.due _ mid seen new r)
-refuses false why old mid seen new f r = subst (KeepsDue old) (sym r.1) (f refl)
-
-not_that : (why : DeskRefusal) → is_device why ≡ false → why ≡ DeskRefusal.Device → ⊥
-not_that why n e = true≢false (sym (ap is_device e) ∙ n)
-
-pub keeps_refused : (why : DeskRefusal) (old new : Site) (k l : WorldDesk) (seen : Seen) → old.desk ≡ Some k → ((why ≡ DeskRefusal.Device → ⊥) → faults_of (disk_of l) ≡ faults_of (disk_of k)) → AfterRefusal why (record old { desk = Some l }) seen new → KeepsDue old new
-keeps_refused why old new k l seen here same r = refuses (is_device why) why old (record old { desk = Some l }) seen new (λ n. keeps_running old k l here (same (not_that why n))) r
+pub keeps_refused : (why : DeskRefusal) (old new : Site) (k l : WorldDesk) (seen : Seen) → old.desk ≡ Some k
+    → ((why ≡ DeskRefusal.Device → ⊥) → faults_of (disk_of l) ≡ faults_of (disk_of k)) → AfterRefusal why (record old { desk = Some l }) seen new → KeepsDue old new
+keeps_refused why old new k l seen here same r = grind (
+  arith,
+  same,
+  keeps_running old k l here,
+  keeps_none old new,
+  breaks_none old.due (Cause.Desk why) (record old { desk = Some l }) seen new,
+)
 
 -- the votes of a desk that is down aren't found
-pub keeps_not_found : (memory failing : Bool) (cause : Cause) (old mid new : Site) (result : Result Seen WorldRefusal) → (failing ≡ false → KeepsDue old mid) → NotFoundBy memory failing cause mid result new → OnOk result (KeepsDue old new)
-keeps_not_found true failing cause old mid new result f n = subst (λ (z : Result Seen WorldRefusal). OnOk z (KeepsDue old new)) (sym n.0) tt
-keeps_not_found false true cause old mid new result f n =
-    subst (λ (z : Result Seen WorldRefusal). OnOk z (KeepsDue old new)) (sym n.1) (keeps_none old new (breaks_none mid.due cause mid n.0 new n.2))
-keeps_not_found false false cause old mid new result f n =
-    subst (λ (z : Result Seen WorldRefusal). OnOk z (KeepsDue old new)) (sym n.0) (subst (KeepsDue old) (sym n.1) (f refl))
+pub keeps_not_found : (memory failing : Bool) (cause : Cause) (old mid new : Site) (result : Result Seen WorldRefusal)
+    → (failing ≡ false → KeepsDue old mid) → NotFoundBy memory failing cause mid result new → OnOk result (KeepsDue old new)
+keeps_not_found memory failing cause old mid new result f n =
+    let none = λ (seen : Seen). breaks_none mid.due cause mid seen new in
+    grind (arith, f, keeps_none old new, none)
 
 pub no_failure : (why : VotesRefusal) → is_failing why ≡ false → why ≡ VotesRefusal.File Refusal.Device → ⊥
 no_failure why n e = true≢false (sym (ap is_failing e) ∙ n)

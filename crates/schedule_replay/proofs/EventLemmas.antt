@@ -1,5 +1,5 @@
 -- A tick, an end, a fault and an opening at a site are steps of the definitions there.
-use Rattle.std.proofs.Common.{◌≡◌, ℕ, Option, Some, None, List, [], ◌++◌, length, map, refl, sym, ap, ◌∙◌, subst}
+use Rattle.std.proofs.Common.{arith, ◌≡◌, ℕ, Option, Some, None, List, [], ◌++◌, length, map, refl, sym, ap, ◌∙◌, subst}
 use Rattle.std.specs.Prelude.{option_map}
 use Rattle.std.specs.Option.{is_none, is_some}
 use Rattle.entry_log.specs.Disk.{Images, IsImage, only}
@@ -9,7 +9,7 @@ use Rattle.entry_log.specs.Plan.{due_of}
 use Rattle.entry_log.specs.declared.mem_disk.{MemDisk.MemDisk, choice.Choice.Choice, plan.Plan.Plan}
 use Rattle.entry_log.specs.declared.mem_disk.plan.Plan.TheVariants.{Calm}
 use Rattle.agree_core.specs.declared.messages.Message.{Message}
-use Rattle.agree_core.specs.Desks.{DeskState, Ticks}
+use Rattle.agree_core.specs.Desks.{Ticks}
 use Rattle.agree_core.specs.FileView.{Stays}
 use Rattle.wire.specs.declared.datagram.Datagram.{Datagram}
 use Rattle.wire.specs.Sent.{AreSent}
@@ -19,9 +19,9 @@ use Rattle.headline.specs.Configurations.{Process, Running, Down, Node, process_
 use Rattle.headline.specs.Answers.{Answer}
 use Rattle.headline.specs.DeskFaults.{FallsDue, LosesPower}
 use Rattle.headline.specs.DeskSteps.{AtDesk}
-use Rattle.headline.specs.Match.{format_of, match_of, most_bytes}
+use Rattle.headline.specs.Match.{format_of, match_of}
 use Rattle.schedule_replay.proofs.OpenLemmas.{down_at, stays_down}
-use Rattle.schedule_replay.specs.inner.Sites.{HasNode, IsDue, IsProcess, IsWorldDisk, PutsDown, SiteSteps, disk_at}
+use Rattle.schedule_replay.specs.inner.Sites.{HasNode, IsDue, IsWorldDisk, PutsDown, SiteSteps, disk_at}
 use Rattle.schedule_replay.specs.WorldDesks.{SameOwner, disk_of, game_of, state_of}
 use Rattle.schedule_replay.proofs.SiteLemmas.{HasDisk, down_is, no_bytes, only_one, put_down_is, running_is, runs_again, sets_plan_stays, site_disk, ticked}
 
@@ -77,13 +77,13 @@ powers old mid new choice there left sent put at lost is x messages h b =
     let y : Node MemDisk = record x { process = Down (process_votes x.process) left; due = None } in
     let d = calm_disk old x h in
     let none : mid.due ≡ None = put.due in
-    let on : IsWorldDisk mid.version mid.due left = record {
-      cap = lost.cap ∙ plan.cap ∙ d.cap ∙ ap most_bytes (sym put.version);
-      faults = subst (λ (o : Option Fault). IsDue o (faults_of left).due) (sym none) (ap (due_of (call_count left)) lost.plan);
-    } in
-    let process : IsProcess (record mid { disk = Some left }) mid.desk (Some left) y.process = down_is (record mid { disk = Some left }) left (process_votes x.process) put.desk refl
-    (put.counted ∙ d.votes) on in
-    let site : HasNode new y = subst (λ (z : Site). HasNode z y) (sym is) (record { version = h.version ∙ sym put.version; process = process; due = sym put.due }) in
+    let on : IsWorldDisk mid.version mid.due left = grind (arith, ap (due_of (call_count left)) lost.plan, d.cap) in
+    let site : HasNode new y = grind (
+      arith,
+      is,
+      down_is (record mid { disk = Some left }) left (process_votes x.process) put.desk refl
+          (put.counted ∙ d.votes) on,
+    ) in
     let view = (match_of old.game old.innings_a_side).view old.name x.version in
     let loses : LosesPower view (process_disk x.process) left = (
       (file_of left, subst (λ (z : Images). IsImage z (file_of left)) plan.images lost.image, refl),
@@ -107,8 +107,7 @@ module _ (old : Site) (fault : Fault) (plan : Plan) (event : Event) (step : Faul
       → SiteSteps event old sent Seen.Done (record old { desk = Some l; due = Some fault }) sent
   falls_running k l here sets state owner x messages h b =
       let r = running_is old k x here h in
-      let shown : Running (state_of l) ≡ with_disk x.process (disk_of l) =
-      ap (λ (s : DeskState MemDisk). Running s) state ∙ ap (λ (z : Process MemDisk). with_disk z (disk_of l)) (sym r.process) in
+      let shown : Running (state_of l) ≡ with_disk x.process (disk_of l) = grind (arith, state, r.process) in
       let stays = subst (λ (z : Process MemDisk). Stays ((match_of old.game old.innings_a_side).view old.name x.version) (process_disk z) (disk_of l)) (sym r.process)
       (sets_plan_stays old.name x.version old.game plan (disk_of k) (disk_of l) sets) in
       let y : Node MemDisk = record x { process = Running (state_of l); due = Some fault } in
@@ -120,7 +119,7 @@ module _ (old : Site) (fault : Fault) (plan : Plan) (event : Event) (step : Faul
       → SiteSteps event old sent Seen.Done (record old { disk = Some left; due = Some fault }) sent
   falls_down disk left down there sets x messages h b =
       let d = down_at old disk x down there h in
-      let same : Down d.votes left ≡ with_disk x.process left = ap (λ (z : Process MemDisk). with_disk z left) (sym d.process) in
+      let same : Down d.votes left ≡ with_disk x.process left = grind (arith, d.process) in
       let stays = subst (λ (z : Process MemDisk). Stays ((match_of old.game old.innings_a_side).view old.name x.version) (process_disk z) left) (sym d.process)
       (sets_plan_stays old.name x.version old.game plan disk left sets) in
       let y : Node MemDisk = record x { process = Down d.votes left; due = Some fault } in

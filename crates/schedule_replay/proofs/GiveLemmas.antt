@@ -1,5 +1,5 @@
 -- Bytes that were handed out are taken as the message that they say.
-use Rattle.std.proofs.Common.{◌≡◌, ◌≢◌, ℕ, zero, suc, Option, Some, None, List, [], ◌∷◌, ◌++◌, map, refl, sym, ap, ◌∙◌, subst, Ok, Err}
+use Rattle.std.proofs.Common.{arith, ◌≡◌, ◌≢◌, ℕ, Option, Some, None, List, [], ◌++◌, map, refl, sym, ap, ◌∙◌, subst, Ok, Err}
 use Rattle.std.specs.Prelude.{◌<◌, All, IsErrOf, length, slice_index_or, true, false, is_some, option_map, slice_get}
 use Rattle.std.specs.Bool.{⊤}
 use Rattle.std.proofs.lemmas.List.Elements.{All-get_or}
@@ -9,7 +9,7 @@ use Rattle.entry_log.specs.Blame.{BlamesDisk}
 use Rattle.entry_log.specs.MemDisk.{faults_of}
 use Rattle.entry_log.specs.declared.mem_disk.MemDisk.{MemDisk}
 use Rattle.agree_core.specs.declared.messages.Message.{Message}
-use Rattle.agree_core.specs.Desks.{DeskState, ReceiveAnswer, Receives, Unchanged}
+use Rattle.agree_core.specs.Desks.{DeskState, ReceiveAnswer, Receives}
 use Rattle.agree_core.specs.FileView.{FileView}
 use Rattle.wire.specs.declared.{datagram.Datagram.Datagram, fault.WireFault.WireFault, what.What.What}
 use Rattle.wire.specs.Layout.{IsMessage, Says, written}
@@ -24,7 +24,7 @@ use Rattle.headline.specs.declared.event.{Event.Event, Station.Station}
 use Rattle.schedule_replay.specs.declared.{seen.Cause.Cause, seen.Seen.Seen, site.Site.Site, world_desk.WorldDesk.WorldDesk}
 use Rattle.headline.specs.Configurations.{Running, Node}
 use Rattle.headline.specs.Answers.{Answer}
-use Rattle.headline.specs.DeskSteps.{AfterReceive, has_any}
+use Rattle.headline.specs.DeskAnswers.{AfterReceive, has_any}
 use Rattle.headline.specs.Match.{match_of}
 use Rattle.schedule_replay.specs.Answers.{AreBytesOf, answer_of, given_seen, is_fault}
 use Rattle.schedule_replay.specs.inner.Sites.{BreaksDown, SiteSteps}
@@ -42,15 +42,14 @@ received_as What.Failed = Some ReceiveAnswer.Failed
 pub not_both : (m : Message) (fault : WireFault) → Ok m ≡ Err fault → ⊥
 not_both m fault e = cc
 
-pub takes_as : {Disk : Type 0} (view : FileView Disk) (game : ℕ) (k l : DeskState Disk) (bytes : List ℕ) (what : What) (out : List Message) (m : Message) → Says game bytes m
-    → Takes view game k bytes what l out → (received : ReceiveAnswer) × (received_as what ≡ Some received) × Receives view k m received l out
+pub takes_as : {Disk : Type 0} (view : FileView Disk) (game : ℕ) (k l : DeskState Disk) (bytes : List ℕ) (what : What) (out : List Message)
+    (m : Message) → Says game bytes m → Takes view game k bytes what l out → (received : ReceiveAnswer) × (received_as what ≡ Some received) × Receives view k m received l out
 takes_as view game k l bytes (What.Bad fault) out m s t = absurd (not_both m fault (reads_once game bytes (Ok m) (Err fault) s t.1))
 takes_as view game k l bytes What.Failed out m s t =
-    (ReceiveAnswer.Failed, refl, (t.0, subst (λ (x : DeskState _). Unchanged view k x) (sym t.1) ((refl, λ image. (λ shown. shown, λ shown. shown)), refl), t.2))
-takes_as view game k l bytes (What.Heard h) out m s t = (ReceiveAnswer.Told h, refl, subst (λ (x : Message). Receives view k x (ReceiveAnswer.Told h) l out) (says_once game bytes t.0 m t.1 s) t.2)
-takes_as view game k l bytes What.Asked out m s t = (ReceiveAnswer.Asked, refl, subst (λ (x : Message). Receives view k x ReceiveAnswer.Asked l out) (says_once game bytes t.0 m t.1 s) t.2)
-takes_as view game k l bytes What.Device out m s t =
-    (ReceiveAnswer.DeviceFailed, refl, subst (λ (x : Message). Receives view k x ReceiveAnswer.DeviceFailed l out) (says_once game bytes t.0 m t.1 s) t.2)
+    (ReceiveAnswer.Failed, refl, (t.0, rw t.1 ((refl, λ image. (λ shown. shown, λ shown. shown)), refl), t.2))
+takes_as view game k l bytes (What.Heard h) out m s t = (ReceiveAnswer.Told h, refl, rw (says_once game bytes t.0 m t.1 s) at t.2)
+takes_as view game k l bytes What.Asked out m s t = (ReceiveAnswer.Asked, refl, rw (says_once game bytes t.0 m t.1 s) at t.2)
+takes_as view game k l bytes What.Device out m s t = (ReceiveAnswer.DeviceFailed, refl, rw (says_once game bytes t.0 m t.1 s) at t.2)
 
 -- what a running desk then answers
 abbrev pub answer_to : ReceiveAnswer → List Message → Answer Refusal
@@ -61,39 +60,29 @@ answer_to ReceiveAnswer.DeviceFailed out = Answer.DeviceFailed
 
 pub after_receive : {Disk : Type 0} (view : FileView Disk) (x : Node Disk) (received : ReceiveAnswer) (l : DeskState Disk) (out : List Message) → received ≢ ReceiveAnswer.DeviceFailed
     → AfterReceive view x received l out (answer_to received out) (record x { process = Running l })
-after_receive view x ReceiveAnswer.DeviceFailed l out n = absurd (n refl)
-after_receive view x _ l out n = (refl, refl)
+after_receive view x received l out n = grind arith
 
 -- the message of the bytes that stand at this number
 pub message_at : (f : Message → List ℕ) (messages : List Message) (n : ℕ) (bytes : List ℕ) → slice_get (map f messages) n ≡ Some bytes → (m : Message) × (slice_get messages n ≡ Some m) × (bytes ≡ f m)
-message_at f [] n bytes e = absurd (cc)
-message_at f (m ∷ ms) zero bytes e = (m, refl, cc)
-message_at f (m ∷ ms) (suc n) bytes e = message_at f ms n bytes e
+message_at f messages n bytes e = grind (arith, slice_get-map f messages n)
 
--- a message of messages that are in range
-pub message_in : (messages : List Message) (n : ℕ) (m : Message) → All IsMessage messages → slice_get messages n ≡ Some m → IsMessage m
-message_in messages n m all e = subst IsMessage (get_or_from_slice_get messages n m m e) (All-get_or IsMessage messages n m (slice_get_within messages n m e) all)
+-- what is so of all is so of the one at this number
+pub all_at : {X : Type 0} (P : X → Type 0) (xs : List X) (n : ℕ) (x : X) → All P xs → slice_get xs n ≡ Some x → P x
+all_at P xs n x all e = subst P (get_or_from_slice_get xs n x x e) (All-get_or P xs n x (slice_get_within xs n x e) all)
 
 abbrev pub GiveSteps : WorldDesk → List ℕ → Received → WorldDesk → Type 0
 GiveSteps k bytes r l = AreSent (game_of k) (replied r.reply) (λ out. Takes (view_of k) (game_of k) (state_of k) bytes r.what (state_of l) out)
 
 any_reply : (game : ℕ) (reply : Option (List ℕ)) (out : List Message) → replied reply ≡ map (written game) out → has_any out ≡ is_some reply
-any_reply game None [] e = refl
-any_reply game (Some bytes) (m ∷ ms) e = refl
-any_reply game _ _ e = absurd (cc)
+any_reply game reply out e = grind arith
 
 -- what is seen is the answer
 seen_is : (what : What) (reply : Option (List ℕ)) (received : ReceiveAnswer) (out : List Message) → received_as what ≡ Some received → what ≢ What.Device → has_any out ≡ is_some reply
     → answer_of (given_seen what reply) ≡ Some (answer_to received out)
-seen_is (What.Bad fault) reply received out e n h = absurd (cc)
-seen_is (What.Heard heard) reply received out e n h = let q : received ≡ ReceiveAnswer.Told heard = cc in rw q refl
-seen_is What.Asked reply received out e n h = let q : received ≡ ReceiveAnswer.Asked = cc in rw (q, h) refl
-seen_is What.Device reply received out e n h = absurd (n refl)
-seen_is What.Failed reply received out e n h = let q : received ≡ ReceiveAnswer.Failed = cc in rw q refl
+seen_is what reply received out e n h = grind arith
 
 not_failed : (what : What) (received : ReceiveAnswer) → received_as what ≡ Some received → what ≢ What.Device → received ≢ ReceiveAnswer.DeviceFailed
-not_failed What.Device received e n q = n refl
-not_failed _ received e n q = cc
+not_failed what received e n q = grind arith
 
 pub datagram_at : (sent : List Datagram) (n : ℕ) (d : Datagram) → slice_get sent n ≡ Some d → slice_get (map (λ (x : Datagram). x.bytes) sent) n ≡ Some d.bytes
 datagram_at sent n d e = slice_get-map (λ (x : Datagram). x.bytes) sent n ∙ ap (option_map (λ (x : Datagram). x.bytes)) e
@@ -115,9 +104,9 @@ given_as old k l n d r x messages before there step runs b =
     record {
       message = found.0;
       there = found.1;
-      says = (message_in messages n found.0 b.0 found.1, found.2);
-      takes = subst (λ (g : ℕ). Takes ((match_of old.game old.innings_a_side).view old.name x.version) g (state_of k) d.bytes r.what (state_of l) step.0) own.same_game takes;
-      said = subst (λ (g : ℕ). replied r.reply ≡ map (written g) step.0) own.same_game step.2;
+      says = (all_at IsMessage messages n found.0 b.0 found.1, found.2);
+      takes = rw own.same_game at takes;
+      said = rw own.same_game at step.2;
     }
 
 -- the site's desk is given a message that was sent
@@ -147,29 +136,25 @@ give_breaks old new k l n t d r seen before here there step owner blame device b
     let runs = running_is old k x here h in
     let given = given_as old k l n d r x messages before there step runs b in
     let view = (match_of old.game old.innings_a_side).view old.name x.version in
-    let failed : Takes view old.game (state_of k) d.bytes What.Device (state_of l) step.0 = subst (λ (w : What). Takes view old.game (state_of k) d.bytes w (state_of l) step.0) device given.takes in
-    let received = subst (λ (z : Message). Receives view (state_of k) z ReceiveAnswer.DeviceFailed (state_of l) step.0)
-    (says_once old.game d.bytes failed.0 given.message failed.1 given.says) failed.2 in
+    let failed : Takes view old.game (state_of k) d.bytes What.Device (state_of l) step.0 = rw device at given.takes in
+    let received = rw (says_once old.game d.bytes failed.0 given.message failed.1 given.says) at failed.2 in
     let out = nothing_out view (state_of k) (state_of l) given.message step.0 received in
     let bytes : AreBytesOf old.game before (messages ++ step.0) = rw out (no_bytes old.game before messages b) in
-    let blamed = subst (λ (w : What). BlamesDisk What.Device ⊤ (device_answer w) (faults_of (disk_of k)) (faults_of (disk_of l))) device blame in
+    let blamed = rw device at blame in
     let broken = broken_site old new k l x (Cause.Desk refusals.Device) seen here h owner (λ q. blamed.calm q tt refl) (λ o. blamed.spent o tt refl) refl broke in
     (broken.0, step.0, broken.1, broken.2, (state_of k, state_of l, given.message, ReceiveAnswer.DeviceFailed, runs.process, given.there, received, broken.3), broken.4, bytes)
   where
     nothing_out : (view : FileView MemDisk) (k l : DeskState MemDisk) (m : Message) (out : List Message) → Receives view k m ReceiveAnswer.DeviceFailed l out → out ≡ []
-    nothing_out view k l (Message.Vote v) out h = absurd h
-    nothing_out view k l (Message.Ask q) out h = h.3
+    nothing_out view k l m out h = grind arith
 
 pub fault_is : (what : What) → is_fault what ≡ true → what ≡ What.Device
-fault_is What.Device e = refl
-fault_is _ e = absurd (cc)
+fault_is what e = grind arith
 
 pub fault_not : (what : What) → is_fault what ≡ false → what ≢ What.Device
-fault_not what e q = let t : is_fault what ≡ true = ap is_fault q in absurd (cc)
+fault_not what e q = grind arith
 
 pub calm_answer : (what : What) → what ≢ What.Device → IsErrOf (device_answer what) What.Device → ⊥
-calm_answer What.Device n e = n refl
-calm_answer _ n e = cc
+calm_answer what n e = grind arith
 
 pub stands_at : (sent : List Datagram) (n : ℕ) (d : Datagram) → n < length sent → d ≡ slice_index_or sent n d → slice_get sent n ≡ Some d
 stands_at sent n d less e = slice_get-get_or sent n d less ∙ ap Some (sym e)

@@ -1,9 +1,8 @@
 -- Migrating the file of a site whose desk is down is a step of the definitions there.
-use Rattle.std.proofs.Common.{◌≡◌, ◌≢◌, ◌⊎◌, ◌<◌, ◌≤◌, ℕ, Some, None, List, [], length, refl, sym, ap, ◌∙◌, subst, inl, inr, arith, ⊎_elim, Result, Ok, Err}
-use Rattle.std.specs.Bool.{⊤}
+use Rattle.std.proofs.Common.{◌≡◌, ◌≢◌, ◌⊎◌, ◌<◌, ◌≤◌, ℕ, Some, None, List, [], length, refl, sym, ap, ◌∙◌, subst, inl, inr, arith, Result, Ok, Err}
 use Rattle.std.specs.Prelude.{IsErrOf}
 use Rattle.corrections.specs.declared.refusal.Refusal.{Refusal}
-use Rattle.entry_log.specs.Disk.{Faults, Images, IsImage, IsOnce, only}
+use Rattle.entry_log.specs.Disk.{Images, IsImage, IsOnce, only}
 use Rattle.entry_log.specs.Format.{contents, room}
 use Rattle.entry_log.specs.Version1.{version_1}
 use Rattle.entry_log.specs.Version2.{version_2}
@@ -27,7 +26,7 @@ use Rattle.headline.specs.Answers.{Answer}
 use Rattle.headline.specs.Migrations.{Failed, MigratesAt, NotSound, ToNew}
 use Rattle.headline.specs.Match.{format_of, most_bytes}
 use Rattle.schedule_replay.specs.Answers.{answer_of, is_failing, wants_memory}
-use Rattle.schedule_replay.specs.inner.Sites.{BreaksDown, IsDue, HasNode, IsWorldDisk, NotFoundBy, SiteSteps}
+use Rattle.schedule_replay.specs.inner.Sites.{BreaksDown, HasNode, IsWorldDisk, NotFoundBy, SiteSteps}
 use Rattle.schedule_replay.proofs.SiteLemmas.{down_is, no_bytes, only_one}
 use Rattle.schedule_replay.proofs.OpenLemmas.{Outcome, ViewAt, broken_down, down_at, memory_is, seen_is, still_down, syncs}
 
@@ -69,8 +68,7 @@ migrated old disk moved fresh begun made n sent version down there m is holds ca
     let at : MigratesAt {Why = Refusal} (ViewAt old) x x.version d.votes disk (Answer.Migrated n) y =
     subst (λ (v : FileVersion). MigratesAt {Why = Refusal} (ViewAt old) x v d.votes disk (Answer.Migrated n) y) (sym (h.version ∙ version))
     (ToNew is.votes made, (found, held), (ap (λ (k : ℕ). Answer.Migrated k) is.many, refl)) in
-    let due : (faults_of made).due ≡ (faults_of disk).due = ap (λ (z : Faults). z.due) faults ∙ m.due in
-    let on_made : IsWorldDisk FileVersion.New old.due made = record { cap = cap ∙ begins.cap ∙ empty.cap; faults = subst (IsDue old.due) (sym due) on.faults } in
+    let on_made : IsWorldDisk FileVersion.New old.due made = grind (arith, m.due, begins.cap, empty.cap, on) in
     let new : Site = record old { version = FileVersion.New; disk = Some made } in
     let site : HasNode new y = record { version = refl; process = down_is new made d.votes down refl (sym d.many) on_made; due = h.due } in
     (y, [], Answer.Migrated n, refl, (d.votes, disk, d.process, at, refl), site, no_bytes old.game sent messages b)
@@ -110,21 +108,16 @@ module _ (old : Site) (disk moved fresh begun left made last : MemDisk) (m : IsM
   returned why r =
       let here = m.here in
       let back = r.back in
-      let images = ⊎_elim (λ (e : images_of left ≡ images_of moved). inl (back.images ∙ e ∙ here.images))
-      (λ (e : images_of left ≡ only (file_of moved)). inr (back.images ∙ e ∙ ap only here.file)) r.images in
+      let images : (images_of last ≡ images_of disk) ⊎ (images_of last ≡ only (file_of disk)) = grind (arith, r.images) in
       record { may = λ version. may_sync version old disk last (back.file ∙ r.seen ∙ here.file) images; cap = back.cap ∙ r.cap ∙ here.cap }
 
   -- the new disk was empty
-  fault_of : (why : VotesRefusal) → why ≢ device → why ≢ VotesRefusal.NoMemory → RefusedFor old moved begun why → file_votes (contents version_1) (desk_number old.name) old.game (file_of moved) ≡ Err why
-  fault_of why n k (some, inl e) = absurd (n e)
-  fault_of why n k (some, inr (inl e)) = absurd (k e)
-  fault_of why n k (some, inr (inr (inl e))) =
+  fault_of : (why : VotesRefusal) → why ≢ device → why ≢ VotesRefusal.NoMemory → RefusedFor old moved begun why
+      → file_votes (contents version_1) (desk_number old.name) old.game (file_of moved) ≡ Err why
+  fault_of why n k f =
       let begins = m.there in
       let empty = m.fresh_is in
-      let none : length (file_of begun) ≡ 0 = ap length (begins.file ∙ empty.file) in
-      let long : 0 < length (file_of begun) = some (cc) in
-      absurd (omega arith)
-  fault_of why n k (some, inr (inr (inr e))) = e
+      grind (arith, ap length (begins.file ∙ empty.file))
 
   -- nothing has failed
   calm_faults : (why : VotesRefusal) → IsReturned old disk moved begun left made last why → why ≢ device → faults_of last ≡ faults_of disk
@@ -132,10 +125,7 @@ module _ (old : Site) (disk moved fresh begun left made last : MemDisk) (m : IsM
       let here = m.here in
       let back = r.back in
       let blame = r.blame in
-      let same = blame.same (λ q. n (cc)) in
-      let count : (faults_of last).count ≡ (faults_of disk).count = back.count ∙ ap (λ (z : Faults). z.count) same.0 ∙ here.count in
-      let due : (faults_of last).due ≡ (faults_of disk).due = r.due ∙ ap (λ (z : Faults). z.due) same.1 ∙ m.due in
-      λ i. record { count = count i; due = due i }
+      grind (arith, blame.same (λ q. n (cc)))
 
   module _ (new : Site) (result : Result Seen WorldRefusal) (version : old.version ≡ FileVersion.Old) (down : old.desk ≡ None) (there : old.disk ≡ Some disk) where
     failing : IsReturned old disk moved begun left made last device → (seen : Seen) × (result ≡ Ok seen) × BreaksDown old.due (Cause.Migrate device) (record old { disk = Some last }) seen new
@@ -149,13 +139,10 @@ module _ (old : Site) (disk moved fresh begun left made last : MemDisk) (m : IsM
         within = let e : cap_of begun ≡ 1048641 = begins.cap ∙ (let f = m.fresh_is in f.cap) in omega arith
 
         at_new : HasFailed (room version_2 MAX_SLOTS ≤ cap_of begun) (faults_of begun) (faults_of made)
-        at_new = let blame = r.blame in which (blame.failed refl)
-          where
-            which : (HasFailed ⊤ (faults_of moved) (faults_of left) × (faults_of made ≡ faults_of begun))
-                ⊎ ((faults_of left ≡ faults_of moved) × HasFailed (room version_2 MAX_SLOTS ≤ cap_of begun) (faults_of begun) (faults_of made))
-                → HasFailed (room version_2 MAX_SLOTS ≤ cap_of begun) (faults_of begun) (faults_of made)
-            which (inl (f, e)) = absurd (f.calm (let here = m.here in ap (due_of (call_count moved)) here.plan) tt)
-            which (inr (e, f)) = f
+        at_new = let blame = r.blame in elim (blame.failed refl) [
+          | inl f ↦ let never = f.0 in absurd (never.calm (let here = m.here in ap (due_of (call_count moved)) here.plan) tt)
+          | inr f ↦ f.1
+        ]
 
         steps : (sent : List Datagram) → MigrateSteps sent old seen new
         steps sent x messages h b =
@@ -164,7 +151,8 @@ module _ (old : Site) (disk moved fresh begun left made last : MemDisk) (m : IsM
             let failed = at_new in
             let spent = λ (o : IsOnce (faults_of disk).due). r.due ∙ failed.spent (subst IsOnce (sym m.due) o) within in
             let broken = broken_down old new disk last x FileVersion.Old (Cause.Migrate device) seen down h d l.cap (λ n. failed.calm (m.due ∙ n) within) spent refl broke in
-            let at = subst (λ (v : FileVersion). MigratesAt {Why = Refusal} (ViewAt old) x v d.votes disk broken.1 broken.0) (sym (h.version ∙ version)) (Failed last, l.may FileVersion.Old, broken.3) in
+            let at = subst (λ (v : FileVersion). MigratesAt {Why = Refusal} (ViewAt old) x v d.votes disk broken.1 broken.0)
+            (sym (h.version ∙ version)) (Failed last, l.may FileVersion.Old, broken.3) in
             (broken.0, [], broken.1, broken.2, (d.votes, disk, d.process, at, refl), broken.4, no_bytes old.game sent messages b)
 
     -- the old file isn't sound

@@ -1,13 +1,14 @@
 -- What a score that is noted adds to those that were shown.
-use Rattle.std.proofs.Common.{◌≡◌, ◌⊎◌, ◌≤◌, ◌<◌, ◌+◌, ◌*◌, ℕ, zero, suc, Bool, true, false, Some, List, [], ◌∷◌, ◌++◌, length, replicate}
-use Rattle.std.proofs.Common.{refl, sym, ap, ◌∙◌, subst, inl, inr, arith, ⊎_elim}
+use Rattle.std.proofs.Common.{◌≡◌, ◌⊎◌, ◌≤◌, ◌<◌, ◌+◌, ◌*◌, ℕ, Bool, true, false, Some, List, [], ◌∷◌, ◌++◌, length, replicate}
+use Rattle.std.proofs.Common.{sym, ap, ◌∙◌, subst, inl, inr, arith}
 use Rattle.std.proofs.lemmas.Bool.Decides.{eqb_tells}
+use Rattle.std.proofs.lemmas.Grind.{common_steps}
+use Rattle.std.proofs.lemmas.Option.{gets}
 use Rattle.std.proofs.lemmas.List.{get_or-set_other, get_or-set_same, get_or_read_under, length-replicate, length-set}
 use Rattle.std.proofs.lemmas.List.Elements.{Contains-append_left, Contains-push, Contains-push_cases}
 use Rattle.std.specs.Prelude.{Contains, get_or, slice_get, slice_index_or, slice_set}
 use Rattle.match_laws.specs.declared.standing.Standing.{Standing}
 use Rattle.notation.specs.declared.entry.TheConstants.{PLACES}
-use Rattle.agree_core.specs.declared.messages.DeskId.TheVariants.{A, B}
 use Rattle.headline.specs.declared.event.Station.{Station}
 use Rattle.schedule_replay.specs.declared.shown_scores.ShownScores.{ShownScores}
 use Rattle.schedule_replay.specs.Replays.{StandOnce}
@@ -22,16 +23,11 @@ FromOne (Station.Desk d) = Unit {0}
 FromOne (Station.Board n) = 1 ≤ n
 
 from_one : (t : Station) → IsStation t → FromOne t
-from_one (Station.Desk d) p = tt
-from_one (Station.Board n) p = p.0
+from_one t p = grind arith
 
 -- stations have numbers of their own
 pub same_station : (t u : Station) → FromOne t → FromOne u → station_number t ≡ station_number u → t ≡ u
-same_station (Station.Desk A) (Station.Desk A) p q e = refl
-same_station (Station.Desk B) (Station.Desk B) p q e = refl
-same_station (Station.Board m) (Station.Board n) p q e = let f : m ≡ n = omega (arith, e) in ap Station.Board f
-same_station (Station.Board m) (Station.Desk A) p q e = absurd (omega arith)
-same_station _ _ p q e = absurd (omega arith)
+same_station t u p q e = grind arith
 
 -- and so have a station and a length
 same_mark : (t u : Station) (n m : ℕ) → IsStation t → IsStation u → n ≤ PLACES → m ≤ PLACES → mark_of t n ≡ mark_of u m → (t ≡ u) × (n ≡ m)
@@ -41,37 +37,23 @@ same_mark t u n m p q k l e = let h = apart (station_number t) (station_number u
     apart a b n m k l e = (omega (arith, k, l, e), omega (arith, k, l, e))
 
 no_mark : (n i : ℕ) → get_or (replicate n false) i false ≡ true → ⊥
-no_mark zero i h = absurd (cc)
-no_mark (suc n) zero h = absurd (cc)
-no_mark (suc n) (suc i) h = no_mark n i h
-
-nothing : (i : ℕ) (x : Shown) → slice_get {X = Shown} [] i ≡ Some x → ⊥
-nothing i x h = absurd (cc)
+no_mark n i h = grind (arith, common_steps)
 
 -- without a score there is no mark
 pub empty_kept : (shown : ShownScores) → shown.marks.items ≡ replicate most_marks false → shown.seen.items ≡ [] → IsKept shown
 empty_kept shown marks seen = record {
   long = ap length marks ∙ length-replicate most_marks false;
   marked = λ t m p k h. absurd (no_mark most_marks (mark_of t m) (subst (λ (xs : List Bool). IsMarked xs t m) marks h));
-  known = λ i t m score h. absurd (nothing i (t, m, score) (subst (λ (xs : List Shown). slice_get xs i ≡ Some (t, m, score)) seen h));
-  once = λ i j t m score other h k. absurd (nothing i (t, m, score) (subst (λ (xs : List Shown). slice_get xs i ≡ Some (t, m, score)) seen h));
+  known = λ i t m score h. absurd (let none = rw seen at h in cc);
+  once = λ i j t m score other h k. absurd (let none = rw seen at h in cc);
 }
 
 mark_stays : (xs : List Bool) (i j : ℕ) → i < length xs → get_or xs j false ≡ true → get_or (slice_set xs i true) j false ≡ true
-mark_stays xs i j l h = elim (eqb_tells j i) [
-  | inl e ↦ rw e.1 (get_or-set_same xs i true false l)
-  | inr e ↦ get_or-set_other xs i j true false e.1 ∙ h
-]
+mark_stays xs i j l h = grind (arith, get_or-set_same xs i true false l, get_or-set_other xs i j true false)
 
 -- what stands in a list with one more at its end
 at_push : (xs : List Shown) (x y : Shown) (i : ℕ) → slice_get (xs ++ x ∷ []) i ≡ Some y → (slice_get xs i ≡ Some y) ⊎ ((i ≡ length xs) × (x ≡ y))
-at_push [] x y zero h = inr (refl, cc)
-at_push [] x y (suc i) h = absurd (cc)
-at_push (z ∷ xs) x y zero h = inl h
-at_push (z ∷ xs) x y (suc i) h = ⊎_elim inl (λ e. inr (ap suc e.0, e.1)) (at_push xs x y i h)
-
-at_key : (xs : List Shown) (i : ℕ) (x y : Shown) (s : Standing) → x ≡ y → slice_get xs i ≡ Some (y.0, y.1, s) → slice_get xs i ≡ Some (x.0, x.1, s)
-at_key xs i x y s e a = a ∙ (λ k. Some ((sym e k).0, (sym e k).1, s))
+at_push xs x y i h = grind (arith, common_steps, gets)
 
 -- the mark that is read of a station and a length
 pub mark_read : (shown : ShownScores) (u : Station) (m mark : ℕ) (b : Bool) → IsKept shown → mark ≡ mark_of u m → mark < most_marks → b ≡ slice_index_or shown.marks.items mark b
@@ -82,7 +64,7 @@ mark_read shown u m mark b h e less read =
 module _ (u : Station) (m : ℕ) (score : Standing) where
   -- a score that stands there adds nothing
   pub stands_there : (seen : List Shown) → Contains seen (u, m, score) → Adds u (λ n s. (n ≡ m) × (s ≡ score)) seen seen
-  stands_there seen h t n other = (inl, ⊎_elim (λ c. c) (λ e. subst (λ (x : Shown). Contains seen x) (λ i. (sym e.0 i, sym e.1.0 i, sym e.1.1 i)) h))
+  stands_there seen h t n other = grind (arith, h)
 
   -- one whose mark is set stands there
   pub marked_there : (shown : ShownScores) → IsKept shown → IsStation u → m ≤ PLACES → IsMarked shown.marks.items u m
@@ -91,22 +73,16 @@ module _ (u : Station) (m : ℕ) (score : Standing) where
 
   -- one more score is added
   pub one_added : (seen : List Shown) → Adds u (λ n s. (n ≡ m) × (s ≡ score)) seen (seen ++ (u, m, score) ∷ [])
-  one_added seen t n other = (
-    λ c. ⊎_elim inl
-        (λ (e : ◌≡◌ {A = Shown} (u, m, score) (t, n, other)). inr (ap (λ (x : Shown). x.0) (sym e), (ap (λ (x : Shown). x.1) (sym e), ap (λ (x : Shown). x.2) (sym e))))
-        (Contains-push_cases seen (u, m, score) (t, n, other) c),
-    ⊎_elim (Contains-append_left seen ((u, m, score) ∷ []) (t, n, other))
-        (λ e. subst (λ (x : Shown). Contains (seen ++ (u, m, score) ∷ []) x) (λ i. (sym e.0 i, sym e.1.0 i, sym e.1.1 i)) (Contains-push seen (u, m, score))),
+  one_added seen t n other = grind (
+    arith,
+    Contains-push_cases seen (u, m, score) (t, n, other),
+    Contains-append_left seen ((u, m, score) ∷ []) (t, n, other),
+    Contains-push seen (u, m, score),
   )
 
   once_more : (xs : List Shown) → StandOnce xs → ((i : ℕ) (other : Standing) → slice_get xs i ≡ Some (u, m, other) → ⊥) → StandOnce (xs ++ (u, m, score) ∷ [])
   once_more xs h none i j t n s o p q =
-      ⊎_elim
-      (λ (a : slice_get xs i ≡ Some (t, n, s)).
-      ⊎_elim (λ (b : slice_get xs j ≡ Some (t, n, o)). h i j t n s o a b) (λ b. absurd (none i s (at_key xs i (u, m, score) (t, n, o) s b.1 a))) (at_push xs (u, m, score) (t, n, o) j q))
-      (λ a.
-      ⊎_elim (λ (b : slice_get xs j ≡ Some (t, n, o)). absurd (none j o (at_key xs j (u, m, score) (t, n, s) o a.1 b))) (λ b. a.0 ∙ sym b.0) (at_push xs (u, m, score) (t, n, o) j q))
-      (at_push xs (u, m, score) (t, n, s) i p)
+      grind (arith, at_push xs (u, m, score) (t, n, s) i p, at_push xs (u, m, score) (t, n, o) j q, h i j t n s o, none i s, none j o)
 
   -- one that wasn't marked is added and marked
   pub added_kept : (old new : ShownScores) → IsStation u → m ≤ PLACES → mark_of u m < most_marks → IsKept old → (IsMarked old.marks.items u m → ⊥)
@@ -124,12 +100,10 @@ module _ (u : Station) (m : ℕ) (score : Standing) where
                   let c = h.marked t n q k (sym (get_or-set_other old.marks.items at (mark_of t n) true false i.1) ∙ subst (λ (xs : List Bool). IsMarked xs t n) marks e) in
                   (c.0, rw seen (Contains-append_left old.seen.items ((u, m, score) ∷ []) (t, n, c.0) c.1))
             ];
-        known = λ i t n s e.
-            rw marks (
-            ⊎_elim
-            (λ (g : slice_get old.seen.items i ≡ Some (t, n, s)). mark_stays old.marks.items at (mark_of t n) less (h.known i t n s g))
-            (λ g. subst (λ (y : Shown). get_or (slice_set old.marks.items at true) (mark_of y.0 y.1) false ≡ true) g.1 (get_or-set_same old.marks.items at true false less))
-            (at_push old.seen.items (u, m, score) (t, n, s) i (subst (λ (xs : List Shown). slice_get xs i ≡ Some (t, n, s)) seen e))
-            );
+        known = λ i t n s e. rw marks (elim (at_push old.seen.items (u, m, score) (t, n, s) i (rw seen at e)) [
+          | inl g ↦ mark_stays old.marks.items at (mark_of t n) less (h.known i t n s g)
+          | inr g ↦ subst (λ (y : Shown). get_or (slice_set old.marks.items at true) (mark_of y.0 y.1) false ≡ true) g.1
+              (get_or-set_same old.marks.items at true false less)
+        ]);
         once = subst StandOnce (sym seen) (once_more old.seen.items h.once (λ i other g. unmarked (h.known i u m other g)));
       }

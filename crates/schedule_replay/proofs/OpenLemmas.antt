@@ -1,11 +1,11 @@
 -- Opening the file of a site whose desk is down is a step of the definitions there.
-use Rattle.std.proofs.Common.{◌≡◌, ◌≢◌, ℕ, Bool, true, false, Option, Some, None, List, [], length, refl, sym, ap, ◌∙◌, subst, inl, Result, Ok, Err}
+use Rattle.std.proofs.Common.{arith, ◌≡◌, ◌≢◌, ℕ, Bool, Option, Some, None, List, [], length, refl, sym, ap, ◌∙◌, subst, inl, Result, Ok, Err}
 use Rattle.std.specs.Option.{is_none, is_some}
 use Rattle.std.specs.Bool.{⊤}
 use Rattle.std.specs.Prelude.{IfOk, IsErrOf, OnErr}
 use Rattle.corrections.specs.declared.refusal.Refusal.{Refusal}
 use Rattle.entry_log.specs.Blame.{BlamesDisk}
-use Rattle.entry_log.specs.Disk.{Faults, IsOnce, Never}
+use Rattle.entry_log.specs.Disk.{IsOnce, Never}
 use Rattle.entry_log.specs.MemDisk.{cap_of, faults_of}
 use Rattle.entry_log.specs.declared.mem_disk.MemDisk.{MemDisk}
 use Rattle.entry_log.specs.declared.refusal.Refusal.TheVariants as files
@@ -25,8 +25,9 @@ use Rattle.schedule_replay.specs.declared.{seen.Cause.Cause, seen.Seen.Seen, see
 use Rattle.headline.specs.Configurations.{Process, Running, Down, Node, process_disk, with_disk}
 use Rattle.headline.specs.Answers.{Answer}
 use Rattle.headline.specs.DeskFaults.{StaysDown, StaysDownBy}
-use Rattle.headline.specs.DeskSteps.{AfterOpen}
-use Rattle.headline.specs.Match.{Setting, match_of}
+use Rattle.headline.specs.DeskAnswers.{AfterOpen}
+use Rattle.headline.specs.Match.{match_of}
+use Rattle.headline.specs.Setting.{Setting}
 use Rattle.schedule_replay.specs.Answers.{answer_of, is_failing, wants_memory}
 use Rattle.schedule_replay.specs.inner.Sites.{BreaksDown, IsDue, IsProcess, HasNode, IsWorldDisk, NotFoundBy, SameSite, SiteSteps, SyncsSite, disk_at, votes_at}
 use Rattle.schedule_replay.specs.WorldDesks.{IsWorldDeskOf, disk_of, state_of}
@@ -99,18 +100,7 @@ opened old l disk left n sent none down there opens own cap faults many x messag
     let on = d.on_disk in
     let now = subst (λ (v : FileVersion). Opens (ViewAt old v) (RulesAt old) old.name disk (Opened (state_of l))) (sym h.version) opens in
     let y : Node MemDisk = record x { process = Running (state_of l) } in
-    let is : HasNode (record old { desk = Some l; disk = left }) y = record {
-      version = h.version;
-      process = (
-        record {
-          owner = record { same_name = own.same_name; same_version = own.same_version; same_game = own.same_game; same_innings = own.same_innings };
-          on_disk = record { cap = cap ∙ on.cap; faults = subst (λ (z : Faults). IsDue old.due z.due) (sym faults) on.faults };
-        },
-        none,
-        refl,
-      );
-      due = h.due;
-    } in
+    let is : HasNode (record old { desk = Some l; disk = left }) y = grind (arith, on, own) in
     (y, [], Answer.Opened n, refl, (d.votes, disk, Opened (state_of l), d.process, now, (ap (λ (m : ℕ). Answer.Opened m) many, refl), refl), is, no_bytes old.game sent messages b)
 
 abbrev pub OpenBlame : MemDisk → OpenRefusal → MemDisk → Type 0
@@ -126,27 +116,21 @@ stays_so old x h =
     (process_disk x.process, inl (refl, λ image. (λ i. i, λ i. i)), subst (HasNode old) (ap (λ (p : Process MemDisk). record x { process = p }) (sym (same_disk x.process))) h)
   where
     same_disk : (p : Process MemDisk) → with_disk p (process_disk p) ≡ p
-    same_disk (Running k) = refl
-    same_disk (Down votes disk) = refl
+    same_disk p = grind arith
 
 module _ (old new : Site) (disk left : MemDisk) (down : old.desk ≡ None) (there : old.disk ≡ Some disk) (cap : cap_of left ≡ cap_of disk) where
   -- it stays down, with what is due
   pub still_down : (x : Node MemDisk) → HasNode old x → (d : IsDown old disk x) → faults_of left ≡ faults_of disk → HasNode (record old { disk = Some left }) (record x { process = Down d.votes left })
-  still_down x h d faults =
-      let on = d.on_disk in
-      let stays = stays_down old disk left old.due x down h d cap (subst (λ (z : Faults). IsDue old.due z.due) (sym faults) on.faults) in
-      record { version = h.version; process = stays.process; due = h.due }
+  still_down x h d faults = grind (arith, stays_down old disk left old.due x down h d cap)
 
   -- it isn't opened, and its disk may have been synced
   pub syncs : MaySync (ViewAt old old.version) disk left → faults_of left ≡ faults_of disk → new ≡ record old { disk = Some left } → SyncsSite old new
   syncs may faults e x h =
       let d = down_at old disk x down there h in
-      let same : Down d.votes left ≡ with_disk x.process left = ap (λ (z : Process MemDisk). with_disk z left) (sym d.process) in
-      let is = subst (λ (z : Process MemDisk). HasNode (record old { disk = Some left }) (record x { process = z })) same (still_down x h d faults) in
       let now = subst (λ (v : FileVersion). MaySync (ViewAt old v) disk left) (sym h.version) may in (
         left,
         subst (λ (z : Process MemDisk). MaySync (ViewAt old x.version) (process_disk z) left) (sym d.process) now,
-        subst (λ (z : Site). HasNode z (record x { process = with_disk x.process left })) (sym e) is,
+        grind (arith, e, d.process, still_down x h d faults),
       )
 
   module _ (result : Result Seen WorldRefusal) where
@@ -184,8 +168,7 @@ module _ (old new : Site) (disk left : MemDisk) (down : old.desk ≡ None) (ther
 
 -- the site after that is of the same match
 pub not_found_same : (memory fails : Bool) (cause : Cause) (old new : Site) (result : Result Seen WorldRefusal) → NotFoundBy memory fails cause old result new → SameSite old new
-not_found_same false true cause old new result n = broken_same old.due cause old new n.0 n.2
-not_found_same _ _ cause old new result n = subst (SameSite old) (sym n.1) (record { name = refl; same_game = refl; innings = refl })
+not_found_same memory fails cause old new result n = let broken = λ (seen : Seen). broken_same old.due cause old new seen in grind (arith, broken)
 
 -- a whole site whose desk is down has a disk
 pub some_disk : (desk : Option WorldDesk) (disk : Option MemDisk) → is_some disk ≡ is_none desk → desk ≡ None → (d : MemDisk) × (disk ≡ Some d)

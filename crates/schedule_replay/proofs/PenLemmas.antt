@@ -1,5 +1,5 @@
 -- A pen at a site's desk is a step of the definitions there.
-use Rattle.std.proofs.Common.{◌≡◌, ◌≢◌, ℕ, Bool, true, false, Some, List, ◌++◌, length, map, refl, sym, ap, append-nil, ◌∙◌, subst, Result, Err}
+use Rattle.std.proofs.Common.{arith, ◌≡◌, ◌≢◌, ℕ, Bool, Some, List, ◌++◌, length, map, refl, sym, ap, append-nil, ◌∙◌, subst, Result, Err}
 use Rattle.notation.specs.declared.entry.Entry.{Entry}
 use Rattle.corrections.specs.declared.refusal.Refusal.{Refusal}
 use Rattle.entry_log.specs.MemDisk.{cap_of, faults_of}
@@ -15,7 +15,7 @@ use Rattle.desk.specs.Answers.{pen_answer, sent}
 use Rattle.headline.specs.declared.event.Event.{Event}
 use Rattle.schedule_replay.specs.declared.{seen.Cause.Cause, seen.Seen.Seen, site.Site.Site, world_desk.WorldDesk.WorldDesk}
 use Rattle.headline.specs.Configurations.{Running, Node}
-use Rattle.headline.specs.DeskSteps.{AfterPen}
+use Rattle.headline.specs.DeskAnswers.{AfterPen}
 use Rattle.headline.specs.Match.{match_of}
 use Rattle.schedule_replay.specs.Answers.{AreBytesOf, answer_of, told_to_pen}
 use Rattle.schedule_replay.specs.inner.Sites.{AfterRefusal, RefusedBy, SameSite, SiteSteps}
@@ -32,8 +32,7 @@ PenBlame k told l = BlamesDisk DeskRefusal.Device (FitsOneMore k) told (faults_o
 -- after a pen that didn't fail at the device
 after_pen : (view : FileView MemDisk) (x : Node MemDisk) (told : PenAnswer Refusal) (l : DeskState MemDisk) → told ≢ PenAnswer.DeviceFailed
     → AfterPen view x told l (told_to_pen told) (record x { process = Running l })
-after_pen view x PenAnswer.DeviceFailed l n = absurd (n refl)
-after_pen view x _ l n = (refl, refl)
+after_pen view x told l n = grind arith
 
 -- the desk of a site has penned, or refused to
 pub pen_runs_on : (old : Site) (k l : WorldDesk) (e : Entry) (told : Result Penned DeskRefusal) (seen : Seen) (before after : List Datagram) → old.desk ≡ Some k → PenSteps k e told l → SameOwner k l
@@ -78,5 +77,4 @@ pen_refused old new k l e why seen before here step owner blame a =
 
 -- the site after a refusal is of the same match
 pub refused_same : (device : Bool) (why : DeskRefusal) (old new : Site) (seen : Seen) → RefusedBy device why old seen new → SameSite old new
-refused_same true why old new seen q = broken_same old.due (Cause.Desk why) old new seen q
-refused_same false why old new seen q = subst (SameSite old) (sym q.1) (record { name = refl; same_game = refl; innings = refl })
+refused_same device why old new seen q = grind (arith, broken_same old.due (Cause.Desk why) old new seen)

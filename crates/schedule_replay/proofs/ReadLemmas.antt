@@ -1,5 +1,5 @@
 -- Of a file's votes the first are the desk's.
-use Rattle.std.proofs.Common.{◌≡◌, ◌≤◌, ◌-◌, ℕ, Option, Some, List, [], ◌∷◌, ◌++◌, length, drop, refl, sym, ap, ◌∙◌, inl, inr, arith, length-append}
+use Rattle.std.proofs.Common.{◌≡◌, ◌≤◌, ◌-◌, ℕ, Option, Some, List, [], ◌∷◌, ◌++◌, length, drop, refl, ap, ◌∙◌, inl, inr, arith, length-append}
 use Rattle.entry_log.specs.Format.{contents}
 use Rattle.entry_log.specs.MemDisk.{file_of}
 use Rattle.entry_log.specs.declared.mem_disk.MemDisk.{MemDisk}
@@ -43,30 +43,32 @@ pub no_more : (later votes found : List Ballot) (n : ℕ) → found ≡ later ++
 no_more later votes found n e size = let l = ap length e in omega (arith, l, size, length-append later votes)
 
 -- a desk that is put down still reads so
-pub put_down_reads : (old new : Site) (disk : MemDisk) (x : Node MemDisk) → HasNode old x → SiteReads old.game old.innings_a_side old.name x → PutsDown old new → new.disk ≡ Some disk → (later : List Ballot) × (votes_shown (contents (format_of new.version)) new.name new.game (file_of disk) ≡ Some (later ++ process_votes x.process))
+pub put_down_reads : (old new : Site) (disk : MemDisk) (x : Node MemDisk) → HasNode old x → SiteReads old.game old.innings_a_side old.name x
+    → PutsDown old new → new.disk ≡ Some disk → (later : List Ballot) ×
+    (votes_shown (contents (format_of new.version)) new.name new.game (file_of disk) ≡ Some (later ++ process_votes x.process))
 put_down_reads old new disk x h reads put there =
     let has = site_disk old x h in
     let d = put.disk in
     let same = put.same in
     let plan = d.4 in
-    let before : d.0 ≡ process_disk x.process = let z = sym d.2 ∙ has.disk in cc in
-    let after : disk ≡ d.1 = let z = sym there ∙ d.3 in cc in
-    let file : file_of disk ≡ file_of (process_disk x.process) = ap file_of after ∙ plan.file ∙ ap file_of before in
-    let version : new.version ≡ x.version = put.version ∙ sym h.version in
-    (reads.0, (λ i. votes_shown (contents (format_of (version i))) (same.name i) (same.same_game i) (file i)) ∙ reads.1)
+    (reads.0, grind (arith, has.disk, put.version, h.version, same.name, same.same_game, plan.file, d.2, d.3, there, reads.1))
 
 -- and the first of the votes found are the desk's
-pub put_down_votes : (old new : Site) (disk : MemDisk) (x : Node MemDisk) (found : List Ballot) → HasNode old x → SiteReads old.game old.innings_a_side old.name x → PutsDown old new → new.disk ≡ Some disk → votes_shown (contents (format_of new.version)) new.name new.game (file_of disk) ≡ Some found → (new.votes ≤ length found) × (oldest new.votes found ≡ process_votes x.process)
+pub put_down_votes : (old new : Site) (disk : MemDisk) (x : Node MemDisk) (found : List Ballot) → HasNode old x
+    → SiteReads old.game old.innings_a_side old.name x → PutsDown old new → new.disk ≡ Some disk
+    → votes_shown (contents (format_of new.version)) new.name new.game (file_of disk) ≡ Some found
+    → (new.votes ≤ length found) × (oldest new.votes found ≡ process_votes x.process)
 put_down_votes old new disk x found h reads put there shows =
     let has = site_disk old x h in
     let read = put_down_reads old new disk x h reads put there in
     let votes = process_votes x.process in
-    let e : found ≡ read.0 ++ votes = let z = sym shows ∙ read.1 in cc in
+    let e : found ≡ read.0 ++ votes = grind (arith, shows, read.1) in
     let size : new.votes ≡ length votes = put.counted ∙ has.votes in
     (no_more read.0 votes found new.votes e size, first_are read.0 votes found new.votes e size)
 
 -- what the match's file of a desk shows, its site reads by its own names
-pub of_names : (code : World) (d : DeskId) (w : Configuration MemDisk) → HasConfiguration code w → FilesRead code.game code.innings_a_side w → SiteReads (code_site code d).game (code_site code d).innings_a_side (code_site code d).name (node w d)
+pub of_names : (code : World) (d : DeskId) (w : Configuration MemDisk) → HasConfiguration code w → FilesRead code.game code.innings_a_side w
+    → SiteReads (code_site code d).game (code_site code d).innings_a_side (code_site code d).name (node w d)
 of_names code d w h reads =
     let names = h.named d in
     let r = reads d in

@@ -4,9 +4,9 @@ use Rattle.std.proofs.lemmas.List.{length-map, map-append}
 use Rattle.std.proofs.lemmas.List.Elements.{All-append}
 use Rattle.std.specs.Prelude.{All, IsSome}
 use Rattle.corrections.specs.declared.refusal.Refusal.{Refusal}
-use Rattle.entry_log.specs.Disk.{Faults, IsImage, IsOnce, Never, only}
+use Rattle.entry_log.specs.Disk.{IsImage, IsOnce, Never, only}
 use Rattle.entry_log.specs.Format.{contents, room}
-use Rattle.entry_log.specs.MemDisk.{SetsPlan, call_count, cap_of, faults_of, file_of, images_of, plan_of}
+use Rattle.entry_log.specs.MemDisk.{SetsPlan, call_count, cap_of, faults_of, file_of, images_of}
 use Rattle.entry_log.specs.Plan.{due_of}
 use Rattle.entry_log.specs.declared.mem_disk.{MemDisk.MemDisk, plan.Plan.Plan}
 use Rattle.entry_log.specs.declared.mem_disk.plan.Plan.TheVariants.{Calm}
@@ -38,11 +38,6 @@ pub of_match : (name : DeskId) (version : FileVersion) (game innings : ℕ) (k :
     → P (view_of k) (rules_of k) → P ((match_of game innings).view name version) (match_of game innings).rules
 of_match name version game innings k o P p = rw (← o.same_name, ← o.same_version, ← o.same_game, ← o.same_innings) p
 
--- the same desk after a call
-pub still_of : (name : DeskId) (version : FileVersion) (game innings : ℕ) (k l : WorldDesk) → IsWorldDeskOf name version game innings k → SameOwner k l → IsWorldDeskOf name version game innings l
-still_of name version game innings k l own o =
-    record { same_name = o.name ∙ own.same_name; same_version = o.version ∙ own.same_version; same_game = o.same_game ∙ own.same_game; same_innings = o.innings ∙ own.same_innings }
-
 -- a site whose desk runs
 pub record Runs (site : Site) (k : WorldDesk) (x : Node MemDisk) : Type 0 where
   pub owner : IsWorldDeskOf site.name x.version site.game site.innings_a_side k
@@ -51,50 +46,23 @@ pub record Runs (site : Site) (k : WorldDesk) (x : Node MemDisk) : Type 0 where
   pub process : x.process ≡ Running (state_of k)
 
 pub running_is : (site : Site) (k : WorldDesk) (x : Node MemDisk) → site.desk ≡ Some k → HasNode site x → Runs site k x
-running_is site k x here h =
-    let p : IsProcess site (Some k) site.disk x.process = subst (λ (o : Option WorldDesk). IsProcess site o site.disk x.process) here h.process in
-    let own = p.0.owner in
-    record {
-      owner = record { same_name = own.same_name; same_version = own.same_version ∙ sym h.version; same_game = own.same_game; same_innings = own.same_innings };
-      on_disk = p.0.on_disk;
-      no_disk = p.1;
-      process = p.2;
-    }
+running_is site k x here h = grind arith
 
 -- the site with its desk after a call, whatever is due now
 pub runs_again : (site : Site) (k l : WorldDesk) (due : Option Fault) (x : Node MemDisk) → site.desk ≡ Some k → HasNode site x → SameOwner k l → IsDue due (faults_of (disk_of l)).due
     → HasNode (record site { desk = Some l; due = due }) (record x { process = Running (state_of l); due = due })
-runs_again site k l due x here h o f =
-    let r = running_is site k x here h in
-    let own = still_of site.name x.version site.game site.innings_a_side k l r.owner o in
-    let disk = r.on_disk in
-    record {
-      version = h.version;
-      process = (
-        record {
-          owner = record { same_name = own.same_name; same_version = own.same_version ∙ h.version; same_game = own.same_game; same_innings = own.same_innings };
-          on_disk = record { cap = o.cap ∙ disk.cap; faults = f };
-        },
-        r.no_disk,
-        refl,
-      );
-      due = refl;
-    }
+runs_again site k l due x here h o f = grind arith
 
 -- after a call that didn't fail at its device
 pub runs_on : (site : Site) (k l : WorldDesk) (x : Node MemDisk) → site.desk ≡ Some k → HasNode site x → SameOwner k l → faults_of (disk_of l) ≡ faults_of (disk_of k)
     → HasNode (record site { desk = Some l }) (record x { process = Running (state_of l) })
-runs_on site k l x here h o f =
-    let r = running_is site k x here h in
-    let disk = r.on_disk in
-    let again = runs_again site k l site.due x here h o (subst (λ (z : Faults). IsDue site.due z.due) (sym f) disk.faults) in
-    record { version = again.version; process = again.process; due = h.due }
+runs_on site k l x here h o f = grind arith
 
 -- messages and those that were handed out after them
 pub more_bytes : (game : ℕ) (old new : List Datagram) (messages out : List Message) (bytes : List (List ℕ)) → AreBytesOf game old messages → All IsMessage out → bytes ≡ map (written game) out
     → map (λ (d : Datagram). d.bytes) new ≡ map (λ (d : Datagram). d.bytes) old ++ bytes → AreBytesOf game new (messages ++ out)
 more_bytes game old new messages out bytes b all e n =
-    (All-append IsMessage messages out b.0 all, n ∙ (λ i. b.1 i ++ e i) ∙ sym (map-append (written game) messages out))
+    grind (arith, All-append IsMessage messages out b.0 all, map-append (written game) messages out)
 
 pub no_bytes : (game : ℕ) (sent : List Datagram) (messages : List Message) → AreBytesOf game sent messages → AreBytesOf game sent (messages ++ [])
 no_bytes game sent messages b = rw append-nil b
@@ -126,15 +94,10 @@ only_one [] (b ∷ bs) h = absurd (cc)
 only_one (f ∷ fs) [] h = absurd h
 only_one (f ∷ fs) (b ∷ bs) h = λ i. h.0 i ∷ only_one fs bs h.1 i
 
-calm_plan : (disk : MemDisk) → plan_of disk ≡ Calm → (faults_of disk).due ≡ Never
-calm_plan disk e = ap (due_of (call_count disk)) e
-
 -- a site whose desk is down
 pub down_is : (site : Site) (disk : MemDisk) (votes : List Ballot) → site.desk ≡ None → site.disk ≡ Some disk → site.votes ≡ length votes → IsWorldDisk site.version site.due disk
     → IsProcess site site.desk site.disk (Down votes disk)
-down_is site disk votes d l v on =
-    subst (λ (o : Option WorldDesk). IsProcess site o site.disk (Down votes disk)) (sym d)
-    (subst (λ (o : Option MemDisk). IsProcess site None o (Down votes disk)) (sym l) (on, (votes, sym v, refl)))
+down_is site disk votes d l v on = rw (d, l) (on, (votes, sym v, refl))
 
 -- the disk and the votes of a site, whether its desk runs or is down
 pub record HasDisk (site : Site) (p : Process MemDisk) : Type 0 where
@@ -142,24 +105,8 @@ pub record HasDisk (site : Site) (p : Process MemDisk) : Type 0 where
   pub votes : votes_at site.desk site.votes ≡ length (process_votes p)
   pub cap : cap_of (process_disk p) ≡ most_bytes site.version
 
-has_disk : (site : Site) (desk : Option WorldDesk) (disk : Option MemDisk) (p : Process MemDisk) → site.desk ≡ desk → site.disk ≡ disk → IsProcess site desk disk p → HasDisk site p
-has_disk site (Some k) disk p d l (own, none, is) =
-    let on = own.on_disk in
-    record {
-      disk = ap (λ (o : Option WorldDesk). disk_at o site.disk) d ∙ ap (λ (q : Process MemDisk). Some (process_disk q)) (sym is);
-      votes = ap (λ (o : Option WorldDesk). votes_at o site.votes) d ∙ ap (λ (q : Process MemDisk). length (process_votes q)) (sym is);
-      cap = ap (λ (q : Process MemDisk). cap_of (process_disk q)) is ∙ on.cap;
-    }
-has_disk site None (Some disk) p d l (on, (votes, n, is)) =
-    record {
-      disk = (λ i. disk_at (d i) (l i)) ∙ ap (λ (q : Process MemDisk). Some (process_disk q)) (sym is);
-      votes = ap (λ (o : Option WorldDesk). votes_at o site.votes) d ∙ sym n ∙ ap (λ (q : Process MemDisk). length (process_votes q)) (sym is);
-      cap = ap (λ (q : Process MemDisk). cap_of (process_disk q)) is ∙ on.cap;
-    }
-has_disk site None None p d l h = absurd h
-
 pub site_disk : (site : Site) (x : Node MemDisk) → HasNode site x → HasDisk site x.process
-site_disk site x h = has_disk site site.desk site.disk x.process refl refl h.process
+site_disk site x h = grind arith
 
 -- a desk that is put down keeps its votes and its disk
 pub put_down_is : (old new : Site) (p : Process MemDisk) → HasDisk old p → old.due ≡ None → PutsDown old new
@@ -168,10 +115,7 @@ put_down_is old new p h due put =
     let d = put.disk in
     let there : d.0 ≡ process_disk p = let z = sym h.disk ∙ d.2 in cc in
     let plan = subst (λ (z : MemDisk). SetsPlan Calm z d.1) there d.4 in
-    let none : new.due ≡ None = put.due ∙ due in
-    let never : (faults_of d.1).due ≡ Never = calm_plan d.1 plan.plan in
-    let faults : IsDue new.due (faults_of d.1).due = subst (λ (o : Option Fault). IsDue o (faults_of d.1).due) (sym none) never in
-    let on : IsWorldDisk new.version new.due d.1 = record { cap = plan.cap ∙ h.cap ∙ ap most_bytes (sym put.version); faults = faults } in
+    let on : IsWorldDisk new.version new.due d.1 = grind (arith, ap (due_of (call_count d.1)) plan.plan) in
     (d.1, d.3, plan, down_is new d.1 (process_votes p) put.desk d.3 (put.counted ∙ h.votes) on)
 
 -- a device call has failed, by the fault that was due: the site goes on with this process, or its desk is down
@@ -209,8 +153,7 @@ broken_site old new k l x cause seen here h o calm spent told b =
 
 -- the site after that is of the same match
 pub broken_same : (due : Option Fault) (cause : Cause) (old new : Site) (seen : Seen) → BreaksDown due cause old seen new → SameSite old new
-broken_same (Some Stop) cause old new seen q = let put = q.1 in let same = put.same in record { name = same.name; same_game = same.same_game; innings = same.innings }
-broken_same _ cause old new seen q = subst (SameSite old) (sym q.1) (record { name = refl; same_game = refl; innings = refl })
+broken_same due cause old new seen q = grind arith
 
 -- the file has room for one vote more
 pub has_room : (version : FileVersion) (n cap : ℕ) → n < most_votes → cap ≡ most_bytes version → room (format_of version) (n + 1) ≤ cap

@@ -1,5 +1,5 @@
 -- An event at a site is taken, or not.
-use Rattle.std.proofs.Common.{◌≡◌, ◌⊎◌, Bool, true, false, Option, Some, None, List, refl, ap, ◌∙◌, inl, inr, Result, Ok, Err}
+use Rattle.std.proofs.Common.{arith, ◌≡◌, ◌⊎◌, Bool, true, Option, Some, None, List, refl, ap, ◌∙◌, inl, inr, Result, Ok, Err}
 use Rattle.std.specs.Prelude.{IfOk, OnErr}
 use Rattle.std.proofs.Math.Bool.{not}
 use Rattle.std.specs.Option.{is_none, is_some}
@@ -12,10 +12,7 @@ use Rattle.schedule_replay.proofs.OpenLemmas.{stays_so}
 
 -- a site's desk is missing where there is none
 pub none_of : (desk : Option WorldDesk) (r : Bool) → is_some desk ≡ not r → r ≡ is_none desk
-none_of (Some k) true e = absurd (cc)
-none_of (Some k) false e = refl
-none_of None true e = refl
-none_of None false e = absurd (cc)
+none_of desk r e = grind arith
 
 -- an event that may want memory
 pub wants_so : (event same : Event) (old new : Site) (sent roomy : List Datagram) (result : Result Seen WorldRefusal) → event ≡ same → site_cause old sent event ≡ None → roomy ≡ sent
@@ -26,8 +23,7 @@ wants_so event same old new sent roomy (Err why) q cause e h k g = (e, inr (caus
 
 -- what may send may take memory
 pub sending_grows : (event : Event) → may_send event ≡ true → may_grow event ≡ true
-sending_grows (Event.Open d) e = refl
-sending_grows _ e = cc
+sending_grows event e = grind arith
 
 -- an event that isn't taken
 pub refused : (event : Event) (old : Site) (sent roomy : List Datagram) (why : WorldRefusal) → roomy ≡ sent
@@ -36,6 +32,4 @@ refused event old sent roomy why e (inl cause) = (e, inl (cause, refl))
 refused event old sent roomy why e (inr (cause, want, sends)) = (e, inr (cause, want, sending_grows event sends, left event))
   where
     left : (event : Event) → SiteLeft event old old
-    left (Event.Open d) = stays_so old
-    left (Event.Migrate d) = stays_so old
-    left _ = refl
+    left event = grind (arith, stays_so old)

@@ -1,36 +1,29 @@
 -- What happens at a site is a step of the world.
-use Rattle.std.proofs.Common.{◌≡◌, ℕ, false, Option, Some, None, List, [], ◌++◌, length, map, refl, sym, ap, ◌∙◌, subst, inl, inr, Result, Ok, Err, append-nil}
+use Rattle.std.proofs.Common.{arith, ◌≡◌, ℕ, false, Some, List, [], ◌++◌, length, refl, sym, ap, ◌∙◌, subst, inl, inr, Result, Ok, Err, append-nil}
 use Rattle.std.specs.Prelude.{IfErr, IfOk, OnOk}
-use Rattle.std.specs.Option.{is_none}
 use Rattle.std.proofs.lemmas.List.{length-map}
 use Rattle.corrections.specs.declared.refusal.Refusal.{Refusal}
 use Rattle.entry_log.specs.declared.mem_disk.MemDisk.{MemDisk}
 use Rattle.agree_core.specs.declared.messages.{DeskId.DeskId, Message.Message}
-use Rattle.agree_core.specs.declared.messages.DeskId.TheVariants.{A, B}
 use Rattle.agree_core.specs.FileView.{MaySync}
 use Rattle.agree_core.specs.Readers.{other}
 use Rattle.wire.specs.declared.datagram.Datagram.{Datagram}
 use Rattle.wire.specs.Layout.{written}
 use Rattle.headline.specs.declared.event.{Event.Event, Station.Station}
-use Rattle.schedule_replay.specs.declared.{seen.Seen.Seen, seen.WorldRefusal.WorldRefusal, site.Site.Site, world.World.World, world_desk.WorldDesk.WorldDesk}
-use Rattle.headline.specs.Configurations.{Process, Node, Configuration, node, process_disk, with_disk, with_node}
+use Rattle.schedule_replay.specs.declared.{seen.Seen.Seen, seen.WorldRefusal.WorldRefusal, site.Site.Site, world.World.World}
+use Rattle.headline.specs.Configurations.{Node, Configuration, node, process_disk, with_disk, with_node}
 use Rattle.headline.specs.Events.{station_of}
 use Rattle.headline.specs.Answers.{Answer}
 use Rattle.headline.specs.DeskSteps.{AtDesk}
 use Rattle.headline.specs.Steps.{StepAt}
-use Rattle.schedule_replay.specs.Refusals.{LeftByWant, down_at, first_cause, is_down, no_station, refusal_of}
+use Rattle.schedule_replay.specs.Refusals.{LeftByWant, MaySyncAt, refusal_of}
 use Rattle.headline.specs.Match.{match_of}
 use Rattle.schedule_replay.specs.Answers.{AreBytesOf, answer_of}
-use Rattle.schedule_replay.specs.Plans.{HasPlan, LeavesPlan, StaysDue, asks_fault, due_on}
+use Rattle.schedule_replay.specs.Plans.{HasPlan, LeavesPlan, StaysDue, asks_fault}
 use Rattle.schedule_replay.specs.inner.Sites.{IsProcess, HasNode, KeepsDue, SiteLeft, SiteTakes, SyncsSite, disk_at, site_cause}
 use Rattle.schedule_replay.specs.inner.Sites as sites
-use Rattle.schedule_replay.specs.CodeWorlds.{IsSiteOf, HasConfiguration, RefusesTo, StepsTo, board_state, code_site}
+use Rattle.schedule_replay.specs.CodeWorlds.{IsSiteOf, HasConfiguration, RefusesTo, StepsTo, code_site}
 use Rattle.schedule_replay.proofs.SiteLemmas.{site_disk}
-
-down_is : (site : Site) (desk : Option WorldDesk) (disk : Option MemDisk) (p : Process MemDisk) → IsProcess site desk disk p → is_down p ≡ is_none desk
-down_is site (Some k) disk p h = ap is_down h.2
-down_is site None (Some disk) p h = ap is_down h.1.2
-down_is site None None p h = absurd h
 
 -- as many messages as datagrams
 pub sent_length : (game : ℕ) (sent : List Datagram) (messages : List Message) → AreBytesOf game sent messages → length messages ≡ length sent
@@ -49,65 +42,20 @@ pub record Changes (d : DeskId) (old new : World) (site : Site) : Type 0 where
   pub boards : new.boards.items ≡ old.boards.items
   pub same : sites.SameSite (code_site old d) site
 
-site_there : (d c : DeskId) (old new : World) (w : Configuration MemDisk) (y : Node MemDisk) (out : List Message) → code_site new (other d) ≡ code_site old (other d) → HasNode (code_site new d) y
-    → ((e : DeskId) → HasNode (code_site old e) (node w e)) → HasNode (code_site new c) (node (with_node w d y out) c)
-site_there A A old new w y out q i h = i
-site_there A B old new w y out q i h = subst (λ (z : Site). HasNode z w.b) (sym q) (h B)
-site_there B A old new w y out q i h = subst (λ (z : Site). HasNode z w.a) (sym q) (h A)
-site_there B B old new w y out q i h = i
-
-name_there : (d c : DeskId) (old new : World) (game innings : ℕ) → code_site new (other d) ≡ code_site old (other d) → IsSiteOf d game innings (code_site new d)
-    → ((e : DeskId) → IsSiteOf e game innings (code_site old e)) → IsSiteOf c game innings (code_site new c)
-name_there A A old new game innings q i h = i
-name_there A B old new game innings q i h = subst (IsSiteOf B game innings) (sym q) (h B)
-name_there B A old new game innings q i h = subst (IsSiteOf A game innings) (sym q) (h A)
-name_there B B old new game innings q i h = i
-
-with_node_boards : (w : Configuration MemDisk) (d : DeskId) (y : Node MemDisk) (out : List Message) → (λ (v : Configuration MemDisk). v.boards) (with_node w d y out) ≡ w.boards
-with_node_boards w A y out = refl
-with_node_boards w B y out = refl
-
-with_node_sent : (w : Configuration MemDisk) (d : DeskId) (y : Node MemDisk) (out : List Message) → (λ (v : Configuration MemDisk). v.sent) (with_node w d y out) ≡ w.sent ++ out
-with_node_sent w A y out = refl
-with_node_sent w B y out = refl
-
 -- the world after one of its sites has changed
 put : (d : DeskId) (old new : World) (site : Site) (w : Configuration MemDisk) (y : Node MemDisk) (out : List Message) → Changes d old new site → HasConfiguration old w → HasNode site y
     → AreBytesOf old.game new.sent.items (w.sent ++ out) → HasConfiguration new (with_node w d y out)
-put d old new site w y out c h i b =
-    let n = h.named d in
-    let s = c.same in
-    let own : IsSiteOf d old.game old.innings_a_side site = record { same_name = s.name ∙ n.same_name; same_game = s.same_game ∙ n.same_game; same_innings = s.innings ∙ n.same_innings } in
-    record {
-      sites = λ e. site_there d e old new w y out c.there (rw c.here i) h.sites;
-      named = λ e. name_there d e old new new.game new.innings_a_side c.there (rw (c.here, c.same_game, c.same_innings) own) (λ e. rw (c.same_game, c.same_innings) (h.named e));
-      boards_are = rw (c.same_game, c.same_innings, c.boards) h.boards_are;
-      board_states = with_node_boards w d y out ∙ h.board_states ∙ ap (map board_state) (sym c.boards);
-      bytes = rw (c.same_game, with_node_sent w d y out) b;
-    }
-
-unmoved : (d : DeskId) (w : Configuration MemDisk) → with_node w d (node w d) [] ≡ w
-unmoved A w = λ i. record { a = w.a; b = w.b; boards = w.boards; sent = append-nil w.sent i }
-unmoved B w = λ i. record { a = w.a; b = w.b; boards = w.boards; sent = append-nil w.sent i }
-
-no_bytes : (d : DeskId) (old new : World) (w : Configuration MemDisk) → new.sent.items ≡ old.sent.items → HasConfiguration old w → AreBytesOf old.game new.sent.items (w.sent ++ [])
-no_bytes d old new w e h = rw (append-nil, e) h.bytes
+put d old new site w y out c h i b = grind (arith, h.sites, h.named)
 
 -- the world stays
 stays : (d : DeskId) (old new : World) (site : Site) (w : Configuration MemDisk) → Changes d old new site → site ≡ code_site old d → new.sent.items ≡ old.sent.items → HasConfiguration old w
     → HasConfiguration new w
-stays d old new site w c e items h =
-    subst (HasConfiguration new) (unmoved d w) (put d old new site w (node w d) [] c h (subst (λ (z : Site). HasNode z (node w d)) (sym e) (h.sites d)) (no_bytes d old new w items h))
+stays d old new site w c e items h = grind (arith, h.sites, h.named)
 
 -- the first cause at the site is that of the world
 cause_is : (d : DeskId) (old : World) (w : Configuration MemDisk) (event : Event) → station_of event ≡ Station.Desk d → HasConfiguration old w
     → refusal_of w event ≡ site_cause (code_site old d) old.sent.items event
-cause_is d old w event e h =
-    let site = code_site old d in
-    let i = h.sites d in
-    let down : is_down (node w d).process ≡ is_none site.desk = down_is site site.desk site.disk (node w d).process i.process in
-    let many = sent_length old.game old.sent.items w.sent h.bytes in
-    (λ j. first_cause (no_station w (e j)) (down_at w (e j)) (length w.sent) event) ∙ (λ j. first_cause false (down j) (many j) event)
+cause_is d old w event e h = grind (arith, h.sites d, sent_length old.game old.sent.items w.sent h.bytes)
 
 -- all that a step at a site gives, by the match's names
 abbrev SiteGives : Node MemDisk → List Message → Event → Seen → Site → List Datagram → DeskId → ℕ → ℕ → Type 0
@@ -121,28 +69,15 @@ desk_eq c d q = cc
 -- what the site plans is planned in the world
 plans : (d : DeskId) (w : Configuration MemDisk) (site : Site) (y : Node MemDisk) (out : List Message) (event : Event) → station_of event ≡ Station.Desk d → HasNode site y
     → HasPlan event (disk_at site.desk site.disk) → LeavesPlan event (with_node w d y out)
-plans d w site y out event e i h c q =
-    let has = site_disk site y i in
-    let here : node (with_node w d y out) c ≡ y = ap (node (with_node w d y out)) (desk_eq d c (sym e ∙ q)) ∙ changed d in
-    subst (λ (x : Node MemDisk). HasPlan event (Some (process_disk x.process))) (sym here) (subst (HasPlan event) has.disk h)
-  where
-    changed : (d : DeskId) → node (with_node w d y out) d ≡ y
-    changed A = refl
-    changed B = refl
+plans d w site y out event e i h c q = grind (arith, site_disk site y i)
 
 -- what stays due at the site stays so in the world
 stays_due : (old new : Site) (x y : Node MemDisk) → HasNode old x → HasNode new y → KeepsDue old new → StaysDue y.due (Some (process_disk x.process)) (Some (process_disk y.process))
-stays_due old new x y h i keeps fault due =
-    let before = site_disk old x h in
-    let after = site_disk new y i in
-    ap due_on (sym after.disk) ∙ keeps fault (sym i.due ∙ due) ∙ ap due_on before.disk
+stays_due old new x y h i keeps fault due = grind (arith, site_disk old x h, site_disk new y i)
 
 counts : (d : DeskId) (w : Configuration MemDisk) (y : Node MemDisk) (out : List Message) → StaysDue y.due (Some (process_disk (node w d).process)) (Some (process_disk y.process)) → (c : DeskId)
     → StaysDue (node (with_node w d y out) c).due (Some (process_disk (node w c).process)) (Some (process_disk (node (with_node w d y out) c).process))
-counts A w y out h A = h
-counts A w y out h B = λ fault due. refl
-counts B w y out h A = λ fault due. refl
-counts B w y out h B = h
+counts d w y out h c = grind arith
 
 -- an event that a site has taken
 pub desk_steps : (d : DeskId) (old new : World) (site : Site) (event : Event) (seen : Seen) → station_of event ≡ Station.Desk d → Changes d old new site
@@ -172,7 +107,7 @@ desk_steps d old new site event seen e c takes planned counted w h =
 
 -- the disk of a site may have been synced
 synced : (d c : DeskId) (old new : World) (site : Site) (w : Configuration MemDisk) → c ≡ d → Changes d old new site → SyncsSite (code_site old d) site → new.sent.items ≡ old.sent.items
-    → HasConfiguration old w → (v : Configuration MemDisk) × Rattle.schedule_replay.specs.Refusals.MaySyncAt (match_of old.game old.innings_a_side) w c v × HasConfiguration new v
+    → HasConfiguration old w → (v : Configuration MemDisk) × MaySyncAt (match_of old.game old.innings_a_side) w c v × HasConfiguration new v
 synced d c old new site w q change syncs items h =
     let names = h.named d in
     let here = code_site old d in
@@ -181,8 +116,8 @@ synced d c old new site w q change syncs items h =
     let may = at_site d old.game old.innings_a_side here names (λ n g i. MaySync ((match_of g i).view n x.version) (process_disk x.process) k.0) k.1 in
     let y : Node MemDisk = record x { process = with_disk x.process k.0 } in (
       with_node w d y [],
-      subst (λ (e : DeskId). Rattle.schedule_replay.specs.Refusals.MaySyncAt (match_of old.game old.innings_a_side) w e (with_node w d y [])) (sym q) (k.0, may, refl),
-      put d old new site w y [] change h k.2 (no_bytes d old new w items h),
+      rw q (k.0, may, refl),
+      put d old new site w y [] change h k.2 (rw (append-nil, items) h.bytes),
     )
 
 -- what being out of memory leaves

@@ -8,7 +8,7 @@ use Rattle.headline.specs.declared.event.{Event.Event, Station.Station}
 use Rattle.schedule_replay.specs.declared.seen.WorldRefusal.{WorldRefusal}
 use Rattle.schedule_replay.specs.declared.seen.WorldRefusal.TheVariants.{NoMessage, NoStation, WorldFull, Down, Up, NoMemory}
 use Rattle.headline.specs.Configurations as configurations
-use Rattle.headline.specs.Match.{Setting}
+use Rattle.headline.specs.Setting.{Setting}
 use Rattle.headline.specs.Configurations.{Process, Configuration, board_at, node, process_disk, with_disk, with_node}
 use Rattle.headline.specs.Events.{station_of}
 

@@ -12,9 +12,10 @@ use Rattle.schedule_replay.specs.declared.seen.WorldRefusal.TheVariants.{NoMemor
 use Rattle.headline.specs.Laws.{HoldsInRun}
 use Rattle.headline.specs.Configurations.{Configuration, all_votes}
 use Rattle.headline.specs.Runs.{AtEachMoment, AtSomeMoment, Begins, Moment, Run, answers_of, events_of, last_of}
-use Rattle.headline.specs.Headline.{AtEachEvent, ShowScores, ShowsScore}
+use Rattle.headline.specs.Headline.{ShowScores, ShowsScore}
 use Rattle.schedule_replay.specs.Refusals.{RefusesEvent}
 use Rattle.headline.specs.Match.{match_of}
+use Rattle.headline.specs.Besides.{AtEachEvent}
 use Rattle.schedule_replay.specs.Plans.{CountsDown, LeavesPlan}
 use Rattle.schedule_replay.specs.Answers.{answer_of}
 

@@ -16,7 +16,8 @@ use Rattle.desk.specs.declared.refusal.OpenRefusal.{OpenRefusal}
 use Rattle.headline.specs.declared.version.FileVersion.{FileVersion}
 use Rattle.schedule_replay.specs.declared.world_desk.WorldDesk.{WorldDesk}
 use Rattle.schedule_replay.specs.declared.world_desk.WorldDesk.TheVariants.{Old, New}
-use Rattle.headline.specs.Match.{Setting, format_of, match_of}
+use Rattle.headline.specs.Match.{format_of, match_of}
+use Rattle.headline.specs.Setting.{Setting}
 
 abbrev pub version_of : WorldDesk → FileVersion
 version_of (Old k) = FileVersion.Old

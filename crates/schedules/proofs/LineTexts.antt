@@ -1,9 +1,8 @@
 -- What a line of a schedule says, for each event and for each fault, and that an event's line says just that event.
-use Rattle.std.proofs.Common.{◌≡◌, ℕ, ◌+◌, ◌≤◌, nat_lt, ◌<◌, ◌^◌, List, [], ◌∷◌, ◌++◌, length, take, drop, true, cond, Option, Some, None}
-use Rattle.std.proofs.Common.{Result, Ok, Err, ◌⊎◌, inl, inr, refl, sym, ap, subst, ◌∙◌, arith, codes, decimal, lit<, ne_eqb}
+use Rattle.std.proofs.Common.{◌≡◌, ℕ, ◌+◌, ◌≤◌, nat_lt, ◌<◌, ◌^◌, List, [], ◌∷◌, ◌++◌, length, take, true, Option, Some, None}
+use Rattle.std.proofs.Common.{Result, Ok, Err, inl, inr, refl, sym, ap, subst, ◌∙◌, arith, codes, decimal, lit<, ne_eqb}
 use Rattle.std.specs.List.{join_with_byte, list_all}
 use Rattle.std.specs.Str.{bytes_eq, IsAscii, IsUtf8}
-use Rattle.std.specs.Str.Parse.{digits_value}
 use Rattle.std.proofs.lemmas.Fmt.{decimal_digit, digits_decimal, digits_value-decimal, IsAscii-decimal}
 use Rattle.std.proofs.lemmas.List.{take-append-drop}
 use Rattle.std.proofs.lemmas.Str.{IsAscii-append, IsUtf8-from_ascii}
@@ -11,30 +10,25 @@ use Rattle.std.proofs.lemmas.Bool.{and_parts, ltb-true}
 use Rattle.std.proofs.lemmas.Str.Ascii.{IsAscii-cons, IsAscii-nil}
 use Rattle.notation.specs.declared.{entry.Entry.Entry, fault.LineFault.LineFault}
 use Rattle.notation.specs.Reading.{line_answer}
-use Rattle.notation.specs.Written.{found_number, is_number, text_of}
+use Rattle.notation.specs.Written.{found_number, text_of}
 use Rattle.notation.proofs.Faults.{fault_of, line_fault}
 use Rattle.notation.proofs.Found.{chosen, same}
 use Rattle.notation.proofs.Joined.{words_are}
 use Rattle.notation.proofs.Numbers.{own, parts, written}
 use Rattle.notation.proofs.Texts.{line_again, line_found}
 use Rattle.agree_core.specs.declared.messages.DeskId.{DeskId}
-use Rattle.agree_core.specs.declared.messages.DeskId.TheVariants.{A, B}
 use Rattle.entry_log.specs.declared.mem_disk.choice.Choice.{Choice}
-use Rattle.headline.specs.declared.event.{Event.Event, Station.Station}
+use Rattle.headline.specs.declared.event.{Event.Event}
 use Rattle.schedules.specs.declared.schedule_fault.ScheduleFault.{ScheduleFault}
 use Rattle.schedules.specs.declared.schedule_fault.ScheduleFault.TheVariants.{NoMemory, BadEvent, BadEntry}
 use Rattle.schedules.specs.ScheduleLines.{choice_words, desk_word, event_text, pen_line, station_word, HasBadEntry, IsNoEvent, IsWrittenChoice, IsWrittenEvent, IsWrittenStation}
-use Rattle.schedules.specs.inner.ScheduleReading.{◌>>=◌, Reader, after_start, board_station, both_at, choice_at, count_at, cut, desk_at, event_at, event_or}
-use Rattle.schedules.specs.inner.ScheduleReading.{fill_at, give_at, line_says, pen_at, pen_of, pen_or, penned, pick, power_at, readers, station_at}
+use Rattle.schedules.specs.inner.ScheduleReading.{◌>>=◌, Reader, after_start, both_at, choice_at, count_at, cut, desk_at, event_at, event_or}
+use Rattle.schedules.specs.inner.ScheduleReading.{fill_at, give_at, line_says, pen_at, pen_or, penned, pick, power_at, readers, station_at}
 use Rattle.schedules.proofs.ScheduleCuts.{cut_digits, cut_found}
 
 bind_some : {X Y : Type 0} → (o : Option X) (f : X → Option Y) (y : Y) → (o >>= f) ≡ Some y → (x : X) × (o ≡ Some x) × (f x ≡ Some y)
 bind_some (Some x) f y h = (x, refl, h)
 bind_some None f y h = absurd (cc)
-
--- the first of the words that are tried is there, or another one is
-one_of : {X : Type 0} → (w t : List ℕ) (x y : X) (others : Option X) → cond (bytes_eq w t) (Some x) others ≡ Some y → ((w ≡ t) × (x ≡ y)) ⊎ (others ≡ Some y)
-one_of w t x y others h = elim (chosen (bytes_eq w t) (Some x) others (Some y) h) [ inl p ↦ inl (same w t p.0, cc) | inr p ↦ inr p.1 ]
 
 ascii_of : (bs : List ℕ) → list_all (λ b. nat_lt b 128) bs ≡ true → IsAscii bs
 ascii_of [] h = IsAscii-nil
@@ -52,13 +46,7 @@ record Reading {X : Type 0} (read : List ℕ → Option X) (write : X → List �
 number : (low high : ℕ) → high < 2 ^ 64 → Reading (found_number low high) decimal (λ n. (low ≤ n) × (n ≤ high))
 number low high small = record {
   again = λ n h. rw (written low high n h.0 h.1 small) (ap Some (digits_value-decimal own n (omega (arith, h.1))));
-  found = λ w n h. elim (chosen (is_number low high w) (Some (digits_value 10 w)) None (Some n) h) [
-    | inl p ↦
-        let q = parts low high w p.0 in
-        let e : digits_value 10 w ≡ n = cc in
-        rw (← e) ((q.0, q.1), sym q.2)
-    | inr p ↦ absurd (cc)
-  ];
+  found = λ w n h. grind (arith, parts low high w);
   ascii = λ n h. IsAscii-decimal n (omega (arith, h.1));
 }
 
@@ -69,64 +57,36 @@ both {f = f} {g = g} {b = b} r s first = record {
   again = λ p h. rw (first p.0 (b p.1) h.0, r.again p.0 h.0, s.again p.1 h.1) refl;
   found = λ w p h.
       let c = bind_some (cut w) _ p h in
-      let x = bind_some (f (c.0).0) _ p c.2 in
-      let y = bind_some (g (c.0).1) _ p x.2 in
-      let e : (x.0, y.0) ≡ p = cc in
-      let m = r.found (c.0).0 x.0 x.1 in
-      let n = s.found (c.0).1 y.0 y.1 in
-      rw (← e) ((m.0, n.0), cut_found w c.0 c.1 ∙ (λ i. m.1 i ++ (32 ∷ n.1 i)));
+      grind (arith, c.2, cut_found w c.0 c.1, r.found (c.0).0, s.found (c.0).1);
   ascii = λ p h. spaced_ascii _ _ (r.ascii p.0 h.0) (s.ascii p.1 h.1);
 }
 
-desk_again : (d : DeskId) → desk_at (desk_word d) ≡ Some d
-unfolding desk_at
-desk_again A = refl
-desk_again B = refl
-
-desk_found : (w : List ℕ) (d : DeskId) → desk_at w ≡ Some d → w ≡ desk_word d
-unfolding desk_at
-desk_found w d h = elim (one_of w (codes "a") A d _ h) [
-  | inl p ↦ p.0 ∙ ap desk_word p.1
-  | inr r ↦ elim (one_of w (codes "b") B d None r) [ inl p ↦ p.0 ∙ ap desk_word p.1 | inr q ↦ absurd (cc) ]
-]
-
-desk_ascii : (d : DeskId) → IsAscii (desk_word d)
-desk_ascii A = ascii_of (codes "a") refl
-desk_ascii B = ascii_of (codes "b") refl
-
 desk : Reading desk_at desk_word (λ d. Unit {0})
-desk = record { again = λ d h. desk_again d; found = λ w d h. (tt, desk_found w d h); ascii = λ d h. desk_ascii d }
+unfolding desk_at
+desk = record {
+  again = λ d h. grind arith;
+  found = λ w d h. (tt, grind (arith, same w (codes "a"), same w (codes "b")));
+  ascii = λ d h. grind (arith, ascii_of (codes "a") refl, ascii_of (codes "b") refl);
+}
 
 cut_desk : (d : DeskId) (rest : List ℕ) → Unit {0} → cut (desk_word d ++ (32 ∷ rest)) ≡ Some (desk_word d, rest)
 unfolding cut
-cut_desk A rest h = refl
-cut_desk B rest h = refl
+cut_desk d rest h = grind arith
 
 -- a digit is no desk
 no_desk : (n : ℕ) → n ≤ 4 → desk_at (decimal n) ≡ None
 unfolding desk_at
 no_desk n h = rw (decimal_digit n (omega arith), ne_eqb (48 + n) 97 (omega arith), ne_eqb (48 + n) 98 (omega arith)) refl
 
-station_again : (t : Station) → IsWrittenStation t → station_at (station_word t) ≡ Some t
-unfolding station_at
-station_again (Station.Desk d) h = rw (desk_again d) refl
-station_again (Station.Board n) h = let b = number 1 4 (lit< tt) in rw (no_desk n h.1, b.again n h) refl
-
-station_found : (w : List ℕ) (o : Option DeskId) (t : Station) → desk_at w ≡ o → board_station o w ≡ Some t → IsWrittenStation t × (w ≡ station_word t)
-station_found w (Some d) t is h = let e : Station.Desk d ≡ t = cc in rw (← e) (tt, desk_found w d is)
-station_found w None t is h =
-    let p = bind_some (found_number 1 4 w) _ t h in
-    let e : Station.Board p.0 ≡ t = cc in
-    let b = number 1 4 (lit< tt) in
-    rw (← e) (b.found w p.0 p.1)
-
-station_ascii : (t : Station) → IsWrittenStation t → IsAscii (station_word t)
-station_ascii (Station.Desk d) h = desk_ascii d
-station_ascii (Station.Board n) h = IsAscii-decimal n (omega (arith, h.1))
-
 station : Reading station_at station_word IsWrittenStation
 unfolding station_at
-station = record { again = station_again; found = λ w t h. station_found w (desk_at w) t refl h; ascii = station_ascii }
+station =
+    let board = number 1 4 (lit< tt) in
+    record {
+      again = λ t h. grind (arith, desk.again, no_desk, board.again);
+      found = λ w t h. grind (arith, desk.found w, board.found w);
+      ascii = λ t h. grind (arith, desk.ascii, board.ascii);
+    }
 
 -- what a power loss leaves
 
@@ -135,30 +95,18 @@ choice_text c = join_with_byte 32 (choice_words c)
 
 choice_again : (c : Choice) → IsWrittenChoice c → choice_at (choice_text c) ≡ Some c
 unfolding choice_at fill_at cut
-choice_again (Choice.Fill v) h = let n = number 0 255 (lit< tt) in rw (n.again v (omega arith, h)) refl
-choice_again _ h = refl
+choice_again c h = let n = number 0 255 (lit< tt) in grind (arith, n.again)
 
 fill_found : (w : List ℕ) (c : Choice) → fill_at w ≡ Some c → IsWrittenChoice c × (w ≡ choice_text c)
 unfolding fill_at
 fill_found w c h =
     let p = bind_some (cut w) _ c h in
-    let q = bind_some (cond (bytes_eq (p.0).0 (codes "fill")) (found_number 0 255 (p.0).1) None) _ c p.2 in
-    let e : Choice.Fill q.0 ≡ c = cc in
-    elim (chosen _ (found_number 0 255 (p.0).1) None (Some q.0) q.1) [
-      | inl r ↦
-          let value = number 0 255 (lit< tt) in
-          let n = value.found (p.0).1 q.0 r.1 in
-          let first = same (p.0).0 (codes "fill") r.0 in
-          rw (← e) (n.0.1, cut_found w p.0 p.1 ∙ (λ i. first i ++ (32 ∷ n.1 i)))
-      | inr r ↦ absurd (cc)
-    ]
+    let value = number 0 255 (lit< tt) in
+    grind (arith, p.2, cut_found w p.0 p.1, same (p.0).0 (codes "fill"), value.found (p.0).1)
 
 choice_found : (w : List ℕ) (c : Choice) → choice_at w ≡ Some c → IsWrittenChoice c × (w ≡ choice_text c)
 unfolding choice_at
-choice_found w c h = elim (one_of w (codes "lost") Choice.Lost c _ h) [
-  | inl p ↦ rw (← p.1) (tt, p.0)
-  | inr r ↦ elim (one_of w (codes "kept") Choice.Kept c (fill_at w) r) [ inl p ↦ rw (← p.1) (tt, p.0) | inr q ↦ fill_found w c q ]
-]
+choice_found w c h = grind (arith, same w (codes "lost"), same w (codes "kept"), fill_found w c)
 
 choice_ascii : (c : Choice) → IsWrittenChoice c → IsAscii (choice_text c)
 choice_ascii Choice.Lost h = ascii_of (codes "lost") refl
@@ -166,9 +114,7 @@ choice_ascii Choice.Kept h = ascii_of (codes "kept") refl
 choice_ascii (Choice.Fill v) h = spaced_ascii (codes "fill") (decimal v) (ascii_of (codes "fill") refl) (IsAscii-decimal v (omega (arith, h)))
 
 power_text : (d : DeskId) (c : Choice) → codes "power" ++ (32 ∷ (desk_word d ++ (32 ∷ choice_text c))) ≡ event_text (Event.Power d c)
-power_text d Choice.Lost = refl
-power_text d Choice.Kept = refl
-power_text d (Choice.Fill v) = refl
+power_text d c = grind arith
 
 -- what stands behind the first word
 
@@ -239,35 +185,25 @@ pen_text d _ = refl
 
 pen_again : (d : DeskId) (entry : List ℕ) → pen_at (pen_line d entry) ≡ Some (d, entry)
 unfolding pen_at
-pen_again A entry = refl
-pen_again B entry = refl
+pen_again d entry = grind arith
 
 -- the line of an event says that event
 pub says_again : (n : ℕ) (e : Event) → IsWrittenEvent e → line_says n (event_text e) ≡ Ok e
 unfolding line_says pen_at event_at cut give_at power_at
 says_again n (Event.Pen d e) h =
     ap (line_says n) (pen_text d e) ∙ (ap (λ o. pen_or n o (pen_line d (text_of e))) (pen_again d (text_of e)) ∙ ap (penned n d) (line_again e h))
-says_again n (Event.Tick t) h = rw (station_again t h) refl
 says_again n (Event.Give m t) h = rw (give.again (m, t) ((omega arith, h.0), h.1)) refl
-says_again n (Event.Kill d) h = rw (desk_again d) refl
 says_again n (Event.Power d c) h = ap (line_says n) (sym (power_text d c)) ∙ rw (power.again (d, c) (tt, h)) refl
 says_again n (Event.FailAt d k) h = rw (count.again (d, k) (tt, h)) refl
 says_again n (Event.StopAt d k) h = rw (count.again (d, k) (tt, h)) refl
-says_again n (Event.Open d) h = rw (desk_again d) refl
-says_again n (Event.Wipe k) h = let b = number 1 4 (lit< tt) in rw (b.again k h) refl
-says_again n (Event.Migrate d) h = rw (desk_again d) refl
+says_again n e h = let board = number 1 4 (lit< tt) in grind (arith, station.again, desk.again, board.again)
 
 start_found : (start line rest : List ℕ) → after_start start line ≡ Some rest → line ≡ start ++ rest
-start_found start line rest h = elim (one_of (take (length start) line) start (drop (length start) line) rest None h) [
-  | inl p ↦ sym (take-append-drop (length start) line) ∙ (λ i. p.0 i ++ p.1 i)
-  | inr p ↦ absurd (cc)
-]
+start_found start line rest h = grind (arith, same (take (length start) line) start, take-append-drop (length start) line)
 
-pen_found : (line : List ℕ) (a b : Option (List ℕ)) (p : DeskId × List ℕ) → after_start (codes "pen a ") line ≡ a → after_start (codes "pen b ") line ≡ b → pen_of a b ≡ Some p
-    → line ≡ pen_line p.0 p.1
-pen_found line (Some r) b p f g h = let e : (A, r) ≡ p = cc in rw (← e) (start_found (codes "pen a ") line r f)
-pen_found line None (Some r) p f g h = let e : (B, r) ≡ p = cc in rw (← e) (start_found (codes "pen b ") line r g)
-pen_found line None None p f g h = absurd (cc)
+pen_found : (line : List ℕ) (p : DeskId × List ℕ) → pen_at line ≡ Some p → line ≡ pen_line p.0 p.1
+unfolding pen_at
+pen_found line p h = grind (arith, start_found (codes "pen a ") line, start_found (codes "pen b ") line)
 
 -- what is said of line n: it is the line of this event, or wrong so
 abbrev pub IsSaid : ℕ → List ℕ → Result Event ScheduleFault → Type 0
@@ -297,8 +233,7 @@ event_says n line (Some e) pen was = let p = event_found line e was in (p.0, p.1
 event_says n line None pen was = (refl, no_event n line pen was)
 
 pen_says : (n : ℕ) (line : List ℕ) (o : Option (DeskId × List ℕ)) → pen_at line ≡ o → IsSaid n line (pen_or n o line)
-unfolding pen_at
-pen_says n line (Some p) was = rw (pen_found line _ _ p refl refl was) (entry_says n p.0 p.1 (line_answer p.1) refl)
+pen_says n line (Some p) was = rw (pen_found line p was) (entry_says n p.0 p.1 (line_answer p.1) refl)
 pen_says n line None was = event_says n line (event_at line) was refl
 
 pub is_said : (n : ℕ) (line : List ℕ) (r : Result Event ScheduleFault) → line_says n line ≡ r → IsSaid n line r

@@ -1,5 +1,5 @@
 -- What stands before the first space of a line, and after it.
-use Rattle.std.proofs.Common.{◌≡◌, ◌≢◌, ℕ, suc, ◌<◌, ◌==◌, List, [], ◌∷◌, ◌++◌, length, get_or, Bool, true, false, cond, Option, Some, None, Bor, refl, ap, arith, lit<, ne_eqb}
+use Rattle.std.proofs.Common.{◌≡◌, ◌≢◌, ℕ, suc, ◌<◌, ◌==◌, List, [], ◌∷◌, ◌++◌, length, get_or, Bool, true, false, cond, Option, Some, None, Bor, refl, arith, lit<, ne_eqb}
 use Rattle.std.specs.Char.{is_ascii_digit}
 use Rattle.std.specs.Str.{all_ascii_digits}
 use Rattle.std.proofs.lemmas.Bool.{and_parts, eqb-true}
@@ -11,16 +11,12 @@ use Rattle.schedules.specs.inner.ScheduleReading.{cut, with_first}
 cut_at : (a rest : List ℕ) → ((i : ℕ) → i < length a → get_or a i 0 ≢ 32) → cut (a ++ (32 ∷ rest)) ≡ Some (a, rest)
 unfolding cut
 cut_at [] rest h = refl
-cut_at (b ∷ bs) rest h =
-    let head : (b == 32) ≡ false = ne_eqb b 32 (h 0 (omega arith)) in
-    rw (head, cut_at bs rest (λ i lt. h (suc i) (omega arith))) refl
+cut_at (b ∷ bs) rest h = rw (ne_eqb b 32 (h 0 (omega arith)), cut_at bs rest (λ i lt. h (suc i) (omega arith))) refl
 
 no_cut : (bs : List ℕ) → ((i : ℕ) → i < length bs → get_or bs i 0 ≢ 32) → cut bs ≡ None
 unfolding cut
 no_cut [] h = refl
-no_cut (b ∷ bs) h =
-    let head : (b == 32) ≡ false = ne_eqb b 32 (h 0 (omega arith)) in
-    rw (head, no_cut bs (λ i lt. h (suc i) (omega arith))) refl
+no_cut (b ∷ bs) h = rw (ne_eqb b 32 (h 0 (omega arith)), no_cut bs (λ i lt. h (suc i) (omega arith))) refl
 
 -- so is a number
 pub cut_digits : (ds rest : List ℕ) → all_ascii_digits ds ≡ true → cut (ds ++ (32 ∷ rest)) ≡ Some (ds, rest)
@@ -37,10 +33,10 @@ cut_some bs x y h = let p = split_parts 32 bs (Some (x, y)) h (lit< tt) in rw p.
 pub cut_none : (bs : List ℕ) → IsSplitOnceResult 32 bs None → cut bs ≡ None
 cut_none bs h = no_cut bs (split_parts 32 bs None h (lit< tt))
 
-found_go : (b : ℕ) (bs : List ℕ) (t : Bool) (o : Option (List ℕ × List ℕ)) (p : List ℕ × List ℕ) → (b == 32) ≡ t → ((q : List ℕ × List ℕ) → o ≡ Some q → bs ≡ q.0 ++ (32 ∷ q.1)) → cond t (Some ([], bs)) (with_first b o) ≡ Some p → (b ∷ bs) ≡ p.0 ++ (32 ∷ p.1)
-found_go b bs true o p e h k = let same : ([], bs) ≡ p = cc in let space : b ≡ 32 = eqb-true b 32 e in rw (← same, space) refl
-found_go b bs false None p e h k = absurd (cc)
-found_go b bs false (Some q) p e h k = let same : (b ∷ q.0, q.1) ≡ p = cc in rw (← same) (ap (λ u. b ∷ u) (h q refl))
+found_go : (b : ℕ) (bs : List ℕ) (t : Bool) (o : Option (List ℕ × List ℕ)) (p : List ℕ × List ℕ) → (b == 32) ≡ t
+    → ((q : List ℕ × List ℕ) → o ≡ Some q → bs ≡ q.0 ++ (32 ∷ q.1)) → cond t (Some ([], bs)) (with_first b o) ≡ Some p
+    → (b ∷ bs) ≡ p.0 ++ (32 ∷ p.1)
+found_go b bs t o p e h k = grind (arith, eqb-true b 32)
 
 -- what was cut stood so
 pub cut_found : (bs : List ℕ) (p : List ℕ × List ℕ) → cut bs ≡ Some p → bs ≡ p.0 ++ (32 ∷ p.1)

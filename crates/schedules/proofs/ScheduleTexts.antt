@@ -15,36 +15,32 @@ same_event e f h k same =
     let says : Ok e ≡ Ok f = sym (says_again 0 e h) ∙ (ap (line_says 0) same ∙ says_again 0 f k) in
     cc
 
-first_same : {x y : List ℕ} {xs ys : List (List ℕ)} → (x ∷ xs) ≡ (y ∷ ys) → x ≡ y
-first_same h = cc
-
-rest_same : {x y : List ℕ} {xs ys : List (List ℕ)} → (x ∷ xs) ≡ (y ∷ ys) → xs ≡ ys
-rest_same h = cc
-
 -- and lines one list of events
 pub same_events : (es fs : List Event) → All IsWrittenEvent es → All IsWrittenEvent fs → map event_text es ≡ map event_text fs → es ≡ fs
 same_events [] [] h k same = refl
 same_events [] (f ∷ fs) h k same = absurd (cc)
 same_events (e ∷ es) [] h k same = absurd (cc)
 same_events (e ∷ es) (f ∷ fs) h k same =
-    let a = same_event e f (All-head IsWrittenEvent e es h) (All-head IsWrittenEvent f fs k) (first_same same) in
-    let b = same_events es fs (All-tail IsWrittenEvent e es h) (All-tail IsWrittenEvent f fs k) (rest_same same) in
+    let a = same_event e f (All-head IsWrittenEvent e es h) (All-head IsWrittenEvent f fs k) (cc) in
+    let b = same_events es fs (All-tail IsWrittenEvent e es h) (All-tail IsWrittenEvent f fs k) (cc) in
     rw (a, b) refl
 
 -- a line that says no event is none of them
-pub none_wrong : (n : ℕ) (line : List ℕ) (why : ScheduleFault) (rest : List (List ℕ)) (before others : List Event) → line_says n line ≡ Err why → All IsWrittenEvent others → map event_text before ++ (line ∷ rest) ≡ map event_text others → ⊥
-none_wrong n line why rest before [] says h same = nothing before same where
-  nothing : (before : List Event) → map event_text before ++ (line ∷ rest) ≡ [] → ⊥
-  nothing [] e = absurd (cc)
-  nothing (b ∷ bs) e = absurd (cc)
+pub none_wrong : (n : ℕ) (line : List ℕ) (why : ScheduleFault) (rest : List (List ℕ)) (before others : List Event)
+    → line_says n line ≡ Err why → All IsWrittenEvent others → map event_text before ++ (line ∷ rest) ≡ map event_text others → ⊥
+none_wrong n line why rest [] [] says h same = cc
+none_wrong n line why rest (b ∷ bs) [] says h same = cc
 none_wrong n line why rest [] (f ∷ fs) says h same =
-    let ok : line_says n line ≡ Ok f = ap (line_says n) (first_same same) ∙ says_again n f (All-head IsWrittenEvent f fs h) in
-    absurd (cc)
+    let is : line ≡ event_text f = cc in
+    let ok : line_says n line ≡ Ok f = ap (line_says n) is ∙ says_again n f (All-head IsWrittenEvent f fs h) in
+    cc
 none_wrong n line why rest (b ∷ bs) (f ∷ fs) says h same =
-    none_wrong n line why rest bs fs says (All-tail IsWrittenEvent f fs h) (rest_same same)
+    none_wrong n line why rest bs fs says (All-tail IsWrittenEvent f fs h) (cc)
 
 -- the first line at fault
-pub at_fault : (lines : List (List ℕ)) (n : ℕ) (line : List ℕ) (rest : List (List ℕ)) (before : List Event) (why : ScheduleFault) → All IsWrittenEvent before → lines ≡ map event_text before ++ (line ∷ rest) → n ≡ length before + 1 → IsSaid n line (Err why) → HasFault lines why
+pub at_fault : (lines : List (List ℕ)) (n : ℕ) (line : List ℕ) (rest : List (List ℕ)) (before : List Event) (why : ScheduleFault)
+    → All IsWrittenEvent before → lines ≡ map event_text before ++ (line ∷ rest) → n ≡ length before + 1 → IsSaid n line (Err why)
+    → HasFault lines why
 at_fault lines n line rest before NoMemory h texts e wrong = absurd wrong
 at_fault lines n line rest before (BadEvent k) h texts e wrong =
     record { before = before; line = line; after = rest; written = h; texts = texts; number = wrong.0 ∙ e; wrong = wrong.1 }

@@ -1,5 +1,6 @@
 -- Scores that stations have shown, each kept once.
-use Rattle.std.specs.Prelude.{◌≡◌, ◌⊎◌, ◌↔◌, ◌≤◌, ◌+◌, ◌*◌, ℕ, zero, suc, Bool, true, false, Some, None, Option, List, length, get_or, slice_get, Contains}
+use Rattle.std.specs.Prelude.{◌≡◌, ◌⊎◌, ◌↔◌, ◌≤◌, ◌+◌, ◌*◌, ℕ, zero, suc, Bool, true, false, Some, None, Option, List}
+use Rattle.std.specs.Prelude.{length, get_or, option_map, slice_get, Contains}
 use Rattle.corrections.specs.Legal.{IsScoreOf}
 use Rattle.match_laws.specs.declared.standing.Standing.{Standing}
 use Rattle.notation.specs.declared.entry.{Entry.Entry, TheConstants.PLACES}
@@ -57,39 +58,42 @@ Adds u P old new =
 abbrev pub IsBookScore : ℕ → List Entry → ℕ → Standing → Type 0
 IsBookScore innings book n score = (n ≡ length book) × IsScoreOf score innings book
 
--- what a desk's place shows, if the desk runs there
+-- the innings a side and the book of a desk that runs, and of a board
+abbrev pub desk_book : Option WorldDesk → Option (ℕ × List Entry)
+desk_book desk = option_map (λ (k : WorldDesk). (innings_of k, (λ (s : DeskState _). s.book) (state_of k))) desk
+
+abbrev pub board_book : Option MatchBoard → Option (ℕ × List Entry)
+board_book board =
+    option_map (λ (k : MatchBoard). (board_innings k, (λ (s : BoardState). s.book) (board_state k))) board
+
+-- of a station of a world, if it isn't down
+abbrev pub code_book : World → Station → Option (ℕ × List Entry)
+code_book world (Station.Desk d) = desk_book (code_site world d).desk
+code_book world (Station.Board zero) = None
+code_book world (Station.Board (suc i)) = board_book (slice_get world.boards.items i)
+
+-- what is shown of such a book
+abbrev pub BookShows : Option (ℕ × List Entry) → ℕ → Standing → Type 0
+BookShows None n score = ⊥
+BookShows (Some b) n score = IsBookScore b.0 b.1 n score
+
 abbrev pub DeskShows : Option WorldDesk → ℕ → Standing → Type 0
-DeskShows None n score = ⊥
-DeskShows (Some k) n score =
-    IsBookScore (innings_of k) ((λ (s : DeskState _). s.book) (state_of k)) n score
+DeskShows desk n score = BookShows (desk_book desk) n score
 
-abbrev pub BoardShows : Option MatchBoard → ℕ → Standing → Type 0
-BoardShows None n score = ⊥
-BoardShows (Some k) n score =
-    IsBookScore (board_innings k) ((λ (s : BoardState). s.book) (board_state k)) n score
-
--- what a station of a world shows
 abbrev pub CodeShows : World → Station → ℕ → Standing → Type 0
-CodeShows world (Station.Desk d) n score = DeskShows (code_site world d).desk n score
-CodeShows world (Station.Board zero) n score = ⊥
-CodeShows world (Station.Board (suc i)) n score = BoardShows (slice_get world.boards.items i) n score
+CodeShows world t n score = BookShows (code_book world t) n score
 
--- a desk that runs has a score
+-- it has a score, if it is there
+abbrev pub BookHasScore : Option (ℕ × List Entry) → Type 0
+BookHasScore None = Unit {0}
+BookHasScore (Some b) = (score : Standing) × IsScoreOf score b.0 b.1
+
 abbrev pub DeskHasScore : Option WorldDesk → Type 0
-DeskHasScore None = Unit {0}
-DeskHasScore (Some k) =
-    (score : Standing) × IsScoreOf score (innings_of k) ((λ (s : DeskState _). s.book) (state_of k))
-
-abbrev pub BoardHasScore : Option MatchBoard → Type 0
-BoardHasScore None = Unit {0}
-BoardHasScore (Some k) =
-    (score : Standing) × IsScoreOf score (board_innings k) ((λ (s : BoardState). s.book) (board_state k))
+DeskHasScore desk = BookHasScore (desk_book desk)
 
 -- each station of a world that isn't down has a score
-pub record HaveScores (world : World) : Type 0 where
-  pub a_desk : DeskHasScore world.a.desk
-  pub b_desk : DeskHasScore world.b.desk
-  pub of_boards : (i : ℕ) → BoardHasScore (slice_get world.boards.items i)
+abbrev pub HaveScores : World → Type 0
+HaveScores world = (t : Station) → BookHasScore (code_book world t)
 
 -- a world has this configuration, with at most four boards, and what it shows of a station and a length
 -- that stand among these scores has that score

@@ -7,31 +7,29 @@ use Rattle.live.proofs.BoardLemmas.{finished, rests, silent, stopped, then, whol
 use Rattle.live.proofs.board_loop.run_board.Goals as goal
 
 pub loop-number-init : goal.loop-number-init
-loop-number-init g c = rests _ _ c.args.sheet.now _ _ _ _
+loop-number-init g c = rests
 
 pub loop-number-preserved : goal.loop-number-preserved
 loop-number-preserved g c =
     let last = c.in_ok-turn.ensures.runs c.loop-number.number in
-    then _ _ c.args.sheet.now _ _ _ _ _ _ _ _ _ _ _ _ c.loop-number.invariant (whole_turns _ _ c.args.sheet.now _ _ _ _ _ _ _ _ _ _ _ _ _ last.0 last.1)
+    then c.loop-number.invariant (whole_turns _ last.0 last.1)
 
 pub returns-in_err-turn-clause-runs : goal.returns-in_err-turn-clause-runs
 returns-in_err-turn-clause-runs g c =
     let last = c.in_err-turn.ensures.runs c.loop-number.number in
-    let runs = last.0 in
-    (stopped _ _ c.args.sheet.now c.from_residual.result c.in_err-turn.field-0.0 _ _ _ _ _ _ _ _ _ _ _ _ c.from_residual.ensures.1 runs.is runs.noticed
-    (then _ _ c.args.sheet.now _ _ _ _ _ _ _ _ _ _ _ _ (silent _ _ c.args.sheet.now _ _ _ _ _ _ _ _ c.loop-number.invariant) runs.goes)).0
+    (stopped c.from_residual.result c.in_err-turn.field-0.0 c.from_residual.ensures.1 last.0.is last.0.noticed (then (silent c.loop-number.invariant) last.0.goes)).0
 
 pub returns-in_err-show-clause-runs : goal.returns-in_err-show-clause-runs
 returns-in_err-show-clause-runs g c =
     let last = c.in_ok-turn.ensures.runs c.loop-number.number in
-    (stopped _ _ c.args.sheet.now c.from_residual-in_err-show.result c.in_err-show.field-0.0 _ _ _ _ _ _ _ _ _ _ _ _ c.from_residual-in_err-show.ensures.1 last.0.is last.0.noticed
-    (then _ _ c.args.sheet.now _ _ _ _ _ _ _ _ _ _ _ _ (silent _ _ c.args.sheet.now _ _ _ _ _ _ _ _ c.loop-number.invariant) (silent _ _ c.args.sheet.now _ _ _ _ _ _ _ _ last.0.goes))).0
+    let residual = c.from_residual-in_err-show in
+    (stopped residual.result c.in_err-show.field-0.0 residual.ensures.1 last.0.is last.0.noticed (then (silent c.loop-number.invariant) (silent last.0.goes))).0
 
 pub returns-clause-runs : goal.returns-clause-runs
 returns-clause-runs g c =
     let over : c.loop-number.number ≡ c.args.turns = omega (arith, c.loop-number.auto.number-end, c.loop-number-test.false) in
     let done : Result (Unit {0}) WriteFailed = Ok tt in
     subst (λ (turns : ℕ). BoardRuns g.B.BookOf.content g.B.BookOf.innings_a_side c.args.sheet.now c.args.board.now c.loop-number.board
-    (g.L.Link.log c.args.link.now) (g.L.Link.log c.loop-number.link) (g.W.Write.contents (stream_of c.args.out.now)) (g.W.Write.contents (stream_of c.loop-number.out)) 0 turns
-    untold (g.N.Notices.told c.args.notices.now) (g.N.Notices.told c.loop-number.notices) done) over
-    ((finished _ _ c.args.sheet.now done _ _ _ _ _ _ _ _ _ _ _ _ c.loop-number.invariant).0)
+    (g.L.Link.log c.args.link.now) (g.L.Link.log c.loop-number.link)
+    (g.W.Write.contents (stream_of c.args.out.now)) (g.W.Write.contents (stream_of c.loop-number.out)) 0 turns
+    untold (g.N.Notices.told c.args.notices.now) (g.N.Notices.told c.loop-number.notices) done) over (finished done c.loop-number.invariant).0

@@ -1,20 +1,20 @@
-use Rattle.std.proofs.Common.{Err, Ok}
 use Rattle.vote_store.specs.View.{file_view}
 use Rattle.live.proofs.DeskLifeLemmas.{begun_ran, not_begun}
 use Rattle.live.proofs.desk_life.keep_desk.Goals as goal
 
 pub returns-in-Ok-run_desk-clause-lives : goal.returns-in-Ok-run_desk-clause-lives
 returns-in-Ok-run_desk-clause-lives g c =
-    begun_ran c.in-Ok.begun c.run_desk.new.desk c.args.sheet.now c.args.desk c.game.result _ c.args.disk _ _ _ _ _ _ c.args.turns (Ok tt) c.game.ensures
-    c.in-Ok.ensures.creates c.in-Ok.ensures.opens c.in-Ok.ensures.owner c.in-Ok.ensures.cap c.in-Ok-run_desk.ensures.runs
+    let e = c.in-Ok.ensures in
+    begun_ran c.args.disk c.game.ensures e.creates e.opens e.owner e.cap c.in-Ok-run_desk.ensures.runs
 
 pub returns-in-Ok-clause-lives : goal.returns-in-Ok-clause-lives
 returns-in-Ok-clause-lives g c =
-    begun_ran c.in-Ok.begun c.run_desk.new.desk c.args.sheet.now c.args.desk c.game.result _ c.args.disk _ _ _ _ _ _ c.args.turns (Err c.in-Err-run_desk.end) c.game.ensures
-    c.in-Ok.ensures.creates c.in-Ok.ensures.opens c.in-Ok.ensures.owner c.in-Ok.ensures.cap c.in-Err-run_desk.ensures.runs
+    let e = c.in-Ok.ensures in
+    begun_ran c.args.disk c.game.ensures e.creates e.opens e.owner e.cap c.in-Err-run_desk.ensures.runs
 
 pub returns-clause-lives : goal.returns-clause-lives
 returns-clause-lives g c =
     let file = g.S.SlotsOf in
     let disks = g.S.Disk.Disk in
-    not_begun (file_view file.contents disks.seen disks.images c.args.desk) disks.seen _ c.in-Err.why c.in-Err._disk c.args.sheet.now c.args.desk c.game.result _ c.args.disk _ _ _ c.args.turns c.game.ensures c.in-Err.ensures.opens
+    not_begun (file_view file.contents disks.seen disks.images c.args.desk) disks.seen _ c.in-Err.why c.in-Err._disk c.args.sheet.now c.args.desk c.game.result _
+    c.args.disk _ _ _ c.args.turns c.game.ensures c.in-Err.ensures.opens

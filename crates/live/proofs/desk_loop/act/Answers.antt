@@ -2,14 +2,8 @@ use Rattle.live.proofs.DeskLemmas.{muted, passed_on, then}
 use Rattle.live.proofs.desk_loop.act.Goals as goal
 
 pub returns-in_err-take_line-clause-goes : goal.returns-in_err-take_line-clause-goes
-returns-in_err-take_line-clause-goes g c =
-    let sheet = c.args.sheet.now in
-    let warned = c.args.between.now.warned in
-    let new = c.take_line.new in
-    λ turns. passed_on c.from_residual.result c.in_err-take_line.field-0.0 sheet _ _ _ _ _ _ _ _ _ _ _
-    c.from_residual.ensures.1 (c.in_err-take_line.ensures.goes turns)
+returns-in_err-take_line-clause-goes g c = λ turns.
+    passed_on c.from_residual.result c.in_err-take_line.field-0.0 _ _ c.from_residual.ensures.1 (c.in_err-take_line.ensures.goes turns)
 
 pub returns-clause-goes : goal.returns-clause-goes
-returns-clause-goes g c =
-    let sheet = c.args.sheet.now in
-    λ turns. then sheet _ _ _ _ _ _ _ _ _ _ _ _ _ _ _ (muted c.listen.result sheet _ _ _ _ _ _ _ _ _ _ (c.in_ok-take_line.ensures.goes turns)) (c.listen.ensures.goes _ turns)
+returns-clause-goes g c = λ turns. then (muted c.listen.result (c.in_ok-take_line.ensures.goes turns)) (c.listen.ensures.goes _ turns)

@@ -9,12 +9,13 @@ pub returns-in_err-act-clause-goes : goal.returns-in_err-act-clause-goes
 returns-in_err-act-clause-goes g c =
     let old = c.args in
     let new = c.act.new in
+    let out = g.W.Write.contents (stream_of old.out.now) in
     λ turns. turn_passed_on c.from_residual.result c.in_err-act.field-0.0 turns
-    (λ (after : ℕ) (course : Course) (known : Option (List ℕ) → Option (List ℕ)). DeskGoes old.sheet.now old.desk.now new.desk (process_of old.desk.now old.between.now.warned turns further)
-    (process_of new.desk new.between.warned after course) (g.L.Link.log old.link.now) (g.L.Link.log new.link) (g.K.Keys.inputs old.keys.now) (g.K.Keys.inputs new.keys)
-    (known (g.W.Write.contents (stream_of old.out.now))) (known (g.W.Write.contents (stream_of new.out))))
+    (λ (after : ℕ) (course : Course) (known : Option (List ℕ) → Option (List ℕ)).
+    DeskGoes old.sheet.now old.desk.now new.desk (process_of old.desk.now old.between.now.warned turns further) (process_of new.desk new.between.warned after course)
+    (g.L.Link.log old.link.now) (g.L.Link.log new.link) (g.K.Keys.inputs old.keys.now) (g.K.Keys.inputs new.keys)
+    (known out) (known (g.W.Write.contents (stream_of new.out))))
     c.from_residual.ensures.1 (c.in_err-act.ensures.goes turns)
 
 pub returns-clause-goes : goal.returns-clause-goes
-returns-clause-goes g c =
-    λ turns. turn_done c.flush.result c.told.result c.args.sheet.now _ _ _ _ turns _ _ _ _ _ _ _ c.told.ensures (c.in_ok-act.ensures.goes turns) c.flush.ensures.bytes
+returns-clause-goes g c = λ turns. turn_done c.flush.result c.told.result _ c.told.ensures (c.in_ok-act.ensures.goes turns) c.flush.ensures.bytes

@@ -1,17 +1,14 @@
-use Rattle.std.proofs.Common.{◌≡◌, ◌∙◌, ℕ, sym, subst}
+use Rattle.std.proofs.Common.{refl, ◌≡◌, ◌∙◌, ℕ, sym, subst}
 use Rattle.corrections.specs.CleanList.{history_of}
 use Rattle.agree_core.specs.declared.messages.DeskId.{DeskId}
-use Rattle.entry_log.specs.Format.{contents}
-use Rattle.entry_log.specs.Version2.{version_2}
-use Rattle.vote_store.specs.View.{file_view}
-use Rattle.desk.specs.Desk.{disk_of, game_of}
+use Rattle.desk.specs.Desk.{game_of}
 use Rattle.board.specs.Board.{book_of}
 use Rattle.cards.specs.Board.{board}
 use Rattle.streams.specs.Watched.{Prints}
 use Rattle.books.specs.CardBook.{IsBookOfLines}
 use Rattle.match_command.specs.MatchRun.{KeepsBook}
 use Rattle.match_command.specs.inner.Turns.{DiskHolds, LinesLeave, board_at, book_at}
-use Rattle.match_command.proofs.MatchLeft.{LeavesOf, leaves_from, lines_left, met_left, run_leaves}
+use Rattle.match_command.proofs.MatchLeft.{leaves_from, lines_left, met_left}
 use Rattle.match_command.proofs.OnlineLemmas.{same_book}
 use Rattle.match_command.proofs.TurnLemmas.{keeps_book}
 use Rattle.match_command.proofs.match_run.run_match.Goals as goal
@@ -32,7 +29,8 @@ returns-in-Ok-clause-agreed g c =
       book = book;
       taken = subst (λ (n : ℕ). IsBookOfLines n c.args.input.now book) made.innings ended.book;
       at_a = subst (λ x. KeepsBook seen images s DeskId.A x book) (sym c.into_disks-a.ensures.a) (keeps_book at.a DeskId.A s.game book ended.level.is_a game ended.level.level_a.held);
-      at_b = subst (λ x. KeepsBook seen images s DeskId.B x book) (sym c.into_disks-a.ensures.b) (keeps_book at.b DeskId.B s.game book ended.level.is_b (ended.level.game ∙ game) (subst (λ es. DiskHolds at.b es) ended.level.book ended.level.level_b.held));
+      at_b = subst (λ x. KeepsBook seen images s DeskId.B x book) (sym c.into_disks-a.ensures.b)
+          (keeps_book at.b DeskId.B s.game book ended.level.is_b (ended.level.game ∙ game) (subst (λ es. DiskHolds at.b es) ended.level.book ended.level.level_b.held));
       shown = shown;
       long = ended.level.long;
       written = subst (λ (n : ℕ). Prints g.W.Write.contents c.args.writer.now c.play-answer.new.writer (board s n (history_of shown))) made.innings ended.written;
@@ -45,14 +43,13 @@ pub returns-in_err-stations-clause-left : goal.returns-in_err-stations-clause-le
 returns-in_err-stations-clause-left g c =
     let met = c.in_err-stations.field-0.0 in
     let empty = c.expect_both_empty.ensures in
-    let left = leaves_from g.D.Disk.seen g.D.Disk.images c.args.sheet.now c.args.input.now c.args.a c.args.b c.expect_both_empty.new.a c.expect_both_empty.new.b met.1 met.2 met.0 empty.stays_a empty.stays_b (c.in_err-stations.ensures.left c.args.input.now) in
+    let left = leaves_from g.D.Disk.seen g.D.Disk.images c.args.sheet.now c.args.input.now c.args.a c.args.b c.expect_both_empty.new.a
+    c.expect_both_empty.new.b met.1 met.2 met.0 empty.stays_a empty.stays_b (c.in_err-stations.ensures.left c.args.input.now) in
     met_left g.D.Disk.seen g.D.Disk.images c.args.sheet.now c.args.input.now c.args.a c.args.b c.from_residual.result met c.from_residual.ensures.1 left
 
 pub returns-in-Err-answer-clause-left : goal.returns-in-Err-answer-clause-left
 returns-in-Err-answer-clause-left g c =
     let s = c.args.sheet.now in
-    let seen = g.D.Disk.seen in
-    let images = g.D.Disk.images in
     let input = c.args.input.now in
     let why = c.in-Err-answer.why in
     let at = c.play-answer.new.stations in
@@ -60,7 +57,6 @@ returns-in-Err-answer-clause-left g c =
     let owner_a = c.play-answer.ensures.owner_a in
     let owner_b = c.play-answer.ensures.owner_b in
     let by_lines = subst (λ (n : ℕ). LinesLeave n input why at.a at.b) made.innings c.in-Err-answer.ensures.left in
-    let left = lines_left at.a at.b s.game s.innings input (owner_a.desk ∙ made.level.is_a) (owner_b.desk ∙ made.level.is_b) (owner_a.game ∙ made.game) (owner_b.game ∙ (made.level.game ∙ made.game)) why by_lines in
-    let here = subst (λ x. LeavesOf (λ d. file_view (contents version_2) seen images d s.game) s.innings input why x (disk_of at.b)) (sym c.into_disks-a.ensures.a) left in
-    let there = subst (λ y. LeavesOf (λ d. file_view (contents version_2) seen images d s.game) s.innings input why c.into_disks-a.result.0 y) (sym c.into_disks-a.ensures.b) here in
-    run_leaves seen images s input c.args.a c.args.b c.into_disks-a.result.0 c.into_disks-a.result.1 why there
+    let left = lines_left at.a at.b s input refl (owner_a.desk ∙ made.level.is_a) (owner_b.desk ∙ made.level.is_b) (owner_a.game ∙ made.game)
+    (owner_b.game ∙ (made.level.game ∙ made.game)) c.args.a c.args.b why by_lines in
+    rw (c.into_disks-a.ensures.a, c.into_disks-a.ensures.b) left

@@ -59,7 +59,8 @@ returns-in_err-take-clause-left g c =
     let m = c.loop-line.invariant in
     let reached = subst (λ (ls : List (List ℕ)). Reached (innings_at c.args.stations.now.a) c.args.input.now ls c.loop-line.number (book_at c.loop-line.stations.a)) c.in-Some.ensures m.5 in
     error_of c.from_residual.result c.in_err-take.field-0.0 _ c.from_residual.ensures.1
-    (line_left c.take.new.self.a c.take.new.self.b (innings_at c.args.stations.now.a) c.args.input.now _ _ c.loop-line.number _ _ (book_at c.loop-line.stations.a) c.in_err-take.field-0.0 reached m.2.innings_a_side m.0.long refl c.in_err-take.ensures.why c.in_err-take.ensures.left)
+    (line_left c.take.new.self.a c.take.new.self.b (innings_at c.args.stations.now.a) c.args.input.now _ _ c.loop-line.number _ _
+    (book_at c.loop-line.stations.a) c.in_err-take.field-0.0 reached m.2.innings_a_side m.0.long refl c.in_err-take.ensures.why c.in_err-take.ensures.left)
 
 pub returns-in_err-take-clause-calm : goal.returns-in_err-take-clause-calm
 returns-in_err-take-clause-calm g c =

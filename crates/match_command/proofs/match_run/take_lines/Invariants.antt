@@ -15,7 +15,8 @@ invariant-loop-line g l =
     × SameOwner l.initial.stations.b l.stations.b
     × (AreCalm l.initial.stations.a l.initial.stations.b → AreCalm l.stations.a l.stations.b)
     × Reached (innings_at l.initial.stations.a) l.input l.lines l.number (book_at l.stations.a)
-    × ((start : List Passed) → IsOnline (game_of l.initial.stations.a) start [] (g.L.Link.log l.initial.link) (board_at l.initial.stations.board) → IsOnline (game_of l.initial.stations.a) start (book_at l.stations.a) (g.L.Link.log l.link) (board_at l.stations.board))
+    × ((start : List Passed) → IsOnline (game_of l.initial.stations.a) start [] (g.L.Link.log l.initial.link) (board_at l.initial.stations.board)
+    → IsOnline (game_of l.initial.stations.a) start (book_at l.stations.a) (g.L.Link.log l.link) (board_at l.stations.board))
 
 abbrev pub decreases-loop-line : goal.decreases-loop-line
 decreases-loop-line g l = length l.lines

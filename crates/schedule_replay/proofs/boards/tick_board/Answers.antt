@@ -6,6 +6,7 @@ use Rattle.schedule_replay.proofs.boards.tick_board.Goals as goal
 
 pub returns : goal.returns
 returns c = record {
-  step = λ t. board_ticks c.args.board.now t (length c.as_slice-said.result.now) c.tick-out.result.items c.args.sent.now.items c.extend_from_slice.new.self.items c.tick-out.ensures.step (ap length c.as_slice-said.ensures.value)
+  step = λ t. board_ticks c.args.board.now t (length c.as_slice-said.result.now) c.tick-out.result.items c.args.sent.now.items
+      c.extend_from_slice.new.self.items c.tick-out.ensures.step (ap length c.as_slice-said.ensures.value)
       ((rw c.unwrap.ensures at c.extend_from_slice.ensures.items) ∙ ap (λ (o : List Datagram). c.args.sent.now.items ++ o) c.as_slice-said.ensures.value);
 }

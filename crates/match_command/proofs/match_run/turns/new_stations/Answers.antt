@@ -14,7 +14,8 @@ returns-in-Err-new_desk-2-clause-left g c = λ input.
     let made = c.in-Ok-new_desk.ensures in
     let why = c.in-Err-new_desk-2.ensures in
     let keeps = keeps_book c.in-Ok-new_desk.desk DeskId.A s.game [] made.owner.same_desk (made.owner.same_game ∙ c.game.ensures) made.turn.held in
-    second_not_made g.D.Disk.seen g.D.Disk.images s input c.args.a c.args.b c.into_disk.result c.in-Err-new_desk-2.b c.in-Err-new_desk-2.why why.why why.stays why.left (subst (λ x. KeepsBook g.D.Disk.seen g.D.Disk.images s DeskId.A x []) (sym c.into_disk.ensures) keeps)
+    second_not_made g.D.Disk.seen g.D.Disk.images s input c.args.a c.args.b c.into_disk.result c.in-Err-new_desk-2.b c.in-Err-new_desk-2.why why.why
+    why.stays why.left (subst (λ x. KeepsBook g.D.Disk.seen g.D.Disk.images s DeskId.A x []) (sym c.into_disk.ensures) keeps)
 
 pub returns-clause-online : goal.returns-clause-online
 returns-clause-online g c = λ log. fresh_online (game_of c.in-Ok-new_desk.desk) log (board_at c.new-board.result) c.new-board.ensures.state

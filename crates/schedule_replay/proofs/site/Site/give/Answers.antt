@@ -1,4 +1,4 @@
-use Rattle.std.proofs.Common.{sym, subst, ◌∙◌, Some}
+use Rattle.std.proofs.Common.{arith, sym, subst, ◌∙◌, Some}
 use Rattle.headline.specs.declared.event.Event.{Event}
 use Rattle.schedule_replay.specs.declared.seen.{Cause.Cause, Seen.Seen}
 use Rattle.desk.specs.declared.refusal.Refusal.{Refusal}
@@ -11,20 +11,23 @@ use Rattle.schedule_replay.proofs.DueLemmas.{breaks_none, keeps_none, keeps_runn
 pub returns-then-is_fault-clause-step : goal.returns-then-is_fault-clause-step
 returns-then-is_fault-clause-step c = λ t.
     give_breaks c.args.self.now c.fail.new.self c.unwrap-desk.result c.receive-received.new.self c.args.message t c.index.result.now c.receive-received.result c.fail.result
-    c.args.sent.now.items (sym c.take.ensures.value ∙ c.unwrap-desk.ensures) (stands_at c.args.sent.now.items c.args.message c.index.result.now c.requires.sent c.index.ensures) c.receive-received.ensures.step c.receive-received.ensures.owner c.receive-received.ensures.blame
+    c.args.sent.now.items (sym c.take.ensures.value ∙ c.unwrap-desk.ensures)
+    (stands_at c.args.sent.now.items c.args.message c.index.result.now c.requires.sent c.index.ensures) c.receive-received.ensures.step
+    c.receive-received.ensures.owner c.receive-received.ensures.blame
     (fault_is c.receive-received.result.what (sym c.is_fault.ensures ∙ c.if-is_fault.true)) c.fail.ensures.broken
 
 pub returns-then-is_fault-clause-same : goal.returns-then-is_fault-clause-same
 returns-then-is_fault-clause-same c =
-    let s = broken_same c.args.self.now.due (Cause.Desk Refusal.Device) _ c.fail.new.self c.fail.result c.fail.ensures.broken in
-    record { name = s.name; same_game = s.same_game; innings = s.innings }
+    grind (arith, broken_same c.args.self.now.due (Cause.Desk Refusal.Device) _ c.fail.new.self c.fail.result c.fail.ensures.broken)
 
 pub returns-clause-step : goal.returns-clause-step
 returns-clause-step c = λ t.
     let calm = fault_not c.receive-received.result.what (sym c.is_fault.ensures ∙ c.if-is_fault.false) in
-    subst (λ (seen : Seen). SiteSteps (Event.Give c.args.message t) c.args.self.now c.args.sent.now.items seen (record c.args.self.now { desk = Some c.receive-received.new.self }) c.hand_out.new.sent.items) (sym c.given.ensures)
+    subst (λ (seen : Seen). SiteSteps (Event.Give c.args.message t) c.args.self.now c.args.sent.now.items seen
+    (record c.args.self.now { desk = Some c.receive-received.new.self }) c.hand_out.new.sent.items) (sym c.given.ensures)
     (give_runs_on c.args.self.now c.unwrap-desk.result c.receive-received.new.self c.args.message t c.index.result.now c.receive-received.result c.args.sent.now.items c.hand_out.new.sent.items
-    (sym c.take.ensures.value ∙ c.unwrap-desk.ensures) (stands_at c.args.sent.now.items c.args.message c.index.result.now c.requires.sent c.index.ensures) c.receive-received.ensures.step c.receive-received.ensures.owner
+    (sym c.take.ensures.value ∙ c.unwrap-desk.ensures) (stands_at c.args.sent.now.items c.args.message c.index.result.now c.requires.sent
+    c.index.ensures) c.receive-received.ensures.step c.receive-received.ensures.owner
     (c.receive-received.ensures.blame.same (calm_answer c.receive-received.result.what calm)) calm c.hand_out.ensures)
 
 pub returns-then-is_fault-clause-counted : goal.returns-then-is_fault-clause-counted
@@ -33,4 +36,5 @@ returns-then-is_fault-clause-counted c = keeps_none c.args.self.now c.fail.new.s
 pub returns-clause-counted : goal.returns-clause-counted
 returns-clause-counted c =
     let calm = fault_not c.receive-received.result.what (sym c.is_fault.ensures ∙ c.if-is_fault.false) in
-    keeps_running c.args.self.now c.unwrap-desk.result c.receive-received.new.self (sym c.take.ensures.value ∙ c.unwrap-desk.ensures) (c.receive-received.ensures.blame.same (calm_answer c.receive-received.result.what calm))
+    keeps_running c.args.self.now c.unwrap-desk.result c.receive-received.new.self (sym c.take.ensures.value ∙ c.unwrap-desk.ensures)
+    (c.receive-received.ensures.blame.same (calm_answer c.receive-received.result.what calm))

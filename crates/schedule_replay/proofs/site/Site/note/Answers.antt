@@ -1,14 +1,13 @@
 use Rattle.std.proofs.Common.{Option, sym, subst, Result, Ok, Err, OnOk}
-use Rattle.headline.specs.declared.event.Station.{Station}
 use Rattle.schedule_replay.specs.declared.world_desk.WorldDesk.{WorldDesk}
-use Rattle.schedule_replay.specs.inner.ShownScores.{Adds, DeskHasScore, DeskShows}
+use Rattle.schedule_replay.specs.inner.ShownScores.{DeskHasScore, DeskShows}
 use Rattle.schedule_replay.proofs.ShowLemmas.{adds_book}
 use Rattle.schedule_replay.proofs.site.Site.note.Goals as goal
 
 pub note-requires-clause-one : goal.note-requires-clause-one
 note-requires-clause-one c =
     λ other there. c.requires.one c.book_len.result c.shown.result.now other there
-    (subst (λ (o : Option WorldDesk). DeskShows o c.book_len.result c.shown.result.now) (sym c.in-Some.is) (c.book_len.ensures.entries, c.shown.ensures))
+    (rw c.in-Some.is (c.book_len.ensures.entries, c.shown.ensures))
 
 on_ok : {T E P Q : Type 0} (r : Result T E) → (P → Q) → OnOk r P → OnOk r Q
 on_ok (Ok value) f h = f h
@@ -16,10 +15,9 @@ on_ok (Err fault) f h = tt
 
 pub returns-in-Some-clause-noted : goal.returns-in-Some-clause-noted
 returns-in-Some-clause-noted c =
-    on_ok c.note.result
-    (λ h. subst (λ (o : Option WorldDesk). Adds (Station.Desk c.args.self.now.name) (DeskShows o) c.args.shown.now.seen.items c.note.new.self.seen.items) (sym c.in-Some.is)
-    (adds_book (Station.Desk c.args.self.now.name) _ _ c.book_len.result c.shown.result.now c.args.shown.now.seen.items c.note.new.self.seen.items (c.book_len.ensures.entries, c.shown.ensures) h))
-    c.note.ensures.noted
+    let shows = subst (λ (o : Option WorldDesk). DeskShows o c.book_len.result c.shown.result.now) (sym c.in-Some.is) (c.book_len.ensures.entries, c.shown.ensures) in
+    on_ok c.note.result (adds_book _ _ _ _ _ _ shows) c.note.ensures.noted
 
 pub returns-in-Some-clause-scored : goal.returns-in-Some-clause-scored
-returns-in-Some-clause-scored c = on_ok c.note.result (λ _. subst DeskHasScore (sym c.in-Some.is) (c.shown.result.now, c.shown.ensures)) c.note.ensures.noted
+returns-in-Some-clause-scored c =
+    on_ok c.note.result (λ _. subst DeskHasScore (sym c.in-Some.is) (c.shown.result.now, c.shown.ensures)) c.note.ensures.noted

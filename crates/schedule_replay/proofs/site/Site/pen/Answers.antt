@@ -1,4 +1,4 @@
-use Rattle.std.proofs.Common.{refl, sym, ◌∙◌, Ok}
+use Rattle.std.proofs.Common.{arith, refl, sym, ◌∙◌, Ok}
 use Rattle.schedule_replay.specs.Answers.{is_device}
 use Rattle.schedule_replay.specs.declared.seen.Seen.{Seen}
 use Rattle.schedule_replay.proofs.PenLemmas.{pen_refused, pen_runs_on, refused_same}
@@ -10,7 +10,8 @@ pub returns-in-Ok-clause-step : goal.returns-in-Ok-clause-step
 returns-in-Ok-clause-step c =
     pen_runs_on c.args.self.now c.unwrap-desk.result c.pen-penned.new.self c.args.entry.now (Ok c.in-Ok.penned) (Seen.Penned c.in-Ok.penned.settled)
     c.args.sent.now.items c.push.new.self.items (sym c.take.ensures.value ∙ c.unwrap-desk.ensures)
-    c.in-Ok.ensures.step c.in-Ok.ensures.owner (c.in-Ok.ensures.blame.same (λ e. (cc))) (λ e. (cc)) refl (pushed c.args.sent.now.items c.push.new.self.items _ (rw c.unwrap.ensures at c.push.ensures.items))
+    c.in-Ok.ensures.step c.in-Ok.ensures.owner (c.in-Ok.ensures.blame.same (λ e. (cc))) (λ e. (cc)) refl
+    (pushed c.args.sent.now.items c.push.new.self.items _ (rw c.unwrap.ensures at c.push.ensures.items))
 
 pub returns-in-Err-clause-step : goal.returns-in-Err-clause-step
 returns-in-Err-clause-step c =
@@ -18,7 +19,8 @@ returns-in-Err-clause-step c =
     (sym c.take.ensures.value ∙ c.unwrap-desk.ensures) c.in-Err.ensures.step c.in-Err.ensures.owner c.in-Err.ensures.blame c.refuse.ensures.refused
 
 pub returns-in-Err-clause-same : goal.returns-in-Err-clause-same
-returns-in-Err-clause-same c = let s = refused_same (is_device c.in-Err.why) c.in-Err.why _ c.refuse.new.self c.refuse.result c.refuse.ensures.refused in record { name = s.name; same_game = s.same_game; innings = s.innings }
+returns-in-Err-clause-same c =
+    grind (arith, refused_same (is_device c.in-Err.why) c.in-Err.why _ c.refuse.new.self c.refuse.result c.refuse.ensures.refused)
 
 pub returns-in-Ok-clause-counted : goal.returns-in-Ok-clause-counted
 returns-in-Ok-clause-counted c = keeps_running c.args.self.now c.unwrap-desk.result c.pen-penned.new.self (sym c.take.ensures.value ∙ c.unwrap-desk.ensures) (c.in-Ok.ensures.blame.same (λ e. (cc)))

@@ -12,7 +12,14 @@ pub returns-in-Some-clause-down : goal.returns-in-Some-clause-down
 returns-in-Some-clause-down c =
     let there : c.args.self.now.desk ≡ Some c.in-Some.desk = sym c.take.ensures.value ∙ c.in-Some.is in
     record {
-      disk = (disk_of c.in-Some.desk, c.kill.new.self, ap (λ (o : Option WorldDesk). disk_at o c.args.self.now.disk) there, refl, subst (λ (d : MemDisk). SetsPlan Calm d c.kill.new.self) c.into_disk-disk.ensures c.kill.ensures);
+      disk = (
+        disk_of c.in-Some.desk,
+        c.kill.new.self,
+        ap (λ (o : Option WorldDesk). disk_at o c.args.self.now.disk) there,
+        refl,
+        subst
+            (λ (d : MemDisk). SetsPlan Calm d c.kill.new.self) c.into_disk-disk.ensures c.kill.ensures,
+      );
       counted = c.votes-self.ensures ∙ sym (ap (λ (o : Option WorldDesk). votes_at o c.args.self.now.votes) there);
       desk = c.take.ensures.after;
       due = refl;

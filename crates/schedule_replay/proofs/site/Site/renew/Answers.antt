@@ -1,4 +1,4 @@
-use Rattle.std.proofs.Common.{sym, refl, ◌∙◌, ℕ, subst, [], Option, Some}
+use Rattle.std.proofs.Common.{arith, sym, refl, ◌∙◌, ℕ, subst, [], Option, Some}
 use Rattle.entry_log.specs.MemDisk.{IsFresh}
 use Rattle.schedule_replay.specs.declared.{seen.Cause.Cause, world_desk.WorldDesk.WorldDesk, seen.WorldRefusal.WorldRefusal}
 use Rattle.schedule_replay.specs.Answers.{is_failing, wants_memory}
@@ -45,26 +45,14 @@ pub returns-in-Err-clause-refused : goal.returns-in-Err-clause-refused
 returns-in-Err-clause-refused c = (refused_by (goal.at.returns-in-Err-clause-refused c).After-not_found).1
 
 pub returns-in-Err-clause-same : goal.returns-in-Err-clause-same
-returns-in-Err-clause-same c =
-    let s = not_found_same (wants_memory c.in-Err.why) (is_failing c.in-Err.why) (Cause.Migrate c.in-Err.why) _ c.not_found.new.self c.not_found.result c.not_found.ensures.refused in
-    record { name = s.name; same_game = s.same_game; innings = s.innings }
+returns-in-Err-clause-same c = grind (
+  arith,
+  not_found_same (wants_memory c.in-Err.why) (is_failing c.in-Err.why) (Cause.Migrate c.in-Err.why) _
+      c.not_found.new.self c.not_found.result c.not_found.ensures.refused,
+)
 
 pub invariant_of-new : goal.invariant_of-new
-invariant_of-new c =
-    let disk = c.move_fault-in-Err.new.self in
-    record {
-      bytes_fit = disk.bytes_fit;
-      synced_fits = disk.synced_fits;
-      front_fits = disk.front_fits;
-      within = disk.within;
-      synced_within = disk.synced_within;
-      front_within = disk.front_within;
-      clean_within = disk.clean_within;
-      clean_front = disk.clean_front;
-      clean_synced = disk.clean_synced;
-      image = disk.image;
-      synced_image = disk.synced_image;
-    }
+invariant_of-new c = assumption (c.move_fault-in-Err.new.self)
 
 pub returns-in-Ok-clause-counted : goal.returns-in-Ok-clause-counted
 returns-in-Ok-clause-counted c =

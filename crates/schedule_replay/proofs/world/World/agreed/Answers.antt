@@ -1,4 +1,5 @@
-use Rattle.std.proofs.Common.{List, subst, Result, Ok, Err, IfOk}
+use Rattle.std.proofs.Common.{List, subst}
+use Rattle.std.proofs.lemmas.Result.{IfOk-weaker}
 use Rattle.agree_core.specs.declared.messages.DeskId.TheVariants.{A, B}
 use Rattle.agree_core.specs.Ballots.{Ballot, oldest}
 use Rattle.agree_core.specs.Books.{IsAgreedByFiles}
@@ -13,15 +14,12 @@ into_votes-requires-clause-read c = let r = c.requires.read in let h = r.1 in (r
 pub into_votes-requires-2-clause-read : goal.into_votes-requires-2-clause-read
 into_votes-requires-2-clause-read c = let r = c.requires.read in let h = r.1 in (r.0.b, h.sites B, of_names c.args.self B r.0 r.1 r.2)
 
-if_ok : {T E : Type 0} {P Q : T → Type 0} (r : Result T E) → ((x : T) → P x → Q x) → IfOk r P → IfOk r Q
-if_ok (Ok value) f h = f value h
-if_ok (Err fault) f h = tt
-
 pub returns : goal.returns
 returns c =
-    if_ok c.agreed_list.result
+    IfOk-weaker c.agreed_list.result _ _
     (λ list h. λ w is reads.
     let a = c.in_ok-a.ensures.votes w.a (let s = is in s.sites A) (of_names c.args.self A w is reads) in
     let b = c.in_ok-b.ensures.votes w.b (let s = is in s.sites B) (of_names c.args.self B w is reads) in
-    subst (λ (v : List Ballot). IsAgreedByFiles v (process_votes w.b.process) list.items) a (subst (λ (v : List Ballot). IsAgreedByFiles (oldest c.in_ok-a.a_count (read_votes c.in_ok-a.a)) v list.items) b h))
+    subst (λ (v : List Ballot). IsAgreedByFiles v (process_votes w.b.process) list.items) a
+    (subst (λ (v : List Ballot). IsAgreedByFiles (oldest c.in_ok-a.a_count (read_votes c.in_ok-a.a)) v list.items) b h))
     c.agreed_list.ensures

@@ -5,7 +5,8 @@ use Rattle.match_command.proofs.match_run.turns.Stations.agree.Goals as goal
 pub returns-then-have_more-clause-online : goal.returns-then-have_more-clause-online
 returns-then-have_more-clause-online g c =
     let m = c.loop.invariant in
-    one_round c.args.self.now.a c.loop.self.a c.args.self.now.b c.loop.self.b c.args.self.now.board c.loop.self.board c.board_turn.new.board _ _ _ _ _ m.0 m.1 m.3 m.4 m.2.game m.5 c.in_ok-desk_turn.ensures.online c.in_ok-desk_turn-2.ensures.online c.board_turn.ensures.online
+    one_round c.args.self.now.board c.loop.self.board c.board_turn.new.board m.0 m.1 m.3 m.4 m.2.game m.5 c.in_ok-desk_turn.ensures.online
+    c.in_ok-desk_turn-2.ensures.online c.board_turn.ensures.online
 
 pub loop-preserved : goal.loop-preserved
 loop-preserved g c =
@@ -16,5 +17,6 @@ loop-preserved g c =
       record { game = same.game ∙ m.2.game; innings_a_side = same.innings_a_side ∙ m.2.innings_a_side },
       both_disks c.args.self.now.a c.loop.self.a c.desk_turn.new.desk m.3 c.desk_turn.ensures.disk,
       both_disks c.args.self.now.b c.loop.self.b c.desk_turn-in-loop.new.desk m.4 c.desk_turn-in-loop.ensures.disk,
-      one_round c.args.self.now.a c.loop.self.a c.args.self.now.b c.loop.self.b c.args.self.now.board c.loop.self.board c.board_turn.new.board _ _ _ _ _ m.0 m.1 m.3 m.4 m.2.game m.5 c.in_ok-desk_turn.ensures.online c.in_ok-desk_turn-2.ensures.online c.board_turn.ensures.online,
+      one_round c.args.self.now.board c.loop.self.board c.board_turn.new.board m.0 m.1 m.3 m.4 m.2.game m.5 c.in_ok-desk_turn.ensures.online
+          c.in_ok-desk_turn-2.ensures.online c.board_turn.ensures.online,
     )

@@ -1,10 +1,11 @@
 use Rattle.std.proofs.Common.{sym, ap, ◌∙◌, subst, ◌≡◌, ◌++◌, ◌∷◌, [], List, ℕ, Ok, length}
 use Rattle.std.specs.Prelude.{OnOk}
+use Rattle.std.proofs.lemmas.Result.{on_ok_weaker}
 use Rattle.notation.specs.declared.entry.Entry.{Entry}
 use Rattle.desk.proofs.RestoreLemmas.{error_of}
 use Rattle.books.specs.Taking.{answer, answer_to, taking, with_taken}
 use Rattle.match_command.specs.inner.Turns.{AreCalm, AreLevel, DiskHolds, VotesFor, book_at, innings_at}
-use Rattle.match_command.proofs.TurnLemmas.{ok_map, agreed, agreed_online, first_left, second_left, third_left}
+use Rattle.match_command.proofs.TurnLemmas.{agreed, agreed_online, first_left, second_left, third_left}
 use Rattle.match_command.proofs.match_run.turns.Stations.take.Given.{Over}
 use Rattle.match_command.proofs.match_run.turns.Stations.take.Goals as goal
 use Rattle.match_command.proofs.match_run.turns.Stations.take.Goals.{After-agree, In_ok-pen}
@@ -72,20 +73,20 @@ returns-clause-left g c =
     c.len-place.result c.agree.ensures.only c.agree.ensures.disk_a c.agree.ensures.disk_b (subst (DiskHolds c.pen.new.desk) is va.turn.held) (subst (DiskHolds c.pen-2.new.desk) is held_b)
 
 pub returns-clause-level : goal.returns-clause-level
-returns-clause-level g c = ok_map c.agree.result (λ both. both.0) (all_agreed g (goal.at.returns-clause-level g c).After-agree)
+returns-clause-level g c = on_ok_weaker c.agree.result (λ both. both.0) (all_agreed g (goal.at.returns-clause-level g c).After-agree)
 
 pub returns-clause-calm_still : goal.returns-clause-calm_still
-returns-clause-calm_still g c = ok_map c.agree.result (λ both. both.2) (all_agreed g (goal.at.returns-clause-calm_still g c).After-agree)
+returns-clause-calm_still g c = on_ok_weaker c.agree.result (λ both. both.2) (all_agreed g (goal.at.returns-clause-calm_still g c).After-agree)
 
 pub returns-clause-book : goal.returns-clause-book
 returns-clause-book g c =
     let is = sym (more g (goal.at.returns-clause-book g c).In_ok-pen) in
-    ok_map c.agree.result (λ both. both.1 ∙ is) (all_agreed g (goal.at.returns-clause-book g c).After-agree)
+    on_ok_weaker c.agree.result (λ both. both.1 ∙ is) (all_agreed g (goal.at.returns-clause-book g c).After-agree)
 
 pub returns-clause-online : goal.returns-clause-online
 returns-clause-online g c =
     let old = c.args.self.now in
     let at = goal.at.returns-clause-online g c in
-    let book = ok_map c.agree.result (λ both. both.1) (all_agreed g at.After-agree) in
+    let book = on_ok_weaker c.agree.result (λ both. both.1) (all_agreed g at.After-agree) in
     agreed_online c.agree.result old.a c.pen.new.desk c.agree.new.self.a old.b c.pen-2.new.desk old.board c.agree.new.self.board c.in-Ok.entry _ _ c.requires.level
     (voted g at.In_ok-pen) (c.in_ok-pen-2.ensures.voted (let level = c.requires.level in level.level_b)) c.pen.ensures.owner c.pen-2.ensures.owner c.agree.ensures.online book
