@@ -1,22 +1,20 @@
 -- Texts that are numbered, one more of them; and a last call that writes nothing.
-use Rattle.std.proofs.Common.{◌≡◌, ℕ, zero, suc, ◌+◌, ◌<◌, List, [], ◌∷◌, ◌++◌, length, take, map, slice_index_or, Option, Result, Ok, Err, refl, sym, ap, ◌∙◌, arith, append-nil, append_assoc}
+use Rattle.std.proofs.Common.{◌≡◌, ℕ, zero, suc, ◌+◌, ◌<◌, List, [], ◌∷◌, ◌++◌, length, take, map, slice_index_or, Option, Result, Ok, Err, refl, sym, ap, arith}
+use Rattle.std.proofs.Common.{append-nil, append_assoc, zero-add}
 use Rattle.std.specs.Prelude.{OnOk}
 use Rattle.std.specs.Io.KnownBytes.{Appends, Keeps}
 use Rattle.streams.proofs.Appending.{appends_kept}
 use Rattle.commands.specs.Replay.{numbered}
 
 module _ {X : Type 0} (text : ℕ → X → List ℕ) where
-  pub numbered_next : (n : ℕ) (xs : List X) (i : ℕ) (d x : X) → i < length xs → x ≡ slice_index_or xs i d → numbered text n (take (i + 1) xs) ≡ numbered text n (take i xs) ++ text (i + n) x
-  numbered_next n [] i d x less e = absurd (omega (arith, less))
-  numbered_next n (y ∷ ys) zero d x less e =
-      let at : n ≡ 0 + n = omega arith in
-      append-nil (text n y) ∙ ap (λ (m : ℕ). text m y) at ∙ ap (text (0 + n)) (sym e)
+  pub numbered_next : (n : ℕ) (xs : List X) (i : ℕ) (d x : X) → i < length xs → x ≡ slice_index_or xs i d →
+      numbered text n (take (i + 1) xs) ≡ numbered text n (take i xs) ++ text (i + n) x
+  numbered_next n [] i d x less e = absurd (omega arith)
+  numbered_next n (y ∷ ys) zero d x less e = rw (append-nil (text n y), zero-add, e) refl
   numbered_next n (y ∷ ys) (suc i) d x less e =
-      let at : i + (n + 1) ≡ suc i + n = omega arith in
-      let next = numbered_next (n + 1) ys i d x (omega (arith, less)) e in
+      let at : suc i + n ≡ i + (n + 1) = omega arith in
       let more : suc i + 1 ≡ suc (i + 1) = omega arith in
-      ap (λ (m : ℕ). numbered text n (take m (y ∷ ys))) more ∙ ap (λ (u : List ℕ). text n y ++ u) (next ∙ ap (λ (m : ℕ). numbered text (n + 1) (take i ys) ++ text m x) at)
-      ∙ sym (append_assoc (text n y) (numbered text (n + 1) (take i ys)) (text (suc i + n) x))
+      rw (more, at, numbered_next (n + 1) ys i d x (omega arith) e) (sym (append_assoc (text n y) (numbered text (n + 1) (take i ys)) (text (i + (n + 1)) x)))
 
   pub numbered_map : {Y : Type 0} (f : Y → X) (n : ℕ) (ys : List Y) → numbered text n (map f ys) ≡ numbered (λ m y. text m (f y)) n ys
   numbered_map f n [] = refl

@@ -1,11 +1,12 @@
 //! The record of a match from both desks' votes files: `ground card` and `ground export` of their agreed list.
 
-ghost use Rattle.std.specs.Prelude.{◌≡◌, ◌≢◌, ◌<◌, ◌⊎◌, length, Err, IfErr, IfOk, IfSome, OnOk};
+ghost use Rattle.std.specs.Prelude.{◌≡◌, ◌≢◌, IfErr, IfOk, IfSome, OnOk};
 ghost use Rattle.agree_core.specs.declared.messages.DeskId.TheVariants.{A, B};
-ghost use Rattle.streams.specs.Watched.{IsHandedOn, MeetsFailure, failures, stream_of};
+ghost use Rattle.streams.specs.Watched.{stream_of};
 ghost use Rattle.toml.specs.View.{table_view};
 ghost use Rattle.books.specs.BothFiles.{IsBookOfBoth};
 ghost use Rattle.commands.specs.BothFiles.{IsOfReading, PrintsCardOfBoth, PrintsExportOfBoth, WhyNotBoth};
+ghost use Rattle.commands.specs.Ends.{EndsReading, EndsWriting};
 
 use crate::export_command::{print_text, sheet_and_document};
 use agree_core::DeskId;
@@ -16,7 +17,7 @@ use export::text_of;
 use setup::{StopFault, Stopped, open_input, output, told_sheet_at};
 use std::alloc::{AllocError, Global};
 use std::io::{Read, Write};
-use streams::{InputFault, LONGEST_INPUT, Watched, read_all};
+use streams::{InputFault, Watched, read_all};
 use toml::Table;
 
 /// Why `card`, `export` and `compare` of both files end before their end.
@@ -112,10 +113,8 @@ pub fn read_both<R: Read>(
     ensures first { IfOk result (λ files. IfSome (R.remaining (stream_of a.old)) (λ first. files.0.items ≡ first)) }
     ensures second { IfOk result (λ files. IfSome (R.remaining (stream_of b.old)) (λ second. files.1.items ≡ second)) }
     ensures why { IfErr result IsOfReading }
-    ensures read_first { result ≡ Err (BothPrintFault.Read A) → MeetsFailure a.old a.new
-        ⊎ IfSome (R.remaining (stream_of a.old)) (λ input. LONGEST_INPUT < length input) }
-    ensures read_second { result ≡ Err (BothPrintFault.Read B) → MeetsFailure b.old b.new
-        ⊎ IfSome (R.remaining (stream_of b.old)) (λ input. LONGEST_INPUT < length input) }
+    ensures read_first { EndsReading R.remaining (BothPrintFault.Read A) result a.old a.new }
+    ensures read_second { EndsReading R.remaining (BothPrintFault.Read B) result b.old b.new }
 {
     let first = match read_all(alloc, a) {
         Ok(bytes) => bytes,
@@ -141,10 +140,8 @@ fn book_of_readers<R: Read>(
     ensures same_match { IfOk result (λ book. book.innings_a_side ≡ sheet.now.innings) }
     ensures why { IfErr result (λ fault. IfSome (R.remaining (stream_of a.old)) (λ first.
         IfSome (R.remaining (stream_of b.old)) (λ second. WhyNotBoth sheet.now first second fault))) }
-    ensures read_first { result ≡ Err (BothPrintFault.Read A) → MeetsFailure a.old a.new
-        ⊎ IfSome (R.remaining (stream_of a.old)) (λ input. LONGEST_INPUT < length input) }
-    ensures read_second { result ≡ Err (BothPrintFault.Read B) → MeetsFailure b.old b.new
-        ⊎ IfSome (R.remaining (stream_of b.old)) (λ input. LONGEST_INPUT < length input) }
+    ensures read_first { EndsReading R.remaining (BothPrintFault.Read A) result a.old a.new }
+    ensures read_second { EndsReading R.remaining (BothPrintFault.Read B) result b.old b.new }
     ensures unwritten { IfErr result (λ fault. fault ≢ BothPrintFault.Write) }
 {
     let (first, second) = read_both(alloc, a, b)?;
@@ -166,19 +163,9 @@ pub fn card_both_run<R: Read, W: Write>(
         PrintsCardOfBoth W.contents writer.old writer.new sheet.now first second))) }
     ensures why { IfErr result (λ fault. IfSome (R.remaining (stream_of a.old)) (λ first.
         IfSome (R.remaining (stream_of b.old)) (λ second. WhyNotBoth sheet.now first second fault))) }
-
-    // A read fault comes only where a read of that file failed or it is too long, and a write fault only where a
-    // write failed.
-    ensures read_first { result ≡ Err (BothPrintFault.Read A) → MeetsFailure a.old a.new
-        ⊎ IfSome (R.remaining (stream_of a.old)) (λ input. LONGEST_INPUT < length input) }
-    ensures read_second { result ≡ Err (BothPrintFault.Read B) → MeetsFailure b.old b.new
-        ⊎ IfSome (R.remaining (stream_of b.old)) (λ input. LONGEST_INPUT < length input) }
-    ensures write { result ≡ Err BothPrintFault.Write → MeetsFailure writer.old writer.new }
-    ensures sound { OnOk result (failures writer.new ≡ failures writer.old) }
-    ensures handed_on { OnOk result (IsHandedOn writer.new) }
-
-    // With any other fault nothing was written.
-    ensures unwritten { IfErr result (λ fault. fault ≢ BothPrintFault.Write → writer.new ≡ writer.old) }
+    ensures read_first { EndsReading R.remaining (BothPrintFault.Read A) result a.old a.new }
+    ensures read_second { EndsReading R.remaining (BothPrintFault.Read B) result b.old b.new }
+    ensures writes { EndsWriting BothPrintFault.Write result writer.old writer.new }
 {
     let book = book_of_readers(alloc, sheet, a, b)?;
     match print_card(sheet, &book, writer) {
@@ -202,19 +189,9 @@ pub fn export_both_run<R: Read, W: Write>(
         PrintsExportOfBoth W.contents writer.old writer.new sheet.now first second (table_view document.now)))) }
     ensures why { IfErr result (λ fault. IfSome (R.remaining (stream_of a.old)) (λ first.
         IfSome (R.remaining (stream_of b.old)) (λ second. WhyNotBoth sheet.now first second fault))) }
-
-    // A read fault comes only where a read of that file failed or it is too long, and a write fault only where a
-    // write failed.
-    ensures read_first { result ≡ Err (BothPrintFault.Read A) → MeetsFailure a.old a.new
-        ⊎ IfSome (R.remaining (stream_of a.old)) (λ input. LONGEST_INPUT < length input) }
-    ensures read_second { result ≡ Err (BothPrintFault.Read B) → MeetsFailure b.old b.new
-        ⊎ IfSome (R.remaining (stream_of b.old)) (λ input. LONGEST_INPUT < length input) }
-    ensures write { result ≡ Err BothPrintFault.Write → MeetsFailure writer.old writer.new }
-    ensures sound { OnOk result (failures writer.new ≡ failures writer.old) }
-    ensures handed_on { OnOk result (IsHandedOn writer.new) }
-
-    // With any other fault nothing was written.
-    ensures unwritten { IfErr result (λ fault. fault ≢ BothPrintFault.Write → writer.new ≡ writer.old) }
+    ensures read_first { EndsReading R.remaining (BothPrintFault.Read A) result a.old a.new }
+    ensures read_second { EndsReading R.remaining (BothPrintFault.Read B) result b.old b.new }
+    ensures writes { EndsWriting BothPrintFault.Write result writer.old writer.new }
 {
     let book = book_of_readers(alloc, sheet, a, b)?;
     let text = text_of(alloc, sheet, document, &book)?;

@@ -1,9 +1,10 @@
 //! `ground card`: the cards of a book, which is made of pen lines or of a desk's votes file.
 
-ghost use Rattle.std.specs.Prelude.{◌≡◌, ◌≢◌, ◌<◌, ◌⊎◌, length, Err, IfErr, IfSome, OnOk};
-ghost use Rattle.streams.specs.Watched.{IsHandedOn, MeetsFailure, failures, stream_of};
+ghost use Rattle.std.specs.Prelude.{IfErr, IfSome, OnOk};
+ghost use Rattle.streams.specs.Watched.{stream_of};
 ghost use Rattle.commands.specs.Card.{PrintsCard};
 ghost use Rattle.commands.specs.PrintFault.{WhyNotPrinted};
+ghost use Rattle.commands.specs.Ends.{EndsReading, EndsWriting};
 
 use crate::printing::PrintFault;
 use books::{Source, book_from, print_card};
@@ -11,7 +12,7 @@ use cards::MatchSheet;
 use setup::{StopFault, Stopped, open_input, output, told_sheet_at};
 use std::alloc::Global;
 use std::io::{Read, Write};
-use streams::{LONGEST_INPUT, Watched, read_all};
+use streams::{Watched, read_all};
 
 /// `ground card`: reads pen lines or a votes file to the end, and prints both cards of each innings of their book
 /// and then its page. Where a line isn't taken, or the file or its votes are refused, nothing is written.
@@ -26,17 +27,8 @@ pub fn card_run<R: Read, W: Write>(
         PrintsCard W.contents writer.old writer.new source sheet.now input)) }
     ensures why { IfErr result (λ fault. IfSome (R.remaining (stream_of reader.old)) (λ input.
         WhyNotPrinted source sheet.now input fault)) }
-
-    // A read fault comes only where a read failed or the input is too long, and a write fault only where a
-    // write failed.
-    ensures read { result ≡ Err PrintFault.Read → MeetsFailure reader.old reader.new
-        ⊎ IfSome (R.remaining (stream_of reader.old)) (λ input. LONGEST_INPUT < length input) }
-    ensures write { result ≡ Err PrintFault.Write → MeetsFailure writer.old writer.new }
-    ensures sound { OnOk result (failures writer.new ≡ failures writer.old) }
-    ensures handed_on { OnOk result (IsHandedOn writer.new) }
-
-    // With any other fault nothing was written.
-    ensures unwritten { IfErr result (λ fault. fault ≢ PrintFault.Write → writer.new ≡ writer.old) }
+    ensures read { EndsReading R.remaining PrintFault.Read result reader.old reader.new }
+    ensures writes { EndsWriting PrintFault.Write result writer.old writer.new }
 {
     let input = read_all(alloc, reader)?;
     let book = book_from(alloc, sheet, source, input.as_slice())?;

@@ -1,13 +1,14 @@
 //! `ground check`: pen lines in, what isn't taken and the board out.
 
-ghost use Rattle.std.specs.Prelude.{◌≡◌, ◌≢◌, ◌≤◌, ◌<◌, ◌⊎◌, [], length, not, true};
-ghost use Rattle.std.specs.Prelude.{Err, IfOk, IfErr, IfSome, OnOk};
-ghost use Rattle.streams.specs.Watched.{IsHandedOn, MeetsFailure, Prints, TellsFailure, failures, stream_of};
+ghost use Rattle.std.specs.Prelude.{◌≡◌, ◌≤◌, [], length, not, true};
+ghost use Rattle.std.specs.Prelude.{IfOk, IfSome, OnOk};
+ghost use Rattle.streams.specs.Watched.{IsHandedOn, Prints, TellsFailure, stream_of};
 ghost use Rattle.notation.specs.Lines.{lines_of};
 ghost use Rattle.books.specs.Table.{IsInStep, agreed_in, innings_in};
 ghost use Rattle.books.specs.Taking.{answer_to, with_taken};
 ghost use Rattle.commands.specs.Check as texts;
 ghost use Rattle.commands.specs.Check.{printed, is_rejected, has_rejected, output_of};
+ghost use Rattle.commands.specs.Ends.{EndsReading, EndsWriting};
 
 use books::{Table, print_rejected};
 use cards::{MatchSheet, board_lines, plain_sheet};
@@ -138,17 +139,8 @@ pub fn check_run<R: Read, W: Write>(
         Prints W.contents writer.old writer.new (output_of innings input))) }
     ensures rejected { IfOk result (λ rejected. IfSome (R.remaining (stream_of reader.old)) (λ input.
         rejected ≡ has_rejected innings [] (lines_of input))) }
-
-    // A read fault comes only where a read failed or the input is too long, and a write fault only where a
-    // write failed.
-    ensures read { result ≡ Err CheckFault.Read → MeetsFailure reader.old reader.new
-        ⊎ IfSome (R.remaining (stream_of reader.old)) (λ input. LONGEST_INPUT < length input) }
-    ensures write { result ≡ Err CheckFault.Write → MeetsFailure writer.old writer.new }
-    ensures sound { OnOk result (failures writer.new ≡ failures writer.old) }
-    ensures handed_on { OnOk result (IsHandedOn writer.new) }
-
-    // With a read fault, or out of memory, nothing was written.
-    ensures unwritten { IfErr result (λ fault. fault ≢ CheckFault.Write → writer.new ≡ writer.old) }
+    ensures read { EndsReading R.remaining CheckFault.Read result reader.old reader.new }
+    ensures writes { EndsWriting CheckFault.Write result writer.old writer.new }
 {
     let input = read_all(alloc, reader)?;
     let mut table = Table::new(alloc, innings)?;

@@ -1,9 +1,10 @@
 //! `ground compare`: what both desks' votes files have in common, and where they differ.
 
-ghost use Rattle.std.specs.Prelude.{◌≡◌, ◌≢◌, ◌<◌, ◌⊎◌, length, Err, IfErr, IfSome, OnOk};
+ghost use Rattle.std.specs.Prelude.{IfErr, IfSome, OnOk};
 ghost use Rattle.agree_core.specs.declared.messages.DeskId.TheVariants.{A, B};
-ghost use Rattle.streams.specs.Watched.{IsHandedOn, MeetsFailure, failures, stream_of};
+ghost use Rattle.streams.specs.Watched.{stream_of};
 ghost use Rattle.commands.specs.BothFiles.{PrintsComparison, WhyNotCompared};
+ghost use Rattle.commands.specs.Ends.{EndsReading, EndsWriting};
 
 use crate::both_files::{BothPrintFault, read_both, stopped_at};
 use books::{compare_files, print_comparison};
@@ -11,7 +12,7 @@ use cards::MatchSheet;
 use setup::{Stopped, open_input, output, sheet_at};
 use std::alloc::Global;
 use std::io::{Read, Write};
-use streams::{LONGEST_INPUT, Watched};
+use streams::Watched;
 
 /// `ground compare`: reads both desks' votes files to the end, and prints a line for each place and round at which the
 /// desks differ, and then how many entries are agreed, and how many such lines there are: of both desks, of A alone, of B
@@ -28,19 +29,9 @@ pub fn compare_run<R: Read, W: Write>(
         PrintsComparison W.contents writer.old writer.new sheet.now first second))) }
     ensures why { IfErr result (λ fault. IfSome (R.remaining (stream_of a.old)) (λ first.
         IfSome (R.remaining (stream_of b.old)) (λ second. WhyNotCompared sheet.now first second fault))) }
-
-    // A read fault comes only where a read of that file failed or it is too long, and a write fault only where a
-    // write failed.
-    ensures read_first { result ≡ Err (BothPrintFault.Read A) → MeetsFailure a.old a.new
-        ⊎ IfSome (R.remaining (stream_of a.old)) (λ input. LONGEST_INPUT < length input) }
-    ensures read_second { result ≡ Err (BothPrintFault.Read B) → MeetsFailure b.old b.new
-        ⊎ IfSome (R.remaining (stream_of b.old)) (λ input. LONGEST_INPUT < length input) }
-    ensures write { result ≡ Err BothPrintFault.Write → MeetsFailure writer.old writer.new }
-    ensures sound { OnOk result (failures writer.new ≡ failures writer.old) }
-    ensures handed_on { OnOk result (IsHandedOn writer.new) }
-
-    // With any other fault nothing was written.
-    ensures unwritten { IfErr result (λ fault. fault ≢ BothPrintFault.Write → writer.new ≡ writer.old) }
+    ensures read_first { EndsReading R.remaining (BothPrintFault.Read A) result a.old a.new }
+    ensures read_second { EndsReading R.remaining (BothPrintFault.Read B) result b.old b.new }
+    ensures writes { EndsWriting BothPrintFault.Write result writer.old writer.new }
 {
     let (first, second) = read_both(alloc, a, b)?;
     let comparison = compare_files(alloc, sheet.game(), first.as_slice(), second.as_slice())?;

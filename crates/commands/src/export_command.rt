@@ -1,10 +1,11 @@
 //! `ground export`: the book of a match as JSON.
 
-ghost use Rattle.std.specs.Prelude.{◌≡◌, ◌≢◌, ◌<◌, ◌⊎◌, ◌++◌, length, codes, Err, IfErr, IfSome, OnOk};
-ghost use Rattle.streams.specs.Watched.{IsHandedOn, MeetsFailure, Prints, TellsFailure, failures, stream_of};
+ghost use Rattle.std.specs.Prelude.{◌++◌, codes, IfErr, IfSome, OnOk};
+ghost use Rattle.streams.specs.Watched.{IsHandedOn, Prints, TellsFailure, stream_of};
 ghost use Rattle.toml.specs.View.{table_view};
 ghost use Rattle.commands.specs.Export.{PrintsExport};
 ghost use Rattle.commands.specs.PrintFault.{WhyNotPrinted};
+ghost use Rattle.commands.specs.Ends.{EndsReading, EndsWriting};
 
 use crate::printing::PrintFault;
 use books::{Source, book_from};
@@ -13,7 +14,7 @@ use export::{document_of, text_of};
 use setup::{NoSheet, StopFault, Stopped, bytes_at, open_input, output, told_sheet_of};
 use std::alloc::Global;
 use std::io::{Read, Write};
-use streams::{LONGEST_INPUT, Watched, WriteFailed, read_all};
+use streams::{Watched, WriteFailed, read_all};
 use toml::Table;
 
 /// Prints a book as one JSON value. It fails only where a write fails; how much was written then isn't said.
@@ -41,17 +42,8 @@ pub fn export_run<R: Read, W: Write>(
         PrintsExport W.contents writer.old writer.new source sheet.now (table_view document.now) input)) }
     ensures why { IfErr result (λ fault. IfSome (R.remaining (stream_of reader.old)) (λ input.
         WhyNotPrinted source sheet.now input fault)) }
-
-    // A read fault comes only where a read failed or the input is too long, and a write fault only where a
-    // write failed.
-    ensures read { result ≡ Err PrintFault.Read → MeetsFailure reader.old reader.new
-        ⊎ IfSome (R.remaining (stream_of reader.old)) (λ input. LONGEST_INPUT < length input) }
-    ensures write { result ≡ Err PrintFault.Write → MeetsFailure writer.old writer.new }
-    ensures sound { OnOk result (failures writer.new ≡ failures writer.old) }
-    ensures handed_on { OnOk result (IsHandedOn writer.new) }
-
-    // With any other fault nothing was written.
-    ensures unwritten { IfErr result (λ fault. fault ≢ PrintFault.Write → writer.new ≡ writer.old) }
+    ensures read { EndsReading R.remaining PrintFault.Read result reader.old reader.new }
+    ensures writes { EndsWriting PrintFault.Write result writer.old writer.new }
 {
     let input = read_all(alloc, reader)?;
     let book = book_from(alloc, sheet, source, input.as_slice())?;

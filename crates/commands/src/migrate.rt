@@ -1,7 +1,7 @@
 //! `ground migrate`: a new file with the votes of an old one.
 
 ghost use Rattle.std.specs.Prelude.{◌≡◌, ◌≢◌, ◌≤◌, ◌⊎◌, length, Err, IfOk, IfErr, OnOk};
-ghost use Rattle.streams.specs.Watched.{IsHandedOn, MeetsFailure, Prints, TellsFailure, failures};
+ghost use Rattle.streams.specs.Watched.{IsHandedOn, Prints, TellsFailure};
 ghost use Rattle.entry_log.specs.Disk.{Never, only};
 ghost use Rattle.entry_log.specs.Format.{room};
 ghost use Rattle.entry_log.specs.Version2.{version_2};
@@ -9,6 +9,7 @@ ghost use Rattle.entry_log.specs.declared.slot.TheConstants.{MAX_SLOTS};
 ghost use Rattle.agree_core.specs.Ballots.{desk_number};
 ghost use Rattle.vote_store.specs.Migrated.{IsMigrated, answer_of};
 ghost use Rattle.commands.specs.Migrate.{Leaves, WhyNotMigrated, migrated_line, old_left};
+ghost use Rattle.commands.specs.Ends.{EndsWriting};
 
 use agree_core::DeskId;
 use entry_log::Disk;
@@ -97,10 +98,7 @@ pub fn migrate_run<D: Disk + Drop, E: Disk + Drop, W: Write>(
     // Where no fault is due at either disk, and the new one has room, none is met.
     ensures calm { (D.faults old).due ≡ Never → (E.faults new).due ≡ Never
         → room version_2 MAX_SLOTS ≤ E.cap new → answer_of result ≢ Err MigrateFault.Device }
-    ensures write { answer_of result ≡ Err MigrateFault.Write → MeetsFailure out.old out.new }
-    ensures sound { OnOk result (failures out.new ≡ failures out.old) }
-    ensures handed_on { OnOk result (IsHandedOn out.new) }
-    ensures unwritten { IfErr (answer_of result) (λ fault. fault ≢ MigrateFault.Write → out.new ≡ out.old) }
+    ensures writes { EndsWriting MigrateFault.Write (answer_of result) out.old out.new }
 {
     let migrated = match migrate(alloc, old, new, desk, game) {
         Ok(migrated) => migrated,

@@ -1,10 +1,11 @@
 //! `ground replay`: a schedule's events in, what each is answered and what the stations show out.
 
-ghost use Rattle.std.specs.Prelude.{◌≡◌, ◌≢◌, ◌≤◌, ◌<◌, ◌⊎◌, All, Err, IfErr, IfOk, IfSome, OnOk, length};
+ghost use Rattle.std.specs.Prelude.{◌≡◌, ◌≢◌, ◌≤◌, ◌⊎◌, All, Err, IfErr, IfOk, IfSome, OnOk};
 ghost use Rattle.streams.specs.Watched.{IsHandedOn, MeetsFailure, failures, stream_of};
 ghost use Rattle.headline.specs.Events.{IsEvent};
 ghost use Rattle.schedule_replay.specs.Replays.{IsReplay};
 ghost use Rattle.commands.specs.ReplayRun.{PrintsReplay, PrintsRun, WhyNoReplay};
+ghost use Rattle.commands.specs.Ends.{EndsReading, EndsWriting};
 
 mod print;
 mod step;
@@ -18,7 +19,7 @@ use setup::{StopFault, Stopped, open_input, output, sheet_at};
 use std::alloc::{AllocError, Global};
 use std::io::{Read, Write};
 use step::{Stepped, begin, step_all};
-use streams::{InputFault, LONGEST_INPUT, Watched, read_all};
+use streams::{InputFault, Watched, read_all};
 
 /// Why `replay` ends before its end.
 #[derive(Clone, Copy, Debug, PartialEq, Eq)]
@@ -156,17 +157,8 @@ pub fn replay_run<R: Read, W: Write>(
         PrintsReplay W.contents writer.old writer.new sheet.now version boards input refused)) }
     ensures why { IfErr result (λ fault. IfSome (R.remaining (stream_of reader.old)) (λ input.
         WhyNoReplay input fault)) }
-
-    // A read fault comes only where a read failed or the input is too long, and a write fault only where a
-    // write failed.
-    ensures read { result ≡ Err ReplayFault.Read → MeetsFailure reader.old reader.new
-        ⊎ IfSome (R.remaining (stream_of reader.old)) (λ input. LONGEST_INPUT < length input) }
-    ensures write { result ≡ Err ReplayFault.Write → MeetsFailure writer.old writer.new }
-    ensures sound { OnOk result (failures writer.new ≡ failures writer.old) }
-    ensures handed_on { OnOk result (IsHandedOn writer.new) }
-
-    // With any other fault nothing was written.
-    ensures unwritten { IfErr result (λ fault. fault ≢ ReplayFault.Write → writer.new ≡ writer.old) }
+    ensures read { EndsReading R.remaining ReplayFault.Read result reader.old reader.new }
+    ensures writes { EndsWriting ReplayFault.Write result writer.old writer.new }
 {
     let input = read_all(alloc, reader)?;
     let events = read_schedule(alloc, input.as_slice())?;

@@ -1,6 +1,6 @@
 //! The events of a schedule in a world.
 
-ghost use Rattle.std.specs.Prelude.{◌≡◌, ◌≤◌, All, IfOk};
+ghost use Rattle.std.specs.Prelude.{◌≤◌, All, IfOk};
 ghost use Rattle.schedule_replay.specs.CodeWorlds.{BeginsWorld};
 ghost use Rattle.headline.specs.Events.{IsEvent};
 ghost use Rattle.commands.specs.ReplayRun.{IsStepped};

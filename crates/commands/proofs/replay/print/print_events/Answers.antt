@@ -1,4 +1,4 @@
-use Rattle.std.proofs.Common.{◌∙◌, refl, slice_index_or}
+use Rattle.std.proofs.Common.{◌∙◌, refl}
 use Rattle.agree_core.specs.declared.seat.Settled.TheVariants.{Pending}
 use Rattle.streams.proofs.Appending.{appends_both}
 use Rattle.schedule_replay.specs.declared.seen.Seen.TheVariants.{Penned}
@@ -8,10 +8,8 @@ use Rattle.commands.proofs.replay.print.print_events.Goals as goal
 
 pub loop-before-preserved : goal.loop-before-preserved
 loop-before-preserved g c =
-    let before = c.loop-before.before in
-    let outcomes = c.args.outcomes.now in
-    let more = numbered_next event_line 1 outcomes before (Penned Pending) (slice_index_or outcomes before (Penned Pending)) c.loop-before-test.true refl in
+    let more = numbered_next event_line 1 c.args.outcomes.now c.loop-before.before (Penned Pending) _ c.loop-before-test.true refl in
     record {
-      written = rw (more) (appends_both _ _ _ _ _ c.loop-before.invariant.written c.in_ok-print_event.ensures.text);
+      written = rw more (appends_both _ _ _ _ _ c.loop-before.invariant.written c.in_ok-print_event.ensures.text);
       sound = c.in_ok-print_event.ensures.failed.1 ∙ c.loop-before.invariant.sound;
     }

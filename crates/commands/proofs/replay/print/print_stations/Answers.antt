@@ -7,7 +7,6 @@ use Rattle.commands.proofs.replay.print.print_stations.Goals as goal
 pub returns-clause-text : goal.returns-clause-text
 returns-clause-text g c = λ w is.
     let lends = c.stations.ensures w is in
-    let a = lends.desk_a in
-    let b = lends.desk_b in
-    rw (← a.state, ← b.state, ← lends.states, numbered_map board_line board_state 1 c.stations.result.2.now)
-    (appends_last c.print_boards.result _ _ _ _ _ (appends_both _ _ _ _ _ c.in_ok-print_desk.ensures.text c.in_ok-print_desk-2.ensures.text) c.print_boards.ensures.text)
+    let desks = appends_both _ _ _ _ _ c.in_ok-print_desk.ensures.text c.in_ok-print_desk-2.ensures.text in
+    rw (← lends.desk_a.state, ← lends.desk_b.state, ← lends.states, numbered_map board_line board_state 1 c.stations.result.2.now)
+    (appends_last c.print_boards.result _ _ _ _ _ desks c.print_boards.ensures.text)

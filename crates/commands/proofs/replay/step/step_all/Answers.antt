@@ -1,37 +1,24 @@
-use Rattle.std.proofs.Common.{◌≡◌, ◌+◌, List, Some, arith, refl, sym, subst}
-use Rattle.schedule_replay.specs.declared.seen.Seen.{Seen}
+use Rattle.std.proofs.Common.{◌≡◌, Some, arith}
 use Rattle.schedule_replay.specs.SeenWords.{refusal_number}
-use Rattle.commands.proofs.WorldRuns.{IsStepping, refuses_one, starts, steps, takes_all}
+use Rattle.commands.proofs.WorldRuns.{refuses_one, starts, steps, takes_all}
 use Rattle.commands.proofs.replay.step.step_all.Goals as goal
 
 pub loop-before-init : goal.loop-before-init
-loop-before-init c = (
-  starts c.args.sheet.now c.args.version c.args.boards c.args.events.now c.in_ok-world.world c.in_ok-outcomes.outcomes.items c.in_ok-world.ensures c.in_ok-outcomes.ensures.items,
-  c.in_ok-outcomes.ensures.capacity,
-  c.in_ok-outcomes.ensures.len,
-  omega arith,
-)
+loop-before-init c =
+    let outcomes = c.in_ok-outcomes.ensures in
+    (starts _ _ _ _ _ _ c.in_ok-world.ensures outcomes.items, outcomes.capacity, outcomes.len, omega arith)
 
 pub loop-before-preserved : goal.loop-before-preserved
 loop-before-preserved c =
-    let next = steps c.args.sheet.now c.args.version c.args.boards c.args.events.now c.loop-before.before c.index-events-before.result c.loop-before.world c.step.new.self c.loop-before.outcomes.items c.in-Ok.seen
-    c.loop-before-test.true c.index-events-before.is c.loop-before.invariant.0 c.in-Ok.ensures.step c.in-Ok.ensures.same in
-    let pushed = rw c.unwrap.ensures at c.push.ensures.items in (
-      subst (λ (o : List Seen). IsStepping c.args.sheet.now c.args.version c.args.boards c.args.events.now (c.loop-before.before + 1) c.step.new.self o) (sym pushed) next,
-      (let room = c.loop-before.invariant.1 in let grown = c.push.ensures.capacity in omega arith),
-      (let long = c.loop-before.invariant.2 in let more = rw c.unwrap.ensures at c.push.ensures.len in omega arith),
-      (let less = c.loop-before-test.true in omega arith),
-    )
+    let m = c.loop-before.invariant in
+    let pushed = rw c.unwrap.ensures at c.push.ensures.items in
+    let next = steps m.0 _ _ c.loop-before-test.true c.index-events-before.is c.in-Ok.seen c.in-Ok.ensures.step c.in-Ok.ensures.same in
+    (rw pushed next, omega (arith, m.1, c.push.ensures.capacity), omega (arith, m.2, rw c.unwrap.ensures at c.push.ensures.len), omega (arith, c.loop-before-test.true))
 
 pub returns-in-Err : goal.returns-in-Err
 returns-in-Err c =
     let numbered : refusal_number c.in-Err.refusal ≡ Some c.in-Some.why = let a = c.number.ensures in let b = c.in-Some.is in cc in
-    let stepped = refuses_one c.args.sheet.now c.args.version c.args.boards c.args.events.now c.loop-before.before (c.loop-before.before + 1) c.in-Some.why c.index-events-before.result c.loop-before.world c.step.new.self c.loop-before.outcomes.items c.in-Err.refusal
-    c.loop-before-test.true c.index-events-before.is refl numbered c.loop-before.invariant.0 c.in-Err.ensures.refused in
-    record { stepped = stepped }
+    record { stepped = refuses_one c.loop-before.invariant.0 _ _ c.loop-before-test.true c.index-events-before.is _ _ numbered c.in-Err.ensures.refused }
 
 pub returns : goal.returns
-returns c =
-    let stepped = takes_all c.args.sheet.now c.args.version c.args.boards c.args.events.now c.loop-before.before c.loop-before.world c.loop-before.outcomes.items
-    (let most = c.loop-before.invariant.3 in let least = c.loop-before-test.false in omega arith) c.loop-before.invariant.0 in
-    record { stepped = stepped }
+returns c = record { stepped = takes_all c.loop-before.invariant.0 (omega (arith, c.loop-before.invariant.3, c.loop-before-test.false)) }
