@@ -1,41 +1,7 @@
 -- What tells a day or a revision has its value: a text that is a day is the day's text.
-use Rattle.std.proofs.Common.{
-  ◌≡◌,
-  ℕ,
-  ◌+◌,
-  ◌-◌,
-  ◌*◌,
-  ◌/◌,
-  ◌%◌,
-  ◌<◌,
-  Bool,
-  true,
-  false,
-  cond,
-  ◌&&◌,
-  ◌==◌,
-  nat_le,
-  pos,
-  List,
-  [],
-  ◌∷◌,
-  ◌++◌,
-  Option,
-  Some,
-  None,
-  option_map,
-  option_and_then,
-  get_or,
-  refl,
-  sym,
-  ap,
-  ◌∙◌,
-  arith,
-  append_assoc,
-  append-nil,
-  lt-ltb,
-  eqb-true,
-}
+use Rattle.std.proofs.Common.{◌≡◌, ℕ, ◌+◌, ◌-◌, ◌*◌, ◌/◌, ◌%◌, ◌<◌, Bool, true, false, cond, ◌&&◌, ◌==◌, nat_le}
+use Rattle.std.proofs.Common.{pos, List, [], ◌∷◌, ◌++◌, Option, Some, None, option_map, option_and_then, get_or}
+use Rattle.std.proofs.Common.{refl, sym, ap, ◌∙◌, arith, append_assoc, append-nil, lt-ltb, eqb-true}
 use Rattle.std.specs.Prelude.{is_none}
 use Rattle.std.specs.Char.{is_ascii_digit}
 use Rattle.std.specs.Fmt.{decimal}
@@ -44,20 +10,8 @@ use Rattle.std.proofs.lemmas.Bool.Decides.{nat_tests}
 use Rattle.std.proofs.lemmas.Option.{cond_some, none-some, option_and_then_some, same_Some}
 use Rattle.toml_datetime.specs.declared.datetime.{Date.Date, Time.Time, Offset.Offset, Datetime.Datetime}
 use Rattle.toml_datetime.specs.Valid.{is_valid_date}
-use Rattle.toml_datetime.specs.Parse.{
-  after_byte,
-  after_date,
-  after_time,
-  colon,
-  dash,
-  full_date,
-  is_time_delim,
-  parse_datetime,
-  partial_time,
-  time_offset,
-  two_digits,
-  whole,
-}
+use Rattle.toml_datetime.specs.Parse.{after_byte, after_date, after_time, colon, dash, full_date, is_time_delim}
+use Rattle.toml_datetime.specs.Parse.{parse_datetime, partial_time, time_offset, two_digits, whole}
 use Rattle.toml_datetime.specs.Text.{date_text, datetime_text, delim_text, offset_text, part_text, time_text, two_wide}
 use Rattle.toml.specs.Data as toml
 use Rattle.toml.specs.Data.{Data}

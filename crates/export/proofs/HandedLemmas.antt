@@ -1,39 +1,7 @@
 -- What stands at a key of `info`.
-use Rattle.std.proofs.Common.{
-  ◌≡◌,
-  ℕ,
-  Bool,
-  true,
-  false,
-  cond,
-  ◌||◌,
-  ◌&&◌,
-  not,
-  arith,
-  append_assoc,
-  bytes_eq,
-  List,
-  [],
-  ◌∷◌,
-  ◌++◌,
-  Option,
-  Some,
-  None,
-  option_map,
-  Ordering,
-  Less,
-  Equal,
-  Greater,
-  nat_cmp,
-  is_eq,
-  codes,
-  refl,
-  sym,
-  ap,
-  ◌∙◌,
-  subst,
-  if◌then◌else◌,
-}
+use Rattle.std.proofs.Common.{◌≡◌, ℕ, Bool, true, false, cond, ◌||◌, ◌&&◌, not, arith, append_assoc, bytes_eq, List}
+use Rattle.std.proofs.Common.{[], ◌∷◌, ◌++◌, Option, Some, None, option_map, Ordering, Less, Equal, Greater}
+use Rattle.std.proofs.Common.{nat_cmp, is_eq, codes, refl, sym, ap, ◌∙◌, subst, if◌then◌else◌}
 use Rattle.std.specs.Prelude.{is_some}
 use Rattle.std.specs.List.{list_any}
 use Rattle.std.specs.Ordering.{match_ordering}

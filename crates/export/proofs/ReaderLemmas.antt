@@ -20,22 +20,9 @@ use Rattle.export.specs.Wickets as listing
 use Rattle.export.specs.Wickets.{gone_of, has_wickets, how_words, is_gone, own_wickets}
 use Rattle.export.specs.Deliveries.{delivery_of, extra_runs, extras_field, is_run}
 use Rattle.export.specs.Laws.{at, is_text, member_at}
-use Rattle.export.specs.Readers.{
-  bat_runs,
-  boundary_in,
-  bowled_in,
-  credited_in,
-  credited_kinds,
-  debited_in,
-  faced_in,
-  four_outrun,
-  is_credited,
-  is_set,
-  noballs_in,
-  number_in,
-  six_outrun,
-  wides_in,
-}
+use Rattle.export.specs.Readers.{bat_runs, boundary_in, bowled_in, credited_in, credited_kinds, debited_in}
+use Rattle.export.specs.Readers.{faced_in, four_outrun, is_credited, is_set, noballs_in, number_in, six_outrun}
+use Rattle.export.specs.Readers.{wides_in}
 use Rattle.export.proofs.WicketLemmas.{delivered}
 use Rattle.export.proofs.LineLemmas.{takes}
 

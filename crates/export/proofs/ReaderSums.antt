@@ -11,37 +11,11 @@ use Rattle.ball_laws.specs.History.{History}
 use Rattle.ball_laws.specs.Over.{counting, counts, debit_of, is_wide_or_no_ball}
 use Rattle.ball_laws.specs.Sums.{count_of, one_if, tally}
 use Rattle.match_laws.specs.History.{Delivery, deliveries, innings_overs, is_at, is_of, opponent, side_of, since_call}
-use Rattle.match_laws.specs.Figures.{
-  alone,
-  bowler_in,
-  batted_of,
-  batter_runs,
-  batting_order,
-  bowled_by,
-  bowler_balls,
-  bowler_noballs,
-  bowler_overs,
-  bowler_runs,
-  bowler_wickets,
-  bowler_wides,
-  bowling_order,
-  counting_by,
-  credited,
-  faced,
-  faced_of,
-  fours,
-  fours_of,
-  is_odd_over,
-  named_once,
-  noballs_of,
-  odd_overs,
-  of_bowler,
-  of_striker,
-  shared_by,
-  sixes,
-  sixes_of,
-  wides_of,
-}
+use Rattle.match_laws.specs.Figures.{alone, bowler_in, batted_of, batter_runs, batting_order, bowled_by}
+use Rattle.match_laws.specs.Figures.{bowler_balls, bowler_noballs, bowler_overs, bowler_runs, bowler_wickets}
+use Rattle.match_laws.specs.Figures.{bowler_wides, bowling_order, counting_by, credited, faced, faced_of, fours}
+use Rattle.match_laws.specs.Figures.{fours_of, is_odd_over, named_once, noballs_of, odd_overs, of_bowler}
+use Rattle.match_laws.specs.Figures.{of_striker, shared_by, sixes, sixes_of, wides_of}
 use Rattle.corrections.specs.CleanList.{history_of}
 use Rattle.corrections.specs.Legal.{IsLegalBook}
 use Rattle.cards.specs.Sheet.{Sheet, player_of}
@@ -49,39 +23,11 @@ use Rattle.json.specs.Json.{Json}
 use Rattle.export.specs.declared.notes.Noted.{Noted}
 use Rattle.export.specs.Deliveries.{delivery_of, is_run}
 use Rattle.export.specs.Laws.{at, innings_at, is_text}
-use Rattle.export.specs.Readers.{
-  BatterAddsUp,
-  BowlerAddsUp,
-  OversAreSixes,
-  HasOwnName,
-  NamesTellPlayers,
-  bat_runs,
-  boundary_in,
-  bowled_in,
-  credited_in,
-  dead_ball,
-  debited_in,
-  faced_in,
-  four_outrun,
-  noballs_in,
-  over_balls,
-  six_outrun,
-  summed,
-  wides_in,
-}
-use Rattle.export.proofs.ReaderLemmas.{
-  bat_read,
-  batter_read,
-  boundary_read,
-  bowled_read,
-  credited_read,
-  debited_read,
-  faced_read,
-  fours_told,
-  noballs_read,
-  sixes_told,
-  wides_read,
-}
+use Rattle.export.specs.Readers.{BatterAddsUp, BowlerAddsUp, OversAreSixes, HasOwnName, NamesTellPlayers, bat_runs}
+use Rattle.export.specs.Readers.{boundary_in, bowled_in, credited_in, dead_ball, debited_in, faced_in, four_outrun}
+use Rattle.export.specs.Readers.{noballs_in, over_balls, six_outrun, summed, wides_in}
+use Rattle.export.proofs.ReaderLemmas.{bat_read, batter_read, boundary_read, bowled_read, credited_read}
+use Rattle.export.proofs.ReaderLemmas.{debited_read, faced_read, fours_told, noballs_read, sixes_told, wides_read}
 use Rattle.export.proofs.SumLemmas.{sum_read}
 use Rattle.export.proofs.LineLemmas.{AreNamed, bowlers_named, by_players, comers, picked, picked-own, picked-sum, strikers_named, takes}
 

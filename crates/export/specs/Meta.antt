@@ -1,26 +1,6 @@
 -- What is said of the file, with what the sheet's table [meta] tells of it: the day on which it was made, and its revision.
-use Rattle.std.specs.Prelude.{
-  ℕ,
-  Bool,
-  true,
-  ◌&&◌,
-  nat_le,
-  if◌then◌else◌,
-  pos,
-  ℤ,
-  List,
-  [],
-  ◌∷◌,
-  ◌++◌,
-  Option,
-  Some,
-  None,
-  is_none,
-  is_some,
-  option_and_then,
-  unwrap_or,
-  codes,
-}
+use Rattle.std.specs.Prelude.{ℕ, Bool, true, ◌&&◌, nat_le, if◌then◌else◌, pos, ℤ, List, [], ◌∷◌, ◌++◌, Option, Some}
+use Rattle.std.specs.Prelude.{None, is_none, is_some, option_and_then, unwrap_or, codes}
 use Rattle.toml.specs.Data.{Data, string, datetime, Members, get_member, as_integer}
 use Rattle.toml_datetime.specs.Parse.{parse_datetime}
 use Rattle.toml_datetime.specs.Text.{date_text}

@@ -9,25 +9,9 @@ use Rattle.ball_laws.specs.Over.{counting, is_wide_or_no_ball}
 use Rattle.ball_laws.specs.Runs.{is_six, is_struck}
 use Rattle.ball_laws.specs.Sums.{tally, count_of, one_if}
 use Rattle.match_laws.specs.History.{deliveries, innings_overs, opponent, side_of}
-use Rattle.match_laws.specs.Figures.{
-  alone,
-  batter_runs,
-  batting_order,
-  bowler_balls,
-  bowler_noballs,
-  bowler_overs,
-  bowler_runs,
-  bowler_wickets,
-  bowler_wides,
-  bowling_order,
-  faced,
-  fours,
-  is_four,
-  odd_overs,
-  of_bowler,
-  of_striker,
-  sixes,
-}
+use Rattle.match_laws.specs.Figures.{alone, batter_runs, batting_order, bowler_balls, bowler_noballs, bowler_overs}
+use Rattle.match_laws.specs.Figures.{bowler_runs, bowler_wickets, bowler_wides, bowling_order, faced, fours}
+use Rattle.match_laws.specs.Figures.{is_four, odd_overs, of_bowler, of_striker, sixes}
 use Rattle.corrections.specs.CleanList.{history_of}
 use Rattle.cards.specs.Sheet.{Sheet, player_of}
 use Rattle.json.specs.Json.{Json, boolean, number}

@@ -15,21 +15,8 @@ use Rattle.corrections.specs.CleanList.{history_of}
 use Rattle.cards.specs.Sheet.{plain_sheet}
 use Rattle.json.specs.Json.{Json}
 use Rattle.export.specs.Laws.{innings_at}
-use Rattle.export.specs.Readers.{
-  bat_runs,
-  boundary_in,
-  bowled_in,
-  credited_in,
-  dead_balls,
-  debited_in,
-  faced_in,
-  fours_outrun,
-  noballs_in,
-  over_balls,
-  sixes_outrun,
-  summed,
-  wides_in,
-}
+use Rattle.export.specs.Readers.{bat_runs, boundary_in, bowled_in, credited_in, dead_balls, debited_in, faced_in}
+use Rattle.export.specs.Readers.{fours_outrun, noballs_in, over_balls, sixes_outrun, summed, wides_in}
 
 -- the first innings in the export of a book, with players called by their numbers
 abbrev pub first_innings : List Entry → Json
