@@ -35,7 +35,9 @@ fn judged<'a>(
     desk: DeskId,
     bytes: Vec<u8>,
     path: &'a str,
-) -> Result<Vec<u8>, Stopped<'a>> {
+) -> Result<Vec<u8>, Stopped<'a>>
+    ensures same { IfOk result (λ judged. judged.items ≡ bytes.items) }
+{
     let disk = FileDisk::in_memory(bytes);
     let restoring = Restoring::new(empty_book(rt, sheet)?);
     match Votes::<Slots<FileDisk<NoFile>>>::open_with(

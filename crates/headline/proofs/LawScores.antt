@@ -32,7 +32,7 @@ use Rattle.headline.specs.Setting.{Setting}
 use Rattle.headline.specs.Configurations.{Configuration, all_votes}
 use Rattle.headline.specs.Events.{IsEvent}
 use Rattle.headline.specs.Runs.{AtEachMoment, Begins, Moment, Run, events_of, last_of}
-use Rattle.headline.specs.Headline.{HasRanges, ShowScores}
+use Rattle.headline.specs.Headline.{HasRanges, AllHaveScores}
 use Rattle.headline.specs.Penned.{WasPenned}
 use Rattle.headline.proofs.Keeping.{Fine, all_justified, begins_fine, run_keeps}
 use Rattle.headline.proofs.PennedVotes.{BothHold, all_penned}
@@ -166,7 +166,7 @@ module _ {Disk Why : Type 0} (s : Setting Disk Why) (innings : ℕ) (laws : Rule
 
     -- where what was penned has its numbers in their ranges
     pub shown_scored : (version : FileVersion) (n : ℕ) (w : Configuration Disk) (ms : List (Moment Disk Why)) → Begins s version n w → Run s w ms
-        → ((b : Ballot) → WasPenned w ms A b → IsEntry b.entry) → ShowScores innings (last_of w ms)
+        → ((b : Ballot) → WasPenned w ms A b → IsEntry b.entry) → AllHaveScores innings (last_of w ms)
     shown_scored version n w ms e r entries t book shows =
         let v = last_of w ms in
         let f = run_keeps s w ms (begins_fine s version n w e) r in
@@ -175,12 +175,12 @@ module _ {Disk Why : Type 0} (s : Setting Disk Why) (innings : ℕ) (laws : Rule
         (k.0, record { legal = k.1.legal; score = k.1.scored })
 
     each_scored : (version : FileVersion) (n : ℕ) (w : Configuration Disk) (ms : List (Moment Disk Why)) → Begins s version n w → Run s w ms → All IsEvent (events_of ms)
-        → AtEachMoment w ms (ShowScores innings)
+        → AtEachMoment w ms (AllHaveScores innings)
     each_scored version n w [] e r all = shown_scored version n w [] e r (λ b p. absurd p)
     each_scored version n w (m ∷ ms) e r all =
         let front = All-pop IsEvent (events_of (m ∷ ms)) (events_of ms) (Some m.event) refl all in
         (shown_scored version n w (m ∷ ms) e r (λ b p. penned_entry w (m ∷ ms) b all p), each_scored version n w ms e r.0 front.0)
 
   pub scored : (version : FileVersion) (n : ℕ) (w : Configuration Disk) (ms : List (Moment Disk Why)) → Begins s version n w → Run s w ms → HasRanges innings ms
-      → AtEachMoment w ms (ShowScores innings)
+      → AtEachMoment w ms (AllHaveScores innings)
   scored version n w ms e r ranges = each_scored ranges.0 ranges.1 version n w ms e r ranges.2

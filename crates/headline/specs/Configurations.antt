@@ -7,8 +7,8 @@ use Rattle.agree_core.specs.Boards.{BoardState, fresh_board}
 use Rattle.agree_core.specs.Desks.{DeskState}
 use Rattle.headline.specs.declared.{fault.Fault.Fault, version.FileVersion.FileVersion}
 
--- a desk that runs, or one that is down: its disk, and the votes that it had stored (no process has those: they are
--- kept here alone)
+-- a desk that runs, or one that is down: its disk, and the votes that it had stored (no process has these: they stand
+-- here so that claims can speak of them)
 pub data Process (Disk : Type 0) : Type 0 where
   Running : DeskState Disk → Process Disk
   Down : List Ballot → Disk → Process Disk

@@ -39,8 +39,8 @@ ShowsScore innings v t n score =
     (book : List Entry) × Shows v t book × (n ≡ length book) × IsScoreOf score innings book
 
 -- each book that a station shows has a score by the Laws
-abbrev pub ShowScores : {Disk : Type 0} → ℕ → Configuration Disk → Type 0
-ShowScores innings v = (t : Station) (book : List Entry) → Shows v t book → (score : Standing) × IsScoreOf score innings book
+abbrev pub AllHaveScores : {Disk : Type 0} → ℕ → Configuration Disk → Type 0
+AllHaveScores innings v = (t : Station) (book : List Entry) → Shows v t book → (score : Standing) × IsScoreOf score innings book
 
 -- the match has one or two innings a side, and the numbers of what was penned are in their ranges
 abbrev pub HasRanges : {Disk Why : Type 0} → ℕ → List (Moment Disk Why) → Type 0
@@ -73,9 +73,9 @@ pub record Headline
   pub prefixes : ArePrefixes w ms
   -- both scorers voted in one round for each entry of a book, and each vote was penned before
   pub by_both : AtEachMoment w ms ByBoth × AfterEach ms (ArePenned w)
-  -- each score is the Laws' score of its book: in a match with such ranges each book that is shown has one; and books
-  -- of one length have the same (that what is printed is this one, is said where it is printed)
-  pub scored : HasRanges innings ms → AtEachMoment w ms (ShowScores innings)
+  -- each score is the Laws' score of its book: where innings and numbers have their ranges each book that is shown has
+  -- one; and books of one length have the same (that what is printed is this one, is said where it is printed)
+  pub scored : HasRanges innings ms → AtEachMoment w ms (AllHaveScores innings)
   pub scores : HaveOneScore innings w ms
   -- a running station that noted both equal votes of its position has the entry: the call that brings the second makes
   -- its book longer by it, and no station is left with both

@@ -36,8 +36,9 @@ pub record HoldsInRun
   pub stands_fast : AtEachMoment w ms (StandsFast s)
   pub sound : AtEachEvent w ms (λ v m. IsSoundAnswer m.event m.answer)
 
+-- on disks of this kind, of which `seen` is what is read, and `images` what a power loss may leave
 module _ {Disk : Type 0} (seen : Disk → List ℕ) (images : Disk → Images) where
-  -- it holds in each run of a match on such disks, whatever a file of either version shows of its bytes
+  -- it holds in each run of a match of this number, whatever a file of either version shows of its bytes (`contents`)
   abbrev pub HoldsInEachRun : Type 0
   HoldsInEachRun =
       (contents : FileVersion → FileContents) (game innings : ℕ) (version : FileVersion) (boards : ℕ) (w : Configuration Disk)

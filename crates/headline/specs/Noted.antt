@@ -24,8 +24,8 @@ abbrev pub beginning_of : Station → Event
 beginning_of (Station.Desk d) = Event.Open d
 beginning_of (Station.Board n) = Event.Wipe n
 
--- the event brings a desk's vote to the station: it is given to it, where that is another than the desk; or the station is
--- the desk, and its scorer pens the entry (a desk's own vote that is given back to it counts for nothing)
+-- the event brings a vote of desk c to station t: it is given to t, which isn't c; or t is c, and its scorer pens the
+-- entry (a desk's own vote that is given back to it counts for nothing)
 abbrev pub Brings : {Disk : Type 0} → Configuration Disk → Event → Station → DeskId → Ballot → Type 0
 Brings w event t c b =
     ((t ≢ Station.Desk c)
@@ -56,12 +56,13 @@ abbrev pub HasNoted :
     {Disk Why : Type 0} → Setting Disk Why → Configuration Disk → List (Moment Disk Why) → Station → DeskId → Ballot → Type 0
 -- at the start of a run none is noted
 HasNoted s w [] t c b = ⊥
--- it is for the position at which the station is after the last event; and it was brought in that event, where no vote of
--- that desk was noted there before it; or it was found in that event; or it was noted before it, and the station didn't
--- begin again
+-- it is for the position at which the station is after the last event
 HasNoted s w (m ∷ ms) t c b =
     (position_at m.after t ≡ Some b.at)
+    -- and it was brought in that event, when no vote of that desk was noted there
     × ((IsBrought (last_of w ms) m t c b
     × ((e : Entry) → HasNoted s w ms t c (record { at = b.at; entry = e }) → ⊥))
+    -- or the station is that desk, and found it in that event, as it was opened
     ⊎ (((t ≡ Station.Desk c) × IsFound s (last_of w ms) m c b)
+    -- or it was noted before that event, and the station didn't begin again in it
     ⊎ ((m.event ≢ beginning_of t) × HasNoted s w ms t c b)))

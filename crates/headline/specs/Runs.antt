@@ -55,7 +55,7 @@ abbrev pub AtEachMoment :
 AtEachMoment w [] P = P w
 AtEachMoment w (m ∷ ms) P = P m.after × AtEachMoment w ms P
 
--- at the start of a run and after each of its events, it is so of what has happened
+-- at the start of a run and after each of its events, it is so of the moments up to then
 abbrev pub AfterEach : {Disk Why : Type 0} → List (Moment Disk Why) → (List (Moment Disk Why) → Type 0) → Type 0
 AfterEach [] P = P []
 AfterEach (m ∷ ms) P = P (m ∷ ms) × AfterEach ms P

@@ -24,13 +24,13 @@ pub enum Event {
     Kill(DeskId),
     /// The desk and its disk lose power; which image is found then is a choice.
     Power(DeskId, Choice),
-    /// The n-th device call of the desk from now on fails.
+    /// The desk's n-th call of its disk from now on (a read, a write, a sync) fails.
     FailAt(DeskId, u32),
-    /// The n-th device call of the desk from now on and all later ones fail, until it is down.
+    /// The desk's process stops in the n-th of these: that one fails, and all later ones until it is down.
     StopAt(DeskId, u32),
     /// The desk is opened from its file.
     Open(DeskId),
-    /// The board begins empty.
+    /// The board begins empty, as one does that was stopped.
     Wipe(u8),
     /// The desk's file of version 1 is written anew as version 2.
     Migrate(DeskId),

@@ -12,7 +12,7 @@ use Rattle.headline.proofs.Keeping.{begins_fine}
 use Rattle.headline.proofs.Shown.{each_moment, none_keeps_both}
 use Rattle.headline.proofs.EveryRun.{holds_in_run}
 use Rattle.headline.proofs.LawScores.{shown_scored}
-use Rattle.headline.specs.Headline.{ArePenned, ByBoth, ShowScores, ShowsScore}
+use Rattle.headline.specs.Headline.{ArePenned, ByBoth, AllHaveScores, ShowsScore}
 use Rattle.headline.specs.Match.{setting_of}
 use Rattle.headline.specs.Runs.{Begins, Moment, Shows, AfterEach}
 use Rattle.headline.specs.declared.version.FileVersion.{FileVersion}
@@ -61,12 +61,12 @@ module _ {Disk : Type 0} (seen : Disk → List ℕ) (images : Disk → Images) w
     abbrev setting : Setting Disk Refusal
     setting = setting_of contents seen images game innings
 
-    now_scored : (hs : List (Happening Disk)) → IsFlow seen images contents game innings version boards w hs → ShowScores innings (after w hs)
+    now_scored : (hs : List (Happening Disk)) → IsFlow seen images contents game innings version boards w hs → AllHaveScores innings (after w hs)
     now_scored hs f =
         let p = flow_runs setting game innings refl w (begins_calm setting version boards w f.0) hs f.1 in
-        subst (ShowScores innings) p.3 (shown_scored setting innings (λ book e none. none) one two version boards w p.0 f.0 p.1 (λ b h. typed_entry w hs A b (p.4 A b h)))
+        subst (AllHaveScores innings) p.3 (shown_scored setting innings (λ book e none. none) one two version boards w p.0 f.0 p.1 (λ b h. typed_entry w hs A b (p.4 A b h)))
 
-    each_scored : (hs : List (Happening Disk)) → IsFlow seen images contents game innings version boards w hs → AtEachTime w hs (ShowScores innings)
+    each_scored : (hs : List (Happening Disk)) → IsFlow seen images contents game innings version boards w hs → AtEachTime w hs (AllHaveScores innings)
     each_scored [] f = now_scored [] f
     each_scored (c ∷ cs) f = (now_scored (c ∷ cs) f, each_scored cs (f.0, f.1.0))
 

@@ -9,7 +9,7 @@ use Rattle.agree_core.specs.Desks.{DeskState}
 use Rattle.headline.specs.declared.event.Station.{Station}
 use Rattle.headline.specs.Configurations.{Running, Configuration, all_votes, node}
 use Rattle.headline.specs.Runs.{Shows}
-use Rattle.headline.specs.Headline.{ByBoth, ShowScores, ShowsScore}
+use Rattle.headline.specs.Headline.{ByBoth, AllHaveScores, ShowsScore}
 use Rattle.headline.specs.Kept.{NoneKeepsBoth}
 use Rattle.live.specs.Desks as desks
 use Rattle.live.specs.Saying.{SaysEntry}
@@ -62,7 +62,7 @@ pub record ProcessHeadline {Disk : Type 0} (game innings : ℕ) (w : Configurati
   pub typed : (d : DeskId) (b : Ballot) → In b (votes_by (all_votes (after w hs)) d) → WasTyped w hs d b
   -- each score is the Laws' score of its book: in a match of one or two innings a side each book that a process shows has
   -- one, and books of one length have the same, whichever processes show them at whatever times
-  pub scored : 1 ≤ innings → innings ≤ 2 → AtEachTime w hs (ShowScores innings)
+  pub scored : 1 ≤ innings → innings ≤ 2 → AtEachTime w hs (AllHaveScores innings)
   pub scores : (t u : Station) (n : ℕ) (score other : Standing)
       → AtSomeTime w hs (λ v. ShowsScore innings v t n score)
       → AtSomeTime w hs (λ v. ShowsScore innings v u n other) → score ≡ other

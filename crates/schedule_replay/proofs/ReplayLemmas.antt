@@ -24,7 +24,7 @@ use Rattle.headline.specs.Runs.{AtEachMoment, AtSomeMoment, Begins, Moment, Run,
 use Rattle.headline.specs.Match.{match_of}
 use Rattle.schedule_replay.specs.Answers.{answer_of}
 use Rattle.schedule_replay.specs.CodeWorlds.{BeginsWorld, IsNew, boards_of, match_version, HasConfiguration, RefusesTo, KeepsMatch, StepsTo}
-use Rattle.headline.specs.Headline.{ShowScores, ShowsScore}
+use Rattle.headline.specs.Headline.{AllHaveScores, ShowsScore}
 use Rattle.schedule_replay.specs.Refusals.{RefusesEvent}
 use Rattle.schedule_replay.specs.Replays.{AreSeen, EndsAt, EndsOrNeverBegins, IsReplay, MatchRun, StandOnce}
 use Rattle.schedule_replay.specs.inner.RunsSoFar.{HasTaken, IsAt}
@@ -58,7 +58,7 @@ pub record IsAfter
     (game innings : ℕ) (version : FileVersion) (boards : ℕ) (events : List Event) (number : ℕ) (world : World) (outcomes : List Seen)
     (seen : List Shown) : Type 0 where
   pub at : (w : Configuration MemDisk) × (ms : MatchRun) × IsAt game innings version boards events number world outcomes w ms
-      × AreSeen innings w ms seen × AtEachMoment w ms (ShowScores innings)
+      × AreSeen innings w ms seen × AtEachMoment w ms (AllHaveScores innings)
 
 -- such a run before its last event, whose outcome is the last one
 pub record IsNext
@@ -66,7 +66,7 @@ pub record IsNext
     (seen : List Shown) : Type 0 where
   pub at : (w : Configuration MemDisk) × (ms : MatchRun) × (m : Moment MemDisk Refusal)
       × IsAt game innings version boards events number world outcomes w (m ∷ ms)
-      × AreSeen innings w ms seen × AtEachMoment w ms (ShowScores innings)
+      × AreSeen innings w ms seen × AtEachMoment w ms (AllHaveScores innings)
 
 -- a new world begins the match that it is of
 pub own_match : (world : World) → IsNew world → BeginsWorld world.game world.innings_a_side (match_version world) (boards_of world) world
@@ -141,7 +141,7 @@ module _ {game innings : ℕ} {version : FileVersion} {boards : ℕ} {events : L
                 λ c. elim (k.0 c) [ inl o ↦ absurd (nothing_noted (t, n, score) (rw none at o)) | inr s ↦ subst (λ (i : ℕ). ShowsScore i b.0 t n score) same s ],
                 λ s. k.1 (inr (subst (λ (i : ℕ). ShowsScore i b.0 t n score) (sym same) s)),
               ),
-          subst (λ (i : ℕ). ShowScores i b.0) same (code_scored world b.0 have at.has_configuration),
+          subst (λ (i : ℕ). AllHaveScores i b.0) same (code_scored world b.0 have at.has_configuration),
         );
       }
 
@@ -163,7 +163,7 @@ module _ {game innings : ℕ} {version : FileVersion} {boards : ℕ} {events : L
                 λ c. elim (k.0 c) [ inl o ↦ inr ((p.4 t n score).0 o) | inr s ↦ inl (rw same at s) ],
                 λ s. k.1 (elim s [ inl q ↦ inr (rw same q) | inr q ↦ inl ((p.4 t n score).1 q) ]),
               ),
-          (subst (λ (i : ℕ). ShowScores i m.after) same (code_scored world m.after have at.has_configuration), p.5),
+          (subst (λ (i : ℕ). AllHaveScores i m.after) same (code_scored world m.after have at.has_configuration), p.5),
         );
       }
 

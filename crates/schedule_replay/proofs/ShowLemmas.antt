@@ -17,7 +17,7 @@ use Rattle.headline.specs.Configurations.{Process, Configuration, node}
 use Rattle.headline.specs.Runs.{Shows, process_shows}
 use Rattle.schedule_replay.specs.inner.Sites.{IsProcess}
 use Rattle.schedule_replay.specs.CodeWorlds.{IsBoardOf, HasConfiguration, MatchBoard, board_innings, board_state, code_site}
-use Rattle.headline.specs.Headline.{ShowScores, ShowsScore}
+use Rattle.headline.specs.Headline.{AllHaveScores, ShowsScore}
 use Rattle.schedule_replay.specs.inner.ShownScores.{Adds, BookHasScore, BookShows, CodeShows, HaveScores, IsNotable, Notes}
 use Rattle.schedule_replay.specs.inner.ShownScores.{board_book, code_book, desk_book, station_number}
 use Rattle.schedule_replay.proofs.GiveLemmas.{all_at}
@@ -93,7 +93,7 @@ pub code_shows : (code : World) (w : Configuration MemDisk) (t : Station) (n : �
     → ShowsScore code.innings_a_side w t n score ↔ CodeShows code t n score
 code_shows code w t n score h = book_shows (Shows w t) code.innings_a_side (code_book code t) n score (shows_one code w t h)
 
-pub code_scored : (code : World) (w : Configuration MemDisk) → HaveScores code → HasConfiguration code w → ShowScores code.innings_a_side w
+pub code_scored : (code : World) (w : Configuration MemDisk) → HaveScores code → HasConfiguration code w → AllHaveScores code.innings_a_side w
 code_scored code w d h t book s = book_scored (Shows w t) code.innings_a_side (code_book code t) book (shows_one code w t h) (d t) s
 
 split : (i n : ℕ) → i < n + 1 → (i < n) ⊎ (i ≡ n)

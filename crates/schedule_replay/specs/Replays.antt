@@ -12,7 +12,7 @@ use Rattle.schedule_replay.specs.declared.seen.WorldRefusal.TheVariants.{NoMemor
 use Rattle.headline.specs.Laws.{HoldsInRun}
 use Rattle.headline.specs.Configurations.{Configuration, all_votes}
 use Rattle.headline.specs.Runs.{AtEachMoment, AtSomeMoment, Begins, Moment, Run, answers_of, events_of, last_of}
-use Rattle.headline.specs.Headline.{ShowScores, ShowsScore}
+use Rattle.headline.specs.Headline.{AllHaveScores, ShowsScore}
 use Rattle.schedule_replay.specs.Refusals.{RefusesEvent}
 use Rattle.headline.specs.Match.{match_of}
 use Rattle.headline.specs.Besides.{AtEachEvent}
@@ -92,7 +92,7 @@ pub record IsReportOf
   pub agreed : IsAgreedList (all_votes (last_of w ms)) report.agreed.items
   -- each station that isn't down shows a score; a station, a length and a score are seen exactly where the run
   -- shows them, once each; and each score is the Laws' score of so many first entries of the agreed list
-  pub scored : AtEachMoment w ms (ShowScores innings)
+  pub scored : AtEachMoment w ms (AllHaveScores innings)
   pub seen : AreSeen innings w ms report.seen.items
   pub once : StandOnce report.seen.items
   pub scores : AreScores innings report.agreed.items report.seen.items
