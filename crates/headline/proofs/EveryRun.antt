@@ -10,7 +10,7 @@ use Rattle.headline.specs.Besides.{StandsFast}
 use Rattle.headline.specs.Headline.{ByBoth, Headline, NoneWaits, TakesSecond}
 use Rattle.headline.specs.Laws.{HoldsInRun}
 use Rattle.headline.proofs.Keeping.{all_justified, begins_fine, run_keeps}
-use Rattle.headline.proofs.LawScores.{RulesAreLaws, scored}
+use Rattle.headline.proofs.LawScores.{RulesAreLaws, ShowsStandings, laws_shown, scored}
 use Rattle.headline.proofs.NotedRuns.{after_each, keeps_noted}
 use Rattle.headline.proofs.PennedVotes.{penned_before}
 use Rattle.headline.proofs.Scores.{one_score}
@@ -18,13 +18,14 @@ use Rattle.headline.proofs.SecondVotes.{none_waits, takes_second}
 use Rattle.headline.proofs.Shown.{by_both, each_moment, one_book_shown, stands_fast, votes_kept, within_agreed}
 use Rattle.headline.proofs.Sound.{sound_answers}
 
-module _ {Disk Why : Type 0} (s : Setting Disk Why) (innings : ℕ) (rules : RulesAreLaws s innings) where
+module _ {Disk Why : Type 0} (s : Setting Disk Why) (innings : ℕ) (rules : RulesAreLaws s innings) (stands : ShowsStandings s innings) where
   headline : (version : FileVersion) (n : ℕ) (w : Configuration Disk) (ms : List (Moment Disk Why)) → Begins s version n w → Run s w ms → Headline s innings w ms
   headline version n w ms e r =
       let f = begins_fine s version n w e in
       record {
         prefixes = one_book_shown s w ms f r;
         by_both = (each_moment s w ms ByBoth (by_both s) f r, penned_before s version n w ms e r);
+        shown = laws_shown s innings rules stands version n w ms e r;
         scored = λ ranges. scored s innings rules version n w ms e r ranges;
         scores = one_score s innings version n w ms e r;
         has_entry = (after_each s w ms (TakesSecond s w) (takes_second s version n w e) r, after_each s w ms (NoneWaits s w) (none_waits s version n w e) r);

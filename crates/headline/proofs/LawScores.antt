@@ -1,4 +1,4 @@
--- Each book that is shown has a score by the Laws.
+-- Each book that is shown is legal and has a score by the Laws, and what is shown as its score is that.
 use Rattle.std.proofs.Common.{◌≡◌, ℕ, ◌+◌, ◌≤◌, Bool, cond, Some, None, List, [], ◌∷◌, ◌++◌, length, refl, sym, ◌∙◌, subst, inl, inr, arith}
 use Rattle.std.specs.Prelude.{All, not, slice_get}
 use Rattle.std.proofs.lemmas.List.{append-nil, append_assoc}
@@ -17,6 +17,7 @@ use Rattle.match_laws.specs.declared.standing.Standing.{Standing}
 use Rattle.match_laws.specs.inner.BattingTables.{batting_table_of}
 use Rattle.match_laws.specs.inner.BowlingTables.{bowling_table_of}
 use Rattle.corrections.specs.CleanList.{clean, clean_items_of, history_of, kept}
+use Rattle.corrections.specs.Legal.{IsLegalBook}
 use Rattle.corrections.specs.Refusal.{book_refusal}
 use Rattle.corrections.specs.declared.placed.Placed.{Placed}
 use Rattle.corrections.specs.inner.Kept.{IsKept}
@@ -32,7 +33,7 @@ use Rattle.headline.specs.Setting.{Setting}
 use Rattle.headline.specs.Configurations.{Configuration, all_votes}
 use Rattle.headline.specs.Events.{IsEvent}
 use Rattle.headline.specs.Runs.{AtEachMoment, Begins, Moment, Run, events_of, last_of}
-use Rattle.headline.specs.Headline.{HasRanges, AllHaveScores}
+use Rattle.headline.specs.Headline.{HasRanges, AllHaveScores, ShowsLawsScores}
 use Rattle.headline.specs.Penned.{WasPenned}
 use Rattle.headline.proofs.Keeping.{Fine, all_justified, begins_fine, run_keeps}
 use Rattle.headline.proofs.PennedVotes.{BothHold, all_penned}
@@ -127,6 +128,10 @@ both_front own theirs place (x ∷ xs) ys h = (h.0, both_front own theirs (place
 abbrev pub RulesAreLaws : {Disk Why : Type 0} → Setting Disk Why → ℕ → Type 0
 RulesAreLaws s innings = (book : List Entry) (e : Entry) → s.rules book e ≡ None → book_refusal innings book e ≡ None
 
+-- what is shown as the score of a book is the standing of its history
+abbrev pub ShowsStandings : {Disk Why : Type 0} → Setting Disk Why → ℕ → Type 0
+ShowsStandings s innings = (book : List Entry) (score : Standing) → s.shows book score → StandsFor score innings (history_of book)
+
 module _ {Disk Why : Type 0} (s : Setting Disk Why) (innings : ℕ) (laws : RulesAreLaws s innings) where
   -- an entry that both voted for is taken after those before it
   next_taken : (v : Configuration Disk) → Fine s v → BothHold s (λ d. Lawful s.rules) v → (xs : List Entry) (e : Entry) (es : List Entry) → AllBoth (all_votes v).a (all_votes v).b 0 (xs ++ e ∷ es)
@@ -143,6 +148,29 @@ module _ {Disk Why : Type 0} (s : Setting Disk Why) (innings : ℕ) (laws : Rule
       let grow : VotesGrow votes votes = (same votes.a, same votes.b) in
       let equal = one_of_length votes votes votes j g.0 xs grow grow here there size in
       laws xs e (subst (λ (o : List Entry). s.rules o e ≡ None) equal g.3)
+
+  rest_legal : (v : Configuration Disk) → Fine s v → BothHold s (λ d. Lawful s.rules) v → (xs es : List Entry)
+      → IsLegalBook innings xs → AllBoth (all_votes v).a (all_votes v).b 0 (xs ++ es) → IsLegalBook innings (xs ++ es)
+  rest_legal v f l xs [] k both = subst (IsLegalBook innings) (sym (append-nil xs)) k
+  rest_legal v f l xs (e ∷ es) k both =
+      let votes = all_votes v in
+      let is = append_assoc xs (e ∷ []) es in
+      let next = (one_more innings xs e k).0 (next_taken v f l xs e es both) in
+      subst (IsLegalBook innings) is (rest_legal v f l (xs ++ e ∷ []) es next (subst (AllBoth votes.a votes.b 0) (sym is) both))
+
+  module _ (stands : ShowsStandings s innings) where
+    shown_now : (version : FileVersion) (n : ℕ) (w : Configuration Disk) (ms : List (Moment Disk Why)) → Begins s version n w → Run s w ms
+        → ShowsLawsScores s innings (last_of w ms)
+    shown_now version n w ms e r t book score shows is =
+        let v = last_of w ms in
+        let f = run_keeps s w ms (begins_fine s version n w e) r in
+        let legal = rest_legal v f (lawful_run s version n w ms e r) [] book (legal-none innings) (shown_both s v t book f shows) in
+        record { legal = legal; score = stands book score is }
+
+    pub laws_shown : (version : FileVersion) (n : ℕ) (w : Configuration Disk) (ms : List (Moment Disk Why)) → Begins s version n w → Run s w ms
+        → AtEachMoment w ms (ShowsLawsScores s innings)
+    laws_shown version n w [] e r = shown_now version n w [] e r
+    laws_shown version n w (m ∷ ms) e r = (shown_now version n w (m ∷ ms) e r, laws_shown version n w ms e r.0)
 
   module _ (one : 1 ≤ innings) (two : innings ≤ 2) where
     rest_scored : (v : Configuration Disk) → Fine s v → BothHold s (λ d. Lawful s.rules) v → ((b : Ballot) → In b (all_votes v).a → IsEntry b.entry) → (xs es : List Entry)

@@ -38,6 +38,11 @@ abbrev pub ShowsScore : {Disk : Type 0} → ℕ → Configuration Disk → Stati
 ShowsScore innings v t n score =
     (book : List Entry) × Shows v t book × (n ≡ length book) × IsScoreOf score innings book
 
+-- each score that a station shows is the score of its book by the Laws
+abbrev pub ShowsLawsScores : {Disk Why : Type 0} → Setting Disk Why → ℕ → Configuration Disk → Type 0
+ShowsLawsScores s innings v =
+    (t : Station) (book : List Entry) (score : Standing) → Shows v t book → s.shows book score → IsScoreOf score innings book
+
 -- each book that a station shows has a score by the Laws
 abbrev pub AllHaveScores : {Disk : Type 0} → ℕ → Configuration Disk → Type 0
 AllHaveScores innings v = (t : Station) (book : List Entry) → Shows v t book → (score : Standing) × IsScoreOf score innings book
@@ -73,8 +78,9 @@ pub record Headline
   pub prefixes : ArePrefixes w ms
   -- both scorers voted in one round for each entry of a book, and each vote was penned before
   pub by_both : AtEachMoment w ms ByBoth × AfterEach ms (ArePenned w)
-  -- each score is the Laws' score of its book: where innings and numbers have their ranges each book that is shown has
-  -- one; and books of one length have the same (that what is printed is this one, is said where it is printed)
+  -- each score shown is the Laws' score of its book; where innings and numbers have their ranges each book that is shown
+  -- has one; and books of one length have the same
+  pub shown : AtEachMoment w ms (ShowsLawsScores s innings)
   pub scored : HasRanges innings ms → AtEachMoment w ms (AllHaveScores innings)
   pub scores : HaveOneScore innings w ms
   -- a running station that noted both equal votes of its position has the entry: the call that brings the second makes

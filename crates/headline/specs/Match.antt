@@ -1,5 +1,7 @@
 -- The setting of a match: what files and books it goes by.
 use Rattle.std.specs.Prelude.{ℕ, List}
+use Rattle.match_laws.specs.Stands.{StandsFor}
+use Rattle.corrections.specs.CleanList.{history_of}
 use Rattle.corrections.specs.declared.refusal.Refusal.{Refusal}
 use Rattle.corrections.specs.Refusal.{book_refusal}
 use Rattle.entry_log.specs.declared.mem_disk.MemDisk.{MemDisk}
@@ -24,11 +26,15 @@ abbrev pub most_bytes : FileVersion → ℕ
 most_bytes version = room (format_of version) most_votes
 
 -- the match of this number, with so many innings a side: what a file of each version shows of its bytes, and the
--- bytes that a disk has and may have after a power loss
+-- bytes that a disk has and may have after a power loss; as the score of a book the standing of its history is shown
 abbrev pub setting_of :
     {Disk : Type 0} → (FileVersion → FileContents) → (Disk → List ℕ) → (Disk → Images) → ℕ → ℕ → Setting Disk Refusal
 setting_of file seen images game innings =
-    record { view = λ d version. file_view (file version) seen images d game; rules = book_refusal innings }
+    record {
+      view = λ d version. file_view (file version) seen images d game;
+      rules = book_refusal innings;
+      shows = λ book score. StandsFor score innings (history_of book);
+    }
 
 -- that match on disks in memory
 abbrev pub match_of : ℕ → ℕ → Setting MemDisk Refusal

@@ -55,7 +55,7 @@ module _ {Disk : Type 0} (seen : Disk → List ℕ) (images : Disk → Images) w
   flows_are_runs contents game innings version boards w hs f =
       let s = setting_of contents seen images game innings in
       let p = flow_runs s game innings refl w (begins_calm s version boards w f.0) hs f.1 in
-      (p.0, p.1, p.2, holds_in_run s innings (λ book e none. none) version boards w p.0 f.0 p.1)
+      (p.0, p.1, p.2, holds_in_run s innings (λ book e none. none) (λ book score stands. stands) version boards w p.0 f.0 p.1)
 
   module _ (contents : FileVersion → FileContents) (game innings : ℕ) (version : FileVersion) (boards : ℕ) (w : Configuration Disk) (one : 1 ≤ innings) (two : innings ≤ 2) where
     abbrev setting : Setting Disk Refusal
@@ -74,7 +74,7 @@ module _ {Disk : Type 0} (seen : Disk → List ℕ) (images : Disk → Images) w
   flows_have_headline contents game innings version boards w hs f =
       let s = setting_of contents seen images game innings in
       let p = flow_runs s game innings refl w (begins_calm s version boards w f.0) hs f.1 in
-      let h = (holds_in_run s innings (λ book e none. none) version boards w p.0 f.0 p.1).headline in
+      let h = (holds_in_run s innings (λ book e none. none) (λ book score stands. stands) version boards w p.0 f.0 p.1).headline in
       record {
         prefixes = λ t u xs ys x y. h.prefixes t u xs ys (at_some (λ v. Shows v t xs) w hs p.0 p.2 x) (at_some (λ v. Shows v u ys) w hs p.0 p.2 y);
         by_both = at_each ByBoth w hs p.0 p.2 h.by_both.0;

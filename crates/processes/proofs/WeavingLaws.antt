@@ -61,7 +61,7 @@ module _ {Disk : Type 0} (seen : Disk → List ℕ) (images : Disk → Images) (
   has_bytes contents game innings version boards w hs none f d =
       let s = setting_of contents seen images game innings in
       let p = flow_runs s game innings refl w (begins_calm s version boards w f.0) hs f.1 in
-      let fast = at_each (StandsFast s) w hs p.0 p.2 (holds_in_run s innings (λ book e none. none) version boards w p.0 f.0 p.1).stands_fast in
+      let fast = at_each (StandsFast s) w hs p.0 p.2 (holds_in_run s innings (λ book e none. none) (λ book score stands. stands) version boards w p.0 f.0 p.1).stands_fast in
       let found = (now_so (StandsFast s) w hs fast).safe.reads d in
       by_bytes (seen (process_disk (node (after w hs) d).process)) found.0 (node (after w hs) d).version found.1
     where

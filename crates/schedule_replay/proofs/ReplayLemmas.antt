@@ -235,7 +235,7 @@ module _ {game innings : ℕ} {version : FileVersion} {boards : ℕ} {events : L
       let at = p.3 in
       let run = at.run in
       let s = refuses_at why less here at refuses in
-      let holds = holds_in_run (match_of game innings) innings (λ book e none. none) version boards p.1 p.2 run.begins run.run in
+      let holds = holds_in_run (match_of game innings) innings (λ book e none. none) (λ book score stands. stands) version boards p.1 p.2 run.begins run.run in
       inr (p.0, p.1, p.2, number, event, s.0, run, holds, refl, s.1, s.2)
 
   -- all are, and there is no memory for the report
@@ -244,7 +244,7 @@ module _ {game innings : ℕ} {version : FileVersion} {boards : ℕ} {events : L
   ends_unreported {number = number} e p =
       let at = p.3 in
       let run = at.run in
-      let holds = holds_in_run (match_of game innings) innings (λ book e none. none) version boards p.1 p.2 run.begins run.run in
+      let holds = holds_in_run (match_of game innings) innings (λ book e none. none) (λ book score stands. stands) version boards p.1 p.2 run.begins run.run in
       inl (refl, refl, (p.0, p.1, p.2, rw (all_taken events number e) at run, holds))
 
   -- a read of each file gives its desk's votes, and perhaps later ones
@@ -276,7 +276,7 @@ module _ {game innings : ℕ} {version : FileVersion} {boards : ℕ} {events : L
       let ms = p.1 in
       let at = p.2 in
       let run = at.run in
-      let holds = holds_in_run (match_of game innings) innings (λ book e none. none) version boards w ms run.begins run.run in
+      let holds = holds_in_run (match_of game innings) innings (λ book e none. none) (λ book score stands. stands) version boards w ms run.begins run.run in
       let agreed : IsAgreedList (all_votes (last_of w ms)) report.agreed.items =
       holds.by_files report.agreed.items (files (last_of w ms) at.has_configuration (read_at number world report.outcomes.items w ms at)) in (
         w,

@@ -4,4 +4,4 @@ use Rattle.headline.proofs.laws.every_run_is_sound.Goals as goal
 
 pub returns : goal.returns
 returns c start = λ contents game innings version boards w ms begins run.
-    holds_in_run (setting_of contents c.D.Disk.seen c.D.Disk.images game innings) innings (λ book e none. none) version boards w ms begins run
+    holds_in_run (setting_of contents c.D.Disk.seen c.D.Disk.images game innings) innings (λ book e none. none) (λ book score stands. stands) version boards w ms begins run
