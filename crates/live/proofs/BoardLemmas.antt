@@ -16,11 +16,12 @@ use Rattle.cards.specs.Sheet.{Sheet}
 use Rattle.board.specs.declared.{refusal.BoardRefusal.BoardRefusal, board.Board.Board}
 use Rattle.board.specs.Board.{SameMatch, book_of, game_of, state_of}
 use Rattle.board.specs.Takes.{Takes}
-use Rattle.live.specs.Passed.{Passed, Came, sent_bytes}
+use Rattle.links.specs.Passed.{Passed, Came, sent_bytes}
 use Rattle.live.specs.Runs.{Goes, known, with_text}
 use Rattle.live.specs.Boards.{Asks, BoardGoes, BoardRuns, BoardTurn, Given, Ticked, TurnEnded, Unopened, at_turn, board_kind, grown, in_turn, shown, unless_stopped}
 use Rattle.live.specs.Notices.{untold, notices_after, notices_unopened, telling_after, telling_unopened}
-use Rattle.live.specs.declared.{notices.Notice.Notice, notices.Telling.Telling, link.TheConstants.MOST_TAKEN}
+use Rattle.links.specs.declared.link.TheConstants.{MOST_TAKEN}
+use Rattle.live.specs.declared.{notices.Notice.Notice, notices.Telling.Telling}
 use Rattle.live.proofs.TellingLemmas.{told_first}
 use Rattle.live.proofs.RunLemmas.{both, one, stays, unsaid}
 

@@ -25,10 +25,10 @@ use Rattle.desk.specs.Answers.{device_answer, pen_answer, replied, sent}
 use Rattle.desk.specs.declared.{desk.Desk.Desk, desk.Penned.Penned, refusal.Refusal.Refusal}
 use Rattle.desk.specs.Desk.{SameOwner, disk_of, game_of, rules_of, state_of, view_of, own_votes}
 use Rattle.desk.specs.Takes.{Takes}
-use Rattle.live.specs.Passed.{Passed, Came, Sent, sends, sent_bytes}
+use Rattle.links.specs.Passed.{Passed, Came, Sent, sends, sent_bytes}
 use Rattle.live.specs.Runs.{Goes, Kind}
 use Rattle.live.specs.Saying.{ComesTo, SaysEntry}
-use Rattle.live.specs.Typing.{Input, Line, End}
+use Rattle.links.specs.Typing.{Input, Line, End}
 use Rattle.live.specs.Texts.{came_text, reminder_text, said_text, unopened_text, warned_after, warned_reminded, warned_unopened}
 use Rattle.live.specs.Ends.{Course, course_of, end_at, end_of, ending, further, known_at, known_to, turns_after, written as answer_of}
 use Rattle.live.specs.Desks.{Blames, disks_of, Calls, DeskCall, DeskGoes, DeskProcess, DeskStep, Given, FitsLongest, MayCall, MayRemind, Reminded, Ticked, TurnEnded, Typed}

@@ -16,10 +16,10 @@ use Rattle.live.specs.DeskLife.{DeskLives, Follows, ended, fresh}
 use Rattle.live.specs.declared.desk_life.LifeEnd.TheVariants.{NotBegun}
 use Rattle.live.specs.Desks.{DeskRuns, DiskView, FitsLongest, desk_kind, own_line}
 use Rattle.live.specs.Ends.{known_at}
-use Rattle.live.specs.Passed.{Passed}
+use Rattle.links.specs.Passed.{Passed}
 use Rattle.live.specs.Runs.{Goes, with_text}
 use Rattle.live.specs.Texts.{greeting}
-use Rattle.live.specs.Typing.{Input}
+use Rattle.links.specs.Typing.{Input}
 use Rattle.live.specs.declared.ends.DeskEnd.{DeskEnd}
 
 -- disks of this cap

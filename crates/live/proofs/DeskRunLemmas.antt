@@ -10,9 +10,9 @@ use Rattle.entry_log.specs.declared.{disk.Disk.Ghosts as Disks, slots_of.SlotsOf
 use Rattle.agree_core.specs.Desks.{DeskState}
 use Rattle.desk.specs.declared.desk.Desk.{Desk}
 use Rattle.desk.specs.Desk.{disk_of, game_of, state_of, view_of}
-use Rattle.live.specs.Passed.{Passed}
+use Rattle.links.specs.Passed.{Passed}
 use Rattle.live.specs.Runs.{with_text}
-use Rattle.live.specs.Typing.{Input}
+use Rattle.links.specs.Typing.{Input}
 use Rattle.live.specs.Texts.{greeting, unwarned}
 use Rattle.live.specs.Ends.{Course, end_told, ending, further, known_to, written}
 use Rattle.live.specs.Desks.{DeskGoes, DeskProcess, DeskRuns, Ended, FitsLongest, disks_of, innings_of, own_line, process_of}

@@ -13,9 +13,10 @@ use Rattle.board.specs.declared.{refusal.BoardRefusal.BoardRefusal, board.Board.
 use Rattle.board.specs.Board.{SameMatch, book_of, game_of, state_of}
 use Rattle.board.specs.Takes.{Takes}
 use Rattle.live.specs.Notices.{notices_after, notices_unopened, telling_after, telling_unopened}
-use Rattle.live.specs.Passed.{Passed, Came, sends}
+use Rattle.links.specs.Passed.{Passed, Came, sends}
 use Rattle.live.specs.Runs.{Goes, Kind, known}
-use Rattle.live.specs.declared.{link.TheConstants.MOST_TAKEN, notices.Notice.Notice, notices.Telling.Telling}
+use Rattle.links.specs.declared.link.TheConstants.{MOST_TAKEN}
+use Rattle.live.specs.declared.{notices.Notice.Notice, notices.Telling.Telling}
 
 -- a call of a board: it is given bytes, bytes came that don't open, of which it is given nothing, it ticks, or its turn
 -- ends

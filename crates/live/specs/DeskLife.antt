@@ -12,10 +12,10 @@ use Rattle.live.specs.declared.{desk_life.LifeEnd.LifeEnd, ends.DeskEnd.DeskEnd}
 use Rattle.live.specs.declared.desk_life.LifeEnd.TheVariants.{Ended as EndedSo, NotBegun}
 use Rattle.live.specs.Desks.{DeskProcess, DiskView, Ended, desk_kind, own_line}
 use Rattle.live.specs.Ends.{further, known_at}
-use Rattle.live.specs.Passed.{Passed}
+use Rattle.links.specs.Passed.{Passed}
 use Rattle.live.specs.Runs.{Goes, with_text}
 use Rattle.live.specs.Texts.{greeting, unwarned}
-use Rattle.live.specs.Typing.{Input}
+use Rattle.links.specs.Typing.{Input}
 
 -- a desk's process at its beginning
 abbrev pub fresh : {Disk : Type 0} → DeskState Disk → DeskProcess Disk

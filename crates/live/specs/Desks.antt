@@ -20,11 +20,11 @@ use Rattle.live.specs.declared.{ends.DeskEnd.DeskEnd, reminder.Reminder.Reminder
 use Rattle.live.specs.declared.ends.DeskEnd.TheVariants.{NoMoreLines, Device, Write}
 use Rattle.live.specs.declared.reminder.Reminder.TheVariants.{HasWritten, IsHeard, IsMissed}
 use Rattle.live.specs.Ends.{Course, end_at, end_of, further, known_at}
-use Rattle.live.specs.Passed.{Passed, Came, sends}
+use Rattle.links.specs.Passed.{Passed, Came, sends}
 use Rattle.live.specs.Runs.{Goes, Kind, with_text}
 use Rattle.live.specs.Saying.{Types}
 use Rattle.live.specs.Texts.{came_text, greeting, reminder_text, said_text, unopened_text, unwarned, warned_after, warned_reminded, warned_unopened}
-use Rattle.live.specs.Typing.{Input, Line, End}
+use Rattle.links.specs.Typing.{Input, Line, End}
 
 -- a call of a desk: its scorer's line, the end of its scorer's lines, bytes that it is given, bytes that don't open, of
 -- which it is given nothing, a tick, what it tells its scorer of the other desk, or the end of a turn

@@ -3,8 +3,8 @@ use Rattle.std.specs.Prelude.{◌≡◌, ℕ, List, [], ◌∷◌, ◌++◌, All
 use Rattle.std.specs.Io.KnownBytes.{Appends}
 use Rattle.agree_core.specs.declared.messages.Message.{Message}
 use Rattle.wire.specs.Layout.{IsMessage}
-use Rattle.live.specs.Passed.{Passed, sends}
-use Rattle.live.specs.Typing.{Input}
+use Rattle.links.specs.Passed.{Passed, sends}
+use Rattle.links.specs.Typing.{Input}
 
 -- what a writer tells, and nothing where a write failed
 abbrev pub known : {T E : Type 0} → Result T E → Option (List ℕ) → Option (List ℕ)

@@ -3,8 +3,8 @@
 ghost use Rattle.board.specs.Board.{state_of};
 ghost use Rattle.live.specs.Boards.{Asks};
 
-use crate::link::Link;
-use crate::sending::send_each;
+use links::Link;
+use links::send_each;
 use board::Board;
 use corrections::BookOf;
 

@@ -10,8 +10,8 @@ ghost use Rattle.live.specs.Notices.{untold};
 ghost use Rattle.live.specs.Runs.{with_text};
 
 use crate::board_loop::run_board;
-use crate::clock::Clock;
-use crate::link::Link;
+use links::Clock;
+use links::Link;
 use crate::notices::Notices;
 use crate::shows::Shows;
 use board::Board;

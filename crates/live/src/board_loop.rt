@@ -5,14 +5,14 @@ ghost use Rattle.cards.specs.Sheet.{Sheet};
 ghost use Rattle.streams.specs.Watched.{has_failed, stream_of};
 ghost use Rattle.live.specs.Boards.{BoardGoes, BoardRuns, at_turn, in_turn};
 ghost use Rattle.live.specs.Notices.{untold};
-ghost use Rattle.live.specs.Passed.{Came, Passed};
-ghost use Rattle.live.specs.declared.link.TheConstants.{MOST_TAKEN};
+ghost use Rattle.links.specs.Passed.{Came, Passed};
+ghost use Rattle.links.specs.declared.link.TheConstants.{MOST_TAKEN};
 ghost use Rattle.live.specs.declared.notices.Notice.{Notice};
 
 use crate::board_calls;
-use crate::clock::Clock;
+use links::Clock;
 use crate::hearing::promises_more;
-use crate::link::{Link, MOST_TAKEN, ROOM, Taken};
+use links::{Link, MOST_TAKEN, ROOM, Taken};
 use crate::notices::{Notices, Telling};
 use crate::pace::Pace;
 use crate::shows::Shows;

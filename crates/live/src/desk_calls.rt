@@ -4,11 +4,11 @@ ghost use Rattle.std.specs.Prelude.{◌≡◌, ◌++◌, ◌∷◌, [], List};
 ghost use Rattle.cards.specs.Sheet.{Sheet};
 ghost use Rattle.desk.specs.Desk.{disk_of, state_of};
 ghost use Rattle.live.specs.Desks.{Calls, Given, Ticked, Typed};
-ghost use Rattle.live.specs.Passed.{Passed};
+ghost use Rattle.links.specs.Passed.{Passed};
 
-use crate::link::Link;
+use links::Link;
 use crate::said::{Said, entry_said};
-use crate::sending::send_each;
+use links::send_each;
 use cards::MatchSheet;
 use corrections::BookOf;
 use desk::Desk;

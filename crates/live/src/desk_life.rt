@@ -9,11 +9,11 @@ ghost use Rattle.live.specs.DeskLife.{DeskLives};
 ghost use Rattle.live.specs.Desks.{FitsLongest};
 
 use crate::begin::begin_desk;
-use crate::clock::Clock;
+use links::Clock;
 use crate::desk_loop::run_desk;
 use crate::ends::DeskEnd;
-use crate::keys::Keys;
-use crate::link::Link;
+use links::Keys;
+use links::Link;
 use agree_core::DeskId;
 use cards::MatchSheet;
 use corrections::BookOf;

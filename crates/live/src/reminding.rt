@@ -7,9 +7,9 @@ ghost use Rattle.streams.specs.Watched.{has_failed, stream_of};
 ghost use Rattle.desk.specs.Desk.{state_of};
 ghost use Rattle.live.specs.Desks.{DeskGoes, process_of};
 ghost use Rattle.live.specs.Ends.{course_of, further, known_at};
-ghost use Rattle.live.specs.Passed.{Passed};
+ghost use Rattle.links.specs.Passed.{Passed};
 ghost use Rattle.live.specs.Texts.{reminder_text, warned_reminded};
-ghost use Rattle.live.specs.Typing.{Input};
+ghost use Rattle.links.specs.Typing.{Input};
 
 use crate::between::Between;
 use crate::ends::{DeskEnd, told};

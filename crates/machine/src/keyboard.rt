@@ -3,7 +3,7 @@
 ghost use Rattle.std.specs.Prelude.{◌≡◌, ◌<◌, ◌≤◌, IfSome};
 
 use crate::waiting::can_read;
-use live::{InputLog, Keys, LINE_ROOM, Typed};
+use links::{InputLog, Keys, LINE_ROOM, Typed};
 use std::io::{self, ErrorKind, Read};
 use std::os::fd::{AsRawFd, RawFd};
 use std::rt::Stdin;
@@ -152,7 +152,7 @@ impl<R: Read> Keyboard<R> {
 }
 
 impl<R: Read> Keys for Keyboard<R> {
-    ghost use Rattle.live.specs.Logs.{inputs_of};
+    ghost use Rattle.links.specs.Logs.{inputs_of};
 
     ghost inputs = { λ keyboard. inputs_of keyboard.given };
 

@@ -1,6 +1,6 @@
 //! A station's clock.
 
-use live::Clock;
+use links::Clock;
 
 /// The machine's clock, as it was last read.
 #[derive(Drop)]

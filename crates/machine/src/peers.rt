@@ -4,7 +4,7 @@ ghost use Rattle.std.specs.Prelude.{◌≡◌, ◌≤◌, ℕ};
 
 use crate::address::MOST_PEERS;
 use crate::port::{Port, is_late, missed};
-use live::{CarriedLog, SealedCarrier, Taken};
+use links::{CarriedLog, SealedCarrier, Taken};
 use seal::Seal;
 use std::io::{self, ErrorKind, Write};
 use std::net::{Net, SocketAddr};
@@ -145,7 +145,7 @@ impl<E: Write + Drop> Peers<E> {
 }
 
 impl<E: Write + Drop> SealedCarrier for Peers<E> {
-    ghost use Rattle.live.specs.Logs.{carried_of};
+    ghost use Rattle.links.specs.Logs.{carried_of};
 
     ghost carried = { λ peers. carried_of peers.log };
 

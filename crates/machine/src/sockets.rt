@@ -2,7 +2,7 @@
 
 use crate::port::{Port, missed};
 use agree_core::Asker;
-use live::{Link, Log, SharedLink, Taken};
+use links::{Link, Log, SharedLink, Taken};
 use std::io;
 use std::net::{Ipv4Addr, Net, SocketAddr, SocketAddrV4};
 
@@ -94,7 +94,7 @@ impl Sockets {
 }
 
 impl Link for Sockets {
-    ghost use Rattle.live.specs.Logs.{passed_of};
+    ghost use Rattle.links.specs.Logs.{passed_of};
 
     ghost log = { λ sockets. passed_of sockets.log };
 

@@ -25,7 +25,7 @@ use Rattle.board.specs.declared.refusal.BoardRefusal.TheVariants.{BadVotes}
 use Rattle.board.specs.Board.{game_of, state_of}
 use Rattle.board.specs.Takes.{Takes}
 use Rattle.live.specs.Boards.{Asks}
-use Rattle.live.specs.Passed.{Passed, Came, Sent, sends}
+use Rattle.links.specs.Passed.{Passed, Came, Sent, sends}
 use Rattle.match_command.specs.MatchRun.{GivesOnlySent}
 use Rattle.match_command.specs.inner.Online.{Follows, IsOnline, IsSaid, SpeaksOf, StaysOnline}
 

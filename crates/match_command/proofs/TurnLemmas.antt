@@ -31,7 +31,7 @@ use Rattle.books.specs.Taking.{answer_to, is_full, taking, with_taken}
 use Rattle.match_command.specs.declared.match_run.fault.MatchFault.{MatchFault}
 use Rattle.live.specs.Desks.{Calls, DeskCall, Given, Ticked}
 use Rattle.live.specs.Ends.{end_at, further}
-use Rattle.live.specs.Passed.{Passed, sends}
+use Rattle.links.specs.Passed.{Passed, sends}
 use Rattle.live.specs.declared.ends.DeskEnd.{DeskEnd}
 use Rattle.board.specs.declared.board.Board.{Board}
 use Rattle.board.specs.Board as boards

@@ -22,7 +22,7 @@ use Rattle.streams.specs.declared.watched.Watched.{Watched}
 use Rattle.books.specs.declared.fault.BookFault.{BookFault}
 use Rattle.books.specs.CardBook.{IsBookOfLines, NamesFirstRejected}
 use Rattle.books.specs.Taking.{book_after}
-use Rattle.live.specs.Passed.{Passed, Sent, Came}
+use Rattle.links.specs.Passed.{Passed, Sent, Came}
 use Rattle.setup.specs.declared.fault.StopFault.{StopFault}
 use Rattle.match_command.specs.declared.match_run.fault.MatchFault.{MatchFault}
 use Rattle.match_command.specs.declared.match_run.fault.MatchFault.TheVariants.{NoMemory, Write, Device, NotEmpty, Line, NotAgreed}

@@ -21,10 +21,10 @@ use Rattle.live.specs.Boards.{BoardCall, BoardTurn, board_kind}
 use Rattle.live.specs.Desks.{DeskCall, DeskProcess, DeskRuns, innings_of, kind_of}
 use Rattle.live.specs.Ends.{known_at}
 use Rattle.live.specs.Notices.{untold}
-use Rattle.live.specs.Passed.{Passed}
+use Rattle.links.specs.Passed.{Passed}
 use Rattle.live.specs.Runs as own
 use Rattle.live.specs.Runs.{with_text}
-use Rattle.live.specs.Typing.{Input}
+use Rattle.links.specs.Typing.{Input}
 use Rattle.live.specs.declared.{ends.DeskEnd.DeskEnd, notices.Notice.Notice}
 use Rattle.live.specs.DeskLife.{BeginsOn, fresh}
 use Rattle.processes.specs.Lives.{BoardRuns, RunsFrom, after_calls, fresh_turn}

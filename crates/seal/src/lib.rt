@@ -4,9 +4,7 @@
 mod authentic;
 mod datagram;
 mod laws;
-mod sheets;
 
 pub use authentic::hmac;
 pub use datagram::{SEALED, Seal};
-pub use laws::{sealed_share_no_bytes, sheets_share_no_form, what_opens_was_sent, worked_tags};
-pub use sheets::digest_of;
+pub use laws::{sealed_share_no_bytes, what_opens_was_sent, worked_tags};

@@ -5,14 +5,14 @@ ghost use Rattle.setup.specs.Keys as keys;
 
 use crate::fault::{StopFault, Stopped};
 use crate::opening::{bytes_at, peers_at};
-use cards::MatchSheet;
-use live::Sealed;
+use cards::{MatchSheet, digest_of};
+use links::Sealed;
 use machine::{Address, MOST_PEERS, MonotonicClock, Peers};
-use seal::{Seal, digest_of};
+use seal::Seal;
 use std::io::{self, Write};
 use std::net::SocketAddr;
 use std::os::fd::RawFd;
-use window::Window;
+use links::Window;
 
 /// A station's link: over sealed datagrams, in a window, at a socket.
 pub type StationLink<'r, E> = Sealed<Window<Peers<E>, MonotonicClock<'r, HostRuntime>>>;

@@ -22,7 +22,7 @@ impl<E: Write + Drop> Notes<E> {
 }
 
 impl<E: Write + Drop> Notices for Notes<E> {
-    ghost use Rattle.live.specs.Logs.{notices_of};
+    ghost use Rattle.live.specs.NoticeLogs.{notices_of};
 
     ghost told = { λ notes. notices_of notes.log };
 

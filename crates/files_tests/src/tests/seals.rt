@@ -1,7 +1,8 @@
 //! The test vectors of RFC 4231, sealed datagrams and digests of sheets.
 
 use cards::{MatchSheet, SheetFault, read_sheet};
-use seal::{Seal, digest_of, hmac};
+use cards::digest_of;
+use seal::{Seal, hmac};
 use std::alloc::Global;
 use std::process::Abort;
 

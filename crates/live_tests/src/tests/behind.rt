@@ -2,10 +2,10 @@
 ghost use Rattle.std.specs.Prelude.{◌<◌};
 
 use super::*;
-use live::{CarriedLog, Clock, SealedCarrier, Taken};
+use links::{CarriedLog, Clock, SealedCarrier, Taken};
 use seal::Seal;
 use std::cell::Cell;
-use window::Window;
+use links::Window;
 
 const KEY: &[u8] = b"a key of sixteen";
 
@@ -58,7 +58,7 @@ struct Post<'a> {
 }
 
 impl SealedCarrier for Post<'_> {
-    ghost use Rattle.live.specs.Logs.{carried_of};
+    ghost use Rattle.links.specs.Logs.{carried_of};
 
     ghost carried = { λ post. carried_of post.log };
 

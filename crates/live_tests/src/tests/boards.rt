@@ -5,7 +5,8 @@ use super::desks::ELSEWHERE;
 use super::memory::{Notes, States};
 use super::*;
 use board::Board;
-use live::{Link, Log, Notice, Taken, run_board};
+use links::{Link, Log, Taken};
+use live::{Notice, run_board};
 use notation::Plain;
 use std::io::Write;
 use streams::WriteFailed;
@@ -94,7 +95,7 @@ impl Archive {
 }
 
 impl Link for Archive {
-    ghost use Rattle.live.specs.Logs.{passed_of};
+    ghost use Rattle.links.specs.Logs.{passed_of};
 
     ghost log = { λ archive. passed_of archive.log };
 

@@ -2,7 +2,8 @@
 ghost use Rattle.std.specs.Prelude.{◌≡◌, ◌≤◌, IfSome};
 
 use super::*;
-use live::{Clock, InputLog, Keys, Link, Log, Notice, NoticeLog, Notices, Shows, Taken, Typed};
+use links::{Clock, InputLog, Keys, Link, Log, Taken, Typed};
+use live::{Notice, NoticeLog, Notices, Shows};
 use std::io::{self, Error, ErrorKind, Write};
 use streams::WriteFailed;
 
@@ -88,7 +89,7 @@ impl Queue {
 }
 
 impl Link for Queue {
-    ghost use Rattle.live.specs.Logs.{passed_of};
+    ghost use Rattle.links.specs.Logs.{passed_of};
 
     ghost log = { λ queue. passed_of queue.log };
 
@@ -146,7 +147,7 @@ impl Lines {
 }
 
 impl Keys for Lines {
-    ghost use Rattle.live.specs.Logs.{inputs_of};
+    ghost use Rattle.links.specs.Logs.{inputs_of};
 
     ghost inputs = { λ lines. inputs_of lines.log };
 
@@ -187,7 +188,7 @@ impl Notes {
 }
 
 impl Notices for Notes {
-    ghost use Rattle.live.specs.Logs.{notices_of};
+    ghost use Rattle.live.specs.NoticeLogs.{notices_of};
 
     ghost told = { λ notes. notices_of notes.log };
 

@@ -3,7 +3,7 @@ ghost use Rattle.std.specs.Prelude.{◌≡◌};
 
 use super::timing::{Hand, Timed, World};
 use super::*;
-use live::{InputLog, Keys, Typed};
+use links::{InputLog, Keys, Typed};
 use std::io::{self, Write};
 
 /// A line, and when it is typed.
@@ -36,7 +36,7 @@ impl Timely<'_> {
 }
 
 impl Keys for Timely<'_> {
-    ghost use Rattle.live.specs.Logs.{inputs_of};
+    ghost use Rattle.links.specs.Logs.{inputs_of};
 
     ghost inputs = { λ timely. inputs_of timely.log };
 

@@ -2,7 +2,7 @@
 ghost use Rattle.std.specs.Prelude.{◌≡◌, ◌≤◌};
 
 use super::*;
-use live::{CarriedLog, Link, Sealed, SealedCarrier, Taken};
+use links::{CarriedLog, Link, Sealed, SealedCarrier, Taken};
 use seal::Seal;
 
 const KEY: &[u8] = b"a key of sixteen";
@@ -36,7 +36,7 @@ impl Echo {
 }
 
 impl SealedCarrier for Echo {
-    ghost use Rattle.live.specs.Logs.{carried_of};
+    ghost use Rattle.links.specs.Logs.{carried_of};
 
     ghost carried = { λ echo. carried_of echo.log };
 

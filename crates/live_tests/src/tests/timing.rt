@@ -5,7 +5,8 @@ ghost use Rattle.std.specs.Prelude.{◌≡◌};
 use super::memory::{Notes, States};
 use super::*;
 use board::Board;
-use live::{Clock, Link, Log, Taken, run_board};
+use links::{Clock, Link, Log, Taken};
+use live::run_board;
 use std::cell::Cell;
 use std::io::{self, Write};
 
@@ -115,7 +116,7 @@ impl<'a> Timed<'a> {
 }
 
 impl Link for Timed<'_> {
-    ghost use Rattle.live.specs.Logs.{passed_of};
+    ghost use Rattle.links.specs.Logs.{passed_of};
 
     ghost log = { λ timed. passed_of timed.log };
 

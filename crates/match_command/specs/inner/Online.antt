@@ -6,7 +6,7 @@ use Rattle.agree_core.specs.declared.messages.Message.TheVariants.{Vote, Ask}
 use Rattle.agree_core.specs.Boards.{BoardState}
 use Rattle.agree_core.specs.Readers.{noted_of}
 use Rattle.wire.specs.Layout.{Says}
-use Rattle.live.specs.Passed.{Passed, Sent, Came}
+use Rattle.links.specs.Passed.{Passed, Sent, Came}
 use Rattle.match_command.specs.MatchRun.{GivesOnlySent}
 
 -- a vote is for one of these entries, in the first round of its place

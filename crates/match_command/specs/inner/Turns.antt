@@ -19,7 +19,7 @@ use Rattle.books.specs.declared.rejected.Refusal.TheVariants.{PlacesFull, Book}
 use Rattle.books.specs.declared.rejected.Rejected.{Rejected}
 use Rattle.books.specs.declared.rejected.Rejected.TheVariants.{Refused}
 use Rattle.books.specs.Taking.{taking}
-use Rattle.live.specs.Passed.{Passed}
+use Rattle.links.specs.Passed.{Passed}
 use Rattle.match_command.specs.declared.match_run.fault.MatchFault.{MatchFault}
 use Rattle.match_command.specs.declared.match_run.fault.MatchFault.TheVariants.{Device, Write, Line, NotAgreed}
 use Rattle.match_command.specs.inner.Online.{IsOnline}

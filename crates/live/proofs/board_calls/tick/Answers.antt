@@ -1,6 +1,6 @@
 use Rattle.std.proofs.Common.{◌∙◌, ◌++◌, List, ap, map}
 use Rattle.wire.specs.declared.datagram.Datagram.{Datagram}
-use Rattle.live.specs.Passed.{sent_bytes}
+use Rattle.links.specs.Passed.{sent_bytes}
 use Rattle.live.proofs.BoardLemmas.{asks}
 use Rattle.live.proofs.board_calls.tick.Goals as goal
 

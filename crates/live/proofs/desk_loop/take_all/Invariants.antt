@@ -2,7 +2,7 @@ use Rattle.std.proofs.Common.{List, ℕ}
 use Rattle.streams.specs.Watched.{stream_of}
 use Rattle.live.specs.Desks.{DeskGoes, process_of}
 use Rattle.live.specs.Ends.{further}
-use Rattle.live.specs.Typing.{Input}
+use Rattle.links.specs.Typing.{Input}
 use Rattle.live.proofs.desk_loop.take_all.Given as goal
 
 abbrev pub invariant-loop : goal.invariant-loop

@@ -1,6 +1,6 @@
 use Rattle.std.proofs.Common.{List, [], length}
 use Rattle.desk.specs.Desk.{SameOwner, game_of}
-use Rattle.live.specs.Passed.{Passed}
+use Rattle.links.specs.Passed.{Passed}
 use Rattle.match_command.specs.inner.Online.{IsOnline}
 use Rattle.match_command.specs.inner.Turns.{AreCalm, AreLevel, board_at, book_at, innings_at}
 use Rattle.books.proofs.TakenLines.{Midway}

@@ -1,6 +1,6 @@
 use Rattle.std.proofs.Common.{sym, ◌∙◌, List, refl, subst, ℕ}
 use Rattle.board.specs.Board.{game_of}
-use Rattle.live.specs.Passed.{Passed}
+use Rattle.links.specs.Passed.{Passed}
 use Rattle.match_command.specs.inner.Online.{IsOnline}
 use Rattle.match_command.specs.inner.Turns.{board_at}
 use Rattle.match_command.proofs.OnlineLemmas.{asked_online}

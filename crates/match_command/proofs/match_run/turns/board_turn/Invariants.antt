@@ -1,7 +1,7 @@
 use Rattle.std.proofs.Common.{List}
 use Rattle.notation.specs.declared.entry.Entry.{Entry}
 use Rattle.board.specs.Board.{SameMatch, game_of}
-use Rattle.live.specs.Passed.{Passed}
+use Rattle.links.specs.Passed.{Passed}
 use Rattle.match_command.specs.inner.Online.{IsOnline}
 use Rattle.match_command.specs.inner.Turns.{board_at}
 use Rattle.match_command.proofs.match_run.turns.board_turn.Given as goal

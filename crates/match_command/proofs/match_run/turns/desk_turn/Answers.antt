@@ -1,6 +1,6 @@
 use Rattle.std.proofs.Common.{subst, ℕ, List}
 use Rattle.desk.specs.Desk.{game_of}
-use Rattle.live.specs.Passed.{Passed}
+use Rattle.links.specs.Passed.{Passed}
 use Rattle.match_command.specs.inner.Online.{StaysOnline}
 use Rattle.match_command.proofs.TurnLemmas.{same_disk, same_turn, both_disks, both_turns, ticked_online}
 use Rattle.match_command.proofs.match_run.turns.desk_turn.Goals as goal

@@ -1,0 +1,14 @@
+-- What a scorer types.
+use Rattle.std.specs.Prelude.{◌≡◌, ◌≤◌, ℕ, List, [], ◌∷◌, ◌++◌, take}
+use Rattle.links.specs.declared.keys.Typed.{Typed}
+
+-- a line, or the end of all lines
+pub data Input : Type 0 where
+  Line : List ℕ → Input
+  End : Input
+
+-- what was told: nothing, the front of the buffer as a line, or the end
+abbrev pub IsTyped : Typed → List ℕ → List Input → List Input → Type 0
+IsTyped Typed.Nothing buffer before after = after ≡ before
+IsTyped (Typed.Line count) buffer before after = (count ≤ 128) × (after ≡ before ++ Line (take count buffer) ∷ [])
+IsTyped Typed.Ended buffer before after = after ≡ before ++ End ∷ []

@@ -1,0 +1,28 @@
+//! What a scorer types.
+
+ghost use Rattle.std.specs.Prelude.{List};
+ghost use Rattle.links.specs.Typing.{Input, IsTyped};
+
+/// How many bytes of a line are taken at most: more than an entry has, so that a longer one is seen as such.
+pub const LINE_ROOM: usize = 128;
+
+/// What was typed: no whole line yet, a line of so many bytes, or nothing any more.
+#[derive(Clone, Copy, Debug, PartialEq, Eq)]
+pub enum Typed {
+    Nothing,
+    Line(usize),
+    Ended,
+}
+
+/// A scorer's lines. Nothing is known of when they come.
+pub trait Keys {
+    /// What it gave, the oldest first: lines, and that there are no more.
+    ghost inputs: { Self → List Input };
+
+    /// The next line, without its newline, if there is one. It doesn't wait for one.
+    fn line(&mut self, buffer: &mut [u8; 128]) -> Typed
+        ensures { IsTyped result buffer.new (inputs self.old) (inputs self.new) };
+
+    /// Whether `line` has more to give at once, so that nothing else is waited for.
+    fn has_more(&self) -> bool;
+}

@@ -1,0 +1,24 @@
+//! What carries datagrams between stations, and what tells them the time and what was typed: the seams to the machine. With
+//! them the two carriers that stand over others: a link over sealed datagrams, and a window for stations that are behind.
+#![tactic(auto)]
+
+mod asking;
+mod clock;
+mod early;
+mod keys;
+mod link;
+mod log;
+mod repeats;
+mod said;
+mod sealed;
+mod sending;
+mod silence;
+mod window;
+
+pub use clock::Clock;
+pub use keys::{Keys, LINE_ROOM, Typed};
+pub use link::{Link, MOST_TAKEN, ROOM, SEALED_ROOM, SealedCarrier, SharedLink, Taken};
+pub use log::{CarriedLog, InputLog, Log};
+pub use sealed::{Sealed, what_is_given_was_brought};
+pub use sending::send_each;
+pub use window::Window;

@@ -1,0 +1,75 @@
+//! What carries datagrams between stations.
+
+ghost use Rattle.std.specs.Prelude.{◌≡◌, ◌∷◌, ◌++◌, List, []};
+ghost use Rattle.links.specs.Passed.{Passed, Sent, IsTaken, IsTakenUpTo};
+
+use agree_core::Asker;
+
+/// How many bytes of a datagram are taken at most: more than a message has, so that a longer one is seen as such.
+pub const ROOM: usize = 64;
+
+/// How many bytes of a sealed datagram are taken at most: more than it has, so that a longer one is seen as such.
+pub const SEALED_ROOM: usize = 65;
+
+/// How many datagrams a station takes in a turn at most.
+pub const MOST_TAKEN: usize = 8;
+
+/// What was taken: a datagram of so many bytes, none that came in time, one that was lost, or one that doesn't open: it
+/// wasn't sealed with this match's key and sheet, or was damaged on its way, and nothing of it is handed on.
+#[derive(Clone, Copy, Debug, PartialEq, Eq)]
+pub enum Taken {
+    Datagram(usize),
+    Nothing,
+    Lost,
+    Unopened,
+}
+
+/// Carries datagrams between a station and its peers. Nothing is known of what it loses, changes or makes up;
+/// only what was handed to it and what it gave is told.
+pub trait Link {
+    /// What passed, the oldest first.
+    ghost log: { Self → List Passed };
+
+    /// Sends bytes to every peer. What can't be sent is lost.
+    fn send(&mut self, bytes: &[u8; 48])
+        ensures { log self.new ≡ log self.old ++ Sent bytes.now ∷ [] };
+
+    /// Sends bytes to the peer whose datagram was taken last, if to no other. What can't be sent is lost.
+    fn reply(&mut self, bytes: &[u8; 48])
+        ensures { log self.new ≡ log self.old ++ Sent bytes.now ∷ [] };
+
+    /// Takes the next datagram that came from a peer: the front of the buffer. One is waited for, so many milliseconds at
+    /// most, and no longer than until a scorer may have typed. Others' datagrams, and those whose taking fails, are lost.
+    fn take(&mut self, buffer: &mut [u8; 64], wait: u64) -> Taken
+        ensures { IsTaken result buffer.new (log self.old) (log self.new) };
+}
+
+/// Carries sealed datagrams between a station and its peers. Nothing is known of what it loses, changes or makes up; only
+/// what was handed to it and what it gave is told.
+pub trait SealedCarrier {
+    /// What passed, as it was, the oldest first.
+    ghost carried: { Self → List Passed };
+
+    /// Sends a sealed datagram to every peer. What can't be sent is lost.
+    fn carry(&mut self, bytes: &[u8; 64])
+        ensures { carried self.new ≡ carried self.old ++ Sent bytes.now ∷ [] };
+
+    /// Sends a sealed datagram to the peer whose datagram was taken last, if to no other. What can't be sent is lost.
+    fn carry_back(&mut self, bytes: &[u8; 64])
+        ensures { carried self.new ≡ carried self.old ++ Sent bytes.now ∷ [] };
+
+    /// Which peer's datagram was taken last, as a number of its own.
+    fn last_peer(&self) -> usize;
+
+    /// Takes the next datagram that came from a peer: the front of the buffer. One is waited for, so many milliseconds at
+    /// most, and no longer than until a scorer may have typed. Others' datagrams, and those whose taking fails, are lost.
+    fn bring(&mut self, buffer: &mut [u8; 65], wait: u64) -> Taken
+        ensures { IsTakenUpTo 65 result buffer.new (carried self.old) (carried self.new) };
+}
+
+/// A link that several stations share, each the others' peer, in turns.
+pub trait SharedLink: Link {
+    /// From here on it is this station's turn: it sends, and what came to it is taken.
+    fn turn_to(&mut self, station: Asker)
+        ensures { Self.log self.new ≡ Self.log self.old };
+}
