@@ -6,7 +6,7 @@ ghost use Rattle.streams.specs.Watched.{stream_of};
 ghost use Rattle.toml.specs.View.{table_view};
 ghost use Rattle.books.specs.BothFiles.{IsBookOfBoth};
 ghost use Rattle.commands.specs.BothFiles.{IsOfReading, PrintsCardOfBoth, PrintsExportOfBoth, WhyNotBoth};
-ghost use Rattle.commands.specs.Ends.{EndsReading, EndsWriting};
+ghost use Rattle.setup.specs.Ends.{EndsReading, EndsWriting};
 
 use crate::export_command::{print_text, sheet_and_document};
 use agree_core::DeskId;

@@ -4,7 +4,7 @@ ghost use Rattle.std.specs.Prelude.{IfErr, IfSome, OnOk};
 ghost use Rattle.streams.specs.Watched.{stream_of};
 ghost use Rattle.commands.specs.Card.{PrintsCard};
 ghost use Rattle.commands.specs.PrintFault.{WhyNotPrinted};
-ghost use Rattle.commands.specs.Ends.{EndsReading, EndsWriting};
+ghost use Rattle.setup.specs.Ends.{EndsReading, EndsWriting};
 
 use crate::printing::PrintFault;
 use books::{Source, book_from, print_card};

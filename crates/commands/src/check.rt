@@ -8,7 +8,7 @@ ghost use Rattle.books.specs.Table.{IsInStep, agreed_in, innings_in};
 ghost use Rattle.books.specs.Taking.{answer_to, with_taken};
 ghost use Rattle.commands.specs.Check as texts;
 ghost use Rattle.commands.specs.Check.{printed, is_rejected, has_rejected, output_of};
-ghost use Rattle.commands.specs.Ends.{EndsReading, EndsWriting};
+ghost use Rattle.setup.specs.Ends.{EndsReading, EndsWriting};
 
 use books::{Table, print_rejected};
 use cards::{MatchSheet, board_lines, plain_sheet};

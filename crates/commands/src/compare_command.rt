@@ -4,7 +4,7 @@ ghost use Rattle.std.specs.Prelude.{IfErr, IfSome, OnOk};
 ghost use Rattle.agree_core.specs.declared.messages.DeskId.TheVariants.{A, B};
 ghost use Rattle.streams.specs.Watched.{stream_of};
 ghost use Rattle.commands.specs.BothFiles.{PrintsComparison, WhyNotCompared};
-ghost use Rattle.commands.specs.Ends.{EndsReading, EndsWriting};
+ghost use Rattle.setup.specs.Ends.{EndsReading, EndsWriting};
 
 use crate::both_files::{BothPrintFault, read_both, stopped_at};
 use books::{compare_files, print_comparison};

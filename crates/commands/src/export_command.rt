@@ -5,7 +5,7 @@ ghost use Rattle.streams.specs.Watched.{IsHandedOn, Prints, TellsFailure, stream
 ghost use Rattle.toml.specs.View.{table_view};
 ghost use Rattle.commands.specs.Export.{PrintsExport};
 ghost use Rattle.commands.specs.PrintFault.{WhyNotPrinted};
-ghost use Rattle.commands.specs.Ends.{EndsReading, EndsWriting};
+ghost use Rattle.setup.specs.Ends.{EndsReading, EndsWriting};
 
 use crate::printing::PrintFault;
 use books::{Source, book_from};

@@ -9,7 +9,7 @@ ghost use Rattle.entry_log.specs.declared.slot.TheConstants.{MAX_SLOTS};
 ghost use Rattle.agree_core.specs.Ballots.{desk_number};
 ghost use Rattle.vote_store.specs.Migrated.{IsMigrated, answer_of};
 ghost use Rattle.commands.specs.Migrate.{Leaves, WhyNotMigrated, migrated_line, old_left};
-ghost use Rattle.commands.specs.Ends.{EndsWriting};
+ghost use Rattle.setup.specs.Ends.{EndsWriting};
 
 use agree_core::DeskId;
 use entry_log::Disk;

@@ -1,8 +1,0 @@
-use Rattle.streams.proofs.Appending.{appends_both}
-use Rattle.commands.proofs.ReplayTexts.{kept_last}
-use Rattle.commands.proofs.replay.print.print_whole.Goals as goal
-
-pub returns-clause-text : goal.returns-clause-text
-returns-clause-text g c = λ w is.
-    let last = appends_both _ _ _ _ _ c.in_ok-print_agreed.ensures.text (c.in_ok-print_stations.ensures.text w is) in
-    kept_last c.flush.result _ _ _ _ (appends_both _ _ _ _ _ c.in_ok-print_events.ensures.text last) c.flush.ensures.bytes

@@ -1,0 +1,114 @@
+-- What is written of a schedule: the run of a world over its events, or over those before the first that the world
+-- doesn't take. The match and its innings are those of the sheet.
+use Rattle.std.specs.Prelude.{◌≡◌, ◌+◌, ℕ, ⊤, Bool, true, false, Some, List, ◌++◌, length, slice_get, take, Option}
+use Rattle.entry_log.specs.declared.mem_disk.MemDisk.{MemDisk}
+use Rattle.cards.specs.Sheet.{Sheet}
+use Rattle.streams.specs.declared.{watched.Watched.Watched, input.InputFault.InputFault}
+use Rattle.streams.specs.Watched.{Prints}
+use Rattle.headline.specs.declared.{event.Event.Event, version.FileVersion.FileVersion}
+use Rattle.schedule_replay.specs.declared.{report.Report.Report, seen.Seen.Seen, seen.WorldRefusal.WorldRefusal}
+use Rattle.schedule_replay.specs.CodeWorlds.{HasConfiguration}
+use Rattle.notation.specs.Lines.{lines_of}
+use Rattle.headline.specs.Match.{match_of}
+use Rattle.schedule_replay.specs.Refusals.{RefusesEvent}
+use Rattle.schedule_replay.specs.Replays.{IsReplay, IsRunOf, MatchRun}
+use Rattle.headline.specs.Runs.{last_of}
+use Rattle.schedules.specs.ScheduleLines.{HasFault, IsScheduleOf}
+use Rattle.schedule_replay.specs.SeenWords.{refusal_number}
+use Rattle.headline.specs.Configurations.{Configuration}
+use Rattle.schedules.specs.declared.schedule_fault.ScheduleFault.{ScheduleFault}
+use Rattle.setup.specs.declared.fault.StopFault.{StopFault}
+use Rattle.replay_command.specs.declared.replay.{ReplayFault.ReplayFault, step.Stepped.Stepped}
+use Rattle.replay_command.specs.declared.replay.ReplayFault.TheVariants.{NoMemory, Read, Write, Schedule}
+use Rattle.replay_command.specs.declared.replay.step.Stepped.TheVariants.{Whole, Refused}
+use Rattle.replay_command.specs.Replay.{event_lines, last_lines, refusal_line}
+
+-- a world takes all the events, answers them so, and is this one then
+pub record TakesAll
+    (s : Sheet) (version : FileVersion) (boards : ℕ) (events : List Event) (outcomes : List Seen)
+    (last : Configuration MemDisk) : Type 0 where
+  pub w : Configuration MemDisk
+  pub ms : MatchRun
+  pub run : IsRunOf s.game s.innings version boards events outcomes w ms
+  pub ends : last ≡ last_of w ms
+
+-- it answers the first events so, and doesn't take event k, counted from 1, for the reason of this number
+pub record RefusesOne
+    (s : Sheet) (version : FileVersion) (boards : ℕ) (events : List Event) (outcomes : List Seen)
+    (k number : ℕ) : Type 0 where
+  pub w : Configuration MemDisk
+  pub ms : MatchRun
+  pub before : ℕ
+  pub event : Event
+  pub why : WorldRefusal
+  pub v : Configuration MemDisk
+  pub run : IsRunOf s.game s.innings version boards (take before events) outcomes w ms
+  pub counted : k ≡ before + 1
+  pub next : slice_get events before ≡ Some event
+  pub refused : RefusesEvent (match_of s.game s.innings) (last_of w ms) event why v
+  pub numbered : refusal_number why ≡ Some number
+
+module _ {S : Type 0} (contents : S → Option (List ℕ)) (old new : Watched S) (s : Sheet) (version : FileVersion) (boards : ℕ) (events : List Event) where
+  -- what each event is answered, how many entries a replay of the events reports as agreed, and the stations
+  -- are written
+  pub record PrintsWhole : Type 0 where
+    pub outcomes : List Seen
+    pub last : Configuration MemDisk
+    pub takes : TakesAll s version boards events outcomes last
+    pub report : Report
+    pub replayed : IsReplay s.game s.innings version boards events report
+    pub written : Prints contents old new
+        (event_lines outcomes ++ last_lines (length report.agreed.items) last)
+
+  -- what the events before the refused one are answered, and the refusal are written
+  pub record PrintsRefused : Type 0 where
+    pub outcomes : List Seen
+    pub k : ℕ
+    pub number : ℕ
+    pub refuses : RefusesOne s version boards events outcomes k number
+    pub written : Prints contents old new (event_lines outcomes ++ refusal_line k number)
+
+  -- by whether the world refuses an event
+  abbrev pub PrintsRun : Bool → Type 0
+  PrintsRun false = PrintsWhole
+  PrintsRun true = PrintsRefused
+
+-- the input's lines are those of events, of which this is written
+abbrev pub PrintsReplay :
+    {S : Type 0} → (S → Option (List ℕ)) → Watched S → Watched S → Sheet → FileVersion → ℕ → List ℕ → Bool → Type 0
+PrintsReplay contents old new s version boards input refused =
+    (events : List Event) × IsScheduleOf (lines_of input) events
+    × PrintsRun contents old new s version boards events refused
+
+-- a read or a write failed, out of memory, or the input is no schedule, for this reason
+abbrev pub WhyNoReplay : List ℕ → ReplayFault → Type 0
+WhyNoReplay input NoMemory = ⊤
+WhyNoReplay input Read = ⊤
+WhyNoReplay input Write = ⊤
+WhyNoReplay input (Schedule why) = HasFault (lines_of input) why
+
+-- the fault of an input that isn't read to its end
+abbrev pub of_input : InputFault → ReplayFault
+of_input InputFault.NoMemory = NoMemory
+of_input InputFault.Read = Read
+
+-- the fault of a schedule that is refused: being out of memory is its own
+abbrev pub of_schedule : ScheduleFault → ReplayFault
+of_schedule ScheduleFault.NoMemory = NoMemory
+of_schedule why = Schedule why
+
+-- what standard error is told, and the status, go by
+abbrev pub stop_of : ReplayFault → StopFault
+stop_of NoMemory = StopFault.NoMemory
+stop_of Read = StopFault.Read
+stop_of Write = StopFault.Write
+stop_of (Schedule why) = StopFault.Schedule why
+
+-- ---- for private functions
+
+-- what came of the events
+abbrev pub IsStepped : Sheet → FileVersion → ℕ → List Event → Stepped → Type 0
+IsStepped s version boards events (Whole outcomes world) =
+    (last : Configuration MemDisk) × TakesAll s version boards events outcomes.items last × HasConfiguration world last
+IsStepped s version boards events (Refused outcomes k number) =
+    RefusesOne s version boards events outcomes.items k number

@@ -1,0 +1,173 @@
+//! The printed lines of a replay.
+
+ghost use Rattle.std.specs.Prelude.{◌++◌, option_map, OnOk};
+ghost use Rattle.entry_log.specs.declared.mem_disk.MemDisk.{MemDisk};
+ghost use Rattle.match_laws.specs.Stands.{ForEachHistory};
+ghost use Rattle.streams.specs.Watched.{IsHandedOn, Prints, TellsFailure};
+ghost use Rattle.schedule_replay.specs.CodeWorlds.{HasConfiguration, board_state};
+ghost use Rattle.schedule_replay.specs.Lending.{lent_desk};
+ghost use Rattle.schedule_replay.specs.WorldDesks.{state_of};
+ghost use Rattle.headline.specs.Configurations.{Configuration};
+ghost use Rattle.replay_command.specs.Replay as texts;
+
+use board::Board;
+use corrections::{BookOf, CheckedBook};
+use match_laws::Match;
+use schedule_replay::{AnyDesk, Seen, World};
+use std::io::Write;
+use streams::{Watched, WriteFailed};
+
+/// Prints what the event of this number is answered.
+fn print_event<W: Write>(
+    out: &mut Watched<W>,
+    number: usize,
+    seen: &Seen,
+) -> Result<(), WriteFailed>
+    ensures text { OnOk result (Prints W.contents out.old out.new (texts.event_line number seen.now)) }
+    ensures failed { TellsFailure result out.old out.new }
+{
+    writeln!(out, "{number} {seen}")
+}
+
+/// Prints a line for what each event is answered, numbered from 1.
+fn print_events<W: Write>(out: &mut Watched<W>, outcomes: &[Seen]) -> Result<(), WriteFailed>
+    ensures text { OnOk result (Prints W.contents out.old out.new (texts.event_lines outcomes.now)) }
+    ensures failed { TellsFailure result out.old out.new }
+{
+    for (before, seen) in outcomes.iter().enumerate() {
+        print_event(out, before + 1, seen)?;
+    }
+    Ok(())
+}
+
+/// Prints how many entries a book has, and the score of the innings begun last.
+fn print_book<W: Write>(
+    out: &mut Watched<W>,
+    entries: u32,
+    score: &Match,
+) -> Result<(), WriteFailed>
+    ensures text { ForEachHistory score.now (λ n h.
+        OnOk result (Prints W.contents out.old out.new (texts.book_words entries h))) }
+    ensures failed { TellsFailure result out.old out.new }
+{
+    let begun = score.begun();
+    if begun == 0 {
+        return writeln!(out, " {entries} no play");
+    }
+    let runs = score.total(begun - 1);
+    let wickets = score.wickets(begun - 1);
+    writeln!(out, " {entries} {runs} for {wickets}")
+}
+
+/// Prints the line of a desk, which is there if it runs.
+fn print_desk<W: Write>(
+    out: &mut Watched<W>,
+    name: &str,
+    desk: Option<AnyDesk<'_>>,
+) -> Result<(), WriteFailed>
+    ensures text { OnOk result (Prints W.contents out.old out.new
+        (texts.desk_line name.now (option_map (λ k. state_of (lent_desk k)) desk.entry))) }
+    ensures failed { TellsFailure result out.old out.new }
+{
+    match desk {
+        Some(desk) => {
+            write!(out, "{name}")?;
+            print_book(out, desk.book().len(), desk.shown())
+        }
+        None => writeln!(out, "{name} down"),
+    }
+}
+
+/// Prints the line of a board of this number.
+fn print_board<W: Write>(
+    out: &mut Watched<W>,
+    number: usize,
+    board: &Board<CheckedBook>,
+) -> Result<(), WriteFailed>
+    ensures text { OnOk result (Prints W.contents out.old out.new
+        (texts.board_line number (board_state board.now))) }
+    ensures failed { TellsFailure result out.old out.new }
+{
+    write!(out, "{number}")?;
+    print_book(out, board.book().len(), board.shown())
+}
+
+/// Prints the lines of the boards, numbered from 1.
+fn print_boards<W: Write>(
+    out: &mut Watched<W>,
+    boards: &[Board<CheckedBook>],
+) -> Result<(), WriteFailed>
+    ensures text { OnOk result (Prints W.contents out.old out.new
+        (texts.numbered (λ n k. texts.board_line n (board_state k)) 1 boards.now)) }
+    ensures failed { TellsFailure result out.old out.new }
+{
+    for (before, board) in boards.iter().enumerate() {
+        print_board(out, before + 1, board)?;
+    }
+    Ok(())
+}
+
+/// Prints the lines of both desks and the boards of a world.
+fn print_stations<W: Write>(out: &mut Watched<W>, world: &World) -> Result<(), WriteFailed>
+    ensures text { (w : Configuration MemDisk) → HasConfiguration world.now w →
+        OnOk result (Prints W.contents out.old out.new (texts.station_lines w)) }
+    ensures failed { TellsFailure result out.old out.new }
+{
+    let (a, b, boards) = world.stations();
+    print_desk(out, "a", a)?;
+    print_desk(out, "b", b)?;
+    print_boards(out, boards)
+}
+
+/// Prints how many entries are agreed.
+fn print_agreed<W: Write>(out: &mut Watched<W>, entries: usize) -> Result<(), WriteFailed>
+    ensures text { OnOk result (Prints W.contents out.old out.new (texts.agreed_line entries)) }
+    ensures failed { TellsFailure result out.old out.new }
+{
+    writeln!(out, "agreed {entries}")
+}
+
+/// Prints with which number a world refuses an event.
+fn print_refusal<W: Write>(out: &mut Watched<W>, event: u64, why: u8) -> Result<(), WriteFailed>
+    ensures text { OnOk result (Prints W.contents out.old out.new (texts.refusal_line event why)) }
+    ensures failed { TellsFailure result out.old out.new }
+{
+    writeln!(out, "{event} world refused {why}")
+}
+
+/// Prints what a world answered the events of a whole schedule, how many entries are agreed, and the stations.
+/// It fails only where a write fails; how much was written then isn't said.
+pub fn print_whole<W: Write>(
+    out: &mut Watched<W>,
+    outcomes: &[Seen],
+    agreed: usize,
+    world: &World,
+) -> Result<(), WriteFailed>
+    ensures text { (w : Configuration MemDisk) → HasConfiguration world.now w →
+        OnOk result (Prints W.contents out.old out.new
+        (texts.event_lines outcomes.now ++ texts.last_lines agreed w)) }
+    ensures handed_on { OnOk result (IsHandedOn out.new) }
+    ensures failed { TellsFailure result out.old out.new }
+{
+    print_events(out, outcomes)?;
+    print_agreed(out, agreed)?;
+    print_stations(out, world)?;
+    out.flush()
+}
+
+/// Prints what a world answered the first events of a schedule, and with which number it refuses the next event.
+pub fn print_refused<W: Write>(
+    out: &mut Watched<W>,
+    outcomes: &[Seen],
+    event: u64,
+    why: u8,
+) -> Result<(), WriteFailed>
+    ensures text { OnOk result (Prints W.contents out.old out.new
+        (texts.event_lines outcomes.now ++ texts.refusal_line event why)) }
+    ensures handed_on { OnOk result (IsHandedOn out.new) }
+    ensures failed { TellsFailure result out.old out.new }
+{
+    print_events(out, outcomes)?;
+    print_refusal(out, event, why)?;
+    out.flush()
+}

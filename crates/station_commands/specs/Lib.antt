@@ -1,0 +1,2 @@
+-- How `desk` ends: DeskCommand.
+pub mod DeskCommand
