@@ -11,6 +11,7 @@ pub mod Rows
 pub mod FileView
 pub mod Desks
 pub mod Openings
+pub mod LostLines
 pub mod Boards
 pub mod Keeping
 pub mod WorkedSteps
