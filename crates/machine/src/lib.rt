@@ -18,7 +18,7 @@ mod waiting;
 
 pub use address::{Address, MOST_PEERS, addresses_in};
 pub use file_disk::{FileDisk, OpenFault};
-pub use host_file::{Host, NoFile, Successor};
+pub use host_file::{Host, NoFile};
 pub use keyboard::Keyboard;
 pub use monotonic_clock::MonotonicClock;
 pub use named_file::NamedFile;
