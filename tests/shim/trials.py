@@ -256,14 +256,15 @@ def recorded_board(had=None, disturb=None):
 
 # ---- words that only read, and write to standard output ----
 
-BOTH = f"{TOP}/tests/rows/cards/both-the-last-entry-too"
+FILES = f"{TOP}/tests/rows/files"
+BOTH_SHEET, BOTH_A, BOTH_B = (f"{FILES}/{name}" for name in ("two-innings.toml", "four-of-a.votes", "four-of-b.votes"))
 READING = {
     "help": (["help", "desk"], b""),
     "check": (["check"], b"innings home\nin 1\nin 2\nball 7 bat 1\n"),
     "card": (["card", "--sheet", SHEET, "--from", f"{TOP}/examples/innings.txt", "--kind", "book"], b""),
     "export": (["export", "--sheet", SHEET, "--from", f"{TOP}/examples/innings.txt", "--kind", "book"], b""),
-    "compare": (["compare", "--sheet", f"{BOTH}/sheet.toml", "--a", f"{BOTH}/a.votes", "--b", f"{BOTH}/b.votes"], b""),
-    "card of both files": (["card", "--sheet", f"{BOTH}/sheet.toml", "--kind", "both", "--from", f"{BOTH}/a.votes", "--with", f"{BOTH}/b.votes"], b""),
+    "compare": (["compare", "--sheet", BOTH_SHEET, "--a", BOTH_A, "--b", BOTH_B], b""),
+    "card of both files": (["card", "--sheet", BOTH_SHEET, "--kind", "both", "--from", BOTH_A, "--with", BOTH_B], b""),
     "replay": (["replay", "--sheet", SHEET, "--schedule", f"{TOP}/examples/schedule.txt", "--boards", "1"], b""),
 }
 REFUSED = {
