@@ -17,15 +17,11 @@ use tests_support::{entry_in, vote_of};
 use wire::bytes_of;
 
 mod begins;
-mod behind;
 mod boards;
 mod desks;
 mod ends;
 mod memory;
 mod reminders;
-mod sealed;
-mod short;
-mod three;
 mod timing;
 
 type Station = Desk<Slots<MemDisk>, Book>;
@@ -101,21 +97,9 @@ fn told(
     turns: u64,
 ) -> (Result<(), DeskEnd>, Vec<u8>) {
     let sheet = sheet(rt, alloc);
-    told_by(alloc, &sheet, desk, lines, link, turns)
-}
-
-/// The same with this sheet.
-fn told_by(
-    alloc: Global,
-    sheet: &MatchSheet,
-    desk: &mut Station,
-    lines: &mut Lines,
-    link: &mut Queue,
-    turns: u64,
-) -> (Result<(), DeskEnd>, Vec<u8>) {
     let mut out = Watched::new(Vec::new(alloc));
     let mut clock = Ticking::new();
     let own = DeskId::A;
-    let answer = run_desk(desk, own, sheet, link, lines, &mut clock, &mut out, turns);
+    let answer = run_desk(desk, own, &sheet, link, lines, &mut clock, &mut out, turns);
     (answer, out.into_inner())
 }

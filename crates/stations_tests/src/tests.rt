@@ -1,4 +1,4 @@
-//! Desks and boards, byte by byte, and what is printed of a book. Where one allocation fails, the call made again
+//! Messages, desks and boards, byte by byte, and writers of cards that fail. Where one allocation fails, the call made again
 //! gives its answer.
 ghost use Rattle.std.specs.Prelude.{◌≡◌, ◌<◌, []};
 ghost use Rattle.notation.specs.Written.{IsEntry};
@@ -12,6 +12,7 @@ use tests_support::{entry_in, vote_of};
 use wire::bytes_of;
 
 mod boards;
+mod datagrams;
 mod desks;
 mod device_calls;
 mod printing;

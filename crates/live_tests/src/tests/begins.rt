@@ -1,4 +1,4 @@
-//! How a desk begins.
+//! A desk over a file of version 1.
 use super::*;
 use entry_log::OldSlots;
 
@@ -27,30 +27,5 @@ fn files_of_either_version(rt: HostRuntime) {
     match again {
         Ok(desk) => assert_eq!(rt; desk.votes(), 0),
         Err(_) => panic!(rt; "not opened"),
-    }
-}
-
-/// The number of the refusal, where no desk begins.
-fn refused(answer: Begun) -> Option<u8> {
-    match answer {
-        Ok(_desk) => None,
-        Err((refusal, _disk)) => refusal.number(),
-    }
-}
-
-#[test]
-fn files_that_are_refused(rt: HostRuntime) {
-    let alloc = rt.alloc();
-    let disk = MemDisk::of(alloc, b"CBVT", 400).expect(&rt, "room for a disk");
-    assert_eq!(rt; refused(begin(&rt, alloc, disk, DeskId::A)), Some(41));
-    let theirs = new_desk(&rt, alloc, DeskId::B).into_disk();
-    assert_eq!(rt; refused(begin(&rt, alloc, theirs, DeskId::A)), Some(42));
-    for n in 1..5 {
-        let mut disk = empty_disk(&rt, alloc);
-        disk.fail_at(n);
-        assert_eq!(rt; refused(begin(&rt, alloc, disk, DeskId::A)), Some(40));
-        let mut disk = new_desk(&rt, alloc, DeskId::A).into_disk();
-        disk.fail_at(n);
-        assert_eq!(rt; refused(begin(&rt, alloc, disk, DeskId::A)), Some(40));
     }
 }

@@ -2,7 +2,6 @@
 ghost use Rattle.std.specs.Prelude.{◌≤◌};
 
 use super::*;
-use tests_support::Failing;
 
 /// A new desk A whose scorer types one line, with nothing to take.
 fn one_line(
@@ -76,35 +75,4 @@ fn a_disk_that_fails(rt: HostRuntime) {
             tells(&rt, alloc, disk, last);
         }
     }
-}
-
-#[test]
-fn a_writer_that_fails(rt: HostRuntime) {
-    let alloc = rt.alloc();
-    let sheet = sheet(&rt, alloc);
-    let mut ended = false;
-    for calls in 0..60 {
-        let mut desk = new_desk(&rt, alloc, DeskId::A);
-        let mut lines = Lines::new(alloc);
-        lines.type_line(&rt, "void");
-        let mut link = Queue::new(alloc);
-        let mut out = Watched::new(Failing { calls });
-        let mut clock = Ticking::new();
-        let answer = run_desk(
-            &mut desk,
-            DeskId::A,
-            &sheet,
-            &mut link,
-            &mut lines,
-            &mut clock,
-            &mut out,
-            9,
-        );
-        match answer {
-            Err(DeskEnd::Write) => assert!(rt; out.has_failed() && !ended),
-            Err(DeskEnd::NoMoreLines) => ended = true,
-            _ => panic!(rt; "another end"),
-        }
-    }
-    assert!(rt; ended);
 }

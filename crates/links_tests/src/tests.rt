@@ -1,0 +1,29 @@
+//! What opens, what is kept, what is said again and when.
+ghost use Rattle.notation.specs.Written.{IsEntry};
+
+use agree_core::{Ask, Asker, DeskId, Message, PLACES, ROUNDS};
+use notation::Entry;
+use std::alloc::Global;
+use std::process::Abort;
+use tests_support::{entry_in, vote_of};
+use wire::bytes_of;
+
+mod behind;
+mod sealed;
+
+fn entry(rt: &impl Abort, line: &str) -> Entry
+    ensures { IsEntry result }
+{
+    match entry_in(line) {
+        Some(entry) => entry,
+        None => panic!(rt; "no entry: {line}"),
+    }
+}
+
+/// A desk's vote for a line, in match 7.
+fn vote(rt: &impl Abort, desk: DeskId, place: u32, round: u32, line: &str) -> [u8; 48]
+    requires place { place < PLACES }
+    requires round { round < ROUNDS }
+{
+    vote_of(desk, place, round, entry(rt, line))
+}
