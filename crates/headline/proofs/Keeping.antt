@@ -1,6 +1,5 @@
 -- What every event of a run keeps, over any disk.
 use Rattle.std.proofs.Common.{arith, ◌≡◌, ℕ, Option, Some, None, List, [], ◌∷◌, ◌++◌, refl, sym, ap, ◌∙◌, subst}
-use Rattle.std.specs.Prelude.{slice_get}
 use Rattle.agree_core.specs.declared.messages.{DeskId.DeskId, Message.Message}
 use Rattle.agree_core.specs.declared.messages.DeskId.TheVariants.{A, B}
 use Rattle.agree_core.specs.Ballots.{AllJustified, AllVotes, Ballot, Justified, VotesGrow, Within, votes_by}
@@ -10,6 +9,7 @@ use Rattle.agree_core.specs.FileView.{MaySync, Stays}
 use Rattle.agree_core.specs.Openings.{Opening, Opens}
 use Rattle.agree_core.specs.Readers.{other}
 use Rattle.agree_core.proofs.Order.{justified_grows}
+use Rattle.headline.specs.Given.{IsGiven}
 use Rattle.headline.specs.declared.{event.Event.Event, event.Station.Station, fault.Fault.Fault, version.FileVersion.FileVersion}
 use Rattle.headline.specs.declared.fault.Fault.TheVariants.{Fail, Stop}
 use Rattle.headline.specs.declared.version.FileVersion.TheVariants.{Old, New}
@@ -28,7 +28,8 @@ use Rattle.agree_core.specs.Keeping.{BoardFine, DeskFine, DeskKept, DiskFine, Ea
 use Rattle.agree_core.proofs.Both.{same}
 use Rattle.agree_core.proofs.Desks.{desk_grows, not_opened_keeps, opened_keeps, pens_keep, receives_keep, stays_fine, ticks_keep}
 use Rattle.agree_core.proofs.Boards.{board_asks, board_grows, board_receives_keeps, fresh_fine, message_grows}
-use Rattle.headline.proofs.BoardKeeping.{board_fine_at, board_set, each_append, each_other, fresh_boards_fine, item_at}
+use Rattle.headline.proofs.BoardKeeping.{board_fine_at, board_set, each_append, each_other, fresh_boards_fine}
+use Rattle.headline.proofs.Given.{given_fine}
 
 module _ {Disk Why : Type 0} (s : Setting Disk Why) where
   abbrev pub ProcessFine : FileVersion → DeskId → List Ballot → Process Disk → Type 0
@@ -129,7 +130,7 @@ module _ {Disk Why : Type 0} (s : Setting Disk Why) where
 
   -- every event at a desk keeps it fine
   pub at_desk_keeps : (sent : List Message) (d : DeskId) (theirs : List Ballot) (event : Event) (x : Node Disk) (answer : Answer Why) (y : Node Disk) (out : List Message)
-      → ((n : ℕ) (m : Message) → slice_get sent n ≡ Some m → TheirMessage d theirs m) → ProcessFine x.version d theirs x.process
+      → ((n : ℕ) (m : Message) → IsGiven sent n m → TheirMessage d theirs m) → ProcessFine x.version d theirs x.process
       → AtDesk s sent d event x answer y out → KeptAt d theirs x y out
   at_desk_keeps sent d theirs (Event.Pen c e) x answer y out t f p =
       let kept = pens_keep (s.view d x.version) d theirs s.rules p.0 p.1 e p.2 out (running x.version d theirs x.process p.0 p.3 f) p.4 in
@@ -215,12 +216,14 @@ module _ {Disk Why : Type 0} (s : Setting Disk Why) where
 
   at_board_keeps : (sent : List Message) (v : AllVotes) (event : Event) (k l : BoardState) (answer : Answer Why) (out : List Message) → Each (MessageFine v) sent → BoardFine v k
       → AtBoard s sent event k answer l out → BoardFine v l × Each (MessageFine v) out
-  at_board_keeps sent v event k l answer out h0 h1 h2 = grind (arith, board_asks, board_receives_keeps, fresh_fine, item_at)
+  at_board_keeps sent v (Event.Give n t) k l answer out each f p =
+      (board_receives_keeps s.rules v k l p.0 p.1 f (given_fine v sent n p.0 each p.2) p.3, subst (Each (MessageFine v)) (sym p.5) tt)
+  at_board_keeps sent v event k l answer out h0 h1 h2 = grind (arith, board_asks, fresh_fine)
 
   pub step_at_keeps : (w : Configuration Disk) (event : Event) (t : Station) (answer : Answer Why) (new : Configuration Disk) → Fine w → StepAt s w event t answer new → Fine new × Grows w new
   step_at_keeps w event (Station.Desk d) answer new f p =
       let v = all_votes w in
-      let told : (n : ℕ) (m : Message) → slice_get w.sent n ≡ Some m → TheirMessage d (votes_by v (other d)) m = λ n m e. their_message v d m (item_at (MessageFine v) w.sent n m e f.on_sent) in
+      let told : (n : ℕ) (m : Message) → IsGiven w.sent n m → TheirMessage d (votes_by v (other d)) m = λ n m e. their_message v d m (given_fine v w.sent n m f.on_sent e) in
       let k = at_desk_keeps w.sent d (votes_by v (other d)) event (node w d) answer p.0 p.1 told (node_fine w d f) p.2 in
       subst (λ (z : Configuration Disk). Fine z × Grows w z) (sym p.3) (node_changed w d p.0 p.1 f k)
   step_at_keeps w event (Station.Board n) answer new f p =

@@ -3,6 +3,7 @@ pub mod Heeding
 pub mod NotingSteps
 pub mod NotedRuns
 pub mod BoardKeeping
+pub mod Given
 pub mod Keeping
 pub mod Shown
 pub mod PennedVotes

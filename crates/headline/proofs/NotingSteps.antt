@@ -12,6 +12,8 @@ use Rattle.agree_core.specs.Openings.{Opening, Opens}
 use Rattle.agree_core.specs.Positions.{position_of}
 use Rattle.agree_core.specs.Readers.{ReaderState, noted_of, other}
 use Rattle.agree_core.specs.Seats.{Casts, SeatState}
+use Rattle.headline.specs.Given.{IsGiven}
+use Rattle.headline.proofs.Given.{given_vote}
 use Rattle.headline.specs.declared.{event.Event.Event, event.Station.Station, fault.Fault.Fault, version.FileVersion.FileVersion}
 use Rattle.headline.specs.declared.fault.Fault.TheVariants.{Fail, Stop}
 use Rattle.headline.specs.Events.{station_of}
@@ -170,12 +172,12 @@ module _ {Disk Why : Type 0} (s : Setting Disk Why) where
       pens k l e PenAnswer.DeviceFailed out p q r a = breaks k l (λ x. cc) q (ap (λ (z : DeskState Disk). z.seat) r.2) a
 
       given : (n : ℕ) (k l : DeskState Disk) (v : Message) (told : ReceiveAnswer) (out : List Message) → m.event ≡ Event.Give n (Station.Desk d) → k.seat.desk ≡ d
-          → (node w d).process ≡ Running k → slice_get w.sent n ≡ Some v → Receives (s.view d (node w d).version) k v told l out
+          → (node w d).process ≡ Running k → IsGiven w.sent n v → Receives (s.view d (node w d).version) k v told l out
           → AfterReceive (s.view d (node w d).version) (node w d) told l out m.answer y → Leaves s w m (Station.Desk d)
       given n k l v ReceiveAnswer.Failed out p desk q sent r a =
           unheard k l Answer.HasFailed (λ x. cc) q (ap (λ (z : Node Disk). z.process) a.1) (ap (λ (z : DeskState Disk). z.seat) r.1.1) a.0 (λ x. x)
       given n k l (Message.Vote v) (ReceiveAnswer.Told h) out p desk q sent r a =
-          heeded n d k.seat l.seat v p desk (runs_from k l (λ x. cc) q (ap (λ (z : Node Disk). z.process) a.1)) sent (subst IsVoteAnswer (sym a.0) tt) (heeds k.seat l.seat v h r.1)
+          heeded n d k.seat l.seat v p desk (runs_from k l (λ x. cc) q (ap (λ (z : Node Disk). z.process) a.1)) (given_vote w.sent n v sent) (subst IsVoteAnswer (sym a.0) tt) (heeds k.seat l.seat v h r.1)
       given n k l (Message.Ask v) ReceiveAnswer.Asked out p desk q sent r a =
           unheard k l (Answer.Asked _) (λ x. cc) q (ap (λ (z : Node Disk). z.process) a.1) (ap (λ (z : DeskState Disk). z.seat) r.1.1) a.0 (λ x. x)
       given n k l (Message.Ask v) ReceiveAnswer.DeviceFailed out p desk q sent r a = breaks k l (λ x. cc) q (ap (λ (z : DeskState Disk). z.seat) r.2) a
@@ -288,9 +290,9 @@ module _ {Disk Why : Type 0} (s : Setting Disk Why) where
           goes_far (Station.Board n) k.reader.position l.reader.position (λ c. noted_of k.reader c) (λ c. noted_of l.reader c) (λ e. cc)
           (at_board w n k here) (at_board m.after n l is) r.0 (λ c. no_reader_kept l.reader c r.1 r.2)
 
-      board_given : (i : ℕ) (v : Message) (told : BoardAnswer) → m.event ≡ Event.Give i (Station.Board n) → slice_get w.sent i ≡ Some v → m.answer ≡ board_told told
+      board_given : (i : ℕ) (v : Message) (told : BoardAnswer) → m.event ≡ Event.Give i (Station.Board n) → IsGiven w.sent i v → m.answer ≡ board_told told
           → BoardReceives s.rules k v told l → Leaves s w m (Station.Board n)
-      board_given i (Message.Vote v) (BoardAnswer.Told h) given sent a r = read i v given sent (subst IsVoteAnswer (sym a) tt) (reads k.reader l.reader v h r.0)
+      board_given i (Message.Vote v) (BoardAnswer.Told h) given sent a r = read i v given (given_vote w.sent i v sent) (subst IsVoteAnswer (sym a) tt) (reads k.reader l.reader v h r.0)
       board_given i (Message.Vote v) (BoardAnswer.BadVotes place) given sent a r =
           board_stays (λ e. cc) (ap (λ (z : BoardState). z.reader) r.3) (λ c b j none. subst IsVoteAnswer a j.2)
       board_given i (Message.Ask v) BoardAnswer.Asked given sent a r = board_stays (λ e. cc) (ap (λ (z : BoardState). z.reader) r) (λ c b j none. subst IsVoteAnswer a j.2)

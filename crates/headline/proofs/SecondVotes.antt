@@ -21,8 +21,9 @@ use Rattle.headline.specs.Noted.{Brings, IsVoteAnswer, position_at}
 use Rattle.headline.specs.Headline.{NoneWaits, TakesSecond}
 use Rattle.headline.specs.Kept.{kept_at, kept_by_seat}
 use Rattle.headline.proofs.BoardKeeping.{board_fine_at}
+use Rattle.headline.proofs.Given.{given_there}
 use Rattle.headline.proofs.Keeping.{Fine, begins_fine, run_keeps, running, node_fine}
-use Rattle.headline.proofs.Heeding.{board_put, same_some}
+use Rattle.headline.proofs.Heeding.{board_put}
 use Rattle.headline.proofs.NotedRuns.{keeps_noted}
 use Rattle.headline.proofs.Shown.{none_keeps_both}
 
@@ -74,7 +75,7 @@ module _ {Disk Why : Type 0} (s : Setting Disk Why) where
       let q = p.2 in
       let k = q.0 in
       let h = desk_keeps w d c k book b q.4 g in
-      let this : q.2 ≡ Message.Vote (vote_of (other c) b) = same_some (slice_get w.sent n) q.2 (Message.Vote (vote_of (other c) b)) q.5 sent in
+      let this : q.2 ≡ Message.Vote (vote_of (other c) b) = given_there w.sent n q.2 (Message.Vote (vote_of (other c) b)) sent q.5 in
       let fine = running s (node w d).version d (votes_by (all_votes w) (other d)) (node w d).process k q.4 (node_fine s w d f) in
       let seat = fine.seat in
       let mine : k.seat.mine ≡ Some b.entry = sym (kept_own k.seat c d apart) ∙ h.2 in
@@ -100,7 +101,7 @@ module _ {Disk Why : Type 0} (s : Setting Disk Why) where
       let k = p.0 in
       let v = vote_of (other c) b in
       let h = board_keeps w number c k book b p.3 g in
-      let this : q.0 ≡ Message.Vote v = same_some (slice_get w.sent n) q.0 (Message.Vote v) q.2 sent in
+      let this : q.0 ≡ Message.Vote v = given_there w.sent n q.0 (Message.Vote v) sent q.2 in
       let fine = board_fine_at (all_votes w) w.boards number k p.3 f.on_boards in
       let none = reader_alone k.reader c b.entry fine.waits h.2 in
       let noted : noted_of k.reader (other (other c)) ≡ Some b.entry = subst (λ (d : DeskId). noted_of k.reader d ≡ Some b.entry) (sym (other_twice c)) h.2 in

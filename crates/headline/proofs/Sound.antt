@@ -36,7 +36,8 @@ use Rattle.headline.specs.DeskAnswers.{AfterOpen, AfterPen, AfterReceive}
 use Rattle.agree_core.specs.Keeping.{BoardFine, MessageFine, NotedFine, SeatFine}
 use Rattle.agree_core.proofs.Both.{both_grow, both_settled, both_turned, more, same}
 use Rattle.headline.proofs.Heeding.{some_none}
-use Rattle.headline.proofs.BoardKeeping.{board_fine_at, item_at}
+use Rattle.headline.proofs.BoardKeeping.{board_fine_at}
+use Rattle.headline.proofs.Given.{given_fine}
 use Rattle.headline.proofs.Keeping.{Fine, ProcessFine, all_justified, begins_fine, run_keeps, running, node_fine, their_message}
 use Rattle.headline.proofs.PennedVotes.{BothHold, HeldBy, PensKeep, begins_hold, step_holds}
 
@@ -168,7 +169,7 @@ module _ {Disk Why : Type 0} (s : Setting Disk Why) where
   desk_sound w d (Event.Pen c e) answer y out f l p = pen_sound (Event.Pen c e) answer (s.view d (node w d).version) (node w d) y p.2 p.1 p.5
   desk_sound w d (Event.Give n t) answer y out f l p =
       let fine = running s (node w d).version d (votes_by (all_votes w) (other d)) (node w d).process p.0 p.4 (node_fine s w d f) in
-      receive_sound (Event.Give n t) w d (node w d) p.0 p.1 p.2 p.3 out answer y f fine.seat (item_at (MessageFine (all_votes w)) w.sent n p.2 p.5 f.on_sent) p.6 p.7
+      receive_sound (Event.Give n t) w d (node w d) p.0 p.1 p.2 p.3 out answer y f fine.seat (given_fine (all_votes w) w.sent n p.2 f.on_sent p.5) p.6 p.7
   desk_sound w d (Event.Tick t) answer y out f l p = sound_as (Event.Tick t) answer (Answer.Ticked _) p.3 tt
   desk_sound w d (Event.Kill c) answer y out f l p = sound_as (Event.Kill c) answer Answer.Done p.3 tt
   desk_sound w d (Event.Power c choice) answer y out f l p = sound_as (Event.Power c choice) answer Answer.Done p.3 tt
@@ -200,7 +201,7 @@ module _ {Disk Why : Type 0} (s : Setting Disk Why) where
   board_sound : (w : Configuration Disk) (event : Event) (k : BoardState) (answer : Answer Why) (l : BoardState) (out : List Message) → Fine s w → BothHold s (λ d. Lawful s.rules) w
       → BoardFine (all_votes w) k → AtBoard s w.sent event k answer l out → IsSoundAnswer event answer
   board_sound w (Event.Give n t) k answer l out f h b p =
-      sound_as (Event.Give n t) answer (board_told p.1) p.4 (board_told_sound (Event.Give n t) w k l p.0 p.1 f h b (item_at (MessageFine (all_votes w)) w.sent n p.0 p.2 f.on_sent) p.3)
+      sound_as (Event.Give n t) answer (board_told p.1) p.4 (board_told_sound (Event.Give n t) w k l p.0 p.1 f h b (given_fine (all_votes w) w.sent n p.0 f.on_sent p.2) p.3)
   board_sound w (Event.Tick t) k answer l out f h b p = sound_as (Event.Tick t) answer (Answer.Ticked _) p.1 tt
   board_sound w (Event.Wipe n) k answer l out f h b p = sound_as (Event.Wipe n) answer Answer.Done p.1 tt
   board_sound w _ k answer l out f h b p = absurd p

@@ -1,5 +1,5 @@
 -- What an event does at the desk that it names, by cases of the event.
-use Rattle.std.specs.Prelude.{◌≡◌, Some, List, [], length, slice_get}
+use Rattle.std.specs.Prelude.{◌≡◌, List, [], length}
 use Rattle.agree_core.specs.declared.messages.{DeskId.DeskId, Message.Message}
 use Rattle.agree_core.specs.Ballots.{Ballot}
 use Rattle.agree_core.specs.Desks.{DeskState, PenAnswer, Pens, ReceiveAnswer, Receives, Ticks}
@@ -8,6 +8,7 @@ use Rattle.headline.specs.declared.event.Event.{Event}
 use Rattle.headline.specs.Setting.{Setting}
 use Rattle.headline.specs.Configurations.{Running, Down, Node}
 use Rattle.headline.specs.Answers.{Answer, Ticked}
+use Rattle.headline.specs.Given.{IsGiven}
 use Rattle.headline.specs.DeskAnswers.{AfterOpen, AfterPen, AfterReceive}
 use Rattle.headline.specs.Mishaps.{Befalls}
 
@@ -19,10 +20,10 @@ abbrev pub AtDesk :
 AtDesk s sent d (Event.Pen _ e) x answer y out =
     (k : DeskState _) × (l : DeskState _) × (penned : PenAnswer _) × (x.process ≡ Running k)
     × Pens (s.view d x.version) s.rules k e penned l out × AfterPen (s.view d x.version) x penned l answer y
--- while it runs it is given the message of this number
+-- while it runs it is given the message of this number, or an ask
 AtDesk s sent d (Event.Give n _) x answer y out =
     (k : DeskState _) × (l : DeskState _) × (m : Message) × (received : ReceiveAnswer)
-    × (x.process ≡ Running k) × (slice_get sent n ≡ Some m)
+    × (x.process ≡ Running k) × IsGiven sent n m
     × Receives (s.view d x.version) k m received l out × AfterReceive (s.view d x.version) x received l out answer y
 -- while it runs it says what it has to say, and is as it was
 AtDesk s sent d (Event.Tick _) x answer y out =

@@ -1,11 +1,12 @@
 -- What is claimed: Laws and Headline, with Besides and Kept, over Runs, by what was Penned and Noted in them; Match is the Setting of
 -- a match. A step of a run is Steps, by what desks (DeskSteps, DeskAnswers, Mishaps, DeskFaults, Migrations) and boards (BoardSteps) do and answer
--- (Answers) in Configurations at Events.
+-- (Answers), are given (Given), in Configurations at Events.
 pub mod Setting
 pub mod Match
 pub mod Events
 pub mod Configurations
 pub mod Answers
+pub mod Given
 pub mod DeskFaults
 pub mod Migrations
 pub mod DeskAnswers

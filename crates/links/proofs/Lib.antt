@@ -1,1 +1,3 @@
+pub mod KeptVotes
 pub mod OpeningLemmas
+pub mod WindowLemmas

@@ -1,8 +1,9 @@
 //! When a station's ask is said, and said again.
 
-ghost use Rattle.std.specs.Prelude.{◌<◌};
+ghost use Rattle.std.specs.Prelude.{◌≡◌, ◌⊎◌, None, Some};
 
 use agree_core::{DeskId, Position};
+use std::mem;
 
 /// How long an answer is waited for at least, in milliseconds.
 const LEAST_PAUSE: u64 = 4;
@@ -14,26 +15,19 @@ const FIRST_PAUSE: u64 = 20;
 const LONGEST_PAUSE: u64 = 250;
 
 /// How often an ask is said again, beside what the station itself says.
-const MOST_TRIES: u32 = 3;
+const MOST_TRIES: u32 = 8;
+
+/// How often a pause is doubled at most.
+const MOST_DOUBLED: u32 = 3;
 
 /// Of how many places, from the one that is asked for on, the votes come with its answer.
 const PLACES_ANSWERED: u32 = 64;
-
-/// The place of a desk's own flag.
-fn index_of(desk: DeskId) -> usize
-    ensures { result < 2 }
-{
-    match desk {
-        DeskId::A => 0,
-        DeskId::B => 1,
-    }
-}
 
 /// A station's last ask, and how long a round trip takes.
 #[derive(Clone, Copy)]
 pub struct Asking {
     at: Position,
-    bytes: [u8; 64],
+    bytes: Option<[u8; 48]>,
     /// When it was said first.
     first: u64,
     /// When an ask was said last, or a vote came that was lacking.
@@ -45,66 +39,67 @@ pub struct Asking {
     is_first: bool,
     /// The first place whose votes don't come with what was asked for.
     unasked: u32,
-    /// Whose later votes came since the last ask was said first, and between that and the one before.
-    followed: [bool; 2],
-    was_followed: [bool; 2],
     /// Whether no vote of its position came yet.
     is_open: bool,
+    /// Whether the desks' votes of its position came.
+    has_a: bool,
+    has_b: bool,
     /// How long a round trip took, if one was seen: the shortest lately.
     trip: Option<u64>,
 }
 
 impl Asking {
     /// Nothing was asked yet.
-    pub fn new() -> Asking {
+    pub fn new() -> Asking
+        ensures { result.bytes ≡ None }
+    {
         Asking {
             at: Position::FIRST,
-            bytes: [0; 64],
+            bytes: None,
             first: 0,
             last: 0,
             tries: MOST_TRIES,
             is_held: false,
             is_first: true,
             unasked: 0,
-            followed: [false; 2],
-            was_followed: [false; 2],
             is_open: false,
+            has_a: false,
+            has_b: false,
             trip: None,
         }
     }
 
-    /// How long an answer is waited for: two round trips.
+    /// How long an answer is waited for: two round trips, and twice as long after each try.
     fn pause(&self) -> u64 {
-        match self.trip {
-            Some(trip) => LONGEST_PAUSE.min(LEAST_PAUSE.max(trip.saturating_mul(2))),
+        let first = match self.trip {
+            Some(trip) => LEAST_PAUSE.max(trip.saturating_mul(2)),
             None => FIRST_PAUSE,
-        }
+        };
+        let tries = self.tries.min(MOST_DOUBLED);
+        LONGEST_PAUSE.min(first.saturating_mul(1 << tries))
     }
 
-    /// A vote of this desk came early: more may come.
-    pub fn follow(&mut self, desk: DeskId, now: u64) {
-        self.followed[index_of(desk)] = true;
+    /// A vote came early: more may come.
+    pub fn follow(&mut self, now: u64)
+        ensures { self.new.bytes ≡ self.old.bytes }
+    {
         self.last = now;
     }
 
-    /// Whether later votes of this desk come behind its answers.
-    pub fn is_followed(&self, desk: DeskId) -> bool {
-        let index = index_of(desk);
-        self.followed[index] || self.was_followed[index]
-    }
-
     /// Notes an ask of the station's, and answers whether it is said: not while the answer to the same may be on its way,
-    /// or that to an earlier one, where its own answer `may_follow` behind that.
-    pub fn ask(&mut self, at: Position, bytes: &[u8; 64], may_follow: bool, now: u64) -> bool {
-        if self.bytes != *bytes {
+    /// or that to an earlier one, behind whose answer its own comes.
+    pub fn ask(&mut self, at: Position, bytes: &[u8; 48], now: u64) -> bool
+        ensures { (self.new.bytes ≡ self.old.bytes) ⊎ (self.new.bytes ≡ Some bytes.now) }
+    {
+        if self.bytes != Some(*bytes) {
             self.at = at;
-            self.bytes = *bytes;
+            self.bytes = Some(*bytes);
             self.tries = 0;
             self.is_open = false;
+            self.has_a = false;
+            self.has_b = false;
             self.is_held = true;
-        }
-        if self.is_held {
-            self.is_first = !may_follow || at.place >= self.unasked;
+            self.is_first = at.place >= self.unasked;
         }
         let is_due = (self.is_held && self.is_first) || self.left(now) == 0;
         if is_due {
@@ -114,16 +109,18 @@ impl Asking {
     }
 
     /// The ask is said.
-    fn say(&mut self, now: u64) {
+    fn say(&mut self, now: u64)
+        ensures { self.new.bytes ≡ self.old.bytes }
+    {
         if self.is_held {
             self.first = now;
             self.is_open = true;
             self.is_held = false;
-            self.was_followed = self.followed;
-            self.followed = [false; 2];
         }
         self.last = now;
-        self.unasked = self.at.place.saturating_add(PLACES_ANSWERED);
+        if self.is_first {
+            self.unasked = self.at.place.saturating_add(PLACES_ANSWERED);
+        }
     }
 
     /// Whether the ask for this position may be said once more: it wasn't said yet, or later votes are here, so that its
@@ -138,7 +135,10 @@ impl Asking {
     }
 
     /// The ask, to be said once more.
-    pub fn say_again(&mut self, now: u64) -> [u8; 64] {
+    pub fn say_again(&mut self, now: u64) -> Option<[u8; 48]>
+        ensures stays { self.new.bytes ≡ self.old.bytes }
+        ensures value { result ≡ self.new.bytes }
+    {
         if !self.is_held {
             self.tries = self.tries.saturating_add(1);
         }
@@ -146,9 +146,21 @@ impl Asking {
         self.bytes
     }
 
-    /// A vote for this position came: an answer, if it was asked for.
-    pub fn hear(&mut self, at: Position, now: u64) {
-        if at != self.at {
+    /// Notes that this desk's vote of the position came, and answers whether it is the first of it.
+    fn is_news(&mut self, desk: DeskId) -> bool
+        ensures { self.new.bytes ≡ self.old.bytes }
+    {
+        match desk {
+            DeskId::A => !mem::replace(&mut self.has_a, true),
+            DeskId::B => !mem::replace(&mut self.has_b, true),
+        }
+    }
+
+    /// A vote of this desk for this position came: an answer, if it was asked for.
+    pub fn hear(&mut self, desk: DeskId, at: Position, now: u64)
+        ensures { self.new.bytes ≡ self.old.bytes }
+    {
+        if at != self.at || !self.is_news(desk) {
             return;
         }
         self.last = now;

@@ -1,5 +1,9 @@
 //! Votes that came before the station was there.
 
+ghost use Rattle.std.specs.Prelude.{◌≡◌, [], IfSome};
+ghost use Rattle.std.specs.BTreeMap.{values};
+ghost use Rattle.links.specs.Windows.{AreOf, AreOfOr, Has};
+
 use agree_core::{Asker, DeskId, Position, Vote};
 use std::alloc::Global;
 use std::collections::BTreeMap;
@@ -10,6 +14,11 @@ const PLACES_AHEAD: u32 = 64;
 /// How many votes are kept at most.
 const MOST_KEPT: usize = 128;
 
+/// Whether a station has to hear this desk's votes: they aren't its own.
+pub fn hears(from: Asker, desk: DeskId) -> bool {
+    !matches!((from, desk), (Asker::A, DeskId::A) | (Asker::B, DeskId::B))
+}
+
 /// Whose vote, and for which position.
 #[derive(Clone, Copy, Debug, PartialEq, Eq, PartialOrd, Ord)]
 struct Ballot {
@@ -17,16 +26,18 @@ struct Ballot {
     desk: u8,
 }
 
-/// The votes that came for positions ahead of the station's, as they were sealed.
+/// The votes that came for positions ahead of the station's, as they came.
 #[derive(Drop)]
 pub struct EarlyVotes {
     at: Position,
-    votes: BTreeMap<Ballot, [u8; 64]>,
+    votes: BTreeMap<Ballot, [u8; 48]>,
 }
 
 impl EarlyVotes {
     /// None yet, at the first position.
-    pub fn new(alloc: Global) -> EarlyVotes {
+    pub fn new(alloc: Global) -> EarlyVotes
+        ensures { values result.votes ≡ [] }
+    {
         EarlyVotes {
             at: Position::FIRST,
             votes: BTreeMap::new(alloc),
@@ -43,11 +54,31 @@ impl EarlyVotes {
         self.at
     }
 
+    /// Lets the first vote go, if it is for an earlier position, and answers whether it was.
+    fn let_go(&mut self, at: Position) -> bool
+        ensures { AreOf (values self.new.votes) (values self.old.votes) }
+    {
+        if let Some((ballot, _)) = self.votes.first_key_value()
+            && ballot.at.is_before(at)
+        {
+            let _ = self.votes.pop_first();
+            return true;
+        }
+        false
+    }
+
     /// The station is at this position: what came for earlier ones isn't wanted any more.
-    pub fn reach(&mut self, at: Position) {
-        if self.at.is_before(at) {
-            self.at = at;
-            self.votes.retain(|ballot, _| !ballot.at.is_before(at));
+    pub fn reach(&mut self, at: Position)
+        ensures { AreOf (values self.new.votes) (values self.old.votes) }
+    {
+        if !self.at.is_before(at) {
+            return;
+        }
+        self.at = at;
+        for _ in 0..MOST_KEPT {
+            if !self.let_go(at) {
+                break;
+            }
         }
     }
 
@@ -56,23 +87,39 @@ impl EarlyVotes {
         self.at.is_before(at) && at.place.saturating_sub(self.at.place) <= PLACES_AHEAD
     }
 
-    /// Keeps a vote that came early. Where there is no room for it, it is lost.
-    pub fn keep(&mut self, vote: &Vote, bytes: &[u8; 64]) {
-        if self.votes.len() < MOST_KEPT {
-            let at = vote.position();
-            let desk = vote.desk.number();
-            let _ = self.votes.insert(Ballot { at, desk }, *bytes);
+    /// Keeps a vote that came early, unless it is here, and answers whether it was lacking. Where there is no room for it, it
+    /// is lost.
+    pub fn keep(&mut self, vote: &Vote, bytes: &[u8; 48]) -> bool
+        ensures { AreOfOr bytes.now (values self.new.votes) (values self.old.votes) }
+    {
+        let at = vote.position();
+        let desk = vote.desk.number();
+        let ballot = Ballot { at, desk };
+        if self.votes.len() >= MOST_KEPT || self.votes.contains_key(&ballot) {
+            return false;
         }
+        let _ = self.votes.insert(ballot, *bytes);
+        true
     }
 
     /// Takes a vote that was kept for the station's position.
-    pub fn take(&mut self) -> Option<[u8; 64]> {
+    pub fn take(&mut self) -> Option<[u8; 48]>
+        ensures given { IfSome result (Has (values self.old.votes)) }
+        ensures kept { AreOf (values self.new.votes) (values self.old.votes) }
+    {
         let (ballot, _) = self.votes.first_key_value()?;
         if self.at.is_before(ballot.at) {
             return None;
         }
         let (_, bytes) = self.votes.pop_first()?;
         Some(bytes)
+    }
+
+    /// Whether a vote of this desk is kept for a place in its first round.
+    pub fn has_at(&self, desk: DeskId, place: u32) -> bool {
+        let at = Position { place, round: 0 };
+        let desk = desk.number();
+        self.votes.contains_key(&Ballot { at, desk })
     }
 
     fn has(&self, desk: DeskId) -> bool {
@@ -83,10 +130,7 @@ impl EarlyVotes {
 
     /// Whether a station that has heard nothing of its position yet lacks this desk's vote.
     pub fn lacks(&self, from: Asker, desk: DeskId) -> bool {
-        match (from, desk) {
-            (Asker::A, DeskId::A) | (Asker::B, DeskId::B) => false,
-            _ => !self.has(desk),
-        }
+        hears(from, desk) && !self.has(desk)
     }
 
     /// Whether all is kept that such a station lacks.

@@ -3,13 +3,14 @@
 #![tactic(auto)]
 
 mod asking;
+mod asks;
 mod clock;
+mod company;
 mod early;
 mod keys;
+mod known;
 mod link;
 mod log;
-mod repeats;
-mod said;
 mod sealed;
 mod sending;
 mod silence;
@@ -17,8 +18,8 @@ mod window;
 
 pub use clock::Clock;
 pub use keys::{Keys, LINE_ROOM, Typed};
-pub use link::{Link, MOST_TAKEN, ROOM, SEALED_ROOM, SealedCarrier, SharedLink, Taken};
+pub use link::{Link, MOST_TAKEN, PeerLink, ROOM, SEALED_ROOM, SealedCarrier, SharedLink, Taken};
 pub use log::{CarriedLog, InputLog, Log};
 pub use sealed::{Sealed, what_is_given_was_brought};
 pub use sending::send_each;
-pub use window::Window;
+pub use window::{Window, what_passes_is_kept};

@@ -44,6 +44,16 @@ pub trait Link {
         ensures { IsTaken result buffer.new (log self.old) (log self.new) };
 }
 
+/// A link that knows its peers apart.
+pub trait PeerLink: Link {
+    /// Sends bytes to the peer of this number, if there is one. What can't be sent is lost.
+    fn send_to(&mut self, peer: usize, bytes: &[u8; 48])
+        ensures { Self.log self.new ≡ Self.log self.old ++ Sent bytes.now ∷ [] };
+
+    /// Which peer's datagram was taken last, as a number of its own.
+    fn last_peer(&self) -> usize;
+}
+
 /// Carries sealed datagrams between a station and its peers. Nothing is known of what it loses, changes or makes up; only
 /// what was handed to it and what it gave is told.
 pub trait SealedCarrier {
@@ -56,6 +66,10 @@ pub trait SealedCarrier {
 
     /// Sends a sealed datagram to the peer whose datagram was taken last, if to no other. What can't be sent is lost.
     fn carry_back(&mut self, bytes: &[u8; 64])
+        ensures { carried self.new ≡ carried self.old ++ Sent bytes.now ∷ [] };
+
+    /// Sends a sealed datagram to the peer of this number, if there is one. What can't be sent is lost.
+    fn carry_to(&mut self, peer: usize, bytes: &[u8; 64])
         ensures { carried self.new ≡ carried self.old ++ Sent bytes.now ∷ [] };
 
     /// Which peer's datagram was taken last, as a number of its own.

@@ -3,7 +3,7 @@
 ghost use Rattle.std.specs.Prelude.{◌≡◌, take};
 ghost use Rattle.links.specs.Opening.{GivenWasBrought};
 
-use crate::link::{Link, SEALED_ROOM, SealedCarrier, Taken};
+use crate::link::{Link, PeerLink, SEALED_ROOM, SealedCarrier, Taken};
 use seal::Seal;
 
 /// A link that seals what is sent, and opens what comes, with a match's seal. What doesn't open is told as such, and
@@ -23,7 +23,9 @@ fn put(message: &[u8; 48], buffer: &mut [u8; 64])
 
 impl<R: SealedCarrier> Sealed<R> {
     /// A link over a carrier, with the seal of a match.
-    pub fn new(carrier: R, seal: Seal) -> Sealed<R> {
+    pub fn new(carrier: R, seal: Seal) -> Sealed<R>
+        ensures { result.carrier ≡ carrier }
+    {
         Sealed { carrier, seal }
     }
 }
@@ -54,6 +56,16 @@ impl<R: SealedCarrier> Link for Sealed<R> {
             }
             None => Taken::Unopened,
         }
+    }
+}
+
+impl<R: SealedCarrier> PeerLink for Sealed<R> {
+    fn send_to(&mut self, peer: usize, bytes: &[u8; 48]) {
+        self.carrier.carry_to(peer, &self.seal.sealed(bytes));
+    }
+
+    fn last_peer(&self) -> usize {
+        self.carrier.last_peer()
     }
 }
 

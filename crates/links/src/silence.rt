@@ -1,32 +1,30 @@
-//! What a station said last, and how long ago.
+//! How long a station has been silent.
 
-/// After how many milliseconds without a word of the station's what it said last is said once more.
+/// After how many milliseconds without a word of the station's its window asks for the votes of its position.
 const LONGEST_SILENCE: u64 = 2_000;
 
-/// The last datagram that was carried to all, if any, and when.
+/// When something was said to all last, if anything was.
 #[derive(Clone, Copy)]
-pub struct LastSaid {
-    bytes: Option<[u8; 64]>,
-    at: u64,
+pub struct Silence {
+    last: Option<u64>,
 }
 
-impl LastSaid {
+impl Silence {
     /// Nothing was said yet.
-    pub fn new() -> LastSaid {
-        LastSaid { bytes: None, at: 0 }
+    pub fn new() -> Silence {
+        Silence { last: None }
     }
 
-    /// This is said now.
-    pub fn note(&mut self, bytes: &[u8; 64], now: u64) {
-        self.bytes = Some(*bytes);
-        self.at = now;
+    /// Something is said now.
+    pub fn end(&mut self, now: u64) {
+        self.last = Some(now);
     }
 
-    /// What is to be said once more, if the station was silent for so long.
-    pub fn due(&self, now: u64) -> Option<[u8; 64]> {
-        if now.saturating_sub(self.at) < LONGEST_SILENCE {
-            return None;
+    /// Whether nothing was said for so long, though something was before.
+    pub fn is_long(&self, now: u64) -> bool {
+        match self.last {
+            Some(last) => now.saturating_sub(last) >= LONGEST_SILENCE,
+            None => false,
         }
-        self.bytes
     }
 }

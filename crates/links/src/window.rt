@@ -1,254 +1,293 @@
-//! A window over a carrier.
+//! A window over a link.
 
-ghost use Rattle.std.specs.Prelude.{◌≡◌, ◌≤◌, ℕ};
+ghost use Rattle.std.specs.Prelude.{◌≡◌, ◌≤◌, ℕ, List, [], IfSome, take};
+ghost use Rattle.links.specs.Windows.{IsAsk, IsBrought, IsFaithful, IsHanded, IsKept};
 
-use crate::asking::Asking;
-use crate::early::EarlyVotes;
-use crate::repeats::Repeats;
-use crate::said::SaidVotes;
-use crate::silence::LastSaid;
-use agree_core::{Asker, DeskId, Message, Position, Vote};
+use crate::asks::ask_for;
 use crate::clock::Clock;
-use crate::link::{SealedCarrier, Taken};
-use crate::log::CarriedLog;
-use seal::Seal;
+use crate::company::Company;
+use crate::early::hears;
+use crate::known::{Given, Known};
+use crate::link::{Link, PeerLink, Taken};
+use crate::log::Log;
+use crate::silence::Silence;
+use agree_core::{Asker, DeskId, Message, Position};
 use std::alloc::Global;
-use wire::{SIZE, message_of};
+use std::marker::Model;
+use wire::message_of;
 
-/// How many votes are repeated behind a reply.
-const MOST_REPEATED: usize = 63;
+/// Puts a message into the front of a buffer.
+fn put(message: &[u8; 48], buffer: &mut [u8; 64])
+    ensures { take 48 buffer.new ≡ message.now }
+{
+    buffer[..48].copy_from_slice(message.as_slice());
+}
 
-/// What a window does, but for its log.
+/// A link as another is, which saves a station that is behind most of its round trips. It does what a network may: it
+/// keeps back votes that came early until the station is there, says an ask later or once more, and leaves out asks whose
+/// answers are here. And it makes asks up, as anybody may: an ask that came stands for those for the places behind it, and
+/// the station's for those for the places whose votes were lost; and a station that is silent asks for the votes of its
+/// position, so that others hear it.
 #[derive(Drop)]
-struct Repeater<R, C> {
-    carrier: R,
+pub struct Window<L: PeerLink, C: Clock> {
+    link: L,
     clock: C,
     /// The number of the match.
     game: u64,
-    /// What the match's datagrams are sealed with.
-    seal: Seal,
-    said: SaidVotes,
-    repeats: Repeats,
-    early: EarlyVotes,
-    asking: Asking,
-    last_said: LastSaid,
+    company: Company,
+    known: Known,
+    silence: Silence,
+    log: Log,
 }
 
-/// Puts a sealed message into the front of a buffer.
-fn put(bytes: &[u8; 64], buffer: &mut [u8; 65]) {
-    buffer[..64].copy_from_slice(bytes.as_slice());
+impl<L: PeerLink, C: Clock> Model for Window<L, C> {
+    ghost use Rattle.std.specs.BTreeMap.{values};
+    ghost use Rattle.links.specs.Logs.{passed_of};
+    ghost use Rattle.links.specs.Windows.{IsWindow, Windowed};
+
+    ghost Value = { Windowed };
+
+    ghost view = { λ w. record { game = w.game; above = passed_of w.log; below = L.log w.link } };
+
+    ghost invariant = { λ w. IsWindow (record { game = w.game; above = passed_of w.log; below = L.log w.link })
+        (values w.known.early.votes) w.known.asking.bytes };
 }
 
-impl<R: SealedCarrier, C: Clock> Repeater<R, C> {
-    /// The message in a sealed datagram of the match, be its tag as it may.
-    fn message_in(&self, bytes: &[u8; 64]) -> Option<Message> {
-        message_of(self.game, &bytes[..SIZE]).ok()
+impl<L: PeerLink, C: Clock> Window<L, C> {
+    ghost use Rattle.std.specs.Prelude.{◌≡◌, ◌≤◌, ℕ, List, [], IfSome, take};
+    ghost use Rattle.links.specs.Windows.{IsAsk, IsBrought, IsHanded, IsKept};
+
+    /// A window over a link, in the match of this number.
+    pub fn new(alloc: Global, link: L, clock: C, game: u64) -> Window<L, C>
+        requires { L.log link ≡ [] }
+        ensures game { result.game ≡ game }
+        ensures above { result.above ≡ [] }
+    {
+        Window {
+            link,
+            clock,
+            game,
+            company: Company::new(),
+            known: Known::new(alloc),
+            silence: Silence::new(),
+            log: Log::Empty,
+        }
     }
 
-    /// Whether this desk's vote is here, or may come behind its answer to an earlier ask.
-    fn has_or_follows(&self, from: Asker, desk: DeskId) -> bool {
-        !self.early.lacks(from, desk) || self.asking.is_followed(desk)
+    /// Notes what the station says, and answers whether it is handed down.
+    fn note(&mut self, bytes: &[u8; 48], now: u64) -> bool
+        requires { IsHanded self.old.game self.old.above bytes.now }
+        ensures kept { IsKept self.old self.new }
+    {
+        self.known.note(self.game, bytes, now)
     }
 
-    /// Whether all that a station lacks may come so.
-    fn may_follow(&self, from: Asker) -> bool {
-        self.has_or_follows(from, DeskId::A) && self.has_or_follows(from, DeskId::B)
+    /// Hands a message to all.
+    fn say(&mut self, bytes: &[u8; 48], now: u64)
+        requires { IsHanded self.old.game self.old.above bytes.now }
+        ensures kept { IsKept self.old self.new }
+    {
+        self.link.send(bytes);
+        self.silence.end(now);
     }
 
-    /// Notes what the station says, and answers whether it is carried.
-    fn note(&mut self, bytes: &[u8; 64]) -> bool {
-        match self.message_in(bytes) {
-            Some(Message::Vote(vote)) => {
-                self.early.reach(vote.position());
-                self.said.keep(vote.position(), bytes);
-                true
+    /// Asks for the votes of the station's position, where it has said nothing for two seconds: so others hear that it is
+    /// there, also while it has nothing to say unasked.
+    fn break_silence(&mut self, now: u64)
+        ensures kept { IsKept self.old self.new }
+    {
+        if self.silence.is_long(now) {
+            let at = self.known.early.position();
+            if let Some(bytes) = ask_for(self.game, self.known.from, at) {
+                self.say(&bytes, now);
             }
-            Some(Message::Ask(ask)) => {
-                let at = Position {
-                    place: ask.place,
-                    round: ask.round,
-                };
-                self.early.reach(at);
-                let may_follow = self.may_follow(ask.from);
-                let now = self.clock.millis();
-                !self.early.answers(ask.from) && self.asking.ask(at, bytes, may_follow, now)
+        }
+    }
+
+    /// Sends a message to who sent this desk's votes last, or to all.
+    fn send_to_voter(&mut self, desk: DeskId, bytes: &[u8; 48])
+        requires { IsHanded self.old.game self.old.above bytes.now }
+        ensures kept { IsKept self.old self.new }
+    {
+        match self.known.voter(desk) {
+            Some(peer) => self.link.send_to(peer, bytes),
+            None => self.link.send(bytes),
+        }
+    }
+
+    /// Asks a desk for its vote of a place, in its first round.
+    fn ask_for_vote(&mut self, desk: DeskId, place: u32)
+        ensures kept { IsKept self.old self.new }
+    {
+        if let Some(bytes) = ask_for(self.game, self.known.from, Position { place, round: 0 }) {
+            self.send_to_voter(desk, &bytes);
+        }
+    }
+
+    /// Asks a desk for what is lacking of it, where later votes of it are here, so that it was lost.
+    fn ask_desk(&mut self, desk: DeskId, bytes: &[u8; 48])
+        requires { IsHanded self.old.game self.old.above bytes.now }
+        ensures kept { IsKept self.old self.new }
+    {
+        if self.known.early.lacks(self.known.from, desk) {
+            self.send_to_voter(desk, bytes);
+        }
+        let end = self.known.early.position().place.saturating_add(64);
+        let mut has_later = false;
+        for behind in 0..64 {
+            let place = end.saturating_sub(behind);
+            if self.known.early.has_at(desk, place) {
+                has_later = true;
+            } else if has_later {
+                self.ask_for_vote(desk, place);
             }
-            None => true,
         }
     }
 
-    /// Carries a datagram to all.
-    fn say(&mut self, bytes: &[u8; 64], now: u64) {
-        self.carrier.carry(bytes);
-        self.last_said.note(bytes, now);
-    }
-
-    /// Repeats to who asked last what was said behind a position, and answers the last position that was repeated.
-    fn repeat(&mut self, behind: Position) -> Position {
-        let mut at = behind;
-        for _ in 0..MOST_REPEATED {
-            let Some(vote) = self.said.behind(at) else {
-                break;
-            };
-            let bytes = vote.bytes;
-            self.carrier.carry_back(&bytes);
-            at = vote.at;
+    /// Hands the station's ask to all, or, where later votes are here, asks each desk for what is lacking of it.
+    fn ask(&mut self, bytes: &[u8; 48])
+        requires { IsHanded self.old.game self.old.above bytes.now }
+        ensures kept { IsKept self.old self.new }
+    {
+        if self.known.early.is_empty() {
+            self.link.send(bytes);
+            return;
         }
-        at
-    }
-
-    /// Repeats it, unless who asked had it repeated a moment ago.
-    fn repeat_once(&mut self, behind: Position) {
-        let peer = self.carrier.last_peer();
-        let now = self.clock.millis();
-        if self.repeats.may_repeat(peer, behind, now) {
-            let until = self.repeat(behind);
-            self.repeats.note(peer, until, now);
+        if hears(self.known.from, DeskId::A) {
+            self.ask_desk(DeskId::A, bytes);
+        }
+        if hears(self.known.from, DeskId::B) {
+            self.ask_desk(DeskId::B, bytes);
         }
     }
 
-    /// Says what the station said last once more, where that was two seconds ago: so others hear that it is there, also while
-    /// it has nothing to say unasked.
-    fn break_silence(&mut self, now: u64) {
-        if let Some(bytes) = self.last_said.due(now) {
-            self.say(&bytes, now);
+    /// Says the station's ask once more.
+    fn say_again(&mut self, now: u64)
+        ensures kept { IsKept self.old self.new }
+    {
+        if let Some(bytes) = self.known.asking.say_again(now) {
+            self.silence.end(now);
+            self.ask(&bytes);
         }
-    }
-
-    /// Whether the station's ask may be said without its doing: it was held, or later votes are here.
-    fn may_ask_again(&self) -> bool {
-        let has_later = !self.early.is_empty();
-        self.asking.may_say_again(self.early.position(), has_later)
     }
 
     /// Says the station's ask, where that is due. It answers how long a datagram is waited for.
-    fn ask_again(&mut self, wait: u64, now: u64) -> u64 {
-        if self.may_ask_again() && self.asking.left(now) == 0 {
-            let bytes = self.asking.say_again(now);
-            self.say(&bytes, now);
+    fn ask_again(&mut self, wait: u64, now: u64) -> u64
+        ensures kept { IsKept self.old self.new }
+    {
+        if self.known.may_ask_again() && self.known.asking.left(now) == 0 {
+            self.say_again(now);
         }
-        if self.may_ask_again() {
-            wait.min(self.asking.left(now))
+        if self.known.may_ask_again() {
+            wait.min(self.known.asking.left(now))
         } else {
             wait
         }
     }
 
-    /// Whether a vote came early: then it is kept, if it opens.
-    fn keeps(&mut self, vote: &Vote, bytes: &[u8; 64]) -> bool {
-        if !self.early.is_early(vote.position()) || self.seal.opened(bytes.as_slice()).is_none() {
-            return false;
-        }
-        self.early.keep(vote, bytes);
-        self.asking.follow(vote.desk, self.clock.millis());
-        true
-    }
-
-    /// Whether what came is for now: not a vote that is kept for later.
-    fn is_for_now(&mut self, bytes: &[u8; 64]) -> bool {
-        let Some(Message::Vote(vote)) = self.message_in(bytes) else {
-            return true;
-        };
-        if self.keeps(&vote, bytes) {
-            return false;
-        }
-        self.asking.hear(vote.position(), self.clock.millis());
-        true
-    }
-
-    /// The next datagram: a vote that was kept for the station's position, or what the carrier brings. A vote that comes
-    /// early is lost for now.
-    fn next(&mut self, buffer: &mut [u8; 65], wait: u64) -> Taken
-        ensures { (count : ℕ) → result ≡ Taken.Datagram count → count ≤ 65 }
+    /// The next datagram is to be given. Where the last one was an ask that was made up and brought no reply, its peer's
+    /// window ends.
+    fn begin_take(&mut self)
+        ensures kept { IsKept self.old self.new }
     {
-        if let Some(bytes) = self.early.take() {
+        if let Given::MadeUp(peer) = self.known.given {
+            self.company.close(peer);
+        }
+        self.known.given = Given::Other;
+    }
+
+    /// The next ask that is made up, where one is. It is as of a board, whoever the peer is, so that no desk passes for heard
+    /// by it.
+    fn made_up(&mut self) -> Option<[u8; 48]>
+        ensures kept { IsKept self.old self.new }
+        ensures ask { IfSome result (IsAsk self.new.game) }
+    {
+        let (peer, place) = self.company.next()?;
+        self.known.given = Given::MadeUp(peer);
+        ask_for(self.game, Asker::Board, Position { place, round: 0 })
+    }
+
+    /// What the link gives. A vote that comes early is lost for now.
+    fn brought(&mut self, buffer: &mut [u8; 64], wait: u64) -> Taken
+        ensures kept { IsKept self.old self.new }
+        ensures brought { (count : ℕ) → result ≡ Taken.Datagram count
+            → (count ≤ 64) × IsBrought self.new.game self.new.below (take count buffer.new) }
+    {
+        let taken = self.link.take(buffer, wait);
+        let peer = self.link.last_peer();
+        let now = self.clock.millis();
+        self.known.hear(self.game, taken, buffer, peer, now)
+    }
+
+    /// The next datagram: a vote that was kept for the station's position, an ask that is made up, or what the link brings.
+    fn next(&mut self, buffer: &mut [u8; 64], wait: u64) -> Taken
+        ensures kept { IsKept self.old self.new }
+        ensures brought { (count : ℕ) → result ≡ Taken.Datagram count
+            → (count ≤ 64) × IsBrought self.new.game self.new.below (take count buffer.new) }
+    {
+        self.begin_take();
+        if let Some(bytes) = self.known.early.take() {
             put(&bytes, buffer);
-            return Taken::Datagram(64);
+            return Taken::Datagram(48);
+        }
+        if let Some(bytes) = self.made_up() {
+            put(&bytes, buffer);
+            return Taken::Datagram(48);
         }
         let now = self.clock.millis();
         let wait = self.ask_again(wait, now);
         self.break_silence(now);
-        let count = match self.carrier.bring(buffer, wait) {
-            Taken::Datagram(count) => count,
-            missed => return missed,
-        };
-        let mut bytes = [0; 64];
-        bytes.copy_from_slice(&buffer[..64]);
-        if count == 64 && !self.is_for_now(&bytes) {
-            return Taken::Lost;
-        }
-        Taken::Datagram(count)
+        self.brought(buffer, wait)
     }
 
-    /// Carries what the station says to all, unless it asks for what is here.
-    fn send(&mut self, bytes: &[u8; 64]) {
-        if self.note(bytes) {
+    /// Hands a reply to who asked.
+    fn hand_back(&mut self, bytes: &[u8; 48])
+        requires { IsHanded self.old.game self.old.above bytes.now }
+        ensures kept { IsKept self.old self.new }
+    {
+        match self.known.given {
+            Given::MadeUp(peer) | Given::Answered(peer) => {
+                self.known.given = Given::Answered(peer);
+                self.link.send_to(peer, bytes);
+            }
+            Given::Ask | Given::Other => self.link.reply(bytes),
+        }
+    }
+
+    /// Notes that an ask that came was answered: the places behind it are asked for too.
+    fn note_reply(&mut self, bytes: &[u8; 48])
+        ensures kept { IsKept self.old self.new }
+    {
+        let is_asked = matches!(self.known.given, Given::Ask);
+        if let Ok(Message::Vote(vote)) = message_of(self.game, bytes.as_slice())
+            && is_asked
+        {
+            let peer = self.link.last_peer();
             let now = self.clock.millis();
+            self.company.open(peer, vote.place, now);
+        }
+    }
+}
+
+impl<L: PeerLink, C: Clock> Link for Window<L, C> {
+    ghost log = { λ window. window.above };
+
+    fn send(&mut self, bytes: &[u8; 48]) {
+        self.log = self.log.sent(bytes);
+        let now = self.clock.millis();
+        if self.note(bytes, now) {
             self.say(bytes, now);
         }
     }
 
-    /// Carries a reply to who asked, and what was said behind it.
-    fn send_back(&mut self, bytes: &[u8; 64]) {
-        self.carrier.carry_back(bytes);
-        if let Some(Message::Vote(vote)) = self.message_in(bytes) {
-            self.said.keep(vote.position(), bytes);
-            self.repeat_once(vote.position());
-        }
-    }
-}
-
-/// Carries sealed datagrams as another carrier does, and saves a station that is behind most of its round trips. It does
-/// what a network may: it repeats votes that were said, keeps back votes that came early until the station is there, says
-/// an ask later or once more, leaves out asks whose answers are here, and repeats what a station said that is silent.
-#[derive(Drop)]
-pub struct Window<R, C> {
-    repeater: Repeater<R, C>,
-    log: CarriedLog,
-}
-
-impl<R: SealedCarrier, C: Clock> Window<R, C> {
-    /// A window over a carrier, in the match of this number, with this seal.
-    pub fn new(alloc: Global, carrier: R, clock: C, game: u64, seal: Seal) -> Window<R, C> {
-        let repeater = Repeater {
-            carrier,
-            clock,
-            game,
-            seal,
-            said: SaidVotes::new(alloc),
-            repeats: Repeats::new(alloc),
-            early: EarlyVotes::new(alloc),
-            asking: Asking::new(),
-            last_said: LastSaid::new(),
-        };
-        Window {
-            repeater,
-            log: CarriedLog::Empty,
-        }
-    }
-}
-
-impl<R: SealedCarrier, C: Clock> SealedCarrier for Window<R, C> {
-    ghost use Rattle.links.specs.Logs.{carried_of};
-
-    ghost carried = { λ window. carried_of window.log };
-
-    fn carry(&mut self, bytes: &[u8; 64]) {
-        self.repeater.send(bytes);
+    fn reply(&mut self, bytes: &[u8; 48]) {
         self.log = self.log.sent(bytes);
+        self.hand_back(bytes);
+        self.note_reply(bytes);
     }
 
-    fn carry_back(&mut self, bytes: &[u8; 64]) {
-        self.repeater.send_back(bytes);
-        self.log = self.log.sent(bytes);
-    }
-
-    fn last_peer(&self) -> usize {
-        self.repeater.carrier.last_peer()
-    }
-
-    fn bring(&mut self, buffer: &mut [u8; 65], wait: u64) -> Taken {
-        match self.repeater.next(buffer, wait) {
+    fn take(&mut self, buffer: &mut [u8; 64], wait: u64) -> Taken {
+        match self.next(buffer, wait) {
             Taken::Datagram(count) => {
                 self.log = self.log.came(buffer, count);
                 Taken::Datagram(count)
@@ -256,4 +295,12 @@ impl<R: SealedCarrier, C: Clock> SealedCarrier for Window<R, C> {
             missed => missed,
         }
     }
+}
+
+/// What a window gave its link had given, and what its link was handed it had been handed, but for asks: votes are neither
+/// made up nor changed.
+pub fn what_passes_is_kept<L: PeerLink, C: Clock>(window: &Window<L, C>)
+    ensures { IsFaithful window.now.game window.now.above window.now.below }
+{
+    let _game = window.game;
 }

@@ -3,10 +3,9 @@
 ghost use Rattle.board.specs.Board.{state_of};
 ghost use Rattle.live.specs.Boards.{Asks};
 
-use links::Link;
-use links::send_each;
 use board::Board;
 use corrections::BookOf;
+use links::{Link, send_each};
 
 /// Has a board say what it says unasked.
 pub fn tick<B: BookOf, L: Link>(board: &Board<B>, link: &mut L)

@@ -10,13 +10,12 @@ ghost use Rattle.live.specs.Notices.{untold};
 ghost use Rattle.live.specs.Runs.{with_text};
 
 use crate::board_loop::run_board;
-use links::Clock;
-use links::Link;
 use crate::notices::Notices;
 use crate::shows::Shows;
 use board::Board;
 use cards::MatchSheet;
 use corrections::BookOf;
+use links::{Clock, Link};
 use std::io::Write;
 use streams::{Watched, WriteFailed};
 

@@ -4,21 +4,20 @@ ghost use Rattle.std.specs.Prelude.{◌≡◌, ◌<◌, ◌+◌, ℕ, true, fals
 ghost use Rattle.cards.specs.Sheet.{Sheet};
 ghost use Rattle.streams.specs.Watched.{has_failed, stream_of};
 ghost use Rattle.live.specs.Boards.{BoardGoes, BoardRuns, at_turn, in_turn};
-ghost use Rattle.live.specs.Notices.{untold};
+ghost use Rattle.live.specs.Notices.{notices_unopened, telling_unopened, untold};
 ghost use Rattle.links.specs.Passed.{Came, Passed};
 ghost use Rattle.links.specs.declared.link.TheConstants.{MOST_TAKEN};
 ghost use Rattle.live.specs.declared.notices.Notice.{Notice};
 
 use crate::board_calls;
-use links::Clock;
 use crate::hearing::promises_more;
-use links::{Link, MOST_TAKEN, ROOM, Taken};
 use crate::notices::{Notices, Telling};
 use crate::pace::Pace;
 use crate::shows::Shows;
 use board::Board;
 use cards::MatchSheet;
 use corrections::BookOf;
+use links::{Clock, Link, MOST_TAKEN, ROOM, Taken};
 use std::io::Write;
 use streams::{Watched, WriteFailed};
 
@@ -65,6 +64,15 @@ fn give<B: BookOf, N: Notices>(
     between.pace.note(board.position() != at, may_come, now);
 }
 
+/// Tells that bytes came that don't open, unless it was told. Nothing else changes: what is said unasked, and when.
+fn pass_over<N: Notices>(notices: &mut N, between: &mut Between)
+    ensures telling { between.new.telling ≡ telling_unopened between.old.telling }
+    ensures told { N.told notices.new ≡ notices_unopened between.old.telling (N.told notices.old) }
+    ensures pace { between.new.pace ≡ between.old.pace }
+{
+    between.telling = between.telling.unopened(notices);
+}
+
 /// Says what is due, and takes the next datagram. The first one of a turn is waited for, until something is due. It answers
 /// whether one was taken.
 fn take_next<B: BookOf, L: Link, C: Clock, N: Notices>(
@@ -97,7 +105,7 @@ fn take_next<B: BookOf, L: Link, C: Clock, N: Notices>(
             true
         }
         Taken::Unopened => {
-            between.telling = between.telling.unopened(notices);
+            pass_over(notices, between);
             true
         }
         Taken::Nothing | Taken::Lost => false,

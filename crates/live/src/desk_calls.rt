@@ -6,13 +6,12 @@ ghost use Rattle.desk.specs.Desk.{disk_of, state_of};
 ghost use Rattle.live.specs.Desks.{Calls, Given, Ticked, Typed};
 ghost use Rattle.links.specs.Passed.{Passed};
 
-use links::Link;
 use crate::said::{Said, entry_said};
-use links::send_each;
 use cards::MatchSheet;
 use corrections::BookOf;
 use desk::Desk;
 use entry_log::SlotsOf;
+use links::{Link, send_each};
 use wire::What;
 
 /// Has a desk pen the entry that a line says in full, by the desk's book and its sheet, and sends its vote.

@@ -9,16 +9,14 @@ ghost use Rattle.live.specs.DeskLife.{DeskLives};
 ghost use Rattle.live.specs.Desks.{FitsLongest};
 
 use crate::begin::begin_desk;
-use links::Clock;
 use crate::desk_loop::run_desk;
 use crate::ends::DeskEnd;
-use links::Keys;
-use links::Link;
 use agree_core::DeskId;
 use cards::MatchSheet;
 use corrections::BookOf;
 use desk::OpenRefusal;
 use entry_log::SlotsOf;
+use links::{Clock, Keys, Link};
 use std::alloc::Global;
 use std::io::Write;
 use streams::Watched;

@@ -17,12 +17,9 @@ ghost use Rattle.links.specs.Typing.{Input};
 
 use crate::between::Between;
 use crate::both::Both;
-use links::Clock;
 use crate::desk_calls::{give, pen, tick};
 use crate::ends::{DeskEnd, end_at, end_of, told};
 use crate::hearing::{entry_in, promises_more};
-use links::{Keys, LINE_ROOM, Typed};
-use links::{Link, MOST_TAKEN, ROOM, Taken};
 use crate::news::{print_came, print_unopened};
 use crate::pace::Pace;
 use crate::peer::Peer;
@@ -34,6 +31,7 @@ use cards::MatchSheet;
 use corrections::BookOf;
 use desk::Desk;
 use entry_log::SlotsOf;
+use links::{Clock, Keys, LINE_ROOM, Link, MOST_TAKEN, ROOM, Taken, Typed};
 use notation::Entry;
 use std::io::Write;
 use streams::Watched;
@@ -111,7 +109,7 @@ fn hear<S: SlotsOf, B: BookOf + Drop, L: Link, W: Write>(
     between
         .pace
         .note(desk.position() != at, promises_more(what), now);
-    between.peer.note(sheet.game(), bytes, what, now);
+    between.peer.note(at, sheet.game(), bytes, what, now);
     let warned = between.warned;
     between.warned = warned.after(what);
     if let Err(end) = end_at(what) {
@@ -121,9 +119,12 @@ fn hear<S: SlotsOf, B: BookOf + Drop, L: Link, W: Write>(
     told(print_came(out, sheet, place, warned, both, what, desk.book()))
 }
 
-/// Tells the scorer that bytes came that don't open, unless it was told since a vote that is news came.
+/// Tells the scorer that bytes came that don't open, unless it was told since a vote that is news came. Nothing else changes:
+/// what is said unasked and when, and when the other desk was heard.
 fn pass_over<W: Write>(out: &mut Watched<W>, between: &mut Between) -> Result<(), DeskEnd>
     ensures warned { between.new.warned ≡ warned_unopened between.old.warned }
+    ensures pace { between.new.pace ≡ between.old.pace }
+    ensures peer { between.new.peer ≡ between.old.peer }
     ensures text { Appends (known_at result (W.contents (stream_of out.old)))
         (known_at result (W.contents (stream_of out.new))) (unopened_text between.old.warned) }
     ensures course { course_of result ≡ further }

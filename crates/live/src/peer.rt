@@ -1,17 +1,67 @@
 //! When the other desk was heard.
 
-use agree_core::{Asker, DeskId, Heard, Message};
+ghost use Rattle.std.specs.Prelude.{◌≡◌, ◌⊎◌, true};
+ghost use Rattle.agree_core.specs.Desks as desks;
+ghost use Rattle.agree_core.specs.Readers as readers;
+ghost use Rattle.wire.specs.Layout.{is_at};
+ghost use Rattle.live.specs.Signs as signs;
+ghost use Rattle.live.specs.Signs.{IsSign};
+
+use agree_core::{Asker, DeskId, Heard, Message, Position};
 use wire::{What, message_of};
 
 /// After how many milliseconds a scorer is told that the other has written, or isn't heard.
 const LATE: u64 = 5_000;
+
+/// A desk as one who asks.
+fn asker(desk: DeskId) -> Asker
+    ensures { result ≡ desks.asker desk }
+{
+    match desk {
+        DeskId::A => Asker::A,
+        DeskId::B => Asker::B,
+    }
+}
+
+/// The other desk.
+fn other(desk: DeskId) -> DeskId
+    ensures { result ≡ readers.other desk }
+{
+    match desk {
+        DeskId::A => DeskId::B,
+        DeskId::B => DeskId::A,
+    }
+}
+
+/// Who says a message.
+fn sender_of(message: &Message) -> Asker
+    ensures { result ≡ signs.sender_of message.now }
+{
+    match message {
+        Message::Vote(vote) => asker(vote.desk),
+        Message::Ask(ask) => ask.from,
+    }
+}
+
+/// The position that a message is for.
+fn position_of(message: &Message) -> Position
+    ensures { result ≡ is_at message.now }
+{
+    match message {
+        Message::Vote(vote) => vote.position(),
+        Message::Ask(ask) => Position {
+            place: ask.place,
+            round: ask.round,
+        },
+    }
+}
 
 /// When something of the other desk came.
 #[derive(Clone, Copy, Debug, PartialEq, Eq)]
 pub struct Peer {
     /// The letter of this desk.
     own: DeskId,
-    /// When a vote or an ask of the other desk came last; at first when the process began.
+    /// When a vote or an ask of the other desk for this desk's position came last; at first when the process began.
     heard: u64,
     /// When the other's vote that was noted last came.
     noted: u64,
@@ -27,9 +77,12 @@ impl Peer {
         }
     }
 
-    /// Bytes came, in a match of this number, and this was answered.
-    pub fn note(&mut self, game: u64, bytes: &[u8], what: What, now: u64) {
-        if self.is_other(game, bytes) {
+    /// Bytes came while the desk was at this position, in a match of this number, and this was answered. Only a sign of the
+    /// other desk has it heard: what was said at an earlier position may be a repeat by whoever keeps datagrams.
+    pub fn note(&mut self, at: Position, game: u64, bytes: &[u8], what: What, now: u64)
+        ensures heard { self.new.heard ≡ self.old.heard ⊎ IsSign self.old.own game at bytes.now }
+    {
+        if self.is_sign(at, game, bytes) {
             self.heard = now;
         }
         if matches!(what, What::Heard(Heard::Noted)) {
@@ -47,15 +100,15 @@ impl Peer {
         now.saturating_sub(self.noted) >= LATE
     }
 
-    /// Whether the bytes are a vote or an ask of the other desk.
-    fn is_other(&self, game: u64, bytes: &[u8]) -> bool {
+    /// Whether the bytes are a sign of the other desk.
+    fn is_sign(&self, at: Position, game: u64, bytes: &[u8]) -> bool
+        ensures { result ≡ true → IsSign self.now.own game at bytes.now }
+    {
         match message_of(game, bytes) {
-            Ok(Message::Vote(vote)) => vote.desk != self.own,
-            Ok(Message::Ask(ask)) => match ask.from {
-                Asker::A => self.own == DeskId::B,
-                Asker::B => self.own == DeskId::A,
-                Asker::Board => false,
-            },
+            Ok(message) => {
+                sender_of(&message) == asker(other(self.own))
+                    && (position_of(&message) == at || at.is_full())
+            }
             Err(_) => false,
         }
     }

@@ -79,12 +79,15 @@ fn vote(rt: &impl Abort, desk: DeskId, place: u32, round: u32, line: &str) -> [u
 
 /// An ask for the votes of the first position.
 fn ask(from: Asker) -> [u8; 48] {
-    let ask = Ask {
-        from,
-        place: 0,
-        round: 0,
-    };
-    bytes_of(7, &Message::Ask(ask))
+    ask_at(from, 0, 0)
+}
+
+/// An ask for the votes of a position.
+fn ask_at(from: Asker, place: u32, round: u32) -> [u8; 48]
+    requires place { place < PLACES }
+    requires round { round < ROUNDS }
+{
+    bytes_of(7, &Message::Ask(Ask { from, place, round }))
 }
 
 /// How desk A's process ends over these lines and datagrams, and what its scorer is told.

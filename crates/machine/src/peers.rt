@@ -1,6 +1,6 @@
 //! A station's socket, and the addresses of its peers.
 
-ghost use Rattle.std.specs.Prelude.{◌≡◌, ◌≤◌, ℕ};
+ghost use Rattle.std.specs.Prelude.{◌≡◌, ◌≤◌, ℕ, [], IfOk};
 
 use crate::address::MOST_PEERS;
 use crate::port::{Port, is_late, missed};
@@ -75,6 +75,13 @@ impl<E: Write + Drop> Mail<E> {
         }
     }
 
+    /// Sends bytes to the peer at this place.
+    fn send_one(&mut self, peer: usize, bytes: &[u8; 64]) {
+        if peer < MOST_PEERS && self.peers[peer].is_some() {
+            self.send(bytes, self.peers[peer]);
+        }
+    }
+
     /// The place of the peer whose datagram was taken last.
     fn last_index(&self) -> usize {
         let found = self.peers.iter().position(|peer| *peer == self.last);
@@ -115,6 +122,8 @@ pub struct Peers<E> {
 }
 
 impl<E: Write + Drop> Peers<E> {
+    ghost use Rattle.links.specs.Logs.{carried_of};
+
     /// A socket at this address, in the match with this seal, of which no call waits without a limit. Where a keyboard's
     /// descriptor is named, a wait for datagrams ends for it too.
     pub fn new(
@@ -124,7 +133,9 @@ impl<E: Write + Drop> Peers<E> {
         keyboard: Option<RawFd>,
         seal: Seal,
         errors: E,
-    ) -> io::Result<Peers<E>> {
+    ) -> io::Result<Peers<E>>
+        ensures { IfOk result (λ peers. carried_of peers.log ≡ []) }
+    {
         let mut port = Port::new(net, at)?;
         if let Some(descriptor) = keyboard {
             port.watch(descriptor);
@@ -156,6 +167,11 @@ impl<E: Write + Drop> SealedCarrier for Peers<E> {
 
     fn carry_back(&mut self, bytes: &[u8; 64]) {
         self.mail.send_back(bytes);
+        self.log = self.log.sent(bytes);
+    }
+
+    fn carry_to(&mut self, peer: usize, bytes: &[u8; 64]) {
+        self.mail.send_one(peer, bytes);
         self.log = self.log.sent(bytes);
     }
 

@@ -1,5 +1,5 @@
 -- What opened at a station was sent, since all that stations send are messages.
-use Rattle.std.proofs.Common.{arith, ◌≡◌, ℕ, Bool, true, nat_eq, List, [], ◌∷◌, ◌++◌, refl}
+use Rattle.std.proofs.Common.{arith, ◌≡◌, ℕ, Bool, true, nat_eq, List, [], ◌∷◌, ◌++◌, refl, subst}
 use Rattle.std.specs.Prelude.{All}
 use Rattle.std.specs.List.{filter}
 use Rattle.std.proofs.lemmas.Bool.{eq-eqb}
@@ -10,7 +10,7 @@ use Rattle.agree_core.specs.declared.messages.{DeskId.DeskId, Message.Message}
 use Rattle.agree_core.specs.declared.messages.DeskId.TheVariants.{A, B}
 use Rattle.agree_core.specs.Desks.{DeskState}
 use Rattle.agree_core.specs.FileView.{FileView}
-use Rattle.wire.specs.Layout.{IsMessage}
+use Rattle.wire.specs.Layout.{IsMessage, Says}
 use Rattle.headline.specs.declared.version.FileVersion.{FileVersion}
 use Rattle.headline.specs.Configurations.{Configuration, Node}
 use Rattle.live.specs.Boards as boards
@@ -20,6 +20,7 @@ use Rattle.live.specs.Desks.{DeskCall, DeskProcess}
 use Rattle.live.specs.declared.notices.Notice.{Notice}
 use Rattle.live.specs.Runs as own
 use Rattle.seal.proofs.Unforged.{opened_was_sent}
+use Rattle.headline.proofs.Given.{may_be_given}
 use Rattle.processes.specs.Happenings.{BoardBegun, BoardCalled, BoardCame, DeskCalled, DeskCame, Happening, WasSent, after, after_one}
 use Rattle.processes.specs.Lives.{BoardProcess, IsBoardLife, IsLife, IsNextStage, Stage, after_life, board_calls, board_happens, calls_of, fresh_turn, life_happens, stage_happens}
 use Rattle.processes.specs.Sealing.{BoardAuthentic, DeskAuthentic, IsAuthentic}
@@ -28,7 +29,9 @@ use Rattle.processes.specs.Weaving.{NothingIsForged, is_at_board, is_at_desk}
 use Rattle.processes.proofs.Weaving.{Came, NothingComesEarly, with_one}
 
 was_sent : (seal : List ℕ) (game : ℕ) (sent : List Message) (message : List ℕ) → All IsMessage sent → IsAuthentic seal game sent message → WasSent game sent message
-was_sent seal game sent message fine h m says = opened_was_sent seal game sent h.0 message fine h.3 h.1 h.2 m says
+was_sent seal game sent message fine h m says = may_be_given sent m (λ v e.
+    let came = h v (subst (Says game message) e says) in
+    opened_was_sent seal game sent came.0 message fine came.3 came.1 came.2 m says)
 
 desk_came : (seal : List ℕ) (game : ℕ) (sent : List Message) (call : DeskCall) → All IsMessage sent → DeskAuthentic seal game sent call → DeskCame game sent call
 desk_came seal game sent (desks.Given message what) fine h = was_sent seal game sent message fine h

@@ -11,6 +11,8 @@ use Rattle.agree_core.specs.Desks.{PenAnswer, ReceiveAnswer}
 use Rattle.agree_core.specs.Readers.{other}
 use Rattle.wire.specs.Layout.{Says}
 use Rattle.wire.proofs.MessageLemmas.{says_once}
+use Rattle.headline.specs.Given.{IsGiven}
+use Rattle.headline.proofs.Given.{given_vote}
 use Rattle.headline.specs.declared.{event.Event.Event, event.Station.Station, version.FileVersion.FileVersion}
 use Rattle.headline.specs.Answers as answers
 use Rattle.headline.specs.Answers.{Answer}
@@ -56,9 +58,10 @@ module _
             (keeps.0, rw last brought, told)
 
         -- the datagram that was sent is the vote
-        sent_vote : (bytes : List ℕ) (m : Message) → Says game bytes m → SayVote game bytes (other c) b → (i : ℕ) → slice_get v.sent i ≡ Some m
+        sent_vote : (bytes : List ℕ) (m : Message) → Says game bytes m → SayVote game bytes (other c) b → (i : ℕ) → IsGiven v.sent i m
             → slice_get v.sent i ≡ Some (Message.Vote (vote_of (other c) b))
-        sent_vote bytes m says vote i at = at ∙ ap Some (says_once game bytes m (Message.Vote (vote_of (other c) b)) says vote)
+        sent_vote bytes m says vote i at = given_vote v.sent i (vote_of (other c) b)
+            (subst (IsGiven v.sent i) (says_once game bytes m (Message.Vote (vote_of (other c) b)) says vote) at)
 
         came : {u : Station} → (u ≡ Station.Desk (other c) → ⊥) → (i : ℕ) → t ≡ u → slice_get v.sent i ≡ Some (Message.Vote (vote_of (other c) b))
             → noted.Brings v (Event.Give i u) t (other c) b

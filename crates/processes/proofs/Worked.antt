@@ -99,10 +99,10 @@ vote_out d = All-cons IsMessage (Message.Vote (vote_of d the_vote)) [] (is_messa
 
 -- a station had sealed it
 a_sealed : (seal : List ℕ) (more : List Message) → IsAuthentic seal 7 (a_says ∷ more) a_bytes
-a_sealed seal more = (sealed seal a_bytes, refl, refl, λ m long same. (0, refl))
+a_sealed seal more = λ v says. (sealed seal a_bytes, refl, refl, λ m long same. (0, refl))
 
 b_sealed : (seal : List ℕ) → IsAuthentic seal 7 (a_says ∷ b_says ∷ []) b_bytes
-b_sealed seal = (sealed seal b_bytes, refl, refl, λ m long same. (1, refl))
+b_sealed seal = λ v says. (sealed seal b_bytes, refl, refl, λ m long same. (1, refl))
 
 -- ---- desk A
 

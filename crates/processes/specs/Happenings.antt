@@ -1,5 +1,5 @@
 -- What happens to the processes of two desks and of boards, in one order, and the configuration that it leaves.
-use Rattle.std.specs.Prelude.{◌≡◌, ℕ, List, [], ◌∷◌, ◌++◌, Some, slice_get}
+use Rattle.std.specs.Prelude.{◌≡◌, ℕ, List, [], ◌∷◌, ◌++◌, Some}
 use Rattle.corrections.specs.Refusal.{book_refusal}
 use Rattle.cards.specs.Sheet.{Sheet}
 use Rattle.agree_core.specs.declared.messages.{DeskId.DeskId, Message.Message}
@@ -13,6 +13,7 @@ use Rattle.headline.specs.declared.version.FileVersion.{FileVersion}
 use Rattle.headline.specs.declared.version.FileVersion.TheVariants.{Old, New}
 use Rattle.headline.specs.Configurations.{Process, Running, Down, Node, Configuration, board_at, node, process_disk, process_votes, with_board, with_node}
 use Rattle.headline.specs.DeskFaults.{LosesPower}
+use Rattle.headline.specs.Given.{IsGiven}
 use Rattle.headline.specs.Migrations.{Migrates, ToNew}
 use Rattle.live.specs.Boards as boards
 use Rattle.live.specs.Boards.{BoardCall, BoardStep}
@@ -65,9 +66,9 @@ abbrev pub after : {Disk : Type 0} → Configuration Disk → List (Happening Di
 after w [] = w
 after w (h ∷ hs) = after_one (after w hs) h
 
--- where these bytes read as a message of the match, one of the stations sent it before
+-- where these bytes read as a message of the match, one of the stations sent it before, or it is an ask
 abbrev pub WasSent : ℕ → List Message → List ℕ → Type 0
-WasSent game sent bytes = (m : Message) → Says game bytes m → (i : ℕ) × (slice_get sent i ≡ Some m)
+WasSent game sent bytes = (m : Message) → Says game bytes m → (i : ℕ) × IsGiven sent i m
 
 -- so for the datagram of a call, where it has one
 abbrev pub DeskCame : ℕ → List Message → DeskCall → Type 0

@@ -57,7 +57,7 @@ board_gives k l n t d answer sent there takes messages b =
     let found = message_at (written (board_game k)) messages n d.bytes (ap (λ (z : List (List ℕ)). slice_get z n) (sym b.1) ∙ datagram_at sent n d there) in
     let taken = takes_as (match_of (board_game k) (board_innings k)).rules (board_game k) (board_state k) (board_state l) d.bytes answer found.0
     (all_at IsMessage messages n found.0 b.0 found.1, found.2) takes in
-    ([], board_told taken.0, taken.1, (found.0, taken.0, found.1, taken.2, refl, refl), no_bytes (board_game k) sent messages b)
+    ([], board_told taken.0, taken.1, (found.0, taken.0, inl found.1, taken.2, refl, refl), no_bytes (board_game k) sent messages b)
 
 -- what a tick hands out
 pub board_ticks : (k : MatchBoard) (t : Station) (n : ℕ) (out before after : List Datagram) → AreSent (board_game k) (map (λ (d : Datagram). d.bytes) out) (BoardTicks (board_state k))

@@ -1,5 +1,5 @@
 -- Bytes that were handed out are taken as the message that they say.
-use Rattle.std.proofs.Common.{arith, ◌≡◌, ◌≢◌, ℕ, Option, Some, None, List, [], ◌++◌, map, refl, sym, ap, ◌∙◌, subst, Ok, Err}
+use Rattle.std.proofs.Common.{arith, ◌≡◌, ◌≢◌, ℕ, Option, Some, None, List, [], ◌++◌, map, refl, sym, ap, ◌∙◌, subst, inl, Ok, Err}
 use Rattle.std.specs.Prelude.{◌<◌, All, IsErrOf, length, slice_index_or, true, false, is_some, option_map, slice_get}
 use Rattle.std.specs.Bool.{⊤}
 use Rattle.std.proofs.lemmas.List.Elements.{All-get_or}
@@ -123,7 +123,7 @@ give_runs_on old k l n t d r before after here there step owner faults calm byte
       step.0,
       answer_to taken.0 step.0,
       seen_is r.what r.reply taken.0 step.0 taken.1 calm (any_reply old.game r.reply step.0 given.said),
-      (state_of k, state_of l, given.message, taken.0, runs.process, given.there, taken.2, after_receive view x taken.0 (state_of l) step.0 (not_failed r.what taken.0 taken.1 calm)),
+      (state_of k, state_of l, given.message, taken.0, runs.process, inl given.there, taken.2, after_receive view x taken.0 (state_of l) step.0 (not_failed r.what taken.0 taken.1 calm)),
       runs_on old k l x here h owner faults,
       more_bytes old.game before after messages step.0 (replied r.reply) b step.1 given.said bytes,
     )
@@ -142,7 +142,7 @@ give_breaks old new k l n t d r seen before here there step owner blame device b
     let bytes : AreBytesOf old.game before (messages ++ step.0) = rw out (no_bytes old.game before messages b) in
     let blamed = rw device at blame in
     let broken = broken_site old new k l x (Cause.Desk refusals.Device) seen here h owner (λ q. blamed.calm q tt refl) (λ o. blamed.spent o tt refl) refl broke in
-    (broken.0, step.0, broken.1, broken.2, (state_of k, state_of l, given.message, ReceiveAnswer.DeviceFailed, runs.process, given.there, received, broken.3), broken.4, bytes)
+    (broken.0, step.0, broken.1, broken.2, (state_of k, state_of l, given.message, ReceiveAnswer.DeviceFailed, runs.process, inl given.there, received, broken.3), broken.4, bytes)
   where
     nothing_out : (view : FileView MemDisk) (k l : DeskState MemDisk) (m : Message) (out : List Message) → Receives view k m ReceiveAnswer.DeviceFailed l out → out ≡ []
     nothing_out view k l m out h = grind arith

@@ -1,7 +1,8 @@
 //! Opening files, standard output and sockets. Each fault names the file or the address that was at work.
 
-ghost use Rattle.std.specs.Prelude.{◌≡◌, ◌≤◌, IfOk, vec_len};
+ghost use Rattle.std.specs.Prelude.{◌≡◌, ◌≤◌, [], IfOk, vec_len};
 ghost use Rattle.streams.specs.declared.limit.TheConstants.{LONGEST_INPUT};
+ghost use Rattle.links.specs.Logs.{carried_of};
 ghost use Rattle.setup.specs.inner.Opening as texts;
 
 use crate::fault::{StopFault, Stopped};
@@ -96,7 +97,9 @@ pub fn peers_at<'a, E: Write + Drop>(
     keyboard: Option<RawFd>,
     seal: Seal,
     errors: E,
-) -> Result<Peers<E>, Stopped<'a>> {
+) -> Result<Peers<E>, Stopped<'a>>
+    ensures { IfOk result (λ peers. carried_of peers.log ≡ []) }
+{
     Peers::new(net, at.socket, peers, keyboard, seal, errors).map_err(|_| Stopped {
         path: at.text,
         fault: StopFault::Listen,

@@ -1,21 +1,20 @@
 //! What a station's datagrams are sealed with: the key in a file, or none, and the match sheet.
 
-ghost use Rattle.std.specs.Prelude.{◌≡◌, None, IfOk, IfSome, vec_len};
+ghost use Rattle.std.specs.Prelude.{◌≡◌, [], None, IfOk, IfSome, vec_len};
 ghost use Rattle.setup.specs.Keys as keys;
 
 use crate::fault::{StopFault, Stopped};
 use crate::opening::{bytes_at, peers_at};
 use cards::{MatchSheet, digest_of};
-use links::Sealed;
+use links::{Sealed, Window};
 use machine::{Address, MOST_PEERS, MonotonicClock, Peers};
 use seal::Seal;
 use std::io::{self, Write};
 use std::net::SocketAddr;
 use std::os::fd::RawFd;
-use links::Window;
 
-/// A station's link: over sealed datagrams, in a window, at a socket.
-pub type StationLink<'r, E> = Sealed<Window<Peers<E>, MonotonicClock<'r, HostRuntime>>>;
+/// A station's link: in a window, over sealed datagrams, at a socket.
+pub type StationLink<'r, E> = Window<Sealed<Peers<E>>, MonotonicClock<'r, HostRuntime>>;
 
 /// How many bytes a key has at least.
 pub const SHORTEST_KEY: usize = 16;
@@ -102,11 +101,13 @@ impl Sealing {
         peers: [Option<SocketAddr>; MOST_PEERS],
         keyboard: Option<RawFd>,
         errors: E,
-    ) -> Result<StationLink<'r, E>, Stopped<'a>> {
+    ) -> Result<StationLink<'r, E>, Stopped<'a>>
+        ensures { IfOk result (λ link. (link.game ≡ self.now.game) × (link.above ≡ [])) }
+    {
         let peers = peers_at(rt, at, peers, keyboard, self.seal(), errors)?;
         let clock = MonotonicClock::new(rt);
-        let window = Window::new(rt.alloc(), peers, clock, self.game, self.seal());
-        Ok(Sealed::new(window, self.seal()))
+        let link = Sealed::new(peers, self.seal());
+        Ok(Window::new(rt.alloc(), link, clock, self.game))
     }
 }
 

@@ -2,10 +2,9 @@
 ghost use Rattle.std.specs.Prelude.{◌<◌};
 
 use super::*;
-use links::{CarriedLog, Clock, SealedCarrier, Taken};
+use links::{CarriedLog, Clock, Link, Sealed, SealedCarrier, Taken, Window};
 use seal::Seal;
 use std::cell::Cell;
-use links::Window;
 
 const KEY: &[u8] = b"a key of sixteen";
 
@@ -16,6 +15,8 @@ const SHEET: [u8; 32] = [9; 32];
 struct World {
     now: Cell<u64>,
     peer: Cell<usize>,
+    /// To which peer alone a datagram was sent last.
+    to: Cell<usize>,
     brings: Cell<Option<[u8; 64]>>,
     /// How many datagrams were sent to all, and how many back, and the last of them.
     sent: Cell<usize>,
@@ -30,6 +31,7 @@ impl World {
         World {
             now: Cell::new(0),
             peer: Cell::new(0),
+            to: Cell::new(9),
             brings: Cell::new(None),
             sent: Cell::new(0),
             back: Cell::new(0),
@@ -74,6 +76,11 @@ impl SealedCarrier for Post<'_> {
         self.log = self.log.sent(bytes);
     }
 
+    fn carry_to(&mut self, peer: usize, bytes: &[u8; 64]) {
+        self.world.to.set(peer);
+        self.carry_back(bytes);
+    }
+
     fn last_peer(&self) -> usize {
         self.world.peer.get()
     }
@@ -91,46 +98,42 @@ impl SealedCarrier for Post<'_> {
     }
 }
 
-type Windowed<'a> = Window<Post<'a>, Hand<'a>>;
+type Windowed<'a> = Window<Sealed<Post<'a>>, Hand<'a>>;
 
 fn windowed(alloc: Global, world: &World) -> Windowed<'_> {
     let post = Post {
         world,
         log: CarriedLog::Empty,
     };
-    Window::new(alloc, post, Hand { world }, 7, Seal::new(KEY, &SHEET))
+    Window::new(alloc, Sealed::new(post, seal()), Hand { world }, 7)
 }
 
-/// A vote of a desk, sealed.
-fn sealed_vote(rt: &impl Abort, desk: DeskId, place: u32, round: u32) -> [u8; 64]
+/// The match's seal.
+fn seal() -> Seal {
+    Seal::new(KEY, &SHEET)
+}
+
+/// A vote for a position.
+fn over(rt: &impl Abort, desk: DeskId, place: u32, round: u32) -> [u8; 48]
     requires place { place < PLACES }
     requires round { round < ROUNDS }
 {
-    Seal::new(KEY, &SHEET).sealed(&vote(rt, desk, place, round, "over"))
+    vote(rt, desk, place, round, "over")
 }
 
-/// An ask for the votes of a position, sealed.
-fn sealed_ask(from: Asker, place: u32, round: u32) -> [u8; 64]
-    requires place { place < PLACES }
-    requires round { round < ROUNDS }
-{
-    let ask = Ask { from, place, round };
-    Seal::new(KEY, &SHEET).sealed(&bytes_of(7, &Message::Ask(ask)))
+/// What is given where this comes, sealed.
+fn given(window: &mut Windowed<'_>, world: &World, message: [u8; 48]) -> Taken {
+    world.brings.set(Some(seal().sealed(&message)));
+    window.take(&mut [0; 64], 0)
 }
 
-/// What is given where this comes.
-fn given(window: &mut Windowed<'_>, world: &World, bytes: [u8; 64]) -> Taken {
-    world.brings.set(Some(bytes));
-    window.bring(&mut [0; 65], 0)
-}
-
-/// The datagram that is given where nothing comes.
-fn kept(window: &mut Windowed<'_>) -> Option<[u8; 64]> {
-    let mut buffer = [0; 65];
-    match window.bring(&mut buffer, 250) {
-        Taken::Datagram(64) => {
-            let mut bytes = [0; 64];
-            bytes.copy_from_slice(&buffer[..64]);
+/// The message that is given where nothing comes.
+fn kept(window: &mut Windowed<'_>) -> Option<[u8; 48]> {
+    let mut buffer = [0; 64];
+    match window.take(&mut buffer, 250) {
+        Taken::Datagram(48) => {
+            let mut bytes = [0; 48];
+            bytes.copy_from_slice(&buffer[..48]);
             Some(bytes)
         }
         _ => None,
@@ -138,58 +141,80 @@ fn kept(window: &mut Windowed<'_>) -> Option<[u8; 64]> {
 }
 
 #[test]
-fn a_reply_is_followed(rt: HostRuntime) {
+fn an_ask_stands_for_those_behind_it(rt: HostRuntime) {
     let world = World::new();
     let mut window = windowed(rt.alloc(), &world);
-    for place in 0..80 {
-        window.carry(&sealed_vote(&rt, DeskId::A, place, 0));
+    world.peer.set(2);
+    assert_eq!(rt;
+        given(&mut window, &world, ask_at(Asker::Board, 0, 0)),
+        Taken::Datagram(48)
+    );
+    window.reply(&over(&rt, DeskId::A, 0, 0));
+    for place in 1..64 {
+        world.peer.set(0);
+        assert!(rt; kept(&mut window) == Some(ask_at(Asker::Board, place, 0)));
+        window.reply(&over(&rt, DeskId::A, place, 0));
+        assert_eq!(rt; world.to.get(), 2);
     }
-    assert_eq!(rt; (world.sent.get(), world.back.get()), (80, 0));
-    window.carry_back(&sealed_vote(&rt, DeskId::A, 0, 0));
-    assert_eq!(rt; (world.sent.get(), world.back.get()), (80, 64));
-    assert!(rt; world.last.get() == sealed_vote(&rt, DeskId::A, 63, 0));
-    // to the same peer again: within what was repeated not before 4 ms are over, and behind it at once
-    world.now.set(1);
-    window.carry_back(&sealed_vote(&rt, DeskId::A, 5, 0));
-    assert_eq!(rt; world.back.get(), 65);
-    window.carry_back(&sealed_vote(&rt, DeskId::A, 64, 0));
-    assert_eq!(rt; world.back.get(), 81);
-    assert!(rt; world.last.get() == sealed_vote(&rt, DeskId::A, 79, 0));
-    world.now.set(5);
-    window.carry_back(&sealed_vote(&rt, DeskId::A, 5, 0));
-    assert_eq!(rt; world.back.get(), 145);
-    // another peer has its own
-    world.peer.set(1);
-    window.carry_back(&sealed_vote(&rt, DeskId::A, 78, 0));
-    assert_eq!(rt; world.back.get(), 147);
+    assert!(rt; kept(&mut window).is_none());
+    assert_eq!(rt; (world.sent.get(), world.back.get()), (0, 64));
+    // within what was asked for so the same peer's ask stands for itself alone, and behind it for others
+    world.peer.set(2);
+    given(&mut window, &world, ask_at(Asker::Board, 5, 0));
+    window.reply(&over(&rt, DeskId::A, 5, 0));
+    assert!(rt; kept(&mut window).is_none());
+    given(&mut window, &world, ask_at(Asker::Board, 64, 0));
+    window.reply(&over(&rt, DeskId::A, 64, 0));
+    assert!(rt; kept(&mut window) == Some(ask_at(Asker::Board, 65, 0)));
+    // without an answer it ends
+    assert!(rt; kept(&mut window).is_none());
+}
+
+// An ask every 10 ms, of which each may stand for those behind it: 130 do, and one more every 100 ms.
+#[test]
+fn a_peer_has_so_many_windows(rt: HostRuntime) {
+    let world = World::new();
+    let mut window = windowed(rt.alloc(), &world);
+    let mut opened: u32 = 0;
+    for turn in 0..600_u32 {
+        world.now.set(u64::from(turn) * 10);
+        let place = turn * 2;
+        given(&mut window, &world, ask_at(Asker::Board, place, 0));
+        window.reply(&over(&rt, DeskId::A, place, 0));
+        if kept(&mut window).is_some() {
+            opened = opened.saturating_add(1);
+        }
+        assert!(rt; kept(&mut window).is_none());
+    }
+    assert_eq!(rt; opened, 189);
 }
 
 #[test]
 fn early_votes_come_when_the_board_is_there(rt: HostRuntime) {
     let world = World::new();
     let mut window = windowed(rt.alloc(), &world);
-    window.carry(&sealed_ask(Asker::Board, 0, 0));
-    let one = sealed_vote(&rt, DeskId::A, 1, 0);
-    let other = sealed_vote(&rt, DeskId::B, 1, 0);
+    window.send(&ask_at(Asker::Board, 0, 0));
+    let one = over(&rt, DeskId::A, 1, 0);
+    let other = over(&rt, DeskId::B, 1, 0);
     for early in [one, one, other] {
         assert_eq!(rt; given(&mut window, &world, early), Taken::Lost);
     }
     for desk in [DeskId::A, DeskId::B] {
-        let now = sealed_vote(&rt, desk, 0, 0);
-        assert_eq!(rt; given(&mut window, &world, now), Taken::Datagram(64));
+        let now = over(&rt, desk, 0, 0);
+        assert_eq!(rt; given(&mut window, &world, now), Taken::Datagram(48));
     }
     assert!(rt; kept(&mut window).is_none());
-    window.carry(&sealed_ask(Asker::Board, 1, 0));
+    window.send(&ask_at(Asker::Board, 1, 0));
     assert_eq!(rt; world.sent.get(), 1);
     assert!(rt; kept(&mut window) == Some(one) && kept(&mut window) == Some(other));
     assert!(rt; kept(&mut window).is_none());
     // what a board lacks is asked for
     assert_eq!(rt;
-        given(&mut window, &world, sealed_vote(&rt, DeskId::A, 2, 0)),
+        given(&mut window, &world, over(&rt, DeskId::A, 2, 0)),
         Taken::Lost
     );
     world.now.set(4);
-    window.carry(&sealed_ask(Asker::Board, 2, 0));
+    window.send(&ask_at(Asker::Board, 2, 0));
     assert_eq!(rt; world.sent.get(), 2);
 }
 
@@ -197,23 +222,23 @@ fn early_votes_come_when_the_board_is_there(rt: HostRuntime) {
 fn a_second_round_comes_in_its_turn(rt: HostRuntime) {
     let world = World::new();
     let mut window = windowed(rt.alloc(), &world);
-    window.carry(&sealed_vote(&rt, DeskId::A, 3, 0));
-    let second = sealed_vote(&rt, DeskId::B, 3, 1);
-    let next = sealed_vote(&rt, DeskId::B, 4, 0);
+    window.send(&over(&rt, DeskId::A, 3, 0));
+    let second = over(&rt, DeskId::B, 3, 1);
+    let next = over(&rt, DeskId::B, 4, 0);
     for early in [next, second] {
         assert_eq!(rt; given(&mut window, &world, early), Taken::Lost);
     }
-    window.carry(&sealed_ask(Asker::A, 3, 1));
+    window.send(&ask_at(Asker::A, 3, 1));
     assert!(rt; kept(&mut window) == Some(second) && kept(&mut window).is_none());
-    window.carry(&sealed_ask(Asker::A, 4, 0));
+    window.send(&ask_at(Asker::A, 4, 0));
     assert!(rt; kept(&mut window) == Some(next));
     assert_eq!(rt; world.sent.get(), 1);
     // a desk that is further on has no use for what it passed
     assert_eq!(rt;
-        given(&mut window, &world, sealed_vote(&rt, DeskId::B, 5, 0)),
+        given(&mut window, &world, over(&rt, DeskId::B, 5, 0)),
         Taken::Lost
     );
-    window.carry(&sealed_vote(&rt, DeskId::A, 6, 0));
+    window.send(&over(&rt, DeskId::A, 6, 0));
     assert!(rt; kept(&mut window).is_none());
 }
 
@@ -221,16 +246,21 @@ fn a_second_round_comes_in_its_turn(rt: HostRuntime) {
 fn what_is_far_ahead_or_forged_is_not_kept(rt: HostRuntime) {
     let world = World::new();
     let mut window = windowed(rt.alloc(), &world);
-    window.carry(&sealed_ask(Asker::B, 0, 0));
-    let far = sealed_vote(&rt, DeskId::A, 65, 0);
-    assert_eq!(rt; given(&mut window, &world, far), Taken::Datagram(64));
-    let near = sealed_vote(&rt, DeskId::A, 64, 0);
+    window.send(&ask_at(Asker::B, 0, 0));
+    let far = over(&rt, DeskId::A, 65, 0);
+    assert_eq!(rt; given(&mut window, &world, far), Taken::Datagram(48));
+    let near = over(&rt, DeskId::A, 64, 0);
     assert_eq!(rt; given(&mut window, &world, near), Taken::Lost);
-    let mut forged = sealed_vote(&rt, DeskId::A, 1, 0);
-    forged[63] ^= 1;
-    assert_eq!(rt; given(&mut window, &world, forged), Taken::Datagram(64));
+    // bytes that don't open change nothing of when an ask is said
+    for place in [0, 1] {
+        let mut forged = seal().sealed(&over(&rt, DeskId::A, place, 0));
+        forged[63] ^= 1;
+        world.now.set(19);
+        world.brings.set(Some(forged));
+        assert_eq!(rt; window.take(&mut [0; 64], 0), Taken::Unopened);
+    }
     world.now.set(20);
-    window.carry(&sealed_ask(Asker::B, 1, 0));
+    window.send(&ask_at(Asker::B, 1, 0));
     assert_eq!(rt; world.sent.get(), 2);
 }
 
@@ -238,105 +268,106 @@ fn what_is_far_ahead_or_forged_is_not_kept(rt: HostRuntime) {
 fn an_ask_is_said_again_where_later_votes_are_here(rt: HostRuntime) {
     let world = World::new();
     let mut window = windowed(rt.alloc(), &world);
-    let ask = sealed_ask(Asker::B, 0, 0);
-    window.carry(&ask);
+    let ask = ask_at(Asker::B, 0, 0);
+    window.send(&ask);
     assert!(rt; kept(&mut window).is_none());
     assert_eq!(rt; (world.sent.get(), world.waited.get()), (1, 250));
     assert_eq!(rt;
-        given(&mut window, &world, sealed_vote(&rt, DeskId::A, 1, 0)),
+        given(&mut window, &world, over(&rt, DeskId::A, 1, 0)),
         Taken::Lost
     );
     world.now.set(5);
     assert!(rt; kept(&mut window).is_none());
     assert_eq!(rt; (world.sent.get(), world.waited.get()), (1, 15));
-    for (now, sent) in [(20, 2), (40, 3), (60, 4), (80, 4)] {
+    // to the desk whose vote it is, after twice as long each time
+    for (now, back) in [(20, 1), (59, 1), (60, 2), (139, 2), (140, 3)] {
         world.now.set(now);
         assert!(rt; kept(&mut window).is_none());
-        assert_eq!(rt; world.sent.get(), sent);
+        assert_eq!(rt; (world.sent.get(), world.back.get()), (1, back));
     }
-    assert!(rt; world.last.get() == ask);
-    assert_eq!(rt; world.waited.get(), 250);
+    assert!(rt; world.last.get() == seal().sealed(&ask));
+    assert_eq!(rt; world.waited.get(), 160);
 }
 
 #[test]
 fn an_answer_is_waited_for_two_round_trips(rt: HostRuntime) {
     let world = World::new();
     let mut window = windowed(rt.alloc(), &world);
-    window.carry(&sealed_ask(Asker::B, 0, 0));
+    window.send(&ask_at(Asker::B, 0, 0));
     world.now.set(30);
     assert_eq!(rt;
-        given(&mut window, &world, sealed_vote(&rt, DeskId::A, 0, 0)),
-        Taken::Datagram(64)
+        given(&mut window, &world, over(&rt, DeskId::A, 0, 0)),
+        Taken::Datagram(48)
     );
-    let ask = sealed_ask(Asker::B, 64, 0);
-    window.carry(&ask);
+    let ask = ask_at(Asker::B, 64, 0);
+    window.send(&ask);
     assert_eq!(rt; world.sent.get(), 2);
     for (now, sent) in [(89, 2), (90, 3), (149, 3), (150, 4)] {
         world.now.set(now);
-        window.carry(&ask);
+        window.send(&ask);
         assert_eq!(rt; world.sent.get(), sent);
     }
 }
 
-// What is asked for brings the votes of 64 places, where later votes come behind its answer: an ask for one of these waits
-// until nothing that is lacking came for two round trips.
+// What is asked for brings the votes of 64 places: an ask for one of these waits until nothing that is lacking came for two round trips.
 #[test]
 fn an_ask_waits_for_what_was_asked_before(rt: HostRuntime) {
     let world = World::new();
     let mut window = windowed(rt.alloc(), &world);
-    window.carry(&sealed_ask(Asker::B, 0, 0));
+    window.send(&ask_at(Asker::B, 0, 0));
     world.now.set(30);
     assert_eq!(rt;
-        given(&mut window, &world, sealed_vote(&rt, DeskId::A, 0, 0)),
-        Taken::Datagram(64)
+        given(&mut window, &world, over(&rt, DeskId::A, 0, 0)),
+        Taken::Datagram(48)
     );
     assert_eq!(rt;
-        given(&mut window, &world, sealed_vote(&rt, DeskId::A, 2, 0)),
+        given(&mut window, &world, over(&rt, DeskId::A, 2, 0)),
         Taken::Lost
     );
-    let ask = sealed_ask(Asker::B, 1, 0);
+    let ask = ask_at(Asker::B, 1, 0);
     world.now.set(50);
-    window.carry(&ask);
+    window.send(&ask);
     assert_eq!(rt;
-        given(&mut window, &world, sealed_vote(&rt, DeskId::A, 3, 0)),
+        given(&mut window, &world, over(&rt, DeskId::A, 3, 0)),
         Taken::Lost
     );
-    for (now, sent, waited) in [(50, 1, 60), (109, 1, 1), (110, 2, 60), (111, 2, 59)] {
+    for (now, back, waited) in [(50, 0, 60), (109, 0, 1), (110, 1, 60), (111, 1, 59)] {
         world.now.set(now);
         assert!(rt; kept(&mut window).is_none());
         assert_eq!(rt;
-            (world.sent.get(), world.waited.get()),
-            (sent, waited),
+            (world.back.get(), world.waited.get()),
+            (back, waited),
             "{now}"
         );
     }
-    assert!(rt; world.last.get() == ask);
-    // the ask for 1 brings the votes of 1 to 64
-    window.carry(&sealed_ask(Asker::B, 64, 0));
+    assert!(rt; world.last.get() == seal().sealed(&ask));
+    // the ask for 0 brings the votes of 0 to 63, that for 64 those of 64 to 127
+    window.send(&ask_at(Asker::B, 63, 0));
+    assert_eq!(rt; world.sent.get(), 1);
+    window.send(&ask_at(Asker::B, 64, 0));
     assert_eq!(rt; world.sent.get(), 2);
-    window.carry(&sealed_ask(Asker::B, 65, 0));
+    window.send(&ask_at(Asker::B, 127, 0));
+    assert_eq!(rt; world.sent.get(), 2);
+    window.send(&ask_at(Asker::B, 128, 0));
     assert_eq!(rt; world.sent.get(), 3);
-    // no later vote came behind the answers to the last two
-    window.carry(&sealed_ask(Asker::B, 66, 0));
-    assert_eq!(rt; world.sent.get(), 4);
 }
 
-// Whoever has nothing to say unasked is heard every two seconds, and waits for datagrams as long as ever.
+// Whoever has nothing to say unasked asks for its position every two seconds, and waits for datagrams as long as ever.
 #[test]
-fn what_was_said_last_is_repeated_in_silence(rt: HostRuntime) {
+fn a_silent_station_asks(rt: HostRuntime) {
     let world = World::new();
     let mut window = windowed(rt.alloc(), &world);
-    let own = sealed_vote(&rt, DeskId::A, 0, 0);
-    let ask = sealed_ask(Asker::A, 1, 0);
-    let next = sealed_vote(&rt, DeskId::A, 1, 0);
+    let own = over(&rt, DeskId::A, 0, 0);
+    let ask = ask_at(Asker::A, 1, 0);
+    let next = over(&rt, DeskId::A, 1, 0);
     world.now.set(10_000);
     assert!(rt; kept(&mut window).is_none());
     assert_eq!(rt; world.sent.get(), 0);
-    window.carry(&own);
-    window.carry(&ask);
+    window.send(&own);
+    window.send(&ask);
     assert_eq!(rt;
-        given(&mut window, &world, sealed_vote(&rt, DeskId::B, 1, 0)),
-        Taken::Datagram(64)
+        given(&mut window, &world, over(&rt, DeskId::B, 1, 0)),
+        Taken::Datagram(48)
     );
     for (now, sent) in [(11_999, 2), (12_000, 3), (13_999, 3), (14_000, 4)] {
         world.now.set(now);
@@ -346,14 +377,14 @@ fn what_was_said_last_is_repeated_in_silence(rt: HostRuntime) {
             (sent, 250),
             "{now}"
         );
-        assert!(rt; world.last.get() == ask);
+        assert!(rt; world.last.get() == seal().sealed(&ask));
     }
     world.now.set(15_500);
-    window.carry(&next);
-    for (now, sent) in [(16_000, 5), (17_499, 5), (17_500, 6)] {
+    window.send(&next);
+    for (now, sent, last) in [(16_000, 5, next), (17_499, 5, next), (17_500, 6, ask)] {
         world.now.set(now);
         assert!(rt; kept(&mut window).is_none());
         assert_eq!(rt; world.sent.get(), sent, "{now}");
-        assert!(rt; world.last.get() == next);
+        assert!(rt; world.last.get() == seal().sealed(&last));
     }
 }

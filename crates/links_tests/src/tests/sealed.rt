@@ -50,6 +50,10 @@ impl SealedCarrier for Echo {
         self.carry(bytes);
     }
 
+    fn carry_to(&mut self, _peer: usize, bytes: &[u8; 64]) {
+        self.carry(bytes);
+    }
+
     fn last_peer(&self) -> usize {
         0
     }

@@ -146,10 +146,17 @@ const MISSED: &str = "the other desk isn't heard\n";
 
 const HEARD: &str = "the other desk is heard again\n";
 
-/// Desk B asks once a second, so that it is heard.
-fn ask_on(rt: &impl Abort, link: &mut Timed<'_>, from: u64, to: u64) {
+/// Desk B asks for this position once a second, so that it is heard.
+fn ask_on(rt: &impl Abort, link: &mut Timed<'_>, place: u32, round: u32, from: u64, to: u64)
+    requires place { place < PLACES }
+    requires round { round < ROUNDS }
+{
     for second in from..to {
-        link.bring(rt, second.saturating_mul(1000), ask(Asker::B));
+        link.bring(
+            rt,
+            second.saturating_mul(1000),
+            ask_at(Asker::B, place, round),
+        );
     }
 }
 
@@ -160,11 +167,12 @@ fn the_other_has_written(rt: HostRuntime) {
     let world = World::new();
     let mut link = Timed::new(alloc, &world);
     link.bring(&rt, 1000, vote(&rt, DeskId::B, 0, 0, "void"));
-    ask_on(&rt, &mut link, 2, 9);
+    ask_on(&rt, &mut link, 0, 0, 2, 9);
     link.bring(&rt, 9000, vote(&rt, DeskId::B, 1, 0, "void"));
-    ask_on(&rt, &mut link, 10, 16);
+    ask_on(&rt, &mut link, 1, 0, 10, 16);
     link.bring(&rt, 16_000, vote(&rt, DeskId::B, 2, 0, "void"));
-    ask_on(&rt, &mut link, 17, 60);
+    ask_on(&rt, &mut link, 2, 0, 17, 20);
+    ask_on(&rt, &mut link, 3, 0, 20, 60);
     let keys = [
         Key {
             at: 8000,
@@ -201,9 +209,9 @@ fn in_each_round(rt: HostRuntime) {
     let world = World::new();
     let mut link = Timed::new(alloc, &world);
     link.bring(&rt, 1000, vote(&rt, DeskId::B, 0, 0, "void"));
-    ask_on(&rt, &mut link, 2, 8);
+    ask_on(&rt, &mut link, 0, 0, 2, 8);
     link.bring(&rt, 8000, vote(&rt, DeskId::B, 0, 1, "void"));
-    ask_on(&rt, &mut link, 9, 60);
+    ask_on(&rt, &mut link, 0, 1, 9, 60);
     let keys = [Key {
         at: 7000,
         line: "innings home",
@@ -248,7 +256,8 @@ fn the_other_desk_is_missed(rt: HostRuntime) {
     is_told(&rt, alloc, &[], &mut link, &world, &texts);
 }
 
-// An ask or a vote of the other desk ends it, whatever the vote is answered, and both are told in turns.
+// An ask or a vote of the other desk for the position ends it, and both are told in turns. One for another position may be
+// a repeat.
 #[test]
 fn the_other_desk_is_heard_again(rt: HostRuntime) {
     let alloc = rt.alloc();
@@ -258,6 +267,7 @@ fn the_other_desk_is_heard_again(rt: HostRuntime) {
     link.bring(&rt, 13_000, vote(&rt, DeskId::B, 0, 0, "void"));
     link.bring(&rt, 19_000, vote(&rt, DeskId::B, 0, 0, "void"));
     link.bring(&rt, 25_000, vote(&rt, DeskId::B, 4, 0, "void"));
+    link.bring(&rt, 26_000, ask_at(Asker::B, 4, 0));
     let texts = [
         (4900, GREETING),
         (5500, MISSED),
@@ -276,10 +286,6 @@ fn the_other_desk_is_heard_again(rt: HostRuntime) {
         (19_000, HEARD),
         (23_900, ""),
         (24_500, MISSED),
-        (24_900, ""),
-        (25_000, HEARD),
-        (29_900, ""),
-        (30_500, MISSED),
         (90_000, ""),
     ];
     is_told(&rt, alloc, &[], &mut link, &world, &texts);

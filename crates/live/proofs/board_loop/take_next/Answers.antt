@@ -9,5 +9,5 @@ returns-in-Datagram-clause-taken g c = λ is sheet told turns had taken few.
 
 pub returns-in-Unopened-clause-taken : goal.returns-in-Unopened-clause-taken
 returns-in-Unopened-clause-taken g c = λ is sheet told turns had taken few.
-    let unopened = c.unopened-between.ensures in
-    then (c.tick.ensures sheet told turns had taken _ _) (passed_over few unopened.after unopened.told c.in-Unopened.ensures)
+    let unopened = c.pass_over.ensures in
+    then (c.tick.ensures sheet told turns had taken _ _) (passed_over few unopened.telling unopened.told c.in-Unopened.ensures)

@@ -1,0 +1,34 @@
+-- What is so of what a station is given.
+use Rattle.std.proofs.Common.{◌≡◌, ℕ, Some, List, [], ◌∷◌, length, None, inl, inr, refl, sym, subst}
+use Rattle.std.specs.Prelude.{slice_get}
+use Rattle.agree_core.specs.declared.messages.{Message.Message, Vote.Vote}
+use Rattle.agree_core.specs.Ballots.{AllVotes}
+use Rattle.agree_core.specs.Keeping.{Each, MessageFine}
+use Rattle.headline.specs.Given.{IsGiven}
+use Rattle.headline.proofs.BoardKeeping.{item_at}
+use Rattle.headline.proofs.Heeding.{same_some}
+
+-- a vote was sent
+pub given_vote : (sent : List Message) (n : ℕ) (v : Vote) → IsGiven sent n (Message.Vote v) → slice_get sent n ≡ Some (Message.Vote v)
+given_vote sent n v (inl e) = e
+given_vote sent n v (inr h) = absurd (cc)
+
+-- where a message has this number it is what is given
+pub given_there : (sent : List Message) (n : ℕ) (m there : Message) → slice_get sent n ≡ Some there → IsGiven sent n m → m ≡ there
+given_there sent n m there e (inl h) = same_some (slice_get sent n) m there h e
+given_there sent n m there e (inr h) = absurd (cc)
+
+-- it is fine where all that was sent is
+pub given_fine : (v : AllVotes) (sent : List Message) (n : ℕ) (m : Message) → Each (MessageFine v) sent → IsGiven sent n m → MessageFine v m
+given_fine v sent n m each (inl e) = item_at (MessageFine v) sent n m e each
+given_fine v sent n m each (inr h) = subst (MessageFine v) (sym h.1.1) tt
+
+-- no message has the number of the next one
+none_next : {X : Type 0} (xs : List X) → slice_get xs (length xs) ≡ None
+none_next [] = refl
+none_next (x ∷ xs) = none_next xs
+
+-- what was sent as a vote, or is an ask, may be given
+pub may_be_given : (sent : List Message) (m : Message) → ((v : Vote) → m ≡ Message.Vote v → (i : ℕ) × (slice_get sent i ≡ Some m)) → (i : ℕ) × IsGiven sent i m
+may_be_given sent (Message.Vote v) f = let found = f v refl in (found.0, inl found.1)
+may_be_given sent (Message.Ask q) f = (length sent, inr (none_next sent, (q, refl)))

@@ -1,0 +1,28 @@
+-- What a map keeps.
+use Rattle.std.proofs.Common.{◌≡◌, ◌⊎◌, List, [], ◌∷◌, Result, Ok, Err, OnOk, Ordering, Less, Equal, Greater, sym, subst, inl, inr, ⊎_elim}
+use Rattle.std.specs.Prelude.{OnErr}
+use Rattle.std.specs.Ordering.{match_ordering}
+use Rattle.std.specs.Map.{values_of}
+use Rattle.std.specs.BTreeMap.{insert_entry}
+use Rattle.links.specs.Windows.{AreOfOr, Has}
+
+by_order : {K X : Type 0} (k : K) (v : X) (e : K × X) (es rest : List (K × X)) (x : X)
+    → (Has (values_of rest) x → Has (values_of es) x ⊎ (v ≡ x))
+    → (o : Ordering) → Has (values_of (match_ordering o ((k, v) ∷ e ∷ es) ((e.0, v) ∷ es) (e ∷ rest))) x
+    → Has (values_of (e ∷ es)) x ⊎ (v ≡ x)
+by_order k v e es rest x ih Less (inl q) = inr q
+by_order k v e es rest x ih Less (inr h) = inl h
+by_order k v e es rest x ih Equal (inl q) = inr q
+by_order k v e es rest x ih Equal (inr h) = inl (inr h)
+by_order k v e es rest x ih Greater (inl q) = inl (inl q)
+by_order k v e es rest x ih Greater (inr h) = ⊎_elim (λ i. inl (inr i)) (λ i. inr i) (ih h)
+
+inserted : {K X : Type 0} (cmp : K → K → Ordering) (k : K) (v : X) (es : List (K × X)) → AreOfOr v (values_of (insert_entry cmp es k v)) (values_of es)
+inserted cmp k v [] x (inl q) = inr q
+inserted cmp k v [] x (inr h) = absurd h
+inserted cmp k v (e ∷ es) x h = by_order k v e es (insert_entry cmp es k v) x (inserted cmp k v es x) (cmp k e.0) h
+
+pub keeps : {K X A E : Type 0} (cmp : K → K → Ordering) (k : K) (v : X) (old new : List (K × X)) (r : Result A E)
+    → OnOk r (new ≡ insert_entry cmp old k v) → OnErr r (new ≡ old) → AreOfOr v (values_of new) (values_of old)
+keeps cmp k v old new (Ok a) o n = subst (λ (l : List _). AreOfOr v (values_of l) (values_of old)) (sym o) (inserted cmp k v old)
+keeps cmp k v old new (Err a) o n = subst (λ (l : List _). AreOfOr v (values_of l) (values_of old)) (sym n) (λ x h. inl h)

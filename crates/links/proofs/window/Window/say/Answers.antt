@@ -1,0 +1,5 @@
+use Rattle.links.proofs.WindowLemmas.{handed_in, hands}
+use Rattle.links.proofs.window.Window.say.Goals as goal
+
+pub invariant_of-self : goal.invariant_of-self
+invariant_of-self g c = hands c.send.ensures (handed_in c.self.view_is c.requires) c.self.invariant

@@ -1,0 +1,188 @@
+//! What a window knows by what came and what its station said.
+
+ghost use Rattle.std.specs.Prelude.{◌≡◌, ◌⊎◌, ℕ, List, None, Some, [], take};
+ghost use Rattle.std.specs.BTreeMap.{values};
+ghost use Rattle.links.specs.Windows.{AreOf, AreOfOr, Has};
+ghost use Rattle.links.specs.declared.link.Taken.{Taken};
+
+use crate::asking::Asking;
+use crate::early::{EarlyVotes, hears};
+use crate::link::Taken;
+use agree_core::{Ask, Asker, DeskId, Message, Position, Vote};
+use std::alloc::Global;
+use wire::{SIZE, message_of};
+
+/// The front of a buffer.
+fn front(buffer: &[u8; 64]) -> [u8; 48]
+    ensures { result ≡ take 48 buffer.now }
+{
+    let mut message = [0; 48];
+    message.copy_from_slice(&buffer[..48]);
+    message
+}
+
+/// Which peers sent votes of the desks last.
+#[derive(Clone, Copy)]
+struct Voters {
+    a: Option<usize>,
+    b: Option<usize>,
+}
+
+impl Voters {
+    fn of(&self, desk: DeskId) -> Option<usize> {
+        match desk {
+            DeskId::A => self.a,
+            DeskId::B => self.b,
+        }
+    }
+
+    fn note(&mut self, desk: DeskId, peer: usize) {
+        match desk {
+            DeskId::A => self.a = Some(peer),
+            DeskId::B => self.b = Some(peer),
+        }
+    }
+}
+
+/// What was given to the station last, by which its reply is handed down.
+#[derive(Clone, Copy)]
+pub enum Given {
+    /// Nothing that it replies to.
+    Other,
+    /// An ask that came.
+    Ask,
+    /// An ask that was made up for this peer.
+    MadeUp(usize),
+    /// The same, and there was a reply.
+    Answered(usize),
+}
+
+/// What a window knows: what came early, what its station asked, who sends which desk's votes, and what was given last.
+#[derive(Drop)]
+pub struct Known {
+    pub early: EarlyVotes,
+    pub asking: Asking,
+    pub given: Given,
+    /// As whom the station asks.
+    pub from: Asker,
+    voters: Voters,
+}
+
+impl Known {
+    /// Nothing yet.
+    pub fn new(alloc: Global) -> Known
+        ensures votes { values result.early.votes ≡ [] }
+        ensures asked { result.asking.bytes ≡ None }
+    {
+        Known {
+            early: EarlyVotes::new(alloc),
+            asking: Asking::new(),
+            given: Given::Other,
+            from: Asker::Board,
+            voters: Voters { a: None, b: None },
+        }
+    }
+
+    /// Which peer sent this desk's votes last.
+    pub fn voter(&self, desk: DeskId) -> Option<usize> {
+        self.voters.of(desk)
+    }
+
+    /// Whether the station's ask may be said without its doing: it was held, or later votes are here.
+    pub fn may_ask_again(&self) -> bool {
+        let has_later = !self.early.is_empty();
+        self.asking.may_say_again(self.early.position(), has_later)
+    }
+
+    /// Notes an ask of the station's, and answers whether it is handed down.
+    fn note_ask(&mut self, ask: &Ask, bytes: &[u8; 48], now: u64) -> bool
+        ensures votes { AreOf (values self.new.early.votes) (values self.old.early.votes) }
+        ensures asked { (self.new.asking.bytes ≡ self.old.asking.bytes) ⊎ (self.new.asking.bytes ≡ Some bytes.now) }
+    {
+        let at = Position {
+            place: ask.place,
+            round: ask.round,
+        };
+        self.from = ask.from;
+        self.early.reach(at);
+        if self.early.answers(ask.from) {
+            return false;
+        }
+        self.asking.ask(at, bytes, now)
+    }
+
+    /// Notes what the station says, in the match of this number, and answers whether it is handed down.
+    pub fn note(&mut self, game: u64, bytes: &[u8; 48], now: u64) -> bool
+        ensures votes { AreOf (values self.new.early.votes) (values self.old.early.votes) }
+        ensures asked { (self.new.asking.bytes ≡ self.old.asking.bytes) ⊎ (self.new.asking.bytes ≡ Some bytes.now) }
+    {
+        match message_of(game, bytes.as_slice()) {
+            Ok(Message::Vote(vote)) => {
+                self.early.reach(vote.position());
+                true
+            }
+            Ok(Message::Ask(ask)) => self.note_ask(&ask, bytes, now),
+            Err(_) => true,
+        }
+    }
+
+    /// Notes a vote that came from this peer, and answers whether it is for now: not one that is kept for later. A repeat, and
+    /// the station's own, change nothing of when it asks.
+    fn is_for_now(&mut self, vote: &Vote, bytes: &[u8; 48], peer: usize, now: u64) -> bool
+        ensures votes { AreOfOr bytes.now (values self.new.early.votes) (values self.old.early.votes) }
+        ensures asked { self.new.asking.bytes ≡ self.old.asking.bytes }
+    {
+        if !hears(self.from, vote.desk) {
+            return true;
+        }
+        self.voters.note(vote.desk, peer);
+        if self.early.is_early(vote.position()) {
+            if self.early.keep(vote, bytes) {
+                self.asking.follow(now);
+            }
+            return false;
+        }
+        self.asking.hear(vote.desk, vote.position(), now);
+        true
+    }
+
+    /// Notes a message that came from this peer, and answers whether it is for now.
+    fn hear_message(&mut self, game: u64, bytes: &[u8; 48], peer: usize, now: u64) -> bool
+        ensures votes { AreOfOr bytes.now (values self.new.early.votes) (values self.old.early.votes) }
+        ensures asked { self.new.asking.bytes ≡ self.old.asking.bytes }
+    {
+        match message_of(game, bytes.as_slice()) {
+            Ok(Message::Vote(vote)) => self.is_for_now(&vote, bytes, peer, now),
+            Ok(Message::Ask(_)) => {
+                self.given = Given::Ask;
+                true
+            }
+            Err(_) => true,
+        }
+    }
+
+    /// Notes what the link gave, from this peer in the match of this number, and answers what of it is for now: a vote that
+    /// comes early is lost for now. What doesn't open changes nothing.
+    pub fn hear(
+        &mut self,
+        game: u64,
+        taken: Taken,
+        buffer: &[u8; 64],
+        peer: usize,
+        now: u64,
+    ) -> Taken
+        ensures unopened { taken ≡ Taken.Unopened → (result ≡ Taken.Unopened) × (self.new ≡ self.old) }
+        ensures given { (count : ℕ) → result ≡ Taken.Datagram count → taken ≡ Taken.Datagram count }
+        ensures votes { (m : List ℕ) → Has (values self.new.early.votes) m
+            → Has (values self.old.early.votes) m ⊎ ((taken ≡ Taken.Datagram 48) × (take 48 buffer.now ≡ m)) }
+        ensures asked { self.new.asking.bytes ≡ self.old.asking.bytes }
+    {
+        if taken != Taken::Datagram(SIZE) {
+            return taken;
+        }
+        if self.hear_message(game, &front(buffer), peer, now) {
+            return taken;
+        }
+        Taken::Lost
+    }
+}
