@@ -1,0 +1,160 @@
+-- Calm runs: both desks stay up, and what was sent stays sent.
+use Rattle.std.proofs.Common.{◌≡◌, ℕ, zero, suc, Some, List, [], ◌∷◌, ◌++◌, ◌+◌, ◌<◌, ◌≤◌, length, length-append, append_assoc, refl, sym, ap, ◌∙◌, subst, inl, inr, arith}
+use Rattle.std.specs.Prelude.{slice_get}
+use Rattle.agree_core.specs.declared.messages.{DeskId.DeskId, Message.Message}
+use Rattle.agree_core.specs.declared.messages.DeskId.TheVariants.{A, B}
+use Rattle.agree_core.specs.Ballots.{AllVotes, votes_by}
+use Rattle.agree_core.specs.Desks.{DeskState}
+use Rattle.agree_core.specs.Readers.{other}
+use Rattle.headline.specs.declared.{event.Event.Event, event.Station.Station}
+use Rattle.headline.specs.Answers.{Answer}
+use Rattle.headline.specs.Configurations.{Node, Configuration, all_votes, node, process_votes, with_node}
+use Rattle.headline.specs.Events.{station_of}
+use Rattle.headline.specs.Runs.{Moment, Run, last_of}
+use Rattle.headline.specs.Setting.{Setting}
+use Rattle.headline.specs.Steps.{Step, StepAt}
+use Rattle.headline.proofs.Keeping.{Fine, step_keeps}
+use Rattle.progress.specs.Calm.{AllCalm, IsCalm, IsUp}
+use Rattle.progress.specs.Exchange.{Amid, Reaches}
+use Rattle.progress.proofs.CalmSeats.{GoesOn, goes_on}
+use Rattle.progress.proofs.CalmSteps.{one_process, step_at_on}
+
+pub get_append : {X : Type 0} → (xs ys : List X) (n : ℕ) (x : X) → slice_get xs n ≡ Some x → slice_get (xs ++ ys) n ≡ Some x
+get_append [] ys n x e = absurd (cc)
+get_append (z ∷ zs) ys zero x e = e
+get_append (z ∷ zs) ys (suc n) x e = get_append zs ys n x e
+
+pub get_here : {X : Type 0} → (xs ys : List X) (x : X) → slice_get (xs ++ (x ∷ ys)) (length xs) ≡ Some x
+get_here [] ys x = refl
+get_here (z ∷ zs) ys x = get_here zs ys x
+
+-- the last of what is sent has the number that comes next
+pub get_last : {X : Type 0} → (xs ys sent : List X) (x : X) → sent ≡ xs ++ (ys ++ (x ∷ []))
+    → (n : ℕ) × (slice_get sent n ≡ Some x) × (length xs ≤ n) × (n < length sent)
+get_last xs ys sent x e =
+    let whole : sent ≡ (xs ++ ys) ++ (x ∷ []) = e ∙ sym (append_assoc xs ys (x ∷ [])) in
+    let got = subst (λ (z : List _). slice_get z (length (xs ++ ys)) ≡ Some x) (sym whole) (get_here (xs ++ ys) [] x) in
+    let long : length sent ≡ length (xs ++ ys) + 1 = ap length whole ∙ length-append (xs ++ ys) (x ∷ []) in
+    let more : length (xs ++ ys) ≡ length xs + length ys = length-append xs ys in
+    (length (xs ++ ys), got, omega arith, omega arith)
+
+pub node_set : {Disk : Type 0} → (w : Configuration Disk) (d : DeskId) (y : Node Disk) (out : List Message) → node (with_node w d y out) d ≡ y
+node_set w A y out = refl
+node_set w B y out = refl
+
+pub sent_set : {Disk : Type 0} → (w : Configuration Disk) (d : DeskId) (y : Node Disk) (out : List Message) → (with_node w d y out).sent ≡ w.sent ++ out
+sent_set w A y out = refl
+sent_set w B y out = refl
+
+module _ {Disk Why : Type 0} where
+  pub last_split : (w : Configuration Disk) (xs ys : List (Moment Disk Why)) → last_of w (xs ++ ys) ≡ last_of (last_of w ys) xs
+  last_split w [] ys = refl
+  last_split w (x ∷ xs) ys = refl
+
+  pub calm_split : (xs ys : List (Moment Disk Why)) → AllCalm (xs ++ ys) → AllCalm ys × AllCalm xs
+  calm_split [] ys c = (c, tt)
+  calm_split (x ∷ xs) ys c = let h = calm_split xs ys c.0 in (h.0, (h.1, c.1))
+
+  -- where a station is given a message
+  pub given_at : (t : Station) (n : ℕ) (ms : List (Moment Disk Why)) → Reaches t n ms → (at : Amid ms) × (at.moment.event ≡ Event.Give n t)
+  given_at t n [] g = absurd g
+  given_at t n (m ∷ ms) (inl e) = (record { later = []; moment = m; earlier = ms; whole = refl }, e)
+  given_at t n (m ∷ ms) (inr g) =
+      let h = given_at t n ms g in
+      (record { later = m ∷ h.0.later; moment = h.0.moment; earlier = h.0.earlier; whole = ap (λ (x : List (Moment Disk Why)). m ∷ x) h.0.whole }, h.1)
+
+module _ {Disk Why : Type 0} (s : Setting Disk Why) where
+  pub run_split : (w : Configuration Disk) (xs ys : List (Moment Disk Why)) → Run s w (xs ++ ys) → Run s w ys × Run s (last_of w ys) xs
+  run_split w [] ys r = (r, tt)
+  run_split w (x ∷ xs) ys r =
+      let h = run_split w xs ys r.0 in
+      (h.0, (h.1, subst (λ (c : Configuration Disk). Step s c x.event x.answer x.after) (last_split w xs ys) r.1))
+
+  pub step_sent : (w : Configuration Disk) (event : Event) (t : Station) (answer : Answer Why) (new : Configuration Disk) → StepAt s w event t answer new
+      → (out : List Message) × (new.sent ≡ w.sent ++ out)
+  step_sent w event (Station.Desk d) answer new p = (p.1, ap (λ (z : Configuration Disk). z.sent) p.3 ∙ sent_set w d p.0 p.1)
+  step_sent w event (Station.Board n) answer new p = (p.2, ap (λ (z : Configuration Disk). z.sent) p.5)
+
+  -- a message keeps its number
+  pub run_keeps_sent : (w : Configuration Disk) (ms : List (Moment Disk Why)) (n : ℕ) (m : Message) → Run s w ms → slice_get w.sent n ≡ Some m
+      → slice_get (last_of w ms).sent n ≡ Some m
+  run_keeps_sent w [] n m r e = e
+  run_keeps_sent w (x ∷ xs) n m r e =
+      let h = run_keeps_sent w xs n m r.0 e in
+      let o = step_sent (last_of w xs) x.event (station_of x.event) x.answer x.after r.1 in
+      rw o.1 (get_append (last_of w xs).sent o.0 n m h)
+
+  -- both desks are up, with these votes
+  pub record Steady (v : AllVotes) (w : Configuration Disk) : Type 0 where
+    pub fine : Fine s w
+    pub up : (d : DeskId) → (k : DeskState Disk) × IsUp (node w d) k × (k.votes ≡ votes_by v d)
+
+  pub steady_votes : (v : AllVotes) (w : Configuration Disk) → Steady v w → all_votes w ≡ v
+  steady_votes v w st =
+      let a = st.up A in
+      let b = st.up B in
+      let p : process_votes w.a.process ≡ v.a = ap process_votes a.1.runs ∙ a.2 in
+      let q : process_votes w.b.process ≡ v.b = ap process_votes b.1.runs ∙ b.2 in
+      λ i. record { a = p i; b = q i }
+
+  pub step_steady : (v : AllVotes) (w : Configuration Disk) (m : Moment Disk Why) → Steady v w → IsCalm m.event → Step s w m.event m.answer m.after → Steady v m.after
+  step_steady v w m st calm p = record {
+    fine = (step_keeps s w m.event m.answer m.after st.fine p).0;
+    up = λ d.
+        let k = st.up d in
+        let h = step_at_on s w m.event (station_of m.event) m.answer m.after st.fine calm d k.0 k.1 p in
+        (h.0, h.1, h.2 ∙ k.2);
+  }
+
+  -- a calm run, from there on
+  pub record CalmRun (v : AllVotes) (w : Configuration Disk) (ms : List (Moment Disk Why)) : Type 0 where
+    pub begins : Steady v w
+    pub run : Run s w ms
+    pub calm : AllCalm ms
+
+  pub ends : (v : AllVotes) (w : Configuration Disk) (ms : List (Moment Disk Why)) → CalmRun v w ms → Steady v (last_of w ms)
+  ends v w [] r = r.begins
+  ends v w (m ∷ ms) r =
+      step_steady v (last_of w ms) m (ends v w ms (record { begins = r.begins; run = r.run.0; calm = r.calm.0 })) r.calm.1 r.run.1
+
+  pub seat_goes : (v : AllVotes) (w : Configuration Disk) (ms : List (Moment Disk Why)) → CalmRun v w ms → (d : DeskId) (k l : DeskState Disk)
+      → IsUp (node w d) k → IsUp (node (last_of w ms) d) l → GoesOn (votes_by v (other d)) k.seat l.seat
+  seat_goes v w [] r d k l u u' = inl (ap (λ (z : DeskState Disk). z.seat) (one_process (node w d) l k u'.runs u.runs))
+  seat_goes v w (m ∷ ms) r d k l u u' =
+      let before : CalmRun v w ms = record { begins = r.begins; run = r.run.0; calm = r.calm.0 } in
+      let st = ends v w ms before in
+      let mid = st.up d in
+      let h = seat_goes v w ms before d k mid.0 u mid.1 in
+      let g = step_at_on s (last_of w ms) m.event (station_of m.event) m.answer m.after st.fine r.calm.1 d mid.0 mid.1 r.run.1 in
+      let same : g.0 ≡ l = one_process (node m.after d) g.0 l g.1.runs u'.runs in
+      let on : GoesOn (votes_by v (other d)) mid.0.seat l.seat =
+      subst (λ (z : DeskState Disk). GoesOn (votes_by v (other d)) mid.0.seat z.seat) same
+      (subst (λ (z : AllVotes). GoesOn (votes_by z (other d)) mid.0.seat g.0.seat) (steady_votes v (last_of w ms) st) g.3) in
+      goes_on (votes_by v (other d)) k.seat mid.0.seat l.seat h on
+
+  -- a moment of a calm run, with what is before it and after it
+  pub record Around (v : AllVotes) (w : Configuration Disk) (ms : List (Moment Disk Why)) (at : Amid ms) : Type 0 where
+    pub before : CalmRun v w at.earlier
+    pub calm : IsCalm at.moment.event
+    pub step : Step s (last_of w at.earlier) at.moment.event at.moment.answer at.moment.after
+    pub after : CalmRun v at.moment.after at.later
+    pub last : last_of w ms ≡ last_of at.moment.after at.later
+
+  pub around : (v : AllVotes) (w : Configuration Disk) (ms : List (Moment Disk Why)) → CalmRun v w ms → (at : Amid ms) → Around v w ms at
+  around v w ms r at =
+      let split = run_split w at.later (at.moment ∷ at.earlier) (subst (Run s w) at.whole r.run) in
+      let calm = calm_split at.later (at.moment ∷ at.earlier) (subst (λ (z : List (Moment Disk Why)). AllCalm z) at.whole r.calm) in
+      let before : CalmRun v w at.earlier = record { begins = r.begins; run = split.0.0; calm = calm.0.0 } in
+      let st = ends v w at.earlier before in
+      record {
+        before = before;
+        calm = calm.0.1;
+        step = split.0.1;
+        after = record { begins = step_steady v (last_of w at.earlier) at.moment st calm.0.1 split.0.1; run = split.1; calm = calm.1 };
+        last = ap (last_of w) at.whole ∙ last_split w at.later (at.moment ∷ at.earlier);
+      }
+
+  -- over one moment
+  pub step_goes : (v : AllVotes) (w : Configuration Disk) (m : Moment Disk Why) → Steady v w → IsCalm m.event → Step s w m.event m.answer m.after
+      → (d : DeskId) (k l : DeskState Disk) → IsUp (node w d) k → IsUp (node m.after d) l → GoesOn (votes_by v (other d)) k.seat l.seat
+  step_goes v w m st calm p d k l u u' = seat_goes v w (m ∷ []) (record { begins = st; run = (tt, p); calm = (tt, calm) }) d k l u u'

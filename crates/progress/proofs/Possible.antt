@@ -1,0 +1,383 @@
+-- Where both desks are up, an exchange can always happen.
+use Rattle.std.proofs.Common.{◌≡◌, ◌≢◌, ◌⊎◌, ◌<◌, ◌≤◌, ◌+◌, ◌-◌, ℕ, zero, suc, Option, Some, None, List, [], ◌∷◌, ◌++◌, length, length-append, append_assoc, refl, sym, ap, ◌∙◌, subst, inl, inr, arith}
+use Rattle.std.specs.Prelude.{slice_get}
+use Rattle.notation.specs.declared.entry.Entry.{Entry}
+use Rattle.agree_core.specs.declared.{messages.Asker.Asker, messages.DeskId.DeskId, messages.Message.Message, messages.Vote.Vote, position.Position.Position, seat.Heard.Heard}
+use Rattle.agree_core.specs.declared.messages.DeskId.TheVariants.{A, B}
+use Rattle.agree_core.specs.Ballots.{AllVotes, ballot_at, vote_of}
+use Rattle.agree_core.specs.Desks.{ReceiveAnswer, Replies, Ticks, ask_for, ask_other, asker, book_heard, own_vote}
+use Rattle.agree_core.specs.FileView.{FileView, Stays}
+use Rattle.agree_core.specs.Positions.{InRange, IsFull, next_place, next_round, position_of}
+use Rattle.agree_core.specs.Boards.{BoardAnswer, BoardReceives, BoardState, BoardTicks}
+use Rattle.agree_core.specs.Readers as readers
+use Rattle.agree_core.specs.Readers.{Listens, ReaderState, noted_of, other, reading}
+use Rattle.progress.proofs.BoardTrips.{board_goes}
+use Rattle.agree_core.specs.Seats.{Hears, SeatState, noting, waiting}
+use Rattle.headline.specs.declared.{event.Event.Event, event.Station.Station}
+use Rattle.headline.specs.Answers.{Asked, Ticked, Told, board_told}
+use Rattle.headline.specs.Configurations.{Configuration, Running, all_votes, board_at, node, with_board, with_node}
+use Rattle.headline.proofs.Keeping.{Fine}
+use Rattle.agree_core.proofs.Order.{compare}
+use Rattle.headline.specs.DeskAnswers.{has_any}
+use Rattle.headline.specs.Runs.{Moment, Run, last_of}
+use Rattle.headline.specs.Setting.{Setting}
+use Rattle.headline.specs.Steps.{Step}
+use Rattle.progress.specs.Calm.{AllCalm, IsCalm}
+use Rattle.progress.specs.Exchange.{Amid, Exchange, HandsOut, HasExchanges, IsAnswered, Reaches}
+use Rattle.progress.specs.Progress.{Hear, MayHear}
+use Rattle.progress.proofs.CalmRuns.{Steady, ends, last_split, step_sent, step_steady}
+use Rattle.progress.proofs.CaughtUp.{voted_or_not}
+use Rattle.progress.proofs.Settled.{steady}
+use Rattle.progress.proofs.Followed.{run_join}
+use Rattle.progress.proofs.Near.{ordered}
+use Rattle.progress.proofs.Rounds.{same_entry}
+use Rattle.headline.specs.Events.{station_of}
+
+same_desk : (c d : DeskId) → (c ≡ d) ⊎ (c ≢ d)
+same_desk A A = inl refl
+same_desk B B = inl refl
+same_desk A B = inr (λ e. cc)
+same_desk B A = inr (λ e. cc)
+
+-- a seat goes on somehow with each vote
+hears : (s : SeatState) (v : Vote) → (h : Heard) × (t : SeatState) × Hears s v h t
+hears s v = elim (same_desk v.desk s.desk) [
+  | inl e ↦ (Heard.Mine, s, (e, refl))
+  | inr n ↦ elim (ordered (position_of v) s.position) [
+    | inr (inl b) ↦ (Heard.Old, s, (n, b, refl))
+    | inr (inr b) ↦ (Heard.Ahead, s, (n, b, refl))
+    | inl at ↦ now n at s.theirs s.mine refl refl
+  ]
+]
+  where
+    now : v.desk ≢ s.desk → position_of v ≡ s.position → (theirs mine : Option Entry) → s.theirs ≡ theirs → s.mine ≡ mine → (h : Heard) × (t : SeatState) × Hears s v h t
+    now n at (Some f) mine q m = elim (same_entry v.entry f) [
+      | inl e ↦ (Heard.Again, s, ((n, at), q ∙ ap Some (sym e), refl))
+      | inr d ↦ (Heard.TwoVotes, s, ((n, at), (f, q, d), refl))
+    ]
+    now n at None None q m = (Heard.Noted, noting s v.entry, ((n, at), q, m, refl))
+    now n at None (Some e) q m = elim (same_entry v.entry e) [
+      | inl z ↦ (Heard.Agreed, waiting s.desk (next_place s.position), ((n, at), q, m ∙ ap Some (sym z), refl))
+      | inr d ↦ (Heard.Differ, waiting s.desk (next_round s.position), ((n, at), q, (e, m, d), refl))
+    ]
+
+-- and so does a board's reader
+listens : (r : ReaderState) (v : Vote) → ((h : Heard) × (t : ReaderState) × Listens r v h t × (h ≢ Heard.Agreed)) ⊎ ((t : ReaderState) × Listens r v Heard.Agreed t)
+listens r v = elim (ordered (position_of v) r.position) [
+  | inr (inl b) ↦ inl (Heard.Old, r, (b, refl), λ e. cc)
+  | inr (inr b) ↦ inl (Heard.Ahead, r, (b, refl), λ e. cc)
+  | inl at ↦ now at (noted_of r v.desk) (noted_of r (other v.desk)) refl refl
+]
+  where
+    now : position_of v ≡ r.position → (own theirs : Option Entry) → noted_of r v.desk ≡ own → noted_of r (other v.desk) ≡ theirs
+        → ((h : Heard) × (t : ReaderState) × Listens r v h t × (h ≢ Heard.Agreed)) ⊎ ((t : ReaderState) × Listens r v Heard.Agreed t)
+    now at (Some f) theirs q m = elim (same_entry v.entry f) [
+      | inl e ↦ inl (Heard.Again, r, (at, q ∙ ap Some (sym e), refl), λ e. cc)
+      | inr d ↦ inl (Heard.TwoVotes, r, (at, (f, q, d), refl), λ e. cc)
+    ]
+    now at None None q m = inl (Heard.Noted, readers.noting r v.desk v.entry, (at, q, m, refl), λ e. cc)
+    now at None (Some e) q m = elim (same_entry v.entry e) [
+      | inl z ↦ inr (reading (next_place r.position), (at, q, m ∙ ap Some (sym z), refl))
+      | inr d ↦ inl (Heard.Differ, reading (next_round r.position), (at, q, (e, m, d), refl), λ e. cc)
+    ]
+
+in_range_or_full : (p : Position) → InRange p ⊎ IsFull p
+in_range_or_full p = grind arith
+
+stays : {Disk : Type 0} → (view : FileView Disk) (disk : Disk) → Stays view disk disk
+stays view disk = (refl, λ image. (λ i. i, λ i. i))
+
+get_some : {X : Type 0} → (xs : List X) (n : ℕ) → n < length xs → (x : X) × (slice_get xs n ≡ Some x)
+get_some [] n less = absurd (omega (arith, less))
+get_some (x ∷ xs) zero less = (x, refl)
+get_some (x ∷ xs) (suc n) less = get_some xs n (omega (arith, less))
+
+module _ {Disk Why : Type 0} where
+  given_more : (t : Station) (n : ℕ) (xs ys : List (Moment Disk Why)) → Reaches t n ys → Reaches t n (xs ++ ys)
+  given_more t n [] ys g = g
+  given_more t n (x ∷ xs) ys g = inr (given_more t n xs ys g)
+
+  given_later : (t : Station) (n : ℕ) (xs ys : List (Moment Disk Why)) → Reaches t n xs → Reaches t n (xs ++ ys)
+  given_later t n [] ys g = absurd g
+  given_later t n (x ∷ xs) ys (inl e) = inl e
+  given_later t n (x ∷ xs) ys (inr g) = inr (given_later t n xs ys g)
+
+  calm_join : (xs ys : List (Moment Disk Why)) → AllCalm ys → AllCalm xs → AllCalm (xs ++ ys)
+  calm_join [] ys b a = b
+  calm_join (x ∷ xs) ys b a = (calm_join xs ys b a.0, a.1)
+
+  -- with others before it, or after it
+  amid_before : (ms before : List (Moment Disk Why)) → Amid ms → Amid (ms ++ before)
+  amid_before ms before at = record {
+    later = at.later;
+    moment = at.moment;
+    earlier = at.earlier ++ before;
+    whole = ap (λ (z : List (Moment Disk Why)). z ++ before) at.whole ∙ append_assoc at.later (at.moment ∷ at.earlier) before;
+  }
+
+  answered_before : (w : Configuration Disk) (t : Station) (d : DeskId) (n : ℕ) (ms before : List (Moment Disk Why)) → IsAnswered (last_of w before) t d n ms
+      → IsAnswered w t d n (ms ++ before)
+  unfolding amid_before
+  answered_before w t d n ms before x = record {
+    at = amid_before ms before x.at;
+    given = x.given;
+    heard = λ r h. x.heard r (subst (λ (z : Configuration Disk). HandsOut z x.at.moment r) (last_split w x.at.earlier before) h);
+  }
+
+  answered_after : (w : Configuration Disk) (t : Station) (d : DeskId) (n : ℕ) (after ms : List (Moment Disk Why)) → IsAnswered w t d n ms → IsAnswered w t d n (after ++ ms)
+  answered_after w t d n after ms x = record {
+    at = record { later = after ++ x.at.later; moment = x.at.moment; earlier = x.at.earlier; whole = ap (λ (z : List (Moment Disk Why)). after ++ z) x.at.whole ∙ sym (append_assoc after x.at.later (x.at.moment ∷ x.at.earlier)) };
+    given = x.given;
+    heard = λ r h. given_more t r after x.at.later (x.heard r h);
+  }
+
+  pub exchange_before : (w : Configuration Disk) (t : Station) (d : DeskId) (ms before : List (Moment Disk Why)) → Exchange (last_of w before) t d ms → Exchange w t d (ms ++ before)
+  unfolding amid_before
+  exchange_before w t d ms before x = record {
+    at = amid_before ms before x.at;
+    ticks = x.ticks;
+    answered = λ n h. x.answered n (subst (λ (z : Configuration Disk). HandsOut z x.at.moment n) (last_split w x.at.earlier before) h);
+  }
+
+  pub exchange_after : (w : Configuration Disk) (t : Station) (d : DeskId) (after ms : List (Moment Disk Why)) → Exchange w t d ms → Exchange w t d (after ++ ms)
+  exchange_after w t d after ms x = record {
+    at = record { later = after ++ x.at.later; moment = x.at.moment; earlier = x.at.earlier; whole = ap (λ (z : List (Moment Disk Why)). after ++ z) x.at.whole ∙ sym (append_assoc after x.at.later (x.at.moment ∷ x.at.earlier)) };
+    ticks = x.ticks;
+    answered = λ n h. answered_after x.at.moment.after t d n after x.at.later (x.answered n h);
+  }
+
+module _ {Disk Why : Type 0} (s : Setting Disk Why) (v : AllVotes) where
+  -- a moment that may come, of this event
+  abbrev Comes : Configuration Disk → Event → Type 0
+  Comes w event = (m : Moment Disk Why) × (m.event ≡ event) × Step s w m.event m.answer m.after
+
+  ticks : (w : Configuration Disk) → Steady s v w → (d : DeskId) → Comes w (Event.Tick (Station.Desk d))
+  ticks w st d =
+      let k = (st.up d).0 in
+      let u = (st.up d).1 in
+      let out : (out : List Message) × Ticks k out = elim (in_range_or_full k.seat.position) [
+        | inl r ↦ (own_vote k.seat.desk k.seat.position k.seat.mine ++ ask_other (asker k.seat.desk) k.seat.position k.seat.theirs, inl (u.sound, r, refl))
+        | inr f ↦ ([], inr (inr f, refl))
+      ] in
+      (record { event = Event.Tick (Station.Desk d); answer = Ticked (length out.0); after = with_node w d (node w d) out.0 }, refl, (node w d, out.0, (k, u.runs, out.1, refl, refl), refl))
+
+  gives : (w : Configuration Disk) → Steady s v w → (d : DeskId) (n : ℕ) (m : Message) → slice_get w.sent n ≡ Some m → Comes w (Event.Give n (Station.Desk d))
+  gives w st d n (Message.Vote x) get =
+      let k = (st.up d).0 in
+      let u = (st.up d).1 in
+      let h = hears k.seat x in
+      let l = record k { seat = h.1; book = book_heard h.0 k.book x.entry } in
+      let y = record (node w d) { process = Running l } in (
+        record { event = Event.Give n (Station.Desk d); answer = Told h.0; after = with_node w d y [] },
+        refl,
+        (y, [], (k, l, Message.Vote x, ReceiveAnswer.Told h.0, u.runs, inl get, (u.sound, h.2, stays (s.view d (node w d).version) k.disk, refl, refl), (refl, refl)), refl),
+      )
+  gives w st d n (Message.Ask q) get =
+      let k = (st.up d).0 in
+      let u = (st.up d).1 in
+      let y = record (node w d) { process = Running k } in
+      let out : (out : List Message) × Replies k q out = elim (voted_or_not k.votes (record { place = q.place; round = q.round })) [
+        | inl h ↦ (Message.Vote (vote_of k.seat.desk (ballot_at q.place q.round h.0)) ∷ [], inl (h.0, h.1, refl))
+        | inr none ↦ ([], inr (none, refl))
+      ] in (
+        record { event = Event.Give n (Station.Desk d); answer = Asked (has_any out.0); after = with_node w d y out.0 },
+        refl,
+        (y, out.0, (k, k, Message.Ask q, ReceiveAnswer.Asked, u.runs, inl get, (u.sound, (stays (s.view d (node w d).version) k.disk, refl), out.1), (refl, refl)), refl),
+      )
+
+  ticks_board : (w : Configuration Disk) (n : ℕ) (k : BoardState) → board_at w.boards n ≡ Some k → Comes w (Event.Tick (Station.Board n))
+  ticks_board w n k at =
+      let out : (out : List Message) × BoardTicks k out = elim (in_range_or_full k.reader.position) [
+        | inl r ↦ (ask_for Asker.Board k.reader.position ∷ [], inl (r, refl))
+        | inr f ↦ ([], inr (f, refl))
+      ] in (
+        record { event = Event.Tick (Station.Board n); answer = Ticked (length out.0); after = record w { boards = with_board w.boards n k; sent = w.sent ++ out.0 } },
+        refl,
+        (k, k, out.0, at, (out.1, refl, refl), refl),
+      )
+
+  gives_board : (w : Configuration Disk) (n : ℕ) (k : BoardState) → board_at w.boards n ≡ Some k → (i : ℕ) (m : Message) → slice_get w.sent i ≡ Some m
+      → Comes w (Event.Give i (Station.Board n))
+  gives_board w n k at i m get = made (receives k m)
+    where
+      made : ((l : BoardState) × (told : BoardAnswer) × BoardReceives s.rules k m told l) → Comes w (Event.Give i (Station.Board n))
+      made (l, told, r) = (
+        record { event = Event.Give i (Station.Board n); answer = board_told told; after = record w { boards = with_board w.boards n l; sent = w.sent ++ [] } },
+        refl,
+        (k, l, [], at, (m, told, inl get, r, refl, refl), refl),
+      )
+
+      receives : (k : BoardState) (m : Message) → (l : BoardState) × (told : BoardAnswer) × BoardReceives s.rules k m told l
+      receives k (Message.Ask q) = (k, BoardAnswer.Asked, refl)
+      receives k (Message.Vote x) = elim (listens k.reader x) [
+        | inl h ↦ (record { reader = h.1; book = book_heard h.0 k.book x.entry }, BoardAnswer.Told h.0, (h.2, (λ e. absurd (h.3 e)), refl))
+        | inr h ↦ taken h.0 h.1 (s.rules k.book x.entry) refl
+      ]
+        where
+          taken : (r : ReaderState) → Listens k.reader x Heard.Agreed r → (why : Option Why) → s.rules k.book x.entry ≡ why
+              → (l : BoardState) × (told : BoardAnswer) × BoardReceives s.rules k (Message.Vote x) told l
+          taken r c None e = (record { reader = r; book = k.book ++ x.entry ∷ [] }, BoardAnswer.Told Heard.Agreed, (c, (λ q. e), refl))
+          taken r c (Some why) e = (k, BoardAnswer.BadVotes k.reader.position.place, ((r, c), (λ q. absurd (grind (arith, e, q))), refl, refl))
+
+  -- the station is there
+  abbrev Ready : Station → Configuration Disk → Type 0
+  Ready (Station.Desk d) w = Unit {0}
+  Ready (Station.Board n) w = (k : BoardState) × (board_at w.boards n ≡ Some k)
+
+  ready_after : (w : Configuration Disk) (ms : List (Moment Disk Why)) (t : Station) → Run s w ms → AllCalm ms → Ready t w → Ready t (last_of w ms)
+  ready_after w ms (Station.Desk d) r c h = tt
+  ready_after w ms (Station.Board n) r c h = let g = board_goes s w ms r c n h.0 h.1 in (g.0, g.1)
+
+  given : (w : Configuration Disk) → Steady s v w → (t : Station) → Ready t w → (i : ℕ) (m : Message) → slice_get w.sent i ≡ Some m → Comes w (Event.Give i t)
+  given w st (Station.Desk d) h i m get = gives w st d i m get
+  given w st (Station.Board n) h i m get = gives_board w n h.0 h.1 i m get
+
+  ticked : (w : Configuration Disk) → Steady s v w → (t : Station) → Ready t w → Comes w (Event.Tick t)
+  ticked w st (Station.Desk d) h = ticks w st d
+  ticked w st (Station.Board n) h = ticks_board w n h.0 h.1
+
+  -- calm moments that may come, of which this is so
+  pub record SomeMoments (w : Configuration Disk) (P : List (Moment Disk Why) → Type 0) : Type 0 where
+    pub ms : List (Moment Disk Why)
+    pub run : Run s w ms
+    pub calm : AllCalm ms
+    pub so : P ms
+
+  calm_give : (n : ℕ) (t : Station) (m : Moment Disk Why) → m.event ≡ Event.Give n t → IsCalm m.event
+  calm_give n t m e = subst IsCalm (sym e) tt
+
+  sent_stays : (w : Configuration Disk) (ms : List (Moment Disk Why)) → Run s w ms → length w.sent ≤ length (last_of w ms).sent
+  sent_stays w [] r = omega arith
+  sent_stays w (m ∷ ms) r =
+      let a = sent_stays w ms r.0 in
+      let o = step_sent s (last_of w ms) m.event (station_of m.event) m.answer m.after r.1 in
+      let b : length m.after.sent ≡ length (last_of w ms).sent + length o.0 = ap length o.1 ∙ length-append (last_of w ms).sent o.0 in
+      omega (arith, a, b)
+
+  -- the station is given so many messages, from this number on
+  all_given : (w : Configuration Disk) → Steady s v w → (t : Station) → Ready t w → (from many : ℕ) → from + many ≤ length w.sent
+      → SomeMoments w (λ ms. (r : ℕ) → from ≤ r → r < from + many → Reaches t r ms)
+  all_given w st t ready from zero less = record { ms = []; run = tt; calm = tt; so = λ r a b. absurd (omega (arith, a, b)) }
+  all_given w st t ready from (suc many) less =
+      let before = all_given w st t ready from many (omega (arith, less)) in
+      let mid = ends s v w before.ms (record { begins = st; run = before.run; calm = before.calm }) in
+      let last = from + many in
+      let long = sent_stays w before.ms before.run in
+      let got = get_some (last_of w before.ms).sent last (omega (arith, less, long)) in
+      let m = given (last_of w before.ms) mid t (ready_after w before.ms t before.run before.calm ready) last got.0 got.1 in
+      record {
+        ms = m.0 ∷ before.ms;
+        run = (before.run, m.2);
+        calm = (before.calm, calm_give last t m.0 m.1);
+        so = λ r a b. elim (compare r last) [
+          | inl lo ↦ inr (before.so r a lo)
+          | inr (inl e) ↦ inl (m.1 ∙ ap (λ (z : ℕ). Event.Give z t) (sym e))
+          | inr (inr hi) ↦ absurd (omega (arith, b, hi))
+        ];
+      }
+
+  -- so many messages, from this number on, are given to a desk, and what it answers to the station
+  all_answered : (w : Configuration Disk) → Steady s v w → (t : Station) → Ready t w → (d : DeskId) (from many : ℕ) → from + many ≤ length w.sent
+      → SomeMoments w (λ ms. (n : ℕ) → from ≤ n → n < from + many → IsAnswered w t d n ms)
+  all_answered w st t ready d from zero less = record { ms = []; run = tt; calm = tt; so = λ n a b. absurd (omega (arith, a, b)) }
+  all_answered w st t ready d from (suc many) less =
+      let before = all_answered w st t ready d from many (omega (arith, less)) in
+      let last = from + many in
+      let c1 = last_of w before.ms in
+      let mid = ends s v w before.ms (record { begins = st; run = before.run; calm = before.calm }) in
+      let long = sent_stays w before.ms before.run in
+      let got = get_some c1.sent last (omega (arith, less, long)) in
+      let m = gives c1 mid d last got.0 got.1 in
+      let calm = calm_give last (Station.Desk d) m.0 m.1 in
+      let first = length c1.sent in
+      let end = length m.0.after.sent in
+      let more : first ≤ end = sent_stays c1 (m.0 ∷ []) (tt, m.2) in
+      let near = ready_after w before.ms t before.run before.calm ready in
+      let replies = all_given m.0.after (step_steady s v c1 m.0 mid calm m.2) t (ready_after c1 (m.0 ∷ []) t (tt, m.2) (tt, calm) near) first (end - first) (omega (arith, more)) in
+      record {
+        ms = replies.ms ++ (m.0 ∷ before.ms);
+        run = run_join s w replies.ms (m.0 ∷ before.ms) (before.run, m.2) replies.run;
+        calm = calm_join replies.ms (m.0 ∷ before.ms) (before.calm, calm) replies.calm;
+        so = λ n a b. elim (compare n last) [
+          | inl lo ↦
+              answered_after w t d n replies.ms (m.0 ∷ before.ms) (answered_after w t d n (m.0 ∷ []) before.ms (before.so n a lo))
+          | inr (inl e) ↦ record {
+            at = record { later = replies.ms; moment = m.0; earlier = before.ms; whole = refl };
+            given = m.1 ∙ ap (λ (z : ℕ). Event.Give z (Station.Desk d)) (sym e);
+            heard = λ r h. replies.so r h.0 (let less = h.1 in omega (arith, less, more));
+          }
+          | inr (inr hi) ↦ absurd (omega (arith, b, hi))
+        ];
+      }
+
+  exchange : (w : Configuration Disk) → Steady s v w → (t : Station) → Ready t w → (d : DeskId) → SomeMoments w (λ ms. Exchange w t d ms)
+  exchange w st t ready d =
+      let m = ticked w st t ready in
+      let first = length w.sent in
+      let end = length m.0.after.sent in
+      let calm : IsCalm m.0.event = subst IsCalm (sym m.1) tt in
+      let more : first ≤ end = sent_stays w (m.0 ∷ []) (tt, m.2) in
+      let x = all_answered m.0.after (step_steady s v w m.0 st calm m.2) t (ready_after w (m.0 ∷ []) t (tt, m.2) (tt, calm) ready) d first (end - first) (omega (arith, more)) in
+      record {
+        ms = x.ms ++ (m.0 ∷ []);
+        run = run_join s w x.ms (m.0 ∷ []) (tt, m.2) x.run;
+        calm = calm_join x.ms (m.0 ∷ []) (tt, calm) x.calm;
+        so = record {
+          at = record { later = x.ms; moment = m.0; earlier = []; whole = refl };
+          ticks = m.1;
+          answered = λ n h. x.so n h.0 (let less = h.1 in omega (arith, less, more));
+        };
+      }
+
+  -- a board's exchanges with both desks, so many times
+  exchanges : (w : Configuration Disk) → Steady s v w → (n : ℕ) → Ready (Station.Board n) w → (m : ℕ) → SomeMoments w (λ ms. HasExchanges w n m ms)
+  exchanges w st n ready zero = record { ms = []; run = tt; calm = tt; so = tt }
+  exchanges w st n ready (suc m) =
+      let t = Station.Board n in
+      let before = exchanges w st n ready m in
+      let c1 = last_of w before.ms in
+      let st1 = ends s v w before.ms (record { begins = st; run = before.run; calm = before.calm }) in
+      let ready1 = ready_after w before.ms t before.run before.calm ready in
+      let x = exchange c1 st1 t ready1 A in
+      let st2 = ends s v c1 x.ms (record { begins = st1; run = x.run; calm = x.calm }) in
+      let y = exchange (last_of c1 x.ms) st2 t (ready_after c1 x.ms t x.run x.calm ready1) B in
+      record {
+        ms = (y.ms ++ x.ms) ++ before.ms;
+        run = run_join s w (y.ms ++ x.ms) before.ms before.run (run_join s c1 y.ms x.ms x.run y.run);
+        calm = calm_join (y.ms ++ x.ms) before.ms before.calm (calm_join y.ms x.ms x.calm y.calm);
+        so = (y.ms ++ x.ms, before.ms, refl, before.so, both c1 x.ms y.ms x.so y.so);
+      }
+    where
+      both : (c : Configuration Disk) (xs ys : List (Moment Disk Why)) → Exchange c (Station.Board n) A xs → Exchange (last_of c xs) (Station.Board n) B ys
+          → (d : DeskId) → Exchange c (Station.Board n) d (ys ++ xs)
+      both c xs ys x y A = exchange_after c (Station.Board n) A ys xs x
+      both c xs ys x y B = exchange_before c (Station.Board n) B ys xs y
+
+module _ {Disk Why : Type 0} (s : Setting Disk Why) where
+  pub may_hear : (w : Configuration Disk) → Fine s w → MayHear s w
+  may_hear w f up = (desks, boards)
+    where
+      both : (xs ys : List (Moment Disk Why)) → Exchange w (Station.Desk A) B xs → Exchange (last_of w xs) (Station.Desk B) A ys
+          → (d : DeskId) → Exchange w (Station.Desk d) (other d) (ys ++ xs)
+      both xs ys x y A = exchange_after w (Station.Desk A) B ys xs x
+      both xs ys x y B = exchange_before w (Station.Desk B) A ys xs y
+
+      desks : (ms : List (Moment Disk Why)) × Hear s w ms
+      desks =
+          let st = steady s w f up in
+          let v = all_votes w in
+          let x = exchange s v w st (Station.Desk A) tt B in
+          let mid = ends s v w x.ms (record { begins = st; run = x.run; calm = x.calm }) in
+          let y = exchange s v (last_of w x.ms) mid (Station.Desk B) tt A in (
+            y.ms ++ x.ms,
+            record {
+              run = run_join s w y.ms x.ms x.run y.run;
+              calm = calm_join y.ms x.ms x.calm y.calm;
+              exchanges = both x.ms y.ms x.so y.so;
+            },
+          )
+
+      boards : (n m : ℕ) (k : BoardState) → board_at w.boards n ≡ Some k → (ms : List (Moment Disk Why)) × Run s w ms × AllCalm ms × HasExchanges w n m ms
+      boards n m k at =
+          let x = exchanges s (all_votes w) w (steady s w f up) n (k, at) m in
+          (x.ms, x.run, x.calm, x.so)

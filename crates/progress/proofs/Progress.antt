@@ -1,0 +1,83 @@
+-- What goes on, at each configuration that a run comes to.
+use Rattle.std.proofs.Common.{◌≡◌, ◌⊎◌, ℕ, Bool, true, false, List, ap, subst, inl, inr, arith}
+use Rattle.std.specs.Prelude.{◌&&◌, ◌||◌, is_some, not}
+use Rattle.std.proofs.lemmas.Bool.Decides.{nat_tests}
+use Rattle.agree_core.specs.declared.{messages.DeskId.DeskId, position.Position.Position}
+use Rattle.agree_core.specs.Ballots.{Ballot, In, Justified, ballot_of, votes_by}
+use Rattle.agree_core.specs.LostLines.{is_before, is_in_reach, is_next}
+use Rattle.agree_core.specs.Positions.{next_place, next_round}
+use Rattle.agree_core.specs.Seats.{SeatState}
+use Rattle.agree_core.specs.Keeping.{MessageFine}
+use Rattle.agree_core.specs.Readers.{other}
+use Rattle.headline.specs.declared.version.FileVersion.{FileVersion}
+use Rattle.headline.specs.Configurations.{Configuration, all_votes}
+use Rattle.headline.specs.Runs.{Begins, Moment, Run, last_of}
+use Rattle.headline.specs.Setting.{Setting}
+use Rattle.headline.proofs.BoardKeeping.{item_at}
+use Rattle.headline.proofs.Keeping.{Fine, all_justified, begins_fine, run_keeps}
+use Rattle.progress.specs.Calm.{NotBack}
+use Rattle.progress.specs.InStep.{IsBehind}
+use Rattle.progress.specs.Progress.{AllInReach, HoldsAt, NoVoteFromAhead}
+use Rattle.progress.proofs.Asks.{none_passed_over}
+use Rattle.progress.proofs.CaughtUp.{boards_follow}
+use Rattle.progress.proofs.Failed.{stays_failed}
+use Rattle.progress.proofs.GoneOn.{alike_is_taken, goes_on}
+use Rattle.progress.proofs.InRuns.{near}
+use Rattle.progress.proofs.Near.{not_from_ahead}
+use Rattle.progress.proofs.Possible.{may_hear}
+use Rattle.progress.proofs.Settled.{fine_seat, hearing_again_tells, hearing_settles, can_pen_in_step, stays_up}
+use Rattle.progress.proofs.Trips.{justified_at}
+
+module _ {Disk Why : Type 0} (s : Setting Disk Why) where
+  none_from_ahead : (w : Configuration Disk) → Fine s w → NoVoteFromAhead w
+  none_from_ahead w f d k n v runs get by =
+      let all = all_votes w in
+      let there : In (ballot_of v) (votes_by all (other d)) =
+      subst (λ (c : DeskId). In (ballot_of v) (votes_by all c)) by (item_at (MessageFine all) w.sent n _ get f.on_sent) in
+      let theirs : Justified (votes_by all d) (votes_by all (other d)) = justified_at s all (all_justified s w f) d in
+      not_from_ahead d (votes_by all d) (votes_by all (other d)) k.seat k.book (ballot_of v) (fine_seat s w f d k runs).0 theirs there
+
+  not_ahead : (p q : Position) → NotBack q p → is_before p q ≡ false
+  not_ahead p q h = grind (arith, nat_tests)
+
+  next_or_later : (p q : Position) → (q ≡ next_place p) ⊎ (q ≡ next_round p) → is_next p q ≡ true
+  next_or_later p q h = grind (arith, nat_tests)
+
+  reached : (s : SeatState) (theirs : List Ballot) (p : Position) → NotBack p s.position ⊎ IsBehind theirs s p → is_in_reach s p ≡ true
+  reached s theirs p (inl n) = first (is_before s.position p) (is_some s.mine && is_next s.position p) (not_ahead s.position p n)
+    where
+      first : (a m : Bool) → a ≡ false → (not a || m) ≡ true
+      first a m e = grind (arith, e)
+  reached s theirs p (inr b) =
+      let mine : is_some s.mine ≡ true = ap is_some b.2 in
+      let next : is_next s.position p ≡ true = next_or_later s.position p (elim b.5 [ inl a ↦ inl a.1 | inr a ↦ inr a.1 ]) in
+      turn (is_before s.position p) (is_some s.mine) (is_next s.position p) mine next
+    where
+      turn : (a m n : Bool) → m ≡ true → n ≡ true → (not a || (m && n)) ≡ true
+      turn a m n e f = grind (arith, e, f)
+
+  all_in_reach : (w : Configuration Disk) → Fine s w → AllInReach w
+  all_in_reach w f d k n v runs get by = reached k.seat (votes_by (all_votes w) (other d)) _ (none_from_ahead w f d k n v runs get by)
+
+  pub holds_at : (version : FileVersion) (boards : ℕ) (w : Configuration Disk) (ms : List (Moment Disk Why)) → Begins s version boards w → Run s w ms
+      → HoldsAt s (last_of w ms)
+  holds_at version boards w ms begins run =
+      let now = last_of w ms in
+      let fine = run_keeps s w ms (begins_fine s version boards w begins) run in
+      record {
+        progress = record {
+          settles = hearing_settles s now fine;
+          can_pen = can_pen_in_step s now fine;
+          goes_on = goes_on s now fine;
+          alike = alike_is_taken s now fine;
+          boards = boards_follow s version boards w ms begins run;
+        };
+        may_hear = may_hear s now fine;
+        tells = hearing_again_tells s now fine;
+        near = near s now fine;
+        none_ahead = none_from_ahead now fine;
+        in_reach = all_in_reach now fine;
+        none_passed = none_passed_over s version boards w ms begins run;
+        stays_up = stays_up s now fine;
+        stays_failed = stays_failed s now;
+      }

@@ -1,0 +1,126 @@
+-- Of a position to which both desks' votes lead: both voted at each before it, and differed in the rounds before it.
+use Rattle.std.proofs.Common.{◌≡◌, ◌≢◌, ◌⊎◌, ◌<◌, ◌+◌, ℕ, Some, None, List, [], ◌∷◌, length, get_or, refl, sym, ap, ◌∙◌, subst, inl, inr, arith, false, true}
+use Rattle.std.proofs.lemmas.Bool.{false≢true}
+use Rattle.std.specs.Prelude.{Bool}
+use Rattle.std.proofs.lemmas.Option.{slice_get-get_or}
+use Rattle.notation.specs.contracts.entry.EntryPartialEq.TheImpl as entries
+use Rattle.notation.specs.declared.entry.Entry.{Entry}
+use Rattle.notation.proofs.Same.{same_when}
+use Rattle.agree_core.specs.declared.{messages.DeskId.DeskId, position.Position.Position}
+use Rattle.agree_core.specs.declared.messages.DeskId.TheVariants.{A, B}
+use Rattle.agree_core.specs.Agreed.{AllBoth, EqualVotes}
+use Rattle.agree_core.specs.Ballots.{AllJustified, AllVotes, Ballot, Follows, In, Justified, VotesGrow, ballot_at}
+use Rattle.agree_core.specs.Keeping.{SeatFine}
+use Rattle.agree_core.specs.Positions.{Before, next_round}
+use Rattle.agree_core.specs.Seats.{SeatState}
+use Rattle.agree_core.proofs.Both.{both_at}
+use Rattle.agree_core.proofs.Order.{BothDiffered, compare, differed, one_vote}
+use Rattle.progress.specs.InStep.{BothVoted, HasVoted}
+use Rattle.progress.proofs.Near.{any, stands}
+
+pub same_entry : (e f : Entry) → (e ≡ f) ⊎ (e ≢ f)
+same_entry e f = turn ((entries.ghosts).eq e f) refl
+  where
+    turn : (r : Bool) → r ≡ (entries.ghosts).eq e f → (e ≡ f) ⊎ (e ≢ f)
+    turn true q = inl ((same_when true e f q).0 refl)
+    turn false q = inr (λ s. false≢true ((same_when false e f q).1 s))
+
+pub both_voted : (v : AllVotes) (p : Position) → HasVoted v A p → HasVoted v B p → BothVoted v p
+both_voted v p a b A = a
+both_voted v p a b B = b
+
+-- both desks voted in this round, and differed
+abbrev pub DifferedIn : AllVotes → ℕ → ℕ → Type 0
+DifferedIn v place round = BothDiffered v.a v.b place round
+
+-- in each round before this one, at its place, both desks differed
+abbrev pub RoundsFine : AllVotes → Position → Type 0
+RoundsFine v p = (round : ℕ) → round < p.round → DifferedIn v p.place round
+
+pub rounds_grow : (v w : AllVotes) → VotesGrow v w → (p : Position) → RoundsFine v p → RoundsFine w p
+rounds_grow v w g p h round less =
+    let d = h round less in
+    (d.0, d.1, g.0 (ballot_at p.place round d.0) d.2, g.1 (ballot_at p.place round d.1) d.3, d.4)
+
+pub one_round_more : (v : AllVotes) (p : Position) → RoundsFine v p → DifferedIn v p.place p.round → RoundsFine v (next_round p)
+one_round_more v p h d round less = elim (split round p.round less) [
+  | inl l ↦ h round l
+  | inr e ↦ subst (DifferedIn v p.place) (sym e) d
+]
+  where
+    split : (r q : ℕ) → r < q + 1 → (r < q) ⊎ (r ≡ q)
+    split r q l = grind arith
+
+-- so it is of a desk's seat
+pub rounds_of_seat : (d : DeskId) (own theirs : List Ballot) (s : SeatState) (book : List Entry) → SeatFine d own theirs s book → (round : ℕ) → round < s.position.round
+    → BothDiffered own theirs s.position.place round
+rounds_of_seat d own theirs s book f round less = turn hs.1 hs.2 prev_within prev_justified
+  where
+    hs : (e : Entry) × (prev : List Ballot) × Follows theirs (record { at = s.position; entry = e }) prev
+        × (((own ≡ record { at = s.position; entry = e } ∷ prev) × (s.mine ≡ Some e) × (s.theirs ≡ None)) ⊎ (own ≡ prev))
+    hs = stands d theirs own book s any f
+
+    prev_within : (b : Ballot) → In b hs.1 → In b own
+    prev_within b i = elim hs.3 [
+      | inl k ↦ subst (In b) (sym k.0) (inr i)
+      | inr k ↦ subst (In b) (sym k) i
+    ]
+
+    prev_justified : Justified theirs hs.1
+    prev_justified = elim hs.3 [
+      | inl k ↦ let j : Justified theirs (record { at = s.position; entry = hs.0 } ∷ hs.1) = subst (Justified theirs) k.0 f.justified in j.2
+      | inr k ↦ subst (Justified theirs) k f.justified
+    ]
+
+    turn : (prev : List Ballot) → Follows theirs (record { at = s.position; entry = hs.0 }) prev → ((b : Ballot) → In b prev → In b own) → Justified theirs prev
+        → BothDiffered own theirs s.position.place round
+    turn [] e w j = absurd (grind (arith, e, less))
+    turn (z ∷ zs) (inr n) w j = absurd (let e = n.0 in grind (arith, e, less))
+    turn (z ∷ zs) (inl n) w j =
+        let place : s.position.place ≡ z.at.place = ap (λ (p : Position). p.place) n.0 in
+        let next : s.position.round ≡ z.at.round + 1 = ap (λ (p : Position). p.round) n.0 in
+        elim (compare round z.at.round) [
+          | inl q ↦
+              let d = differed theirs (z ∷ zs) j z (inl refl) s.position.place round place q in
+              (d.0, d.1, w (ballot_at s.position.place round d.0) d.2, d.3, d.4)
+          | inr (inl q) ↦ (
+            z.entry,
+            n.1.0,
+            subst (λ (r : ℕ). In (ballot_at s.position.place r z.entry) own) (sym q) (subst (λ (o : ℕ). In (ballot_at o z.at.round z.entry) own) (sym place) (w z (inl refl))),
+            subst (λ (r : ℕ). In (ballot_at s.position.place r n.1.0) theirs) (sym q) (subst (λ (o : ℕ). In (ballot_at o z.at.round n.1.0) theirs) (sym place) n.1.1),
+            n.1.2,
+          )
+          | inr (inr q) ↦ absurd (omega (arith, less, next, q))
+        ]
+
+-- who is at a later position has passed both votes of an earlier one
+pub passed : (v : AllVotes) → AllJustified v → (p q : Position) (book : List Entry) → AllBoth v.a v.b 0 book → length book ≡ q.place → RoundsFine v p → RoundsFine v q
+    → Before p q → BothVoted v p
+passed v j p q book both long before now (inr (place, less)) =
+    let d = now p.round less in
+    both_voted v p (d.0, subst (λ (n : ℕ). In (ballot_at n p.round d.0) v.a) (sym place) d.2) (d.1, subst (λ (n : ℕ). In (ballot_at n p.round d.1) v.b) (sym place) d.3)
+passed v j p q book both long before now (inl less) = turn (compare equal.0 p.round)
+  where
+    here : Entry
+    here = get_or book p.place any
+
+    within : p.place < length book
+    within = omega (arith, long, less)
+
+    equal : (round : ℕ) × EqualVotes v (0 + p.place) round here
+    equal = both_at v.a v.b 0 book p.place here both (slice_get-get_or book p.place any within)
+
+    voted : EqualVotes v p.place equal.0 here
+    voted = let same : 0 + p.place ≡ p.place = omega arith in subst (λ (n : ℕ). EqualVotes v n equal.0 here) same equal.1
+
+    turn : (equal.0 < p.round) ⊎ ((equal.0 ≡ p.round) ⊎ (p.round < equal.0)) → BothVoted v p
+    turn (inl lo) =
+        let d = before equal.0 lo in
+        let a = one_vote v.b v.a j.0 (ballot_at p.place equal.0 here) (ballot_at p.place equal.0 d.0) voted.0 d.2 refl in
+        let b = one_vote v.a v.b j.1 (ballot_at p.place equal.0 here) (ballot_at p.place equal.0 d.1) voted.1 d.3 refl in
+        absurd (d.4 (sym (ap (λ (x : Ballot). x.entry) a) ∙ ap (λ (x : Ballot). x.entry) b))
+    turn (inr (inl same)) =
+        both_voted v p (here, subst (λ (n : ℕ). In (ballot_at p.place n here) v.a) same voted.0) (here, subst (λ (n : ℕ). In (ballot_at p.place n here) v.b) same voted.1)
+    turn (inr (inr more)) =
+        let d = differed v.b v.a j.0 (ballot_at p.place equal.0 here) voted.0 p.place p.round refl more in
+        both_voted v p (d.0, d.2) (d.1, d.3)

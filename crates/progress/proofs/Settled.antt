@@ -1,0 +1,273 @@
+-- What exchanges bring about between the desks.
+use Rattle.std.proofs.Common.{◌≡◌, ◌⊎◌, ◌<◌, Option, Some, None, List, [], ◌∷◌, length, refl, sym, ap, ◌∙◌, subst, inl, inr, arith}
+use Rattle.notation.specs.declared.entry.Entry.{Entry}
+use Rattle.agree_core.specs.declared.{messages.DeskId.DeskId, position.Position.Position}
+use Rattle.agree_core.specs.declared.messages.DeskId.TheVariants.{A, B}
+use Rattle.agree_core.specs.Agreed.{IsAgreedList}
+use Rattle.agree_core.specs.Ballots.{AllVotes, Ballot, In, Justified, votes_by}
+use Rattle.agree_core.specs.Desks.{DeskState, MayPen, PenAnswer, Pens, most_votes}
+use Rattle.agree_core.specs.Keeping.{MineFine, NotedFine, SeatFine}
+use Rattle.agree_core.specs.Positions.{Before, InRange}
+use Rattle.agree_core.specs.Readers.{other}
+use Rattle.agree_core.specs.Seats.{SeatState, SeatWaits}
+use Rattle.agree_core.proofs.Order.{not_before, one_vote}
+use Rattle.headline.specs.Configurations.{Configuration, Node, Running, all_votes, node, process_votes}
+use Rattle.agree_core.proofs.PenCauses.{not_both}
+use Rattle.agree_core.specs.declared.seat.Settled.{Settled}
+use Rattle.headline.specs.Answers.{Answer, Penned}
+use Rattle.headline.specs.DeskAnswers.{AfterPen}
+use Rattle.agree_core.specs.declared.messages.Message.{Message}
+use Rattle.headline.specs.Events.{station_of}
+use Rattle.headline.specs.Runs.{Moment, last_of}
+use Rattle.headline.specs.Setting.{Setting}
+use Rattle.headline.proofs.Keeping.{Fine, node_fine, run_keeps, running, votes_at}
+use Rattle.progress.specs.Calm.{BothUp, IsUp, NotBack}
+use Rattle.progress.specs.InStep.{BothVoted, EachKnows, HasVoted, InStep, IsBehind}
+use Rattle.progress.specs.Progress.{Hear, HearingAgainTells, HearingSettles, CanPen, CanPenInStep, StaysUp}
+use Rattle.progress.proofs.CalmRuns.{CalmRun, Steady, ends, seat_goes, steady_votes}
+use Rattle.progress.proofs.CalmSeats.{GoesOn, before_trans, not_back}
+use Rattle.progress.proofs.CalmSteps.{one_process, step_at_on}
+use Rattle.progress.proofs.Near.{agree, any, before_next, never_far, not_cast}
+use Rattle.progress.proofs.Trips.{Done, Knows, NoVote, fine_at, others_justified, trip}
+
+-- it waits for its own scorer, or for a vote that isn't cast
+abbrev pub Caught : List Ballot → SeatState → Type 0
+Caught theirs s = (s.mine ≡ None) ⊎ NoVote theirs s.position
+
+-- a desk that has moved on has not cast
+moved_waits : (theirs : List Ballot) (s t : SeatState) → GoesOn theirs s t → Before s.position t.position → t.mine ≡ None
+moved_waits theirs s t (inl e) b = absurd (not_before s.position t.position (sym (ap (λ (x : SeatState). x.position) e)) b)
+moved_waits theirs s t (inr (inl n)) b = absurd (not_before s.position t.position (sym (ap (λ (x : SeatState). x.position) n.3)) b)
+moved_waits theirs s t (inr (inr h)) b = h.5
+
+knows_waits : (s : SeatState) → SeatWaits s → Knows s → s.mine ≡ None
+knows_waits s (inl n) k = n
+knows_waits s (inr n) k = let e = k.1 in absurd (grind (arith, e, n))
+
+pub caught : (theirs : List Ballot) (s t : SeatState) → GoesOn theirs s t → SeatWaits t → Done theirs s t → Caught theirs t
+caught theirs s t g w (inl b) = inl (moved_waits theirs s t g b)
+caught theirs s t g w (inr (inl k)) = inl (knows_waits t w k)
+caught theirs s t g w (inr (inr n)) = inr n
+
+-- and it stays where it is
+caught_stays : (theirs : List Ballot) (s t : SeatState) → Caught theirs s → GoesOn theirs s t → t.position ≡ s.position
+caught_stays theirs s t c (inl e) = ap (λ (x : SeatState). x.position) e
+caught_stays theirs s t c (inr (inl n)) = ap (λ (x : SeatState). x.position) n.3
+caught_stays theirs s t (inl n) (inr (inr h)) = let e = h.2 in absurd (grind (arith, e, n))
+caught_stays theirs s t (inr n) (inr (inr h)) = absurd (n h.1 h.3)
+
+not_behind : (theirs : List Ballot) (s : SeatState) (next : Position) → Caught theirs s → IsBehind theirs s next → ⊥
+not_behind theirs s next (inl n) b = let e = b.2 in absurd (grind (arith, e, n))
+not_behind theirs s next (inr n) b = n b.1 b.4
+
+pub has_cast : (theirs own : List Ballot) (book : List Entry) (p : Position) (mine : Option Entry) (e : Entry) → mine ≡ Some e
+    → MineFine theirs own book p mine → In (record { at = p; entry = e }) own
+has_cast theirs own book p mine e q m =
+    let h : MineFine theirs own book p (Some e) = subst (MineFine theirs own book p) q m in
+    subst (In (record { at = p; entry = e })) (sym h.1) (inl refl)
+
+module _ (a b : List Ballot) (s t : SeatState) (xs ys : List Entry) (fs : SeatFine A a b s xs) (ft : SeatFine B b a t ys)
+    (cs : Caught b s) (ct : Caught a t) where
+  pub one_position : s.position ≡ t.position
+  one_position = elim (never_far a b s t xs ys fs ft) [
+    | inl e ↦ e
+    | inr (inl n) ↦ absurd (not_behind b s t.position cs n)
+    | inr (inr n) ↦ absurd (not_behind a t s.position ct n)
+  ]
+
+  pub one_waits : (s.mine ≡ None) ⊎ (t.mine ≡ None)
+  one_waits = elim cs [ inl n ↦ inl n | inr n ↦ inr (turn n t.mine refl) ]
+    where
+      turn : NoVote b s.position → (o : Option Entry) → t.mine ≡ o → t.mine ≡ None
+      turn n None e = e
+      turn n (Some e) q = absurd (n e (subst (λ (p : Position). In (record { at = p; entry = e }) b) (sym one_position) (has_cast a b ys t.position t.mine e q ft.mine)))
+
+not_moved : (theirs : List Ballot) (s t : SeatState) → t.position ≡ s.position → Done theirs s t → Knows t ⊎ NoVote theirs t.position
+not_moved theirs s t e (inl b) = absurd (not_before s.position t.position (sym e) b)
+not_moved theirs s t e (inr k) = k
+
+back_back : (p q r : Position) → NotBack p q → NotBack q r → NotBack p r
+back_back p q r (inl e) n = subst (λ (z : Position). NotBack z r) e n
+back_back p q r (inr a) (inl e) = inr (subst (Before p) (sym e) a)
+back_back p q r (inr a) (inr b) = inr (before_trans p q r a b)
+
+-- whose vote isn't cast has none there
+pub not_voted : (d : DeskId) (own theirs : List Ballot) (s : SeatState) (book : List Entry) → SeatFine d own theirs s book → s.mine ≡ None → NoVote own s.position
+not_voted d own theirs s book f n e i =
+    not_before s.position s.position refl
+    (before_next theirs own (record { at = s.position; entry = any }) (record { at = s.position; entry = e }) f.justified (not_cast theirs own book s s.mine refl n f.mine) i)
+
+pub not_cast_there : (d : DeskId) (own theirs : List Ballot) (s : SeatState) (book : List Entry) → SeatFine d own theirs s book → NoVote own s.position → s.mine ≡ None
+not_cast_there d own theirs s book f n = turn s.mine refl
+  where
+    turn : (o : Option Entry) → s.mine ≡ o → s.mine ≡ None
+    turn None e = e
+    turn (Some x) e = absurd (n x (has_cast theirs own book s.position s.mine x e f.mine))
+
+module _ {Disk Why : Type 0} (s : Setting Disk Why) where
+  pub steady : (w : Configuration Disk) → Fine s w → BothUp w → Steady s (all_votes w) w
+  steady w f u = record { fine = f; up = up }
+    where
+      up : (d : DeskId) → (k : DeskState Disk) × IsUp (node w d) k × (k.votes ≡ votes_by (all_votes w) d)
+      up A = let r = (u A).1.runs in ((u A).0, (u A).1, grind (arith, r))
+      up B = let r = (u B).1.runs in ((u B).0, (u B).1, grind (arith, r))
+
+  -- at one configuration
+  module _ (v : AllVotes) (w : Configuration Disk) (st : Steady s v w) where
+    pub seat_fine : (d : DeskId) → SeatFine d (votes_by v d) (votes_by v (other d)) (st.up d).0.seat (st.up d).0.book
+    seat_fine d =
+        let k = st.up d in
+        subst (λ (z : List Ballot). SeatFine d z (votes_by v (other d)) k.0.seat k.0.book) k.2 (fine_at s w v st d k.0 k.1).seat
+
+    module _ (ca : Caught v.b (st.up A).0.seat) (cb : Caught v.a (st.up B).0.seat) where
+      abbrev k : DeskState Disk
+      k = (st.up A).0
+
+      abbrev l : DeskState Disk
+      l = (st.up B).0
+
+      at : k.seat.position ≡ l.seat.position
+      at = one_position v.a v.b k.seat l.seat k.book l.book (seat_fine A) (seat_fine B) ca cb
+
+      waits : (k.seat.mine ≡ None) ⊎ (l.seat.mine ≡ None)
+      waits = one_waits v.a v.b k.seat l.seat k.book l.book (seat_fine A) (seat_fine B) ca cb
+
+      books : (k.book ≡ l.book) × IsAgreedList v k.book
+      books = agree v.a v.b k.seat l.seat k.book l.book (seat_fine A) (seat_fine B) at waits
+
+      up : (d : DeskId) → (x : DeskState Disk) × IsUp (node w d) x × (x.seat.position ≡ k.seat.position) × (x.book ≡ k.book)
+      up A = (k, (st.up A).1, refl, refl)
+      up B = (l, (st.up B).1, sym at, sym books.0)
+
+      not_voted_by_both : BothVoted v k.seat.position → ⊥
+      not_voted_by_both h = elim waits [
+        | inl n ↦ not_voted A v.a v.b k.seat k.book (seat_fine A) n (h A).0 (h A).1
+        | inr n ↦ not_voted B v.b v.a l.seat l.book (seat_fine B) n (h B).0 (subst (λ (p : Position). In (record { at = p; entry = (h B).0 }) v.b) at (h B).1)
+      ]
+
+      pub in_step : InStep w k.seat.position k.book
+      in_step =
+          let q = steady_votes s v w st in
+          record {
+            up = up;
+            agreed = subst (λ (z : AllVotes). IsAgreedList z k.book) (sym q) books.1;
+            one_waits = subst (λ (z : AllVotes). BothVoted z k.seat.position → ⊥) (sym q) not_voted_by_both;
+          }
+
+  module _ (v : AllVotes) (w : Configuration Disk) (ms : List (Moment Disk Why)) (st : Steady s v w) (h : Hear s w ms) where
+    calm_run : CalmRun s v w ms
+    calm_run = record { begins = st; run = h.run; calm = h.calm }
+
+    pub last : Steady s v (last_of w ms)
+    last = ends s v w ms calm_run
+
+    goes : (d : DeskId) → GoesOn (votes_by v (other d)) (st.up d).0.seat (last.up d).0.seat
+    goes d = seat_goes s v w ms calm_run d (st.up d).0 (last.up d).0 (st.up d).1 (last.up d).1
+
+    done : (d : DeskId) → Done (votes_by v (other d)) (st.up d).0.seat (last.up d).0.seat
+    done d = trip s v w ms calm_run d (h.exchanges d) (st.up d).0 (last.up d).0 (st.up d).1 (last.up d).1
+
+    pub caught_at : (d : DeskId) → Caught (votes_by v (other d)) (last.up d).0.seat
+    caught_at d = caught (votes_by v (other d)) (st.up d).0.seat (last.up d).0.seat (goes d) (seat_fine v (last_of w ms) last d).waits (done d)
+
+    pub settled : InStep (last_of w ms) (last.up A).0.seat.position (last.up A).0.book
+    settled = in_step v (last_of w ms) last (caught_at A) (caught_at B)
+
+    -- where each had an exchange before
+    pub noted : ((d : DeskId) → Caught (votes_by v (other d)) (st.up d).0.seat) → EachKnows (last_of w ms)
+    noted c d k e u i =
+        let x = last.up d in
+        let theirs = votes_by v (other d) in
+        let same : x.0 ≡ k = one_process (node (last_of w ms) d) x.0 k x.1.runs u.runs in
+        let knows = not_moved theirs (st.up d).0.seat x.0.seat (caught_stays theirs (st.up d).0.seat x.0.seat (c d) (goes d)) (done d) in
+        let there : In (record { at = x.0.seat.position; entry = e }) theirs =
+        subst (λ (z : DeskState Disk). In (record { at = z.seat.position; entry = e }) theirs) (sym same)
+        (subst (λ (z : AllVotes). In (record { at = k.seat.position; entry = e }) (votes_by z (other d))) (steady_votes s v (last_of w ms) last) i) in
+        subst (λ (z : DeskState Disk). z.seat.theirs ≡ Some e) same (knows_it d x.0.seat x.0.book e (seat_fine v (last_of w ms) last d) (others_justified s (last_of w ms) v last d) knows there)
+      where
+        knows_it : (d : DeskId) (x : SeatState) (book : List Entry) (e : Entry) → SeatFine d (votes_by v d) (votes_by v (other d)) x book
+            → Justified (votes_by v d) (votes_by v (other d)) → Knows x ⊎ NoVote (votes_by v (other d)) x.position
+            → In (record { at = x.position; entry = e }) (votes_by v (other d)) → x.theirs ≡ Some e
+        knows_it d x book e f j (inr n) i = absurd (n e i)
+        knows_it d x book e f j (inl h) i =
+            let noted : In (record { at = x.position; entry = h.0 }) (votes_by v (other d)) = subst (NotedFine (votes_by v (other d)) x.position) h.1 f.noted in
+            let one = one_vote (votes_by v d) (votes_by v (other d)) j (record { at = x.position; entry = h.0 }) (record { at = x.position; entry = e }) noted i refl in
+            h.1 ∙ ap (λ (b : Ballot). Some b.entry) one
+
+  module _ (w : Configuration Disk) (f : Fine s w) where
+    pub hearing_settles : HearingSettles s w
+    hearing_settles ms u h =
+        let st = steady w f u in
+        let end = last (all_votes w) w ms st h in
+        ((end.up A).0.seat.position, (end.up A).0.book, settled (all_votes w) w ms st h)
+
+    pub hearing_again_tells : HearingAgainTells s w
+    hearing_again_tells ms rest u h k =
+        let v = all_votes w in
+        let st = steady w f u in
+        let mid = last v w ms st h in
+        noted v (last_of w ms) rest mid k (caught_at v w ms st h)
+
+    -- a desk that runs, by its votes
+    pub fine_seat : (d : DeskId) (k : DeskState Disk) → (node w d).process ≡ Running k
+        → SeatFine d (votes_by (all_votes w) d) (votes_by (all_votes w) (other d)) k.seat k.book × (k.votes ≡ votes_by (all_votes w) d)
+    fine_seat d k runs =
+        let votes : k.votes ≡ votes_by (all_votes w) d = sym (votes_at s w d ∙ ap process_votes runs) in
+        let seat = (running s (node w d).version d (votes_by (all_votes w) (other d)) (node w d).process k runs (node_fine s w d f)).seat in
+        (subst (λ (z : List Ballot). SeatFine d z (votes_by (all_votes w) (other d)) k.seat k.book) votes seat, votes)
+
+    -- a desk that is up pens what nothing stands against
+    pens_it : (d : DeskId) (x y : Node Disk) (k l : DeskState Disk) (e : Entry) (told : PenAnswer Why) (answer : Answer Why) (out : List Message)
+        → IsUp x k → MayPen s.rules k e → Pens (s.view d x.version) s.rules k e told l out → AfterPen (s.view d x.version) x told l answer y
+        → (settled : Settled) × (answer ≡ Penned settled)
+    pens_it d x y k l e (PenAnswer.Penned settled) answer out u m p a = (settled, a.0)
+    pens_it d x y k l e (PenAnswer.Refused why) answer out u m p a = absurd (not_both s.rules k e why m p.0)
+    pens_it d x y k l e PenAnswer.DeviceFailed answer out u m p a = let due = a.1 in let none = u.no_fault in absurd (grind (arith, due, none))
+
+    pub can_pen : (d : DeskId) (k : DeskState Disk) (e : Entry) → IsUp (node w d) k → MayPen s.rules k e → CanPen s w d e
+    can_pen d k e u m = (
+      (k, u, m),
+      λ answer new p.
+          let h = p.2 in
+          let same : h.0 ≡ k = one_process (node w d) h.0 k h.3 u.runs in
+          let pens = subst (λ (z : DeskState Disk). Pens (s.view d (node w d).version) s.rules z e h.2 h.1 p.1) same h.4 in
+          pens_it d (node w d) p.0 k h.1 e h.2 answer p.1 u m pens h.5,
+    )
+
+    pub can_pen_in_step : CanPenInStep s w
+    can_pen_in_step p book d e i = (may, λ h. can_pen d (i.up d).0 e (i.up d).1 (can h))
+      where
+        may : CanPen s w d e → (HasVoted (all_votes w) d p → ⊥) × (s.rules book e ≡ None) × (p.place < 8192) × (p.round < 256) × (length (votes_by (all_votes w) d) < 16384)
+        may ((l, ul, n), taken) =
+            let v = all_votes w in
+            let k = (i.up d).0 in
+            let same : l ≡ k = one_process (node w d) l k ul.runs (i.up d).1.runs in
+            let m : MayPen s.rules k e = subst (λ (z : DeskState Disk). MayPen s.rules z e) same n in
+            let g = fine_seat d k (i.up d).1.runs in
+            let none = not_voted d (votes_by v d) (votes_by v (other d)) k.seat k.book g.0 m.0.1 in
+            let range : InRange p = subst InRange (i.up d).2 m.1.0 in (
+              λ h. none h.0 (subst (λ (z : Position). In (record { at = z; entry = h.0 }) (votes_by v d)) (sym (i.up d).2) h.1),
+              subst (λ (z : List Entry). s.rules z e ≡ None) (i.up d).3 m.2,
+              range.0,
+              range.1,
+              subst (λ (z : List Ballot). length z < most_votes) g.1 m.1.1,
+            )
+
+        can : (HasVoted (all_votes w) d p → ⊥) × (s.rules book e ≡ None) × (p.place < 8192) × (p.round < 256) × (length (votes_by (all_votes w) d) < 16384) → MayPen s.rules (i.up d).0 e
+        can h =
+            let v = all_votes w in
+            let k = (i.up d).0 in
+            let g = fine_seat d k (i.up d).1.runs in
+            let none : NoVote (votes_by v d) k.seat.position = λ f x. h.0 (f, subst (λ (z : Position). In (record { at = z; entry = f }) (votes_by v d)) (i.up d).2 x) in (
+              ((i.up d).1.sound, not_cast_there d (votes_by v d) (votes_by v (other d)) k.seat k.book g.0 none),
+              (subst InRange (sym (i.up d).2) (h.2, h.3), subst (λ (z : List Ballot). length z < most_votes) (sym g.1) h.4),
+              subst (λ (z : List Entry). s.rules z e ≡ None) (sym (i.up d).3) h.1,
+            )
+
+    pub stays_up : StaysUp s w
+    stays_up [] d k r c u = (k, u, refl, inl refl)
+    stays_up (m ∷ ms) d k r c u =
+        let h = stays_up ms d k r.0 c.0 u in
+        let g = step_at_on s (last_of w ms) m.event (station_of m.event) m.answer m.after (run_keeps s w ms f r.0) c.1 d h.0 h.1 r.1 in
+        let on = not_back (votes_by (all_votes (last_of w ms)) (other d)) h.0.seat g.0.seat g.3 in
+        (g.0, g.1, g.2 ∙ h.2, back_back k.seat.position h.0.seat.position g.0.seat.position h.3 on)

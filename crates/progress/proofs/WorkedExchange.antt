@@ -1,0 +1,110 @@
+-- The worked exchange is one.
+use Rattle.std.proofs.Common.{◌≡◌, ◌≢◌, ℕ, zero, suc, Some, [], ◌∷◌, refl, sym, ap, subst, inl, inr, arith}
+use Rattle.notation.specs.declared.entry.Entry.{Entry}
+use Rattle.agree_core.specs.declared.messages.DeskId.{DeskId}
+use Rattle.agree_core.specs.declared.messages.DeskId.TheVariants.{A, B}
+use Rattle.agree_core.specs.declared.seat.Heard.{Heard}
+use Rattle.agree_core.specs.Books.{Rules}
+use Rattle.agree_core.specs.declared.messages.Asker.{Asker}
+use Rattle.agree_core.specs.Ballots.{Ballot}
+use Rattle.agree_core.specs.Desks.{DeskState, ReceiveAnswer, ask_for}
+use Rattle.agree_core.specs.Readers.{other}
+use Rattle.headline.specs.Configurations.{node}
+use Rattle.progress.proofs.CalmSteps.{one_process}
+use Rattle.agree_core.specs.Positions.{first}
+use Rattle.agree_core.specs.FileView.{Stays}
+use Rattle.agree_core.specs.WorkedSteps.{Shown, says, shows, waits}
+use Rattle.headline.specs.declared.event.{Event.Event, Station.Station}
+use Rattle.headline.specs.Runs.{Run}
+use Rattle.progress.specs.Exchange.{Exchange, HandsOut, IsAnswered}
+use Rattle.progress.specs.Calm.{IsUp}
+use Rattle.progress.specs.InStep.{EachKnows}
+use Rattle.progress.specs.WorkedExchange.{WorkedExchange, a_answers, a_ticks, all_said, answer_given, ask_given, at, b_ticks, both_said, exchanged, heard, unheard, up, vote_given, worked}
+
+stays : (disk : Shown) → Stays shows disk disk
+stays disk = (refl, λ image. (λ i. i, λ i. i))
+
+differ : A ≢ B
+differ e = cc
+
+module _ {Why : Type 0} (rules : Rules Why) (e : Entry) where
+  ran : Run (worked rules) (at e unheard []) (exchanged e)
+  ran = (
+    (
+      (
+        (
+          (
+            (tt, (up (waits e), _, (waits e, refl, inl (refl, (omega arith, omega arith), refl), refl, refl), refl)),
+            (up unheard, _, (unheard, refl, inl (refl, (omega arith, omega arith), refl), refl, refl), refl),
+          ),
+          (up (heard e), [], (unheard, heard e, _, ReceiveAnswer.Told Heard.Noted, refl, inl refl, (refl, ((differ, refl), refl, refl, refl), stays _, refl, refl), (refl, refl)), refl),
+        ),
+        (up (heard e), [], (heard e, heard e, _, ReceiveAnswer.Asked, refl, inl refl, (refl, (stays _, refl), inr (λ f i. i, refl)), (refl, refl)), refl),
+      ),
+      (up (waits e), _, (waits e, waits e, _, ReceiveAnswer.Asked, refl, inl refl, (refl, (stays _, refl), inl (e, inl refl, refl)), (refl, refl)), refl),
+    ),
+    (up (heard e), [], (heard e, heard e, _, ReceiveAnswer.Told Heard.Again, refl, inl refl, (refl, ((differ, refl), refl, refl), stays _, refl, refl), (refl, refl)), refl),
+  )
+
+  -- each message of A's tick is given to B, which has no answer
+  told_b : (n : ℕ) → HandsOut (at e unheard []) (a_ticks {Why = Why} e) n
+      → IsAnswered (at e unheard (says A 0 e ∷ ask_for Asker.A first ∷ [])) (Station.Desk A) B n (answer_given {Why = Why} e ∷ a_answers e ∷ ask_given e ∷ vote_given e ∷ b_ticks e ∷ [])
+  told_b zero h = record {
+    at = record { later = answer_given e ∷ a_answers e ∷ ask_given e ∷ []; moment = vote_given e; earlier = b_ticks e ∷ []; whole = refl };
+    given = refl;
+    heard = λ r k. absurd (omega arith);
+  }
+  told_b (suc zero) h = record {
+    at = record { later = answer_given e ∷ a_answers e ∷ []; moment = ask_given e; earlier = vote_given e ∷ b_ticks e ∷ []; whole = refl };
+    given = refl;
+    heard = λ r k. absurd (omega arith);
+  }
+  told_b (suc (suc n)) h = absurd (omega arith)
+
+  -- the ask of B's tick is given to A, and A's answer to B
+  told_a : (n : ℕ) → HandsOut (at e unheard (says A 0 e ∷ ask_for Asker.A first ∷ [])) (b_ticks {Why = Why} e) n
+      → IsAnswered (at e unheard (both_said e)) (Station.Desk B) A n (answer_given {Why = Why} e ∷ a_answers e ∷ ask_given e ∷ vote_given e ∷ [])
+  told_a n h =
+      let q : n ≡ 2 = omega arith in
+      record {
+        at = record { later = answer_given e ∷ []; moment = a_answers e; earlier = ask_given e ∷ vote_given e ∷ []; whole = refl };
+        given = ap (λ (z : ℕ). Event.Give z (Station.Desk A)) (sym q);
+        heard = λ r k. let p : 3 ≡ r = omega arith in inl (ap (λ (z : ℕ). Event.Give z (Station.Desk B)) p);
+      }
+
+  of_a : Exchange (at e unheard []) (Station.Desk A) B (exchanged {Why = Why} e)
+  of_a = record {
+    at = record { later = answer_given e ∷ a_answers e ∷ ask_given e ∷ vote_given e ∷ b_ticks e ∷ []; moment = a_ticks e; earlier = []; whole = refl };
+    ticks = refl;
+    answered = told_b;
+  }
+
+  of_b : Exchange (at e unheard []) (Station.Desk B) A (exchanged {Why = Why} e)
+  of_b = record {
+    at = record { later = answer_given e ∷ a_answers e ∷ ask_given e ∷ vote_given e ∷ []; moment = b_ticks e; earlier = a_ticks e ∷ []; whole = refl };
+    ticks = refl;
+    answered = told_a;
+  }
+
+  exchanges : (d : DeskId) → Exchange (at e unheard []) (Station.Desk d) (other d) (exchanged {Why = Why} e)
+  exchanges A = of_a
+  exchanges B = of_b
+
+  up_at : (d : DeskId) → (k : DeskState Shown) × IsUp (node (at e (heard e) (all_said e)) d) k × (k.seat.position ≡ first) × (k.book ≡ [])
+  up_at A = (waits e, record { runs = refl; sound = refl; no_fault = refl }, refl, refl)
+  up_at B = (heard e, record { runs = refl; sound = refl; no_fault = refl }, refl, refl)
+
+  knows : EachKnows (at e (heard e) (all_said e))
+  knows A k f u i = absurd i
+  knows B k f u (inr i) = absurd i
+  knows B k f u (inl q) =
+      let same : heard e ≡ k = one_process (up (heard e)) (heard e) k refl u.runs in
+      let it : e ≡ f = sym (ap (λ (b : Ballot). b.entry) q) in
+      subst (λ (z : DeskState Shown). z.seat.theirs ≡ Some f) same (ap Some it)
+
+  pub worked_exchange : WorkedExchange rules e
+  worked_exchange = (
+    record { run = ran; calm = ((((((tt, tt), tt), tt), tt), tt), tt); exchanges = exchanges },
+    record { up = up_at; agreed = (tt, λ round f h. h.1); one_waits = λ h. (h B).1 },
+    knows,
+  )

@@ -1,0 +1,6 @@
+//! What goes on in every run of a match: desks that hear each other come to one place, and boards to their book.
+#![tactic(auto)]
+
+mod laws;
+
+pub use laws::every_match_goes_on;
