@@ -7,3 +7,5 @@ pub mod OneList
 pub mod SameVotes
 pub mod SoundVotes
 pub mod TakenLines
+pub mod Tears
+pub mod WholeRuns

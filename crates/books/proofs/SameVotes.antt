@@ -10,8 +10,8 @@ use Rattle.agree_core.specs.declared.position.TheConstants.{ROUNDS}
 use Rattle.agree_core.specs.Ballots.{AllVotes, Ballot, In, IsSequence, ballot_at}
 use Rattle.agree_core.specs.Positions.{InRange}
 use Rattle.vote_store.specs.Laws.{AllEntries, IsVotes}
-use Rattle.books.specs.Comparing.{difference_at, differences, in_places, in_rounds, is_alike}
-use Rattle.books.specs.DeskVotes.{entry_at}
+use Rattle.books.specs.Comparing.{difference_at, differences, in_places, in_rounds}
+use Rattle.books.specs.DeskVotes.{entry_at, is_alike}
 use Rattle.books.specs.declared.compare.Difference.{Difference}
 use Rattle.books.proofs.EntriesAt.{found_in, none_at, some_at}
 
@@ -21,7 +21,7 @@ in_range [] s b i = absurd i
 in_range (x ∷ xs) s b (inl p) = rw p s.0
 in_range (x ∷ xs) s b (inr k) = in_range xs s.2 b k
 
-entries_at : (votes : List Ballot) → AllEntries votes → (place round : ℕ) → IfSome (entry_at votes place round) IsEntry
+pub entries_at : (votes : List Ballot) → AllEntries votes → (place round : ℕ) → IfSome (entry_at votes place round) IsEntry
 entries_at [] a place round = tt
 entries_at (b ∷ bs) a place round =
     cond_both _ (Some b.entry) (entry_at bs place round) (λ o. IfSome o IsEntry) (λ _. a.0) (λ _. entries_at bs a.1 place round)
@@ -44,13 +44,13 @@ none_in_place v zero e place less = absurd (omega arith)
 none_in_place v (suc n) e place less =
     let parts = no_parts (in_places v n) (in_rounds v n ROUNDS) e in grind (arith, none_in_place v n parts.0 place)
 
-same_entry : (x y : Option Entry) → IfSome x IsEntry → IfSome y IsEntry → is_alike x y ≡ true → x ≡ y
+pub same_entry : (x y : Option Entry) → IfSome x IsEntry → IfSome y IsEntry → is_alike x y ≡ true → x ≡ y
 same_entry None None h k e = refl
 same_entry (Some x) (Some y) h k e = ap Some (text_once x y h k ((bytes_eq-Decides (text_of x) (text_of y)).0 e))
 same_entry None (Some y) h k e = absurd (cc)
 same_entry (Some x) None h k e = absurd (cc)
 
-alike_here : (x : Option Entry) → is_alike x x ≡ true
+pub alike_here : (x : Option Entry) → is_alike x x ≡ true
 alike_here None = refl
 alike_here (Some x) = (bytes_eq-Decides (text_of x) (text_of x)).1 refl
 

@@ -1,5 +1,5 @@
 -- The book of both desks' votes files: their agreed list, or why it is none.
-use Rattle.std.specs.Prelude.{◌≡◌, ℕ, List, [], Ok, Err, IsOk}
+use Rattle.std.specs.Prelude.{◌≡◌, ℕ, List, [], Some, None, Ok, Err, IsOk}
 use Rattle.notation.specs.declared.entry.Entry.{Entry}
 use Rattle.corrections.specs.Refusal.{book_refusal}
 use Rattle.agree_core.specs.declared.messages.DeskId.{DeskId}
@@ -11,24 +11,33 @@ use Rattle.vote_store.specs.declared.refusal.Refusal.{Refusal}
 use Rattle.cards.specs.Sheet.{Sheet}
 use Rattle.books.specs.CardBook.{votes_in_file}
 use Rattle.books.specs.declared.fault.BothFault.{BothFault}
-use Rattle.books.specs.declared.fault.BothFault.TheVariants.{NoMemory, Votes, BadVotes}
+use Rattle.books.specs.declared.fault.BothFault.TheVariants.{NoMemory, NotOneHistory, Votes, BadVotes}
+use Rattle.books.specs.OneHistory.{Tears}
 
 -- the files of both desks of a match have these votes
 pub record HaveVotes (game : ℕ) (a b : List ℕ) (votes : AllVotes) : Type 0 where
   pub first : votes_in_file A game a ≡ Ok votes.a
   pub second : votes_in_file B game b ≡ Ok votes.b
 
--- the agreed list of both files' votes is this book, and it is legal
+-- the votes of both files are of one history, and their agreed list is this book, and legal
 pub record IsBookOfBoth (s : Sheet) (a b : List ℕ) (book : List Entry) : Type 0 where
   pub votes : AllVotes
   pub read : HaveVotes s.game a b votes
+  pub whole : Tears votes None
   pub agreed : IsAgreedList votes book
   pub taken : AllTaken (book_refusal s.innings) [] book
 
--- the agreed list of both files' votes is first refused at this place
+-- the votes of both files aren't of one history, from this place on
+pub record IsTornFrom (game : ℕ) (a b : List ℕ) (place : ℕ) : Type 0 where
+  pub votes : AllVotes
+  pub read : HaveVotes game a b votes
+  pub torn : Tears votes (Some place)
+
+-- they are, and their agreed list is first refused at this place
 pub record IsRefusedAt (s : Sheet) (a b : List ℕ) (place : ℕ) : Type 0 where
   pub votes : AllVotes
   pub read : HaveVotes s.game a b votes
+  pub whole : Tears votes None
   pub list : List Entry
   pub agreed : IsAgreedList votes list
   pub refused : FirstRefused (book_refusal s.innings) [] list place
@@ -38,10 +47,12 @@ abbrev pub WhyNotOpened : ℕ → List ℕ → List ℕ → BothFault → Type 0
 WhyNotOpened game a b NoMemory = Unit {0}
 WhyNotOpened game a b (Votes A why) = votes_in_file A game a ≡ Err why
 WhyNotOpened game a b (Votes B why) = IsOk (votes_in_file A game a) × (votes_in_file B game b ≡ Err why)
+WhyNotOpened game a b (NotOneHistory place) = ⊥
 WhyNotOpened game a b (BadVotes place) = ⊥
 
--- the same, or the first place at which their agreed list is no legal book
+-- the same; then the first place at which they aren't of one history; then that at which their agreed list is no legal book
 abbrev pub WhyNoBookOfBoth : Sheet → List ℕ → List ℕ → BothFault → Type 0
+WhyNoBookOfBoth s a b (NotOneHistory place) = IsTornFrom s.game a b place
 WhyNoBookOfBoth s a b (BadVotes place) = IsRefusedAt s a b place
 WhyNoBookOfBoth s a b fault = WhyNotOpened s.game a b fault
 

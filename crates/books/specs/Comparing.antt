@@ -1,21 +1,15 @@
 -- What both desks' votes files have in common, and where they differ.
-use Rattle.std.specs.Prelude.{◌≡◌, ℕ, zero, suc, Bool, true, false, ◌&&◌, if◌then◌else◌, List, [], ◌∷◌, ◌++◌, length, count_by, Option, Some, None, is_some, is_none, IfSome, codes, decimal}
+use Rattle.std.specs.Prelude.{◌≡◌, ℕ, zero, suc, Bool, ◌&&◌, if◌then◌else◌, List, [], ◌∷◌, ◌++◌, length, count_by, Option, Some, None, is_some, is_none, IfSome, codes, decimal}
 use Rattle.std.specs.List.{flat_map}
-use Rattle.std.specs.Str.{bytes_eq}
 use Rattle.notation.specs.declared.entry.{Entry.Entry, TheConstants.PLACES}
 use Rattle.notation.specs.Written.{IsEntry, text_of}
 use Rattle.agree_core.specs.declared.position.TheConstants.{ROUNDS}
 use Rattle.agree_core.specs.Agreed.{IsAgreedList}
 use Rattle.agree_core.specs.Ballots.{AllVotes}
 use Rattle.books.specs.BothFiles.{HaveVotes}
-use Rattle.books.specs.DeskVotes.{entry_at}
+use Rattle.books.specs.DeskVotes.{entry_at, is_alike}
+use Rattle.books.specs.OneHistory.{Tears, torn_line}
 use Rattle.books.specs.declared.compare.{Difference.Difference, Comparison.Comparison}
-
--- both are written alike, or both are missing
-abbrev pub is_alike : Option Entry → Option Entry → Bool
-is_alike None None = true
-is_alike (Some x) (Some y) = bytes_eq (text_of x) (text_of y)
-is_alike x y = false
 
 -- what the desks wrote there, unless it is alike
 abbrev pub unless_alike : ℕ → ℕ → Option Entry → Option Entry → List Difference
@@ -39,7 +33,8 @@ in_places v (suc n) = in_places v n ++ in_rounds v n ROUNDS
 abbrev pub differences : AllVotes → List Difference
 differences v = in_places v PLACES
 
--- the comparison of both files of a match: how many entries their votes have agreed, and where they differ
+-- the comparison of both files of a match: how many entries their votes have agreed, where they differ, and the first place
+-- at which they aren't of one history
 pub record IsComparison (game : ℕ) (a b : List ℕ) (c : Comparison) : Type 0 where
   pub votes : AllVotes
   pub read : HaveVotes game a b votes
@@ -47,6 +42,7 @@ pub record IsComparison (game : ℕ) (a b : List ℕ) (c : Comparison) : Type 0 
   pub agreed_list : IsAgreedList votes list
   pub agreed : c.agreed ≡ length list
   pub differences : c.differences.items ≡ differences votes
+  pub torn : Tears votes c.torn
 
 -- ---- as text
 
@@ -79,9 +75,14 @@ sum_of agreed ds =
     ++ codes ", only a " ++ decimal (count_by is_of_a_alone ds)
     ++ codes ", only b " ++ decimal (count_by is_of_b_alone ds) ++ codes "\n"
 
--- a line a difference, and then the sum
-abbrev pub comparison_text : ℕ → List Difference → List ℕ
-comparison_text agreed ds = flat_map difference_line ds ++ sum_of agreed ds
+-- that the files aren't of one history, where they aren't
+abbrev pub torn_text : Option ℕ → List ℕ
+torn_text None = []
+torn_text (Some place) = torn_line place
+
+-- a line a difference, then the sum, and then that
+abbrev pub comparison_text : ℕ → List Difference → Option ℕ → List ℕ
+comparison_text agreed ds torn = flat_map difference_line ds ++ sum_of agreed ds ++ torn_text torn
 
 -- what the desks wrote there are entries whose numbers are in their ranges
 abbrev pub HasEntries : Difference → Type 0

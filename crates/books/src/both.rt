@@ -13,6 +13,7 @@ ghost use Rattle.books.specs.inner.Both.{NamesRefused};
 
 use crate::desk_votes::DeskVotes;
 use crate::fault::BothFault;
+use crate::one_history::first_torn;
 use agree_core::{DeskId, Vote};
 use cards::MatchSheet;
 use corrections::{BookOf, CheckedBook};
@@ -92,8 +93,8 @@ fn book_of_entries(alloc: Global, innings: u32, entries: &[Entry]) -> Result<Che
 }
 
 /// The book of both desks' votes files: the agreed list of their votes, the last entry too. Byte 7 of a file says which
-/// version it is of. It is refused as the first votes file that is refused, A's before B's, and then `BadVotes` where the
-/// agreed list is no legal book.
+/// version it is of. It is refused as the first votes file that is refused, A's before B's; then `NotOneHistory` where a desk
+/// went on without its votes; and then `BadVotes` where the agreed list is no legal book.
 pub fn book_of_both(
     alloc: Global,
     sheet: &MatchSheet,
@@ -105,6 +106,9 @@ pub fn book_of_both(
     ensures why { IfErr result (WhyNoBookOfBoth sheet.now a.now b.now) }
 {
     let (a_votes, b_votes) = open_both(alloc, sheet.game(), a, b)?;
+    if let Some(place) = first_torn(&a_votes, &b_votes) {
+        return Err(BothFault::NotOneHistory { place });
+    }
     let list = agreed_list(alloc, &a_votes, &b_votes)?;
     book_of_entries(alloc, sheet.innings(), list.as_slice())
 }

@@ -8,12 +8,13 @@ ghost use Rattle.streams.specs.Watched.{IsHandedOn, Prints, TellsFailure};
 ghost use Rattle.books.specs.BothFiles.{WhyNotOpened};
 ghost use Rattle.books.specs.Comparing as texts;
 ghost use Rattle.books.specs.Comparing.{HasEntries, IsComparison, difference_at, differences, in_rounds};
-ghost use Rattle.books.specs.DeskVotes.{entry_at, read_votes, votes_of_both};
+ghost use Rattle.books.specs.DeskVotes.{entry_at, is_alike, read_votes, votes_of_both};
 ghost use Rattle.books.specs.inner.Tally as inner;
 
 use crate::both::{add, agreed_list, open_both};
 use crate::desk_votes::DeskVotes;
 use crate::fault::BothFault;
+use crate::one_history::{first_torn, print_torn};
 use agree_core::ROUNDS;
 use notation::{Entry, PLACES, line_of};
 use std::alloc::{AllocError, Global};
@@ -41,18 +42,21 @@ impl Difference {
     }
 }
 
-/// How many entries the votes of both desks have agreed, and where they differ, in the order of places and rounds.
+/// How many entries the votes of both desks have agreed, where they differ, in the order of places and rounds, and whether
+/// they can be of one history.
 #[derive(Drop)]
 pub struct Comparison {
     pub agreed: usize,
     pub differences: Vec<Difference>,
+    /// The first place at which the votes aren't of one history, if there is one.
+    pub torn: Option<u32>,
 }
 
 /// Whether both desks wrote the same, or neither did.
-fn is_alike(a: &Option<Entry>, b: &Option<Entry>) -> bool
+pub fn is_alike(a: &Option<Entry>, b: &Option<Entry>) -> bool
     requires first { IfSome a.now IsEntry }
     requires second { IfSome b.now IsEntry }
-    ensures { result ≡ texts.is_alike a.now b.now }
+    ensures { result ≡ is_alike a.now b.now }
 {
     match (a, b) {
         (Some(first), Some(second)) => first.is_same(second),
@@ -147,6 +151,7 @@ pub fn compare_files(alloc: Global, game: u64, a: &[u8], b: &[u8]) -> Result<Com
     Ok(Comparison {
         agreed: list.len(),
         differences,
+        torn: first_torn(&a_votes, &b_votes),
     })
 }
 
@@ -252,21 +257,33 @@ fn print_sum<W: Write>(
     )
 }
 
+/// Prints from which place on the votes aren't of one history, if there is one.
+fn print_tear<W: Write>(out: &mut Watched<W>, torn: Option<u32>) -> Result<(), WriteFailed>
+    ensures text { OnOk result (Prints W.contents out.old out.new (texts.torn_text torn)) }
+    ensures failed { TellsFailure result out.old out.new }
+{
+    match torn {
+        Some(place) => print_torn(out, place),
+        None => Ok(()),
+    }
+}
+
 /// Prints a line for each place and round at which the desks differ, and then how many entries are agreed, and how many
-/// such lines there are: of both desks, of A alone, of B alone. It fails only where a write fails; how much was written
-/// then isn't said.
+/// such lines there are: of both desks, of A alone, of B alone; and where the votes aren't of one history, from which place
+/// on. It fails only where a write fails; how much was written then isn't said.
 pub fn print_comparison<W: Write>(
     comparison: &Comparison,
     out: &mut Watched<W>,
 ) -> Result<(), WriteFailed>
     requires { All HasEntries comparison.now.differences.items }
     ensures text { OnOk result (Prints W.contents out.old out.new
-        (texts.comparison_text comparison.now.agreed comparison.now.differences.items)) }
+        (texts.comparison_text comparison.now.agreed comparison.now.differences.items comparison.now.torn)) }
     ensures handed_on { OnOk result (IsHandedOn out.new) }
     ensures failed { TellsFailure result out.old out.new }
 {
     let differences = comparison.differences.as_slice();
     print_differences(out, differences)?;
     print_sum(out, comparison.agreed, differences)?;
+    print_tear(out, comparison.torn)?;
     out.flush()
 }

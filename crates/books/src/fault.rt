@@ -66,6 +66,10 @@ pub enum BothFault {
         desk: DeskId,
         why: vote_store::Refusal,
     },
+    /// The votes of both files aren't of one history: this is the first place at which they can't be.
+    NotOneHistory {
+        place: u32,
+    },
     /// The agreed list of both files is no legal book: this is the first place that is refused.
     BadVotes {
         place: u32,

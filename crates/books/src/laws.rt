@@ -1,7 +1,7 @@
 //! What the agreed list of both desks' files has to do with each of them, and what their comparison tells. These functions
 //! do nothing: they stand for the laws that they ensure.
 
-ghost use Rattle.std.specs.Prelude.{◌≡◌, ◌↔◌, ℕ, List, [], length};
+ghost use Rattle.std.specs.Prelude.{◌≡◌, ◌↔◌, ℕ, List, [], None, length};
 ghost use Rattle.notation.specs.declared.entry.Entry.{Entry};
 ghost use Rattle.agree_core.specs.declared.messages.DeskId.{DeskId};
 ghost use Rattle.agree_core.specs.Agreed.{BeginsWith, IsAgreedList};
@@ -10,6 +10,7 @@ ghost use Rattle.agree_core.specs.Books.{book_of};
 ghost use Rattle.cards.specs.Sheet.{Sheet};
 ghost use Rattle.books.specs.BothFiles.{HaveVotes, IsBookOfBoth};
 ghost use Rattle.books.specs.Comparing.{IsComparison, differences};
+ghost use Rattle.books.specs.OneHistory.{Tears};
 ghost use Rattle.books.specs.declared.compare.Comparison.{Comparison};
 
 /// Two sound files have one agreed list, whatever their votes are (that A's file is a sequence suffices). Where each vote follows the one before it by the other
@@ -28,4 +29,10 @@ pub fn comparisons_tell_all()
         → IsComparison s.game a b c → IsBookOfBoth s a b book → c.agreed ≡ length book }
     ensures nothing_told { (game : ℕ) (a b : List ℕ) (v : AllVotes) → HaveVotes game a b v
         → (differences v ≡ []) ↔ ((x : Ballot) → In x v.a ↔ In x v.b) }
+{}
+
+/// The votes of two files of which each follows the one before it by the other desk's votes, as in every run of two desks,
+/// are of one history.
+pub fn one_history_is_whole()
+    ensures { (game : ℕ) (a b : List ℕ) (v : AllVotes) → HaveVotes game a b v → AllJustified v → Tears v None }
 {}

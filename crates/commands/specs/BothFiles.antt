@@ -1,6 +1,6 @@
 -- What `card`, `export` and `compare` print of both desks' votes files, and why they don't: s is the sheet, a and b are the files.
 -- The document is the table that the sheet's text is.
-use Rattle.std.specs.Prelude.{ℕ, Bool, true, false, List, ◌++◌, Option, codes}
+use Rattle.std.specs.Prelude.{◌≡◌, is_some, ℕ, Bool, true, false, List, ◌++◌, Option, codes}
 use Rattle.notation.specs.declared.entry.Entry.{Entry}
 use Rattle.agree_core.specs.declared.messages.DeskId.{DeskId}
 use Rattle.agree_core.specs.declared.messages.DeskId.TheVariants.{A, B}
@@ -25,11 +25,12 @@ module _ {S : Type 0} (contents : S → Option (List ℕ)) (old new : Watched S)
     pub made : IsBookOfBoth s a b book
     pub written : Prints contents old new (card_text s book)
 
-  -- the comparison of both files is written
-  pub record PrintsComparison : Type 0 where
+  -- the comparison of both files is written, and whether they are refused as not of one history
+  pub record PrintsComparison (refused : Bool) : Type 0 where
     pub comparison : Comparison
     pub made : IsComparison s.game a b comparison
-    pub written : Prints contents old new (comparison_text comparison.agreed comparison.differences.items)
+    pub written : Prints contents old new (comparison_text comparison.agreed comparison.differences.items comparison.torn)
+    pub torn : refused ≡ is_some comparison.torn
 
   -- the export of both files' book is written, with the sides told apart, and a newline
   pub record PrintsExportOfBoth (document : Members) : Type 0 where
@@ -83,4 +84,5 @@ stop_of (Read desk) = StopFault.Read
 stop_of Write = StopFault.Write
 stop_of (Book BothFault.NoMemory) = StopFault.NoMemory
 stop_of (Book (BothFault.Votes desk why)) = StopFault.VotesNamed why
+stop_of (Book (BothFault.NotOneHistory place)) = StopFault.NotOneHistory place
 stop_of (Book (BothFault.BadVotes place)) = StopFault.BadVotes place

@@ -99,6 +99,9 @@ impl From<BothPrintFault> for StopFault {
             BothPrintFault::Read(_) => StopFault::Read,
             BothPrintFault::Write => StopFault::Write,
             BothPrintFault::Book(BothFault::Votes { why, .. }) => StopFault::VotesNamed(why),
+            BothPrintFault::Book(BothFault::NotOneHistory { place }) => {
+                StopFault::NotOneHistory { place }
+            }
             BothPrintFault::Book(BothFault::BadVotes { place }) => StopFault::BadVotes { place },
         }
     }
@@ -149,8 +152,8 @@ fn book_of_readers<R: Read>(
 }
 
 /// `ground card` of both files: reads both desks' votes files to the end, and prints both cards of each innings of the
-/// agreed list of their votes, the last entry too, and then its page. Where a file is refused, or the agreed list is no
-/// legal book, nothing is written.
+/// agreed list of their votes, the last entry too, and then its page. Where a file is refused, the votes aren't of one
+/// history, or the agreed list is no legal book, nothing is written.
 pub fn card_both_run<R: Read, W: Write>(
     alloc: Global,
     sheet: &MatchSheet,

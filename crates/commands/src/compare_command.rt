@@ -1,6 +1,6 @@
 //! `ground compare`: what both desks' votes files have in common, and where they differ.
 
-ghost use Rattle.std.specs.Prelude.{IfErr, IfSome, OnOk};
+ghost use Rattle.std.specs.Prelude.{IfErr, IfOk, IfSome};
 ghost use Rattle.agree_core.specs.declared.messages.DeskId.TheVariants.{A, B};
 ghost use Rattle.streams.specs.Watched.{stream_of};
 ghost use Rattle.commands.specs.BothFiles.{PrintsComparison, WhyNotCompared};
@@ -16,17 +16,18 @@ use streams::Watched;
 
 /// `ground compare`: reads both desks' votes files to the end, and prints a line for each place and round at which the
 /// desks differ, and then how many entries are agreed, and how many such lines there are: of both desks, of A alone, of B
-/// alone. Where a file is refused, nothing is written.
+/// alone; and where they aren't of one history, from which place on. It answers whether that is so. Where a file is refused,
+/// nothing is written.
 pub fn compare_run<R: Read, W: Write>(
     alloc: Global,
     sheet: &MatchSheet,
     a: &mut Watched<R>,
     b: &mut Watched<R>,
     writer: &mut Watched<W>,
-) -> Result<(), BothPrintFault>
-    ensures written { OnOk result (IfSome (R.remaining (stream_of a.old)) (λ first.
+) -> Result<bool, BothPrintFault>
+    ensures written { IfOk result (λ refused. IfSome (R.remaining (stream_of a.old)) (λ first.
         IfSome (R.remaining (stream_of b.old)) (λ second.
-        PrintsComparison W.contents writer.old writer.new sheet.now first second))) }
+        PrintsComparison W.contents writer.old writer.new sheet.now first second refused))) }
     ensures why { IfErr result (λ fault. IfSome (R.remaining (stream_of a.old)) (λ first.
         IfSome (R.remaining (stream_of b.old)) (λ second. WhyNotCompared sheet.now first second fault))) }
     ensures read_first { EndsReading R.remaining (BothPrintFault.Read A) result a.old a.new }
@@ -36,7 +37,7 @@ pub fn compare_run<R: Read, W: Write>(
     let (first, second) = read_both(alloc, a, b)?;
     let comparison = compare_files(alloc, sheet.game(), first.as_slice(), second.as_slice())?;
     match print_comparison(&comparison, writer) {
-        Ok(()) => Ok(()),
+        Ok(()) => Ok(comparison.torn.is_some()),
         Err(_) => Err(BothPrintFault::Write),
     }
 }
@@ -54,7 +55,7 @@ pub fn start_compare<'a>(
     let mut second = open_input(rt, b)?;
     let mut writer = output(rt)?;
     match compare_run(rt.alloc(), &sheet, &mut first, &mut second, &mut writer) {
-        Ok(()) => Ok(false),
+        Ok(refused) => Ok(refused),
         Err(fault) => Err(stopped_at(fault, a, b)),
     }
 }

@@ -162,7 +162,8 @@ impl Known {
     }
 
     /// Notes what the link gave, from this peer in the match of this number, and answers what of it is for now: a vote that
-    /// comes early is lost for now. What doesn't open changes nothing.
+    /// comes early is lost for now, but at a desk, which sees by it whether its own file lacks lines. What doesn't open changes
+    /// nothing.
     pub fn hear(
         &mut self,
         game: u64,
@@ -180,7 +181,7 @@ impl Known {
         if taken != Taken::Datagram(SIZE) {
             return taken;
         }
-        if self.hear_message(game, &front(buffer), peer, now) {
+        if self.hear_message(game, &front(buffer), peer, now) || self.from != Asker::Board {
             return taken;
         }
         Taken::Lost

@@ -30,10 +30,12 @@ use Rattle.live.specs.Runs.{Goes, Kind}
 use Rattle.live.specs.Saying.{ComesTo, SaysEntry}
 use Rattle.links.specs.Typing.{Input, Line, End}
 use Rattle.live.specs.Texts.{came_text, reminder_text, said_text, unopened_text, warned_after, warned_reminded, warned_unopened}
-use Rattle.live.specs.Ends.{Course, course_of, end_at, end_of, ending, further, known_at, known_to, turns_after, written as answer_of}
+use Rattle.live.specs.LostLines.{end_given, end_here}
+use Rattle.live.specs.Ends.{Course, course_of, end_of, ending, further, known_at, known_to, turns_after, written as answer_of}
 use Rattle.live.specs.Desks.{Blames, disks_of, Calls, DeskCall, DeskGoes, DeskProcess, DeskStep, Given, FitsLongest, MayCall, MayRemind, Reminded, Ticked, TurnEnded, Typed}
-use Rattle.live.specs.Desks.{TypingEnded, Unopened, after_call, course_after, desk_kind, entry_in, given, innings_of, kind_of, own_line, process_of, told_of, typed}
+use Rattle.live.specs.Desks.{TypingEnded, Unopened, after_call, course_after, desk_kind, entry_in, given, innings_of, kind_of, loss_in, own_line, process_of, told_of, typed}
 use Rattle.live.specs.declared.{reminder.Reminder.Reminder, said.Said.Said, warned.Warned.Warned, ends.DeskEnd.DeskEnd}
+use Rattle.live.proofs.LostLemmas.{heard_ends}
 use Rattle.live.proofs.RunLemmas.{both, one, stays, unsaid}
 use Rattle.live.proofs.TellingLemmas.{came_course, came_nothing, said_course, said_nothing}
 
@@ -138,21 +140,21 @@ module _ {S B D : Type 0} {g : Files S D} {h : Disks D} {b : Books B} where
     -- bytes came
     pub hears : {bytes : List ℕ} (what : What) {course : Course} {later : Warned} {log before after : List Passed} {t : Option (List ℕ)}
         → Calls sheet k l (Given bytes what) before after
-        → before ≡ log ++ Came bytes ∷ [] → later ≡ warned_after warned what → course ≡ end_at what
-        → Appends s t (came_text sheet (innings_of k) (state_of k).seat.position.place (own_line (state_of k)) (entry_in bytes) (state_of l).book warned what)
+        → before ≡ log ++ Came bytes ∷ [] → later ≡ warned_after warned (loss_in (state_of k) bytes what) what → course ≡ end_here (state_of k).seat bytes what
+        → Appends s t (came_text sheet (innings_of k) (state_of k).seat.position.place (own_line (state_of k)) (entry_in bytes) (state_of l).book warned (loss_in (state_of k) bytes what) what)
         → DeskGoes sheet k l (process_of k warned turns further) (process_of l later turns course) log after x x s t
     hears what c came tells is text = called (Given _ what) tt c came (rw append-nil) (rw (tells, is)) text
 
     -- bytes at which the process ends
     pub hears_last : {bytes : List ℕ} (what : What) (end : DeskEnd) {later : Warned} {log before after : List Passed} → Calls sheet k l (Given bytes what) before after
-        → before ≡ log ++ Came bytes ∷ [] → later ≡ warned_after warned what → end_at what ≡ Err end
+        → before ≡ log ++ Came bytes ∷ [] → later ≡ warned_after warned (loss_in (state_of k) bytes what) what → end_here (state_of k).seat bytes what ≡ Err end
         → DeskGoes sheet k l (process_of k warned turns further) (process_of l later turns (ending end)) log after x x s s
     hears_last {bytes = bytes} what end c came tells e =
-        hears what c came tells (came_course what end e)
-        (came_nothing sheet (innings_of k) (state_of k).seat.position.place (own_line (state_of k)) (entry_in bytes) (state_of l).book warned what end s e)
+        hears what c came tells (came_course _ what end e)
+        (came_nothing sheet (innings_of k) (state_of k).seat.position.place (own_line (state_of k)) (entry_in bytes) (state_of l).book warned _ _ what end s e)
 
   unmoved : {sheet : Sheet} {k : Desk S B D g h b} (call : DeskCall) {log : List Passed}
-      → DeskStep sheet (view_of k) (game_of k) (innings_of k) (state_of k) call [] (state_of k) → (IsErrOf (course_after call) DeskEnd.Device → ⊥)
+      → DeskStep sheet (view_of k) (game_of k) (innings_of k) (state_of k) call [] (state_of k) → (IsErrOf (course_after (state_of k) call) DeskEnd.Device → ⊥)
       → Calls sheet k k call log log
   unmoved {k = k} call step n = record {
     same = same_here k;
@@ -160,7 +162,7 @@ module _ {S B D : Type 0} {g : Files S D} {h : Disks D} {b : Books B} where
     fine = All-nil IsMessage;
     passed = rw append-nil;
     step = step;
-    blame = λ runs. blameless (course_after call) _ _ n refl;
+    blame = λ runs. blameless (course_after (state_of k) call) _ _ n refl;
   }
 
   module _ {sheet : Sheet} {k : Desk S B D g h b} {warned : Warned} {turns : ℕ} {log : List Passed} {x : List Input} {s : Option (List ℕ)} where
@@ -255,10 +257,11 @@ module _ {S B D : Type 0} {g : Files S D} {h : Disks D} {b : Books B} where
   -- what it answers to bytes blames the disk as the call did
   answers : (k l : Desk S B D g h b) (bytes : List ℕ) (what : What) (out : List Message) → (state_of k).failed ≡ false
       → Takes (view_of k) (game_of k) (state_of k) bytes what (state_of l) out
-      → BlamesDisk What.Device ⊤ (device_answer what) (h.faults (disk_of k)) (h.faults (disk_of l)) → DeskBlame k (end_at what) l
+      → BlamesDisk What.Device ⊤ (device_answer what) (h.faults (disk_of k)) (h.faults (disk_of l)) → DeskBlame k (end_here (state_of k).seat bytes what) l
   answers k l bytes What.Device out runs r blame =
       blamed (device_answer What.Device) What.Device (Err DeskEnd.Device) _ _ (λ q. refl) (λ q. refl) (λ q room. tt) blame
   answers k l bytes What.Failed out runs r blame = absurd (let path : true ≡ false = sym r.0 ∙ runs in (cc))
+  answers k l bytes (What.Heard h) out runs r blame = blameless (end_given _ (What.Heard h)) _ _ (heard_ends _ h) (blame.same (λ q. (cc)))
   answers k l bytes what out runs r blame = blameless further _ _ (λ q. (cc)) (blame.same (λ q. (cc)))
 
   pub taken : (sheet : Sheet) (k l : Desk S B D g h b) (bytes : List ℕ) (what : What) (reply : Option (List ℕ)) (before after : List Passed) → SameOwner k l

@@ -15,7 +15,7 @@ use Rattle.live.proofs.DeskLemmas.{blameless}
 
 module _ {Disk : Type 0} (sheet : Sheet) (view : FileView Disk) (game innings : ℕ) (k l : DeskState Disk) (out : List Message) (runs : k.failed ≡ false) where
   -- a call that doesn't end the process leaves its desk running
-  pub runs_on : (call : DeskCall) → DeskStep sheet view game innings k call out l → course_after call ≡ further → l.failed ≡ false
+  pub runs_on : (call : DeskCall) → DeskStep sheet view game innings k call out l → course_after k call ≡ further → l.failed ≡ false
   runs_on call r e = grind arith
 
 -- the same blame, after calls that met no failure
@@ -40,9 +40,9 @@ module _ {Disk : Type 0} (sheet : Sheet) (view : FileView Disk) (disks : DiskVie
       let so_far = stands p ms e f r.0 in
       let step = r.2 in
       let sound = so_far.running step.0 in
-      let is : m.after.course ≡ course_after m.call = ap (λ (x : DeskProcess Disk). x.course) step.3 in
+      let is : m.after.course ≡ course_after q.desk m.call = ap (λ (x : DeskProcess Disk). x.course) step.3 in
       record {
-        blame = later (course_after m.call) m.after.course (disks.faults p.desk.disk) (disks.faults q.desk.disk) (disks.faults m.after.desk.disk)
+        blame = later (course_after q.desk m.call) m.after.course (disks.faults p.desk.disk) (disks.faults q.desk.disk) (disks.faults m.after.desk.disk)
             (so_far.blame.same (not_ended q.course step.0)) (sym is) (step.2 sound);
         running = λ x. runs_on sheet view game innings q.desk m.after.desk m.out sound m.call step.1 (sym is ∙ x);
       }

@@ -1,7 +1,8 @@
 -- What a scorer can't see.
-use Rattle.std.proofs.Common.{◌≡◌, ℕ, List, Option, None, Some, arith, refl, ap, ◌∙◌}
+use Rattle.std.proofs.Common.{◌≡◌, ◌⊎◌, ℕ, Bool, true, List, Option, None, Some, arith, refl, ap, ◌∙◌}
 use Rattle.notation.specs.declared.entry.Entry.{Entry}
 use Rattle.agree_core.specs.declared.{messages.Message.Message, messages.Vote.Vote, position.Position.Position, seat.Heard.Heard}
+use Rattle.agree_core.specs.Ballots.{Ballot}
 use Rattle.agree_core.specs.Seats.{SeatState, Hears, IsForNow}
 use Rattle.agree_core.specs.FileView.{FileView}
 use Rattle.agree_core.specs.Positions.{Before}
@@ -14,6 +15,7 @@ use Rattle.cards.specs.Sheet.{Sheet}
 use Rattle.live.specs.declared.{reminder.Reminder.Reminder, warned.Warned.Warned}
 use Rattle.live.specs.Desks.{DeskCall, DeskProcess, MayRemind, entry_in, own_line, told_of}
 use Rattle.live.specs.Hidden.{AsksWhere, HidesTheOther, IsPennedDiffering, TellsBoth, process_with}
+use Rattle.live.specs.LostLines.{shows_loss}
 use Rattle.live.specs.Texts.{came_text, differs_text}
 
 not_before : (p q : Position) → p ≡ q → Before p q → ⊥
@@ -40,16 +42,23 @@ told_of_any : {Disk : Type 0} (k : DeskProcess Disk) (reminder : Reminder) (e f 
 told_of_any k reminder e f may = grind arith
 
 -- of what came, but of a vote that differs, nothing depends on the entry that came
-pub came_but_differing : (sheet : Sheet) (innings place : ℕ) (own one other : Option Entry) (book : List Entry) (warned : Warned) (what : What)
-    → (what ≡ What.Heard Heard.Differ → ⊥) → came_text sheet innings place own one book warned what ≡ came_text sheet innings place own other book warned what
-came_but_differing sheet innings place own one other book warned what n = grind arith
+pub came_but_differing : (sheet : Sheet) (innings place : ℕ) (own one other : Option Entry) (book : List Entry) (warned : Warned) (loss : Bool) (what : What)
+    → (what ≡ What.Heard Heard.Differ → ⊥) → came_text sheet innings place own one book warned loss what ≡ came_text sheet innings place own other book warned loss what
+came_but_differing sheet innings place own one other book warned loss what n = grind arith
+
+-- only asks, and votes for earlier positions, show that the other desk's file lacks lines
+only_earlier : (s : SeatState) (votes : List Ballot) (bytes : List ℕ) (what : What) → shows_loss s votes bytes what ≡ true
+    → (what ≡ What.Asked) ⊎ (what ≡ What.Heard Heard.Old)
+only_earlier s votes bytes what is = grind arith
 
 pub hides_the_other : {Disk : Type 0} (view : FileView Disk) → HidesTheOther view
 hides_the_other view = record {
   answer = only_noted;
   silent = λ sheet innings k l bytes. refl;
-  bytes = λ sheet innings k l one other what n.
-      came_but_differing sheet innings k.desk.seat.position.place (own_line k.desk) (entry_in one) (entry_in other) l.desk.book k.warned what n;
+  bytes = λ sheet innings k l one other what n same.
+      came_but_differing sheet innings k.desk.seat.position.place (own_line k.desk) (entry_in one) (entry_in other) l.desk.book k.warned _ what n
+      ∙ ap (λ (loss : Bool). came_text sheet innings k.desk.seat.position.place (own_line k.desk) (entry_in other) l.desk.book k.warned loss what) same;
+  loss = λ k bytes what is. only_earlier k.seat k.votes bytes what is;
   cast = only_cast;
   noted = not_by_noted;
   whether = not_by_which;

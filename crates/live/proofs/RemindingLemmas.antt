@@ -2,6 +2,7 @@
 use Rattle.std.proofs.Common.{arith, subst, sym, ◌≡◌, ℕ, Bool, true, false, List, [], ◌∷◌, ap}
 use Rattle.std.specs.Prelude.{All}
 use Rattle.std.proofs.lemmas.List.Elements.{All-cons, All-head, All-nil, All-tail}
+use Rattle.agree_core.specs.Desks.{DeskState}
 use Rattle.agree_core.specs.FileView.{FileView}
 use Rattle.cards.specs.Sheet.{Sheet}
 use Rattle.live.specs.Desks.{DeskCall, DeskProcess, DiskView, MayCall, Reminded, desk_kind, warned_at}
@@ -11,13 +12,14 @@ use Rattle.live.specs.declared.{reminder.Reminder.Reminder, warned.Warned.Warned
 use Rattle.live.specs.declared.reminder.Reminder.TheVariants.{HasWritten, IsHeard, IsMissed}
 
 -- what was told stays told
-writing_stays : (w : Warned) (call : DeskCall) → brings_news call ≡ false → w.of_writing ≡ true → (warned_at w call).of_writing ≡ true
-writing_stays w call n e = grind arith
+writing_stays : {Disk : Type 0} (k : DeskState Disk) (w : Warned) (call : DeskCall) → brings_news call ≡ false → w.of_writing ≡ true
+    → (warned_at k w call).of_writing ≡ true
+writing_stays k w call n e = grind arith
 
 -- what is told of silence is told by these two alone
-silence_stays : (w : Warned) (call : DeskCall) (silent : Bool) → (call ≡ Reminded IsMissed → ⊥) → (call ≡ Reminded IsHeard → ⊥) → w.of_silence ≡ silent
-    → (warned_at w call).of_silence ≡ silent
-silence_stays w call silent m h e = grind arith
+silence_stays : {Disk : Type 0} (k : DeskState Disk) (w : Warned) (call : DeskCall) (silent : Bool) → (call ≡ Reminded IsMissed → ⊥) → (call ≡ Reminded IsHeard → ⊥) → w.of_silence ≡ silent
+    → (warned_at k w call).of_silence ≡ silent
+silence_stays k w call silent m h e = grind arith
 
 module _ {Disk : Type 0} (sheet : Sheet) (view : FileView Disk) (disks : DiskView Disk) (game innings : ℕ) where
   -- the process after moments, and that none of them tells this
@@ -31,33 +33,33 @@ module _ {Disk : Type 0} (sheet : Sheet) (view : FileView Disk) (disks : DiskVie
   -- it may be told only where it wasn't, and stays told in moments that are quiet
   once : (reminder : Reminder) (Stays : Warned → Type 0) (Quiet : Moment (DeskProcess Disk) DeskCall → Type 0)
       → ((k : DeskProcess Disk) → Stays k.warned → MayCall k (Reminded reminder) → ⊥)
-      → ((w : Warned) (m : Moment (DeskProcess Disk) DeskCall) → Quiet m → IsNot reminder m → Stays w → Stays (warned_at w m.call))
+      → ((k : DeskState Disk) (w : Warned) (m : Moment (DeskProcess Disk) DeskCall) → Quiet m → IsNot reminder m → Stays w → Stays (warned_at k w m.call))
       → (l : DeskProcess Disk) (ms : List (Moment (DeskProcess Disk) DeskCall)) → Stays l.warned → Ran l ms → All Quiet ms → Still reminder Stays l ms
   once reminder Stays Quiet told keeps l [] so run quiet = record { stays = so; never = All-nil (IsNot reminder) }
   once reminder Stays Quiet told keeps l (m ∷ ms) so run quiet =
       let k = last_of l ms in
       let before = once reminder Stays Quiet told keeps l ms so run.0 (All-tail Quiet m ms quiet) in
       let this : IsNot reminder m = λ e. told k before.stays (rw e at run.2.4) in
-      let here = keeps k.warned m (All-head Quiet m ms quiet) this before.stays in
+      let here = keeps k.desk k.warned m (All-head Quiet m ms quiet) this before.stays in
       record { stays = subst Stays (sym (ap (λ (p : DeskProcess Disk). p.warned) run.2.3)) here; never = All-cons (IsNot reminder) m ms this before.never }
 
   writing_once : (l : DeskProcess Disk) (ms : List (Moment (DeskProcess Disk) DeskCall)) → l.warned.of_writing ≡ true → Ran l ms → All BringsNone ms
       → All (IsNot HasWritten) ms
   writing_once l ms so run quiet =
       (once HasWritten (λ (w : Warned). w.of_writing ≡ true) BringsNone (λ k stays may. cc (stays, may.2))
-      (λ w m news this stays. writing_stays w m.call news stays) l ms so run quiet).never
+      (λ d w m news this stays. writing_stays d w m.call news stays) l ms so run quiet).never
 
   silence_once : (l : DeskProcess Disk) (ms : List (Moment (DeskProcess Disk) DeskCall)) → l.warned.of_silence ≡ true → Ran l ms → All (IsNot IsHeard) ms
       → All (IsNot IsMissed) ms
   silence_once l ms so run quiet =
       (once IsMissed (λ (w : Warned). w.of_silence ≡ true) (IsNot IsHeard) (λ k stays may. cc (stays, may))
-      (λ w m other this stays. silence_stays w m.call true this other stays) l ms so run quiet).never
+      (λ d w m other this stays. silence_stays d w m.call true this other stays) l ms so run quiet).never
 
   heard_once : (l : DeskProcess Disk) (ms : List (Moment (DeskProcess Disk) DeskCall)) → l.warned.of_silence ≡ false → Ran l ms → All (IsNot IsMissed) ms
       → All (IsNot IsHeard) ms
   heard_once l ms so run quiet =
       (once IsHeard (λ (w : Warned). w.of_silence ≡ false) (IsNot IsMissed) (λ k stays may. cc (stays, may))
-      (λ w m other this stays. silence_stays w m.call false other this stays) l ms so run quiet).never
+      (λ d w m other this stays. silence_stays d w m.call false other this stays) l ms so run quiet).never
 
 pub reminds_once : {Disk : Type 0} (view : FileView Disk) (disks : DiskView Disk) → RemindsOnce view disks
 reminds_once view disks = record {

@@ -9,6 +9,7 @@ use Rattle.notation.specs.declared.entry.Entry.{Entry}
 use Rattle.agree_core.specs.declared.position.Position.{Position}
 use Rattle.wire.specs.declared.what.What.{What}
 use Rattle.live.specs.Ends.{Course, course_of, ending, end_at, end_of, further, known_at, written}
+use Rattle.live.specs.LostLines.{end_given}
 use Rattle.live.specs.Runs.{with_text}
 use Rattle.live.specs.Texts.{came_text, said_text}
 use Rattle.live.specs.declared.{said.Said.Said, warned.Warned.Warned, ends.DeskEnd.DeskEnd}
@@ -17,17 +18,17 @@ use Rattle.live.specs.declared.{said.Said.Said, warned.Warned.Warned, ends.DeskE
 pub said_course : (answer : Said) (end : DeskEnd) → end_of answer ≡ Err end → ending end ≡ end_of answer
 said_course answer end e = grind arith
 
-pub came_course : (what : What) (end : DeskEnd) → end_at what ≡ Err end → ending end ≡ end_at what
-came_course what end e = grind arith
+pub came_course : (reach : Bool) (what : What) (end : DeskEnd) → end_given reach what ≡ Err end → ending end ≡ end_given reach what
+came_course reach what end e = grind arith
 
 -- nothing is told of an end
 pub said_nothing : (sheet : Sheet) (innings : ℕ) (at : Position) (own other : Option Entry) (silent : Bool) (book : List Entry) (answer : Said) (end : DeskEnd)
     (s : Option (List ℕ)) → end_of answer ≡ Err end → Appends s s (said_text sheet innings at own other silent book answer)
 said_nothing sheet innings at own other silent book answer end s e = grind (arith, appends_none)
 
-pub came_nothing : (sheet : Sheet) (innings place : ℕ) (own other : Option Entry) (book : List Entry) (warned : Warned) (what : What) (end : DeskEnd)
-    (s : Option (List ℕ)) → end_at what ≡ Err end → Appends s s (came_text sheet innings place own other book warned what)
-came_nothing sheet innings place own other book warned what end s e = grind (arith, appends_none)
+pub came_nothing : (sheet : Sheet) (innings place : ℕ) (own other : Option Entry) (book : List Entry) (warned : Warned) (loss reach : Bool) (what : What) (end : DeskEnd)
+    (s : Option (List ℕ)) → end_given reach what ≡ Err end → Appends s s (came_text sheet innings place own other book warned loss what)
+came_nothing sheet innings place own other book warned loss reach what end s e = grind (arith, appends_none)
 
 -- a text is told, or a write failed
 pub tells : (answer : Result (Unit {0}) WriteFailed) (r : Course) (s t : Option (List ℕ)) (text : List ℕ) → r ≡ written answer

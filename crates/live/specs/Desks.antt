@@ -19,7 +19,8 @@ use Rattle.desk.specs.Takes.{Takes}
 use Rattle.live.specs.declared.{ends.DeskEnd.DeskEnd, reminder.Reminder.Reminder, said.Said.Said, warned.Warned.Warned}
 use Rattle.live.specs.declared.ends.DeskEnd.TheVariants.{NoMoreLines, Device, Write}
 use Rattle.live.specs.declared.reminder.Reminder.TheVariants.{HasWritten, IsHeard, IsMissed}
-use Rattle.live.specs.Ends.{Course, end_at, end_of, further, known_at}
+use Rattle.live.specs.Ends.{Course, end_of, further, known_at}
+use Rattle.live.specs.LostLines.{end_here, shows_loss}
 use Rattle.links.specs.Passed.{Passed, Came, sends}
 use Rattle.live.specs.Runs.{Goes, Kind, with_text}
 use Rattle.live.specs.Saying.{Types}
@@ -49,12 +50,12 @@ DeskStep s view game innings k Ticked out l = Ticks k out × (l ≡ k)
 DeskStep s view game innings k (Reminded reminder) out l = (l ≡ k) × (out ≡ [])
 DeskStep s view game innings k TurnEnded out l = (l ≡ k) × (out ≡ [])
 
--- how the process goes on after a call
-abbrev pub course_after : DeskCall → Course
-course_after (Typed line said) = end_of said
-course_after TypingEnded = Err NoMoreLines
-course_after (Given bytes what) = end_at what
-course_after call = further
+-- how the process goes on after a call of the desk
+abbrev pub course_after : {Disk : Type 0} → DeskState Disk → DeskCall → Course
+course_after k (Typed line said) = end_of said
+course_after k TypingEnded = Err NoMoreLines
+course_after k (Given bytes what) = end_here k.seat bytes what
+course_after k call = further
 
 -- what a disk's failures are told by: how many there were, and whether there is room for the longest file
 pub record DiskView (Disk : Type 0) : Type 1 where
@@ -64,7 +65,7 @@ pub record DiskView (Disk : Type 0) : Type 1 where
 -- a call of a desk that hasn't failed ends the process with `Device` exactly where the disk failed in the call
 abbrev pub Blames : {Disk : Type 0} → DiskView Disk → DeskState Disk → DeskCall → DeskState Disk → Type 0
 Blames disks k call l =
-    k.failed ≡ false → BlamesDisk Device disks.FitsLongest (course_after call) (disks.faults k.disk) (disks.faults l.disk)
+    k.failed ≡ false → BlamesDisk Device disks.FitsLongest (course_after k call) (disks.faults k.disk) (disks.faults l.disk)
 
 -- a desk's process: the desk, what its scorer was told of a peer since a vote of the other desk came, how many turns are
 -- over, and how it goes on
@@ -74,11 +75,15 @@ pub record DeskProcess (Disk : Type 0) : Type 0 where
   pub turns : ℕ
   pub course : Course
 
-abbrev pub warned_at : Warned → DeskCall → Warned
-warned_at warned (Given bytes what) = warned_after warned what
-warned_at warned Unopened = warned_unopened warned
-warned_at warned (Reminded reminder) = warned_reminded warned reminder
-warned_at warned call = warned
+-- bytes that came at a desk show that the other desk's file lacks lines
+abbrev pub loss_in : {Disk : Type 0} → DeskState Disk → List ℕ → What → Bool
+loss_in k bytes what = shows_loss k.seat k.votes bytes what
+
+abbrev pub warned_at : {Disk : Type 0} → DeskState Disk → Warned → DeskCall → Warned
+warned_at k warned (Given bytes what) = warned_after warned (loss_in k bytes what) what
+warned_at k warned Unopened = warned_unopened warned
+warned_at k warned (Reminded reminder) = warned_reminded warned reminder
+warned_at k warned call = warned
 
 abbrev pub turns_at : ℕ → DeskCall → ℕ
 turns_at turns TurnEnded = turns + 1
@@ -86,7 +91,7 @@ turns_at turns call = turns
 
 abbrev pub after_call : {Disk : Type 0} → DeskProcess Disk → DeskCall → DeskState Disk → DeskProcess Disk
 after_call k call l =
-    record { desk = l; warned = warned_at k.warned call; turns = turns_at k.turns call; course = course_after call }
+    record { desk = l; warned = warned_at k.desk k.warned call; turns = turns_at k.turns call; course = course_after k.desk call }
 
 -- A scorer may be told that the other has written where its vote is noted and the own isn't cast, unless it was told;
 -- that the other desk isn't heard, unless it was told; and that it is again, where it was told that it isn't. When it is
@@ -135,7 +140,8 @@ abbrev pub told_of : {Disk : Type 0} → Sheet → ℕ → DeskProcess Disk → 
 told_of sheet innings k (Typed line said) l =
     said_text sheet innings k.desk.seat.position (own_line k.desk) k.desk.seat.theirs k.warned.of_silence l.desk.book said
 told_of sheet innings k (Given bytes what) l =
-    came_text sheet innings k.desk.seat.position.place (own_line k.desk) (entry_in bytes) l.desk.book k.warned what
+    came_text sheet innings k.desk.seat.position.place (own_line k.desk) (entry_in bytes) l.desk.book k.warned
+    (loss_in k.desk bytes what) what
 told_of sheet innings k Unopened l = unopened_text k.warned
 told_of sheet innings k (Reminded reminder) l = reminder_text k.desk.seat.position.place reminder
 told_of sheet innings k call l = []

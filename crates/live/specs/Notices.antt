@@ -40,5 +40,5 @@ telling_unopened k = record k { warned = warned_unopened k.warned }
 
 -- what was told after that answer
 abbrev pub telling_after : Telling → Result What BoardRefusal → Telling
-telling_after k (Ok what) = record k { warned = warned_after k.warned what }
+telling_after k (Ok what) = record k { warned = warned_after k.warned false what }
 telling_after k (Err refusal) = record k { is_stopped = true }

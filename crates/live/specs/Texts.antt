@@ -1,5 +1,5 @@
 -- What a desk's scorer is told.
-use Rattle.std.specs.Prelude.{ℕ, ◌==◌, Bool, true, false, if◌then◌else◌, nat_lt, is_some, Option, Some, None, List, [], ◌++◌, slice_get, codes, decimal}
+use Rattle.std.specs.Prelude.{ℕ, ◌==◌, ◌||◌, Bool, true, false, if◌then◌else◌, nat_lt, is_some, Option, Some, None, List, [], ◌++◌, slice_get, codes, decimal}
 use Rattle.notation.specs.declared.entry.{Entry.Entry, Plain.Plain}
 use Rattle.notation.specs.declared.entry.Entry.TheVariants.{Write}
 use Rattle.notation.specs.Written.{text_of}
@@ -168,21 +168,31 @@ unopened_line = codes "peer: another sheet or another key\n"
 abbrev pub unopened_text : Warned → List ℕ
 unopened_text warned = warning warned.of_seal unopened_line
 
--- of a vote that came at this place, with the desk's own vote there before it, the entry that came, and the book after it
-abbrev pub heard_text : Sheet → ℕ → ℕ → Option Entry → Option Entry → List Entry → Warned → Heard → List ℕ
-heard_text sheet innings place own other book warned Heard.Noted = []
-heard_text sheet innings place own other book warned Heard.Agreed = agreed sheet innings place book
-heard_text sheet innings place own other book warned Heard.Differ = differs_text place own other
-heard_text sheet innings place own other book warned Heard.Mine = warning warned.of_desk (codes "peer: the same desk\n")
-heard_text sheet innings place own other book warned Heard.TwoVotes = warning warned.of_votes (codes "peer: two votes\n")
-heard_text sheet innings place own other book warned heard = []
+-- that the other desk's file lacks lines, where what came shows it
+abbrev pub loss_line : List ℕ
+loss_line = codes "the other desk's file lacks lines that this one has: have the right file put back\n"
+
+abbrev pub loss_text : Warned → Bool → List ℕ
+loss_text warned loss = if loss then warning warned.of_lines loss_line else []
+
+-- of a vote that came at this place, with the desk's own vote there before it, the entry that came, the book after it, and
+-- whether it shows that the other desk's file lacks lines
+abbrev pub heard_text : Sheet → ℕ → ℕ → Option Entry → Option Entry → List Entry → Warned → Bool → Heard → List ℕ
+heard_text sheet innings place own other book warned loss Heard.Noted = []
+heard_text sheet innings place own other book warned loss Heard.Agreed = agreed sheet innings place book
+heard_text sheet innings place own other book warned loss Heard.Differ = differs_text place own other
+heard_text sheet innings place own other book warned loss Heard.Mine = warning warned.of_desk (codes "peer: the same desk\n")
+heard_text sheet innings place own other book warned loss Heard.TwoVotes = warning warned.of_votes (codes "peer: two votes\n")
+heard_text sheet innings place own other book warned loss Heard.Old = loss_text warned loss
+heard_text sheet innings place own other book warned loss heard = []
 
 -- of what came at this place, likewise
-abbrev pub came_text : Sheet → ℕ → ℕ → Option Entry → Option Entry → List Entry → Warned → What → List ℕ
-came_text sheet innings place own other book warned (What.Bad fault) = warning warned.of_bytes (bad_text fault)
-came_text sheet innings place own other book warned (What.Heard heard) =
-    heard_text sheet innings place own other book warned heard
-came_text sheet innings place own other book warned what = []
+abbrev pub came_text : Sheet → ℕ → ℕ → Option Entry → Option Entry → List Entry → Warned → Bool → What → List ℕ
+came_text sheet innings place own other book warned loss (What.Bad fault) = warning warned.of_bytes (bad_text fault)
+came_text sheet innings place own other book warned loss (What.Heard heard) =
+    heard_text sheet innings place own other book warned loss heard
+came_text sheet innings place own other book warned loss What.Asked = loss_text warned loss
+came_text sheet innings place own other book warned loss what = []
 
 -- nothing was told of a peer
 abbrev pub unwarned : Warned
@@ -191,6 +201,7 @@ unwarned = record {
   of_seal = false;
   of_desk = false;
   of_votes = false;
+  of_lines = false;
   of_writing = false;
   of_silence = false;
 }
@@ -201,14 +212,19 @@ unwarned = record {
 abbrev pub unwarned_but : Warned → Warned
 unwarned_but warned = record unwarned { of_silence = warned.of_silence }
 
-abbrev pub warned_after : Warned → What → Warned
-warned_after warned (What.Bad fault) = record warned { of_bytes = true }
-warned_after warned (What.Heard Heard.Mine) = record warned { of_desk = true }
-warned_after warned (What.Heard Heard.TwoVotes) = record warned { of_votes = true }
-warned_after warned (What.Heard Heard.Noted) = unwarned_but warned
-warned_after warned (What.Heard Heard.Agreed) = unwarned_but warned
-warned_after warned (What.Heard Heard.Differ) = unwarned_but warned
-warned_after warned what = warned
+abbrev pub warned_of_loss : Warned → Bool → Warned
+warned_of_loss warned loss = record warned { of_lines = warned.of_lines || loss }
+
+abbrev pub warned_after : Warned → Bool → What → Warned
+warned_after warned loss (What.Bad fault) = record warned { of_bytes = true }
+warned_after warned loss (What.Heard Heard.Mine) = record warned { of_desk = true }
+warned_after warned loss (What.Heard Heard.TwoVotes) = record warned { of_votes = true }
+warned_after warned loss (What.Heard Heard.Noted) = unwarned_but warned
+warned_after warned loss (What.Heard Heard.Agreed) = unwarned_but warned
+warned_after warned loss (What.Heard Heard.Differ) = unwarned_but warned
+warned_after warned loss (What.Heard Heard.Old) = warned_of_loss warned loss
+warned_after warned loss What.Asked = warned_of_loss warned loss
+warned_after warned loss what = warned
 
 -- once bytes came that don't open
 abbrev pub warned_unopened : Warned → Warned

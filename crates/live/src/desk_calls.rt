@@ -1,15 +1,18 @@
 //! The calls of a desk at its link.
 
-ghost use Rattle.std.specs.Prelude.{◌≡◌, ◌++◌, ◌∷◌, [], List};
+ghost use Rattle.std.specs.Prelude.{◌≡◌, ◌++◌, ◌∷◌, [], List, is_some};
+ghost use Rattle.agree_core.specs.LostLines.{is_voted};
 ghost use Rattle.cards.specs.Sheet.{Sheet};
+ghost use Rattle.desk.specs.Answers.{replied};
 ghost use Rattle.desk.specs.Desk.{disk_of, state_of};
 ghost use Rattle.live.specs.Desks.{Calls, Given, Ticked, Typed};
-ghost use Rattle.links.specs.Passed.{Passed};
+ghost use Rattle.live.specs.LostLines.{position_in};
+ghost use Rattle.links.specs.Passed.{Passed, sent_bytes};
 
 use crate::said::{Said, entry_said};
 use cards::MatchSheet;
 use corrections::BookOf;
-use desk::Desk;
+use desk::{Desk, Received};
 use entry_log::SlotsOf;
 use links::{Link, send_each};
 use wire::What;
@@ -38,6 +41,34 @@ pub fn pen<S: SlotsOf, B: BookOf + Drop, L: Link>(
     }
 }
 
+/// Sends a reply to who asked, if there is one.
+fn hand_back<L: Link>(link: &mut L, reply: Option<[u8; 48]>)
+    ensures { L.log link.new ≡ L.log link.old ++ sent_bytes (replied reply) }
+{
+    if let Some(reply) = reply {
+        link.reply(&reply);
+    }
+}
+
+/// A desk takes bytes that came, and sends its reply to who sent them. It answers what it came to, and the reply.
+pub fn receive<S: SlotsOf, B: BookOf + Drop, L: Link>(
+    desk: &mut Desk<S, B>,
+    bytes: &[u8],
+    link: &mut L,
+) -> Received
+    ensures calls { (s : Sheet) → Calls s desk.old desk.new (Given bytes.now result.what) (L.log link.old) (L.log link.new) }
+    // There is a reply to an ask exactly where the desk has voted at its position.
+    ensures replied { result.what ≡ What.Asked
+        → is_some result.reply ≡ is_voted (state_of desk.old).votes (position_in bytes.now) }
+    // Nothing is written.
+    ensures reads { (S.Disk.seen (disk_of desk.new) ≡ S.Disk.seen (disk_of desk.old))
+        × (S.Disk.images (disk_of desk.new) ≡ S.Disk.images (disk_of desk.old)) }
+{
+    let received = desk.receive(bytes);
+    hand_back(link, received.reply);
+    received
+}
+
 /// A desk takes bytes that came, and sends its reply to who sent them.
 pub fn give<S: SlotsOf, B: BookOf + Drop, L: Link>(
     desk: &mut Desk<S, B>,
@@ -49,11 +80,7 @@ pub fn give<S: SlotsOf, B: BookOf + Drop, L: Link>(
     ensures reads { (S.Disk.seen (disk_of desk.new) ≡ S.Disk.seen (disk_of desk.old))
         × (S.Disk.images (disk_of desk.new) ≡ S.Disk.images (disk_of desk.old)) }
 {
-    let received = desk.receive(bytes);
-    if let Some(reply) = received.reply {
-        link.reply(&reply);
-    }
-    received.what
+    receive(desk, bytes, link).what
 }
 
 /// Has a desk say what it says unasked.

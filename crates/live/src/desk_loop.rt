@@ -17,9 +17,12 @@ ghost use Rattle.links.specs.Typing.{Input};
 
 use crate::between::Between;
 use crate::both::Both;
-use crate::desk_calls::{give, pen, tick};
-use crate::ends::{DeskEnd, end_at, end_of, told};
+use crate::desk_calls::{pen, receive, tick};
+use crate::ends::{DeskEnd, end_of, told};
 use crate::hearing::{entry_in, promises_more};
+use crate::lost_lines::{
+    end_given, is_another, is_in_reach, is_passed_over, loss_of, position_in,
+};
 use crate::news::{print_came, print_unopened};
 use crate::pace::Pace;
 use crate::peer::Peer;
@@ -105,18 +108,32 @@ fn hear<S: SlotsOf, B: BookOf + Drop, L: Link, W: Write>(
         own: own_line(desk),
         other: entry_in(bytes),
     };
-    let what = give(desk, bytes, link);
+    let of = position_in(bytes);
+    let in_reach = is_in_reach(desk, of);
+    let another = is_another(desk, of, bytes);
+    let received = receive(desk, bytes, link);
+    let what = received.what;
+    let loss = loss_of(another, is_passed_over(at, of, received.reply.is_some()), what);
     between
         .pace
         .note(desk.position() != at, promises_more(what), now);
     between.peer.note(at, sheet.game(), bytes, what, now);
     let warned = between.warned;
-    between.warned = warned.after(what);
-    if let Err(end) = end_at(what) {
+    between.warned = warned.after(loss, what);
+    if let Err(end) = end_given(in_reach, what) {
         return Err(end);
     }
     let place = at.place;
-    told(print_came(out, sheet, place, warned, both, what, desk.book()))
+    told(print_came(
+        out,
+        sheet,
+        place,
+        warned,
+        both,
+        loss,
+        what,
+        desk.book(),
+    ))
 }
 
 /// Tells the scorer that bytes came that don't open, unless it was told since a vote that is news came. Nothing else changes:

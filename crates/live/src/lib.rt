@@ -14,6 +14,7 @@ mod desk_loop;
 mod ends;
 mod hearing;
 mod laws;
+mod lost_lines;
 mod news;
 mod notice_log;
 mod notices;

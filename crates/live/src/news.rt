@@ -48,6 +48,25 @@ fn print_bad<W: Write>(
     writeln!(out, "peer: {code} {fault}")
 }
 
+/// Prints that the other desk's file lacks lines, where what came shows it, unless it was told.
+fn print_loss<W: Write>(
+    out: &mut Watched<W>,
+    warned: Warned,
+    loss: bool,
+) -> Result<(), WriteFailed>
+    ensures text { OnOk result (Prints W.contents out.old out.new (texts.loss_text warned loss)) }
+    ensures failed { OnErr result (has_failed out.new ≡ true) }
+{
+    if loss {
+        return print_warning(
+            out,
+            warned.of_lines,
+            "the other desk's file lacks lines that this one has: have the right file put back\n",
+        );
+    }
+    Ok(())
+}
+
 /// Prints what a vote that came at this place came to, where it is news: of both votes, the desk's own was there before.
 fn print_heard<B: BookOf, W: Write>(
     out: &mut Watched<W>,
@@ -55,13 +74,14 @@ fn print_heard<B: BookOf, W: Write>(
     place: u32,
     warned: Warned,
     both: Both,
+    loss: bool,
     heard: Heard,
     book: &B,
 ) -> Result<(), WriteFailed>
     requires own { IfSome both.own IsEntry }
     requires other { IfSome both.other IsEntry }
     ensures text { OnOk result (Prints W.contents out.old out.new
-        (texts.heard_text sheet.now (B.innings_a_side book.now) place both.own both.other (B.content book.now) warned heard)) }
+        (texts.heard_text sheet.now (B.innings_a_side book.now) place both.own both.other (B.content book.now) warned loss heard)) }
     ensures failed { OnErr result (has_failed out.new ≡ true) }
 {
     match heard {
@@ -69,8 +89,9 @@ fn print_heard<B: BookOf, W: Write>(
         Heard::Differ => print_differs(out, place, both),
         Heard::Mine => print_warning(out, warned.of_desk, "peer: the same desk\n"),
         Heard::TwoVotes => print_warning(out, warned.of_votes, "peer: two votes\n"),
+        Heard::Old => print_loss(out, warned, loss),
         Heard::Noted => Ok(()),
-        Heard::Old | Heard::Ahead | Heard::Again => Ok(()),
+        Heard::Ahead | Heard::Again => Ok(()),
     }
 }
 
@@ -81,19 +102,21 @@ fn print_news<B: BookOf, W: Write>(
     place: u32,
     warned: Warned,
     both: Both,
+    loss: bool,
     what: What,
     book: &B,
 ) -> Result<(), WriteFailed>
     requires own { IfSome both.own IsEntry }
     requires other { IfSome both.other IsEntry }
     ensures text { OnOk result (Prints W.contents out.old out.new
-        (texts.came_text sheet.now (B.innings_a_side book.now) place both.own both.other (B.content book.now) warned what)) }
+        (texts.came_text sheet.now (B.innings_a_side book.now) place both.own both.other (B.content book.now) warned loss what)) }
     ensures failed { OnErr result (has_failed out.new ≡ true) }
 {
     match what {
         What::Bad(fault) => print_bad(out, warned.of_bytes, fault),
-        What::Heard(heard) => print_heard(out, sheet, place, warned, both, heard, book),
-        What::Asked | What::Device | What::Failed => Ok(()),
+        What::Heard(heard) => print_heard(out, sheet, place, warned, both, loss, heard, book),
+        What::Asked => print_loss(out, warned, loss),
+        What::Device | What::Failed => Ok(()),
     }
 }
 
@@ -104,16 +127,17 @@ pub fn print_came<B: BookOf, W: Write>(
     place: u32,
     warned: Warned,
     both: Both,
+    loss: bool,
     what: What,
     book: &B,
 ) -> Result<(), WriteFailed>
     requires own { IfSome both.own IsEntry }
     requires other { IfSome both.other IsEntry }
     ensures text { OnOk result (Prints W.contents out.old out.new
-        (texts.came_text sheet.now (B.innings_a_side book.now) place both.own both.other (B.content book.now) warned what)) }
+        (texts.came_text sheet.now (B.innings_a_side book.now) place both.own both.other (B.content book.now) warned loss what)) }
     ensures failed { OnErr result (has_failed out.new ≡ true) }
 {
-    print_news(out, sheet, place, warned, both, what, book)?;
+    print_news(out, sheet, place, warned, both, loss, what, book)?;
     out.flush()
 }
 

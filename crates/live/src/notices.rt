@@ -115,7 +115,7 @@ impl Telling {
     {
         match answer {
             Ok(what) => Telling {
-                warned: self.warned.after(what),
+                warned: self.warned.after(false, what),
                 ..self
             },
             Err(_) => Telling {

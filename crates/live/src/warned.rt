@@ -20,6 +20,8 @@ pub struct Warned {
     pub of_desk: bool,
     /// That two votes of the other desk came for one position.
     pub of_votes: bool,
+    /// That the other desk's file lacks lines.
+    pub of_lines: bool,
     /// That the other has written its vote of this position.
     pub of_writing: bool,
     /// That the other desk isn't heard, and not yet that it is again.
@@ -33,6 +35,7 @@ impl Warned {
         of_seal: false,
         of_desk: false,
         of_votes: false,
+        of_lines: false,
         of_writing: false,
         of_silence: false,
     };
@@ -47,9 +50,9 @@ impl Warned {
         }
     }
 
-    /// What was told after the answer to bytes that came.
-    pub fn after(self, what: What) -> Warned
-        ensures { result ≡ texts.warned_after self what }
+    /// What was told after the answer to bytes that came, which show that the other desk's file lacks lines, or don't.
+    pub fn after(self, loss: bool, what: What) -> Warned
+        ensures { result ≡ texts.warned_after self loss what }
     {
         match what {
             What::Bad(_) => Warned {
@@ -68,8 +71,12 @@ impl Warned {
                 of_silence: self.of_silence,
                 ..Warned::NOTHING
             },
-            What::Heard(Heard::Old | Heard::Ahead | Heard::Again) => self,
-            What::Asked | What::Device | What::Failed => self,
+            What::Heard(Heard::Old) | What::Asked => Warned {
+                of_lines: self.of_lines || loss,
+                ..self
+            },
+            What::Heard(Heard::Ahead | Heard::Again) => self,
+            What::Device | What::Failed => self,
         }
     }
 

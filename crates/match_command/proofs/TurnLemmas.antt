@@ -1,5 +1,5 @@
 -- What each call of a desk keeps of its turn, whatever it is given.
-use Rattle.std.proofs.Common.{◌≡◌, ◌<◌, ◌≤◌, ℕ, ◌+◌, false, Option, Some, None, List, [], ◌∷◌}
+use Rattle.std.proofs.Common.{◌≡◌, ◌<◌, ◌≤◌, ℕ, ◌+◌, Bool, false, Option, Some, None, List, [], ◌∷◌}
 use Rattle.std.proofs.Common.{◌++◌, length, refl, sym, ap, ◌∙◌, subst, inl, inr, ◌⊎◌, arith, length-append, Result, Ok, Err}
 use Rattle.std.specs.Prelude.{IfErr, IsErrOf, OnOk, slice_get}
 use Rattle.std.specs.List.{All}
@@ -31,6 +31,7 @@ use Rattle.books.specs.Taking.{answer_to, is_full, taking, with_taken}
 use Rattle.match_command.specs.declared.match_run.fault.MatchFault.{MatchFault}
 use Rattle.live.specs.Desks.{Calls, DeskCall, Given, Ticked}
 use Rattle.live.specs.Ends.{end_at, further}
+use Rattle.live.specs.LostLines.{end_given}
 use Rattle.links.specs.Passed.{Passed, sends}
 use Rattle.live.specs.declared.ends.DeskEnd.{DeskEnd}
 use Rattle.board.specs.declared.board.Board.{Board}
@@ -181,8 +182,11 @@ module _ {Disk : Type 0} (view : FileView Disk) where
 not_full : (book : List Entry) → length book < PLACES → is_full book ≡ false
 not_full book l = grind (arith, nat_tests)
 
-pub at_device : (what : What) (end : DeskEnd) → end_at what ≡ Err end → IsErrOf (end_at what) DeskEnd.Device
-at_device what end e = grind arith
+pub at_device : (reach : Bool) (what : What) (end : DeskEnd) → end_at what ≡ Err end → IsErrOf (end_given reach what) DeskEnd.Device
+at_device reach what end e = grind arith
+
+no_device : (reach : Bool) (what : What) → end_at what ≡ further → IsErrOf (end_given reach what) DeskEnd.Device → ⊥
+no_device reach what n e = grind arith
 
 module _ {S B D : Type 0} {g : Files S D} {h : Disks D} {b : Books B} where
   view_is : (desk : Desk S B D g h b) (d : DeskId) (game : ℕ) → desk_of desk ≡ d → game_of desk ≡ game → view_of desk ≡ file_view g.contents h.seen h.images d game
@@ -213,7 +217,7 @@ module _ {S B D : Type 0} {g : Files S D} {h : Disks D} {b : Books B} where
   -- no fault is met at a calm disk
   pub meets_none : (old new : Desk S B D g h b) (bytes : List ℕ) (what : What) (before after : List Passed) (end : DeskEnd) → ((s : Sheet) → Calls s old new (Given bytes what) before after)
       → end_at what ≡ Err end → IsCalm old → ⊥
-  meets_none old new bytes what before after end f e q = let c = f (plain_sheet 0 1) in (c.blame q.running).calm q.never q.room (at_device what end e)
+  meets_none old new bytes what before after end f e q = let c = f (plain_sheet 0 1) in (c.blame q.running).calm q.never q.room (at_device _ what end e)
 
   called_online : (s : Sheet) (old new : Desk S B D g h b) (call : DeskCall) (entries : List Entry) (before after : List Passed)
       (c : Calls s old new call before after) → All (SpeaksOf entries) c.out → StaysOnline (game_of old) entries before after
@@ -229,7 +233,7 @@ module _ {S B D : Type 0} {g : Files S D} {h : Disks D} {b : Books B} where
       let w = went (view_of old) (game_of old) (state_of old) (state_of new) bytes what c.out n c.step in (
         record {
           turn = λ entries t. in_view entries old new c.same (w.turn entries t);
-          calm = λ q. calm_still old new c.same (w.running ∙ q.running) ((c.blame q.running).same (λ e. (cc))) q;
+          calm = λ q. calm_still old new c.same (w.running ∙ q.running) ((c.blame q.running).same (λ e. no_device _ what n e)) q;
         },
         λ entries t. called_online (plain_sheet 0 1) old new (Given bytes what) entries before after c (w.speaks entries t),
       )

@@ -1,5 +1,5 @@
 -- A desk's life, step by step.
-use Rattle.std.proofs.Common.{◌≡◌, ℕ, List, [], ◌∷◌, Err, refl, sym, ap, ◌∙◌, subst}
+use Rattle.std.proofs.Common.{◌≡◌, ℕ, Bool, true, false, List, [], ◌∷◌, Err, refl, sym, ap, ◌∙◌, subst}
 use Rattle.entry_log.specs.Disk.{Faults}
 use Rattle.cards.specs.Sheet.{Sheet}
 use Rattle.agree_core.specs.declared.messages.DeskId.{DeskId}
@@ -15,6 +15,9 @@ use Rattle.desk.specs.declared.refusal.Refusal.{Refusal}
 use Rattle.wire.specs.declared.what.What.{What}
 use Rattle.live.specs.Desks as desks
 use Rattle.live.specs.Desks.{DeskCall, DeskProcess, DeskStep, course_after, told_of}
+use Rattle.agree_core.specs.LostLines.{is_in_reach}
+use Rattle.agree_core.specs.declared.seat.Heard.{Heard}
+use Rattle.live.specs.LostLines.{end_ahead, position_in}
 use Rattle.live.specs.declared.ends.DeskEnd.TheVariants.{Device}
 use Rattle.live.specs.declared.said.Said.{Said}
 use Rattle.processes.specs.Printing.{Tells, greeting_of}
@@ -23,6 +26,11 @@ use Rattle.processes.specs.Happenings.{DeskBegun, DeskCalled, DeskEnded, DeskGre
 use Rattle.live.specs.DeskLife.{BeginsOn, fresh}
 use Rattle.processes.specs.Lives.{IsNextStage, CutOff, IsLife, CallsMade, RunsFrom, Stage, after_calls, after_life, after_stage, calls_of, life_happens, stage_happens}
 use Rattle.processes.proofs.Local.{Local, local-append, nexts, nexts-append}
+
+-- a vote for a later position fails no disk
+no_device : (reach : Bool) → end_ahead reach ≡ Err Device → ⊥
+no_device true e = (cc)
+no_device false e = (cc)
 
 module _ {Disk : Type 0} where
   -- a desk after something that happens there
@@ -78,11 +86,12 @@ module _ {Disk : Type 0} (view : FileVersion → FileView Disk) (seen : Disk →
       ((before.0, rw before.1 may), ap (λ (y : Node Disk). next_desk y this) before.1)
 
   -- a call whose disk failed prints nothing
-  silent : (s : Sheet) (k l : DeskState Disk) (call : DeskCall) → course_after call ≡ Err Device → Tells s innings k call l []
+  silent : (s : Sheet) (k l : DeskState Disk) (call : DeskCall) → course_after k call ≡ Err Device → Tells s innings k call l []
   silent s k l (desks.Typed line (Said.Refused Refusal.Failed)) e = (fresh k, refl, tt, refl)
   silent s k l (desks.Typed line (Said.Refused Refusal.Device)) e = (fresh k, refl, tt, refl)
   silent s k l (desks.Given bytes What.Device) e = (fresh k, refl, tt, refl)
   silent s k l (desks.Given bytes What.Failed) e = (fresh k, refl, tt, refl)
+  silent s k l (desks.Given bytes (What.Heard Heard.Ahead)) e = absurd (no_device (is_in_reach k.seat (position_in bytes)) e)
   silent s k l _ e = absurd (cc)
 
   one_stage : (x : Node Disk) (stage : Stage Disk) → IsNextStage view seen faults d game innings x stage → Goes x (stage_happens innings d stage) (after_stage x stage)

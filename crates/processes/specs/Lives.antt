@@ -83,7 +83,7 @@ module _
   abbrev pub IsNextStage : Node Disk → Stage Disk → Type 0
   IsNextStage x (CallsMade s k ms) = (x.process ≡ Running k) × RunsFrom s (view x.version) faults game innings k ms
   IsNextStage x (CutOff s call l) =
-      (k : DeskState Disk) × (x.process ≡ Running k) × (course_after call ≡ Err Device)
+      (k : DeskState Disk) × (x.process ≡ Running k) × (course_after k call ≡ Err Device)
       × DeskStep s (view x.version) game innings k call [] l
   IsNextStage x (ProcessEnd disk) = (k : DeskState Disk) × (x.process ≡ Running k) × Stays (view x.version) k.disk disk
   IsNextStage x (PowerLoss disk) = LosesPower (view x.version) (process_disk x.process) disk

@@ -10,9 +10,10 @@ use Rattle.vote_store.specs.declared.refusal.Refusal.{Refusal}
 use Rattle.entry_log.specs.declared.refusal.Refusal.TheVariants as files
 use Rattle.desk.specs.declared.refusal.OpenRefusal.{OpenRefusal}
 use Rattle.books.specs.declared.fault.BookFault.{BookFault}
+use Rattle.books.specs.OneHistory.{torn_line}
 use Rattle.books.specs.Rejected.{rejection_line}
 use Rattle.setup.specs.declared.fault.{StopFault.StopFault, TheConstants.TURNS}
-use Rattle.setup.specs.declared.fault.StopFault.TheVariants.{NoMemory, Read, Write, Sheet, Schedule, Votes, VotesNamed, BadVotes, Line, NotAgreed, Listen, Disk}
+use Rattle.setup.specs.declared.fault.StopFault.TheVariants.{NoMemory, Read, Write, Sheet, Schedule, Votes, VotesNamed, BadVotes, NotOneHistory, Line, NotAgreed, Listen, Disk, FileMoved, LacksLines}
 
 -- an input isn't read to its end
 abbrev pub of_input : InputFault → StopFault
@@ -43,7 +44,7 @@ is_file_refusal Refusal.NoMemory = false
 is_file_refusal (Refusal.File files.Device) = false
 is_file_refusal why = true
 
--- whether a sheet, a schedule, a votes file or a line is refused for what it holds, and no memory, stream, socket or disk
+-- whether a sheet, a schedule, a votes file or a line is refused for what it holds or lacks, and no memory, stream, socket or disk
 -- is to blame
 abbrev pub is_refusal : StopFault → Bool
 is_refusal (Sheet SheetFault.NoMemory) = false
@@ -53,6 +54,8 @@ is_refusal (Schedule why) = true
 is_refusal (Votes why) = is_file_refusal why
 is_refusal (VotesNamed why) = is_file_refusal why
 is_refusal (BadVotes place) = true
+is_refusal (NotOneHistory place) = true
+is_refusal LacksLines = true
 is_refusal (Line number why) = true
 is_refusal fault = false
 
@@ -95,7 +98,10 @@ fault_line path (Schedule why) = schedule_line why
 fault_line path (Votes why) = votes_line why
 fault_line path (VotesNamed why) = named_votes_line path why
 fault_line path (BadVotes place) = codes "votes: 64 BadVotes\n"
+fault_line path (NotOneHistory place) = torn_line place
 fault_line path (Line number why) = rejection_line number why
 fault_line path (NotAgreed place) = turns_line place TURNS
 fault_line path Listen = codes "cannot listen at " ++ path ++ codes "\n"
 fault_line path Disk = codes "cannot write\nstart the same command again\n"
+fault_line path FileMoved = codes "cannot write\nits file was moved, deleted or replaced: put it back\n"
+fault_line path LacksLines = codes "this file lacks lines that the other desk has: put the right file back\n"

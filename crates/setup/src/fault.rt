@@ -4,7 +4,7 @@ ghost use Rattle.std.specs.Prelude.{◌≡◌, OnOk};
 ghost use Rattle.streams.specs.Watched.{Prints, TellsFailure};
 ghost use Rattle.setup.specs.Fault as texts;
 
-use books::{BookFault, Rejected, print_rejected};
+use books::{BookFault, Rejected, print_rejected, print_torn};
 use cards::SheetFault;
 use desk::OpenRefusal;
 use schedules::ScheduleFault;
@@ -35,6 +35,8 @@ pub enum StopFault {
     VotesNamed(vote_store::Refusal),
     /// The votes of a file are no legal book: this is the first place whose last vote is refused.
     BadVotes { place: u32 },
+    /// The votes of both desks' files aren't of one history: this is the first place at which they can't be.
+    NotOneHistory { place: u32 },
     /// A pen line isn't taken. Lines are numbered from 1.
     Line { number: u64, why: Rejected },
     /// The stations didn't agree this place in `TURNS` turns each.
@@ -43,6 +45,10 @@ pub enum StopFault {
     Listen,
     /// The disk of a desk that runs failed.
     Disk,
+    /// The file of a desk that runs was moved, deleted or replaced.
+    FileMoved,
+    /// The file of a desk that runs lacks lines that the other desk has.
+    LacksLines,
 }
 
 /// Whether a votes file is refused for what it holds, and no memory or disk is to blame.
@@ -56,8 +62,8 @@ fn is_file_refusal(why: vote_store::Refusal) -> bool
 }
 
 impl StopFault {
-    /// Whether a sheet, a schedule, a votes file or a line is refused for what it holds, and no memory, stream, socket or
-    /// disk is to blame.
+    /// Whether a sheet, a schedule, a votes file or a line is refused for what it holds or lacks, and no memory, stream,
+    /// socket or disk is to blame.
     pub fn is_refusal(self) -> bool
         ensures { result ≡ texts.is_refusal self }
     {
@@ -66,7 +72,8 @@ impl StopFault {
             StopFault::Votes(why) | StopFault::VotesNamed(why) => is_file_refusal(why),
             StopFault::Schedule(ScheduleFault::NoMemory) => false,
             StopFault::Sheet(_) | StopFault::Schedule(_) => true,
-            StopFault::BadVotes { .. } | StopFault::Line { .. } => true,
+            StopFault::BadVotes { .. } | StopFault::NotOneHistory { .. } => true,
+            StopFault::Line { .. } | StopFault::LacksLines => true,
             _ => false,
         }
     }
@@ -239,9 +246,18 @@ pub fn print_fault<W: Write>(
         StopFault::Votes(why) => print_votes_fault(out, why),
         StopFault::VotesNamed(why) => print_named_votes_fault(out, path, why),
         StopFault::BadVotes { .. } => writeln!(out, "votes: 64 BadVotes"),
+        StopFault::NotOneHistory { place } => print_torn(out, place),
         StopFault::Line { number, why } => print_rejected(out, number, why),
         StopFault::NotAgreed { place } => print_not_agreed(out, place, TURNS),
         StopFault::Listen => writeln!(out, "cannot listen at {path}"),
         StopFault::Disk => writeln!(out, "cannot write\nstart the same command again"),
+        StopFault::FileMoved => writeln!(
+            out,
+            "cannot write\nits file was moved, deleted or replaced: put it back"
+        ),
+        StopFault::LacksLines => writeln!(
+            out,
+            "this file lacks lines that the other desk has: put the right file back"
+        ),
     }
 }

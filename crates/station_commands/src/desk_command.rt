@@ -14,7 +14,10 @@ use setup::{
     Sealing, StopFault, Stopped, VotesDisk, empty_disk, kept_votes, output, renewed_disk,
     told_sheet_at,
 };
+use std::fs;
+use std::io::{self, ErrorKind};
 use std::net::SocketAddr;
+use std::os::unix::fs::MetadataExt;
 use vote_store::Votes;
 
 /// An empty book of the sheet's match.
@@ -71,10 +74,27 @@ fn disk_at<'r, 'a>(
     renewed_disk(rt, path, file, bytes.as_slice())
 }
 
-/// Why the command ends with a fault, by how its desk's process ended and whether its keyboard failed. Where its scorer
-/// stopped, there is none.
-fn stop_of(ended: Result<(), LifeEnd>, keyboard_failed: bool) -> Option<StopFault>
-    ensures { result ≡ ends.stop_of ended keyboard_failed }
+/// A file's device, and its number there.
+type FileNumber = (u64, u64);
+
+/// The number of the file of this name.
+fn number_of(rt: &HostRuntime, path: &str) -> io::Result<FileNumber> {
+    let found = fs::metadata(rt, path)?;
+    Ok((found.dev(), found.ino()))
+}
+
+/// Whether the name of the file that had this number is another's now, or nobody's.
+fn is_moved(rt: &HostRuntime, path: &str, before: FileNumber) -> bool {
+    match number_of(rt, path) {
+        Ok(now) => before != now,
+        Err(why) => why.kind() == ErrorKind::NotFound,
+    }
+}
+
+/// Why the command ends with a fault, by how its desk's process ended, whether its keyboard failed, and whether its file has
+/// another name, or none, now. Where its scorer stopped, there is none.
+fn stop_of(ended: Result<(), LifeEnd>, keyboard_failed: bool, moved: bool) -> Option<StopFault>
+    ensures { result ≡ ends.stop_of ended keyboard_failed moved }
 {
     match ended {
         Ok(()) => None,
@@ -88,7 +108,14 @@ fn stop_of(ended: Result<(), LifeEnd>, keyboard_failed: bool) -> Option<StopFaul
             }
         }
         Err(LifeEnd::Ended(DeskEnd::Write)) => Some(StopFault::Write),
-        Err(LifeEnd::Ended(DeskEnd::Device)) => Some(StopFault::Disk),
+        Err(LifeEnd::Ended(DeskEnd::Device)) => {
+            if moved {
+                Some(StopFault::FileMoved)
+            } else {
+                Some(StopFault::Disk)
+            }
+        }
+        Err(LifeEnd::Ended(DeskEnd::LacksLines)) => Some(StopFault::LacksLines),
     }
 }
 
@@ -97,12 +124,13 @@ fn stop_of(ended: Result<(), LifeEnd>, keyboard_failed: bool) -> Option<StopFaul
 fn answer<'a>(
     ended: Result<(), LifeEnd>,
     keyboard_failed: bool,
+    moved: bool,
     file: &'a str,
 ) -> Result<bool, Stopped<'a>>
-    ensures ended { IfOk result (λ refused. (refused ≡ false) × (ends.stop_of ended keyboard_failed ≡ None)) }
-    ensures stopped { IfErr result (λ stopped. ends.stop_of ended keyboard_failed ≡ Some stopped.fault) }
+    ensures ended { IfOk result (λ refused. (refused ≡ false) × (ends.stop_of ended keyboard_failed moved ≡ None)) }
+    ensures stopped { IfErr result (λ stopped. ends.stop_of ended keyboard_failed moved ≡ Some stopped.fault) }
 {
-    match stop_of(ended, keyboard_failed) {
+    match stop_of(ended, keyboard_failed, moved) {
         None => Ok(false),
         Some(fault @ (StopFault::Read | StopFault::Write)) => Err(Stopped::at("-", fault)),
         Some(fault) => Err(Stopped { path: file, fault }),
@@ -126,6 +154,9 @@ pub fn start_desk<'a>(
     let mut writer = output(rt)?;
     let mut keys = Keyboard::of_standard_input(rt);
     let disk = disk_at(rt, &sheet, desk, file)?;
+    let Ok(number) = number_of(rt, file) else {
+        return Err(Stopped::at(file, StopFault::Write));
+    };
     let mut link = sealing.link_at(rt, at, peers, Some(keys.descriptor()), rt.stderr())?;
     let book = empty_book(rt, &sheet)?;
     let _ = sealing.tell_fingerprints(&mut rt.stderr());
@@ -142,5 +173,7 @@ pub fn start_desk<'a>(
         &mut writer,
         u64::MAX,
     );
-    answer(ended, keys.has_failed(), file)
+    let has_failed = matches!(ended, Err(LifeEnd::Ended(DeskEnd::Device)));
+    let moved = has_failed && is_moved(rt, file, number);
+    answer(ended, keys.has_failed(), moved, file)
 }

@@ -233,10 +233,10 @@ fn a_second_round_comes_in_its_turn(rt: HostRuntime) {
     window.send(&ask_at(Asker::A, 4, 0));
     assert!(rt; kept(&mut window) == Some(next));
     assert_eq!(rt; world.sent.get(), 1);
-    // a desk that is further on has no use for what it passed
+    // a desk is given what comes early at once too, and has no use for what it passed
     assert_eq!(rt;
         given(&mut window, &world, over(&rt, DeskId::B, 5, 0)),
-        Taken::Lost
+        Taken::Datagram(48)
     );
     window.send(&over(&rt, DeskId::A, 6, 0));
     assert!(rt; kept(&mut window).is_none());
@@ -250,7 +250,7 @@ fn what_is_far_ahead_or_forged_is_not_kept(rt: HostRuntime) {
     let far = over(&rt, DeskId::A, 65, 0);
     assert_eq!(rt; given(&mut window, &world, far), Taken::Datagram(48));
     let near = over(&rt, DeskId::A, 64, 0);
-    assert_eq!(rt; given(&mut window, &world, near), Taken::Lost);
+    assert_eq!(rt; given(&mut window, &world, near), Taken::Datagram(48));
     // bytes that don't open change nothing of when an ask is said
     for place in [0, 1] {
         let mut forged = seal().sealed(&over(&rt, DeskId::A, place, 0));
@@ -274,7 +274,7 @@ fn an_ask_is_said_again_where_later_votes_are_here(rt: HostRuntime) {
     assert_eq!(rt; (world.sent.get(), world.waited.get()), (1, 250));
     assert_eq!(rt;
         given(&mut window, &world, over(&rt, DeskId::A, 1, 0)),
-        Taken::Lost
+        Taken::Datagram(48)
     );
     world.now.set(5);
     assert!(rt; kept(&mut window).is_none());
@@ -322,14 +322,14 @@ fn an_ask_waits_for_what_was_asked_before(rt: HostRuntime) {
     );
     assert_eq!(rt;
         given(&mut window, &world, over(&rt, DeskId::A, 2, 0)),
-        Taken::Lost
+        Taken::Datagram(48)
     );
     let ask = ask_at(Asker::B, 1, 0);
     world.now.set(50);
     window.send(&ask);
     assert_eq!(rt;
         given(&mut window, &world, over(&rt, DeskId::A, 3, 0)),
-        Taken::Lost
+        Taken::Datagram(48)
     );
     for (now, back, waited) in [(50, 0, 60), (109, 0, 1), (110, 1, 60), (111, 1, 59)] {
         world.now.set(now);

@@ -266,7 +266,6 @@ fn the_other_desk_is_heard_again(rt: HostRuntime) {
     link.bring(&rt, 7000, ask(Asker::B));
     link.bring(&rt, 13_000, vote(&rt, DeskId::B, 0, 0, "void"));
     link.bring(&rt, 19_000, vote(&rt, DeskId::B, 0, 0, "void"));
-    link.bring(&rt, 25_000, vote(&rt, DeskId::B, 4, 0, "void"));
     link.bring(&rt, 26_000, ask_at(Asker::B, 4, 0));
     let texts = [
         (4900, GREETING),

@@ -1,10 +1,11 @@
+use Rattle.books.specs.DeskVotes.{votes_of_both}
 use Rattle.books.proofs.BothBooks.{made, not_made}
 use Rattle.books.proofs.both.book_of_both.Goals as goal
 
 pub returns-clause-book : goal.returns-clause-book
 returns-clause-book c =
     let book = c.book_of_entries in
-    made c.args.sheet.now (rw c.game.ensures at c.in_ok-a_votes.ensures.votes) c.in_ok-list.ensures.agreed c.as_slice.ensures.value
+    made c.args.sheet.now (rw c.game.ensures at c.in_ok-a_votes.ensures.votes) (rw c.in_default.is at c.first_torn.ensures) c.in_ok-list.ensures.agreed c.as_slice.ensures.value
     c.innings.ensures.value book.result book.ensures.book book.ensures.taken
 
 pub returns-clause-same_match : goal.returns-clause-same_match
@@ -12,5 +13,12 @@ returns-clause-same_match c = rw (← c.innings.ensures.value) c.book_of_entries
 
 pub returns-clause-why : goal.returns-clause-why
 returns-clause-why c =
-    not_made c.args.sheet.now (rw c.game.ensures at c.in_ok-a_votes.ensures.votes) c.in_ok-list.ensures.agreed c.as_slice.ensures.value
+    not_made c.args.sheet.now (rw c.game.ensures at c.in_ok-a_votes.ensures.votes) (rw c.in_default.is at c.first_torn.ensures) c.in_ok-list.ensures.agreed c.as_slice.ensures.value
     c.innings.ensures.value c.book_of_entries.result c.book_of_entries.ensures.why
+
+pub returns-in-Some-clause-why : goal.returns-in-Some-clause-why
+returns-in-Some-clause-why c = record {
+  votes = votes_of_both c.in_ok-a_votes.a_votes c.in_ok-a_votes.b_votes;
+  read = rw c.game.ensures at c.in_ok-a_votes.ensures.votes;
+  torn = rw c.in-Some.is at c.first_torn.ensures;
+}

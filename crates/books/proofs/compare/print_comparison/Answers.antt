@@ -10,4 +10,5 @@ always (Err _) p = tt
 pub returns-clause-text : goal.returns-clause-text
 returns-clause-text g c =
     let both = appends_both _ _ _ _ _ c.in_ok-print_differences.ensures.text c.in_ok-print_sum.ensures.text in
-    rw (← c.as_slice-differences.ensures.value) (always c.flush.result (appends_kept _ _ _ _ both c.flush.ensures.bytes))
+    let all = appends_both _ _ _ _ _ both c.in_ok-print_tear.ensures.text in
+    rw (← c.as_slice-differences.ensures.value) (always c.flush.result (appends_kept _ _ _ _ all c.flush.ensures.bytes))

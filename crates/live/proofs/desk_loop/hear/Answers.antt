@@ -1,22 +1,45 @@
-use Rattle.std.proofs.Common.{◌∙◌, ap, sym}
-use Rattle.live.specs.Texts.{came_text}
+use Rattle.std.proofs.Common.{Bool, not, ◌&&◌, ◌≡◌, ◌∙◌, ap, sym}
+use Rattle.agree_core.specs.LostLines.{is_before}
+use Rattle.live.specs.LostLines.{end_given, loss_of}
+use Rattle.live.specs.Texts.{came_text, warned_after}
 use Rattle.live.proofs.DeskLemmas.{hears, hears_last}
+use Rattle.live.proofs.LostLemmas.{ends_so, loses_so}
 use Rattle.live.proofs.TellingLemmas.{goes_further, tells_same}
 use Rattle.live.proofs.desk_loop.hear.Goals as goal
 
 pub returns-in-Err-clause-goes : goal.returns-in-Err-clause-goes
-returns-in-Err-clause-goes g c = λ log typed turns came.
-    hears_last c.give-what.result c.in-Err.end (c.give-what.ensures.calls c.args.sheet.now) came c.after-between.ensures (sym c.end_at.ensures ∙ c.in-Err.is)
+returns-in-Err-clause-goes g c =
+    let what = c.receive-received.result.what in
+    let calls = c.receive-received.ensures.calls c.args.sheet.now in
+    let read = c.position_in-of in
+    let ends = ap (λ reach. end_given reach what) c.is_in_reach-in_reach.ensures
+        ∙ ends_so _ _ _ _ c.args.bytes.now what calls.out read.result calls.step read.ensures in
+    let passed = c.is_passed_over.ensures ∙ ap (λ p. is_before read.result p && not c.is_some.result) c.position-at.ensures in
+    let loses = c.loss_of-loss.ensures ∙ (λ i. loss_of (c.is_another-another.ensures i) (passed i) what)
+        ∙ loses_so _ _ _ _ c.args.bytes.now what calls.out read.result c.is_some.result calls.step read.ensures
+        (λ asked. c.is_some.ensures ∙ c.receive-received.ensures.replied asked) in
+    λ log typed turns came. hears_last what c.in-Err.end calls came
+        (c.after-between.ensures ∙ ap (λ loss. warned_after c.args.between.now.warned loss what) loses)
+        (sym ends ∙ sym c.end_given.ensures ∙ c.in-Err.is)
 
 pub returns-clause-goes : goal.returns-clause-goes
 returns-clause-goes g c =
-    let what = c.give-what.result in
+    let what = c.receive-received.result.what in
     let sheet = c.args.sheet.now in
-    let calls = c.give-what.ensures.calls sheet in
+    let calls = c.receive-received.ensures.calls sheet in
     let innings = ap g.B.BookOf.innings_a_side c.book.ensures ∙ calls.same.innings_a_side in
-    let further = sym c.end_at.ensures ∙ c.in_default.is in
-    λ log typed turns came. hears what calls came c.after-between.ensures (goes_further c.print_came.result c.told.result c.told.ensures ∙ sym further)
-    (tells_same c.print_came.result c.told.result _ _ c.told.ensures
-    (λ i. came_text sheet (innings i) (c.position-at.ensures i).place (c.own_line.ensures.value i) (c.entry_in.ensures.value i)
-    (g.B.BookOf.content (c.book.ensures i)) c.args.between.now.warned what)
-    c.print_came.ensures.text)
+    let read = c.position_in-of in
+    let ends = ap (λ reach. end_given reach what) c.is_in_reach-in_reach.ensures
+        ∙ ends_so _ _ _ _ c.args.bytes.now what calls.out read.result calls.step read.ensures in
+    let passed = c.is_passed_over.ensures ∙ ap (λ p. is_before read.result p && not c.is_some.result) c.position-at.ensures in
+    let loses = c.loss_of-loss.ensures ∙ (λ i. loss_of (c.is_another-another.ensures i) (passed i) what)
+        ∙ loses_so _ _ _ _ c.args.bytes.now what calls.out read.result c.is_some.result calls.step read.ensures
+        (λ asked. c.is_some.ensures ∙ c.receive-received.ensures.replied asked) in
+    let further = sym ends ∙ sym c.end_given.ensures ∙ c.in_default.is in
+    λ log typed turns came. hears what calls came
+        (c.after-between.ensures ∙ ap (λ loss. warned_after c.args.between.now.warned loss what) loses)
+        (goes_further c.print_came.result c.told.result c.told.ensures ∙ sym further)
+        (tells_same c.print_came.result c.told.result _ _ c.told.ensures
+        (λ i. came_text sheet (innings i) (c.position-at.ensures i).place (c.own_line.ensures.value i) (c.entry_in.ensures.value i)
+        (g.B.BookOf.content (c.book.ensures i)) c.args.between.now.warned (loses i) what)
+        c.print_came.ensures.text)

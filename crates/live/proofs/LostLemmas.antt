@@ -1,0 +1,164 @@
+-- How a desk's process goes on where bytes come for a later position, and what they show of the other desk's file.
+use Rattle.std.proofs.Common.{arith, ◌≡◌, ℕ, Bool, true, false, List, [], ◌∷◌, Option, Some, None, refl, sym, ap, ◌∙◌, inl, inr, length, length-append, map, not, ◌&&◌, ◌||◌, replicate, IsTrue, ◌↔◌}
+use Rattle.std.specs.Prelude.{IsErrOf, is_some, if◌then◌else◌}
+use Rattle.std.specs.Str.{bytes_eq}
+use Rattle.std.proofs.lemmas.Bool.{cases_Bool}
+use Rattle.std.proofs.lemmas.Bool.Decides.{Decides-like, nat_tests, same_from_decides}
+use Rattle.std.proofs.lemmas.Slice.Eq.{bytes_eq-Decides}
+use Rattle.notation.specs.declared.entry.Entry.{Entry}
+use Rattle.notation.specs.Code.{code}
+use Rattle.notation.specs.Written.{IsEntry}
+use Rattle.notation.proofs.Decoded.{code_once}
+use Rattle.agree_core.specs.declared.messages.{Ask.Ask, DeskId.DeskId, Vote.Vote}
+use Rattle.agree_core.specs.Ballots.{Ballot, In, vote_of}
+use Rattle.agree_core.specs.Positions.{next_place, next_round, position_of}
+use Rattle.vote_store.specs.VoteList.{last_vote}
+use Rattle.agree_core.specs.declared.{messages.Message.Message, position.Position.Position, seat.Heard.Heard}
+use Rattle.agree_core.specs.Desks.{Asked, DeskState, Receives, Replies}
+use Rattle.agree_core.specs.FileView.{FileView}
+use Rattle.agree_core.specs.LostLines.{is_another, is_at, is_before, is_in_reach, is_voted}
+use Rattle.agree_core.specs.Seats.{SeatState}
+use Rattle.desk.specs.Answers.{replied}
+use Rattle.desk.specs.Takes.{Takes}
+use Rattle.wire.specs.Layout.{Says, body, body_in, is_at as message_at, written}
+use Rattle.wire.specs.Sent.{AreSent}
+use Rattle.wire.specs.declared.what.What.{What}
+use Rattle.wire.proofs.MessageLemmas.{message_body_length, place_of, round_of}
+use Rattle.live.specs.LostLines.{end_ahead, end_given, end_here, loss_of, position_in, shows_loss}
+use Rattle.live.specs.declared.ends.DeskEnd.{DeskEnd}
+
+-- a vote that was heard blames no disk
+pub heard_ends : (reach : Bool) (h : Heard) → IsErrOf (end_given reach (What.Heard h)) DeskEnd.Device → ⊥
+heard_ends reach h e = grind arith
+
+size : (game : ℕ) (m : Message) → length (written game m) ≡ 48
+size game m =
+    let middle = message_body_length m in
+    let both = length-append (body m) (replicate 5 0) in
+    omega (arith, middle, both)
+
+heard_size : {Disk : Type 0} (view : FileView Disk) (game : ℕ) (k l : DeskState Disk) (bytes : List ℕ) (h : Heard) (out : List Message)
+    → Takes view game k bytes (What.Heard h) l out → length bytes ≡ 48
+heard_size view game k l bytes h out t = ap length t.1.1 ∙ size game t.0
+
+-- the position that was read is that of the bytes, where the answer goes by it
+pub ends_so : {Disk : Type 0} (view : FileView Disk) (game : ℕ) (k l : DeskState Disk) (bytes : List ℕ) (what : What) (out : List Message) (at : Position)
+    → Takes view game k bytes what l out → (length bytes ≡ 48 → at ≡ position_in bytes)
+    → end_given (is_in_reach k.seat at) what ≡ end_here k.seat bytes what
+ends_so view game k l bytes (What.Heard Heard.Ahead) out at t e =
+    ap (λ (p : Position). end_ahead (is_in_reach k.seat p)) (e (heard_size view game k l bytes Heard.Ahead out t))
+ends_so view game k l bytes what out at t e = refl
+
+-- ---- of the other desk's file
+
+module _ (s : SeatState) (at : Position) (entry : List ℕ) where
+  -- without a vote no other's is another one
+  pub none_cast : (desk : DeskId) (votes : List Ballot) → last_vote desk votes ≡ None → is_another s votes at entry ≡ false
+  none_cast desk [] e = refl
+  none_cast desk (b ∷ bs) e = absurd (cc)
+
+  -- whether it is, by this desk's last vote
+  pub by_last : (desk : DeskId) (votes : List Ballot) (v : Vote) → last_vote desk votes ≡ Some v
+      → is_another s votes at entry ≡ (if is_at (position_of v) at
+      then is_at (if bytes_eq entry (code v.entry) then next_round (position_of v) else next_place (position_of v)) s.position
+      else is_before (position_of v) at)
+  by_last desk [] v e = absurd (cc)
+  by_last desk (b ∷ bs) v e = let same : vote_of desk b ≡ v = cc in rw (← same) refl
+
+  turned : (alike : Bool) (p : Position) → (if not alike then next_place p else next_round p) ≡ (if alike then next_round p else next_place p)
+  turned true p = refl
+  turned false p = refl
+
+  -- so it is of a vote for the position of the last one, by the position that comes next after both
+  pub another_so : (desk : DeskId) (votes : List Ballot) (v : Vote) → last_vote desk votes ≡ Some v → is_at (position_of v) at ≡ true
+      → (alike : Bool) → alike ≡ bytes_eq entry (code v.entry)
+      → (next : Position) → next ≡ (if not alike then next_place (position_of v) else next_round (position_of v))
+      → (r : Bool) → r ≡ is_at next s.position → r ≡ is_another s votes at entry
+  another_so desk votes v last here alike a next n r e =
+      let p = position_of v in
+      let after : next ≡ (if bytes_eq entry (code v.entry) then next_round p else next_place p) =
+      n ∙ turned alike p ∙ ap (λ (x : Bool). if x then next_round p else next_place p) a in
+      let taken : (if is_at p at then is_at (if bytes_eq entry (code v.entry) then next_round p else next_place p) s.position else is_before p at)
+      ≡ is_at (if bytes_eq entry (code v.entry) then next_round p else next_place p) s.position = rw here refl in
+      e ∙ ap (λ (q : Position). is_at q s.position) after ∙ sym (by_last desk votes v last ∙ taken)
+
+-- a test of an entry is that of the code that bytes have
+pub is_coded : (r : Bool) (bytes : List ℕ) (e f : Entry) → IsEntry e → IsEntry f → bytes ≡ code e → IsTrue r ↔ (e ≡ f) → r ≡ bytes_eq bytes (code f)
+is_coded r bytes e f h k c same =
+    same_from_decides r (bytes_eq bytes (code f)) same
+    (Decides-like (bytes_eq bytes (code f)) (λ x. code_once e f h k (sym c ∙ x)) (λ x. c ∙ ap code x) (bytes_eq-Decides bytes (code f)))
+
+pub not_coded : (bytes : List ℕ) (f : Entry) → (bytes ≡ code f → ⊥) → false ≡ bytes_eq bytes (code f)
+not_coded bytes f n = elim (cases_Bool (bytes_eq bytes (code f))) [
+  | inl same ↦ absurd (n ((bytes_eq-Decides bytes (code f)).0 same))
+  | inr other ↦ sym other
+]
+
+-- one of a desk's votes is for a position exactly where its replies to an ask for that have one
+at_self : (p : Position) → is_at p p ≡ true
+at_self p = grind (arith, nat_tests)
+
+at_once : (p q : Position) → is_at p q ≡ true → p ≡ q
+at_once p q e = grind (arith, nat_tests)
+
+or_true : (r : Bool) → (r || true) ≡ true
+or_true true = refl
+or_true false = refl
+
+voted_in : (votes : List Ballot) (at : Position) (e : Entry) → In (record { at = at; entry = e }) votes → is_voted votes at ≡ true
+voted_in [] at e i = absurd i
+voted_in (b ∷ bs) at e (inl here) = let same : at ≡ b.at = ap (λ (x : Ballot). x.at) here in rw (← same) (rw (at_self at) refl)
+voted_in (b ∷ bs) at e (inr there) = rw (voted_in bs at e there) (or_true (is_at b.at at))
+
+not_voted : (votes : List Ballot) (at : Position) → ((e : Entry) → In (record { at = at; entry = e }) votes → ⊥) → is_voted votes at ≡ false
+not_voted [] at n = refl
+not_voted (b ∷ bs) at n = elim (cases_Bool (is_at b.at at)) [
+  | inl here ↦ absurd (n b.entry (inl (λ i. record { at = sym (at_once b.at at here) i; entry = b.entry })))
+  | inr other ↦ rw other (not_voted bs at (λ e i. n e (inr i)))
+]
+
+-- the position that bytes say is that of their message
+position_of_message : (game : ℕ) (bytes : List ℕ) (m : Message) → Says game bytes m → position_in bytes ≡ message_at m
+position_of_message game bytes m says = λ i. record { place = place_of game bytes m says i; round = round_of game bytes m says i }
+
+none_sent : {x : List ℕ} {xs : List (List ℕ)} → [] ≡ x ∷ xs → ⊥
+none_sent e = (cc)
+
+one_sent : {x : List ℕ} {xs : List (List ℕ)} → x ∷ xs ≡ [] → ⊥
+one_sent e = (cc)
+
+module _ {Disk : Type 0} (view : FileView Disk) (game : ℕ) (k l : DeskState Disk) where
+  -- an ask is replied to exactly where the desk has voted
+  by_reply : (q : Ask) (reply : Option (List ℕ)) (out : List Message) → replied reply ≡ map (written game) out → Replies k q out
+      → is_some reply ≡ is_voted k.votes (message_at (Message.Ask q))
+  by_reply q None out sent (inl has) = absurd (none_sent (rw has.2 at sent))
+  by_reply q (Some r) out sent (inl has) = sym (voted_in k.votes (message_at (Message.Ask q)) has.0 has.1)
+  by_reply q None out sent (inr none) = sym (not_voted k.votes (message_at (Message.Ask q)) none.0)
+  by_reply q (Some r) out sent (inr none) = absurd (one_sent (rw none.1 at sent))
+
+  by_message : (bytes : List ℕ) (reply : Option (List ℕ)) (out : List Message) (m : Message) → Says game bytes m
+      → replied reply ≡ map (written game) out → Receives view k m Asked l out → is_some reply ≡ is_voted k.votes (position_in bytes)
+  by_message bytes reply out (Message.Vote v) says sent r = absurd r
+  by_message bytes reply out (Message.Ask q) says sent r =
+      by_reply q reply out sent r.2 ∙ ap (is_voted k.votes) (sym (position_of_message game bytes (Message.Ask q) says))
+
+  pub replies_so : (bytes : List ℕ) (what : What) (reply : Option (List ℕ)) → AreSent game (replied reply) (λ out. Takes view game k bytes what l out)
+      → what ≡ What.Asked → is_some reply ≡ is_voted k.votes (position_in bytes)
+  replies_so bytes what reply s e =
+      let t : Takes view game k bytes What.Asked l s.0 = rw e at s.3 in
+      by_message bytes reply s.0 t.0 t.1 s.2 t.2
+
+  -- what was read of the bytes and of the reply is what they show
+  asked_size : (bytes : List ℕ) (out : List Message) → Takes view game k bytes What.Asked l out → length bytes ≡ 48
+  asked_size bytes out t = ap length t.1.1 ∙ size game t.0
+
+  pub loses_so : (bytes : List ℕ) (what : What) (out : List Message) (at : Position) (has_reply : Bool) → Takes view game k bytes what l out
+      → (length bytes ≡ 48 → at ≡ position_in bytes) → (what ≡ What.Asked → has_reply ≡ is_voted k.votes (position_in bytes))
+      → loss_of (is_another k.seat k.votes at (body_in bytes)) (is_before at k.seat.position && not has_reply) what ≡ shows_loss k.seat k.votes bytes what
+  loses_so bytes (What.Heard Heard.Old) out at has_reply t e replied =
+      ap (λ (p : Position). is_another k.seat k.votes p (body_in bytes)) (e (heard_size view game k l bytes Heard.Old out t))
+  loses_so bytes What.Asked out at has_reply t e replied =
+      let same = e (asked_size bytes out t) in
+      let has = replied refl in
+      λ i. is_before (same i) k.seat.position && not (has i)
+  loses_so bytes what out at has_reply t e replied = refl
