@@ -118,7 +118,7 @@ not_voted (b ∷ bs) at n = elim (cases_Bool (is_at b.at at)) [
 ]
 
 -- the position that bytes say is that of their message
-position_of_message : (game : ℕ) (bytes : List ℕ) (m : Message) → Says game bytes m → position_in bytes ≡ message_at m
+pub position_of_message : (game : ℕ) (bytes : List ℕ) (m : Message) → Says game bytes m → position_in bytes ≡ message_at m
 position_of_message game bytes m says = λ i. record { place = place_of game bytes m says i; round = round_of game bytes m says i }
 
 none_sent : {x : List ℕ} {xs : List (List ℕ)} → [] ≡ x ∷ xs → ⊥

@@ -26,6 +26,7 @@ use Rattle.processes.specs.Headline.{AtEachTime, TypesBallot, WasTyped}
 use Rattle.processes.specs.Laws.{FlowsAreRuns, FlowsHaveHeadline, IsFlow}
 use Rattle.processes.proofs.FlowSteps.{IsCalm}
 use Rattle.processes.proofs.Flowing.{at_each, at_some, flow_runs}
+use Rattle.processes.proofs.LostLines.{each_lacks_none}
 use Rattle.processes.proofs.Printing.{each_prints}
 use Rattle.processes.proofs.SecondVotes.{each_takes_second}
 
@@ -84,4 +85,5 @@ module _ {Disk : Type 0} (seen : Disk → List ℕ) (images : Disk → Images) w
         prints = each_prints s.view game innings w hs f.1;
         takes_second = each_takes_second s game innings refl version boards w f.0 (begins_calm s version boards w f.0) hs f.1;
         none_waits = at_each NoneKeepsBoth w hs p.0 p.2 (each_moment s w p.0 NoneKeepsBoth (none_keeps_both s) (begins_fine s version boards w f.0) p.1);
+        lacks_no_lines = each_lacks_none s game innings refl version boards w f.0 (begins_calm s version boards w f.0) hs f.1;
       }

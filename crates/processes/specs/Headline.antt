@@ -14,6 +14,7 @@ use Rattle.headline.specs.Kept.{NoneKeepsBoth}
 use Rattle.live.specs.Desks as desks
 use Rattle.live.specs.Saying.{SaysEntry}
 use Rattle.processes.specs.Happenings.{BoardCalled, DeskCalled, DeskGreeted, Happening, after}
+use Rattle.processes.specs.LostLines.{LacksNoLines}
 use Rattle.processes.specs.Printing.{Prints, Tells, greeting_of}
 use Rattle.processes.specs.SecondVotes.{AtEachHappening, TakesSecond}
 
@@ -72,3 +73,5 @@ pub record ProcessHeadline {Disk : Type 0} (game innings : ℕ) (w : Configurati
   pub takes_second : AtEachHappening w hs (TakesSecond game)
   -- and no process keeps both votes of its position
   pub none_waits : AtEachTime w hs NoneKeepsBoth
+  -- no desk's process ends as one whose file lacks lines
+  pub lacks_no_lines : AtEachHappening w hs LacksNoLines

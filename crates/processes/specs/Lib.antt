@@ -9,5 +9,6 @@ pub mod Files
 pub mod Sealing
 pub mod Weaving
 pub mod SecondVotes
+pub mod LostLines
 pub mod Stations
 pub mod Worked

@@ -1,0 +1,86 @@
+-- No desk's process ends as one whose file lacks lines.
+use Rattle.std.proofs.Common.{arith, ◌≡◌, ◌≢◌, ℕ, Bool, true, false, List, [], ◌∷◌, Err, refl, sym, ap, ◌∙◌, subst}
+use Rattle.corrections.specs.Refusal.{book_refusal}
+use Rattle.corrections.specs.declared.refusal.Refusal.{Refusal}
+use Rattle.agree_core.specs.declared.{messages.DeskId.DeskId, messages.Message.Message, seat.Heard.Heard}
+use Rattle.agree_core.specs.declared.messages.DeskId.TheVariants.{A, B}
+use Rattle.agree_core.specs.Desks.{DeskState}
+use Rattle.agree_core.specs.LostLines.{is_in_reach}
+use Rattle.agree_core.specs.Readers.{other}
+use Rattle.desk.specs.Takes.{Takes}
+use Rattle.wire.specs.declared.what.What.{What}
+use Rattle.headline.specs.declared.version.FileVersion.{FileVersion}
+use Rattle.headline.specs.Configurations.{Configuration, Running, node}
+use Rattle.headline.specs.Runs.{Begins}
+use Rattle.headline.specs.Setting.{Setting}
+use Rattle.headline.proofs.Given.{given_vote}
+use Rattle.headline.proofs.Keeping.{Fine, begins_fine, run_keeps}
+use Rattle.progress.specs.Progress.{HoldsAt}
+use Rattle.progress.proofs.Progress.{holds_at}
+use Rattle.progress.proofs.Settled.{fine_seat}
+use Rattle.live.specs.Desks as desks
+use Rattle.live.specs.Ends.{end_of}
+use Rattle.live.specs.LostLines.{end_ahead, end_here, position_in}
+use Rattle.live.specs.declared.ends.DeskEnd.TheVariants.{LacksLines}
+use Rattle.live.specs.declared.said.Said.{Said}
+use Rattle.live.proofs.LostLemmas.{position_of_message}
+use Rattle.processes.specs.Happenings.{DeskCalled, Flow, Happening, Happens, WasSent, after}
+use Rattle.processes.specs.LostLines.{LacksNoLines}
+use Rattle.processes.specs.SecondVotes.{AtEachHappening}
+use Rattle.processes.proofs.FlowSteps.{IsCalm}
+use Rattle.processes.proofs.Flowing.{flow_runs}
+
+-- a desk goes on where the other's vote is in reach, and after each line
+in_reach : (reach : Bool) → reach ≡ true → end_ahead reach ≡ Err LacksLines → ⊥
+in_reach true e f = (cc)
+in_reach false e f = (cc)
+
+not_said : (said : Said) → end_of said ≡ Err LacksLines → ⊥
+not_said said e = grind arith
+
+not_own : (c d : DeskId) → (c ≡ d → ⊥) → c ≡ other d
+not_own A A n = absurd (n refl)
+not_own A B n = refl
+not_own B A n = refl
+not_own B B n = absurd (n refl)
+
+module _ {Disk : Type 0} (s : Setting Disk Refusal) (game innings : ℕ) where
+  -- in a configuration that a run comes to
+  module _ (v : Configuration Disk) (holds : HoldsAt s v) (fine : Fine s v) where
+    ahead : (d : DeskId) (k l : DeskState Disk) (bytes : List ℕ) (out : List Message) → (node v d).process ≡ Running k → WasSent game v.sent bytes
+        → Takes (s.view d (node v d).version) game k bytes (What.Heard Heard.Ahead) l out → end_here k.seat bytes (What.Heard Heard.Ahead) ≡ Err LacksLines → ⊥
+    ahead d k l bytes out runs came (Message.Ask q, says, r) e = absurd r
+    ahead d k l bytes out runs came (Message.Vote w, says, r) e =
+        let found = came (Message.Vote w) says in
+        let sent = given_vote v.sent found.0 w found.1 in
+        let own : k.seat.desk ≡ d = (fine_seat s v fine d k runs).0.desk in
+        let by = not_own w.desk d (λ same. r.1.0 (same ∙ sym own)) in
+        let reach = holds.in_reach d k found.0 w runs sent by in
+        in_reach (is_in_reach k.seat (position_in bytes)) (ap (is_in_reach k.seat) (position_of_message game bytes (Message.Vote w) says) ∙ reach) e
+
+    given : (d : DeskId) (k l : DeskState Disk) (bytes : List ℕ) (what : What) (out : List Message) → (node v d).process ≡ Running k
+        → WasSent game v.sent bytes → Takes (s.view d (node v d).version) game k bytes what l out → end_here k.seat bytes what ≡ Err LacksLines → ⊥
+    given d k l bytes (What.Heard Heard.Ahead) out runs came t e = ahead d k l bytes out runs came t e
+    given d k l bytes _ out runs came t e = absurd (cc)
+
+    one_desk : (d : DeskId) (k l : DeskState Disk) → (node v d).process ≡ Running k → (node v d).process ≡ Running l → k ≡ l
+    one_desk d k l p q = let both : Running k ≡ Running l = sym p ∙ q in cc
+
+    lacks : (what : Happening Disk) → Happens s.view game innings v what → LacksNoLines v what
+    lacks (DeskCalled d sheet (desks.Typed line said) out l text) h = λ k runs e. not_said said e
+    lacks (DeskCalled d sheet (desks.Given bytes what) out l text) h = λ k runs e.
+        let step = subst (λ (x : DeskState Disk). Takes (s.view d (node v d).version) game x bytes what l out) (one_desk d h.0 k h.1 runs) h.3 in
+        given d k l bytes what out runs h.2 step e
+    lacks (DeskCalled d sheet call out l text) h = λ k runs e. absurd (cc)
+    lacks _ h = tt
+
+  module _
+      (rules : s.rules ≡ book_refusal innings) (version : FileVersion) (n : ℕ) (w : Configuration Disk) (begins : Begins s version n w) (calm : IsCalm w)
+    where
+    pub each_lacks_none : (hs : List (Happening Disk)) → Flow s.view game innings w hs → AtEachHappening w hs LacksNoLines
+    each_lacks_none [] f = tt
+    each_lacks_none (h ∷ hs) f =
+        let p = flow_runs s game innings rules w calm hs f.0 in
+        let holds = subst (HoldsAt s) p.3 (holds_at s version n w p.0 begins p.1) in
+        let fine = subst (Fine s) p.3 (run_keeps s w p.0 (begins_fine s version n w begins) p.1) in
+        (each_lacks_none hs f.0, lacks (after w hs) holds fine h f.1)
