@@ -1,3 +1,4 @@
 -- What serves private functions and proofs only.
 pub mod Kept
+pub mod Overs
 pub mod Scoring

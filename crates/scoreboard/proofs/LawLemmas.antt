@@ -3,7 +3,7 @@ use Rattle.std.proofs.Common.{◌≡◌, ℕ, ◌+◌, true, [], ◌∷◌, leng
 use Rattle.std.proofs.lemmas.Bool.{eq-eqb}
 use Rattle.std.proofs.lemmas.List.{length_push}
 use Rattle.notation.specs.declared.entry.Plain.TheVariants.{Innings, Ball as Bowl, Gone, Over, End}
-use Rattle.ball_laws.specs.History.{History}
+use Rattle.ball_laws.specs.History.{History, open_over}
 use Rattle.ball_laws.specs.Laws.{state_after}
 use Rattle.ball_laws.specs.Over.{counting, bowled_in}
 use Rattle.ball_laws.proofs.Wickets.{ball-row}
@@ -31,7 +31,7 @@ falls-wickets n (x ∷ h) i legal = falls-wickets n h i legal.0
 here : (h : History) → is_open h ≡ true → eqb (begun h) (current h + 1) ≡ true
 here h is = eq-eqb (begun h) (current h + 1) (current-open h is)
 
-pub this_over-since : (h : History) → is_open h ≡ true → (state_after h).this_over ≡ since_call h (current h)
+pub this_over-since : (h : History) → is_open h ≡ true → open_over h ≡ since_call h (current h)
 this_over-since [] is = absurd cc
 this_over-since (Innings s ∷ h) is = sym (since_call-none h (current (Innings s ∷ h)) (omega arith))
 this_over-since (Bowl b ∷ h) is = rw (here h is) (ap (λ bs. b ∷ bs) (this_over-since h is))
@@ -39,6 +39,6 @@ this_over-since (Over ∷ h) is = rw (here h is) refl
 this_over-since (End cause ∷ h) is = absurd cc
 this_over-since (x ∷ h) is = this_over-since h is
 
-pub counts_this_over : (h : History) → is_open h ≡ true → counting (state_after h).this_over ≡ balls h (current h)
+pub counts_this_over : (h : History) → is_open h ≡ true → counting (open_over h) ≡ balls h (current h)
 unfolding balls
 counts_this_over h is = ap counting (this_over-since h is)

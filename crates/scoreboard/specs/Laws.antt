@@ -1,7 +1,6 @@
 -- What a board's value tells of its match, in a looker's words.
 use Rattle.std.specs.Prelude.{◌≡◌, ℕ, true, length}
-use Rattle.ball_laws.specs.History.{History}
-use Rattle.ball_laws.specs.Laws.{state_after}
+use Rattle.ball_laws.specs.History.{History, open_over}
 use Rattle.ball_laws.specs.Over.{counting}
 use Rattle.match_laws.specs.History.{is_open}
 use Rattle.match_laws.specs.Figures.{wickets, balls, falls}
@@ -15,4 +14,4 @@ pub record AddsUp (h : History) (i : ℕ) : Type 0 where
 
 -- While an innings is in play, as many deliveries of `this_over` count as its `overs` has balls behind the point.
 abbrev pub CountsThisOver : History → Type 0
-CountsThisOver h = is_open h ≡ true → counting (state_after h).this_over ≡ balls h (current h)
+CountsThisOver h = is_open h ≡ true → counting (open_over h) ≡ balls h (current h)

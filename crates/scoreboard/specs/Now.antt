@@ -2,11 +2,12 @@
 -- sheet, n the innings a side and h the history.
 use Rattle.std.specs.Prelude.{ℕ, ◌-◌, ◌==◌, if◌then◌else◌, List, [], ◌∷◌, ◌++◌, Option, Some, None, map, option_map, reverse, codes}
 use Rattle.notation.specs.declared.entry.Ball.{Ball}
-use Rattle.ball_laws.specs.History.{History}
+use Rattle.ball_laws.specs.History.{History, open_over, last_called_over}
 use Rattle.ball_laws.specs.Laws.{state_after}
-use Rattle.match_laws.specs.History.{or_else, begun}
+use Rattle.match_laws.specs.History.{begun}
 use Rattle.match_laws.specs.Figures.{total}
 use Rattle.match_laws.specs.Result.{current, target, outcome}
+use Rattle.corrections.specs.Overs.{bowler_now}
 use Rattle.cards.specs.Sheet.{Sheet}
 use Rattle.cards.specs.Results.{result_text}
 use Rattle.json.specs.Json.{Json, null, string}
@@ -22,15 +23,6 @@ number_or_null (Some n) = number_value n
 abbrev pub text_or_null : Option (List ℕ) → Json
 text_or_null None = null
 text_or_null (Some text) = string text
-
--- who bowled the newest of some deliveries, the newest first
-abbrev pub newest_bowler : List Ball → Option ℕ
-newest_bowler [] = None
-newest_bowler (b ∷ bs) = Some b.bowler
-
--- who bowls: who bowled the last delivery of this over, else of the one called last
-abbrev pub bowler_now : History → Option ℕ
-bowler_now h = or_else (newest_bowler (state_after h).this_over) (newest_bowler (state_after h).last_over)
 
 -- the deliveries of an over, the oldest first
 abbrev pub over_value : List Ball → Json
@@ -52,7 +44,7 @@ overs_fields this last = (codes "this_over", over_value this) ∷ [] ++ (codes "
 
 -- this over and the one called last, where an innings is open
 abbrev pub both_overs : History → List Field
-both_overs h = overs_fields (reverse (state_after h).this_over) (reverse (state_after h).last_over)
+both_overs h = overs_fields (reverse (open_over h)) (reverse (last_called_over h))
 
 abbrev pub result_field : Sheet → ℕ → History → Field
 result_field s n h = (codes "result", text_or_null (result_text s (outcome n h)))

@@ -1,2 +1,2 @@
--- What serves private functions and proofs only.
-pub mod Overs
+-- What serves private functions only.
+pub mod Marks

@@ -1,6 +1,6 @@
 //! The rows of an innings' cards.
 
-ghost use Rattle.std.specs.Prelude.{◌≡◌, ◌<◌, ◌∷◌, [], IfOk, Some, codes, length, slice_get, string_bytes};
+ghost use Rattle.std.specs.Prelude.{◌≡◌, ◌<◌, ◌∷◌, [], IfOk, codes, string_bytes};
 ghost use Rattle.match_laws.specs.Stands.{ForEachHistory, begun_in};
 ghost use Rattle.json_fields.specs.Values.{PutsFields, PutsValues, text_field};
 ghost use Rattle.scoreboard.specs.Innings as laws;
@@ -11,14 +11,6 @@ use json_fields::{Compact, begin_object, end_object, put_figure, put_text};
 use match_laws::{BattingRow, BowlingRow, Fall, Match, opponent};
 use notation::{Player, Side};
 use std::alloc::{AllocError, Global};
-
-/// What stands at a place of a table.
-pub fn place_of<T: Copy>(places: &[T], place: usize) -> T
-    requires { place < length places.now }
-    ensures { slice_get places.now place ≡ Some result }
-{
-    places[place]
-}
 
 /// So many overs, and so many balls of another.
 fn overs_text(alloc: Global, whole: u32, odd: u32) -> Result<String, AllocError>
@@ -181,8 +173,8 @@ pub fn put_batters(
         PutsValues result out.old out.new (laws.batting sheet.now h innings)) }
 {
     let order = score.batting_order(innings);
-    for place in 0..order.len() {
-        if let Some(player) = place_of(&order, place) {
+    for place in order {
+        if let Some(player) = place {
             put_batter_of(out, alloc, sheet, score, innings, player)?;
         }
     }
@@ -202,8 +194,8 @@ pub fn put_bowlers(
         PutsValues result out.old out.new (laws.bowling sheet.now h innings)) }
 {
     let order = score.bowling_order(innings);
-    for place in 0..order.len() {
-        if let Some(player) = place_of(&order, place) {
+    for place in order {
+        if let Some(player) = place {
             put_bowler_of(out, alloc, sheet, score, innings, player)?;
         }
     }
@@ -223,9 +215,9 @@ pub fn put_falls(
 {
     let side = score.side(innings);
     let falls = score.falls(innings);
-    for place in 0..falls.len() {
-        if let Some(fall) = place_of(&falls, place) {
-            put_fall(out, sheet, side, place as u32 + 1, &fall)?;
+    for (index, place) in falls.iter().enumerate() {
+        if let Some(fall) = place {
+            put_fall(out, sheet, side, index as u32 + 1, fall)?;
         }
     }
     Ok(())

@@ -7,7 +7,6 @@ mod innings;
 mod laws;
 mod marks;
 mod now;
-mod overs;
 mod text;
 mod value;
 

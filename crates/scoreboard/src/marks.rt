@@ -1,15 +1,17 @@
 //! Deliveries as an over's row shows them.
 
-ghost use Rattle.std.specs.Prelude.{◌≡◌, ◌∷◌, [], IfOk, map, string_bytes};
+ghost use Rattle.std.specs.Prelude.{◌≡◌, ◌∷◌, [], IfOk, map, reverse, string_bytes};
+ghost use Rattle.corrections.specs.Overs.{balls_of};
 ghost use Rattle.json.specs.Json.{string};
 ghost use Rattle.json_fields.specs.Values.{PutsValues};
 ghost use Rattle.cards.specs.Marks as laws;
+ghost use Rattle.scoreboard.specs.inner.Marks as marks;
 
-use crate::cards_put::place_of;
 use cards::{Mark, mark_of};
+use corrections::Placed;
 use itoa::Buffer;
 use json_fields::{Compact, put_string};
-use notation::Ball;
+use notation::{Ball, Plain};
 use std::alloc::{AllocError, Global};
 
 /// The text of a mark.
@@ -36,13 +38,23 @@ fn put_mark(out: &mut Compact, alloc: Global, ball: &Ball) -> Result<(), AllocEr
     put_string(out, text.as_str())
 }
 
-/// Puts the deliveries of an over.
-pub fn put_marks(out: &mut Compact, alloc: Global, over: &[Ball]) -> Result<(), AllocError>
-    ensures { PutsValues result out.old out.new (map (λ b. string (laws.mark_of b)) over.now) }
+/// Puts an item, where it is a delivery.
+fn put_item(out: &mut Compact, alloc: Global, item: &Plain) -> Result<(), AllocError>
+    ensures { PutsValues result out.old out.new (marks.item_values item.now) }
 {
-    for index in 0..over.len() {
-        let ball = place_of(over, index);
-        put_mark(out, alloc, &ball)?;
+    match item {
+        Plain::Ball(ball) => put_mark(out, alloc, ball),
+        _ => Ok(()),
+    }
+}
+
+/// Puts the deliveries of an over.
+pub fn put_marks(out: &mut Compact, alloc: Global, over: &[Placed]) -> Result<(), AllocError>
+    ensures { PutsValues result out.old out.new
+        (map (λ b. string (laws.mark_of b)) (reverse (balls_of over.now))) }
+{
+    for placed in over {
+        put_item(out, alloc, &placed.item)?;
     }
     Ok(())
 }

@@ -1,19 +1,19 @@
 //! What is going on.
 
-ghost use Rattle.std.specs.Prelude.{◌≡◌, ◌∷◌, [], codes, option_map, string_bytes};
+ghost use Rattle.std.specs.Prelude.{◌≡◌, ◌∷◌, [], codes, option_map, reverse, string_bytes};
 ghost use Rattle.match_laws.specs.Stands.{ForEachHistory};
+ghost use Rattle.corrections.specs.Overs.{AreOversOf, balls_of};
 ghost use Rattle.json_fields.specs.Values.{PutsFields};
 ghost use Rattle.scoreboard.specs.Now as laws;
-ghost use Rattle.scoreboard.specs.inner.Overs.{Are};
 
 use crate::marks::put_marks;
-use crate::overs::Overs;
 use cards::{MatchSheet, result_text};
+use corrections::{Overs, Placed};
 use json_fields::{
     Compact, begin_array, begin_field, end_array, end_object, put_figure, put_null, put_text,
 };
 use match_laws::Match;
-use notation::{Ball, Player};
+use notation::Player;
 use std::alloc::{AllocError, Global};
 
 /// Puts a number, if there is one.
@@ -37,8 +37,8 @@ fn put_player(out: &mut Compact, name: &str, player: Option<Player>) -> Result<(
 }
 
 /// Puts who bats and who bowls.
-fn put_players(out: &mut Compact, score: &Match, overs: &Overs) -> Result<(), AllocError>
-    ensures { ForEachHistory score.now (λ n h. Are overs.now h →
+fn put_players(out: &mut Compact, score: &Match, overs: &Overs<'_>) -> Result<(), AllocError>
+    ensures { ForEachHistory score.now (λ n h. AreOversOf overs.now h →
         PutsFields result out.old out.new (laws.players_fields h)) }
 {
     let ends = score.ends();
@@ -48,8 +48,8 @@ fn put_players(out: &mut Compact, score: &Match, overs: &Overs) -> Result<(), Al
 }
 
 /// Puts the deliveries of an over.
-fn put_over(out: &mut Compact, alloc: Global, name: &str, over: &[Ball]) -> Result<(), AllocError>
-    ensures { PutsFields result out.old out.new ((name.now, laws.over_value over.now) ∷ []) }
+fn put_over(out: &mut Compact, alloc: Global, name: &str, over: &[Placed]) -> Result<(), AllocError>
+    ensures { PutsFields result out.old out.new ((name.now, laws.over_value (reverse (balls_of over.now))) ∷ []) }
 {
     begin_array(out, name)?;
     put_marks(out, alloc, over)?;
@@ -57,12 +57,12 @@ fn put_over(out: &mut Compact, alloc: Global, name: &str, over: &[Ball]) -> Resu
 }
 
 /// Puts this over and the last one.
-fn put_overs(out: &mut Compact, alloc: Global, overs: &Overs) -> Result<(), AllocError>
+fn put_overs(out: &mut Compact, alloc: Global, overs: &Overs<'_>) -> Result<(), AllocError>
     ensures { PutsFields result out.old out.new
-        (laws.overs_fields overs.now.this.items overs.now.last.items) }
+        (laws.overs_fields (reverse (balls_of (overs.now.this).now)) (reverse (balls_of (overs.now.last).now))) }
 {
-    put_over(out, alloc, "this_over", overs.this.as_slice())?;
-    put_over(out, alloc, "last_over", overs.last.as_slice())
+    put_over(out, alloc, "this_over", overs.this)?;
+    put_over(out, alloc, "last_over", overs.last)
 }
 
 /// What the side that bats last needs yet to win.
@@ -114,9 +114,9 @@ pub fn put_now(
     alloc: Global,
     sheet: &MatchSheet,
     score: &Match,
-    overs: &Overs,
+    overs: &Overs<'_>,
 ) -> Result<(), AllocError>
-    ensures { ForEachHistory score.now (λ n h. Are overs.now h →
+    ensures { ForEachHistory score.now (λ n h. AreOversOf overs.now h →
         PutsFields result out.old out.new ((codes "now", laws.now_value sheet.now n h) ∷ [])) }
 {
     begin_field(out, "now")?;

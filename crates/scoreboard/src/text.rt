@@ -3,10 +3,9 @@
 ghost use Rattle.std.specs.Prelude.{◌≡◌, IfOk};
 ghost use Rattle.scoreboard.specs.Value.{board_text};
 
-use crate::overs::overs_of;
 use crate::value::put_board;
 use cards::MatchSheet;
-use corrections::BookOf;
+use corrections::{BookOf, overs_of};
 use json_fields::Compact;
 use std::alloc::{AllocError, Global};
 
@@ -20,7 +19,7 @@ pub fn board_text<B: BookOf>(
     ensures { IfOk result (λ text.
         text.items ≡ board_text sheet.now (B.innings_a_side book.now) (B.content book.now)) }
 {
-    let overs = overs_of(alloc, book)?;
+    let overs = overs_of(book);
     let mut out = Compact::new(alloc);
     put_board(&mut out, alloc, sheet, book.len(), book.score(), &overs)?;
     let mut text = out.into_inner();

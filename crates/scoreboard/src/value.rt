@@ -2,14 +2,14 @@
 
 ghost use Rattle.std.specs.Prelude.{◌∷◌, []};
 ghost use Rattle.match_laws.specs.Stands.{ForEachHistory};
+ghost use Rattle.corrections.specs.Overs.{AreOversOf};
 ghost use Rattle.json_fields.specs.Values.{PutsFields, PutsValues};
 ghost use Rattle.scoreboard.specs.Value as laws;
-ghost use Rattle.scoreboard.specs.inner.Overs.{Are};
 
 use crate::innings::put_all_innings;
 use crate::now::put_now;
-use crate::overs::Overs;
 use cards::MatchSheet;
+use corrections::Overs;
 use itoa::Buffer;
 use json_fields::{Compact, begin_object, end_object, put_figure, put_text};
 use match_laws::Match;
@@ -33,9 +33,9 @@ pub fn put_board(
     sheet: &MatchSheet,
     entries: u32,
     score: &Match,
-    overs: &Overs,
+    overs: &Overs<'_>,
 ) -> Result<(), AllocError>
-    ensures { ForEachHistory score.now (λ n h. Are overs.now h →
+    ensures { ForEachHistory score.now (λ n h. AreOversOf overs.now h →
         PutsValues result out.old out.new (laws.value_of sheet.now n entries h ∷ [])) }
 {
     begin_object(out)?;

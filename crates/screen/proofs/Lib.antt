@@ -1,4 +1,3 @@
-pub mod OverLemmas
 pub mod MarkLemmas
 pub mod Plain
 pub mod Columns

@@ -1,7 +1,6 @@
--- What is claimed: Row, with Play and Overs; OverCheck, Both, Listing, Sides, Sentences, Words, Help. inner: for private
+-- What is claimed: Row, with Play; OverCheck, Both, Listing, Sides, Sentences, Words, Help. inner: for private
 -- functions only.
 pub mod Play
-pub mod Overs
 pub mod Row
 pub mod OverCheck
 pub mod Both

@@ -8,9 +8,9 @@ use Rattle.match_laws.specs.History.{begun}
 use Rattle.match_laws.specs.Figures.{runs_of}
 use Rattle.match_laws.specs.Parts.{extras_of}
 use Rattle.match_laws.specs.Result.{current}
+use Rattle.corrections.specs.Overs.{bowler_now, over_now}
 use Rattle.cards.specs.Sheet.{Sheet}
 use Rattle.cards.specs.Batting.{all_extras, extras_back}
-use Rattle.screen.specs.Play.{bowler_now, over_now}
 use Rattle.screen.specs.Row.{total_text, batters, bowler, marks}
 
 -- all extras, byes and leg byes

@@ -1,17 +1,18 @@
 -- How a match stands, in one row. s is the sheet, n the innings a side, h the history and i the innings.
 use Rattle.std.specs.Prelude.{ℕ, ◌==◌, if◌then◌else◌, Bool, List, [], ◌∷◌, ◌++◌, Option, Some, None, codes, decimal}
 use Rattle.notation.specs.declared.entry.{Ball.Ball, Side.Side}
-use Rattle.ball_laws.specs.History.{History}
+use Rattle.ball_laws.specs.History.{History, open_over}
 use Rattle.ball_laws.specs.Laws.{state_after}
 use Rattle.match_laws.specs.declared.rows.BowlingRow.{BowlingRow}
 use Rattle.match_laws.specs.History.{begun, side_of}
 use Rattle.match_laws.specs.Figures.{total, wickets, overs, balls, batter_runs, faced}
 use Rattle.match_laws.specs.Parts.{bowling_row_of}
 use Rattle.match_laws.specs.Result.{current, outcome}
+use Rattle.corrections.specs.Overs.{bowler_now}
 use Rattle.cards.specs.Sheet.{Sheet, name_of, player_of}
 use Rattle.cards.specs.Bowling.{fielding, overs_of}
 use Rattle.cards.specs.Marks.{mark_of}
-use Rattle.screen.specs.Play.{bowler_now, needs}
+use Rattle.screen.specs.Play.{needs}
 use Rattle.cards.specs.Results.{counted, result_text}
 
 -- the side, its total and its wickets
@@ -85,7 +86,7 @@ front s h i = total_text s h i ++ overs_text h i ++ codes "  " ++ batters s h i
 
 abbrev pub back : Sheet → ℕ → History → ℕ → List ℕ
 back s n h i =
-    bowler s h i (codes "  ") (bowler_now h) ++ open_marks (state_after h).this_over
+    bowler s h i (codes "  ") (bowler_now h) ++ open_marks (open_over h)
     ++ aim (result_text s (outcome n h)) (needs n h) ++ codes "\n"
 
 abbrev pub innings_row : Sheet → ℕ → History → ℕ → List ℕ

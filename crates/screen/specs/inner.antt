@@ -1,3 +1,2 @@
 -- What serves private functions only.
 pub mod Items
-pub mod Over

@@ -5,7 +5,6 @@
 mod both;
 mod listing;
 mod marks;
-mod over;
 mod over_check;
 mod play;
 mod row;

@@ -1,16 +1,15 @@
 //! The marks of an over, and its runs.
 
-ghost use Rattle.std.specs.Prelude.{◌≡◌, ◌≤◌, ◌++◌, [], OnErr, OnOk, codes, drop, length, true};
+ghost use Rattle.std.specs.Prelude.{◌≡◌, ◌≤◌, ◌++◌, OnErr, OnOk, codes, length, true};
 ghost use Rattle.notation.specs.declared.entry.TheConstants.{PLACES};
 ghost use Rattle.ball_laws.specs.Sums.{tally};
 ghost use Rattle.match_laws.specs.Figures.{runs_of};
+ghost use Rattle.corrections.specs.Overs.{balls_of};
 ghost use Rattle.cards.specs.Marks.{mark_text};
-ghost use Rattle.screen.specs.Overs.{with_balls};
 ghost use Rattle.streams.specs.Watched.{Prints, has_failed};
 ghost use Rattle.screen.specs.Row as rows;
 ghost use Rattle.screen.specs.inner.Items as items;
 
-use crate::over::place_of;
 use cards::{Mark, all_runs, mark_of};
 use corrections::Placed;
 use notation::{Ball, Plain};
@@ -55,18 +54,12 @@ fn print_item<W: Write>(out: &mut Watched<W>, item: &Plain) -> Result<(), WriteF
     }
 }
 
-/// Prints the deliveries among some items from one on.
-pub fn print_marks<W: Write>(
-    out: &mut Watched<W>,
-    items: &[Placed],
-    from: usize,
-) -> Result<(), WriteFailed>
-    ensures text { OnOk result (Prints W.contents out.old out.new
-        (rows.marks (with_balls [] (drop from items.now)))) }
+/// Prints the deliveries of an over.
+pub fn print_marks<W: Write>(out: &mut Watched<W>, over: &[Placed]) -> Result<(), WriteFailed>
+    ensures text { OnOk result (Prints W.contents out.old out.new (rows.marks (balls_of over.now))) }
     ensures failed { OnErr result (has_failed out.new ≡ true) }
 {
-    for index in from..items.len() {
-        let placed = place_of(items, index);
+    for placed in over {
         print_item(out, &placed.item)?;
     }
     Ok(())
@@ -83,14 +76,13 @@ fn item_runs(item: &Plain) -> u32
     }
 }
 
-/// The runs of the deliveries among some items from one on.
-pub fn runs_from(items: &[Placed], from: usize) -> u32
-    requires { length items.now ≤ PLACES }
-    ensures { result ≡ tally runs_of (with_balls [] (drop from items.now)) }
+/// The runs of the deliveries of an over.
+pub fn runs_of(over: &[Placed]) -> u32
+    requires { length over.now ≤ PLACES }
+    ensures { result ≡ tally runs_of (balls_of over.now) }
 {
     let mut runs = 0;
-    for index in from..items.len() {
-        let placed = place_of(items, index);
+    for placed in over {
         runs += item_runs(&placed.item);
     }
     runs

@@ -2,21 +2,18 @@
 
 ghost use Rattle.std.specs.Prelude.{◌≡◌, ◌≤◌, ◌<◌, OnErr, OnOk, length, true};
 ghost use Rattle.notation.specs.declared.entry.TheConstants.{PLACES};
-ghost use Rattle.ball_laws.specs.History.{History};
 ghost use Rattle.match_laws.specs.History.{begun};
 ghost use Rattle.match_laws.specs.Stands.{ForEachHistory, begun_in};
 ghost use Rattle.corrections.specs.CleanList.{history_of};
+ghost use Rattle.corrections.specs.Overs.{balls_of, over_now};
 ghost use Rattle.cards.specs.Batting as card;
-ghost use Rattle.screen.specs.Overs.{IsOverOf};
-ghost use Rattle.screen.specs.Play.{over_now};
 ghost use Rattle.streams.specs.Watched.{Prints, has_failed};
 ghost use Rattle.screen.specs.OverCheck as check;
 
-use crate::marks::{print_marks, runs_from};
-use crate::over::{LastOver, last_over};
+use crate::marks::{print_marks, runs_of};
 use crate::row::{print_batters, print_bowler, print_total};
 use cards::MatchSheet;
-use corrections::{BookOf, Placed};
+use corrections::{BookOf, Placed, overs_of};
 use match_laws::{Extras, Match};
 use std::io::Write;
 use streams::{Watched, WriteFailed};
@@ -88,19 +85,14 @@ fn print_batters_line<W: Write>(
 }
 
 /// Prints the marks of an over, and all its runs.
-fn print_over<W: Write>(
-    out: &mut Watched<W>,
-    items: &[Placed],
-    over: &LastOver,
-) -> Result<(), WriteFailed>
-    requires { length items.now ≤ PLACES }
-    ensures text { (h : History) → IsOverOf items.now over.now h →
-        OnOk result (Prints W.contents out.old out.new (check.over_text (over_now h))) }
+fn print_over<W: Write>(out: &mut Watched<W>, over: &[Placed]) -> Result<(), WriteFailed>
+    requires { length over.now ≤ PLACES }
+    ensures text { OnOk result (Prints W.contents out.old out.new (check.over_text (balls_of over.now))) }
     ensures failed { OnErr result (has_failed out.new ≡ true) }
 {
     write!(out, " ")?;
-    print_marks(out, items, over.from)?;
-    let runs = runs_from(items, over.from);
+    print_marks(out, over)?;
+    let runs = runs_of(over);
     writeln!(out, " = {runs}")
 }
 
@@ -116,12 +108,13 @@ fn print_over_line<W: Write, B: BookOf>(
         (check.over_line sheet.now (history_of (B.content book.now)) innings (over_now (history_of (B.content book.now))))) }
     ensures failed { OnErr result (has_failed out.new ≡ true) }
 {
-    let over = last_over(book);
-    if over.bowler.is_none() {
+    let overs = overs_of(book);
+    let bowler = overs.bowler();
+    if bowler.is_none() {
         return Ok(());
     }
-    print_bowler(out, sheet, book.score(), innings, "  ", over.bowler)?;
-    print_over(out, book.clean_items(), &over)
+    print_bowler(out, sheet, book.score(), innings, "  ", bowler)?;
+    print_over(out, overs.newest())
 }
 
 /// Prints the check of an over of an innings.

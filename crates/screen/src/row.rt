@@ -1,13 +1,11 @@
 //! How a match stands, in one row.
 
 ghost use Rattle.std.specs.Prelude.{◌≡◌, ◌==◌, ◌<◌, ◌++◌, None, OnErr, OnOk, codes, decimal, if◌then◌else◌, true};
-ghost use Rattle.ball_laws.specs.History.{History};
-ghost use Rattle.ball_laws.specs.Laws.{state_after};
 ghost use Rattle.match_laws.specs.History.{begun};
 ghost use Rattle.match_laws.specs.Result.{outcome};
 ghost use Rattle.match_laws.specs.Stands.{ForEachHistory, begun_in};
 ghost use Rattle.corrections.specs.CleanList.{history_of};
-ghost use Rattle.screen.specs.Overs.{IsOverOf};
+ghost use Rattle.corrections.specs.Overs.{balls_of};
 ghost use Rattle.screen.specs.Play as play;
 ghost use Rattle.cards.specs.Bowling.{overs_of};
 ghost use Rattle.cards.specs.Results.{result_text};
@@ -15,10 +13,9 @@ ghost use Rattle.streams.specs.Watched.{Prints, has_failed};
 ghost use Rattle.screen.specs.Row as rows;
 
 use crate::marks::print_marks;
-use crate::over::{LastOver, last_over};
 use crate::play::needs;
 use cards::MatchSheet;
-use corrections::{BookOf, Placed};
+use corrections::{BookOf, Placed, bowler_of, overs_of};
 use match_laws::{BowlingRow, Match, Outcome, opponent};
 use notation::{Player, Side};
 use std::io::Write;
@@ -169,20 +166,15 @@ pub fn print_bowler<W: Write>(
 }
 
 /// Prints the marks of the open over.
-fn print_open_marks<W: Write>(
-    out: &mut Watched<W>,
-    items: &[Placed],
-    over: &LastOver,
-) -> Result<(), WriteFailed>
-    ensures text { (h : History) → IsOverOf items.now over.now h →
-        OnOk result (Prints W.contents out.old out.new (rows.open_marks (state_after h).this_over)) }
+fn print_open_marks<W: Write>(out: &mut Watched<W>, over: &[Placed]) -> Result<(), WriteFailed>
+    ensures text { OnOk result (Prints W.contents out.old out.new (rows.open_marks (balls_of over.now))) }
     ensures failed { OnErr result (has_failed out.new ≡ true) }
 {
-    if !over.is_on {
+    if bowler_of(over).is_none() {
         return Ok(());
     }
     write!(out, " ")?;
-    print_marks(out, items, over.from)
+    print_marks(out, over)
 }
 
 /// Prints what is needed.
@@ -301,9 +293,9 @@ fn print_back<W: Write, B: BookOf>(
     ensures failed { OnErr result (has_failed out.new ≡ true) }
 {
     let score = book.score();
-    let over = last_over(book);
-    print_bowler(out, sheet, score, innings, "  ", over.bowler)?;
-    print_open_marks(out, book.clean_items(), &over)?;
+    let overs = overs_of(book);
+    print_bowler(out, sheet, score, innings, "  ", overs.bowler())?;
+    print_open_marks(out, overs.this)?;
     print_aim(out, sheet, score)?;
     writeln!(out)
 }

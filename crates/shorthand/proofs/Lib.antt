@@ -1,4 +1,3 @@
-pub mod Walks
 pub mod Cuts
 pub mod Counts
 pub mod Standing

@@ -1,22 +1,18 @@
 -- Who bowls and who bats where a line belongs.
-use Rattle.std.specs.Prelude.{ℕ, ◌==◌, nat_lt, Bool, false, if◌then◌else◌, Option, Some, None, List, [], ◌∷◌, unwrap_or}
-use Rattle.notation.specs.declared.entry.{Ball.Ball, Entry.Entry}
+use Rattle.std.specs.Prelude.{ℕ, ◌==◌, nat_lt, Bool, false, if◌then◌else◌, List, [], ◌∷◌, unwrap_or}
+use Rattle.notation.specs.declared.entry.Entry.{Entry}
 use Rattle.notation.specs.declared.entry.Side.TheVariants.{Home}
 use Rattle.ball_laws.specs.History.{History, open_over}
 use Rattle.match_laws.specs.History.{last_side}
 use Rattle.corrections.specs.declared.placed.Placed.{Placed}
 use Rattle.corrections.specs.CleanList.{clean_items_of}
+use Rattle.corrections.specs.Overs.{newest_bowler}
 use Rattle.shorthand.specs.declared.point.{Belongs.Belongs, Point.Point}
 use Rattle.shorthand.specs.declared.point.Belongs.TheVariants.{At, After}
 
--- the bowler of the first of these deliveries, if there is one
-abbrev pub bowler_of : List Ball → Option ℕ
-bowler_of [] = None
-bowler_of (b ∷ bs) = Some b.bowler
-
 -- the bowler of the last delivery of the open over, and the side that began to bat last (home, before any)
 abbrev pub point_of : History → Point
-point_of h = record { bowler = bowler_of (open_over h); batting = unwrap_or (last_side h) Home }
+point_of h = record { bowler = newest_bowler (open_over h); batting = unwrap_or (last_side h) Home }
 
 -- the item is the one that a line corrects
 abbrev pub is_corrected : Belongs → Placed → Bool

@@ -1,10 +1,12 @@
 //! Who bowls and who bats where a line belongs.
 
-ghost use Rattle.std.specs.Prelude.{◌≡◌, ◌∷◌};
-ghost use Rattle.ball_laws.specs.History.{History};
-ghost use Rattle.shorthand.specs.Points.{is_beyond, is_corrected, point_at, point_of};
+ghost use Rattle.std.specs.Prelude.{◌≡◌, [], unwrap_or};
+ghost use Rattle.notation.specs.declared.entry.Side.TheVariants.{Home};
+ghost use Rattle.match_laws.specs.History.{last_side};
+ghost use Rattle.corrections.specs.CleanList.{history};
+ghost use Rattle.shorthand.specs.Points.{history_to, is_beyond, is_corrected, point_at};
 
-use corrections::{BookOf, Placed};
+use corrections::{BookOf, Placed, bowler_of, overs_among};
 use notation::{Plain, Player, Side};
 
 /// Where a line belongs among what stands in a book.
@@ -49,43 +51,44 @@ pub struct Point {
     pub batting: Side,
 }
 
-/// The point with an item more.
-fn with(point: Point, item: &Plain) -> Point
-    ensures { (h : History) → point ≡ point_of h → result ≡ point_of (item.now ∷ h) }
+/// What stands up to where a line belongs.
+fn items_to(items: &[Placed], belongs: Belongs) -> &[Placed]
+    ensures { history result.now ≡ history_to belongs [] items.now }
 {
-    match *item {
-        Plain::Ball(ball) => Point {
-            bowler: Some(ball.bowler),
-            batting: point.batting,
-        },
-        Plain::Innings(side) => Point {
-            bowler: None,
-            batting: side,
-        },
-        Plain::Over | Plain::End(_) => Point {
-            bowler: None,
-            batting: point.batting,
-        },
-        _ => point,
+    if matches!(belongs, Belongs::Last) {
+        return items;
     }
+    for index in 0..items.len() {
+        let item = &items[index];
+        if belongs.is_beyond(item) {
+            return &items[..index];
+        }
+        if belongs.is_corrected(item) {
+            return &items[..index + 1];
+        }
+    }
+    items
+}
+
+/// The side whose innings began last among some items; home, before any.
+fn batting_of(items: &[Placed]) -> Side
+    ensures { result ≡ unwrap_or (last_side (history items.now)) Home }
+{
+    for behind in 0..items.len() {
+        if let Plain::Innings(side) = items[items.len() - 1 - behind].item {
+            return side;
+        }
+    }
+    Side::Home
 }
 
 /// Who bowls and who bats where a line belongs.
 pub fn point_at<B: BookOf>(book: &B, belongs: Belongs) -> Point
     ensures { result ≡ point_at (B.content book.now) belongs }
 {
-    let mut point = Point {
-        bowler: None,
-        batting: Side::Home,
-    };
-    for item in book.clean_items() {
-        if belongs.is_beyond(item) {
-            return point;
-        }
-        point = with(point, &item.item);
-        if belongs.is_corrected(item) {
-            return point;
-        }
+    let before = items_to(book.clean_items(), belongs);
+    Point {
+        bowler: bowler_of(overs_among(before).this),
+        batting: batting_of(before),
     }
-    point
 }

@@ -1,4 +1,5 @@
-use Rattle.std.proofs.Common.{◌∙◌, ap, Some}
+use Rattle.std.proofs.Common.{◌∙◌, ap, rules, Some}
+use Rattle.std.proofs.lemmas.Option.{slice_get-get_or}
 use Rattle.cards.proofs.Slots.{begins, goes_on, skips, ends}
 use Rattle.scoreboard.specs.Innings.{batter_of}
 use Rattle.scoreboard.proofs.Rows.{putting, parts_from-map}
@@ -11,10 +12,11 @@ loop-place-init c = λ n h s. begins putting
 pub loop-place-preserved : goal.loop-place-preserved
 loop-place-preserved c =
     let m = c.loop-place.invariant in
-    elim c.match-place_of.branch [
+    let here = slice_get-get_or c.batting_order-order.result c.loop-place.place-index c.place-item.result (search rules) in
+    elim c.match-place.branch [
       | in-Some+in_ok-put_batter_of w ↦ rw w.out-is (
-          λ n h s. goes_on putting (m n h s) (c.place_of.ensures ∙ ap Some w.in-Some.is) (w.in_ok-put_batter_of.ensures n h s))
-      | in_default w ↦ rw w.out-is (λ n h s. skips putting (m n h s) (c.place_of.ensures ∙ ap Some w.in_default.is))
+          λ n h s. goes_on putting (m n h s) (here ∙ ap Some w.in-Some.is) (w.in_ok-put_batter_of.ensures n h s))
+      | in_default w ↦ rw w.out-is (λ n h s. skips putting (m n h s) (here ∙ ap Some w.in_default.is))
     ]
 
 pub returns : goal.returns

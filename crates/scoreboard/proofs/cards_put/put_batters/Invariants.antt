@@ -7,4 +7,4 @@ use Rattle.scoreboard.proofs.cards_put.put_batters.Given as goal
 
 abbrev pub invariant-loop-place : goal.invariant-loop-place
 invariant-loop-place l = ForEachHistory l.score (λ n h.
-    SoFar PutsValues (λ k p. batter_of l.sheet h l.innings p ∷ []) l.order l.place 0 l.initial.out l.out)
+    SoFar PutsValues (λ k p. batter_of l.sheet h l.innings p ∷ []) l.place-items l.place-index 0 l.initial.out l.out)

@@ -4,5 +4,5 @@ use Rattle.scoreboard.specs.Innings.{fall_value}
 use Rattle.scoreboard.proofs.Rows.{PutsValues}
 use Rattle.scoreboard.proofs.cards_put.put_falls.Given as goal
 
-abbrev pub invariant-loop-place : goal.invariant-loop-place
-invariant-loop-place l = SoFar PutsValues (λ k x. fall_value l.sheet l.side k x ∷ []) l.falls l.place 1 l.initial.out l.out
+abbrev pub invariant-loop-index : goal.invariant-loop-index
+invariant-loop-index l = SoFar PutsValues (λ k x. fall_value l.sheet l.side k x ∷ []) l.place-items l.index 1 l.initial.out l.out

@@ -1,12 +1,15 @@
-use Rattle.screen.proofs.MarkLemmas.{marked_none, marked_one, marked_all}
+use Rattle.corrections.proofs.OverLemmas.{balls_all}
+use Rattle.screen.proofs.MarkLemmas.{marked_one}
+use Rattle.streams.proofs.Appending.{appends_none}
 use Rattle.screen.proofs.marks.print_marks.Goals as goal
 
-pub loop-index-init : goal.loop-index-init
-loop-index-init g c = marked_none _ _ _
+pub loop-placed-init : goal.loop-placed-init
+loop-placed-init g c = appends_none _
 
-pub loop-index-preserved : goal.loop-index-preserved
-loop-index-preserved g c =
-    marked_one _ _ c.loop-index.index c.place_of-placed.result _ _ _ c.loop-index.invariant c.place_of-placed.ensures c.in_ok-print_item.ensures.text
+pub loop-placed-preserved : goal.loop-placed-preserved
+loop-placed-preserved g c =
+    marked_one c.args.over.now c.loop-placed.placed-index c.placed-item.result c.loop-placed-test.true c.placed-item.is _ _ _
+    c.loop-placed.invariant c.in_ok-print_item.ensures.text
 
 pub returns-clause-text : goal.returns-clause-text
-returns-clause-text g c = marked_all _ _ c.loop-index.index _ _ c.loop-index.invariant c.loop-index-test.false
+returns-clause-text g c = rw (← balls_all c.args.over.now c.loop-placed.placed-index c.loop-placed-test.false) c.loop-placed.invariant

@@ -1,7 +1,10 @@
+use Rattle.std.proofs.Common.{take}
+use Rattle.std.specs.Io.KnownBytes.{Appends}
+use Rattle.corrections.specs.Overs.{balls_of}
+use Rattle.screen.specs.Row.{marks}
 use Rattle.streams.specs.Watched.{stream_of}
-use Rattle.screen.proofs.MarkLemmas.{Marked}
 use Rattle.screen.proofs.marks.print_marks.Given as goal
 
-abbrev pub invariant-loop-index : goal.invariant-loop-index
-invariant-loop-index g l =
-    Marked l.items l.from l.index (g.W.Write.contents (stream_of l.initial.out)) (g.W.Write.contents (stream_of l.out))
+abbrev pub invariant-loop-placed : goal.invariant-loop-placed
+invariant-loop-placed g l =
+    Appends (g.W.Write.contents (stream_of l.initial.out)) (g.W.Write.contents (stream_of l.out)) (marks (balls_of (take l.placed-index l.over)))

@@ -1,0 +1,73 @@
+-- Where overs begin among what stands.
+use Rattle.std.proofs.Common.{arith, ◌≡◌, ℕ, ◌+◌, ◌<◌, ◌≤◌, true, List, [], ◌∷◌, ◌++◌, length, take, drop, get_or}
+use Rattle.std.proofs.Common.{refl, sym, ap, ◌∙◌, append-nil, inl, inr}
+use Rattle.std.proofs.lemmas.Bool.{cases_Bool}
+use Rattle.std.proofs.lemmas.List.{take_all, take_more}
+use Rattle.notation.specs.declared.entry.{Ball.Ball, Plain.Plain, Entry.Entry}
+use Rattle.ball_laws.specs.History.{History, open_over, called_overs, first_over}
+use Rattle.match_laws.specs.History.{is_void, last_side}
+use Rattle.corrections.specs.declared.{overs.Overs.Overs, placed.Placed.Placed}
+use Rattle.corrections.specs.CleanList.{clean, clean_items_of, history, history_of, kept}
+use Rattle.corrections.specs.Overs.{AreOversOf, balls_of, bowled, with_balls}
+use Rattle.corrections.specs.inner.Overs.{AddFrom, is_parted}
+use Rattle.corrections.specs.inner.Scoring.{history_after}
+use Rattle.corrections.proofs.LegalLemmas.{history_after-history}
+use Rattle.corrections.proofs.ScoringLemmas.{kept_first, kept_not}
+
+-- ---- the deliveries among the first items
+
+balls_push : (over : List Ball) (xs : List Placed) (x : Placed) → with_balls over (xs ++ x ∷ []) ≡ bowled x.item (with_balls over xs)
+balls_push over [] x = refl
+balls_push over (y ∷ ys) x = balls_push (bowled y.item over) ys x
+
+pub balls_more : (items : List Placed) (k : ℕ) (x : Placed) → k < length items → x ≡ get_or items k x
+    → balls_of (take (k + 1) items) ≡ bowled x.item (balls_of (take k items))
+balls_more items k x within here =
+    ap balls_of (take_more items k x within ∙ ap (λ y. take k items ++ y ∷ []) (sym here)) ∙ balls_push [] (take k items) x
+
+pub balls_all : (items : List Placed) (k : ℕ) → length items ≤ k → balls_of (take k items) ≡ balls_of items
+balls_all items k end = ap balls_of (take_all k items end)
+
+-- ---- the over that is on
+
+none_open : (h : History) → is_parted h ≡ true → open_over h ≡ []
+none_open h e = grind arith
+
+pub this_from : (items : List Placed) (k : ℕ) → AddFrom items k → is_parted (history (take k items)) ≡ true → balls_of (drop k items) ≡ open_over (history items)
+this_from items k m e = ap (λ over. with_balls over (drop k items)) (sym (none_open (history (take k items)) e)) ∙ m.this
+
+-- ---- `void`s are of no over, and begin no innings
+
+-- two histories with the same overs, and one side batting
+pub record AreAlike (g h : History) : Type 0 where
+  pub over : open_over g ≡ open_over h
+  pub called : called_overs g ≡ called_overs h
+  pub side : last_side g ≡ last_side h
+
+alike_more : (g h : History) (x : Plain) → AreAlike g h → AreAlike (x ∷ g) (x ∷ h)
+alike_more g h x e = grind arith
+
+alike_void : (g h : History) (x : Plain) → is_void x ≡ true → AreAlike g h → AreAlike (x ∷ g) h
+alike_void g h x v e = grind arith
+
+walked : (g h : History) (xs : List Placed) → AreAlike g h → AreAlike (history_after g xs) (history_after h (kept xs))
+walked g h [] e = e
+walked g h (x ∷ xs) e = elim (cases_Bool (is_void x.item)) [
+  | inl v ↦ rw (kept_not x xs v) (walked (x.item ∷ g) h xs (alike_void g h x.item v e))
+  | inr v ↦ rw (kept_first x xs v) (walked (x.item ∷ g) (x.item ∷ h) xs (alike_more g h x.item e))
+]
+
+is_after : (xs : List Placed) → history_after [] xs ≡ history xs
+is_after xs = history_after-history [] xs ∙ append-nil (history xs)
+
+pub alike-kept : (xs : List Placed) → AreAlike (history xs) (history (kept xs))
+alike-kept xs = rw (is_after xs, is_after (kept xs)) at (walked [] [] xs (record { over = refl; called = refl; side = refl }))
+
+pub overs-kept : (overs : Overs) (xs : List Placed) → AreOversOf overs (history xs) → AreOversOf overs (history (kept xs))
+overs-kept overs xs are =
+    let e = alike-kept xs in
+    record { this = are.this ∙ e.over; last = are.last ∙ ap first_over e.called }
+
+pub overs-book : (overs : Overs) (book : List Entry) (items : List Placed) → items ≡ clean_items_of book → AreOversOf overs (history (kept items)) → AreOversOf overs (history_of book)
+unfolding history_of clean
+overs-book overs book items e are = rw e at are
