@@ -100,8 +100,11 @@ pub fn peers_at<'a, E: Write + Drop>(
 ) -> Result<Peers<E>, Stopped<'a>>
     ensures { IfOk result (λ peers. carried_of peers.log ≡ []) }
 {
-    Peers::new(net, at.socket, peers, keyboard, seal, errors).map_err(|_| Stopped {
-        path: at.text,
-        fault: StopFault::Listen,
-    })
+    match Peers::new(net, at.socket, peers, keyboard, seal, errors) {
+        Ok(peers) => Ok(peers),
+        Err(_) => Err(Stopped {
+            path: at.text,
+            fault: StopFault::Listen,
+        }),
+    }
 }
