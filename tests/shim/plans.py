@@ -1,5 +1,5 @@
 """Which calls fail and how, and how the program must end then: its status and what standard error is told."""
-import errno, itertools
+import errno, itertools, re
 from lives import SHEET
 
 EINTR, EIO, FULL = errno.EINTR, errno.EIO, errno.ENOSPC
@@ -33,7 +33,30 @@ AT_ANY_TIME = {("sendto", "socket"): 4, ("recvfrom", "socket"): 4, ("getsockname
                ("poll", "socket"): 4, ("poll", "stdin"): 4}
 STREAMS = ("stdin", "stdout", "stderr", "null")
 HARMLESS = (EINTR, "short")
-CANNOT_WRITE, LATE = (3, "cannot write\n"), (3, "cannot write\nstart the same command again\n")
+CANNOT_WRITE = (3, "cannot write\n")
+
+
+class Told:
+    """What standard error is told: any text of this pattern."""
+
+    def __init__(self, pattern):
+        self.pattern = pattern
+
+    def __eq__(self, text):
+        return isinstance(text, str) and re.fullmatch(self.pattern, text) is not None
+
+    def __repr__(self):
+        return self.pattern
+
+
+def fault_at(pattern):
+    """That a file can't be written, and why."""
+    return f"cannot write: {pattern}(?:[.]unfinished|[.]new)?: .+\n"
+
+
+def late(file):
+    """How a desk ends that was greeted."""
+    return 3, Told(fault_at(re.escape(file)) + "start the same command again\n|cannot write\nits file was moved, deleted or replaced: put it back\n")
 
 
 class Plan:
@@ -114,24 +137,27 @@ def ends_of_desk(plan, file, at, is_greeted):
         return [(3, f"cannot listen at {at}\n")]
     if plan.label == "stdout":
         return [CANNOT_WRITE]
-    return [LATE] if is_greeted else [CANNOT_WRITE, cannot_read(file)]
+    return [late(file)] if is_greeted else [(3, Told(fault_at(re.escape(file)))), cannot_read(file)]
 
 
 def ends_of_board(plan, at):
-    """The same of a board, which has no status where it goes on."""
+    """The same of a board, which has no status where it goes on: at its start a file that can't be written ends it, and later
+    that is told once."""
+    told = Told(fault_at(".*/board[.](?:txt|json)"))
+    of_files = [(None, told), (3, told)]
     if plan.is_traffic() or plan.label == "stderr":
         return [(None, None)]
     if plan.call == "read" and plan.how == EINTR:
-        return [(None, ""), cannot_read(SHEET), CANNOT_WRITE]
+        return [(None, ""), cannot_read(SHEET), *of_files]
     if goes_on(plan):
         return [(None, "")]
     if plan.label == "sheet.toml":
-        return [cannot_read(SHEET)] if plan.call in ("open", "read") else [(None, ""), CANNOT_WRITE]
+        return [cannot_read(SHEET)] if plan.call in ("open", "read") else [(None, "")]
     if plan.label == "socket":
         return [(3, f"cannot listen at {at}\n")]
-    if plan.label in ("board.txt", "board.json") and plan.call == "flock" and plan.how != errno.EWOULDBLOCK:
-        return [(None, ""), CANNOT_WRITE]
-    return [CANNOT_WRITE]
+    if plan.label == "stdout":
+        return [CANNOT_WRITE]
+    return [*of_files, (None, "")] if plan.call in ("flock", "statx") else of_files
 
 
 def ends_of_words(plan, good, reads):

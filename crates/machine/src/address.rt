@@ -29,11 +29,12 @@ fn address_in(text: &str) -> Option<Address<'_>> {
     }
 }
 
-/// The address of a peer of a station at this address, if the text is one, and of the same family: no socket reaches
-/// both.
+/// The address of a peer of a station at this address, if the text is one machine's, and of the same family: no socket
+/// reaches both. A group's, and the one that stands for no machine, are nobody's.
 fn peer_in(text: &str, at: SocketAddr) -> Option<SocketAddr> {
     let peer = address_in(text)?.socket;
-    (peer.is_ipv4() == at.is_ipv4()).then_some(peer)
+    let is_nobodys = peer.ip().is_multicast() || peer.ip().is_unspecified();
+    (peer.is_ipv4() == at.is_ipv4() && !is_nobodys).then_some(peer)
 }
 
 /// The address that one of these texts is, if there are so many.

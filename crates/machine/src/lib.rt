@@ -4,6 +4,7 @@
 
 mod address;
 mod file_disk;
+mod file_limit;
 mod history;
 mod host_file;
 mod keyboard;
@@ -15,14 +16,17 @@ mod renewal;
 mod sockets;
 mod text_file;
 mod waiting;
+mod write_fault;
 
 pub use address::{Address, MOST_PEERS, addresses_in};
 pub use file_disk::{FileDisk, OpenFault};
+pub use file_limit::may_have;
 pub use host_file::{Host, NoFile};
 pub use keyboard::Keyboard;
 pub use monotonic_clock::MonotonicClock;
-pub use named_file::NamedFile;
+pub use named_file::{LastFault, NamedFile};
 pub use peers::Peers;
 pub use renewal::{bytes_of, renewed};
 pub use sockets::Sockets;
-pub use text_file::{Replaces, TextFile};
+pub use text_file::{Replaces, TextFile, is_same_file};
+pub use write_fault::{Cause, Name, WriteFault, cause_of};

@@ -2,13 +2,19 @@
 
 ghost use Rattle.std.specs.Prelude.{None};
 
+use crate::file_limit::may_have;
 use crate::host_file::{Host, Successor};
-use std::fs::{self, File, OpenOptions, Permissions};
+use crate::write_fault::{Cause, Name, WriteFault, cause_of};
+use std::cell::Cell;
+use std::fs::{self, File, Metadata, OpenOptions, Permissions, TryLockError};
 use std::io::{self, ErrorKind};
 use std::os::unix::fs::{MetadataExt, OpenOptionsExt, PermissionsExt, fchown};
 
-/// A file for this process alone, and its name. It is written, cut and synced only while that names this very file:
-/// where it was moved, deleted or replaced, each of these fails.
+/// Where a file leaves why its last failed call failed, so that it is known once the file is gone.
+pub type LastFault = Cell<Option<WriteFault>>;
+
+/// A file for this process alone, and its name. It is written, cut and synced only while that names this very file, and
+/// it is as long as it was left: where it was moved, deleted, replaced, or changed in place, each of these fails.
 #[derive(Drop)]
 pub struct NamedFile<'a> {
     rt: &'a HostRuntime,
@@ -19,15 +25,23 @@ pub struct NamedFile<'a> {
     beside: Option<String>,
     /// The file whose name it takes, which stays locked.
     before: Option<File>,
+    /// How long it was left, where that is known.
+    len: Option<u64>,
+    last_fault: Option<&'a LastFault>,
 }
 
-/// Asks that this is the name of this open file: the same device, and there the same number.
-fn is_named(rt: &HostRuntime, name: &str, file: &File) -> io::Result<()> {
-    let (named, open) = (fs::metadata(rt, name)?, file.metadata()?);
-    if named.dev() == open.dev() && named.ino() == open.ino() {
-        Ok(())
+/// Asks that this is the name of this open file, the same device and there the same number, and tells what is known of it.
+fn named(rt: &HostRuntime, name: &str, file: &File) -> Result<Metadata, Cause> {
+    let found = match fs::metadata(rt, name) {
+        Ok(found) => found,
+        Err(why) if why.kind() == ErrorKind::NotFound => return Err(Cause::Lost),
+        Err(why) => return Err(cause_of(&why)),
+    };
+    let open = file.metadata().map_err(|why| cause_of(&why))?;
+    if found.dev() == open.dev() && found.ino() == open.ino() {
+        Ok(open)
     } else {
-        Err(io::Error::from(ErrorKind::NotFound))
+        Err(Cause::Lost)
     }
 }
 
@@ -40,23 +54,36 @@ fn sync_folder(rt: &HostRuntime, name: &str) -> io::Result<()> {
     }
 }
 
+/// Why no lock is had.
+fn cause_of_lock(why: TryLockError) -> Cause {
+    match why {
+        TryLockError::WouldBlock => Cause::InUse,
+        TryLockError::Error(why) => match why.kind() {
+            ErrorKind::Interrupted => Cause::System,
+            _ => Cause::NoLock,
+        },
+    }
+}
+
 /// Locks a file for this process, and then asks that this is its name. A file that another process has is left alone.
-fn locked(rt: &HostRuntime, name: &str, file: File) -> io::Result<File> {
-    file.try_lock()?;
-    is_named(rt, name, &file)?;
+fn locked(rt: &HostRuntime, name: &str, file: File) -> Result<File, Cause> {
+    file.try_lock().map_err(cause_of_lock)?;
+    let _known = named(rt, name, &file)?;
     Ok(file)
 }
 
 /// Removes what a start that was cut off left under this name. What another process has, or is no file, is left alone.
-fn clear(rt: &HostRuntime, name: &str) -> io::Result<()> {
+fn clear(rt: &HostRuntime, name: &str) -> Result<(), Cause> {
     match fs::symlink_metadata(rt, name) {
         Ok(found) if found.is_file() => {}
-        Ok(_) => return Err(io::Error::from(ErrorKind::AlreadyExists)),
+        Ok(found) if found.is_symlink() => return Err(Cause::Link),
+        Ok(_) => return Err(Cause::NotAFile),
         Err(why) if why.kind() == ErrorKind::NotFound => return Ok(()),
-        Err(why) => return Err(why),
+        Err(why) => return Err(cause_of(&why)),
     }
-    let _left = locked(rt, name, File::open(rt, name)?)?;
-    fs::remove_file(rt, name)
+    let left = File::open(rt, name).map_err(|why| cause_of(&why))?;
+    let _left = locked(rt, name, left)?;
+    fs::remove_file(rt, name).map_err(|why| cause_of(&why))
 }
 
 /// Passes over that the system doesn't allow it.
@@ -83,64 +110,135 @@ fn give_access(old: &File, new: &File) -> io::Result<()> {
     Ok(())
 }
 
+/// A new file under this name, for this process alone.
+fn made(rt: &HostRuntime, name: &str) -> Result<File, Cause> {
+    clear(rt, name)?;
+    let made = OpenOptions::new()
+        .read(true)
+        .write(true)
+        .create_new(true)
+        .mode(0o600)
+        .open(rt, name);
+    locked(rt, name, made.map_err(|why| cause_of(&why))?)
+}
+
 impl<'a> NamedFile<'a> {
-    /// Opens a file for this process alone, and makes it where there is none. One that another process has is left alone,
-    /// and so is one that lost its name before it was locked.
-    pub fn open(rt: &'a HostRuntime, name: &str) -> io::Result<NamedFile<'a>> {
+    /// Opens a file for this process alone, and makes it where there is none, for its owner alone. One that another process
+    /// has is left alone, and so is one that lost its name before it was locked.
+    pub fn open(rt: &'a HostRuntime, name: &str) -> Result<NamedFile<'a>, Cause> {
         let file = OpenOptions::new()
             .read(true)
             .write(true)
             .create(true)
-            .open(rt, name)?;
+            .mode(0o600)
+            .open(rt, name)
+            .map_err(|why| cause_of(&why))?;
         let file = locked(rt, name, file)?;
-        sync_folder(rt, name)?;
-        let name = String::from_str(rt.alloc(), name)?;
+        sync_folder(rt, name).map_err(|why| cause_of(&why))?;
+        let name = String::from_str(rt.alloc(), name).map_err(|_| Cause::NoMemory)?;
         Ok(NamedFile {
             rt,
             file,
             name,
             beside: None,
             before: None,
+            len: None,
+            last_fault: None,
         })
+    }
+
+    /// It leaves there from now on why a call failed.
+    pub fn telling(self, last_fault: &'a LastFault) -> NamedFile<'a> {
+        let mut file = self;
+        file.last_fault = Some(last_fault);
+        file
     }
 
     /// A new file without a byte beside this one, which is to take its name. Until then its own is that name without
     /// links, and `.unfinished` behind it; what a start that was cut off left there is removed. Both stay locked.
-    pub fn beside(self) -> io::Result<NamedFile<'a>> {
+    pub fn beside(self) -> Result<NamedFile<'a>, Cause> {
         let rt = self.rt;
-        let whole = fs::canonicalize(rt, self.name.as_str())?.into_string();
-        let beside = format!(in rt.alloc(); "{whole}.unfinished")?;
-        clear(rt, beside.as_str())?;
-        let made = OpenOptions::new()
-            .read(true)
-            .write(true)
-            .create_new(true)
-            .mode(0o600)
-            .open(rt, beside.as_str())?;
-        let file = locked(rt, beside.as_str(), made)?;
-        give_access(&self.file, &file)?;
+        let whole = match fs::canonicalize(rt, self.name.as_str()) {
+            Ok(whole) => whole.into_string(),
+            Err(why) => return Err(cause_of(&why)),
+        };
+        let beside = format!(in rt.alloc(); "{whole}.unfinished").map_err(|_| Cause::NoMemory)?;
+        let file = made(rt, beside.as_str())?;
+        give_access(&self.file, &file).map_err(|why| cause_of(&why))?;
         Ok(NamedFile {
             rt,
             file,
             name: self.name,
             beside: Some(beside),
             before: Some(self.file),
+            len: Some(0),
+            last_fault: self.last_fault,
         })
     }
 
-    /// Asks that its name still names it.
-    fn keeps_name(&self) -> io::Result<()> {
+    /// Asks that its name still names it, and that it is as long as it was left.
+    fn expect_kept(&self) -> Result<(), Cause> {
         let name = match &self.beside {
             Some(beside) => beside,
             None => &self.name,
         };
-        is_named(self.rt, name.as_str(), &self.file)
+        let found = named(self.rt, name.as_str(), &self.file)?;
+        match self.len {
+            Some(len) if found.len() != len => Err(Cause::Lost),
+            _ => Ok(()),
+        }
+    }
+
+    /// Leaves why a call failed.
+    fn note<T>(&self, answer: Result<T, Cause>) -> io::Result<T> {
+        match answer {
+            Ok(done) => Ok(done),
+            Err(why) => {
+                let name = match &self.beside {
+                    Some(_) => Name::Unfinished,
+                    None => Name::Own,
+                };
+                if let Some(last) = self.last_fault {
+                    last.set(Some(WriteFault { name, why }));
+                }
+                Err(io::Error::from(ErrorKind::Other))
+            }
+        }
+    }
+
+    /// The same of the system's answer.
+    fn noted<T>(&self, answer: io::Result<T>) -> io::Result<T> {
+        self.note(answer.map_err(|why| cause_of(&why)))
+    }
+
+    /// Asks that a write up to this length may be asked for.
+    fn expect_room(&self, end: u64) -> Result<(), Cause> {
+        self.expect_kept()?;
+        if may_have(end) {
+            Ok(())
+        } else {
+            Err(Cause::Limit)
+        }
+    }
+
+    /// Has this file take the name that it is to have.
+    fn rename(&mut self) -> Result<(), Cause> {
+        let (Some(beside), Some(before)) = (&self.beside, &self.before) else {
+            return Err(Cause::System);
+        };
+        let whole = fs::canonicalize(self.rt, self.name.as_str()).map_err(|_| Cause::Lost)?;
+        let _known = named(self.rt, whole.as_str(), before)?;
+        let _known = named(self.rt, beside.as_str(), &self.file)?;
+        fs::rename(self.rt, beside.as_str(), whole.as_str()).map_err(|why| cause_of(&why))?;
+        self.beside = None;
+        sync_folder(self.rt, whole.as_str()).map_err(|why| cause_of(&why))?;
+        self.expect_kept()
     }
 
     /// Lets it go. Where it didn't take its name, it is removed.
     pub fn give_up(self) {
         if let Some(beside) = &self.beside {
-            if self.keeps_name().is_ok() {
+            if named(self.rt, beside.as_str(), &self.file).is_ok() {
                 let _ = fs::remove_file(self.rt, beside.as_str());
             }
         }
@@ -150,8 +248,11 @@ impl<'a> NamedFile<'a> {
 impl Host for NamedFile<'_> {
     ghost calls = { λ _. None };
 
+    /// What it has from here on, nobody else is to change.
     fn len(&mut self) -> io::Result<u64> {
-        self.file.len()
+        let len = self.file.len()?;
+        self.len = Some(len);
+        Ok(len)
     }
 
     fn read_front(&mut self, buffer: &mut [u8]) -> io::Result<()> {
@@ -159,33 +260,35 @@ impl Host for NamedFile<'_> {
     }
 
     fn write_at(&mut self, at: u64, bytes: &[u8]) -> io::Result<()> {
-        self.keeps_name()?;
-        self.file.write_at(at, bytes)
+        let end = at.saturating_add(bytes.len() as u64);
+        self.note(self.expect_room(end))?;
+        let before = self.len.take();
+        let written = self.file.write_at(at, bytes);
+        self.noted(written)?;
+        self.len = before.map(|len| len.max(end));
+        Ok(())
     }
 
     fn cut(&mut self, len: u64) -> io::Result<()> {
-        self.keeps_name()?;
-        self.file.cut(len)
+        self.note(self.expect_kept())?;
+        self.len = None;
+        let cut = self.file.cut(len);
+        self.noted(cut)?;
+        self.len = Some(len);
+        Ok(())
     }
 
     /// What was written is kept in the file that has the name still when all of it is.
     fn sync(&mut self) -> io::Result<()> {
-        self.file.sync()?;
-        self.keeps_name()
+        let synced = self.file.sync();
+        self.noted(synced)?;
+        self.note(self.expect_kept())
     }
 }
 
 impl Successor for NamedFile<'_> {
     fn take_name(&mut self) -> io::Result<()> {
-        let (Some(beside), Some(before)) = (&self.beside, &self.before) else {
-            return Err(io::Error::from(ErrorKind::Unsupported));
-        };
-        let whole = fs::canonicalize(self.rt, self.name.as_str())?;
-        is_named(self.rt, whole.as_str(), before)?;
-        is_named(self.rt, beside.as_str(), &self.file)?;
-        fs::rename(self.rt, beside.as_str(), whole.as_str())?;
-        self.beside = None;
-        sync_folder(self.rt, whole.as_str())?;
-        self.keeps_name()
+        let renamed = self.rename();
+        self.note(renamed)
     }
 }

@@ -1,10 +1,15 @@
 //! The link of a match on loopback.
 
+ghost use Rattle.std.specs.Prelude.{◌≤◌, length, IfOk, IfSome};
+
 use crate::port::{Port, missed};
 use agree_core::Asker;
 use links::{Link, Log, SharedLink, Taken};
 use std::io;
 use std::net::{Ipv4Addr, Net, SocketAddr, SocketAddrV4};
+
+/// How many datagrams of others than the stations are passed over before one counts as lost.
+const MOST_STRANGERS: usize = 256;
 
 /// The other two stations.
 fn others(station: Asker) -> [Asker; 2] {
@@ -52,6 +57,39 @@ impl Ports {
     fn carry(&self, from: Asker, to: Asker, bytes: &[u8; 48]) -> io::Result<usize> {
         let address = self.of(to).address()?;
         self.of(from).send(bytes.as_slice(), address)
+    }
+
+    /// Whether this is the address of a station.
+    fn is_of(&self, station: Asker, address: SocketAddr) -> bool {
+        match self.of(station).address() {
+            Ok(own) => own == address,
+            Err(_) => false,
+        }
+    }
+
+    /// The length of the next datagram for a station, if it comes from one of the other two.
+    fn receive(&mut self, station: Asker, buffer: &mut [u8], wait: u64) -> io::Result<Option<usize>>
+        ensures { IfOk result (λ came. IfSome came (λ count. count ≤ length buffer.old)) }
+    {
+        let (count, from) = self.at(station).receive(buffer, wait)?;
+        let [one, other] = others(station);
+        if self.is_of(one, from) || self.is_of(other, from) {
+            Ok(Some(count))
+        } else {
+            Ok(None)
+        }
+    }
+
+    /// The same, where those of strangers are passed over.
+    fn take(&mut self, station: Asker, buffer: &mut [u8], wait: u64) -> io::Result<Option<usize>>
+        ensures { IfOk result (λ came. IfSome came (λ count. count ≤ length buffer.old)) }
+    {
+        for _ in 0..MOST_STRANGERS {
+            if let Some(count) = self.receive(station, buffer, wait)? {
+                return Ok(Some(count));
+            }
+        }
+        Ok(None)
     }
 
     /// Sends bytes to the two other stations. What can't be sent is lost.
@@ -109,12 +147,12 @@ impl Link for Sockets {
     }
 
     fn take(&mut self, buffer: &mut [u8; 64], wait: u64) -> Taken {
-        let port = self.ports.at(self.turn);
-        match port.receive(buffer.as_mut_slice(), wait) {
-            Ok((count, _)) => {
+        match self.ports.take(self.turn, buffer.as_mut_slice(), wait) {
+            Ok(Some(count)) => {
                 self.log = self.log.came(buffer, count);
                 Taken::Datagram(count)
             }
+            Ok(None) => Taken::Lost,
             Err(error) => missed(&error),
         }
     }

@@ -2,14 +2,16 @@
 
 ghost use Rattle.std.specs.Prelude.{◌≡◌, IfSome, List, None, OnOk, Option, ℕ};
 
+mod front;
+
+use crate::file_limit::may_have;
+use crate::write_fault::{Cause, Name, WriteFault, cause_of};
+use front::{Front, front_of};
 use std::alloc::AllocError;
 use std::fs::{self, File, Metadata, TryLockError};
-use std::io::{self, ErrorKind, Read, Write};
+use std::io::{self, ErrorKind, Write};
 use std::os::unix::fs::MetadataExt;
 use std::path::Path;
-
-/// What each votes file begins with.
-const MARK: &[u8; 7] = b"CBVOTES";
 
 /// What a text is put into. Nothing is known of what it holds, only of what it was given.
 pub trait Replaces {
@@ -17,7 +19,7 @@ pub trait Replaces {
     ghost given: { Self → Option (List ℕ) };
 
     /// Has it hold this text and nothing else.
-    fn replace(&mut self, text: &[u8]) -> io::Result<()>
+    fn replace(&mut self, text: &[u8]) -> Result<(), WriteFault>
         ensures { OnOk result (IfSome (given self.new) (λ given. given ≡ text.now)) };
 }
 
@@ -29,11 +31,28 @@ pub struct TextFile<'a> {
     path: &'a str,
     beside: String,
     sheet: &'a str,
+    key: Option<&'a str>,
 }
 
 /// Whether both are one file.
 fn is_same(one: &Metadata, other: &Metadata) -> bool {
     one.dev() == other.dev() && one.ino() == other.ino()
+}
+
+/// Whether a file, which is there, is the one of this path.
+fn is_at(rt: &HostRuntime, path: &str, found: &Metadata) -> bool {
+    match fs::metadata(rt, path) {
+        Ok(other) => is_same(&other, found),
+        Err(_) => false,
+    }
+}
+
+/// Whether both paths are those of one file.
+pub fn is_same_file(rt: &HostRuntime, one: &str, other: &str) -> bool {
+    match fs::metadata(rt, one) {
+        Ok(found) => is_at(rt, other, &found),
+        Err(_) => false,
+    }
 }
 
 /// The folder that a file of this path is in.
@@ -55,16 +74,6 @@ fn names_meet(one: &str, other: &str) -> bool {
         || other.strip_suffix(".new") == Some(one)
 }
 
-/// Whether a file begins as a votes file.
-fn is_of_votes(file: &mut File) -> io::Result<bool> {
-    let mut front = [0; 7];
-    match file.read_exact(&mut front) {
-        Ok(()) => Ok(front == *MARK),
-        Err(why) if why.kind() == ErrorKind::UnexpectedEof => Ok(false),
-        Err(why) => Err(why),
-    }
-}
-
 /// Whether another process has a file to itself, as a desk has its votes file. Where the system knows no locks, none has.
 fn is_locked(file: &File) -> bool {
     match file.try_lock_shared() {
@@ -73,12 +82,30 @@ fn is_locked(file: &File) -> bool {
     }
 }
 
+/// Asks that what a file holds may give way to a text: it has no byte and no other process has it to itself, or it begins
+/// as a board's text or its state.
+fn expect_text(file: &mut File, len: u64) -> Result<(), Cause> {
+    match front_of(file, len).map_err(|why| cause_of(&why))? {
+        Front::Text => Ok(()),
+        Front::Nothing if is_locked(file) => Err(Cause::InUse),
+        Front::Nothing => Ok(()),
+        Front::Votes => Err(Cause::Votes),
+        Front::Other => Err(Cause::Other),
+    }
+}
+
+/// The fault of what stands under a file's own name, or under that of the one beside it.
+fn fault(name: Name, why: Cause) -> WriteFault {
+    WriteFault { name, why }
+}
+
 impl<'a> TextFile<'a> {
-    /// A file of this name, beside the sheet of this name. It isn't opened yet.
+    /// A file of this name, beside the sheet and the key of these names. It isn't opened yet.
     pub fn new(
         rt: &'a HostRuntime,
         path: &'a str,
         sheet: &'a str,
+        key: Option<&'a str>,
     ) -> Result<TextFile<'a>, AllocError> {
         let beside = format!(in rt.alloc(); "{path}.new")?;
         Ok(TextFile {
@@ -86,42 +113,64 @@ impl<'a> TextFile<'a> {
             path,
             beside,
             sheet,
+            key,
         })
     }
 
-    /// Whether this file, which is there, is the sheet.
-    fn is_sheet(&self, found: &Metadata) -> bool {
-        match fs::metadata(self.rt, self.sheet) {
-            Ok(sheet) => is_same(&sheet, found),
-            Err(_) => false,
+    /// Whether this file, which is there, is the key.
+    fn is_key(&self, found: &Metadata) -> bool {
+        match self.key {
+            Some(key) => is_at(self.rt, key, found),
+            None => false,
         }
     }
 
-    /// Whether something that is there may give way to a text: a regular file that isn't the sheet, no other process has
-    /// to itself, and doesn't begin as a votes file.
-    fn gives_way(&self, path: &str, found: &Metadata) -> io::Result<bool> {
-        if !found.is_file() || self.is_sheet(found) {
-            return Ok(false);
+    /// Asks that something that is there may give way to a text: a plain file, neither the sheet nor the key, and a text.
+    fn expect_way(&self, path: &str, found: &Metadata) -> Result<(), Cause> {
+        if found.is_symlink() {
+            return Err(Cause::Link);
         }
-        let mut file = File::open(self.rt, path)?;
-        Ok(!is_locked(&file) && !is_of_votes(&mut file)?)
+        if !found.is_file() {
+            return Err(Cause::NotAFile);
+        }
+        if is_at(self.rt, self.sheet, found) {
+            return Err(Cause::Sheet);
+        }
+        if self.is_key(found) {
+            return Err(Cause::Key);
+        }
+        let mut file = File::open(self.rt, path).map_err(|why| cause_of(&why))?;
+        expect_text(&mut file, found.len())
     }
 
-    /// Whether there is something at a path, which is then known to give way. What doesn't is an error.
-    fn finds(&self, path: &str) -> io::Result<bool> {
+    /// Whether there is something at a path, which is then known to give way. What doesn't is a fault.
+    fn finds(&self, path: &str) -> Result<bool, Cause> {
         match fs::symlink_metadata(self.rt, path) {
-            Ok(found) if self.gives_way(path, &found)? => Ok(true),
-            Ok(_) => Err(io::Error::from(ErrorKind::AlreadyExists)),
+            Ok(found) => {
+                self.expect_way(path, &found)?;
+                Ok(true)
+            }
             Err(why) if why.kind() == ErrorKind::NotFound => Ok(false),
-            Err(why) => Err(why),
+            Err(why) => Err(cause_of(&why)),
         }
     }
 
-    /// Whether the text may be put into both files. What is there stays as it is.
-    pub fn expect_room(&self) -> io::Result<()> {
-        self.finds(self.path)?;
-        self.finds(self.beside.as_str())?;
-        Ok(())
+    /// Whether there is one under its own name, and whether there is one beside it. Both give way then.
+    fn finds_both(&self) -> Result<(bool, bool), WriteFault> {
+        let own = self.finds(self.path).map_err(|why| fault(Name::Own, why))?;
+        let new = self
+            .finds(self.beside.as_str())
+            .map_err(|why| fault(Name::New, why))?;
+        Ok((own, new))
+    }
+
+    /// Asks that the text may be put into both files. What is there stays as it is.
+    pub fn expect_room(&self) -> Result<(), WriteFault> {
+        let _found = self.finds_both()?;
+        match folder_of(self.rt, self.path) {
+            Ok(_) => Ok(()),
+            Err(why) => Err(fault(Name::Own, cause_of(&why))),
+        }
     }
 
     /// Whether two of these would be written to one file: they are in one folder, and the name of the one, or of the
@@ -133,20 +182,49 @@ impl<'a> TextFile<'a> {
         let one = folder_of(self.rt, self.path)?;
         Ok(is_same(&one, &folder_of(other.rt, other.path)?))
     }
+
+    /// Takes away what a board left beside it whose process was killed.
+    fn clear(&self) -> Result<(), Cause> {
+        fs::remove_file(self.rt, self.beside.as_str()).map_err(|why| cause_of(&why))
+    }
+
+    /// Writes a text to a new file beside it. Where that fails the new file is taken away again.
+    fn put(&self, text: &[u8]) -> Result<(), Cause> {
+        if !may_have(text.len() as u64) {
+            return Err(Cause::Limit);
+        }
+        let made = File::create_new(self.rt, self.beside.as_str());
+        let mut file = made.map_err(|why| cause_of(&why))?;
+        match file.write_all(text) {
+            Ok(()) => Ok(()),
+            Err(why) => {
+                let _ = self.clear();
+                Err(cause_of(&why))
+            }
+        }
+    }
+
+    /// Has the new file take its name.
+    fn rename(&self) -> Result<(), Cause> {
+        fs::rename(self.rt, self.beside.as_str(), self.path).map_err(|why| cause_of(&why))
+    }
+
+    /// Writes a text to a new file beside it, and then renames that over it.
+    fn renew(&self, text: &[u8]) -> Result<(), WriteFault> {
+        let (_, is_left) = self.finds_both()?;
+        if is_left {
+            self.clear().map_err(|why| fault(Name::New, why))?;
+        }
+        self.put(text).map_err(|why| fault(Name::New, why))?;
+        self.rename().map_err(|why| fault(Name::Own, why))
+    }
 }
 
 impl Replaces for TextFile<'_> {
     ghost given = { λ _. None };
 
-    /// Writes the text to a new file beside it, and then renames that over it. What a board left there whose process was
-    /// killed is taken away before. It isn't synced: a board that begins again writes it anew.
-    fn replace(&mut self, text: &[u8]) -> io::Result<()> {
-        self.finds(self.path)?;
-        if self.finds(self.beside.as_str())? {
-            fs::remove_file(self.rt, self.beside.as_str())?;
-        }
-        let mut file = File::create_new(self.rt, self.beside.as_str())?;
-        file.write_all(text)?;
-        fs::rename(self.rt, self.beside.as_str(), self.path)
+    /// It isn't synced: a board that begins again writes it anew.
+    fn replace(&mut self, text: &[u8]) -> Result<(), WriteFault> {
+        self.renew(text)
     }
 }

@@ -12,8 +12,13 @@ use Rattle.desk.specs.declared.refusal.OpenRefusal.{OpenRefusal}
 use Rattle.books.specs.declared.fault.BookFault.{BookFault}
 use Rattle.books.specs.OneHistory.{torn_line}
 use Rattle.books.specs.Rejected.{rejection_line}
+use Rattle.machine.specs.WriteFault.{ending_of, words_of}
+use Rattle.machine.specs.declared.write_fault.{Cause.Cause, WriteFault.WriteFault}
+use Rattle.machine.specs.declared.write_fault.Cause.TheVariants as causes
+use Rattle.setup.specs.declared.key_fault.KeyFault.{KeyFault}
+use Rattle.setup.specs.declared.key_fault.KeyFault.TheVariants as keys
 use Rattle.setup.specs.declared.fault.{StopFault.StopFault, TheConstants.TURNS}
-use Rattle.setup.specs.declared.fault.StopFault.TheVariants.{NoMemory, Read, Write, Sheet, Schedule, Votes, VotesNamed, BadVotes, NotOneHistory, Line, NotAgreed, Listen, Disk, FileMoved, LacksLines}
+use Rattle.setup.specs.declared.fault.StopFault.TheVariants.{NoMemory, Read, Write, Sheet, Schedule, Votes, VotesNamed, BadVotes, NotOneHistory, Line, NotAgreed, Listen, Disk, FileMoved, LacksLines, File, Lost, Key}
 
 -- an input isn't read to its end
 abbrev pub of_input : InputFault → StopFault
@@ -88,6 +93,29 @@ named_votes_line path why = numbered_line (codes "votes " ++ path) (number why) 
 abbrev pub turns_line : ℕ → ℕ → List ℕ
 turns_line place turns = codes "place " ++ decimal place ++ codes " not agreed in " ++ decimal turns ++ codes " turns\n"
 
+-- the line of a file that can't be written: which one it is, and why
+abbrev pub file_line : List ℕ → WriteFault → List ℕ
+file_line path fault =
+    codes "cannot write: " ++ path ++ ending_of fault.name ++ codes ": " ++ words_of fault.why ++ codes "\n"
+
+-- the same line of a desk that ran, and what its scorer is to do
+abbrev pub loss_lines : List ℕ → WriteFault → List ℕ
+loss_lines path fault =
+    codes "cannot write: " ++ path ++ ending_of fault.name ++ codes ": " ++ words_of fault.why
+    ++ codes "\nstart the same command again\n"
+
+abbrev pub key_words : KeyFault → List ℕ
+key_words keys.NotAFile = codes "is no plain file"
+key_words keys.Sheet = codes "is the sheet"
+key_words keys.Votes = codes "is a votes file"
+key_words keys.Short = codes "a key has 16 bytes or more"
+key_words keys.Long = codes "a key has 1024 bytes or fewer"
+key_words keys.Alike = codes "a key has 8 different bytes or more"
+
+-- the line of a file that has no key, and why
+abbrev pub no_key_line : List ℕ → KeyFault → List ℕ
+no_key_line path why = codes "cannot read " ++ path ++ codes ": " ++ key_words why ++ codes "\n"
+
 -- the lines of a fault that was met at this file or address
 abbrev pub fault_line : List ℕ → StopFault → List ℕ
 fault_line path NoMemory = codes "no memory\n"
@@ -105,3 +133,17 @@ fault_line path Listen = codes "cannot listen at " ++ path ++ codes "\n"
 fault_line path Disk = codes "cannot write\nstart the same command again\n"
 fault_line path FileMoved = codes "cannot write\nits file was moved, deleted or replaced: put it back\n"
 fault_line path LacksLines = codes "this file lacks lines that the other desk has: put the right file back\n"
+fault_line path (File why) = file_line path why
+fault_line path (Lost why) = loss_lines path why
+fault_line path (Key why) = no_key_line path why
+
+-- a desk that ran has lost its file, or can't write it, as this tells
+abbrev pub lost_for : WriteFault → Cause → StopFault
+lost_for fault causes.Lost = FileMoved
+lost_for fault why = Lost fault
+
+-- the fault of a run whose file can't be written, and why, where that is known
+abbrev pub with_cause : StopFault → Option WriteFault → StopFault
+with_cause Write (Some why) = File why
+with_cause Disk (Some why) = lost_for why why.why
+with_cause fault why = fault

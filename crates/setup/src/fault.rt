@@ -1,12 +1,14 @@
 //! Why a command ends before its end: what standard error is told of it, and whether something is refused.
 
-ghost use Rattle.std.specs.Prelude.{◌≡◌, OnOk};
+ghost use Rattle.std.specs.Prelude.{◌≡◌, ◌⊎◌, codes, OnOk};
 ghost use Rattle.streams.specs.Watched.{Prints, TellsFailure};
 ghost use Rattle.setup.specs.Fault as texts;
 
+use crate::key_fault::KeyFault;
 use books::{BookFault, Rejected, print_rejected, print_torn};
 use cards::SheetFault;
 use desk::OpenRefusal;
+use machine::WriteFault;
 use schedules::ScheduleFault;
 use std::alloc::AllocError;
 use std::io::Write;
@@ -49,6 +51,12 @@ pub enum StopFault {
     FileMoved,
     /// The file of a desk that runs lacks lines that the other desk has.
     LacksLines,
+    /// A file of a desk, a board or a new key can't be written.
+    File(WriteFault),
+    /// The file of a desk that runs can't be written.
+    Lost(WriteFault),
+    /// There is no key in a file.
+    Key(KeyFault),
 }
 
 /// Whether a votes file is refused for what it holds, and no memory or disk is to blame.
@@ -227,6 +235,48 @@ fn print_not_agreed<W: Write>(
     writeln!(out, "place {place} not agreed in {turns} turns")
 }
 
+/// Which file can't be written, and why.
+fn print_file_fault<W: Write>(
+    out: &mut Watched<W>,
+    path: &str,
+    fault: WriteFault,
+) -> Result<(), WriteFailed>
+    ensures text { OnOk result (Prints W.contents out.old out.new (texts.file_line path.now fault)) }
+    ensures failed { TellsFailure result out.old out.new }
+{
+    let (ending, words) = (fault.name.ending(), fault.why.words());
+    writeln!(out, "cannot write: {path}{ending}: {words}")
+}
+
+/// The same of a desk that ran, and what its scorer is to do.
+fn print_loss<W: Write>(
+    out: &mut Watched<W>,
+    path: &str,
+    fault: WriteFault,
+) -> Result<(), WriteFailed>
+    ensures text { OnOk result (Prints W.contents out.old out.new (texts.loss_lines path.now fault)) }
+    ensures failed { TellsFailure result out.old out.new }
+{
+    let (ending, words) = (fault.name.ending(), fault.why.words());
+    writeln!(
+        out,
+        "cannot write: {path}{ending}: {words}\nstart the same command again"
+    )
+}
+
+/// Which file has no key, and why.
+fn print_no_key<W: Write>(
+    out: &mut Watched<W>,
+    path: &str,
+    why: KeyFault,
+) -> Result<(), WriteFailed>
+    ensures text { OnOk result (Prints W.contents out.old out.new (texts.no_key_line path.now why)) }
+    ensures failed { TellsFailure result out.old out.new }
+{
+    let words = why.words();
+    writeln!(out, "cannot read {path}: {words}")
+}
+
 /// Prints what standard error has of a fault. `path` is the file or the address that was at work, `-` for a standard
 /// stream.
 pub fn print_fault<W: Write>(
@@ -259,5 +309,19 @@ pub fn print_fault<W: Write>(
             out,
             "this file lacks lines that the other desk has: put the right file back"
         ),
+        StopFault::File(why) => print_file_fault(out, path, why),
+        StopFault::Lost(why) => print_loss(out, path, why),
+        StopFault::Key(why) => print_no_key(out, path, why),
+    }
+}
+
+/// A path as it is printed: one with a control character, which a terminal would obey, is a question mark.
+pub fn printable(path: &str) -> &str
+    ensures { (result.now ≡ path.now) ⊎ (result.now ≡ codes "?") }
+{
+    if path.chars().any(|letter| letter.is_control()) {
+        "?"
+    } else {
+        path
     }
 }

@@ -4,16 +4,20 @@
 
 mod fault;
 mod gaps;
+mod key_fault;
 mod opening;
 mod sealing;
 mod sheet;
 mod twins;
 mod votes_file;
 
-pub use crate::fault::{StopFault, Stopped, TURNS, print_fault};
+pub use crate::fault::{StopFault, Stopped, TURNS, print_fault, printable};
 pub use crate::gaps::{Gaps, fill_gaps};
+pub use crate::key_fault::KeyFault;
 pub use crate::opening::{Output, bytes_at, old_votes_at, open_input, output, printer, sheet_at};
 pub use crate::sealing::{Sealing, key_in};
 pub use crate::sheet::{NoSheet, sheet_run};
-pub use crate::twins::{told_sheet_at, told_sheet_of};
-pub use crate::votes_file::{VotesDisk, empty_disk, kept_votes, new_disk_at, renewed_disk};
+pub use crate::twins::{station_sheet_at, told_sheet_at, told_sheet_of};
+pub use crate::votes_file::{
+    VotesDisk, empty_disk, kept_votes, new_disk_at, renewed_disk, with_cause,
+};

@@ -1,17 +1,21 @@
 //! What a station's datagrams are sealed with: the key in a file, or none, and the match sheet.
 
-ghost use Rattle.std.specs.Prelude.{◌≡◌, [], None, IfOk, IfSome, vec_len};
+ghost use Rattle.std.specs.Prelude.{◌≡◌, ◌≤◌, [], None, IfOk, IfSome, vec_len};
 ghost use Rattle.setup.specs.Keys as keys;
 
-use crate::fault::{StopFault, Stopped};
+use crate::fault::{StopFault, Stopped, printable};
+use crate::key_fault::KeyFault;
 use crate::opening::{bytes_at, peers_at};
 use cards::{MatchSheet, digest_of};
+use hex::encode_to_slice;
 use links::{Sealed, Window};
-use machine::{Address, MOST_PEERS, MonotonicClock, Peers};
+use machine::{Address, MOST_PEERS, MonotonicClock, Peers, is_same_file};
 use seal::Seal;
+use std::fs;
 use std::io::{self, Write};
 use std::net::SocketAddr;
 use std::os::fd::RawFd;
+use std::os::unix::fs::MetadataExt;
 
 /// A station's link: in a window, over sealed datagrams, at a socket.
 pub type StationLink<'r, E> = Window<Sealed<Peers<E>>, MonotonicClock<'r, HostRuntime>>;
@@ -21,6 +25,12 @@ pub const SHORTEST_KEY: usize = 16;
 
 /// How many bytes a key has at most.
 pub const LONGEST_KEY: usize = 1024;
+
+/// How many of a key's bytes differ at least.
+pub const FEWEST_DIFFERENT: usize = 8;
+
+/// What each votes file begins with.
+const VOTES: &[u8; 7] = b"CBVOTES";
 
 /// The key in a file's bytes: what is left once the white space at its end is cut (spaces, tabs, ends of lines, form
 /// feeds), where that has 16 to 1,024 bytes.
@@ -36,15 +46,63 @@ pub fn key_in(bytes: &[u8]) -> Option<&[u8]>
     }
 }
 
-/// The key in a file. One that can't be read, or has no key, is told as one that can't be read.
-fn key_at<'a>(rt: &HostRuntime, path: &'a str) -> Result<Vec<u8>, Stopped<'a>> {
-    let mut bytes = bytes_at(rt, path)?;
-    let Some(key) = key_in(bytes.as_slice()) else {
+/// How many different bytes there are.
+fn different(bytes: &[u8]) -> usize {
+    let mut is_there = [false; 256];
+    for byte in bytes {
+        is_there[*byte as usize] = true;
+    }
+    is_there.iter().filter(|is_there| **is_there).count()
+}
+
+/// The length of the key in a file's bytes, which is taken where 8 of its bytes differ at least.
+fn key_len(bytes: &[u8]) -> Result<usize, KeyFault> {
+    if bytes.starts_with(&VOTES[..]) {
+        return Err(KeyFault::Votes);
+    }
+    match key_in(bytes) {
+        Some(key) if different(key) < FEWEST_DIFFERENT => Err(KeyFault::Alike),
+        Some(key) => Ok(key.len()),
+        None if bytes.len() > LONGEST_KEY => Err(KeyFault::Long),
+        None => Err(KeyFault::Short),
+    }
+}
+
+/// Asks that a key's file is a plain one, so that no read of it waits, and isn't the sheet. Standard error is told where
+/// others may read it; that it can't be told is no fault.
+fn expect_key_file<'a>(rt: &HostRuntime, path: &'a str, sheet: &str) -> Result<(), Stopped<'a>> {
+    let Ok(found) = fs::metadata(rt, path) else {
         return Err(Stopped::at(path, StopFault::Read));
     };
-    let count = key.len();
+    if !found.is_file() {
+        return Err(Stopped::at(path, StopFault::Key(KeyFault::NotAFile)));
+    }
+    if is_same_file(rt, path, sheet) {
+        return Err(Stopped::at(path, StopFault::Key(KeyFault::Sheet)));
+    }
+    if found.mode() & 0o044 != 0 {
+        let path = printable(path);
+        let _ = writeln!(rt.stderr(), "others may read the key: chmod 600 {path}");
+    }
+    Ok(())
+}
+
+/// The key in a file that isn't the sheet.
+fn key_at<'a>(rt: &HostRuntime, path: &'a str, sheet: &str) -> Result<Vec<u8>, Stopped<'a>> {
+    expect_key_file(rt, path, sheet)?;
+    let mut bytes = bytes_at(rt, path)?;
+    let count = match key_len(bytes.as_slice()) {
+        Ok(count) => count,
+        Err(why) => return Err(Stopped::at(path, StopFault::Key(why))),
+    };
     bytes.truncate(count);
     Ok(bytes)
+}
+
+/// Asks the system to leave this process's memory out of what it keeps of one that crashed. Where it doesn't, that is no
+/// fault.
+fn keep_out_of_dumps(rt: &HostRuntime) {
+    let _ = fs::write(rt, "/proc/self/coredump_filter", "0");
 }
 
 /// The scorers' key, without a byte where they have none, the digest of their sheet, and the number of its match.
@@ -56,15 +114,19 @@ pub struct Sealing {
 }
 
 impl Sealing {
-    /// Of this sheet, and the key in a file, where one is named.
+    /// Of this sheet, which was read from a file of this path, and the key in a file, where one is named.
     pub fn of<'a>(
         rt: &HostRuntime,
         sheet: &MatchSheet,
+        sheet_path: &str,
         key: Option<&'a str>,
     ) -> Result<Sealing, Stopped<'a>> {
         let digest = digest_of(sheet);
         let key = match key {
-            Some(path) => key_at(rt, path)?,
+            Some(path) => {
+                keep_out_of_dumps(rt);
+                key_at(rt, path, sheet_path)?
+            }
             None => Vec::new(rt.alloc()),
         };
         Ok(Sealing {
@@ -79,18 +141,17 @@ impl Sealing {
         Seal::new(self.key.as_slice(), &self.digest)
     }
 
-    /// Tells what two scorers read to each other: the fingerprint of the sheet, and that of the key where there is one.
+    /// Tells what two scorers read to each other, by one write: the fingerprint of the sheet, and that of the key where
+    /// there is one.
     pub fn tell_fingerprints<E: Write>(&self, errors: &mut E) -> io::Result<()> {
+        let mut text = *b"sheet 0000-0000\nkey 0000-0000\n";
         let digest = &self.digest;
-        tell_fingerprint(
-            errors,
-            "sheet",
-            [digest[0], digest[1], digest[2], digest[3]],
-        )?;
+        put_digits(&mut text, 6, [digest[0], digest[1], digest[2], digest[3]]);
         if self.key.is_empty() {
-            return Ok(());
+            return errors.write_all(&text[..16]);
         }
-        tell_fingerprint(errors, "key", self.seal().fingerprint())
+        put_digits(&mut text, 20, self.seal().fingerprint());
+        errors.write_all(&text[..])
     }
 
     /// A station's link at its address. Where a keyboard's descriptor is named, waits end for it too.
@@ -111,8 +172,10 @@ impl Sealing {
     }
 }
 
-/// Tells a fingerprint, as eight hex digits in two groups.
-fn tell_fingerprint<E: Write>(errors: &mut E, what: &str, fingerprint: [u8; 4]) -> io::Result<()> {
-    let [a, b, c, d] = fingerprint;
-    writeln!(errors, "{what} {a:02x}{b:02x}-{c:02x}{d:02x}")
+/// Puts a fingerprint into a text, as eight hex digits in two groups.
+fn put_digits(text: &mut [u8; 30], at: usize, fingerprint: [u8; 4])
+    requires { at ≤ 21 }
+{
+    let _ = encode_to_slice(&fingerprint[..2], &mut text[at..at + 4]);
+    let _ = encode_to_slice(&fingerprint[2..], &mut text[at + 5..at + 9]);
 }

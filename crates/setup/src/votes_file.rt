@@ -1,12 +1,15 @@
 //! Files that votes are written to: new ones, and a desk's, which is written anew before it is used.
 
 ghost use Rattle.std.specs.Prelude.{◌≡◌};
+ghost use Rattle.setup.specs.Fault as faults;
 ghost use Rattle.setup.specs.inner.Opening as texts;
 
 use crate::fault::{StopFault, Stopped};
 use crate::opening::fault_of_old;
 use entry_log::LONGEST_FILE;
-use machine::{FileDisk, NamedFile, OpenFault, bytes_of, renewed};
+use machine::{
+    Cause, FileDisk, LastFault, Name, NamedFile, OpenFault, WriteFault, bytes_of, renewed,
+};
 use vote_store::Refusal;
 
 /// A disk on a file that votes are written to.
@@ -50,13 +53,42 @@ pub fn new_disk_at<'r, 'a>(
     new_disk(rt, path).map_err(|fault| Stopped::at(path, fault))
 }
 
-/// A desk's votes file for this process alone, which is made where there is none, and its bytes.
+/// The fault of a desk's votes file, or of the new one beside it.
+fn file_fault<'a>(path: &'a str, name: Name, why: Cause) -> Stopped<'a> {
+    Stopped::at(path, StopFault::File(WriteFault { name, why }))
+}
+
+/// A desk that ran has lost its file, or can't write it, as this tells.
+fn lost_for(fault: WriteFault) -> StopFault
+    ensures { result ≡ faults.lost_for fault fault.why }
+{
+    match fault.why {
+        Cause::Lost => StopFault::FileMoved,
+        _ => StopFault::Lost(fault),
+    }
+}
+
+/// The fault of a run whose file can't be written, and why, where that is known.
+pub fn with_cause(fault: StopFault, last: Option<WriteFault>) -> StopFault
+    ensures { result ≡ faults.with_cause fault last }
+{
+    match (fault, last) {
+        (StopFault::Write, Some(why)) => StopFault::File(why),
+        (StopFault::Disk, Some(why)) => lost_for(why),
+        _ => fault,
+    }
+}
+
+/// A desk's votes file for this process alone, which is made where there is none, and its bytes. It leaves there why a
+/// call failed.
 pub fn kept_votes<'r, 'a>(
     rt: &'r HostRuntime,
     path: &'a str,
+    last: &'r LastFault,
 ) -> Result<(NamedFile<'r>, Vec<u8>), Stopped<'a>> {
-    let Ok(mut file) = NamedFile::open(rt, path) else {
-        return Err(Stopped::at(path, StopFault::Write));
+    let mut file = match NamedFile::open(rt, path) {
+        Ok(file) => file.telling(last),
+        Err(why) => return Err(file_fault(path, Name::Own, why)),
     };
     match bytes_of(rt.alloc(), &mut file) {
         Ok(bytes) => Ok((file, bytes)),
@@ -83,16 +115,19 @@ pub fn renewed_disk<'r, 'a>(
     path: &'a str,
     file: NamedFile<'r>,
     bytes: &[u8],
+    last: &LastFault,
 ) -> Result<VotesDisk<'r>, Stopped<'a>> {
-    let Ok(beside) = file.beside() else {
-        return Err(Stopped::at(path, StopFault::Write));
+    let beside = match file.beside() {
+        Ok(beside) => beside,
+        Err(why) => return Err(file_fault(path, Name::Unfinished, why)),
     };
     let room = LONGEST_FILE.max(bytes.len());
     match renewed(rt.alloc(), beside, bytes, room) {
         Ok(disk) => Ok(disk),
         Err((fault, beside)) => {
             beside.give_up();
-            Err(Stopped::at(path, fault_of_copy(fault)))
+            let fault = with_cause(fault_of_copy(fault), last.get());
+            Err(Stopped::at(path, fault))
         }
     }
 }

@@ -6,15 +6,14 @@ use Rattle.live.specs.declared.ends.DeskEnd.TheVariants.{Device, LacksLines, NoM
 use Rattle.setup.specs.Fault.{of_opening}
 use Rattle.setup.specs.declared.fault.StopFault.{StopFault}
 
--- why it ends with a fault, by how its desk's process ended, whether its keyboard failed, and whether its file has another
--- name, or none, now: where its scorer stopped, there is none
-abbrev pub stop_of : Result (Unit {0}) LifeEnd → Bool → Bool → Option StopFault
-stop_of (Ok done) failed moved = None
-stop_of (Err (NotBegun why)) failed moved = Some (of_opening why)
-stop_of (Err (Ended Quit)) failed moved = None
-stop_of (Err (Ended NoMoreLines)) true moved = Some StopFault.Read
-stop_of (Err (Ended NoMoreLines)) false moved = None
-stop_of (Err (Ended Write)) failed moved = Some StopFault.Write
-stop_of (Err (Ended Device)) failed true = Some StopFault.FileMoved
-stop_of (Err (Ended Device)) failed false = Some StopFault.Disk
-stop_of (Err (Ended LacksLines)) failed moved = Some StopFault.LacksLines
+-- why it ends with a fault, by how its desk's process ended and whether its keyboard failed: where its scorer stopped,
+-- there is none
+abbrev pub stop_of : Result (Unit {0}) LifeEnd → Bool → Option StopFault
+stop_of (Ok done) failed = None
+stop_of (Err (NotBegun why)) failed = Some (of_opening why)
+stop_of (Err (Ended Quit)) failed = None
+stop_of (Err (Ended NoMoreLines)) true = Some StopFault.Read
+stop_of (Err (Ended NoMoreLines)) false = None
+stop_of (Err (Ended Write)) failed = Some StopFault.Write
+stop_of (Err (Ended Device)) failed = Some StopFault.Disk
+stop_of (Err (Ended LacksLines)) failed = Some StopFault.LacksLines

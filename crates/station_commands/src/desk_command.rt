@@ -9,15 +9,14 @@ use corrections::CheckedBook;
 use desk::restore::Restoring;
 use entry_log::Slots;
 use live::{DeskEnd, LifeEnd, keep_desk};
-use machine::{Address, FileDisk, Keyboard, MOST_PEERS, MonotonicClock, NoFile};
+use machine::{
+    Address, FileDisk, Keyboard, LastFault, MOST_PEERS, MonotonicClock, NoFile, WriteFault,
+};
 use setup::{
     Sealing, StopFault, Stopped, VotesDisk, empty_disk, kept_votes, output, renewed_disk,
-    told_sheet_at,
+    station_sheet_at, with_cause,
 };
-use std::fs;
-use std::io::{self, ErrorKind};
 use std::net::SocketAddr;
-use std::os::unix::fs::MetadataExt;
 use vote_store::Votes;
 
 /// An empty book of the sheet's match.
@@ -65,36 +64,20 @@ fn disk_at<'r, 'a>(
     sheet: &MatchSheet,
     desk: DeskId,
     path: &'a str,
+    last: &'r LastFault,
 ) -> Result<VotesDisk<'r>, Stopped<'a>> {
-    let (file, bytes) = kept_votes(rt, path)?;
+    let (file, bytes) = kept_votes(rt, path, last)?;
     if bytes.is_empty() {
         return empty_disk(rt, path, file);
     }
     let bytes = judged(rt, sheet, desk, bytes, path)?;
-    renewed_disk(rt, path, file, bytes.as_slice())
+    renewed_disk(rt, path, file, bytes.as_slice(), last)
 }
 
-/// A file's device, and its number there.
-type FileNumber = (u64, u64);
-
-/// The number of the file of this name.
-fn number_of(rt: &HostRuntime, path: &str) -> io::Result<FileNumber> {
-    let found = fs::metadata(rt, path)?;
-    Ok((found.dev(), found.ino()))
-}
-
-/// Whether the name of the file that had this number is another's now, or nobody's.
-fn is_moved(rt: &HostRuntime, path: &str, before: FileNumber) -> bool {
-    match number_of(rt, path) {
-        Ok(now) => before != now,
-        Err(why) => why.kind() == ErrorKind::NotFound,
-    }
-}
-
-/// Why the command ends with a fault, by how its desk's process ended, whether its keyboard failed, and whether its file has
-/// another name, or none, now. Where its scorer stopped, there is none.
-fn stop_of(ended: Result<(), LifeEnd>, keyboard_failed: bool, moved: bool) -> Option<StopFault>
-    ensures { result ≡ ends.stop_of ended keyboard_failed moved }
+/// Why the command ends with a fault, by how its desk's process ended and whether its keyboard failed. Where its scorer
+/// stopped, there is none.
+fn stop_of(ended: Result<(), LifeEnd>, keyboard_failed: bool) -> Option<StopFault>
+    ensures { result ≡ ends.stop_of ended keyboard_failed }
 {
     match ended {
         Ok(()) => None,
@@ -108,13 +91,7 @@ fn stop_of(ended: Result<(), LifeEnd>, keyboard_failed: bool, moved: bool) -> Op
             }
         }
         Err(LifeEnd::Ended(DeskEnd::Write)) => Some(StopFault::Write),
-        Err(LifeEnd::Ended(DeskEnd::Device)) => {
-            if moved {
-                Some(StopFault::FileMoved)
-            } else {
-                Some(StopFault::Disk)
-            }
-        }
+        Err(LifeEnd::Ended(DeskEnd::Device)) => Some(StopFault::Disk),
         Err(LifeEnd::Ended(DeskEnd::LacksLines)) => Some(StopFault::LacksLines),
     }
 }
@@ -124,16 +101,25 @@ fn stop_of(ended: Result<(), LifeEnd>, keyboard_failed: bool, moved: bool) -> Op
 fn answer<'a>(
     ended: Result<(), LifeEnd>,
     keyboard_failed: bool,
-    moved: bool,
     file: &'a str,
 ) -> Result<bool, Stopped<'a>>
-    ensures ended { IfOk result (λ refused. (refused ≡ false) × (ends.stop_of ended keyboard_failed moved ≡ None)) }
-    ensures stopped { IfErr result (λ stopped. ends.stop_of ended keyboard_failed moved ≡ Some stopped.fault) }
+    ensures ended { IfOk result (λ refused. (refused ≡ false) × (ends.stop_of ended keyboard_failed ≡ None)) }
+    ensures stopped { IfErr result (λ stopped. ends.stop_of ended keyboard_failed ≡ Some stopped.fault) }
 {
-    match stop_of(ended, keyboard_failed, moved) {
+    match stop_of(ended, keyboard_failed) {
         None => Ok(false),
         Some(fault @ (StopFault::Read | StopFault::Write)) => Err(Stopped::at("-", fault)),
         Some(fault) => Err(Stopped { path: file, fault }),
+    }
+}
+
+/// The same, with why its file's last failed call failed, where that is what ended it.
+fn with_last<'a>(stopped: Stopped<'a>, file: &'a str, last: Option<WriteFault>) -> Stopped<'a> {
+    match (stopped.fault, last) {
+        (StopFault::Write | StopFault::Disk, Some(_)) => {
+            Stopped::at(file, with_cause(stopped.fault, last))
+        }
+        _ => stopped,
     }
 }
 
@@ -142,21 +128,19 @@ fn answer<'a>(
 #[inline(never)]
 pub fn start_desk<'a>(
     rt: &HostRuntime,
-    sheet: &'a str,
+    sheet_path: &'a str,
     desk: DeskId,
     file: &'a str,
     at: Address<'a>,
     peers: [Option<SocketAddr>; MOST_PEERS],
     key: Option<&'a str>,
 ) -> Result<bool, Stopped<'a>> {
-    let sheet = told_sheet_at(rt, sheet)?;
-    let sealing = Sealing::of(rt, &sheet, key)?;
+    let sheet = station_sheet_at(rt, sheet_path)?;
+    let sealing = Sealing::of(rt, &sheet, sheet_path, key)?;
     let mut writer = output(rt)?;
     let mut keys = Keyboard::of_standard_input(rt);
-    let disk = disk_at(rt, &sheet, desk, file)?;
-    let Ok(number) = number_of(rt, file) else {
-        return Err(Stopped::at(file, StopFault::Write));
-    };
+    let last = LastFault::new(None);
+    let disk = disk_at(rt, &sheet, desk, file, &last)?;
     let mut link = sealing.link_at(rt, at, peers, Some(keys.descriptor()), rt.stderr())?;
     let book = empty_book(rt, &sheet)?;
     let _ = sealing.tell_fingerprints(&mut rt.stderr());
@@ -173,7 +157,8 @@ pub fn start_desk<'a>(
         &mut writer,
         u64::MAX,
     );
-    let has_failed = matches!(ended, Err(LifeEnd::Ended(DeskEnd::Device)));
-    let moved = has_failed && is_moved(rt, file, number);
-    answer(ended, keys.has_failed(), moved, file)
+    match answer(ended, keys.has_failed(), file) {
+        Ok(refused) => Ok(refused),
+        Err(stopped) => Err(with_last(stopped, file, last.get())),
+    }
 }

@@ -4,9 +4,10 @@ ghost use Rattle.std.specs.Prelude.{◌≡◌};
 ghost use Rattle.setup.specs.Keys as keys;
 
 use hex::encode_to_slice;
+use machine::{Name, WriteFault, cause_of, may_have};
 use setup::{StopFault, Stopped};
 use std::fs::{self, File, OpenOptions};
-use std::io::{self, Write};
+use std::io::{self, ErrorKind, Write};
 use std::os::unix::fs::OpenOptionsExt;
 use std::random::RandomSource;
 
@@ -38,12 +39,24 @@ fn keep(file: &mut File, text: &[u8]) -> io::Result<()> {
 fn write_key(rt: &HostRuntime, path: &str) -> io::Result<()> {
     let mut key = [0; 32];
     rt.fill_bytes(&mut key[..])?;
+    let text = key_text(&key);
+    if !may_have(text.len() as u64) {
+        return Err(io::Error::from(ErrorKind::FileTooLarge));
+    }
     let mut file = own_file(rt, path)?;
-    let kept = keep(&mut file, key_text(&key).as_slice());
+    let kept = keep(&mut file, text.as_slice());
     if kept.is_err() {
         let _ = fs::remove_file(rt, path);
     }
     kept
+}
+
+/// The fault of a new key that can't be written.
+fn fault_of(error: &io::Error) -> WriteFault {
+    WriteFault {
+        name: Name::Own,
+        why: cause_of(error),
+    }
 }
 
 /// `ground key`: writes a key of the system's randomness to a new file. A file that is there is refused, and stays.
@@ -51,6 +64,6 @@ fn write_key(rt: &HostRuntime, path: &str) -> io::Result<()> {
 pub fn start_key<'a>(rt: &HostRuntime, to: &'a str) -> Result<bool, Stopped<'a>> {
     match write_key(rt, to) {
         Ok(()) => Ok(false),
-        Err(_) => Err(Stopped::at(to, StopFault::Write)),
+        Err(why) => Err(Stopped::at(to, StopFault::File(fault_of(&why)))),
     }
 }
