@@ -1,4 +1,5 @@
 //! What opens, what is kept, what is said again and when.
+ghost use Rattle.std.specs.Prelude.{◌<◌};
 ghost use Rattle.notation.specs.Written.{IsEntry};
 
 use agree_core::{Ask, Asker, DeskId, Message, PLACES, ROUNDS};
