@@ -58,7 +58,7 @@ module _ (v : AllVotes) (a : IsVotes v.a) (b : IsVotes v.b) (j : AllJustified v)
       let mine = found_in v.a place round e at_a in
       let other = found_in v.b place round f at_b in
       let same : is_alike (Some e) (Some f) ≡ true → e ≡ f = λ is.
-          (let both = same_entry (Some e) (Some f) (rw at_a at (entries_at v.a a.entries place round)) (rw at_b at (entries_at v.b b.entries place round)) is in cc) in
+      (let both = same_entry (Some e) (Some f) (rw at_a at (entries_at v.a a.entries place round)) (rw at_b at (entries_at v.b b.entries place round)) is in cc) in
       let differ : is_alike (Some e) (Some f) ≡ false → e ≢ f = λ is eq. (let here = alike_here (Some e) in let there : is_alike (Some e) (Some e) ≡ false = rw (← eq) at is in cc) in
       let first = right v.a v.b j.0 j.1 place round e f mine other (is_alike (Some e) (Some f)) same differ in
       let second = right v.b v.a j.1 j.0 place round f e other mine (is_alike (Some e) (Some f)) (λ is. sym (same is)) (λ is eq. differ is (sym eq)) in

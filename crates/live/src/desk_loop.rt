@@ -20,9 +20,7 @@ use crate::both::Both;
 use crate::desk_calls::{pen, receive, tick};
 use crate::ends::{DeskEnd, end_of, told};
 use crate::hearing::{entry_in, promises_more};
-use crate::lost_lines::{
-    end_given, is_another, is_in_reach, is_passed_over, loss_of, position_in,
-};
+use crate::lost_lines::{end_given, is_another, is_in_reach, is_passed_over, loss_of, position_in};
 use crate::news::{print_came, print_unopened};
 use crate::pace::Pace;
 use crate::peer::Peer;
@@ -113,7 +111,11 @@ fn hear<S: SlotsOf, B: BookOf + Drop, L: Link, W: Write>(
     let another = is_another(desk, of, bytes);
     let received = receive(desk, bytes, link);
     let what = received.what;
-    let loss = loss_of(another, is_passed_over(at, of, received.reply.is_some()), what);
+    let loss = loss_of(
+        another,
+        is_passed_over(at, of, received.reply.is_some()),
+        what,
+    );
     between
         .pace
         .note(desk.position() != at, promises_more(what), now);
@@ -124,16 +126,7 @@ fn hear<S: SlotsOf, B: BookOf + Drop, L: Link, W: Write>(
         return Err(end);
     }
     let place = at.place;
-    told(print_came(
-        out,
-        sheet,
-        place,
-        warned,
-        both,
-        loss,
-        what,
-        desk.book(),
-    ))
+    told(print_came(out, sheet, place, warned, both, loss, what, desk.book()))
 }
 
 /// Tells the scorer that bytes came that don't open, unless it was told since a vote that is news came. Nothing else changes:

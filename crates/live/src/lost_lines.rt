@@ -114,7 +114,10 @@ pub fn is_another<S: SlotsOf, B: BookOf + Drop>(
     if !is_at(last.position(), at) {
         return is_before(last.position(), at);
     }
-    is_at(next_of(last.position(), !is_for(bytes, &last.entry)), desk.position())
+    is_at(
+        next_of(last.position(), !is_for(bytes, &last.entry)),
+        desk.position(),
+    )
 }
 
 /// Whether a position comes before this desk's, and the desk didn't reply to an ask for it.

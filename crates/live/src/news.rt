@@ -49,11 +49,7 @@ fn print_bad<W: Write>(
 }
 
 /// Prints that the other desk's file lacks lines, where what came shows it, unless it was told.
-fn print_loss<W: Write>(
-    out: &mut Watched<W>,
-    warned: Warned,
-    loss: bool,
-) -> Result<(), WriteFailed>
+fn print_loss<W: Write>(out: &mut Watched<W>, warned: Warned, loss: bool) -> Result<(), WriteFailed>
     ensures text { OnOk result (Prints W.contents out.old out.new (texts.loss_text warned loss)) }
     ensures failed { OnErr result (has_failed out.new ≡ true) }
 {

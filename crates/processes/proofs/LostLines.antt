@@ -77,10 +77,10 @@ module _ {Disk : Type 0} (s : Setting Disk Refusal) (game innings : ℕ) where
   module _
       (rules : s.rules ≡ book_refusal innings) (version : FileVersion) (n : ℕ) (w : Configuration Disk) (begins : Begins s version n w) (calm : IsCalm w)
     where
-    pub each_lacks_none : (hs : List (Happening Disk)) → Flow s.view game innings w hs → AtEachHappening w hs LacksNoLines
-    each_lacks_none [] f = tt
-    each_lacks_none (h ∷ hs) f =
-        let p = flow_runs s game innings rules w calm hs f.0 in
-        let holds = subst (HoldsAt s) p.3 (holds_at s version n w p.0 begins p.1) in
-        let fine = subst (Fine s) p.3 (run_keeps s w p.0 (begins_fine s version n w begins) p.1) in
-        (each_lacks_none hs f.0, lacks (after w hs) holds fine h f.1)
+      pub each_lacks_none : (hs : List (Happening Disk)) → Flow s.view game innings w hs → AtEachHappening w hs LacksNoLines
+      each_lacks_none [] f = tt
+      each_lacks_none (h ∷ hs) f =
+          let p = flow_runs s game innings rules w calm hs f.0 in
+          let holds = subst (HoldsAt s) p.3 (holds_at s version n w p.0 begins p.1) in
+          let fine = subst (Fine s) p.3 (run_keeps s w p.0 (begins_fine s version n w begins) p.1) in
+          (each_lacks_none hs f.0, lacks (after w hs) holds fine h f.1)

@@ -13,14 +13,14 @@ returns-in-Err-clause-goes g c =
     let calls = c.receive-received.ensures.calls c.args.sheet.now in
     let read = c.position_in-of in
     let ends = ap (λ reach. end_given reach what) c.is_in_reach-in_reach.ensures
-        ∙ ends_so _ _ _ _ c.args.bytes.now what calls.out read.result calls.step read.ensures in
+    ∙ ends_so _ _ _ _ c.args.bytes.now what calls.out read.result calls.step read.ensures in
     let passed = c.is_passed_over.ensures ∙ ap (λ p. is_before read.result p && not c.is_some.result) c.position-at.ensures in
     let loses = c.loss_of-loss.ensures ∙ (λ i. loss_of (c.is_another-another.ensures i) (passed i) what)
-        ∙ loses_so _ _ _ _ c.args.bytes.now what calls.out read.result c.is_some.result calls.step read.ensures
-        (λ asked. c.is_some.ensures ∙ c.receive-received.ensures.replied asked) in
+    ∙ loses_so _ _ _ _ c.args.bytes.now what calls.out read.result c.is_some.result calls.step read.ensures
+    (λ asked. c.is_some.ensures ∙ c.receive-received.ensures.replied asked) in
     λ log typed turns came. hears_last what c.in-Err.end calls came
-        (c.after-between.ensures ∙ ap (λ loss. warned_after c.args.between.now.warned loss what) loses)
-        (sym ends ∙ sym c.end_given.ensures ∙ c.in-Err.is)
+    (c.after-between.ensures ∙ ap (λ loss. warned_after c.args.between.now.warned loss what) loses)
+    (sym ends ∙ sym c.end_given.ensures ∙ c.in-Err.is)
 
 pub returns-clause-goes : goal.returns-clause-goes
 returns-clause-goes g c =
@@ -30,16 +30,16 @@ returns-clause-goes g c =
     let innings = ap g.B.BookOf.innings_a_side c.book.ensures ∙ calls.same.innings_a_side in
     let read = c.position_in-of in
     let ends = ap (λ reach. end_given reach what) c.is_in_reach-in_reach.ensures
-        ∙ ends_so _ _ _ _ c.args.bytes.now what calls.out read.result calls.step read.ensures in
+    ∙ ends_so _ _ _ _ c.args.bytes.now what calls.out read.result calls.step read.ensures in
     let passed = c.is_passed_over.ensures ∙ ap (λ p. is_before read.result p && not c.is_some.result) c.position-at.ensures in
     let loses = c.loss_of-loss.ensures ∙ (λ i. loss_of (c.is_another-another.ensures i) (passed i) what)
-        ∙ loses_so _ _ _ _ c.args.bytes.now what calls.out read.result c.is_some.result calls.step read.ensures
-        (λ asked. c.is_some.ensures ∙ c.receive-received.ensures.replied asked) in
+    ∙ loses_so _ _ _ _ c.args.bytes.now what calls.out read.result c.is_some.result calls.step read.ensures
+    (λ asked. c.is_some.ensures ∙ c.receive-received.ensures.replied asked) in
     let further = sym ends ∙ sym c.end_given.ensures ∙ c.in_default.is in
     λ log typed turns came. hears what calls came
-        (c.after-between.ensures ∙ ap (λ loss. warned_after c.args.between.now.warned loss what) loses)
-        (goes_further c.print_came.result c.told.result c.told.ensures ∙ sym further)
-        (tells_same c.print_came.result c.told.result _ _ c.told.ensures
-        (λ i. came_text sheet (innings i) (c.position-at.ensures i).place (c.own_line.ensures.value i) (c.entry_in.ensures.value i)
-        (g.B.BookOf.content (c.book.ensures i)) c.args.between.now.warned (loses i) what)
-        c.print_came.ensures.text)
+    (c.after-between.ensures ∙ ap (λ loss. warned_after c.args.between.now.warned loss what) loses)
+    (goes_further c.print_came.result c.told.result c.told.ensures ∙ sym further)
+    (tells_same c.print_came.result c.told.result _ _ c.told.ensures
+    (λ i. came_text sheet (innings i) (c.position-at.ensures i).place (c.own_line.ensures.value i) (c.entry_in.ensures.value i)
+    (g.B.BookOf.content (c.book.ensures i)) c.args.between.now.warned (loses i) what)
+    c.print_came.ensures.text)
