@@ -1,7 +1,8 @@
--- What the public calls claim: Check; Card and Export with PrintFault, and of both files BothFiles; Migrate.
+-- What the public calls claim: Check; Card and Export with PrintFault, and of both files BothFiles; Lines; Migrate.
 pub mod BothFiles
 pub mod Card
 pub mod Check
 pub mod Export
+pub mod Lines
 pub mod Migrate
 pub mod PrintFault

@@ -131,7 +131,7 @@ pub fn read_both<R: Read>(
 }
 
 /// The book of both files, each read to its end, A's first.
-fn book_of_readers<R: Read>(
+pub fn book_of_readers<R: Read>(
     alloc: Global,
     sheet: &MatchSheet,
     a: &mut Watched<R>,

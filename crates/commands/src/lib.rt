@@ -7,6 +7,7 @@ mod card;
 mod check;
 mod compare_command;
 mod export_command;
+mod lines_command;
 mod migrate;
 mod printing;
 
@@ -17,5 +18,6 @@ pub use crate::card::{card_run, start_card};
 pub use crate::check::{CheckFault, check_run, start_check};
 pub use crate::compare_command::{compare_run, start_compare};
 pub use crate::export_command::{export_run, start_export};
+pub use crate::lines_command::{lines_both_run, lines_run, start_lines, start_lines_of_both};
 pub use crate::migrate::{MigrateFault, migrate_run, start_migrate};
 pub use crate::printing::PrintFault;

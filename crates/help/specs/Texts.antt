@@ -1,16 +1,16 @@
 -- What the words of the program do, with one filled-in command each, as a scorer types it.
 use Rattle.std.specs.Prelude.{ℕ, ◌≤◌, List, [], ◌∷◌, ◌++◌, length, All, codes}
 use Rattle.help.specs.declared.subject.Subject.{Subject}
-use Rattle.help.specs.declared.subject.Subject.TheVariants.{Help, Desk, Board, Key, Check, Card, Export, Compare, Match, Replay, Migrate}
+use Rattle.help.specs.declared.subject.Subject.TheVariants.{Help, Desk, Board, Key, Check, Card, Export, Lines, Compare, Match, Replay, Migrate}
 
 -- rows that a plain terminal shows at once: 24 of 80 columns at most
 abbrev pub FitsAScreen : List (List ℕ) → Type 0
 FitsAScreen rows = (length rows ≤ 24) × All (λ row. length row ≤ 80) rows
 
 -- a text of these rows
-abbrev pub lines : List (List ℕ) → List ℕ
-lines [] = []
-lines (row ∷ rows) = row ++ codes "\n" ++ lines rows
+abbrev pub joined : List (List ℕ) → List ℕ
+joined [] = []
+joined (row ∷ rows) = row ++ codes "\n" ++ joined rows
 
 -- what is told of a word, row by row
 abbrev pub rows : Subject → List (List ℕ)
@@ -23,6 +23,7 @@ rows Help =
     codes "  check    reads lines, says which aren't taken and why, and shows the score" ∷
     codes "  card     prints the cards and the whole book of a match" ∷
     codes "  export   prints a match as JSON, for an archive" ∷
+    codes "  lines    prints a match as lines, to begin it anew where a file is lost" ∷
     codes "  compare  tells where the votes files of both desks differ" ∷
     codes "  match    has two desks and a board agree a book, all on this machine" ∷
     codes "  replay   plays a schedule of what desks and boards write, send and lose" ∷
@@ -97,6 +98,17 @@ rows Export =
     codes "                        B's, or from a file of full lines" ∷
     codes "  --from F              the file; for both, desk A's" ∷
     codes "  --with G              desk B's file, for both alone" ∷ []
+rows Lines =
+    codes "lines: prints a book as full lines, each entry as it was written, from which" ∷
+    codes "match begins it anew, as where a laptop is lost." ∷
+    codes "" ∷
+    codes "  ./ground lines --sheet sheet.toml --from b.votes --kind b >book.txt" ∷
+    codes "" ∷
+    codes "  --sheet S             the sheet of the match" ∷
+    codes "  --kind both|a|b|book  from both desks' votes files, from desk A's, from desk" ∷
+    codes "                        B's, or from a file of full lines" ∷
+    codes "  --from F              the file; for both, desk A's" ∷
+    codes "  --with G              desk B's file, for both alone" ∷ []
 rows Compare =
     codes "compare: tells where the votes files of both desks differ, a line for each place" ∷
     codes "and round, and then how many entries they agree." ∷
@@ -140,4 +152,4 @@ rows Migrate =
 
 -- what is told of a word
 abbrev pub help_on : Subject → List ℕ
-help_on subject = lines (rows subject)
+help_on subject = joined (rows subject)

@@ -14,6 +14,7 @@ ground: the book of a cricket match, kept by two scorers. Its words:
   check    reads lines, says which aren't taken and why, and shows the score
   card     prints the cards and the whole book of a match
   export   prints a match as JSON, for an archive
+  lines    prints a match as lines, to begin it anew where a file is lost
   compare  tells where the votes files of both desks differ
   match    has two desks and a board agree a book, all on this machine
   replay   plays a schedule of what desks and boards write, send and lose
@@ -102,6 +103,19 @@ matches, ball by ball.
   --with G              desk B's file, for both alone
 ";
 
+const LINES: &str = "\
+lines: prints a book as full lines, each entry as it was written, from which
+match begins it anew, as where a laptop is lost.
+
+  ./ground lines --sheet sheet.toml --from b.votes --kind b >book.txt
+
+  --sheet S             the sheet of the match
+  --kind both|a|b|book  from both desks' votes files, from desk A's, from desk
+                        B's, or from a file of full lines
+  --from F              the file; for both, desk A's
+  --with G              desk B's file, for both alone
+";
+
 const COMPARE: &str = "\
 compare: tells where the votes files of both desks differ, a line for each place
 and round, and then how many entries they agree.
@@ -162,6 +176,7 @@ pub fn help_on(subject: Subject) -> &'static str
         Subject::Check => CHECK,
         Subject::Card => CARD,
         Subject::Export => EXPORT,
+        Subject::Lines => LINES,
         Subject::Compare => COMPARE,
         Subject::Match => MATCH,
         Subject::Replay => REPLAY,

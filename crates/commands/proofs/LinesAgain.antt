@@ -1,0 +1,148 @@
+-- The lines of a book, read again.
+use Rattle.std.proofs.Common.{◌≡◌, ◌∙◌, ℕ, zero, suc, ◌+◌, ◌<◌, ◌≤◌, ◌==◌, List, [], ◌∷◌, ◌++◌, Bool, true, not, arith, refl, sym, map, take, Some, None, Result, Ok, Err, length, length-append, add-one, append-nil, append_assoc}
+use Rattle.std.specs.Prelude.{codes, slice_get}
+use Rattle.std.specs.List.{list_all}
+use Rattle.std.proofs.lemmas.List.{take_all}
+use Rattle.notation.specs.declared.{entry.Entry.Entry, entry.TheConstants.PLACES}
+use Rattle.notation.specs.Lines.{lines_of}
+use Rattle.notation.specs.Reading.{line_answer}
+use Rattle.notation.specs.Written.{IsEntry, text_of, tokens, is_visible, is_token, is_spaced}
+use Rattle.notation.proofs.Texts.{line_again}
+use Rattle.corrections.specs.Refusal.{book_refusal}
+use Rattle.agree_core.specs.Ballots.{Ballot}
+use Rattle.agree_core.specs.Books.{AllTaken, Rules, book_of, voted_list}
+use Rattle.agree_core.proofs.Taken.{taken_push}
+use Rattle.vote_store.specs.declared.refusal.Refusal.{Refusal}
+use Rattle.cards.specs.Columns.{lines_from}
+use Rattle.cards.specs.Sheet.{Sheet}
+use Rattle.books.specs.BothFiles.{IsBookOfBoth}
+use Rattle.books.specs.CardBook.{IsBookFrom, IsBookOfLines, IsBookOfVotes, first_rejected, votes_in_file}
+use Rattle.books.specs.Taking.{answer_to, book_after, with_taken}
+use Rattle.books.specs.declared.rejected.Rejected.{Rejected}
+use Rattle.books.specs.declared.source.Source.{Source}
+use Rattle.books.specs.declared.source.Source.TheVariants.{Lines}
+use Rattle.commands.specs.Lines.{AreReadAgain, full_line, lines_text}
+
+-- each of these entries has its numbers in their ranges
+abbrev pub AllEntries : List Entry → Type 0
+AllEntries [] = Unit {0}
+AllEntries (e ∷ es) = IsEntry e × AllEntries es
+
+-- one entry more of a book
+pub one_more : (book : List Entry) (k : ℕ) (e : Entry) → AllEntries (take k book) → slice_get book k ≡ Some e → IsEntry e → AllEntries (take (k + 1) book)
+one_more [] k e h is in_range = absurd (cc)
+one_more (x ∷ xs) zero e h is in_range = let same : x ≡ e = cc in (rw same in_range, tt)
+one_more (x ∷ xs) (suc k) e h is in_range = rw (add-one) (h.0, rw (add-one) at (one_more xs k e h.1 is in_range))
+
+-- no byte of a line is a newline
+abbrev pub is_one_line : List ℕ → Bool
+is_one_line bs = list_all (λ b. not (b == 10)) bs
+
+-- a line up to its newline
+cut : (line rest : List ℕ) → is_one_line line ≡ true → lines_of (line ++ (10 ∷ rest)) ≡ line ∷ lines_of rest
+cut [] rest h = refl
+cut (b ∷ bs) rest h = grind (arith, cut bs rest)
+
+-- the pieces between spaces of a spaced line are visible
+visible_line : (bs : List ℕ) → list_all (list_all is_visible) (tokens bs) ≡ true → is_one_line bs ≡ true
+visible_line [] h = refl
+visible_line (b ∷ bs) h = grind (arith, visible_line bs)
+
+spaced : (pieces : List (List ℕ)) → list_all is_token pieces ≡ true → list_all (list_all is_visible) pieces ≡ true
+spaced [] h = refl
+spaced (w ∷ ws) h = grind (arith, spaced ws)
+
+one_line : (line : List ℕ) → is_spaced line ≡ true → is_one_line line ≡ true
+one_line line h = visible_line line (spaced (tokens line) h)
+
+-- what is read as an entry is spaced
+read_is_spaced : (line : List ℕ) (e : Entry) → line_answer line ≡ Ok e → is_spaced line ≡ true
+unfolding line_answer
+read_is_spaced line e h = grind arith
+
+text_is_one_line : (e : Entry) → IsEntry e → is_one_line (text_of e) ≡ true
+text_is_one_line e h = one_line (text_of e) (read_is_spaced (text_of e) e (line_again e h))
+
+-- the lines of the lines of these entries are their texts
+pub lines_of-lines_from : (n : ℕ) (book : List Entry) → AllEntries book → lines_of (lines_from full_line n book) ≡ map text_of book
+lines_of-lines_from n [] h = refl
+lines_of-lines_from n (e ∷ es) h =
+    rw (append_assoc (text_of e) (codes "\n"), cut (text_of e) (lines_from full_line (n + 1) es) (text_is_one_line e h.0), lines_of-lines_from (n + 1) es h.1) refl
+
+pub texts_again : (book : List Entry) → AllEntries book → map line_answer (map text_of book) ≡ map Ok book
+texts_again [] h = refl
+texts_again (e ∷ es) h = rw (line_again e h.0, texts_again es h.1) refl
+
+pub are_read_again : (book : List Entry) → AllEntries book → length book ≤ PLACES → AreReadAgain book
+are_read_again book h few = record { said = rw (lines_of-lines_from 0 book h) (texts_again book h); places = few }
+
+-- all entries of a book, so many
+pub all_read : (book : List Entry) (k n : ℕ) → n ≤ k → n ≡ length book → n ≤ PLACES → AllEntries (take k book) → AreReadAgain book
+all_read book k n end long few h = are_read_again book (rw (take_all k book (omega (arith, end, long))) at h) (omega (arith, long, few))
+
+-- ---- as a book
+
+module _ (innings : ℕ) where
+  -- a line that says an entry which may come next is taken
+  taken_next : (book : List Entry) (line : List ℕ) (e : Entry) → line_answer line ≡ Ok e → length book < PLACES → book_refusal innings book e ≡ None → answer_to innings book line ≡ Ok e
+  taken_next book line e says few may = grind (arith, says, few, may)
+
+  rejected_later : (n : ℕ) (book : List Entry) (line : List ℕ) (lines : List (List ℕ)) (e : Entry) → answer_to innings book line ≡ Ok e →
+      first_rejected innings n book (line ∷ lines) ≡ first_rejected innings (n + 1) (book ++ e ∷ []) lines
+  rejected_later n book line lines e taken = rw (first_rejected, taken) refl
+
+  -- lines that say entries of which each may come next are taken, all of them
+  all_taken : (n : ℕ) (book : List Entry) (lines : List (List ℕ)) (es : List Entry) → map line_answer lines ≡ map Ok es →
+      AllTaken (book_refusal innings) book es → length book + length es ≤ PLACES →
+      (first_rejected innings n book lines ≡ None) × (book_after innings book lines ≡ book ++ es)
+  all_taken n book [] [] same may few = (refl, sym (append-nil book))
+  all_taken n book [] (e ∷ es) same may few = absurd (cc)
+  all_taken n book (line ∷ lines) [] same may few = absurd (cc)
+  all_taken n book (line ∷ lines) (e ∷ es) same may few =
+      let says : line_answer line ≡ Ok e = cc in
+      let rest : map line_answer lines ≡ map Ok es = cc in
+      let next = taken_next book line e says (omega (arith, few)) may.0 in
+      let later = all_taken (n + 1) (book ++ e ∷ []) lines es rest may.1 (omega (arith, few, length-append book (e ∷ []))) in
+      (rejected_later n book line lines e next ∙ later.0, rw (next) (rw (append_assoc book (e ∷ [])) at later.1))
+
+  again : (book : List Entry) → AreReadAgain book → AllTaken (book_refusal innings) [] book → IsBookOfLines innings (lines_text book) book
+  again book m may = let all = all_taken 1 [] (lines_of (lines_text book)) book m.said may (omega (arith, m.places)) in record { taken = all.0; entries = sym all.1 }
+
+  -- what was taken of lines may come next, entry by entry
+  was_allowed : (book : List Entry) (line : List ℕ) (e : Entry) → answer_to innings book line ≡ Ok e → book_refusal innings book e ≡ None
+  was_allowed book line e taken = grind (arith, taken)
+
+  one_line_more : (book : List Entry) (line : List ℕ) (answer : Result Entry Rejected) → answer_to innings book line ≡ answer → AllTaken (book_refusal innings) [] book →
+      AllTaken (book_refusal innings) [] (with_taken answer book)
+  one_line_more book line (Ok e) is may = taken_push (book_refusal innings) [] book e may (was_allowed book line e is)
+  one_line_more book line (Err why) is may = may
+
+  lines_allowed : (book : List Entry) (lines : List (List ℕ)) → AllTaken (book_refusal innings) [] book → AllTaken (book_refusal innings) [] (book_after innings book lines)
+  lines_allowed book [] may = may
+  lines_allowed book (line ∷ lines) may =
+      lines_allowed (with_taken (answer_to innings book line) book) lines (one_line_more book line (answer_to innings book line) refl may)
+
+front_allowed : {Why : Type 0} (rules : Rules Why) (book xs ys : List Entry) → AllTaken rules book (xs ++ ys) → AllTaken rules book xs
+front_allowed rules book [] ys may = tt
+front_allowed rules book (x ∷ xs) ys may = (may.0, front_allowed rules (book ++ x ∷ []) xs ys may.1)
+
+votes_allowed : (innings : ℕ) (votes : List Ballot) → AllTaken (book_refusal innings) [] (voted_list votes) → AllTaken (book_refusal innings) [] (book_of votes)
+votes_allowed innings [] may = tt
+votes_allowed innings (b ∷ rest) may = front_allowed (book_refusal innings) [] (book_of (b ∷ rest)) (b.entry ∷ []) may
+
+file_allowed : (innings : ℕ) (shown : Result (List Ballot) Refusal) (book : List Entry) → IsBookOfVotes innings shown book → AllTaken (book_refusal innings) [] book
+file_allowed innings (Ok votes) book made = rw (made.entries) (votes_allowed innings votes made.taken)
+file_allowed innings (Err why) book made = absurd made
+
+input_allowed : (source : Source) (s : Sheet) (input : List ℕ) (book : List Entry) → IsBookFrom source s input book → AllTaken (book_refusal s.innings) [] book
+input_allowed Lines s input book made = rw (made.entries) (lines_allowed s.innings [] (lines_of input) tt)
+input_allowed (Source.Votes desk) s input book made = file_allowed s.innings (votes_in_file desk s.game input) book made
+
+-- the lines of an input's book are that book again
+pub again_from : (source : Source) (s : Sheet) (input : List ℕ) (book : List Entry) → IsBookFrom source s input book → AreReadAgain book →
+    IsBookFrom Lines s (lines_text book) book
+again_from source s input book made m = again s.innings book m (input_allowed source s input book made)
+
+-- and so are those of both files' book
+pub again_of_both : (s : Sheet) (a b : List ℕ) (book : List Entry) → IsBookOfBoth s a b book → AreReadAgain book → IsBookFrom Lines s (lines_text book) book
+again_of_both s a b book made m = again s.innings book m made.taken
