@@ -1,5 +1,5 @@
 //! What a desk's scorer is told of the other desk by the clock: that it has written, that it isn't heard, and that it is again.
-ghost use Rattle.std.specs.Prelude.{◌≡◌};
+ghost use Rattle.std.specs.Prelude.{◌≡◌, ◌<◌};
 
 use super::timing::{Hand, Timed, World};
 use super::*;
