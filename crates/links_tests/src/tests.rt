@@ -28,3 +28,11 @@ fn vote(rt: &impl Abort, desk: DeskId, place: u32, round: u32, line: &str) -> [u
 {
     vote_of(desk, place, round, entry(rt, line))
 }
+
+/// An ask for the votes of a position, in match 7.
+fn ask_at(from: Asker, place: u32, round: u32) -> [u8; 48]
+    requires place { place < PLACES }
+    requires round { round < ROUNDS }
+{
+    bytes_of(7, &Message::Ask(Ask { from, place, round }))
+}
