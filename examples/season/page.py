@@ -15,13 +15,15 @@ SHORT = {
     "points": ("Pts", "points"), "run_rate": ("NRR", "net run rate"), "dismissals": ("All", "dismissals"), "run_outs": ("Run outs", "run outs"),
     "partnership": ("Runs", "runs together, * unbroken"), "wicket": ("Wkt", "for which wicket"),
 }
-WORDS = {"team", "player", "batters", "title", "day", "venue", "words", "folder", "why", "home", "away", "match"}
+WORDS = {"team", "player", "batters", "day", "venue", "words", "scores", "folder", "why", "match"}
 RATES = {"average", "strike_rate", "economy", "run_rate"}
-LONG = {"why", "words", "title", "match"}
+LONG = {"why", "words", "scores", "match"}
 # each part: its heading, what it is, and the question whose first column names a row
 PARTS = [
     ("table", "Table", 'SELECT * FROM "table"'),
-    ("results", "Matches", "SELECT title AS match, day, words, venue FROM matches ORDER BY day, number, home"),
+    ("results", "Matches",
+     "SELECT title AS match, day, words, (SELECT group_concat(team || ' ' || runs || '/' || wickets, ', ') FROM innings WHERE match = matches.id) AS scores,"
+     " venue FROM matches ORDER BY day, number, home"),
     ("batting", "Batting", "SELECT player, team, matches, innings, not_out, runs, highest, average, balls, strike_rate, hundreds, fifties, ducks, fours, sixes"
      " FROM batting"),
     ("bowling", "Bowling", "SELECT player, team, matches, overs, maidens, runs, wickets, best, average, economy, strike_rate, fives, wides, noballs"

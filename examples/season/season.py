@@ -47,6 +47,8 @@ def looked_at(task):
         return folder, read_match(program, folder)
     except LeftOut as why:
         return folder, str(why)
+    except (ValueError, LookupError) as why:
+        return folder, f"it can't be read: {why!r}"
 
 
 def read_all(program, folders):
@@ -95,9 +97,8 @@ class Reading:
 
     def take(self, folder, match, matches):
         """Puts a match in, in the place of what was known of it."""
-        key = match.key
-        twice = [other for other, it in matches.items() if other != folder and it.key == key]
-        old = self.season.execute("SELECT id, folder, files FROM matches WHERE number = ? AND home = ? AND away = ?", key).fetchone()
+        twice = [other for other, it in matches.items() if other != folder and it.key == match.key]
+        old = self.season.execute("SELECT id, folder, files FROM matches WHERE number = ? AND home = ? AND away = ?", match.key).fetchone()
         twice += [old[1]] if old and old[2] in self.files.values() else []
         if twice:
             self.left_out[folder] = f"the match of {twice[0]} with other files: give one of the two"
@@ -155,7 +156,7 @@ def ask(season, question):
 
 def program_of(words):
     """The program: the one that is named, or `ground` here, or that of this repository."""
-    if words[:1] == ["--ground"]:
+    if words[:1] == ["--ground"] and len(words) > 1:
         return os.path.realpath(words[1]), words[2:]
     return next((os.path.realpath(path) for path in ("ground", f"{HERE}/../../ground") if os.path.exists(path)), "ground"), words
 
