@@ -18,6 +18,16 @@ KINDS = {
 # the kinds of which a bowler has credit
 CREDITED = {"bowled", "caught", "caught and bowled", "lbw", "stumped", "hit wicket"}
 
+# the lines of the card of an innings
+HEAD_LINE = re.compile(r"(.*), innings \d+")
+BATTER_LINE = re.compile(r"(.{16}) (.{38}) +(\d+) +(\d+) +(\d+) +(\d+)")
+EXTRAS_LINE = re.compile(r"Extras \d+ \(b (\d+), lb (\d+), w (\d+), nb (\d+), p (\d+)\)")
+TOTAL_LINE = re.compile(r"Total (\d+) for (\d+) \((\d+\.\d+) overs\)")
+FALL_LINE = re.compile(r"Fall \d+-(\d+) (.*)")
+BOWLING_LINE = re.compile(r".* bowling")
+BOWLER_LINE = re.compile(r"(.{16}) +(\d+\.\d+) +(\d+) +(\d+) +(\d+) +(\d+) +(\d+)")
+OVERS_NOT_OF_SIX = re.compile(r"Overs not of six (\d+)")
+
 
 class Wrong(Exception):
     """What is read isn't of the format, or doesn't add up."""
@@ -180,16 +190,53 @@ def added_up(innings):
     return runs, sum(wicket["kind"] != "retired hurt" for wicket in wickets)
 
 
-def batters_of(innings):
+def standing(book):
+    """The lines that stand, in the order of play: each as its last correction has it, late ones behind the place that they name."""
+    says, order, late = {}, [], {}
+    for entry in book:
+        place, line = entry["place"], entry["line"]
+        word, *named = line.split(" ", 2)
+        if word == "fix":
+            says[int(named[0])] = named[1]
+        elif word == "late":
+            says[place] = named[1]
+            late.setdefault(int(named[0]), []).append(place)
+        else:
+            says[place] = line
+            order.append(place)
+    places = [place for first in order for place in (first, *late.get(first, []))]
+    return [says[place] for place in places if says[place] != "void"]
+
+
+def balls_penned(match):
+    """For each innings the lines of its deliveries, as words: they tell what a delivery of the format can't, whether it was a
+    boundary for which more was run, and whether it was called dead."""
+    penned = iter([line.split(" ") for line in standing(match["yermudosh"]["book"]) if line.startswith("ball ")])
+    lists = [[next(penned, None) for _ in deliveries_of(innings)] for innings in match["innings"]]
+    wants(next(penned, None) is None and all(None not in listed for listed in lists), "the deliveries of the book")
+    return lists
+
+
+def boundary(words):
+    """Four or six off the bat, or 0, by a delivery's line."""
+    is_bat = words[2] in ("bat", "nb")
+    return 4 if is_bat and "four" in words else 6 if is_bat and "six" in words else 0
+
+
+def counts(delivery, words):
+    """Whether a delivery counts in the over."""
+    return not {"wides", "noballs"} & set(delivery.get("extras", {})) and "dead" not in words
+
+
+def batters_of(innings, penned):
     """Each batter's runs, balls, fours and sixes."""
     rows = {}
-    for delivery in deliveries_of(innings):
-        runs, extras = delivery["runs"], delivery.get("extras", {})
+    for delivery, words in zip(deliveries_of(innings), penned, strict=True):
         row = rows.setdefault(delivery["batter"], [0, 0, 0, 0])
-        row[0] += runs["batter"]
-        row[1] += "wides" not in extras
-        row[2] += runs["batter"] == 4 and "non_boundary" not in runs
-        row[3] += runs["batter"] == 6 and "non_boundary" not in runs
+        row[0] += delivery["runs"]["batter"]
+        row[1] += "wides" not in delivery.get("extras", {})
+        row[2] += boundary(words) == 4
+        row[3] += boundary(words) == 6
     return rows
 
 
@@ -207,70 +254,91 @@ def bowlers_of(innings):
     return rows
 
 
-def miscounted(innings, has_dead):
-    """How many overs were miscounted, each with as many fair deliveries as it says. One that was called dead is listed, and
-    doesn't count."""
-    overs = {str(over["over"]): over["deliveries"] for over in innings["overs"]}
+def miscounted(innings, penned):
+    """How many overs were miscounted, each with as many deliveries that count as it says."""
+    penned, fair = iter(penned), {}
+    for over in innings["overs"]:
+        fair[str(over["over"])] = sum(counts(delivery, next(penned)) for delivery in over["deliveries"])
     listed = innings.get("miscounted_overs", {})
     for number, over in listed.items():
-        fair = sum(not {"wides", "noballs"} & set(delivery.get("extras", {})) for delivery in overs.get(number, []))
         wants(over["balls"] != 6, f"over {number} of six")
-        wants(over["balls"] == fair or has_dead and over["balls"] < fair, f"over {number}: {over} and {fair} fair deliveries")
+        wants(over["balls"] == fair.get(number), f"over {number}: {over} and {fair.get(number)} fair deliveries")
     return len(listed)
 
 
+def figures(texts):
+    return [int(text) for text in texts]
+
+
+def taken(lines, form, most=None):
+    """Takes the lines of this form from the front of the lines, and answers the groups of each."""
+    found = []
+    while lines and len(found) != most and (line := form.fullmatch(lines[0])):
+        found.append(line.groups())
+        del lines[0]
+    return found
+
+
+def taken_one(lines, form):
+    found = taken(lines, form, 1)
+    wants(found, f"a line of the card: {lines[:1]}")
+    return found[0]
+
+
+class CardInnings:
+    """An innings as the card has it, taken from the front of its lines."""
+
+    def __init__(self, lines):
+        (self.team,) = taken_one(lines, HEAD_LINE)
+        self.batters = [(name.rstrip(), how.rstrip(), figures(row)) for name, how, *row in taken(lines, BATTER_LINE)]
+        self.extras = figures(taken_one(lines, EXTRAS_LINE))
+        runs, wickets, self.overs = taken_one(lines, TOTAL_LINE)
+        self.runs, self.wickets = int(runs), int(wickets)
+        self.falls = [(int(runs), name) for runs, name in taken(lines, FALL_LINE, self.wickets)]
+        taken_one(lines, BOWLING_LINE)
+        self.bowlers = [(name.rstrip(), overs, figures(row)) for name, overs, *row in taken(lines, BOWLER_LINE)]
+        self.miscounted = int(taken_one(lines, OVERS_NOT_OF_SIX)[0])
+
+
 class Card:
-    """What `ground card` prints of each innings."""
+    """What `ground card` prints: each innings, in lines and columns that no name can be taken for."""
 
     def __init__(self, text):
-        self.totals = [(int(runs), int(wickets)) for runs, wickets in re.findall(r"^Total (\d+) for (\d+) ", text, re.MULTILINE)]
-        self.batters, self.bowlers, self.miscounted, rows = [], [], [], None
-        for line in text.split("\n"):
-            if re.fullmatch(r".*, innings \d+", line):
-                self.batters.append({})
-                rows = self.batters[-1]
-            elif re.match(r"Extras \d+ \(", line):
-                rows = None
-            elif line.endswith(" bowling"):
-                self.bowlers.append({})
-                rows = self.bowlers[-1]
-            elif re.match(r"Overs not of six \d+", line):
-                self.miscounted.append(int(line.split()[-1]))
-                rows = None
-            elif rows is not None and rows is (self.bowlers or [None])[-1]:
-                self.add_bowler(rows, line)
-            elif rows is not None:
-                self.add_batter(rows, line)
+        lines, self.innings = text.split("\n"), []
+        while len(lines) > 1 and HEAD_LINE.fullmatch(lines[0]) and (BATTER_LINE.fullmatch(lines[1]) or EXTRAS_LINE.fullmatch(lines[1])):
+            self.innings.append(CardInnings(lines))
 
-    @staticmethod
-    def add_batter(rows, line):
-        figures = [int(figure) for figure in line[55:].split()]
-        rows[line[:16].rstrip()] = figures
 
-    @staticmethod
-    def add_bowler(rows, line):
-        overs, _, runs, wickets, wides, noballs = line[17:].split()
-        rows[line[:16].rstrip()] = [overs] + [int(figure) for figure in (runs, wickets, wides, noballs)]
+def compare_innings(innings, penned, card):
+    """The first thing at which the deliveries of an innings and its card differ."""
+    runs, wickets = added_up(innings)
+    # an innings with no delivery has no place for a wicket
+    found, printed = (runs, wickets if deliveries_of(innings) else card.wickets), (card.runs, card.wickets)
+    wants(found == printed, f"{found} and {printed}")
+    found = miscounted(innings, penned)
+    wants(found == card.miscounted, f"{found} miscounted overs and {card.miscounted}")
+    for delivery, words in zip(deliveries_of(innings), penned, strict=True):
+        is_none = delivery["runs"]["batter"] in (4, 6) and boundary(words) != delivery["runs"]["batter"]
+        wants(is_none == ("non_boundary" in delivery["runs"]), f"non_boundary of {' '.join(words)}")
+    batters = {name: row for name, _, row in card.batters}
+    for name, row in batters_of(innings, penned).items():
+        printed = batters.get(name[:16].rstrip())
+        wants(row == printed, f"{name} {row} and {printed}")
+    bowlers = {name: row[1:] for name, _, row in card.bowlers}
+    for name, row in bowlers_of(innings).items():
+        printed = bowlers.get(name[:16].rstrip())
+        wants(row[1:] == printed, f"{name} {row[1:]} and {printed}")
 
 
 def compare(match, card):
     """The first thing at which the deliveries and the card differ."""
     listed = match["innings"]
-    has_dead = any(" dead" in entry["line"] for entry in match["yermudosh"]["book"])
-    wants(len(listed) == len(card.totals), "how many innings there are")
-    for number, innings in enumerate(listed):
-        runs, wickets = added_up(innings)
-        # an innings with no delivery has no place for a wicket
-        found = (runs, wickets if deliveries_of(innings) else card.totals[number][1])
-        wants(found == card.totals[number], f"innings {number}: {found} and {card.totals[number]}")
-        found = miscounted(innings, has_dead)
-        wants(found == card.miscounted[number], f"innings {number}: {found} miscounted overs and {card.miscounted[number]}")
-        for name, row in batters_of(innings).items():
-            printed = card.batters[number].get(name[:16].rstrip())
-            wants(row == printed, f"innings {number}: {name} {row} and {printed}")
-        for name, row in bowlers_of(innings).items():
-            printed = card.bowlers[number].get(name[:16].rstrip())
-            wants(printed is not None and row[1:] == printed[1:], f"innings {number}: {name} {row} and {printed}")
+    wants(len(listed) == len(card.innings), "how many innings there are")
+    for number, (innings, penned, printed) in enumerate(zip(listed, balls_penned(match), card.innings, strict=True)):
+        try:
+            compare_innings(innings, penned, printed)
+        except Wrong as why:
+            raise Wrong(f"innings {number}: {why}") from None
 
 
 def check(match):

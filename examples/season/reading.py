@@ -1,0 +1,300 @@
+"""Reads a match: what the program tells of its sheet and of both desks' files, as rows of the season's tables.
+
+`read_match` answers a `Match`, or raises `LeftOut` with the reason why the match isn't to be taken.
+"""
+import hashlib
+import json
+import os
+import subprocess
+import sys
+import tomllib
+from dataclasses import dataclass, field
+
+sys.path.append(os.path.join(os.path.dirname(os.path.realpath(__file__)), ".."))
+from read_export import CREDITED, Card, Wrong, balls_penned, boundary, compare, counts, deliveries_of, standing, wants
+
+FILES = ("sheet.toml", "a.votes", "b.votes")
+RESULTS = {"draw": "drawn", "tie": "tied", "no result": "no result"}
+# how a batter is out who isn't out by a delivery
+OUT_BETWEEN = {"timedout": "timed out", "retiredout": "retired out", "runout": "run out"}
+
+
+class LeftOut(Exception):
+    """Why a match isn't taken."""
+
+
+@dataclass
+class Match:
+    """A match's row of `matches`, and its rows of each other table."""
+
+    row: dict
+    tables: dict = field(default_factory=dict)
+
+    @property
+    def key(self):
+        """By what it is known."""
+        return self.row["number"], self.row["home"], self.row["away"]
+
+    def add(self, table, **row):
+        self.tables.setdefault(table, []).append(row)
+
+
+def paths_of(folder):
+    """The sheet and both desks' files of a match's folder."""
+    paths = [os.path.join(folder, name) for name in FILES]
+    for name, path in zip(FILES, paths):
+        if not os.path.isfile(path):
+            raise LeftOut(f"there is no {name}")
+    return paths
+
+
+def hash_of(folder):
+    """A hash that changes where the sheet or a desk's file does."""
+    hashes = hashlib.sha256()
+    for path in paths_of(folder):
+        with open(path, "rb") as file:
+            hashes.update(hashlib.sha256(file.read()).digest())
+    return hashes.hexdigest()
+
+
+def told_by(program, *words):
+    """What the program prints, or the reason that it gives."""
+    ran = subprocess.run([program, *words], stdin=subprocess.DEVNULL, capture_output=True, text=True)
+    if ran.returncode:
+        raise LeftOut((ran.stderr or ran.stdout).strip().split("\n")[-1] or f"status {ran.returncode}")
+    return ran.stdout
+
+
+def must_be_one_record(program, sheet, a, b):
+    """Leaves the match out where its files aren't one record to the last entry."""
+    *places, told = told_by(program, "compare", "--sheet", sheet, "--a", a, "--b", b).splitlines()
+    agreed = int(told.split(",")[0].removeprefix("agreed "))
+    for line in places:
+        if int(line.split(" ")[0]) >= agreed:
+            raise LeftOut(f"the files differ from place {agreed} on: {line}")
+
+
+def read_match(program, folder):
+    """The match of a folder, whose files are one record, with the deliveries adding up to the card."""
+    sheet, a, b = paths_of(folder)
+    files = hash_of(folder)
+    must_be_one_record(program, sheet, a, b)
+    of_both = ("--sheet", sheet, "--kind", "both", "--from", a, "--with", b)
+    exported = json.loads(told_by(program, "export", *of_both))
+    must_have_own_names(exported["info"]["players"])
+    card = Card(told_by(program, "card", *of_both))
+    try:
+        compare(exported, card)
+        match = match_of(exported, folder, files)
+        add_innings(match, exported, card)
+    except Wrong as why:
+        raise LeftOut(f"the deliveries aren't those of the card: {why}") from None
+    return match
+
+
+def must_have_own_names(players):
+    for team, names in players.items():
+        for name in names:
+            if names.count(name) > 1:
+                raise LeftOut(f"two players of {team} are called {name}")
+
+
+def match_of(exported, folder, files):
+    """The row of the match, and its players."""
+    info, ours = exported["info"], exported["yermudosh"]
+    home, away = info["teams"]
+    result, winner, words = result_of(info.get("outcome", {}))
+    row = dict(
+        number=str(ours["match_number"]), home=home, away=away, title=title_of(folder), day=first_day(info), venue=of_kind(str, info.get("venue")),
+        overs=of_kind(int, info.get("overs")), result=result, winner=winner, words=words, folder=folder, files=files,
+    )
+    match = Match(row)
+    for team, names in info["players"].items():
+        for number, name in enumerate(names, 1):
+            match.add("players", team=team, player=name)
+            match.add("appearances", team=team, player=name, number=number)
+    return match
+
+
+def title_of(folder):
+    with open(os.path.join(folder, FILES[0]), "rb") as file:
+        return tomllib.load(file)["title"]
+
+
+def first_day(info):
+    days = of_kind(list, info.get("dates")) or [None]
+    return of_kind(str, days[0])
+
+
+def of_kind(kind, value):
+    """A value of the sheet's [info], in which nothing is checked, where it is of this kind."""
+    return value if type(value) is kind else None
+
+
+def result_of(outcome):
+    """The result's word, who has won, and the result in words."""
+    if "winner" not in outcome:
+        result = RESULTS.get(outcome.get("result"), "unfinished")
+        return result, None, result
+    by, winner = outcome.get("by", {}), outcome["winner"]
+    parts = ["an innings"] * ("innings" in by)
+    parts += [f"{by[unit]} {unit[:-1] if by[unit] == 1 else unit}" for unit in ("runs", "wickets") if unit in by]
+    return "won", winner, f"{winner} won by {' and '.join(parts) or outcome.get('method', '?')}"
+
+
+def add_innings(match, exported, card):
+    """The rows of each innings."""
+    penned = balls_penned(exported)
+    lines = lines_of_innings(exported)
+    for number, innings in enumerate(exported["innings"]):
+        Innings(match, exported, number, penned[number], lines[number], card.innings[number]).add()
+
+
+def lines_of_innings(exported):
+    """The lines that stand, innings by innings."""
+    lists = []
+    for line in standing(exported["yermudosh"]["book"]):
+        if line.startswith("innings "):
+            lists.append([])
+        elif lists:
+            lists[-1].append(line.split(" "))
+    return lists
+
+
+class Innings:
+    """One innings, as the export, the book's lines and the card have it."""
+
+    def __init__(self, match, exported, number, penned, lines, card):
+        innings, players = exported["innings"][number], exported["info"]["players"]
+        self.match, self.card, self.lines, self.innings = match, card, lines, innings
+        self.team = innings["team"]
+        self.fielding = next(team for team in players if team != self.team)
+        self.names = players[self.team]
+        self.at = dict(innings=number + 1, team=self.team)
+        self.by_print = {name[:16].rstrip(): name for names in players.values() for name in names}
+        self.deliveries = list(zip(deliveries_of(innings), penned, strict=True))
+
+    def add(self):
+        self.add_itself()
+        self.add_deliveries()
+        self.add_batters()
+        self.add_bowlers()
+        crease = Crease(self)
+        crease.walk()
+        self.add_dismissals(crease.leavers)
+        for place, stand in enumerate(crease.stands, 1):
+            self.match.add("stands", **self.at, place=place, **stand)
+
+    def add_itself(self):
+        byes, legbyes, wides, noballs, penalty = self.card.extras
+        ended = next((words[1] for words in self.lines if words[0] == "end"), None)
+        self.match.add(
+            "innings", **self.at, fielding=self.fielding, runs=self.card.runs, wickets=self.card.wickets, overs=self.card.overs,
+            balls=sum(counts(*delivery) for delivery in self.deliveries), byes=byes, legbyes=legbyes, wides=wides, noballs=noballs,
+            penalty=penalty, target=self.innings.get("target", {}).get("runs"), ended=ended,
+        )
+
+    def add_deliveries(self):
+        places = [(over["over"], ball) for over in self.innings["overs"] for ball, _ in enumerate(over["deliveries"], 1)]
+        for number, ((over, ball), (delivery, words)) in enumerate(zip(places, self.deliveries, strict=True), 1):
+            extras = {kind: delivery.get("extras", {}).get(kind, 0) for kind in ("wides", "noballs", "byes", "legbyes", "penalty")}
+            self.match.add(
+                "deliveries", **self.at, number=number, over=over, ball=ball, fielding=self.fielding, striker=delivery["batter"],
+                non_striker=delivery["non_striker"], bowler=delivery["bowler"], runs_off_bat=delivery["runs"]["batter"], **extras,
+                total=delivery["runs"]["total"], boundary=boundary(words) or None, counts=int(counts(delivery, words)),
+            )
+
+    def add_batters(self):
+        for place, (name, how, (runs, balls, fours, sixes)) in enumerate(self.card.batters, 1):
+            self.match.add(
+                "batters", **self.at, place=place, player=self.by_print[name], how=how, is_out=int(how not in ("not out", "retired not out")),
+                runs=runs, balls=balls, fours=fours, sixes=sixes,
+            )
+
+    def add_bowlers(self):
+        for place, (name, _, (maidens, runs, wickets, wides, noballs)) in enumerate(self.card.bowlers, 1):
+            player = self.by_print[name]
+            balls = sum(counts(*delivery) for delivery in self.deliveries if delivery[0]["bowler"] == player)
+            self.match.add(
+                "bowlers", innings=self.at["innings"], team=self.fielding, place=place, player=player,
+                balls=balls, maidens=maidens, runs=runs, wickets=wickets, wides=wides, noballs=noballs,
+            )
+
+    def add_dismissals(self, leavers):
+        """Those who were out, in order: who, how, and the number of the delivery before or at it."""
+        told = {}
+        for delivery, _ in self.deliveries:
+            told.update({wicket["player_out"]: (wicket, delivery) for wicket in delivery.get("wickets", [])})
+        for wicket, (player, kind, number) in enumerate(leavers, 1):
+            score = self.card.falls[wicket - 1][0]
+            found, delivery = told.get(player, ({"kind": kind}, {}))
+            fielder = next(iter(found.get("fielders", [])), {})
+            bowler = delivery.get("bowler") if found["kind"] in CREDITED else None
+            self.match.add(
+                "dismissals", **self.at, wicket=wicket, fielding=self.fielding, player_dismissed=player, wicket_type=found["kind"], bowler=bowler,
+                fielder=None if "substitute" in fielder else fielder.get("name"), is_substitute=int("substitute" in fielder),
+                score=score, delivery=number or None,
+            )
+
+
+class Crease:
+    """Who is in, line by line: who left, and who stood together."""
+
+    def __init__(self, innings):
+        self.innings, self.crease, self.number = innings, [], 0
+        # who was out, how (where it wasn't by a delivery), and how many deliveries had been bowled
+        self.leavers, self.stands = [], []
+
+    def walk(self):
+        for words in self.innings.lines:
+            if words[0] == "in":
+                self.comes_in(self.innings.names[int(words[1]) - 1])
+            elif words[0] == "ball":
+                self.is_bowled(words)
+            elif words[0] == "gone":
+                self.leaves(words[1], self.innings.names[int(words[2]) - 1])
+        card = self.innings.card
+        wants([name for name, *_ in self.leavers] == [self.innings.by_print[name.rstrip()] for _, name in card.falls], "who was out")
+        ends = [runs for runs, _ in card.falls]
+        self.reckon(ends + [card.runs - self.innings.innings.get("penalty_runs", {}).get("post", 0)])
+
+    def comes_in(self, name):
+        self.crease.append(name)
+        if len(self.crease) == 2:
+            self.stand_together(*self.crease)
+
+    def stand_together(self, first, second):
+        self.stands.append(dict(wicket=len(self.leavers) + 1, first=first, second=second, runs=0, balls=0, is_unbroken=1))
+
+    def is_bowled(self, words):
+        delivery, _ = self.innings.deliveries[self.number]
+        self.number += 1
+        extras = delivery.get("extras", {})
+        self.stands[-1]["runs"] += delivery["runs"]["total"] - extras.get("penalty", 0)
+        self.stands[-1]["balls"] += "wides" not in extras
+        if "out" in words:
+            who = words[words.index("out") + 2]
+            self.is_out(delivery["batter" if who == "striker" else "non_striker"], None)
+
+    def leaves(self, how, name):
+        if how == "retiredhurt":
+            self.crease.remove(name)
+        else:
+            self.is_out(name, OUT_BETWEEN[how])
+
+    def is_out(self, name, kind):
+        if len(self.crease) < 2:
+            # alone, or timed out
+            pair = [*self.crease, *[name] * (name not in self.crease), None]
+            self.stand_together(*pair[:2])
+        self.stands[-1]["is_unbroken"] = 0
+        self.crease = [other for other in self.crease if other != name]
+        self.leavers.append((name, kind, self.number))
+
+    def reckon(self, ends):
+        """Runs stand by stand: those of a wicket add up to what the innings grew by until it fell, penalty runs too, which are
+        the last stand's."""
+        for wicket, (before, end) in enumerate(zip([0, *ends], ends), 1):
+            stands = [stand for stand in self.stands if stand["wicket"] == wicket]
+            if stands:
+                stands[-1]["runs"] = end - before - sum(stand["runs"] for stand in stands[:-1])

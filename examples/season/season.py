@@ -1,0 +1,189 @@
+#!/usr/bin/env python3
+"""Makes a season's database and its page of matches that Yermudosh kept. It needs Python 3.11 and nothing else.
+
+usage: season.py [--ground PROGRAM] SEASON.db FOLDER..   reads the match in each folder: sheet.toml, a.votes and b.votes
+       season.py --sql QUESTION SEASON.db                prints what a question in SQL gives; a change is kept
+
+Begun again it adds what is new: a match is known by its number and its two sides, and replaced where its sheet or a votes
+file has changed. It lists each folder that isn't taken, with the reason, and ends with status 1 where there is one. With no
+folder, or after a change, it only writes the page: SEASON.html.
+"""
+import os
+import sqlite3
+import sys
+from concurrent.futures import ProcessPoolExecutor
+
+sys.dont_write_bytecode = True
+from page import page_of
+from reading import LeftOut, hash_of, read_match
+
+HERE = os.path.dirname(os.path.realpath(__file__))
+VERSION = 1
+OF_MATCHES = ("appearances", "innings", "deliveries", "batters", "bowlers", "dismissals", "stands")
+
+
+class Refused(Exception):
+    """Why nothing is done."""
+
+
+def opened(path):
+    """The database, with its tables."""
+    if not os.path.exists(path) and os.path.splitext(path)[1] != ".db":
+        raise Refused(f"a season's file ends with .db: {path}")
+    season = sqlite3.connect(path)
+    (version,) = season.execute("PRAGMA user_version").fetchone()
+    if version == 0 and not season.execute("SELECT 1 FROM sqlite_master").fetchone():
+        with open(os.path.join(HERE, "tables.sql"), encoding="utf-8") as tables:
+            season.executescript(f"BEGIN; {tables.read()} PRAGMA user_version = {VERSION}; COMMIT;")
+    elif version != VERSION:
+        raise Refused(f"{path} is of another version of season.py: make it anew, under another name")
+    return season
+
+
+def looked_at(task):
+    """What came of a folder: its match, or the reason why there is none."""
+    program, folder = task
+    try:
+        return folder, read_match(program, folder)
+    except LeftOut as why:
+        return folder, str(why)
+    except (ValueError, LookupError) as why:
+        return folder, f"it can't be read: {why!r}"
+
+
+def read_all(program, folders):
+    """The match or the reason of each folder, as many at once as there are processors."""
+    if not folders:
+        return []
+    with ProcessPoolExecutor(os.cpu_count()) as processes:
+        return list(processes.map(looked_at, [(program, folder) for folder in folders]))
+
+
+class Reading:
+    """One reading of folders into a season."""
+
+    def __init__(self, season):
+        self.season, self.files, self.left_out = season, {}, {}
+        self.sums = {"new": 0, "changed": 0, "as before": 0}
+
+    def read(self, program, folders):
+        self.hash(folders)
+        found = read_all(program, [folder for folder in self.files if not self.is_known(folder)])
+        self.left_out.update((folder, told) for folder, told in found if isinstance(told, str))
+        matches = {folder: match for folder, match in found if not isinstance(match, str)}
+        for folder, match in matches.items():
+            self.take(folder, match, matches)
+        self.note_left_out(folders)
+
+    def hash(self, folders):
+        """Notes the folders that have a match's files, the same files once."""
+        first = {}
+        for folder in folders:
+            try:
+                files = hash_of(folder)
+            except (LeftOut, OSError) as why:
+                self.left_out[folder] = str(why)
+                continue
+            if files in first:
+                self.left_out[folder] = f"the same files as in {first[files]}"
+            first.setdefault(files, folder)
+        self.files = {folder: files for files, folder in first.items()}
+
+    def is_known(self, folder):
+        """Whether a match of just these files is in the season. Its folder may be another now."""
+        known = self.season.execute("UPDATE matches SET folder = ? WHERE files = ?", (folder, self.files[folder])).rowcount
+        self.sums["as before"] += known
+        return known > 0
+
+    def take(self, folder, match, matches):
+        """Puts a match in, in the place of what was known of it."""
+        twice = [other for other, it in matches.items() if other != folder and it.key == match.key]
+        old = self.season.execute("SELECT id, folder, files FROM matches WHERE number = ? AND home = ? AND away = ?", match.key).fetchone()
+        twice += [old[1]] if old and old[2] in self.files.values() else []
+        if twice:
+            self.left_out[folder] = f"the match of {twice[0]} with other files: give one of the two"
+            return
+        self.sums["changed" if old else "new"] += 1
+        if old:
+            self.forget(old[0])
+        self.put(match)
+
+    def forget(self, match):
+        self.season.execute("DELETE FROM matches WHERE id = ?", (match,))
+        for table in OF_MATCHES:
+            self.season.execute(f"DELETE FROM {table} WHERE match = ?", (match,))
+        self.season.execute("DELETE FROM players WHERE (team, player) NOT IN (SELECT team, player FROM appearances)")
+
+    def put(self, match):
+        self.insert("matches", [match.row])
+        (number,) = self.season.execute("SELECT last_insert_rowid()").fetchone()
+        for table, rows in match.tables.items():
+            self.insert(table, rows if table == "players" else [dict(row, match=number) for row in rows])
+
+    def insert(self, table, rows):
+        """Puts rows into a table. A player is known by side and name, and may be there already."""
+        columns = ", ".join(rows[0])
+        marks = ", ".join(f":{column}" for column in rows[0])
+        word = "INSERT OR IGNORE" if table == "players" else "INSERT"
+        self.season.executemany(f"{word} INTO {table} ({columns}) VALUES ({marks})", rows)
+
+    def note_left_out(self, folders):
+        """Notes what isn't taken; of a match that is in from before this is told too."""
+        for folder in list(self.left_out):
+            if self.season.execute("SELECT 1 FROM matches WHERE folder = ? AND files <> ?", (folder, self.files.get(folder, ""))).fetchone():
+                self.left_out[folder] += " (the season has it as it was before)"
+        self.season.execute("DELETE FROM left_out")
+        for folder in folders:
+            if folder in self.left_out:
+                self.insert("left_out", [{"folder": folder, "why": self.left_out[folder]}])
+                print(f"{folder}: left out: {self.left_out[folder]}")
+        print(", ".join(f"{count} {name}" for name, count in [*self.sums.items(), ("left out", len(self.left_out))]))
+
+
+def write_page(season, path):
+    """Writes the page whole, beside the database."""
+    page = os.path.splitext(path)[0] + ".html"
+    with open(page + ".new", "w", encoding="utf-8") as file:
+        file.write(page_of(season))
+    os.replace(page + ".new", page)
+
+
+def ask(season, question):
+    """Prints the rows of a question, a line each."""
+    for row in season.execute(question):
+        print(" | ".join("-" if value is None else f"{value}" for value in row))
+
+
+def program_of(words):
+    """The program: the one that is named, or `ground` here, or that of this repository."""
+    if words[:1] == ["--ground"] and len(words) > 1:
+        return os.path.realpath(words[1]), words[2:]
+    return next((os.path.realpath(path) for path in ("ground", f"{HERE}/../../ground") if os.path.exists(path)), "ground"), words
+
+
+def main(words):
+    if len(words) == 3 and words[0] == "--sql":
+        path, folders = words[2], []
+    else:
+        program, rest = program_of(words)
+        if not rest or rest[0].startswith("--"):
+            sys.exit(__doc__)
+        path, folders = rest[0], list(dict.fromkeys(os.path.normpath(folder) for folder in rest[1:]))
+    season = opened(path)
+    left_out = {}
+    with season:
+        if words[0] == "--sql":
+            ask(season, words[1])
+        elif folders:
+            reading = Reading(season)
+            reading.read(program, folders)
+            left_out = reading.left_out
+    write_page(season, path)
+    return 1 if left_out else 0
+
+
+if __name__ == "__main__":
+    try:
+        sys.exit(main(sys.argv[1:]))
+    except (Refused, sqlite3.Error, OSError) as why:
+        sys.exit(f"season.py: {why}")

@@ -1,0 +1,145 @@
+-- The tables of a season and what is reckoned of them. A side's name and a player's name in it say who a player is.
+
+CREATE TABLE matches (
+    id INTEGER PRIMARY KEY,
+    number TEXT NOT NULL,               -- the match number of the sheet
+    home TEXT NOT NULL,
+    away TEXT NOT NULL,
+    title TEXT NOT NULL,
+    day TEXT,                           -- the first of [info] dates, where the sheet tells it
+    venue TEXT,
+    overs INTEGER,                      -- the most overs of an innings, where the sheet tells it
+    result TEXT NOT NULL,               -- won, tied, drawn, no result, unfinished
+    winner TEXT,
+    words TEXT NOT NULL,                -- "Birch won by 3 wickets"
+    folder TEXT NOT NULL,
+    files TEXT NOT NULL,                -- the hash of its sheet and its two votes files
+    UNIQUE (number, home, away)
+);
+
+CREATE TABLE players (team TEXT NOT NULL, player TEXT NOT NULL, PRIMARY KEY (team, player));
+
+-- who stood on the sheet of a match
+CREATE TABLE appearances (
+    match INTEGER NOT NULL, team TEXT NOT NULL, player TEXT NOT NULL, number INTEGER NOT NULL,
+    PRIMARY KEY (match, team, number)
+);
+
+CREATE TABLE innings (
+    match INTEGER NOT NULL, innings INTEGER NOT NULL, team TEXT NOT NULL, fielding TEXT NOT NULL,
+    runs INTEGER NOT NULL, wickets INTEGER NOT NULL, overs TEXT NOT NULL, balls INTEGER NOT NULL,
+    byes INTEGER NOT NULL, legbyes INTEGER NOT NULL, wides INTEGER NOT NULL, noballs INTEGER NOT NULL, penalty INTEGER NOT NULL,
+    target INTEGER,
+    ended TEXT,                         -- allout, nobatter, declared, forfeited, overs
+    PRIMARY KEY (match, innings)
+);
+
+CREATE TABLE deliveries (
+    match INTEGER NOT NULL, innings INTEGER NOT NULL,
+    number INTEGER NOT NULL,            -- in the innings, from 1
+    over INTEGER NOT NULL,              -- from 0
+    ball INTEGER NOT NULL,              -- in the over, from 1, wides and no-balls too
+    team TEXT NOT NULL, fielding TEXT NOT NULL,
+    striker TEXT NOT NULL, non_striker TEXT NOT NULL, bowler TEXT NOT NULL,
+    runs_off_bat INTEGER NOT NULL, wides INTEGER NOT NULL, noballs INTEGER NOT NULL, byes INTEGER NOT NULL, legbyes INTEGER NOT NULL,
+    penalty INTEGER NOT NULL,           -- awarded behind this delivery
+    total INTEGER NOT NULL,
+    boundary INTEGER,                   -- 4 or 6, off the bat
+    counts INTEGER NOT NULL,            -- whether it counts in the over
+    PRIMARY KEY (match, innings, number)
+);
+
+-- the rows of the printed cards
+CREATE TABLE batters (
+    match INTEGER NOT NULL, innings INTEGER NOT NULL, place INTEGER NOT NULL, team TEXT NOT NULL, player TEXT NOT NULL,
+    how TEXT NOT NULL, is_out INTEGER NOT NULL,
+    runs INTEGER NOT NULL, balls INTEGER NOT NULL, fours INTEGER NOT NULL, sixes INTEGER NOT NULL,
+    PRIMARY KEY (match, innings, place)
+);
+
+CREATE TABLE bowlers (
+    match INTEGER NOT NULL, innings INTEGER NOT NULL, place INTEGER NOT NULL, team TEXT NOT NULL, player TEXT NOT NULL,
+    balls INTEGER NOT NULL,             -- that count in the over
+    maidens INTEGER NOT NULL, runs INTEGER NOT NULL, wickets INTEGER NOT NULL, wides INTEGER NOT NULL, noballs INTEGER NOT NULL,
+    PRIMARY KEY (match, innings, place)
+);
+
+CREATE TABLE dismissals (
+    match INTEGER NOT NULL, innings INTEGER NOT NULL, wicket INTEGER NOT NULL, team TEXT NOT NULL, fielding TEXT NOT NULL,
+    player_dismissed TEXT NOT NULL, wicket_type TEXT NOT NULL,
+    bowler TEXT,                        -- whose wicket it is, where it is a bowler's
+    fielder TEXT, is_substitute INTEGER NOT NULL,
+    score INTEGER NOT NULL,             -- the innings' total then
+    delivery INTEGER,                   -- the number of the last one bowled then, where there was one
+    PRIMARY KEY (match, innings, wicket)
+);
+
+-- two batters together, from when the second came in until one left; where one retired hurt a wicket has more than one
+CREATE TABLE stands (
+    match INTEGER NOT NULL, innings INTEGER NOT NULL, place INTEGER NOT NULL, wicket INTEGER NOT NULL, team TEXT NOT NULL,
+    first TEXT NOT NULL, second TEXT, runs INTEGER NOT NULL, balls INTEGER NOT NULL,
+    is_unbroken INTEGER NOT NULL,
+    PRIMARY KEY (match, innings, place)
+);
+
+-- which folders of the last reading aren't in the tables as they are now, and why
+CREATE TABLE left_out (folder TEXT PRIMARY KEY, why TEXT NOT NULL);
+
+-- the league's own: what a result is worth, and points given or taken otherwise
+CREATE TABLE points (result TEXT PRIMARY KEY, points REAL NOT NULL);
+INSERT INTO points VALUES ('won', 2), ('tied', 1), ('drawn', 1), ('no result', 1), ('lost', 0);
+CREATE TABLE adjustments (team TEXT NOT NULL, points REAL NOT NULL, why TEXT NOT NULL);
+
+CREATE VIEW batting AS
+SELECT team, player, matches, innings, not_out, runs, (best / 2) || iif(best % 2, '*', '') AS highest,
+    round(1.0 * runs / nullif(innings - not_out, 0), 2) AS average, balls,
+    round(100.0 * runs / nullif(balls, 0), 2) AS strike_rate, hundreds, fifties, ducks, fours, sixes
+FROM (
+    SELECT team, player, count(*) AS innings, sum(1 - is_out) AS not_out, sum(runs) AS runs, max(2 * runs + 1 - is_out) AS best,
+        sum(balls) AS balls, sum(runs >= 100) AS hundreds, sum(runs BETWEEN 50 AND 99) AS fifties,
+        sum(is_out AND runs = 0) AS ducks, sum(fours) AS fours, sum(sixes) AS sixes
+    FROM batters GROUP BY team, player
+) JOIN (SELECT team, player, count(*) AS matches FROM appearances GROUP BY team, player) USING (team, player)
+ORDER BY runs DESC, innings, team, player;
+
+-- the best bowling is that of an innings: most wickets, and of these fewest runs
+CREATE VIEW bowling AS
+SELECT team, player, matches, (balls / 6) || '.' || (balls % 6) AS overs, balls, maidens, runs, wickets,
+    (best / 100000) || '/' || (99999 - best % 100000) AS best, round(1.0 * runs / nullif(wickets, 0), 2) AS average,
+    round(6.0 * runs / nullif(balls, 0), 2) AS economy, round(1.0 * balls / nullif(wickets, 0), 2) AS strike_rate, fives, wides, noballs
+FROM (
+    SELECT team, player, sum(balls) AS balls, sum(maidens) AS maidens, sum(runs) AS runs, sum(wickets) AS wickets,
+        max(100000 * wickets + 99999 - runs) AS best, sum(wickets >= 5) AS fives, sum(wides) AS wides, sum(noballs) AS noballs
+    FROM bowlers GROUP BY team, player
+) JOIN (SELECT team, player, count(*) AS matches FROM appearances GROUP BY team, player) USING (team, player)
+ORDER BY wickets DESC, runs, team, player;
+
+CREATE VIEW fielding AS
+SELECT fielding AS team, fielder AS player, count(*) AS dismissals,
+    sum(wicket_type IN ('caught', 'caught and bowled')) AS catches, sum(wicket_type = 'stumped') AS stumpings, sum(wicket_type = 'run out') AS run_outs
+FROM dismissals WHERE fielder IS NOT NULL AND wicket_type IN ('caught', 'caught and bowled', 'stumped', 'run out')
+GROUP BY fielding, fielder ORDER BY dismissals DESC, team, player;
+
+CREATE VIEW partnerships AS
+SELECT s.team, wicket, first || ' and ' || coalesce(second, 'nobody') AS batters, runs || iif(is_unbroken, '*', '') AS partnership,
+    balls, day, title, runs, is_unbroken
+FROM stands s JOIN matches m ON m.id = s.match ORDER BY runs DESC, is_unbroken DESC, balls, day, number, innings, place;
+
+-- a row for each side of each match that has a result
+CREATE VIEW results AS
+SELECT match, team, other, iif(result <> 'won', result, iif(winner = team, 'won', 'lost')) AS result FROM (
+    SELECT id AS match, home AS team, away AS other, result, winner FROM matches
+    UNION ALL SELECT id, away, home, result, winner FROM matches
+) WHERE result <> 'unfinished';
+
+-- runs and overs of matches of limited overs that were won or tied: a side that is all out has had all its overs
+CREATE VIEW rates AS
+SELECT i.team, i.fielding, i.runs, iif(i.ended IN ('allout', 'nobatter'), 6 * m.overs, i.balls) / 6.0 AS overs
+FROM innings i JOIN matches m ON m.id = i.match WHERE m.overs IS NOT NULL AND m.result IN ('won', 'tied');
+
+CREATE VIEW "table" AS
+SELECT team, count(*) AS played, sum(result = 'won') AS won, sum(result = 'lost') AS lost, sum(result = 'tied') AS tied,
+    sum(result IN ('drawn', 'no result')) AS drawn,
+    round(sum(p.points) + coalesce((SELECT sum(a.points) FROM adjustments a WHERE a.team = r.team), 0), 2) AS points,
+    round((SELECT sum(runs) / sum(overs) FROM rates WHERE team = r.team) - (SELECT sum(runs) / sum(overs) FROM rates WHERE fielding = r.team), 2) AS run_rate
+FROM results r JOIN points p USING (result) GROUP BY team ORDER BY points DESC, won DESC, run_rate DESC, team;
