@@ -29,7 +29,7 @@ use Rattle.processes.specs.Happenings.{WasSent, DeskCame, Happening, DeskCalled,
 use Rattle.processes.proofs.Going.{Fits, Leads, TypedAs, none, one, two}
 
 module _ {Disk : Type 0} where
-  unmoved : (v : Configuration Disk) (d : DeskId) → with_node v d (node v d) [] ≡ v
+  pub unmoved : (v : Configuration Disk) (d : DeskId) → with_node v d (node v d) [] ≡ v
   unmoved v A = λ i. record { a = v.a; b = v.b; boards = v.boards; sent = append-nil v.sent i }
   unmoved v B = λ i. record { a = v.a; b = v.b; boards = v.boards; sent = append-nil v.sent i }
 
@@ -46,7 +46,7 @@ module _ {Disk : Type 0} where
   abbrev pub runs_on : Node Disk → DeskState Disk → Option Fault → Node Disk
   runs_on x l due = record { version = x.version; process = Running l; due = due }
 
-  itself : (x : Node Disk) (k : DeskState Disk) → x.process ≡ Running k → runs_on x k x.due ≡ x
+  pub itself : (x : Node Disk) (k : DeskState Disk) → x.process ≡ Running k → runs_on x k x.due ≡ x
   itself x k e = λ i. record { version = x.version; process = sym e i; due = x.due }
 
   pub stays_refl : (view : FileView Disk) (disk : Disk) → Stays view disk disk

@@ -1,9 +1,10 @@
 -- What is claimed: Laws, of flows of Happenings, by the Headline for processes, with Printing; Weaving, of the Lives of stations;
--- Stations and Files, which tie lives to processes and to files; Worked, a life that is one.
+-- Progress, of what goes on with them; Stations and Files, which tie lives to processes and to files; Worked, a life that is one.
 pub mod Printing
 pub mod Happenings
 pub mod Headline
 pub mod Laws
+pub mod Progress
 pub mod Lives
 pub mod Files
 pub mod Sealing

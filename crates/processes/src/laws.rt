@@ -2,6 +2,7 @@
 
 ghost use Rattle.processes.specs.Files.{EmptyFilesShowNone};
 ghost use Rattle.processes.specs.Laws.{BoardStepsInRun, DeskStepsInRun, FlowsAreRuns, FlowsHaveHeadline};
+ghost use Rattle.processes.specs.Progress.{ProcessesGoOn};
 ghost use Rattle.processes.specs.Stations.{BeginningIsStage, BoardRunIsLife, DeskRunIsStage};
 ghost use Rattle.processes.specs.Weaving.{WovenLivesFlow, WovenLivesHaveHeadline};
 ghost use Rattle.processes.specs.Worked.{LivedIsWoven};
@@ -23,6 +24,12 @@ pub fn moments_extend_a_run<D: Disk>()
 pub fn every_flow_is_sound<D: Disk>()
     ensures runs { FlowsAreRuns D.seen D.images }
     ensures headline { FlowsHaveHeadline D.seen D.images }
+{}
+
+/// What happens to processes, while no scorer types, no disk fails, and no process begins or ends, is such a run too, tick by
+/// tick and message by message, from what the stations were on. So what goes on in every run goes on with them.
+pub fn every_flow_goes_on<D: Disk>()
+    ensures { ProcessesGoOn D.seen D.images }
 {}
 
 /// The lives of two desks and some boards that take sealed datagrams alone, each process from its beginning to its end,
