@@ -8,6 +8,7 @@ BOOK = ["innings home", "in 1", "in 2", "ball 7 bat 1"]
 DIFFERS = {2: "in 3"}
 BOARD = "Alder 1 for 0\nOvers 0.1\nStriker Baker 0 (0)\nOther Amin 1 (1)\nTarget -\nResult -\n"
 FINGERPRINTS = "".join(f"{it}\n" for it in SEAL.fingerprints(False))
+SAME_DISK = "the copy is on the same disk as the file\n"
 LONGEST = 20
 
 
@@ -98,7 +99,7 @@ class Process:
             self.ran.kill()
             self.ran.communicate()
             raise Wrong(f"it doesn't end, after {self.lines[-8:]}") from None
-        told = error.decode().removeprefix(FINGERPRINTS)
+        told = error.decode().removeprefix(SAME_DISK).removeprefix(FINGERPRINTS)
         return None if self.ran.returncode == -signal.SIGTERM else self.ran.returncode, self.out, told
 
 
@@ -140,11 +141,12 @@ def next_line(place, what, until):
     return BOOK[place] if place < until else "quit"
 
 
-def desk(folder, other, fail="", wrong="", until=len(BOOK), disturb=None):
+def desk(folder, other, fail="", wrong="", until=len(BOOK), disturb=None, copy=None):
     """A desk's life from its start until so many entries are agreed and its scorer quits, or until it ends before. It
     answers its status and texts, the votes that came from it, and its address."""
     at = TOOLS.free_address()
     words = ["desk", "--sheet", SHEET, "--desk", "a", "--file", f"{folder}/a.votes", "--at", at, "--other", other.address()]
+    words += ["--copy", copy] if copy else []
     with Process(words, folder, fail, wrong) as it:
         heard = score(it, other, until, disturb)
         ended = it.end()

@@ -27,10 +27,11 @@ HOWS = {
     "poll": (errno.ENOMEM, EINTR),
     "fcntl": (errno.EMFILE,),
     "ioctl": (errno.ENOTTY,),
+    "getentropy": (EIO, EINTR),
 }
 # Of what is called as often as time will have it, the first few.
 AT_ANY_TIME = {("sendto", "socket"): 4, ("recvfrom", "socket"): 4, ("getsockname", "socket"): 4, ("read", "stdin"): 5,
-               ("poll", "socket"): 4, ("poll", "stdin"): 4}
+               ("poll", "socket"): 4, ("poll", "stdin"): 4, ("poll", "stdout"): 4, ("poll", "stderr"): 2}
 STREAMS = ("stdin", "stdout", "stderr", "null")
 HARMLESS = (EINTR, "short")
 CANNOT_WRITE = (3, "cannot write\n")
@@ -140,6 +141,17 @@ def ends_of_desk(plan, file, at, is_greeted):
     return [late(file)] if is_greeted else [(3, Told(fault_at(re.escape(file)))), cannot_read(file)]
 
 
+def ends_of_pair(plan, file, copy, at, is_greeted):
+    """The same of a desk whose votes have a copy. That both are on one disk isn't known where that can't be asked."""
+    unknown = [(0, "")] if plan.call == "statx" and not is_greeted else []
+    if not plan.label.startswith("copy.votes") or goes_on(plan):
+        return ends_of_desk(plan, file, at, is_greeted) + unknown
+    told = fault_at(re.escape(copy))
+    if is_greeted:
+        return [(3, Told(f"{told}this is the copy: to go on without it, start the same command without --copy\n"))]
+    return [(3, Told(told)), cannot_read(copy), *unknown]
+
+
 def ends_of_board(plan, at):
     """The same of a board, which has no status where it goes on: at its start a file that can't be written ends it, and later
     that is told once."""
@@ -172,3 +184,13 @@ def ends_of_words(plan, good, reads):
     if plan.label in reads:
         return [cannot_read(reads[plan.label])]
     return [good, CANNOT_WRITE] if plan.call == "statx" or plan.label == "null" else [CANNOT_WRITE]
+
+
+def ends_of_key(plan, file):
+    """The same of a new key. That a signal interrupts what asks for randomness is told as any fault: it is asked once."""
+    told = 3, Told(fault_at(re.escape(file)))
+    if plan.call == "getentropy":
+        return [told]
+    if goes_on(plan):
+        return [(0, "")]
+    return [told] if plan.label == "key" else ends_of_words(plan, (0, ""), {})

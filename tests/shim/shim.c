@@ -4,7 +4,7 @@
    SHIM_LOG   the file that gets a line a call:
                   CALL LABEL RESULT ERRNO INODE OFFSET DATA
               What isn't known of a call is `-`. LABEL is the last name of the path, or `stdin`, `stdout`, `stderr`,
-              `socket`. DATA is what was written or sent, in hexadecimal; of `open` the path, and `new:` before it
+              `socket`, `random`. DATA is what was written or sent, in hexadecimal; of `open` the path, and `new:` before it
               where it made the file, `empty:` where it emptied it; of `rename` both paths.
    SHIM_FAIL  CALL,LABEL,N,HOW: the N-th such call fails (0: the first and each third one behind it). HOW is an errno's number; `short`: half
               of the bytes are taken; `torn`: half of them are, and it answers EIO; `made`: it is made, and answers EIO.
@@ -340,6 +340,14 @@ char *realpath(const char *path, char *whole) {
     return told(failed(how, 0)) < 0 ? 0 : next(path, whole);
 }
 
+/* Random bytes, of a label of their own. */
+int getentropy(void *bytes, word count) {
+    int (*next)(void *, word) = (int (*)(void *, word))dlsym((void *)-1L, "getentropy");
+    int how = how_planned("getentropy", "random");
+    note("getentropy", "random", failed(how, 0), -1);
+    return told(failed(how, 0)) < 0 ? -1 : next(bytes, count);
+}
+
 /* ---- the network ---- */
 
 int socket(int family, int kind, int protocol) {
@@ -357,9 +365,9 @@ int setsockopt(int fd, int level, int name, const void *value, unsigned length) 
     return (int)simple("setsockopt", SETSOCKOPT, fd, level, name, (number)value, length);
 }
 
-/* A wait for a descriptor alone is one for the keyboard. */
+/* A wait for a descriptor alone is one for the keyboard, or for a standard stream that is written. */
 int poll(void *asked, word count, int wait) {
-    const char *label = count == 1 ? "stdin" : "socket";
+    const char *label = count > 1 ? "socket" : *(int *)asked == 1 ? "stdout" : *(int *)asked == 2 ? "stderr" : "stdin";
     int how = how_planned("poll", label);
     number answer = failed(how, is_left_out(how) ? 0 : call(POLL, (number)asked, count, wait, 0, 0, 0));
     note("poll", label, answer, -1);

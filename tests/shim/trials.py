@@ -1,7 +1,7 @@
 """What is tried: lives in which a call fails, each followed by another, and programs whose calls are wrong."""
-import errno, os, shutil, signal, tempfile
+import errno, os, re, shutil, signal, tempfile
 from lives import BOARD, BOOK, SHEET, TOOLS, OtherDesk, board, desk, has_book, vote
-from plans import EIO, FULL, Plan, ends_of_board, ends_of_desk, ends_of_words, only
+from plans import EIO, FULL, Plan, ends_of_board, ends_of_desk, ends_of_key, ends_of_words, only
 from record import TOP, Call, Judge, Wrong, bytes_at, calls_in, stored_before_sent, votes_in
 
 AGREED = {(place, 0): line for place, line in enumerate(BOOK)}
@@ -140,7 +140,7 @@ def recorded_desk(begun=None, plan=None, disturb=None):
         return calls
 
 
-# ---- a match and a migration ----
+# ---- a match, a migration and a key ----
 
 
 def match_words(ground):
@@ -212,6 +212,22 @@ def fail_migration(plan):
         return met
 
 
+def key_words(ground):
+    return ["key", "--to", ground.file("key")]
+
+
+def fail_key(plan):
+    """A new key in whose making a call fails: the file has it, or isn't there and the fault is told."""
+    with Ground() as ground:
+        end = ground.run(key_words(ground), plan)
+        met = plan.met(ground.calls()) is not None
+        expect((end[0], end[2]), ends_of_key(plan, ground.file("key")) if met else [(0, "")])
+        found = bytes_at(ground.file("key"))
+        if found is not None if end[0] else found is None or not re.fullmatch(b"[0-9a-f]{64}\n", found):
+            raise Wrong(f"it ended with {end}, and the file has {found}")
+        return met
+
+
 # ---- a board ----
 
 
@@ -263,6 +279,7 @@ READING = {
     "check": (["check"], b"innings home\nin 1\nin 2\nball 7 bat 1\n"),
     "card": (["card", "--sheet", SHEET, "--from", f"{TOP}/examples/innings.txt", "--kind", "book"], b""),
     "export": (["export", "--sheet", SHEET, "--from", f"{TOP}/examples/innings.txt", "--kind", "book"], b""),
+    "page": (["page", "--sheet", SHEET, "--from", f"{TOP}/examples/innings.txt", "--kind", "book"], b""),
     "compare": (["compare", "--sheet", BOTH_SHEET, "--a", BOTH_A, "--b", BOTH_B], b""),
     "card of both files": (["card", "--sheet", BOTH_SHEET, "--kind", "both", "--from", BOTH_A, "--with", BOTH_B], b""),
     "replay": (["replay", "--sheet", SHEET, "--schedule", f"{TOP}/examples/schedule.txt", "--boards", "1"], b""),

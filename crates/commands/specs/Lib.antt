@@ -1,8 +1,9 @@
--- What the public calls claim: Check; Card and Export with PrintFault, and of both files BothFiles; Lines; Migrate.
+-- What the public calls claim: Check; Card and Export with PrintFault, and of both files BothFiles; Lines; Page; Migrate.
 pub mod BothFiles
 pub mod Card
 pub mod Check
 pub mod Export
 pub mod Lines
 pub mod Migrate
+pub mod Page
 pub mod PrintFault

@@ -9,6 +9,7 @@ mod compare_command;
 mod export_command;
 mod lines_command;
 mod migrate;
+mod page_command;
 mod printing;
 
 pub use crate::both_files::{
@@ -20,4 +21,5 @@ pub use crate::compare_command::{compare_run, start_compare};
 pub use crate::export_command::{export_run, start_export};
 pub use crate::lines_command::{lines_both_run, lines_run, start_lines, start_lines_of_both};
 pub use crate::migrate::{MigrateFault, migrate_run, start_migrate};
+pub use crate::page_command::{page_both_run, page_run, start_page, start_page_of_both};
 pub use crate::printing::PrintFault;

@@ -1,4 +1,4 @@
-//! Why a book isn't printed, as cards or as JSON.
+//! Why a book isn't printed, as cards, as JSON, as lines or as a page.
 
 ghost use Rattle.std.specs.Prelude.{◌≡◌};
 
@@ -7,7 +7,7 @@ use setup::StopFault;
 use std::alloc::AllocError;
 use streams::InputFault;
 
-/// Why `card` and `export` end before their end.
+/// Why `card`, `export`, `lines` and `page` end before their end.
 #[derive(Clone, Copy, Debug, PartialEq, Eq)]
 pub enum PrintFault {
     /// Memory was refused.

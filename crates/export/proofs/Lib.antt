@@ -14,3 +14,5 @@ pub mod GivenLemmas
 pub mod HandedLemmas
 pub mod DayLemmas
 pub mod MetaLemmas
+pub mod EscapeLemmas
+pub mod EscapedStrings

@@ -15,6 +15,7 @@ use Rattle.export.specs.Meta.{meta_field}
 use Rattle.export.specs.Info.{info_field}
 use Rattle.export.specs.Innings.{innings_field}
 use Rattle.export.specs.Entries.{book_field}
+use Rattle.export.specs.Escapes.{shown}
 
 -- what the format of archives can't hold: the match's number, how many innings a side has, and each entry as it was
 -- penned
@@ -34,8 +35,14 @@ export_of s document given book =
     ++ innings_field s (history_of book) (notes [] (clean book)) ∷ []
     ++ own_field s book ∷ [])
 
--- the text of a book by a sheet and its document: that of the value, as the library lays it out
-pub record IsExport (s : Sheet) (document : Members) (book : List Entry) (text : List ℕ) : Type 0 where
+-- the value of a book by a sheet and its document, as the library lays it out
+pub record IsLaidOut (s : Sheet) (document : Members) (book : List Entry) (text : List ℕ) : Type 0 where
   pub given : List Field
   pub hands_on : HandsOn document given
   pub written : text ≡ pretty (json_tokens (export_of s document given book))
+
+-- that text, with what a terminal obeys in it escaped
+pub record IsExport (s : Sheet) (document : Members) (book : List Entry) (text : List ℕ) : Type 0 where
+  pub laid : List ℕ
+  pub laid_out : IsLaidOut s document book laid
+  pub written : text ≡ shown laid

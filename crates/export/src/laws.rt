@@ -2,7 +2,7 @@
 //!
 //! These functions do nothing: each stands for the laws that it ensures.
 
-ghost use Rattle.std.specs.Prelude.{◌≡◌, ℕ, List, codes, true};
+ghost use Rattle.std.specs.Prelude.{◌≡◌, ℕ, IsUtf8, List, codes, true};
 ghost use Rattle.notation.specs.declared.entry.Entry.{Entry};
 ghost use Rattle.ball_laws.specs.History.{History};
 ghost use Rattle.corrections.specs.Legal.{IsLegalBook};
@@ -11,6 +11,7 @@ ghost use Rattle.toml.specs.Data.{Members};
 ghost use Rattle.json.specs.Json.{string};
 ghost use Rattle.json_fields.specs.Values.{Field};
 ghost use Rattle.export.specs.Document.{is_fine_document};
+ghost use Rattle.export.specs.Escapes.{IsPlain, IsReadBack, is_obeyed};
 ghost use Rattle.export.specs.Given.{HandsOn};
 ghost use Rattle.export.specs.Laws.{HasEachEntry, HasEachKey, LeavesOwn, TellsDay, TellsOfFile, TotalsAddUp, WicketsAddUp, in_meta};
 ghost use Rattle.export.specs.Names.{NamesTwoSides};
@@ -40,6 +41,13 @@ pub fn exports_hand_on()
     ensures file { (document : Members) → is_fine_document document ≡ true → TellsOfFile document }
     ensures day { (document : Members) → is_fine_document document ≡ true → TellsDay document }
     ensures version { (document : Members) → in_meta (codes "data_version") document ≡ string (codes "1.1.0") }
+{}
+
+/// What stands in an export's text for a character that a terminal obeys, or that turns or breaks a line, is plain text, and a
+/// reader of JSON takes each string as it was before.
+pub fn escapes_read_back()
+    ensures plain { (c : ℕ) → is_obeyed c ≡ true → IsPlain c }
+    ensures strings { (s : List ℕ) → IsUtf8 s → IsReadBack s }
 {}
 
 /// Worked documents: the check computes from the definitions what is said of the file.

@@ -6,6 +6,7 @@ mod begun;
 mod deliveries;
 mod document;
 mod entries;
+mod escapes;
 mod given;
 mod info;
 mod innings;
@@ -21,6 +22,6 @@ mod value;
 mod wickets;
 
 pub use document::document_of;
-pub use laws::{exports_add_up, exports_hand_on, exports_name_two_sides};
+pub use laws::{escapes_read_back, exports_add_up, exports_hand_on, exports_name_two_sides};
 pub use readers::{batters_add_up, bowlers_add_up, names_tell_players};
 pub use text::text_of;

@@ -3,8 +3,9 @@
 ghost use Rattle.std.specs.Prelude.{◌≡◌, string_bytes, IfOk};
 ghost use Rattle.toml.specs.View.{table_view};
 ghost use Rattle.export.specs.Names.{told_apart};
-ghost use Rattle.export.specs.Value.{IsExport};
+ghost use Rattle.export.specs.Value.{IsExport, IsLaidOut};
 
+use crate::escapes::shown;
 use crate::named::NamedSheet;
 use crate::notes::notes_of;
 use crate::value::put_export;
@@ -14,10 +15,8 @@ use json::Pretty;
 use std::alloc::{AllocError, Global};
 use toml::Table;
 
-/// The text of a book as one JSON value, without its newline: what happened ball by ball with the results of the Laws,
-/// each entry as it was penned, and what the tables `[info]` and `[meta]` of the sheet's document hand on. Sides of one name
-/// are told apart.
-pub fn text_of<B: BookOf>(
+/// The value of a book by a sheet whose sides are told apart, as the library lays it out.
+fn laid_out<B: BookOf>(
     alloc: Global,
     sheet: &MatchSheet,
     document: &Table,
@@ -25,7 +24,7 @@ pub fn text_of<B: BookOf>(
 ) -> Result<String, AllocError>
     requires { B.innings_a_side book.now ≡ sheet.now.innings }
     ensures { IfOk result (λ text.
-        IsExport (told_apart sheet.now) (table_view document.now) (B.content book.now) (string_bytes text)) }
+        IsLaidOut (told_apart sheet.now) (table_view document.now) (B.content book.now) (string_bytes text)) }
 {
     let score = book.score();
     let (notes, begun) = notes_of(alloc, sheet.innings(), book)?;
@@ -45,4 +44,21 @@ pub fn text_of<B: BookOf>(
         Ok(text) => Ok(text),
         Err(_) => unreachable!(),
     }
+}
+
+/// The text of a book as one JSON value, without its newline: what happened ball by ball with the results of the Laws,
+/// each entry as it was penned, and what the tables `[info]` and `[meta]` of the sheet's document hand on. Sides of one name
+/// are told apart. What a terminal obeys in it stands as an escape.
+pub fn text_of<B: BookOf>(
+    alloc: Global,
+    sheet: &MatchSheet,
+    document: &Table,
+    book: &B,
+) -> Result<String, AllocError>
+    requires { B.innings_a_side book.now ≡ sheet.now.innings }
+    ensures { IfOk result (λ text.
+        IsExport (told_apart sheet.now) (table_view document.now) (B.content book.now) (string_bytes text)) }
+{
+    let laid = laid_out(alloc, sheet, document, book)?;
+    shown(alloc, laid.as_str())
 }

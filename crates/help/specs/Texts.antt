@@ -1,7 +1,7 @@
 -- What the words of the program do, with one filled-in command each, as a scorer types it.
 use Rattle.std.specs.Prelude.{ℕ, ◌≤◌, List, [], ◌∷◌, ◌++◌, length, All, codes}
 use Rattle.help.specs.declared.subject.Subject.{Subject}
-use Rattle.help.specs.declared.subject.Subject.TheVariants.{Help, Desk, Board, Key, Check, Card, Export, Lines, Compare, Match, Replay, Migrate}
+use Rattle.help.specs.declared.subject.Subject.TheVariants.{Help, Desk, Board, Key, Check, Card, Export, Page, Lines, Compare, Match, Replay, Migrate}
 
 -- rows that a plain terminal shows at once: 24 of 80 columns at most
 abbrev pub FitsAScreen : List (List ℕ) → Type 0
@@ -23,6 +23,7 @@ rows Help =
     codes "  check    reads lines, says which aren't taken and why, and shows the score" ∷
     codes "  card     prints the cards and the whole book of a match" ∷
     codes "  export   prints a match as JSON, for an archive" ∷
+    codes "  page     prints a match as one HTML page, to be looked at or printed" ∷
     codes "  lines    prints a match as lines, to begin it anew where a file is lost" ∷
     codes "  compare  tells where the votes files of both desks differ" ∷
     codes "  match    has two desks and a board agree a book, all on this machine" ∷
@@ -42,6 +43,7 @@ rows Desk =
     codes "  --sheet S          the sheet of the match, the same at all desks and boards" ∷
     codes "  --desk a|b         which of the two desks this is" ∷
     codes "  --file F           where its votes are kept" ∷
+    codes "  --copy C           a second file of its votes, as on a stick; or left out" ∷
     codes "  --at ADDR:PORT     its own address" ∷
     codes "  --other ADDR:PORT  the other desk's address" ∷
     codes "  --board ADDR:PORT  a board's address; up to four times, or left out" ∷
@@ -92,6 +94,17 @@ rows Export =
     codes "" ∷
     codes "  ./ground export --sheet sheet.toml --from innings.txt --kind book \\" ∷
     codes "    >innings.json" ∷
+    codes "" ∷
+    codes "  --sheet S             the sheet of the match" ∷
+    codes "  --kind both|a|b|book  from both desks' votes files, from desk A's, from desk" ∷
+    codes "                        B's, or from a file of full lines" ∷
+    codes "  --from F              the file; for both, desk A's" ∷
+    codes "  --with G              desk B's file, for both alone" ∷ []
+rows Page =
+    codes "page: prints a match as one HTML page, for a browser, a site or paper: cards," ∷
+    codes "falls, partnerships, charts, and each ball. The page loads nothing else." ∷
+    codes "" ∷
+    codes "  ./ground page --sheet sheet.toml --from innings.txt --kind book >match.html" ∷
     codes "" ∷
     codes "  --sheet S             the sheet of the match" ∷
     codes "  --kind both|a|b|book  from both desks' votes files, from desk A's, from desk" ∷

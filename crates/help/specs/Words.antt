@@ -1,7 +1,7 @@
 -- What a command line asks to be told.
 use Rattle.std.specs.Prelude.{ℕ, Option, Some, None, if◌then◌else◌, List, [], ◌∷◌, codes, bytes_eq, String, string_bytes}
 use Rattle.help.specs.declared.subject.Subject.{Subject}
-use Rattle.help.specs.declared.subject.Subject.TheVariants.{Help, Desk, Board, Key, Check, Card, Export, Lines, Compare, Match, Replay, Migrate}
+use Rattle.help.specs.declared.subject.Subject.TheVariants.{Help, Desk, Board, Key, Check, Card, Export, Page, Lines, Compare, Match, Replay, Migrate}
 
 -- the word of the program that a text is
 abbrev pub subject_of : List ℕ → Option Subject
@@ -13,6 +13,7 @@ subject_of t =
     else if bytes_eq t (codes "check") then Some Check
     else if bytes_eq t (codes "card") then Some Card
     else if bytes_eq t (codes "export") then Some Export
+    else if bytes_eq t (codes "page") then Some Page
     else if bytes_eq t (codes "lines") then Some Lines
     else if bytes_eq t (codes "compare") then Some Compare
     else if bytes_eq t (codes "match") then Some Match

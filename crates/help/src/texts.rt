@@ -14,6 +14,7 @@ ground: the book of a cricket match, kept by two scorers. Its words:
   check    reads lines, says which aren't taken and why, and shows the score
   card     prints the cards and the whole book of a match
   export   prints a match as JSON, for an archive
+  page     prints a match as one HTML page, to be looked at or printed
   lines    prints a match as lines, to begin it anew where a file is lost
   compare  tells where the votes files of both desks differ
   match    has two desks and a board agree a book, all on this machine
@@ -35,6 +36,7 @@ the same command goes on where it was.
   --sheet S          the sheet of the match, the same at all desks and boards
   --desk a|b         which of the two desks this is
   --file F           where its votes are kept
+  --copy C           a second file of its votes, as on a stick; or left out
   --at ADDR:PORT     its own address
   --other ADDR:PORT  the other desk's address
   --board ADDR:PORT  a board's address; up to four times, or left out
@@ -95,6 +97,19 @@ matches, ball by ball.
 
   ./ground export --sheet sheet.toml --from innings.txt --kind book \\
     >innings.json
+
+  --sheet S             the sheet of the match
+  --kind both|a|b|book  from both desks' votes files, from desk A's, from desk
+                        B's, or from a file of full lines
+  --from F              the file; for both, desk A's
+  --with G              desk B's file, for both alone
+";
+
+const PAGE: &str = "\
+page: prints a match as one HTML page, for a browser, a site or paper: cards,
+falls, partnerships, charts, and each ball. The page loads nothing else.
+
+  ./ground page --sheet sheet.toml --from innings.txt --kind book >match.html
 
   --sheet S             the sheet of the match
   --kind both|a|b|book  from both desks' votes files, from desk A's, from desk
@@ -176,6 +191,7 @@ pub fn help_on(subject: Subject) -> &'static str
         Subject::Check => CHECK,
         Subject::Card => CARD,
         Subject::Export => EXPORT,
+        Subject::Page => PAGE,
         Subject::Lines => LINES,
         Subject::Compare => COMPARE,
         Subject::Match => MATCH,

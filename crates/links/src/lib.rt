@@ -19,7 +19,7 @@ mod window;
 pub use clock::Clock;
 pub use keys::{Keys, LINE_ROOM, Typed};
 pub use link::{Link, MOST_TAKEN, PeerLink, ROOM, SEALED_ROOM, SealedCarrier, SharedLink, Taken};
-pub use log::{CarriedLog, InputLog, Log};
+pub use log::{CarriedLog, ClockLog, InputLog, Log};
 pub use sealed::{Sealed, what_is_given_was_brought};
 pub use sending::send_each;
 pub use window::{Window, what_passes_is_kept};

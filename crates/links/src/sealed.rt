@@ -24,7 +24,8 @@ fn put(message: &[u8; 48], buffer: &mut [u8; 64])
 impl<R: SealedCarrier> Sealed<R> {
     /// A link over a carrier, with the seal of a match.
     pub fn new(carrier: R, seal: Seal) -> Sealed<R>
-        ensures { result.carrier ≡ carrier }
+        ensures carrier { result.carrier ≡ carrier }
+        ensures seal { result.seal ≡ seal }
     {
         Sealed { carrier, seal }
     }

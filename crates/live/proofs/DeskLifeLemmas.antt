@@ -27,15 +27,15 @@ abbrev disks_with : {D : Type 0} → (D → Faults) → (ℕ → ℕ) → ℕ �
 disks_with faults room most = record { faults = faults; FitsLongest = FitsLongest room most }
 
 module _ {S B D : Type 0} {g : Files S D} {h : Disks D} {b : Books B} {k l : Desk S B D g h b} {sheet : Sheet} {d : DeskId} {innings : ℕ}
-    {before after : List Passed} {typed types : List Input} {told tells : Option (List ℕ)} {turns : ℕ} {end : Result (Unit {0}) DeskEnd} where
+    {before after : List Passed} {typed types : List Input} {times later : List ℕ} {told tells : Option (List ℕ)} {turns : ℕ} {end : Result (Unit {0}) DeskEnd} where
   -- the run of a desk that is of this match is one of the desk that was opened in it
-  ran : (most : ℕ) → IsDeskOf d sheet.game innings k → h.cap (disk_of k) ≡ most → DeskRuns sheet k l before after typed types told tells turns end
+  ran : (most : ℕ) → IsDeskOf d sheet.game innings k → h.cap (disk_of k) ≡ most → DeskRuns sheet k l before after typed types times later told tells turns end
       → Follows sheet (file_view g.contents h.seen h.images d sheet.game) (disks_with h.faults g.room most) innings (Opened (state_of k))
-      before after typed types told tells turns (ended end)
+      before after typed types times later told tells turns (ended end)
   ran most own cap_is r =
       let P : ℕ → Type 0 = λ game.
       Goes (desk_kind sheet (file_view g.contents h.seen h.images d game) (disks_with h.faults g.room most) game innings) (fresh (state_of k)) r.last
-      before after typed types
+      before after typed types times later
       (known_at end (with_text told (greeting sheet innings (state_of k).book (state_of k).seat.position (own_line (state_of k))))) (known_at end tells) in
       let here : P (game_of k) = rw (← own.same_desk, ← own.innings_a_side, ← cap_is) r.goes.goes in
       (end, r.last, refl, subst P own.same_game here, r.ended)
@@ -44,9 +44,9 @@ module _ {S B D : Type 0} {g : Files S D} {h : Disks D} {b : Books B} {k l : Des
   pub begun_ran : (disk : D) {game : ℕ} → game ≡ sheet.game
       → (length (h.seen disk) ≡ 0 → Creates (file_view g.contents h.seen h.images d game) d (state_of k))
       → (0 < length (h.seen disk) → Opens (file_view g.contents h.seen h.images d game) (book_refusal innings) d disk (Opened (state_of k)))
-      → IsDeskOf d game innings k → h.cap (disk_of k) ≡ h.cap disk → DeskRuns sheet k l before after typed types told tells turns end
+      → IsDeskOf d game innings k → h.cap (disk_of k) ≡ h.cap disk → DeskRuns sheet k l before after typed types times later told tells turns end
       → DeskLives (file_view g.contents h.seen h.images d sheet.game) h.seen (disks_with h.faults g.room (h.cap disk)) sheet innings d disk
-      before after typed types told tells turns (ended end)
+      before after typed types times later told tells turns (ended end)
   begun_ran disk is creates opens own cap_is r =
       let here : IsDeskOf d sheet.game innings k = record { same_desk = own.same_desk; same_game = own.same_game ∙ is; innings_a_side = own.innings_a_side } in
       record {
@@ -57,11 +57,11 @@ module _ {S B D : Type 0} {g : Files S D} {h : Disks D} {b : Books B} {k l : Des
 
 -- one that was refused
 pub not_begun : {D : Type 0} (view : ℕ → FileView D) (seen : D → List ℕ) (disks : DiskView D) (why : OpenRefusal) (left : D) (sheet : Sheet) (d : DeskId)
-    (game innings : ℕ) (disk : D) (log : List Passed) (typed : List Input) (told : Option (List ℕ)) (turns : ℕ) → game ≡ sheet.game
+    (game innings : ℕ) (disk : D) (log : List Passed) (typed : List Input) (times : List ℕ) (told : Option (List ℕ)) (turns : ℕ) → game ≡ sheet.game
     → (0 < length (seen disk) → Opens (view game) (book_refusal innings) d disk (NotOpened (open_cause why) left))
-    → DeskLives (view sheet.game) seen disks sheet innings d disk log log typed typed told told turns (Err (NotBegun why))
-not_begun view seen disks why left sheet d game innings disk log typed told turns is opens = record {
+    → DeskLives (view sheet.game) seen disks sheet innings d disk log log typed typed times times told told turns (Err (NotBegun why))
+not_begun view seen disks why left sheet d game innings disk log typed times told turns is opens = record {
   opening = NotOpened (open_cause why) left;
   begins = (λ none. tt, λ some. rw (← is) (opens some));
-  follows = (why, refl, refl, refl, refl, refl);
+  follows = (why, refl, refl, refl, refl, refl, refl);
 }

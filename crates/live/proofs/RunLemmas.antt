@@ -7,7 +7,7 @@ use Rattle.wire.specs.Layout.{IsMessage}
 use Rattle.streams.proofs.Appending.{appends_both, appends_none}
 use Rattle.links.specs.Passed.{Passed}
 use Rattle.links.specs.Typing.{Input}
-use Rattle.live.specs.Runs.{Goes, Kind, Moment, Run, last_of, passed_at, passed_in, printed_in, typed_in}
+use Rattle.live.specs.Runs.{Goes, Kind, Moment, Run, last_of, passed_at, passed_in, printed_in, read_in, typed_in}
 
 module _ {State Call : Type 0} (kind : Kind State Call) where
   last_both : (k : State) (ns ms : List (Moment State Call)) → last_of k (ns ++ ms) ≡ last_of (last_of k ms) ns
@@ -29,6 +29,11 @@ module _ {State Call : Type 0} (kind : Kind State Call) where
   typed_both (n ∷ ns) ms =
       ap (λ xs. xs ++ kind.typed n.call) (typed_both ns ms) ∙ append_assoc (typed_in kind ms) (typed_in kind ns) (kind.typed n.call)
 
+  read_both : (ns ms : List (Moment State Call)) → read_in kind (ns ++ ms) ≡ read_in kind ms ++ read_in kind ns
+  read_both [] ms = sym (append-nil (read_in kind ms))
+  read_both (n ∷ ns) ms =
+      ap (λ xs. xs ++ kind.reads n.call) (read_both ns ms) ∙ append_assoc (read_in kind ms) (read_in kind ns) (kind.reads n.call)
+
   printed_both : (k : State) (ns ms : List (Moment State Call)) → printed_in kind k (ns ++ ms) ≡ printed_in kind k ms ++ printed_in kind (last_of k ms) ns
   printed_both k [] ms = sym (append-nil (printed_in kind k ms))
   printed_both k (n ∷ ns) ms =
@@ -37,12 +42,20 @@ module _ {State Call : Type 0} (kind : Kind State Call) where
       ∙ (ap (λ xs. xs ++ here) (printed_both k ns ms) ∙ append_assoc (printed_in kind k ms) (printed_in kind (last_of k ms) ns) here)
 
 -- nothing happens
-pub stays : {State Call : Type 0} {kind : Kind State Call} {k : State} {a : List Passed} {x : List Input} {s : Option (List ℕ)} → Goes kind k k a a x x s s
-stays {s = s} = record { moments = []; run = tt; last = refl; passed = rw append-nil; inputs = rw append-nil; printed = appends_none s }
+pub stays : {State Call : Type 0} {kind : Kind State Call} {k : State} {a : List Passed} {x : List Input} {r : List ℕ} {s : Option (List ℕ)} → Goes kind k k a a x x r r s s
+stays {s = s} = record {
+  moments = [];
+  run = tt;
+  last = refl;
+  passed = rw append-nil;
+  inputs = rw append-nil;
+  readings = rw append-nil;
+  printed = appends_none s;
+}
 
-module _ {State Call : Type 0} {kind : Kind State Call} {k l : State} {a b : List Passed} {x y : List Input} {s t : Option (List ℕ)} where
-  pub both : {m : State} {c : List Passed} {z : List Input} {u : Option (List ℕ)} → Goes kind k l a b x y s t → Goes kind l m b c y z t u
-      → Goes kind k m a c x z s u
+module _ {State Call : Type 0} {kind : Kind State Call} {k l : State} {a b : List Passed} {x y : List Input} {p q : List ℕ} {s t : Option (List ℕ)} where
+  pub both : {m : State} {c : List Passed} {z : List Input} {r : List ℕ} {u : Option (List ℕ)} → Goes kind k l a b x y p q s t → Goes kind l m b c y z q r t u
+      → Goes kind k m a c x z p r s u
   both {u = u} g h =
       let ms = g.moments in
       let ns = h.moments in
@@ -53,22 +66,24 @@ module _ {State Call : Type 0} {kind : Kind State Call} {k l : State} {a b : Lis
         last = last_both kind k ns ms ∙ (ap (λ q. last_of q ns) g.last ∙ h.last);
         passed = rw (h.passed, g.passed, passed_both kind ns ms, append_assoc);
         inputs = rw (h.inputs, g.inputs, typed_both kind ns ms, append_assoc);
+        readings = rw (h.readings, g.readings, read_both kind ns ms, append_assoc);
         printed = rw (printed_both kind k ns ms, g.last) (appends_both s t u (printed_in kind k ms) (printed_in kind l ns) g.printed h.printed);
       }
 
   -- of what was written nothing is said
-  pub unsaid : Goes kind k l a b x y s t → Goes kind k l a b x y None None
-  unsaid g = record { moments = g.moments; run = g.run; last = g.last; passed = g.passed; inputs = g.inputs; printed = tt }
+  pub unsaid : Goes kind k l a b x y p q s t → Goes kind k l a b x y p q None None
+  unsaid g = record { moments = g.moments; run = g.run; last = g.last; passed = g.passed; inputs = g.inputs; readings = g.readings; printed = tt }
 
 -- one call
-pub one : {State Call : Type 0} {kind : Kind State Call} {k l : State} {a : List Passed} {x : List Input} {s t : Option (List ℕ)} (call : Call) (out : List Message)
+pub one : {State Call : Type 0} {kind : Kind State Call} {k l : State} {a : List Passed} {x : List Input} {p : List ℕ} {s t : Option (List ℕ)} (call : Call) (out : List Message)
     → All IsMessage out → kind.Step k call out l → Appends s t (kind.prints k call l)
-    → Goes kind k l a (a ++ passed_at kind call out) x (x ++ kind.typed call) s t
+    → Goes kind k l a (a ++ passed_at kind call out) x (x ++ kind.typed call) p (p ++ kind.reads call) s t
 one {l = l} call out fine step prints = record {
   moments = record { call = call; out = out; after = l } ∷ [];
   run = (tt, fine, step);
   last = refl;
   passed = refl;
   inputs = refl;
+  readings = refl;
   printed = prints;
 }

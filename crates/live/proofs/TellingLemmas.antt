@@ -36,6 +36,10 @@ pub tells : (answer : Result (Unit {0}) WriteFailed) (r : Course) (s t : Option 
 tells (Ok done) r s t text e a = rw e a
 tells (Err fault) r s t text e a = rw e tt
 
+-- only a failed write isn't told
+pub write_failed : (answer : Result (Unit {0}) WriteFailed) (met : DeskEnd) → ◌≡◌ {A = Course} (Err met) (written answer) → met ≡ DeskEnd.Write
+write_failed answer met e = grind arith
+
 pub tells_same : (answer : Result (Unit {0}) WriteFailed) (r : Course) (s t : Option (List ℕ)) {text other : List ℕ} → r ≡ written answer → text ≡ other
     → OnOk answer (Appends s t text) → Appends (known_at r s) (known_at r t) other
 tells_same answer r s t e same a = rw (← same) (tells answer r s t _ e a)

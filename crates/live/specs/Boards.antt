@@ -1,5 +1,5 @@
 -- A board's process, turn by turn.
-use Rattle.std.specs.Prelude.{◌≡◌, ◌<◌, ◌+◌, ℕ, Bool, true, false, nat_eq, List, [], ◌∷◌, ◌++◌, All, length, Option, Result, OnOk}
+use Rattle.std.specs.Prelude.{◌≡◌, ◌⊎◌, ◌<◌, ◌+◌, ℕ, Bool, true, false, nat_eq, List, [], ◌∷◌, ◌++◌, All, length, Option, Result, IsErr, OnOk}
 use Rattle.notation.specs.declared.entry.Entry.{Entry}
 use Rattle.corrections.specs.CleanList.{history_of}
 use Rattle.corrections.specs.Refusal.{book_refusal}
@@ -12,9 +12,10 @@ use Rattle.cards.specs.Board.{board as board_text}
 use Rattle.board.specs.declared.{refusal.BoardRefusal.BoardRefusal, board.Board.Board}
 use Rattle.board.specs.Board.{SameMatch, book_of, game_of, state_of}
 use Rattle.board.specs.Takes.{Takes}
-use Rattle.live.specs.Notices.{notices_after, notices_unopened, telling_after, telling_unopened}
+use Rattle.live.specs.Notices.{notices_after, notices_unopened, telling_after, telling_unopened, untold}
 use Rattle.links.specs.Passed.{Passed, Came, sends}
-use Rattle.live.specs.Runs.{Goes, Kind, known}
+use Rattle.live.specs.Runs.{Goes, Kind, known, with_text}
+use Rattle.live.specs.Sights.{Sight, sight_of}
 use Rattle.links.specs.declared.link.TheConstants.{MOST_TAKEN}
 use Rattle.live.specs.declared.{notices.Notice.Notice, notices.Telling.Telling}
 
@@ -34,7 +35,8 @@ BoardStep game innings k Ticked out l = BoardTicks k out × (l ≡ k)
 BoardStep game innings k TurnEnded out l = (l ≡ k) × (out ≡ [])
 
 -- a board in a turn: how many turns are over, how many entries its book had as this one began, how many datagrams were
--- taken in it, and what it has told of what it can't take, all notices the oldest first
+-- taken in it, what it has told of what it can't take, all notices the oldest first, and what it has handed to be shown,
+-- likewise
 pub record BoardTurn : Type 0 where
   pub board : BoardState
   pub turns : ℕ
@@ -42,11 +44,19 @@ pub record BoardTurn : Type 0 where
   pub taken : ℕ
   pub telling : Telling
   pub notices : List Notice
+  pub seen : List Sight
 
 -- a turn begins
-abbrev pub begun : BoardState → ℕ → Telling → List Notice → BoardTurn
-begun k turns telling notices =
-    record { board = k; turns = turns; had = length k.book; taken = 0; telling = telling; notices = notices }
+abbrev pub begun : BoardState → ℕ → Telling → List Notice → List Sight → BoardTurn
+begun k turns telling notices seen = record {
+  board = k;
+  turns = turns;
+  had = length k.book;
+  taken = 0;
+  telling = telling;
+  notices = notices;
+  seen = seen;
+}
 
 -- in a turn a board takes eight datagrams at most
 abbrev pub MayCall : BoardTurn → BoardCall → Type 0
@@ -54,29 +64,42 @@ MayCall k (Given bytes answer) = k.taken < MOST_TAKEN
 MayCall k Unopened = k.taken < MOST_TAKEN
 MayCall k call = Unit {0}
 
-abbrev pub after_call : BoardTurn → BoardCall → BoardState → BoardTurn
-after_call k (Given bytes answer) l = record {
+-- these, unless both desks' votes were refused: what the book shows may be wrong then
+abbrev pub unless_stopped : {T : Type 0} → Bool → List T → List T
+unless_stopped true these = []
+unless_stopped false these = these
+
+-- at the end of a turn the book is handed to be shown
+abbrev pub handed : Sheet → ℕ → BoardTurn → BoardCall → BoardState → List Sight
+handed sheet innings k TurnEnded l = unless_stopped k.telling.is_stopped (sight_of sheet innings l.book ∷ [])
+handed sheet innings k call l = []
+
+abbrev pub after_call : Sheet → ℕ → BoardTurn → BoardCall → BoardState → BoardTurn
+after_call sheet innings k (Given bytes answer) l = record {
   board = l;
   turns = k.turns;
   had = k.had;
   taken = k.taken + 1;
   telling = telling_after k.telling answer;
   notices = notices_after k.telling k.notices answer;
+  seen = k.seen;
 }
-after_call k Unopened l = record {
+after_call sheet innings k Unopened l = record {
   board = l;
   turns = k.turns;
   had = k.had;
   taken = k.taken + 1;
   telling = telling_unopened k.telling;
   notices = notices_unopened k.telling k.notices;
+  seen = k.seen;
 }
-after_call k Ticked l = record k { board = l }
-after_call k TurnEnded l = begun l (k.turns + 1) k.telling k.notices
+after_call sheet innings k Ticked l = record k { board = l }
+after_call sheet innings k TurnEnded l =
+    begun l (k.turns + 1) k.telling k.notices (k.seen ++ handed sheet innings k TurnEnded l)
 
-abbrev pub TurnStep : ℕ → ℕ → BoardTurn → BoardCall → List Message → BoardTurn → Type 0
-TurnStep game innings k call out l =
-    MayCall k call × BoardStep game innings k.board call out l.board × (l ≡ after_call k call l.board)
+abbrev pub TurnStep : Sheet → ℕ → ℕ → BoardTurn → BoardCall → List Message → BoardTurn → Type 0
+TurnStep sheet game innings k call out l =
+    MayCall k call × BoardStep game innings k.board call out l.board × (l ≡ after_call sheet innings k call l.board)
 
 abbrev pub given : BoardCall → List Passed
 given (Given bytes answer) = Came bytes ∷ []
@@ -87,11 +110,6 @@ abbrev pub grown : Bool → List ℕ → List ℕ
 grown true text = []
 grown false text = text
 
--- the text, unless both desks' votes were refused: what the book shows may be wrong then
-abbrev pub unless_stopped : Bool → List ℕ → List ℕ
-unless_stopped true text = []
-unless_stopped false text = text
-
 -- at the end of a turn the six lines of the book, where it has grown in the turn
 abbrev pub shown : Sheet → ℕ → BoardTurn → BoardCall → BoardTurn → List ℕ
 shown sheet innings k TurnEnded l =
@@ -101,7 +119,7 @@ shown sheet innings k call l = []
 
 abbrev pub board_kind : Sheet → ℕ → ℕ → Kind BoardTurn BoardCall
 board_kind sheet game innings =
-    record { game = game; Step = TurnStep game innings; given = given; typed = λ call. []; prints = shown sheet innings }
+    record { game = game; Step = TurnStep sheet game innings; given = given; typed = λ call. []; reads = λ call. []; prints = shown sheet innings }
 
 module _ {B : Type 0} {g : _} (content : B → List Entry) where
   -- what a board says unasked is what the link's log grew by
@@ -112,8 +130,8 @@ module _ {B : Type 0} {g : _} (content : B → List Entry) where
     pub step : BoardTicks (state_of content k) out
 
   -- a board in a turn
-  abbrev pub in_turn : Board B g → ℕ → ℕ → ℕ → Telling → List Notice → BoardTurn
-  in_turn k turns had taken telling notices =
+  abbrev pub in_turn : Board B g → ℕ → ℕ → ℕ → Telling → List Notice → List Sight → BoardTurn
+  in_turn k turns had taken telling notices seen =
       record {
         board = state_of content k;
         turns = turns;
@@ -121,11 +139,12 @@ module _ {B : Type 0} {g : _} (content : B → List Entry) where
         taken = taken;
         telling = telling;
         notices = notices;
+        seen = seen;
       }
 
   -- at the beginning of a turn
-  abbrev pub at_turn : Board B g → ℕ → Telling → List Notice → BoardTurn
-  at_turn k turns telling notices = begun (state_of content k) turns telling notices
+  abbrev pub at_turn : Board B g → ℕ → Telling → List Notice → List Sight → BoardTurn
+  at_turn k turns telling notices seen = begun (state_of content k) turns telling notices seen
 
 module _ {B : Type 0} {g : _} (content : B → List Entry) (innings_of : B → ℕ) where
   -- from a board's turn on there is a run to another turn of the board of the same match
@@ -133,17 +152,35 @@ module _ {B : Type 0} {g : _} (content : B → List Entry) (innings_of : B → �
       (sheet : Sheet) (old new : Board B g) (k l : BoardTurn) (before after : List Passed)
       (told tells : Option (List ℕ)) : Type 0 where
     pub same : SameMatch innings_of old new
-    pub goes : Goes (board_kind sheet (game_of old) (innings_of (book_of old))) k l before after [] [] told tells
+    pub goes : Goes (board_kind sheet (game_of old) (innings_of (book_of old))) k l before after [] [] [] [] told tells
 
   -- A board's process from the beginning of a turn, at which it has told this, to that of another one. Unless a write
   -- failed, all turns between them are over, and the six lines were printed at the end of each in which the book has
-  -- grown. What it told of what it can't take are just the notices that were handed on.
+  -- grown. What it told of what it can't take are just the notices that were handed on, and what it handed to be shown is
+  -- just its book at the end of each turn, but once both desks' votes were refused.
   pub record BoardRuns
       {E : Type 0} (sheet : Sheet) (old new : Board B g) (before after : List Passed) (told tells : Option (List ℕ))
-      (from to : ℕ) (telling : Telling) (noted notes : List Notice) (result : Result (Unit {0}) E) : Type 0 where
+      (from to : ℕ) (telling : Telling) (noted notes : List Notice) (seen sees : List Sight) (result : Result (Unit {0}) E)
+      : Type 0 where
     pub last : BoardTurn
     pub is : last.board ≡ state_of content new
     pub noticed : last.notices ≡ notes
-    pub goes : BoardGoes sheet old new (at_turn content old from telling noted) last before after
+    pub sighted : last.seen ≡ sees
+    pub goes : BoardGoes sheet old new (at_turn content old from telling noted seen) last before after
         (known result told) (known result tells)
-    pub whole : OnOk result (last ≡ at_turn content new to last.telling notes)
+    pub whole : OnOk result (last ≡ at_turn content new to last.telling notes sees)
+
+  -- a board's book, as it is handed to be shown
+  abbrev pub sight_at : Sheet → Board B g → Sight
+  sight_at sheet k = sight_of sheet (innings_of (book_of k)) (content (book_of k))
+
+  -- A board's process from its beginning on, with this board: its six lines are printed and its book is handed to be shown,
+  -- and then it runs for so many turns. Where one of these failed, it ends, and of the text nothing is said.
+  pub record BoardLives
+      {E : Type 0} (sheet : Sheet) (old new : Board B g) (before after : List Passed) (told tells : Option (List ℕ))
+      (turns : ℕ) (noted notes : List Notice) (seen sees : List Sight) (result : Result (Unit {0}) E) : Type 0 where
+    pub first : List Sight
+    pub shows_first : (first ≡ sight_at sheet old ∷ []) ⊎ ((first ≡ []) × IsErr result)
+    pub runs : BoardRuns sheet old new before after
+        (with_text told (board_text sheet (innings_of (book_of old)) (history_of (content (book_of old))))) tells
+        0 turns untold noted notes (seen ++ first) sees result

@@ -15,11 +15,12 @@ use Rattle.live.specs.Ends.{further, known_at}
 use Rattle.links.specs.Passed.{Passed}
 use Rattle.live.specs.Runs.{Goes, with_text}
 use Rattle.live.specs.Texts.{greeting, unwarned}
+use Rattle.live.specs.Ticks.{unticked}
 use Rattle.links.specs.Typing.{Input}
 
 -- a desk's process at its beginning
 abbrev pub fresh : {Disk : Type 0} → DeskState Disk → DeskProcess Disk
-fresh k = record { desk = k; warned = unwarned; turns = 0; course = further }
+fresh k = record { desk = k; warned = unwarned; turns = 0; ticking = unticked; course = further }
 
 -- on a disk without a byte a process makes its file
 abbrev pub Makes : {Disk : Type 0} → FileView Disk → DeskId → Opening Disk → Type 0
@@ -40,26 +41,27 @@ ended (Ok done) = Ok done
 ended (Err end) = Err (EndedSo end)
 
 -- What followed, with this sheet: the desk that was opened told its scorer where it stands, and then there was a run of
--- it; or, where none was, nothing passed, was typed or was told.
+-- it; or, where none was, nothing passed, was typed, was read of the clock or was told.
 abbrev pub Follows :
     {Disk : Type 0} → Sheet → FileView Disk → DiskView Disk → ℕ → Opening Disk → List Passed → List Passed
-    → List Input → List Input → Option (List ℕ) → Option (List ℕ) → ℕ → Result (Unit {0}) LifeEnd → Type 0
-Follows sheet view disks innings (Opened k) before after typed types told tells turns result =
+    → List Input → List Input → List ℕ → List ℕ → Option (List ℕ) → Option (List ℕ) → ℕ → Result (Unit {0}) LifeEnd
+    → Type 0
+Follows sheet view disks innings (Opened k) before after typed types times later told tells turns result =
     (end : Result (Unit {0}) DeskEnd) × (last : DeskProcess _) × (result ≡ ended end)
-    × Goes (desk_kind sheet view disks sheet.game innings) (fresh k) last before after typed types
+    × Goes (desk_kind sheet view disks sheet.game innings) (fresh k) last before after typed types times later
     (known_at end (with_text told (greeting sheet innings k.book k.seat.position (own_line k))))
     (known_at end tells)
     × Ended turns end last
-Follows sheet view disks innings (NotOpened cause left) before after typed types told tells turns result =
+Follows sheet view disks innings (NotOpened cause left) before after typed types times later told tells turns result =
     (why : OpenRefusal) × (open_cause why ≡ cause) × (result ≡ Err (NotBegun why))
-    × (after ≡ before) × (types ≡ typed) × (tells ≡ told)
+    × (after ≡ before) × (types ≡ typed) × (later ≡ times) × (tells ≡ told)
 
 -- The process of this desk on a disk, where this is what the disk shows of its file, what a read gives, and what is told
 -- of its failures: how it began, and what followed.
 pub record DeskLives
     {Disk : Type 0} (view : FileView Disk) (seen : Disk → List ℕ) (disks : DiskView Disk) (sheet : Sheet) (innings : ℕ)
-    (d : DeskId) (disk : Disk) (before after : List Passed) (typed types : List Input) (told tells : Option (List ℕ))
-    (turns : ℕ) (result : Result (Unit {0}) LifeEnd) : Type 0 where
+    (d : DeskId) (disk : Disk) (before after : List Passed) (typed types : List Input) (times later : List ℕ)
+    (told tells : Option (List ℕ)) (turns : ℕ) (result : Result (Unit {0}) LifeEnd) : Type 0 where
   pub opening : Opening Disk
   pub begins : BeginsOn view seen innings d disk opening
-  pub follows : Follows sheet view disks innings opening before after typed types told tells turns result
+  pub follows : Follows sheet view disks innings opening before after typed types times later told tells turns result

@@ -24,17 +24,21 @@ use Rattle.live.specs.LostLines.{end_here, shows_loss}
 use Rattle.links.specs.Passed.{Passed, Came, sends}
 use Rattle.live.specs.Runs.{Goes, Kind, with_text}
 use Rattle.live.specs.Saying.{Types}
+use Rattle.live.specs.Ticks.{Beat, Look, MayBeat, Other, Tick, Ticking, TurnEnd, after_beat, unticked}
 use Rattle.live.specs.Texts.{came_text, greeting, reminder_text, said_text, unopened_text, unwarned, warned_after, warned_reminded, warned_unopened}
 use Rattle.links.specs.Typing.{Input, Line, End}
 
 -- a call of a desk: its scorer's line, the end of its scorer's lines, bytes that it is given, bytes that don't open, of
--- which it is given nothing, a tick, what it tells its scorer of the other desk, or the end of a turn
+-- which it is given nothing, a look at its clock, whether a tick is due, a tick, another reading of its clock, each with
+-- what it shows, what it tells its scorer of the other desk, or the end of a turn
 pub data DeskCall : Type 0 where
   Typed : List ℕ → Said → DeskCall
   TypingEnded : DeskCall
   Given : List ℕ → What → DeskCall
   Unopened : DeskCall
+  Looked : ℕ → DeskCall
   Ticked : DeskCall
+  Read : ℕ → DeskCall
   Reminded : Reminder → DeskCall
   TurnEnded : DeskCall
 
@@ -43,12 +47,9 @@ abbrev pub DeskStep :
     {Disk : Type 0} → Sheet → FileView Disk → ℕ → ℕ
     → DeskState Disk → DeskCall → List Message → DeskState Disk → Type 0
 DeskStep s view game innings k (Typed line said) out l = Types s view (book_refusal innings) k line said l out
-DeskStep s view game innings k TypingEnded out l = (l ≡ k) × (out ≡ [])
 DeskStep s view game innings k (Given bytes what) out l = Takes view game k bytes what l out
-DeskStep s view game innings k Unopened out l = (l ≡ k) × (out ≡ [])
 DeskStep s view game innings k Ticked out l = Ticks k out × (l ≡ k)
-DeskStep s view game innings k (Reminded reminder) out l = (l ≡ k) × (out ≡ [])
-DeskStep s view game innings k TurnEnded out l = (l ≡ k) × (out ≡ [])
+DeskStep s view game innings k call out l = (l ≡ k) × (out ≡ [])
 
 -- how the process goes on after a call of the desk
 abbrev pub course_after : {Disk : Type 0} → DeskState Disk → DeskCall → Course
@@ -68,11 +69,12 @@ Blames disks k call l =
     k.failed ≡ false → BlamesDisk Device disks.FitsLongest (course_after k call) (disks.faults k.disk) (disks.faults l.disk)
 
 -- a desk's process: the desk, what its scorer was told of a peer since a vote of the other desk came, how many turns are
--- over, and how it goes on
+-- over, what it saw of its clock, and how it goes on
 pub record DeskProcess (Disk : Type 0) : Type 0 where
   pub desk : DeskState Disk
   pub warned : Warned
   pub turns : ℕ
+  pub ticking : Ticking
   pub course : Course
 
 -- bytes that came at a desk show that the other desk's file lacks lines
@@ -89,9 +91,22 @@ abbrev pub turns_at : ℕ → DeskCall → ℕ
 turns_at turns TurnEnded = turns + 1
 turns_at turns call = turns
 
+-- what a call is to the clock
+abbrev pub beat_of : DeskCall → Beat
+beat_of (Looked now) = Look now
+beat_of Ticked = Tick
+beat_of TurnEnded = TurnEnd
+beat_of call = Other
+
 abbrev pub after_call : {Disk : Type 0} → DeskProcess Disk → DeskCall → DeskState Disk → DeskProcess Disk
 after_call k call l =
-    record { desk = l; warned = warned_at k.desk k.warned call; turns = turns_at k.turns call; course = course_after k.desk call }
+    record {
+      desk = l;
+      warned = warned_at k.desk k.warned call;
+      turns = turns_at k.turns call;
+      ticking = after_beat k.ticking (beat_of call);
+      course = course_after k.desk call;
+    }
 
 -- A scorer may be told that the other has written where its vote is noted and the own isn't cast, unless it was told;
 -- that the other desk isn't heard, unless it was told; and that it is again, where it was told that it isn't. When it is
@@ -106,13 +121,14 @@ abbrev pub MayCall : {Disk : Type 0} → DeskProcess Disk → DeskCall → Type 
 MayCall k (Reminded reminder) = MayRemind k reminder
 MayCall k call = Unit {0}
 
--- a process that hasn't ended makes a call
+-- a process that hasn't ended makes a call, and ticks in time
 abbrev pub ProcessStep :
     {Disk : Type 0} → Sheet → FileView Disk → DiskView Disk → ℕ → ℕ
     → DeskProcess Disk → DeskCall → List Message → DeskProcess Disk → Type 0
 ProcessStep s view disks game innings k call out l =
     (k.course ≡ further) × DeskStep s view game innings k.desk call out l.desk
     × Blames disks k.desk call l.desk × (l ≡ after_call k call l.desk) × MayCall k call
+    × MayBeat k.ticking (beat_of call)
 
 abbrev pub given : DeskCall → List Passed
 given (Given bytes what) = Came bytes ∷ []
@@ -122,6 +138,11 @@ abbrev pub typed : DeskCall → List Input
 typed (Typed line said) = Line line ∷ []
 typed TypingEnded = End ∷ []
 typed call = []
+
+abbrev pub reads : DeskCall → List ℕ
+reads (Looked now) = now ∷ []
+reads (Read now) = now ∷ []
+reads call = []
 
 -- a desk's vote of its position, where it is cast: the last of its votes
 abbrev pub own_entry : Bool → Option Entry → Option Entry
@@ -152,6 +173,7 @@ desk_kind sheet view disks game innings = record {
   Step = ProcessStep sheet view disks game innings;
   given = given;
   typed = typed;
+  reads = reads;
   prints = told_of sheet innings;
 }
 
@@ -176,9 +198,9 @@ module _ {S B D : Type 0} {g : Files S D} {h : Disks D} {b : Books B} where
   abbrev pub kind_of : Sheet → Desk S B D g h b → Kind (DeskProcess D) DeskCall
   kind_of sheet desk = desk_kind sheet (view_of desk) (disks_of desk) (game_of desk) (innings_of desk)
 
-  abbrev pub process_of : Desk S B D g h b → Warned → ℕ → Course → DeskProcess D
-  process_of desk warned turns course =
-      record { desk = state_of desk; warned = warned; turns = turns; course = course }
+  abbrev pub process_of : Desk S B D g h b → Warned → ℕ → Ticking → Course → DeskProcess D
+  process_of desk warned turns ticking course =
+      record { desk = state_of desk; warned = warned; turns = turns; ticking = ticking; course = course }
 
   -- a call of a desk that has this sheet, with its answer: what it handed out is what the link's log grew by
   pub record Calls
@@ -193,17 +215,18 @@ module _ {S B D : Type 0} {g : Files S D} {h : Disks D} {b : Books B} where
   -- from a desk's process on there is a run to another one of the same desk
   pub record DeskGoes
       (sheet : Sheet) (old new : Desk S B D g h b) (k l : DeskProcess D) (before after : List Passed)
-      (typed types : List Input) (told tells : Option (List ℕ)) : Type 0 where
+      (typed types : List Input) (times later : List ℕ) (told tells : Option (List ℕ)) : Type 0 where
     pub same : SameOwner old new
-    pub goes : Goes (kind_of sheet old) k l before after typed types told tells
+    pub goes : Goes (kind_of sheet old) k l before after typed types times later told tells
 
   -- A desk's process: the scorer is told where the desk stands, and then there is a run from its first turn on.
   pub record DeskRuns
       (sheet : Sheet) (old new : Desk S B D g h b) (before after : List Passed) (typed types : List Input)
-      (told tells : Option (List ℕ)) (turns : ℕ) (result : Result (Unit {0}) DeskEnd) : Type 0 where
+      (times later : List ℕ) (told tells : Option (List ℕ)) (turns : ℕ) (result : Result (Unit {0}) DeskEnd) : Type 0 where
     pub last : DeskProcess D
     pub is : last.desk ≡ state_of new
-    pub goes : DeskGoes sheet old new (process_of old unwarned 0 further) last before after typed types
+    pub goes : DeskGoes sheet old new (process_of old unwarned 0 unticked further) last before after typed types
+        times later
         (known_at result (with_text told
         (greeting sheet (innings_of old) (state_of old).book (state_of old).seat.position (own_line (state_of old)))))
         (known_at result tells)

@@ -22,13 +22,14 @@ pub record Moment (State Call : Type 0) : Type 0 where
   pub out : List Message
   pub after : State
 
--- a kind of station in a match: what its calls do, the datagrams and the lines that are given to it with a call,
--- and what is printed of a call
+-- a kind of station in a match: what its calls do, the datagrams and the lines that are given to it with a call, what
+-- its clock shows it then, and what is printed of a call
 pub record Kind (State Call : Type 0) : Type 1 where
   pub game : ℕ
   pub Step : State → Call → List Message → State → Type 0
   pub given : Call → List Passed
   pub typed : Call → List Input
+  pub reads : Call → List ℕ
   pub prints : State → Call → State → List ℕ
 
 module _ {State Call : Type 0} where
@@ -57,20 +58,26 @@ module _ {State Call : Type 0} where
   typed_in kind [] = []
   typed_in kind (m ∷ ms) = typed_in kind ms ++ kind.typed m.call
 
+  -- what the clock showed
+  abbrev pub read_in : Kind State Call → List (Moment State Call) → List ℕ
+  read_in kind [] = []
+  read_in kind (m ∷ ms) = read_in kind ms ++ kind.reads m.call
+
   -- the texts that were printed
   abbrev pub printed_in : Kind State Call → State → List (Moment State Call) → List ℕ
   printed_in kind k [] = []
   printed_in kind k (m ∷ ms) = printed_in kind k ms ++ kind.prints (last_of k ms) m.call m.after
 
-  -- Between two states of a station, of its link's log, of its scorer's typing and of its writer there is a run:
-  -- its datagrams are just those that passed, its lines just those that were typed, and its texts just those that
-  -- were written.
+  -- Between two states of a station, of its link's log, of its scorer's typing, of its clock and of its writer there is a
+  -- run: its datagrams are just those that passed, its lines just those that were typed, its times just those that were
+  -- read, and its texts just those that were written.
   pub record Goes
       (kind : Kind State Call) (k l : State) (before after : List Passed) (typed types : List Input)
-      (told tells : Option (List ℕ)) : Type 0 where
+      (times later : List ℕ) (told tells : Option (List ℕ)) : Type 0 where
     pub moments : List (Moment State Call)
     pub run : Run kind k moments
     pub last : last_of k moments ≡ l
     pub passed : after ≡ before ++ passed_in kind moments
     pub inputs : types ≡ typed ++ typed_in kind moments
+    pub readings : later ≡ times ++ read_in kind moments
     pub printed : Appends told tells (printed_in kind k moments)

@@ -1,6 +1,6 @@
 -- What a desk's scorer is told.
-use Rattle.std.specs.Prelude.{ℕ, ◌==◌, ◌||◌, Bool, true, false, if◌then◌else◌, nat_lt, is_some, Option, Some, None, List, [], ◌++◌, slice_get, codes, decimal}
-use Rattle.notation.specs.declared.entry.{Entry.Entry, Plain.Plain}
+use Rattle.std.specs.Prelude.{◌≡◌, ◌<◌, ◌≤◌, ◌↔◌, ℕ, ◌==◌, ◌||◌, Bool, true, false, if◌then◌else◌, nat_le, nat_lt, is_some, Option, Some, None, List, [], ◌++◌, slice_get, codes, decimal}
+use Rattle.notation.specs.declared.entry.{Entry.Entry, Plain.Plain, TheConstants.PLACES}
 use Rattle.notation.specs.declared.entry.Entry.TheVariants.{Write}
 use Rattle.notation.specs.Written.{text_of}
 use Rattle.ball_laws.specs.History.{History}
@@ -10,7 +10,8 @@ use Rattle.match_laws.specs.Result.{current}
 use Rattle.match_laws.specs.LawRefusal.{number_of as law_number}
 use Rattle.corrections.specs.declared.refusal.Refusal.TheVariants.{Later}
 use Rattle.corrections.specs.CleanList.{history_of}
-use Rattle.agree_core.specs.declared.{position.Position.Position, seat.Settled.Settled, seat.Heard.Heard}
+use Rattle.agree_core.specs.declared.{position.Position.Position, position.TheConstants.ROUNDS, seat.Settled.Settled, seat.Heard.Heard}
+use Rattle.agree_core.specs.Positions.{InRange}
 use Rattle.wire.specs.Fault.{number_of as wire_number, name_of as wire_name}
 use Rattle.wire.specs.declared.{fault.WireFault.WireFault, what.What.What}
 use Rattle.desk.specs.Refusal.{number_of, name_of}
@@ -89,10 +90,33 @@ settled_text sheet innings place other book e Settled.Pending = pending place e
 settled_text sheet innings place other book e Settled.Agreed = agreed sheet innings place book
 settled_text sheet innings place other book e Settled.Differ = differs_text place (Some e) other
 
--- of a desk's position: its vote for this entry is cast, or the scorers differed there, or neither
+-- why no vote can be cast at a position, whatever a scorer types: all places of the book are used up, or all rounds of
+-- this place
+abbrev pub why_full : Position → Option Refusal
+why_full at =
+    if nat_le PLACES at.place then Some Refusal.PlacesFull
+    else if nat_le ROUNDS at.round then Some Refusal.RoundsFull
+    else None
+
+-- it is told just where each entry that is penned is refused so, if the own vote isn't cast
+pub record TellsWhyFull (at : Position) : Type 0 where
+  pub places : (why_full at ≡ Some Refusal.PlacesFull) ↔ (PLACES ≤ at.place)
+  pub rounds : (why_full at ≡ Some Refusal.RoundsFull) ↔ ((at.place < PLACES) × (ROUNDS ≤ at.round))
+  pub room : (why_full at ≡ None) ↔ InRange at
+
+-- of a desk's position: its vote for this entry is cast, or none can be, or the scorers differed there, or nothing of these
+abbrev pub open_text : Position → Option Refusal → List ℕ
+open_text at (Some why) = at_place at.place (of_desk why)
+open_text at None = at_place at.place (if nat_lt 0 at.round then codes "differs" else codes "next")
+
 abbrev pub place_text : Position → Option Entry → List ℕ
 place_text at (Some e) = pending at.place e
-place_text at None = at_place at.place (if nat_lt 0 at.round then codes "differs" else codes "next")
+place_text at None = open_text at (why_full at)
+
+-- of a line without `again`, where the scorers differed: it is asked for, unless no vote can be cast
+abbrev pub again_text : Position → Option Refusal → List ℕ
+again_text at (Some why) = refused_text why
+again_text at None = at_place at.place (codes "differs: begin the line with again")
 
 -- where a desk stands, as it begins and where its scorer asks
 abbrev pub greeting : Sheet → ℕ → List Entry → Position → Option Entry → List ℕ
@@ -143,8 +167,7 @@ said_text sheet innings at own other silent book (Said.Asks word) =
     word_text sheet innings at own (is_waited_for own other) silent book word
 said_text sheet innings at own other silent book (Said.Unclear unclear) = unclear_text sheet unclear
 said_text sheet innings at own other silent book (Said.Fault fault) = fault_text fault
-said_text sheet innings at own other silent book Said.SayAgain =
-    at_place at.place (codes "differs: begin the line with again")
+said_text sheet innings at own other silent book Said.SayAgain = again_text at (why_full at)
 said_text sheet innings at own other silent book Said.NoneDiffers =
     at_place at.place (codes "doesn't differ: leave out again")
 said_text sheet innings at own other silent book Said.Waiting = refused_text Refusal.Waiting

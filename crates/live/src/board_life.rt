@@ -1,13 +1,11 @@
 //! A board's process, from its beginning to its end.
 
-ghost use Rattle.std.specs.Prelude.{◌≡◌, ◌⊎◌, OnErr, OnOk, true};
+ghost use Rattle.std.specs.Prelude.{◌≡◌, ◌⊎◌, ◌∷◌, ◌++◌, [], IsErr, OnErr, OnOk, true};
 ghost use Rattle.corrections.specs.CleanList.{history_of};
 ghost use Rattle.cards.specs.Board.{board as board_text};
 ghost use Rattle.streams.specs.Watched.{Prints, has_failed, stream_of};
 ghost use Rattle.board.specs.Board.{book_of};
-ghost use Rattle.live.specs.Boards.{BoardRuns};
-ghost use Rattle.live.specs.Notices.{untold};
-ghost use Rattle.live.specs.Runs.{with_text};
+ghost use Rattle.live.specs.Boards.{BoardLives, sight_at};
 
 use crate::board_loop::run_board;
 use crate::notices::Notices;
@@ -19,8 +17,8 @@ use links::{Clock, Link};
 use std::io::Write;
 use streams::{Watched, WriteFailed};
 
-/// Shows a board's six lines and its state, as it begins.
-fn begin<B: BookOf, C: Clock, W: Write, S: Shows>(
+/// Prints a board's six lines and hands its book over to be shown, as it begins.
+fn begin<B: BookOf, C: Clock, W: Write, S: Shows<B>>(
     board: &Board<B>,
     sheet: &MatchSheet,
     clock: &mut C,
@@ -29,6 +27,8 @@ fn begin<B: BookOf, C: Clock, W: Write, S: Shows>(
 ) -> Result<(), WriteFailed>
     ensures text { OnOk result (Prints W.contents out.old out.new
         (board_text sheet.now (B.innings_a_side (book_of board.now)) (history_of (B.content (book_of board.now))))) }
+    ensures seen { (S.seen state.new ≡ S.seen state.old ++ sight_at B.content B.innings_a_side sheet.now board.now ∷ [])
+        ⊎ ((S.seen state.new ≡ S.seen state.old) × IsErr result) }
     ensures failed { OnErr result (has_failed out.new ≡ true ⊎ S.failed state.new ≡ true) }
 {
     board.lines(sheet, out)?;
@@ -36,8 +36,9 @@ fn begin<B: BookOf, C: Clock, W: Write, S: Shows>(
     state.show(sheet, board.book(), clock.millis())
 }
 
-/// A board's process: it shows its six lines and its state at once, and then takes so many turns, as `run_board` does.
-pub fn keep_board<B: BookOf, L: Link, C: Clock, N: Notices, W: Write, S: Shows>(
+/// A board's process: it prints its six lines and hands its book over to be shown at once, and then takes so many turns,
+/// as `run_board` does.
+pub fn keep_board<B: BookOf, L: Link, C: Clock, N: Notices, W: Write, S: Shows<B>>(
     board: &mut Board<B>,
     sheet: &MatchSheet,
     link: &mut L,
@@ -47,11 +48,9 @@ pub fn keep_board<B: BookOf, L: Link, C: Clock, N: Notices, W: Write, S: Shows>(
     state: &mut S,
     turns: u64,
 ) -> Result<(), WriteFailed>
-    ensures runs { BoardRuns B.content B.innings_a_side sheet.now board.old board.new
-        (L.log link.old) (L.log link.new)
-        (with_text (W.contents (stream_of out.old)) (board_text sheet.now (B.innings_a_side (book_of board.old))
-        (history_of (B.content (book_of board.old))))) (W.contents (stream_of out.new)) 0 turns
-        untold (N.told notices.old) (N.told notices.new) result }
+    ensures lives { BoardLives B.content B.innings_a_side sheet.now board.old board.new
+        (L.log link.old) (L.log link.new) (W.contents (stream_of out.old)) (W.contents (stream_of out.new)) turns
+        (N.told notices.old) (N.told notices.new) (S.seen state.old) (S.seen state.new) result }
     ensures failed { OnErr result (has_failed out.new ≡ true ⊎ S.failed state.new ≡ true) }
 {
     begin(board, sheet, clock, out, state)?;

@@ -1,10 +1,14 @@
 //! A board's process.
 
-ghost use Rattle.std.specs.Prelude.{◌≡◌, ◌<◌, ◌+◌, ℕ, true, false, Option, List, [], ◌∷◌, ◌++◌, ◌⊎◌, OnErr};
+ghost use Rattle.std.specs.Prelude.{◌≡◌, ◌<◌, ◌+◌, ℕ, true, false, Option, List, [], ◌∷◌, ◌++◌, ◌⊎◌, OnErr, OnOk, length, nat_eq};
+ghost use Rattle.corrections.specs.CleanList.{history_of};
+ghost use Rattle.cards.specs.Board.{board as board_text};
 ghost use Rattle.cards.specs.Sheet.{Sheet};
-ghost use Rattle.streams.specs.Watched.{has_failed, stream_of};
-ghost use Rattle.live.specs.Boards.{BoardGoes, BoardRuns, at_turn, in_turn};
+ghost use Rattle.streams.specs.Watched.{Prints, has_failed, stream_of};
+ghost use Rattle.board.specs.Board.{book_of};
+ghost use Rattle.live.specs.Boards.{BoardGoes, BoardRuns, at_turn, grown, in_turn};
 ghost use Rattle.live.specs.Notices.{notices_unopened, telling_unopened, untold};
+ghost use Rattle.live.specs.Sights.{Sight};
 ghost use Rattle.links.specs.Passed.{Came, Passed};
 ghost use Rattle.links.specs.declared.link.TheConstants.{MOST_TAKEN};
 ghost use Rattle.live.specs.declared.notices.Notice.{Notice};
@@ -30,10 +34,10 @@ struct Between {
 
 /// Has a board say what it says unasked, where that is due.
 fn tick<B: BookOf, L: Link>(board: &Board<B>, link: &mut L, is_due: bool)
-    ensures { (sheet : Sheet) (shown : Option (List ℕ)) (turns had taken : ℕ) (telling : Telling) (notices : List Notice) →
+    ensures { (sheet : Sheet) (shown : Option (List ℕ)) (seen : List Sight) (turns had taken : ℕ) (telling : Telling) (notices : List Notice) →
         BoardGoes B.content B.innings_a_side sheet board.now board.now
-        (in_turn B.content board.now turns had taken telling notices)
-        (in_turn B.content board.now turns had taken telling notices)
+        (in_turn B.content board.now turns had taken telling notices seen)
+        (in_turn B.content board.now turns had taken telling notices seen)
         (L.log link.old) (L.log link.new) shown shown }
 {
     if is_due {
@@ -49,10 +53,10 @@ fn give<B: BookOf, N: Notices>(
     between: &mut Between,
     now: u64,
 )
-    ensures { (sheet : Sheet) (shown : Option (List ℕ)) (log : List Passed) (turns had taken : ℕ) → taken < MOST_TAKEN →
+    ensures { (sheet : Sheet) (shown : Option (List ℕ)) (seen : List Sight) (log : List Passed) (turns had taken : ℕ) → taken < MOST_TAKEN →
         BoardGoes B.content B.innings_a_side sheet board.old board.new
-        (in_turn B.content board.old turns had taken between.old.telling (N.told notices.old))
-        (in_turn B.content board.new turns had (taken + 1) between.new.telling (N.told notices.new))
+        (in_turn B.content board.old turns had taken between.old.telling (N.told notices.old) seen)
+        (in_turn B.content board.new turns had (taken + 1) between.new.telling (N.told notices.new) seen)
         log (log ++ Came bytes.now ∷ []) shown shown }
 {
     let at = board.position();
@@ -83,16 +87,16 @@ fn take_next<B: BookOf, L: Link, C: Clock, N: Notices>(
     between: &mut Between,
 ) -> bool
     ensures taken { result ≡ true →
-        (sheet : Sheet) (shown : Option (List ℕ)) (turns had taken : ℕ) → taken < MOST_TAKEN →
+        (sheet : Sheet) (shown : Option (List ℕ)) (seen : List Sight) (turns had taken : ℕ) → taken < MOST_TAKEN →
         BoardGoes B.content B.innings_a_side sheet board.old board.new
-        (in_turn B.content board.old turns had taken between.old.telling (N.told notices.old))
-        (in_turn B.content board.new turns had (taken + 1) between.new.telling (N.told notices.new))
+        (in_turn B.content board.old turns had taken between.old.telling (N.told notices.old) seen)
+        (in_turn B.content board.new turns had (taken + 1) between.new.telling (N.told notices.new) seen)
         (L.log link.old) (L.log link.new) shown shown }
     ensures none { result ≡ false →
-        (sheet : Sheet) (shown : Option (List ℕ)) (turns had taken : ℕ) →
+        (sheet : Sheet) (shown : Option (List ℕ)) (seen : List Sight) (turns had taken : ℕ) →
         BoardGoes B.content B.innings_a_side sheet board.old board.new
-        (in_turn B.content board.old turns had taken between.old.telling (N.told notices.old))
-        (in_turn B.content board.new turns had taken between.new.telling (N.told notices.new))
+        (in_turn B.content board.old turns had taken between.old.telling (N.told notices.old) seen)
+        (in_turn B.content board.new turns had taken between.new.telling (N.told notices.new) seen)
         (L.log link.old) (L.log link.new) shown shown }
 {
     let now = clock.millis();
@@ -120,13 +124,13 @@ fn take_all<B: BookOf, L: Link, C: Clock, N: Notices>(
     notices: &mut N,
     between: &mut Between,
 )
-    ensures { (sheet : Sheet) (shown : Option (List ℕ)) (turns had : ℕ) → (taken : ℕ) ×
+    ensures { (sheet : Sheet) (shown : Option (List ℕ)) (seen : List Sight) (turns had : ℕ) → (taken : ℕ) ×
         BoardGoes B.content B.innings_a_side sheet board.old board.new
-        (in_turn B.content board.old turns had 0 between.old.telling (N.told notices.old))
-        (in_turn B.content board.new turns had taken between.new.telling (N.told notices.new))
+        (in_turn B.content board.old turns had 0 between.old.telling (N.told notices.old) seen)
+        (in_turn B.content board.new turns had taken between.new.telling (N.told notices.new) seen)
         (L.log link.old) (L.log link.new) shown shown }
 {
-    between.pace.begin_turn(true);
+    between.pace.set_waits(true);
     for taken in 0..MOST_TAKEN {
         if !take_next(board, link, clock, notices, between) {
             break;
@@ -134,29 +138,18 @@ fn take_all<B: BookOf, L: Link, C: Clock, N: Notices>(
     }
 }
 
-/// A board's turn: it says what is due, takes what came, and prints its six lines where its book has grown, unless it
-/// has refused both desks' votes.
-fn turn<B: BookOf, L: Link, C: Clock, N: Notices, W: Write>(
-    board: &mut Board<B>,
+/// Prints a board's six lines, where its book isn't as long as it was.
+fn print_news<B: BookOf, W: Write>(
+    board: &Board<B>,
     sheet: &MatchSheet,
-    link: &mut L,
-    clock: &mut C,
-    notices: &mut N,
     out: &mut Watched<W>,
-    between: &mut Between,
+    before: u32,
 ) -> Result<(), WriteFailed>
-    ensures runs { (turns : ℕ) → (runs : BoardRuns B.content B.innings_a_side sheet.now board.old board.new
-        (L.log link.old) (L.log link.new)
-        (W.contents (stream_of out.old)) (W.contents (stream_of out.new)) turns (turns + 1)
-        between.old.telling (N.told notices.old) (N.told notices.new) result)
-        × (runs.last.telling ≡ between.new.telling) }
+    ensures text { OnOk result (Prints W.contents out.old out.new
+        (grown (nat_eq (length (B.content (book_of board.now))) before)
+        (board_text sheet.now (B.innings_a_side (book_of board.now)) (history_of (B.content (book_of board.now)))))) }
     ensures failed { OnErr result (has_failed out.new ≡ true) }
 {
-    let before = board.book().len();
-    take_all(board, link, clock, notices, between);
-    if between.telling.is_stopped {
-        return Ok(());
-    }
     if board.book().len() == before {
         return Ok(());
     }
@@ -164,27 +157,39 @@ fn turn<B: BookOf, L: Link, C: Clock, N: Notices, W: Write>(
     out.flush()
 }
 
-/// Shows the state of a board at the end of a turn, unless it has refused both desks' votes.
-fn show<B: BookOf, C: Clock, S: Shows>(
-    board: &Board<B>,
+/// A board's turn: it says what is due, takes what came, prints its six lines where its book has grown, and hands its
+/// book over to be shown; neither of these once it has refused both desks' votes.
+fn turn<B: BookOf, L: Link, C: Clock, N: Notices, W: Write, S: Shows<B>>(
+    board: &mut Board<B>,
     sheet: &MatchSheet,
+    link: &mut L,
     clock: &mut C,
+    notices: &mut N,
+    out: &mut Watched<W>,
     state: &mut S,
-    telling: Telling,
+    between: &mut Between,
 ) -> Result<(), WriteFailed>
-    ensures { OnErr result (S.failed state.new ≡ true) }
+    ensures runs { (turns : ℕ) → (runs : BoardRuns B.content B.innings_a_side sheet.now board.old board.new
+        (L.log link.old) (L.log link.new)
+        (W.contents (stream_of out.old)) (W.contents (stream_of out.new)) turns (turns + 1)
+        between.old.telling (N.told notices.old) (N.told notices.new) (S.seen state.old) (S.seen state.new) result)
+        × (runs.last.telling ≡ between.new.telling) }
+    ensures failed { OnErr result (has_failed out.new ≡ true ⊎ S.failed state.new ≡ true) }
 {
-    if telling.is_stopped {
+    let before = board.book().len();
+    take_all(board, link, clock, notices, between);
+    if between.telling.is_stopped {
         return Ok(());
     }
+    print_news(board, sheet, out, before)?;
     state.show(sheet, board.book(), clock.millis())
 }
 
 /// A board's process, for so many turns: it asks, takes what its link gives, tells what it can't take, prints its six
-/// lines at the end of each turn in which its book has grown, and has its state shown at the end of each turn. It is a
-/// run of the definitions of a board: its datagrams are just those that passed at the link, its texts just those that
-/// were written, its notices just those that were handed on.
-pub fn run_board<B: BookOf, L: Link, C: Clock, N: Notices, W: Write, S: Shows>(
+/// lines at the end of each turn in which its book has grown, and hands its book over to be shown at the end of each turn.
+/// It is a run of the definitions of a board: its datagrams are just those that passed at the link, its texts just those
+/// that were written, its notices just those that were handed on, and what was shown just what was handed over.
+pub fn run_board<B: BookOf, L: Link, C: Clock, N: Notices, W: Write, S: Shows<B>>(
     board: &mut Board<B>,
     sheet: &MatchSheet,
     link: &mut L,
@@ -197,7 +202,7 @@ pub fn run_board<B: BookOf, L: Link, C: Clock, N: Notices, W: Write, S: Shows>(
     ensures runs { BoardRuns B.content B.innings_a_side sheet.now board.old board.new
         (L.log link.old) (L.log link.new)
         (W.contents (stream_of out.old)) (W.contents (stream_of out.new)) 0 turns
-        untold (N.told notices.old) (N.told notices.new) result }
+        untold (N.told notices.old) (N.told notices.new) (S.seen state.old) (S.seen state.new) result }
     ensures failed { OnErr result (has_failed out.new ≡ true ⊎ S.failed state.new ≡ true) }
 {
     let mut between = Between {
@@ -205,8 +210,7 @@ pub fn run_board<B: BookOf, L: Link, C: Clock, N: Notices, W: Write, S: Shows>(
         telling: Telling::NOTHING,
     };
     for number in 0..turns {
-        turn(board, sheet, link, clock, notices, out, &mut between)?;
-        show(board, sheet, clock, state, between.telling)?;
+        turn(board, sheet, link, clock, notices, out, state, &mut between)?;
     }
     Ok(())
 }

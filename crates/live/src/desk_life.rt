@@ -33,7 +33,7 @@ pub enum LifeEnd {
 /// A desk's process: it begins on this disk, on a new file where that has no byte, and runs for so many turns, with an
 /// empty book of the sheet's match to begin with. However it ends, it is a process of the definitions: it began as
 /// `begin_desk` says, and ran as `run_desk` says, on just that desk; and where it didn't begin, nothing passed at the
-/// link, nothing was typed and nothing was told.
+/// link, nothing was typed, the clock wasn't read and nothing was told.
 pub fn keep_desk<S: SlotsOf + Drop, B: BookOf + Drop, L: Link, K: Keys, C: Clock, W: Write>(
     alloc: Global,
     disk: S::Disk,
@@ -52,7 +52,7 @@ where
     ensures lives { DeskLives (file_view S.contents S.Disk.seen S.Disk.images desk sheet.now.game) S.Disk.seen
         (record { faults = S.Disk.faults; FitsLongest = FitsLongest S.room (S.Disk.cap disk) })
         sheet.now (B.innings_a_side book) desk disk (L.log link.old) (L.log link.new)
-        (K.inputs keys.old) (K.inputs keys.new)
+        (K.inputs keys.old) (K.inputs keys.new) (C.readings clock.old) (C.readings clock.new)
         (W.contents (stream_of out.old)) (W.contents (stream_of out.new)) turns result }
     ensures failed { result ≡ Err (Ended ends.Write) → has_failed out.new ≡ true }
 {

@@ -1,6 +1,6 @@
 //! A desk's process.
 
-ghost use Rattle.std.specs.Prelude.{◌≡◌, ◌++◌, ◌∷◌, [], ℕ, List, Option, true, false, Err, IfErr, IfSome, OnErr, OnOk};
+ghost use Rattle.std.specs.Prelude.{◌≡◌, ◌++◌, ◌∷◌, [], ℕ, List, Option, true, false, Err, IfErr, IfSome, IsSome, OnErr, OnOk};
 ghost use Rattle.std.specs.Io.KnownBytes.{Appends};
 ghost use Rattle.notation.specs.Written.{IsEntry};
 ghost use Rattle.entry_log.specs.Blame.{BlamesDisk};
@@ -11,6 +11,8 @@ ghost use Rattle.live.specs.Desks as desks;
 ghost use Rattle.live.specs.Desks.{DeskGoes, DeskRuns, FitsLongest, innings_of, process_of};
 ghost use Rattle.live.specs.Ends as ends;
 ghost use Rattle.live.specs.Ends.{course_of, further, known_at, turns_after};
+ghost use Rattle.live.specs.Paces.{ticking_of};
+ghost use Rattle.live.specs.Ticks.{IsInTime, Ticking};
 ghost use Rattle.links.specs.Passed.{Came, Passed};
 ghost use Rattle.live.specs.Texts.{greeting, unopened_text, warned_unopened};
 ghost use Rattle.links.specs.Typing.{Input};
@@ -58,9 +60,10 @@ fn take_line<S: SlotsOf, B: BookOf + Drop, L: Link, K: Keys, W: Write>(
     out: &mut Watched<W>,
     warned: Warned,
 ) -> Result<(), DeskEnd>
-    ensures goes { (turns : ℕ) → DeskGoes sheet.now desk.old desk.new
-        (process_of desk.old warned turns further) (process_of desk.new warned turns (course_of result))
-        (L.log link.old) (L.log link.new) (K.inputs keys.old) (K.inputs keys.new)
+    ensures goes { (turns : ℕ) (ticking : Ticking) (times : List ℕ) → IsInTime ticking →
+        DeskGoes sheet.now desk.old desk.new
+        (process_of desk.old warned turns ticking further) (process_of desk.new warned turns ticking (course_of result))
+        (L.log link.old) (L.log link.new) (K.inputs keys.old) (K.inputs keys.new) times times
         (known_at result (W.contents (stream_of out.old))) (known_at result (W.contents (stream_of out.new))) }
     ensures failed { result ≡ Err DeskEnd.Write → has_failed out.new ≡ true }
 {
@@ -93,12 +96,13 @@ fn hear<S: SlotsOf, B: BookOf + Drop, L: Link, W: Write>(
     between: &mut Between,
     now: u64,
 ) -> Result<(), DeskEnd>
-    ensures goes { (log : List Passed) (typed : List Input) (turns : ℕ) → L.log link.old ≡ log ++ Came bytes.now ∷ [] →
-        DeskGoes sheet.now desk.old desk.new
-        (process_of desk.old between.old.warned turns further)
-        (process_of desk.new between.new.warned turns (course_of result))
-        log (L.log link.new) typed typed
+    ensures goes { (log : List Passed) (typed : List Input) (times : List ℕ) (turns : ℕ) →
+        L.log link.old ≡ log ++ Came bytes.now ∷ [] → DeskGoes sheet.now desk.old desk.new
+        (process_of desk.old between.old.warned turns (ticking_of between.old.pace) further)
+        (process_of desk.new between.new.warned turns (ticking_of between.new.pace) (course_of result))
+        log (L.log link.new) typed typed times times
         (known_at result (W.contents (stream_of out.old))) (known_at result (W.contents (stream_of out.new))) }
+    ensures ticking { ticking_of between.new.pace ≡ ticking_of between.old.pace }
     ensures failed { result ≡ Err DeskEnd.Write → has_failed out.new ≡ true }
 {
     let at = desk.position();
@@ -145,16 +149,29 @@ fn pass_over<W: Write>(out: &mut Watched<W>, between: &mut Between) -> Result<()
     told(print_unopened(out, warned))
 }
 
-/// Has a desk say what it says unasked, where that is due.
-fn say<S: SlotsOf, B: BookOf + Drop, L: Link>(desk: &Desk<S, B>, link: &mut L, is_due: bool)
-    ensures { (sheet : Sheet) (typed : List Input) (warned : Warned) (turns : ℕ) (told : Option (List ℕ)) →
+/// Looks at the clock, and has a desk say what it says unasked, where that is due. It answers how long the next datagram
+/// is waited for.
+fn say<S: SlotsOf, B: BookOf + Drop, L: Link, C: Clock>(
+    desk: &Desk<S, B>,
+    link: &mut L,
+    clock: &mut C,
+    pace: &mut Pace,
+) -> u64
+    ensures goes { (sheet : Sheet) (typed : List Input) (warned : Warned) (turns : ℕ) (told : Option (List ℕ)) →
         DeskGoes sheet desk.now desk.now
-        (process_of desk.now warned turns further) (process_of desk.now warned turns further)
-        (L.log link.old) (L.log link.new) typed typed told told }
+        (process_of desk.now warned turns (ticking_of pace.old) further)
+        (process_of desk.now warned turns (ticking_of pace.new) further)
+        (L.log link.old) (L.log link.new) typed typed (C.readings clock.old) (C.readings clock.new) told told }
+    ensures looked { IsSome (ticking_of pace.new).looked }
 {
+    let now = clock.millis();
+    let is_due = pace.take_due(now);
+    let wait = pace.take_wait(now);
     if is_due {
         tick(desk, link);
+        return wait;
     }
+    wait
 }
 
 /// Says what is due, and takes the next datagram. The first one of a turn is waited for, until something is due. It answers
@@ -168,16 +185,16 @@ fn take_next<S: SlotsOf, B: BookOf + Drop, L: Link, C: Clock, W: Write>(
     between: &mut Between,
 ) -> Result<bool, DeskEnd>
     ensures goes { (typed : List Input) (turns : ℕ) → DeskGoes sheet.now desk.old desk.new
-        (process_of desk.old between.old.warned turns further)
-        (process_of desk.new between.new.warned turns (course_of result))
-        (L.log link.old) (L.log link.new) typed typed
+        (process_of desk.old between.old.warned turns (ticking_of between.old.pace) further)
+        (process_of desk.new between.new.warned turns (ticking_of between.new.pace) (course_of result))
+        (L.log link.old) (L.log link.new) typed typed (C.readings clock.old) (C.readings clock.new)
         (known_at result (W.contents (stream_of out.old))) (known_at result (W.contents (stream_of out.new))) }
+    ensures looked { IsSome (ticking_of between.new.pace).looked }
     ensures failed { result ≡ Err DeskEnd.Write → has_failed out.new ≡ true }
 {
-    let now = clock.millis();
-    say(desk, link, between.pace.take_due(now));
+    let wait = say(desk, link, clock, &mut between.pace);
     let mut buffer = [0; ROOM];
-    match link.take(&mut buffer, between.pace.take_wait(now)) {
+    match link.take(&mut buffer, wait) {
         Taken::Datagram(count) => {
             let now = clock.millis();
             hear(desk, sheet, &buffer[..count], link, out, between, now)?;
@@ -201,13 +218,14 @@ fn take_all<S: SlotsOf, B: BookOf + Drop, L: Link, C: Clock, W: Write>(
     between: &mut Between,
 ) -> Result<(), DeskEnd>
     ensures goes { (typed : List Input) (turns : ℕ) → DeskGoes sheet.now desk.old desk.new
-        (process_of desk.old between.old.warned turns further)
-        (process_of desk.new between.new.warned turns (course_of result))
-        (L.log link.old) (L.log link.new) typed typed
+        (process_of desk.old between.old.warned turns (ticking_of between.old.pace) further)
+        (process_of desk.new between.new.warned turns (ticking_of between.new.pace) (course_of result))
+        (L.log link.old) (L.log link.new) typed typed (C.readings clock.old) (C.readings clock.new)
         (known_at result (W.contents (stream_of out.old))) (known_at result (W.contents (stream_of out.new))) }
+    ensures looked { IsSome (ticking_of between.new.pace).looked }
     ensures failed { result ≡ Err DeskEnd.Write → has_failed out.new ≡ true }
 {
-    for _ in 0..MOST_TAKEN {
+    for taken in 0..MOST_TAKEN {
         if !take_next(desk, sheet, link, clock, out, between)? {
             break;
         }
@@ -225,10 +243,11 @@ fn listen<S: SlotsOf, B: BookOf + Drop, L: Link, C: Clock, W: Write>(
     between: &mut Between,
 ) -> Result<(), DeskEnd>
     ensures goes { (typed : List Input) (turns : ℕ) → DeskGoes sheet.now desk.old desk.new
-        (process_of desk.old between.old.warned turns further)
-        (process_of desk.new between.new.warned turns (course_of result))
-        (L.log link.old) (L.log link.new) typed typed
+        (process_of desk.old between.old.warned turns (ticking_of between.old.pace) further)
+        (process_of desk.new between.new.warned turns (ticking_of between.new.pace) (course_of result))
+        (L.log link.old) (L.log link.new) typed typed (C.readings clock.old) (C.readings clock.new)
         (known_at result (W.contents (stream_of out.old))) (known_at result (W.contents (stream_of out.new))) }
+    ensures looked { IsSome (ticking_of between.new.pace).looked }
     ensures failed { result ≡ Err DeskEnd.Write → has_failed out.new ≡ true }
 {
     take_all(desk, sheet, link, clock, out, between)?;
@@ -246,10 +265,12 @@ fn act<S: SlotsOf, B: BookOf + Drop, L: Link, K: Keys, C: Clock, W: Write>(
     between: &mut Between,
 ) -> Result<(), DeskEnd>
     ensures goes { (turns : ℕ) → DeskGoes sheet.now desk.old desk.new
-        (process_of desk.old between.old.warned turns further)
-        (process_of desk.new between.new.warned turns (course_of result))
+        (process_of desk.old between.old.warned turns (ticking_of between.old.pace) further)
+        (process_of desk.new between.new.warned turns (ticking_of between.new.pace) (course_of result))
         (L.log link.old) (L.log link.new) (K.inputs keys.old) (K.inputs keys.new)
+        (C.readings clock.old) (C.readings clock.new)
         (known_at result (W.contents (stream_of out.old))) (known_at result (W.contents (stream_of out.new))) }
+    ensures looked { OnOk result (IsSome (ticking_of between.new.pace).looked) }
     ensures failed { result ≡ Err DeskEnd.Write → has_failed out.new ≡ true }
 {
     let at = desk.position();
@@ -259,11 +280,11 @@ fn act<S: SlotsOf, B: BookOf + Drop, L: Link, K: Keys, C: Clock, W: Write>(
     between
         .pace
         .note(desk.position() != at, has_voted, clock.millis());
-    between.pace.begin_turn(!keys.has_more());
+    between.pace.set_waits(!keys.has_more());
     listen(desk, sheet, link, clock, out, between)
 }
 
-/// A desk's turn: it takes a line of its scorer, says what is due, and takes what came.
+/// A desk's turn: it takes a line of its scorer, looks at the clock and says what is due, and takes what came.
 fn turn<S: SlotsOf, B: BookOf + Drop, L: Link, K: Keys, C: Clock, W: Write>(
     desk: &mut Desk<S, B>,
     sheet: &MatchSheet,
@@ -274,14 +295,17 @@ fn turn<S: SlotsOf, B: BookOf + Drop, L: Link, K: Keys, C: Clock, W: Write>(
     between: &mut Between,
 ) -> Result<(), DeskEnd>
     ensures goes { (turns : ℕ) → DeskGoes sheet.now desk.old desk.new
-        (process_of desk.old between.old.warned turns further)
-        (process_of desk.new between.new.warned (turns_after turns result) (course_of result))
+        (process_of desk.old between.old.warned turns (ticking_of between.old.pace) further)
+        (process_of desk.new between.new.warned (turns_after turns result) (ticking_of between.new.pace) (course_of result))
         (L.log link.old) (L.log link.new) (K.inputs keys.old) (K.inputs keys.new)
+        (C.readings clock.old) (C.readings clock.new)
         (known_at result (W.contents (stream_of out.old))) (known_at result (W.contents (stream_of out.new))) }
     ensures failed { result ≡ Err DeskEnd.Write → has_failed out.new ≡ true }
 {
     act(desk, sheet, link, keys, clock, out, between)?;
-    told(out.flush())
+    told(out.flush())?;
+    between.pace.end_turn();
+    Ok(())
 }
 
 /// Tells the scorer where the desk stands.
@@ -312,7 +336,7 @@ fn take_turns<S: SlotsOf, B: BookOf + Drop, L: Link, K: Keys, C: Clock, W: Write
     turns: u64,
 ) -> Result<(), DeskEnd>
     ensures runs { DeskRuns sheet.now desk.old desk.new (L.log link.old) (L.log link.new)
-        (K.inputs keys.old) (K.inputs keys.new)
+        (K.inputs keys.old) (K.inputs keys.new) (C.readings clock.old) (C.readings clock.new)
         (W.contents (stream_of out.old)) (W.contents (stream_of out.new)) turns result }
     ensures failed { result ≡ Err DeskEnd.Write → has_failed out.new ≡ true }
 {
@@ -343,7 +367,7 @@ fn end_told(end: Result<(), DeskEnd>, flushed: Result<(), DeskEnd>) -> Result<()
 /// lines, tells what comes of them, sends its votes and replies, asks for what it lacks, and tells by its clock that the other
 /// has written, that the other desk isn't heard, and that it is again. However it ends, it is a run of the
 /// definitions of a desk: its datagrams are just those that passed at the link, its lines just those that were
-/// typed, its texts just those that were written.
+/// typed, its times just those that its clock showed, its texts just those that were written.
 pub fn run_desk<S: SlotsOf, B: BookOf + Drop, L: Link, K: Keys, C: Clock, W: Write>(
     desk: &mut Desk<S, B>,
     own: DeskId,
@@ -355,7 +379,7 @@ pub fn run_desk<S: SlotsOf, B: BookOf + Drop, L: Link, K: Keys, C: Clock, W: Wri
     turns: u64,
 ) -> Result<(), DeskEnd>
     ensures runs { DeskRuns sheet.now desk.old desk.new (L.log link.old) (L.log link.new)
-        (K.inputs keys.old) (K.inputs keys.new)
+        (K.inputs keys.old) (K.inputs keys.new) (C.readings clock.old) (C.readings clock.new)
         (W.contents (stream_of out.old)) (W.contents (stream_of out.new)) turns result }
     // `Device` is answered exactly where the disk failed in this run.
     ensures blame { (state_of desk.old).failed ≡ false →

@@ -1,13 +1,17 @@
-//! What a scorer can't see, what is seen of two votes that differ, and that a reminder comes once.
+//! What a scorer can't see, what is seen of two votes that differ, that a reminder comes once, that a desk ticks, and that nothing
+//! is asked for in vain.
 //!
 //! These functions do nothing: they stand for the laws that they ensure.
 
 ghost use Rattle.std.specs.Prelude.{ℕ};
 ghost use Rattle.agree_core.specs.declared.messages.DeskId.{DeskId as ADesk};
+ghost use Rattle.agree_core.specs.declared.position.Position.{Position as APosition};
 ghost use Rattle.vote_store.specs.View.{file_view};
 ghost use Rattle.live.specs.Desks.{FitsLongest};
 ghost use Rattle.live.specs.Hidden.{HidesTheOther, TellsBoth};
 ghost use Rattle.live.specs.Reminding.{RemindsOnce};
+ghost use Rattle.live.specs.Silences.{IsNeverSilent};
+ghost use Rattle.live.specs.Texts.{TellsWhyFull};
 
 use entry_log::SlotsOf;
 
@@ -27,4 +31,16 @@ pub fn both_lines_are_told<D>()
 pub fn reminders_come_once<S: SlotsOf>()
     ensures { (desk : ADesk) (game cap : ℕ) → RemindsOnce (file_view S.contents S.Disk.seen S.Disk.images desk game)
         (record { faults = S.Disk.faults; FitsLongest = FitsLongest S.room cap }) }
+{}
+
+/// A desk looks at its clock in each turn, and where that shows half a second more than at its last tick, it ticks.
+pub fn desks_are_never_silent<S: SlotsOf>()
+    ensures { (desk : ADesk) (game cap : ℕ) → IsNeverSilent (file_view S.contents S.Disk.seen S.Disk.images desk game)
+        (record { faults = S.Disk.faults; FitsLongest = FitsLongest S.room cap }) }
+{}
+
+/// A scorer is told that no vote can be cast at a position just where a desk refuses each for that, and `again` is asked for at
+/// no other one.
+pub fn nothing_is_asked_in_vain()
+    ensures { (at : APosition) → TellsWhyFull at }
 {}

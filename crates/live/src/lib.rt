@@ -25,6 +25,7 @@ mod reminder;
 mod reminding;
 mod said;
 mod shows;
+mod sight_log;
 mod texts;
 mod warned;
 
@@ -34,10 +35,11 @@ pub use board_loop::run_board;
 pub use desk_life::{LifeEnd, keep_desk};
 pub use desk_loop::run_desk;
 pub use ends::{DeskEnd, end_at};
-pub use laws::{both_lines_are_told, reminders_come_once, the_other_is_hidden};
+pub use laws::{
+    both_lines_are_told, desks_are_never_silent, nothing_is_asked_in_vain, reminders_come_once,
+    the_other_is_hidden,
+};
 pub use notice_log::NoticeLog;
-pub use notices::{Notice, Notices, Telling, print_notice};
-pub use reminder::Reminder;
-pub use said::Said;
+pub use notices::{Notice, Notices, print_notice};
 pub use shows::Shows;
-pub use warned::Warned;
+pub use sight_log::SightLog;

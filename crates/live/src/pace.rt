@@ -1,6 +1,8 @@
 //! When a station says what it says unasked, and how long it waits for datagrams.
 
-ghost use Rattle.std.specs.Prelude.{◌≡◌, ◌≤◌};
+ghost use Rattle.std.specs.Prelude.{◌≡◌, ◌≤◌, ◌<◌, IfSome, false};
+ghost use Rattle.std.proofs.Props.{props};
+ghost use Rattle.live.specs.Ticks.{recent_until};
 
 /// How long an answer is waited for at first, in milliseconds.
 const FIRST_WAIT: u64 = 20;
@@ -9,33 +11,58 @@ const FIRST_WAIT: u64 = 20;
 const LAST_WAIT: u64 = 500;
 
 /// When a station says next what it says unasked: at once where its position is new, then again after 20 ms, after
-/// twice that and so on, up to twice a second.
+/// twice that and so on, up to twice a second. Whatever its clock shows, what was said half a second before is due.
 #[derive(Clone, Copy, Debug, PartialEq, Eq)]
 pub struct Pace {
     due: u64,
     wait: u64,
     /// Whether the next datagram is waited for: not where another was taken in this turn, or there is a line to take.
     waits: bool,
+    /// What the clock showed when something was due last, if anything was.
+    ticked: Option<u64>,
+    /// What it showed when it was looked at last in this turn, if it was.
+    looked: Option<u64>,
     ghost soon: { wait ≤ 500 },
+    ghost due_soon: { due ≤ recent_until ticked },
+    ghost in_time: { IfSome looked (λ now. now < recent_until ticked) } by { Prim.hlevel props },
 }
 
 impl Pace {
+    ghost use Rattle.live.specs.Paces as paces;
+    ghost use Rattle.live.specs.Paces.{paced, ticking_of};
+
     /// Something is due at once.
-    pub fn new() -> Pace {
+    pub fn new() -> Pace
+        ensures { paced result ≡ paces.at_once }
+    {
         Pace {
             due: 0,
             wait: FIRST_WAIT,
             waits: false,
+            ticked: None,
+            looked: None,
         }
     }
 
-    /// A turn begins, in which a datagram is waited for or not.
-    pub fn begin_turn(&mut self, waits: bool) {
+    /// A datagram is waited for next, or not.
+    pub fn set_waits(&mut self, waits: bool)
+        ensures { paced self.new ≡ record (paced self.old) { waits = waits } }
+    {
         self.waits = waits;
     }
 
+    /// A turn ends.
+    pub fn end_turn(&mut self)
+        ensures { paced self.new ≡ paces.turn_ended (paced self.old) }
+    {
+        self.looked = None;
+    }
+
     /// How long the next datagram is waited for: the first one of a turn until something is due, and no further one.
-    pub fn take_wait(&mut self, now: u64) -> u64 {
+    pub fn take_wait(&mut self, now: u64) -> u64
+        ensures value { result ≡ paces.wait_left (paced self.old) now }
+        ensures pace { paced self.new ≡ record (paced self.old) { waits = false } }
+    {
         let waits = self.waits;
         self.waits = false;
         if waits {
@@ -46,18 +73,26 @@ impl Pace {
     }
 
     /// Whether something is due. If so it is said now, and is due again after a wait, which then doubles.
-    pub fn take_due(&mut self, now: u64) -> bool {
-        let is_due = now >= self.due;
-        if is_due {
-            self.due = now.saturating_add(self.wait);
-            self.wait = LAST_WAIT.min(self.wait * 2);
+    pub fn take_due(&mut self, now: u64) -> bool
+        ensures due { result ≡ paces.is_due (paced self.old) now }
+        ensures pace { paced self.new ≡ paces.after_taken result (paced self.old) now }
+    {
+        let is_due = self.due <= now;
+        self.looked = Some(now);
+        if !is_due {
+            return false;
         }
-        is_due
+        self.ticked = Some(now);
+        self.due = now.saturating_add(self.wait);
+        self.wait = LAST_WAIT.min(self.wait * 2);
+        true
     }
 
     /// The position is new: what is to be said is due at once. Else an answer may come soon: it is waited for no longer
     /// than at first.
-    pub fn note(&mut self, is_new: bool, may_come: bool, now: u64) {
+    pub fn note(&mut self, is_new: bool, may_come: bool, now: u64)
+        ensures { paced self.new ≡ paces.noted is_new may_come (paced self.old) now }
+    {
         if is_new {
             self.due = 0;
             self.wait = FIRST_WAIT;

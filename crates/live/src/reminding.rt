@@ -7,6 +7,7 @@ ghost use Rattle.streams.specs.Watched.{has_failed, stream_of};
 ghost use Rattle.desk.specs.Desk.{state_of};
 ghost use Rattle.live.specs.Desks.{DeskGoes, process_of};
 ghost use Rattle.live.specs.Ends.{course_of, further, known_at};
+ghost use Rattle.live.specs.Paces.{ticking_of};
 ghost use Rattle.links.specs.Passed.{Passed};
 ghost use Rattle.live.specs.Texts.{reminder_text, warned_reminded};
 ghost use Rattle.links.specs.Typing.{Input};
@@ -32,6 +33,7 @@ fn tell<W: Write>(
     ensures text { Appends (known_at result (W.contents (stream_of out.old)))
         (known_at result (W.contents (stream_of out.new))) (reminder_text place reminder) }
     ensures course { course_of result ≡ further }
+    ensures pace { between.new.pace ≡ between.old.pace }
     ensures failed { result ≡ Err DeskEnd.Write → has_failed out.new ≡ true }
 {
     between.warned = between.warned.after_reminder(reminder);
@@ -57,11 +59,13 @@ fn remind_of_writing<S: SlotsOf, B: BookOf + Drop, W: Write>(
     between: &mut Between,
     now: u64,
 ) -> Result<(), DeskEnd>
-    ensures goes { (sheet : Sheet) (log : List Passed) (typed : List Input) (turns : ℕ) →
+    ensures goes { (sheet : Sheet) (log : List Passed) (typed : List Input) (times : List ℕ) (turns : ℕ) →
         DeskGoes sheet desk.now desk.now
-        (process_of desk.now between.old.warned turns further)
-        (process_of desk.now between.new.warned turns (course_of result)) log log typed typed
+        (process_of desk.now between.old.warned turns (ticking_of between.old.pace) further)
+        (process_of desk.now between.new.warned turns (ticking_of between.new.pace) (course_of result))
+        log log typed typed times times
         (known_at result (W.contents (stream_of out.old))) (known_at result (W.contents (stream_of out.new))) }
+    ensures pace { between.new.pace ≡ between.old.pace }
     ensures failed { result ≡ Err DeskEnd.Write → has_failed out.new ≡ true }
 {
     if between.warned.of_writing {
@@ -83,11 +87,13 @@ fn remind_of_silence<S: SlotsOf, B: BookOf + Drop, W: Write>(
     between: &mut Between,
     now: u64,
 ) -> Result<(), DeskEnd>
-    ensures goes { (sheet : Sheet) (log : List Passed) (typed : List Input) (turns : ℕ) →
+    ensures goes { (sheet : Sheet) (log : List Passed) (typed : List Input) (times : List ℕ) (turns : ℕ) →
         DeskGoes sheet desk.now desk.now
-        (process_of desk.now between.old.warned turns further)
-        (process_of desk.now between.new.warned turns (course_of result)) log log typed typed
+        (process_of desk.now between.old.warned turns (ticking_of between.old.pace) further)
+        (process_of desk.now between.new.warned turns (ticking_of between.new.pace) (course_of result))
+        log log typed typed times times
         (known_at result (W.contents (stream_of out.old))) (known_at result (W.contents (stream_of out.new))) }
+    ensures pace { between.new.pace ≡ between.old.pace }
     ensures failed { result ≡ Err DeskEnd.Write → has_failed out.new ≡ true }
 {
     let place = desk.position().place;
@@ -111,11 +117,13 @@ pub fn remind<S: SlotsOf, B: BookOf + Drop, W: Write>(
     between: &mut Between,
     now: u64,
 ) -> Result<(), DeskEnd>
-    ensures goes { (sheet : Sheet) (log : List Passed) (typed : List Input) (turns : ℕ) →
+    ensures goes { (sheet : Sheet) (log : List Passed) (typed : List Input) (times : List ℕ) (turns : ℕ) →
         DeskGoes sheet desk.now desk.now
-        (process_of desk.now between.old.warned turns further)
-        (process_of desk.now between.new.warned turns (course_of result)) log log typed typed
+        (process_of desk.now between.old.warned turns (ticking_of between.old.pace) further)
+        (process_of desk.now between.new.warned turns (ticking_of between.new.pace) (course_of result))
+        log log typed typed times times
         (known_at result (W.contents (stream_of out.old))) (known_at result (W.contents (stream_of out.new))) }
+    ensures pace { between.new.pace ≡ between.old.pace }
     ensures failed { result ≡ Err DeskEnd.Write → has_failed out.new ≡ true }
 {
     remind_of_writing(desk, out, between, now)?;

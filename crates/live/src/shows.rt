@@ -1,17 +1,29 @@
-//! What a board shows its state through, beside its six lines.
+//! What a board shows its book through, beside its six lines.
 
-ghost use Rattle.std.specs.Prelude.{◌≡◌, Bool, OnErr, true};
+ghost use Rattle.std.specs.Prelude.{◌≡◌, ◌∷◌, ◌++◌, [], ℕ, Bool, List, OnErr, true};
 
 use cards::MatchSheet;
 use corrections::BookOf;
 use streams::WriteFailed;
 
-/// Shows the state of a board. It sees to it how often it does so. Nothing is known of what it shows.
-pub trait Shows {
-    /// Whether it has failed to show a state.
+/// Shows the book of a board, as its text and as its state. It sees to it how often it does so; what was handed to it is
+/// known.
+pub trait Shows<B: BookOf> {
+    ghost use Rattle.live.specs.Sights.{Sight, sight_of};
+
+    /// What was handed to it, the oldest first.
+    ghost seen: { Self → List Sight };
+
+    /// How it goes on once this was handed to it, at this time: which of it is shown, and how.
+    ghost goes_on: { Self → Sight → ℕ → Self → Type 0 };
+
+    /// Whether it has failed to show a book.
     ghost failed: { Self → Bool };
 
-    /// Shows the state of a board with this book, at this time in milliseconds since some moment, where that is due.
-    fn show<B: BookOf>(&mut self, sheet: &MatchSheet, book: &B, now: u64) -> Result<(), WriteFailed>
-        ensures { OnErr result (failed self.new ≡ true) };
+    /// Shows this book, at this time in milliseconds since some moment, where that is due.
+    fn show(&mut self, sheet: &MatchSheet, book: &B, now: u64) -> Result<(), WriteFailed>
+        ensures seen { seen self.new ≡
+            seen self.old ++ sight_of sheet.now (B.innings_a_side book.now) (B.content book.now) ∷ [] }
+        ensures goes_on { goes_on self.old (sight_of sheet.now (B.innings_a_side book.now) (B.content book.now)) now self.new }
+        ensures failed { OnErr result (failed self.new ≡ true) };
 }

@@ -14,12 +14,12 @@ ghost use Rattle.live.specs.Texts as texts;
 use crate::both::Both;
 use crate::questions::{print_fault, print_unclear};
 use crate::said::Said;
-use agree_core::{Position, Settled};
+use agree_core::{Position, ROUNDS, Settled};
 use cards::MatchSheet;
 use corrections::BookOf;
 use desk::Refusal;
 use match_laws::Match;
-use notation::{Entry, Plain, line_of};
+use notation::{Entry, PLACES, Plain, line_of};
 use screen::{
     HELP, Word, help_on, print_cards, print_check, print_listing, print_row, print_sides,
     refusal_sentence,
@@ -255,6 +255,36 @@ fn print_settled<B: BookOf, W: Write>(
     }
 }
 
+/// Why no vote can be cast at a position, if none can.
+fn why_full(at: Position) -> Option<Refusal>
+    ensures { result ≡ texts.why_full at }
+{
+    if at.place >= PLACES {
+        Some(Refusal::PlacesFull)
+    } else if at.round >= ROUNDS {
+        Some(Refusal::RoundsFull)
+    } else {
+        None
+    }
+}
+
+/// Prints where a desk stands whose vote of this position isn't cast.
+fn print_open<W: Write>(out: &mut Watched<W>, at: Position) -> Result<(), WriteFailed>
+    ensures text { OnOk result (Prints W.contents out.old out.new (texts.open_text at (texts.why_full at))) }
+    ensures failed { OnErr result (has_failed out.new ≡ true) }
+{
+    match why_full(at) {
+        Some(why) => print_at(out, at.place, refusal_sentence(why)),
+        None => {
+            if at.round > 0 {
+                print_at(out, at.place, "differs")
+            } else {
+                print_at(out, at.place, "next")
+            }
+        }
+    }
+}
+
 /// Prints where a desk stands: at this position, with its own vote there or none.
 fn print_place<W: Write>(
     out: &mut Watched<W>,
@@ -267,13 +297,7 @@ fn print_place<W: Write>(
 {
     match own {
         Some(entry) => print_pending(out, at.place, &entry),
-        None => {
-            if at.round > 0 {
-                print_at(out, at.place, "differs")
-            } else {
-                print_at(out, at.place, "next")
-            }
-        }
+        None => print_open(out, at),
     }
 }
 
@@ -373,6 +397,17 @@ fn print_asked<B: BookOf, W: Write>(
     }
 }
 
+/// Prints that a line must begin with `again`, where the scorers differed at this position, or why that would be in vain.
+fn print_again<W: Write>(out: &mut Watched<W>, at: Position) -> Result<(), WriteFailed>
+    ensures text { OnOk result (Prints W.contents out.old out.new (texts.again_text at (texts.why_full at))) }
+    ensures failed { OnErr result (has_failed out.new ≡ true) }
+{
+    match why_full(at) {
+        Some(why) => print_refused(out, why),
+        None => print_at(out, at.place, "differs: begin the line with again"),
+    }
+}
+
 /// Prints what a line came to, at this position, where the desk had these votes before, and the scorer was told that the other
 /// desk isn't heard, or not.
 fn print_answer<B: BookOf, W: Write>(
@@ -412,7 +447,7 @@ fn print_answer<B: BookOf, W: Write>(
         }
         Said::Unclear(unclear) => print_unclear(out, sheet, unclear),
         Said::Fault(fault) => print_fault(out, *fault),
-        Said::SayAgain => print_at(out, at.place, "differs: begin the line with again"),
+        Said::SayAgain => print_again(out, at),
         Said::NoneDiffers => print_at(out, at.place, "doesn't differ: leave out again"),
         Said::Waiting => print_refused(out, Refusal::Waiting),
         Said::Refused(why) => print_refused(out, *why),

@@ -30,6 +30,12 @@ abbrev pub PassesOn : {T E : Type 0} → Result T E → Asked → Option (List C
 PassesOn result asked old new =
     OnOk result (Adds old new (Done asked)) × OnErr result (Adds old new (Done asked) ⊎ Adds old new (Failed asked))
 
+-- the file was asked for just this, or for nothing, and where the disk answers no fault it was asked and answered none
+abbrev pub MayPassOn : {T E : Type 0} → Result T E → Asked → Option (List Call) → Option (List Call) → Type 0
+MayPassOn result asked old new =
+    OnOk result (Adds old new (Done asked))
+    × OnErr result ((new ≡ old) ⊎ (Adds old new (Done asked) ⊎ Adds old new (Failed asked)))
+
 -- a new file takes the place of another: it is to have these bytes alone, to keep them, and then to take the name
 abbrev pub renewal : List ℕ → List Asked
 renewal bytes = CutTo 0 ∷ WriteAt 0 bytes ∷ Sync ∷ TakeName ∷ []

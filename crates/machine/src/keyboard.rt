@@ -1,8 +1,10 @@
 //! A scorer's keyboard: standard input, read without waiting.
 
-ghost use Rattle.std.specs.Prelude.{◌≡◌, ◌<◌, ◌≤◌, IfSome};
+ghost use Rattle.std.specs.Prelude.{◌≡◌, ◌≤◌, ◌<◌, ℕ, List, [], None, Some, IfSome, IsTrue, drop, false, length, take, true};
+ghost use Rattle.links.specs.Logs.{inputs_of};
 
 use crate::waiting::can_read;
+use arrayvec::ArrayVec;
 use links::{InputLog, Keys, LINE_ROOM, Typed};
 use std::io::{self, ErrorKind, Read};
 use std::os::fd::{AsRawFd, RawFd};
@@ -11,17 +13,17 @@ use std::rt::Stdin;
 /// A scorer's lines, from a reader that answers `WouldBlock` where nothing was typed. A line ends with its newline:
 /// what stands behind the last one is none. Of a line that is too long the front is given, and the rest passed over.
 #[derive(Drop)]
-pub struct Keyboard<R> {
+pub struct Keyboard<R: Read> {
     reader: R,
-    held: [u8; 128],
-    len: usize,
+    /// What was read and not given yet.
+    held: ArrayVec<u8, 128>,
     /// Whether the rest of a line that was too long is passed over.
     skips: bool,
     ended: bool,
     /// Whether a read failed, which ends the lines too.
     failed: bool,
     given: InputLog,
-    ghost within: { len ≤ 128 },
+    ghost at_end: { ended ≡ true → failed ≡ false → (bytes : List ℕ) → R.remaining reader ≡ Some bytes → bytes ≡ [] },
 }
 
 /// Standard input, of which a read never waits: it answers `WouldBlock` where nothing is there.
@@ -53,13 +55,36 @@ impl Keyboard<StandardInput> {
     }
 }
 
+/// What stands behind so many bytes.
+fn behind(held: &ArrayVec<u8, 128>, count: usize) -> ArrayVec<u8, 128>
+    requires { count ≤ length held.now.items }
+    ensures { result.items ≡ drop count held.now.items }
+{
+    let mut rest = ArrayVec::new();
+    rest.try_extend_from_slice(&held.as_slice()[count..])
+        .unwrap();
+    rest
+}
+
+/// Puts a line into the front of a buffer.
+fn put(line: &[u8], buffer: &mut [u8; 128])
+    requires { length line.now ≤ 128 }
+    ensures { take (length line.now) buffer.new ≡ line.now }
+{
+    buffer[..line.len()].copy_from_slice(line);
+}
+
 impl<R: Read> Keyboard<R> {
+    ghost use Rattle.machine.specs.Keyboards.{GivesLine, HasNoLines, KeepsLines, first_newline, left_of, lines_left};
+
     /// The lines of this reader.
-    pub fn new(reader: R) -> Keyboard<R> {
+    pub fn new(reader: R) -> Keyboard<R>
+        ensures lines { lines_left R.remaining result ≡ left_of false [] (R.remaining reader) }
+        ensures given { inputs_of result.given ≡ [] }
+    {
         Keyboard {
             reader,
-            held: [0; LINE_ROOM],
-            len: 0,
+            held: ArrayVec::new(),
             skips: false,
             ended: false,
             failed: false,
@@ -69,11 +94,16 @@ impl<R: Read> Keyboard<R> {
 
     /// Reads what there is, as far as there is room.
     fn fill(&mut self)
-        ensures { self.new.given ≡ self.old.given }
+        requires room { length self.old.held.items < 128 }
+        requires going { self.old.ended ≡ false }
+        ensures lines { KeepsLines (lines_left R.remaining self.old) (lines_left R.remaining self.new) }
+        ensures given { self.new.given ≡ self.old.given }
     {
-        match self.reader.read(&mut self.held[self.len..]) {
+        let mut read = [0; LINE_ROOM];
+        let room = self.held.remaining_capacity();
+        match self.reader.read(&mut read[..room]) {
             Ok(0) => self.ended = true,
-            Ok(count) => self.len += count,
+            Ok(count) => self.held.try_extend_from_slice(&read[..count]).unwrap(),
             Err(error) => match error.kind() {
                 ErrorKind::WouldBlock | ErrorKind::Interrupted => {}
                 _ => {
@@ -84,30 +114,22 @@ impl<R: Read> Keyboard<R> {
         }
     }
 
-    /// Takes so many bytes off the front.
-    fn drop_front(&mut self, count: usize)
-        requires { count ≤ self.old.len }
-        ensures { self.new.given ≡ self.old.given }
-    {
-        self.held.copy_within(count..self.len, 0);
-        self.len -= count;
-    }
-
     /// The length of the first line held, where its newline is there.
     fn first_line(&self) -> Option<usize>
-        ensures { IfSome result (λ count. count < self.now.len) }
+        ensures { result ≡ first_newline self.now.held.items }
     {
-        self.held[..self.len].iter().position(|byte| *byte == b'\n')
+        self.held.as_slice().iter().position(|byte| *byte == b'\n')
     }
 
-    /// Takes a line with its newline, unless it is the rest of one that was too long.
+    /// Takes the first line held, with its newline. It is given, unless it is the rest of one that was too long.
     fn take_line(&mut self, count: usize, buffer: &mut [u8; 128]) -> Option<usize>
-        requires { count < self.old.len }
+        requires { first_newline self.old.held.items ≡ Some count }
         ensures count { IfSome result (λ count. count ≤ 128) }
+        ensures lines { GivesLine result buffer.new (lines_left R.remaining self.old) (lines_left R.remaining self.new) }
         ensures given { self.new.given ≡ self.old.given }
     {
-        buffer[..count].copy_from_slice(&self.held[..count]);
-        self.drop_front(count + 1);
+        put(&self.held.as_slice()[..count], buffer);
+        self.held = behind(&self.held, count + 1);
         let is_rest = self.skips;
         self.skips = false;
         if is_rest { None } else { Some(count) }
@@ -115,39 +137,60 @@ impl<R: Read> Keyboard<R> {
 
     /// Takes the front of a line that is too long, or more of its rest.
     fn take_front(&mut self, buffer: &mut [u8; 128]) -> Option<usize>
+        requires none { first_newline self.old.held.items ≡ None }
+        requires full { length self.old.held.items ≡ 128 }
         ensures count { IfSome result (λ count. count ≤ 128) }
+        ensures lines { GivesLine result buffer.new (lines_left R.remaining self.old) (lines_left R.remaining self.new) }
         ensures given { self.new.given ≡ self.old.given }
     {
+        put(self.held.as_slice(), buffer);
+        self.held = ArrayVec::new();
         let is_rest = self.skips;
-        self.len = 0;
         self.skips = true;
-        *buffer = self.held;
         if is_rest { None } else { Some(LINE_ROOM) }
     }
 
-    /// The length of the next line, if there is one.
-    fn next(&mut self, buffer: &mut [u8; 128]) -> Option<usize>
+    /// Takes what is held up to the first newline, or all of it where it is full without one.
+    fn take_held(&mut self, buffer: &mut [u8; 128]) -> Option<usize>
         ensures count { IfSome result (λ count. count ≤ 128) }
+        ensures lines { GivesLine result buffer.new (lines_left R.remaining self.old) (lines_left R.remaining self.new) }
         ensures given { self.new.given ≡ self.old.given }
     {
-        if self.first_line().is_none() && !self.ended {
-            self.fill();
-        }
         match self.first_line() {
             Some(count) => self.take_line(count, buffer),
-            None if self.len == LINE_ROOM => self.take_front(buffer),
+            None if self.held.is_full() => self.take_front(buffer),
             None => None,
         }
     }
 
-    /// Whether the lines ended with a read that failed.
-    pub fn has_failed(&self) -> bool {
+    /// The length of the next line, which is put into the front of the buffer, if there is one: each is the next line of what
+    /// is read, and none is left out or given twice.
+    fn next(&mut self, buffer: &mut [u8; 128]) -> Option<usize>
+        ensures count { IfSome result (λ count. count ≤ 128) }
+        ensures lines { GivesLine result buffer.new (lines_left R.remaining self.old) (lines_left R.remaining self.new) }
+        ensures given { self.new.given ≡ self.old.given }
+    {
+        if self.first_line().is_none() && !self.held.is_full() && !self.ended {
+            self.fill();
+        }
+        self.take_held(buffer)
+    }
+
+    /// Whether a read failed.
+    pub fn has_failed(&self) -> bool
+        ensures { result ≡ self.now.failed }
+    {
         self.failed
     }
 
     /// Whether all lines were given.
-    fn is_over(&self) -> bool {
-        self.ended && self.len < LINE_ROOM && self.first_line().is_none()
+    fn is_over(&self) -> bool
+        ensures { IsTrue result → self.now.failed ≡ false → HasNoLines (lines_left R.remaining self.now) }
+    {
+        if !self.ended || self.held.is_full() {
+            return false;
+        }
+        self.first_line().is_none()
     }
 }
 

@@ -176,6 +176,14 @@ impl<'a> NamedFile<'a> {
         })
     }
 
+    /// Whether it is known to be on the same disk as another file.
+    pub fn is_on_disk_of(&self, other: &NamedFile<'_>) -> bool {
+        match (self.file.metadata(), other.file.metadata()) {
+            (Ok(one), Ok(another)) => one.dev() == another.dev(),
+            _ => false,
+        }
+    }
+
     /// Asks that its name still names it, and that it is as long as it was left.
     fn expect_kept(&self) -> Result<(), Cause> {
         let name = match &self.beside {

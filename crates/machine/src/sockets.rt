@@ -2,7 +2,7 @@
 
 ghost use Rattle.std.specs.Prelude.{◌≤◌, length, IfOk, IfSome};
 
-use crate::port::{Port, missed};
+use crate::port::{Port, is_late, missed};
 use agree_core::Asker;
 use links::{Link, Log, SharedLink, Taken};
 use std::io;
@@ -26,18 +26,49 @@ fn port(net: &impl Net) -> io::Result<Port> {
     Port::new(net, SocketAddr::V4(anywhere))
 }
 
-/// A socket on loopback for each station, of which the first datagrams are dropped, so many.
+/// A station's socket, and how many datagrams were sent to it that it hasn't received.
+#[derive(Drop)]
+struct Inbox {
+    port: Port,
+    under_way: usize,
+}
+
+impl Inbox {
+    fn new(net: &impl Net) -> io::Result<Inbox> {
+        let port = port(net)?;
+        Ok(Inbox { port, under_way: 0 })
+    }
+
+    /// How long its next datagram is waited for: not at all where none is under way.
+    fn wait(&self, longest: u64) -> u64 {
+        if self.under_way > 0 { longest } else { 0 }
+    }
+
+    /// Its next datagram, and where it came from. Where none comes in time, none is under way any more.
+    fn receive(&mut self, buffer: &mut [u8], longest: u64) -> io::Result<(usize, SocketAddr)>
+        ensures { IfOk result (λ came. came.0 ≤ length buffer.old) }
+    {
+        let wait = self.wait(longest);
+        let came = self.port.receive(buffer, wait);
+        if came.as_ref().is_err_and(is_late) {
+            self.under_way = 0;
+        }
+        came
+    }
+}
+
+/// An inbox on loopback for each station, and how many of the next datagrams are dropped.
 #[derive(Drop)]
 struct Ports {
-    a: Port,
-    b: Port,
-    board: Port,
+    a: Inbox,
+    b: Inbox,
+    board: Inbox,
     to_drop: u16,
 }
 
 impl Ports {
-    /// The socket of a station.
-    fn of(&self, station: Asker) -> &Port {
+    /// The inbox of a station.
+    fn of(&self, station: Asker) -> &Inbox {
         match station {
             Asker::A => &self.a,
             Asker::B => &self.b,
@@ -45,8 +76,8 @@ impl Ports {
         }
     }
 
-    /// The same, to receive at it.
-    fn at(&mut self, station: Asker) -> &mut Port {
+    /// The same, to change it.
+    fn at(&mut self, station: Asker) -> &mut Inbox {
         match station {
             Asker::A => &mut self.a,
             Asker::B => &mut self.b,
@@ -54,14 +85,17 @@ impl Ports {
         }
     }
 
-    fn carry(&self, from: Asker, to: Asker, bytes: &[u8; 48]) -> io::Result<usize> {
-        let address = self.of(to).address()?;
-        self.of(from).send(bytes.as_slice(), address)
+    fn carry(&mut self, from: Asker, to: Asker, bytes: &[u8; 48]) -> io::Result<()> {
+        let address = self.of(to).port.address()?;
+        self.of(from).port.send(bytes.as_slice(), address)?;
+        let inbox = self.at(to);
+        inbox.under_way = inbox.under_way.saturating_add(1);
+        Ok(())
     }
 
     /// Whether this is the address of a station.
     fn is_of(&self, station: Asker, address: SocketAddr) -> bool {
-        match self.of(station).address() {
+        match self.of(station).port.address() {
             Ok(own) => own == address,
             Err(_) => false,
         }
@@ -74,6 +108,8 @@ impl Ports {
         let (count, from) = self.at(station).receive(buffer, wait)?;
         let [one, other] = others(station);
         if self.is_of(one, from) || self.is_of(other, from) {
+            let inbox = self.at(station);
+            inbox.under_way = inbox.under_way.saturating_sub(1);
             Ok(Some(count))
         } else {
             Ok(None)
@@ -115,9 +151,9 @@ pub struct Sockets {
 impl Sockets {
     /// Three sockets, each of a port of its own, of which the first `to_drop` datagrams are dropped.
     pub fn new(net: &impl Net, to_drop: u16) -> io::Result<Sockets> {
-        let a = port(net)?;
-        let b = port(net)?;
-        let board = port(net)?;
+        let a = Inbox::new(net)?;
+        let b = Inbox::new(net)?;
+        let board = Inbox::new(net)?;
         Ok(Sockets {
             ports: Ports {
                 a,

@@ -1,10 +1,11 @@
 //! A file that others read while it is replaced.
 
-ghost use Rattle.std.specs.Prelude.{◌≡◌, IfSome, List, None, OnOk, Option, ℕ};
+ghost use Rattle.std.specs.Prelude.{None};
 
 mod front;
 
 use crate::file_limit::may_have;
+use crate::whole_text::TwoNames;
 use crate::write_fault::{Cause, Name, WriteFault, cause_of};
 use front::{Front, front_of};
 use std::alloc::AllocError;
@@ -13,18 +14,8 @@ use std::io::{self, ErrorKind, Write};
 use std::os::unix::fs::MetadataExt;
 use std::path::Path;
 
-/// What a text is put into. Nothing is known of what it holds, only of what it was given.
-pub trait Replaces {
-    /// The text that it was given last; `None` where that isn't known.
-    ghost given: { Self → Option (List ℕ) };
-
-    /// Has it hold this text and nothing else.
-    fn replace(&mut self, text: &[u8]) -> Result<(), WriteFault>
-        ensures { OnOk result (IfSome (given self.new) (λ given. given ≡ text.now)) };
-}
-
-/// A file that always holds a whole text, and the name of the file beside it that the next one is written to. Neither
-/// is put in the place of anything but a text.
+/// The name of a file of text on this machine, and that of the file beside it that the next one is written to. Neither is
+/// put in the place of anything but a text.
 #[derive(Drop)]
 pub struct TextFile<'a> {
     rt: &'a HostRuntime,
@@ -189,7 +180,7 @@ impl<'a> TextFile<'a> {
     }
 
     /// Writes a text to a new file beside it. Where that fails the new file is taken away again.
-    fn put(&self, text: &[u8]) -> Result<(), Cause> {
+    fn write(&self, text: &[u8]) -> Result<(), Cause> {
         if !may_have(text.len() as u64) {
             return Err(Cause::Limit);
         }
@@ -203,28 +194,29 @@ impl<'a> TextFile<'a> {
             }
         }
     }
+}
 
-    /// Has the new file take its name.
-    fn rename(&self) -> Result<(), Cause> {
-        fs::rename(self.rt, self.beside.as_str(), self.path).map_err(|why| cause_of(&why))
-    }
+impl TwoNames for TextFile<'_> {
+    ghost given = { λ _. None };
 
-    /// Writes a text to a new file beside it, and then renames that over it.
-    fn renew(&self, text: &[u8]) -> Result<(), WriteFault> {
+    ghost beside = { λ _. None };
+
+    fn make_room(&mut self) -> Result<(), WriteFault> {
         let (_, is_left) = self.finds_both()?;
         if is_left {
             self.clear().map_err(|why| fault(Name::New, why))?;
         }
-        self.put(text).map_err(|why| fault(Name::New, why))?;
-        self.rename().map_err(|why| fault(Name::Own, why))
+        Ok(())
     }
-}
 
-impl Replaces for TextFile<'_> {
-    ghost given = { λ _. None };
+    fn put(&mut self, text: &[u8]) -> Result<(), WriteFault> {
+        self.write(text).map_err(|why| fault(Name::New, why))
+    }
 
-    /// It isn't synced: a board that begins again writes it anew.
-    fn replace(&mut self, text: &[u8]) -> Result<(), WriteFault> {
-        self.renew(text)
+    fn rename(&mut self) -> Result<(), WriteFault> {
+        fs::rename(self.rt, self.beside.as_str(), self.path).map_err(|why| fault(
+            Name::Own,
+            cause_of(&why),
+        ))
     }
 }

@@ -17,12 +17,12 @@ use Rattle.live.specs.Boards as boards
 use Rattle.live.specs.Boards.{BoardCall, BoardTurn, board_kind}
 use Rattle.live.specs.Desks as desks
 use Rattle.live.specs.Desks.{DeskCall, DeskProcess}
-use Rattle.live.specs.declared.notices.Notice.{Notice}
+use Rattle.live.specs.Sights.{Sight}
 use Rattle.live.specs.Runs as own
 use Rattle.seal.proofs.Unforged.{opened_was_sent}
 use Rattle.headline.proofs.Given.{may_be_given}
 use Rattle.processes.specs.Happenings.{BoardBegun, BoardCalled, BoardCame, DeskCalled, DeskCame, Happening, WasSent, after, after_one}
-use Rattle.processes.specs.Lives.{BoardProcess, IsBoardLife, IsLife, IsNextStage, Stage, after_life, board_calls, board_happens, calls_of, fresh_turn, life_happens, stage_happens}
+use Rattle.processes.specs.Lives.{BoardProcess, IsBoardLife, IsLife, IsNextStage, Stage, after_life, board_calls, board_happens, calls_of, first_turn, life_happens, stage_happens}
 use Rattle.processes.specs.Sealing.{BoardAuthentic, DeskAuthentic, IsAuthentic}
 use Rattle.processes.specs.Weaving as weaving
 use Rattle.processes.specs.Weaving.{NothingIsForged, is_at_board, is_at_desk}
@@ -51,7 +51,7 @@ module _ {Disk : Type 0} where
   -- what a call handed out are messages
   abbrev pub Sends : Happening Disk → Type 0
   Sends (DeskCalled d s call out l text) = All IsMessage out
-  Sends (BoardCalled n sheet call out l text) = All IsMessage out
+  Sends (BoardCalled n sheet call out l text seen) = All IsMessage out
   Sends what = Unit {0}
 
   abbrev pub EachSends : List (Happening Disk) → Type 0
@@ -74,7 +74,7 @@ module _ {Disk : Type 0} where
       → ((n : ℕ) → EachSends (with_one (is_at_board n h) h (filter (is_at_board n) hs))) → Sends h
   one_sends (DeskCalled A s call out l text) hs a b t = a.0
   one_sends (DeskCalled B s call out l text) hs a b t = b.0
-  one_sends (BoardCalled n sheet call out l text) hs a b t = first_sends (nat_eq n n) (BoardCalled n sheet call out l text) (filter (is_at_board n) hs) (eq-eqb n n refl) (t n)
+  one_sends (BoardCalled n sheet call out l text seen) hs a b t = first_sends (nat_eq n n) (BoardCalled n sheet call out l text seen) (filter (is_at_board n) hs) (eq-eqb n n refl) (t n)
   one_sends _ hs a b t = tt
 
   pub all_send : (hs : List (Happening Disk)) → EachSends (filter (is_at_desk A) hs) → EachSends (filter (is_at_desk B) hs)
@@ -122,13 +122,13 @@ module _ {Disk : Type 0} (view : FileVersion → FileView Disk) (seen : Disk →
       sends-append (stage_happens innings d stage) (life_happens innings d stages) (stage_sends (after_life x stages) stage h.1) (life_sends x stages h.0)
 
 module _ (Disk : Type 0) (game innings : ℕ) where
-  board_sends : (kind : own.Kind BoardTurn BoardCall) (k : BoardTurn) (n : ℕ) (s : Sheet) (noted : List Notice) (ms : List (own.Moment BoardTurn BoardCall))
-      → own.Run kind k ms → EachSends {Disk = Disk} (board_calls innings n s noted ms)
-  board_sends kind k n s noted [] r = tt
-  board_sends kind k n s noted (m ∷ ms) r = (r.1, board_sends kind k n s noted ms r.0)
+  board_sends : (kind : own.Kind BoardTurn BoardCall) (k : BoardTurn) (n : ℕ) (s : Sheet) (start : BoardTurn) (first : List Sight) (ms : List (own.Moment BoardTurn BoardCall))
+      → own.Run kind k ms → EachSends {Disk = Disk} (board_calls innings n s start first ms)
+  board_sends kind k n s start first [] r = (tt, tt)
+  board_sends kind k n s start first (m ∷ ms) r = (r.1, board_sends kind k n s start first ms r.0)
 
   pub board_life_sends : (n : ℕ) (ps : List BoardProcess) → IsBoardLife game innings ps → EachSends {Disk = Disk} (board_happens innings n ps)
   board_life_sends n [] h = tt
   board_life_sends n (p ∷ ps) h =
-      sends-append (board_calls innings n p.sheet p.noted p.calls) (BoardBegun n ∷ board_happens innings n ps)
-      (board_sends (board_kind p.sheet game innings) (fresh_turn p.noted) n p.sheet p.noted p.calls h.1) (tt, board_life_sends n ps h.0)
+      sends-append (board_calls innings n p.sheet (first_turn p) p.first p.calls) (BoardBegun n ∷ board_happens innings n ps)
+      (board_sends (board_kind p.sheet game innings) (first_turn p) n p.sheet (first_turn p) p.first p.calls h.1.1) (tt, board_life_sends n ps h.0)

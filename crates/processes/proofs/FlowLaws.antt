@@ -28,6 +28,7 @@ use Rattle.processes.proofs.FlowSteps.{IsCalm}
 use Rattle.processes.proofs.Flowing.{at_each, at_some, flow_runs}
 use Rattle.processes.proofs.LostLines.{each_lacks_none}
 use Rattle.processes.proofs.Printing.{each_prints}
+use Rattle.processes.proofs.PublicScores.{each_shows}
 use Rattle.processes.proofs.SecondVotes.{each_takes_second}
 
 -- a ballot that was typed has its numbers in their ranges
@@ -83,6 +84,7 @@ module _ {Disk : Type 0} (seen : Disk → List ℕ) (images : Disk → Images) w
         scored = λ one two. each_scored contents game innings version boards w one two hs f;
         scores = λ t u n score other x y. h.scores t u n score other (at_some (λ v. ShowsScore innings v t n score) w hs p.0 p.2 x) (at_some (λ v. ShowsScore innings v u n other) w hs p.0 p.2 y);
         prints = each_prints s.view game innings w hs f.1;
+        shows_agreed = each_shows s.view game innings w hs f.1 (at_each ByBoth w hs p.0 p.2 h.by_both.0) (λ one two. each_scored contents game innings version boards w one two hs f);
         takes_second = each_takes_second s game innings refl version boards w f.0 (begins_calm s version boards w f.0) hs f.1;
         none_waits = at_each NoneKeepsBoth w hs p.0 p.2 (each_moment s w p.0 NoneKeepsBoth (none_keeps_both s) (begins_fine s version boards w f.0) p.1);
         lacks_no_lines = each_lacks_none s game innings refl version boards w f.0 (begins_calm s version boards w f.0) hs f.1;

@@ -20,7 +20,7 @@ use Rattle.headline.specs.Answers.{Answer}
 use Rattle.headline.specs.DeskFaults.{LosesPower}
 use Rattle.headline.specs.Migrations.{Migrates, MigratesAt, ToNew}
 use Rattle.headline.specs.DeskSteps.{AtDesk}
-use Rattle.processes.specs.Happenings.{Happening, DeskCalled, DeskEnded, DeskGreeted, PowerLost, DeskBegun, FileMigrated, BoardCalled, BoardBegun, Happens, after_one, begun, migrated, with_process}
+use Rattle.processes.specs.Happenings.{Happening, DeskCalled, DeskEnded, DeskGreeted, PowerLost, DeskBegun, FileMigrated, BoardGreeted, BoardCalled, BoardBegun, Happens, after_one, begun, migrated, with_process}
 use Rattle.processes.proofs.Going.{Fits, Leads, none, one}
 use Rattle.processes.proofs.BoardSteps.{board_moment, with_it}
 use Rattle.processes.proofs.DeskSteps.{after_fault, at_desk, desk_moment, stays_refl}
@@ -125,5 +125,6 @@ module _ {Disk : Type 0} (s : Setting Disk Refusal) (game innings : ℕ) (rules 
   happening (PowerLost d disk) h = power_lost s v (PowerLost d disk) d (calm d) disk h
   happening (DeskBegun d opening) h = opens (DeskBegun d opening) d h.0 h.1 opening h.2 h.3
   happening (FileMigrated d votes new) h = file_migrated s v (FileMigrated d votes new) d h.0 votes h.1 new h.2 h.3 h.4
-  happening (BoardCalled n sheet call out l text) h = board_moment s game innings rules v (BoardCalled n sheet call out l text) n h.0 l call out h.1 h.2 h.3
+  happening (BoardGreeted n sheet text seen) h = none s (Fits (BoardGreeted n sheet text seen) v) v v refl
+  happening (BoardCalled n sheet call out l text seen) h = board_moment s game innings rules v (BoardCalled n sheet call out l text seen) n h.0 l call out h.1 h.2 h.3
   happening (BoardBegun n) h = wiped s v (BoardBegun n) n h.0 h.1

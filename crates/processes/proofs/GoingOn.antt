@@ -26,6 +26,7 @@ use Rattle.progress.specs.Progress.{HoldsAt}
 use Rattle.progress.proofs.Progress.{holds_at}
 use Rattle.live.specs.Boards as boards
 use Rattle.live.specs.Boards.{BoardCall, BoardStep}
+use Rattle.live.specs.Sights.{Sight}
 use Rattle.live.specs.Desks as desks
 use Rattle.live.specs.Desks.{DeskCall, DeskStep}
 use Rattle.processes.specs.Happenings.{BoardCalled, BoardCame, DeskCalled, DeskCame, Flow, Happening, Happens, after, after_one, with_process}
@@ -92,30 +93,30 @@ module _ {Disk : Type 0} (s : Setting Disk Refusal) (game innings : ℕ) (rules 
       (y, out, (k, at, h.0, refl, itself (node v d) l e), refl) refl
   desk_plays d sheet k l call out text at came h quiet = silent _ _ (same_desk v d k l out at h.0 h.1) refl
 
-  board_plays : (n : ℕ) (sheet : Sheet) (k l : BoardState) (call : BoardCall) (out : List Message) (text : List ℕ) → board_at v.boards n ≡ Some k
-      → BoardCame game v.sent call → BoardStep game innings k call out l → PlaysOut (BoardCalled n sheet call out l text) (with_it v n l out)
-  board_plays n sheet k l (boards.Given bytes (Ok (What.Bad fault))) out text at came h = silent _ _ (same_it v n k l out at h.0.1 h.1) refl
-  board_plays n sheet k l (boards.Given bytes (Ok (What.Heard x))) out text at came h =
+  board_plays : (n : ℕ) (sheet : Sheet) (k l : BoardState) (call : BoardCall) (out : List Message) (text : List ℕ) (seen : List Sight) → board_at v.boards n ≡ Some k
+      → BoardCame game v.sent call → BoardStep game innings k call out l → PlaysOut (BoardCalled n sheet call out l text seen) (with_it v n l out)
+  board_plays n sheet k l (boards.Given bytes (Ok (What.Bad fault))) out text seen at came h = silent _ _ (same_it v n k l out at h.0.1 h.1) refl
+  board_plays n sheet k l (boards.Given bytes (Ok (What.Heard x))) out text seen at came h =
       let found = came h.0.0 h.0.1 in
-      single (BoardCalled n sheet (boards.Given bytes (Ok (What.Heard x))) out l text) (Event.Give found.0 (Station.Board n)) (board_told (BoardAnswer.Told x)) (with_it v n l out) tt
+      single (BoardCalled n sheet (boards.Given bytes (Ok (What.Heard x))) out l text seen) (Event.Give found.0 (Station.Board n)) (board_told (BoardAnswer.Told x)) (with_it v n l out) tt
       (k, l, out, at, (h.0.0, BoardAnswer.Told x, found.1, rw rules h.0.2, refl, h.1), refl) (found.0, h.0.0, refl, h.0.1, found.1)
-  board_plays n sheet k l (boards.Given bytes (Ok What.Asked)) out text at came h =
+  board_plays n sheet k l (boards.Given bytes (Ok What.Asked)) out text seen at came h =
       let found = came h.0.0 h.0.1 in
-      single (BoardCalled n sheet (boards.Given bytes (Ok What.Asked)) out l text) (Event.Give found.0 (Station.Board n)) (board_told BoardAnswer.Asked) (with_it v n l out) tt
+      single (BoardCalled n sheet (boards.Given bytes (Ok What.Asked)) out l text seen) (Event.Give found.0 (Station.Board n)) (board_told BoardAnswer.Asked) (with_it v n l out) tt
       (k, l, out, at, (h.0.0, BoardAnswer.Asked, found.1, rw rules h.0.2, refl, h.1), refl) (found.0, h.0.0, refl, h.0.1, found.1)
-  board_plays n sheet k l (boards.Given bytes (Ok _)) out text at came h = absurd h.0
-  board_plays n sheet k l (boards.Given bytes (Err (BadVotes p))) out text at came h =
+  board_plays n sheet k l (boards.Given bytes (Ok _)) out text seen at came h = absurd h.0
+  board_plays n sheet k l (boards.Given bytes (Err (BadVotes p))) out text seen at came h =
       let found = came h.0.0 h.0.1 in
-      single (BoardCalled n sheet (boards.Given bytes (Err (BadVotes p))) out l text) (Event.Give found.0 (Station.Board n)) (board_told (BoardAnswer.BadVotes p)) (with_it v n l out) tt
+      single (BoardCalled n sheet (boards.Given bytes (Err (BadVotes p))) out l text seen) (Event.Give found.0 (Station.Board n)) (board_told (BoardAnswer.BadVotes p)) (with_it v n l out) tt
       (k, l, out, at, (h.0.0, BoardAnswer.BadVotes p, found.1, rw rules h.0.2, refl, h.1), refl) (found.0, h.0.0, refl, h.0.1, found.1)
-  board_plays n sheet k l boards.Ticked out text at came h =
-      single (BoardCalled n sheet boards.Ticked out l text) (Event.Tick (Station.Board n)) (answers.Ticked (length out)) (with_it v n l out) tt
+  board_plays n sheet k l boards.Ticked out text seen at came h =
+      single (BoardCalled n sheet boards.Ticked out l text seen) (Event.Tick (Station.Board n)) (answers.Ticked (length out)) (with_it v n l out) tt
       (k, l, out, at, (h.0, refl, h.1), refl) refl
-  board_plays n sheet k l call out text at came h = silent _ _ (same_it v n k l out at h.0 h.1) refl
+  board_plays n sheet k l call out text seen at came h = silent _ _ (same_it v n k l out at h.0 h.1) refl
 
   plays : (what : Happening Disk) → Happens s.view game innings v what → IsQuiet what → PlaysOut what (after_one v what)
   plays (DeskCalled d sheet call out l text) h quiet = desk_plays d sheet h.0 l call out text h.1 h.2 h.3 quiet
-  plays (BoardCalled n sheet call out l text) h quiet = board_plays n sheet h.0 l call out text h.1 h.2 h.3
+  plays (BoardCalled n sheet call out l text seen) h quiet = board_plays n sheet h.0 l call out text seen h.1 h.2 h.3
   plays _ h quiet = absurd quiet
 
 module _ {Disk : Type 0} (s : Setting Disk Refusal) (game innings : ℕ) (rules : s.rules ≡ book_refusal innings) (v : Configuration Disk) where

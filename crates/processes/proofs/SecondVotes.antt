@@ -82,7 +82,7 @@ module _
             by_event (Event.Give found.0 (Station.Desk d)) (answers.Told there.0) (with_process v d (Running l) out)
             (record (node v d) { process = Running l }, out, (h.0, l, step.0, ReceiveAnswer.Told there.0, h.1, found.1, step.2, (refl, refl)), refl) tt
             (came (λ q. there.2 (desk_in d (other c) q)) found.0 brought.0 (sent_vote bytes step.0 step.1 there.3 found.0 found.1))
-        takes (BoardCalled number sheet (boards.Given bytes answer) out l text) h brought =
+        takes (BoardCalled number sheet (boards.Given bytes answer) out l text seen) h brought =
             let there = brought.1 in
             let step = rw there.1 at h.3 in
             let got = step.0 in
@@ -91,7 +91,7 @@ module _
             (h.0, l, out, h.1, (got.0, BoardAnswer.Told there.0, found.1, rw rules got.2, refl, step.1), refl) tt
             (came (λ q. absurd (cc)) found.0 brought.0 (sent_vote bytes got.0 got.1 there.2 found.0 found.1))
         takes (DeskCalled d sheet call out l text) h brought = absurd brought.1
-        takes (BoardCalled number sheet call out l text) h brought = absurd brought.1
+        takes (BoardCalled number sheet call out l text seen) h brought = absurd brought.1
         takes _ h brought = absurd brought
 
     pub each_takes_second : (hs : List (Happening Disk)) → Flow s.view game innings w hs → AtEachHappening w hs (TakesSecond game)

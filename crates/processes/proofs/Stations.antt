@@ -1,10 +1,20 @@
 -- What the processes of `live` state is part of a station's life.
-use Rattle.std.proofs.Common.{arith, Result, ◌≡◌, ℕ, List, ap, ◌∙◌, subst}
+use Rattle.std.proofs.Common.{arith, Result, ◌≡◌, ◌⊎◌, ℕ, List, [], ◌∷◌, ◌++◌, ap, append-nil, inl, inr, refl, sym, ◌∙◌, subst}
 use Rattle.std.specs.Io.KnownBytes.{Appends}
 use Rattle.notation.specs.declared.entry.Entry.{Entry}
+use Rattle.corrections.specs.CleanList.{history_of}
 use Rattle.corrections.specs.declared.book_of.BookOf.{Ghosts as Books}
+use Rattle.entry_log.specs.Disk.{Faults, Images}
+use Rattle.entry_log.specs.Slots.{FileContents}
 use Rattle.entry_log.specs.declared.{disk.Disk.Ghosts as Disks, slots_of.SlotsOf.Ghosts as Files}
+use Rattle.vote_store.specs.View.{file_view}
+use Rattle.agree_core.specs.declared.messages.DeskId.{DeskId}
+use Rattle.agree_core.specs.Ballots.{Ballot}
 use Rattle.agree_core.specs.Boards.{BoardState}
+use Rattle.agree_core.specs.FileView.{FileView}
+use Rattle.agree_core.specs.Openings.{NotOpened, Opened, Opening}
+use Rattle.headline.specs.declared.version.FileVersion.{FileVersion}
+use Rattle.cards.specs.Board.{board as board_text}
 use Rattle.board.specs.declared.board.Board.{Board}
 use Rattle.board.specs.Board as board
 use Rattle.desk.specs.declared.{desk.Desk.Desk, refusal.OpenRefusal.OpenRefusal}
@@ -14,33 +24,79 @@ use Rattle.live.specs.Boards as boards
 use Rattle.live.specs.Boards.{BoardTurn, board_kind}
 use Rattle.live.specs.Notices.{untold}
 use Rattle.live.specs.Runs as own
-use Rattle.live.specs.Desks.{DeskProcess}
-use Rattle.processes.specs.Stations.{BeginningIsStage, BoardRunIsLife, DeskRunIsStage}
+use Rattle.live.specs.Runs.{with_text}
+use Rattle.live.specs.Sights.{Sight, sight_of}
+use Rattle.live.specs.DeskLife.{BeginsOn, Follows}
+use Rattle.live.specs.Desks.{DeskCall, DeskProcess, DiskView, FitsLongest}
+use Rattle.processes.specs.Printing.{HandsBook}
+use Rattle.processes.specs.Lives.{IsLife}
+use Rattle.processes.specs.Stations.{BeginningIsStage, BoardLifeIsProcess, DeskLifeIsLife, DeskRunIsStage, ToldOf, process_kind, process_stages}
 
 module _ {S B D : Type 0} {g : Files S D} {h : Disks D} {b : Books B} where
   pub beginning : (made : Result (Desk S B D g h b) (OpenRefusal × D)) → BeginningIsStage made
   beginning made = grind arith
 
   pub desk_run : (old new : Desk S B D g h b) → DeskRunIsStage old new
-  desk_run old new sheet before after typed types told tells turns result r =
+  desk_run old new sheet before after typed types times later told tells turns result r =
       let goes = r.goes.goes in (
         goes.moments,
         (g.room, h.cap (disk_of old), goes.run),
         ap (λ (p : DeskProcess D). Running p.desk) goes.last ∙ ap Running r.is,
         goes.passed,
         goes.inputs,
+        goes.readings,
         goes.printed,
       )
 
+module _ {Disk : Type 0} (seen : Disk → List ℕ) (images : Disk → Images) (faults : Disk → Faults) where
+  pub desk_life : DeskLifeIsLife seen images faults
+  desk_life contents d x votes disk sheet innings room cap before after typed types times later told tells turns result down l =
+      lived l.opening l.begins l.follows
+    where
+      view : FileVersion → FileView Disk
+      view version = file_view (contents version) seen images d sheet.game
+
+      disks : DiskView Disk
+      disks = record { faults = faults; FitsLongest = FitsLongest room cap }
+
+      lived : (opening : Opening Disk) → BeginsOn (view x.version) seen innings d disk opening
+          → Follows sheet (view x.version) disks innings opening before after typed types times later told tells turns result
+          → (opening : Opening Disk) × (calls : List (own.Moment (DeskProcess Disk) DeskCall))
+          × IsLife view seen faults d sheet.game innings x (process_stages sheet opening calls)
+          × (after ≡ before ++ own.passed_in (process_kind (view x.version) disks sheet innings) calls)
+          × (types ≡ typed ++ own.typed_in (process_kind (view x.version) disks sheet innings) calls)
+          × (later ≡ times ++ own.read_in (process_kind (view x.version) disks sheet innings) calls)
+          × ToldOf (view x.version) disks sheet innings opening calls told tells result
+      lived (Opened k) begins f =
+          let goes = f.3 in
+          (Opened k, goes.moments, ((tt, (votes, disk, down, begins)), (refl, (room, cap, goes.run))), goes.passed, goes.inputs, goes.readings, (f.0, f.2, goes.printed))
+      lived (NotOpened cause left) begins f =
+          (NotOpened cause left, [], (tt, (votes, disk, down, begins)), f.3 ∙ sym (append-nil before), f.4 ∙ sym (append-nil typed), f.5 ∙ sym (append-nil times), f.6)
+
 module _ {B : Type 0} {g : _} (content : B → List Entry) (innings_of : B → ℕ) where
-  pub board_run : (old new : Board B g) → BoardRunIsLife content innings_of old new
-  board_run old new sheet before after told tells noted notes turns result new_board r =
-      let goes = r.goes.goes in
-      let kind = board_kind sheet (board.game_of old) (innings_of (board.book_of old)) in (
-        goes.moments,
-        subst (λ (k : BoardState). own.Run kind (boards.begun k 0 untold noted) goes.moments) new_board goes.run,
-        subst (λ (k : BoardState). (λ (t : BoardTurn). t.board) (own.last_of (boards.begun k 0 untold noted) goes.moments) ≡ board.state_of content new) new_board
-            (ap (λ (t : BoardTurn). t.board) goes.last ∙ r.is),
+  pub board_life : (old new : Board B g) → BoardLifeIsProcess content innings_of old new
+  board_life old new sheet before after told tells turns noted notes seen sees result new_board r =
+      let goes = r.runs.goes.goes in
+      let innings = innings_of (board.book_of old) in
+      let kind = board_kind sheet (board.game_of old) innings in
+      let first = r.first in
+      let from : BoardState → BoardTurn = λ k. boards.begun k 0 untold noted (seen ++ first) in (
+        record { sheet = sheet; noted = noted; seen = seen ++ first; first = first; calls = goes.moments },
+        refl,
+        (
+          subst (λ (k : BoardState). HandsBook sheet innings k.book first) new_board (hands r.shows_first),
+          subst (λ (k : BoardState). own.Run kind (from k) goes.moments) new_board goes.run,
+        ),
+        subst (λ (k : BoardState). (λ (t : BoardTurn). t.board) (own.last_of (from k) goes.moments) ≡ board.state_of content new) new_board
+            (ap (λ (t : BoardTurn). t.board) goes.last ∙ r.runs.is),
         goes.passed,
-        subst (λ (k : BoardState). Appends (own.known result told) (own.known result tells) (own.printed_in kind (boards.begun k 0 untold noted) goes.moments)) new_board goes.printed,
+        subst (λ (k : BoardState). Appends (own.known result (with_text told (board_text sheet innings (history_of k.book)))) (own.known result tells)
+            (own.printed_in kind (from k) goes.moments)) new_board goes.printed,
+        refl,
+        subst (λ (k : BoardState). sees ≡ (λ (t : BoardTurn). t.seen) (own.last_of (from k) goes.moments)) new_board
+            (sym r.runs.sighted ∙ sym (ap (λ (t : BoardTurn). t.seen) goes.last)),
       )
+    where
+      hands : {book : List Entry} {n : ℕ} {first : List Sight} {failed : Type 0} → (first ≡ sight_of sheet n book ∷ []) ⊎ ((first ≡ []) × failed) → HandsBook sheet n book first
+      hands (inl is) = inl is
+      hands (inr none) = inr none.0

@@ -11,7 +11,7 @@ use Rattle.agree_core.specs.Boards.{BoardState, fresh_board}
 use Rattle.agree_core.specs.FileView.{FileView}
 use Rattle.headline.specs.declared.version.FileVersion.{FileVersion}
 use Rattle.headline.specs.Configurations.{Process, Node, Configuration, board_at, node, process_disk, with_board, with_node}
-use Rattle.processes.specs.Happenings.{BoardBegun, BoardCalled, BoardCame, DeskBegun, DeskCalled, DeskCame, DeskEnded, DeskGreeted, FileMigrated, Flow, Happening, Happens, PowerLost, after, after_one}
+use Rattle.processes.specs.Happenings.{BoardBegun, BoardCalled, BoardCame, BoardGreeted, DeskBegun, DeskCalled, DeskCame, DeskEnded, DeskGreeted, FileMigrated, Flow, Happening, Happens, PowerLost, after, after_one}
 use Rattle.processes.specs.Weaving.{is_at_board, is_at_desk, same_desk}
 use Rattle.processes.proofs.BoardLives.{BoardLocal, MayBoard, board_after, next_board}
 use Rattle.processes.proofs.Local.{Local}
@@ -38,7 +38,7 @@ no_item x xs e = absurd (cc)
 -- where a message came, a station had sent it
 abbrev pub Came : {Disk : Type 0} → ℕ → Configuration Disk → Happening Disk → Type 0
 Came game w (DeskCalled d s call out l text) = DeskCame game w.sent call
-Came game w (BoardCalled n sheet call out l text) = BoardCame game w.sent call
+Came game w (BoardCalled n sheet call out l text seen) = BoardCame game w.sent call
 Came game w what = Unit {0}
 
 abbrev pub NothingComesEarly : {Disk : Type 0} → ℕ → Configuration Disk → List (Happening Disk) → Type 0
@@ -109,6 +109,19 @@ module _ {Disk : Type 0} (view : DeskId → FileVersion → FileView Disk) (seen
               board_set v.boards n m was l (s.boards m j at) ∙ ap Some (pushed j l m (nat_eq m n) (e was));
         }
 
+    -- it leaves the board as it was
+    kept_so : (j : BoardState) (m : ℕ) (q : Bool) → next_board (board_after Disk game innings j (bs m)) h ≡ board_after Disk game innings j (bs m)
+        → board_after Disk game innings j (bs m) ≡ board_after Disk game innings j (with_one q h (bs m))
+    kept_so j m true e = sym e
+    kept_so j m false e = refl
+
+    stands_still : (n : ℕ) → ((k : BoardState) → next_board k h ≡ k) → Stands v xs ys (λ m. with_one (nat_eq m n) h (bs m))
+    stands_still n e = record {
+      a_is = s.a_is;
+      b_is = s.b_is;
+      boards = λ m j at. s.boards m j at ∙ ap Some (kept_so j m (nat_eq m n) (e (board_after Disk game innings j (bs m))));
+    }
+
   abbrev pub HasBytes : Configuration Disk → Type 0
   HasBytes v = (d : DeskId) → 0 < length (seen (process_disk (node v d).process))
 
@@ -133,9 +146,12 @@ module _ {Disk : Type 0} (view : DeskId → FileVersion → FileView Disk) (seen
       let m = at_desk v xs ys bs s (DeskBegun d opening) d [] a b in
       ((m.0.0, m.0.1, m.0.2, m.0.3.1 (subst (λ (p : Process Disk). 0 < length (seen (process_disk p))) m.0.2 (f d))), m.1)
   moves (FileMigrated d votes new) v xs ys bs s a b t o f c = at_desk v xs ys bs s (FileMigrated d votes new) d [] a b
-  moves (BoardCalled n sheet call out l text) v xs ys bs s a b t o f c =
-      let m = there v xs ys bs s (BoardCalled n sheet call out l text) n t o in
-      ((m.0, m.1, c, m.2.0, m.2.1), stands_board v xs ys bs s (BoardCalled n sheet call out l text) n l out (λ k. refl))
+  moves (BoardCalled n sheet call out l text seen) v xs ys bs s a b t o f c =
+      let m = there v xs ys bs s (BoardCalled n sheet call out l text seen) n t o in
+      ((m.0, m.1, c, m.2.0, m.2.1, m.2.2), stands_board v xs ys bs s (BoardCalled n sheet call out l text seen) n l out (λ k. refl))
+  moves (BoardGreeted n sheet text seen) v xs ys bs s a b t o f c =
+      let m = there v xs ys bs s (BoardGreeted n sheet text seen) n t o in
+      ((m.0, m.1, m.2), stands_still v xs ys bs s (BoardGreeted n sheet text seen) n (λ k. refl))
   moves (BoardBegun n) v xs ys bs s a b t o f c =
       let m = there v xs ys bs s (BoardBegun n) n t o in
       let stands = stands_board v xs ys bs s (BoardBegun n) n fresh_board [] (λ k. refl) in

@@ -16,10 +16,10 @@ use Rattle.processes.proofs.DeskLives.{DeskLocal, life}
 use Rattle.processes.proofs.FlowLaws.{begins_calm, flows_have_headline}
 use Rattle.processes.proofs.Flowing.{at_each, flow_runs}
 use Rattle.processes.proofs.Authentic.{EachSends, all_send, board_life_sends, life_sends, nothing_early}
+use Rattle.processes.proofs.PublicScores.{now_so}
 use Rattle.processes.proofs.Weaving.{woven}
 use Rattle.processes.specs.Happenings.{Happening, after}
 use Rattle.processes.specs.Laws.{IsFlow}
-use Rattle.processes.specs.Headline.{AtEachTime}
 use Rattle.corrections.specs.Refusal.{book_refusal}
 use Rattle.entry_log.specs.Slots.{FileContents}
 use Rattle.vote_store.specs.View.{votes_shown}
@@ -48,10 +48,6 @@ first view seen innings d k h = by_length (length (seen h.0)) refl
 -- bytes that show votes are some
 some_bytes : (o : Option (List Ballot)) (votes : List Ballot) → o ≡ None → o ≡ Some votes → ⊥
 some_bytes o votes e f = absurd (cc)
-
-now_so : {Disk : Type 0} (P : Configuration Disk → Type 0) (w : Configuration Disk) (hs : List (Happening Disk)) → AtEachTime w hs P → P (after w hs)
-now_so P w [] h = h
-now_so P w (x ∷ hs) h = h.0
 
 module _ {Disk : Type 0} (seen : Disk → List ℕ) (images : Disk → Images) (faults : Disk → Faults) where
   -- so at each desk there are bytes

@@ -42,6 +42,7 @@ use Rattle.live.specs.declared.said.Said.TheVariants.{Penned}
 use Rattle.headline.specs.Configurations.{board_at, fresh_boards, node}
 use Rattle.live.specs.Saying.{SaysEntry}
 use Rattle.processes.specs.Lives.{Beginning, BoardProcess, BoardRuns, CallsMade, IsBoardLife, IsLife, ProcessEnd, RunsFrom, Stage, board_happens, fresh_turn, life_happens}
+use Rattle.live.specs.Sights.{Sight, sight_of}
 use Rattle.processes.specs.Sealing.{IsAuthentic}
 use Rattle.processes.specs.Weaving.{is_at_board, is_at_desk, start}
 use Rattle.processes.specs.Worked.{LivedIsWoven, a_again, a_bytes, a_penned, a_says, b_bytes, b_noted, b_penned, b_says}
@@ -126,7 +127,7 @@ module _ (s : Sheet) where
   a_pens = (says, (((refl, refl), ((omega arith, omega arith), omega arith), taken 1), ((refl, refl), refl, refl, refl, holds_one A), refl))
 
   a_runs : RunsFrom s (view A) no_faults 7 1 (new_desk A) (pens ∷ [])
-  a_runs = ((λ n. n), 0, (tt, vote_out A, (refl, a_pens, stores, refl, tt)))
+  a_runs = ((λ n. n), 0, (tt, vote_out A, (refl, a_pens, stores, refl, tt, tt)))
 
   abbrev LivesAsA : List (Stage (List ℕ)) → Type 0
   LivesAsA = IsLife (λ version. file_view (toy version) (λ disk. disk) only A 7) (λ disk. disk) no_faults A 7 1 (node (start New 1 (new_desk A) (new_desk B)) A)
@@ -171,10 +172,10 @@ module _ (s : Sheet) where
   kind_of_b = desks.desk_kind s (view B) (record { faults = no_faults; FitsLongest = desks.FitsLongest (λ n. n) 0 }) 7 1
 
   b_is_told : own.Run kind_of_b (fresh (new_desk B)) (reminds ∷ notes ∷ [])
-  b_is_told = ((tt, none_out, (refl, b_notes, still, refl, tt)), none_out, (refl, (refl, refl), still, refl, (refl, refl, refl)))
+  b_is_told = ((tt, none_out, (refl, b_notes, still, refl, tt, tt)), none_out, (refl, (refl, refl), still, refl, (refl, refl, refl), tt))
 
   b_runs : RunsFrom s (view B) no_faults 7 1 (new_desk B) (pens_too ∷ reminds ∷ notes ∷ [])
-  b_runs = ((λ n. n), 0, (b_is_told, vote_out B, (refl, b_pens, stores, refl, tt)))
+  b_runs = ((λ n. n), 0, (b_is_told, vote_out B, (refl, b_pens, stores, refl, tt, tt)))
 
   abbrev life_at : DeskId → List (Stage (List ℕ))
   life_at A = life_of_a
@@ -189,11 +190,14 @@ module _ (s : Sheet) where
 
   -- ---- the board
 
+  abbrev at_first : List Sight
+  at_first = sight_of s 1 [] ∷ []
+
   abbrev after_noted : boards.BoardTurn
-  after_noted = boards.after_call (fresh_turn []) (boards.Given a_bytes (Ok (Heard hearing.Heard.Noted))) board_noted
+  after_noted = boards.after_call s 1 (fresh_turn [] at_first) (boards.Given a_bytes (Ok (Heard hearing.Heard.Noted))) board_noted
 
   abbrev after_agreed : boards.BoardTurn
-  after_agreed = boards.after_call after_noted (boards.Given b_bytes (Ok (Heard hearing.Heard.Agreed))) board_agreed
+  after_agreed = boards.after_call s 1 after_noted (boards.Given b_bytes (Ok (Heard hearing.Heard.Agreed))) board_agreed
 
   abbrev hears : own.Moment boards.BoardTurn boards.BoardCall
   hears = record { call = boards.Given a_bytes (Ok (Heard hearing.Heard.Noted)); out = []; after = after_noted }
@@ -202,18 +206,18 @@ module _ (s : Sheet) where
   hears_both = record { call = boards.Given b_bytes (Ok (Heard hearing.Heard.Agreed)); out = []; after = after_agreed }
 
   abbrev shows : own.Moment boards.BoardTurn boards.BoardCall
-  shows = record { call = boards.TurnEnded; out = []; after = boards.begun board_agreed 1 untold [] }
+  shows = record { call = boards.TurnEnded; out = []; after = boards.begun board_agreed 1 untold [] (sight_of s 1 [] ∷ sight_of s 1 (Write Void ∷ []) ∷ []) }
 
   abbrev board_life : BoardProcess
-  board_life = record { sheet = s; noted = []; calls = shows ∷ hears_both ∷ hears ∷ [] }
+  board_life = record { sheet = s; noted = []; seen = at_first; first = at_first; calls = shows ∷ hears_both ∷ hears ∷ [] }
 
-  board_notes : boards.TurnStep 7 1 (fresh_turn []) (boards.Given a_bytes (Ok (Heard hearing.Heard.Noted))) [] after_noted
+  board_notes : boards.TurnStep s 7 1 (fresh_turn [] at_first) (boards.Given a_bytes (Ok (Heard hearing.Heard.Noted))) [] after_noted
   board_notes = (omega arith, ((a_says, (is_message A, refl), ((refl, refl, refl, refl), (λ e. cc), refl)), refl), refl)
 
-  board_agrees : boards.TurnStep 7 1 after_noted (boards.Given b_bytes (Ok (Heard hearing.Heard.Agreed))) [] after_agreed
+  board_agrees : boards.TurnStep s 7 1 after_noted (boards.Given b_bytes (Ok (Heard hearing.Heard.Agreed))) [] after_agreed
   board_agrees = (omega arith, ((b_says, (is_message B, refl), ((refl, refl, refl, refl), (λ e. taken 1), refl)), refl), refl)
 
-  board_runs : BoardRuns 7 1 s [] (shows ∷ hears_both ∷ hears ∷ [])
+  board_runs : BoardRuns 7 1 s (fresh_turn [] at_first) (shows ∷ hears_both ∷ hears ∷ [])
   board_runs = (((tt, none_out, board_notes), none_out, board_agrees), none_out, (tt, (refl, refl), refl))
 
   elsewhere : (n : ℕ) → filter (is_at_board (suc (suc n))) (lived s) ≡ []
@@ -222,7 +226,7 @@ module _ (s : Sheet) where
   board_lives : (n : ℕ) → (life : List BoardProcess) × IsBoardLife 7 1 life × (filter (is_at_board n) (lived s) ≡ board_happens 1 n life)
   unfolding history_of clean clean_items_of target outcome is_decided side_total begun_by total penalty_runs
   board_lives zero = ([], tt, refl)
-  board_lives (suc zero) = (board_life ∷ [], (tt, board_runs), refl)
+  board_lives (suc zero) = (board_life ∷ [], (tt, (inl refl, board_runs)), refl)
   board_lives (suc (suc n)) = ([], tt, elsewhere n)
 
   no_others : (n : ℕ) → board_at (fresh_boards 1) n ≡ None → filter (is_at_board n) (lived s) ≡ []
@@ -232,7 +236,7 @@ module _ (s : Sheet) where
 
 pub lived_is_woven : LivedIsWoven
 lived_is_woven s seal = record {
-  order = ((((((((((((((tt, tt), tt), tt), a_sealed seal []), tt), tt), tt), a_sealed seal (b_says ∷ [])), b_sealed seal), tt), tt), tt), tt), tt);
+  order = (((((((((((((((tt, tt), tt), tt), a_sealed seal []), tt), tt), tt), tt), a_sealed seal (b_says ∷ [])), b_sealed seal), tt), tt), tt), tt), tt);
   desks = desk_lives s;
   boards = board_lives s;
   no_others = no_others s;

@@ -19,13 +19,15 @@ use Rattle.live.specs.Boards as boards
 use Rattle.live.specs.Boards.{BoardCall, BoardStep}
 use Rattle.live.specs.Desks as desks
 use Rattle.live.specs.Desks.{DeskCall, DeskStep}
-use Rattle.processes.specs.Printing.{Prints, Tells, greeting_of}
+use Rattle.live.specs.Sights.{Sight}
+use Rattle.processes.specs.Printing.{Greets, Hands, Prints, Tells, greeting_of}
 
 -- What happens: a desk's process tells its scorer how the desk stands, by the sheet that it was begun with; a call of a
 -- desk, with that sheet, what it handed out, the desk after it, and the text that was printed; the end of its process,
 -- with the disk left; power lost at its laptop, with the disk left; its beginning on its file; the migration of that file,
--- with the votes that it shows and the disk with the new one; a call of a board, likewise with its sheet and text; a
--- board's beginning. A process that is killed amid a call has made a call whose disk failed, and then ended.
+-- with the votes that it shows and the disk with the new one; a board's process prints its book, by the sheet that it was
+-- begun with, and hands it over to be shown; a call of a board, likewise with its sheet, the text, and what was handed over;
+-- a board's beginning. A process that is killed amid a call has made a call whose disk failed, and then ended.
 pub data Happening (Disk : Type 0) : Type 0 where
   DeskGreeted : DeskId → Sheet → List ℕ → Happening Disk
   DeskCalled : DeskId → Sheet → DeskCall → List Message → DeskState Disk → List ℕ → Happening Disk
@@ -33,7 +35,8 @@ pub data Happening (Disk : Type 0) : Type 0 where
   PowerLost : DeskId → Disk → Happening Disk
   DeskBegun : DeskId → Opening Disk → Happening Disk
   FileMigrated : DeskId → List Ballot → Disk → Happening Disk
-  BoardCalled : ℕ → Sheet → BoardCall → List Message → BoardState → List ℕ → Happening Disk
+  BoardGreeted : ℕ → Sheet → List ℕ → List Sight → Happening Disk
+  BoardCalled : ℕ → Sheet → BoardCall → List Message → BoardState → List ℕ → List Sight → Happening Disk
   BoardBegun : ℕ → Happening Disk
 
 -- the desk that was opened, or what is left of one that wasn't
@@ -57,7 +60,8 @@ after_one w (DeskEnded d disk) = with_process w d (Down (process_votes (node w d
 after_one w (PowerLost d disk) = with_process w d (Down (process_votes (node w d).process) disk) []
 after_one w (DeskBegun d opening) = with_process w d (begun (process_votes (node w d).process) opening) []
 after_one w (FileMigrated d votes new) = with_node w d (migrated (node w d) new) []
-after_one w (BoardCalled n s call out l text) =
+after_one w (BoardGreeted n s text seen) = w
+after_one w (BoardCalled n s call out l text seen) =
     record w { boards = with_board w.boards n l; sent = w.sent ++ out }
 after_one w (BoardBegun n) = record w { boards = with_board w.boards n fresh_board }
 
@@ -99,9 +103,11 @@ module _ {Disk : Type 0} (view : DeskId → FileVersion → FileView Disk) (game
   Happens w (FileMigrated d votes new) =
       (had : List Ballot) × (disk : Disk) × ((node w d).process ≡ Down had disk) × ((node w d).version ≡ Old)
       × Migrates (view d) disk (ToNew votes new)
-  Happens w (BoardCalled n s call out l text) =
+  Happens w (BoardGreeted n s text seen) =
+      (k : BoardState) × (board_at w.boards n ≡ Some k) × Greets s innings k text seen
+  Happens w (BoardCalled n s call out l text seen) =
       (k : BoardState) × (board_at w.boards n ≡ Some k) × BoardCame game w.sent call
-      × BoardStep game innings k call out l × Prints s innings call l text
+      × BoardStep game innings k call out l × Prints s innings call l text × Hands s innings call l seen
   Happens w (BoardBegun n) = (k : BoardState) × (board_at w.boards n ≡ Some k)
 
   -- each happening may happen after those before it

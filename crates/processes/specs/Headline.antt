@@ -1,21 +1,23 @@
 -- The headline for processes: what holds whatever happens to them.
-use Rattle.std.specs.Prelude.{◌≡◌, ◌≤◌, ◌⊎◌, ℕ, List, [], ◌∷◌}
+use Rattle.std.specs.Prelude.{◌≡◌, ◌≤◌, ◌⊎◌, ℕ, Some, List, [], ◌∷◌}
 use Rattle.notation.specs.declared.entry.Entry.{Entry}
 use Rattle.match_laws.specs.declared.standing.Standing.{Standing}
 use Rattle.agree_core.specs.declared.messages.DeskId.{DeskId}
 use Rattle.agree_core.specs.Agreed.{BeginsWith}
 use Rattle.agree_core.specs.Ballots.{Ballot, In, votes_by}
+use Rattle.agree_core.specs.Boards.{BoardState}
 use Rattle.agree_core.specs.Desks.{DeskState}
 use Rattle.headline.specs.declared.event.Station.{Station}
-use Rattle.headline.specs.Configurations.{Running, Configuration, all_votes, node}
+use Rattle.headline.specs.Configurations.{Running, Configuration, all_votes, board_at, node}
 use Rattle.headline.specs.Runs.{Shows}
 use Rattle.headline.specs.Headline.{ByBoth, AllHaveScores, ShowsScore}
 use Rattle.headline.specs.Kept.{NoneKeepsBoth}
 use Rattle.live.specs.Desks as desks
 use Rattle.live.specs.Saying.{SaysEntry}
-use Rattle.processes.specs.Happenings.{BoardCalled, DeskCalled, DeskGreeted, Happening, after}
+use Rattle.processes.specs.Happenings.{BoardCalled, BoardGreeted, DeskCalled, DeskGreeted, Happening, after}
 use Rattle.processes.specs.LostLines.{LacksNoLines}
-use Rattle.processes.specs.Printing.{Prints, Tells, greeting_of}
+use Rattle.processes.specs.Printing.{Greets, Hands, Prints, Tells, greeting_of}
+use Rattle.processes.specs.PublicScores.{ShowsAgreed}
 use Rattle.processes.specs.SecondVotes.{AtEachHappening, TakesSecond}
 
 -- at the start, or after something that happened, the configuration was so
@@ -42,13 +44,17 @@ WasTyped w [] d b = ⊥
 WasTyped w (h ∷ hs) d b = TypesBallot (after w hs) h d b ⊎ WasTyped w hs d b
 
 -- What a process printed of what happened is of the book that it shows then: how its desk stands; what its scorer is told
--- of the call, by the desk before it and after it; the six lines of the board's book, or nothing.
+-- of the call, by the desk before it and after it; the six lines of the board's book, or nothing. What it hands over to be
+-- shown is that book, or nothing.
 abbrev pub PrintsItsBook : {Disk : Type 0} → ℕ → Configuration Disk → Happening Disk → Type 0
 PrintsItsBook innings w (DeskGreeted d s text) =
     (k : DeskState _) × ((node w d).process ≡ Running k) × (text ≡ greeting_of s innings k)
 PrintsItsBook innings w (DeskCalled d s call out l text) =
     (k : DeskState _) × ((node w d).process ≡ Running k) × Tells s innings k call l text
-PrintsItsBook innings w (BoardCalled n s call out l text) = Prints s innings call l text
+PrintsItsBook innings w (BoardGreeted n s text seen) =
+    (k : BoardState) × (board_at w.boards n ≡ Some k) × Greets s innings k text seen
+PrintsItsBook innings w (BoardCalled n s call out l text seen) =
+    Prints s innings call l text × Hands s innings call l seen
 PrintsItsBook innings w what = Unit {0}
 
 -- the headline for processes of a match of this number and innings a side
@@ -69,6 +75,9 @@ pub record ProcessHeadline {Disk : Type 0} (game innings : ℕ) (w : Configurati
       → AtSomeTime w hs (λ v. ShowsScore innings v u n other) → score ≡ other
   -- what a process prints is of the book that it shows then
   pub prints : AtEachHappening w hs (PrintsItsBook innings)
+  -- what a board prints, and what it hands over to be shown, as its text and as its state, is of a book for each entry of
+  -- which both desks have voted in one round, with the score that the Laws give it
+  pub shows_agreed : AtEachHappening w hs (ShowsAgreed innings)
   -- what brings the second of two equal votes to a process that keeps the first makes its book longer by their entry
   pub takes_second : AtEachHappening w hs (TakesSecond game)
   -- and no process keeps both votes of its position

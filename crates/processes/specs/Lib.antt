@@ -1,7 +1,8 @@
--- What is claimed: Laws, of flows of Happenings, by the Headline for processes, with Printing; Weaving, of the Lives of stations;
--- Progress, of what goes on with them; Stations and Files, which tie lives to processes and to files; Worked, a life that is one.
+-- What is claimed: Laws, of flows of Happenings, by the Headline for processes, with Printing and PublicScores; Weaving, of the Lives of
+-- stations; Progress, of what goes on with them; Stations and Files, which tie lives to processes and to files; Worked, a life that is one.
 pub mod Printing
 pub mod Happenings
+pub mod PublicScores
 pub mod Headline
 pub mod Laws
 pub mod Progress

@@ -1,6 +1,8 @@
 -- The life of one station: its processes, one after the other, each from its beginning to its end.
 use Rattle.std.specs.Prelude.{◌≡◌, ℕ, List, [], ◌∷◌, ◌++◌, Err}
 use Rattle.entry_log.specs.Disk.{Faults}
+use Rattle.corrections.specs.CleanList.{history_of}
+use Rattle.cards.specs.Board.{board as board_text}
 use Rattle.cards.specs.Sheet.{Sheet}
 use Rattle.agree_core.specs.declared.messages.DeskId.{DeskId}
 use Rattle.agree_core.specs.Ballots.{Ballot}
@@ -14,15 +16,16 @@ use Rattle.headline.specs.Configurations.{Process, Running, Down, Node, process_
 use Rattle.headline.specs.DeskFaults.{LosesPower}
 use Rattle.headline.specs.Migrations.{Migrates, ToNew}
 use Rattle.live.specs.Boards as boards
-use Rattle.live.specs.Boards.{BoardCall, BoardTurn, board_kind, shown}
+use Rattle.live.specs.Boards.{BoardCall, BoardTurn, board_kind, handed, shown}
 use Rattle.live.specs.DeskLife.{BeginsOn, fresh}
 use Rattle.live.specs.Desks.{DeskCall, DeskProcess, DeskStep, FitsLongest, course_after, desk_kind, told_of}
 use Rattle.live.specs.Notices.{untold}
 use Rattle.live.specs.Runs as own
+use Rattle.live.specs.Sights.{Sight}
 use Rattle.live.specs.declared.ends.DeskEnd.TheVariants.{Device}
 use Rattle.live.specs.declared.notices.Notice.{Notice}
-use Rattle.processes.specs.Happenings.{BoardBegun, BoardCalled, DeskBegun, DeskCalled, DeskEnded, DeskGreeted, FileMigrated, Happening, PowerLost, begun, migrated}
-use Rattle.processes.specs.Printing.{greeting_of}
+use Rattle.processes.specs.Happenings.{BoardBegun, BoardCalled, BoardGreeted, DeskBegun, DeskCalled, DeskEnded, DeskGreeted, FileMigrated, Happening, PowerLost, begun, migrated}
+use Rattle.processes.specs.Printing.{HandsBook, greeting_of}
 
 -- What is claimed of a process by a contract is claimed where its call returns, and a process may be killed amid a call or
 -- run on for ever. It is so of these too: the logs of what passed, was typed and was written only grow, and at each
@@ -120,35 +123,48 @@ abbrev pub life_happens : {Disk : Type 0} → ℕ → DeskId → List (Stage Dis
 life_happens innings d [] = []
 life_happens innings d (x ∷ xs) = stage_happens innings d x ++ life_happens innings d xs
 
--- a board's process at its beginning, with an empty book, behind any notices of earlier ones
-abbrev pub fresh_turn : List Notice → BoardTurn
-fresh_turn noted = boards.begun fresh_board 0 untold noted
+-- a board's process at its beginning, with an empty book, behind any notices and whatever was handed over to be shown
+abbrev pub fresh_turn : List Notice → List Sight → BoardTurn
+fresh_turn noted seen = boards.begun fresh_board 0 untold noted seen
 
 -- the moments are a run of a board's process, with this sheet, from its beginning on
-abbrev pub BoardRuns : ℕ → ℕ → Sheet → List Notice → List (own.Moment BoardTurn BoardCall) → Type 0
-BoardRuns game innings s noted ms = own.Run (board_kind s game innings) (fresh_turn noted) ms
+abbrev pub BoardRuns : ℕ → ℕ → Sheet → BoardTurn → List (own.Moment BoardTurn BoardCall) → Type 0
+BoardRuns game innings s k ms = own.Run (board_kind s game innings) k ms
 
--- a process of a board: the sheet that it was begun with, the notices of earlier ones, and its calls
+-- a process of a board: the sheet that it was begun with, the notices and what was handed over before its first turn, what
+-- it handed over as it began, and its calls
 pub record BoardProcess : Type 0 where
   pub sheet : Sheet
   pub noted : List Notice
+  pub seen : List Sight
+  pub first : List Sight
   pub calls : List (own.Moment BoardTurn BoardCall)
 
--- each of its processes, the newest first, is such a run
+abbrev pub first_turn : BoardProcess → BoardTurn
+first_turn p = fresh_turn p.noted p.seen
+
+-- it hands over its empty book at first, or nothing, and its calls are such a run
+abbrev pub IsBoardProcess : ℕ → ℕ → BoardProcess → Type 0
+IsBoardProcess game innings p =
+    HandsBook p.sheet innings [] p.first × BoardRuns game innings p.sheet (first_turn p) p.calls
+
+-- so each of its processes, the newest first
 abbrev pub IsBoardLife : ℕ → ℕ → List BoardProcess → Type 0
 IsBoardLife game innings [] = Unit {0}
-IsBoardLife game innings (p ∷ ps) = IsBoardLife game innings ps × BoardRuns game innings p.sheet p.noted p.calls
+IsBoardLife game innings (p ∷ ps) = IsBoardLife game innings ps × IsBoardProcess game innings p
 
--- what happens at a board in a process, and in its life, with what it prints
+-- what happens at a board in a process, and in its life, with what it prints and hands over
 abbrev pub board_calls :
-    {Disk : Type 0} → ℕ → ℕ → Sheet → List Notice → List (own.Moment BoardTurn BoardCall) → List (Happening Disk)
-board_calls innings n s noted [] = []
-board_calls innings n s noted (m ∷ ms) =
+    {Disk : Type 0} → ℕ → ℕ → Sheet → BoardTurn → List Sight → List (own.Moment BoardTurn BoardCall)
+    → List (Happening Disk)
+board_calls innings n s k first [] = BoardGreeted n s (board_text s innings (history_of k.board.book)) first ∷ []
+board_calls innings n s k first (m ∷ ms) =
     BoardCalled n s m.call m.out ((λ (k : BoardTurn). k.board) m.after)
-    (shown s innings (own.last_of (fresh_turn noted) ms) m.call m.after)
-    ∷ board_calls innings n s noted ms
+    (shown s innings (own.last_of k ms) m.call m.after)
+    (handed s innings (own.last_of k ms) m.call ((λ (k : BoardTurn). k.board) m.after))
+    ∷ board_calls innings n s k first ms
 
 abbrev pub board_happens : {Disk : Type 0} → ℕ → ℕ → List BoardProcess → List (Happening Disk)
 board_happens innings n [] = []
 board_happens innings n (p ∷ ps) =
-    board_calls innings n p.sheet p.noted p.calls ++ BoardBegun n ∷ board_happens innings n ps
+    board_calls innings n p.sheet (first_turn p) p.first p.calls ++ BoardBegun n ∷ board_happens innings n ps

@@ -65,7 +65,7 @@ module _ {Disk : Type 0} where
 
   abbrev pub Plays : ℕ → Configuration Disk → Happening Disk → List (Moment Disk Refusal) → Type 0
   Plays game v (DeskCalled d s call out l text) ms = PlaysDesk game v d call ms
-  Plays game v (BoardCalled n s call out l text) ms = PlaysBoard game v n call ms
+  Plays game v (BoardCalled n s call out l text seen) ms = PlaysBoard game v n call ms
   Plays game v what ms = ⊥
 
   -- the moments play all that happened from that configuration on, one after the other
@@ -77,7 +77,7 @@ module _ {Disk : Type 0} where
 
   abbrev pub IsQuiet : Happening Disk → Type 0
   IsQuiet (DeskCalled d s call out l text) = IsQuietCall call
-  IsQuiet (BoardCalled n s call out l text) = Unit {0}
+  IsQuiet (BoardCalled n s call out l text seen) = Unit {0}
   IsQuiet what = ⊥
 
   abbrev pub AllQuiet : List (Happening Disk) → Type 0

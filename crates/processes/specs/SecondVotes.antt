@@ -39,7 +39,7 @@ BoardBrings game call c b = ⊥
 -- what happened brings the station a desk's vote for this ballot
 abbrev pub Brings : {Disk : Type 0} → ℕ → Happening Disk → Station → DeskId → Ballot → Type 0
 Brings game (DeskCalled d s call out l text) t c b = (t ≡ Station.Desk d) × DeskBrings game d call c b
-Brings game (BoardCalled n s call out l text) t c b = (t ≡ Station.Board n) × BoardBrings game call c b
+Brings game (BoardCalled n s call out l text seen) t c b = (t ≡ Station.Board n) × BoardBrings game call c b
 Brings game what t c b = ⊥
 
 -- where it brings the second of two equal votes of its position to a station that keeps the first, that station's book

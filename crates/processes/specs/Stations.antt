@@ -1,15 +1,22 @@
 -- What the processes of `live` state is part of a station's life.
-use Rattle.std.specs.Prelude.{◌≡◌, ◌<◌, ℕ, List, ◌++◌, length, Option, Result, IfOk}
+use Rattle.std.specs.Prelude.{◌≡◌, ◌<◌, ℕ, List, [], ◌∷◌, ◌++◌, length, Option, Result, IfOk}
 use Rattle.std.specs.Io.KnownBytes.{Appends}
 use Rattle.notation.specs.declared.entry.Entry.{Entry}
 use Rattle.corrections.specs.declared.book_of.BookOf.{Ghosts as Books}
+use Rattle.entry_log.specs.Disk.{Faults, Images}
+use Rattle.entry_log.specs.Slots.{FileContents}
 use Rattle.entry_log.specs.declared.{disk.Disk.Ghosts as Disks, slots_of.SlotsOf.Ghosts as Files}
+use Rattle.corrections.specs.CleanList.{history_of}
 use Rattle.corrections.specs.Refusal.{book_refusal}
 use Rattle.vote_store.specs.View.{file_view}
 use Rattle.agree_core.specs.declared.messages.DeskId.{DeskId}
+use Rattle.agree_core.specs.Ballots.{Ballot}
 use Rattle.agree_core.specs.Boards.{fresh_board}
-use Rattle.agree_core.specs.Openings.{Creates, Opens}
-use Rattle.headline.specs.Configurations.{Running}
+use Rattle.agree_core.specs.FileView.{FileView}
+use Rattle.agree_core.specs.Openings.{Creates, NotOpened, Opened, Opening, Opens}
+use Rattle.headline.specs.declared.version.FileVersion.{FileVersion}
+use Rattle.headline.specs.Configurations.{Down, Node, Running}
+use Rattle.cards.specs.Board.{board as board_text}
 use Rattle.cards.specs.Sheet.{Sheet}
 use Rattle.streams.specs.declared.watched.WriteFailed.{WriteFailed}
 use Rattle.board.specs.declared.board.Board.{Board}
@@ -17,17 +24,17 @@ use Rattle.board.specs.Board as board
 use Rattle.desk.specs.declared.{desk.Desk.Desk, refusal.OpenRefusal.OpenRefusal}
 use Rattle.desk.specs.Desk.{game_of, opening, state_of, view_of}
 use Rattle.live.specs.Boards as boards
-use Rattle.live.specs.Boards.{BoardCall, BoardTurn, board_kind}
-use Rattle.live.specs.Desks.{DeskCall, DeskProcess, DeskRuns, innings_of, kind_of}
+use Rattle.live.specs.Boards.{BoardTurn, board_kind}
+use Rattle.live.specs.Desks.{DeskCall, DeskProcess, DeskRuns, DiskView, FitsLongest, desk_kind, innings_of, kind_of}
 use Rattle.live.specs.Ends.{known_at}
-use Rattle.live.specs.Notices.{untold}
 use Rattle.links.specs.Passed.{Passed}
 use Rattle.live.specs.Runs as own
 use Rattle.live.specs.Runs.{with_text}
+use Rattle.live.specs.Sights.{Sight}
 use Rattle.links.specs.Typing.{Input}
-use Rattle.live.specs.declared.{ends.DeskEnd.DeskEnd, notices.Notice.Notice}
-use Rattle.live.specs.DeskLife.{BeginsOn, fresh}
-use Rattle.processes.specs.Lives.{BoardRuns, RunsFrom, after_calls, fresh_turn}
+use Rattle.live.specs.declared.{desk_life.LifeEnd.LifeEnd, ends.DeskEnd.DeskEnd, notices.Notice.Notice}
+use Rattle.live.specs.DeskLife.{BeginsOn, DeskLives, ended, fresh}
+use Rattle.processes.specs.Lives.{Beginning, BoardProcess, CallsMade, IsBoardProcess, IsLife, RunsFrom, Stage, after_calls, first_turn}
 use Rattle.processes.specs.Printing.{greeting_of}
 
 module _ {S B D : Type 0} {g : Files S D} {h : Disks D} {b : Books B} where
@@ -42,32 +49,83 @@ module _ {S B D : Type 0} {g : Files S D} {h : Disks D} {b : Books B} where
       → BeginsOn (file_view g.contents h.seen h.images d game) h.seen innings d disk (opening made)
 
   -- From the desk at the start of its process to the desk at its end, by what `run_desk` ensures: these moments are a
-  -- run from its beginning on, their datagrams are just those that passed, their lines just those that were typed, and
-  -- their texts just those that were written: behind the one of how the match stands at first, each is of the book that
-  -- the desk has after its call.
+  -- run from its beginning on, their datagrams are just those that passed, their lines just those that were typed, their
+  -- times just those that its clock showed, and their texts just those that were written: behind the one of how the match
+  -- stands at first, each is of the book that the desk has after its call.
   abbrev pub DeskRunIsStage : (old new : Desk S B D g h b) → Type 0
   DeskRunIsStage old new =
-      (sheet : Sheet) (before after : List Passed) (typed types : List Input) (told tells : Option (List ℕ))
-      (turns : ℕ) (result : Result (Unit {0}) DeskEnd)
-      → DeskRuns sheet old new before after typed types told tells turns result
+      (sheet : Sheet) (before after : List Passed) (typed types : List Input) (times later : List ℕ)
+      (told tells : Option (List ℕ)) (turns : ℕ) (result : Result (Unit {0}) DeskEnd)
+      → DeskRuns sheet old new before after typed types times later told tells turns result
       → (ms : List (own.Moment (DeskProcess D) DeskCall))
       × RunsFrom sheet (view_of old) h.faults (game_of old) (innings_of old) (state_of old) ms
       × (after_calls (state_of old) ms ≡ Running (state_of new))
       × (after ≡ before ++ own.passed_in (kind_of sheet old) ms) × (types ≡ typed ++ own.typed_in (kind_of sheet old) ms)
+      × (later ≡ times ++ own.read_in (kind_of sheet old) ms)
       × Appends (known_at result (with_text told (greeting_of sheet (innings_of old) (state_of old))))
       (known_at result tells) (own.printed_in (kind_of sheet old) (fresh (state_of old)) ms)
 
+module _ {Disk : Type 0} where
+  -- the stages of one process of a desk: its beginning, and its calls where that opened the desk
+  abbrev pub process_stages : Sheet → Opening Disk → List (own.Moment (DeskProcess Disk) DeskCall) → List (Stage Disk)
+  process_stages sheet (Opened k) calls = CallsMade sheet k calls ∷ Beginning (Opened k) ∷ []
+  process_stages sheet (NotOpened cause left) calls = Beginning (NotOpened cause left) ∷ []
+
+  -- a process that began on this file, of a desk in this match
+  module _ (view : FileView Disk) (disks : DiskView Disk) (sheet : Sheet) (innings : ℕ) where
+    abbrev pub process_kind : own.Kind (DeskProcess Disk) DeskCall
+    process_kind = desk_kind sheet view disks sheet.game innings
+
+    -- what it told its scorer: nothing, where no desk was opened
+    abbrev pub ToldOf :
+        Opening Disk → List (own.Moment (DeskProcess Disk) DeskCall) → Option (List ℕ) → Option (List ℕ)
+        → Result (Unit {0}) LifeEnd → Type 0
+    ToldOf (Opened k) calls told tells result =
+        (end : Result (Unit {0}) DeskEnd) × (result ≡ ended end)
+        × Appends (known_at end (with_text told (greeting_of sheet innings k))) (known_at end tells)
+        (own.printed_in process_kind (fresh k) calls)
+    ToldOf (NotOpened cause left) calls told tells result = tells ≡ told
+
+-- on disks of this kind, of which `seen` is what is read, `images` what a power loss may leave, and `faults` what is told of
+-- their failures
+module _ {Disk : Type 0} (seen : Disk → List ℕ) (images : Disk → Images) (faults : Disk → Faults) where
+  -- By what `keep_desk` ensures, its process on the disk of a desk that is down is a part of that desk's life: its
+  -- beginning, and its calls where that opened the desk. Its datagrams are just those that passed, its lines just those
+  -- that were typed, its times just those that were read, and its texts just those that were written.
+  abbrev pub DeskLifeIsLife : Type 0
+  DeskLifeIsLife =
+      (contents : FileVersion → FileContents) (d : DeskId) (x : Node Disk) (votes : List Ballot) (disk : Disk)
+      (sheet : Sheet) (innings : ℕ) (room : ℕ → ℕ) (cap : ℕ) (before after : List Passed) (typed types : List Input)
+      (times later : List ℕ) (told tells : Option (List ℕ)) (turns : ℕ) (result : Result (Unit {0}) LifeEnd) → x.process ≡ Down votes disk
+      → DeskLives (file_view (contents x.version) seen images d sheet.game) seen
+      (record { faults = faults; FitsLongest = FitsLongest room cap }) sheet innings d disk before after typed types times later
+      told tells turns result
+      → (opening : Opening Disk) × (calls : List (own.Moment (DeskProcess Disk) DeskCall))
+      × IsLife (λ version. file_view (contents version) seen images d sheet.game) seen faults d sheet.game innings x
+      (process_stages sheet opening calls)
+      × (after ≡ before ++ own.passed_in (process_kind (file_view (contents x.version) seen images d sheet.game)
+      (record { faults = faults; FitsLongest = FitsLongest room cap }) sheet innings) calls)
+      × (types ≡ typed ++ own.typed_in (process_kind (file_view (contents x.version) seen images d sheet.game)
+      (record { faults = faults; FitsLongest = FitsLongest room cap }) sheet innings) calls)
+      × (later ≡ times ++ own.read_in (process_kind (file_view (contents x.version) seen images d sheet.game)
+      (record { faults = faults; FitsLongest = FitsLongest room cap }) sheet innings) calls)
+      × ToldOf (file_view (contents x.version) seen images d sheet.game)
+      (record { faults = faults; FitsLongest = FitsLongest room cap }) sheet innings opening calls told tells result
+
 module _ {B : Type 0} {g : _} (content : B → List Entry) (innings_of : B → ℕ) where
-  -- the same from a new board on, by what `run_board` ensures
-  abbrev pub BoardRunIsLife : (old new : Board B g) → Type 0
-  BoardRunIsLife old new =
-      (sheet : Sheet) (before after : List Passed) (told tells : Option (List ℕ)) (noted notes : List Notice)
-      (turns : ℕ) (result : Result (Unit {0}) WriteFailed) → board.state_of content old ≡ fresh_board
-      → boards.BoardRuns content innings_of sheet old new before after told tells 0 turns untold noted notes result
-      → (ms : List (own.Moment BoardTurn BoardCall))
-      × BoardRuns (board.game_of old) (innings_of (board.book_of old)) sheet noted ms
-      × ((λ (k : BoardTurn). k.board) (own.last_of (fresh_turn noted) ms) ≡ board.state_of content new)
-      × (after ≡ before ++ own.passed_in (board_kind sheet (board.game_of old) (innings_of (board.book_of old))) ms)
-      × Appends (own.known result told) (own.known result tells)
-      (own.printed_in (board_kind sheet (board.game_of old) (innings_of (board.book_of old)))
-      (fresh_turn noted) ms)
+  -- From a new board on, by what `keep_board` ensures, a process of a board's life, with this sheet: its datagrams are just
+  -- those that passed, and its texts just those that were written, first the one of its empty book; and what was handed
+  -- over to be shown is just what it did.
+  abbrev pub BoardLifeIsProcess : (old new : Board B g) → Type 0
+  BoardLifeIsProcess old new =
+      (sheet : Sheet) (before after : List Passed) (told tells : Option (List ℕ)) (turns : ℕ) (noted notes : List Notice)
+      (seen sees : List Sight) (result : Result (Unit {0}) WriteFailed) → board.state_of content old ≡ fresh_board
+      → boards.BoardLives content innings_of sheet old new before after told tells turns noted notes seen sees result
+      → (p : BoardProcess) × (p.sheet ≡ sheet) × IsBoardProcess (board.game_of old) (innings_of (board.book_of old)) p
+      × ((λ (k : BoardTurn). k.board) (own.last_of (first_turn p) p.calls) ≡ board.state_of content new)
+      × (after ≡ before ++ own.passed_in (board_kind sheet (board.game_of old) (innings_of (board.book_of old))) p.calls)
+      × Appends
+      (own.known result (with_text told (board_text sheet (innings_of (board.book_of old)) (history_of []))))
+      (own.known result tells)
+      (own.printed_in (board_kind sheet (board.game_of old) (innings_of (board.book_of old))) (first_turn p) p.calls)
+      × (p.seen ≡ seen ++ p.first) × (sees ≡ (λ (k : BoardTurn). k.seen) (own.last_of (first_turn p) p.calls))

@@ -9,7 +9,7 @@ use Rattle.agree_core.specs.declared.messages.DeskId.TheVariants.{A, B}
 use Rattle.agree_core.specs.Desks.{DeskState}
 use Rattle.headline.specs.declared.version.FileVersion.{FileVersion}
 use Rattle.headline.specs.Configurations.{Running, Configuration, board_at, fresh_boards, node}
-use Rattle.processes.specs.Happenings.{BoardBegun, BoardCalled, DeskBegun, DeskCalled, DeskEnded, DeskGreeted, FileMigrated, Happening, PowerLost, after}
+use Rattle.processes.specs.Happenings.{BoardBegun, BoardCalled, BoardGreeted, DeskBegun, DeskCalled, DeskEnded, DeskGreeted, FileMigrated, Happening, PowerLost, after}
 use Rattle.processes.specs.Lives.{BeginsFirst, BoardProcess, IsBoardLife, IsLife, Stage, board_happens, life_happens}
 use Rattle.processes.specs.Files.{NoneShowNone}
 use Rattle.processes.specs.Headline.{ProcessHeadline}
@@ -30,18 +30,20 @@ is_at_desk d (DeskEnded c disk) = same_desk d c
 is_at_desk d (PowerLost c disk) = same_desk d c
 is_at_desk d (DeskBegun c opening) = same_desk d c
 is_at_desk d (FileMigrated c votes new) = same_desk d c
-is_at_desk d (BoardCalled n s call out l text) = false
+is_at_desk d (BoardGreeted n s text seen) = false
+is_at_desk d (BoardCalled n s call out l text seen) = false
 is_at_desk d (BoardBegun n) = false
 
 abbrev pub is_at_board : {Disk : Type 0} → ℕ → Happening Disk → Bool
-is_at_board n (BoardCalled m s call out l text) = nat_eq n m
+is_at_board n (BoardGreeted m s text seen) = nat_eq n m
+is_at_board n (BoardCalled m s call out l text seen) = nat_eq n m
 is_at_board n (BoardBegun m) = nat_eq n m
 is_at_board n what = false
 
 -- where sealed bytes came and opened, a station had sealed them before
 abbrev pub Came : {Disk : Type 0} → List ℕ → ℕ → Configuration Disk → Happening Disk → Type 0
 Came seal game w (DeskCalled d s call out l text) = DeskAuthentic seal game w.sent call
-Came seal game w (BoardCalled n s call out l text) = BoardAuthentic seal game w.sent call
+Came seal game w (BoardCalled n s call out l text seen) = BoardAuthentic seal game w.sent call
 Came seal game w what = Unit {0}
 
 abbrev pub NothingIsForged : {Disk : Type 0} → List ℕ → ℕ → Configuration Disk → List (Happening Disk) → Type 0

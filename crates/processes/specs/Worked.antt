@@ -1,5 +1,5 @@
 -- A worked life: desk A pens `void`, is killed, begins in vain, and begins; desk B is given its vote, tells its scorer later
--- that the other has written, and pens `void` too; a board is given both votes, and shows the book. A disk is its bytes, all
+-- that the other has written, and pens `void` too; a board shows its empty book, is given both votes, and shows the book. A disk is its bytes, all
 -- of them synced: one for the header, and one for the desk's vote. The texts were written by hand.
 use Rattle.std.specs.Prelude.{ℕ, List, [], ◌∷◌, Ok, codes, false}
 use Rattle.notation.specs.declared.entry.Entry.TheVariants.{Write}
@@ -25,9 +25,10 @@ use Rattle.headline.specs.declared.version.FileVersion.{FileVersion}
 use Rattle.headline.specs.declared.version.FileVersion.TheVariants.{New}
 use Rattle.live.specs.Boards as boards
 use Rattle.live.specs.Desks as desks
+use Rattle.live.specs.Sights.{sight_of}
 use Rattle.live.specs.declared.reminder.Reminder.TheVariants.{HasWritten}
 use Rattle.live.specs.declared.said.Said.TheVariants.{Penned}
-use Rattle.processes.specs.Happenings.{BoardBegun, BoardCalled, DeskBegun, DeskCalled, DeskEnded, DeskGreeted, Happening}
+use Rattle.processes.specs.Happenings.{BoardBegun, BoardCalled, BoardGreeted, DeskBegun, DeskCalled, DeskEnded, DeskGreeted, Happening}
 use Rattle.processes.specs.Weaving.{IsWoven, start}
 
 -- what is on a disk: behind the header the desk's vote, or none
@@ -100,9 +101,10 @@ lived s =
     ∷ DeskBegun A (Opened a_again)
     ∷ DeskBegun A (NotOpened OpenRefusal.DeviceFailed disk_with)
     ∷ DeskEnded A disk_with
-    ∷ BoardCalled 1 s boards.TurnEnded [] board_agreed no_play
-    ∷ BoardCalled 1 s (boards.Given b_bytes (Ok (Heard hearing.Heard.Agreed))) [] board_agreed []
-    ∷ BoardCalled 1 s (boards.Given a_bytes (Ok (Heard hearing.Heard.Noted))) [] board_noted []
+    ∷ BoardCalled 1 s boards.TurnEnded [] board_agreed no_play (sight_of s 1 (Write Void ∷ []) ∷ [])
+    ∷ BoardCalled 1 s (boards.Given b_bytes (Ok (Heard hearing.Heard.Agreed))) [] board_agreed [] []
+    ∷ BoardCalled 1 s (boards.Given a_bytes (Ok (Heard hearing.Heard.Noted))) [] board_noted [] []
+    ∷ BoardGreeted 1 s no_play (sight_of s 1 [] ∷ [])
     ∷ BoardBegun 1
     ∷ DeskCalled B s (desks.Typed (codes "void") (Penned (Write Void) Settled.Agreed)) (b_says ∷ []) b_penned
     (codes "0 agreed: void\nNo play\n")

@@ -3,7 +3,7 @@
 ghost use Rattle.processes.specs.Files.{EmptyFilesShowNone};
 ghost use Rattle.processes.specs.Laws.{BoardStepsInRun, DeskStepsInRun, FlowsAreRuns, FlowsHaveHeadline};
 ghost use Rattle.processes.specs.Progress.{ProcessesGoOn};
-ghost use Rattle.processes.specs.Stations.{BeginningIsStage, BoardRunIsLife, DeskRunIsStage};
+ghost use Rattle.processes.specs.Stations.{BeginningIsStage, BoardLifeIsProcess, DeskLifeIsLife, DeskRunIsStage};
 ghost use Rattle.processes.specs.Weaving.{WovenLivesFlow, WovenLivesHaveHeadline};
 ghost use Rattle.processes.specs.Worked.{LivedIsWoven};
 
@@ -51,9 +51,14 @@ pub fn desk_runs_are_stages<S: SlotsOf, B: BookOf>(old: &Desk<S, B>, new: &Desk<
     ensures { DeskRunIsStage old.now new.now }
 {}
 
-/// What `live::run_board` ensures of a new board is a process of its life.
-pub fn board_runs_are_lives<B: BookOf>(old: &Board<B>, new: &Board<B>)
-    ensures { BoardRunIsLife B.content B.innings_a_side old.now new.now }
+/// What `live::keep_desk` ensures, which the program calls, is a process of a desk's life, from its beginning to its end.
+pub fn kept_desks_are_lives<D: Disk>()
+    ensures { DeskLifeIsLife D.seen D.images D.faults }
+{}
+
+/// What `live::keep_board` ensures of a new board, which the program calls, is a process of its life.
+pub fn kept_boards_are_lives<B: BookOf>(old: &Board<B>, new: &Board<B>)
+    ensures { BoardLifeIsProcess B.content B.innings_a_side old.now new.now }
 {}
 
 /// A file of either version without a byte shows no votes.

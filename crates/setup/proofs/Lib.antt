@@ -1,1 +1,2 @@
+mod BlockLemmas
 mod LineLemmas

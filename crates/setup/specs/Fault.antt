@@ -18,7 +18,7 @@ use Rattle.machine.specs.declared.write_fault.Cause.TheVariants as causes
 use Rattle.setup.specs.declared.key_fault.KeyFault.{KeyFault}
 use Rattle.setup.specs.declared.key_fault.KeyFault.TheVariants as keys
 use Rattle.setup.specs.declared.fault.{StopFault.StopFault, TheConstants.TURNS}
-use Rattle.setup.specs.declared.fault.StopFault.TheVariants.{NoMemory, Read, Write, Sheet, Schedule, Votes, VotesNamed, BadVotes, NotOneHistory, Line, NotAgreed, Listen, Disk, FileMoved, LacksLines, File, Lost, Key}
+use Rattle.setup.specs.declared.fault.StopFault.TheVariants.{NoMemory, Read, Write, Sheet, Schedule, Votes, VotesNamed, BadVotes, NotOneHistory, FilesDiffer, Line, NotAgreed, Listen, Disk, FileMoved, LacksLines, File, Lost, CopyLost, Key}
 
 -- an input isn't read to its end
 abbrev pub of_input : InputFault → StopFault
@@ -60,6 +60,7 @@ is_refusal (Votes why) = is_file_refusal why
 is_refusal (VotesNamed why) = is_file_refusal why
 is_refusal (BadVotes place) = true
 is_refusal (NotOneHistory place) = true
+is_refusal (FilesDiffer place) = true
 is_refusal LacksLines = true
 is_refusal (Line number why) = true
 is_refusal fault = false
@@ -104,6 +105,12 @@ loss_lines path fault =
     codes "cannot write: " ++ path ++ ending_of fault.name ++ codes ": " ++ words_of fault.why
     ++ codes "\nstart the same command again\n"
 
+-- and of its copy, and how it goes on without that
+abbrev pub copy_loss_lines : List ℕ → WriteFault → List ℕ
+copy_loss_lines path fault =
+    codes "cannot write: " ++ path ++ ending_of fault.name ++ codes ": " ++ words_of fault.why
+    ++ codes "\nthis is the copy: to go on without it, start the same command without --copy\n"
+
 abbrev pub key_words : KeyFault → List ℕ
 key_words keys.NotAFile = codes "is no plain file"
 key_words keys.Sheet = codes "is the sheet"
@@ -127,6 +134,7 @@ fault_line path (Votes why) = votes_line why
 fault_line path (VotesNamed why) = named_votes_line path why
 fault_line path (BadVotes place) = codes "votes: 64 BadVotes\n"
 fault_line path (NotOneHistory place) = torn_line place
+fault_line path (FilesDiffer place) = codes "votes: the two files differ at place " ++ decimal place ++ codes "\n"
 fault_line path (Line number why) = rejection_line number why
 fault_line path (NotAgreed place) = turns_line place TURNS
 fault_line path Listen = codes "cannot listen at " ++ path ++ codes "\n"
@@ -135,6 +143,7 @@ fault_line path FileMoved = codes "cannot write\nits file was moved, deleted or 
 fault_line path LacksLines = codes "this file lacks lines that the other desk has: put the right file back\n"
 fault_line path (File why) = file_line path why
 fault_line path (Lost why) = loss_lines path why
+fault_line path (CopyLost why) = copy_loss_lines path why
 fault_line path (Key why) = no_key_line path why
 
 -- a desk that ran has lost its file, or can't write it, as this tells
@@ -147,3 +156,14 @@ abbrev pub with_cause : StopFault → Option WriteFault → StopFault
 with_cause Write (Some why) = File why
 with_cause Disk (Some why) = lost_for why why.why
 with_cause fault why = fault
+
+-- the same, where its copy can't be written
+abbrev pub with_copys_cause : StopFault → Option WriteFault → StopFault
+with_copys_cause Write (Some why) = File why
+with_copys_cause Disk (Some why) = CopyLost why
+with_copys_cause fault why = fault
+
+-- a votes file that is one of two, and is named
+abbrev pub named : StopFault → StopFault
+named (Votes why) = VotesNamed why
+named fault = fault

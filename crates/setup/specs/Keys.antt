@@ -8,6 +8,10 @@ use Rattle.setup.specs.declared.sealing.TheConstants.{LONGEST_KEY, SHORTEST_KEY}
 abbrev pub IsKey : List ℕ → List ℕ → Type 0
 IsKey bytes key = IsTrimAsciiEnd bytes key × (SHORTEST_KEY ≤ length key) × (length key ≤ LONGEST_KEY)
 
+-- the key in a file of some bytes
+abbrev pub IsSomeKey : List ℕ → Type 0
+IsSomeKey key = (bytes : List ℕ) × IsKey bytes key
+
 abbrev pub HasNoKey : List ℕ → Type 0
 HasNoKey bytes = (key : List ℕ) → IsKey bytes key → ⊥
 

@@ -1,5 +1,6 @@
--- What the public calls claim: Fault; SheetText; Keys; and how a run over readers and a writer ends, Ends. inner: for
--- private functions only.
+-- What the public calls claim: Fault; SheetText; Keys; which of two files counts, Counting; and how a run over readers and a
+-- writer ends, Ends. inner: for private functions only.
+pub mod Counting
 pub mod Ends
 pub mod Fault
 pub mod Keys

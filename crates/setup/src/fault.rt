@@ -39,6 +39,8 @@ pub enum StopFault {
     BadVotes { place: u32 },
     /// The votes of both desks' files aren't of one history: this is the first place at which they can't be.
     NotOneHistory { place: u32 },
+    /// A desk's votes file and its copy: this is the first place at which they differ.
+    FilesDiffer { place: u32 },
     /// A pen line isn't taken. Lines are numbered from 1.
     Line { number: u64, why: Rejected },
     /// The stations didn't agree this place in `TURNS` turns each.
@@ -55,6 +57,8 @@ pub enum StopFault {
     File(WriteFault),
     /// The file of a desk that runs can't be written.
     Lost(WriteFault),
+    /// The copy of a desk that runs can't be written.
+    CopyLost(WriteFault),
     /// There is no key in a file.
     Key(KeyFault),
 }
@@ -81,6 +85,7 @@ impl StopFault {
             StopFault::Schedule(ScheduleFault::NoMemory) => false,
             StopFault::Sheet(_) | StopFault::Schedule(_) => true,
             StopFault::BadVotes { .. } | StopFault::NotOneHistory { .. } => true,
+            StopFault::FilesDiffer { .. } => true,
             StopFault::Line { .. } | StopFault::LacksLines => true,
             _ => false,
         }
@@ -165,6 +170,16 @@ impl<'a> Stopped<'a> {
         ensures { result ≡ record { path = path.entry; fault = fault } }
     {
         Stopped { path, fault }
+    }
+
+    /// The same, where its votes file is one of two, and is named.
+    pub fn named(self) -> Stopped<'a>
+        ensures { result ≡ record self.entry { fault = texts.named self.entry.fault } }
+    {
+        match self.fault {
+            StopFault::Votes(why) => Stopped::at(self.path, StopFault::VotesNamed(why)),
+            _ => self,
+        }
     }
 }
 
@@ -264,6 +279,22 @@ fn print_loss<W: Write>(
     )
 }
 
+/// The same of its copy, and how it goes on without that.
+fn print_copy_loss<W: Write>(
+    out: &mut Watched<W>,
+    path: &str,
+    fault: WriteFault,
+) -> Result<(), WriteFailed>
+    ensures text { OnOk result (Prints W.contents out.old out.new (texts.copy_loss_lines path.now fault)) }
+    ensures failed { TellsFailure result out.old out.new }
+{
+    let (ending, words) = (fault.name.ending(), fault.why.words());
+    writeln!(
+        out,
+        "cannot write: {path}{ending}: {words}\nthis is the copy: to go on without it, start the same command without --copy"
+    )
+}
+
 /// Which file has no key, and why.
 fn print_no_key<W: Write>(
     out: &mut Watched<W>,
@@ -297,6 +328,9 @@ pub fn print_fault<W: Write>(
         StopFault::VotesNamed(why) => print_named_votes_fault(out, path, why),
         StopFault::BadVotes { .. } => writeln!(out, "votes: 64 BadVotes"),
         StopFault::NotOneHistory { place } => print_torn(out, place),
+        StopFault::FilesDiffer { place } => {
+            writeln!(out, "votes: the two files differ at place {place}")
+        }
         StopFault::Line { number, why } => print_rejected(out, number, why),
         StopFault::NotAgreed { place } => print_not_agreed(out, place, TURNS),
         StopFault::Listen => writeln!(out, "cannot listen at {path}"),
@@ -311,6 +345,7 @@ pub fn print_fault<W: Write>(
         ),
         StopFault::File(why) => print_file_fault(out, path, why),
         StopFault::Lost(why) => print_loss(out, path, why),
+        StopFault::CopyLost(why) => print_copy_loss(out, path, why),
         StopFault::Key(why) => print_no_key(out, path, why),
     }
 }

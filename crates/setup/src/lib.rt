@@ -2,6 +2,8 @@
 //! its end.
 #![tactic(auto)]
 
+mod copies;
+mod counting;
 mod fault;
 mod gaps;
 mod key_fault;
@@ -11,6 +13,8 @@ mod sheet;
 mod twins;
 mod votes_file;
 
+pub use crate::copies::{CopiedDisk, Kept, paired_disk, tell_copies};
+pub use crate::counting::{Counting, compared, place_of};
 pub use crate::fault::{StopFault, Stopped, TURNS, print_fault, printable};
 pub use crate::gaps::{Gaps, fill_gaps};
 pub use crate::key_fault::KeyFault;
@@ -19,5 +23,5 @@ pub use crate::sealing::{Sealing, key_in};
 pub use crate::sheet::{NoSheet, sheet_run};
 pub use crate::twins::{station_sheet_at, told_sheet_at, told_sheet_of};
 pub use crate::votes_file::{
-    VotesDisk, empty_disk, kept_votes, new_disk_at, renewed_disk, with_cause,
+    VotesDisk, empty_disk, kept_votes, new_disk_at, renewed_disk, with_cause, with_copys_cause,
 };

@@ -10,17 +10,18 @@ use crate::sheet::sheet_run;
 use agree_core::DeskId;
 use cards::MatchSheet;
 use entry_log::OldSlots;
-use machine::{Address, FileDisk, MOST_PEERS, OpenFault, Peers};
+use machine::{Address, FileDisk, MOST_PEERS, OpenFault, Peers, StandardStream};
 use seal::Seal;
 use std::fs::File;
-use std::io::{self, BufWriter, Printer, Write};
+use std::io::{BufWriter, Write};
 use std::net::{Net, SocketAddr};
 use std::os::fd::RawFd;
+use std::rt::Stdout;
 use streams::{Watched, read_all};
 use vote_store::Votes;
 
 /// Standard output, a buffer at a time.
-pub type Output<'a> = Watched<BufWriter<Printer<'a, HostRuntime>>>;
+pub type Output<'a> = Watched<BufWriter<StandardStream<'a, Stdout>>>;
 
 /// The fault of a run that wants to read a file of which no disk is made.
 pub fn fault_of_old(fault: OpenFault) -> StopFault
@@ -80,8 +81,11 @@ pub fn old_votes_at<'a>(
 }
 
 /// Standard output, a buffer at a time.
-pub fn printer(rt: &HostRuntime) -> Result<BufWriter<Printer<'_, HostRuntime>>, Stopped<'static>> {
-    BufWriter::new(rt.alloc(), io::writer(rt)).map_err(|_| Stopped::at("-", StopFault::NoMemory))
+pub fn printer(
+    rt: &HostRuntime,
+) -> Result<BufWriter<StandardStream<'_, Stdout>>, Stopped<'static>> {
+    let stream = StandardStream::output(rt);
+    BufWriter::new(rt.alloc(), stream).map_err(|_| Stopped::at("-", StopFault::NoMemory))
 }
 
 /// Standard output, watched.

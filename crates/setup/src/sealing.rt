@@ -1,6 +1,9 @@
 //! What a station's datagrams are sealed with: the key in a file, or none, and the match sheet.
 
-ghost use Rattle.std.specs.Prelude.{◌≡◌, ◌≤◌, [], None, IfOk, IfSome, vec_len};
+ghost use Rattle.std.specs.Prelude.{◌≡◌, ◌≤◌, [], None, IfOk, IfSome, take, vec_len};
+ghost use Rattle.cards.specs.Digest.{sheet_digest};
+ghost use Rattle.links.specs.Logs.{carried_of};
+ghost use Rattle.seal.specs.Sealed.{seal_of};
 ghost use Rattle.setup.specs.Keys as keys;
 
 use crate::fault::{StopFault, Stopped, printable};
@@ -56,7 +59,9 @@ fn different(bytes: &[u8]) -> usize {
 }
 
 /// The length of the key in a file's bytes, which is taken where 8 of its bytes differ at least.
-fn key_len(bytes: &[u8]) -> Result<usize, KeyFault> {
+fn key_len(bytes: &[u8]) -> Result<usize, KeyFault>
+    ensures { IfOk result (λ count. keys.IsKey bytes.now (take count bytes.now)) }
+{
     if bytes.starts_with(&VOTES[..]) {
         return Err(KeyFault::Votes);
     }
@@ -66,6 +71,16 @@ fn key_len(bytes: &[u8]) -> Result<usize, KeyFault> {
         None if bytes.len() > LONGEST_KEY => Err(KeyFault::Long),
         None => Err(KeyFault::Short),
     }
+}
+
+/// The key in a file's bytes, which aren't copied.
+fn key_of(bytes: Vec<u8>) -> Result<Vec<u8>, KeyFault>
+    ensures { IfOk result (λ key. keys.IsKey bytes.items key.items) }
+{
+    let mut bytes = bytes;
+    let count = key_len(bytes.as_slice())?;
+    bytes.truncate(count);
+    Ok(bytes)
 }
 
 /// Asks that a key's file is a plain one, so that no read of it waits, and isn't the sheet. Standard error is told where
@@ -88,15 +103,11 @@ fn expect_key_file<'a>(rt: &HostRuntime, path: &'a str, sheet: &str) -> Result<(
 }
 
 /// The key in a file that isn't the sheet.
-fn key_at<'a>(rt: &HostRuntime, path: &'a str, sheet: &str) -> Result<Vec<u8>, Stopped<'a>> {
+fn key_at<'a>(rt: &HostRuntime, path: &'a str, sheet: &str) -> Result<Vec<u8>, Stopped<'a>>
+    ensures { IfOk result (λ key. keys.IsSomeKey key.items) }
+{
     expect_key_file(rt, path, sheet)?;
-    let mut bytes = bytes_at(rt, path)?;
-    let count = match key_len(bytes.as_slice()) {
-        Ok(count) => count,
-        Err(why) => return Err(Stopped::at(path, StopFault::Key(why))),
-    };
-    bytes.truncate(count);
-    Ok(bytes)
+    key_of(bytes_at(rt, path)?).map_err(|why| Stopped::at(path, StopFault::Key(why)))
 }
 
 /// Asks the system to leave this process's memory out of what it keeps of one that crashed. Where it doesn't, that is no
@@ -120,7 +131,12 @@ impl Sealing {
         sheet: &MatchSheet,
         sheet_path: &str,
         key: Option<&'a str>,
-    ) -> Result<Sealing, Stopped<'a>> {
+    ) -> Result<Sealing, Stopped<'a>>
+        ensures digest { IfOk result (λ sealing. sealing.digest ≡ sheet_digest sheet.now) }
+        ensures game { IfOk result (λ sealing. sealing.game ≡ sheet.now.game) }
+        ensures none { key.entry ≡ None → IfOk result (λ sealing. sealing.key.items ≡ []) }
+        ensures key { IfSome key.entry (λ path. IfOk result (λ sealing. keys.IsSomeKey sealing.key.items)) }
+    {
         let digest = digest_of(sheet);
         let key = match key {
             Some(path) => {
@@ -137,7 +153,9 @@ impl Sealing {
     }
 
     /// What the match's datagrams are sealed with.
-    fn seal(&self) -> Seal {
+    fn seal(&self) -> Seal
+        ensures { result ≡ seal_of self.now.key.items self.now.digest }
+    {
         Seal::new(self.key.as_slice(), &self.digest)
     }
 
@@ -154,6 +172,22 @@ impl Sealing {
         errors.write_all(&text[..])
     }
 
+    /// A station's sealed datagrams at its address, of which none passed yet.
+    fn sealed_at<'a, E: Write + Drop>(
+        &self,
+        rt: &HostRuntime,
+        at: Address<'a>,
+        peers: [Option<SocketAddr>; MOST_PEERS],
+        keyboard: Option<RawFd>,
+        errors: E,
+    ) -> Result<Sealed<Peers<E>>, Stopped<'a>>
+        ensures seal { IfOk result (λ sealed. sealed.seal ≡ seal_of self.now.key.items self.now.digest) }
+        ensures log { IfOk result (λ sealed. carried_of sealed.carrier.log ≡ []) }
+    {
+        let peers = peers_at(rt, at, peers, keyboard, self.seal(), errors)?;
+        Ok(Sealed::new(peers, self.seal()))
+    }
+
     /// A station's link at its address. Where a keyboard's descriptor is named, waits end for it too.
     pub fn link_at<'r, 'a, E: Write + Drop>(
         &self,
@@ -165,9 +199,8 @@ impl Sealing {
     ) -> Result<StationLink<'r, E>, Stopped<'a>>
         ensures { IfOk result (λ link. (link.game ≡ self.now.game) × (link.above ≡ [])) }
     {
-        let peers = peers_at(rt, at, peers, keyboard, self.seal(), errors)?;
+        let link = self.sealed_at(rt, at, peers, keyboard, errors)?;
         let clock = MonotonicClock::new(rt);
-        let link = Sealed::new(peers, self.seal());
         Ok(Window::new(rt.alloc(), link, clock, self.game))
     }
 }

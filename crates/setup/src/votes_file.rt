@@ -1,6 +1,8 @@
 //! Files that votes are written to: new ones, and a desk's, which is written anew before it is used.
 
-ghost use Rattle.std.specs.Prelude.{◌≡◌};
+ghost use Rattle.std.specs.Prelude.{◌≡◌, IfOk};
+ghost use Rattle.entry_log.specs.Disk.{only};
+ghost use Rattle.machine.specs.FileDisk.{file_of, images_of};
 ghost use Rattle.setup.specs.Fault as faults;
 ghost use Rattle.setup.specs.inner.Opening as texts;
 
@@ -79,6 +81,17 @@ pub fn with_cause(fault: StopFault, last: Option<WriteFault>) -> StopFault
     }
 }
 
+/// The same of its copy.
+pub fn with_copys_cause(fault: StopFault, last: Option<WriteFault>) -> StopFault
+    ensures { result ≡ faults.with_copys_cause fault last }
+{
+    match (fault, last) {
+        (StopFault::Write, Some(why)) => StopFault::File(why),
+        (StopFault::Disk, Some(why)) => StopFault::CopyLost(why),
+        _ => fault,
+    }
+}
+
 /// A desk's votes file for this process alone, which is made where there is none, and its bytes. It leaves there why a
 /// call failed.
 pub fn kept_votes<'r, 'a>(
@@ -116,7 +129,10 @@ pub fn renewed_disk<'r, 'a>(
     file: NamedFile<'r>,
     bytes: &[u8],
     last: &LastFault,
-) -> Result<VotesDisk<'r>, Stopped<'a>> {
+) -> Result<VotesDisk<'r>, Stopped<'a>>
+    ensures held { IfOk result (λ disk. file_of disk ≡ bytes.now) }
+    ensures kept { IfOk result (λ disk. images_of disk ≡ only bytes.now) }
+{
     let beside = match file.beside() {
         Ok(beside) => beside,
         Err(why) => return Err(file_fault(path, Name::Unfinished, why)),

@@ -1,2 +1,3 @@
--- How `desk` ends: DeskCommand.
+-- How `desk` ends: DeskCommand. What a board's files are given: Files.
 pub mod DeskCommand
+pub mod Files

@@ -2,19 +2,30 @@
 
 mod files;
 mod notes;
+mod shown;
 
+use crate::screens::{Errors, Shared, errors_at, output_at};
 use board::Board;
 use corrections::CheckedBook;
 use files::{Files, Kept};
 use live::keep_board;
-use machine::{Address, Cause, MOST_PEERS, MonotonicClock, Name, TextFile, WriteFault};
+use machine::{
+    Address, Cause, MOST_PEERS, MonotonicClock, Name, Pieces, StandardStream, TextFile, WholeText,
+    WriteFault,
+};
 use notes::Notes;
-use setup::{Sealing, StopFault, Stopped, output, station_sheet_at};
+use setup::{Sealing, StopFault, Stopped, station_sheet_at};
+use shown::Shown;
+use std::cell::RefCell;
 use std::net::SocketAddr;
 use std::rt::Stderr;
+use streams::Watched;
+
+/// Where a board tells what it can't take, and which file it can't write.
+type Told<'s, 'a> = Shared<'s, Pieces<StandardStream<'a, Stderr>>>;
 
 /// A board's files on this machine.
-type BoardFiles<'a> = Files<'a, TextFile<'a>, Stderr>;
+type BoardFiles<'s, 'a> = Files<'a, WholeText<TextFile<'a>>, Told<'s, 'a>, CheckedBook>;
 
 /// What names a board's files, and what they may not take the place of.
 #[derive(Clone, Copy)]
@@ -63,25 +74,29 @@ impl<'a> Paths<'a> {
     }
 
     /// A board's files, where these are named.
-    fn files(&self, rt: &'a HostRuntime) -> Result<BoardFiles<'a>, Stopped<'a>> {
+    fn files<'s>(
+        &self,
+        rt: &'a HostRuntime,
+        errors: &'s RefCell<Errors<'a>>,
+    ) -> Result<BoardFiles<'s, 'a>, Stopped<'a>> {
         let text = self.file_at(rt, self.text)?;
         let state = self.file_at(rt, self.state)?;
         self.expect_two(&text, &state)?;
         Ok(Files::new(
             rt.alloc(),
-            kept(rt, text, self.text),
-            kept(rt, state, self.state),
+            kept(text, self.text, errors),
+            kept(state, self.state, errors),
         ))
     }
 }
 
 /// A file of this path, where there is one, that is written whatever became of it before.
-fn kept<'a>(
-    rt: &HostRuntime,
+fn kept<'s, 'a>(
     file: Option<TextFile<'a>>,
     path: Option<&'a str>,
-) -> Option<Kept<'a, TextFile<'a>, Stderr>> {
-    Some(Kept::new(file?, path?, rt.stderr()))
+    errors: &'s RefCell<Errors<'a>>,
+) -> Option<Kept<'a, WholeText<TextFile<'a>>, Told<'s, 'a>>> {
+    Some(Kept::new(WholeText::new(file?), path?, Shared::of(errors)))
 }
 
 /// `ground board`: keeps a board that listens at an address, shows its six lines at the start and whenever they
@@ -100,23 +115,30 @@ pub fn start_board<'a>(
 ) -> Result<bool, Stopped<'a>> {
     let sheet = station_sheet_at(rt, sheet_path)?;
     let sealing = Sealing::of(rt, &sheet, sheet_path, key)?;
-    let mut out = output(rt)?;
+    let output = RefCell::new(output_at(rt)?);
+    let errors = RefCell::new(errors_at(rt)?);
     let paths = Paths {
         sheet: sheet_path,
         key,
         text,
         state: json,
     };
-    let mut files = paths.files(rt)?;
+    let files = paths.files(rt, &errors)?;
     let book = CheckedBook::new(rt.alloc(), sheet.innings()).map_err(|why| Stopped::at(
         "-",
         StopFault::from(why),
     ))?;
     let mut board = Board::new(sheet.game(), book);
-    let mut link = sealing.link_at(rt, at, peers, None, rt.stderr())?;
-    let _ = sealing.tell_fingerprints(&mut rt.stderr());
+    let mut link = sealing.link_at(rt, at, peers, None, Shared::of(&errors))?;
+    let _ = sealing.tell_fingerprints(&mut Shared::of(&errors));
     let mut clock = MonotonicClock::new(rt);
-    let mut notes = Notes::new(rt.stderr());
+    let mut notes = Notes::new(Shared::of(&errors));
+    let mut out = Watched::new(Shared::of(&output));
+    let mut shown = Shown {
+        files,
+        output: &output,
+        errors: &errors,
+    };
     let ended = keep_board(
         &mut board,
         &sheet,
@@ -124,7 +146,7 @@ pub fn start_board<'a>(
         &mut clock,
         &mut notes,
         &mut out,
-        &mut files,
+        &mut shown,
         u64::MAX,
     );
     match ended {

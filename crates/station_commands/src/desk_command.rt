@@ -3,20 +3,26 @@
 ghost use Rattle.std.specs.Prelude.{◌≡◌, [], false, IfErr, IfOk, None, Some};
 ghost use Rattle.station_commands.specs.DeskCommand as ends;
 
+use crate::screens::{DeskScreen, Shared, errors_at, output_at};
 use agree_core::DeskId;
 use cards::MatchSheet;
 use corrections::CheckedBook;
 use desk::restore::Restoring;
-use entry_log::Slots;
+use entry_log::{Disk, Slots};
+use links::{Keys, Link};
 use live::{DeskEnd, LifeEnd, keep_desk};
 use machine::{
-    Address, FileDisk, Keyboard, LastFault, MOST_PEERS, MonotonicClock, NoFile, WriteFault,
+    Address, FileDisk, Keyboard, LastFault, MOST_PEERS, MonotonicClock, NoFile, Outlet, WriteFault,
 };
 use setup::{
-    Sealing, StopFault, Stopped, VotesDisk, empty_disk, kept_votes, output, renewed_disk,
-    station_sheet_at, with_cause,
+    CopiedDisk, Kept, Sealing, StopFault, Stopped, VotesDisk, compared, empty_disk, kept_votes,
+    paired_disk, renewed_disk, station_sheet_at, tell_copies, with_cause, with_copys_cause,
 };
+use std::cell::RefCell;
+use std::io::Write;
+use std::mem::drop;
 use std::net::SocketAddr;
+use streams::Watched;
 use vote_store::Votes;
 
 /// An empty book of the sheet's match.
@@ -74,6 +80,70 @@ fn disk_at<'r, 'a>(
     renewed_disk(rt, path, file, bytes.as_slice(), last)
 }
 
+/// One of two files of the desk's votes, which may have no byte, for this process alone. It is refused as one alone is, and
+/// named.
+fn kept_at<'r, 'a>(
+    rt: &'r HostRuntime,
+    sheet: &MatchSheet,
+    desk: DeskId,
+    path: &'a str,
+    last: &'r LastFault,
+) -> Result<Kept<'r, 'a>, Stopped<'a>> {
+    let (file, bytes) = kept_votes(rt, path, last)?;
+    let bytes = if bytes.is_empty() {
+        bytes
+    } else {
+        judged(rt, sheet, desk, bytes, path).map_err(|stopped| stopped.named())?
+    };
+    Ok(Kept {
+        path,
+        file,
+        bytes,
+        last,
+    })
+}
+
+/// A disk on both files of the desk's votes, of which the one that has more counts. Where one of them is refused, or neither
+/// has all votes of the other, both stay as they were.
+fn copied_disk_at<'r, 'a>(
+    rt: &'r HostRuntime,
+    sheet: &MatchSheet,
+    desk: DeskId,
+    paths: [&'a str; 2],
+    lasts: &'r [LastFault; 2],
+) -> Result<CopiedDisk<'r>, Stopped<'a>> {
+    let first = kept_at(rt, sheet, desk, paths[0], &lasts[0])?;
+    let second = kept_at(rt, sheet, desk, paths[1], &lasts[1])?;
+    let counting = compared(first.bytes.as_slice(), second.bytes.as_slice());
+    let _ = tell_copies(&mut rt.stderr(), &first, &second, counting);
+    paired_disk(rt, first, second, counting)
+}
+
+/// The disk of a desk's votes: on its file alone, or on that and its copy.
+#[derive(Drop)]
+enum DeskDisk<'r> {
+    One(VotesDisk<'r>),
+    Two(CopiedDisk<'r>),
+}
+
+/// Closes a desk's votes.
+fn close(_disk: DeskDisk<'_>) {}
+
+/// The disk of a desk's votes, where one file's calls leave why they failed, and the other's.
+fn desk_disk_at<'r, 'a>(
+    rt: &'r HostRuntime,
+    sheet: &MatchSheet,
+    desk: DeskId,
+    file: &'a str,
+    copy: Option<&'a str>,
+    lasts: &'r [LastFault; 2],
+) -> Result<DeskDisk<'r>, Stopped<'a>> {
+    match copy {
+        None => Ok(DeskDisk::One(disk_at(rt, sheet, desk, file, &lasts[0])?)),
+        Some(copy) => Ok(DeskDisk::Two(copied_disk_at(rt, sheet, desk, [file, copy], lasts)?)),
+    }
+}
+
 /// Why the command ends with a fault, by how its desk's process ended and whether its keyboard failed. Where its scorer
 /// stopped, there is none.
 fn stop_of(ended: Result<(), LifeEnd>, keyboard_failed: bool) -> Option<StopFault>
@@ -123,42 +193,99 @@ fn with_last<'a>(stopped: Stopped<'a>, file: &'a str, last: Option<WriteFault>) 
     }
 }
 
-/// `ground desk`: keeps a scorer's desk with its votes in a file, listening at an address, until the scorer types
-/// `quit` or no more. Its datagrams are sealed with the sheet and the key in a file, where one is named.
+/// The same of a desk whose votes may have a copy, where its own file's calls went well and the copy's last one failed.
+fn with_lasts<'a>(
+    stopped: Stopped<'a>,
+    file: &'a str,
+    last: Option<WriteFault>,
+    copy: Option<&'a str>,
+    copys_last: Option<WriteFault>,
+) -> Stopped<'a> {
+    match (stopped.fault, copy, last, copys_last) {
+        (StopFault::Write | StopFault::Disk, Some(copy), None, Some(_)) => {
+            Stopped::at(copy, with_copys_cause(stopped.fault, copys_last))
+        }
+        _ => with_last(stopped, file, last),
+    }
+}
+
+/// Keeps the desk's process on this disk, until it ends.
+#[inline(never)]
+fn keep<D: Disk + Drop, L: Link, K: Keys, W: Write>(
+    rt: &HostRuntime,
+    disk: D,
+    desk: DeskId,
+    book: CheckedBook,
+    sheet: &MatchSheet,
+    link: &mut L,
+    keys: &mut K,
+    out: &mut Watched<W>,
+) -> Result<(), LifeEnd>
+    requires { book.entries ≡ [] }
+{
+    let mut clock = MonotonicClock::new(rt);
+    keep_desk::<Slots<D>, CheckedBook, _, _, _, _>(
+        rt.alloc(),
+        disk,
+        desk,
+        book,
+        sheet,
+        link,
+        keys,
+        &mut clock,
+        out,
+        u64::MAX,
+    )
+}
+
+/// Waits until all that was written to a desk's screen is taken, and tells whether it is. Where a write of it failed, no other
+/// one is made.
+fn is_seen<O: Outlet + Drop, E: Outlet>(screen: Watched<DeskScreen<'_, O, E>>) -> bool {
+    !screen.has_failed() && screen.into_inner().into_output().end().is_ok()
+}
+
+/// `ground desk`: keeps a scorer's desk with its votes in a file, and in a copy, where one is named, listening at an address,
+/// until the scorer types `quit` or no more. Then, with its files and its address free, it waits until its screen is read. Its
+/// datagrams are sealed with the sheet and the key in a file, where one is named.
 #[inline(never)]
 pub fn start_desk<'a>(
     rt: &HostRuntime,
     sheet_path: &'a str,
     desk: DeskId,
     file: &'a str,
+    copy: Option<&'a str>,
     at: Address<'a>,
     peers: [Option<SocketAddr>; MOST_PEERS],
     key: Option<&'a str>,
 ) -> Result<bool, Stopped<'a>> {
     let sheet = station_sheet_at(rt, sheet_path)?;
     let sealing = Sealing::of(rt, &sheet, sheet_path, key)?;
-    let mut writer = output(rt)?;
+    let errors = RefCell::new(errors_at(rt)?);
+    let mut writer = Watched::new(DeskScreen::new(output_at(rt)?, &errors));
     let mut keys = Keyboard::of_standard_input(rt);
-    let last = LastFault::new(None);
-    let disk = disk_at(rt, &sheet, desk, file, &last)?;
-    let mut link = sealing.link_at(rt, at, peers, Some(keys.descriptor()), rt.stderr())?;
+    let lasts = [LastFault::new(None), LastFault::new(None)];
     let book = empty_book(rt, &sheet)?;
-    let _ = sealing.tell_fingerprints(&mut rt.stderr());
-    let mut clock = MonotonicClock::new(rt);
-    let ended = keep_desk::<Slots<VotesDisk<'_>>, CheckedBook, _, _, _, _>(
-        rt.alloc(),
-        disk,
-        desk,
-        book,
-        &sheet,
-        &mut link,
-        &mut keys,
-        &mut clock,
-        &mut writer,
-        u64::MAX,
-    );
+    let disk = desk_disk_at(rt, &sheet, desk, file, copy, &lasts)?;
+    let made = sealing.link_at(rt, at, peers, Some(keys.descriptor()), Shared::of(&errors));
+    let mut link = match made {
+        Ok(link) => link,
+        Err(stopped) => {
+            close(disk);
+            return Err(stopped);
+        }
+    };
+    let _ = sealing.tell_fingerprints(&mut Shared::of(&errors));
+    let (on, by, out) = (&mut link, &mut keys, &mut writer);
+    let ended = match disk {
+        DeskDisk::One(disk) => keep(rt, disk, desk, book, &sheet, on, by, out),
+        DeskDisk::Two(disk) => keep(rt, disk, desk, book, &sheet, on, by, out),
+    };
+    drop(link);
+    let is_seen = is_seen(writer);
+    let _ = errors.into_inner().end();
     match answer(ended, keys.has_failed(), file) {
+        Ok(_) if !is_seen => Err(Stopped::at("-", StopFault::Write)),
         Ok(refused) => Ok(refused),
-        Err(stopped) => Err(with_last(stopped, file, last.get())),
+        Err(stopped) => Err(with_lasts(stopped, file, lasts[0].get(), copy, lasts[1].get())),
     }
 }

@@ -4,6 +4,7 @@
 mod board_command;
 mod desk_command;
 mod key_command;
+mod screens;
 
 pub use crate::board_command::start_board;
 pub use crate::desk_command::start_desk;

@@ -2,7 +2,7 @@
 ghost use Rattle.std.specs.Prelude.{◌<◌};
 
 use super::*;
-use links::{CarriedLog, Clock, Link, Sealed, SealedCarrier, Taken, Window};
+use links::{CarriedLog, Clock, ClockLog, Link, Sealed, SealedCarrier, Taken, Window};
 use seal::Seal;
 use std::cell::Cell;
 
@@ -44,11 +44,18 @@ impl World {
 #[derive(Drop)]
 struct Hand<'a> {
     world: &'a World,
+    log: ClockLog,
 }
 
 impl Clock for Hand<'_> {
+    ghost use Rattle.links.specs.Logs.{readings_of};
+
+    ghost readings = { λ hand. readings_of hand.log };
+
     fn millis(&mut self) -> u64 {
-        self.world.now.get()
+        let now = self.world.now.get();
+        self.log = self.log.read(now);
+        now
     }
 }
 
@@ -105,7 +112,8 @@ fn windowed(alloc: Global, world: &World) -> Windowed<'_> {
         world,
         log: CarriedLog::Empty,
     };
-    Window::new(alloc, Sealed::new(post, seal()), Hand { world }, 7)
+    let log = ClockLog::Empty;
+    Window::new(alloc, Sealed::new(post, seal()), Hand { world, log }, 7)
 }
 
 /// The match's seal.

@@ -2,8 +2,8 @@
 ghost use Rattle.std.specs.Prelude.{◌≡◌, ◌≤◌, IfSome};
 
 use super::*;
-use links::{Clock, InputLog, Keys, Link, Log, Taken, Typed};
-use live::{Notice, NoticeLog, Notices, Shows};
+use links::{Clock, ClockLog, InputLog, Keys, Link, Log, Taken, Typed};
+use live::{Notice, NoticeLog, Notices, Shows, SightLog};
 use std::io::{self, Error, ErrorKind, Write};
 use streams::WriteFailed;
 
@@ -11,17 +11,26 @@ use streams::WriteFailed;
 #[derive(Drop)]
 pub struct Ticking {
     now: u64,
+    log: ClockLog,
 }
 
 impl Ticking {
     pub fn new() -> Ticking {
-        Ticking { now: 0 }
+        Ticking {
+            now: 0,
+            log: ClockLog::Empty,
+        }
     }
 }
 
 impl Clock for Ticking {
+    ghost use Rattle.links.specs.Logs.{readings_of};
+
+    ghost readings = { λ clock. readings_of clock.log };
+
     fn millis(&mut self) -> u64 {
         self.now = self.now.saturating_add(1);
+        self.log = self.log.read(self.now);
         self.now
     }
 }
@@ -198,12 +207,13 @@ impl Notices for Notes {
     }
 }
 
-/// How many entries the book of a board had, at each call that showed its state. So many calls go well.
+/// How many entries the book of a board had, at each call that showed it. So many calls go well.
 #[derive(Drop)]
 pub struct States {
     pub shown: Vec<u32>,
     calls: usize,
     has_failed: bool,
+    log: SightLog<Book>,
 }
 
 impl States {
@@ -212,19 +222,23 @@ impl States {
             shown: Vec::new(alloc),
             calls,
             has_failed: false,
+            log: SightLog::Empty,
         }
     }
 }
 
-impl Shows for States {
+impl Shows<Book> for States {
+    ghost use Rattle.std.specs.Prelude.{⊤};
+    ghost use Rattle.live.specs.SightLogs.{sights_of};
+
+    ghost seen = { λ states. sights_of ⟦<Book as BookOf>⟧.content ⟦<Book as BookOf>⟧.innings_a_side states.log };
+
+    ghost goes_on = { λ _ _ _ _. ⊤ };
+
     ghost failed = { λ states. states.has_failed };
 
-    fn show<B: BookOf>(
-        &mut self,
-        _sheet: &MatchSheet,
-        book: &B,
-        _now: u64,
-    ) -> Result<(), WriteFailed> {
+    fn show(&mut self, sheet: &MatchSheet, book: &Book, _now: u64) -> Result<(), WriteFailed> {
+        self.log = self.log.handed(sheet, book);
         if self.shown.len() >= self.calls || self.shown.push(book.len()).is_err() {
             self.has_failed = true;
             return Err(WriteFailed);

@@ -111,7 +111,7 @@ fn is_told(
     let sheet = sheet(rt, alloc);
     let mut desk = new_desk(rt, alloc, DeskId::A);
     let mut out = Watched::new(Stamped::new(alloc, world));
-    let mut clock = Hand { world };
+    let mut clock = Hand::new(world);
     let mut typed = Timely {
         world,
         keys,

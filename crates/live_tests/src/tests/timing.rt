@@ -5,7 +5,7 @@ ghost use Rattle.std.specs.Prelude.{◌≡◌};
 use super::memory::{Notes, States};
 use super::*;
 use board::Board;
-use links::{Clock, Link, Log, Taken};
+use links::{Clock, ClockLog, Link, Log, Taken};
 use live::run_board;
 use std::cell::Cell;
 use std::io::{self, Write};
@@ -31,12 +31,28 @@ impl World {
 /// The world's clock.
 #[derive(Drop)]
 pub struct Hand<'a> {
-    pub world: &'a World,
+    world: &'a World,
+    log: ClockLog,
+}
+
+impl<'a> Hand<'a> {
+    pub fn new(world: &'a World) -> Hand<'a> {
+        Hand {
+            world,
+            log: ClockLog::Empty,
+        }
+    }
 }
 
 impl Clock for Hand<'_> {
+    ghost use Rattle.links.specs.Logs.{readings_of};
+
+    ghost readings = { λ hand. readings_of hand.log };
+
     fn millis(&mut self) -> u64 {
-        self.world.now.get()
+        let now = self.world.now.get();
+        self.log = self.log.read(now);
+        now
     }
 }
 
@@ -153,7 +169,7 @@ fn run(
     let sheet = sheet(rt, alloc);
     let mut desk = new_desk(rt, alloc, DeskId::A);
     let mut out = Watched::new(Screen { world });
-    let mut clock = Hand { world };
+    let mut clock = Hand::new(world);
     let own = DeskId::A;
     let answer = run_desk(
         &mut desk, own, &sheet, link, lines, &mut clock, &mut out, turns,
@@ -166,7 +182,7 @@ fn show(rt: &impl Abort, alloc: Global, world: &World, link: &mut Timed<'_>, tur
     let sheet = sheet(rt, alloc);
     let mut board = Board::new(7, empty_book(rt, alloc));
     let mut out = Watched::new(Screen { world });
-    let mut clock = Hand { world };
+    let mut clock = Hand::new(world);
     let mut notes = Notes::new(alloc);
     let mut states = States::new(alloc, usize::MAX);
     let answer = run_board(

@@ -1,13 +1,16 @@
 //! The files of a board, which others read: its text, and its state.
 
-ghost use Rattle.std.specs.Prelude.{◌≡◌, false, IfOk, IfSome, OnOk};
+ghost use Rattle.std.specs.Prelude.{◌≡◌, Some, is_err, false, length, IfOk};
 ghost use Rattle.corrections.specs.CleanList.{history_of};
 ghost use Rattle.cards.specs.Board as texts;
+ghost use Rattle.machine.specs.Texts.{Takes};
 ghost use Rattle.scoreboard.specs.Value as laws;
+ghost use Rattle.station_commands.specs.Files.{AreKept};
+ghost use Rattle.station_commands.specs.declared.board_command.files.TheConstants.{FOREVER, LONGEST};
 
 use cards::{MatchSheet, board_lines};
 use corrections::BookOf;
-use live::Shows;
+use live::{Shows, SightLog};
 use machine::Replaces;
 use scoreboard::board_text;
 use setup::{StopFault, print_fault, printable};
@@ -25,6 +28,9 @@ const AGAIN: u64 = 1_000;
 /// written knows whether its board lives.
 const LONGEST: u64 = 9_400;
 
+/// A text stands as long as its book does.
+const FOREVER: u64 = u64::MAX;
+
 /// When a file was written, or couldn't be, and how many entries the book had.
 #[derive(Clone, Copy, Debug, PartialEq, Eq)]
 struct Tried {
@@ -34,9 +40,14 @@ struct Tried {
 }
 
 impl Tried {
+    ghost use Rattle.std.specs.Prelude.{◌-◌, nat_le};
+    ghost use Rattle.station_commands.specs.Files.{wait_of};
+
     /// Whether a file that stands so long at most is to be written at this time, of a book of so many entries: the last time
     /// it couldn't be, the book has grown, or the file becomes old.
-    fn is_past(self, entries: u32, now: u64, longest: u64) -> bool {
+    fn is_past(self, entries: u32, now: u64, longest: u64) -> bool
+        ensures { result ≡ nat_le (wait_of self entries longest) (now - self.at) }
+    {
         let wait = if self.has_failed {
             AGAIN
         } else if self.entries == entries {
@@ -59,6 +70,8 @@ pub struct Kept<'a, T, E> {
 }
 
 impl<'a, T: Replaces, E: Write> Kept<'a, T, E> {
+    ghost use Rattle.station_commands.specs.Files.{is_due, tried_at};
+
     /// This file of this path, which wasn't written yet.
     pub fn new(file: T, path: &'a str, errors: E) -> Kept<'a, T, E> {
         Kept {
@@ -70,7 +83,9 @@ impl<'a, T: Replaces, E: Write> Kept<'a, T, E> {
     }
 
     /// Whether it is to be written.
-    fn is_due(&self, entries: u32, now: u64, longest: u64) -> bool {
+    fn is_due(&self, entries: u32, now: u64, longest: u64) -> bool
+        ensures { result ≡ is_due self.now.tried entries now longest }
+    {
         match self.tried {
             Some(tried) => tried.is_past(entries, now, longest),
             None => true,
@@ -78,7 +93,10 @@ impl<'a, T: Replaces, E: Write> Kept<'a, T, E> {
     }
 
     /// Notes that it was written, or couldn't be.
-    fn note(&mut self, written: Result<(), StopFault>, entries: u32, now: u64) {
+    fn note(&mut self, written: Result<(), StopFault>, entries: u32, now: u64)
+        ensures tried { self.new.tried ≡ Some (tried_at entries now (is_err written)) }
+        ensures file { self.new.file ≡ self.old.file }
+    {
         let was_told = match self.tried {
             Some(tried) => tried.has_failed,
             None => false,
@@ -115,8 +133,8 @@ fn put_text<B: BookOf, T: Replaces>(
     book: &B,
     file: &mut T,
 ) -> Result<(), StopFault>
-    ensures { OnOk result (IfSome (T.given file.new) (λ text.
-        text ≡ texts.board sheet.now (B.innings_a_side book.now) (history_of (B.content book.now)))) }
+    ensures { Takes result (T.given file.old) (T.given file.new)
+        (texts.board sheet.now (B.innings_a_side book.now) (history_of (B.content book.now))) }
 {
     let text = text_of(alloc, sheet, book)?;
     match file.replace(text.as_slice()) {
@@ -132,8 +150,8 @@ fn put_state<B: BookOf, T: Replaces>(
     book: &B,
     file: &mut T,
 ) -> Result<(), StopFault>
-    ensures { OnOk result (IfSome (T.given file.new) (λ text.
-        text ≡ laws.board_text sheet.now (B.innings_a_side book.now) (B.content book.now))) }
+    ensures { Takes result (T.given file.old) (T.given file.new)
+        (laws.board_text sheet.now (B.innings_a_side book.now) (B.content book.now)) }
 {
     let text = board_text(alloc, sheet, book)?;
     match file.replace(text.as_slice()) {
@@ -142,61 +160,90 @@ fn put_state<B: BookOf, T: Replaces>(
     }
 }
 
+/// Puts the six lines into a file, where there is one and that is due.
+fn show_lines<B: BookOf, T: Replaces, E: Write>(
+    alloc: Global,
+    sheet: &MatchSheet,
+    book: &B,
+    now: u64,
+    file: &mut Option<Kept<'_, T, E>>,
+)
+    ensures { AreKept T.given FOREVER (length (B.content book.now)) now
+        (texts.board sheet.now (B.innings_a_side book.now) (history_of (B.content book.now))) file.old file.new }
+{
+    let entries = book.len();
+    let Some(kept) = file else {
+        return;
+    };
+    if kept.is_due(entries, now, FOREVER) {
+        let put = put_text(alloc, sheet, book, &mut kept.file);
+        kept.note(put, entries, now);
+    }
+}
+
+/// Puts the state into a file, where there is one and that is due.
+fn show_state<B: BookOf, T: Replaces, E: Write>(
+    alloc: Global,
+    sheet: &MatchSheet,
+    book: &B,
+    now: u64,
+    file: &mut Option<Kept<'_, T, E>>,
+)
+    ensures { AreKept T.given LONGEST (length (B.content book.now)) now
+        (laws.board_text sheet.now (B.innings_a_side book.now) (B.content book.now)) file.old file.new }
+{
+    let entries = book.len();
+    let Some(kept) = file else {
+        return;
+    };
+    if kept.is_due(entries, now, LONGEST) {
+        let put = put_state(alloc, sheet, book, &mut kept.file);
+        kept.note(put, entries, now);
+    }
+}
+
 /// The files of a board, where there are some: each holds a text that the board had, whole.
 #[derive(Drop)]
-pub struct Files<'a, T, E> {
+pub struct Files<'a, T, E, B> {
     alloc: Global,
     text: Option<Kept<'a, T, E>>,
     state: Option<Kept<'a, T, E>>,
+    log: SightLog<B>,
 }
 
-impl<'a, T: Replaces, E: Write> Files<'a, T, E> {
+impl<'a, T: Replaces, E: Write, B: BookOf> Files<'a, T, E, B> {
     /// These files, of which none was written yet.
     pub fn new(
         alloc: Global,
         text: Option<Kept<'a, T, E>>,
         state: Option<Kept<'a, T, E>>,
-    ) -> Files<'a, T, E> {
-        Files { alloc, text, state }
-    }
-
-    /// Writes the six lines where that is due.
-    fn show_text<B: BookOf>(&mut self, sheet: &MatchSheet, book: &B, now: u64) {
-        let entries = book.len();
-        if let Some(kept) = &mut self.text
-            && kept.is_due(entries, now, u64::MAX)
-        {
-            let put = put_text(self.alloc, sheet, book, &mut kept.file);
-            kept.note(put, entries, now);
-        }
-    }
-
-    /// Writes the state where that is due.
-    fn show_state<B: BookOf>(&mut self, sheet: &MatchSheet, book: &B, now: u64) {
-        let entries = book.len();
-        if let Some(kept) = &mut self.state
-            && kept.is_due(entries, now, LONGEST)
-        {
-            let put = put_state(self.alloc, sheet, book, &mut kept.file);
-            kept.note(put, entries, now);
+    ) -> Files<'a, T, E, B> {
+        Files {
+            alloc,
+            text,
+            state,
+            log: SightLog::Empty,
         }
     }
 }
 
-impl<T: Replaces, E: Write> Shows for Files<'_, T, E> {
+impl<T: Replaces, E: Write, B: BookOf + Drop> Shows<B> for Files<'_, T, E, B> {
+    ghost use Rattle.live.specs.SightLogs.{sights_of};
+    ghost use Rattle.station_commands.specs.Files.{FilesGoOn};
+
+    ghost seen = { λ files. sights_of B.content B.innings_a_side files.log };
+
+    ghost goes_on = { FilesGoOn T.given };
+
     /// A file that can't be written ends no board.
     ghost failed = { λ _. false };
 
     /// Writes both at the first call, then where the book has grown, at most ten times a second, and where they couldn't be
     /// written, once a second. The state is otherwise written anew before ten seconds are over.
-    fn show<B: BookOf>(
-        &mut self,
-        sheet: &MatchSheet,
-        book: &B,
-        now: u64,
-    ) -> Result<(), WriteFailed> {
-        self.show_text(sheet, book, now);
-        self.show_state(sheet, book, now);
+    fn show(&mut self, sheet: &MatchSheet, book: &B, now: u64) -> Result<(), WriteFailed> {
+        show_lines(self.alloc, sheet, book, now, &mut self.text);
+        show_state(self.alloc, sheet, book, now, &mut self.state);
+        self.log = self.log.handed(sheet, book);
         Ok(())
     }
 }

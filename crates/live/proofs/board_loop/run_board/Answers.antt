@@ -17,13 +17,7 @@ loop-number-preserved g c =
 pub returns-in_err-turn-clause-runs : goal.returns-in_err-turn-clause-runs
 returns-in_err-turn-clause-runs g c =
     let last = c.in_err-turn.ensures.runs c.loop-number.number in
-    (stopped c.from_residual.result c.in_err-turn.field-0.0 c.from_residual.ensures.1 last.0.is last.0.noticed (then (silent c.loop-number.invariant) last.0.goes)).0
-
-pub returns-in_err-show-clause-runs : goal.returns-in_err-show-clause-runs
-returns-in_err-show-clause-runs g c =
-    let last = c.in_ok-turn.ensures.runs c.loop-number.number in
-    let residual = c.from_residual-in_err-show in
-    (stopped residual.result c.in_err-show.field-0.0 residual.ensures.1 last.0.is last.0.noticed (then (silent c.loop-number.invariant) (silent last.0.goes))).0
+    (stopped c.from_residual.result c.in_err-turn.field-0.0 c.from_residual.ensures.1 last.0.is last.0.noticed last.0.sighted (then (silent c.loop-number.invariant) last.0.goes)).0
 
 pub returns-clause-runs : goal.returns-clause-runs
 returns-clause-runs g c =
@@ -32,4 +26,4 @@ returns-clause-runs g c =
     subst (λ (turns : ℕ). BoardRuns g.B.BookOf.content g.B.BookOf.innings_a_side c.args.sheet.now c.args.board.now c.loop-number.board
     (g.L.Link.log c.args.link.now) (g.L.Link.log c.loop-number.link)
     (g.W.Write.contents (stream_of c.args.out.now)) (g.W.Write.contents (stream_of c.loop-number.out)) 0 turns
-    untold (g.N.Notices.told c.args.notices.now) (g.N.Notices.told c.loop-number.notices) done) over (finished done c.loop-number.invariant).0
+    untold (g.N.Notices.told c.args.notices.now) (g.N.Notices.told c.loop-number.notices) (g.S.Shows.seen c.args.state.now) (g.S.Shows.seen c.loop-number.state) done) over (finished done c.loop-number.invariant).0

@@ -6,6 +6,6 @@ use Rattle.live.proofs.board_loop.run_board.Given as goal
 abbrev pub invariant-loop-number : goal.invariant-loop-number
 invariant-loop-number g l =
     BoardGoes g.B.BookOf.content g.B.BookOf.innings_a_side l.sheet l.initial.board l.board
-    (at_turn g.B.BookOf.content l.initial.board 0 untold (g.N.Notices.told l.initial.notices))
-    (at_turn g.B.BookOf.content l.board l.number l.between.telling (g.N.Notices.told l.notices))
+    (at_turn g.B.BookOf.content l.initial.board 0 untold (g.N.Notices.told l.initial.notices) (g.S.Shows.seen l.initial.state))
+    (at_turn g.B.BookOf.content l.board l.number l.between.telling (g.N.Notices.told l.notices) (g.S.Shows.seen l.state))
     (g.L.Link.log l.initial.link) (g.L.Link.log l.link) (g.W.Write.contents (stream_of l.initial.out)) (g.W.Write.contents (stream_of l.out))

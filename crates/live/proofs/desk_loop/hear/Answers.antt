@@ -1,11 +1,18 @@
 use Rattle.std.proofs.Common.{Bool, not, ◌&&◌, ◌≡◌, ◌∙◌, ap, sym}
 use Rattle.agree_core.specs.LostLines.{is_before}
 use Rattle.live.specs.LostLines.{end_given, loss_of}
+use Rattle.live.specs.Paces.{Paced, ticking_of}
 use Rattle.live.specs.Texts.{came_text, warned_after}
 use Rattle.live.proofs.DeskLemmas.{hears, hears_last}
 use Rattle.live.proofs.LostLemmas.{ends_so, loses_so}
 use Rattle.live.proofs.TellingLemmas.{goes_further, tells_same}
 use Rattle.live.proofs.desk_loop.hear.Goals as goal
+
+pub returns-in-Err-clause-ticking : goal.returns-in-Err-clause-ticking
+returns-in-Err-clause-ticking g c = ap (λ (p : Paced). p.ticking) c.note.ensures
+
+pub returns-clause-ticking : goal.returns-clause-ticking
+returns-clause-ticking g c = ap (λ (p : Paced). p.ticking) c.note.ensures
 
 pub returns-in-Err-clause-goes : goal.returns-in-Err-clause-goes
 returns-in-Err-clause-goes g c =
@@ -18,7 +25,7 @@ returns-in-Err-clause-goes g c =
     let loses = c.loss_of-loss.ensures ∙ (λ i. loss_of (c.is_another-another.ensures i) (passed i) what)
     ∙ loses_so _ _ _ _ c.args.bytes.now what calls.out read.result c.is_some.result calls.step read.ensures
     (λ asked. c.is_some.ensures ∙ c.receive-received.ensures.replied asked) in
-    λ log typed turns came. hears_last what c.in-Err.end calls came
+    λ log typed times turns came. hears_last {ticking = ticking_of c.args.between.now.pace} what c.in-Err.end c.args.between.now.pace.in_time (returns-in-Err-clause-ticking g c) calls came
     (c.after-between.ensures ∙ ap (λ loss. warned_after c.args.between.now.warned loss what) loses)
     (sym ends ∙ sym c.end_given.ensures ∙ c.in-Err.is)
 
@@ -36,7 +43,7 @@ returns-clause-goes g c =
     ∙ loses_so _ _ _ _ c.args.bytes.now what calls.out read.result c.is_some.result calls.step read.ensures
     (λ asked. c.is_some.ensures ∙ c.receive-received.ensures.replied asked) in
     let further = sym ends ∙ sym c.end_given.ensures ∙ c.in_default.is in
-    λ log typed turns came. hears what calls came
+    λ log typed times turns came. hears {ticking = ticking_of c.args.between.now.pace} what c.args.between.now.pace.in_time (returns-clause-ticking g c) calls came
     (c.after-between.ensures ∙ ap (λ loss. warned_after c.args.between.now.warned loss what) loses)
     (goes_further c.print_came.result c.told.result c.told.ensures ∙ sym further)
     (tells_same c.print_came.result c.told.result _ _ c.told.ensures

@@ -1,26 +1,36 @@
-use Rattle.std.proofs.Common.{sym}
-use Rattle.live.proofs.DeskLemmas.{logged, passed_on, passes, then}
+use Rattle.std.proofs.Common.{ap, refl, sym}
+use Rattle.live.specs.Paces.{ticking_of}
+use Rattle.live.proofs.DeskLemmas.{logged, passed_on, passes, reads_clock, then}
 use Rattle.live.proofs.desk_loop.take_next.Goals as goal
 
 pub returns-in_err-hear-in-Datagram-clause-goes : goal.returns-in_err-hear-in-Datagram-clause-goes
 returns-in_err-hear-in-Datagram-clause-goes g c = λ typed turns.
     let heard = c.in_err-hear-in-Datagram in
+    let said = c.say-wait in
     passed_on c.from_residual.result heard.field-0.0 _ _ c.from_residual.ensures.1
-    (then (c.say.ensures c.args.sheet.now typed c.args.between.now.warned turns _) (heard.ensures.goes _ typed turns c.in-Datagram.ensures.1))
+    (then (said.ensures.goes c.args.sheet.now typed c.args.between.now.warned turns _)
+    (then (reads_clock {ticking = ticking_of said.new.pace} c.millis-now.result said.new.pace.in_time c.millis-now.ensures refl) (heard.ensures.goes _ typed _ turns c.in-Datagram.ensures.1)))
 
 pub returns-in_ok-hear-in-Datagram-clause-goes : goal.returns-in_ok-hear-in-Datagram-clause-goes
 returns-in_ok-hear-in-Datagram-clause-goes g c = λ typed turns.
-    then (c.say.ensures c.args.sheet.now typed c.args.between.now.warned turns _) (c.in_ok-hear-in-Datagram.ensures.goes _ typed turns c.in-Datagram.ensures.1)
+    let said = c.say-wait in
+    then (said.ensures.goes c.args.sheet.now typed c.args.between.now.warned turns _)
+    (then (reads_clock {ticking = ticking_of said.new.pace} c.millis-now.result said.new.pace.in_time c.millis-now.ensures refl)
+    (c.in_ok-hear-in-Datagram.ensures.goes _ typed _ turns c.in-Datagram.ensures.1))
 
 pub returns-in_err-pass_over-in-Unopened-clause-goes : goal.returns-in_err-pass_over-in-Unopened-clause-goes
 returns-in_err-pass_over-in-Unopened-clause-goes g c = λ typed turns.
     let over = c.in_err-pass_over-in-Unopened in
     let residual = c.from_residual-in_err-pass_over-in-Unopened in
+    let said = c.say-wait in
     passed_on residual.result over.field-0.0 _ _ residual.ensures.1
-    (then (c.say.ensures c.args.sheet.now typed c.args.between.now.warned turns _)
-    (logged (sym c.in-Unopened.ensures) (passes over.ensures.warned over.ensures.course over.ensures.text)))
+    (then (said.ensures.goes c.args.sheet.now typed c.args.between.now.warned turns _)
+    (logged (sym c.in-Unopened.ensures)
+    (passes {ticking = ticking_of said.new.pace} said.new.pace.in_time (ap ticking_of over.ensures.pace) over.ensures.warned over.ensures.course over.ensures.text)))
 
 pub returns-in_ok-pass_over-in-Unopened-clause-goes : goal.returns-in_ok-pass_over-in-Unopened-clause-goes
 returns-in_ok-pass_over-in-Unopened-clause-goes g c = λ typed turns.
     let passed = c.in_ok-pass_over-in-Unopened.ensures in
-    then (c.say.ensures c.args.sheet.now typed c.args.between.now.warned turns _) (logged (sym c.in-Unopened.ensures) (passes passed.warned passed.course passed.text))
+    let said = c.say-wait in
+    then (said.ensures.goes c.args.sheet.now typed c.args.between.now.warned turns _)
+    (logged (sym c.in-Unopened.ensures) (passes {ticking = ticking_of said.new.pace} said.new.pace.in_time (ap ticking_of passed.pace) passed.warned passed.course passed.text))

@@ -1,12 +1,15 @@
 use Rattle.streams.specs.Watched.{stream_of}
 use Rattle.live.specs.Desks.{DeskGoes, process_of}
 use Rattle.live.specs.Ends.{further}
+use Rattle.live.specs.Paces.{ticking_of}
 use Rattle.live.specs.Texts.{unwarned}
+use Rattle.live.specs.Ticks.{unticked}
 use Rattle.live.proofs.desk_loop.take_turns.Given as goal
 
 abbrev pub invariant-loop-number : goal.invariant-loop-number
 invariant-loop-number g l =
     DeskGoes l.sheet l.initial.desk l.desk
-    (process_of l.initial.desk unwarned 0 further) (process_of l.desk l.between.warned l.number further)
+    (process_of l.initial.desk unwarned 0 unticked further) (process_of l.desk l.between.warned l.number (ticking_of l.between.pace) further)
     (g.L.Link.log l.initial.link) (g.L.Link.log l.link) (g.K.Keys.inputs l.initial.keys) (g.K.Keys.inputs l.keys)
+    (g.C.Clock.readings l.initial.clock) (g.C.Clock.readings l.clock)
     (g.W.Write.contents (stream_of l.initial.out)) (g.W.Write.contents (stream_of l.out))

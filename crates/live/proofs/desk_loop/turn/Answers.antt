@@ -1,8 +1,10 @@
-use Rattle.std.proofs.Common.{List, Option, ℕ}
+use Rattle.std.proofs.Common.{List, Option, ap, ℕ}
 use Rattle.streams.specs.Watched.{stream_of}
 use Rattle.live.specs.Desks.{DeskGoes, process_of}
 use Rattle.live.specs.Ends.{Course, further}
-use Rattle.live.proofs.DeskLemmas.{turn_done, turn_passed_on}
+use Rattle.live.specs.Paces.{Paced, ticking_of}
+use Rattle.live.proofs.DeskLemmas.{not_flushed, turn_done, turn_passed_on}
+use Rattle.live.proofs.TellingLemmas.{write_failed}
 use Rattle.live.proofs.desk_loop.turn.Goals as goal
 
 pub returns-in_err-act-clause-goes : goal.returns-in_err-act-clause-goes
@@ -12,10 +14,20 @@ returns-in_err-act-clause-goes g c =
     let out = g.W.Write.contents (stream_of old.out.now) in
     λ turns. turn_passed_on c.from_residual.result c.in_err-act.field-0.0 turns
     (λ (after : ℕ) (course : Course) (known : Option (List ℕ) → Option (List ℕ)).
-    DeskGoes old.sheet.now old.desk.now new.desk (process_of old.desk.now old.between.now.warned turns further) (process_of new.desk new.between.warned after course)
+    DeskGoes old.sheet.now old.desk.now new.desk (process_of old.desk.now old.between.now.warned turns (ticking_of old.between.now.pace) further)
+    (process_of new.desk new.between.warned after (ticking_of new.between.pace) course)
     (g.L.Link.log old.link.now) (g.L.Link.log new.link) (g.K.Keys.inputs old.keys.now) (g.K.Keys.inputs new.keys)
+    (g.C.Clock.readings old.clock.now) (g.C.Clock.readings new.clock)
     (known out) (known (g.W.Write.contents (stream_of new.out))))
     c.from_residual.ensures.1 (c.in_err-act.ensures.goes turns)
 
+pub returns-in_err-told-clause-goes : goal.returns-in_err-told-clause-goes
+returns-in_err-told-clause-goes g c =
+    let residual = c.from_residual-in_err-told in
+    let met = c.in_err-told.field-0.0 in
+    λ turns. not_flushed residual.result met _ residual.ensures.1 (write_failed c.flush.result met c.in_err-told.ensures) (c.in_ok-act.ensures.goes turns)
+
 pub returns-clause-goes : goal.returns-clause-goes
-returns-clause-goes g c = λ turns. turn_done c.flush.result c.told.result _ c.told.ensures (c.in_ok-act.ensures.goes turns) c.flush.ensures.bytes
+returns-clause-goes g c = λ turns.
+    turn_done {ticking = ticking_of c.act.new.between.pace} c.in_ok-act.ensures.looked c.act.new.between.pace.in_time (ap (λ (p : Paced). p.ticking) c.end_turn.ensures)
+    (c.in_ok-act.ensures.goes turns) c.flush.ensures.bytes

@@ -1,0 +1,68 @@
+//! The characters of an export's text that stand as JSON's escapes.
+
+ghost use Rattle.std.specs.Prelude.{◌≡◌, ◌<◌, ◌∷◌, [], ◌++◌, string_bytes, IfOk, OnOk};
+ghost use Rattle.std.specs.Char.{digit_char};
+ghost use Rattle.std.specs.Int.{is_in_range};
+ghost use Rattle.export.specs.Escapes as escapes;
+
+use std::alloc::{AllocError, Global};
+
+/// Whether a character's number is one of these.
+fn is_within(low: u32, high: u32, code: u32) -> bool
+    ensures { result ≡ is_in_range low high code }
+{
+    low <= code && code <= high
+}
+
+/// Whether a terminal obeys a character, or it turns or breaks the line in which it is shown.
+fn is_obeyed(letter: char) -> bool
+    ensures { result ≡ escapes.is_obeyed letter }
+{
+    let code = letter as u32;
+    is_within(0x7f, 0x9f, code)
+        || is_within(0x200b, 0x200f, code)
+        || is_within(0x2028, 0x202e, code)
+        || is_within(0x2060, 0x206f, code)
+}
+
+/// Puts a hex digit behind a text.
+fn push_digit(out: &mut String, digit: u32) -> Result<(), AllocError>
+    requires { digit < 16 }
+    ensures { OnOk result (string_bytes out.new ≡ string_bytes out.old ++ digit_char digit ∷ []) }
+{
+    let letter = char::from_digit(digit, 16).unwrap();
+    out.push(letter)
+}
+
+/// Puts the escape of a character behind a text, by its number, which is below 65,536.
+fn push_escape(out: &mut String, code: u32) -> Result<(), AllocError>
+    ensures { OnOk result (string_bytes out.new ≡ string_bytes out.old ++ escapes.escape_of code) }
+{
+    out.push_str("\\u")?;
+    push_digit(out, code / 4096 % 16)?;
+    push_digit(out, code / 256 % 16)?;
+    push_digit(out, code / 16 % 16)?;
+    push_digit(out, code % 16)
+}
+
+/// Puts a character, or its escape, behind a text.
+fn push_shown(out: &mut String, letter: char) -> Result<(), AllocError>
+    ensures { OnOk result (string_bytes out.new ≡ string_bytes out.old ++ escapes.shown_char letter) }
+{
+    if is_obeyed(letter) {
+        push_escape(out, letter as u32)
+    } else {
+        out.push(letter)
+    }
+}
+
+/// A text with its characters that a terminal obeys, or that turn or break a line, escaped.
+pub fn shown(alloc: Global, text: &str) -> Result<String, AllocError>
+    ensures { IfOk result (λ shown. string_bytes shown ≡ escapes.shown text.now) }
+{
+    let mut out = String::new(alloc);
+    for letter in text.chars() {
+        push_shown(&mut out, letter)?;
+    }
+    Ok(out)
+}

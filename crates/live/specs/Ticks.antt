@@ -1,0 +1,46 @@
+-- When a station has to tick, by its clock: in each turn, and at the latest half a second after its last tick.
+use Rattle.std.specs.Prelude.{◌≡◌, ◌<◌, ◌+◌, ℕ, Bool, true, false, Option, Some, None, IfSome, IsSome}
+
+-- what a call is to the clock: a look at it, whether something is due, with what it showed; a tick; the end of a turn; or
+-- anything else
+pub data Beat : Type 0 where
+  Look : ℕ → Beat
+  Tick : Beat
+  TurnEnd : Beat
+  Other : Beat
+
+-- what a station's process saw of its clock: what that showed when it ticked last, if it has ticked, and when it looked
+-- last in this turn, if it has looked
+pub record Ticking : Type 0 where
+  pub ticked : Option ℕ
+  pub looked : Option ℕ
+
+abbrev pub unticked : Ticking
+unticked = record { ticked = None; looked = None }
+
+-- until when a tick is recent: for half a second, in milliseconds of the clock
+abbrev pub recent_until : Option ℕ → ℕ
+recent_until None = 0
+recent_until (Some ticked) = ticked + 500
+
+-- when it looked last in this turn, its last tick was recent, or it has ticked since
+abbrev pub IsInTime : Ticking → Type 0
+IsInTime k = IfSome k.looked (λ now. now < recent_until k.ticked)
+
+-- It ticks at a look. Else it does nothing after a look at which its last tick wasn't recent; and no turn ends without a
+-- look.
+abbrev pub MayBeat : Ticking → Beat → Type 0
+MayBeat k Tick = IsSome k.looked
+MayBeat k TurnEnd = IsSome k.looked × IsInTime k
+MayBeat k beat = IsInTime k
+
+abbrev pub after_beat : Ticking → Beat → Ticking
+after_beat k (Look now) = record k { looked = Some now }
+after_beat k Tick = record k { ticked = k.looked }
+after_beat k TurnEnd = record k { looked = None }
+after_beat k Other = k
+
+-- after a look, and a tick where something was due
+abbrev pub after_look : Bool → Ticking → ℕ → Ticking
+after_look true k now = record { ticked = Some now; looked = Some now }
+after_look false k now = record k { looked = Some now }

@@ -1,0 +1,43 @@
+-- What became of the rows that were written to a screen, and what a stream has taken.
+use Rattle.std.specs.Prelude.{ℕ, Bool, true, false, ◌&&◌, ◌==◌, if◌then◌else◌, List, [], ◌∷◌, ◌++◌, take, drop, codes}
+use Rattle.machine.specs.declared.row_log.{RowLog.RowLog, RowLog.Empty, RowLog.Shown', RowLog.LeftOut', TakenLog.TakenLog}
+use Rattle.machine.specs.declared.row_log.TakenLog as taken
+
+-- no bytes, or whole rows: the last byte ends a row
+abbrev pub ends_row : List ℕ → Bool
+ends_row [] = true
+ends_row (x ∷ []) = x == 10
+ends_row (x ∷ (y ∷ rest)) = ends_row (y ∷ rest)
+
+-- all of them, shown or left out
+abbrev pub written_in : RowLog → List ℕ
+written_in Empty = []
+written_in (Shown' marker before bytes count) = written_in before ++ take count.value bytes.value.items
+written_in (LeftOut' marker before bytes count) = written_in before ++ take count.value bytes.value.items
+
+-- the last ones are left out
+abbrev pub lacks_last : RowLog → Bool
+lacks_last (LeftOut' marker before bytes count) = true
+lacks_last rows = false
+
+-- the row that stands in place of rows that are left out
+abbrev pub points : List ℕ
+points = codes "..\n"
+
+-- those that are shown, and one row in place of those that are left out one after another
+abbrev pub shown_in : RowLog → List ℕ
+shown_in Empty = []
+shown_in (Shown' marker before bytes count) = shown_in before ++ take count.value bytes.value.items
+shown_in (LeftOut' marker before bytes count) =
+    if lacks_last before then shown_in before else shown_in before ++ points
+
+-- what is shown or left out at once are whole rows
+abbrev pub are_whole : RowLog → Bool
+are_whole Empty = true
+are_whole (Shown' marker before bytes count) = are_whole before && ends_row (take count.value bytes.value.items)
+are_whole (LeftOut' marker before bytes count) = are_whole before && ends_row (take count.value bytes.value.items)
+
+-- what a stream has taken
+abbrev pub bytes_in : TakenLog → List ℕ
+bytes_in taken.Empty = []
+bytes_in (taken.More' marker before bytes from count) = bytes_in before ++ take count.value (drop from.value bytes.value.items)

@@ -1,0 +1,242 @@
+//! A screen that keeps nobody waiting.
+
+ghost use Rattle.std.specs.Prelude.{◌≡◌, ◌++◌, ◌-◌, ◌≤◌, if◌then◌else◌, IfOk, Some, [], true, drop, length, take, vec_len};
+ghost use Rattle.machine.specs.Rows.{are_whole, ends_row, lacks_last, shown_in};
+
+use crate::outlet::Outlet;
+use crate::row_log::RowLog;
+use std::alloc::{AllocError, Global};
+use std::io::{self, Write};
+
+/// The most bytes that wait, and the most of rows whose writing has begun.
+const ROOM: usize = 32_768;
+
+/// The row that stands in place of rows that are left out.
+const POINTS: [u8; 3] = [b'.', b'.', b'\n'];
+
+/// How long is waited for a piece to be taken, in milliseconds.
+const WAIT: u64 = 1;
+
+/// How often a screen that takes bytes may let that pass, before it is left alone.
+const PATIENCE: u8 = 50;
+
+/// The most pieces that are handed on at once.
+const MOST_PIECES: u32 = 400;
+
+/// The length of the whole rows at the front of these bytes.
+fn rows_len(bytes: &[u8]) -> usize
+    ensures bound { result ≤ length bytes.now }
+    ensures rows { ends_row (take result bytes.now) ≡ true }
+{
+    let mut len = bytes.len();
+    while len > 0 {
+        if bytes[len - 1] == b'\n' {
+            return len;
+        }
+        len -= 1;
+    }
+    0
+}
+
+/// Takes so many bytes off the front.
+fn drop_front(held: &mut Vec<u8>, count: usize)
+    requires { count ≤ vec_len held.old }
+    ensures items { held.new.items ≡ drop count held.old.items }
+    ensures len { vec_len held.new ≡ vec_len held.old - count }
+{
+    held.drain(..count);
+}
+
+/// A writer to a screen that may not be read for long, as a terminal after Ctrl-S or a full pipe. No write and no flush waits
+/// longer than a moment. Rows are handed on as far as they are taken, and the others wait. Where too many wait, the older
+/// half is left out, by whole rows, and a row of two points stands in their place.
+#[derive(Drop)]
+pub struct Screen<O: Outlet> {
+    outlet: O,
+    /// Rows whose writing has begun.
+    begun: Vec<u8>,
+    /// How many bytes of them are taken.
+    done: usize,
+    /// What was written since.
+    waits: Vec<u8>,
+    /// Whether the rows before these are left out.
+    lacks: bool,
+    /// Whether it wasn't left alone when it was last handed something.
+    takes: bool,
+    log: RowLog,
+    ghost within: { done ≤ vec_len begun },
+    ghost shown: { O.taken outlet ++ drop done begun.items ≡ shown_in log },
+    ghost lacking: { lacks ≡ lacks_last log },
+    ghost whole: { are_whole log ≡ true },
+    ghost few_begun: { vec_len begun ≤ (if lacks then 32771 else 32768) },
+    ghost few_wait: { vec_len waits ≤ 32768 },
+}
+
+impl<O: Outlet> Screen<O> {
+    ghost use Rattle.machine.specs.Screens.{shown_of, written_of};
+
+    /// A screen over a stream that has taken nothing yet.
+    pub fn new(alloc: Global, outlet: O) -> Result<Screen<O>, AllocError>
+    where
+        O: Drop,
+        requires { O.taken outlet ≡ [] }
+        ensures { IfOk result (λ screen. written_of screen ≡ []) }
+    {
+        let begun = Vec::with_capacity(alloc, ROOM + POINTS.len())?;
+        let waits = Vec::with_capacity(alloc, ROOM)?;
+        Ok(Screen {
+            outlet,
+            begun,
+            done: 0,
+            waits,
+            lacks: false,
+            takes: true,
+            log: RowLog::Empty,
+        })
+    }
+
+    /// Hands on a piece of what has begun, and tells how many bytes were taken within so many milliseconds.
+    fn hand_piece(&mut self, wait: u64) -> io::Result<usize>
+        ensures { written_of self.new ≡ written_of self.old }
+    {
+        let count = self.outlet.hand(&self.begun, self.done, wait)?;
+        self.done += count;
+        Ok(count)
+    }
+
+    /// Hands on a piece of what has begun, and tells whether to go on. Where nothing is taken it is waited for, as long as
+    /// there is patience.
+    fn hand_patiently(&mut self, patience: &mut u8) -> io::Result<bool>
+        ensures { written_of self.new ≡ written_of self.old }
+    {
+        let wait = if *patience > 0 { WAIT } else { 0 };
+        if self.hand_piece(wait)? > 0 {
+            if !self.takes {
+                self.takes = true;
+                *patience = PATIENCE;
+            }
+            return Ok(true);
+        }
+        if *patience == 0 {
+            self.takes = false;
+            return Ok(false);
+        }
+        *patience -= 1;
+        Ok(true)
+    }
+
+    /// Hands on what has begun, as far as it is taken.
+    fn hand_on(&mut self) -> io::Result<()>
+        ensures { written_of self.new ≡ written_of self.old }
+    {
+        let mut patience = if self.takes { PATIENCE } else { 0 };
+        for _ in 0..MOST_PIECES {
+            if self.done == self.begun.len() {
+                break;
+            }
+            if !self.hand_patiently(&mut patience)? {
+                break;
+            }
+        }
+        Ok(())
+    }
+
+    /// Begins the writing of the rows that wait, where all that had begun is taken.
+    fn begin(&mut self) -> io::Result<()>
+        ensures { written_of self.new ≡ written_of self.old }
+    {
+        let count = rows_len(self.waits.as_slice());
+        if count == 0 || self.done < self.begun.len() {
+            return Ok(());
+        }
+        self.begun.clear();
+        self.done = 0;
+        self.begun.extend_from_slice(&self.waits[..count])?;
+        self.log = self.log.shown(&self.waits, count);
+        self.lacks = false;
+        drop_front(&mut self.waits, count);
+        Ok(())
+    }
+
+    /// Hands on what is taken now.
+    fn put(&mut self) -> io::Result<()>
+        ensures { written_of self.new ≡ written_of self.old }
+    {
+        self.hand_on()?;
+        self.begin()?;
+        self.hand_on()
+    }
+
+    /// Leaves out the older half of what waits, by whole rows.
+    fn leave_out(&mut self) -> io::Result<()>
+        ensures { written_of self.new ≡ written_of self.old }
+    {
+        let half = self.waits.len() / 2;
+        let count = rows_len(&self.waits[..half]);
+        if count == 0 {
+            return Ok(());
+        }
+        if !self.lacks {
+            self.begun.extend_from_slice(&POINTS)?;
+        }
+        self.log = self.log.left_out(&self.waits, count);
+        self.lacks = true;
+        drop_front(&mut self.waits, count);
+        Ok(())
+    }
+
+    /// Makes room where none is left.
+    fn make_room(&mut self) -> io::Result<()>
+        ensures { written_of self.new ≡ written_of self.old }
+    {
+        if self.waits.len() == ROOM {
+            self.put()?;
+        }
+        if self.waits.len() == ROOM {
+            self.leave_out()?;
+        }
+        Ok(())
+    }
+
+    /// Hands on all that was written, and waits for the screen as any program does that ends.
+    pub fn end(self) -> io::Result<O>
+    where
+        O: Drop,
+        ensures { IfOk result (λ outlet. O.taken outlet ≡ shown_of self) }
+    {
+        let Screen {
+            outlet,
+            begun,
+            done,
+            waits,
+            ..
+        } = self;
+        let mut outlet = outlet;
+        outlet.hand_all(&begun, done)?;
+        outlet.hand_all(&waits, 0)?;
+        Ok(outlet)
+    }
+}
+
+impl<O: Outlet> Write for Screen<O> {
+    ghost use Rattle.std.specs.Io.KnownBytes.{Keeps};
+    ghost use Rattle.machine.specs.Screens.{IsHeld, written_of};
+
+    ghost contents = { λ screen. Some (written_of screen) };
+
+    /// Takes what there is room for.
+    fn write(&mut self, bytes: &[u8]) -> io::Result<usize> {
+        self.make_room()?;
+        let count = bytes.len().min(ROOM - self.waits.len());
+        self.waits.extend_from_slice(&bytes[..count])?;
+        Ok(count)
+    }
+
+    /// Hands on what is taken now. What isn't waits until the next flush.
+    fn flush(&mut self) -> io::Result<()>
+        ensures bytes { Keeps (Some (written_of self.old)) (Some (written_of self.new)) }
+        ensures held { IsHeld O.taken self.new }
+    {
+        self.put()
+    }
+}

@@ -1,0 +1,73 @@
+-- What the public sees is of books that both scorers wrote.
+use Rattle.std.proofs.Common.{◌≡◌, ◌≤◌, ◌⊎◌, ℕ, Some, List, [], ◌∷◌, refl, inl, inr}
+use Rattle.std.specs.Prelude.{All}
+use Rattle.std.proofs.lemmas.List.Elements.{All-cons, All-nil}
+use Rattle.notation.specs.declared.entry.Entry.{Entry}
+use Rattle.corrections.specs.CleanList.{history_of}
+use Rattle.cards.specs.Sheet.{Sheet}
+use Rattle.cards.specs.Board.{board as board_text}
+use Rattle.agree_core.specs.declared.messages.DeskId.{DeskId}
+use Rattle.agree_core.specs.Boards.{BoardState}
+use Rattle.agree_core.specs.FileView.{FileView}
+use Rattle.headline.specs.declared.{event.Station.Station, version.FileVersion.FileVersion}
+use Rattle.headline.specs.Configurations.{Configuration, board_at}
+use Rattle.headline.specs.Headline.{AllHaveScores, ByBoth}
+use Rattle.headline.proofs.Heeding.{board_put}
+use Rattle.live.specs.Boards as boards
+use Rattle.live.specs.Boards.{BoardCall}
+use Rattle.live.specs.Sights.{Sight, sight_of}
+use Rattle.processes.specs.Happenings.{BoardCalled, BoardGreeted, Flow, Happening, Happens, after, after_one}
+use Rattle.processes.specs.Headline.{AtEachTime}
+use Rattle.processes.specs.Printing.{Hands, HandsBook, Prints}
+use Rattle.processes.specs.PublicScores.{IsOfBoth, IsSightOfBoth, PrintsOfBoth, ShowsAgreed, ShowsOfBoth}
+use Rattle.processes.specs.SecondVotes.{AtEachHappening}
+
+pub now_so : {Disk : Type 0} (P : Configuration Disk → Type 0) (w : Configuration Disk) (hs : List (Happening Disk)) → AtEachTime w hs P → P (after w hs)
+now_so P w [] h = h
+now_so P w (x ∷ hs) h = h.0
+
+module _ {Disk : Type 0} (innings : ℕ) (v : Configuration Disk) where
+  -- in a match of one or two innings a side each book that is shown has a score
+  abbrev pub HasScores : Type 0
+  HasScores = 1 ≤ innings → innings ≤ 2 → AllHaveScores innings v
+
+  board_of_both : (n : ℕ) (k : BoardState) → board_at v.boards n ≡ Some k → ByBoth v → HasScores → IsOfBoth innings v k.book
+  board_of_both n k at both scores = record {
+    by_both = λ place e is. both (Station.Board n) k.book place e (k, at, refl) is;
+    scored = λ one two. scores one two (Station.Board n) k.book (k, at, refl);
+  }
+
+  module _ (s : Sheet) (book : List Entry) (by : IsOfBoth innings v book) where
+    prints_it : (text : List ℕ) → (text ≡ board_text s innings (history_of book)) ⊎ (text ≡ []) → PrintsOfBoth innings v s text
+    prints_it text (inl is) = inr (book, by, is)
+    prints_it text (inr none) = inl none
+
+    hands_it : (seen : List Sight) → HandsBook s innings book seen → All (IsSightOfBoth innings v s) seen
+    hands_it seen (inl is) =
+        rw is (All-cons (IsSightOfBoth innings v s) (sight_of s innings book) [] (refl, refl, by) (All-nil (IsSightOfBoth innings v s)))
+    hands_it seen (inr none) = rw none (All-nil (IsSightOfBoth innings v s))
+
+  called : (s : Sheet) (call : BoardCall) (l : BoardState) (text : List ℕ) (seen : List Sight) → Prints s innings call l text → Hands s innings call l seen
+      → IsOfBoth innings v l.book → ShowsOfBoth innings v s text seen
+  called s boards.TurnEnded l text seen p h by = (prints_it s l.book by text p, hands_it s l.book by seen h)
+  called s _ l text seen p h by = (inl p, rw h (All-nil (IsSightOfBoth innings v s)))
+
+module _ {Disk : Type 0} (view : DeskId → FileVersion → FileView Disk) (game innings : ℕ) where
+  shows : (v : Configuration Disk) (what : Happening Disk) → Happens view game innings v what → ByBoth v → HasScores innings v
+      → ByBoth (after_one v what) → HasScores innings (after_one v what) → ShowsAgreed innings v what
+  shows v (BoardGreeted n s text seen) h both scores later then =
+      let by = board_of_both innings v n h.0 h.1 both scores in
+      (prints_it innings v s _ by text (inl h.2.0), hands_it innings v s _ by seen h.2.1)
+  shows v (BoardCalled n s call out l text seen) h both scores later then =
+      let new = after_one v (BoardCalled n s call out l text seen) in
+      called innings new s call l text seen h.4 h.5 (board_of_both innings new n l (board_put v.boards n h.0 l h.1) later then)
+  shows v _ h both scores later then = tt
+
+  pub each_shows : (w : Configuration Disk) (hs : List (Happening Disk)) → Flow view game innings w hs → AtEachTime w hs ByBoth
+      → (1 ≤ innings → innings ≤ 2 → AtEachTime w hs (AllHaveScores innings)) → AtEachHappening w hs (ShowsAgreed innings)
+  each_shows w [] f both scores = tt
+  each_shows w (h ∷ hs) f both scores = (
+    each_shows w hs f.0 both.1 (λ one two. (scores one two).1),
+    shows (after w hs) h f.1 (now_so ByBoth w hs both.1) (λ one two. now_so (AllHaveScores innings) w hs (scores one two).1)
+        both.0 (λ one two. (scores one two).0),
+  )

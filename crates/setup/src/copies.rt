@@ -1,0 +1,103 @@
+//! A desk's votes in two files, which begin as one and are written as one.
+
+ghost use Rattle.std.specs.Prelude.{◌≡◌, IfOk};
+ghost use Rattle.machine.specs.Pairs.{file_of};
+ghost use Rattle.setup.specs.Counting.{counting_bytes};
+
+use crate::counting::{Counting, place_of};
+use crate::fault::{StopFault, Stopped, printable};
+use crate::votes_file::renewed_disk;
+use machine::{LastFault, NamedFile, Pair};
+use std::io::{self, Write};
+
+/// A disk on two files that votes are written to.
+pub type CopiedDisk<'a> = Pair<NamedFile<'a>, NamedFile<'a>>;
+
+/// A desk's votes file or its copy: its path, the file, its bytes, and where it leaves why a call failed.
+#[derive(Drop)]
+pub struct Kept<'r, 'a> {
+    pub path: &'a str,
+    pub file: NamedFile<'r>,
+    pub bytes: Vec<u8>,
+    pub last: &'r LastFault,
+}
+
+/// Writes a number of votes.
+fn tell_votes<W: Write>(errors: &mut W, what: &str, lacking: usize) -> io::Result<()> {
+    let ending = if lacking == 1 { "" } else { "s" };
+    writeln!(errors, "{what} was behind by {lacking} vote{ending}")
+}
+
+/// Tells of two files what their scorer doesn't expect: that one lacks votes, or is made from the other; that neither has
+/// all that the other has; and that one disk has both.
+pub fn tell_copies<W: Write>(
+    errors: &mut W,
+    first: &Kept<'_, '_>,
+    second: &Kept<'_, '_>,
+    counting: Counting,
+) -> io::Result<()> {
+    if first.file.is_on_disk_of(&second.file) {
+        writeln!(errors, "the copy is on the same disk as the file")?;
+    }
+    let (file, copy) = (printable(first.path), printable(second.path));
+    match counting {
+        Counting::First { lacking: 0 } => Ok(()),
+        Counting::First { .. } if second.bytes.is_empty() => {
+            writeln!(errors, "the copy is new: it gets all votes of the file")
+        }
+        Counting::First { lacking } => tell_votes(errors, "the copy", lacking),
+        Counting::Second { .. } if first.bytes.is_empty() => {
+            writeln!(errors, "the file is new: it gets all votes of the copy")
+        }
+        Counting::Second { lacking } => tell_votes(errors, "the file", lacking),
+        Counting::Neither { .. } => {
+            writeln!(
+                errors,
+                "neither {file} nor {copy} has all votes of the other"
+            )
+        }
+    }
+}
+
+/// A disk on both files, which are written anew with the bytes that count, the one that has them first. Where neither file
+/// counts, both stay as they were.
+pub fn paired_disk<'r, 'a>(
+    rt: &HostRuntime,
+    first: Kept<'r, 'a>,
+    second: Kept<'r, 'a>,
+    counting: Counting,
+) -> Result<CopiedDisk<'r>, Stopped<'a>>
+    ensures held { IfOk result (λ pair. file_of pair ≡ counting_bytes counting first.entry.bytes.items second.entry.bytes.items) }
+{
+    let Kept {
+        path,
+        file,
+        bytes,
+        last,
+    } = first;
+    let Kept {
+        path: copys_path,
+        file: copy,
+        bytes: copied,
+        last: copys_last,
+    } = second;
+    let (bytes, copied) = (bytes.as_slice(), copied.as_slice());
+    match counting {
+        Counting::First { .. } => {
+            let one = renewed_disk(rt, path, file, bytes, last)?;
+            let other = renewed_disk(rt, copys_path, copy, bytes, copys_last)?;
+            Ok(Pair::new(one, other))
+        }
+        Counting::Second { .. } => {
+            let other = renewed_disk(rt, copys_path, copy, copied, copys_last)?;
+            let one = renewed_disk(rt, path, file, copied, last)?;
+            Ok(Pair::new(one, other))
+        }
+        Counting::Neither { same } => Err(Stopped::at(
+            path,
+            StopFault::FilesDiffer {
+                place: place_of(bytes, copied, same),
+            },
+        )),
+    }
+}
