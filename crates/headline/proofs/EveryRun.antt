@@ -1,6 +1,7 @@
 -- What holds in a run: the headline, and the rest.
 use Rattle.std.proofs.Common.{ℕ, List}
 use Rattle.agree_core.proofs.FileBooks.{agreed_by_files}
+use Rattle.agree_core.specs.Ballots.{AllJustified}
 use Rattle.headline.specs.declared.version.FileVersion.{FileVersion}
 use Rattle.headline.specs.Setting.{Setting}
 use Rattle.headline.specs.Configurations.{Configuration, all_votes}
@@ -38,6 +39,7 @@ module _ {Disk Why : Type 0} (s : Setting Disk Why) (innings : ℕ) (rules : Rul
         headline = headline version n w ms e r;
         within_agreed = within_agreed s w ms f r;
         by_files = λ xs h. agreed_by_files (all_votes (last_of w ms)) (all_justified s (last_of w ms) (run_keeps s w ms f r)) xs h;
+        justified = each_moment s w ms (λ v. AllJustified (all_votes v)) (all_justified s) f r;
         noted = after_each s w ms (KeepsNoted s w) (λ ns q. keeps_noted s version n w ns e q) r;
         votes_kept = votes_kept s w ms f r;
         stands_fast = each_moment s w ms (StandsFast s) (stands_fast s) f r;

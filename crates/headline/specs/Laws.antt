@@ -5,6 +5,7 @@ use Rattle.corrections.specs.declared.refusal.Refusal.{Refusal}
 use Rattle.entry_log.specs.Disk.{Images}
 use Rattle.entry_log.specs.Slots.{FileContents}
 use Rattle.agree_core.specs.Agreed.{IsAgreedList}
+use Rattle.agree_core.specs.Ballots.{AllJustified}
 use Rattle.agree_core.specs.Books.{IsAgreedByFiles}
 use Rattle.headline.specs.declared.version.FileVersion.{FileVersion}
 use Rattle.headline.specs.Configurations.{Configuration, all_votes}
@@ -29,6 +30,8 @@ pub record HoldsInRun
   -- besides, all books are prefixes of the agreed list of the last votes, and both files show that list
   pub within_agreed : WithinAgreed w ms
   pub by_files : FilesShowAgreed w ms
+  -- at each moment each vote of a desk follows the one before it, by what the other desk voted there
+  pub justified : AtEachMoment w ms (λ v. AllJustified (all_votes v))
   -- seats and readers keep just the votes that are noted
   pub noted : AfterEach ms (KeepsNoted s w)
   -- no vote is lost; how the votes stand and are kept at each moment; and which answers never come

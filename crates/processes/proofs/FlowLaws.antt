@@ -21,12 +21,13 @@ use Rattle.headline.specs.Kept.{NoneKeepsBoth}
 use Rattle.headline.specs.Setting.{Setting}
 use Rattle.corrections.specs.declared.refusal.Refusal.{Refusal}
 use Rattle.live.specs.Saying.{SaysEntry}
+use Rattle.progress.specs.Progress.{AllAreEntries}
 use Rattle.processes.specs.Happenings.{Happening, after}
 use Rattle.processes.specs.Headline.{AtEachTime, TypesBallot, WasTyped}
 use Rattle.processes.specs.Laws.{FlowsAreRuns, FlowsHaveHeadline, IsFlow}
 use Rattle.processes.proofs.FlowSteps.{IsCalm}
 use Rattle.processes.proofs.Flowing.{at_each, at_some, flow_runs}
-use Rattle.processes.proofs.LostLines.{each_lacks_none}
+use Rattle.processes.proofs.LostLines.{each_lacks_none, each_shows_none}
 use Rattle.processes.proofs.Printing.{each_prints}
 use Rattle.processes.proofs.PublicScores.{each_shows}
 use Rattle.processes.proofs.SecondVotes.{each_takes_second}
@@ -72,6 +73,19 @@ module _ {Disk : Type 0} (seen : Disk → List ℕ) (images : Disk → Images) w
     each_scored [] f = now_scored [] f
     each_scored (c ∷ cs) f = (now_scored (c ∷ cs) f, each_scored cs (f.0, f.1.0))
 
+  module _ (contents : FileVersion → FileContents) (game innings : ℕ) (version : FileVersion) (boards : ℕ) (w : Configuration Disk) where
+    -- each vote was typed, and so it is for an entry that can be written
+    now_typed : (hs : List (Happening Disk)) → IsFlow seen images contents game innings version boards w hs → (d : DeskId) (b : Ballot)
+        → In b (votes_by (all_votes (after w hs)) d) → WasTyped w hs d b
+    now_typed hs f d b i =
+        let s = setting_of contents seen images game innings in
+        let p = flow_runs s game innings refl w (begins_calm s version boards w f.0) hs f.1 in
+        let h = (holds_in_run s innings (λ book e none. none) (λ book score stands. stands) version boards w p.0 f.0 p.1).headline in
+        p.4 d b (now_penned w p.0 h.by_both.1 d b (subst (λ (v : Configuration Disk). In b (votes_by (all_votes v) d)) (sym p.3) i))
+
+    now_entries : (hs : List (Happening Disk)) → IsFlow seen images contents game innings version boards w hs → AllAreEntries (all_votes (after w hs))
+    now_entries hs f d b i = typed_entry w hs d b (now_typed hs f d b i)
+
   pub flows_have_headline : FlowsHaveHeadline seen images
   flows_have_headline contents game innings version boards w hs f =
       let s = setting_of contents seen images game innings in
@@ -80,7 +94,7 @@ module _ {Disk : Type 0} (seen : Disk → List ℕ) (images : Disk → Images) w
       record {
         prefixes = λ t u xs ys x y. h.prefixes t u xs ys (at_some (λ v. Shows v t xs) w hs p.0 p.2 x) (at_some (λ v. Shows v u ys) w hs p.0 p.2 y);
         by_both = at_each ByBoth w hs p.0 p.2 h.by_both.0;
-        typed = λ d b i. p.4 d b (now_penned w p.0 h.by_both.1 d b (subst (λ (v : Configuration Disk). In b (votes_by (all_votes v) d)) (sym p.3) i));
+        typed = now_typed contents game innings version boards w hs f;
         scored = λ one two. each_scored contents game innings version boards w one two hs f;
         scores = λ t u n score other x y. h.scores t u n score other (at_some (λ v. ShowsScore innings v t n score) w hs p.0 p.2 x) (at_some (λ v. ShowsScore innings v u n other) w hs p.0 p.2 y);
         prints = each_prints s.view game innings w hs f.1;
@@ -88,4 +102,6 @@ module _ {Disk : Type 0} (seen : Disk → List ℕ) (images : Disk → Images) w
         takes_second = each_takes_second s game innings refl version boards w f.0 (begins_calm s version boards w f.0) hs f.1;
         none_waits = at_each NoneKeepsBoth w hs p.0 p.2 (each_moment s w p.0 NoneKeepsBoth (none_keeps_both s) (begins_fine s version boards w f.0) p.1);
         lacks_no_lines = each_lacks_none s game innings refl version boards w f.0 (begins_calm s version boards w f.0) hs f.1;
+        shows_no_loss = each_shows_none s game innings refl version boards w f.0 (begins_calm s version boards w f.0)
+        (λ gs flow. now_entries contents game innings version boards w gs (f.0, flow)) hs f.1;
       }

@@ -15,7 +15,7 @@ use Rattle.headline.specs.Kept.{NoneKeepsBoth}
 use Rattle.live.specs.Desks as desks
 use Rattle.live.specs.Saying.{SaysEntry}
 use Rattle.processes.specs.Happenings.{BoardCalled, BoardGreeted, DeskCalled, DeskGreeted, Happening, after}
-use Rattle.processes.specs.LostLines.{LacksNoLines}
+use Rattle.processes.specs.LostLines.{LacksNoLines, ShowsNoLoss}
 use Rattle.processes.specs.Printing.{Greets, Hands, Prints, Tells, greeting_of}
 use Rattle.processes.specs.PublicScores.{ShowsAgreed}
 use Rattle.processes.specs.SecondVotes.{AtEachHappening, TakesSecond}
@@ -84,3 +84,5 @@ pub record ProcessHeadline {Disk : Type 0} (game innings : ℕ) (w : Configurati
   pub none_waits : AtEachTime w hs NoneKeepsBoth
   -- no desk's process ends as one whose file lacks lines
   pub lacks_no_lines : AtEachHappening w hs LacksNoLines
+  -- and by no message that a station handed out is it shown that the other's file lacks some
+  pub shows_no_loss : AtEachHappening w hs (ShowsNoLoss game)

@@ -1,11 +1,12 @@
 -- What goes on, at each configuration that a run comes to.
-use Rattle.std.proofs.Common.{◌≡◌, ◌⊎◌, ℕ, Bool, true, false, List, ap, subst, inl, inr, arith}
+use Rattle.std.proofs.Common.{◌≡◌, ◌⊎◌, ℕ, Bool, true, false, List, ap, subst, sym, inl, inr, arith}
 use Rattle.std.specs.Prelude.{◌&&◌, ◌||◌, is_some, not}
 use Rattle.std.proofs.lemmas.Bool.Decides.{nat_tests}
+use Rattle.notation.specs.Code.{code}
 use Rattle.agree_core.specs.declared.{messages.DeskId.DeskId, position.Position.Position}
 use Rattle.agree_core.specs.Ballots.{Ballot, In, Justified, ballot_of, votes_by}
-use Rattle.agree_core.specs.LostLines.{is_before, is_in_reach, is_next}
-use Rattle.agree_core.specs.Positions.{next_place, next_round}
+use Rattle.agree_core.specs.LostLines.{is_another, is_before, is_in_reach, is_next}
+use Rattle.agree_core.specs.Positions.{next_place, next_round, position_of}
 use Rattle.agree_core.specs.Seats.{SeatState}
 use Rattle.agree_core.specs.Keeping.{MessageFine}
 use Rattle.agree_core.specs.Readers.{other}
@@ -17,7 +18,8 @@ use Rattle.headline.proofs.BoardKeeping.{item_at}
 use Rattle.headline.proofs.Keeping.{Fine, all_justified, begins_fine, run_keeps}
 use Rattle.progress.specs.Calm.{NotBack}
 use Rattle.progress.specs.InStep.{IsBehind}
-use Rattle.progress.specs.Progress.{AllInReach, HoldsAt, NoVoteFromAhead}
+use Rattle.progress.specs.Progress.{AllInReach, HoldsAt, NoneIsAnother, NoVoteFromAhead}
+use Rattle.progress.proofs.Another.{not_another}
 use Rattle.progress.proofs.Asks.{none_passed_over}
 use Rattle.progress.proofs.CaughtUp.{boards_follow}
 use Rattle.progress.proofs.Failed.{stays_failed}
@@ -59,6 +61,17 @@ module _ {Disk Why : Type 0} (s : Setting Disk Why) where
   all_in_reach : (w : Configuration Disk) → Fine s w → AllInReach w
   all_in_reach w f d k n v runs get by = reached k.seat (votes_by (all_votes w) (other d)) _ (none_from_ahead w f d k n v runs get by)
 
+  none_is_another : (w : Configuration Disk) → Fine s w → NoneIsAnother w
+  none_is_another w f entries d k n v runs get by less =
+      let all = all_votes w in
+      let there : In (ballot_of v) (votes_by all (other d)) =
+      subst (λ (c : DeskId). In (ballot_of v) (votes_by all c)) by (item_at (MessageFine all) w.sent n _ get f.on_sent) in
+      let theirs : Justified (votes_by all d) (votes_by all (other d)) = justified_at s all (all_justified s w f) d in
+      let g = fine_seat s w f d k runs in
+      subst (λ (own : List Ballot). is_another k.seat own (position_of v) (code v.entry) ≡ false) (sym g.1)
+      (not_another k.seat (ballot_of v) less d (votes_by all (other d)) (votes_by all d) k.book g.0 theirs there
+      (entries (other d) (ballot_of v) there) (entries d))
+
   pub holds_at : (version : FileVersion) (boards : ℕ) (w : Configuration Disk) (ms : List (Moment Disk Why)) → Begins s version boards w → Run s w ms
       → HoldsAt s (last_of w ms)
   holds_at version boards w ms begins run =
@@ -77,6 +90,7 @@ module _ {Disk Why : Type 0} (s : Setting Disk Why) where
         near = near s now fine;
         none_ahead = none_from_ahead now fine;
         in_reach = all_in_reach now fine;
+        none_another = none_is_another now fine;
         none_passed = none_passed_over s version boards w ms begins run;
         stays_up = stays_up s now fine;
         stays_failed = stays_failed s now;

@@ -1,13 +1,15 @@
 -- What goes on in a match, at each configuration `w` that a run comes to, whatever that had of kills, power losses and faults.
 use Rattle.std.specs.Prelude.{◌≡◌, ◌≢◌, ◌<◌, ◌↔◌, ◌⊎◌, ℕ, false, true, Some, None, List, ◌∷◌, ◌++◌, length, slice_get}
 use Rattle.notation.specs.declared.entry.Entry.{Entry}
+use Rattle.notation.specs.Code.{code}
+use Rattle.notation.specs.Written.{IsEntry}
 use Rattle.agree_core.specs.declared.{messages.Ask.Ask, messages.DeskId.DeskId, messages.Message.Message, messages.Vote.Vote, position.Position.Position, seat.Settled.Settled}
 use Rattle.agree_core.specs.declared.messages.DeskId.TheVariants.{A, B}
 use Rattle.agree_core.specs.Agreed.{EqualVotes, IsAgreedList}
-use Rattle.agree_core.specs.Ballots.{AllVotes, In, votes_by}
+use Rattle.agree_core.specs.Ballots.{AllVotes, Ballot, In, votes_by}
 use Rattle.agree_core.specs.Boards.{BoardState}
 use Rattle.agree_core.specs.Desks.{DeskState, MayPen}
-use Rattle.agree_core.specs.LostLines.{is_in_reach, is_passed_over}
+use Rattle.agree_core.specs.LostLines.{is_another, is_in_reach, is_passed_over}
 use Rattle.agree_core.specs.Positions.{Before, position_of}
 use Rattle.agree_core.specs.Readers.{other}
 use Rattle.headline.specs.declared.{event.Event.Event, event.Station.Station}
@@ -46,6 +48,18 @@ abbrev pub NonePassedOver : {Disk : Type 0} → Configuration Disk → Type 0
 NonePassedOver w =
     (d : DeskId) (k : DeskState _) (n : ℕ) (q : Ask) → (node w d).process ≡ Running k → slice_get w.sent n ≡ Some (Message.Ask q)
     → is_passed_over k.seat k.votes (record { place = q.place; round = q.round }) ≡ false
+
+-- each vote is for an entry that can be written
+abbrev pub AllAreEntries : AllVotes → Type 0
+AllAreEntries v = (d : DeskId) (b : Ballot) → In b (votes_by v d) → IsEntry b.entry
+
+-- where that is so, no vote of the other desk that was ever handed out, for a position that a desk has left, is another one
+-- than that by which it left it. So none of these shows that the other desk's file lacks lines
+abbrev pub NoneIsAnother : {Disk : Type 0} → Configuration Disk → Type 0
+NoneIsAnother w =
+    AllAreEntries (all_votes w) → (d : DeskId) (k : DeskState _) (n : ℕ) (v : Vote) → (node w d).process ≡ Running k
+    → slice_get w.sent n ≡ Some (Message.Vote v) → v.desk ≡ other d → Before (position_of v) k.seat.position
+    → is_another k.seat k.votes (position_of v) (code v.entry) ≡ false
 
 -- what has become of a position at which the desks were in step with this book. They are in step there still; or both voted
 -- for one entry there, and are in step with that next in their book; or for two, and are in step at a later position
@@ -171,5 +185,6 @@ pub record HoldsAt {Disk Why : Type 0} (s : Setting Disk Why) (w : Configuration
   pub none_ahead : NoVoteFromAhead w
   pub in_reach : AllInReach w
   pub none_passed : NonePassedOver w
+  pub none_another : NoneIsAnother w
   pub stays_up : StaysUp s w
   pub stays_failed : StaysFailed s w

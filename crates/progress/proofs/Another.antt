@@ -1,0 +1,112 @@
+-- No vote of the other desk is another one than that by which a desk went on.
+use Rattle.std.proofs.Common.{◌≡◌, ◌≢◌, ◌⊎◌, ◌<◌, ◌+◌, ℕ, Bool, true, false, List, [], ◌∷◌, refl, sym, ap, ◌∙◌, subst, inl, inr, arith}
+use Rattle.std.specs.Prelude.{if◌then◌else◌}
+use Rattle.std.specs.Str.{bytes_eq}
+use Rattle.std.proofs.lemmas.Bool.Decides.{nat_tests}
+use Rattle.std.proofs.lemmas.Slice.Eq.{bytes_eq-Decides}
+use Rattle.notation.specs.declared.entry.Entry.{Entry}
+use Rattle.notation.specs.Code.{code}
+use Rattle.notation.specs.Written.{IsEntry}
+use Rattle.notation.proofs.Decoded.{code_once}
+use Rattle.agree_core.specs.declared.{messages.DeskId.DeskId, position.Position.Position}
+use Rattle.agree_core.specs.Ballots.{Ballot, Differed, Follows, In, Justified}
+use Rattle.agree_core.specs.Keeping.{SeatFine}
+use Rattle.agree_core.specs.LostLines.{is_another, is_at, is_before}
+use Rattle.agree_core.specs.Positions.{Before, next_place, next_round}
+use Rattle.agree_core.specs.Seats.{SeatState}
+use Rattle.agree_core.proofs.Order.{one_vote}
+use Rattle.agree_core.proofs.Settling.{none_later}
+use Rattle.progress.proofs.Near.{any, ordered, stands}
+
+at_itself : (p : Position) → is_at p p ≡ true
+at_itself p = grind (arith, nat_tests)
+
+not_at : (p q : Position) → Before q p → is_at p q ≡ false
+not_at p q h = grind (arith, nat_tests)
+
+not_before : (p q : Position) → Before q p → is_before p q ≡ false
+not_before p q h = grind (arith, nat_tests)
+
+-- the next round and the next place are two positions
+round_is_no_place : (p : Position) → is_at (next_round p) (next_place p) ≡ false
+round_is_no_place p = grind (arith, nat_tests)
+
+place_is_no_round : (p : Position) → is_at (next_place p) (next_round p) ≡ false
+place_is_no_round p = grind (arith, nat_tests)
+
+one_code : (e f : Entry) → e ≡ f → bytes_eq (code e) (code f) ≡ true
+one_code e f same = (bytes_eq-Decides (code e) (code f)).1 (ap code same)
+
+two_codes : (e f : Entry) → IsEntry e → IsEntry f → e ≢ f → bytes_eq (code e) (code f) ≡ false
+two_codes e f i k differ = turn (bytes_eq (code e) (code f)) refl
+  where
+    turn : (r : Bool) → r ≡ bytes_eq (code e) (code f) → r ≡ false
+    turn false q = refl
+    turn true q = absurd (differ (code_once e f i k ((bytes_eq-Decides (code e) (code f)).0 (sym q))))
+
+-- by what the last vote was
+elsewhere : (at : Bool) (x y : Bool) → at ≡ false → y ≡ false → (if at then x else y) ≡ false
+elsewhere at x y e f = grind (arith, e, f)
+
+there : (at : Bool) (x y : Bool) → at ≡ true → x ≡ false → (if at then x else y) ≡ false
+there at x y e f = grind (arith, e, f)
+
+by_entry : (same r : Bool) (b p q : Position) → same ≡ r → is_at (if r then b else p) q ≡ false → is_at (if same then b else p) q ≡ false
+by_entry same r b p q e f = subst (λ (x : Bool). is_at (if x then b else p) q ≡ false) (sym e) f
+
+module _ (s : SeatState) (c : Ballot) (less : Before c.at s.position) where
+  -- a desk that has cast at its position has its last vote there
+  cast : (e : Entry) (prev : List Ballot) → is_another s (record { at = s.position; entry = e } ∷ prev) c.at (code c.entry) ≡ false
+  cast e prev = elsewhere (is_at s.position c.at) _ (is_before s.position c.at) (not_at s.position c.at less) (not_before s.position c.at less)
+
+  module _ (theirs : List Ballot) (z : Ballot) (zs : List Ballot) (jo : Justified theirs (z ∷ zs)) (jt : Justified (z ∷ zs) theirs)
+      (i : In c theirs) (is : IsEntry c.entry) (own : IsEntry z.entry) where
+    -- the other's vote for the position of the last vote
+    same_round : c.at ≡ z.at → s.position ≡ next_round z.at → Differed theirs z → is_another s (z ∷ zs) c.at (code c.entry) ≡ false
+    same_round here next d =
+        let one = one_vote (z ∷ zs) theirs jt c (record { at = z.at; entry = d.0 }) i d.1 here in
+        let differ : c.entry ≢ z.entry = λ e. d.2 (sym e ∙ ap (λ (x : Ballot). x.entry) one) in
+        let value : is_at (next_place z.at) s.position ≡ false = subst (λ (p : Position). is_at (next_place z.at) p ≡ false) (sym next) (place_is_no_round z.at) in
+        there (is_at z.at c.at) _ (is_before z.at c.at) (subst (λ (p : Position). is_at z.at p ≡ true) (sym here) (at_itself z.at))
+        (by_entry (bytes_eq (code c.entry) (code z.entry)) false (next_round z.at) (next_place z.at) s.position (two_codes c.entry z.entry is own differ) value)
+
+    same_place : c.at ≡ z.at → s.position ≡ next_place z.at → In z theirs → is_another s (z ∷ zs) c.at (code c.entry) ≡ false
+    same_place here next k =
+        let one = one_vote (z ∷ zs) theirs jt c z i k here in
+        let value : is_at (next_round z.at) s.position ≡ false = subst (λ (p : Position). is_at (next_round z.at) p ≡ false) (sym next) (round_is_no_place z.at) in
+        there (is_at z.at c.at) _ (is_before z.at c.at) (subst (λ (p : Position). is_at z.at p ≡ true) (sym here) (at_itself z.at))
+        (by_entry (bytes_eq (code c.entry) (code z.entry)) true (next_round z.at) (next_place z.at) s.position (one_code c.entry z.entry (ap (λ (x : Ballot). x.entry) one)) value)
+
+    -- none is for a position between that and the desk's own
+    not_between : Before z.at c.at → ((s.position ≡ next_round z.at) × Differed theirs z) ⊎ ((s.position ≡ next_place z.at) × In z theirs) → ⊥
+    not_between behind (inl n) = let next = n.0 in grind arith
+    not_between behind (inr n) =
+        let next = n.0 in
+        let place : c.at.place ≡ z.at.place = grind arith in
+        let round : z.at.round < c.at.round = grind arith in
+        none_later theirs (z ∷ zs) jt jo z.at.place z.at.round c.at.round z.entry c.entry (n.1, inl refl)
+        (subst (λ (o : ℕ). In (record { at = record { place = o; round = c.at.round }; entry = c.entry }) theirs) place i) round
+
+    went_on : ((s.position ≡ next_round z.at) × Differed theirs z) ⊎ ((s.position ≡ next_place z.at) × In z theirs)
+        → is_another s (z ∷ zs) c.at (code c.entry) ≡ false
+    went_on next = elim (ordered c.at z.at) [
+      | inl here ↦ elim next [ inl n ↦ same_round here n.0 n.1 | inr n ↦ same_place here n.0 n.1 ]
+      | inr (inl before) ↦ elsewhere (is_at z.at c.at) _ (is_before z.at c.at) (not_at z.at c.at before) (not_before z.at c.at before)
+      | inr (inr behind) ↦ absurd (not_between behind next)
+    ]
+
+  by_last : (theirs own : List Ballot) (e : Entry) → Justified theirs own → Justified own theirs → In c theirs → IsEntry c.entry
+      → ((b : Ballot) → In b own → IsEntry b.entry) → Follows theirs (record { at = s.position; entry = e }) own
+      → is_another s own c.at (code c.entry) ≡ false
+  by_last theirs [] e jo jt i is are f = refl
+  by_last theirs (z ∷ zs) e jo jt i is are f = went_on theirs z zs jo jt i is (are z (inl refl)) f
+
+  -- a vote of the other desk for an earlier position
+  pub not_another : (d : DeskId) (theirs own : List Ballot) (book : List Entry) → SeatFine d own theirs s book → Justified own theirs → In c theirs
+      → IsEntry c.entry → ((b : Ballot) → In b own → IsEntry b.entry) → is_another s own c.at (code c.entry) ≡ false
+  not_another d theirs own book f jt i is are =
+      let hs = stands d theirs own book s any f in
+      elim hs.3 [
+        | inl k ↦ subst (λ (x : List Ballot). is_another s x c.at (code c.entry) ≡ false) (sym k.0) (cast hs.0 hs.1)
+        | inr k ↦ by_last theirs own hs.0 f.justified jt i is are (subst (Follows theirs (record { at = s.position; entry = hs.0 })) (sym k) hs.2)
+      ]
