@@ -14,7 +14,7 @@ use books::{BothFault, book_of_both, print_card};
 use cards::MatchSheet;
 use corrections::CheckedBook;
 use export::text_of;
-use setup::{StopFault, Stopped, open_input, output, told_sheet_at};
+use setup::{StopFault, Stopped, open_input, output, short_sheet_at};
 use std::alloc::{AllocError, Global};
 use std::io::{Read, Write};
 use streams::{InputFault, Watched, read_all};
@@ -218,7 +218,7 @@ pub fn start_card_of_both<'a>(
     a: &'a str,
     b: &'a str,
 ) -> Result<bool, Stopped<'a>> {
-    let sheet = told_sheet_at(rt, sheet)?;
+    let sheet = short_sheet_at(rt, sheet)?;
     let mut first = open_input(rt, a)?;
     let mut second = open_input(rt, b)?;
     let mut writer = output(rt)?;

@@ -9,7 +9,7 @@ ghost use Rattle.setup.specs.Ends.{EndsReading, EndsWriting};
 use crate::both_files::{BothPrintFault, read_both, stopped_at};
 use books::{compare_files, print_comparison};
 use cards::MatchSheet;
-use setup::{Stopped, open_input, output, sheet_at};
+use setup::{Stopped, open_input, output, short_sheet_at};
 use std::alloc::Global;
 use std::io::{Read, Write};
 use streams::Watched;
@@ -50,7 +50,7 @@ pub fn start_compare<'a>(
     a: &'a str,
     b: &'a str,
 ) -> Result<bool, Stopped<'a>> {
-    let sheet = sheet_at(rt, sheet)?;
+    let sheet = short_sheet_at(rt, sheet)?;
     let mut first = open_input(rt, a)?;
     let mut second = open_input(rt, b)?;
     let mut writer = output(rt)?;

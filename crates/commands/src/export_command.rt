@@ -11,7 +11,7 @@ use crate::printing::PrintFault;
 use books::{Source, book_from};
 use cards::MatchSheet;
 use export::{document_of, text_of};
-use setup::{NoSheet, StopFault, Stopped, bytes_at, open_input, output, told_sheet_of};
+use setup::{NoSheet, StopFault, Stopped, open_input, output, short_sheet_bytes, told_sheet_of};
 use std::alloc::Global;
 use std::io::{Read, Write};
 use streams::{Watched, WriteFailed, read_all};
@@ -59,7 +59,7 @@ pub fn sheet_and_document<'a>(
     rt: &HostRuntime,
     path: &'a str,
 ) -> Result<(MatchSheet, Table), Stopped<'a>> {
-    let text = bytes_at(rt, path)?;
+    let text = short_sheet_bytes(rt, path)?;
     let sheet = told_sheet_of(rt, path, text.as_slice())?;
     match document_of(rt.alloc(), text.as_slice()) {
         Ok(document) => Ok((sheet, document)),

@@ -16,7 +16,7 @@ use books::{Source, book_from};
 use cards::MatchSheet;
 use corrections::BookOf;
 use notation::{Entry, line_of};
-use setup::{StopFault, Stopped, open_input, output, told_sheet_at};
+use setup::{StopFault, Stopped, open_input, output, short_sheet_at};
 use std::alloc::Global;
 use std::io::{Read, Write};
 use streams::{Watched, WriteFailed, read_all};
@@ -112,7 +112,7 @@ pub fn start_lines<'a>(
     from: &'a str,
     source: Source,
 ) -> Result<bool, Stopped<'a>> {
-    let sheet = told_sheet_at(rt, sheet)?;
+    let sheet = short_sheet_at(rt, sheet)?;
     let mut reader = open_input(rt, from)?;
     let mut writer = output(rt)?;
     match lines_run(rt.alloc(), &sheet, source, &mut reader, &mut writer) {
@@ -129,7 +129,7 @@ pub fn start_lines_of_both<'a>(
     a: &'a str,
     b: &'a str,
 ) -> Result<bool, Stopped<'a>> {
-    let sheet = told_sheet_at(rt, sheet)?;
+    let sheet = short_sheet_at(rt, sheet)?;
     let mut first = open_input(rt, a)?;
     let mut second = open_input(rt, b)?;
     let mut writer = output(rt)?;

@@ -10,6 +10,7 @@ mod key_fault;
 mod opening;
 mod sealing;
 mod sheet;
+mod short_sheet;
 mod twins;
 mod votes_file;
 
@@ -21,7 +22,8 @@ pub use crate::key_fault::KeyFault;
 pub use crate::opening::{Output, bytes_at, old_votes_at, open_input, output, printer, sheet_at};
 pub use crate::sealing::{Sealing, key_in};
 pub use crate::sheet::{NoSheet, sheet_run};
-pub use crate::twins::{station_sheet_at, told_sheet_at, told_sheet_of};
+pub use crate::short_sheet::{LONGEST_SHEET, short_sheet_at, short_sheet_bytes};
+pub use crate::twins::{told_sheet_at, told_sheet_of};
 pub use crate::votes_file::{
     VotesDisk, empty_disk, kept_votes, new_disk_at, renewed_disk, with_cause, with_copys_cause,
 };

@@ -74,15 +74,3 @@ pub fn told_sheet_at<'a>(rt: &HostRuntime, path: &'a str) -> Result<MatchSheet, 
     let text = bytes_at(rt, path)?;
     told_sheet_of(rt, path, text.as_slice())
 }
-
-/// How many bytes the sheet of a station has at most.
-const LONGEST_SHEET: usize = 65_536;
-
-/// The sheet of a station, told in the same way. One that is longer can't be read, and isn't taken apart.
-pub fn station_sheet_at<'a>(rt: &HostRuntime, path: &'a str) -> Result<MatchSheet, Stopped<'a>> {
-    let text = bytes_at(rt, path)?;
-    if text.len() > LONGEST_SHEET {
-        return Err(Stopped::at(path, StopFault::Read));
-    }
-    told_sheet_of(rt, path, text.as_slice())
-}

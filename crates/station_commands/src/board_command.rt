@@ -14,7 +14,7 @@ use machine::{
     WriteFault,
 };
 use notes::Notes;
-use setup::{Sealing, StopFault, Stopped, station_sheet_at};
+use setup::{Sealing, StopFault, Stopped, short_sheet_at};
 use shown::Shown;
 use std::cell::RefCell;
 use std::net::SocketAddr;
@@ -113,7 +113,7 @@ pub fn start_board<'a>(
     json: Option<&'a str>,
     key: Option<&'a str>,
 ) -> Result<bool, Stopped<'a>> {
-    let sheet = station_sheet_at(rt, sheet_path)?;
+    let sheet = short_sheet_at(rt, sheet_path)?;
     let sealing = Sealing::of(rt, &sheet, sheet_path, key)?;
     let output = RefCell::new(output_at(rt)?);
     let errors = RefCell::new(errors_at(rt)?);

@@ -16,7 +16,7 @@ use machine::{
 };
 use setup::{
     CopiedDisk, Kept, Sealing, StopFault, Stopped, VotesDisk, compared, empty_disk, kept_votes,
-    paired_disk, renewed_disk, station_sheet_at, tell_copies, with_cause, with_copys_cause,
+    paired_disk, renewed_disk, short_sheet_at, tell_copies, with_cause, with_copys_cause,
 };
 use std::cell::RefCell;
 use std::io::Write;
@@ -258,7 +258,7 @@ pub fn start_desk<'a>(
     peers: [Option<SocketAddr>; MOST_PEERS],
     key: Option<&'a str>,
 ) -> Result<bool, Stopped<'a>> {
-    let sheet = station_sheet_at(rt, sheet_path)?;
+    let sheet = short_sheet_at(rt, sheet_path)?;
     let sealing = Sealing::of(rt, &sheet, sheet_path, key)?;
     let errors = RefCell::new(errors_at(rt)?);
     let mut writer = Watched::new(DeskScreen::new(output_at(rt)?, &errors));
