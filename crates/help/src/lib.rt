@@ -7,7 +7,7 @@ mod printing;
 mod subject;
 mod texts;
 
-pub use asking::asked;
+pub use asking::{asked, own_word};
 pub use laws::texts_fit_a_screen;
 pub use printing::print_help;
 pub use subject::Subject;
