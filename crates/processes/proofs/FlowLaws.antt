@@ -103,5 +103,5 @@ module _ {Disk : Type 0} (seen : Disk → List ℕ) (images : Disk → Images) w
         none_waits = at_each NoneKeepsBoth w hs p.0 p.2 (each_moment s w p.0 NoneKeepsBoth (none_keeps_both s) (begins_fine s version boards w f.0) p.1);
         lacks_no_lines = each_lacks_none s game innings refl version boards w f.0 (begins_calm s version boards w f.0) hs f.1;
         shows_no_loss = each_shows_none s game innings refl version boards w f.0 (begins_calm s version boards w f.0)
-        (λ gs flow. now_entries contents game innings version boards w gs (f.0, flow)) hs f.1;
+            (λ gs flow. now_entries contents game innings version boards w gs (f.0, flow)) hs f.1;
       }
