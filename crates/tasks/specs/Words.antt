@@ -4,9 +4,9 @@ use Rattle.clap.specs.declared.error.kind.ErrorKind as clap
 use Rattle.clap.specs.declared.error.kind.ErrorKind.{ErrorKind}
 use Rattle.std.specs.declared.io.ErrorKind as host
 use Rattle.std.specs.declared.io.ErrorKind.TheVariants as hosts
-use Rattle.ground.specs.declared.{status.Status.Status, words.Task.Task, words.WordsFault.WordsFault}
-use Rattle.ground.specs.declared.words.Task.TheVariants.{Check, Replay}
-use Rattle.ground.specs.declared.words.WordsFault.TheVariants.{NotUnderstood, NoMemory}
+use Rattle.tasks.specs.declared.{task.Task.Task, words_fault.WordsFault.WordsFault}
+use Rattle.tasks.specs.declared.task.Task.TheVariants.{Check, Replay}
+use Rattle.tasks.specs.declared.words_fault.WordsFault.TheVariants.{NotUnderstood, NoMemory}
 
 -- what no words ask for: `check` in a match of two innings a side
 abbrev pub plain_task : Task
@@ -27,10 +27,6 @@ of_host kind = NotUnderstood
 abbrev pub of_parse : clap.ErrorKind → WordsFault
 of_parse ErrorKind.OutOfMemory = NoMemory
 of_parse kind = NotUnderstood
-
-abbrev pub words_status : WordsFault → Status
-words_status NotUnderstood = Status.Words
-words_status NoMemory = Status.Failed
 
 -- what standard error is told
 abbrev pub words_text : WordsFault → List ℕ

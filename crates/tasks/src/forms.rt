@@ -1,0 +1,121 @@
+//! The words that the program takes.
+
+use clap::{Arg, ArgAction, Command, value_parser};
+use std::alloc::{AllocError, Global};
+
+/// An option that has to be given, with any value.
+fn wanted<'a>(alloc: Global, name: &'a str) -> Arg<'a> {
+    Arg::new(alloc, name).long(name).required(true)
+}
+
+/// The words of `check`.
+fn check_words<'a>(alloc: Global) -> Result<Command<'a>, AllocError> {
+    Command::new(alloc, "check").arg(
+        Arg::new(alloc, "innings")
+            .long("innings")
+            .value_parser(value_parser!(u32).range(1..=2))
+            .default_value("2"),
+    )
+}
+
+/// The words of `replay`.
+fn replay_words<'a>(alloc: Global) -> Result<Command<'a>, AllocError> {
+    let boards = wanted(alloc, "boards").value_parser(value_parser!(u8).range(0..=4));
+    let old = Arg::new(alloc, "old")
+        .long("old")
+        .action(ArgAction::SetTrue);
+    Command::new(alloc, "replay")
+        .arg(wanted(alloc, "sheet"))?
+        .arg(wanted(alloc, "schedule"))?
+        .arg(boards)?
+        .arg(old)
+}
+
+/// The words of `card`, of `export`, of `page` and of `lines`.
+fn book_words<'a>(alloc: Global, name: &'a str) -> Result<Command<'a>, AllocError> {
+    Command::new(alloc, name)
+        .arg(wanted(alloc, "sheet"))?
+        .arg(wanted(alloc, "from"))?
+        .arg(wanted(alloc, "kind"))?
+        .arg(Arg::new(alloc, "with").long("with"))
+}
+
+/// The words of `compare`.
+fn compare_words<'a>(alloc: Global) -> Result<Command<'a>, AllocError> {
+    Command::new(alloc, "compare")
+        .arg(wanted(alloc, "sheet"))?
+        .arg(wanted(alloc, "a"))?
+        .arg(wanted(alloc, "b"))
+}
+
+/// The words of `migrate`.
+fn migrate_words<'a>(alloc: Global) -> Result<Command<'a>, AllocError> {
+    Command::new(alloc, "migrate")
+        .arg(wanted(alloc, "sheet"))?
+        .arg(wanted(alloc, "desk"))?
+        .arg(wanted(alloc, "from"))?
+        .arg(wanted(alloc, "to"))
+}
+
+/// The words of `match`.
+fn match_words<'a>(alloc: Global) -> Result<Command<'a>, AllocError> {
+    let drop = Arg::new(alloc, "drop")
+        .long("drop")
+        .value_parser(value_parser!(u16))
+        .default_value("0");
+    Command::new(alloc, "match")
+        .arg(wanted(alloc, "sheet"))?
+        .arg(wanted(alloc, "book"))?
+        .arg(wanted(alloc, "dir"))?
+        .arg(drop)
+}
+
+/// The words of `key`.
+fn key_words<'a>(alloc: Global) -> Result<Command<'a>, AllocError> {
+    Command::new(alloc, "key").arg(wanted(alloc, "to"))
+}
+
+/// The words of `desk`.
+fn desk_words<'a>(alloc: Global) -> Result<Command<'a>, AllocError> {
+    let board = Arg::new(alloc, "board")
+        .long("board")
+        .action(ArgAction::Append);
+    Command::new(alloc, "desk")
+        .arg(wanted(alloc, "sheet"))?
+        .arg(wanted(alloc, "desk"))?
+        .arg(wanted(alloc, "file"))?
+        .arg(wanted(alloc, "at"))?
+        .arg(wanted(alloc, "other"))?
+        .arg(Arg::new(alloc, "copy").long("copy"))?
+        .arg(board)?
+        .arg(Arg::new(alloc, "key").long("key"))
+}
+
+/// The words of `board`.
+fn board_words<'a>(alloc: Global) -> Result<Command<'a>, AllocError> {
+    Command::new(alloc, "board")
+        .arg(wanted(alloc, "sheet"))?
+        .arg(wanted(alloc, "at"))?
+        .arg(wanted(alloc, "desk-a"))?
+        .arg(wanted(alloc, "desk-b"))?
+        .arg(Arg::new(alloc, "text").long("text"))?
+        .arg(Arg::new(alloc, "json").long("json"))?
+        .arg(Arg::new(alloc, "key").long("key"))
+}
+
+/// All the program's words.
+pub fn program_words<'a>(alloc: Global) -> Result<Command<'a>, AllocError> {
+    Command::new(alloc, "ground")
+        .subcommand(check_words(alloc)?)?
+        .subcommand(replay_words(alloc)?)?
+        .subcommand(book_words(alloc, "card")?)?
+        .subcommand(book_words(alloc, "export")?)?
+        .subcommand(book_words(alloc, "page")?)?
+        .subcommand(book_words(alloc, "lines")?)?
+        .subcommand(compare_words(alloc)?)?
+        .subcommand(migrate_words(alloc)?)?
+        .subcommand(match_words(alloc)?)?
+        .subcommand(key_words(alloc)?)?
+        .subcommand(desk_words(alloc)?)?
+        .subcommand(board_words(alloc)?)
+}

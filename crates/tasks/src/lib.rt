@@ -1,0 +1,13 @@
+//! What the program is asked to do, by the words on the command line.
+#![tactic(auto)]
+
+mod book_words;
+mod forms;
+mod station_words;
+mod task;
+mod words;
+mod words_fault;
+
+pub use task::Task;
+pub use words::task_in;
+pub use words_fault::{WordsFault, print_words_fault};

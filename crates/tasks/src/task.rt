@@ -1,0 +1,117 @@
+//! What the program is asked to do.
+
+use agree_core::DeskId;
+use books::Source;
+use machine::{Address, MOST_PEERS};
+use std::net::SocketAddr;
+
+/// What the program is asked to do.
+#[derive(Clone, Copy, Debug, PartialEq, Eq)]
+pub enum Task<'a> {
+    /// To take pen lines from standard input, in a match of so many innings a side, 1 or 2.
+    Check {
+        innings: u32,
+    },
+    /// To run a schedule in a world with so many boards, 0 to 4. Where it is old, the desks begin with votes
+    /// files of version 1.
+    Replay {
+        sheet: &'a str,
+        schedule: &'a str,
+        boards: u8,
+        is_old: bool,
+    },
+    /// To print the cards and the page of a book.
+    Card {
+        sheet: &'a str,
+        from: &'a str,
+        source: Source,
+    },
+    /// To print a book as JSON.
+    Export {
+        sheet: &'a str,
+        from: &'a str,
+        source: Source,
+    },
+    /// To print the cards and the page of the agreed list of both desks' votes files, A's and B's.
+    CardOfBoth {
+        sheet: &'a str,
+        a: &'a str,
+        b: &'a str,
+    },
+    /// To print the agreed list of both desks' votes files, A's and B's, as JSON.
+    ExportOfBoth {
+        sheet: &'a str,
+        a: &'a str,
+        b: &'a str,
+    },
+    /// To print the HTML page of a book.
+    Page {
+        sheet: &'a str,
+        from: &'a str,
+        source: Source,
+    },
+    /// To print the HTML page of the agreed list of both desks' votes files, A's and B's.
+    PageOfBoth {
+        sheet: &'a str,
+        a: &'a str,
+        b: &'a str,
+    },
+    /// To print the full lines of a book.
+    Lines {
+        sheet: &'a str,
+        from: &'a str,
+        source: Source,
+    },
+    /// To print the full lines of the agreed list of both desks' votes files, A's and B's.
+    LinesOfBoth {
+        sheet: &'a str,
+        a: &'a str,
+        b: &'a str,
+    },
+    /// To tell where both desks' votes files, A's and B's, differ.
+    Compare {
+        sheet: &'a str,
+        a: &'a str,
+        b: &'a str,
+    },
+    /// To write the votes of a desk's old file to a new one.
+    Migrate {
+        sheet: &'a str,
+        desk: DeskId,
+        from: &'a str,
+        to: &'a str,
+    },
+    /// To have two desks and a board agree the lines of a book, with the votes files in a folder. The first
+    /// datagrams, so many, are dropped.
+    Match {
+        sheet: &'a str,
+        book: &'a str,
+        folder: &'a str,
+        drop: u16,
+    },
+    /// To write a new key to a file.
+    Key {
+        to: &'a str,
+    },
+    /// To keep a scorer's desk, with its votes in a file, at an address. Its peers are the other desk and boards. A copy of
+    /// its votes is kept in a file, and the scorers' key is in one, where they are named.
+    Desk {
+        sheet: &'a str,
+        desk: DeskId,
+        file: &'a str,
+        copy: Option<&'a str>,
+        at: Address<'a>,
+        peers: [Option<SocketAddr>; MOST_PEERS],
+        key: Option<&'a str>,
+    },
+    /// To keep a board at an address. Its peers are both desks. Its text is put into a file, its state as JSON into
+    /// another one, and the scorers' key is in one, where they are named.
+    Board {
+        sheet: &'a str,
+        at: Address<'a>,
+        peers: [Option<SocketAddr>; MOST_PEERS],
+        text: Option<&'a str>,
+        json: Option<&'a str>,
+        key: Option<&'a str>,
+    },
+}

@@ -1,0 +1,124 @@
+//! The words on the command line.
+
+ghost use Rattle.std.specs.Prelude.{◌≡◌, ◌≤◌, length, Ok, IfOk, IfSome};
+ghost use Rattle.tasks.specs.Words.{IsTask, plain_task};
+
+use crate::book_words::{card_task, export_task, lines_task, page_task};
+use crate::forms::program_words;
+use crate::station_words::{board_task, desk_task};
+use crate::task::Task;
+use crate::words_fault::WordsFault;
+use agree_core::DeskId;
+use clap::ArgMatches;
+use std::alloc::Global;
+use std::str::FromStr;
+
+/// The number of an option, without a sign or a needless zero.
+fn number_in<T: FromStr>(words: &ArgMatches<'_>, name: &str) -> Option<T>
+where
+    T::Err: Drop,
+{
+    let text = words.get_str(name)?.as_bytes();
+    if text.len() > 1 && text[0] <= b'0' {
+        return None;
+    }
+    words.get_one(name)
+}
+
+/// The innings a side. That `clap` has seen to the range is no clause of a command's words within the program's, so
+/// it is looked at again.
+fn innings_in(words: &ArgMatches<'_>) -> Option<u32>
+    ensures { IfSome result (λ innings. (1 ≤ innings) × (innings ≤ 2)) }
+{
+    let innings = number_in::<u32>(words, "innings")?;
+    (1..=2).contains(&innings).then_some(innings)
+}
+
+/// The boards of a world, likewise.
+fn boards_in(words: &ArgMatches<'_>) -> Option<u8>
+    ensures { IfSome result (λ boards. boards ≤ 4) }
+{
+    let boards = number_in::<u8>(words, "boards")?;
+    (0..=4).contains(&boards).then_some(boards)
+}
+
+/// The desk that a text names.
+pub fn desk_in(text: &str) -> Option<DeskId> {
+    match text {
+        "a" => Some(DeskId::A),
+        "b" => Some(DeskId::B),
+        _ => None,
+    }
+}
+
+/// The task of a command's words.
+fn task_of<'a>(command: &str, words: &ArgMatches<'a>) -> Option<Task<'a>>
+    ensures { IfSome result IsTask }
+{
+    match command {
+        "check" => Some(Task::Check {
+            innings: innings_in(words)?,
+        }),
+        "replay" => Some(Task::Replay {
+            sheet: words.get_str("sheet")?,
+            schedule: words.get_str("schedule")?,
+            boards: boards_in(words)?,
+            is_old: words.get_flag("old"),
+        }),
+        "card" => card_task(words),
+        "export" => export_task(words),
+        "page" => page_task(words),
+        "lines" => lines_task(words),
+        "compare" => Some(Task::Compare {
+            sheet: words.get_str("sheet")?,
+            a: words.get_str("a")?,
+            b: words.get_str("b")?,
+        }),
+        "migrate" => Some(Task::Migrate {
+            sheet: words.get_str("sheet")?,
+            desk: desk_in(words.get_str("desk")?)?,
+            from: words.get_str("from")?,
+            to: words.get_str("to")?,
+        }),
+        "match" => Some(Task::Match {
+            sheet: words.get_str("sheet")?,
+            book: words.get_str("book")?,
+            folder: words.get_str("dir")?,
+            drop: number_in(words, "drop")?,
+        }),
+        "key" => Some(Task::Key {
+            to: words.get_str("to")?,
+        }),
+        "desk" => desk_task(words),
+        "board" => board_task(words),
+        _ => None,
+    }
+}
+
+/// What the matches of the program's words ask for.
+fn understood<'a>(matches: &ArgMatches<'a>) -> Result<Task<'a>, WordsFault>
+    ensures { IfOk result IsTask }
+{
+    let (command, words) = match matches.subcommand() {
+        Some(found) => found,
+        None => return Err(WordsFault::NotUnderstood),
+    };
+    match task_of(command, words) {
+        Some(task) => Ok(task),
+        None => Err(WordsFault::NotUnderstood),
+    }
+}
+
+/// What the words on the command line ask to be done, the program's name first. With no word behind it that is `check` with
+/// two innings a side. Words that are none of the forms aren't understood; these are also `--help`, `--version`, an option
+/// given twice, a number with a sign or a needless zero, and `help`, which `main` answers where it is `help::asked`. `clap`
+/// tells where memory was refused it.
+pub fn task_in<'a>(alloc: Global, words: &'a [String]) -> Result<Task<'a>, WordsFault>
+    ensures no_words { length words.now ≤ 1 → result ≡ Ok plain_task }
+    ensures in_range { IfOk result IsTask }
+{
+    if words.len() <= 1 {
+        return Ok(Task::Check { innings: 2 });
+    }
+    understood(&program_words(alloc)?.try_get_matches_from(words)?)
+}

@@ -1,0 +1,85 @@
+//! Why the words on the command line ask for nothing.
+
+ghost use Rattle.std.specs.Prelude.{◌≡◌, Some, OnOk};
+ghost use Rattle.streams.specs.Watched.{Prints, TellsFailure};
+ghost use Rattle.tasks.specs.Words.{words_line};
+
+use std::alloc::AllocError;
+use std::fmt;
+use std::io::{self, Write};
+use streams::{Watched, WriteFailed};
+use thiserror::Error;
+
+/// Why the words on the command line ask for nothing.
+#[derive(Clone, Copy, Debug, PartialEq, Eq, Error)]
+pub enum WordsFault {
+    /// They are none of the program's forms.
+    NotUnderstood,
+    /// Memory was refused.
+    NoMemory,
+}
+
+impl fmt::Display for WordsFault {
+    ghost use Rattle.tasks.specs.Words.{words_text};
+
+    ghost output = { λ fault. Some (words_text fault) };
+
+    /// Writes what standard error is told of it.
+    fn fmt<W: fmt::Write>(&self, f: &mut fmt::Formatter<W>) -> fmt::Result {
+        f.write_str(match self {
+            WordsFault::NotUnderstood => "words not understood",
+            WordsFault::NoMemory => "no memory",
+        })
+    }
+}
+
+impl From<AllocError> for WordsFault {
+    ghost use Rattle.tasks.specs.declared.words_fault.WordsFault.TheVariants.{NoMemory};
+
+    ghost from_gives = { λ _ fault. fault ≡ NoMemory };
+
+    fn from(_why: AllocError) -> Self {
+        WordsFault::NoMemory
+    }
+}
+
+impl From<io::Error> for WordsFault {
+    ghost use Rattle.std.specs.IoError.{error_kind};
+    ghost use Rattle.tasks.specs.Words.{of_host};
+
+    ghost from_gives = { λ why fault. fault ≡ of_host (error_kind why) };
+
+    /// Why the host doesn't give the words: every kind but out of memory is of words that are no text.
+    fn from(why: io::Error) -> Self {
+        match why.kind() {
+            io::ErrorKind::OutOfMemory => WordsFault::NoMemory,
+            _ => WordsFault::NotUnderstood,
+        }
+    }
+}
+
+impl From<clap::Error> for WordsFault {
+    ghost use Rattle.clap.specs.Values.{kind_of};
+    ghost use Rattle.tasks.specs.Words.{of_parse};
+
+    ghost from_gives = { λ why fault. fault ≡ of_parse (kind_of why) };
+
+    /// Why `clap` doesn't take the words: every kind but out of memory is of words that are none of the forms.
+    fn from(why: clap::Error) -> Self {
+        match why.kind() {
+            clap::error::ErrorKind::OutOfMemory => WordsFault::NoMemory,
+            _ => WordsFault::NotUnderstood,
+        }
+    }
+}
+
+/// Prints the line that standard error has of a fault of the words.
+pub fn print_words_fault<W: Write>(
+    out: &mut Watched<W>,
+    fault: WordsFault,
+) -> Result<(), WriteFailed>
+    ensures text { OnOk result (Prints W.contents out.old out.new (words_line fault)) }
+    ensures failed { TellsFailure result out.old out.new }
+{
+    writeln!(out, "{fault}")
+}
