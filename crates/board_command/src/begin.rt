@@ -1,21 +1,17 @@
 //! `ground board`: a scoreboard.
 
-mod files;
-mod notes;
-mod shown;
-
-use crate::screens::{Errors, Shared, errors_at, output_at};
+use crate::files::{Files, Kept};
+use crate::notes::Notes;
+use crate::shown::Shown;
 use board::Board;
 use corrections::CheckedBook;
-use files::{Files, Kept};
 use live::keep_board;
 use machine::{
     Address, Cause, MOST_PEERS, MonotonicClock, Name, Pieces, StandardStream, TextFile, WholeText,
     WriteFault,
 };
-use notes::Notes;
 use setup::{Sealing, StopFault, Stopped, short_sheet_at};
-use shown::Shown;
+use station_screens::{Errors, Shared, errors_at, output_at};
 use std::cell::RefCell;
 use std::net::SocketAddr;
 use std::rt::Stderr;

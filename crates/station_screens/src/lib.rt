@@ -1,4 +1,5 @@
 //! What a station tells: standard output and standard error, which may not be read for long.
+#![tactic(auto)]
 
 ghost use Rattle.std.specs.Prelude.{Some};
 ghost use Rattle.machine.specs.Screens.{written_of};

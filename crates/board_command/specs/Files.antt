@@ -5,8 +5,8 @@ use Rattle.cards.specs.Board.{board as six_lines}
 use Rattle.live.specs.Sights.{Sight}
 use Rattle.machine.specs.Texts.{IsGiven}
 use Rattle.scoreboard.specs.Value.{board_text}
-use Rattle.station_commands.specs.declared.board_command.files.{Files.Files, Kept.Kept, Tried.Tried}
-use Rattle.station_commands.specs.declared.board_command.files.TheConstants.{AGAIN, FOREVER, LONGEST, SHORTEST}
+use Rattle.board_command.specs.declared.files.{Files.Files, Kept.Kept, Tried.Tried}
+use Rattle.board_command.specs.declared.files.TheConstants.{AGAIN, FOREVER, LONGEST, SHORTEST}
 
 -- the two texts of what is handed over: its six lines, and its state as JSON
 abbrev pub lines_of : Sight → List ℕ

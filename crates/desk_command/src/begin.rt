@@ -1,9 +1,8 @@
 //! `ground desk`: a scorer's desk.
 
 ghost use Rattle.std.specs.Prelude.{◌≡◌, [], false, IfErr, IfOk, None, Some};
-ghost use Rattle.station_commands.specs.DeskCommand as ends;
+ghost use Rattle.desk_command.specs.Ends as ends;
 
-use crate::screens::{DeskScreen, Shared, errors_at, output_at};
 use agree_core::DeskId;
 use cards::MatchSheet;
 use corrections::CheckedBook;
@@ -18,6 +17,7 @@ use setup::{
     CopiedDisk, Kept, Sealing, StopFault, Stopped, VotesDisk, compared, empty_disk, kept_votes,
     paired_disk, renewed_disk, short_sheet_at, tell_copies, with_cause, with_copys_cause,
 };
+use station_screens::{DeskScreen, Shared, errors_at, output_at};
 use std::cell::RefCell;
 use std::io::Write;
 use std::mem::drop;

@@ -5,8 +5,8 @@ ghost use Rattle.corrections.specs.CleanList.{history_of};
 ghost use Rattle.cards.specs.Board as texts;
 ghost use Rattle.machine.specs.Texts.{Takes};
 ghost use Rattle.scoreboard.specs.Value as laws;
-ghost use Rattle.station_commands.specs.Files.{AreKept};
-ghost use Rattle.station_commands.specs.declared.board_command.files.TheConstants.{FOREVER, LONGEST};
+ghost use Rattle.board_command.specs.Files.{AreKept};
+ghost use Rattle.board_command.specs.declared.files.TheConstants.{FOREVER, LONGEST};
 
 use cards::{MatchSheet, board_lines};
 use corrections::BookOf;
@@ -41,7 +41,7 @@ struct Tried {
 
 impl Tried {
     ghost use Rattle.std.specs.Prelude.{◌-◌, nat_le};
-    ghost use Rattle.station_commands.specs.Files.{wait_of};
+    ghost use Rattle.board_command.specs.Files.{wait_of};
 
     /// Whether a file that stands so long at most is to be written at this time, of a book of so many entries: the last time
     /// it couldn't be, the book has grown, or the file becomes old.
@@ -70,7 +70,7 @@ pub struct Kept<'a, T, E> {
 }
 
 impl<'a, T: Replaces, E: Write> Kept<'a, T, E> {
-    ghost use Rattle.station_commands.specs.Files.{is_due, tried_at};
+    ghost use Rattle.board_command.specs.Files.{is_due, tried_at};
 
     /// This file of this path, which wasn't written yet.
     pub fn new(file: T, path: &'a str, errors: E) -> Kept<'a, T, E> {
@@ -229,7 +229,7 @@ impl<'a, T: Replaces, E: Write, B: BookOf> Files<'a, T, E, B> {
 
 impl<T: Replaces, E: Write, B: BookOf + Drop> Shows<B> for Files<'_, T, E, B> {
     ghost use Rattle.live.specs.SightLogs.{sights_of};
-    ghost use Rattle.station_commands.specs.Files.{FilesGoOn};
+    ghost use Rattle.board_command.specs.Files.{FilesGoOn};
 
     ghost seen = { λ files. sights_of B.content B.innings_a_side files.log };
 

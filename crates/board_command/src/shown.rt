@@ -1,9 +1,9 @@
 //! All that a board shows at the end of a turn.
 
-use crate::screens::{Errors, Output, retry};
 use cards::MatchSheet;
 use corrections::BookOf;
 use live::Shows;
+use station_screens::{Errors, Output, retry};
 use std::cell::RefCell;
 use streams::WriteFailed;
 

@@ -1,0 +1,2 @@
+-- What a board's files are given: Files.
+pub mod Files

@@ -1,0 +1,9 @@
+//! The command of the program that begins a board on this machine.
+#![tactic(auto)]
+
+mod begin;
+mod files;
+mod notes;
+mod shown;
+
+pub use crate::begin::start_board;

@@ -1,0 +1,2 @@
+-- How `desk` ends: Ends.
+pub mod Ends

@@ -1,0 +1,8 @@
+//! The commands of the program that begin a desk on this machine, and make the key of a match's stations.
+#![tactic(auto)]
+
+mod begin;
+mod key;
+
+pub use crate::begin::start_desk;
+pub use crate::key::{key_text, start_key};

@@ -1,3 +1,0 @@
--- How `desk` ends: DeskCommand. What a board's files are given: Files.
-pub mod DeskCommand
-pub mod Files
