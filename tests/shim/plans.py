@@ -28,10 +28,19 @@ HOWS = {
     "fcntl": (errno.EMFILE,),
     "ioctl": (errno.ENOTTY,),
     "getentropy": (EIO, EINTR),
+    "listen": (errno.EADDRINUSE,),
+    "accept4": (errno.EMFILE, errno.ECONNABORTED, EINTR),
+    "epoll_create1": (errno.EMFILE,),
+    "epoll_ctl": (errno.ENOMEM,),
+    "epoll_wait": (EINTR,),
+    "send": (errno.ECONNRESET, errno.EAGAIN, EINTR, "short"),
+    "recv": (errno.ECONNRESET, EINTR, "short"),
+    "shutdown": (errno.ENOTCONN,),
 }
 # Of what is called as often as time will have it, the first few.
 AT_ANY_TIME = {("sendto", "socket"): 4, ("recvfrom", "socket"): 4, ("getsockname", "socket"): 4, ("read", "stdin"): 5,
-               ("poll", "socket"): 4, ("poll", "stdin"): 4, ("poll", "stdout"): 4, ("poll", "stderr"): 2}
+               ("poll", "socket"): 4, ("poll", "stdin"): 4, ("poll", "stdout"): 4, ("poll", "stderr"): 2,
+               ("epoll_wait", "page"): 4, ("accept4", "page"): 4, ("recv", "page"): 4, ("send", "page"): 4, ("close", "page"): 2}
 STREAMS = ("stdin", "stdout", "stderr", "null")
 HARMLESS = (EINTR, "short")
 CANNOT_WRITE = (3, "cannot write\n")

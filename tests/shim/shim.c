@@ -4,7 +4,7 @@
    SHIM_LOG   the file that gets a line a call:
                   CALL LABEL RESULT ERRNO INODE OFFSET DATA
               What isn't known of a call is `-`. LABEL is the last name of the path, or `stdin`, `stdout`, `stderr`,
-              `socket`, `random`. DATA is what was written or sent, in hexadecimal; of `open` the path, and `new:` before it
+              `socket`, `page` (a board's listener, its viewers, and what waits for them), `random`. DATA is what was written or sent, in hexadecimal; of `open` the path, and `new:` before it
               where it made the file, `empty:` where it emptied it; of `rename` both paths.
    SHIM_FAIL  CALL,LABEL,N,HOW: the N-th such call fails (0: the first and each third one behind it). HOW is an errno's number; `short`: half
               of the bytes are taken; `torn`: half of them are, and it answers EIO; `made`: it is made, and answers EIO.
@@ -20,7 +20,8 @@ typedef unsigned long word;
 typedef long number;
 
 enum { READ = 0, WRITE = 1, OPEN = 2, CLOSE = 3, STAT = 4, FSTAT = 5, POLL = 7, LSEEK = 8, PREAD = 17, PWRITE = 18, IOCTL = 16, SOCKET = 41,
-       SENDTO = 44, RECVFROM = 45, BIND = 49, GETSOCKNAME = 51, SETSOCKOPT = 54, FCNTL = 72, FLOCK = 73, FSYNC = 74,
+       ACCEPT4 = 288, SENDTO = 44, RECVFROM = 45, SHUTDOWN = 48, BIND = 49, LISTEN = 50, GETSOCKNAME = 51, SETSOCKOPT = 54, GETSOCKOPT = 55,
+       EPOLL_WAIT = 232, EPOLL_CTL = 233, EPOLL_CREATE1 = 291, FCNTL = 72, FLOCK = 73, FSYNC = 74,
        FDATASYNC = 75, FTRUNCATE = 77, RENAME = 82, UNLINK = 87, READLINK = 89, FCHMOD = 91, STATX = 332 };
 enum { EIO = 5, CREATE = 0100, TRUNCATE = 01000, KIND = 0170000, REGULAR = 0100000, SOCKETS = 0140000, PIPES = 0010000,
        DEVICES = 0020000 };
@@ -185,9 +186,20 @@ static void copy_label(char *to, const char *from) {
 
 static const char *label_of_path(const char *path) { return same(path, "/dev/stdin") ? "stdin" : last_name(path); }
 
+/* Whether this is the kind of a stream's socket, which only a page has. */
+static const char *label_of_socket(int kind) { return (kind & 15) == 1 ? "page" : "socket"; }
+
+static int kind_of_socket(int fd) {
+    int kind = 0;
+    unsigned length = sizeof kind;
+    call(GETSOCKOPT, fd, 1, 3, (number)&kind, (number)&length, 0);
+    return kind;
+}
+
 static const char *label_of(int fd, unsigned kind, const char *path) {
     if (fd <= 2) return fd == 0 ? "stdin" : fd == 1 ? "stdout" : "stderr";
-    if (kind == SOCKETS) return "socket";
+    if (kind == SOCKETS) return label_of_socket(kind_of_socket(fd));
+    if (same(path, "anon_inode:[eventpoll]")) return "page";
     if (kind == PIPES || kind == DEVICES) return same(path, "/dev/null") ? "null" : "stdin";
     return last_name(path);
 }
@@ -351,9 +363,10 @@ int getentropy(void *bytes, word count) {
 /* ---- the network ---- */
 
 int socket(int family, int kind, int protocol) {
-    int how = how_planned("socket", "socket");
+    const char *label = label_of_socket(kind);
+    int how = how_planned("socket", label);
     number answer = failed(how, is_left_out(how) ? 0 : call(SOCKET, family, kind, protocol, 0, 0, 0));
-    note("socket", "socket", answer, -1);
+    note("socket", label, answer, -1);
     return (int)told(answer);
 }
 
@@ -364,6 +377,36 @@ int getsockname(int fd, void *to, unsigned *length) {
 int setsockopt(int fd, int level, int name, const void *value, unsigned length) {
     return (int)simple("setsockopt", SETSOCKOPT, fd, level, name, (number)value, length);
 }
+
+int listen(int fd, int most) { return (int)simple("listen", LISTEN, fd, most, 0, 0, 0); }
+int shutdown(int fd, int how) { return (int)simple("shutdown", SHUTDOWN, fd, how, 0, 0, 0); }
+int accept4(int fd, void *from, unsigned *length, int flags) {
+    return (int)simple("accept4", ACCEPT4, fd, (number)from, (number)length, flags, 0);
+}
+int epoll_ctl(int fd, int what, int of, void *event) { return (int)simple("epoll_ctl", EPOLL_CTL, fd, what, of, (number)event, 0); }
+int epoll_wait(int fd, void *events, int most, int wait) {
+    return (int)simple("epoll_wait", EPOLL_WAIT, fd, (number)events, most, wait, 0);
+}
+
+int epoll_create1(int flags) {
+    int how = how_planned("epoll_create1", "page");
+    number answer = failed(how, is_left_out(how) ? 0 : call(EPOLL_CREATE1, flags, 0, 0, 0, 0, 0));
+    note("epoll_create1", "page", answer, -1);
+    return (int)told(answer);
+}
+
+/* What goes to a viewer and comes from it, half of it where that is planned. */
+static number moved(const char *name, int which, int fd, const void *bytes, number count, int flags) {
+    struct file it = file_of(fd);
+    int how = how_planned(name, it.label);
+    number most = how == SHORT ? (count + 1) / 2 : count;
+    number made = failed(how, is_left_out(how) ? 0 : call(which, fd, (number)bytes, most, flags, 0, 0));
+    note(name, it.label, made, it.inode);
+    return told(made);
+}
+
+number send(int fd, const void *bytes, word count, int flags) { return moved("send", SENDTO, fd, bytes, count, flags); }
+number recv(int fd, void *bytes, word count, int flags) { return moved("recv", RECVFROM, fd, bytes, count, flags); }
 
 /* A wait for a descriptor alone is one for the keyboard, or for a standard stream that is written. */
 int poll(void *asked, word count, int wait) {

@@ -1,2 +1,3 @@
--- What a board's files are given: Files.
+-- What a board's files are given: Files. What its page is given: Served.
 pub mod Files
+pub mod Served

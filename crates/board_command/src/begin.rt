@@ -2,8 +2,11 @@
 
 use crate::files::{Files, Kept};
 use crate::notes::Notes;
+use crate::page::Page;
+use crate::served::{Attended, Both};
 use crate::shown::Shown;
 use board::Board;
+use cards::MatchSheet;
 use corrections::CheckedBook;
 use live::keep_board;
 use machine::{
@@ -18,7 +21,7 @@ use std::rt::Stderr;
 use streams::Watched;
 
 /// Where a board tells what it can't take, and which file it can't write.
-type Told<'s, 'a> = Shared<'s, Pieces<StandardStream<'a, Stderr>>>;
+pub type Told<'s, 'a> = Shared<'s, Pieces<StandardStream<'a, Stderr>>>;
 
 /// A board's files on this machine.
 type BoardFiles<'s, 'a> = Files<'a, WholeText<TextFile<'a>>, Told<'s, 'a>, CheckedBook>;
@@ -95,10 +98,18 @@ fn kept<'s, 'a>(
     Some(Kept::new(WholeText::new(file?), path?, Shared::of(errors)))
 }
 
+/// A board of the sheet's match, whose book is empty.
+fn board_of(rt: &HostRuntime, sheet: &MatchSheet) -> Result<Board<CheckedBook>, Stopped<'static>> {
+    match CheckedBook::new(rt.alloc(), sheet.innings()) {
+        Ok(book) => Ok(Board::new(sheet.game(), book)),
+        Err(why) => Err(Stopped::at("-", StopFault::from(why))),
+    }
+}
+
 /// `ground board`: keeps a board that listens at an address, shows its six lines at the start and whenever they
 /// change, and tells standard error what it can't take. Its text is also put into a file, and its state as JSON into
-/// another one, where they are named; a failed write of these ends no board. Its datagrams are sealed with the sheet and
-/// the key in a file, where one is named.
+/// another one, where they are named; a failed write of these ends no board. A page shows both at an address, where one is
+/// given. Its datagrams are sealed with the sheet and the key in a file, where one is named.
 #[inline(never)]
 pub fn start_board<'a>(
     rt: &'a HostRuntime,
@@ -107,6 +118,7 @@ pub fn start_board<'a>(
     peers: [Option<SocketAddr>; MOST_PEERS],
     text: Option<&'a str>,
     json: Option<&'a str>,
+    serve: Option<Address<'a>>,
     key: Option<&'a str>,
 ) -> Result<bool, Stopped<'a>> {
     let sheet = short_sheet_at(rt, sheet_path)?;
@@ -120,20 +132,26 @@ pub fn start_board<'a>(
         state: json,
     };
     let files = paths.files(rt, &errors)?;
-    let book = CheckedBook::new(rt.alloc(), sheet.innings()).map_err(|why| Stopped::at(
-        "-",
-        StopFault::from(why),
-    ))?;
-    let mut board = Board::new(sheet.game(), book);
-    let mut link = sealing.link_at(rt, at, peers, None, Shared::of(&errors))?;
+    let page = Page::at(rt, serve)?;
+    let mut board = board_of(rt, &sheet)?;
+    let mut link = Attended {
+        link: sealing.link_at(rt, at, peers, page.descriptor(), Shared::of(&errors))?,
+        clock: MonotonicClock::new(rt),
+        viewers: page.viewers(),
+    };
     let _ = sealing.tell_fingerprints(&mut Shared::of(&errors));
+    page.tell(&mut Shared::of(&errors));
     let mut clock = MonotonicClock::new(rt);
     let mut notes = Notes::new(Shared::of(&errors));
     let mut out = Watched::new(Shared::of(&output));
     let mut shown = Shown {
-        files,
+        files: Both {
+            files,
+            page: page.panes(rt.alloc(), &errors),
+        },
         output: &output,
         errors: &errors,
+        viewers: page.viewers(),
     };
     let ended = keep_board(
         &mut board,

@@ -4,6 +4,9 @@
 mod begin;
 mod files;
 mod notes;
+mod page;
+mod pane;
+mod served;
 mod shown;
 
 pub use crate::begin::start_board;

@@ -62,6 +62,7 @@ rows Board =
     codes "  --desk-b ADDR:PORT  the address of desk B" ∷
     codes "  --text T            a file for its six lines; or left out" ∷
     codes "  --json J            a file of all that a page shows, as JSON; or left out" ∷
+    codes "  --serve ADDR:PORT   where browsers find its page; or left out" ∷
     codes "  --key K             the file of the key, the same everywhere; or left out" ∷ []
 rows Key =
     codes "key: writes a new key to a file. Both desks and each board get this same file," ∷

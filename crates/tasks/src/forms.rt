@@ -100,6 +100,7 @@ fn board_words<'a>(alloc: Global) -> Result<Command<'a>, AllocError> {
         .arg(wanted(alloc, "desk-b"))?
         .arg(Arg::new(alloc, "text").long("text"))?
         .arg(Arg::new(alloc, "json").long("json"))?
+        .arg(Arg::new(alloc, "serve").long("serve"))?
         .arg(Arg::new(alloc, "key").long("key"))
 }
 

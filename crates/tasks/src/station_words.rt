@@ -6,7 +6,8 @@ ghost use Rattle.tasks.specs.Words.{IsTask};
 use crate::task::Task;
 use crate::words::desk_in;
 use clap::ArgMatches;
-use machine::addresses_in;
+use machine::{Address, addresses_in};
+use std::net::SocketAddr;
 
 /// A desk's task.
 pub fn desk_task<'a>(words: &ArgMatches<'a>) -> Option<Task<'a>>
@@ -29,6 +30,22 @@ pub fn desk_task<'a>(words: &ArgMatches<'a>) -> Option<Task<'a>>
     })
 }
 
+/// The address of a page, if the text is one with a port of its own.
+fn place_in(text: &str) -> Option<Address<'_>> {
+    match text.parse::<SocketAddr>() {
+        Ok(socket) if socket.port() != 0 => Some(Address { text, socket }),
+        _ => None,
+    }
+}
+
+/// Where the words say that a page is, if they do.
+fn served_in<'a>(words: &ArgMatches<'a>) -> Option<Option<Address<'a>>> {
+    match words.get_str("serve") {
+        Some(text) => Some(Some(place_in(text)?)),
+        None => Some(None),
+    }
+}
+
 /// A board's task.
 pub fn board_task<'a>(words: &ArgMatches<'a>) -> Option<Task<'a>>
     ensures { IfSome result IsTask }
@@ -41,6 +58,7 @@ pub fn board_task<'a>(words: &ArgMatches<'a>) -> Option<Task<'a>>
         peers,
         text: words.get_str("text"),
         json: words.get_str("json"),
+        serve: served_in(words)?,
         key: words.get_str("key"),
     })
 }

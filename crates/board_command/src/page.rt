@@ -1,0 +1,97 @@
+//! The page of a board.
+
+use crate::begin::Told;
+use crate::files::{Files, Kept};
+use crate::pane::{Kind, Pane};
+use corrections::CheckedBook;
+use machine::Address;
+use setup::{StopFault, Stopped};
+use station_screens::{Errors, Shared};
+use std::alloc::Global;
+use std::cell::RefCell;
+use std::io::Write;
+use std::os::fd::RawFd;
+use viewers::Viewers;
+
+/// What a page shows of a board, as its files do.
+type Panes<'v, 's, 'a> = Files<'a, Pane<'v>, Told<'s, 'a>, CheckedBook>;
+
+/// A page at an address, with all who look at it.
+#[derive(Drop)]
+struct Served<'a> {
+    at: Address<'a>,
+    /// What ends a wait where somebody looks at it.
+    ends: RawFd,
+    viewers: RefCell<Viewers>,
+}
+
+/// The page of a board, where there is one.
+#[derive(Drop)]
+pub struct Page<'a> {
+    served: Option<Served<'a>>,
+}
+
+impl<'a> Page<'a> {
+    /// The page at an address, where one is given.
+    pub fn at(rt: &HostRuntime, at: Option<Address<'a>>) -> Result<Page<'a>, Stopped<'a>> {
+        let Some(at) = at else {
+            return Ok(Page { served: None });
+        };
+        match Viewers::new(rt, rt.alloc(), at.socket) {
+            Ok(viewers) => {
+                let ends = viewers.descriptor();
+                Ok(Page {
+                    served: Some(Served {
+                        at,
+                        ends,
+                        viewers: RefCell::new(viewers),
+                    }),
+                })
+            }
+            Err(_) => Err(Stopped::at(at.text, StopFault::Listen)),
+        }
+    }
+
+    /// Who looks at it.
+    pub fn viewers(&self) -> Option<&RefCell<Viewers>> {
+        match &self.served {
+            Some(served) => Some(&served.viewers),
+            None => None,
+        }
+    }
+
+    /// What ends a board's waits where somebody looks at its page, as a keyboard does those of a desk.
+    pub fn descriptor(&self) -> Option<RawFd> {
+        match &self.served {
+            Some(served) => Some(served.ends),
+            None => None,
+        }
+    }
+
+    /// Tells where it is. That it can't be told is no fault.
+    pub fn tell<W: Write>(&self, errors: &mut W) {
+        if let Some(served) = &self.served {
+            let text = served.at.text;
+            let _ = writeln!(errors, "page: http://{text}/");
+        }
+    }
+
+    /// What it shows of a board: nothing yet.
+    pub fn panes<'v, 's>(
+        &'v self,
+        alloc: Global,
+        errors: &'s RefCell<Errors<'a>>,
+    ) -> Panes<'v, 's, 'a> {
+        let Some(served) = &self.served else {
+            return Files::new(alloc, None, None);
+        };
+        let place = served.at.text;
+        let lines = Pane::of(alloc, &served.viewers, Kind::Lines);
+        let state = Pane::of(alloc, &served.viewers, Kind::State);
+        Files::new(
+            alloc,
+            Some(Kept::new(lines, place, Shared::of(errors))),
+            Some(Kept::new(state, place, Shared::of(errors))),
+        )
+    }
+}

@@ -1,0 +1,99 @@
+//! What a page shows of a board.
+
+ghost use Rattle.std.specs.Prelude.{◌≡◌, ◌∷◌, ◌++◌, [], IfOk, Some};
+ghost use Rattle.board_command.specs.Served.{texts_in};
+
+use machine::{Cause, Name, Replaces, WriteFault};
+use std::alloc::{AllocError, Global};
+use std::cell::RefCell;
+use std::snapshot::Snapshot;
+use viewers::Viewers;
+
+/// The texts that were handed over, in order. Clauses alone read it.
+#[derive(Drop)]
+enum TextLog {
+    Empty,
+    Given(Snapshot<TextLog>, Snapshot<Vec<u8>>),
+}
+
+impl TextLog {
+    /// These, and then this one.
+    fn given(&self, text: &Vec<u8>) -> TextLog
+        ensures { texts_in result ≡ texts_in self.now ++ text.now.items ∷ [] }
+    {
+        TextLog::Given(Snapshot::of(self), Snapshot::of(text))
+    }
+}
+
+/// Which of a board's texts it is.
+#[derive(Clone, Copy, Debug, PartialEq, Eq)]
+pub enum Kind {
+    Lines,
+    State,
+}
+
+/// One of the texts that a page shows: the newest one that it was given.
+#[derive(Drop)]
+pub struct Pane<'v> {
+    alloc: Global,
+    viewers: &'v RefCell<Viewers>,
+    kind: Kind,
+    log: TextLog,
+}
+
+/// A copy of a text.
+fn copy_of(alloc: Global, text: &[u8]) -> Result<Vec<u8>, AllocError>
+    ensures { IfOk result (λ copy. copy.items ≡ text.now) }
+{
+    let mut copy = Vec::new(alloc);
+    copy.extend_from_slice(text)?;
+    Ok(copy)
+}
+
+/// That a text can't be shown, and why.
+fn fault(why: Cause) -> WriteFault {
+    WriteFault {
+        name: Name::Own,
+        why,
+    }
+}
+
+impl<'v> Pane<'v> {
+    /// Of this page, which wasn't given any yet.
+    pub fn of(alloc: Global, viewers: &'v RefCell<Viewers>, kind: Kind) -> Pane<'v>
+        ensures { texts_in result.log ≡ [] }
+    {
+        Pane {
+            alloc,
+            viewers,
+            kind,
+            log: TextLog::Empty,
+        }
+    }
+
+    /// Has the page show this text.
+    fn show(&self, text: Vec<u8>) -> Result<(), WriteFault> {
+        let Ok(mut viewers) = self.viewers.try_borrow_mut() else {
+            return Err(fault(Cause::System));
+        };
+        match self.kind {
+            Kind::Lines => viewers.put_lines(text),
+            Kind::State => viewers.put_state(text),
+        }
+        Ok(())
+    }
+}
+
+impl Replaces for Pane<'_> {
+    ghost given = { λ pane. Some (texts_in pane.log) };
+
+    fn replace(&mut self, text: &[u8]) -> Result<(), WriteFault> {
+        let Ok(copy) = copy_of(self.alloc, text) else {
+            return Err(fault(Cause::NoMemory));
+        };
+        let log = self.log.given(&copy);
+        self.show(copy)?;
+        self.log = log;
+        Ok(())
+    }
+}

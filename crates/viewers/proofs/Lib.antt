@@ -1,0 +1,2 @@
+-- Lemmas on answers, as HTTP's grammar reads them.
+pub mod ResponseLemmas

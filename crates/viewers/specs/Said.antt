@@ -1,0 +1,21 @@
+-- What was said to a viewer, and what its stream has taken.
+use Rattle.std.specs.Prelude.{ℕ, List, [], ◌++◌, drop, take}
+use Rattle.viewers.specs.Replies.{reply_text, told_text, beat_text}
+use Rattle.viewers.specs.declared.logs.{SaidLog.SaidLog, SaidLog.Empty, SaidLog.Answered', SaidLog.Told', SaidLog.Beat', TakenLog.TakenLog}
+use Rattle.viewers.specs.declared.logs.TakenLog as taken
+use Rattle.viewers.specs.declared.wire.Wire.{Wire}
+
+-- the bytes of all that was said: answers, states and beats, and nothing between them
+abbrev pub said_in : SaidLog → List ℕ
+said_in Empty = []
+said_in (Answered' marker before server asked shown) = said_in before ++ reply_text server.value asked.value shown.value
+said_in (Told' marker before server shown) = said_in before ++ told_text server.value shown.value
+said_in (Beat' marker before server) = said_in before ++ beat_text server.value
+
+-- what a stream has taken
+abbrev pub bytes_in : TakenLog → List ℕ
+bytes_in taken.Empty = []
+bytes_in (taken.More' marker before bytes from count) = bytes_in before ++ take count.value (drop from.value bytes.value.items)
+
+abbrev pub taken_by : {S : Type 0} → Wire S → List ℕ
+taken_by wire = bytes_in wire.taken

@@ -1,0 +1,227 @@
+//! All who look at a page.
+
+ghost use Rattle.std.specs.Prelude.{◌≡◌};
+
+use crate::listening::listener_at;
+use crate::shown::Shown;
+use crate::viewer::Viewer;
+use mio::net::{TcpListener, TcpStream};
+use mio::{Events, Interest, Poll, Token};
+use std::alloc::Global;
+use std::io;
+use std::net::{Net, SocketAddr};
+use std::os::fd::{AsRawFd, RawFd};
+use std::time::Duration;
+
+/// How many there are at most.
+const MOST_VIEWERS: usize = 256;
+
+/// How many events are taken of the machine at once.
+const MOST_EVENTS: usize = 64;
+
+/// What names the listener among what is waited for.
+const LISTENER: Token = Token(usize::MAX);
+
+/// How often a viewer hears that the board is there, in milliseconds.
+const BEAT: u64 = 2_000;
+
+/// Who looks at a page, and where others come in.
+#[derive(Drop)]
+struct Crowd {
+    alloc: Global,
+    at: SocketAddr,
+    poll: Poll,
+    events: Events<Global>,
+    listener: TcpListener,
+    viewers: Vec<Option<Viewer<TcpStream>>>,
+    /// Whether somebody may wait to come in.
+    has_guests: bool,
+    /// When they last heard that the board is there.
+    beat: u64,
+}
+
+impl Crowd {
+    /// At this address.
+    fn new(net: &impl Net, alloc: Global, at: SocketAddr) -> io::Result<Crowd> {
+        let mut listener = listener_at(net, at)?;
+        let poll = Poll::new(net)?;
+        poll.registry()
+            .register(&mut listener, LISTENER, Interest::READABLE)?;
+        Ok(Crowd {
+            alloc,
+            at,
+            poll,
+            events: Events::with_capacity(alloc, MOST_EVENTS)?,
+            listener,
+            viewers: Vec::new(alloc),
+            has_guests: true,
+            beat: 0,
+        })
+    }
+
+    /// A free place, where there is one.
+    fn place(&mut self) -> io::Result<Option<usize>> {
+        if let Some(at) = self.viewers.iter().position(|viewer| viewer.is_none()) {
+            return Ok(Some(at));
+        }
+        let at = self.viewers.len();
+        if at >= MOST_VIEWERS {
+            return Ok(None);
+        }
+        self.viewers.push(None)?;
+        Ok(Some(at))
+    }
+
+    /// Lets somebody in at this place.
+    fn seat(&mut self, at: usize, stream: TcpStream, now: u64) -> io::Result<()> {
+        let mut stream = stream;
+        let _ = stream.set_nodelay(true);
+        let both = Interest::READABLE | Interest::WRITABLE;
+        self.poll.registry().register(&mut stream, Token(at), both)?;
+        if let Some(slot) = self.viewers.get_mut(at) {
+            *slot = Some(Viewer::new(self.alloc, stream, now));
+        }
+        Ok(())
+    }
+
+    /// Lets in the next who waits. Who finds no place is sent away.
+    fn admit(&mut self, now: u64) -> io::Result<()> {
+        let (stream, _) = self.listener.accept()?;
+        match self.place()? {
+            Some(at) => self.seat(at, stream, now),
+            None => Ok(()),
+        }
+    }
+
+    /// Lets in those who wait, until none is left or a call fails: then it is tried again in the next turn.
+    fn admit_all(&mut self, now: u64) {
+        for _ in 0..MOST_VIEWERS {
+            match self.admit(now) {
+                Ok(()) => {}
+                Err(why) => {
+                    self.has_guests = why.kind() != io::ErrorKind::WouldBlock;
+                    break;
+                }
+            }
+        }
+    }
+
+    /// Notes who may have something to read, or may take more.
+    fn note(&mut self) {
+        for event in self.events.iter() {
+            let Token(at) = event.token();
+            if event.token() == LISTENER {
+                self.has_guests = true;
+            } else if let Some(Some(viewer)) = self.viewers.get_mut(at) {
+                viewer.wake();
+            }
+        }
+    }
+
+    /// Serves who is at this place, and lets go who has had time enough.
+    fn serve(&mut self, at: usize, shown: &Shown, now: u64) {
+        let Some(slot) = self.viewers.get_mut(at) else {
+            return;
+        };
+        if let Some(viewer) = slot {
+            viewer.serve(self.alloc, self.at, shown, now);
+            if viewer.is_over(now) {
+                *slot = None;
+            }
+        }
+    }
+
+    /// Takes what the machine tells, so that no wait ends for it again.
+    fn look(&mut self) {
+        let wait = Some(Duration::from_millis(0));
+        if self.poll.poll(&mut self.events, wait).is_ok() {
+            self.note();
+        }
+    }
+
+    /// Does what can be done at once.
+    fn pump(&mut self, shown: &Shown, now: u64) {
+        self.look();
+        if self.has_guests {
+            self.admit_all(now);
+        }
+        for at in 0..self.viewers.len() {
+            self.serve(at, shown, now);
+        }
+    }
+
+    /// Whether it is time for a beat.
+    fn take_beat(&mut self, now: u64) -> bool {
+        let is_due = now.saturating_sub(self.beat) >= BEAT;
+        if is_due {
+            self.beat = now;
+        }
+        is_due
+    }
+
+    /// Tells all what is shown, or that the board is there.
+    fn tell(&mut self, shown: &Shown, now: u64) {
+        let is_beat = self.take_beat(now);
+        for slot in self.viewers.iter_mut() {
+            if let Some(viewer) = slot {
+                viewer.tell(self.alloc, shown, is_beat, now);
+            }
+        }
+    }
+}
+
+/// A page at an address, with all who look at it. What they send changes nothing of what is shown.
+#[derive(Drop)]
+pub struct Viewers {
+    crowd: Crowd,
+    shown: Shown,
+}
+
+impl Viewers {
+    /// A page at this address, of which nothing is shown yet.
+    pub fn new(net: &impl Net, alloc: Global, at: SocketAddr) -> io::Result<Viewers> {
+        Ok(Viewers {
+            crowd: Crowd::new(net, alloc, at)?,
+            shown: Shown {
+                lines: Vec::new(alloc),
+                state: Vec::new(alloc),
+                number: 0,
+            },
+        })
+    }
+
+    /// These six lines are shown from here on.
+    pub fn put_lines(&mut self, lines: Vec<u8>)
+        ensures lines { self.new.shown.lines ≡ lines }
+        ensures state { self.new.shown.state ≡ self.old.shown.state }
+    {
+        self.shown.put_lines(lines);
+    }
+
+    /// This state is shown from here on.
+    pub fn put_state(&mut self, state: Vec<u8>)
+        ensures state { self.new.shown.state ≡ state }
+        ensures lines { self.new.shown.lines ≡ self.old.shown.lines }
+    {
+        self.shown.put_state(state);
+    }
+
+    /// What ends a wait where somebody comes, asks, or may take more.
+    pub fn descriptor(&self) -> RawFd {
+        self.crowd.poll.as_raw_fd()
+    }
+
+    /// Lets in who waits, answers who asks, and lets go who has gone or had time enough, as far as that goes at once.
+    pub fn pump(&mut self, now: u64)
+        ensures { self.new.shown ≡ self.old.shown }
+    {
+        self.crowd.pump(&self.shown, now);
+    }
+
+    /// Tells all who asked for it what is shown, where they weren't told it, or each two seconds that the board is there.
+    pub fn tell(&mut self, now: u64)
+        ensures { self.new.shown ≡ self.old.shown }
+    {
+        self.crowd.tell(&self.shown, now);
+    }
+}

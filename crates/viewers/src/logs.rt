@@ -1,0 +1,76 @@
+//! What was said to a viewer, and what a stream has taken. Clauses alone read both: they take no memory, and have no last
+//! value.
+
+ghost use Rattle.std.specs.Prelude.{◌≡◌, ◌++◌, drop, take};
+
+use crate::asks::Asked;
+use crate::shown::Shown;
+use http1::Server;
+use std::snapshot::Snapshot;
+
+/// All that was said to a viewer, in order: the answer to what it asked for, then states and beats.
+#[derive(Drop)]
+pub enum SaidLog {
+    Empty,
+    Answered(Snapshot<SaidLog>, Snapshot<Server>, Snapshot<Asked>, Snapshot<Shown>),
+    Told(Snapshot<SaidLog>, Snapshot<Server>, Snapshot<Shown>),
+    Beat(Snapshot<SaidLog>, Snapshot<Server>),
+}
+
+impl SaidLog {
+    ghost use Rattle.viewers.specs.Replies.{reply_text, told_text, beat_text};
+    ghost use Rattle.viewers.specs.Said.{said_in};
+
+    /// This, and then the answer to what was asked for.
+    pub fn answered(&self, server: &Server, asked: &Asked, shown: &Shown) -> SaidLog
+        ensures { said_in result ≡ said_in self.now ++ reply_text server.now asked.now shown.now }
+    {
+        SaidLog::Answered(
+            Snapshot::of(self),
+            Snapshot::of(server),
+            Snapshot::of(asked),
+            Snapshot::of(shown),
+        )
+    }
+
+    /// This, and then a state.
+    pub fn told(&self, server: &Server, shown: &Shown) -> SaidLog
+        ensures { said_in result ≡ said_in self.now ++ told_text server.now shown.now }
+    {
+        SaidLog::Told(
+            Snapshot::of(self),
+            Snapshot::of(server),
+            Snapshot::of(shown),
+        )
+    }
+
+    /// This, and then that the board is there.
+    pub fn beat(&self, server: &Server) -> SaidLog
+        ensures { said_in result ≡ said_in self.now ++ beat_text server.now }
+    {
+        SaidLog::Beat(Snapshot::of(self), Snapshot::of(server))
+    }
+}
+
+/// The bytes that a stream has taken, in order. Each time it is so many of these, from one on.
+#[derive(Drop)]
+pub enum TakenLog {
+    Empty,
+    More(Snapshot<TakenLog>, Snapshot<Vec<u8>>, Snapshot<usize>, Snapshot<usize>),
+}
+
+impl TakenLog {
+    ghost use Rattle.viewers.specs.Said.{bytes_in};
+
+    /// These, and then so many more.
+    pub fn more(&self, bytes: &Vec<u8>, from: usize, count: usize) -> TakenLog
+        ensures { bytes_in result ≡ bytes_in self.now ++ take count (drop from bytes.now.items) }
+    {
+        TakenLog::More(
+            Snapshot::of(self),
+            Snapshot::of(bytes),
+            Snapshot::of(&from),
+            Snapshot::of(&count),
+        )
+    }
+}

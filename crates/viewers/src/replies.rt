@@ -1,0 +1,229 @@
+//! What a viewer is sent.
+
+ghost use Rattle.std.specs.Prelude.{◌≡◌, ◌<◌, ◌^◌, ◌++◌, [], IfOk, None, OnOk, codes, length};
+ghost use Rattle.http1.specs.Head.{pairs};
+ghost use Rattle.http1.specs.Server.{after_response, planned_response, response_refusal, writing};
+ghost use Rattle.http1.specs.Conn.{after_data, data_refusal, data_text, finish_refusal, finish_text};
+ghost use Rattle.viewers.specs.Responses.{IsResponse};
+ghost use Rattle.viewers.specs.Replies as texts;
+
+use crate::asks::Ask;
+use crate::page::{PAGE, POLICY};
+use crate::shown::Shown;
+use http1::{BodySize, Header, Server, WriteError};
+use itoa::Buffer;
+use std::alloc::{AllocError, Global};
+
+const HTML: &[u8] = b"text/html; charset=utf-8";
+
+const JSON: &[u8] = b"application/json";
+
+const TEXT: &[u8] = b"text/plain; charset=utf-8";
+
+const STREAM: &[u8] = b"text/event-stream";
+
+/// What says that the board is there, where there is nothing new.
+const BEAT: &[u8] = b"event: beat\ndata: -\n\n";
+
+/// The fields of a head, with what kind of text follows it.
+fn fields_of(kind: &[u8]) -> [Header<'_>; 7]
+    ensures { pairs result ≡ texts.fields_of kind.now }
+{
+    [
+        Header {
+            name: b"content-type",
+            value: kind,
+        },
+        Header {
+            name: b"cache-control",
+            value: b"no-store",
+        },
+        Header {
+            name: b"x-content-type-options",
+            value: b"nosniff",
+        },
+        Header {
+            name: b"referrer-policy",
+            value: b"no-referrer",
+        },
+        Header {
+            name: b"content-security-policy",
+            value: POLICY,
+        },
+        Header {
+            name: b"allow",
+            value: b"GET, HEAD",
+        },
+        Header {
+            name: b"connection",
+            value: b"close",
+        },
+    ]
+}
+
+/// A head of this status, in front of a text of this kind and size.
+fn front(
+    alloc: Global,
+    server: &mut Server,
+    status: u16,
+    reason: &[u8],
+    kind: &[u8],
+    size: BodySize,
+) -> Result<Vec<u8>, WriteError>
+    ensures text { IfOk result (λ bytes.
+        bytes.items ≡ planned_response server.old status reason.now size (texts.fields_of kind.now)) }
+    ensures next { OnOk result (server.new ≡ after_response server.old status size (texts.fields_of kind.now)) }
+    ensures taken { OnOk result (response_refusal server.old status reason.now size (texts.fields_of kind.now) ≡ None) }
+{
+    let fields = fields_of(kind);
+    let mut out = Vec::new(alloc);
+    server.write_response(&mut out, status, reason, &fields, size)?;
+    Ok(out)
+}
+
+/// Adds a whole text to its head.
+fn put_text(server: &mut Server, out: &mut Vec<u8>, text: &[u8]) -> Result<(), WriteError>
+    ensures text { OnOk result (out.new.items ≡ out.old.items ++ data_text (writing server.old) text.now
+        ++ finish_text (after_data (writing server.old) (length text.now)) []) }
+    ensures short { length text.now < 2 ^ 64 }
+    ensures fits { OnOk result (data_refusal (writing server.old) (length text.now) ≡ None) }
+    ensures ends { OnOk result
+        (finish_refusal (after_data (writing server.old) (length text.now)) [] ≡ None) }
+{
+    server.write_data(out, text)?;
+    server.write_end(out, &[])
+}
+
+/// What is sent of a text: nothing of it, where the head alone is asked for.
+fn sent_of(text: &[u8], is_head: bool) -> &[u8]
+    ensures { result.now ≡ texts.sent_of text.now is_head }
+{
+    if is_head { &text[..0] } else { text }
+}
+
+/// A head of this status, and a whole text of this kind behind it, or the head alone.
+fn whole(
+    alloc: Global,
+    server: &mut Server,
+    status: u16,
+    reason: &[u8],
+    kind: &[u8],
+    text: &[u8],
+    is_head: bool,
+) -> Result<Vec<u8>, WriteError>
+    ensures text { IfOk result (λ bytes.
+        bytes.items ≡ texts.whole_text server.old status reason.now kind.now text.now is_head) }
+    ensures http { IfOk result (λ bytes.
+        IsResponse server.old status reason.now (texts.fields_of kind.now) (texts.sent_of text.now is_head) bytes.items) }
+{
+    let size = BodySize::Known(text.len() as u64);
+    let mut out = front(alloc, server, status, reason, kind, size)?;
+    put_text(server, &mut out, sent_of(text, is_head))?;
+    Ok(out)
+}
+
+/// A whole text that tells why something isn't had.
+fn refusal(
+    alloc: Global,
+    server: &mut Server,
+    status: u16,
+    reason: &[u8],
+    text: &[u8],
+    is_head: bool,
+) -> Result<Vec<u8>, WriteError>
+    ensures { IfOk result (λ bytes.
+        bytes.items ≡ texts.whole_text server.old status reason.now texts.plain text.now is_head) }
+{
+    whole(alloc, server, status, reason, TEXT, text, is_head)
+}
+
+/// The page.
+fn page(alloc: Global, server: &mut Server, is_head: bool) -> Result<Vec<u8>, WriteError>
+    ensures { IfOk result (λ bytes. bytes.items ≡ texts.page_text server.old is_head) }
+{
+    whole(alloc, server, 200, b"OK", HTML, PAGE, is_head)
+}
+
+/// One of the texts that are shown.
+fn shown_text(
+    alloc: Global,
+    server: &mut Server,
+    kind: &[u8],
+    text: &[u8],
+    is_head: bool,
+) -> Result<Vec<u8>, WriteError>
+    ensures { IfOk result (λ bytes.
+        bytes.items ≡ texts.whole_text server.old 200 (codes "OK") kind.now text.now is_head) }
+{
+    whole(alloc, server, 200, b"OK", kind, text, is_head)
+}
+
+/// A head alone, behind which states follow for as long as the viewer stays.
+fn stream(alloc: Global, server: &mut Server) -> Result<Vec<u8>, WriteError>
+    ensures { IfOk result (λ bytes. bytes.items ≡ texts.stream_text server.old) }
+{
+    front(alloc, server, 200, b"OK", STREAM, BodySize::Unknown)
+}
+
+/// The answer to what was asked for, while this is shown.
+pub fn reply(
+    alloc: Global,
+    server: &mut Server,
+    ask: Ask,
+    head: bool,
+    shown: &Shown,
+) -> Result<Vec<u8>, WriteError>
+    ensures { IfOk result (λ bytes. bytes.items ≡ texts.answer_text server.old ask head shown.now) }
+{
+    match ask {
+        Ask::Page => page(alloc, server, head),
+        Ask::Lines => shown_text(alloc, server, TEXT, shown.lines.as_slice(), head),
+        Ask::State => shown_text(alloc, server, JSON, shown.state.as_slice(), head),
+        Ask::Events => stream(alloc, server),
+        Ask::Unready => refusal(alloc, server, 503, b"Not Yet", b"no score yet\n", head),
+        Ask::Missing => refusal(alloc, server, 404, b"Not Found", b"not here\n", head),
+        Ask::Method => refusal(alloc, server, 405, b"Not Allowed", b"only GET\n", head),
+        Ask::Foreign => refusal(alloc, server, 403, b"Forbidden", b"another host\n", head),
+        Ask::Faulty(status) => refusal(alloc, server, status, b"Refused", b"refused\n", head),
+    }
+}
+
+/// A state as an event: its number, and its text, which is one line.
+fn event_of(alloc: Global, shown: &Shown) -> Result<Vec<u8>, AllocError>
+    ensures { IfOk result (λ bytes. bytes.items ≡ texts.event shown.now) }
+{
+    let mut digits = Buffer::new();
+    let mut out = Vec::new(alloc);
+    out.extend_from_slice(b"id: ")?;
+    out.extend_from_slice(digits.format(shown.number).as_bytes())?;
+    out.extend_from_slice(b"\ndata: ")?;
+    out.extend_from_slice(shown.state.as_slice())?;
+    out.extend_from_slice(b"\n")?;
+    Ok(out)
+}
+
+/// A piece of what follows the head of a stream.
+fn piece(alloc: Global, server: &mut Server, text: &[u8]) -> Result<Vec<u8>, WriteError>
+    ensures { IfOk result (λ bytes. bytes.items ≡ data_text (writing server.old) text.now) }
+{
+    let mut out = Vec::new(alloc);
+    server.write_data(&mut out, text)?;
+    Ok(out)
+}
+
+/// The state that is shown, to who has asked for it whenever it is new.
+pub fn told(alloc: Global, server: &mut Server, shown: &Shown) -> Result<Vec<u8>, WriteError>
+    ensures { IfOk result (λ bytes. bytes.items ≡ texts.told_text server.old shown.now) }
+{
+    match event_of(alloc, shown) {
+        Ok(event) => piece(alloc, server, event.as_slice()),
+        Err(_) => Err(WriteError::OutOfMemory),
+    }
+}
+
+/// That the board is there, likewise.
+pub fn beat(alloc: Global, server: &mut Server) -> Result<Vec<u8>, WriteError>
+    ensures { IfOk result (λ bytes. bytes.items ≡ texts.beat_text server.old) }
+{
+    piece(alloc, server, BEAT)
+}

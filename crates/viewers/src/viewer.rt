@@ -1,0 +1,307 @@
+//! A browser's connection.
+
+ghost use Rattle.std.specs.Prelude.{◌≡◌, ◌≤◌, ◌++◌, drop, nat_lt, vec_len};
+ghost use Rattle.std.specs.Result.{ForOk};
+ghost use Rattle.viewers.specs.Said.{said_in, taken_by};
+
+use crate::asks::{Ask, Asked, asked_in};
+use crate::logs::SaidLog;
+use crate::replies::{beat, reply, told};
+use crate::shown::Shown;
+use crate::wire::{Stream, Wire};
+use bytes::{Buf, BytesMut};
+use http1::{Event, Limits, Server, WriteError};
+use httparse::spans::{EMPTY_HEADER_SPAN, HeaderSpan};
+use std::alloc::Global;
+use std::io;
+use std::net::SocketAddr;
+
+/// How long a request and its answer may take, and how long a viewer may take nothing, in milliseconds.
+const PATIENCE: u64 = 10_000;
+
+/// How many pieces are read or written at once.
+const MOST_PIECES: u32 = 8;
+
+/// How many fields a head may have.
+const MOST_FIELDS: usize = 32;
+
+/// Which heads are taken.
+const LIMITS: Limits = Limits {
+    max_head_len: 4096,
+    max_extensions_len: 64,
+    max_trailers_len: 64,
+};
+
+/// What a connection is about.
+#[derive(Clone, Copy, Debug, PartialEq, Eq)]
+enum Stage {
+    /// A head is read.
+    Head,
+    /// It is told each new state, and was told those up to this number.
+    Watching(u64),
+    /// It was answered. What comes is passed over.
+    Answered,
+    /// All was sent, and it was told that nothing follows.
+    Ended,
+}
+
+/// A browser's connection, which asks for one thing. What it was sent and is still to be sent is just what was said to it:
+/// one answer, and where it asked for events, states and beats.
+#[derive(Drop)]
+pub struct Viewer<S: Stream> {
+    wire: Wire<S>,
+    server: Server,
+    input: BytesMut,
+    /// What was said last.
+    out: Vec<u8>,
+    /// How many bytes of it are taken.
+    done: usize,
+    said: SaidLog,
+    stage: Stage,
+    since: u64,
+    may_read: bool,
+    /// Whether nothing more comes from it.
+    is_left: bool,
+    is_gone: bool,
+    ghost within: { done ≤ vec_len out },
+    ghost sent: { taken_by wire ++ drop done out.items ≡ said_in said },
+}
+
+impl<S: Stream> Viewer<S> {
+    /// One that came now.
+    pub fn new(alloc: Global, stream: S, now: u64) -> Viewer<S> {
+        Viewer {
+            wire: Wire::of(stream),
+            server: Server::new(LIMITS),
+            input: BytesMut::new(alloc),
+            out: Vec::new(alloc),
+            done: 0,
+            said: SaidLog::Empty,
+            stage: Stage::Head,
+            since: now,
+            may_read: true,
+            is_left: false,
+            is_gone: false,
+        }
+    }
+
+    /// From here on there may be something to read.
+    pub fn wake(&mut self) {
+        self.may_read = true;
+    }
+
+    /// Whether something that was said isn't taken yet.
+    fn is_sending(&self) -> bool
+        ensures { result ≡ nat_lt self.now.done (vec_len self.now.out) }
+    {
+        self.done < self.out.len()
+    }
+
+    /// Whether it is to be let go: it has gone, or had time enough.
+    pub fn is_over(&self, now: u64) -> bool {
+        let is_idle = matches!(self.stage, Stage::Watching(_)) && !self.is_sending();
+        self.is_gone || (!is_idle && now.saturating_sub(self.since) > PATIENCE)
+    }
+
+    /// Says this next, of which this is known. Where it couldn't be made, the viewer is let go.
+    fn say(&mut self, text: Result<Vec<u8>, WriteError>, said: SaidLog)
+        requires all { self.old.done ≡ vec_len self.old.out }
+        requires text { ForOk text (λ bytes. said_in said ≡ said_in self.old.said ++ bytes.items) }
+    {
+        match text {
+            Ok(text) => {
+                self.out = text;
+                self.done = 0;
+                self.said = said;
+            }
+            Err(_) => self.is_gone = true,
+        }
+    }
+
+    /// Answers what was asked for, while this is shown.
+    fn answer(&mut self, alloc: Global, asked: Asked, shown: &Shown) {
+        if self.is_sending() {
+            return;
+        }
+        self.stage = match asked.ask {
+            Ask::Events => Stage::Watching(0),
+            _ => Stage::Answered,
+        };
+        self.input = BytesMut::new(alloc);
+        let said = self.said.answered(&self.server, &asked, shown);
+        let text = reply(alloc, &mut self.server, asked.ask, asked.is_head, shown);
+        self.say(text, said);
+    }
+
+    /// What the head asks for that came, once it is whole.
+    fn asked(&mut self, at: SocketAddr) -> Option<Asked> {
+        let mut fields: [HeaderSpan; 32] = [EMPTY_HEADER_SPAN; MOST_FIELDS];
+        match self.server.read(self.input.as_slice(), &mut fields) {
+            Ok(read) => match read.event {
+                Event::Head(head) => {
+                    let count = head.headers.min(MOST_FIELDS);
+                    let input = self.input.as_slice();
+                    Some(asked_in(input, &head, &fields[..count], at))
+                }
+                _ => None,
+            },
+            Err(why) => Some(Asked {
+                ask: Ask::Faulty(why.status()),
+                is_head: false,
+            }),
+        }
+    }
+
+    /// Takes bytes that came. Those behind the first head are passed over.
+    fn take(&mut self, alloc: Global, bytes: &[u8], at: SocketAddr, shown: &Shown) {
+        if self.stage != Stage::Head {
+            return;
+        }
+        if self.input.extend_from_slice(bytes).is_err() {
+            self.is_gone = true;
+            return;
+        }
+        if let Some(asked) = self.asked(at) {
+            self.answer(alloc, ready(asked, shown), shown);
+        }
+    }
+
+    /// Nothing more comes. Who was answered still gets the rest of it.
+    fn leave(&mut self) {
+        self.may_read = false;
+        self.is_left = true;
+        if self.stage != Stage::Answered || !self.is_sending() {
+            self.is_gone = true;
+        }
+    }
+
+    /// Reads once, and answers what was asked for.
+    fn read(&mut self, alloc: Global, at: SocketAddr, shown: &Shown) {
+        let mut buffer = [0u8; 2048];
+        match self.wire.read(&mut buffer) {
+            Ok(Some(0)) => self.leave(),
+            Ok(Some(count)) => {
+                let count = count.min(buffer.len());
+                self.take(alloc, &buffer[..count], at, shown);
+            }
+            Ok(None) => self.may_read = false,
+            Err(_) => self.is_gone = true,
+        }
+    }
+
+    /// Has a piece of what was said be taken, and tells how many bytes of it were.
+    fn hand_piece(&mut self) -> io::Result<usize> {
+        let count = self.wire.hand(&self.out, self.done)?;
+        self.done += count;
+        Ok(count)
+    }
+
+    /// Notes that it takes what it is told.
+    fn note_taken(&mut self, now: u64) {
+        if matches!(self.stage, Stage::Watching(_)) {
+            self.since = now;
+        }
+    }
+
+    /// Has some of what was said be taken, and tells whether to go on.
+    fn hand_on(&mut self, now: u64) -> bool {
+        if !self.is_sending() {
+            return false;
+        }
+        match self.hand_piece() {
+            Ok(0) => false,
+            Ok(_) => {
+                self.note_taken(now);
+                true
+            }
+            Err(_) => {
+                self.is_gone = true;
+                false
+            }
+        }
+    }
+
+    /// Tells who was answered that nothing follows, once all is sent.
+    fn end(&mut self) {
+        if self.stage != Stage::Answered || self.is_sending() {
+            return;
+        }
+        if self.is_left {
+            self.is_gone = true;
+        } else {
+            self.wire.end();
+            self.stage = Stage::Ended;
+        }
+    }
+
+    /// Has what was said be taken, as far as that goes at once.
+    fn send(&mut self, now: u64) {
+        for _ in 0..MOST_PIECES {
+            if !self.hand_on(now) {
+                break;
+            }
+        }
+        self.end();
+    }
+
+    /// Reads what came, as far as that goes at once, and answers it.
+    pub fn serve(&mut self, alloc: Global, at: SocketAddr, shown: &Shown, now: u64) {
+        for _ in 0..MOST_PIECES {
+            if !self.may_read || self.is_gone {
+                break;
+            }
+            self.read(alloc, at, shown);
+        }
+        self.send(now);
+    }
+
+    /// Tells it the state that is shown.
+    fn tell_state(&mut self, alloc: Global, shown: &Shown) {
+        if self.is_sending() {
+            return;
+        }
+        self.stage = Stage::Watching(shown.number);
+        let said = self.said.told(&self.server, shown);
+        let text = told(alloc, &mut self.server, shown);
+        self.say(text, said);
+    }
+
+    /// Tells it that the board is there.
+    fn tell_beat(&mut self, alloc: Global) {
+        if self.is_sending() {
+            return;
+        }
+        let said = self.said.beat(&self.server);
+        let text = beat(alloc, &mut self.server);
+        self.say(text, said);
+    }
+
+    /// Tells it what is shown, where it has asked for that and wasn't told it, and where there is nothing new, at a beat, that
+    /// the board is there. What it hasn't taken yet comes first: so of several states it gets the newest alone.
+    pub fn tell(&mut self, alloc: Global, shown: &Shown, is_beat: bool, now: u64) {
+        let Stage::Watching(number) = self.stage else {
+            return;
+        };
+        if self.is_sending() {
+            return;
+        }
+        if number != shown.number {
+            self.tell_state(alloc, shown);
+        } else if is_beat {
+            self.tell_beat(alloc);
+        }
+        self.since = now;
+        self.send(now);
+    }
+}
+
+/// What is asked for, where something was handed over to be shown, or that nothing was.
+fn ready(asked: Asked, shown: &Shown) -> Asked {
+    match asked.ask {
+        Ask::Lines | Ask::State if shown.number == 0 => Asked {
+            ask: Ask::Unready,
+            is_head: asked.is_head,
+        },
+        _ => asked,
+    }
+}

@@ -1,0 +1,113 @@
+"""Lives of a board that serves a page, under shim.c, in which a call for it fails: its viewer is played here."""
+import socket, time
+from lives import BOARD, LONGEST, SHEET, TOOLS, Process, answer_board, has_book
+from record import Wrong, bytes_at
+from trials import Ground, expect, shows_board
+
+BEGINNING = ("socket", "bind", "listen", "epoll_create1")
+
+
+class Viewer:
+    """A browser that watches. Where it is sent away, or finds nobody, it comes again."""
+
+    def __init__(self, place):
+        host, port = place.rsplit(":", 1)
+        self.place, self.where, self.it, self.came, self.since = place, (host, int(port)), None, b"", 0.0
+
+    def work(self):
+        """Comes, asks, and takes what is told."""
+        try:
+            if self.it is None:
+                if time.time() < self.since + 0.02:
+                    return
+                self.since, self.came = time.time(), b""
+                self.it = socket.create_connection(self.where, timeout=LONGEST)
+                self.it.sendall(f"GET /events HTTP/1.1\r\nHost: {self.place}\r\n\r\n".encode())
+                self.it.setblocking(False)
+            more = self.it.recv(1 << 16)
+            self.came += more
+            if not more:
+                self.leave()
+        except BlockingIOError:
+            pass
+        except OSError:
+            self.leave()
+
+    def leave(self):
+        if self.it is not None:
+            self.it.close()
+        self.it = None
+
+    def has_book(self):
+        return b'"entries":4,' in self.came
+
+    def state(self):
+        """What is answered to who asks for the state now, and asks again where that fails."""
+        end = time.time() + LONGEST
+        while time.time() < end:
+            try:
+                with socket.create_connection(self.where, timeout=2) as it:
+                    it.sendall(f"GET /board.json HTTP/1.1\r\nHost: {self.place}\r\n\r\n".encode())
+                    found = b""
+                    while more := it.recv(1 << 16):
+                        found += more
+                    if found.startswith(b"HTTP/1.1 200 OK\r\n"):
+                        return found.split(b"\r\n\r\n", 1)[1]
+            except OSError:
+                time.sleep(0.02)
+        raise Wrong("nobody answers who asks for the state")
+
+
+def free_place():
+    """An address for a page, of this worker's own."""
+    with TOOLS.socket() as other, socket.socket() as it:
+        it.bind((other.getsockname()[0], 0))
+        return "%s:%d" % it.getsockname()
+
+
+def life(folder, fail=""):
+    """A board's life until its files have the book and a viewer was told it. It answers its status and texts, and the address of
+    its page."""
+    at, place, desks = TOOLS.free_address(), free_place(), [TOOLS.socket(), TOOLS.socket()]
+    text, json = f"{folder}/board.txt", f"{folder}/board.json"
+    where, viewer = ["%s:%d" % it.getsockname() for it in desks], Viewer(place)
+    words = ["board", "--sheet", SHEET, "--at", at, "--desk-a", where[0], "--desk-b", where[1], "--text", text, "--json", json]
+    with Process([*words, "--serve", place], folder, fail, "") as it:
+        end = time.time() + LONGEST
+        shows = lambda: it.out.endswith(BOARD) and bytes_at(text) == BOARD.encode() and has_book(json) and viewer.has_book()
+        while it.is_open and time.time() < end and not shows():
+            answer_board(desks, it.wait(desks, 0.005)[1])
+            viewer.work()
+        if it.is_open and not shows():
+            raise Wrong(f"a viewer was told {viewer.came[-200:]!r}")
+        if it.is_open and viewer.state() != bytes_at(json):
+            raise Wrong("the state that is answered isn't that of the file")
+        viewer.leave()
+        return it.end(is_stopped=it.is_open), place
+
+
+def recorded_page():
+    """A life that goes well. It answers the calls for the page."""
+    with Ground() as ground:
+        end, place = life(ground.folder)
+        expect((end[0], end[2]), [(None, f"page: http://{place}/\n")])
+        shows_board(ground, end)
+        return [it for it in ground.calls() if it.label == "page"]
+
+
+def is_at_the_beginning(plan):
+    """Whether no page can be had where this fails. What the machine holds for viewers may be more."""
+    return plan.call in BEGINNING or plan.call in ("setsockopt", "epoll_ctl") and plan.count == 1
+
+
+def fail_page(plan):
+    """A life in which a call for the page fails: the board ends as it begins, where there can be no page, and otherwise goes on,
+    and shows the book everywhere."""
+    with Ground() as ground:
+        end, place = life(ground.folder, plan.text())
+        met = plan.met(ground.calls()) is not None
+        told = (3, f"cannot listen at {place}\n") if met and is_at_the_beginning(plan) else (None, f"page: http://{place}/\n")
+        expect((end[0], end[2]), [told])
+        if end[0] is None:
+            shows_board(ground, end)
+        return met
