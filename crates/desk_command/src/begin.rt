@@ -183,14 +183,17 @@ fn answer<'a>(
     }
 }
 
+/// Whether it is of a desk that runs that its votes or what it tells can't be written.
+fn is_of_writing(fault: StopFault) -> bool {
+    matches!(fault, StopFault::Write | StopFault::Disk)
+}
+
 /// The same, with why its file's last failed call failed, where that is what ended it.
 fn with_last<'a>(stopped: Stopped<'a>, file: &'a str, last: Option<WriteFault>) -> Stopped<'a> {
-    match (stopped.fault, last) {
-        (StopFault::Write | StopFault::Disk, Some(_)) => {
-            Stopped::at(file, with_cause(stopped.fault, last))
-        }
-        _ => stopped,
+    if last.is_some() && is_of_writing(stopped.fault) {
+        return Stopped::at(file, with_cause(stopped.fault, last));
     }
+    stopped
 }
 
 /// The same of a desk whose votes may have a copy, where its own file's calls went well and the copy's last one failed.
@@ -201,8 +204,8 @@ fn with_lasts<'a>(
     copy: Option<&'a str>,
     copys_last: Option<WriteFault>,
 ) -> Stopped<'a> {
-    match (stopped.fault, copy, last, copys_last) {
-        (StopFault::Write | StopFault::Disk, Some(copy), None, Some(_)) => {
+    match (copy, last, copys_last) {
+        (Some(copy), None, Some(_)) if is_of_writing(stopped.fault) => {
             Stopped::at(copy, with_copys_cause(stopped.fault, copys_last))
         }
         _ => with_last(stopped, file, last),
