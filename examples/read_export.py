@@ -42,6 +42,12 @@ def is_number(value):
     return isinstance(value, int) and not isinstance(value, bool) and value >= 0
 
 
+def is_match_number(value):
+    """A number, or past 2^53 its text."""
+    text = str(value)
+    return text.isdecimal() and isinstance(value, str if int(text) > 2**53 else int) and text == str(int(text))
+
+
 def is_text(value):
     return isinstance(value, str) and value != ""
 
@@ -158,7 +164,7 @@ META = is_mapping_of(
 )
 ENTRY = is_mapping_of({"place": is_number, "line": is_text, "corrected_by": is_list_of(is_number)})
 OURS = is_mapping_of(
-    {"program": is_text, "match_number": is_number, "innings_a_side": lambda count: count in (1, 2), "book": is_list_of(ENTRY)}
+    {"program": is_text, "match_number": is_match_number, "innings_a_side": lambda count: count in (1, 2), "book": is_list_of(ENTRY)}
 )
 MATCH = is_mapping_of({"meta": META, "info": INFO, "innings": is_list_of(INNINGS), "yermudosh": OURS})
 

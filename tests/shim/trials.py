@@ -279,6 +279,7 @@ READING = {
     "check": (["check"], b"innings home\nin 1\nin 2\nball 7 bat 1\n"),
     "card": (["card", "--sheet", SHEET, "--from", f"{TOP}/examples/innings.txt", "--kind", "book"], b""),
     "export": (["export", "--sheet", SHEET, "--from", f"{TOP}/examples/innings.txt", "--kind", "book"], b""),
+    "export of rows": (["export", "--rows", "--sheet", SHEET, "--from", f"{TOP}/examples/innings.txt", "--kind", "book"], b""),
     "page": (["page", "--sheet", SHEET, "--from", f"{TOP}/examples/innings.txt", "--kind", "book"], b""),
     "compare": (["compare", "--sheet", BOTH_SHEET, "--a", BOTH_A, "--b", BOTH_B], b""),
     "card of both files": (["card", "--sheet", BOTH_SHEET, "--kind", "both", "--from", BOTH_A, "--with", BOTH_B], b""),

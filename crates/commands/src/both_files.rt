@@ -9,12 +9,13 @@ ghost use Rattle.commands.specs.BothFiles.{IsOfReading, PrintsCardOfBoth, Prints
 ghost use Rattle.setup.specs.Ends.{EndsReading, EndsWriting};
 
 use crate::export_command::{print_text, sheet_and_document};
+use crate::whole_files::WholeFiles;
 use agree_core::DeskId;
 use books::{BothFault, book_of_both, print_card};
 use cards::MatchSheet;
 use corrections::CheckedBook;
 use export::text_of;
-use setup::{StopFault, Stopped, open_input, output, short_sheet_at};
+use setup::{StopFault, Stopped, output, short_sheet_at};
 use std::alloc::{AllocError, Global};
 use std::io::{Read, Write};
 use streams::{InputFault, Watched, read_all};
@@ -219,11 +220,19 @@ pub fn start_card_of_both<'a>(
     b: &'a str,
 ) -> Result<bool, Stopped<'a>> {
     let sheet = short_sheet_at(rt, sheet)?;
-    let mut first = open_input(rt, a)?;
-    let mut second = open_input(rt, b)?;
+    let files = WholeFiles::at(rt, sheet.game(), a, b)?;
     let mut writer = output(rt)?;
-    match card_both_run(rt.alloc(), &sheet, &mut first, &mut second, &mut writer) {
-        Ok(()) => Ok(false),
+    match card_both_run(
+        rt.alloc(),
+        &sheet,
+        &mut files.first(),
+        &mut files.second(),
+        &mut writer,
+    ) {
+        Ok(()) => {
+            files.tell_ends(rt);
+            Ok(false)
+        }
         Err(fault) => Err(stopped_at(fault, a, b)),
     }
 }
@@ -237,18 +246,20 @@ pub fn start_export_of_both<'a>(
     b: &'a str,
 ) -> Result<bool, Stopped<'a>> {
     let (sheet, document) = sheet_and_document(rt, sheet)?;
-    let mut first = open_input(rt, a)?;
-    let mut second = open_input(rt, b)?;
+    let files = WholeFiles::at(rt, sheet.game(), a, b)?;
     let mut writer = output(rt)?;
     match export_both_run(
         rt.alloc(),
         &sheet,
         &document,
-        &mut first,
-        &mut second,
+        &mut files.first(),
+        &mut files.second(),
         &mut writer,
     ) {
-        Ok(()) => Ok(false),
+        Ok(()) => {
+            files.tell_ends(rt);
+            Ok(false)
+        }
         Err(fault) => Err(stopped_at(fault, a, b)),
     }
 }

@@ -11,6 +11,8 @@ mod lines_command;
 mod migrate;
 mod page_command;
 mod printing;
+mod rows_command;
+mod whole_files;
 
 pub use crate::both_files::{
     BothPrintFault, card_both_run, export_both_run, start_card_of_both, start_export_of_both,
@@ -23,3 +25,4 @@ pub use crate::lines_command::{lines_both_run, lines_run, start_lines, start_lin
 pub use crate::migrate::{MigrateFault, migrate_run, start_migrate};
 pub use crate::page_command::{page_both_run, page_run, start_page, start_page_of_both};
 pub use crate::printing::PrintFault;
+pub use crate::rows_command::{rows_both_run, rows_run, start_rows, start_rows_of_both};

@@ -12,6 +12,7 @@ ghost use Rattle.setup.specs.Ends.{EndsReading, EndsWriting};
 
 use crate::both_files::{BothPrintFault, book_of_readers, stopped_at};
 use crate::printing::PrintFault;
+use crate::whole_files::WholeFiles;
 use books::{Source, book_from};
 use cards::MatchSheet;
 use corrections::BookOf;
@@ -130,11 +131,19 @@ pub fn start_lines_of_both<'a>(
     b: &'a str,
 ) -> Result<bool, Stopped<'a>> {
     let sheet = short_sheet_at(rt, sheet)?;
-    let mut first = open_input(rt, a)?;
-    let mut second = open_input(rt, b)?;
+    let files = WholeFiles::at(rt, sheet.game(), a, b)?;
     let mut writer = output(rt)?;
-    match lines_both_run(rt.alloc(), &sheet, &mut first, &mut second, &mut writer) {
-        Ok(()) => Ok(false),
+    match lines_both_run(
+        rt.alloc(),
+        &sheet,
+        &mut files.first(),
+        &mut files.second(),
+        &mut writer,
+    ) {
+        Ok(()) => {
+            files.tell_ends(rt);
+            Ok(false)
+        }
         Err(fault) => Err(stopped_at(fault, a, b)),
     }
 }

@@ -12,6 +12,7 @@ ghost use Rattle.setup.specs.Ends.{EndsReading, EndsWriting};
 use crate::both_files::{BothPrintFault, book_of_readers, stopped_at};
 use crate::export_command::sheet_and_document;
 use crate::printing::PrintFault;
+use crate::whole_files::WholeFiles;
 use books::{Source, book_from};
 use cards::MatchSheet;
 use export::text_of;
@@ -107,18 +108,20 @@ pub fn start_page_of_both<'a>(
     b: &'a str,
 ) -> Result<bool, Stopped<'a>> {
     let (sheet, document) = sheet_and_document(rt, sheet)?;
-    let mut first = open_input(rt, a)?;
-    let mut second = open_input(rt, b)?;
+    let files = WholeFiles::at(rt, sheet.game(), a, b)?;
     let mut writer = output(rt)?;
     match page_both_run(
         rt.alloc(),
         &sheet,
         &document,
-        &mut first,
-        &mut second,
+        &mut files.first(),
+        &mut files.second(),
         &mut writer,
     ) {
-        Ok(()) => Ok(false),
+        Ok(()) => {
+            files.tell_ends(rt);
+            Ok(false)
+        }
         Err(fault) => Err(stopped_at(fault, a, b)),
     }
 }

@@ -99,7 +99,7 @@ wickets_added n book legal i =
     rw (← history_after-clean book) (omega (arith, fallen))
 
 -- the totals of the deliveries of an innings and its penalty runs are its total
-total_added : (n : ℕ) (book : List Entry) → IsLegalBook n book → (i : ℕ) →
+pub total_added : (n : ℕ) (book : List Entry) → IsLegalBook n book → (i : ℕ) →
     let f = begun_of (history_of book) in
     let xs = noted_items book in
     tally (λ k. k) (totals_of f i (items_in i xs)) + runs_before f i xs + runs_after f i xs ≡ total (history_of book) i

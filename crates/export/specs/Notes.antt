@@ -48,6 +48,7 @@ note h x = record {
   balls = balls_called h;
   ends = (state_after h).ends;
   earlier = earlier_of h x.item;
+  place = x.place;
   item = x.item;
 }
 

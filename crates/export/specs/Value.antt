@@ -1,6 +1,6 @@
 -- The book of a match as one JSON value. s is the sheet, document the table that its text is, and given what the table [info]
 -- of that hands on.
-use Rattle.std.specs.Prelude.{◌≡◌, ℕ, List, [], ◌∷◌, ◌++◌, codes}
+use Rattle.std.specs.Prelude.{◌≡◌, ℕ, ◌^◌, Bool, nat_le, if◌then◌else◌, List, [], ◌∷◌, ◌++◌, codes, decimal}
 use Rattle.notation.specs.declared.entry.Entry.{Entry}
 use Rattle.corrections.specs.CleanList.{clean, history_of}
 use Rattle.cards.specs.Sheet.{Sheet}
@@ -17,13 +17,21 @@ use Rattle.export.specs.Innings.{innings_field}
 use Rattle.export.specs.Entries.{book_field}
 use Rattle.export.specs.Escapes.{shown}
 
+-- every reader has a number up to 2^53 as it is: many have gaps behind that
+abbrev pub is_exact : ℕ → Bool
+is_exact n = nat_le n (2 ^ 53)
+
+-- the match's number: where it isn't exact its text
+abbrev pub game_field : ℕ → Field
+game_field n = if is_exact n then number_field (codes "match_number") n else text_field (codes "match_number") (decimal n)
+
 -- what the format of archives can't hold: the match's number, how many innings a side has, and each entry as it was
 -- penned
 abbrev pub own_field : Sheet → List Entry → Field
 own_field s book = (
   codes "yermudosh",
   object_of (text_field (codes "program") (codes "yermudosh 1") ∷ []
-      ++ number_field (codes "match_number") s.game ∷ []
+      ++ game_field s.game ∷ []
       ++ number_field (codes "innings_a_side") s.innings ∷ []
       ++ book_field book ∷ []),
 )

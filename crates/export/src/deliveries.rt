@@ -86,7 +86,7 @@ fn is_six(bound: Bound) -> bool
 }
 
 /// Whether a delivery has four or six runs off the bat, but is no boundary.
-fn is_run(ball: &Ball, split: &Split) -> bool
+pub fn is_run(ball: &Ball, split: &Split) -> bool
     requires { split.now ≡ split_of_ball ball.now }
     ensures { result ≡ deliveries.is_run ball.now }
 {
@@ -94,7 +94,7 @@ fn is_run(ball: &Ball, split: &Split) -> bool
 }
 
 /// All extras of a delivery.
-fn all_extras(split: &Split, penalty: u64) -> Result<u64, AllocError>
+pub fn all_extras(split: &Split, penalty: u64) -> Result<u64, AllocError>
     requires { all_runs split.now ≤ 260 }
     ensures { IfOk result (λ runs. runs ≡ deliveries.extra_runs split.now + penalty) }
 {
@@ -102,7 +102,7 @@ fn all_extras(split: &Split, penalty: u64) -> Result<u64, AllocError>
 }
 
 /// All runs of a delivery.
-fn whole_total(split: &Split, penalty: u64) -> Result<u64, AllocError>
+pub fn whole_total(split: &Split, penalty: u64) -> Result<u64, AllocError>
     requires { all_runs split.now ≤ 260 }
     ensures { IfOk result (λ runs. runs ≡ all_runs split.now + penalty) }
 {

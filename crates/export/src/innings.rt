@@ -76,7 +76,7 @@ fn items_after(alloc: Global, innings: usize, notes: &[Noted]) -> Result<Vec<Not
 
 /// The penalty runs that count in an innings and were awarded before its first delivery. items are those of the innings,
 /// and notes those of all innings.
-fn runs_before(
+pub fn runs_before(
     alloc: Global,
     begun: &Begun,
     innings: usize,
@@ -93,7 +93,7 @@ fn runs_before(
 }
 
 /// The penalty runs that count in an innings and were awarded after a later one had begun.
-fn runs_after(
+pub fn runs_after(
     alloc: Global,
     begun: &Begun,
     innings: usize,

@@ -27,6 +27,8 @@ pub struct Noted {
     pub ends: Ends,
     /// Where it awards penalty runs: the innings that its side had begun last before it.
     pub earlier: Option<usize>,
+    /// The place at which it was entered.
+    pub place: u32,
     pub item: Plain,
 }
 
@@ -83,6 +85,7 @@ fn note(score: &Match, begun: &Begun, placed: &Placed) -> Noted
         balls: balls_called(score),
         ends: score.ends(),
         earlier: earlier_of(begun, &placed.item),
+        place: placed.place,
         item: placed.item,
     }
 }

@@ -1,11 +1,12 @@
 //! The book of a match as one JSON value.
 
-ghost use Rattle.std.specs.Prelude.{◌≡◌, ◌∷◌, [], OnOk};
+ghost use Rattle.std.specs.Prelude.{◌≡◌, ◌∷◌, [], codes, decimal, OnOk};
 ghost use Rattle.corrections.specs.CleanList.{clean, history_of};
 ghost use Rattle.match_laws.specs.Stands.{StandsFor};
 ghost use Rattle.export.specs.Notes.{begun_of, notes};
 ghost use Rattle.toml.specs.View.{table_view};
-ghost use Rattle.json_fields.specs.Values.{PutsFields};
+ghost use Rattle.json_fields.specs.Values.{PutsFields, text_field};
+ghost use Rattle.export.specs.Value as laws;
 ghost use Rattle.export.specs.Value.{own_field};
 ghost use Rattle.export.specs.inner.Putting.{PutsExport};
 
@@ -18,11 +19,38 @@ use crate::meta::put_meta;
 use crate::named::NamedSheet;
 use crate::notes::Noted;
 use corrections::BookOf;
+use itoa::Buffer;
 use json::Pretty;
 use json_fields::{begin_field, begin_object, end_object, put_figure, put_number, put_text};
 use match_laws::Match;
 use std::alloc::{AllocError, Global};
 use toml::Table;
+
+/// Whether every reader of numbers has this one as it is.
+fn is_exact(number: u64) -> bool
+    ensures { result ≡ laws.is_exact number }
+{
+    number <= 9_007_199_254_740_992
+}
+
+/// Puts the match's number as a text.
+fn put_game_text(out: &mut Pretty, game: u64) -> Result<(), AllocError>
+    ensures { PutsFields result out.old out.new (text_field (codes "match_number") (decimal game) ∷ []) }
+{
+    let mut buffer = Buffer::new();
+    put_text(out, "match_number", buffer.format(game))
+}
+
+/// Puts the match's number.
+fn put_game(out: &mut Pretty, game: u64) -> Result<(), AllocError>
+    ensures { PutsFields result out.old out.new (laws.game_field game ∷ []) }
+{
+    if is_exact(game) {
+        put_number(out, "match_number", game)
+    } else {
+        put_game_text(out, game)
+    }
+}
 
 /// Puts what the format of archives can't hold.
 fn put_own<B: BookOf>(
@@ -35,7 +63,7 @@ fn put_own<B: BookOf>(
 {
     begin_field(out, "yermudosh")?;
     put_text(out, "program", "yermudosh 1")?;
-    put_number(out, "match_number", sheet.game())?;
+    put_game(out, sheet.game())?;
     put_figure(out, "innings_a_side", sheet.innings())?;
     put_entries(alloc, out, book)?;
     end_object(out)

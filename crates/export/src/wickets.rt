@@ -23,7 +23,8 @@ fn catch_words(own: bool) -> &'static str
     if own { "caught and bowled" } else { "caught" }
 }
 
-fn how_words(own: bool, how: How) -> &'static str
+/// What an archive calls a way of being out.
+pub fn how_words(own: bool, how: How) -> &'static str
     ensures { result.now ≡ wickets.how_words own how }
 {
     match how {
@@ -38,7 +39,8 @@ fn how_words(own: bool, how: How) -> &'static str
     }
 }
 
-fn leave_words(way: Leave) -> &'static str
+/// What an archive calls a way of leaving between deliveries.
+pub fn leave_words(way: Leave) -> &'static str
     ensures { result.now ≡ wickets.leave_words way }
 {
     match way {
@@ -50,7 +52,7 @@ fn leave_words(way: Leave) -> &'static str
 }
 
 /// The name of a fielder of the side: `sub` for a substitute.
-fn fielder_name<'a>(sheet: &'a NamedSheet<'_>, side: Side, fielder: u8) -> &'a str
+pub fn fielder_name<'a>(sheet: &'a NamedSheet<'_>, side: Side, fielder: u8) -> &'a str
     requires { fielder ≢ 0 }
     ensures { result.now ≡ fielder_name sheet.now side fielder }
 {
@@ -111,7 +113,7 @@ fn put_fielders(
 }
 
 /// Whether the bowler is the fielder too.
-fn is_own(dismissal: &Out, bowler: Player) -> bool
+pub fn is_own(dismissal: &Out, bowler: Player) -> bool
     ensures { result ≡ (dismissal.now.fielder == bowler) }
 {
     dismissal.fielder == bowler.number()

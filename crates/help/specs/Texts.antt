@@ -100,7 +100,9 @@ rows Export =
     codes "  --kind both|a|b|book  from both desks' votes files, from desk A's, from desk" ∷
     codes "                        B's, or from a file of full lines" ∷
     codes "  --from F              the file; for both, desk A's" ∷
-    codes "  --with G              desk B's file, for both alone" ∷ []
+    codes "  --with G              desk B's file, for both alone" ∷
+    codes "  --rows                a table of the deliveries, as CSV; or left out" ∷
+    codes "  --penalties           a table of what no delivery carries; or left out" ∷ []
 rows Page =
     codes "page: prints a match as one HTML page, for a browser, a site or paper: cards," ∷
     codes "falls, partnerships, charts, and each ball. The page loads nothing else." ∷

@@ -104,6 +104,8 @@ matches, ball by ball.
                         B's, or from a file of full lines
   --from F              the file; for both, desk A's
   --with G              desk B's file, for both alone
+  --rows                a table of the deliveries, as CSV; or left out
+  --penalties           a table of what no delivery carries; or left out
 ";
 
 const PAGE: &str = "\

@@ -7,6 +7,7 @@ use crate::task::Task;
 use crate::words::desk_in;
 use books::Source;
 use clap::ArgMatches;
+use delivery_rows::Table;
 
 /// What a text says that a book is read from.
 fn source_in(text: &str) -> Option<Source> {
@@ -51,8 +52,24 @@ pub fn card_task<'a>(words: &ArgMatches<'a>) -> Option<Task<'a>>
     }
 }
 
-/// The task of `export`, likewise.
-pub fn export_task<'a>(words: &ArgMatches<'a>) -> Option<Task<'a>>
+/// The task of `export` with a table's word, likewise.
+fn rows_task<'a>(words: &ArgMatches<'a>, table: Table) -> Option<Task<'a>>
+    ensures { IfSome result IsTask }
+{
+    let sheet = words.get_str("sheet")?;
+    match book_files_in(words)? {
+        BookFiles::One { from, source } => Some(Task::Rows {
+            table,
+            sheet,
+            from,
+            source,
+        }),
+        BookFiles::Both { a, b } => Some(Task::RowsOfBoth { table, sheet, a, b }),
+    }
+}
+
+/// The task of `export` without one, likewise.
+fn json_task<'a>(words: &ArgMatches<'a>) -> Option<Task<'a>>
     ensures { IfSome result IsTask }
 {
     let sheet = words.get_str("sheet")?;
@@ -63,6 +80,18 @@ pub fn export_task<'a>(words: &ArgMatches<'a>) -> Option<Task<'a>>
             source,
         }),
         BookFiles::Both { a, b } => Some(Task::ExportOfBoth { sheet, a, b }),
+    }
+}
+
+/// The task of `export`: one table, or the JSON.
+pub fn export_task<'a>(words: &ArgMatches<'a>) -> Option<Task<'a>>
+    ensures { IfSome result IsTask }
+{
+    match (words.get_flag("rows"), words.get_flag("penalties")) {
+        (true, true) => None,
+        (true, false) => rows_task(words, Table::Deliveries),
+        (false, true) => rows_task(words, Table::Penalties),
+        (false, false) => json_task(words),
     }
 }
 

@@ -8,6 +8,11 @@ fn wanted<'a>(alloc: Global, name: &'a str) -> Arg<'a> {
     Arg::new(alloc, name).long(name).required(true)
 }
 
+/// An option without a value.
+fn flag<'a>(alloc: Global, name: &'a str) -> Arg<'a> {
+    Arg::new(alloc, name).long(name).action(ArgAction::SetTrue)
+}
+
 /// The words of `check`.
 fn check_words<'a>(alloc: Global) -> Result<Command<'a>, AllocError> {
     Command::new(alloc, "check").arg(
@@ -21,14 +26,11 @@ fn check_words<'a>(alloc: Global) -> Result<Command<'a>, AllocError> {
 /// The words of `replay`.
 fn replay_words<'a>(alloc: Global) -> Result<Command<'a>, AllocError> {
     let boards = wanted(alloc, "boards").value_parser(value_parser!(u8).range(0..=4));
-    let old = Arg::new(alloc, "old")
-        .long("old")
-        .action(ArgAction::SetTrue);
     Command::new(alloc, "replay")
         .arg(wanted(alloc, "sheet"))?
         .arg(wanted(alloc, "schedule"))?
         .arg(boards)?
-        .arg(old)
+        .arg(flag(alloc, "old"))
 }
 
 /// The words of `card`, of `export`, of `page` and of `lines`.
@@ -38,6 +40,13 @@ fn book_words<'a>(alloc: Global, name: &'a str) -> Result<Command<'a>, AllocErro
         .arg(wanted(alloc, "from"))?
         .arg(wanted(alloc, "kind"))?
         .arg(Arg::new(alloc, "with").long("with"))
+}
+
+/// The words of `export`.
+fn export_words<'a>(alloc: Global) -> Result<Command<'a>, AllocError> {
+    book_words(alloc, "export")?
+        .arg(flag(alloc, "rows"))?
+        .arg(flag(alloc, "penalties"))
 }
 
 /// The words of `compare`.
@@ -110,7 +119,7 @@ pub fn program_words<'a>(alloc: Global) -> Result<Command<'a>, AllocError> {
         .subcommand(check_words(alloc)?)?
         .subcommand(replay_words(alloc)?)?
         .subcommand(book_words(alloc, "card")?)?
-        .subcommand(book_words(alloc, "export")?)?
+        .subcommand(export_words(alloc)?)?
         .subcommand(book_words(alloc, "page")?)?
         .subcommand(book_words(alloc, "lines")?)?
         .subcommand(compare_words(alloc)?)?

@@ -2,6 +2,7 @@
 
 use agree_core::DeskId;
 use books::Source;
+use delivery_rows::Table;
 use machine::{Address, MOST_PEERS};
 use std::net::SocketAddr;
 
@@ -40,6 +41,20 @@ pub enum Task<'a> {
     },
     /// To print the agreed list of both desks' votes files, A's and B's, as JSON.
     ExportOfBoth {
+        sheet: &'a str,
+        a: &'a str,
+        b: &'a str,
+    },
+    /// To print a table of a book.
+    Rows {
+        table: Table,
+        sheet: &'a str,
+        from: &'a str,
+        source: Source,
+    },
+    /// To print a table of the agreed list of both desks' votes files, A's and B's.
+    RowsOfBoth {
+        table: Table,
         sheet: &'a str,
         a: &'a str,
         b: &'a str,

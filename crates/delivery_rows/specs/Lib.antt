@@ -1,0 +1,8 @@
+-- What the public calls claim: Table with all that it cites (Cells, Day, Standing, Deliveries, Penalties), and Laws.
+pub mod Cells
+pub mod Day
+pub mod Standing
+pub mod Deliveries
+pub mod Penalties
+pub mod Table
+pub mod Laws

@@ -1,0 +1,153 @@
+//! The cells of a row, and its text.
+
+ghost use Rattle.std.specs.Prelude.{◌≡◌, ◌==◌, ◌<◌, ◌∷◌, [], decimal, length, slice_get, IfOk, Some};
+ghost use Rattle.csv.specs.Records.{fields_of};
+ghost use Rattle.csv.specs.Writing.{default_writer};
+ghost use Rattle.csv.specs.Writing as writing;
+ghost use Rattle.delivery_rows.specs.Cells as cells;
+ghost use Rattle.delivery_rows.specs.Cells.{PutsCells, PutsRows};
+
+use csv::{ByteRecord, WriterBuilder};
+use itoa::Buffer;
+use std::alloc::{AllocError, Global};
+use std::marker::Model;
+
+/// The cells of a row, in their order.
+#[derive(Drop)]
+pub struct Cells {
+    row: ByteRecord,
+}
+
+impl Model for Cells {
+    ghost use Rattle.std.specs.Prelude.{◌≡◌, ℕ, List, []};
+    ghost use Rattle.csv.specs.Records.{fields_of, partial_of};
+
+    ghost Value = { List (List ℕ) };
+
+    ghost view = { λ cells. fields_of cells.row };
+
+    ghost invariant = { λ cells. partial_of cells.row ≡ [] };
+}
+
+/// Whether a spreadsheet takes this at the front of a cell for the begin of a formula, or passes over it.
+fn is_sign(byte: u8) -> bool
+    ensures { result ≡ cells.is_sign byte }
+{
+    byte == b'='
+        || byte == b'+'
+        || byte == b'-'
+        || byte == b'@'
+        || byte == b'\t'
+        || byte == b'\n'
+        || byte == b'\r'
+}
+
+fn is_quote(byte: u8) -> bool
+    ensures { result ≡ (byte == 39) }
+{
+    byte == b'\''
+}
+
+/// The byte at an index.
+fn byte_at(text: &[u8], index: usize) -> u8
+    requires { index < length text.now }
+    ensures { slice_get text.now index ≡ Some result }
+{
+    text[index]
+}
+
+/// Whether a text begins with such a sign, behind quotes of its own.
+fn is_formula(text: &[u8]) -> bool
+    ensures { result ≡ cells.is_formula text.now }
+{
+    for index in 0..text.len() {
+        let byte = byte_at(text, index);
+        if !is_quote(byte) {
+            return is_sign(byte);
+        }
+    }
+    false
+}
+
+/// The text of a row of these cells.
+fn row_text(alloc: Global, row: &ByteRecord) -> Result<Vec<u8>, csv::Error>
+    ensures { IfOk result (λ text. text.items ≡ writing.row_text default_writer (fields_of row.now)) }
+{
+    let mut writer = WriterBuilder::new().from_writer(Vec::new(alloc));
+    writer.write_byte_record(row)?;
+    match writer.into_inner() {
+        Ok(text) => Ok(text),
+        Err(why) => Err(why.into_error()),
+    }
+}
+
+impl Cells {
+    /// None yet.
+    pub fn new(alloc: Global) -> Cells
+        ensures { result ≡ [] }
+    {
+        Cells {
+            row: ByteRecord::new(alloc),
+        }
+    }
+
+    /// Puts a cell as it is.
+    pub fn put(&mut self, cell: &[u8]) -> Result<(), AllocError>
+        ensures { PutsCells result self.old self.new (cell.now ∷ []) }
+    {
+        match self.row.push_field(cell) {
+            Ok(()) => Ok(()),
+            Err(why) => {
+                self.row.clear();
+                Err(why)
+            }
+        }
+    }
+
+    /// Puts a cell of which nothing is known.
+    pub fn put_nothing(&mut self) -> Result<(), AllocError>
+        ensures { PutsCells result self.old self.new ([] ∷ []) }
+    {
+        self.put("".as_bytes())
+    }
+
+    /// Puts a figure.
+    pub fn put_figure(&mut self, figure: u64) -> Result<(), AllocError>
+        ensures { PutsCells result self.old self.new (decimal figure ∷ []) }
+    {
+        let mut buffer = Buffer::new();
+        self.put(buffer.format(figure).as_bytes())
+    }
+
+    /// Puts a text with a quote before it.
+    fn put_quoted(&mut self, alloc: Global, text: &[u8]) -> Result<(), AllocError>
+        ensures { PutsCells result self.old self.new ((39 ∷ text.now) ∷ []) }
+    {
+        let mut cell = Vec::new(alloc);
+        cell.push(b'\'')?;
+        cell.extend_from_slice(text)?;
+        self.put(cell.as_slice())
+    }
+
+    /// Puts a text: with a quote before it, where a spreadsheet would run it.
+    pub fn put_text(&mut self, alloc: Global, text: &[u8]) -> Result<(), AllocError>
+        ensures { PutsCells result self.old self.new (cells.cell text.now ∷ []) }
+    {
+        if is_formula(text) {
+            self.put_quoted(alloc, text)
+        } else {
+            self.put(text)
+        }
+    }
+
+    /// Puts the row behind a text.
+    pub fn print(&self, alloc: Global, out: &mut Vec<u8>) -> Result<(), AllocError>
+        ensures { PutsRows result out.old.items out.new.items (self.now ∷ []) }
+    {
+        match row_text(alloc, &self.row) {
+            Ok(text) => out.extend_from_slice(text.as_slice()),
+            // A writer to memory fails for want of it alone.
+            Err(_) => Err(AllocError),
+        }
+    }
+}

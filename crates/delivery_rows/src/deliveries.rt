@@ -1,0 +1,298 @@
+//! The row of a delivery.
+
+ghost use Rattle.std.specs.Prelude.{◌≡◌, ◌++◌, ◌∷◌, [], IfOk};
+ghost use Rattle.ball_laws.specs.Runs.{split_of_ball};
+ghost use Rattle.export.specs.Deliveries.{is_run};
+ghost use Rattle.delivery_rows.specs.Cells.{PutsCells, rows_text};
+ghost use Rattle.delivery_rows.specs.Standing.{after};
+ghost use Rattle.delivery_rows.specs.Deliveries as rows;
+
+use crate::cells::Cells;
+use crate::gone::put_others;
+use crate::standing::Standing;
+use ball_laws::{Ends, runs_of};
+use export::{
+    Begun, NamedSheet, Noted, all_extras, fielder_name, how_words, is_own, is_run, penalties, plus,
+    whole_total,
+};
+use match_laws::opponent;
+use notation::{Ball, Out, Plain, Player, Side};
+use std::alloc::{AllocError, Global};
+
+/// Puts the match, and the innings.
+pub fn put_innings(
+    alloc: Global,
+    out: &mut Cells,
+    sheet: &NamedSheet<'_>,
+    day: &str,
+    side: Side,
+    innings: usize,
+) -> Result<(), AllocError>
+    ensures { PutsCells result out.old out.new (rows.innings_cells sheet.now day.now side innings) }
+{
+    out.put_figure(sheet.game())?;
+    out.put_text(alloc, day.as_bytes())?;
+    out.put_figure(plus(innings as u64, 1)?)?;
+    out.put_text(alloc, sheet.name(side).as_bytes())?;
+    out.put_text(alloc, sheet.name(opponent(side)).as_bytes())
+}
+
+/// Puts where a delivery stands.
+fn put_place(out: &mut Cells, now: &Standing, place: u32) -> Result<(), AllocError>
+    ensures { PutsCells result out.old out.new (rows.place_cells now.now place) }
+{
+    out.put_figure(u64::from(now.over))?;
+    out.put_figure(now.ball)?;
+    out.put_figure(u64::from(place))
+}
+
+/// Puts the name of who is at an end.
+fn put_batter(
+    alloc: Global,
+    out: &mut Cells,
+    sheet: &NamedSheet<'_>,
+    side: Side,
+    batter: Option<Player>,
+) -> Result<(), AllocError>
+    ensures { PutsCells result out.old out.new (rows.batter_cell sheet.now side batter ∷ []) }
+{
+    match batter {
+        None => out.put_nothing(),
+        Some(player) => out.put_text(alloc, sheet.player(side, player).as_bytes()),
+    }
+}
+
+/// Puts who bats and who bowls.
+fn put_players(
+    alloc: Global,
+    out: &mut Cells,
+    sheet: &NamedSheet<'_>,
+    side: Side,
+    ends: &Ends,
+    bowler: Player,
+) -> Result<(), AllocError>
+    ensures { PutsCells result out.old out.new (rows.players_cells sheet.now side ends.now bowler) }
+{
+    put_batter(alloc, out, sheet, side, ends.striker)?;
+    put_batter(alloc, out, sheet, side, ends.other)?;
+    out.put_text(alloc, sheet.player(opponent(side), bowler).as_bytes())
+}
+
+/// Puts the runs of a delivery, with the penalty runs that it carries.
+fn put_runs(out: &mut Cells, ball: &Ball, penalty: u64) -> Result<(), AllocError>
+    ensures { PutsCells result out.old out.new (rows.runs_cells (split_of_ball ball.now) penalty) }
+{
+    let split = runs_of(ball);
+    out.put_figure(u64::from(split.striker))?;
+    out.put_figure(all_extras(&split, penalty)?)?;
+    out.put_figure(whole_total(&split, penalty)?)
+}
+
+/// Puts the extras of a delivery by their kinds.
+fn put_kinds(out: &mut Cells, ball: &Ball, penalty: u64) -> Result<(), AllocError>
+    ensures { PutsCells result out.old out.new (rows.kinds_cells (split_of_ball ball.now) penalty) }
+{
+    let split = runs_of(ball);
+    out.put_figure(u64::from(split.wides))?;
+    out.put_figure(u64::from(split.noballs))?;
+    out.put_figure(u64::from(split.byes))?;
+    out.put_figure(u64::from(split.legs))?;
+    out.put_figure(penalty)
+}
+
+/// Four or six off the bat, unless they were run.
+fn boundary(runs: u32, run: bool) -> &'static str
+    ensures { result.now ≡ rows.boundary_cell runs run }
+{
+    if runs == 4 && !run {
+        "4"
+    } else if runs == 6 && !run {
+        "6"
+    } else {
+        ""
+    }
+}
+
+/// Puts whether a delivery is a boundary.
+fn put_boundary(out: &mut Cells, ball: &Ball) -> Result<(), AllocError>
+    ensures { PutsCells result out.old out.new
+        (rows.boundary_cell (split_of_ball ball.now).striker (is_run ball.now) ∷ []) }
+{
+    let split = runs_of(ball);
+    let text = boundary(split.striker, is_run(ball, &split));
+    out.put(text.as_bytes())
+}
+
+/// Puts the fielder, where one is recorded.
+fn put_fielder(
+    alloc: Global,
+    out: &mut Cells,
+    sheet: &NamedSheet<'_>,
+    side: Side,
+    fielder: u8,
+) -> Result<(), AllocError>
+    ensures { PutsCells result out.old out.new (rows.fielder_cell sheet.now side fielder ∷ []) }
+{
+    if fielder == 0 {
+        return out.put_nothing();
+    }
+    let name = fielder_name(sheet, opponent(side), fielder);
+    out.put_text(alloc, name.as_bytes())
+}
+
+/// Puts a dismissal off a delivery.
+fn put_wicket(
+    alloc: Global,
+    out: &mut Cells,
+    sheet: &NamedSheet<'_>,
+    side: Side,
+    ends: &Ends,
+    bowler: Player,
+    dismissal: &Out,
+) -> Result<(), AllocError>
+    ensures { PutsCells result out.old out.new (rows.wicket_cells sheet.now side ends.now bowler dismissal.now) }
+{
+    let how = how_words(is_own(dismissal, bowler), dismissal.how);
+    out.put_text(alloc, how.as_bytes())?;
+    put_batter(alloc, out, sheet, side, ends.batter_at(dismissal.who))?;
+    put_fielder(alloc, out, sheet, side, dismissal.fielder)
+}
+
+/// Puts the dismissal off a delivery, where there is one.
+fn put_out(
+    alloc: Global,
+    out: &mut Cells,
+    sheet: &NamedSheet<'_>,
+    side: Side,
+    ends: &Ends,
+    bowler: Player,
+    dismissal: Option<Out>,
+) -> Result<(), AllocError>
+    ensures { PutsCells result out.old out.new (rows.out_cells sheet.now side ends.now bowler dismissal) }
+{
+    match dismissal {
+        Some(dismissal) => put_wicket(alloc, out, sheet, side, ends, bowler, &dismissal),
+        None => {
+            out.put_nothing()?;
+            out.put_nothing()?;
+            out.put_nothing()
+        }
+    }
+}
+
+/// Puts what happened off a delivery, with the penalty runs that it carries.
+fn put_ball(
+    alloc: Global,
+    out: &mut Cells,
+    sheet: &NamedSheet<'_>,
+    side: Side,
+    penalty: u64,
+    ends: &Ends,
+    ball: &Ball,
+) -> Result<(), AllocError>
+    ensures { PutsCells result out.old out.new (rows.ball_cells sheet.now side penalty ends.now ball.now) }
+{
+    put_players(alloc, out, sheet, side, ends, ball.bowler)?;
+    put_runs(out, ball, penalty)?;
+    put_kinds(out, ball, penalty)?;
+    put_boundary(out, ball)?;
+    put_out(alloc, out, sheet, side, ends, ball.bowler, ball.out)
+}
+
+/// Puts how the innings stands after a delivery.
+fn put_standing(out: &mut Cells, now: &Standing) -> Result<(), AllocError>
+    ensures { PutsCells result out.old out.new (rows.standing_cells now.now) }
+{
+    out.put_figure(now.runs)?;
+    out.put_figure(now.wickets)
+}
+
+/// The cells of a delivery, after which the innings stands so.
+fn delivery_cells(
+    alloc: Global,
+    sheet: &NamedSheet<'_>,
+    day: &str,
+    side: Side,
+    innings: usize,
+    now: &Standing,
+    penalty: u64,
+    early: &[Noted],
+    noted: &Noted,
+    ball: &Ball,
+    late: &[Noted],
+) -> Result<Cells, AllocError>
+    ensures { IfOk result (λ row. row ≡ rows.delivery_row sheet.now day.now side innings
+        now.now penalty early.now noted.now.place noted.now.ends ball.now late.now) }
+{
+    let mut row = Cells::new(alloc);
+    put_innings(alloc, &mut row, sheet, day, side, innings)?;
+    put_place(&mut row, now, noted.place)?;
+    put_ball(alloc, &mut row, sheet, side, penalty, &noted.ends, ball)?;
+    put_others(alloc, &mut row, sheet, side, early, late)?;
+    put_standing(&mut row, now)?;
+    Ok(row)
+}
+
+/// Puts the row of a delivery, and gives how the innings stands after it.
+fn put_delivery(
+    alloc: Global,
+    out: &mut Vec<u8>,
+    sheet: &NamedSheet<'_>,
+    day: &str,
+    side: Side,
+    innings: usize,
+    before: Standing,
+    penalty: u64,
+    early: &[Noted],
+    noted: &Noted,
+    ball: &Ball,
+    late: &[Noted],
+) -> Result<Standing, AllocError>
+    ensures next { IfOk result (λ now. now ≡ after before penalty early.now noted.now.over ball.now late.now) }
+    ensures row { IfOk result (λ now. out.new.items ≡ out.old.items ++ rows_text
+        (rows.delivery_row sheet.now day.now side innings now penalty early.now noted.now.place noted.now.ends ball.now late.now ∷ [])) }
+{
+    let now = before.after(penalty, early, noted.over, ball, late)?;
+    let row = delivery_cells(
+        alloc, sheet, day, side, innings, &now, penalty, early, noted, ball, late,
+    )?;
+    row.print(alloc, out)?;
+    Ok(now)
+}
+
+/// Puts the row of an item, where it is a delivery, and gives how the innings stands after it.
+pub fn put_item(
+    alloc: Global,
+    out: &mut Vec<u8>,
+    sheet: &NamedSheet<'_>,
+    day: &str,
+    side: Side,
+    begun: &Begun,
+    innings: usize,
+    before: Standing,
+    early: &[Noted],
+    noted: &Noted,
+    late: &[Noted],
+) -> Result<Standing, AllocError>
+    ensures next { IfOk result (λ now. now ≡ rows.next begun.now innings before early.now noted.now late.now) }
+    ensures rows { IfOk result (λ now. out.new.items ≡ out.old.items ++ rows_text
+        (rows.item_rows sheet.now day.now side begun.now innings now early.now noted.now late.now)) }
+{
+    match &noted.item {
+        Plain::Ball(ball) => {
+            let penalty = penalties(begun, innings, late)?;
+            put_delivery(
+                alloc, out, sheet, day, side, innings, before, penalty, early, noted, ball, late,
+            )
+        }
+        Plain::Innings(_)
+        | Plain::Come(_)
+        | Plain::Gone(..)
+        | Plain::Over
+        | Plain::Penalty(..)
+        | Plain::Swap
+        | Plain::End(_)
+        | Plain::Close
+        | Plain::Void => Ok(before),
+    }
+}

@@ -1,0 +1,141 @@
+//! Who went between deliveries, each behind a bar.
+
+ghost use Rattle.std.specs.Prelude.{◌≡◌, ◌++◌, ◌∷◌, [], drop, OnOk};
+ghost use Rattle.std.specs.List.{flat_map};
+ghost use Rattle.delivery_rows.specs.Cells.{PutsCells, cell};
+ghost use Rattle.delivery_rows.specs.Deliveries as rows;
+
+use crate::cells::Cells;
+use export::{NamedSheet, Noted, leave_words, noted_at};
+use notation::{Plain, Side};
+use std::alloc::{AllocError, Global};
+
+/// Puts a text behind a bar.
+fn put_barred(out: &mut Vec<u8>, text: &[u8]) -> Result<(), AllocError>
+    ensures { OnOk result (out.new.items ≡ out.old.items ++ (124 ∷ text.now)) }
+{
+    out.push(b'|')?;
+    out.extend_from_slice(text)
+}
+
+/// Puts how somebody went, where an item says so.
+fn put_way(out: &mut Vec<u8>, item: &Plain) -> Result<(), AllocError>
+    ensures { OnOk result (out.new.items ≡ out.old.items ++ rows.gone_way item.now) }
+{
+    match item {
+        Plain::Gone(way, _) => put_barred(out, leave_words(*way).as_bytes()),
+        Plain::Innings(_)
+        | Plain::Come(_)
+        | Plain::Ball(_)
+        | Plain::Over
+        | Plain::Penalty(..)
+        | Plain::Swap
+        | Plain::End(_)
+        | Plain::Close
+        | Plain::Void => Ok(()),
+    }
+}
+
+/// Puts who went, where an item says so.
+fn put_name(
+    out: &mut Vec<u8>,
+    sheet: &NamedSheet<'_>,
+    side: Side,
+    item: &Plain,
+) -> Result<(), AllocError>
+    ensures { OnOk result (out.new.items ≡ out.old.items ++ rows.gone_name sheet.now side item.now) }
+{
+    match item {
+        Plain::Gone(_, player) => put_barred(out, sheet.player(side, *player).as_bytes()),
+        Plain::Innings(_)
+        | Plain::Come(_)
+        | Plain::Ball(_)
+        | Plain::Over
+        | Plain::Penalty(..)
+        | Plain::Swap
+        | Plain::End(_)
+        | Plain::Close
+        | Plain::Void => Ok(()),
+    }
+}
+
+/// Puts how they went, of these items.
+fn put_ways(out: &mut Vec<u8>, items: &[Noted]) -> Result<(), AllocError>
+    ensures { OnOk result (out.new.items ≡ out.old.items ++ flat_map (λ x. rows.gone_way x.item) items.now) }
+{
+    for index in 0..items.len() {
+        let noted = noted_at(items, index);
+        put_way(out, &noted.item)?;
+    }
+    Ok(())
+}
+
+/// Puts who went, of these items.
+fn put_names(
+    out: &mut Vec<u8>,
+    sheet: &NamedSheet<'_>,
+    side: Side,
+    items: &[Noted],
+) -> Result<(), AllocError>
+    ensures { OnOk result (out.new.items ≡ out.old.items ++ flat_map (λ x. rows.gone_name sheet.now side x.item) items.now) }
+{
+    for index in 0..items.len() {
+        let noted = noted_at(items, index);
+        put_name(out, sheet, side, &noted.item)?;
+    }
+    Ok(())
+}
+
+/// A text without its first bar.
+fn without_bar(text: &[u8]) -> &[u8]
+    ensures { result.now ≡ drop 1 text.now }
+{
+    if text.is_empty() { text } else { &text[1..] }
+}
+
+/// Puts the cell of how they went.
+fn put_ways_cell(
+    alloc: Global,
+    out: &mut Cells,
+    early: &[Noted],
+    late: &[Noted],
+) -> Result<(), AllocError>
+    ensures { PutsCells result out.old out.new (cell (rows.barred rows.gone_way early.now late.now) ∷ []) }
+{
+    let mut text = Vec::new(alloc);
+    put_ways(&mut text, early)?;
+    put_ways(&mut text, late)?;
+    out.put_text(alloc, without_bar(text.as_slice()))
+}
+
+/// Puts the cell of who went.
+fn put_names_cell(
+    alloc: Global,
+    out: &mut Cells,
+    sheet: &NamedSheet<'_>,
+    side: Side,
+    early: &[Noted],
+    late: &[Noted],
+) -> Result<(), AllocError>
+    ensures { PutsCells result out.old out.new (cell (rows.barred (rows.gone_name sheet.now side) early.now late.now) ∷ []) }
+{
+    let mut text = Vec::new(alloc);
+    put_names(&mut text, sheet, side, early)?;
+    put_names(&mut text, sheet, side, late)?;
+    out.put_text(alloc, without_bar(text.as_slice()))
+}
+
+/// Puts the cells of who went between deliveries, and how.
+pub fn put_others(
+    alloc: Global,
+    out: &mut Cells,
+    sheet: &NamedSheet<'_>,
+    side: Side,
+    early: &[Noted],
+    late: &[Noted],
+) -> Result<(), AllocError>
+    ensures { PutsCells result out.old out.new (rows.others_cells sheet.now side early.now late.now) }
+{
+    put_ways_cell(alloc, out, early, late)?;
+    put_names_cell(alloc, out, sheet, side, early, late)
+}

@@ -1,0 +1,16 @@
+//! The deliveries of a match as rows of CSV, for spreadsheets and databases: a row for each delivery of the export, and a table
+//! of the penalty runs that no delivery carries.
+#![tactic(auto, unfolding(crate::specs::Cells::rows_text))]
+
+mod cells;
+mod day;
+mod deliveries;
+mod gone;
+mod innings;
+mod laws;
+mod penalties;
+mod standing;
+mod table;
+
+pub use laws::{no_cell_is_a_formula, rows_are_deliveries, rows_read_back};
+pub use table::{Table, table_of};

@@ -1,0 +1,116 @@
+//! A match as tables of CSV.
+
+ghost use Rattle.std.specs.Prelude.{◌≡◌, string_bytes, IfOk};
+ghost use Rattle.match_laws.specs.Stands.{ForEachHistory};
+ghost use Rattle.toml.specs.View.{table_view};
+ghost use Rattle.export.specs.Names.{told_apart};
+ghost use Rattle.export.specs.Notes.{begun_of};
+ghost use Rattle.delivery_rows.specs.Cells.{PutsRows};
+ghost use Rattle.delivery_rows.specs.Table as tables;
+
+use crate::day::day_of;
+use crate::{innings, penalties};
+use cards::MatchSheet;
+use corrections::BookOf;
+use export::{Begun, NamedSheet, Noted, notes_of};
+use match_laws::Match;
+use std::alloc::{AllocError, Global};
+use toml::Table as Document;
+
+/// What the rows of a table are of.
+#[derive(Clone, Copy, Debug, PartialEq, Eq)]
+pub enum Table {
+    /// Deliveries.
+    Deliveries,
+    /// Penalty runs that no delivery carries.
+    Penalties,
+}
+
+const DELIVERIES: &str = "match_id,start_date,innings,batting_team,bowling_team,over,ball,place,\
+    striker,non_striker,bowler,runs_off_bat,extras,total,wides,noballs,byes,legbyes,penalty,boundary,\
+    wicket_type,player_dismissed,fielders,other_wicket_type,other_player_dismissed,\
+    innings_runs,innings_wickets\n";
+
+const PENALTIES: &str = "match_id,start_date,innings,batting_team,bowling_team,awarded,penalty\n";
+
+/// The names of a table's columns.
+fn columns_of(table: Table) -> &'static str
+    ensures { result.now ≡ tables.columns_of table }
+{
+    match table {
+        Table::Deliveries => DELIVERIES,
+        Table::Penalties => PENALTIES,
+    }
+}
+
+/// Puts the rows of a table.
+fn put_rows(
+    alloc: Global,
+    out: &mut Vec<u8>,
+    table: Table,
+    sheet: &NamedSheet<'_>,
+    day: &str,
+    score: &Match,
+    begun: &Begun,
+    notes: &[Noted],
+) -> Result<(), AllocError>
+    ensures { ForEachHistory score.now (λ n h. begun.now ≡ begun_of h
+        → PutsRows result out.old.items out.new.items (tables.rows_of table sheet.now day.now h notes.now)) }
+{
+    match table {
+        Table::Deliveries => innings::put_all(alloc, out, sheet, day, score, begun, notes),
+        Table::Penalties => penalties::put_all(alloc, out, sheet, day, score, begun, notes),
+    }
+}
+
+/// The bytes of a table of a book: a line with the names of its columns, and a line for each row. The sides are told apart, as
+/// in an export, and the day is the first that the sheet's document tells.
+fn bytes_of<B: BookOf>(
+    alloc: Global,
+    table: Table,
+    sheet: &MatchSheet,
+    document: &Document,
+    book: &B,
+) -> Result<Vec<u8>, AllocError>
+    requires { B.innings_a_side book.now ≡ sheet.now.innings }
+    ensures { IfOk result (λ text.
+        text.items ≡ tables.table_text table (told_apart sheet.now) (table_view document.now) (B.content book.now)) }
+{
+    let score = book.score();
+    let (notes, begun) = notes_of(alloc, sheet.innings(), book)?;
+    let named = NamedSheet::new(alloc, sheet)?;
+    let day = day_of(alloc, document)?;
+    let mut out = Vec::new(alloc);
+    out.extend_from_slice(columns_of(table).as_bytes())?;
+    put_rows(
+        alloc,
+        &mut out,
+        table,
+        &named,
+        day.as_str(),
+        score,
+        &begun,
+        notes.as_slice(),
+    )?;
+    Ok(out)
+}
+
+/// A table of a book as text: a line with the names of its columns, and a line for each row. The sides are told apart, as in an
+/// export, and the day is the first that the sheet's document tells.
+pub fn table_of<B: BookOf>(
+    alloc: Global,
+    table: Table,
+    sheet: &MatchSheet,
+    document: &Document,
+    book: &B,
+) -> Result<String, AllocError>
+    requires { B.innings_a_side book.now ≡ sheet.now.innings }
+    ensures { IfOk result (λ text.
+        string_bytes text ≡ tables.table_text table (told_apart sheet.now) (table_view document.now) (B.content book.now)) }
+{
+    match String::from_utf8(bytes_of(alloc, table, sheet, document, book)?) {
+        Ok(text) => Ok(text),
+        // Names, days and figures are text, and quotes leave them text.
+        Err(_) => Err(AllocError),
+    }
+}
