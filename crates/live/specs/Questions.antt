@@ -5,7 +5,8 @@ use Rattle.notation.specs.LineFault.{number_of, name_of}
 use Rattle.cards.specs.Sheet.{Sheet, team_of}
 use Rattle.screen.specs.Sentences.{of_fault}
 use Rattle.screen.specs.Sides.{listed}
-use Rattle.shorthand.specs.declared.unclear.Unclear.{Unclear}
+use Rattle.screen.specs.Near.{unknown_text}
+use Rattle.shorthand.specs.declared.unclear.{Letter.Letter, Unaided.Unaided, Unclear.Unclear}
 use Rattle.shorthand.specs.Candidates.{candidates}
 
 -- a word, a number and a name
@@ -20,9 +21,22 @@ explained word number name sentence =
 abbrev pub fault_text : LineFault → List ℕ
 fault_text fault = explained (codes "fault") (number_of fault) (name_of fault) (of_fault fault)
 
+-- both meanings of a letter
+abbrev pub meanings : Letter → List ℕ
+meanings Letter.B = codes "b: byes are b1, b2, .., a wicket is bowled\n"
+meanings Letter.W = codes "w: a wide is wd, a wicket bowled, caught, ..\n"
+
+abbrev pub way_text : Unaided → List ℕ
+way_text Unaided.Bowled = codes "bowled"
+way_text Unaided.Lbw = codes "lbw"
+
 abbrev pub unclear_text : Sheet → Unclear → List ℕ
 unclear_text sheet (Unclear.Fault fault) = fault_text fault
 unclear_text sheet Unclear.WhoBowls = codes "who bowls? begin with the bowler, as 10: .\n"
 unclear_text sheet (Unclear.NoSuchPlayer name) = codes "no such player: " ++ name.bytes ++ codes "\n"
+unclear_text sheet (Unclear.TwoMeanings letter) = meanings letter
+unclear_text sheet (Unclear.NoFielder how name) =
+    way_text how ++ codes " has no fielder: " ++ name.bytes ++ codes " bowls?\n"
+unclear_text sheet (Unclear.UnknownWord word) = unknown_text word.bytes
 unclear_text sheet (Unclear.WhichPlayer side name) =
     codes "which one? " ++ listed (team_of sheet side) true (candidates (team_of sheet side) name.bytes) ++ codes "\n"

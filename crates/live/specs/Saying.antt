@@ -14,7 +14,7 @@ use Rattle.agree_core.specs.FileView.{FileView}
 use Rattle.desk.specs.Answers.{pen_answer}
 use Rattle.desk.specs.Desk.{last_entry}
 use Rattle.cards.specs.Sheet.{Sheet}
-use Rattle.screen.specs.Words.{word_of}
+use Rattle.screen.specs.Words.{is_end, word_of}
 use Rattle.shorthand.specs.Full.{in_full}
 use Rattle.shorthand.specs.Lines.{reason_of}
 use Rattle.live.specs.declared.said.Said.{Said}
@@ -53,7 +53,7 @@ MeansNone s book text said = ⊥
 
 -- the line is none of the words that are no entry's
 abbrev pub IsNoWord : List ℕ → Type 0
-IsNoWord line = (line ≢ codes "quit") × (word_of line ≡ None)
+IsNoWord line = (is_end line ≡ false) × (word_of line ≡ None)
 
 -- the line doesn't begin with the word `again`
 abbrev pub IsNotAgain : List ℕ → Type 0
@@ -84,7 +84,7 @@ ReadsNone s book differs is_cast line said =
 -- the line comes to this, and no entry is penned, by the sheet, the book and the votes that the desk has cast, at a place
 -- at which the two scorers differed or not, where the desk's vote of the round is cast or not
 abbrev pub ComesTo : Sheet → List Entry → List Ballot → Bool → Bool → List ℕ → Said → Type 0
-ComesTo s book votes differs is_cast line Quit = line ≡ codes "quit"
+ComesTo s book votes differs is_cast line Quit = is_end line ≡ true
 ComesTo s book votes differs is_cast line (Asks word) = word_of line ≡ Some word
 ComesTo s book votes differs is_cast line (Unclear unclear) =
     IsNoWord line × ReadsNone s book differs is_cast line (Unclear unclear)

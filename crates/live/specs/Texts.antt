@@ -3,10 +3,11 @@ use Rattle.std.specs.Prelude.{◌≡◌, ◌<◌, ◌≤◌, ◌↔◌, ℕ, ◌
 use Rattle.notation.specs.declared.entry.{Entry.Entry, Plain.Plain, TheConstants.PLACES}
 use Rattle.notation.specs.declared.entry.Entry.TheVariants.{Write}
 use Rattle.notation.specs.Written.{text_of}
-use Rattle.ball_laws.specs.History.{History}
+use Rattle.ball_laws.specs.History.{History, last_called_over}
+use Rattle.ball_laws.specs.Over.{counting}
 use Rattle.match_laws.specs.History.{begun}
 use Rattle.match_laws.specs.Figures.{overs}
-use Rattle.match_laws.specs.Result.{current}
+use Rattle.match_laws.specs.Result.{current, outcome}
 use Rattle.match_laws.specs.LawRefusal.{number_of as law_number}
 use Rattle.corrections.specs.declared.refusal.Refusal.TheVariants.{Later}
 use Rattle.corrections.specs.CleanList.{history_of}
@@ -16,8 +17,10 @@ use Rattle.wire.specs.Fault.{number_of as wire_number, name_of as wire_name}
 use Rattle.wire.specs.declared.{fault.WireFault.WireFault, what.What.What}
 use Rattle.desk.specs.Refusal.{number_of, name_of}
 use Rattle.desk.specs.declared.refusal.Refusal.{Refusal}
+use Rattle.cards.specs.Page.{over_note}
+use Rattle.cards.specs.Results.{result_text}
 use Rattle.cards.specs.Sheet.{Sheet}
-use Rattle.screen.specs.Row.{row}
+use Rattle.screen.specs.Row.{aim, row}
 use Rattle.screen.specs.OverCheck.{over_check}
 use Rattle.screen.specs.Both.{both_cards}
 use Rattle.screen.specs.Listing.{listing}
@@ -45,15 +48,18 @@ over_called h = if begun h == 0 then [] else codes " " ++ decimal (overs h (curr
 abbrev pub agreed_line : ℕ → Entry → List ℕ
 agreed_line place e = decimal place ++ codes " agreed: " ++ text_of e
 
-abbrev pub over_agreed : Sheet → ℕ → History → Entry → List ℕ
-over_agreed sheet place h e = agreed_line place e ++ over_called h ++ codes "\n" ++ over_check sheet h
+-- of an over that another number of deliveries than six counts in, that number; of a decided match, its result
+abbrev pub over_agreed : Sheet → ℕ → ℕ → History → Entry → List ℕ
+over_agreed sheet innings place h e =
+    agreed_line place e ++ over_called h ++ over_note (counting (last_called_over h))
+    ++ aim (result_text sheet (outcome innings h)) None ++ codes "\n" ++ over_check sheet h
 
 abbrev pub play_agreed : Sheet → ℕ → ℕ → History → Entry → List ℕ
 play_agreed sheet innings place h e = agreed_line place e ++ codes "\n" ++ row sheet innings h
 
 abbrev pub agreed_entry : Sheet → ℕ → ℕ → History → Entry → List ℕ
 agreed_entry sheet innings place h e =
-    if is_over e then over_agreed sheet place h e else play_agreed sheet innings place h e
+    if is_over e then over_agreed sheet innings place h e else play_agreed sheet innings place h e
 
 -- that the place has its entry in the book
 abbrev pub agreed_at : Sheet → ℕ → ℕ → History → Option Entry → List ℕ

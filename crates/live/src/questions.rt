@@ -11,8 +11,8 @@ ghost use Rattle.live.specs.inner.Telling.{is_number};
 
 use cards::MatchSheet;
 use notation::{LineFault, Player, Side};
-use screen::{fault_sentence, print_player};
-use shorthand::{Unclear, has_beginning};
+use screen::{fault_sentence, print_player, print_unknown};
+use shorthand::{Letter, Unaided, Unclear, has_beginning};
 use std::io::Write;
 use streams::{Watched, WriteFailed};
 
@@ -96,6 +96,40 @@ fn print_no_such<W: Write>(out: &mut Watched<W>, name: &str) -> Result<(), Write
     writeln!(out, "no such player: {name}")
 }
 
+/// Prints both meanings of a letter.
+fn print_meanings<W: Write>(out: &mut Watched<W>, letter: Letter) -> Result<(), WriteFailed>
+    ensures text { OnOk result (Prints W.contents out.old out.new (questions.meanings letter)) }
+    ensures failed { OnErr result (has_failed out.new ≡ true) }
+{
+    match letter {
+        Letter::B => writeln!(out, "b: byes are b1, b2, .., a wicket is bowled"),
+        Letter::W => writeln!(out, "w: a wide is wd, a wicket bowled, caught, .."),
+    }
+}
+
+fn way_text(how: Unaided) -> &'static str
+    ensures { result.now ≡ questions.way_text how }
+{
+    match how {
+        Unaided::Bowled => "bowled",
+        Unaided::Lbw => "lbw",
+    }
+}
+
+/// Prints that no fielder has a part in this way of being out.
+fn print_no_fielder<W: Write>(
+    out: &mut Watched<W>,
+    how: Unaided,
+    name: &str,
+) -> Result<(), WriteFailed>
+    ensures text { OnOk result (Prints W.contents out.old out.new
+        (questions.way_text how ++ codes " has no fielder: " ++ name.now ++ codes " bowls?\n")) }
+    ensures failed { OnErr result (has_failed out.new ≡ true) }
+{
+    let way = way_text(how);
+    writeln!(out, "{way} has no fielder: {name} bowls?")
+}
+
 /// Prints what isn't clear in a line.
 pub fn print_unclear<W: Write>(
     out: &mut Watched<W>,
@@ -109,6 +143,9 @@ pub fn print_unclear<W: Write>(
         Unclear::Fault(fault) => print_fault(out, *fault),
         Unclear::WhoBowls => writeln!(out, "who bowls? begin with the bowler, as 10: ."),
         Unclear::NoSuchPlayer(name) => print_no_such(out, name.as_str()),
+        Unclear::TwoMeanings(letter) => print_meanings(out, *letter),
+        Unclear::NoFielder(how, name) => print_no_fielder(out, *how, name.as_str()),
+        Unclear::UnknownWord(word) => print_unknown(out, word.as_str()),
         Unclear::WhichPlayer(side, name) => print_candidates(out, sheet, *side, name.as_str()),
     }
 }

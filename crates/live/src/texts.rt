@@ -21,8 +21,8 @@ use desk::Refusal;
 use match_laws::Match;
 use notation::{Entry, PLACES, Plain, line_of};
 use screen::{
-    HELP, Word, help_on, print_cards, print_check, print_listing, print_row, print_sides,
-    refusal_sentence,
+    HELP, Word, help_on, print_cards, print_check, print_listing, print_over_note, print_result,
+    print_row, print_sides, refusal_sentence,
 };
 use std::io::Write;
 use streams::{Watched, WriteFailed};
@@ -68,7 +68,8 @@ fn print_line<W: Write>(out: &mut Watched<W>, place: u32, entry: &Entry) -> Resu
     write!(out, "{place} agreed: {words}")
 }
 
-/// Prints that an over is agreed at this place, with the check of it.
+/// Prints that an over is agreed at this place, how many of its deliveries count where they aren't six, the result of a
+/// match that is decided, and the check of the over.
 fn print_over<B: BookOf, W: Write>(
     out: &mut Watched<W>,
     sheet: &MatchSheet,
@@ -78,11 +79,14 @@ fn print_over<B: BookOf, W: Write>(
 ) -> Result<(), WriteFailed>
     requires { IsEntry entry.now }
     ensures text { OnOk result (Prints W.contents out.old out.new
-        (texts.over_agreed sheet.now place (history_of (B.content book.now)) entry.now)) }
+        (texts.over_agreed sheet.now (B.innings_a_side book.now) place (history_of (B.content book.now)) entry.now)) }
     ensures failed { OnErr result (has_failed out.new ≡ true) }
 {
+    let score = book.score();
     print_line(out, place, entry)?;
-    print_called(out, book.score())?;
+    print_called(out, score)?;
+    print_over_note(out, book)?;
+    print_result(out, sheet, score)?;
     writeln!(out)?;
     print_check(out, sheet, book)
 }

@@ -1,3 +1,4 @@
 pub mod MarkLemmas
+pub mod OverEnds
 pub mod Plain
 pub mod Columns

@@ -1,5 +1,5 @@
--- What is claimed: Row, with Play; OverCheck, Both, Listing, Sides, Sentences, Words, Help. inner: for private
--- functions only.
+-- What is claimed: Row, with Play; OverCheck, Both, Listing, Sides, Sentences, Near, Words, Help. inner: for
+-- private functions only.
 pub mod Play
 pub mod Row
 pub mod OverCheck
@@ -7,6 +7,7 @@ pub mod Both
 pub mod Listing
 pub mod Sides
 pub mod Sentences
+pub mod Near
 pub mod Words
 pub mod Help
 pub mod inner

@@ -1,14 +1,15 @@
 -- How a match stands, in one row. s is the sheet, n the innings a side, h the history and i the innings.
-use Rattle.std.specs.Prelude.{ℕ, ◌==◌, if◌then◌else◌, Bool, List, [], ◌∷◌, ◌++◌, Option, Some, None, codes, decimal}
+use Rattle.std.specs.Prelude.{ℕ, ◌==◌, nat_le, if◌then◌else◌, Bool, false, not, ◌&&◌, List, [], ◌∷◌, ◌++◌, Option, Some, None, codes, decimal}
 use Rattle.notation.specs.declared.entry.{Ball.Ball, Side.Side}
 use Rattle.ball_laws.specs.History.{History, open_over}
 use Rattle.ball_laws.specs.Laws.{state_after}
+use Rattle.ball_laws.specs.Over.{counting}
 use Rattle.match_laws.specs.declared.rows.BowlingRow.{BowlingRow}
 use Rattle.match_laws.specs.History.{begun, side_of}
 use Rattle.match_laws.specs.Figures.{total, wickets, overs, balls, batter_runs, faced}
 use Rattle.match_laws.specs.Parts.{bowling_row_of}
 use Rattle.match_laws.specs.Result.{current, outcome}
-use Rattle.corrections.specs.Overs.{bowler_now}
+use Rattle.corrections.specs.Overs.{bowler_now, newest_bowler}
 use Rattle.cards.specs.Sheet.{Sheet, name_of, player_of}
 use Rattle.cards.specs.Bowling.{fielding, overs_of}
 use Rattle.cards.specs.Marks.{mark_of}
@@ -84,10 +85,33 @@ aim None None = []
 abbrev pub front : Sheet → History → ℕ → List ℕ
 front s h i = total_text s h i ++ overs_text h i ++ codes "  " ++ batters s h i
 
+-- an over without its last delivery
+abbrev pub older_of : List Ball → List Ball
+older_of [] = []
+older_of (b ∷ older) = older
+
+abbrev pub are_two : Option ℕ → Option ℕ → Bool
+are_two (Some p) (Some q) = not (p == q)
+are_two p q = false
+
+-- six counted before the over's last delivery, and another bowled that than the one before it
+abbrev pub is_uncalled : List Ball → Bool
+is_uncalled over =
+    nat_le 6 (counting (older_of over)) && are_two (newest_bowler over) (newest_bowler (older_of over))
+
+abbrev pub uncalled_text : List Ball → List ℕ
+uncalled_text over = if is_uncalled over then codes ", the over isn't called" else []
+
+-- from the sixth delivery of the open over that counts on, how many those are
+abbrev pub over_end : List Ball → List ℕ
+over_end over =
+    if nat_le 6 (counting over) then codes "  " ++ decimal (counting over) ++ codes " balls" ++ uncalled_text over
+    else []
+
 abbrev pub back : Sheet → ℕ → History → ℕ → List ℕ
 back s n h i =
     bowler s h i (codes "  ") (bowler_now h) ++ open_marks (open_over h)
-    ++ aim (result_text s (outcome n h)) (needs n h) ++ codes "\n"
+    ++ aim (result_text s (outcome n h)) (needs n h) ++ over_end (open_over h) ++ codes "\n"
 
 abbrev pub innings_row : Sheet → ℕ → History → ℕ → List ℕ
 innings_row s n h i = front s h i ++ back s n h i

@@ -1,6 +1,7 @@
 -- The words that are no entry's, as a scorer types them.
-use Rattle.std.specs.Prelude.{ℕ, ◌==◌, length, Option, Some, None, if◌then◌else◌, List, [], ◌∷◌, codes, bytes_eq, option_map}
-use Rattle.std.specs.List.{list_all}
+use Rattle.std.specs.Prelude.{ℕ, ◌-◌, ◌==◌, Bool, ◌||◌, length, take, Option, Some, None, if◌then◌else◌, List, [], ◌∷◌, codes, bytes_eq, option_map}
+use Rattle.std.specs.Char.{is_ascii_whitespace}
+use Rattle.std.specs.List.{list_all, suffix_len}
 use Rattle.notation.specs.Written.{Token, tokens, found_number}
 use Rattle.match_laws.specs.History.{or_else}
 use Rattle.cards.specs.Sheet.{is_printable}
@@ -64,6 +65,20 @@ word_from (t ∷ []) = single t
 word_from (t ∷ u ∷ []) = pair t u
 word_from (t ∷ u ∷ v ∷ ts) = None
 
+-- a line without the blanks at its end
+abbrev pub trimmed : List ℕ → List ℕ
+trimmed line = take (length line - suffix_len is_ascii_whitespace line) line
+
+abbrev pub asked : List ℕ → Option Word
+asked line = if list_all is_printable line then word_from (tokens line) else None
+
 -- what a line asks for, if it is such a word
 unfoldable pub word_of : List ℕ → Option Word
-word_of line = if list_all is_printable line then word_from (tokens line) else None
+word_of line = asked (trimmed line)
+
+-- the line ends the desk: `quit` or `exit`
+abbrev pub ends_desk : List ℕ → Bool
+ends_desk line = bytes_eq line (codes "quit") || bytes_eq line (codes "exit")
+
+unfoldable pub is_end : List ℕ → Bool
+is_end line = ends_desk (trimmed line)

@@ -5,7 +5,9 @@
 mod both;
 mod listing;
 mod marks;
+mod near;
 mod over_check;
+mod over_end;
 mod play;
 mod row;
 mod sentences;
@@ -15,9 +17,11 @@ mod word;
 
 pub use both::print_cards;
 pub use listing::print_listing;
+pub use near::print_unknown;
 pub use over_check::print_check;
-pub use row::print_row;
+pub use over_end::print_over_note;
+pub use row::{print_result, print_row};
 pub use sentences::{fault_sentence, refusal_sentence};
 pub use sides::{print_player, print_sides};
 pub use topic::{HELP, Topic, help_on};
-pub use word::{Word, word_of};
+pub use word::{Word, is_end, word_of};

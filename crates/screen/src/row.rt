@@ -13,6 +13,7 @@ ghost use Rattle.streams.specs.Watched.{Prints, has_failed};
 ghost use Rattle.screen.specs.Row as rows;
 
 use crate::marks::print_marks;
+use crate::over_end::print_over_end;
 use crate::play::needs;
 use cards::MatchSheet;
 use corrections::{BookOf, Placed, bowler_of, overs_of};
@@ -251,17 +252,17 @@ fn print_innings_win<W: Write>(
     )
 }
 
-/// Prints the result of a match, or what is needed.
-fn print_aim<W: Write>(
+/// Prints the result of a match, or what is needed, if it is told.
+fn print_outcome<W: Write>(
     out: &mut Watched<W>,
     sheet: &MatchSheet,
     score: &Match,
+    needed: Option<u32>,
 ) -> Result<(), WriteFailed>
     ensures text { ForEachHistory score.now (λ n h. OnOk result (Prints W.contents out.old out.new
-        (rows.aim (result_text sheet.now (outcome n h)) (play.needs n h)))) }
+        (rows.aim (result_text sheet.now (outcome n h)) needed))) }
     ensures failed { OnErr result (has_failed out.new ≡ true) }
 {
-    let needed = needs(score);
     match score.result() {
         Outcome::Undecided => print_needs(out, needed),
         Outcome::Draw => write!(out, "  match drawn"),
@@ -278,6 +279,32 @@ fn print_aim<W: Write>(
             write!(out, "  {name} won by penalty runs")
         }
     }
+}
+
+/// Prints the result of a match, or what is needed.
+fn print_aim<W: Write>(
+    out: &mut Watched<W>,
+    sheet: &MatchSheet,
+    score: &Match,
+) -> Result<(), WriteFailed>
+    ensures text { ForEachHistory score.now (λ n h. OnOk result (Prints W.contents out.old out.new
+        (rows.aim (result_text sheet.now (outcome n h)) (play.needs n h)))) }
+    ensures failed { OnErr result (has_failed out.new ≡ true) }
+{
+    print_outcome(out, sheet, score, needs(score))
+}
+
+/// Prints the result of a match that is decided.
+pub fn print_result<W: Write>(
+    out: &mut Watched<W>,
+    sheet: &MatchSheet,
+    score: &Match,
+) -> Result<(), WriteFailed>
+    ensures text { ForEachHistory score.now (λ n h. OnOk result (Prints W.contents out.old out.new
+        (rows.aim (result_text sheet.now (outcome n h)) None))) }
+    ensures failed { OnErr result (has_failed out.new ≡ true) }
+{
+    print_outcome(out, sheet, score, None)
 }
 
 /// Prints the row of an innings, behind its batters.
@@ -297,6 +324,7 @@ fn print_back<W: Write, B: BookOf>(
     print_bowler(out, sheet, score, innings, "  ", overs.bowler())?;
     print_open_marks(out, overs.this)?;
     print_aim(out, sheet, score)?;
+    print_over_end(out, overs.this)?;
     writeln!(out)
 }
 

@@ -51,16 +51,16 @@ list [n]        the last n entries, 12 or 1 to 200, with their places
 score, card     this over and the total; both cards of the innings
 players         both sides, by number and name; an empty line: where you stand
 help [word]     this, or more on one of these words; short: short lines
-quit            ends; the same command goes on
+quit, exit      ends; the same command goes on
 ";
 
 /// What `help short` shows.
 const HELP_SHORT: &str = "\
-A delivery:  [B:] [RUNS] [OPTIONS] [OUT]   with one of the last three at least
-B: bowls, by number or name, as 10: or usher:   Left out, it is who bowled the
-   last delivery of this over: so the first of each over names the bowler.
-RUNS: letters and a figure with no space between them, as 1 or lb4
-   none bat       .  0
+A delivery:  [B:] [RUNS] [OPTIONS] [OUT]   at least one of the last three
+B: bowls, as 10: or usher:   Left out: who bowled the last ball of this over, so
+   the first of each over names the bowler.
+RUNS: letters and a figure with no space, as 1 or lb4
+   none bat       .0 0
    b    bye       1  1
    lb   leg       2  2
    wd   wide      3  3
@@ -69,14 +69,14 @@ RUNS: letters and a figure with no space between them, as 1 or lb4
    nblb nbleg     6  0 six
    wd is wide 0, and nb is nb 0.   nb 4 is four all run, and nb4 a four.
    K r stands as in a full line: bat 4 is four all run.   Left out: bat 0
+   Also wide, no ball, dot, four, six, 1b to 4b, 1lb to 4lb, 1wd, 1nb, lb 1
 OPTIONS: short s, overthrow, dead
-OUT: [out] H [W] [f] [crossed]
-   W left out is striker, but never for runout and obstructing
-   f left out is 0; it is a number, a name or sub, any substitute
+OUT: [out] H [W] [f] [crossed]   H also c, ct, st, ro, run out
+   W left out is striker, never for runout and obstructing
+   f left out is 0; it is a number, a name or sub
 /  is over.
-Names: in n, gone L n, ball b, B: and f take a name of that side, in letters of
-   any case: the last word of one player's name, or the beginning of a word in
-   the name of one player.
+Names, in any case, for n, b, B: and f: the whole name, the last word of one
+   player's name, or how a word in the name of one player begins.
 fix p, late p and again: short lines stand behind them too.
 ";
 

@@ -100,10 +100,16 @@ fn word_from(tokens: &mut Tokens<'_>) -> Option<Word>
     }
 }
 
-/// What a line asks for, if it is one of these words.
-#[tactic(auto, unfolding(crate::specs::Words::word_of))]
-pub fn word_of(line: &[u8]) -> Option<Word>
-    ensures { result ≡ words.word_of line.now }
+/// A line without the blanks at its end.
+fn trimmed(line: &[u8]) -> &[u8]
+    ensures { result.now ≡ words.trimmed line.now }
+{
+    line.trim_ascii_end()
+}
+
+/// What a line without blanks at its end asks for.
+fn asked(line: &[u8]) -> Option<Word>
+    ensures { result ≡ words.asked line.now }
 {
     if !is_plain(line) {
         return None;
@@ -112,4 +118,21 @@ pub fn word_of(line: &[u8]) -> Option<Word>
         Ok(text) => word_from(&mut Tokens::new(text)),
         Err(_) => None,
     }
+}
+
+/// What a line asks for, if it is one of these words, with any blanks behind it.
+#[tactic(auto, unfolding(crate::specs::Words::word_of))]
+pub fn word_of(line: &[u8]) -> Option<Word>
+    ensures { result ≡ words.word_of line.now }
+{
+    asked(trimmed(line))
+}
+
+/// Whether the line ends the desk: `quit` or `exit`, with any blanks behind it.
+#[tactic(auto, unfolding(crate::specs::Words::is_end))]
+pub fn is_end(line: &[u8]) -> bool
+    ensures { result ≡ words.is_end line.now }
+{
+    let word = trimmed(line);
+    word == b"quit".as_slice() || word == b"exit".as_slice()
 }

@@ -1,9 +1,9 @@
 -- Who bowls and bats by what stands, and by the Laws' history of the book.
-use Rattle.std.proofs.Common.{◌≡◌, List, [], ◌∷◌, refl, sym, ap, ◌∙◌, append-nil}
+use Rattle.std.proofs.Common.{◌≡◌, List, [], ◌∷◌, refl, ap, ◌∙◌, append-nil}
 use Rattle.notation.specs.declared.entry.Entry.{Entry}
 use Rattle.ball_laws.specs.History.{History}
 use Rattle.corrections.specs.declared.placed.Placed.{Placed}
-use Rattle.corrections.specs.CleanList.{clean, clean_items_of, history, history_of, kept}
+use Rattle.corrections.specs.CleanList.{clean, clean_items_of, history, history_of}
 use Rattle.corrections.specs.inner.Scoring.{history_after}
 use Rattle.corrections.proofs.LegalLemmas.{history_after-history}
 use Rattle.corrections.proofs.OverLemmas.{AreAlike, alike-kept}

@@ -1,32 +1,42 @@
 -- What a line of a scorer is in full, word by word, in the order of the table that scorers have. What no rule speaks
 -- of stays as it is, so that whoever reads the line in full finds its faults.
-use Rattle.std.specs.Prelude.{ℕ, ◌==◌, nat_lt, length, Bool, true, false, ◌||◌, ◌&&◌, if◌then◌else◌}
+use Rattle.std.specs.Prelude.{ℕ, ◌==◌, length, Bool, true, false, ◌||◌, ◌&&◌, if◌then◌else◌}
 use Rattle.std.specs.Prelude.{Option, Some, None, List, [], ◌∷◌, map, codes, decimal, is_some, Result, Ok, Err}
-use Rattle.std.specs.List.{list_any, position_or_len, before_first, after_first}
+use Rattle.std.specs.List.{before_first, after_first}
 use Rattle.std.specs.Str.{bytes_eq}
-use Rattle.notation.specs.Written.{Token, tokens, how_text, all_hows, who_text, all_whos, kind_text, all_kinds, found_number}
+use Rattle.notation.specs.Written.{Token, tokens, who_text, all_whos, kind_text, all_kinds, found_number}
 use Rattle.notation.specs.Reading.{line_answer}
 use Rattle.notation.specs.declared.{fault.LineFault.LineFault, entry.Entry.Entry, entry.Side.Side}
-use Rattle.notation.specs.declared.fault.LineFault.TheVariants.{TooLong, Spaces}
-use Rattle.match_laws.specs.History.{opponent}
-use Rattle.cards.specs.Sheet.{Sheet}
-use Rattle.shorthand.specs.declared.point.{Belongs.Belongs, Point.Point}
+use Rattle.notation.specs.declared.fault.LineFault.TheVariants.{TooLong, UnknownWord as NoWord, Spaces}
+use Rattle.match_laws.specs.History.{opponent, or_else}
+use Rattle.cards.specs.Sheet.{Sheet, team_of}
+use Rattle.shorthand.specs.declared.{names.Among.Among, names.Found.Found, point.Belongs.Belongs, point.Point.Point, unclear.Letter.Letter, unclear.Unaided.Unaided}
+use Rattle.shorthand.specs.declared.names.Among.TheVariants.{Anyone}
+use Rattle.shorthand.specs.declared.names.Found.TheVariants.{NoOne}
 use Rattle.shorthand.specs.declared.point.Belongs.TheVariants.{Last, At, After}
-use Rattle.shorthand.specs.Lines.{Reason, Fault, WhoBowls, Word, as_typed, joined}
-use Rattle.shorthand.specs.Names.{player, fielder, is_digit_first}
+use Rattle.shorthand.specs.Words.{behind_one, is_desk_word, is_how, is_line_word, is_no_ball, is_one_of, is_run_out, trimmed, two_meanings, way_of, without_fielder}
+use Rattle.shorthand.specs.Lines.{Reason, Fault, WhoBowls, TwoMeanings, Word, as_typed, joined, plus}
+use Rattle.shorthand.specs.Names.{player, fielder, named, number_word, colon_name, names_bowler, no_fielder, unknown_word, is_colon, is_digit_first}
 use Rattle.shorthand.specs.Marks.{mark}
-use Rattle.shorthand.specs.Points.{point_at}
-
-abbrev pub is_one_of : List Token → Token → Bool
-is_one_of ws t = list_any (bytes_eq t) ws
+use Rattle.shorthand.specs.Points.{batters_at, point_at}
 
 -- ---- OUT: [out] HOW [WHO] [F] [crossed]
 
+-- a fielder where none has a part, unless it is none
+abbrev pub refused_fielder : Option Unaided → Token → Option Unaided
+refused_fielder None t = None
+refused_fielder (Some how) t = if bytes_eq t (codes "0") then None else Some how
+
+abbrev pub fielder_word : Sheet → Side → Option Unaided → Token → List Token → List Word
+fielder_word s side (Some how) t ts = Err (no_fielder how t) ∷ []
+fielder_word s side None t ts = (fielder s side t ts).0 ∷ as_typed (fielder s side t ts).1
+
 -- the fielder of the side: 0 where none is named
-abbrev pub by_fielder : Sheet → Side → List Token → List Word
-by_fielder s side [] = Ok (codes "0") ∷ []
-by_fielder s side (t ∷ ts) =
-    if bytes_eq t (codes "crossed") then Ok (codes "0") ∷ as_typed (t ∷ ts) else fielder s side t ∷ as_typed ts
+abbrev pub by_fielder : Sheet → Side → Token → List Token → List Word
+by_fielder s side how [] = Ok (codes "0") ∷ []
+by_fielder s side how (t ∷ ts) =
+    if bytes_eq t (codes "crossed") then Ok (codes "0") ∷ as_typed (t ∷ ts)
+    else fielder_word s side (refused_fielder (without_fielder how) t) t ts
 
 -- run out and obstructing the field must say who is out
 abbrev pub needs_who : Token → Bool
@@ -34,18 +44,19 @@ needs_who how = is_one_of (codes "runout" ∷ codes "obstructing" ∷ []) how
 
 -- who is out, the striker where nothing is said, and the fielder
 abbrev pub who_is_out : Sheet → Side → Token → List Token → List Word
-who_is_out s side how [] = if needs_who how then [] else Ok (codes "striker") ∷ by_fielder s side []
+who_is_out s side how [] = if needs_who how then [] else Ok (codes "striker") ∷ by_fielder s side how []
 who_is_out s side how (t ∷ ts) =
-    if is_one_of (map who_text all_whos) t then Ok t ∷ by_fielder s side ts
+    if is_one_of (map who_text all_whos) t then Ok t ∷ by_fielder s side how ts
     else if needs_who how then as_typed (t ∷ ts)
-    else Ok (codes "striker") ∷ by_fielder s side (t ∷ ts)
+    else Ok (codes "striker") ∷ by_fielder s side how (t ∷ ts)
 
+-- the way, by its own word or by another
 abbrev pub dismissal : Sheet → Side → List Token → List Word
 dismissal s side [] = []
-dismissal s side (t ∷ ts) = Ok t ∷ who_is_out s side t ts
+dismissal s side (t ∷ ts) = Ok (way_of t) ∷ who_is_out s side (way_of t) ts
 
-abbrev pub is_how : Token → Bool
-is_how t = is_one_of (map how_text all_hows) t
+abbrev pub run_out : Sheet → Side → List Token → List Word
+run_out s side ts = Ok (codes "out") ∷ Ok (codes "runout") ∷ who_is_out s side (codes "runout") ts
 
 -- ---- [OPTIONS] [OUT]
 
@@ -55,46 +66,58 @@ behind_runs s side [] = []
 behind_runs s side (t ∷ ts) =
     if bytes_eq t (codes "out") then Ok t ∷ dismissal s side ts
     else if is_how t then Ok (codes "out") ∷ dismissal s side (t ∷ ts)
+    else if is_run_out t ts then run_out s side (behind_one ts)
     else Ok t ∷ behind_runs s side ts
 
--- the token begins options, or says that a batter is out
-abbrev pub is_behind_runs : Token → Bool
-is_behind_runs t =
-    is_one_of (codes "short" ∷ codes "overthrow" ∷ codes "dead" ∷ codes "out" ∷ []) t || is_how t
+-- the tokens begin options, or say that a batter is out
+abbrev pub is_behind_runs : Token → List Token → Bool
+is_behind_runs t ts =
+    is_one_of (codes "short" ∷ codes "overthrow" ∷ codes "dead" ∷ codes "out" ∷ []) t || (is_how t || is_run_out t ts)
 
 -- ---- [RUNS] [OPTIONS] [OUT]
 
--- `nb` is a No ball without a run unless a number follows
-abbrev pub behind_nb : Sheet → Side → List Token → List Word
-behind_nb s side [] = Ok (codes "0") ∷ []
-behind_nb s side (t ∷ ts) =
-    if is_digit_first t then behind_runs s side (t ∷ ts) else Ok (codes "0") ∷ behind_runs s side (t ∷ ts)
+-- a number stands next
+abbrev pub has_number : List Token → Bool
+has_number [] = false
+has_number (t ∷ ts) = is_digit_first t
+
+-- a kind without a run unless a number follows
+abbrev pub from_none : Sheet → Side → List Token → List Word
+from_none s side ts = if has_number ts then behind_runs s side ts else Ok (codes "0") ∷ behind_runs s side ts
 
 -- no mark: no runs where none are named, otherwise a kind and a number, as in a full line
 abbrev pub unmarked : Sheet → Side → Token → List Token → List Word
 unmarked s side t ts =
-    if is_behind_runs t then Ok (codes "bat") ∷ Ok (codes "0") ∷ behind_runs s side (t ∷ ts)
+    if is_behind_runs t ts then Ok (codes "bat") ∷ Ok (codes "0") ∷ behind_runs s side (t ∷ ts)
     else behind_runs s side (t ∷ ts)
+
+-- a kind alone: `wd`, `wide`, `nb`, `noball` and `no ball` with no run of the batters, `lb` before a number
+abbrev pub by_kind : Sheet → Side → Token → List Token → List Word
+by_kind s side t ts =
+    if bytes_eq t (codes "wd") then Ok (codes "wide") ∷ Ok (codes "0") ∷ behind_runs s side ts
+    else if bytes_eq t (codes "wide") then Ok t ∷ from_none s side ts
+    else if is_one_of (codes "nb" ∷ codes "noball" ∷ []) t then Ok (codes "nb") ∷ from_none s side ts
+    else if is_no_ball t ts then Ok (codes "nb") ∷ from_none s side (behind_one ts)
+    else if bytes_eq t (codes "lb") && has_number ts then Ok (codes "leg") ∷ behind_runs s side ts
+    else unmarked s side t ts
 
 abbrev pub marked : Sheet → Side → Option (Token × Token) → Token → List Token → List Word
 marked s side (Some m) t ts = Ok m.0 ∷ Ok m.1 ∷ behind_runs s side ts
-marked s side None t ts =
-    if bytes_eq t (codes "wd") then Ok (codes "wide") ∷ Ok (codes "0") ∷ behind_runs s side ts
-    else if bytes_eq t (codes "nb") then Ok t ∷ behind_nb s side ts
-    else unmarked s side t ts
+marked s side None t ts = by_kind s side t ts
+
+-- a letter that means two things to scorers is refused with both
+abbrev pub unless_two : Option Letter → List Word → List Word
+unless_two (Some letter) ws = Err (TwoMeanings letter) ∷ []
+unless_two None ws = ws
+
+unfoldable pub runs_from : Sheet → Side → Token → List Token → List Word
+runs_from s side t ts = unless_two (two_meanings t) (marked s side (mark t) t ts)
 
 abbrev pub runs : Sheet → Side → List Token → List Word
 runs s side [] = []
-runs s side (t ∷ ts) = marked s side (mark t) t ts
+runs s side (t ∷ ts) = runs_from s side t ts
 
 -- ---- [B:] [RUNS] [OPTIONS] [OUT]
-
-abbrev pub is_colon : ℕ → Bool
-is_colon b = b == 58
-
--- `B:`, be it alone or before what the delivery brought, as `10:4`
-abbrev pub names_bowler : Token → Bool
-names_bowler t = nat_lt (position_or_len is_colon t) (length t) && nat_lt 0 (length (before_first is_colon t))
 
 -- the tokens with this one before them, where it isn't empty
 abbrev pub behind_colon : Token → List Token → List Token
@@ -105,47 +128,99 @@ abbrev pub same_bowler : Option ℕ → Word
 same_bowler None = Err WhoBowls
 same_bowler (Some n) = Ok (decimal n)
 
--- a token that begins what a delivery brought
-abbrev pub begins_delivery : Token → Bool
-begins_delivery t =
-    is_some (mark t) || (bytes_eq t (codes "wd") || (is_one_of (map kind_text all_kinds) t || is_behind_runs t))
+-- the token is a kind, by its own word or by another
+abbrev pub is_kind : Token → Bool
+is_kind t = is_one_of (codes "wd" ∷ codes "noball" ∷ codes "lb" ∷ map kind_text all_kinds) t
+
+-- the tokens begin what a delivery brought
+unfoldable pub begins_delivery : Token → List Token → Bool
+begins_delivery t ts = is_some (mark t) || (is_kind t || (is_no_ball t ts || is_behind_runs t ts))
+
+-- what a delivery brought is next, or a letter that means two things
+abbrev pub has_delivery : List Token → Bool
+has_delivery [] = false
+has_delivery (t ∷ ts) = begins_delivery t ts || is_some (two_meanings t)
+
+-- a bowler's name with no colon behind it, where a delivery follows
+abbrev pub is_someone : Found → Bool
+is_someone NoOne = false
+is_someone found = true
+
+abbrev pub spoken : Sheet → Side → Token → List Token → Found × List Token → List Word
+spoken s side t ts bowler =
+    if has_delivery bowler.1 && is_someone bowler.0
+    then Ok (codes "ball") ∷ number_word side t bowler.0 ∷ runs s side bowler.1
+    else as_typed (t ∷ ts)
+
+-- a bowler's whole name of several words before a colon, else a name with none
+abbrev pub by_colon : Sheet → Side → Token → List Token → Option (ℕ × Token × List Token) → List Word
+by_colon s side t ts (Some found) =
+    Ok (codes "ball") ∷ Ok (decimal found.0) ∷ runs s side (behind_colon found.1 found.2)
+by_colon s side t ts None = spoken s side t ts (named (team_of s side) Anyone t ts)
+
+-- no word that begins a line, and no number
+abbrev pub may_name : Token → Bool
+may_name t = if is_line_word t || is_digit_first t then false else true
+
+unfoldable pub by_bowler : Sheet → Side → Token → List Token → List Word
+by_bowler s side t ts =
+    if may_name t then by_colon s side t ts (colon_name (team_of s side) (plus (Ok []) (Ok t)) ts)
+    else as_typed (t ∷ ts)
+
+unfoldable pub by_same_bowler : Sheet → Point → Token → List Token → List Word
+by_same_bowler s at t ts =
+    if begins_delivery t ts
+    then Ok (codes "ball") ∷ same_bowler at.bowler ∷ runs_from s (opponent at.batting) t ts
+    else by_bowler s (opponent at.batting) t ts
+
+-- a letter that means two things is refused, whoever bowls
+unfoldable pub by_letter : Sheet → Point → Token → List Token → List Word
+by_letter s at t ts = unless_two (two_meanings t) (by_same_bowler s at t ts)
+
+-- a delivery of the bowler who is named before a colon, with this behind it
+unfoldable pub colon_delivery : Sheet → Side → Token → Token → List Token → List Word
+colon_delivery s side name more ts =
+    Ok (codes "ball") ∷ (player s side Anyone name []).0 ∷ runs s side (behind_colon more ts)
 
 -- a delivery that isn't begun by `ball`, or any other line
-abbrev pub unnamed : Sheet → Point → Token → List Token → List Word
+unfoldable pub unnamed : Sheet → Point → Token → List Token → List Word
 unnamed s at t ts =
-    if names_bowler t then
-    Ok (codes "ball") ∷ player s (opponent at.batting) (before_first is_colon t)
-    ∷ runs s (opponent at.batting) (behind_colon (after_first is_colon t) ts)
-    else if begins_delivery t then
-    Ok (codes "ball") ∷ same_bowler at.bowler ∷ runs s (opponent at.batting) (t ∷ ts)
-    else as_typed (t ∷ ts)
+    if names_bowler t then colon_delivery s (opponent at.batting) (before_first is_colon t) (after_first is_colon t) ts
+    else by_letter s at t ts
 
 -- ---- a whole line
 
-abbrev pub batter_first : Sheet → Side → List Token → List Word
-batter_first s side [] = []
-batter_first s side (t ∷ ts) = player s side t ∷ as_typed ts
+abbrev pub batter_first : Sheet → Side → Among → List Token → List Word
+batter_first s side among [] = []
+batter_first s side among (t ∷ ts) = (player s side among t ts).0 ∷ as_typed (player s side among t ts).1
 
 abbrev pub bowler_first : Sheet → Side → List Token → List Word
 bowler_first s side [] = []
-bowler_first s side (t ∷ ts) = player s side t ∷ runs s side ts
+bowler_first s side (t ∷ ts) = (player s side Anyone t ts).0 ∷ runs s side (player s side Anyone t ts).1
 
-abbrev pub left_so : Sheet → Side → List Token → List Word
-left_so s side [] = []
-left_so s side (t ∷ ts) = Ok t ∷ batter_first s side ts
+-- who leaves is in, unless he is timed out
+abbrev pub leavers : Token → Among → Among
+leavers t among = if bytes_eq t (codes "timedout") then Anyone else among
 
--- a line but `fix` and `late`, where it belongs
-unfoldable pub item_from : Sheet → Point → Token → List Token → List Word
-item_from s at t ts =
+abbrev pub left_so : Sheet → Side → Among → List Token → List Word
+left_so s side among [] = []
+left_so s side among (t ∷ ts) = Ok t ∷ batter_first s side (leavers t among) ts
+
+-- a line but `fix` and `late`, where it belongs, with who is in there
+unfoldable pub item_from : Sheet → Point → Among → Token → List Token → List Word
+item_from s at among t ts =
     if bytes_eq t (codes "/") then Ok (codes "over") ∷ as_typed ts
-    else if bytes_eq t (codes "in") then Ok t ∷ batter_first s at.batting ts
-    else if bytes_eq t (codes "gone") then Ok t ∷ left_so s at.batting ts
+    else if bytes_eq t (codes "in") then Ok t ∷ batter_first s at.batting Anyone ts
+    else if bytes_eq t (codes "gone") then Ok t ∷ left_so s at.batting among ts
     else if bytes_eq t (codes "ball") then Ok t ∷ bowler_first s (opponent at.batting) ts
     else unnamed s at t ts
 
-abbrev pub item : Sheet → Point → List Token → List Word
-item s at [] = []
-item s at (t ∷ ts) = item_from s at t ts
+abbrev pub item_at : Sheet → List Entry → Belongs → Token → List Token → List Word
+item_at s book belongs t ts = item_from s (point_at book belongs) (batters_at book belongs) t ts
+
+abbrev pub item : Sheet → List Entry → Belongs → List Token → List Word
+item s book belongs [] = []
+item s book belongs (t ∷ ts) = item_at s book belongs t ts
 
 -- where a `late` line and a `fix` line of place p belong
 abbrev pub belonging : Bool → ℕ → Belongs
@@ -154,7 +229,7 @@ belonging is_late p = if is_late then After p else At p
 -- a place, and what belongs there; where no place stands, all as it stands
 abbrev pub at_place : Sheet → List Entry → Bool → Token → List Token → Option ℕ → List Word
 at_place s book is_late t ts None = as_typed (t ∷ ts)
-at_place s book is_late t ts (Some p) = Ok t ∷ item s (point_at book (belonging is_late p)) ts
+at_place s book is_late t ts (Some p) = Ok t ∷ item s book (belonging is_late p) ts
 
 abbrev pub placed : Sheet → List Entry → Bool → List Token → List Word
 placed s book is_late [] = []
@@ -164,7 +239,44 @@ abbrev pub words_in_full : Sheet → List Entry → List Token → List Word
 words_in_full s book [] = []
 words_in_full s book (t ∷ ts) =
     if is_one_of (codes "fix" ∷ codes "late" ∷ []) t then Ok t ∷ placed s book (bytes_eq t (codes "late")) ts
-    else item s (point_at book Last) (t ∷ ts)
+    else item_at s book Last t ts
+
+-- ---- a word that is none
+
+-- the line is refused for a word that stands where another must
+abbrev pub lacks_word : Result Entry LineFault → Bool
+lacks_word (Err NoWord) = true
+lacks_word read = false
+
+abbrev pub is_cut_there : Result (List ℕ) Reason → Bool
+is_cut_there (Ok text) = lacks_word (line_answer text)
+is_cut_there (Err reason) = false
+
+-- that word: the first with which the line, cut behind it, is refused so
+abbrev pub word_from : Result (List ℕ) Reason → List Token → Option Token
+word_from front [] = None
+word_from front (t ∷ ts) = if is_cut_there (plus front (Ok t)) then Some t else word_from (plus front (Ok t)) ts
+
+abbrev pub or_word : List ℕ → Option Token → Result (List ℕ) Reason
+or_word text None = Ok text
+or_word text (Some t) = Err (unknown_word t)
+
+-- of a word that asks for something, what stands behind it
+abbrev pub asked_for : List Token → Option Token
+asked_for (t ∷ u ∷ ts) = if is_desk_word t then Some u else None
+asked_for _ = None
+
+-- the word for which a text is refused, if it is
+abbrev pub lacking : List ℕ → Option Token
+lacking text =
+    if lacks_word (line_answer text) then or_else (asked_for (tokens text)) (word_from (Ok []) (tokens text)) else None
+
+-- a text in full, unless it is refused for a word: then that word
+abbrev pub with_words : Result (List ℕ) Reason → Result (List ℕ) Reason
+with_words (Err reason) = Err reason
+with_words (Ok text) = or_word text (lacking text)
+
+-- ---- a line
 
 -- a fault of the line as a whole, and not of one of its words
 abbrev pub is_of_line : LineFault → Bool
@@ -176,8 +288,17 @@ is_of_line _ = false
 -- between them, has no full form; any other is put in full word by word
 abbrev pub put_in_full : Sheet → List Entry → List ℕ → Result Entry LineFault → Result (List ℕ) Reason
 put_in_full s book line (Ok e) = Ok line
-put_in_full s book line (Err f) = if is_of_line f then Err (Fault f) else joined (words_in_full s book (tokens line))
+put_in_full s book line (Err f) =
+    if is_of_line f then Err (Fault f) else with_words (joined (words_in_full s book (tokens line)))
+
+abbrev pub by_answer : Sheet → List Entry → List ℕ → Result (List ℕ) Reason
+by_answer s book line = put_in_full s book line (line_answer line)
+
+-- the blanks at the end of a line that is no entry's are no part of it
+abbrev pub without_blanks : List ℕ → Result Entry LineFault → List ℕ
+without_blanks line (Ok e) = line
+without_blanks line (Err f) = trimmed line
 
 -- a line in full, or what isn't clear in it
 unfoldable pub in_full : Sheet → List Entry → List ℕ → Result (List ℕ) Reason
-in_full s book line = put_in_full s book line (line_answer line)
+in_full s book line = by_answer s book (without_blanks line (line_answer line))

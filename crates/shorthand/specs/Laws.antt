@@ -6,6 +6,7 @@ use Rattle.notation.specs.Reading.{line_answer}
 use Rattle.ball_laws.specs.History.{History}
 use Rattle.corrections.specs.CleanList.{history_of}
 use Rattle.cards.specs.Sheet.{Sheet, Team}
+use Rattle.shorthand.specs.declared.names.Among.TheVariants.{Anyone}
 use Rattle.shorthand.specs.declared.names.Fit.TheVariants.{LastWord, Beginning}
 use Rattle.shorthand.specs.declared.names.Found.TheVariants.{One}
 use Rattle.shorthand.specs.declared.point.Belongs.TheVariants.{Last}
@@ -40,4 +41,4 @@ pub record BowlerLeftOutIsTheLast : Type 0 where
 -- a name means the one player of the team whose last word it is, or the one who has a word that begins so
 abbrev pub NamesMeanOne : Type 0
 NamesMeanOne = (team : Team) (name : Token) (n : ℕ) → meant_by team name ≡ One n
-    → (fitting LastWord team name ≡ n ∷ []) ⊎ (fitting Beginning team name ≡ n ∷ [])
+    → (fitting Anyone LastWord team name ≡ n ∷ []) ⊎ (fitting Anyone Beginning team name ≡ n ∷ [])

@@ -3,20 +3,27 @@ use Rattle.std.specs.Prelude.{ℕ, nat_le, length, if◌then◌else◌, List, []
 use Rattle.notation.specs.Written.{Token}
 use Rattle.notation.specs.declared.{fault.LineFault.LineFault, entry.Side.Side}
 use Rattle.notation.specs.declared.fault.LineFault.TheVariants.{TooLong}
-use Rattle.shorthand.specs.declared.unclear.Unclear.{Unclear}
+use Rattle.shorthand.specs.declared.unclear.{Letter.Letter, Unaided.Unaided, Unclear.Unclear}
 
--- what isn't clear in a line: its words, who bowls, or which player of a side a name means
+-- what isn't clear in a line: its words, who bowls, which player of a side a name means, which of its two meanings a
+-- letter has, what a fielder has to do with a way of being out, or a word that is none
 pub data Reason : Type 0 where
   Fault : LineFault → Reason
   WhoBowls : Reason
   NoSuchPlayer : Token → Reason
   WhichPlayer : Side → Token → Reason
+  TwoMeanings : Letter → Reason
+  NoFielder : Unaided → Token → Reason
+  UnknownWord : Token → Reason
 
 abbrev pub reason_of : Unclear → Reason
 reason_of (Unclear.Fault f) = Fault f
 reason_of Unclear.WhoBowls = WhoBowls
 reason_of (Unclear.NoSuchPlayer t) = NoSuchPlayer t.bytes
 reason_of (Unclear.WhichPlayer side t) = WhichPlayer side t.bytes
+reason_of (Unclear.TwoMeanings letter) = TwoMeanings letter
+reason_of (Unclear.NoFielder how t) = NoFielder how t.bytes
+reason_of (Unclear.UnknownWord t) = UnknownWord t.bytes
 
 -- a word of the line, or why there is none
 abbrev pub Word : Type 0

@@ -1,18 +1,22 @@
--- Players by number and by name. A player is meant by a token, in letters of either case, that is the last word of
--- his name and no other's; else by one that begins a word of his name and of no other's in the team.
-use Rattle.std.specs.Prelude.{ℕ, Bool, false, if◌then◌else◌, List, [], ◌∷◌, filter, take, length, decimal, nat_le, codes, Ok, Err}
+-- Players by number and by name. A player is meant, in letters of either case, by his whole name as it is shown; else by
+-- a token that is the last word of his name and no other's; else by one that begins a word of his name and of no other's
+-- in the team.
+use Rattle.std.specs.Prelude.{ℕ, ◌==◌, Bool, true, false, ◌||◌, ◌&&◌, if◌then◌else◌, Option, Some, None, List, [], ◌∷◌, filter, take, length, decimal, nat_le, nat_lt, codes, Result, Ok, Err}
 use Rattle.std.specs.Char.{is_ascii_digit}
-use Rattle.std.specs.List.{list_any}
+use Rattle.std.specs.List.{list_any, position_or_len, before_first, after_first}
 use Rattle.std.specs.Str.{bytes_eq, str_to_ascii_lowercase}
 use Rattle.notation.specs.declared.entry.Side.{Side}
 use Rattle.notation.specs.declared.fault.LineFault.TheVariants.{TooLong}
 use Rattle.notation.specs.Written.{Token, tokens}
 use Rattle.ball_laws.specs.Over.{numbers}
+use Rattle.match_laws.specs.History.{or_else}
 use Rattle.cards.specs.Sheet.{Sheet, Team, player_in, team_of}
-use Rattle.shorthand.specs.declared.names.{Fit.Fit, Found.Found}
-use Rattle.shorthand.specs.declared.names.Fit.TheVariants.{LastWord, Beginning}
+use Rattle.shorthand.specs.declared.unclear.Unaided.{Unaided}
+use Rattle.shorthand.specs.declared.names.{Among.Among, Fit.Fit, Found.Found}
+use Rattle.shorthand.specs.declared.names.Among.TheVariants.{Anyone, AnEnd}
+use Rattle.shorthand.specs.declared.names.Fit.TheVariants.{Whole, LastWord, Beginning}
 use Rattle.shorthand.specs.declared.names.Found.TheVariants.{NoOne, One, Several}
-use Rattle.shorthand.specs.Lines.{Reason, Fault, NoSuchPlayer, WhichPlayer, Word}
+use Rattle.shorthand.specs.Lines.{Reason, Fault, NoSuchPlayer, WhichPlayer, NoFielder, UnknownWord, Word, plus}
 
 -- the same letters, in either case
 abbrev pub is_same : Token → Token → Bool
@@ -31,14 +35,27 @@ abbrev pub is_last_of : List Token → Token → Bool
 is_last_of [] t = false
 is_last_of (w ∷ ws) t = ends_in w ws t
 
--- how a name and a token fit: the token is its last word, or the beginning of one of its words
-abbrev pub fits : Fit → List Token → Token → Bool
-fits LastWord words t = is_last_of words t
-fits Beginning words t = list_any (λ w. begins_with w t) words
+-- how a name and a text fit: the text is the name; its last word; the beginning of one of its words
+abbrev pub fits : Fit → List ℕ → Token → Bool
+fits Whole name t = is_same name t
+fits LastWord name t = is_last_of (tokens name) t
+fits Beginning name t = list_any (λ w. begins_with w t) (tokens name)
 
--- the players of a team whom the token so fits
-abbrev pub fitting : Fit → Team → Token → List ℕ
-fitting fit team t = filter (λ n. fits fit (tokens (player_in team n)) t) numbers
+-- who is looked at: anyone of the side, or who is at one of these ends
+abbrev pub is_at : Option ℕ → ℕ → Bool
+is_at None n = false
+is_at (Some m) n = m == n
+
+abbrev pub is_among : Among → ℕ → Bool
+is_among Anyone n = true
+is_among (AnEnd ends) n = is_at ends.striker n || is_at ends.other n
+
+abbrev pub suits : Among → Fit → Team → Token → ℕ → Bool
+suits among fit team t n = is_among among n && fits fit (player_in team n) t
+
+-- the players of a team among these whom the text so fits
+abbrev pub fitting : Among → Fit → Team → Token → List ℕ
+fitting among fit team t = filter (λ n. suits among fit team t n) numbers
 
 abbrev pub found_in : List ℕ → Found
 found_in [] = NoOne
@@ -49,8 +66,62 @@ abbrev pub one_or_else : Found → Found → Found
 one_or_else (One n) others = One n
 one_or_else _ others = others
 
+-- whom a word means: whose last word it is, else who has a word that begins so
+abbrev pub meant : Among → Team → Token → Found
+meant among team t = one_or_else (found_in (fitting among LastWord team t)) (found_in (fitting among Beginning team t))
+
 abbrev pub meant_by : Team → Token → Found
-meant_by team t = one_or_else (found_in (fitting LastWord team t)) (found_in (fitting Beginning team t))
+meant_by team t = meant Anyone team t
+
+-- among several the one who is among these, if it is one
+abbrev pub among_several : Found → Found → Found
+among_several Several (One n) = One n
+among_several found others = found
+
+-- ---- whole names, of one word or more
+
+abbrev pub alone : Found → List Token → Option (ℕ × List Token)
+alone (One n) ts = Some (n, ts)
+alone _ ts = None
+
+-- the one player whose whole name the words are, with the tokens behind them
+abbrev pub exactly : Team → Result (List ℕ) Reason → List Token → Option (ℕ × List Token)
+exactly team (Ok name) ts = alone (found_in (fitting Anyone Whole team name)) ts
+exactly team (Err reason) ts = None
+
+-- the most of these words that are one player's whole name, as they go on from the first ones
+abbrev pub whole_name : Team → Result (List ℕ) Reason → List Token → Option (ℕ × List Token)
+whole_name team front [] = exactly team front []
+whole_name team front (t ∷ ts) = or_else (whole_name team (plus front (Ok t)) ts) (exactly team front (t ∷ ts))
+
+abbrev pub is_colon : ℕ → Bool
+is_colon b = b == 58
+
+-- `B:`, be it alone or before what the delivery brought, as `10:4`
+abbrev pub names_bowler : Token → Bool
+names_bowler t = nat_lt (position_or_len is_colon t) (length t) && nat_lt 0 (length (before_first is_colon t))
+
+abbrev pub with_token : Option (ℕ × List Token) → Token → Option (ℕ × Token × List Token)
+with_token None t = None
+with_token (Some found) t = Some (found.0, t, found.1)
+
+-- the player whose whole name stands before the first colon, what stands behind that in its token, and the tokens behind
+abbrev pub colon_name : Team → Result (List ℕ) Reason → List Token → Option (ℕ × Token × List Token)
+colon_name team front [] = None
+colon_name team front (t ∷ ts) =
+    if names_bowler t
+    then with_token (exactly team (plus front (Ok (before_first is_colon t))) ts) (after_first is_colon t)
+    else colon_name team (plus front (Ok t)) ts
+
+abbrev pub named_or : Option (ℕ × List Token) → Found → List Token → Found × List Token
+named_or (Some whole) found ts = (One whole.0, whole.1)
+named_or None found ts = (found, ts)
+
+-- whom the words mean that begin with t, and the tokens behind them: the most of them that are a whole name, else t
+-- alone; among several the one who is among these
+abbrev pub named : Team → Among → Token → List Token → Found × List Token
+named team among t ts =
+    named_or (whole_name team (plus (Ok []) (Ok t)) ts) (among_several (meant_by team t) (meant among team t)) ts
 
 -- a number stands where a token begins with a digit, and no name
 abbrev pub is_digit_first : Token → Bool
@@ -64,15 +135,23 @@ no_such_player t = if nat_le (length t) 96 then NoSuchPlayer t else Fault TooLon
 abbrev pub which_player : Side → Token → Reason
 which_player side t = if nat_le (length t) 96 then WhichPlayer side t else Fault TooLong
 
+abbrev pub no_fielder : Unaided → Token → Reason
+no_fielder how t = if nat_le (length t) 96 then NoFielder how t else Fault TooLong
+
+abbrev pub unknown_word : Token → Reason
+unknown_word t = if nat_le (length t) 96 then UnknownWord t else Fault TooLong
+
 abbrev pub number_word : Side → Token → Found → Word
 number_word side t NoOne = Err (no_such_player t)
 number_word side t (One n) = Ok (decimal n)
 number_word side t Several = Err (which_player side t)
 
--- a player's number: by number, as it stands, or by name
-abbrev pub player : Sheet → Side → Token → Word
-player s side t = if is_digit_first t then Ok t else number_word side t (meant_by (team_of s side) t)
+-- a player's number, by number, as it stands, or by name; and the tokens behind it
+abbrev pub player : Sheet → Side → Among → Token → List Token → Word × List Token
+player s side among t ts =
+    if is_digit_first t then (Ok t, ts)
+    else (number_word side t (named (team_of s side) among t ts).0, (named (team_of s side) among t ts).1)
 
 -- a fielder's: `sub` is any substitute
-abbrev pub fielder : Sheet → Side → Token → Word
-fielder s side t = if bytes_eq t (codes "sub") then Ok (codes "12") else player s side t
+abbrev pub fielder : Sheet → Side → Token → List Token → Word × List Token
+fielder s side t ts = if bytes_eq t (codes "sub") then (Ok (codes "12"), ts) else player s side Anyone t ts

@@ -1,14 +1,16 @@
--- Who bowls and who bats where a line belongs.
-use Rattle.std.specs.Prelude.{ℕ, ◌==◌, nat_lt, Bool, false, if◌then◌else◌, List, [], ◌∷◌, unwrap_or}
+-- Who bowls, who bats and who is in where a line belongs.
+use Rattle.std.specs.Prelude.{◌==◌, nat_lt, Bool, false, if◌then◌else◌, List, [], ◌∷◌, unwrap_or}
 use Rattle.notation.specs.declared.entry.Entry.{Entry}
 use Rattle.notation.specs.declared.entry.Side.TheVariants.{Home}
 use Rattle.ball_laws.specs.History.{History, open_over}
+use Rattle.ball_laws.specs.Laws.{state_after}
 use Rattle.match_laws.specs.History.{last_side}
 use Rattle.corrections.specs.declared.placed.Placed.{Placed}
-use Rattle.corrections.specs.CleanList.{clean_items_of}
+use Rattle.corrections.specs.CleanList.{clean_items_of, history_of}
 use Rattle.corrections.specs.Overs.{newest_bowler}
-use Rattle.shorthand.specs.declared.point.{Belongs.Belongs, Point.Point}
-use Rattle.shorthand.specs.declared.point.Belongs.TheVariants.{At, After}
+use Rattle.shorthand.specs.declared.{names.Among.Among, point.Belongs.Belongs, point.Point.Point}
+use Rattle.shorthand.specs.declared.names.Among.TheVariants.{Anyone, AnEnd}
+use Rattle.shorthand.specs.declared.point.Belongs.TheVariants.{Last, At, After}
 
 -- the bowler of the last delivery of the open over, and the side that began to bat last (home, before any)
 abbrev pub point_of : History → Point
@@ -35,3 +37,9 @@ history_to place h (x ∷ xs) =
 
 abbrev pub point_at : List Entry → Belongs → Point
 point_at book place = point_of (history_to place [] (clean_items_of book))
+
+-- who is looked for where a batter leaves: behind all that stands, who is in
+abbrev pub batters_at : List Entry → Belongs → Among
+batters_at book Last = AnEnd (state_after (history_of book)).ends
+batters_at book (At p) = Anyone
+batters_at book (After p) = Anyone

@@ -9,7 +9,9 @@ use Rattle.notation.specs.declared.entry.Plain.TheVariants.{Innings, Come, Ball 
 use Rattle.notation.specs.declared.entry.Entry.TheVariants.{Write, Late}
 use Rattle.notation.specs.Written.{tokens}
 use Rattle.cards.specs.Sheet.{Sheet, Team}
-use Rattle.shorthand.specs.Lines.{Reason, WhoBowls, NoSuchPlayer, WhichPlayer, joined}
+use Rattle.shorthand.specs.declared.unclear.Letter.TheVariants.{B, W}
+use Rattle.shorthand.specs.declared.unclear.Unaided.TheVariants.{Bowled, Lbw}
+use Rattle.shorthand.specs.Lines.{Reason, WhoBowls, NoSuchPlayer, WhichPlayer, TwoMeanings, NoFielder, joined}
 use Rattle.shorthand.specs.Full.{words_in_full}
 
 -- a dot ball of this bowler
@@ -67,6 +69,33 @@ pub record WorkedOuts (s : Sheet) : Type 0 where
   pub dead : behind s two_overs (codes "1 dead runout other 8")
       ≡ Ok (codes "ball 10 bat 1 dead out runout other 8")
 
+-- what scorers type in place of the words of lines
+pub record WorkedWords (s : Sheet) : Type 0 where
+  pub zero : behind s two_overs (codes "0") ≡ Ok (codes "ball 10 bat 0")
+  pub dot_word : behind s two_overs (codes "dot") ≡ Ok (codes "ball 10 bat 0")
+  pub four : behind s two_overs (codes "four") ≡ Ok (codes "ball 10 bat 0 four")
+  pub six : behind s two_overs (codes "8: six") ≡ Ok (codes "ball 8 bat 0 six")
+  pub bye : behind s two_overs (codes "1b") ≡ Ok (codes "ball 10 bye 1")
+  pub leg_bye : behind s two_overs (codes "1lb") ≡ Ok (codes "ball 10 leg 1")
+  pub leg_bye_apart : behind s two_overs (codes "lb 1") ≡ Ok (codes "ball 10 leg 1")
+  pub one_wide : behind s two_overs (codes "1wd") ≡ Ok (codes "ball 10 wide 0")
+  pub wide : behind s two_overs (codes "wide") ≡ Ok (codes "ball 10 wide 0")
+  pub wide_in_full : behind s two_overs (codes "wide 1") ≡ Ok (codes "ball 10 wide 1")
+  pub one_no_ball : behind s two_overs (codes "1nb") ≡ Ok (codes "ball 10 nb 0")
+  pub no_ball : behind s two_overs (codes "no ball") ≡ Ok (codes "ball 10 nb 0")
+  pub no_ball_four : behind s two_overs (codes "no ball four") ≡ Ok (codes "ball 10 nb 0 four")
+  pub caught : behind s two_overs (codes "c 9") ≡ Ok (codes "ball 10 bat 0 out caught striker 9")
+  pub caught_too : behind s two_overs (codes "ct sub") ≡ Ok (codes "ball 10 bat 0 out caught striker 12")
+  pub stumped : behind s two_overs (codes "wd st 3") ≡ Ok (codes "ball 10 wide 0 out stumped striker 3")
+  pub run_out : behind s two_overs (codes "ro striker 8") ≡ Ok (codes "ball 10 bat 0 out runout striker 8")
+  pub run_out_apart : behind s two_overs (codes "1 run out other 8")
+      ≡ Ok (codes "ball 10 bat 1 out runout other 8")
+  pub byes_or_bowled : behind s two_overs (codes "b") ≡ Err (TwoMeanings B)
+  pub wide_or_wicket : behind s two_overs (codes "8: w") ≡ Err (TwoMeanings W)
+  pub lbw_by : behind s two_overs (codes "lbw 8") ≡ Err (NoFielder Lbw (codes "8"))
+  pub bowled_by : behind s two_overs (codes "bowled striker 8") ≡ Err (NoFielder Bowled (codes "8"))
+  pub lbw_by_none : behind s two_overs (codes "lbw 0") ≡ Ok (codes "ball 10 bat 0 out lbw striker 0")
+
 abbrev pub with_late_over : List Entry
 with_late_over = two_overs ++ Late 5 Over ∷ Late 5 (dot 8) ∷ []
 
@@ -122,3 +151,24 @@ pub record WorkedNames : Type 0 where
   pub crossed : behind sheet two_overs (codes "runout other hale crossed")
       ≡ Ok (codes "ball 10 bat 0 out runout other 2 crossed")
   pub corrected : behind sheet two_overs (codes "fix 2 in king") ≡ Ok (codes "fix 2 in 10")
+  pub whole : behind sheet two_overs (codes "in ben ray") ≡ Ok (codes "in 7")
+  pub whole_bowler : behind sheet two_overs (codes "Hale: 4") ≡ Ok (codes "ball 2 bat 0 four")
+  pub no_colon : behind sheet two_overs (codes "usher .") ≡ Ok (codes "ball 3 bat 0")
+  pub no_colon_out : behind sheet two_overs (codes "usher c pike") ≡ Ok (codes "ball 3 bat 0 out caught striker 9")
+  pub lbw_by : behind sheet two_overs (codes "lbw usher") ≡ Err (NoFielder Lbw (codes "usher"))
+
+-- the one of several who is in, behind all that stands; a whole name of a bowler, before a colon and without one
+abbrev pub ray_in : List Entry
+ray_in = Write (Innings Home) ∷ Write (Come 7) ∷ Write (Come 1) ∷ Write (dot 10) ∷ []
+
+abbrev pub rays : Sheet
+rays = record { title = codes "match"; game = 1; innings = 1; home = alder; away = alder }
+
+pub record WorkedSeveral : Type 0 where
+  pub who_is_in : behind sheet ray_in (codes "gone retiredhurt ray") ≡ Ok (codes "gone retiredhurt 7")
+  pub at_a_place : behind sheet ray_in (codes "fix 3 gone retiredhurt ray") ≡ Err (WhichPlayer Home (codes "ray"))
+  pub timed_out : behind sheet ray_in (codes "gone timedout ray") ≡ Err (WhichPlayer Home (codes "ray"))
+  pub colon : behind rays ray_in (codes "Ann Ray: 4") ≡ Ok (codes "ball 6 bat 0 four")
+  pub colon_and_mark : behind rays ray_in (codes "ann ray:4") ≡ Ok (codes "ball 6 bat 0 four")
+  pub no_colon : behind rays ray_in (codes "ann ray 4") ≡ Ok (codes "ball 6 bat 0 four")
+  pub fielder : behind rays ray_in (codes "caught ben ray") ≡ Ok (codes "ball 10 bat 0 out caught striker 7")

@@ -1,50 +1,80 @@
 //! Lines in full.
 
-ghost use Rattle.std.specs.Prelude.{◌≡◌, ◌&&◌, ◌∷◌, nat_le, length, true, false, Ok, Err, IfOk, OnErr, MatchOption, MatchResult};
-ghost use Rattle.std.specs.List.{after_first, before_first};
-ghost use Rattle.notation.specs.Written.{is_spaced};
+ghost use Rattle.std.specs.Prelude.{◌≡◌, ◌&&◌, [], ◌∷◌, nat_le, length, true, false, Ok, Err, IfOk, OnErr, MatchResult};
+ghost use Rattle.cards.specs.Sheet.{team_of};
+ghost use Rattle.notation.specs.Reading.{line_answer};
+ghost use Rattle.notation.specs.Written.{is_spaced, tokens};
+ghost use Rattle.shorthand.specs.Lines as lines;
 ghost use Rattle.shorthand.specs.Lines.{plus, plus_all, reason_of};
+ghost use Rattle.shorthand.specs.declared.names.Among.TheVariants.{Anyone};
 ghost use Rattle.shorthand.specs.Full as full;
+ghost use Rattle.shorthand.specs.Names as names;
+ghost use Rattle.shorthand.specs.Words as words;
 
-use crate::delivery::{begins_delivery, runs, runs_behind_colon, runs_from};
+use crate::delivery::{
+    begins_delivery, has_delivery, runs, runs_behind_colon, runs_from, two_meanings,
+};
 use crate::line::Line;
-use crate::names::player;
-use crate::point::{Belongs, Point, point_at};
+use crate::names::{
+    Among, Found, colon_name, is_digit_first, named, named_bowler, number_word, player,
+};
+use crate::point::{Belongs, Point, batters_at, point_at};
+use crate::rest::Rest;
 use crate::unclear::Unclear;
+use crate::unknown::{is_desk_word, with_words};
 use arrayvec::ArrayString;
 use cards::MatchSheet;
 use corrections::BookOf;
 use match_laws::opponent;
-use notation::{LineFault, Player, Side, Tokens, number_in, read_line};
+use notation::{LineFault, Player, Side, number_in, read_line};
 use std::str;
 
 /// Writes a batter's number, and the rest.
-fn batter_first(line: &mut Line, sheet: &MatchSheet, side: Side, rest: &mut Tokens<'_>)
-    ensures { line.new ≡ plus_all line.old (full.batter_first sheet.now side rest.old) }
+fn batter_first(line: &mut Line, sheet: &MatchSheet, side: Side, among: &Among, rest: &mut Rest<'_>)
+    ensures { line.new ≡ plus_all line.old (full.batter_first sheet.now side among.now rest.old) }
 {
     if let Some(token) = rest.next() {
-        player(line, sheet, side, token);
+        player(line, sheet, side, among, token, rest);
         line.rest(rest);
     }
 }
 
 /// Writes a bowler's number, and what the delivery brought.
-fn bowler_first(line: &mut Line, sheet: &MatchSheet, side: Side, rest: &mut Tokens<'_>)
+fn bowler_first(line: &mut Line, sheet: &MatchSheet, side: Side, rest: &mut Rest<'_>)
     ensures { line.new ≡ plus_all line.old (full.bowler_first sheet.now side rest.old) }
 {
     if let Some(token) = rest.next() {
-        player(line, sheet, side, token);
+        player(line, sheet, side, &Among::Anyone, token, rest);
         runs(line, sheet, side, rest);
     }
 }
 
+/// Writes the number of who leaves so, and the rest.
+fn leaver(
+    line: &mut Line,
+    sheet: &MatchSheet,
+    side: Side,
+    among: &Among,
+    how: &str,
+    rest: &mut Rest<'_>,
+)
+    ensures { line.new
+        ≡ plus_all line.old (full.batter_first sheet.now side (full.leavers how.now among.now) rest.old) }
+{
+    if how == "timedout" {
+        batter_first(line, sheet, side, &Among::Anyone, rest);
+    } else {
+        batter_first(line, sheet, side, among, rest);
+    }
+}
+
 /// Writes how a batter leaves, and his number.
-fn left_so(line: &mut Line, sheet: &MatchSheet, side: Side, rest: &mut Tokens<'_>)
-    ensures { line.new ≡ plus_all line.old (full.left_so sheet.now side rest.old) }
+fn left_so(line: &mut Line, sheet: &MatchSheet, side: Side, among: &Among, rest: &mut Rest<'_>)
+    ensures { line.new ≡ plus_all line.old (full.left_so sheet.now side among.now rest.old) }
 {
     if let Some(token) = rest.next() {
         line.word(token);
-        batter_first(line, sheet, side, rest);
+        leaver(line, sheet, side, among, token, rest);
     }
 }
 
@@ -58,43 +88,167 @@ fn same_bowler(line: &mut Line, bowler: Option<Player>)
     }
 }
 
-/// Who the token names as the bowler, before its first colon, and what stands behind that.
-fn named_bowler(token: &str) -> Option<(&str, &str)>
-    ensures { MatchOption result (full.names_bowler token.now ≡ false)
-        (λ parts. (full.names_bowler token.now ≡ true)
-        × (parts.0.now ≡ before_first full.is_colon token.now)
-        × (parts.1.now ≡ after_first full.is_colon token.now)) }
+/// Writes a line as it was typed.
+fn as_typed(line: &mut Line, token: &str, rest: &mut Rest<'_>)
+    ensures { line.new ≡ plus_all line.old (lines.as_typed (token.now ∷ rest.old)) }
 {
-    let (name, more) = token.split_once(':')?;
-    if name.is_empty() {
-        return None;
+    line.word(token);
+    line.rest(rest);
+}
+
+/// Whether a name means someone.
+fn is_someone(found: &Found) -> bool
+    ensures { result ≡ full.is_someone found.now }
+{
+    !matches!(found, Found::NoOne)
+}
+
+/// Writes a delivery, where a bowler's name stands with no colon behind it, or another line.
+fn spoken(line: &mut Line, sheet: &MatchSheet, side: Side, token: &str, rest: &mut Rest<'_>)
+    ensures { line.new ≡ plus_all line.old (full.spoken sheet.now side token.now rest.old
+        (names.named (team_of sheet.now side) Anyone token.now rest.old)) }
+{
+    let mut behind = rest.ahead();
+    let found = named(sheet, side, &Among::Anyone, token, &mut behind);
+    if has_delivery(&behind) && is_someone(&found) {
+        line.word("ball");
+        number_word(line, side, token, found);
+        runs(line, sheet, side, &mut behind);
+    } else {
+        as_typed(line, token, rest);
     }
-    Some((name, more))
+}
+
+/// Writes a delivery, where a bowler's whole name stands before a colon or his name with none, or another line.
+fn by_colon(line: &mut Line, sheet: &MatchSheet, side: Side, token: &str, rest: &mut Rest<'_>)
+    ensures { line.new ≡ plus_all line.old (full.by_colon sheet.now side token.now rest.old
+        (names.colon_name (team_of sheet.now side) (plus (Ok []) (Ok token.now)) rest.old)) }
+{
+    match colon_name(sheet, side, &Line::of(token), rest) {
+        Some((player, more, mut behind)) => {
+            line.word("ball");
+            line.number(player.number());
+            runs_behind_colon(line, sheet, side, more, &mut behind);
+        }
+        None => spoken(line, sheet, side, token, rest),
+    }
+}
+
+/// Whether the token begins a line, or asks for something.
+fn is_line_word(token: &str) -> bool
+    ensures { result ≡ words.is_line_word token.now }
+{
+    matches!(
+        token,
+        "innings"
+            | "in"
+            | "ball"
+            | "gone"
+            | "over"
+            | "penalty"
+            | "swap"
+            | "end"
+            | "close"
+            | "void"
+            | "fix"
+            | "late"
+            | "again"
+    ) || is_desk_word(token)
+}
+
+/// Whether a token begins no line and is no number, so that it may be a bowler's name.
+fn may_name(token: &str) -> bool
+    ensures { result ≡ full.may_name token.now }
+{
+    !(is_line_word(token) || is_digit_first(token))
+}
+
+/// Writes a delivery, where its bowler's name is next, or another line.
+#[tactic(auto, unfolding(crate::specs::Full::by_bowler))]
+fn by_bowler(line: &mut Line, sheet: &MatchSheet, side: Side, token: &str, rest: &mut Rest<'_>)
+    ensures { line.new ≡ plus_all line.old (full.by_bowler sheet.now side token.now rest.old) }
+{
+    if may_name(token) {
+        by_colon(line, sheet, side, token, rest);
+    } else {
+        as_typed(line, token, rest);
+    }
+}
+
+/// Writes a delivery of the bowler of the last one, or one of which he is named, or another line.
+#[tactic(auto, unfolding(crate::specs::Full::by_same_bowler))]
+fn by_same_bowler(line: &mut Line, sheet: &MatchSheet, at: Point, token: &str, rest: &mut Rest<'_>)
+    ensures { line.new ≡ plus_all line.old (full.by_same_bowler sheet.now at token.now rest.old) }
+{
+    let side = opponent(at.batting);
+    if begins_delivery(token, rest) {
+        line.word("ball");
+        same_bowler(line, at.bowler);
+        runs_from(line, sheet, side, token, rest);
+    } else {
+        by_bowler(line, sheet, side, token, rest);
+    }
+}
+
+/// Writes a delivery of the bowler who is named before a colon, with this behind it.
+#[tactic(auto, unfolding(crate::specs::Full::colon_delivery))]
+fn colon_delivery(
+    line: &mut Line,
+    sheet: &MatchSheet,
+    side: Side,
+    name: &str,
+    more: &str,
+    rest: &mut Rest<'_>,
+)
+    ensures { line.new ≡ plus_all line.old (full.colon_delivery sheet.now side name.now more.now rest.old) }
+{
+    line.word("ball");
+    player(
+        line,
+        sheet,
+        side,
+        &Among::Anyone,
+        name,
+        &mut Rest::nothing(),
+    );
+    runs_behind_colon(line, sheet, side, more, rest);
+}
+
+/// The same, unless the token is a letter that means two things.
+#[tactic(auto, unfolding(crate::specs::Full::by_letter))]
+fn by_letter(line: &mut Line, sheet: &MatchSheet, at: Point, token: &str, rest: &mut Rest<'_>)
+    ensures { line.new ≡ plus_all line.old (full.by_letter sheet.now at token.now rest.old) }
+{
+    match two_meanings(token) {
+        Some(letter) => line.fail(Unclear::TwoMeanings(letter)),
+        None => by_same_bowler(line, sheet, at, token, rest),
+    }
 }
 
 /// Writes a delivery that isn't begun by `ball`, or another line.
-fn unnamed(line: &mut Line, sheet: &MatchSheet, at: Point, token: &str, rest: &mut Tokens<'_>)
+#[tactic(auto, unfolding(crate::specs::Full::unnamed))]
+fn unnamed(line: &mut Line, sheet: &MatchSheet, at: Point, token: &str, rest: &mut Rest<'_>)
     ensures { line.new ≡ plus_all line.old (full.unnamed sheet.now at token.now rest.old) }
 {
-    let fielding = opponent(at.batting);
-    if let Some((name, more)) = named_bowler(token) {
-        line.word("ball");
-        player(line, sheet, fielding, name);
-        runs_behind_colon(line, sheet, fielding, more, rest);
-    } else if begins_delivery(token) {
-        line.word("ball");
-        same_bowler(line, at.bowler);
-        runs_from(line, sheet, fielding, token, rest);
-    } else {
-        line.word(token);
-        line.rest(rest);
+    match named_bowler(token) {
+        Some((name, more)) => {
+            colon_delivery(line, sheet, opponent(at.batting), name, more, rest);
+        }
+        None => by_letter(line, sheet, at, token, rest),
     }
 }
 
-/// Writes a line but `fix` and `late`, where it belongs, from a token on.
+/// Writes a line but `fix` and `late`, where it belongs with who is in there, from a token on.
 #[tactic(auto, unfolding(crate::specs::Full::item_from))]
-fn item_from(line: &mut Line, sheet: &MatchSheet, at: Point, token: &str, rest: &mut Tokens<'_>)
-    ensures { line.new ≡ plus_all line.old (full.item sheet.now at (token.now ∷ rest.old)) }
+fn item_from(
+    line: &mut Line,
+    sheet: &MatchSheet,
+    at: Point,
+    among: &Among,
+    token: &str,
+    rest: &mut Rest<'_>,
+)
+    ensures { line.new ≡ plus_all line.old (full.item_from sheet.now at among.now token.now rest.old) }
 {
     match token {
         "/" => {
@@ -103,17 +257,49 @@ fn item_from(line: &mut Line, sheet: &MatchSheet, at: Point, token: &str, rest: 
         }
         "in" => {
             line.word(token);
-            batter_first(line, sheet, at.batting, rest);
+            batter_first(line, sheet, at.batting, &Among::Anyone, rest);
         }
         "gone" => {
             line.word(token);
-            left_so(line, sheet, at.batting, rest);
+            left_so(line, sheet, at.batting, among, rest);
         }
         "ball" => {
             line.word(token);
             bowler_first(line, sheet, opponent(at.batting), rest);
         }
         _ => unnamed(line, sheet, at, token, rest),
+    }
+}
+
+/// Writes a line but `fix` and `late`, by what the book has where it belongs, from a token on.
+fn item_at<B: BookOf>(
+    line: &mut Line,
+    sheet: &MatchSheet,
+    book: &B,
+    belongs: Belongs,
+    token: &str,
+    rest: &mut Rest<'_>,
+)
+    ensures { line.new
+        ≡ plus_all line.old (full.item_at sheet.now (B.content book.now) belongs token.now rest.old) }
+{
+    let at = point_at(book, belongs);
+    let among = batters_at(book, belongs);
+    item_from(line, sheet, at, &among, token, rest);
+}
+
+/// Writes a line but `fix` and `late`, by what the book has where it belongs.
+fn item<B: BookOf>(
+    line: &mut Line,
+    sheet: &MatchSheet,
+    book: &B,
+    belongs: Belongs,
+    rest: &mut Rest<'_>,
+)
+    ensures { line.new ≡ plus_all line.old (full.item sheet.now (B.content book.now) belongs rest.old) }
+{
+    if let Some(token) = rest.next() {
+        item_at(line, sheet, book, belongs, token, rest);
     }
 }
 
@@ -134,7 +320,7 @@ fn placed<B: BookOf>(
     sheet: &MatchSheet,
     book: &B,
     is_late: bool,
-    rest: &mut Tokens<'_>,
+    rest: &mut Rest<'_>,
 )
     ensures { line.new
         ≡ plus_all line.old (full.placed sheet.now (B.content book.now) is_late rest.old) }
@@ -144,18 +330,13 @@ fn placed<B: BookOf>(
     };
     line.word(token);
     match number_in(token, 0, 8191) {
-        Some(place) => {
-            if let Some(first) = rest.next() {
-                let at = point_at(book, belonging(is_late, place));
-                item_from(line, sheet, at, first, rest);
-            }
-        }
+        Some(place) => item(line, sheet, book, belonging(is_late, place), rest),
         None => line.rest(rest),
     }
 }
 
 /// Writes the words of a line in full.
-fn words_in_full<B: BookOf>(line: &mut Line, sheet: &MatchSheet, book: &B, rest: &mut Tokens<'_>)
+fn words_in_full<B: BookOf>(line: &mut Line, sheet: &MatchSheet, book: &B, rest: &mut Rest<'_>)
     ensures { line.new
         ≡ plus_all line.old (full.words_in_full sheet.now (B.content book.now) rest.old) }
 {
@@ -166,7 +347,7 @@ fn words_in_full<B: BookOf>(line: &mut Line, sheet: &MatchSheet, book: &B, rest:
         line.word(token);
         placed(line, sheet, book, token == "late", rest);
     } else {
-        item_from(line, sheet, point_at(book, Belongs::Last), token, rest);
+        item_at(line, sheet, book, Belongs::Last, token, rest);
     }
 }
 
@@ -199,9 +380,64 @@ fn as_it_stands(line: &[u8]) -> Result<ArrayString<96>, Unclear>
     full.done()
 }
 
+/// A line that is put in full word by word, or why not.
+fn word_by_word<B: BookOf>(
+    text: &str,
+    book: &B,
+    sheet: &MatchSheet,
+) -> Result<ArrayString<96>, Unclear>
+    ensures { MatchResult result
+        (λ line. full.with_words (lines.joined (full.words_in_full sheet.now (B.content book.now) (tokens text.now))) ≡ Ok line.bytes)
+        (λ unclear. full.with_words (lines.joined (full.words_in_full sheet.now (B.content book.now) (tokens text.now))) ≡ Err (reason_of unclear)) }
+{
+    let mut line = Line::new();
+    words_in_full(&mut line, sheet, book, &mut Rest::of(text));
+    with_words(line)
+}
+
+/// A line without blanks at its end in full, or what isn't clear in it.
+fn put_in_full<B: BookOf>(
+    line: &[u8],
+    book: &B,
+    sheet: &MatchSheet,
+) -> Result<ArrayString<96>, Unclear>
+    ensures { MatchResult result
+        (λ text. full.by_answer sheet.now (B.content book.now) line.now ≡ Ok text.bytes)
+        (λ unclear. full.by_answer sheet.now (B.content book.now) line.now ≡ Err (reason_of unclear)) }
+{
+    match read_line(line) {
+        Ok(_) => as_it_stands(line),
+        Err(fault) => {
+            if is_of_line(fault) {
+                return Err(Unclear::Fault(fault));
+            }
+            let text = text_of(line)?;
+            word_by_word(text, book, sheet)
+        }
+    }
+}
+
+/// A line without the blanks at its end.
+fn trimmed(line: &[u8]) -> &[u8]
+    ensures { result.now ≡ words.trimmed line.now }
+{
+    line.trim_ascii_end()
+}
+
+/// The same, unless the line is an entry's as it stands.
+fn without_blanks(line: &[u8]) -> &[u8]
+    ensures { result.now ≡ full.without_blanks line.now (line_answer line.now) }
+{
+    match read_line(line) {
+        Ok(_) => line,
+        Err(_) => trimmed(line),
+    }
+}
+
 /// A scorer's line in full, by the names of the sheet and by who bowls and bats where it belongs in the book; or
-/// what isn't clear in it. A line that is an entry's is in full as it stands. A line that is no short form stays as
-/// it was typed, and `read_line` finds its fault.
+/// what isn't clear in it. A line that is an entry's is in full as it stands; of any other the blanks at its end are
+/// no part. A line that is no short form stays as it was typed: where a word of it is none that may stand there, that
+/// word is told, and `read_line` finds any other fault.
 #[tactic(auto, unfolding(crate::specs::Full::in_full))]
 pub fn in_full<B: BookOf>(
     line: &[u8],
@@ -212,16 +448,5 @@ pub fn in_full<B: BookOf>(
         (λ text. full.in_full sheet.now (B.content book.now) line.now ≡ Ok text.bytes)
         (λ unclear. full.in_full sheet.now (B.content book.now) line.now ≡ Err (reason_of unclear)) }
 {
-    match read_line(line) {
-        Ok(_) => as_it_stands(line),
-        Err(fault) => {
-            if is_of_line(fault) {
-                return Err(Unclear::Fault(fault));
-            }
-            let text = text_of(line)?;
-            let mut full = Line::new();
-            words_in_full(&mut full, sheet, book, &mut Tokens::new(text));
-            full.done()
-        }
-    }
+    put_in_full(without_blanks(line), book, sheet)
 }

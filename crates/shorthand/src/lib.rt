@@ -9,7 +9,9 @@ mod marks;
 mod names;
 mod outs;
 mod point;
+mod rest;
 mod unclear;
+mod unknown;
 mod worked;
 
 pub use full::in_full;
@@ -17,5 +19,5 @@ pub use laws::{
     bowler_left_out_is_the_last, full_lines_stand, names_mean_one, taken_lines_are_read,
 };
 pub use names::has_beginning;
-pub use unclear::Unclear;
+pub use unclear::{Letter, Unaided, Unclear};
 pub use worked::table_is_worked;

@@ -1,11 +1,12 @@
 //! A line that is written word by word.
 
-ghost use Rattle.std.specs.Prelude.{◌≡◌, ◌≤◌, [], decimal, Ok, Err, MatchResult};
+ghost use Rattle.std.specs.Prelude.{◌≡◌, ◌≤◌, [], decimal, Ok, Err, IsErr, MatchOption, MatchResult};
 ghost use Rattle.shorthand.specs.Lines.{as_typed, plus, plus_all, reason_of};
 
+use crate::rest::Rest;
 use crate::unclear::Unclear;
 use arrayvec::ArrayString;
-use notation::{LineFault, Tokens};
+use notation::LineFault;
 use std::marker::Model;
 
 /// A line of at most 96 bytes, or why there is none.
@@ -59,6 +60,37 @@ impl Line {
         }
     }
 
+    /// A line of one word.
+    pub fn of(word: &str) -> Line
+        ensures { result ≡ plus (Ok []) (Ok word.now) }
+    {
+        let mut line = Line::new();
+        line.word(word);
+        line
+    }
+
+    /// The line with a word more.
+    pub fn with(&self, word: &str) -> Line
+        ensures { result ≡ plus self.now (Ok word.now) }
+    {
+        let mut line = Line {
+            text: self.text,
+            unclear: self.unclear,
+        };
+        line.word(word);
+        line
+    }
+
+    /// The text, unless there is a reason why not.
+    pub fn text(&self) -> Option<&str>
+        ensures { MatchOption result (IsErr self.now) (λ text. self.now ≡ Ok text.now) }
+    {
+        match self.unclear {
+            Some(_) => None,
+            None => Some(self.text.as_str()),
+        }
+    }
+
     /// Adds a word.
     pub fn word(&mut self, word: &str)
         ensures { self.new ≡ plus self.old (Ok word.now) }
@@ -95,7 +127,7 @@ impl Line {
     }
 
     /// Adds the words that are left as they stand.
-    pub fn rest(&mut self, words: &mut Tokens<'_>)
+    pub fn rest(&mut self, words: &mut Rest<'_>)
         ensures { self.new ≡ plus_all self.old (as_typed words.old) }
     {
         if let Some(word) = words.next() {

@@ -1,35 +1,47 @@
 //! Players by number and by name.
 
-ghost use Rattle.std.specs.Prelude.{◌≡◌, ◌∷◌};
-ghost use Rattle.std.specs.List.{list_any};
+ghost use Rattle.std.specs.Prelude.{◌≡◌, ◌∷◌, [], false, true, None, Some, Ok, MatchOption};
+ghost use Rattle.std.specs.List.{after_first, before_first, list_any};
 ghost use Rattle.notation.specs.Written.{tokens};
-ghost use Rattle.cards.specs.Sheet.{team_of};
+ghost use Rattle.cards.specs.Sheet.{player_in, team_of};
 ghost use Rattle.shorthand.specs.Candidates.{has_beginning};
 ghost use Rattle.shorthand.specs.Lines.{plus, reason_of};
 ghost use Rattle.shorthand.specs.Names as names;
 ghost use Rattle.shorthand.specs.inner.Writing.{and_one};
 
 use crate::line::Line;
-use crate::unclear::Unclear;
+use crate::rest::Rest;
+use crate::unclear::{Unaided, Unclear};
 use arrayvec::ArrayString;
+use ball_laws::Ends;
 use cards::MatchSheet;
 use notation::{LineFault, Player, Side, Tokens};
 
-/// How a token fits a name.
+/// How a text fits a name.
 #[derive(Clone, Copy, Debug, PartialEq, Eq)]
-enum Fit {
+pub enum Fit {
+    /// It is the name.
+    Whole,
     /// It is the name's last word.
     LastWord,
     /// One of the name's words begins with it.
     Beginning,
 }
 
-/// How many players a token fits.
+/// How many players a text fits.
 #[derive(Clone, Copy, Debug, PartialEq, Eq)]
-enum Found {
+pub enum Found {
     NoOne,
     One(Player),
     Several,
+}
+
+/// Who of a side is looked at.
+#[derive(Clone, Copy, Debug, PartialEq, Eq)]
+pub enum Among {
+    Anyone,
+    /// Who is at one of these ends.
+    AnEnd(Ends),
 }
 
 /// Whether the word is the token, whatever the case of letters.
@@ -69,18 +81,53 @@ fn any_begins(words: &mut Tokens<'_>, token: &str) -> bool
     }
 }
 
-/// Whether the token so fits a name.
+/// Whether the text so fits a name.
 fn fits(fit: Fit, name: &str, token: &str) -> bool
-    ensures { result ≡ names.fits fit (tokens name.now) token.now }
+    ensures { result ≡ names.fits fit name.now token.now }
 {
     let mut words = Tokens::new(name);
     match fit {
+        Fit::Whole => is_same(name.as_bytes(), token.as_bytes()),
         Fit::LastWord => match words.next() {
             Some(word) => ends_in(word, &mut words, token),
             None => false,
         },
         Fit::Beginning => any_begins(&mut words, token),
     }
+}
+
+/// Whether this player is at the end.
+fn is_at(end: Option<Player>, player: Player) -> bool
+    ensures { result ≡ names.is_at end player }
+{
+    match end {
+        Some(batter) => batter.number() == player.number(),
+        None => false,
+    }
+}
+
+/// Whether the player is looked at.
+fn is_among(among: &Among, player: Player) -> bool
+    ensures { result ≡ names.is_among among.now player }
+{
+    match among {
+        Among::Anyone => true,
+        Among::AnEnd(ends) => is_at(ends.striker, player) || is_at(ends.other, player),
+    }
+}
+
+/// Whether the player is looked at, and the text so fits his name.
+fn suits(
+    sheet: &MatchSheet,
+    side: Side,
+    among: &Among,
+    fit: Fit,
+    token: &str,
+    player: Player,
+) -> bool
+    ensures { result ≡ names.suits among.now fit (team_of sheet.now side) token.now player }
+{
+    is_among(among, player) && fits(fit, sheet.player(side, player), token)
 }
 
 /// Whether a word of the player's name begins so, in letters of any case.
@@ -100,14 +147,14 @@ fn and_one(found: Found, player: Player) -> Found
     }
 }
 
-/// The players of a side whom the token so fits.
-fn fitting(sheet: &MatchSheet, side: Side, token: &str, fit: Fit) -> Found
-    ensures { result ≡ names.found_in (names.fitting fit (team_of sheet.now side) token.now) }
+/// The players of a side among these whom the text so fits.
+fn fitting(sheet: &MatchSheet, side: Side, among: &Among, token: &str, fit: Fit) -> Found
+    ensures { result ≡ names.found_in (names.fitting among.now fit (team_of sheet.now side) token.now) }
 {
     let mut found = Found::NoOne;
     for number in [1, 2, 3, 4, 5, 6, 7, 8, 9, 10, 11] {
         if let Some(player) = Player::new(number) {
-            if fits(fit, sheet.player(side, player), token) {
+            if suits(sheet, side, among, fit, token, player) {
                 found = and_one(found, player);
             }
         }
@@ -115,14 +162,117 @@ fn fitting(sheet: &MatchSheet, side: Side, token: &str, fit: Fit) -> Found
     found
 }
 
-/// The player of a side whom a token means, by his last word or by the beginning of a word.
-fn meant_by(sheet: &MatchSheet, side: Side, token: &str) -> Found
-    ensures { result ≡ names.meant_by (team_of sheet.now side) token.now }
+/// The player of a side among these whom a token means, by his last word or by the beginning of a word.
+fn meant(sheet: &MatchSheet, side: Side, among: &Among, token: &str) -> Found
+    ensures { result ≡ names.meant among.now (team_of sheet.now side) token.now }
 {
-    match fitting(sheet, side, token, Fit::LastWord) {
+    match fitting(sheet, side, among, token, Fit::LastWord) {
         Found::One(player) => Found::One(player),
-        Found::NoOne | Found::Several => fitting(sheet, side, token, Fit::Beginning),
+        Found::NoOne | Found::Several => fitting(sheet, side, among, token, Fit::Beginning),
     }
+}
+
+/// Among several the one of the others, if it is one.
+fn among_several(found: Found, others: Found) -> Found
+    ensures { result ≡ names.among_several found others }
+{
+    match found {
+        Found::NoOne | Found::One(_) => found,
+        Found::Several => match others {
+            Found::One(player) => Found::One(player),
+            Found::NoOne | Found::Several => found,
+        },
+    }
+}
+
+/// The player whose whole name a text is, with what stands behind it.
+fn exactly<'a>(
+    sheet: &MatchSheet,
+    side: Side,
+    name: &Line,
+    rest: &Rest<'a>,
+) -> Option<(Player, Rest<'a>)>
+    ensures { result ≡ names.exactly (team_of sheet.now side) name.now rest.now }
+{
+    let text = name.text()?;
+    match fitting(sheet, side, &Among::Anyone, text, Fit::Whole) {
+        Found::One(player) => Some((player, rest.ahead())),
+        Found::NoOne | Found::Several => None,
+    }
+}
+
+/// The player whose whole name the most of these words are, as they go on from the first ones, with what stands behind.
+fn whole_name<'a>(
+    sheet: &MatchSheet,
+    side: Side,
+    front: &Line,
+    rest: &Rest<'a>,
+) -> Option<(Player, Rest<'a>)>
+    ensures { result ≡ names.whole_name (team_of sheet.now side) front.now rest.now }
+{
+    let mut behind = rest.ahead();
+    if let Some(token) = behind.next() {
+        let longer = front.with(token);
+        if let Some(found) = whole_name(sheet, side, &longer, &behind) {
+            return Some(found);
+        }
+    }
+    exactly(sheet, side, front, rest)
+}
+
+/// Who the token names as the bowler, before its first colon, and what stands behind that.
+pub fn named_bowler(token: &str) -> Option<(&str, &str)>
+    ensures { MatchOption result (names.names_bowler token.now ≡ false)
+        (λ parts. (names.names_bowler token.now ≡ true)
+        × (parts.0.now ≡ before_first names.is_colon token.now)
+        × (parts.1.now ≡ after_first names.is_colon token.now)) }
+{
+    let (name, more) = token.split_once(':')?;
+    if name.is_empty() {
+        return None;
+    }
+    Some((name, more))
+}
+
+/// The player whose whole name stands before the first colon, as the words go on from the first ones; what stands behind the
+/// colon in its token; and what stands behind that.
+pub fn colon_name<'a>(
+    sheet: &MatchSheet,
+    side: Side,
+    front: &Line,
+    rest: &Rest<'a>,
+) -> Option<(Player, &'a str, Rest<'a>)>
+    ensures { MatchOption result (names.colon_name (team_of sheet.now side) front.now rest.now ≡ None)
+        (λ found. names.colon_name (team_of sheet.now side) front.now rest.now ≡ Some (found.0, found.1.now, found.2)) }
+{
+    let mut behind = rest.ahead();
+    let token = behind.next()?;
+    match named_bowler(token) {
+        Some((name, more)) => match exactly(sheet, side, &front.with(name), &behind) {
+            Some((player, left)) => Some((player, more, left)),
+            None => None,
+        },
+        None => colon_name(sheet, side, &front.with(token), &behind),
+    }
+}
+
+/// Whom the words mean that begin with the token; what names him is taken.
+pub fn named<'a>(
+    sheet: &MatchSheet,
+    side: Side,
+    among: &Among,
+    token: &str,
+    rest: &mut Rest<'a>,
+) -> Found
+    ensures found { result ≡ (names.named (team_of sheet.now side) among.now token.now rest.old).0 }
+    ensures rest { rest.new ≡ (names.named (team_of sheet.now side) among.now token.now rest.old).1 }
+{
+    if let Some((player, behind)) = whole_name(sheet, side, &Line::of(token), rest) {
+        *rest = behind;
+        return Found::One(player);
+    }
+    let found = meant(sheet, side, &Among::Anyone, token);
+    among_several(found, meant(sheet, side, among, token))
 }
 
 /// Whether a number stands where the token begins so.
@@ -155,28 +305,65 @@ fn which_player(side: Side, token: &str) -> Unclear
     }
 }
 
-/// Writes a player's number, given by number or by name.
-pub fn player(line: &mut Line, sheet: &MatchSheet, side: Side, token: &str)
-    ensures { line.new ≡ plus line.old (names.player sheet.now side token.now) }
+/// That a fielder of this name has no part in this way of being out.
+pub fn no_fielder(how: Unaided, token: &str) -> Unclear
+    ensures { reason_of result ≡ names.no_fielder how token.now }
 {
-    if is_digit_first(token) {
-        line.word(token);
-        return;
+    match ArrayString::from(token) {
+        Ok(name) => Unclear::NoFielder(how, name),
+        Err(_) => Unclear::Fault(LineFault::TooLong),
     }
-    match meant_by(sheet, side, token) {
+}
+
+/// That this word stands where another must.
+pub fn unknown_word(token: &str) -> Unclear
+    ensures { reason_of result ≡ names.unknown_word token.now }
+{
+    match ArrayString::from(token) {
+        Ok(word) => Unclear::UnknownWord(word),
+        Err(_) => Unclear::Fault(LineFault::TooLong),
+    }
+}
+
+/// Writes the number of the player whom a token means, or why there is none.
+pub fn number_word(line: &mut Line, side: Side, token: &str, found: Found)
+    ensures { line.new ≡ plus line.old (names.number_word side token.now found) }
+{
+    match found {
         Found::One(player) => line.number(player.number()),
         Found::NoOne => line.fail(no_such_player(token)),
         Found::Several => line.fail(which_player(side, token)),
     }
 }
 
-/// Writes a fielder's number, given by number, by name or as `sub`.
-pub fn fielder(line: &mut Line, sheet: &MatchSheet, side: Side, token: &str)
-    ensures { line.new ≡ plus line.old (names.fielder sheet.now side token.now) }
+/// Writes a player's number, given by number or by name, and takes the words that name him.
+pub fn player(
+    line: &mut Line,
+    sheet: &MatchSheet,
+    side: Side,
+    among: &Among,
+    token: &str,
+    rest: &mut Rest<'_>,
+)
+    ensures word { line.new ≡ plus line.old (names.player sheet.now side among.now token.now rest.old).0 }
+    ensures rest { rest.new ≡ (names.player sheet.now side among.now token.now rest.old).1 }
+{
+    if is_digit_first(token) {
+        line.word(token);
+        return;
+    }
+    let found = named(sheet, side, among, token, rest);
+    number_word(line, side, token, found);
+}
+
+/// Writes a fielder's number, given by number, by name or as `sub`, and takes the words that name him.
+pub fn fielder(line: &mut Line, sheet: &MatchSheet, side: Side, token: &str, rest: &mut Rest<'_>)
+    ensures word { line.new ≡ plus line.old (names.fielder sheet.now side token.now rest.old).0 }
+    ensures rest { rest.new ≡ (names.fielder sheet.now side token.now rest.old).1 }
 {
     if token == "sub" {
         line.word("12");
     } else {
-        player(line, sheet, side, token);
+        player(line, sheet, side, &Among::Anyone, token, rest);
     }
 }

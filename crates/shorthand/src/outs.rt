@@ -3,18 +3,33 @@
 ghost use Rattle.std.specs.Prelude.{◌≡◌, ◌∷◌};
 ghost use Rattle.shorthand.specs.Lines.{plus_all};
 ghost use Rattle.shorthand.specs.Full as full;
+ghost use Rattle.shorthand.specs.Words as words;
 
 use crate::line::Line;
-use crate::names::fielder;
+use crate::names::{fielder, no_fielder};
+use crate::rest::Rest;
+use crate::unclear::Unaided;
 use cards::MatchSheet;
-use notation::{Side, Tokens};
+use notation::Side;
+
+/// The way of being out that a word stands for, or the word.
+fn way_of(token: &str) -> &str
+    ensures { result.now ≡ words.way_of token.now }
+{
+    match token {
+        "c" | "ct" => "caught",
+        "st" => "stumped",
+        "ro" => "runout",
+        _ => token,
+    }
+}
 
 /// Whether the token is a way of being out.
 fn is_how(token: &str) -> bool
-    ensures { result ≡ full.is_how token.now }
+    ensures { result ≡ words.is_how token.now }
 {
     matches!(
-        token,
+        way_of(token),
         "bowled"
             | "caught"
             | "lbw"
@@ -26,11 +41,39 @@ fn is_how(token: &str) -> bool
     )
 }
 
-/// Whether the token begins options, or says that a batter is out.
-pub fn is_behind_runs(token: &str) -> bool
-    ensures { result ≡ full.is_behind_runs token.now }
+/// Whether the tokens are `run out` in two words.
+fn is_run_out(token: &str, rest: &Rest<'_>) -> bool
+    ensures { result ≡ words.is_run_out token.now rest.now }
 {
-    matches!(token, "short" | "overthrow" | "dead" | "out") || is_how(token)
+    token == "run" && rest.has_next("out")
+}
+
+/// Whether the tokens begin options, or say that a batter is out.
+pub fn is_behind_runs(token: &str, rest: &Rest<'_>) -> bool
+    ensures { result ≡ full.is_behind_runs token.now rest.now }
+{
+    matches!(token, "short" | "overthrow" | "dead" | "out")
+        || is_how(token)
+        || is_run_out(token, rest)
+}
+
+/// The way of being out, where no fielder has a part in it.
+fn without_fielder(how: &str) -> Option<Unaided>
+    ensures { result ≡ words.without_fielder how.now }
+{
+    match how {
+        "bowled" => Some(Unaided::Bowled),
+        "lbw" => Some(Unaided::Lbw),
+        _ => None,
+    }
+}
+
+/// The way of being out, where the token names a fielder and none has a part in it.
+fn refused_fielder(how: &str, token: &str) -> Option<Unaided>
+    ensures { result ≡ full.refused_fielder (words.without_fielder how.now) token.now }
+{
+    let how = without_fielder(how)?;
+    if token == "0" { None } else { Some(how) }
 }
 
 /// Whether the line must say who is out so.
@@ -40,25 +83,52 @@ fn needs_who(how: &str) -> bool
     matches!(how, "runout" | "obstructing")
 }
 
+/// Writes a fielder, and the rest; or that there is none in this way of being out.
+fn fielder_word(
+    line: &mut Line,
+    sheet: &MatchSheet,
+    side: Side,
+    refused: Option<Unaided>,
+    token: &str,
+    rest: &mut Rest<'_>,
+)
+    ensures { line.new ≡ plus_all line.old (full.fielder_word sheet.now side refused token.now rest.old) }
+{
+    match refused {
+        Some(how) => line.fail(no_fielder(how, token)),
+        None => {
+            fielder(line, sheet, side, token, rest);
+            line.rest(rest);
+        }
+    }
+}
+
 /// Writes the fielder from a token on.
-fn fielder_from(line: &mut Line, sheet: &MatchSheet, side: Side, token: &str, rest: &mut Tokens<'_>)
-    ensures { line.new ≡ plus_all line.old (full.by_fielder sheet.now side (token.now ∷ rest.old)) }
+fn fielder_from(
+    line: &mut Line,
+    sheet: &MatchSheet,
+    side: Side,
+    how: &str,
+    token: &str,
+    rest: &mut Rest<'_>,
+)
+    ensures { line.new ≡ plus_all line.old (full.by_fielder sheet.now side how.now (token.now ∷ rest.old)) }
 {
     if token == "crossed" {
         line.word("0");
         line.word(token);
+        line.rest(rest);
     } else {
-        fielder(line, sheet, side, token);
+        fielder_word(line, sheet, side, refused_fielder(how, token), token, rest);
     }
-    line.rest(rest);
 }
 
 /// Writes the fielder.
-fn by_fielder(line: &mut Line, sheet: &MatchSheet, side: Side, rest: &mut Tokens<'_>)
-    ensures { line.new ≡ plus_all line.old (full.by_fielder sheet.now side rest.old) }
+fn by_fielder(line: &mut Line, sheet: &MatchSheet, side: Side, how: &str, rest: &mut Rest<'_>)
+    ensures { line.new ≡ plus_all line.old (full.by_fielder sheet.now side how.now rest.old) }
 {
     match rest.next() {
-        Some(token) => fielder_from(line, sheet, side, token, rest),
+        Some(token) => fielder_from(line, sheet, side, how, token, rest),
         None => line.word("0"),
     }
 }
@@ -70,28 +140,27 @@ fn who_from(
     side: Side,
     how: &str,
     token: &str,
-    rest: &mut Tokens<'_>,
+    rest: &mut Rest<'_>,
 )
     ensures { line.new
         ≡ plus_all line.old (full.who_is_out sheet.now side how.now (token.now ∷ rest.old)) }
 {
     if matches!(token, "striker" | "other") {
         line.word(token);
-        by_fielder(line, sheet, side, rest);
+        by_fielder(line, sheet, side, how, rest);
     } else if needs_who(how) {
         line.word(token);
         line.rest(rest);
     } else {
         line.word("striker");
-        fielder_from(line, sheet, side, token, rest);
+        fielder_from(line, sheet, side, how, token, rest);
     }
 }
 
-/// Writes how a batter is out, who and by which fielder.
-fn dismissal_from(line: &mut Line, sheet: &MatchSheet, side: Side, how: &str, rest: &mut Tokens<'_>)
-    ensures { line.new ≡ plus_all line.old (full.dismissal sheet.now side (how.now ∷ rest.old)) }
+/// Writes who is out in this way, and by which fielder.
+fn who_is_out(line: &mut Line, sheet: &MatchSheet, side: Side, how: &str, rest: &mut Rest<'_>)
+    ensures { line.new ≡ plus_all line.old (full.who_is_out sheet.now side how.now rest.old) }
 {
-    line.word(how);
     match rest.next() {
         Some(token) => who_from(line, sheet, side, how, token, rest),
         None => {
@@ -103,13 +172,31 @@ fn dismissal_from(line: &mut Line, sheet: &MatchSheet, side: Side, how: &str, re
     }
 }
 
+/// Writes how a batter is out, who and by which fielder.
+fn dismissal_from(line: &mut Line, sheet: &MatchSheet, side: Side, token: &str, rest: &mut Rest<'_>)
+    ensures { line.new ≡ plus_all line.old (full.dismissal sheet.now side (token.now ∷ rest.old)) }
+{
+    let how = way_of(token);
+    line.word(how);
+    who_is_out(line, sheet, side, how, rest);
+}
+
 /// Writes what follows `out`.
-fn dismissal(line: &mut Line, sheet: &MatchSheet, side: Side, rest: &mut Tokens<'_>)
+fn dismissal(line: &mut Line, sheet: &MatchSheet, side: Side, rest: &mut Rest<'_>)
     ensures { line.new ≡ plus_all line.old (full.dismissal sheet.now side rest.old) }
 {
-    if let Some(how) = rest.next() {
-        dismissal_from(line, sheet, side, how, rest);
+    if let Some(token) = rest.next() {
+        dismissal_from(line, sheet, side, token, rest);
     }
+}
+
+/// Writes a run out, who is out and by which fielder.
+fn run_out(line: &mut Line, sheet: &MatchSheet, side: Side, rest: &mut Rest<'_>)
+    ensures { line.new ≡ plus_all line.old (full.run_out sheet.now side rest.old) }
+{
+    line.word("out");
+    line.word("runout");
+    who_is_out(line, sheet, side, "runout", rest);
 }
 
 /// Writes what stands behind the runs, from a token on.
@@ -118,7 +205,7 @@ pub fn behind_runs_from(
     sheet: &MatchSheet,
     side: Side,
     token: &str,
-    rest: &mut Tokens<'_>,
+    rest: &mut Rest<'_>,
 )
     ensures { line.new ≡ plus_all line.old (full.behind_runs sheet.now side (token.now ∷ rest.old)) }
 {
@@ -128,6 +215,9 @@ pub fn behind_runs_from(
     } else if is_how(token) {
         line.word("out");
         dismissal_from(line, sheet, side, token, rest);
+    } else if is_run_out(token, rest) {
+        rest.pass_one();
+        run_out(line, sheet, side, rest);
     } else {
         line.word(token);
         if let Some(next) = rest.next() {
@@ -137,7 +227,7 @@ pub fn behind_runs_from(
 }
 
 /// Writes what stands behind the runs.
-pub fn behind_runs(line: &mut Line, sheet: &MatchSheet, side: Side, rest: &mut Tokens<'_>)
+pub fn behind_runs(line: &mut Line, sheet: &MatchSheet, side: Side, rest: &mut Rest<'_>)
     ensures { line.new ≡ plus_all line.old (full.behind_runs sheet.now side rest.old) }
 {
     if let Some(token) = rest.next() {

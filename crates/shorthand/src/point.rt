@@ -1,11 +1,12 @@
-//! Who bowls and who bats where a line belongs.
+//! Who bowls, who bats and who is in where a line belongs.
 
 ghost use Rattle.std.specs.Prelude.{◌≡◌, [], unwrap_or};
 ghost use Rattle.notation.specs.declared.entry.Side.TheVariants.{Home};
 ghost use Rattle.match_laws.specs.History.{last_side};
 ghost use Rattle.corrections.specs.CleanList.{history};
-ghost use Rattle.shorthand.specs.Points.{history_to, is_beyond, is_corrected, point_at};
+ghost use Rattle.shorthand.specs.Points.{history_to, is_beyond, is_corrected, batters_at, point_at};
 
+use crate::names::Among;
 use corrections::{BookOf, Placed, bowler_of, overs_among};
 use notation::{Plain, Player, Side};
 
@@ -90,5 +91,15 @@ pub fn point_at<B: BookOf>(book: &B, belongs: Belongs) -> Point
     Point {
         bowler: bowler_of(overs_among(before).this),
         batting: batting_of(before),
+    }
+}
+
+/// Who is looked for where a batter leaves: behind all that stands, who is in.
+pub fn batters_at<B: BookOf>(book: &B, belongs: Belongs) -> Among
+    ensures { result ≡ batters_at (B.content book.now) belongs }
+{
+    match belongs {
+        Belongs::Last => Among::AnEnd(book.score().ends()),
+        Belongs::At(_) | Belongs::After(_) => Among::Anyone,
     }
 }

@@ -3,6 +3,22 @@
 use arrayvec::ArrayString;
 use notation::{LineFault, Side};
 
+/// A letter that means two things to scorers.
+#[derive(Clone, Copy, Debug, PartialEq, Eq)]
+pub enum Letter {
+    /// Byes, or bowled.
+    B,
+    /// A Wide, or a wicket.
+    W,
+}
+
+/// A way of being out in which no fielder has a part.
+#[derive(Clone, Copy, Debug, PartialEq, Eq)]
+pub enum Unaided {
+    Bowled,
+    Lbw,
+}
+
 /// Why a line has no full form.
 #[derive(Clone, Copy, Debug, PartialEq, Eq)]
 pub enum Unclear {
@@ -14,4 +30,10 @@ pub enum Unclear {
     NoSuchPlayer(ArrayString<96>),
     /// Several players of the side have.
     WhichPlayer(Side, ArrayString<96>),
+    /// A letter stands for what a delivery brought that means two things to scorers.
+    TwoMeanings(Letter),
+    /// This one is named as the fielder, where a batter is out in this way, in which none has a part.
+    NoFielder(Unaided, ArrayString<96>),
+    /// A word stands where another must: in full, the line would be refused for this one.
+    UnknownWord(ArrayString<96>),
 }

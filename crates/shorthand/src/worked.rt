@@ -1,12 +1,14 @@
 //! The rows of the table that scorers have, computed from the definitions.
 
 ghost use Rattle.cards.specs.Sheet.{Sheet};
-ghost use Rattle.shorthand.specs.Worked.{WorkedMarks, WorkedNames, WorkedOuts, WorkedPlaces};
+ghost use Rattle.shorthand.specs.Worked.{WorkedMarks, WorkedNames, WorkedOuts, WorkedPlaces, WorkedSeveral, WorkedWords};
 
 /// What the rows of the table stand for.
 pub fn table_is_worked()
     ensures marks { (s : Sheet) → WorkedMarks s }
     ensures outs { (s : Sheet) → WorkedOuts s }
+    ensures words { (s : Sheet) → WorkedWords s }
     ensures names { WorkedNames }
+    ensures several { WorkedSeveral }
     ensures places { (s : Sheet) → WorkedPlaces s }
 {}

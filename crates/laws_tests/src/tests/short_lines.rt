@@ -63,7 +63,7 @@ const OUTS: [(&str, &str); 12] = [
         "bat 1 out runout striker 2 crossed",
     ),
     ("runout other crossed", "bat 0 out runout other 0 crossed"),
-    ("runout hale", "bat 0 out runout hale"),
+    ("1 run out other hale", "bat 1 out runout other 2"),
 ];
 
 /// The parts, one behind the other.

@@ -1,7 +1,7 @@
 //! What a desk's scorer is told of datagrams that can't be right.
 use super::*;
 
-const UNKNOWN: &str = "fault 2 UnknownWord: a word stands where another must\n";
+const UNKNOWN: &str = "fault 2 UnknownWord: no word here is bogus\n";
 
 const UNPLAYED: &str = "No play\n";
 

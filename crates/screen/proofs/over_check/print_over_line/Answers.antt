@@ -1,4 +1,4 @@
-use Rattle.std.proofs.Common.{◌≡◌, ℕ, List, [], ◌∷◌, ◌++◌, Option, true, arith, refl, sym, ◌∙◌}
+use Rattle.std.proofs.Common.{◌≡◌, ℕ, List, [], ◌∷◌, ◌++◌, true, arith, refl, sym}
 use Rattle.std.specs.Prelude.{codes, is_some}
 use Rattle.notation.specs.declared.entry.Ball.{Ball}
 use Rattle.ball_laws.specs.History.{History, open_over, last_called_over}

@@ -1,7 +1,7 @@
 use Rattle.std.proofs.Common.{sym}
 use Rattle.std.proofs.lemmas.Str.{IsUtf8-from_ascii}
 use Rattle.screen.proofs.Plain.{printable_is_ascii}
-use Rattle.screen.proofs.word.word_of.Goals as goal
+use Rattle.screen.proofs.word.asked.Goals as goal
 
 pub returns-in-Err : goal.returns-in-Err
 returns-in-Err c = absurd (c.in-Err.ensures.cases.0 (IsUtf8-from_ascii c.args.line.now (printable_is_ascii c.args.line.now (sym c.if-not-is_plain.ensures))))

@@ -1,0 +1,88 @@
+//! What is left of a line, which can be looked at before it is taken.
+
+ghost use Rattle.std.specs.Prelude.{◌≡◌, ◌∷◌, [], MatchOption};
+ghost use Rattle.notation.specs.Written.{tokens};
+ghost use Rattle.notation.specs.inner.Cursor.{tokens_left};
+ghost use Rattle.shorthand.specs.Words as words;
+
+use std::marker::Model;
+
+/// The tokens that are left of a line: its pieces between spaces.
+#[derive(Drop)]
+pub struct Rest<'a> {
+    text: Option<&'a str>,
+}
+
+impl<'a> Model for Rest<'a> {
+    ghost use Rattle.std.specs.Prelude.{List, ℕ};
+    ghost use Rattle.notation.specs.inner.Cursor.{tokens_left};
+
+    ghost Value = { List (List ℕ) };
+
+    ghost view = { λ r. tokens_left r.text };
+}
+
+/// The first token of a text, and what stands behind the space after it.
+fn cut(text: &str) -> (&str, Option<&str>)
+    ensures { tokens text.now ≡ result.0.now ∷ tokens_left result.1 }
+{
+    match text.as_bytes().iter().position(|b| *b == b' ') {
+        Some(at) => {
+            let (token, behind) = text.split_at(at);
+            let (_, rest) = behind.split_at(1);
+            (token, Some(rest))
+        }
+        None => (text, None),
+    }
+}
+
+impl<'a> Rest<'a> {
+    /// All tokens of a line.
+    pub fn of(line: &'a str) -> Rest<'a>
+        ensures { result ≡ tokens line.entry.now }
+    {
+        Rest { text: Some(line) }
+    }
+
+    /// No token.
+    pub fn nothing() -> Rest<'a>
+        ensures { result ≡ [] }
+    {
+        Rest { text: None }
+    }
+
+    /// The same tokens once more, to be looked at.
+    pub fn ahead(&self) -> Rest<'a>
+        ensures { result ≡ self.now }
+    {
+        Rest { text: self.text }
+    }
+
+    /// Takes the next token, if there is one.
+    pub fn next(&mut self) -> Option<&'a str>
+        ensures { MatchOption result ((self.old ≡ []) × (self.new ≡ [])) (λ t. self.old ≡ t.now ∷ self.new) }
+    {
+        let text = self.text?;
+        let (token, rest) = cut(text);
+        self.text = rest;
+        Some(token)
+    }
+
+    /// Passes the next token over.
+    pub fn pass_one(&mut self)
+        ensures { self.new ≡ words.behind_one self.old }
+    {
+        let _ = self.next();
+    }
+
+    /// Whether this word stands next.
+    pub fn has_next(&self, word: &str) -> bool
+        ensures { result ≡ words.has_next word.now self.now }
+    {
+        let mut ahead = self.ahead();
+        match ahead.next() {
+            Some(token) => token == word,
+            None => false,
+        }
+    }
+}
