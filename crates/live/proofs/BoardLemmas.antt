@@ -1,13 +1,14 @@
 -- Runs of a board.
-use Rattle.std.proofs.Common.{◌≡◌, ◌⊎◌, ◌<◌, ◌+◌, ℕ, List, [], ◌∷◌, ◌++◌, Option, None, Result, Bool, true, false, nat_eq, inl, inr}
+use Rattle.std.proofs.Common.{◌≡◌, ◌⊎◌, ◌<◌, ◌+◌, ℕ, List, [], ◌∷◌, ◌++◌, Option, None, Some, Result, Bool, true, false, nat_eq, inl, inr}
 use Rattle.std.proofs.Common.{refl, sym, ap, ◌∙◌, subst, append-nil, arith}
 use Rattle.std.proofs.lemmas.Bool.Decides.{nat_tests}
 use Rattle.std.proofs.lemmas.List.Elements.{All-nil}
 use Rattle.streams.proofs.Appending.{appends_kept, appends_none}
 use Rattle.wire.specs.Layout.{IsMessage}
-use Rattle.std.specs.Prelude.{Ok, Err, IsErrAnd, OnOk}
+use Rattle.std.specs.Prelude.{All, Ok, Err, IsErrAnd, IsSome, OnOk}
 use Rattle.std.specs.Io.KnownBytes.{Appends, Keeps}
 use Rattle.notation.specs.declared.entry.Entry.{Entry}
+use Rattle.agree_core.specs.declared.messages.Message.{Message}
 use Rattle.agree_core.specs.Boards.{BoardTicks}
 use Rattle.corrections.specs.CleanList.{history_of}
 use Rattle.corrections.specs.Refusal.{book_refusal}
@@ -18,10 +19,12 @@ use Rattle.cards.specs.Sheet.{Sheet}
 use Rattle.board.specs.declared.{refusal.BoardRefusal.BoardRefusal, board.Board.Board}
 use Rattle.board.specs.Board.{SameMatch, book_of, game_of, state_of}
 use Rattle.board.specs.Takes.{Takes}
-use Rattle.links.specs.Passed.{Passed, Came, sent_bytes}
+use Rattle.links.specs.Passed.{Passed, Came, sends, sent_bytes}
 use Rattle.live.specs.Runs.{Goes, known, with_text}
-use Rattle.live.specs.Boards.{Asks, BoardGoes, BoardLives, BoardRuns, BoardTurn, Given, Ticked, TurnEnded, Unopened, at_turn, board_kind, grown, in_turn, shown, sight_at, unless_stopped}
+use Rattle.live.specs.Boards.{Asks, BoardCall, BoardGoes, BoardLives, BoardRuns, BoardTurn, Given, Looked, Read, Ticked, TurnEnded, TurnStep, Unopened}
+use Rattle.live.specs.Boards.{at_turn, beat_of, board_kind, given, grown, in_turn, shown, sight_at, unless_stopped}
 use Rattle.live.specs.Sights.{Sight}
+use Rattle.live.specs.Ticks.{IsInTime, Ticking, after_look, reads, unticked}
 use Rattle.live.specs.Notices.{untold, notices_after, notices_unopened, telling_after, telling_unopened}
 use Rattle.links.specs.declared.link.TheConstants.{MOST_TAKEN}
 use Rattle.live.specs.declared.{notices.Notice.Notice, notices.Telling.Telling}
@@ -69,129 +72,177 @@ same_here : {B : Type 0} {g : _} {innings_of : B → ℕ} {k : Board B g} → Sa
 same_here = record { game = refl; innings_a_side = refl }
 
 module _ {B : Type 0} {g : _} {content : B → List Entry} {innings_of : B → ℕ} {sheet : Sheet} {k : Board B g} where
-  pub rests : {p : BoardTurn} {a : List Passed} {s : Option (List ℕ)} → BoardGoes content innings_of sheet k k p p a a s s
+  pub rests : {p : BoardTurn} {a : List Passed} {m : List ℕ} {s : Option (List ℕ)} → BoardGoes content innings_of sheet k k p p a a m m s s
   rests = record { same = same_here; goes = stays }
 
-  module _ {l : Board B g} {p q : BoardTurn} {a b : List Passed} {s t : Option (List ℕ)} where
-    pub then : {m : Board B g} {r : BoardTurn} {c : List Passed} {u : Option (List ℕ)} → BoardGoes content innings_of sheet k l p q a b s t
-        → BoardGoes content innings_of sheet l m q r b c t u → BoardGoes content innings_of sheet k m p r a c s u
-    then {r = r} {c = c} {u = u} v w =
+  module _ {l : Board B g} {p q : BoardTurn} {a b : List Passed} {i j : List ℕ} {s t : Option (List ℕ)} where
+    pub then : {m : Board B g} {r : BoardTurn} {c : List Passed} {o : List ℕ} {u : Option (List ℕ)} → BoardGoes content innings_of sheet k l p q a b i j s t
+        → BoardGoes content innings_of sheet l m q r b c j o t u → BoardGoes content innings_of sheet k m p r a c i o s u
+    then {r = r} {c = c} {o = o} {u = u} v w =
         let kind : board_kind sheet (game_of l) (innings_of (book_of l)) ≡ board_kind sheet (game_of k) (innings_of (book_of k)) =
         λ i. board_kind sheet (v.same.game i) (v.same.innings_a_side i) in
         record {
           same = record { game = w.same.game ∙ v.same.game; innings_a_side = w.same.innings_a_side ∙ v.same.innings_a_side };
-          goes = both v.goes (subst (λ kind. Goes kind q r b c [] [] [] [] t u) kind w.goes);
+          goes = both v.goes (subst (λ kind. Goes kind q r b c [] [] j o t u) kind w.goes);
         }
 
-    pub silent : BoardGoes content innings_of sheet k l p q a b s t → BoardGoes content innings_of sheet k l p q a b None None
+    pub silent : BoardGoes content innings_of sheet k l p q a b i j s t → BoardGoes content innings_of sheet k l p q a b i j None None
     silent v = record { same = v.same; goes = unsaid v.goes }
 
     -- the same log
-    pub logged : {c : List Passed} → b ≡ c → BoardGoes content innings_of sheet k l p q a b s t → BoardGoes content innings_of sheet k l p q a c s t
+    pub logged : {c : List Passed} → b ≡ c → BoardGoes content innings_of sheet k l p q a b i j s t → BoardGoes content innings_of sheet k l p q a c i j s t
     logged e v = rw (← e) v
 
-    -- a flush leaves what was written
-    pub kept : {u : Option (List ℕ)} → BoardGoes content innings_of sheet k l p q a b s t → Keeps t u → BoardGoes content innings_of sheet k l p q a b s u
-    kept {u = u} v h =
-        let y = v.goes in
-        let text = appends_kept s t u _ y.printed h in
-        record { same = v.same; goes = record { moments = y.moments; run = y.run; last = y.last; passed = y.passed; inputs = y.inputs; readings = y.readings; printed = text } }
+  -- one call, at which the clock showed this
+  called : {l : Board B g} {p q : BoardTurn} {log : List Passed} {m n : List ℕ} {s t : Option (List ℕ)} (call : BoardCall) (out : List Message) → SameMatch innings_of k l
+      → All IsMessage out → TurnStep sheet (game_of k) (innings_of (book_of k)) p call out q → n ≡ m ++ reads (beat_of call)
+      → Appends s t (shown sheet (innings_of (book_of k)) p call q)
+      → BoardGoes content innings_of sheet k l p q log (log ++ (given call ++ sends (game_of k) out)) m n s t
+  called call out same fine step times text = record { same = same; goes = rw times (one call out fine step text) }
 
-  module _ {turns had taken : ℕ} {telling : Telling} {noted : List Notice} {seen : List Sight} {log : List Passed} {s : Option (List ℕ)} where
+  module _ {turns had taken : ℕ} {telling : Telling} {ticking : Ticking} {noted : List Notice} {seen : List Sight} {log : List Passed} {m : List ℕ} {s : Option (List ℕ)} where
     -- it was given bytes
-    pub given_to : {l : Board B g} (bytes : List ℕ) (answer : Result What BoardRefusal) {later : Telling} {notes : List Notice} → taken < MOST_TAKEN → SameMatch innings_of k l
+    pub given_to : {l : Board B g} (bytes : List ℕ) (answer : Result What BoardRefusal) {later : Telling} {heard : Ticking} {notes : List Notice}
+        → IsInTime ticking → heard ≡ ticking → taken < MOST_TAKEN → SameMatch innings_of k l
         → Takes (book_refusal (innings_of (book_of k))) (game_of k) (state_of content k) bytes answer (state_of content l)
         → later ≡ telling_after telling answer → notes ≡ notices_after telling noted answer
-        → BoardGoes content innings_of sheet k l (in_turn content k turns had taken telling noted seen) (in_turn content l turns had (taken + 1) later notes seen)
-        log (log ++ Came bytes ∷ []) s s
-    given_to {l = l} bytes answer few same takes tells notices = record {
-      same = same;
-      goes = one (Given bytes answer) [] (All-nil IsMessage) (few, (takes, refl), λ i. in_turn content l turns had (taken + 1) (tells i) (notices i) seen) (appends_none s);
-    }
+        → BoardGoes content innings_of sheet k l (in_turn content k turns had taken telling ticking noted seen) (in_turn content l turns had (taken + 1) later heard notes seen)
+        log (log ++ Came bytes ∷ []) m m s s
+    given_to {l = l} bytes answer beats stands few same takes tells notices =
+        called (Given bytes answer) [] same (All-nil IsMessage)
+        (few, (takes, refl), (λ i. in_turn content l turns had (taken + 1) (tells i) (stands i) (notices i) seen), beats) (rw append-nil) (appends_none s)
 
     -- bytes came that don't open
-    pub passed_over : {later : Telling} {notes : List Notice} {after : List Passed} → taken < MOST_TAKEN → later ≡ telling_unopened telling
-        → notes ≡ notices_unopened telling noted → after ≡ log
-        → BoardGoes content innings_of sheet k k (in_turn content k turns had taken telling noted seen) (in_turn content k turns had (taken + 1) later notes seen) log after s s
-    passed_over few tells notices is = logged (append-nil log ∙ sym is) (record {
-      same = same_here;
-      goes = one Unopened [] (All-nil IsMessage) (few, (refl, refl), λ i. in_turn content k turns had (taken + 1) (tells i) (notices i) seen) (appends_none s);
-    })
+    pub passed_over : {later : Telling} {passed : Ticking} {notes : List Notice} {after : List Passed} → IsInTime ticking → passed ≡ ticking → taken < MOST_TAKEN
+        → later ≡ telling_unopened telling → notes ≡ notices_unopened telling noted → after ≡ log
+        → BoardGoes content innings_of sheet k k (in_turn content k turns had taken telling ticking noted seen) (in_turn content k turns had (taken + 1) later passed notes seen)
+        log after m m s s
+    passed_over beats stands few tells notices is =
+        logged (append-nil log ∙ sym is) (called Unopened [] same_here (All-nil IsMessage)
+        (few, (refl, refl), (λ i. in_turn content k turns had (taken + 1) (tells i) (stands i) (notices i) seen), beats) (rw append-nil) (appends_none s))
 
     -- it has ticked
-    pub ticked : {after : List Passed} → Asks content k log after
-        → BoardGoes content innings_of sheet k k (in_turn content k turns had taken telling noted seen) (in_turn content k turns had taken telling noted seen) log after s s
-    ticked ticks = logged (sym ticks.passed) (record { same = same_here; goes = one Ticked ticks.out ticks.fine (tt, (ticks.step, refl), refl) (appends_none s) })
+    ticks : {after : List Passed} {said : Ticking} → IsSome ticking.looked → said ≡ record ticking { ticked = ticking.looked } → Asks content k log after
+        → BoardGoes content innings_of sheet k k (in_turn content k turns had taken telling ticking noted seen) (in_turn content k turns had taken telling said noted seen)
+        log after m m s s
+    ticks looked is asked =
+        logged (sym asked.passed) (called Ticked asked.out same_here asked.fine
+        (tt, (asked.step, refl), (λ i. in_turn content k turns had taken telling (is i) noted seen), looked) (rw append-nil) (appends_none s))
+
+    -- it has looked at its clock
+    pub looks : {n : List ℕ} {saw : Ticking} (now : ℕ) → IsInTime ticking → n ≡ m ++ now ∷ [] → saw ≡ record ticking { looked = Some now }
+        → BoardGoes content innings_of sheet k k (in_turn content k turns had taken telling ticking noted seen) (in_turn content k turns had taken telling saw noted seen)
+        log log m n s s
+    looks now beats times is =
+        logged (append-nil log) (called (Looked now) [] same_here (All-nil IsMessage)
+        (tt, (refl, refl), (λ i. in_turn content k turns had taken telling (is i) noted seen), beats) times (appends_none s))
+
+    -- it has read its clock
+    pub reads_clock : {n : List ℕ} (now : ℕ) → IsInTime ticking → n ≡ m ++ now ∷ []
+        → BoardGoes content innings_of sheet k k (in_turn content k turns had taken telling ticking noted seen) (in_turn content k turns had taken telling ticking noted seen)
+        log log m n s s
+    reads_clock now beats times =
+        logged (append-nil log) (called (Read now) [] same_here (All-nil IsMessage) (tt, (refl, refl), refl, beats) times (appends_none s))
 
     -- its turn is over
-    pub turn_over : {t : Option (List ℕ)} {sees : List Sight} → sees ≡ seen ++ unless_stopped telling.is_stopped (sight_at content innings_of sheet k ∷ [])
-        → Appends s t (shown sheet (innings_of (book_of k)) (in_turn content k turns had taken telling noted seen) TurnEnded (at_turn content k (turns + 1) telling noted sees))
-        → BoardGoes content innings_of sheet k k (in_turn content k turns had taken telling noted seen) (at_turn content k (turns + 1) telling noted sees) log log s t
-    turn_over sights text = logged (append-nil log) (record {
-      same = same_here;
-      goes = one TurnEnded [] (All-nil IsMessage) (tt, (refl, refl), λ i. at_turn content k (turns + 1) telling noted (sights i)) text;
-    })
+    pub turn_over : {t : Option (List ℕ)} {rested : Ticking} {sees : List Sight} → IsSome ticking.looked → IsInTime ticking → rested ≡ record ticking { looked = None }
+        → sees ≡ seen ++ unless_stopped telling.is_stopped (sight_at content innings_of sheet k ∷ [])
+        → Appends s t (shown sheet (innings_of (book_of k)) (in_turn content k turns had taken telling ticking noted seen) TurnEnded (at_turn content k (turns + 1) telling rested noted sees))
+        → BoardGoes content innings_of sheet k k (in_turn content k turns had taken telling ticking noted seen) (at_turn content k (turns + 1) telling rested noted sees)
+        log log m m s t
+    turn_over looked beats is sights text =
+        logged (append-nil log) (called TurnEnded [] same_here (All-nil IsMessage)
+        (tt, (refl, refl), (λ i. at_turn content k (turns + 1) telling (is i) noted (sights i)), (looked, beats)) (rw append-nil) text)
 
-  module _ {l : Board B g} {E : Type 0} {a b : List Passed} {s t : Option (List ℕ)} {from to : ℕ} {telling : Telling} {noted notes : List Notice} {seen sees : List Sight} where
+  -- it has looked at its clock, and ticked
+  pub speaks : {turns had taken : ℕ} {telling : Telling} {ticking : Ticking} {noted : List Notice} {seen : List Sight} {log after : List Passed} {m n : List ℕ} {s : Option (List ℕ)}
+      {said : Ticking} (now : ℕ) → IsInTime ticking → n ≡ m ++ now ∷ [] → said ≡ after_look true ticking now → Asks content k log after
+      → BoardGoes content innings_of sheet k k (in_turn content k turns had taken telling ticking noted seen) (in_turn content k turns had taken telling said noted seen)
+      log after m n s s
+  speaks {ticking = ticking} now beats times is asked =
+      then (looks {ticking = ticking} now beats times refl) (ticks {ticking = record { ticked = ticking.ticked; looked = Some now }} refl is asked)
+
+  -- nothing is seen of its clock
+  pub unread : {turns had taken : ℕ} {telling : Telling} {ticking saw : Ticking} {noted : List Notice} {seen : List Sight} {log : List Passed} {m : List ℕ} {s : Option (List ℕ)}
+      → saw ≡ ticking
+      → BoardGoes content innings_of sheet k k (in_turn content k turns had taken telling ticking noted seen) (in_turn content k turns had taken telling saw noted seen)
+      log log m m s s
+  unread is = rw is rests
+
+  module _ {l : Board B g} {E : Type 0} {a b : List Passed} {i j : List ℕ} {s t : Option (List ℕ)} {from to : ℕ} {telling : Telling} {ticking : Ticking}
+      {noted notes : List Notice} {seen sees : List Sight} where
     -- a write failed
-    pub stopped : {last : BoardTurn} (r : Result (Unit {0}) E) (fault : E) → IsErrAnd r (λ e. e ≡ fault) → last.board ≡ state_of content l → last.notices ≡ notes → last.seen ≡ sees
-        → BoardGoes content innings_of sheet k l (at_turn content k from telling noted seen) last a b None None
-        → (runs : BoardRuns content innings_of sheet k l a b s t from to telling noted notes seen sees r) × (runs.last.telling ≡ last.telling)
-    stopped (Ok done) fault h is notices sights v = absurd h
-    stopped {last = last} (Err e) fault h is notices sights v = (record { last = last; is = is; noticed = notices; sighted = sights; goes = v; whole = tt }, refl)
+    pub stopped : {last : BoardTurn} (p : BoardTurn) (r : Result (Unit {0}) E) (fault : E) → IsErrAnd r (λ e. e ≡ fault) → last.board ≡ state_of content l → last.notices ≡ notes → last.seen ≡ sees
+        → BoardGoes content innings_of sheet k l (at_turn content k from telling ticking noted seen) last a b i j None None
+        → (runs : BoardRuns content innings_of sheet k l a b i j s t from to telling ticking noted notes seen sees r) × OnOk r (runs.last ≡ p)
+    stopped p (Ok done) fault h is notices sights v = absurd h
+    stopped {last = last} p (Err e) fault h is notices sights v = (record { last = last; is = is; noticed = notices; sighted = sights; goes = v; whole = tt }, tt)
 
     -- all turns are over
-    pub finished : {later : Telling} (r : Result (Unit {0}) E)
-        → BoardGoes content innings_of sheet k l (at_turn content k from telling noted seen) (at_turn content l to later notes sees) a b s t
-        → (runs : BoardRuns content innings_of sheet k l a b s t from to telling noted notes seen sees r) × (runs.last.telling ≡ later)
-    finished {later = later} (Ok done) v = (record { last = at_turn content l to later notes sees; is = refl; noticed = refl; sighted = refl; goes = v; whole = refl }, refl)
-    finished {later = later} (Err fault) v = (record { last = at_turn content l to later notes sees; is = refl; noticed = refl; sighted = refl; goes = silent v; whole = tt }, refl)
+    pub finished : {later : Telling} {rested : Ticking} (r : Result (Unit {0}) E)
+        → BoardGoes content innings_of sheet k l (at_turn content k from telling ticking noted seen) (at_turn content l to later rested notes sees) a b i j s t
+        → (runs : BoardRuns content innings_of sheet k l a b i j s t from to telling ticking noted notes seen sees r)
+        × OnOk r (runs.last ≡ at_turn content l to later rested notes sees)
+    finished {later = later} {rested = rested} (Ok done) v =
+        (record { last = at_turn content l to later rested notes sees; is = refl; noticed = refl; sighted = refl; goes = v; whole = refl }, refl)
+    finished {later = later} {rested = rested} (Err fault) v =
+        (record { last = at_turn content l to later rested notes sees; is = refl; noticed = refl; sighted = refl; goes = silent v; whole = tt }, tt)
 
     -- turns that are over
-    pub whole_turns : {later : Telling} (r : Result (Unit {0}) E) (runs : BoardRuns content innings_of sheet k l a b s t from to telling noted notes seen sees r) → runs.last.telling ≡ later
-        → OnOk r (BoardGoes content innings_of sheet k l (at_turn content k from telling noted seen) (at_turn content l to later notes sees) a b s t)
-    whole_turns (Ok done) runs e =
-        subst (λ (p : BoardTurn). BoardGoes content innings_of sheet k l (at_turn content k from telling noted seen) p a b s t)
-        (runs.whole ∙ ap (λ (w : Telling). at_turn content l to w notes sees) e) runs.goes
-    whole_turns (Err fault) runs e = tt
+    pub whole_turns : (p : BoardTurn) (r : Result (Unit {0}) E)
+        (runs : BoardRuns content innings_of sheet k l a b i j s t from to telling ticking noted notes seen sees r) → OnOk r (runs.last ≡ p)
+        → OnOk r (BoardGoes content innings_of sheet k l (at_turn content k from telling ticking noted seen) p a b i j s t)
+    whole_turns p (Ok done) runs e = subst (λ (p : BoardTurn). BoardGoes content innings_of sheet k l (at_turn content k from telling ticking noted seen) p a b i j s t) e runs.goes
+    whole_turns p (Err fault) runs e = tt
 
-  -- what is shown at first comes before a run
-  shown_first : {E : Type 0} {p : BoardTurn} {a : List Passed} (r : Result (Unit {0}) E) (s t : Option (List ℕ)) (text : List ℕ) → Appends s t text
-      → BoardGoes content innings_of sheet k k p p a a (known r (with_text s text)) (known r t)
-  shown_first (Ok done) s t text first = record {
-    same = same_here;
-    goes = record { moments = []; run = tt; last = refl; passed = rw append-nil; inputs = refl; readings = refl; printed = told_first s t text first };
-  }
-  shown_first (Err fault) s t text first = rests
+  -- what is shown at first comes before a run, and a reading of the clock
+  shown_first : {E : Type 0} {noted : List Notice} {seen : List Sight} {a : List Passed} {i j : List ℕ} (r : Result (Unit {0}) E) (s t : Option (List ℕ)) (text : List ℕ) (now : ℕ)
+      → j ≡ i ++ now ∷ [] → Appends s t text
+      → BoardGoes content innings_of sheet k k (at_turn content k 0 untold unticked noted seen) (at_turn content k 0 untold unticked noted seen) a a i j
+      (known r (with_text s text)) (known r t)
+  shown_first (Ok done) s t text now times first =
+      then (record {
+        same = same_here;
+        goes = record { moments = []; run = tt; last = refl; passed = rw append-nil; inputs = refl; readings = rw append-nil; printed = told_first s t text first };
+      }) (reads_clock {ticking = unticked} now tt times)
+  shown_first (Err fault) s t text now times first = reads_clock {ticking = unticked} now tt times
 
-  pub runs_on : {l : Board B g} {E : Type 0} {a b : List Passed} {t u : Option (List ℕ)} {to : ℕ} {noted notes : List Notice} {seen sees : List Sight} (r : Result (Unit {0}) E)
-      (s : Option (List ℕ)) (text : List ℕ) → Appends s t text → BoardRuns content innings_of sheet k l a b t u 0 to untold noted notes seen sees r
-      → BoardRuns content innings_of sheet k l a b (with_text s text) u 0 to untold noted notes seen sees r
-  runs_on {t = t} r s text first v =
-      record { last = v.last; is = v.is; noticed = v.noticed; sighted = v.sighted; goes = then (shown_first r s t text first) v.goes; whole = v.whole }
+  pub runs_on : {l : Board B g} {E : Type 0} {a b : List Passed} {i j o : List ℕ} {t u : Option (List ℕ)} {to : ℕ} {noted notes : List Notice} {seen sees : List Sight}
+      (r : Result (Unit {0}) E) (s : Option (List ℕ)) (text : List ℕ) (now : ℕ) → j ≡ i ++ now ∷ [] → Appends s t text
+      → BoardRuns content innings_of sheet k l a b j o t u 0 to untold unticked noted notes seen sees r
+      → BoardRuns content innings_of sheet k l a b i o (with_text s text) u 0 to untold unticked noted notes seen sees r
+  runs_on {t = t} r s text now times first v =
+      record { last = v.last; is = v.is; noticed = v.noticed; sighted = v.sighted; goes = then (shown_first r s t text now times first) v.goes; whole = v.whole }
 
   -- its first lines are printed and its book is handed over, and then it runs
-  pub lives_on : {l : Board B g} {E : Type 0} {a b : List Passed} {t u : Option (List ℕ)} {to : ℕ} {noted notes : List Notice} {seen had sees : List Sight}
-      (r : Result (Unit {0}) E) (s : Option (List ℕ)) → Appends s t (board_text sheet (innings_of (book_of k)) (history_of (content (book_of k))))
-      → had ≡ seen ++ sight_at content innings_of sheet k ∷ [] → BoardRuns content innings_of sheet k l a b t u 0 to untold noted notes had sees r
-      → BoardLives content innings_of sheet k l a b s u to noted notes seen sees r
-  lives_on {l = l} {a = a} {b = b} {t = t} {u = u} {to = to} {noted = noted} {notes = notes} {sees = sees} r s text is v =
+  pub lives_on : {l : Board B g} {E : Type 0} {a b : List Passed} {i j o : List ℕ} {t u : Option (List ℕ)} {to : ℕ} {noted notes : List Notice} {seen had sees : List Sight}
+      (r : Result (Unit {0}) E) (s : Option (List ℕ)) (now : ℕ) → j ≡ i ++ now ∷ [] → Appends s t (board_text sheet (innings_of (book_of k)) (history_of (content (book_of k))))
+      → had ≡ seen ++ sight_at content innings_of sheet k ∷ [] → BoardRuns content innings_of sheet k l a b j o t u 0 to untold unticked noted notes had sees r
+      → BoardLives content innings_of sheet k l a b i o s u to noted notes seen sees r
+  lives_on {l = l} {a = a} {b = b} {j = j} {o = o} {t = t} {u = u} {to = to} {noted = noted} {notes = notes} {sees = sees} r s now times text is v =
       record {
         first = sight_at content innings_of sheet k ∷ [];
         shows_first = inl refl;
-        runs = runs_on r s _ text (subst (λ (xs : List Sight). BoardRuns content innings_of sheet k l a b t u 0 to untold noted notes xs sees r) is v);
+        runs = runs_on r s _ now times text
+            (subst (λ (xs : List Sight). BoardRuns content innings_of sheet k l a b j o t u 0 to untold unticked noted notes xs sees r) is v);
       }
 
   -- or that failed
-  pub not_begun : {E failed : Type 0} {a : List Passed} {s t : Option (List ℕ)} {to : ℕ} {noted : List Notice} {seen sees : List Sight}
-      (r : Result (Unit {0}) E) (fault : E) → IsErrAnd r (λ e. e ≡ fault)
-      → (sees ≡ seen ++ sight_at content innings_of sheet k ∷ []) ⊎ ((sees ≡ seen) × failed) → BoardLives content innings_of sheet k k a a s t to noted noted seen sees r
-  not_begun (Ok done) fault h seen = absurd h
-  not_begun {noted = noted} {seen = seen} (Err e) fault h (inl is) =
+  pub not_begun : {E failed : Type 0} {a : List Passed} {i j : List ℕ} {s t : Option (List ℕ)} {to : ℕ} {noted : List Notice} {seen sees : List Sight}
+      (r : Result (Unit {0}) E) (fault : E) (now : ℕ) → IsErrAnd r (λ e. e ≡ fault) → j ≡ i ++ now ∷ []
+      → (sees ≡ seen ++ sight_at content innings_of sheet k ∷ []) ⊎ ((sees ≡ seen) × failed) → BoardLives content innings_of sheet k k a a i j s t to noted noted seen sees r
+  not_begun (Ok done) fault now h times seen = absurd h
+  not_begun {noted = noted} {seen = seen} (Err e) fault now h times (inl is) =
       let first : List Sight = sight_at content innings_of sheet k ∷ [] in
-      record { first = first; shows_first = inl refl; runs = (stopped {last = at_turn content k 0 untold noted (seen ++ first)} (Err e) fault h refl refl (sym is) rests).0 }
-  not_begun {noted = noted} {seen = seen} (Err e) fault h (inr is) =
-      record { first = []; shows_first = inr (refl, refl); runs = (stopped {last = at_turn content k 0 untold noted (seen ++ [])} (Err e) fault h refl refl (append-nil seen ∙ sym is.0) rests).0 }
+      let last = at_turn content k 0 untold unticked noted (seen ++ first) in
+      record { first = first; shows_first = inl refl; runs = (stopped {last = last} last (Err e) fault h refl refl (sym is) (reads_clock {ticking = unticked} now tt times)).0 }
+  not_begun {noted = noted} {seen = seen} (Err e) fault now h times (inr is) =
+      let last = at_turn content k 0 untold unticked noted (seen ++ []) in
+      record {
+        first = [];
+        shows_first = inr (refl, refl);
+        runs = (stopped {last = last} last (Err e) fault h refl refl (append-nil seen ∙ sym is.0) (reads_clock {ticking = unticked} now tt times)).0;
+      }
 
 -- where that went well the book was handed over
 pub has_begun : {seen sees : List Sight} (first : Sight) → (sees ≡ seen ++ first ∷ []) ⊎ ((sees ≡ seen) × (false ≡ true)) → sees ≡ seen ++ first ∷ []

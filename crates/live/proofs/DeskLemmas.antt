@@ -32,8 +32,8 @@ use Rattle.live.specs.Texts.{came_text, reminder_text, said_text, unopened_text,
 use Rattle.live.specs.LostLines.{end_given, end_here}
 use Rattle.live.specs.Ends.{Course, course_of, end_of, ending, further, known_at, known_to, turns_after}
 use Rattle.live.specs.Desks.{Blames, disks_of, Calls, DeskCall, DeskGoes, DeskProcess, DeskStep, Given, FitsLongest, MayCall, MayRemind, Looked, Read, Reminded, Ticked, TurnEnded, Typed}
-use Rattle.live.specs.Desks.{TypingEnded, Unopened, after_call, beat_of, course_after, desk_kind, entry_in, given, innings_of, kind_of, loss_in, own_line, process_of, reads, told_of, typed}
-use Rattle.live.specs.Ticks.{IsInTime, MayBeat, Ticking, after_look}
+use Rattle.live.specs.Desks.{TypingEnded, Unopened, after_call, beat_of, course_after, desk_kind, entry_in, given, innings_of, kind_of, loss_in, own_line, process_of, told_of, typed}
+use Rattle.live.specs.Ticks.{IsInTime, MayBeat, Ticking, after_look, reads}
 use Rattle.live.specs.declared.{reminder.Reminder.Reminder, said.Said.Said, warned.Warned.Warned, ends.DeskEnd.DeskEnd}
 use Rattle.live.proofs.LostLemmas.{heard_ends}
 use Rattle.live.proofs.RunLemmas.{both, one, stays, unsaid}
@@ -110,7 +110,7 @@ module _ {S B D : Type 0} {g : Files S D} {h : Disks D} {b : Books B} where
   called : {sheet : Sheet} {k l : Desk S B D g h b} (call : DeskCall) {warned : Warned} {turns : ℕ} {ticking : Ticking} {q : DeskProcess D}
       {log before after : List Passed} {x y : List Input} {m n : List ℕ} {s t : Option (List ℕ)}
       → MayCall (process_of k warned turns ticking further) call → MayBeat ticking (beat_of call) → Calls sheet k l call before after
-      → before ≡ log ++ given call → y ≡ x ++ typed call → n ≡ m ++ reads call
+      → before ≡ log ++ given call → y ≡ x ++ typed call → n ≡ m ++ reads (beat_of call)
       → q ≡ after_call (process_of k warned turns ticking further) call (state_of l)
       → Appends s t (told_of sheet (innings_of k) (process_of k warned turns ticking further) call q)
       → DeskGoes sheet k l (process_of k warned turns ticking further) q log after x y m n s t
@@ -118,7 +118,7 @@ module _ {S B D : Type 0} {g : Files S D} {h : Disks D} {b : Books B} where
       may beats c came types times is text =
       let kind = kind_of sheet k in
       let p = process_of k warned turns ticking further in
-      let all : Goes kind p q log (log ++ (given call ++ sends (game_of k) c.out)) x (x ++ typed call) m (m ++ reads call) s t =
+      let all : Goes kind p q log (log ++ (given call ++ sends (game_of k) c.out)) x (x ++ typed call) m (m ++ reads (beat_of call)) s t =
       rw is (one call c.out c.fine (refl, c.step, c.blame, refl, may, beats) (rw is at text)) in
       let path : after ≡ log ++ (given call ++ sends (game_of k) c.out) = c.passed ∙ (ap (λ (xs : List Passed). xs ++ sends (game_of k) c.out) came ∙ append_assoc log (given call) _) in
       record { same = c.same; goes = rw (types, times, path) all }

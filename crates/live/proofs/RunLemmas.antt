@@ -8,6 +8,7 @@ use Rattle.streams.proofs.Appending.{appends_both, appends_none}
 use Rattle.links.specs.Passed.{Passed}
 use Rattle.links.specs.Typing.{Input}
 use Rattle.live.specs.Runs.{Goes, Kind, Moment, Run, last_of, passed_at, passed_in, printed_in, read_in, typed_in}
+use Rattle.live.specs.Ticks.{reads}
 
 module _ {State Call : Type 0} (kind : Kind State Call) where
   last_both : (k : State) (ns ms : List (Moment State Call)) → last_of k (ns ++ ms) ≡ last_of (last_of k ms) ns
@@ -32,7 +33,8 @@ module _ {State Call : Type 0} (kind : Kind State Call) where
   read_both : (ns ms : List (Moment State Call)) → read_in kind (ns ++ ms) ≡ read_in kind ms ++ read_in kind ns
   read_both [] ms = sym (append-nil (read_in kind ms))
   read_both (n ∷ ns) ms =
-      ap (λ xs. xs ++ kind.reads n.call) (read_both ns ms) ∙ append_assoc (read_in kind ms) (read_in kind ns) (kind.reads n.call)
+      let here = reads (kind.beat n.call) in
+      ap (λ xs. xs ++ here) (read_both ns ms) ∙ append_assoc (read_in kind ms) (read_in kind ns) here
 
   printed_both : (k : State) (ns ms : List (Moment State Call)) → printed_in kind k (ns ++ ms) ≡ printed_in kind k ms ++ printed_in kind (last_of k ms) ns
   printed_both k [] ms = sym (append-nil (printed_in kind k ms))
@@ -77,7 +79,7 @@ module _ {State Call : Type 0} {kind : Kind State Call} {k l : State} {a b : Lis
 -- one call
 pub one : {State Call : Type 0} {kind : Kind State Call} {k l : State} {a : List Passed} {x : List Input} {p : List ℕ} {s t : Option (List ℕ)} (call : Call) (out : List Message)
     → All IsMessage out → kind.Step k call out l → Appends s t (kind.prints k call l)
-    → Goes kind k l a (a ++ passed_at kind call out) x (x ++ kind.typed call) p (p ++ kind.reads call) s t
+    → Goes kind k l a (a ++ passed_at kind call out) x (x ++ kind.typed call) p (p ++ reads (kind.beat call)) s t
 one {l = l} call out fine step prints = record {
   moments = record { call = call; out = out; after = l } ∷ [];
   run = (tt, fine, step);

@@ -16,44 +16,56 @@ use Rattle.live.specs.Notices.{notices_after, notices_unopened, telling_after, t
 use Rattle.links.specs.Passed.{Passed, Came, sends}
 use Rattle.live.specs.Runs.{Goes, Kind, known, with_text}
 use Rattle.live.specs.Sights.{Sight, sight_of}
+use Rattle.live.specs.Ticks.{Beat, Look, MayBeat, Other, Reading, Tick, Ticking, TurnEnd, after_beat, unticked}
 use Rattle.links.specs.declared.link.TheConstants.{MOST_TAKEN}
 use Rattle.live.specs.declared.{notices.Notice.Notice, notices.Telling.Telling}
 
--- a call of a board: it is given bytes, bytes came that don't open, of which it is given nothing, it ticks, or its turn
--- ends
+-- a call of a board: it is given bytes, bytes came that don't open, of which it is given nothing, a look at its clock,
+-- whether a tick is due, a tick, another reading of its clock, each with what it shows, or the end of a turn
 pub data BoardCall : Type 0 where
   Given : List ℕ → Result What BoardRefusal → BoardCall
   Unopened : BoardCall
+  Looked : ℕ → BoardCall
   Ticked : BoardCall
+  Read : ℕ → BoardCall
   TurnEnded : BoardCall
 
 -- in a match of this number and innings a side
 abbrev pub BoardStep : ℕ → ℕ → BoardState → BoardCall → List Message → BoardState → Type 0
 BoardStep game innings k (Given bytes answer) out l = Takes (book_refusal innings) game k bytes answer l × (out ≡ [])
-BoardStep game innings k Unopened out l = (l ≡ k) × (out ≡ [])
 BoardStep game innings k Ticked out l = BoardTicks k out × (l ≡ k)
-BoardStep game innings k TurnEnded out l = (l ≡ k) × (out ≡ [])
+BoardStep game innings k call out l = (l ≡ k) × (out ≡ [])
+
+-- what a call is to the clock
+abbrev pub beat_of : BoardCall → Beat
+beat_of (Looked now) = Look now
+beat_of (Read now) = Reading now
+beat_of Ticked = Tick
+beat_of TurnEnded = TurnEnd
+beat_of call = Other
 
 -- a board in a turn: how many turns are over, how many entries its book had as this one began, how many datagrams were
--- taken in it, what it has told of what it can't take, all notices the oldest first, and what it has handed to be shown,
--- likewise
+-- taken in it, what it has told of what it can't take, what it saw of its clock, all notices the oldest first, and what it
+-- has handed to be shown, likewise
 pub record BoardTurn : Type 0 where
   pub board : BoardState
   pub turns : ℕ
   pub had : ℕ
   pub taken : ℕ
   pub telling : Telling
+  pub ticking : Ticking
   pub notices : List Notice
   pub seen : List Sight
 
 -- a turn begins
-abbrev pub begun : BoardState → ℕ → Telling → List Notice → List Sight → BoardTurn
-begun k turns telling notices seen = record {
+abbrev pub begun : BoardState → ℕ → Telling → Ticking → List Notice → List Sight → BoardTurn
+begun k turns telling ticking notices seen = record {
   board = k;
   turns = turns;
   had = length k.book;
   taken = 0;
   telling = telling;
+  ticking = ticking;
   notices = notices;
   seen = seen;
 }
@@ -75,31 +87,29 @@ handed sheet innings k TurnEnded l = unless_stopped k.telling.is_stopped (sight_
 handed sheet innings k call l = []
 
 abbrev pub after_call : Sheet → ℕ → BoardTurn → BoardCall → BoardState → BoardTurn
-after_call sheet innings k (Given bytes answer) l = record {
-  board = l;
-  turns = k.turns;
-  had = k.had;
-  taken = k.taken + 1;
-  telling = telling_after k.telling answer;
-  notices = notices_after k.telling k.notices answer;
-  seen = k.seen;
-}
-after_call sheet innings k Unopened l = record {
-  board = l;
-  turns = k.turns;
-  had = k.had;
-  taken = k.taken + 1;
-  telling = telling_unopened k.telling;
-  notices = notices_unopened k.telling k.notices;
-  seen = k.seen;
-}
-after_call sheet innings k Ticked l = record k { board = l }
+after_call sheet innings k (Given bytes answer) l =
+    record k {
+      board = l;
+      taken = k.taken + 1;
+      telling = telling_after k.telling answer;
+      notices = notices_after k.telling k.notices answer;
+    }
+after_call sheet innings k Unopened l =
+    record k {
+      board = l;
+      taken = k.taken + 1;
+      telling = telling_unopened k.telling;
+      notices = notices_unopened k.telling k.notices;
+    }
 after_call sheet innings k TurnEnded l =
-    begun l (k.turns + 1) k.telling k.notices (k.seen ++ handed sheet innings k TurnEnded l)
+    begun l (k.turns + 1) k.telling (after_beat k.ticking TurnEnd) k.notices (k.seen ++ handed sheet innings k TurnEnded l)
+after_call sheet innings k call l = record k { board = l; ticking = after_beat k.ticking (beat_of call) }
 
+-- a board makes a call, and ticks in time
 abbrev pub TurnStep : Sheet → ℕ → ℕ → BoardTurn → BoardCall → List Message → BoardTurn → Type 0
 TurnStep sheet game innings k call out l =
     MayCall k call × BoardStep game innings k.board call out l.board × (l ≡ after_call sheet innings k call l.board)
+    × MayBeat k.ticking (beat_of call)
 
 abbrev pub given : BoardCall → List Passed
 given (Given bytes answer) = Came bytes ∷ []
@@ -118,8 +128,15 @@ shown sheet innings k TurnEnded l =
 shown sheet innings k call l = []
 
 abbrev pub board_kind : Sheet → ℕ → ℕ → Kind BoardTurn BoardCall
-board_kind sheet game innings =
-    record { game = game; Step = TurnStep sheet game innings; given = given; typed = λ call. []; reads = λ call. []; prints = shown sheet innings }
+board_kind sheet game innings = record {
+  game = game;
+  Step = TurnStep sheet game innings;
+  given = given;
+  typed = λ call. [];
+  beat = beat_of;
+  ticking = λ k. k.ticking;
+  prints = shown sheet innings;
+}
 
 module _ {B : Type 0} {g : _} (content : B → List Entry) where
   -- what a board says unasked is what the link's log grew by
@@ -130,57 +147,60 @@ module _ {B : Type 0} {g : _} (content : B → List Entry) where
     pub step : BoardTicks (state_of content k) out
 
   -- a board in a turn
-  abbrev pub in_turn : Board B g → ℕ → ℕ → ℕ → Telling → List Notice → List Sight → BoardTurn
-  in_turn k turns had taken telling notices seen =
+  abbrev pub in_turn : Board B g → ℕ → ℕ → ℕ → Telling → Ticking → List Notice → List Sight → BoardTurn
+  in_turn k turns had taken telling ticking notices seen =
       record {
         board = state_of content k;
         turns = turns;
         had = had;
         taken = taken;
         telling = telling;
+        ticking = ticking;
         notices = notices;
         seen = seen;
       }
 
   -- at the beginning of a turn
-  abbrev pub at_turn : Board B g → ℕ → Telling → List Notice → List Sight → BoardTurn
-  at_turn k turns telling notices seen = begun (state_of content k) turns telling notices seen
+  abbrev pub at_turn : Board B g → ℕ → Telling → Ticking → List Notice → List Sight → BoardTurn
+  at_turn k turns telling ticking notices seen = begun (state_of content k) turns telling ticking notices seen
 
 module _ {B : Type 0} {g : _} (content : B → List Entry) (innings_of : B → ℕ) where
   -- from a board's turn on there is a run to another turn of the board of the same match
   pub record BoardGoes
-      (sheet : Sheet) (old new : Board B g) (k l : BoardTurn) (before after : List Passed)
+      (sheet : Sheet) (old new : Board B g) (k l : BoardTurn) (before after : List Passed) (times later : List ℕ)
       (told tells : Option (List ℕ)) : Type 0 where
     pub same : SameMatch innings_of old new
-    pub goes : Goes (board_kind sheet (game_of old) (innings_of (book_of old))) k l before after [] [] [] [] told tells
+    pub goes : Goes (board_kind sheet (game_of old) (innings_of (book_of old))) k l before after [] [] times later told tells
 
   -- A board's process from the beginning of a turn, at which it has told this, to that of another one. Unless a write
   -- failed, all turns between them are over, and the six lines were printed at the end of each in which the book has
   -- grown. What it told of what it can't take are just the notices that were handed on, and what it handed to be shown is
   -- just its book at the end of each turn, but once both desks' votes were refused.
   pub record BoardRuns
-      {E : Type 0} (sheet : Sheet) (old new : Board B g) (before after : List Passed) (told tells : Option (List ℕ))
-      (from to : ℕ) (telling : Telling) (noted notes : List Notice) (seen sees : List Sight) (result : Result (Unit {0}) E)
-      : Type 0 where
+      {E : Type 0} (sheet : Sheet) (old new : Board B g) (before after : List Passed) (times later : List ℕ)
+      (told tells : Option (List ℕ)) (from to : ℕ) (telling : Telling) (ticking : Ticking) (noted notes : List Notice)
+      (seen sees : List Sight) (result : Result (Unit {0}) E) : Type 0 where
     pub last : BoardTurn
     pub is : last.board ≡ state_of content new
     pub noticed : last.notices ≡ notes
     pub sighted : last.seen ≡ sees
-    pub goes : BoardGoes sheet old new (at_turn content old from telling noted seen) last before after
+    pub goes : BoardGoes sheet old new (at_turn content old from telling ticking noted seen) last before after times later
         (known result told) (known result tells)
-    pub whole : OnOk result (last ≡ at_turn content new to last.telling notes sees)
+    pub whole : OnOk result (last ≡ at_turn content new to last.telling last.ticking notes sees)
 
   -- a board's book, as it is handed to be shown
   abbrev pub sight_at : Sheet → Board B g → Sight
   sight_at sheet k = sight_of sheet (innings_of (book_of k)) (content (book_of k))
 
   -- A board's process from its beginning on, with this board: its six lines are printed and its book is handed to be shown,
-  -- and then it runs for so many turns. Where one of these failed, it ends, and of the text nothing is said.
+  -- at a reading of its clock, and then it runs for so many turns. Where one of these failed, it ends, and of the text
+  -- nothing is said.
   pub record BoardLives
-      {E : Type 0} (sheet : Sheet) (old new : Board B g) (before after : List Passed) (told tells : Option (List ℕ))
-      (turns : ℕ) (noted notes : List Notice) (seen sees : List Sight) (result : Result (Unit {0}) E) : Type 0 where
+      {E : Type 0} (sheet : Sheet) (old new : Board B g) (before after : List Passed) (times later : List ℕ)
+      (told tells : Option (List ℕ)) (turns : ℕ) (noted notes : List Notice) (seen sees : List Sight)
+      (result : Result (Unit {0}) E) : Type 0 where
     pub first : List Sight
     pub shows_first : (first ≡ sight_at sheet old ∷ []) ⊎ ((first ≡ []) × IsErr result)
-    pub runs : BoardRuns sheet old new before after
+    pub runs : BoardRuns sheet old new before after times later
         (with_text told (board_text sheet (innings_of (book_of old)) (history_of (content (book_of old))))) tells
-        0 turns untold noted notes (seen ++ first) sees result
+        0 turns untold unticked noted notes (seen ++ first) sees result

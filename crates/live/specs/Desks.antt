@@ -24,7 +24,7 @@ use Rattle.live.specs.LostLines.{end_here, shows_loss}
 use Rattle.links.specs.Passed.{Passed, Came, sends}
 use Rattle.live.specs.Runs.{Goes, Kind, with_text}
 use Rattle.live.specs.Saying.{Types}
-use Rattle.live.specs.Ticks.{Beat, Look, MayBeat, Other, Tick, Ticking, TurnEnd, after_beat, unticked}
+use Rattle.live.specs.Ticks.{Beat, Look, MayBeat, Other, Reading, Tick, Ticking, TurnEnd, after_beat, unticked}
 use Rattle.live.specs.Texts.{came_text, greeting, reminder_text, said_text, unopened_text, unwarned, warned_after, warned_reminded, warned_unopened}
 use Rattle.links.specs.Typing.{Input, Line, End}
 
@@ -94,6 +94,7 @@ turns_at turns call = turns
 -- what a call is to the clock
 abbrev pub beat_of : DeskCall → Beat
 beat_of (Looked now) = Look now
+beat_of (Read now) = Reading now
 beat_of Ticked = Tick
 beat_of TurnEnded = TurnEnd
 beat_of call = Other
@@ -139,11 +140,6 @@ typed (Typed line said) = Line line ∷ []
 typed TypingEnded = End ∷ []
 typed call = []
 
-abbrev pub reads : DeskCall → List ℕ
-reads (Looked now) = now ∷ []
-reads (Read now) = now ∷ []
-reads call = []
-
 -- a desk's vote of its position, where it is cast: the last of its votes
 abbrev pub own_entry : Bool → Option Entry → Option Entry
 own_entry true last = last
@@ -173,7 +169,8 @@ desk_kind sheet view disks game innings = record {
   Step = ProcessStep sheet view disks game innings;
   given = given;
   typed = typed;
-  reads = reads;
+  beat = beat_of;
+  ticking = λ k. k.ticking;
   prints = told_of sheet innings;
 }
 

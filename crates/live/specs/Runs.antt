@@ -5,6 +5,7 @@ use Rattle.agree_core.specs.declared.messages.Message.{Message}
 use Rattle.wire.specs.Layout.{IsMessage}
 use Rattle.links.specs.Passed.{Passed, sends}
 use Rattle.links.specs.Typing.{Input}
+use Rattle.live.specs.Ticks.{Beat, Ticking, reads}
 
 -- what a writer tells, and nothing where a write failed
 abbrev pub known : {T E : Type 0} → Result T E → Option (List ℕ) → Option (List ℕ)
@@ -22,14 +23,15 @@ pub record Moment (State Call : Type 0) : Type 0 where
   pub out : List Message
   pub after : State
 
--- a kind of station in a match: what its calls do, the datagrams and the lines that are given to it with a call, what
--- its clock shows it then, and what is printed of a call
+-- a kind of station in a match: what its calls do, the datagrams and the lines that are given to it with a call, what a
+-- call is to its clock, what it saw of that, and what is printed of a call
 pub record Kind (State Call : Type 0) : Type 1 where
   pub game : ℕ
   pub Step : State → Call → List Message → State → Type 0
   pub given : Call → List Passed
   pub typed : Call → List Input
-  pub reads : Call → List ℕ
+  pub beat : Call → Beat
+  pub ticking : State → Ticking
   pub prints : State → Call → State → List ℕ
 
 module _ {State Call : Type 0} where
@@ -61,7 +63,7 @@ module _ {State Call : Type 0} where
   -- what the clock showed
   abbrev pub read_in : Kind State Call → List (Moment State Call) → List ℕ
   read_in kind [] = []
-  read_in kind (m ∷ ms) = read_in kind ms ++ kind.reads m.call
+  read_in kind (m ∷ ms) = read_in kind ms ++ reads (kind.beat m.call)
 
   -- the texts that were printed
   abbrev pub printed_in : Kind State Call → State → List (Moment State Call) → List ℕ

@@ -1,13 +1,20 @@
 -- When a station has to tick, by its clock: in each turn, and at the latest half a second after its last tick.
-use Rattle.std.specs.Prelude.{◌≡◌, ◌<◌, ◌+◌, ℕ, Bool, true, false, Option, Some, None, IfSome, IsSome}
+use Rattle.std.specs.Prelude.{◌<◌, ◌+◌, ℕ, Bool, true, false, List, [], ◌∷◌, Option, Some, None, IfSome, IsSome}
 
--- what a call is to the clock: a look at it, whether something is due, with what it showed; a tick; the end of a turn; or
--- anything else
+-- what a call is to the clock: a look at it, whether something is due, or another reading of it, each with what it showed;
+-- a tick; the end of a turn; or anything else
 pub data Beat : Type 0 where
   Look : ℕ → Beat
+  Reading : ℕ → Beat
   Tick : Beat
   TurnEnd : Beat
   Other : Beat
+
+-- what the clock showed then
+abbrev pub reads : Beat → List ℕ
+reads (Look now) = now ∷ []
+reads (Reading now) = now ∷ []
+reads beat = []
 
 -- what a station's process saw of its clock: what that showed when it ticked last, if it has ticked, and when it looked
 -- last in this turn, if it has looked
@@ -38,7 +45,7 @@ abbrev pub after_beat : Ticking → Beat → Ticking
 after_beat k (Look now) = record k { looked = Some now }
 after_beat k Tick = record k { ticked = k.looked }
 after_beat k TurnEnd = record k { looked = None }
-after_beat k Other = k
+after_beat k beat = k
 
 -- after a look, and a tick where something was due
 abbrev pub after_look : Bool → Ticking → ℕ → Ticking

@@ -17,11 +17,11 @@ use links::{Clock, Link};
 use std::io::Write;
 use streams::{Watched, WriteFailed};
 
-/// Prints a board's six lines and hands its book over to be shown, as it begins.
-fn begin<B: BookOf, C: Clock, W: Write, S: Shows<B>>(
+/// Prints a board's six lines and hands its book over to be shown, as it begins at this time.
+fn begin<B: BookOf, W: Write, S: Shows<B>>(
     board: &Board<B>,
     sheet: &MatchSheet,
-    clock: &mut C,
+    now: u64,
     out: &mut Watched<W>,
     state: &mut S,
 ) -> Result<(), WriteFailed>
@@ -33,7 +33,7 @@ fn begin<B: BookOf, C: Clock, W: Write, S: Shows<B>>(
 {
     board.lines(sheet, out)?;
     out.flush()?;
-    state.show(sheet, board.book(), clock.millis())
+    state.show(sheet, board.book(), now)
 }
 
 /// A board's process: it prints its six lines and hands its book over to be shown at once, and then takes so many turns,
@@ -49,10 +49,11 @@ pub fn keep_board<B: BookOf, L: Link, C: Clock, N: Notices, W: Write, S: Shows<B
     turns: u64,
 ) -> Result<(), WriteFailed>
     ensures lives { BoardLives B.content B.innings_a_side sheet.now board.old board.new
-        (L.log link.old) (L.log link.new) (W.contents (stream_of out.old)) (W.contents (stream_of out.new)) turns
+        (L.log link.old) (L.log link.new) (C.readings clock.old) (C.readings clock.new)
+        (W.contents (stream_of out.old)) (W.contents (stream_of out.new)) turns
         (N.told notices.old) (N.told notices.new) (S.seen state.old) (S.seen state.new) result }
     ensures failed { OnErr result (has_failed out.new ≡ true ⊎ S.failed state.new ≡ true) }
 {
-    begin(board, sheet, clock, out, state)?;
+    begin(board, sheet, clock.millis(), out, state)?;
     run_board(board, sheet, link, clock, notices, out, state, turns)
 }

@@ -1,6 +1,6 @@
 //! A board's process.
 
-ghost use Rattle.std.specs.Prelude.{◌≡◌, ◌<◌, ◌+◌, ℕ, true, false, Option, List, [], ◌∷◌, ◌++◌, ◌⊎◌, OnErr, OnOk, length, nat_eq};
+ghost use Rattle.std.specs.Prelude.{◌≡◌, ◌<◌, ◌+◌, ℕ, true, false, Option, List, [], ◌∷◌, ◌++◌, ◌⊎◌, IsSome, OnErr, OnOk, length, nat_eq};
 ghost use Rattle.corrections.specs.CleanList.{history_of};
 ghost use Rattle.cards.specs.Board.{board as board_text};
 ghost use Rattle.cards.specs.Sheet.{Sheet};
@@ -8,12 +8,14 @@ ghost use Rattle.streams.specs.Watched.{Prints, has_failed, stream_of};
 ghost use Rattle.board.specs.Board.{book_of};
 ghost use Rattle.live.specs.Boards.{BoardGoes, BoardRuns, at_turn, grown, in_turn};
 ghost use Rattle.live.specs.Notices.{notices_unopened, telling_unopened, untold};
+ghost use Rattle.live.specs.Paces.{ticking_of};
 ghost use Rattle.live.specs.Sights.{Sight};
+ghost use Rattle.live.specs.Ticks.{unticked};
 ghost use Rattle.links.specs.Passed.{Came, Passed};
 ghost use Rattle.links.specs.declared.link.TheConstants.{MOST_TAKEN};
 ghost use Rattle.live.specs.declared.notices.Notice.{Notice};
 
-use crate::board_calls;
+use crate::board_calls::tick;
 use crate::hearing::promises_more;
 use crate::notices::{Notices, Telling};
 use crate::pace::Pace;
@@ -32,17 +34,29 @@ struct Between {
     telling: Telling,
 }
 
-/// Has a board say what it says unasked, where that is due.
-fn tick<B: BookOf, L: Link>(board: &Board<B>, link: &mut L, is_due: bool)
-    ensures { (sheet : Sheet) (shown : Option (List ℕ)) (seen : List Sight) (turns had taken : ℕ) (telling : Telling) (notices : List Notice) →
+/// Looks at the clock, and has a board say what it says unasked, where that is due. It answers how long the next datagram
+/// is waited for.
+fn say<B: BookOf, L: Link, C: Clock>(
+    board: &Board<B>,
+    link: &mut L,
+    clock: &mut C,
+    pace: &mut Pace,
+) -> u64
+    ensures goes { (sheet : Sheet) (shown : Option (List ℕ)) (seen : List Sight) (turns had taken : ℕ) (telling : Telling) (notices : List Notice) →
         BoardGoes B.content B.innings_a_side sheet board.now board.now
-        (in_turn B.content board.now turns had taken telling notices seen)
-        (in_turn B.content board.now turns had taken telling notices seen)
-        (L.log link.old) (L.log link.new) shown shown }
+        (in_turn B.content board.now turns had taken telling (ticking_of pace.old) notices seen)
+        (in_turn B.content board.now turns had taken telling (ticking_of pace.new) notices seen)
+        (L.log link.old) (L.log link.new) (C.readings clock.old) (C.readings clock.new) shown shown }
+    ensures looked { IsSome (ticking_of pace.new).looked }
 {
+    let now = clock.millis();
+    let is_due = pace.take_due(now);
+    let wait = pace.take_wait(now);
     if is_due {
-        board_calls::tick(board, link);
+        tick(board, link);
+        return wait;
     }
+    wait
 }
 
 /// A board takes bytes that came at its position, and tells what it can't take.
@@ -53,11 +67,12 @@ fn give<B: BookOf, N: Notices>(
     between: &mut Between,
     now: u64,
 )
-    ensures { (sheet : Sheet) (shown : Option (List ℕ)) (seen : List Sight) (log : List Passed) (turns had taken : ℕ) → taken < MOST_TAKEN →
+    ensures goes { (sheet : Sheet) (shown : Option (List ℕ)) (seen : List Sight) (log : List Passed) (times : List ℕ) (turns had taken : ℕ) → taken < MOST_TAKEN →
         BoardGoes B.content B.innings_a_side sheet board.old board.new
-        (in_turn B.content board.old turns had taken between.old.telling (N.told notices.old) seen)
-        (in_turn B.content board.new turns had (taken + 1) between.new.telling (N.told notices.new) seen)
-        log (log ++ Came bytes.now ∷ []) shown shown }
+        (in_turn B.content board.old turns had taken between.old.telling (ticking_of between.old.pace) (N.told notices.old) seen)
+        (in_turn B.content board.new turns had (taken + 1) between.new.telling (ticking_of between.new.pace) (N.told notices.new) seen)
+        log (log ++ Came bytes.now ∷ []) times times shown shown }
+    ensures ticking { ticking_of between.new.pace ≡ ticking_of between.old.pace }
 {
     let at = board.position();
     let answer = board.receive(bytes);
@@ -89,20 +104,20 @@ fn take_next<B: BookOf, L: Link, C: Clock, N: Notices>(
     ensures taken { result ≡ true →
         (sheet : Sheet) (shown : Option (List ℕ)) (seen : List Sight) (turns had taken : ℕ) → taken < MOST_TAKEN →
         BoardGoes B.content B.innings_a_side sheet board.old board.new
-        (in_turn B.content board.old turns had taken between.old.telling (N.told notices.old) seen)
-        (in_turn B.content board.new turns had (taken + 1) between.new.telling (N.told notices.new) seen)
-        (L.log link.old) (L.log link.new) shown shown }
+        (in_turn B.content board.old turns had taken between.old.telling (ticking_of between.old.pace) (N.told notices.old) seen)
+        (in_turn B.content board.new turns had (taken + 1) between.new.telling (ticking_of between.new.pace) (N.told notices.new) seen)
+        (L.log link.old) (L.log link.new) (C.readings clock.old) (C.readings clock.new) shown shown }
     ensures none { result ≡ false →
         (sheet : Sheet) (shown : Option (List ℕ)) (seen : List Sight) (turns had taken : ℕ) →
         BoardGoes B.content B.innings_a_side sheet board.old board.new
-        (in_turn B.content board.old turns had taken between.old.telling (N.told notices.old) seen)
-        (in_turn B.content board.new turns had taken between.new.telling (N.told notices.new) seen)
-        (L.log link.old) (L.log link.new) shown shown }
+        (in_turn B.content board.old turns had taken between.old.telling (ticking_of between.old.pace) (N.told notices.old) seen)
+        (in_turn B.content board.new turns had taken between.new.telling (ticking_of between.new.pace) (N.told notices.new) seen)
+        (L.log link.old) (L.log link.new) (C.readings clock.old) (C.readings clock.new) shown shown }
+    ensures looked { IsSome (ticking_of between.new.pace).looked }
 {
-    let now = clock.millis();
-    tick(board, link, between.pace.take_due(now));
+    let wait = say(board, link, clock, &mut between.pace);
     let mut buffer = [0; ROOM];
-    match link.take(&mut buffer, between.pace.take_wait(now)) {
+    match link.take(&mut buffer, wait) {
         Taken::Datagram(count) => {
             let now = clock.millis();
             give(board, &buffer[..count], notices, between, now);
@@ -124,11 +139,12 @@ fn take_all<B: BookOf, L: Link, C: Clock, N: Notices>(
     notices: &mut N,
     between: &mut Between,
 )
-    ensures { (sheet : Sheet) (shown : Option (List ℕ)) (seen : List Sight) (turns had : ℕ) → (taken : ℕ) ×
+    ensures goes { (sheet : Sheet) (shown : Option (List ℕ)) (seen : List Sight) (turns had : ℕ) → (taken : ℕ) ×
         BoardGoes B.content B.innings_a_side sheet board.old board.new
-        (in_turn B.content board.old turns had 0 between.old.telling (N.told notices.old) seen)
-        (in_turn B.content board.new turns had taken between.new.telling (N.told notices.new) seen)
-        (L.log link.old) (L.log link.new) shown shown }
+        (in_turn B.content board.old turns had 0 between.old.telling (ticking_of between.old.pace) (N.told notices.old) seen)
+        (in_turn B.content board.new turns had taken between.new.telling (ticking_of between.new.pace) (N.told notices.new) seen)
+        (L.log link.old) (L.log link.new) (C.readings clock.old) (C.readings clock.new) shown shown }
+    ensures looked { IsSome (ticking_of between.new.pace).looked }
 {
     between.pace.set_waits(true);
     for taken in 0..MOST_TAKEN {
@@ -157,8 +173,8 @@ fn print_news<B: BookOf, W: Write>(
     out.flush()
 }
 
-/// A board's turn: it says what is due, takes what came, prints its six lines where its book has grown, and hands its
-/// book over to be shown; neither of these once it has refused both desks' votes.
+/// A board's turn: it looks at the clock and says what is due, takes what came, prints its six lines where its book has
+/// grown, and hands its book over to be shown; neither of these once it has refused both desks' votes.
 fn turn<B: BookOf, L: Link, C: Clock, N: Notices, W: Write, S: Shows<B>>(
     board: &mut Board<B>,
     sheet: &MatchSheet,
@@ -170,14 +186,17 @@ fn turn<B: BookOf, L: Link, C: Clock, N: Notices, W: Write, S: Shows<B>>(
     between: &mut Between,
 ) -> Result<(), WriteFailed>
     ensures runs { (turns : ℕ) → (runs : BoardRuns B.content B.innings_a_side sheet.now board.old board.new
-        (L.log link.old) (L.log link.new)
+        (L.log link.old) (L.log link.new) (C.readings clock.old) (C.readings clock.new)
         (W.contents (stream_of out.old)) (W.contents (stream_of out.new)) turns (turns + 1)
-        between.old.telling (N.told notices.old) (N.told notices.new) (S.seen state.old) (S.seen state.new) result)
-        × (runs.last.telling ≡ between.new.telling) }
+        between.old.telling (ticking_of between.old.pace) (N.told notices.old) (N.told notices.new)
+        (S.seen state.old) (S.seen state.new) result)
+        × OnOk result (runs.last ≡ at_turn B.content board.new (turns + 1)
+        between.new.telling (ticking_of between.new.pace) (N.told notices.new) (S.seen state.new)) }
     ensures failed { OnErr result (has_failed out.new ≡ true ⊎ S.failed state.new ≡ true) }
 {
     let before = board.book().len();
     take_all(board, link, clock, notices, between);
+    between.pace.end_turn();
     if between.telling.is_stopped {
         return Ok(());
     }
@@ -187,8 +206,9 @@ fn turn<B: BookOf, L: Link, C: Clock, N: Notices, W: Write, S: Shows<B>>(
 
 /// A board's process, for so many turns: it asks, takes what its link gives, tells what it can't take, prints its six
 /// lines at the end of each turn in which its book has grown, and hands its book over to be shown at the end of each turn.
-/// It is a run of the definitions of a board: its datagrams are just those that passed at the link, its texts just those
-/// that were written, its notices just those that were handed on, and what was shown just what was handed over.
+/// It is a run of the definitions of a board: its datagrams are just those that passed at the link, its times just those
+/// that its clock showed, its texts just those that were written, its notices just those that were handed on, and what was
+/// shown just what was handed over.
 pub fn run_board<B: BookOf, L: Link, C: Clock, N: Notices, W: Write, S: Shows<B>>(
     board: &mut Board<B>,
     sheet: &MatchSheet,
@@ -200,9 +220,9 @@ pub fn run_board<B: BookOf, L: Link, C: Clock, N: Notices, W: Write, S: Shows<B>
     turns: u64,
 ) -> Result<(), WriteFailed>
     ensures runs { BoardRuns B.content B.innings_a_side sheet.now board.old board.new
-        (L.log link.old) (L.log link.new)
+        (L.log link.old) (L.log link.new) (C.readings clock.old) (C.readings clock.new)
         (W.contents (stream_of out.old)) (W.contents (stream_of out.new)) 0 turns
-        untold (N.told notices.old) (N.told notices.new) (S.seen state.old) (S.seen state.new) result }
+        untold unticked (N.told notices.old) (N.told notices.new) (S.seen state.old) (S.seen state.new) result }
     ensures failed { OnErr result (has_failed out.new ≡ true ⊎ S.failed state.new ≡ true) }
 {
     let mut between = Between {

@@ -1,5 +1,5 @@
-//! What a scorer can't see, what is seen of two votes that differ, that a reminder comes once, that a desk ticks, and that nothing
-//! is asked for in vain.
+//! What a scorer can't see, what is seen of two votes that differ, that a reminder comes once, that a station ticks, and that
+//! nothing is asked for in vain.
 //!
 //! These functions do nothing: they stand for the laws that they ensure.
 
@@ -7,7 +7,9 @@ ghost use Rattle.std.specs.Prelude.{ℕ};
 ghost use Rattle.agree_core.specs.declared.messages.DeskId.{DeskId as ADesk};
 ghost use Rattle.agree_core.specs.declared.position.Position.{Position as APosition};
 ghost use Rattle.vote_store.specs.View.{file_view};
-ghost use Rattle.live.specs.Desks.{FitsLongest};
+ghost use Rattle.cards.specs.Sheet.{Sheet};
+ghost use Rattle.live.specs.Boards.{board_kind};
+ghost use Rattle.live.specs.Desks.{FitsLongest, desk_kind};
 ghost use Rattle.live.specs.Hidden.{HidesTheOther, TellsBoth};
 ghost use Rattle.live.specs.Reminding.{RemindsOnce};
 ghost use Rattle.live.specs.Silences.{IsNeverSilent};
@@ -33,10 +35,13 @@ pub fn reminders_come_once<S: SlotsOf>()
         (record { faults = S.Disk.faults; FitsLongest = FitsLongest S.room cap }) }
 {}
 
-/// A desk looks at its clock in each turn, and where that shows half a second more than at its last tick, it ticks.
-pub fn desks_are_never_silent<S: SlotsOf>()
-    ensures { (desk : ADesk) (game cap : ℕ) → IsNeverSilent (file_view S.contents S.Disk.seen S.Disk.images desk game)
-        (record { faults = S.Disk.faults; FitsLongest = FitsLongest S.room cap }) }
+/// A desk and a board look at their clock in each turn, and where that shows half a second more than at their last tick, they
+/// tick.
+pub fn stations_are_never_silent<S: SlotsOf>()
+    ensures desks { (sheet : Sheet) (desk : ADesk) (game innings cap : ℕ) →
+        IsNeverSilent (desk_kind sheet (file_view S.contents S.Disk.seen S.Disk.images desk game)
+        (record { faults = S.Disk.faults; FitsLongest = FitsLongest S.room cap }) game innings) }
+    ensures boards { (sheet : Sheet) (game innings : ℕ) → IsNeverSilent (board_kind sheet game innings) }
 {}
 
 /// A scorer is told that no vote can be cast at a position just where a desk refuses each for that, and `again` is asked for at

@@ -36,7 +36,7 @@ pub use desk_life::{LifeEnd, keep_desk};
 pub use desk_loop::run_desk;
 pub use ends::{DeskEnd, end_at};
 pub use laws::{
-    both_lines_are_told, desks_are_never_silent, nothing_is_asked_in_vain, reminders_come_once,
+    both_lines_are_told, nothing_is_asked_in_vain, reminders_come_once, stations_are_never_silent,
     the_other_is_hidden,
 };
 pub use notice_log::NoticeLog;

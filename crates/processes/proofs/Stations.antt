@@ -26,6 +26,7 @@ use Rattle.live.specs.Notices.{untold}
 use Rattle.live.specs.Runs as own
 use Rattle.live.specs.Runs.{with_text}
 use Rattle.live.specs.Sights.{Sight, sight_of}
+use Rattle.live.specs.Ticks.{unticked}
 use Rattle.live.specs.DeskLife.{BeginsOn, Follows}
 use Rattle.live.specs.Desks.{DeskCall, DeskProcess, DiskView, FitsLongest}
 use Rattle.processes.specs.Printing.{HandsBook}
@@ -75,12 +76,12 @@ module _ {Disk : Type 0} (seen : Disk → List ℕ) (images : Disk → Images) (
 
 module _ {B : Type 0} {g : _} (content : B → List Entry) (innings_of : B → ℕ) where
   pub board_life : (old new : Board B g) → BoardLifeIsProcess content innings_of old new
-  board_life old new sheet before after told tells turns noted notes seen sees result new_board r =
+  board_life old new sheet before after times later told tells turns noted notes seen sees result new_board r =
       let goes = r.runs.goes.goes in
       let innings = innings_of (board.book_of old) in
       let kind = board_kind sheet (board.game_of old) innings in
       let first = r.first in
-      let from : BoardState → BoardTurn = λ k. boards.begun k 0 untold noted (seen ++ first) in (
+      let from : BoardState → BoardTurn = λ k. boards.begun k 0 untold unticked noted (seen ++ first) in (
         record { sheet = sheet; noted = noted; seen = seen ++ first; first = first; calls = goes.moments },
         refl,
         (
@@ -90,6 +91,7 @@ module _ {B : Type 0} {g : _} (content : B → List Entry) (innings_of : B → �
         subst (λ (k : BoardState). (λ (t : BoardTurn). t.board) (own.last_of (from k) goes.moments) ≡ board.state_of content new) new_board
             (ap (λ (t : BoardTurn). t.board) goes.last ∙ r.runs.is),
         goes.passed,
+        goes.readings,
         subst (λ (k : BoardState). Appends (own.known result (with_text told (board_text sheet innings (history_of k.book)))) (own.known result tells)
             (own.printed_in kind (from k) goes.moments)) new_board goes.printed,
         refl,

@@ -13,6 +13,7 @@ use Rattle.entry_log.specs.Blame.{BlamesDisk}
 use Rattle.entry_log.specs.Disk.{IsImage, only}
 use Rattle.agree_core.specs.declared.{messages.DeskId.DeskId, messages.Message.Message, seat.Settled.Settled}
 use Rattle.agree_core.specs.Ballots.{vote_of}
+use Rattle.agree_core.specs.Boards.{fresh_board}
 use Rattle.corrections.specs.CleanList.{clean, clean_items_of, history_of}
 use Rattle.match_laws.specs.Figures.{penalty_runs, total}
 use Rattle.match_laws.specs.History.{begun_by}
@@ -46,7 +47,7 @@ use Rattle.live.specs.Sights.{Sight, sight_of}
 use Rattle.processes.specs.Sealing.{IsAuthentic}
 use Rattle.processes.specs.Weaving.{is_at_board, is_at_desk, start}
 use Rattle.processes.specs.Worked.{LivedIsWoven, a_again, a_bytes, a_penned, a_says, b_bytes, b_noted, b_penned, b_says}
-use Rattle.processes.specs.Worked.{board_agreed, board_noted, disk_with, disk_without, lived, new_desk, no_faults, the_vote, toy}
+use Rattle.processes.specs.Worked.{board_agreed, board_asks, board_noted, disk_with, disk_without, lived, new_desk, no_faults, the_vote, toy}
 
 only_is : (file image : List ℕ) → IsImage (only file) image → image ≡ file
 only_is [] [] h = refl
@@ -98,11 +99,14 @@ none_out = All-nil IsMessage
 vote_out : (d : DeskId) → All IsMessage (Message.Vote (vote_of d the_vote) ∷ [])
 vote_out d = All-cons IsMessage (Message.Vote (vote_of d the_vote)) [] (is_message d) none_out
 
+ask_out : All IsMessage (board_asks ∷ [])
+ask_out = All-cons IsMessage board_asks [] (omega arith, omega arith) none_out
+
 -- a station had sealed it
 a_sealed : (seal : List ℕ) (more : List Message) → IsAuthentic seal 7 (a_says ∷ more) a_bytes
 a_sealed seal more = λ v says. (sealed seal a_bytes, refl, refl, λ m long same. (0, refl))
 
-b_sealed : (seal : List ℕ) → IsAuthentic seal 7 (a_says ∷ b_says ∷ []) b_bytes
+b_sealed : (seal : List ℕ) → IsAuthentic seal 7 (a_says ∷ b_says ∷ board_asks ∷ []) b_bytes
 b_sealed seal = λ v says. (sealed seal b_bytes, refl, refl, λ m long same. (1, refl))
 
 -- ---- desk A
@@ -193,11 +197,23 @@ module _ (s : Sheet) where
   abbrev at_first : List Sight
   at_first = sight_of s 1 [] ∷ []
 
+  abbrev after_looked : boards.BoardTurn
+  after_looked = boards.after_call s 1 (fresh_turn [] at_first) (boards.Looked 0) fresh_board
+
+  abbrev after_ticked : boards.BoardTurn
+  after_ticked = boards.after_call s 1 after_looked boards.Ticked fresh_board
+
   abbrev after_noted : boards.BoardTurn
-  after_noted = boards.after_call s 1 (fresh_turn [] at_first) (boards.Given a_bytes (Ok (Heard hearing.Heard.Noted))) board_noted
+  after_noted = boards.after_call s 1 after_ticked (boards.Given a_bytes (Ok (Heard hearing.Heard.Noted))) board_noted
 
   abbrev after_agreed : boards.BoardTurn
   after_agreed = boards.after_call s 1 after_noted (boards.Given b_bytes (Ok (Heard hearing.Heard.Agreed))) board_agreed
+
+  abbrev looks : own.Moment boards.BoardTurn boards.BoardCall
+  looks = record { call = boards.Looked 0; out = []; after = after_looked }
+
+  abbrev asks : own.Moment boards.BoardTurn boards.BoardCall
+  asks = record { call = boards.Ticked; out = board_asks ∷ []; after = after_ticked }
 
   abbrev hears : own.Moment boards.BoardTurn boards.BoardCall
   hears = record { call = boards.Given a_bytes (Ok (Heard hearing.Heard.Noted)); out = []; after = after_noted }
@@ -206,19 +222,33 @@ module _ (s : Sheet) where
   hears_both = record { call = boards.Given b_bytes (Ok (Heard hearing.Heard.Agreed)); out = []; after = after_agreed }
 
   abbrev shows : own.Moment boards.BoardTurn boards.BoardCall
-  shows = record { call = boards.TurnEnded; out = []; after = boards.begun board_agreed 1 untold [] (sight_of s 1 [] ∷ sight_of s 1 (Write Void ∷ []) ∷ []) }
+  shows = record {
+    call = boards.TurnEnded;
+    out = [];
+    after = boards.begun board_agreed 1 untold (record { ticked = Some 0; looked = None }) [] (sight_of s 1 [] ∷ sight_of s 1 (Write Void ∷ []) ∷ []);
+  }
+
+  abbrev board_calls : List (own.Moment boards.BoardTurn boards.BoardCall)
+  board_calls = shows ∷ hears_both ∷ hears ∷ asks ∷ looks ∷ []
 
   abbrev board_life : BoardProcess
-  board_life = record { sheet = s; noted = []; seen = at_first; first = at_first; calls = shows ∷ hears_both ∷ hears ∷ [] }
+  board_life = record { sheet = s; noted = []; seen = at_first; first = at_first; calls = board_calls }
 
-  board_notes : boards.TurnStep s 7 1 (fresh_turn [] at_first) (boards.Given a_bytes (Ok (Heard hearing.Heard.Noted))) [] after_noted
-  board_notes = (omega arith, ((a_says, (is_message A, refl), ((refl, refl, refl, refl), (λ e. cc), refl)), refl), refl)
+  board_looks : boards.TurnStep s 7 1 (fresh_turn [] at_first) (boards.Looked 0) [] after_looked
+  board_looks = (tt, (refl, refl), refl, tt)
+
+  board_ticks : boards.TurnStep s 7 1 after_looked boards.Ticked (board_asks ∷ []) after_ticked
+  board_ticks = (tt, (inl ((omega arith, omega arith), refl), refl), refl, refl)
+
+  board_notes : boards.TurnStep s 7 1 after_ticked (boards.Given a_bytes (Ok (Heard hearing.Heard.Noted))) [] after_noted
+  board_notes = (omega arith, ((a_says, (is_message A, refl), ((refl, refl, refl, refl), (λ e. cc), refl)), refl), refl, omega arith)
 
   board_agrees : boards.TurnStep s 7 1 after_noted (boards.Given b_bytes (Ok (Heard hearing.Heard.Agreed))) [] after_agreed
-  board_agrees = (omega arith, ((b_says, (is_message B, refl), ((refl, refl, refl, refl), (λ e. taken 1), refl)), refl), refl)
+  board_agrees = (omega arith, ((b_says, (is_message B, refl), ((refl, refl, refl, refl), (λ e. taken 1), refl)), refl), refl, omega arith)
 
-  board_runs : BoardRuns 7 1 s (fresh_turn [] at_first) (shows ∷ hears_both ∷ hears ∷ [])
-  board_runs = (((tt, none_out, board_notes), none_out, board_agrees), none_out, (tt, (refl, refl), refl))
+  board_runs : BoardRuns 7 1 s (fresh_turn [] at_first) board_calls
+  board_runs =
+      (((((tt, none_out, board_looks), ask_out, board_ticks), none_out, board_notes), none_out, board_agrees), none_out, (tt, (refl, refl), refl, (refl, omega arith)))
 
   elsewhere : (n : ℕ) → filter (is_at_board (suc (suc n))) (lived s) ≡ []
   elsewhere n = rw (ne_eqb (suc (suc n)) 1 (λ e. omega (arith, e))) refl
@@ -236,7 +266,7 @@ module _ (s : Sheet) where
 
 pub lived_is_woven : LivedIsWoven
 lived_is_woven s seal = record {
-  order = (((((((((((((((tt, tt), tt), tt), a_sealed seal []), tt), tt), tt), tt), a_sealed seal (b_says ∷ [])), b_sealed seal), tt), tt), tt), tt), tt);
+  order = (((((((((((((((((tt, tt), tt), tt), a_sealed seal []), tt), tt), tt), tt), tt), tt), a_sealed seal (b_says ∷ board_asks ∷ [])), b_sealed seal), tt), tt), tt), tt), tt);
   desks = desk_lives s;
   boards = board_lives s;
   no_others = no_others s;

@@ -22,6 +22,7 @@ use Rattle.live.specs.Desks.{DeskCall, DeskProcess, DeskStep, FitsLongest, cours
 use Rattle.live.specs.Notices.{untold}
 use Rattle.live.specs.Runs as own
 use Rattle.live.specs.Sights.{Sight}
+use Rattle.live.specs.Ticks.{unticked}
 use Rattle.live.specs.declared.ends.DeskEnd.TheVariants.{Device}
 use Rattle.live.specs.declared.notices.Notice.{Notice}
 use Rattle.processes.specs.Happenings.{BoardBegun, BoardCalled, BoardGreeted, DeskBegun, DeskCalled, DeskEnded, DeskGreeted, FileMigrated, Happening, PowerLost, begun, migrated}
@@ -125,7 +126,7 @@ life_happens innings d (x ∷ xs) = stage_happens innings d x ++ life_happens in
 
 -- a board's process at its beginning, with an empty book, behind any notices and whatever was handed over to be shown
 abbrev pub fresh_turn : List Notice → List Sight → BoardTurn
-fresh_turn noted seen = boards.begun fresh_board 0 untold noted seen
+fresh_turn noted seen = boards.begun fresh_board 0 untold unticked noted seen
 
 -- the moments are a run of a board's process, with this sheet, from its beginning on
 abbrev pub BoardRuns : ℕ → ℕ → Sheet → BoardTurn → List (own.Moment BoardTurn BoardCall) → Type 0

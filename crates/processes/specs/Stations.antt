@@ -114,16 +114,18 @@ module _ {Disk : Type 0} (seen : Disk → List ℕ) (images : Disk → Images) (
 
 module _ {B : Type 0} {g : _} (content : B → List Entry) (innings_of : B → ℕ) where
   -- From a new board on, by what `keep_board` ensures, a process of a board's life, with this sheet: its datagrams are just
-  -- those that passed, and its texts just those that were written, first the one of its empty book; and what was handed
-  -- over to be shown is just what it did.
+  -- those that passed, its times just those that its clock showed, and its texts just those that were written, first the
+  -- one of its empty book; and what was handed over to be shown is just what it did.
   abbrev pub BoardLifeIsProcess : (old new : Board B g) → Type 0
   BoardLifeIsProcess old new =
-      (sheet : Sheet) (before after : List Passed) (told tells : Option (List ℕ)) (turns : ℕ) (noted notes : List Notice)
-      (seen sees : List Sight) (result : Result (Unit {0}) WriteFailed) → board.state_of content old ≡ fresh_board
-      → boards.BoardLives content innings_of sheet old new before after told tells turns noted notes seen sees result
+      (sheet : Sheet) (before after : List Passed) (times later : List ℕ) (told tells : Option (List ℕ)) (turns : ℕ)
+      (noted notes : List Notice) (seen sees : List Sight) (result : Result (Unit {0}) WriteFailed)
+      → board.state_of content old ≡ fresh_board
+      → boards.BoardLives content innings_of sheet old new before after times later told tells turns noted notes seen sees result
       → (p : BoardProcess) × (p.sheet ≡ sheet) × IsBoardProcess (board.game_of old) (innings_of (board.book_of old)) p
       × ((λ (k : BoardTurn). k.board) (own.last_of (first_turn p) p.calls) ≡ board.state_of content new)
       × (after ≡ before ++ own.passed_in (board_kind sheet (board.game_of old) (innings_of (board.book_of old))) p.calls)
+      × (later ≡ times ++ own.read_in (board_kind sheet (board.game_of old) (innings_of (board.book_of old))) p.calls)
       × Appends
       (own.known result (with_text told (board_text sheet (innings_of (board.book_of old)) (history_of []))))
       (own.known result tells)

@@ -1,17 +1,18 @@
 -- A worked life: desk A pens `void`, is killed, begins in vain, and begins; desk B is given its vote, tells its scorer later
--- that the other has written, and pens `void` too; a board shows its empty book, is given both votes, and shows the book. A disk is its bytes, all
--- of them synced: one for the header, and one for the desk's vote. The texts were written by hand.
+-- that the other has written, and pens `void` too; a board shows its empty book, looks at its clock, asks, is given both
+-- votes, and shows the book. A disk is its bytes, all of them synced: one for the header, and one for the desk's vote. The
+-- texts were written by hand.
 use Rattle.std.specs.Prelude.{ℕ, List, [], ◌∷◌, Ok, codes, false}
 use Rattle.notation.specs.declared.entry.Entry.TheVariants.{Write}
 use Rattle.notation.specs.declared.entry.Plain.TheVariants.{Void}
 use Rattle.entry_log.specs.Disk.{Faults, Never, only}
 use Rattle.entry_log.specs.Slots.{FileContents}
-use Rattle.agree_core.specs.declared.{messages.DeskId.DeskId, messages.Message.Message, seat.Settled.Settled}
+use Rattle.agree_core.specs.declared.{messages.Asker.Asker, messages.DeskId.DeskId, messages.Message.Message, seat.Settled.Settled}
 use Rattle.agree_core.specs.declared.messages.DeskId.TheVariants.{A, B}
 use Rattle.agree_core.specs.declared.seat.Heard as hearing
 use Rattle.agree_core.specs.Ballots.{Ballot, ballot_at, vote_of}
-use Rattle.agree_core.specs.Boards.{BoardState}
-use Rattle.agree_core.specs.Desks.{DeskState}
+use Rattle.agree_core.specs.Boards.{BoardState, fresh_board}
+use Rattle.agree_core.specs.Desks.{DeskState, ask_for}
 use Rattle.agree_core.specs.Openings.{NotOpened, Opened, OpenRefusal, opened}
 use Rattle.agree_core.specs.Positions.{first, next_place}
 use Rattle.agree_core.specs.Readers as readers
@@ -83,6 +84,9 @@ a_says = Message.Vote (vote_of A the_vote)
 abbrev pub b_says : Message
 b_says = Message.Vote (vote_of B the_vote)
 
+abbrev pub board_asks : Message
+board_asks = ask_for Asker.Board first
+
 -- the datagrams of both votes, in match 7
 abbrev pub a_bytes : List ℕ
 a_bytes = written 7 a_says
@@ -104,6 +108,8 @@ lived s =
     ∷ BoardCalled 1 s boards.TurnEnded [] board_agreed no_play (sight_of s 1 (Write Void ∷ []) ∷ [])
     ∷ BoardCalled 1 s (boards.Given b_bytes (Ok (Heard hearing.Heard.Agreed))) [] board_agreed [] []
     ∷ BoardCalled 1 s (boards.Given a_bytes (Ok (Heard hearing.Heard.Noted))) [] board_noted [] []
+    ∷ BoardCalled 1 s boards.Ticked (board_asks ∷ []) fresh_board [] []
+    ∷ BoardCalled 1 s (boards.Looked 0) [] fresh_board [] []
     ∷ BoardGreeted 1 s no_play (sight_of s 1 [] ∷ [])
     ∷ BoardBegun 1
     ∷ DeskCalled B s (desks.Typed (codes "void") (Penned (Write Void) Settled.Agreed)) (b_says ∷ []) b_penned

@@ -1,7 +1,13 @@
+use Rattle.std.proofs.Common.{ap}
+use Rattle.live.specs.Paces.{Paced}
 use Rattle.live.proofs.BoardLemmas.{given_to}
 use Rattle.live.proofs.board_loop.give.Goals as goal
 
-pub returns : goal.returns
-returns g c = λ sheet shown seen log turns had taken few.
+pub returns-clause-ticking : goal.returns-clause-ticking
+returns-clause-ticking g c = ap (λ (p : Paced). p.ticking) c.note.ensures
+
+pub returns-clause-goes : goal.returns-clause-goes
+returns-clause-goes g c = λ sheet shown seen log times turns had taken few.
     let answer = c.receive-answer in
-    given_to c.args.bytes.now answer.result few answer.ensures.same answer.ensures.step c.after-between.ensures c.tell.ensures
+    given_to c.args.bytes.now answer.result c.args.between.now.pace.in_time (returns-clause-ticking g c) few answer.ensures.same answer.ensures.step
+    c.after-between.ensures c.tell.ensures

@@ -1,11 +1,14 @@
 use Rattle.streams.specs.Watched.{stream_of}
 use Rattle.live.specs.Boards.{BoardGoes, at_turn}
 use Rattle.live.specs.Notices.{untold}
+use Rattle.live.specs.Paces.{ticking_of}
+use Rattle.live.specs.Ticks.{unticked}
 use Rattle.live.proofs.board_loop.run_board.Given as goal
 
 abbrev pub invariant-loop-number : goal.invariant-loop-number
 invariant-loop-number g l =
     BoardGoes g.B.BookOf.content g.B.BookOf.innings_a_side l.sheet l.initial.board l.board
-    (at_turn g.B.BookOf.content l.initial.board 0 untold (g.N.Notices.told l.initial.notices) (g.S.Shows.seen l.initial.state))
-    (at_turn g.B.BookOf.content l.board l.number l.between.telling (g.N.Notices.told l.notices) (g.S.Shows.seen l.state))
-    (g.L.Link.log l.initial.link) (g.L.Link.log l.link) (g.W.Write.contents (stream_of l.initial.out)) (g.W.Write.contents (stream_of l.out))
+    (at_turn g.B.BookOf.content l.initial.board 0 untold unticked (g.N.Notices.told l.initial.notices) (g.S.Shows.seen l.initial.state))
+    (at_turn g.B.BookOf.content l.board l.number l.between.telling (ticking_of l.between.pace) (g.N.Notices.told l.notices) (g.S.Shows.seen l.state))
+    (g.L.Link.log l.initial.link) (g.L.Link.log l.link) (g.C.Clock.readings l.initial.clock) (g.C.Clock.readings l.clock)
+    (g.W.Write.contents (stream_of l.initial.out)) (g.W.Write.contents (stream_of l.out))

@@ -1,13 +1,18 @@
-use Rattle.std.proofs.Common.{sym}
-use Rattle.live.proofs.BoardLemmas.{logged, passed_over, then}
+use Rattle.std.proofs.Common.{ap, sym}
+use Rattle.live.specs.Paces.{ticking_of}
+use Rattle.live.proofs.BoardLemmas.{logged, passed_over, reads_clock, then}
 use Rattle.live.proofs.board_loop.take_next.Goals as goal
 
 pub returns-in-Datagram-clause-taken : goal.returns-in-Datagram-clause-taken
-returns-in-Datagram-clause-taken g c = λ is sheet told seen turns had taken few.
-    then (c.tick.ensures sheet told seen turns had taken _ _)
-    (logged (sym c.in-Datagram.ensures.1) (c.give.ensures sheet told seen (g.L.Link.log c.tick.new.link) turns had taken few))
+returns-in-Datagram-clause-taken g c = λ is sheet shown seen turns had taken few.
+    let said = c.say-wait in
+    then (said.ensures.goes sheet shown seen turns had taken _ _)
+    (then (reads_clock {ticking = ticking_of said.new.pace} c.millis-now.result said.new.pace.in_time c.millis-now.ensures)
+    (logged (sym c.in-Datagram.ensures.1) (c.give.ensures.goes sheet shown seen (g.L.Link.log said.new.link) _ turns had taken few)))
 
 pub returns-in-Unopened-clause-taken : goal.returns-in-Unopened-clause-taken
-returns-in-Unopened-clause-taken g c = λ is sheet told seen turns had taken few.
+returns-in-Unopened-clause-taken g c = λ is sheet shown seen turns had taken few.
+    let said = c.say-wait in
     let unopened = c.pass_over.ensures in
-    then (c.tick.ensures sheet told seen turns had taken _ _) (passed_over few unopened.telling unopened.told c.in-Unopened.ensures)
+    then (said.ensures.goes sheet shown seen turns had taken _ _)
+    (passed_over {ticking = ticking_of said.new.pace} said.new.pace.in_time (ap ticking_of unopened.pace) few unopened.telling unopened.told c.in-Unopened.ensures)

@@ -1,23 +1,27 @@
 use Rattle.std.proofs.Common.{◌∙◌, ◌++◌, ◌∷◌, [], ap, length, refl}
 use Rattle.board.specs.Board.{book_of}
 use Rattle.streams.specs.Watched.{stream_of}
+use Rattle.live.specs.Paces.{Paced, ticking_of}
 use Rattle.live.specs.Sights.{sight_of}
-use Rattle.live.proofs.BoardLemmas.{finished, goes_on, more_seen, none_seen, printed_by, silent, stopped, stopped_none, then, turn_over}
+use Rattle.live.proofs.BoardLemmas.{finished, goes_on, more_seen, none_seen, printed_by, reads_clock, silent, stopped, stopped_none, then, turn_over}
 use Rattle.live.proofs.board_loop.turn.Goals as goal
 
 pub returns-then-between-clause-runs : goal.returns-then-between-clause-runs
 returns-then-between-clause-runs g c = λ turns.
     let told = g.W.Write.contents (stream_of c.args.out.now) in
     let seen = g.S.Shows.seen c.args.state.now in
-    let took = c.take_all.ensures c.args.sheet.now told seen turns (length (g.B.BookOf.content (book_of c.args.board.now))) in
-    finished _ (then took.1 (turn_over (none_seen seen _ _ c.if-between.true) (stopped_none _ _ told c.if-between.true)))
+    let pace = c.take_all.new.between.pace in
+    let took = c.take_all.ensures.goes c.args.sheet.now told seen turns (length (g.B.BookOf.content (book_of c.args.board.now))) in
+    let rested = ap (λ (p : Paced). p.ticking) c.end_turn.ensures in
+    finished _ (then took.1
+    (turn_over {ticking = ticking_of pace} c.take_all.ensures.looked pace.in_time rested (none_seen seen _ _ c.if-between.true) (stopped_none _ _ told c.if-between.true)))
 
 pub returns-in_err-print_news-clause-runs : goal.returns-in_err-print_news-clause-runs
 returns-in_err-print_news-clause-runs g c = λ turns.
     let told = g.W.Write.contents (stream_of c.args.out.now) in
     let seen = g.S.Shows.seen c.args.state.now in
-    let took = c.take_all.ensures c.args.sheet.now told seen turns (length (g.B.BookOf.content (book_of c.args.board.now))) in
-    stopped c.from_residual.result c.in_err-print_news.field-0.0 c.from_residual.ensures.1 refl refl refl (silent took.1)
+    let took = c.take_all.ensures.goes c.args.sheet.now told seen turns (length (g.B.BookOf.content (book_of c.args.board.now))) in
+    stopped _ c.from_residual.result c.in_err-print_news.field-0.0 c.from_residual.ensures.1 refl refl refl (silent took.1)
 
 pub returns-clause-runs : goal.returns-clause-runs
 returns-clause-runs g c = λ turns.
@@ -27,8 +31,12 @@ returns-clause-runs g c = λ turns.
     let seen = g.S.Shows.seen c.args.state.now in
     let sheet = c.args.sheet.now in
     let had = length (content (book_of c.args.board.now)) in
-    let took = c.take_all.ensures sheet told seen turns had in
+    let pace = c.take_all.new.between.pace in
+    let took = c.take_all.ensures.goes sheet told seen turns had in
     let old = c.len-before.ensures.entries ∙ ap (λ b. length (content b)) c.book.ensures in
     let text = printed_by _ _ _ _ old c.in_ok-print_news.ensures.text in
     let shows = c.show.ensures.seen ∙ ap (λ b. seen ++ sight_of sheet (innings b) (content b) ∷ []) c.book-2.ensures in
-    finished _ (then took.1 (turn_over (more_seen seen _ _ c.if-between.false shows) (goes_on _ _ told _ c.if-between.false text)))
+    let rested = ap (λ (p : Paced). p.ticking) c.end_turn.ensures in
+    finished _ (then took.1 (then (reads_clock {ticking = ticking_of pace} c.millis.result pace.in_time c.millis.ensures)
+    (turn_over {ticking = ticking_of pace} c.take_all.ensures.looked pace.in_time rested (more_seen seen _ _ c.if-between.false shows)
+    (goes_on _ _ told _ c.if-between.false text))))
