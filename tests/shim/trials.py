@@ -276,6 +276,7 @@ FILES = f"{TOP}/tests/rows/files"
 BOTH_SHEET, BOTH_A, BOTH_B = (f"{FILES}/{name}" for name in ("two-innings.toml", "four-of-a.votes", "four-of-b.votes"))
 READING = {
     "help": (["help", "desk"], b""),
+    "sheet": (["sheet", "--sheet", SHEET], b""),
     "check": (["check"], b"innings home\nin 1\nin 2\nball 7 bat 1\n"),
     "card": (["card", "--sheet", SHEET, "--from", f"{TOP}/examples/innings.txt", "--kind", "book"], b""),
     "export": (["export", "--sheet", SHEET, "--from", f"{TOP}/examples/innings.txt", "--kind", "book"], b""),

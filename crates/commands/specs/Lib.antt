@@ -1,5 +1,5 @@
 -- What the public calls claim: Check; Card and Export with PrintFault, and of both files BothFiles and Ends; Lines; Page;
--- Rows; Migrate.
+-- Rows; SheetWord; Migrate.
 pub mod BothFiles
 pub mod Card
 pub mod Check
@@ -10,3 +10,4 @@ pub mod Migrate
 pub mod Page
 pub mod PrintFault
 pub mod Rows
+pub mod SheetWord

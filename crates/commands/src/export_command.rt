@@ -11,7 +11,7 @@ use crate::printing::PrintFault;
 use books::{Source, book_from};
 use cards::MatchSheet;
 use export::{document_of, text_of};
-use setup::{NoSheet, StopFault, Stopped, open_input, output, short_sheet_bytes, told_sheet_of};
+use setup::{NoSheet, StopFault, Stopped, open_input, output, short_sheet_bytes, short_sheet_of};
 use std::alloc::Global;
 use std::io::{Read, Write};
 use streams::{Watched, WriteFailed, read_all};
@@ -60,7 +60,7 @@ pub fn sheet_and_document<'a>(
     path: &'a str,
 ) -> Result<(MatchSheet, Table), Stopped<'a>> {
     let text = short_sheet_bytes(rt, path)?;
-    let sheet = told_sheet_of(rt, path, text.as_slice())?;
+    let sheet = short_sheet_of(rt, path, text.as_slice())?;
     match document_of(rt.alloc(), text.as_slice()) {
         Ok(document) => Ok((sheet, document)),
         Err(why) => Err(Stopped::at(path, StopFault::from(NoSheet::from(why)))),

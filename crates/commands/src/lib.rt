@@ -1,5 +1,5 @@
-//! The commands of the program that read books, a module each: what a command does, over any reader, writer or disk, with a
-//! fault of its own; and how it is started on this machine.
+//! The commands of the program that read books or a sheet, a module each: what a command does, over any reader, writer or disk,
+//! with a fault of its own; and how it is started on this machine.
 #![tactic(auto)]
 
 mod both_files;
@@ -12,6 +12,7 @@ mod migrate;
 mod page_command;
 mod printing;
 mod rows_command;
+mod sheet_command;
 mod whole_files;
 
 pub use crate::both_files::{
@@ -26,3 +27,4 @@ pub use crate::migrate::{MigrateFault, migrate_run, start_migrate};
 pub use crate::page_command::{page_both_run, page_run, start_page, start_page_of_both};
 pub use crate::printing::PrintFault;
 pub use crate::rows_command::{rows_both_run, rows_run, start_rows, start_rows_of_both};
+pub use crate::sheet_command::{sheet_run, start_sheet};

@@ -1,7 +1,7 @@
 -- What the words of the program do, with one filled-in command each, as a scorer types it.
 use Rattle.std.specs.Prelude.{ℕ, ◌≤◌, List, [], ◌∷◌, ◌++◌, length, All, codes}
 use Rattle.help.specs.declared.subject.Subject.{Subject}
-use Rattle.help.specs.declared.subject.Subject.TheVariants.{Help, Desk, Board, Key, Check, Card, Export, Page, Lines, Compare, Match, Replay, Migrate}
+use Rattle.help.specs.declared.subject.Subject.TheVariants.{Help, Desk, Board, Key, Check, Card, Export, Page, Lines, Compare, Match, Replay, Migrate, Sheet}
 
 -- rows that a plain terminal shows at once: 24 of 80 columns at most
 abbrev pub FitsAScreen : List (List ℕ) → Type 0
@@ -20,6 +20,7 @@ rows Help =
     codes "  desk     a scorer's desk, which agrees what is typed with the other desk" ∷
     codes "  board    a board, which shows what both scorers have written" ∷
     codes "  key      writes a new key, for both desks and their boards" ∷
+    codes "  sheet    prints a match sheet, or all that is wrong with it" ∷
     codes "  check    reads lines, says which aren't taken and why, and shows the score" ∷
     codes "  card     prints the cards and the whole book of a match" ∷
     codes "  export   prints a match as JSON, for an archive" ∷
@@ -47,7 +48,10 @@ rows Desk =
     codes "  --at ADDR:PORT     its own address" ∷
     codes "  --other ADDR:PORT  the other desk's address" ∷
     codes "  --board ADDR:PORT  a board's address; up to four times, or left out" ∷
-    codes "  --key K            the file of the key, the same everywhere; or left out" ∷ []
+    codes "  --key K            the file of the key, the same everywhere; or left out" ∷
+    codes "" ∷
+    codes "Where sheet.toml has a table [stations], ./ground desk a begins desk A with it." ∷
+    codes "An option behind that wins." ∷ []
 rows Board =
     codes "board: shows what both desks have agreed. It needs no scorer, and fetches what" ∷
     codes "it lacks from the desks. To end it, close its window." ∷
@@ -63,7 +67,10 @@ rows Board =
     codes "  --text T            a file for its six lines; or left out" ∷
     codes "  --json J            a file of all that a page shows, as JSON; or left out" ∷
     codes "  --serve ADDR:PORT   where browsers find its page; or left out" ∷
-    codes "  --key K             the file of the key, the same everywhere; or left out" ∷ []
+    codes "  --key K             the file of the key, the same everywhere; or left out" ∷
+    codes "" ∷
+    codes "Where sheet.toml has a table [stations], ./ground board 1 begins the first board" ∷
+    codes "with it. An option behind that wins." ∷ []
 rows Key =
     codes "key: writes a new key to a file. Both desks and each board get this same file," ∷
     codes "and nobody else. Make a new one whenever a match is begun on new files." ∷
@@ -165,6 +172,13 @@ rows Migrate =
     codes "  --desk a|b  which desk's file it is" ∷
     codes "  --from O    the file of version 1" ∷
     codes "  --to N      the new file" ∷ []
+rows Sheet =
+    codes "sheet: prints a match sheet as it was read, or all that is wrong with it, a line" ∷
+    codes "each: where, and what. Look at it before the match." ∷
+    codes "" ∷
+    codes "  ./ground sheet --sheet sheet.toml" ∷
+    codes "" ∷
+    codes "  --sheet S  the sheet of the match" ∷ []
 
 -- what is told of a word
 abbrev pub help_on : Subject → List ℕ

@@ -20,6 +20,7 @@ pub enum Subject {
     Match,
     Replay,
     Migrate,
+    Sheet,
 }
 
 /// The word of the program that a text is.
@@ -40,6 +41,7 @@ pub fn subject_of(word: &str) -> Option<Subject>
         "match" => Some(Subject::Match),
         "replay" => Some(Subject::Replay),
         "migrate" => Some(Subject::Migrate),
+        "sheet" => Some(Subject::Sheet),
         _ => None,
     }
 }

@@ -11,6 +11,7 @@ ground: the book of a cricket match, kept by two scorers. Its words:
   desk     a scorer's desk, which agrees what is typed with the other desk
   board    a board, which shows what both scorers have written
   key      writes a new key, for both desks and their boards
+  sheet    prints a match sheet, or all that is wrong with it
   check    reads lines, says which aren't taken and why, and shows the score
   card     prints the cards and the whole book of a match
   export   prints a match as JSON, for an archive
@@ -41,6 +42,9 @@ the same command goes on where it was.
   --other ADDR:PORT  the other desk's address
   --board ADDR:PORT  a board's address; up to four times, or left out
   --key K            the file of the key, the same everywhere; or left out
+
+Where sheet.toml has a table [stations], ./ground desk a begins desk A with it.
+An option behind that wins.
 ";
 
 const BOARD: &str = "\
@@ -59,6 +63,9 @@ it lacks from the desks. To end it, close its window.
   --json J            a file of all that a page shows, as JSON; or left out
   --serve ADDR:PORT   where browsers find its page; or left out
   --key K             the file of the key, the same everywhere; or left out
+
+Where sheet.toml has a table [stations], ./ground board 1 begins the first board
+with it. An option behind that wins.
 ";
 
 const KEY: &str = "\
@@ -182,6 +189,15 @@ migrate: writes the votes of a desk's file of version 1 to a new file of version
   --to N      the new file
 ";
 
+const SHEET: &str = "\
+sheet: prints a match sheet as it was read, or all that is wrong with it, a line
+each: where, and what. Look at it before the match.
+
+  ./ground sheet --sheet sheet.toml
+
+  --sheet S  the sheet of the match
+";
+
 /// What is told of a word.
 pub fn help_on(subject: Subject) -> &'static str
     ensures { result.now ≡ texts.help_on subject }
@@ -200,5 +216,6 @@ pub fn help_on(subject: Subject) -> &'static str
         Subject::Match => MATCH,
         Subject::Replay => REPLAY,
         Subject::Migrate => MIGRATE,
+        Subject::Sheet => SHEET,
     }
 }

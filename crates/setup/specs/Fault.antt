@@ -18,7 +18,7 @@ use Rattle.machine.specs.declared.write_fault.Cause.TheVariants as causes
 use Rattle.setup.specs.declared.key_fault.KeyFault.{KeyFault}
 use Rattle.setup.specs.declared.key_fault.KeyFault.TheVariants as keys
 use Rattle.setup.specs.declared.fault.{StopFault.StopFault, TheConstants.TURNS}
-use Rattle.setup.specs.declared.fault.StopFault.TheVariants.{NoMemory, Read, Write, Sheet, Schedule, Votes, VotesNamed, BadVotes, NotOneHistory, FilesDiffer, Line, NotAgreed, Listen, Disk, FileMoved, LacksLines, File, Lost, CopyLost, Key}
+use Rattle.setup.specs.declared.fault.StopFault.TheVariants.{NoMemory, Read, Write, Sheet, SheetTold, Schedule, Votes, VotesNamed, BadVotes, NotOneHistory, FilesDiffer, Line, NotAgreed, Listen, Disk, FileMoved, LacksLines, File, Lost, CopyLost, Key}
 
 -- an input isn't read to its end
 abbrev pub of_input : InputFault → StopFault
@@ -54,6 +54,7 @@ is_file_refusal why = true
 abbrev pub is_refusal : StopFault → Bool
 is_refusal (Sheet SheetFault.NoMemory) = false
 is_refusal (Sheet why) = true
+is_refusal SheetTold = true
 is_refusal (Schedule ScheduleFault.NoMemory) = false
 is_refusal (Schedule why) = true
 is_refusal (Votes why) = is_file_refusal why
@@ -129,6 +130,7 @@ fault_line path NoMemory = codes "no memory\n"
 fault_line path Read = codes "cannot read " ++ path ++ codes "\n"
 fault_line path Write = codes "cannot write\n"
 fault_line path (Sheet why) = sheet_line why
+fault_line path SheetTold = codes ""
 fault_line path (Schedule why) = schedule_line why
 fault_line path (Votes why) = votes_line why
 fault_line path (VotesNamed why) = named_votes_line path why

@@ -29,6 +29,8 @@ pub enum StopFault {
     Write,
     /// The sheet is refused.
     Sheet(SheetFault),
+    /// The sheet is refused, and standard error was told of it in words.
+    SheetTold,
     /// The schedule is refused.
     Schedule(ScheduleFault),
     /// A votes file is refused.
@@ -83,7 +85,7 @@ impl StopFault {
             StopFault::Sheet(SheetFault::NoMemory) => false,
             StopFault::Votes(why) | StopFault::VotesNamed(why) => is_file_refusal(why),
             StopFault::Schedule(ScheduleFault::NoMemory) => false,
-            StopFault::Sheet(_) | StopFault::Schedule(_) => true,
+            StopFault::Sheet(_) | StopFault::SheetTold | StopFault::Schedule(_) => true,
             StopFault::BadVotes { .. } | StopFault::NotOneHistory { .. } => true,
             StopFault::FilesDiffer { .. } => true,
             StopFault::Line { .. } | StopFault::LacksLines => true,
@@ -323,6 +325,7 @@ pub fn print_fault<W: Write>(
         StopFault::Read => writeln!(out, "cannot read {path}"),
         StopFault::Write => writeln!(out, "cannot write"),
         StopFault::Sheet(why) => print_sheet_fault(out, why),
+        StopFault::SheetTold => write!(out, ""),
         StopFault::Schedule(why) => print_schedule_fault(out, why),
         StopFault::Votes(why) => print_votes_fault(out, why),
         StopFault::VotesNamed(why) => print_named_votes_fault(out, path, why),

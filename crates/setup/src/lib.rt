@@ -22,8 +22,10 @@ pub use crate::key_fault::KeyFault;
 pub use crate::opening::{Output, bytes_at, old_votes_at, open_input, output, printer, sheet_at};
 pub use crate::sealing::{Sealing, key_in};
 pub use crate::sheet::{NoSheet, sheet_run};
-pub use crate::short_sheet::{LONGEST_SHEET, short_sheet_at, short_sheet_bytes};
-pub use crate::twins::{told_sheet_at, told_sheet_of};
+pub use crate::short_sheet::{
+    LONGEST_SHEET, short_sheet_at, short_sheet_bytes, short_sheet_of, stations_at, tell_station,
+};
+pub use crate::twins::{tell_twins, told_sheet_at, told_sheet_of};
 pub use crate::votes_file::{
     VotesDisk, empty_disk, kept_votes, new_disk_at, renewed_disk, with_cause, with_copys_cause,
 };

@@ -45,7 +45,7 @@ fn tell_players<W: Write>(errors: &mut W, sheet: &MatchSheet, side: Side) -> io:
 }
 
 /// Tells of each name that two teams, or two players of a team, bear.
-fn tell_twins<W: Write>(errors: &mut W, sheet: &MatchSheet) -> io::Result<()> {
+pub fn tell_twins<W: Write>(errors: &mut W, sheet: &MatchSheet) -> io::Result<()> {
     let name = sheet.name(Side::Home);
     if name == sheet.name(Side::Away) {
         writeln!(errors, "sheet: two teams are called {name}")?;

@@ -5,17 +5,18 @@ use Rattle.clap.specs.declared.error.kind.ErrorKind.{ErrorKind}
 use Rattle.std.specs.declared.io.ErrorKind as host
 use Rattle.std.specs.declared.io.ErrorKind.TheVariants as hosts
 use Rattle.tasks.specs.declared.{task.Task.Task, words_fault.WordsFault.WordsFault}
-use Rattle.tasks.specs.declared.task.Task.TheVariants.{Check, Replay}
-use Rattle.tasks.specs.declared.words_fault.WordsFault.TheVariants.{NotUnderstood, NoMemory}
+use Rattle.tasks.specs.declared.task.Task.TheVariants.{BoardOfSheet, Check, Replay}
+use Rattle.tasks.specs.declared.words_fault.WordsFault.TheVariants.{NotUnderstood, WrongOption, NoMemory}
 
 -- what no words ask for: `check` in a match of two innings a side
 abbrev pub plain_task : Task
 plain_task = Check 2
 
--- the numbers of a task are in their ranges: 1 or 2 innings a side, at most 4 boards
+-- the numbers of a task are in their ranges: 1 or 2 innings a side, at most 4 boards, one of four
 abbrev pub IsTask : Task → Type 0
 IsTask (Check innings) = (1 ≤ innings) × (innings ≤ 2)
 IsTask (Replay sheet schedule boards is_old) = boards ≤ 4
+IsTask (BoardOfSheet sheet index named text json serve) = index ≤ 3
 IsTask task = ⊤
 
 -- why the words can't be had from the host: out of memory, or they are no text
@@ -31,6 +32,7 @@ of_parse kind = NotUnderstood
 -- what standard error is told
 abbrev pub words_text : WordsFault → List ℕ
 words_text NotUnderstood = codes "words not understood"
+words_text (WrongOption word) = codes "words not understood: " ++ word.now
 words_text NoMemory = codes "no memory"
 
 abbrev pub words_line : WordsFault → List ℕ

@@ -79,38 +79,57 @@ fn match_words<'a>(alloc: Global) -> Result<Command<'a>, AllocError> {
         .arg(drop)
 }
 
+/// The words of `sheet`.
+fn sheet_words<'a>(alloc: Global) -> Result<Command<'a>, AllocError> {
+    Command::new(alloc, "sheet").arg(wanted(alloc, "sheet"))
+}
+
 /// The words of `key`.
 fn key_words<'a>(alloc: Global) -> Result<Command<'a>, AllocError> {
     Command::new(alloc, "key").arg(wanted(alloc, "to"))
 }
 
+/// An option that may be left out, with any value.
+fn free<'a>(alloc: Global, name: &'a str) -> Arg<'a> {
+    Arg::new(alloc, name).long(name)
+}
+
+/// An option of a station, which has to be given unless the sheet's table stands for it.
+fn of_station<'a>(alloc: Global, name: &'a str) -> Result<Arg<'a>, AllocError> {
+    free(alloc, name).required_unless_present("which")
+}
+
+/// Which station of the sheet's table it is.
+fn which<'a>(alloc: Global) -> Arg<'a> {
+    Arg::new(alloc, "which").index(1)
+}
+
 /// The words of `desk`.
 fn desk_words<'a>(alloc: Global) -> Result<Command<'a>, AllocError> {
-    let board = Arg::new(alloc, "board")
-        .long("board")
-        .action(ArgAction::Append);
     Command::new(alloc, "desk")
-        .arg(wanted(alloc, "sheet"))?
-        .arg(wanted(alloc, "desk"))?
-        .arg(wanted(alloc, "file"))?
-        .arg(wanted(alloc, "at"))?
-        .arg(wanted(alloc, "other"))?
-        .arg(Arg::new(alloc, "copy").long("copy"))?
-        .arg(board)?
-        .arg(Arg::new(alloc, "key").long("key"))
+        .arg(which(alloc))?
+        .arg(of_station(alloc, "sheet")?)?
+        .arg(of_station(alloc, "desk")?)?
+        .arg(of_station(alloc, "file")?)?
+        .arg(of_station(alloc, "at")?)?
+        .arg(of_station(alloc, "other")?)?
+        .arg(free(alloc, "copy"))?
+        .arg(free(alloc, "board").action(ArgAction::Append))?
+        .arg(free(alloc, "key"))
 }
 
 /// The words of `board`.
 fn board_words<'a>(alloc: Global) -> Result<Command<'a>, AllocError> {
     Command::new(alloc, "board")
-        .arg(wanted(alloc, "sheet"))?
-        .arg(wanted(alloc, "at"))?
-        .arg(wanted(alloc, "desk-a"))?
-        .arg(wanted(alloc, "desk-b"))?
-        .arg(Arg::new(alloc, "text").long("text"))?
-        .arg(Arg::new(alloc, "json").long("json"))?
-        .arg(Arg::new(alloc, "serve").long("serve"))?
-        .arg(Arg::new(alloc, "key").long("key"))
+        .arg(which(alloc))?
+        .arg(of_station(alloc, "sheet")?)?
+        .arg(of_station(alloc, "at")?)?
+        .arg(of_station(alloc, "desk-a")?)?
+        .arg(of_station(alloc, "desk-b")?)?
+        .arg(free(alloc, "text"))?
+        .arg(free(alloc, "json"))?
+        .arg(free(alloc, "serve"))?
+        .arg(free(alloc, "key"))
 }
 
 /// All the program's words.
@@ -125,6 +144,7 @@ pub fn program_words<'a>(alloc: Global) -> Result<Command<'a>, AllocError> {
         .subcommand(compare_words(alloc)?)?
         .subcommand(migrate_words(alloc)?)?
         .subcommand(match_words(alloc)?)?
+        .subcommand(sheet_words(alloc)?)?
         .subcommand(key_words(alloc)?)?
         .subcommand(desk_words(alloc)?)?
         .subcommand(board_words(alloc)?)

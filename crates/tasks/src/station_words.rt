@@ -1,16 +1,20 @@
 //! What the words of `desk` and `board` ask for.
 
-ghost use Rattle.std.specs.Prelude.{IfSome};
+ghost use Rattle.std.specs.Prelude.{◌≤◌, IfSome};
 ghost use Rattle.tasks.specs.Words.{IsTask};
 
 use crate::task::Task;
 use crate::words::desk_in;
 use clap::ArgMatches;
 use machine::{Address, addresses_in};
+use station_table::{BoardOptions, DeskOptions, MOST_BOARDS};
 use std::net::SocketAddr;
 
-/// A desk's task.
-pub fn desk_task<'a>(words: &ArgMatches<'a>) -> Option<Task<'a>>
+/// The sheet of a station whose words name none: that of the folder.
+const SHEET: &str = "sheet.toml";
+
+/// The task of a desk whose options are all named.
+fn full_desk_task<'a>(words: &ArgMatches<'a>) -> Option<Task<'a>>
     ensures { IfSome result IsTask }
 {
     let at = words.get_str("at")?;
@@ -46,8 +50,8 @@ fn served_in<'a>(words: &ArgMatches<'a>) -> Option<Option<Address<'a>>> {
     }
 }
 
-/// A board's task.
-pub fn board_task<'a>(words: &ArgMatches<'a>) -> Option<Task<'a>>
+/// The task of a board whose options are all named.
+fn full_board_task<'a>(words: &ArgMatches<'a>) -> Option<Task<'a>>
     ensures { IfSome result IsTask }
 {
     let other = words.get_str("desk-b")?;
@@ -61,4 +65,105 @@ pub fn board_task<'a>(words: &ArgMatches<'a>) -> Option<Task<'a>>
         serve: served_in(words)?,
         key: words.get_str("key"),
     })
+}
+
+/// Whether a text is an address, if there is one.
+fn is_address(text: Option<&str>) -> bool {
+    match text {
+        Some(text) => text.parse::<SocketAddr>().is_ok(),
+        None => true,
+    }
+}
+
+/// The boards that are named, if they are addresses and not too many.
+fn boards_in<'a>(words: &ArgMatches<'a>) -> Option<[Option<&'a str>; MOST_BOARDS]> {
+    let Some(texts) = words.get_strs("board") else {
+        return Some([None; MOST_BOARDS]);
+    };
+    let boards = [
+        texts.get(0).copied(),
+        texts.get(1).copied(),
+        texts.get(2).copied(),
+        texts.get(3).copied(),
+    ];
+    let are_fine = boards.iter().all(|text| is_address(*text));
+    (are_fine && texts.len() <= MOST_BOARDS).then_some(boards)
+}
+
+/// The task of a desk of the sheet's table, by its letter.
+fn desk_of_sheet<'a>(letter: &str, words: &ArgMatches<'a>) -> Option<Task<'a>>
+    ensures { IfSome result IsTask }
+{
+    let named = DeskOptions {
+        file: words.get_str("file"),
+        copy: words.get_str("copy"),
+        key: words.get_str("key"),
+        at: words.get_str("at"),
+        other: words.get_str("other"),
+        boards: boards_in(words)?,
+    };
+    if words.get_str("desk").is_some() || !is_address(named.at) || !is_address(named.other) {
+        return None;
+    }
+    Some(Task::DeskOfSheet {
+        sheet: words.get_str("sheet").unwrap_or(SHEET),
+        desk: desk_in(letter)?,
+        named,
+    })
+}
+
+/// A desk's task.
+pub fn desk_task<'a>(words: &ArgMatches<'a>) -> Option<Task<'a>>
+    ensures { IfSome result IsTask }
+{
+    match words.get_str("which") {
+        Some(letter) => desk_of_sheet(letter, words),
+        None => full_desk_task(words),
+    }
+}
+
+/// The index of the board of a number, from 1 to 4.
+fn index_in(number: &str) -> Option<u8>
+    ensures { IfSome result (λ index. index ≤ 3) }
+{
+    match number {
+        "1" => Some(0),
+        "2" => Some(1),
+        "3" => Some(2),
+        "4" => Some(3),
+        _ => None,
+    }
+}
+
+/// The task of a board of the sheet's table, by its number.
+fn board_of_sheet<'a>(number: &str, words: &ArgMatches<'a>) -> Option<Task<'a>>
+    ensures { IfSome result IsTask }
+{
+    let named = BoardOptions {
+        at: words.get_str("at"),
+        a: words.get_str("desk-a"),
+        b: words.get_str("desk-b"),
+        key: words.get_str("key"),
+    };
+    if !is_address(named.at) || !is_address(named.a) || !is_address(named.b) {
+        return None;
+    }
+    Some(Task::BoardOfSheet {
+        sheet: words.get_str("sheet").unwrap_or(SHEET),
+        index: index_in(number)?,
+        named,
+        text: words.get_str("text"),
+        json: words.get_str("json"),
+        serve: served_in(words)?,
+    })
+}
+
+/// A board's task.
+pub fn board_task<'a>(words: &ArgMatches<'a>) -> Option<Task<'a>>
+    ensures { IfSome result IsTask }
+{
+    match words.get_str("which") {
+        Some(number) => board_of_sheet(number, words),
+        None => full_board_task(words),
+    }
 }

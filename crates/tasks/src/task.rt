@@ -4,6 +4,7 @@ use agree_core::DeskId;
 use books::Source;
 use delivery_rows::Table;
 use machine::{Address, MOST_PEERS};
+use station_table::{BoardOptions, DeskOptions};
 use std::net::SocketAddr;
 
 /// What the program is asked to do.
@@ -104,6 +105,10 @@ pub enum Task<'a> {
         folder: &'a str,
         drop: u16,
     },
+    /// To print a sheet as it was read, or all that is wrong with it.
+    Sheet {
+        sheet: &'a str,
+    },
     /// To write a new key to a file.
     Key {
         to: &'a str,
@@ -129,5 +134,20 @@ pub enum Task<'a> {
         json: Option<&'a str>,
         serve: Option<Address<'a>>,
         key: Option<&'a str>,
+    },
+    /// To keep a scorer's desk with what its words name, and what they don't from the sheet's table of stations.
+    DeskOfSheet {
+        sheet: &'a str,
+        desk: DeskId,
+        named: DeskOptions<'a>,
+    },
+    /// To keep a board of the sheet's table, counted from 0, likewise.
+    BoardOfSheet {
+        sheet: &'a str,
+        index: u8,
+        named: BoardOptions<'a>,
+        text: Option<&'a str>,
+        json: Option<&'a str>,
+        serve: Option<Address<'a>>,
     },
 }

@@ -12,28 +12,31 @@ use thiserror::Error;
 
 /// Why the words on the command line ask for nothing.
 #[derive(Clone, Copy, Debug, PartialEq, Eq, Error)]
-pub enum WordsFault {
+pub enum WordsFault<'a> {
     /// They are none of the program's forms.
     NotUnderstood,
+    /// This is no option of theirs.
+    WrongOption(&'a str),
     /// Memory was refused.
     NoMemory,
 }
 
-impl fmt::Display for WordsFault {
+impl fmt::Display for WordsFault<'_> {
     ghost use Rattle.tasks.specs.Words.{words_text};
 
     ghost output = { λ fault. Some (words_text fault) };
 
     /// Writes what standard error is told of it.
     fn fmt<W: fmt::Write>(&self, f: &mut fmt::Formatter<W>) -> fmt::Result {
-        f.write_str(match self {
-            WordsFault::NotUnderstood => "words not understood",
-            WordsFault::NoMemory => "no memory",
-        })
+        match self {
+            WordsFault::NotUnderstood => f.write_str("words not understood"),
+            WordsFault::WrongOption(word) => write!(f, "words not understood: {word}"),
+            WordsFault::NoMemory => f.write_str("no memory"),
+        }
     }
 }
 
-impl From<AllocError> for WordsFault {
+impl From<AllocError> for WordsFault<'_> {
     ghost use Rattle.tasks.specs.declared.words_fault.WordsFault.TheVariants.{NoMemory};
 
     ghost from_gives = { λ _ fault. fault ≡ NoMemory };
@@ -43,7 +46,7 @@ impl From<AllocError> for WordsFault {
     }
 }
 
-impl From<io::Error> for WordsFault {
+impl From<io::Error> for WordsFault<'_> {
     ghost use Rattle.std.specs.IoError.{error_kind};
     ghost use Rattle.tasks.specs.Words.{of_host};
 
@@ -58,7 +61,7 @@ impl From<io::Error> for WordsFault {
     }
 }
 
-impl From<clap::Error> for WordsFault {
+impl From<clap::Error> for WordsFault<'_> {
     ghost use Rattle.clap.specs.Values.{kind_of};
     ghost use Rattle.tasks.specs.Words.{of_parse};
 
@@ -76,7 +79,7 @@ impl From<clap::Error> for WordsFault {
 /// Prints the line that standard error has of a fault of the words.
 pub fn print_words_fault<W: Write>(
     out: &mut Watched<W>,
-    fault: WordsFault,
+    fault: WordsFault<'_>,
 ) -> Result<(), WriteFailed>
     ensures text { OnOk result (Prints W.contents out.old out.new (words_line fault)) }
     ensures failed { TellsFailure result out.old out.new }

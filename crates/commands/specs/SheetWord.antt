@@ -1,0 +1,14 @@
+-- What `sheet` prints: the sheet as it was read, where nothing is wrong with it, or all that is.
+use Rattle.std.specs.Prelude.{ℕ, Bool, true, false, List, [], Option, Ok}
+use Rattle.cards.specs.Reading.{IsReading}
+use Rattle.cards.specs.Sheet.{Sheet}
+use Rattle.sheet_check.specs.Reports.{IsReport}
+use Rattle.sheet_check.specs.Shown.{shown_sheet}
+use Rattle.streams.specs.declared.watched.Watched.{Watched}
+use Rattle.streams.specs.Watched.{Prints}
+
+-- for a sheet of these bytes, and whether something is wrong with it
+abbrev pub PrintsSheet : {S : Type 0} → (S → Option (List ℕ)) → Watched S → Watched S → List ℕ → Bool → Type 0
+PrintsSheet contents old new bytes false =
+    IsReport bytes [] × ((sheet : Sheet) × (IsReading bytes (Ok sheet) × Prints contents old new (shown_sheet sheet)))
+PrintsSheet contents old new bytes true = (report : List ℕ) × (IsReport bytes report × Prints contents old new report)

@@ -1,0 +1,85 @@
+//! `ground sheet`: a match sheet as it was read, or all that is wrong with it.
+
+ghost use Rattle.std.specs.Prelude.{IfOk, OnOk};
+ghost use Rattle.sheet_check.specs.Shown.{shown_sheet};
+ghost use Rattle.streams.specs.Watched.{IsHandedOn, Prints, TellsFailure};
+ghost use Rattle.commands.specs.SheetWord.{PrintsSheet};
+ghost use Rattle.setup.specs.Ends.{EndsWriting};
+
+use crate::printing::PrintFault;
+use cards::{MatchSheet, SheetFault, read_sheet};
+use setup::{StopFault, Stopped, output, short_sheet_bytes, tell_twins};
+use sheet_check::{report_of, shown_sheet};
+use std::alloc::Global;
+use std::io::Write;
+use streams::{Watched, WriteFailed};
+
+/// Prints a text, and hands it on.
+fn print_whole<W: Write>(text: &str, out: &mut Watched<W>) -> Result<(), WriteFailed>
+    ensures text { OnOk result (Prints W.contents out.old out.new text.now) }
+    ensures failed { TellsFailure result out.old out.new }
+    ensures handed_on { OnOk result (IsHandedOn out.new) }
+{
+    write!(out, "{text}")?;
+    out.flush()
+}
+
+/// Prints a text, or answers that it can't be printed.
+fn printed<W: Write>(text: &str, writer: &mut Watched<W>) -> Result<(), PrintFault>
+    ensures text { OnOk result (Prints W.contents writer.old writer.new text.now) }
+    ensures writes { EndsWriting PrintFault.Write result writer.old writer.new }
+{
+    match print_whole(text, writer) {
+        Ok(()) => Ok(()),
+        Err(_) => Err(PrintFault::Write),
+    }
+}
+
+/// Prints a sheet as it was read.
+fn print_sheet<W: Write>(
+    alloc: Global,
+    sheet: &MatchSheet,
+    writer: &mut Watched<W>,
+) -> Result<(), PrintFault>
+    ensures text { OnOk result (Prints W.contents writer.old writer.new (shown_sheet sheet.now)) }
+    ensures writes { EndsWriting PrintFault.Write result writer.old writer.new }
+{
+    let text = shown_sheet(alloc, sheet)?;
+    printed(text.as_str(), writer)
+}
+
+/// `ground sheet`: prints the sheet of a file's bytes as it was read, or, where something is wrong with it or with its table
+/// of stations, all that is. It answers whether something is.
+pub fn sheet_run<W: Write>(
+    alloc: Global,
+    text: &[u8],
+    writer: &mut Watched<W>,
+) -> Result<bool, PrintFault>
+    ensures written { IfOk result (λ refused. PrintsSheet W.contents writer.old writer.new text.now refused) }
+    ensures writes { EndsWriting PrintFault.Write result writer.old writer.new }
+{
+    let report = report_of(alloc, text)?;
+    match read_sheet(alloc, text) {
+        Ok(sheet) if report.is_empty() => {
+            print_sheet(alloc, &sheet, writer)?;
+            Ok(false)
+        }
+        Err(SheetFault::NoMemory) => Err(PrintFault::NoMemory),
+        _ => {
+            printed(report.as_str(), writer)?;
+            Ok(true)
+        }
+    }
+}
+
+/// Runs `sheet` over a file. Standard error is told of each name that two bear, where the sheet can be read.
+#[inline(never)]
+pub fn start_sheet<'a>(rt: &HostRuntime, sheet: &'a str) -> Result<bool, Stopped<'a>> {
+    let text = short_sheet_bytes(rt, sheet)?;
+    let mut writer = output(rt)?;
+    let answer = sheet_run(rt.alloc(), text.as_slice(), &mut writer);
+    if let Ok(sheet) = read_sheet(rt.alloc(), text.as_slice()) {
+        let _ = tell_twins(&mut rt.stderr(), &sheet);
+    }
+    answer.map_err(|fault| Stopped::at("-", StopFault::from(fault)))
+}

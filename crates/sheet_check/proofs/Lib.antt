@@ -1,0 +1,4 @@
+-- Lemmas that several proofs share.
+pub mod FirstFaults
+pub mod Items
+pub mod Puts

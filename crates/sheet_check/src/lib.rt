@@ -1,0 +1,16 @@
+//! What a match sheet has, and all that is wrong with one, in a scorer's words.
+#![tactic(auto)]
+
+mod faults;
+mod laws;
+mod letters;
+mod putting;
+mod report;
+mod shown;
+mod sides;
+mod stations;
+
+pub use laws::{fine_sheets_have_no_fault, first_fault_is_the_number};
+pub use putting::Fault;
+pub use report::{faults_of, first_line, report_of};
+pub use shown::shown_sheet;

@@ -1,0 +1,153 @@
+//! A desk or a board that begins with its sheet's table of stations.
+
+use agree_core::DeskId;
+use board_command::start_board;
+use cards::SheetFault;
+use desk_command::start_desk;
+use machine::{Address, MOST_PEERS, addresses_in};
+use setup::{Stopped, tell_station};
+use station_table::{BoardOptions, DeskOptions, MOST_BOARDS, board_begun, desk_begun};
+use std::net::SocketAddr;
+use toml::Table;
+
+/// Where a station listens, and the addresses of its peers.
+type Addresses<'a> = (Address<'a>, [Option<SocketAddr>; MOST_PEERS]);
+
+/// What is told of a text that should be an address.
+const NO_ADDRESS: &str = "isn't an address with a port, such as 192.168.1.20:4711";
+
+/// What is told of addresses of which each is one.
+const NO_PEERS: &str = "these addresses are of two kinds, or one is nobody's";
+
+/// Whether a text is an address, if there is one.
+fn is_address(text: Option<&str>) -> bool {
+    match text {
+        Some(text) => text.parse::<SocketAddr>().is_ok(),
+        None => true,
+    }
+}
+
+/// A text that a station can't begin without, which has this place in the sheet.
+fn present<'a>(
+    rt: &HostRuntime,
+    sheet: &'a str,
+    place: &str,
+    text: Option<&'a str>,
+) -> Result<&'a str, Stopped<'a>> {
+    match text {
+        Some(text) => Ok(text),
+        None => Err(tell_station(rt, sheet, SheetFault::MissingKey, place, "isn't there")),
+    }
+}
+
+/// An address, likewise.
+fn address<'a>(
+    rt: &HostRuntime,
+    sheet: &'a str,
+    place: &str,
+    text: Option<&'a str>,
+) -> Result<&'a str, Stopped<'a>> {
+    let text = present(rt, sheet, place, text)?;
+    if is_address(Some(text)) {
+        Ok(text)
+    } else {
+        Err(tell_station(rt, sheet, SheetFault::BadText, place, NO_ADDRESS))
+    }
+}
+
+/// The addresses of a desk and of its peers, of which there are so many boards.
+fn desk_addresses<'a>(
+    at: &'a str,
+    other: &str,
+    boards: [Option<&str>; MOST_BOARDS],
+) -> Option<Addresses<'a>> {
+    match boards {
+        [None, ..] => addresses_in(at, other, &[]),
+        [Some(first), None, ..] => addresses_in(at, other, &[first]),
+        [Some(first), Some(second), None, _] => addresses_in(at, other, &[first, second]),
+        [Some(first), Some(second), Some(third), None] => {
+            addresses_in(at, other, &[first, second, third])
+        }
+        [Some(first), Some(second), Some(third), Some(fourth)] => {
+            addresses_in(at, other, &[first, second, third, fourth])
+        }
+    }
+}
+
+/// The addresses, or that there are none such.
+fn found<'a>(
+    rt: &HostRuntime,
+    sheet: &'a str,
+    addresses: Option<Addresses<'a>>,
+) -> Result<Addresses<'a>, Stopped<'a>> {
+    match addresses {
+        Some(addresses) => Ok(addresses),
+        None => Err(tell_station(rt, sheet, SheetFault::BadText, "stations", NO_PEERS)),
+    }
+}
+
+/// The places of a desk's address in the sheet, and of the other's.
+fn places(desk: DeskId) -> (&'static str, &'static str) {
+    match desk {
+        DeskId::A => ("stations, a", "stations, b"),
+        DeskId::B => ("stations, b", "stations, a"),
+    }
+}
+
+/// The addresses with which a desk begins.
+fn addresses_of<'a>(
+    rt: &HostRuntime,
+    sheet: &'a str,
+    desk: DeskId,
+    begun: DeskOptions<'a>,
+) -> Result<Addresses<'a>, Stopped<'a>> {
+    let (own, others) = places(desk);
+    let at = address(rt, sheet, own, begun.at)?;
+    let other = address(rt, sheet, others, begun.other)?;
+    if !begun.boards.iter().all(|board| is_address(*board)) {
+        return Err(tell_station(
+            rt,
+            sheet,
+            SheetFault::BadText,
+            "stations, boards",
+            NO_ADDRESS,
+        ));
+    }
+    found(rt, sheet, desk_addresses(at, other, begun.boards))
+}
+
+/// `ground desk` with a letter: keeps that desk with what its words name, and for what they don't with what its sheet's
+/// table of stations has.
+#[inline(never)]
+pub fn start_desk_of<'a>(
+    rt: &HostRuntime,
+    sheet: &'a str,
+    desk: DeskId,
+    named: DeskOptions<'a>,
+    table: &'a Table,
+) -> Result<bool, Stopped<'a>> {
+    let begun = desk_begun(desk, named, table);
+    let (at, peers) = addresses_of(rt, sheet, desk, begun)?;
+    let file = present(rt, sheet, "stations, votes", begun.file)?;
+    start_desk(rt, sheet, desk, file, begun.copy, at, peers, begun.key)
+}
+
+/// `ground board` with a number: keeps that board of the table, in the same way.
+#[inline(never)]
+pub fn start_board_of<'a>(
+    rt: &'a HostRuntime,
+    sheet: &'a str,
+    index: u8,
+    named: BoardOptions<'a>,
+    text: Option<&'a str>,
+    json: Option<&'a str>,
+    serve: Option<Address<'a>>,
+    table: &'a Table,
+) -> Result<bool, Stopped<'a>> {
+    let begun = board_begun(usize::from(index), named, table);
+    let at = address(rt, sheet, "stations, boards", begun.at)?;
+    let a = address(rt, sheet, "stations, a", begun.a)?;
+    let b = address(rt, sheet, "stations, b", begun.b)?;
+    let (at, peers) = found(rt, sheet, addresses_in(at, a, &[b]))?;
+    start_board(rt, sheet, at, peers, text, json, serve, begun.key)
+}

@@ -1,0 +1,94 @@
+-- What a station begins with: what its words name, and for what they don't what the sheet's table of stations has. ms is the sheet's own
+-- table.
+use Rattle.std.specs.Prelude.{ℕ, List, [], ◌∷◌, Option, Some, None, option_map, codes, map}
+use Rattle.agree_core.specs.declared.messages.DeskId.{DeskId}
+use Rattle.agree_core.specs.declared.messages.DeskId.TheVariants.{A, B}
+use Rattle.toml.specs.Data.{Members}
+use Rattle.station_table.specs.Stations.{board_in, text_in}
+use Rattle.station_table.specs.declared.{board_options.BoardOptions.BoardOptions, desk_options.DeskOptions.DeskOptions}
+
+-- what is named first, or else the other
+abbrev pub or_else : Option (List ℕ) → Option (List ℕ) → Option (List ℕ)
+or_else None other = other
+or_else (Some text) other = Some text
+
+-- ---- a desk
+
+pub record Desk : Type 0 where
+  -- the files of its votes, of their copy, and of the key
+  pub file : Option (List ℕ)
+  pub copy : Option (List ℕ)
+  pub key : Option (List ℕ)
+  -- its address, the other desk's, and those of four boards at most
+  pub at : Option (List ℕ)
+  pub other : Option (List ℕ)
+  pub boards : List (Option (List ℕ))
+
+-- the key of a desk's address, and of the other's; the file of its votes, where nothing else is named
+abbrev pub own : DeskId → List ℕ
+own A = codes "a"
+own B = codes "b"
+
+abbrev pub others : DeskId → List ℕ
+others A = codes "b"
+others B = codes "a"
+
+abbrev pub own_file : DeskId → List ℕ
+own_file A = codes "a.votes"
+own_file B = codes "b.votes"
+
+-- the boards that are named, if one is, or else these
+abbrev pub boards_or : List (Option (List ℕ)) → List (Option (List ℕ)) → List (Option (List ℕ))
+boards_or (Some first ∷ more) others = Some first ∷ more
+boards_or named others = others
+
+abbrev pub boards_in : Members → List (Option (List ℕ))
+boards_in ms = board_in 0 ms ∷ board_in 1 ms ∷ board_in 2 ms ∷ board_in 3 ms ∷ []
+
+abbrev pub begun_with : DeskId → Desk → Members → Desk
+begun_with desk named ms = record {
+  file = or_else named.file (or_else (text_in (codes "votes") ms) (Some (own_file desk)));
+  copy = or_else named.copy (text_in (codes "copy") ms);
+  key = or_else named.key (text_in (codes "key") ms);
+  at = or_else named.at (text_in (own desk) ms);
+  other = or_else named.other (text_in (others desk) ms);
+  boards = boards_or named.boards (boards_in ms);
+}
+
+-- ---- a board
+
+pub record Board : Type 0 where
+  -- its address, both desks', and the file of the key
+  pub at : Option (List ℕ)
+  pub a : Option (List ℕ)
+  pub b : Option (List ℕ)
+  pub key : Option (List ℕ)
+
+-- the board of this index, counted from 0
+abbrev pub board_begun_with : ℕ → Board → Members → Board
+board_begun_with n named ms = record {
+  at = or_else named.at (board_in n ms);
+  a = or_else named.a (text_in (codes "a") ms);
+  b = or_else named.b (text_in (codes "b") ms);
+  key = or_else named.key (text_in (codes "key") ms);
+}
+
+-- ---- the same of what the program keeps
+
+abbrev pub desk_of : DeskOptions → Desk
+desk_of o = record {
+  file = option_map (λ text. text.now) o.file;
+  copy = option_map (λ text. text.now) o.copy;
+  key = option_map (λ text. text.now) o.key;
+  at = option_map (λ text. text.now) o.at;
+  other = option_map (λ text. text.now) o.other;
+  boards = map (option_map (λ text. text.now)) o.boards;
+}
+
+abbrev pub board_of : BoardOptions → Board
+board_of o = record {
+  at = option_map (λ text. text.now) o.at;
+  a = option_map (λ text. text.now) o.a;
+  b = option_map (λ text. text.now) o.b;
+  key = option_map (λ text. text.now) o.key;
+}

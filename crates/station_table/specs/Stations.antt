@@ -1,0 +1,19 @@
+-- What a sheet's table `[stations]` has. ms is the sheet's own table.
+use Rattle.std.specs.Prelude.{◌≡◌, ◌≢◌, ℕ, List, Option, option_and_then, codes}
+use Rattle.toml.specs.Data.{Data, Members, at as item_at, get_member, as_str, as_table}
+
+-- the value at a key of that table
+abbrev pub value_in : List ℕ → Members → Option Data
+value_in key ms = option_and_then (get_member key) (option_and_then as_table (get_member (codes "stations") ms))
+
+-- where it is a text
+abbrev pub text_in : List ℕ → Members → Option (List ℕ)
+text_in key ms = option_and_then as_str (value_in key ms)
+
+-- the address of a board, counted from 0
+abbrev pub board_in : ℕ → Members → Option (List ℕ)
+board_in n ms = option_and_then as_str (option_and_then (item_at n) (value_in (codes "boards") ms))
+
+-- two sheets' tables with one value at each other key
+abbrev pub DifferInStations : Members → Members → Type 0
+DifferInStations ms ns = (key : List ℕ) → key ≢ codes "stations" → get_member key ms ≡ get_member key ns

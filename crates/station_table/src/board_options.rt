@@ -1,0 +1,30 @@
+//! What a board begins with.
+
+ghost use Rattle.std.specs.Prelude.{◌≡◌};
+ghost use Rattle.toml.specs.View.{table_view};
+ghost use Rattle.station_table.specs.Begun as begun;
+
+use crate::lookup::{board_in, or_else, text_in};
+use toml::Table;
+
+/// What a board's words name, or what it begins with: its address, both desks', and the file of the key.
+#[derive(Clone, Copy, Debug, PartialEq, Eq)]
+pub struct BoardOptions<'a> {
+    pub at: Option<&'a str>,
+    pub a: Option<&'a str>,
+    pub b: Option<&'a str>,
+    pub key: Option<&'a str>,
+}
+
+/// What the board of this index, counted from 0, begins with: what its words name, and for what they don't what its sheet's
+/// table of stations has.
+pub fn board_begun<'a>(index: usize, named: BoardOptions<'a>, sheet: &'a Table) -> BoardOptions<'a>
+    ensures { begun.board_of result ≡ begun.board_begun_with index (begun.board_of named.entry) (table_view sheet.now) }
+{
+    BoardOptions {
+        at: or_else(named.at, board_in(sheet, index)),
+        a: or_else(named.a, text_in(sheet, "a")),
+        b: or_else(named.b, text_in(sheet, "b")),
+        key: or_else(named.key, text_in(sheet, "key")),
+    }
+}

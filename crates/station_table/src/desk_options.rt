@@ -1,0 +1,88 @@
+//! What a desk begins with.
+
+ghost use Rattle.std.specs.Prelude.{◌≡◌, map, option_map};
+ghost use Rattle.toml.specs.View.{table_view};
+ghost use Rattle.station_table.specs.Begun as begun;
+
+use crate::lookup::{board_in, or_else, text_in};
+use agree_core::DeskId;
+use toml::Table;
+
+/// How many boards a desk has at most.
+pub const MOST_BOARDS: usize = 4;
+
+/// What a desk's words name, or what it begins with: the files of its votes, of their copy and of the key; its address, the
+/// other desk's, and the boards'.
+#[derive(Clone, Copy, Debug, PartialEq, Eq)]
+pub struct DeskOptions<'a> {
+    pub file: Option<&'a str>,
+    pub copy: Option<&'a str>,
+    pub key: Option<&'a str>,
+    pub at: Option<&'a str>,
+    pub other: Option<&'a str>,
+    pub boards: [Option<&'a str>; MOST_BOARDS],
+}
+
+/// The key of a desk's address.
+fn own(desk: DeskId) -> &'static str
+    ensures { result.now ≡ begun.own desk }
+{
+    match desk {
+        DeskId::A => "a",
+        DeskId::B => "b",
+    }
+}
+
+/// The key of the other's.
+fn others(desk: DeskId) -> &'static str
+    ensures { result.now ≡ begun.others desk }
+{
+    match desk {
+        DeskId::A => "b",
+        DeskId::B => "a",
+    }
+}
+
+/// The file of a desk's votes, where nothing else is named.
+fn own_file(desk: DeskId) -> &'static str
+    ensures { result.now ≡ begun.own_file desk }
+{
+    match desk {
+        DeskId::A => "a.votes",
+        DeskId::B => "b.votes",
+    }
+}
+
+/// The boards that are named, if one is, or else the table's.
+fn boards_or<'a>(
+    named: [Option<&'a str>; MOST_BOARDS],
+    sheet: &'a Table,
+) -> [Option<&'a str>; MOST_BOARDS]
+    ensures { map (option_map (λ text. text.now)) result
+        ≡ begun.boards_or (map (option_map (λ text. text.now)) named.entry) (begun.boards_in (table_view sheet.now)) }
+{
+    if named[0].is_some() {
+        return named;
+    }
+    [
+        board_in(sheet, 0),
+        board_in(sheet, 1),
+        board_in(sheet, 2),
+        board_in(sheet, 3),
+    ]
+}
+
+/// What a desk begins with: what its words name, and for what they don't what its sheet's table of stations has.
+pub fn desk_begun<'a>(desk: DeskId, named: DeskOptions<'a>, sheet: &'a Table) -> DeskOptions<'a>
+    ensures { begun.desk_of result ≡ begun.begun_with desk (begun.desk_of named.entry) (table_view sheet.now) }
+{
+    let file = or_else(text_in(sheet, "votes"), Some(own_file(desk)));
+    DeskOptions {
+        file: or_else(named.file, file),
+        copy: or_else(named.copy, text_in(sheet, "copy")),
+        key: or_else(named.key, text_in(sheet, "key")),
+        at: or_else(named.at, text_in(sheet, own(desk))),
+        other: or_else(named.other, text_in(sheet, others(desk))),
+        boards: boards_or(named.boards, sheet),
+    }
+}
