@@ -107,15 +107,6 @@ fn print_meanings<W: Write>(out: &mut Watched<W>, letter: Letter) -> Result<(), 
     }
 }
 
-fn way_text(how: Unaided) -> &'static str
-    ensures { result.now ≡ questions.way_text how }
-{
-    match how {
-        Unaided::Bowled => "bowled",
-        Unaided::Lbw => "lbw",
-    }
-}
-
 /// Prints that no fielder has a part in this way of being out.
 fn print_no_fielder<W: Write>(
     out: &mut Watched<W>,
@@ -126,8 +117,10 @@ fn print_no_fielder<W: Write>(
         (questions.way_text how ++ codes " has no fielder: " ++ name.now ++ codes " bowls?\n")) }
     ensures failed { OnErr result (has_failed out.new ≡ true) }
 {
-    let way = way_text(how);
-    writeln!(out, "{way} has no fielder: {name} bowls?")
+    match how {
+        Unaided::Bowled => writeln!(out, "bowled has no fielder: {name} bowls?"),
+        Unaided::Lbw => writeln!(out, "lbw has no fielder: {name} bowls?"),
+    }
 }
 
 /// Prints what isn't clear in a line.
