@@ -1,4 +1,4 @@
--- Rows behind a text, and what stands for the elements of a list.
+-- Cells behind those of a row, rows behind a text, and what stands for the elements of a list.
 use Rattle.std.proofs.Common.{◌≡◌, ℕ, ◌+◌, ◌≤◌, List, [], ◌++◌, length, take, Some, Result, sym, ◌∙◌, add-one, append-nil, append_assoc}
 use Rattle.std.specs.Prelude.{OnOk, slice_get}
 use Rattle.std.specs.List.{flat_map}
@@ -10,6 +10,14 @@ use Rattle.std.proofs.lemmas.Result.{on_ok_weaker}
 use Rattle.csv.specs.Writing.{default_writer, row_text}
 use Rattle.json_fields.specs.Values.{up_to}
 use Rattle.delivery_rows.specs.Cells.{rows_text}
+
+-- what is put behind what was put before
+pub adds : {X : Type 0} (old mid new xs ys : List X) → mid ≡ old ++ xs → new ≡ mid ++ ys → new ≡ old ++ (xs ++ ys)
+adds old mid new xs ys a b = rw (b, a) (append_assoc old xs ys)
+
+pub ends : {X T E : Type 0} (r : Result T E) (old mid new xs ys : List X) → mid ≡ old ++ xs → OnOk r (new ≡ mid ++ ys) →
+    OnOk r (new ≡ old ++ (xs ++ ys))
+ends r old mid new xs ys a b = on_ok_weaker r (adds old mid new xs ys a) b
 
 pub rows_text-append : (rs qs : List (List (List ℕ))) → rows_text (rs ++ qs) ≡ rows_text rs ++ rows_text qs
 unfolding rows_text
