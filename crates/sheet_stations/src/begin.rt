@@ -6,7 +6,7 @@ use cards::SheetFault;
 use desk_command::start_desk;
 use machine::{Address, MOST_PEERS, addresses_in};
 use setup::{Stopped, tell_station};
-use station_table::{BoardOptions, DeskOptions, MOST_BOARDS, board_begun, desk_begun};
+use station_table::{BoardNames, BoardOptions, DeskOptions, board_begun, desk_begun};
 use std::net::SocketAddr;
 use toml::Table;
 
@@ -25,6 +25,14 @@ fn is_address(text: Option<&str>) -> bool {
         Some(text) => text.parse::<SocketAddr>().is_ok(),
         None => true,
     }
+}
+
+/// Whether all boards that are named are addresses.
+fn are_addresses(boards: BoardNames<'_>) -> bool {
+    is_address(boards.first)
+        && is_address(boards.second)
+        && is_address(boards.third)
+        && is_address(boards.fourth)
 }
 
 /// A text that a station can't begin without, which has this place in the sheet.
@@ -56,21 +64,19 @@ fn address<'a>(
 }
 
 /// The addresses of a desk and of its peers, of which there are so many boards.
-fn desk_addresses<'a>(
-    at: &'a str,
-    other: &str,
-    boards: [Option<&str>; MOST_BOARDS],
-) -> Option<Addresses<'a>> {
-    match boards {
-        [None, ..] => addresses_in(at, other, &[]),
-        [Some(first), None, ..] => addresses_in(at, other, &[first]),
-        [Some(first), Some(second), None, _] => addresses_in(at, other, &[first, second]),
-        [Some(first), Some(second), Some(third), None] => {
-            addresses_in(at, other, &[first, second, third])
-        }
-        [Some(first), Some(second), Some(third), Some(fourth)] => {
-            addresses_in(at, other, &[first, second, third, fourth])
-        }
+fn desk_addresses<'a>(at: &'a str, other: &str, boards: BoardNames<'_>) -> Option<Addresses<'a>> {
+    let Some(first) = boards.first else {
+        return addresses_in(at, other, &[]);
+    };
+    let Some(second) = boards.second else {
+        return addresses_in(at, other, &[first]);
+    };
+    let Some(third) = boards.third else {
+        return addresses_in(at, other, &[first, second]);
+    };
+    match boards.fourth {
+        Some(fourth) => addresses_in(at, other, &[first, second, third, fourth]),
+        None => addresses_in(at, other, &[first, second, third]),
     }
 }
 
@@ -104,7 +110,7 @@ fn addresses_of<'a>(
     let (own, others) = places(desk);
     let at = address(rt, sheet, own, begun.at)?;
     let other = address(rt, sheet, others, begun.other)?;
-    if !begun.boards.iter().all(|board| is_address(*board)) {
+    if !are_addresses(begun.boards) {
         return Err(tell_station(
             rt,
             sheet,

@@ -1,6 +1,6 @@
 //! What a desk begins with.
 
-ghost use Rattle.std.specs.Prelude.{◌≡◌, map, option_map};
+ghost use Rattle.std.specs.Prelude.{◌≡◌};
 ghost use Rattle.toml.specs.View.{table_view};
 ghost use Rattle.station_table.specs.Begun as begun;
 
@@ -11,6 +11,15 @@ use toml::Table;
 /// How many boards a desk has at most.
 pub const MOST_BOARDS: usize = 4;
 
+/// The addresses of a desk's boards, the first ones first.
+#[derive(Clone, Copy, Debug, PartialEq, Eq)]
+pub struct BoardNames<'a> {
+    pub first: Option<&'a str>,
+    pub second: Option<&'a str>,
+    pub third: Option<&'a str>,
+    pub fourth: Option<&'a str>,
+}
+
 /// What a desk's words name, or what it begins with: the files of its votes, of their copy and of the key; its address, the
 /// other desk's, and the boards'.
 #[derive(Clone, Copy, Debug, PartialEq, Eq)]
@@ -20,7 +29,7 @@ pub struct DeskOptions<'a> {
     pub key: Option<&'a str>,
     pub at: Option<&'a str>,
     pub other: Option<&'a str>,
-    pub boards: [Option<&'a str>; MOST_BOARDS],
+    pub boards: BoardNames<'a>,
 }
 
 /// The key of a desk's address.
@@ -54,22 +63,19 @@ fn own_file(desk: DeskId) -> &'static str
 }
 
 /// The boards that are named, if one is, or else the table's.
-fn boards_or<'a>(
-    named: [Option<&'a str>; MOST_BOARDS],
-    sheet: &'a Table,
-) -> [Option<&'a str>; MOST_BOARDS]
-    ensures { map (option_map (λ text. text.now)) result
-        ≡ begun.boards_or (map (option_map (λ text. text.now)) named.entry) (begun.boards_in (table_view sheet.now)) }
+fn boards_or<'a>(named: BoardNames<'a>, sheet: &'a Table) -> BoardNames<'a>
+    ensures { begun.boards_of result
+        ≡ begun.boards_or (begun.boards_of named.entry) (begun.boards_in (table_view sheet.now)) }
 {
-    if named[0].is_some() {
-        return named;
+    match named.first {
+        Some(_) => named,
+        None => BoardNames {
+            first: board_in(sheet, 0),
+            second: board_in(sheet, 1),
+            third: board_in(sheet, 2),
+            fourth: board_in(sheet, 3),
+        },
     }
-    [
-        board_in(sheet, 0),
-        board_in(sheet, 1),
-        board_in(sheet, 2),
-        board_in(sheet, 3),
-    ]
 }
 
 /// What a desk begins with: what its words name, and for what they don't what its sheet's table of stations has.

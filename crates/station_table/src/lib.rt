@@ -7,5 +7,5 @@ mod laws;
 mod lookup;
 
 pub use board_options::{BoardOptions, board_begun};
-pub use desk_options::{DeskOptions, MOST_BOARDS, desk_begun};
+pub use desk_options::{BoardNames, DeskOptions, MOST_BOARDS, desk_begun};
 pub use laws::stations_are_not_of_the_sheet;

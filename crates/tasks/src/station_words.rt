@@ -7,11 +7,19 @@ use crate::task::Task;
 use crate::words::desk_in;
 use clap::ArgMatches;
 use machine::{Address, addresses_in};
-use station_table::{BoardOptions, DeskOptions, MOST_BOARDS};
+use station_table::{BoardNames, BoardOptions, DeskOptions, MOST_BOARDS};
 use std::net::SocketAddr;
 
 /// The sheet of a station whose words name none: that of the folder.
 const SHEET: &str = "sheet.toml";
+
+/// No boards, where none are named.
+const NO_BOARDS: BoardNames<'static> = BoardNames {
+    first: None,
+    second: None,
+    third: None,
+    fourth: None,
+};
 
 /// The task of a desk whose options are all named.
 fn full_desk_task<'a>(words: &ArgMatches<'a>) -> Option<Task<'a>>
@@ -76,18 +84,20 @@ fn is_address(text: Option<&str>) -> bool {
 }
 
 /// The boards that are named, if they are addresses and not too many.
-fn boards_in<'a>(words: &ArgMatches<'a>) -> Option<[Option<&'a str>; MOST_BOARDS]> {
+fn boards_in<'a>(words: &ArgMatches<'a>) -> Option<BoardNames<'a>> {
     let Some(texts) = words.get_strs("board") else {
-        return Some([None; MOST_BOARDS]);
+        return Some(NO_BOARDS);
     };
-    let boards = [
-        texts.get(0).copied(),
-        texts.get(1).copied(),
-        texts.get(2).copied(),
-        texts.get(3).copied(),
-    ];
-    let are_fine = boards.iter().all(|text| is_address(*text));
-    (are_fine && texts.len() <= MOST_BOARDS).then_some(boards)
+    let are_fine = texts.iter().all(|text| is_address(Some(*text)));
+    if !are_fine || texts.len() > MOST_BOARDS {
+        return None;
+    }
+    Some(BoardNames {
+        first: texts.get(0).copied(),
+        second: texts.get(1).copied(),
+        third: texts.get(2).copied(),
+        fourth: texts.get(3).copied(),
+    })
 }
 
 /// The task of a desk of the sheet's table, by its letter.

@@ -81,7 +81,7 @@ pub fn print_words_fault<W: Write>(
     out: &mut Watched<W>,
     fault: WordsFault<'_>,
 ) -> Result<(), WriteFailed>
-    ensures text { OnOk result (Prints W.contents out.old out.new (words_line fault)) }
+    ensures text { OnOk result (Prints W.contents out.old out.new (words_line fault.entry)) }
     ensures failed { TellsFailure result out.old out.new }
 {
     writeln!(out, "{fault}")
