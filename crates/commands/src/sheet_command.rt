@@ -1,6 +1,6 @@
 //! `ground sheet`: a match sheet as it was read, or all that is wrong with it.
 
-ghost use Rattle.std.specs.Prelude.{IfOk, OnOk};
+ghost use Rattle.std.specs.Prelude.{◌≡◌, [], true, IfOk, OnOk};
 ghost use Rattle.sheet_check.specs.Shown.{shown_sheet};
 ghost use Rattle.streams.specs.Watched.{IsHandedOn, Prints, TellsFailure};
 ghost use Rattle.commands.specs.SheetWord.{PrintsSheet};
@@ -48,6 +48,13 @@ fn print_sheet<W: Write>(
     printed(text.as_str(), writer)
 }
 
+/// Whether a report tells nothing.
+fn is_nothing(report: &str) -> bool
+    ensures { result ≡ true → report.now ≡ [] }
+{
+    report.is_empty()
+}
+
 /// `ground sheet`: prints the sheet of a file's bytes as it was read, or, where something is wrong with it or with its table
 /// of stations, all that is. It answers whether something is.
 pub fn sheet_run<W: Write>(
@@ -59,14 +66,15 @@ pub fn sheet_run<W: Write>(
     ensures writes { EndsWriting PrintFault.Write result writer.old writer.new }
 {
     let report = report_of(alloc, text)?;
+    let told = report.as_str();
     match read_sheet(alloc, text) {
-        Ok(sheet) if report.is_empty() => {
+        Ok(sheet) if is_nothing(told) => {
             print_sheet(alloc, &sheet, writer)?;
             Ok(false)
         }
         Err(SheetFault::NoMemory) => Err(PrintFault::NoMemory),
         _ => {
-            printed(report.as_str(), writer)?;
+            printed(told, writer)?;
             Ok(true)
         }
     }
