@@ -14,7 +14,7 @@ use Rattle.commands.specs.Rows.{PrintsRowsOfBoth}
 use Rattle.commands.proofs.rows_command.rows_both_run.Goals as goal
 
 module _
-    {S : Type 0} (contents : S → Option (List ℕ)) (old new : Watched S) (table : Table) (s : Sheet) (document : Members) {book : List Entry}
+    {S : Type 0} (contents : S → Option (List ℕ)) (old new : Watched S) (table : Table) (s : Sheet) (document : Members) (book : List Entry)
     {text : List ℕ} (told : text ≡ table_text table (told_apart s) document book) (written : Prints contents old new text)
   where
     prints : (o p : Option (List ℕ)) → IfSome o (λ first. IfSome p (λ second. IsBookOfBoth s first second book)) →
@@ -25,6 +25,6 @@ module _
 
 pub returns-in-Ok-clause-written : goal.returns-in-Ok-clause-written
 returns-in-Ok-clause-written g c =
-    prints g.W.Write.contents c.args.writer.now c.print_rows.new.out c.args.table c.args.sheet.now (table_view c.args.document.now)
+    prints g.W.Write.contents c.args.writer.now c.print_rows.new.out c.args.table c.args.sheet.now (table_view c.args.document.now) _
     c.in_ok-text.ensures (rw c.as_str.ensures.value at c.in-Ok.ensures.text)
     (g.R.Read.remaining (stream_of c.args.a.now)) (g.R.Read.remaining (stream_of c.args.b.now)) c.in_ok-book.ensures.book

@@ -16,8 +16,8 @@ use Rattle.commands.proofs.rows_command.rows_run.Goals as goal
 
 -- the table of the book of what was read is that of the input's
 module _
-    {S : Type 0} (contents : S → Option (List ℕ)) (old new : Watched S) (table : Table) (s : Sheet) (document : Members) (source : Source)
-    {book : List Entry} {xs text : List ℕ} (made : IsBookFrom source s xs book)
+    {S : Type 0} (contents : S → Option (List ℕ)) (old new : Watched S) (table : Table) (s : Sheet) (document : Members) (source : Source) (book : List Entry)
+    {xs text : List ℕ} (made : IsBookFrom source s xs book)
     (told : text ≡ table_text table (told_apart s) document book) (written : Prints contents old new text)
   where
     prints : (o : Option (List ℕ)) {us : List ℕ} → xs ≡ us → IfSome o (λ input. us ≡ input)
@@ -27,6 +27,6 @@ module _
 
 pub returns-in-Ok-clause-written : goal.returns-in-Ok-clause-written
 returns-in-Ok-clause-written g c =
-    prints g.W.Write.contents c.args.writer.now c.print_rows.new.out c.args.table c.args.sheet.now (table_view c.args.document.now) c.args.source
+    prints g.W.Write.contents c.args.writer.now c.print_rows.new.out c.args.table c.args.sheet.now (table_view c.args.document.now) c.args.source _
     c.in_ok-book.ensures.book c.in_ok-text.ensures (rw c.as_str.ensures.value at c.in-Ok.ensures.text)
     (g.R.Read.remaining (stream_of c.args.reader.now)) c.as_slice.ensures.value c.in_ok-input.ensures.whole
