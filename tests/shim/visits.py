@@ -1,5 +1,5 @@
 """A board that serves a page, with both desks and its viewers played here."""
-import importlib.machinery, importlib.util, json, os, re, select, socket, subprocess, time
+import contextlib, importlib.machinery, importlib.util, json, os, re, select, socket, subprocess, time
 
 TOP = os.path.dirname(os.path.dirname(os.path.dirname(os.path.realpath(__file__))))
 
@@ -30,6 +30,10 @@ class Board(boards.Board):
     def __init__(self, folder, sheet, host="127.0.0.1"):
         super().__init__(folder, sheet)
         super().__exit__()
+        # (the file that is waited for below is this board's, which listens by then, and not the first one's)
+        for file in (self.text, self.json):
+            with contextlib.suppress(FileNotFoundError):
+                os.remove(file)
         self.desks = [self.socket() for _ in "ab"]
         where = ["%s:%d" % it.getsockname() for it in self.desks]
         self.port = free_port(host)

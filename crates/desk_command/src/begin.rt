@@ -188,10 +188,15 @@ fn is_of_writing(fault: StopFault) -> bool {
     matches!(fault, StopFault::Write | StopFault::Disk)
 }
 
+/// The fault of a desk's file, with why its last failed call failed.
+fn caused<'a>(fault: StopFault, file: &'a str, last: Option<WriteFault>) -> Stopped<'a> {
+    Stopped::at(file, with_cause(fault, last))
+}
+
 /// The same, with why its file's last failed call failed, where that is what ended it.
 fn with_last<'a>(stopped: Stopped<'a>, file: &'a str, last: Option<WriteFault>) -> Stopped<'a> {
     if last.is_some() && is_of_writing(stopped.fault) {
-        return Stopped::at(file, with_cause(stopped.fault, last));
+        return caused(stopped.fault, file, last);
     }
     stopped
 }
