@@ -282,6 +282,7 @@ READING = {
     "export": (["export", "--sheet", SHEET, "--from", f"{TOP}/examples/innings.txt", "--kind", "book"], b""),
     "export of rows": (["export", "--rows", "--sheet", SHEET, "--from", f"{TOP}/examples/innings.txt", "--kind", "book"], b""),
     "page": (["page", "--sheet", SHEET, "--from", f"{TOP}/examples/innings.txt", "--kind", "book"], b""),
+    "lines": (["lines", "--sheet", SHEET, "--from", f"{TOP}/examples/innings.txt", "--kind", "book"], b""),
     "compare": (["compare", "--sheet", BOTH_SHEET, "--a", BOTH_A, "--b", BOTH_B], b""),
     "card of both files": (["card", "--sheet", BOTH_SHEET, "--kind", "both", "--from", BOTH_A, "--with", BOTH_B], b""),
     "replay": (["replay", "--sheet", SHEET, "--schedule", f"{TOP}/examples/schedule.txt", "--boards", "1"], b""),
