@@ -4,6 +4,7 @@ ghost use Rattle.std.specs.Prelude.{◌≡◌, [], false, IfErr, IfOk, None, Som
 ghost use Rattle.desk_command.specs.Ends as ends;
 
 use agree_core::DeskId;
+use ahead::Ahead;
 use cards::MatchSheet;
 use corrections::CheckedBook;
 use desk::restore::Restoring;
@@ -270,11 +271,12 @@ pub fn start_desk<'a>(
     let sealing = Sealing::of(rt, &sheet, sheet_path, key)?;
     let errors = RefCell::new(errors_at(rt)?);
     let mut writer = Watched::new(DeskScreen::new(output_at(rt)?, &errors));
-    let mut keys = Keyboard::of_standard_input(rt);
+    let mut keys = Ahead::new(Keyboard::of_standard_input(rt));
     let lasts = [LastFault::new(None), LastFault::new(None)];
     let book = empty_book(rt, &sheet)?;
     let disk = desk_disk_at(rt, &sheet, desk, file, copy, &lasts)?;
-    let made = sealing.link_at(rt, at, peers, Some(keys.descriptor()), Shared::of(&errors));
+    let keyboard = Some(keys.keys().descriptor());
+    let made = sealing.link_at(rt, at, peers, keyboard, Shared::of(&errors));
     let mut link = match made {
         Ok(link) => link,
         Err(stopped) => {
@@ -291,7 +293,7 @@ pub fn start_desk<'a>(
     drop(link);
     let is_seen = is_seen(writer);
     let _ = errors.into_inner().end();
-    match answer(ended, keys.has_failed(), file) {
+    match answer(ended, keys.keys().has_failed(), file) {
         Ok(_) if !is_seen => Err(Stopped::at("-", StopFault::Write)),
         Ok(refused) => Ok(refused),
         Err(stopped) => Err(with_lasts(stopped, file, lasts[0].get(), copy, lasts[1].get())),

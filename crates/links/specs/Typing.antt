@@ -7,8 +7,9 @@ pub data Input : Type 0 where
   Line : List ℕ → Input
   End : Input
 
--- what was told: nothing, the front of the buffer as a line, or the end
+-- what was told: nothing, the front of the buffer as a line, something of lines that aren't given, or the end
 abbrev pub IsTyped : Typed → List ℕ → List Input → List Input → Type 0
 IsTyped Typed.Nothing buffer before after = after ≡ before
 IsTyped (Typed.Line count) buffer before after = (count ≤ 128) × (after ≡ before ++ Line (take count buffer) ∷ [])
+IsTyped (Typed.Aside aside) buffer before after = after ≡ before
 IsTyped Typed.Ended buffer before after = after ≡ before ++ End ∷ []

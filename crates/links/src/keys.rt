@@ -3,14 +3,19 @@
 ghost use Rattle.std.specs.Prelude.{List};
 ghost use Rattle.links.specs.Typing.{Input, IsTyped};
 
+use crate::aside::Aside;
+use crate::stand::Stand;
+
 /// How many bytes of a line are taken at most: more than an entry has, so that a longer one is seen as such.
 pub const LINE_ROOM: usize = 128;
 
-/// What was typed: no whole line yet, a line of so many bytes, or nothing any more.
-#[derive(Clone, Copy, Debug, PartialEq, Eq)]
+/// What was typed: no whole line yet, a line of so many bytes, what is told of lines that the desk isn't given, or nothing
+/// any more.
+#[derive(Drop)]
 pub enum Typed {
     Nothing,
     Line(usize),
+    Aside(Aside),
     Ended,
 }
 
@@ -19,8 +24,8 @@ pub trait Keys {
     /// What it gave, the oldest first: lines, and that there are no more.
     ghost inputs: { Self → List Input };
 
-    /// The next line, without its newline, if there is one. It doesn't wait for one.
-    fn line(&mut self, buffer: &mut [u8; 128]) -> Typed
+    /// The next line for a desk that stands so, without its newline, if there is one. It doesn't wait for one.
+    fn line(&mut self, at: Stand, buffer: &mut [u8; 128]) -> Typed
         ensures { IsTyped result buffer.new (inputs self.old) (inputs self.new) };
 
     /// Whether `line` has more to give at once, so that nothing else is waited for.

@@ -2,6 +2,7 @@
 //! them the two carriers that stand over others: a link over sealed datagrams, and a window for stations that are behind.
 #![tactic(auto)]
 
+mod aside;
 mod asking;
 mod asks;
 mod clock;
@@ -14,12 +15,15 @@ mod log;
 mod sealed;
 mod sending;
 mod silence;
+mod stand;
 mod window;
 
+pub use aside::{Aside, HeldLine, HeldLines};
 pub use clock::Clock;
 pub use keys::{Keys, LINE_ROOM, Typed};
 pub use link::{Link, MOST_TAKEN, PeerLink, ROOM, SEALED_ROOM, SealedCarrier, SharedLink, Taken};
 pub use log::{CarriedLog, ClockLog, InputLog, Log};
 pub use sealed::{Sealed, what_is_given_was_brought};
 pub use sending::send_each;
+pub use stand::Stand;
 pub use window::{Window, what_passes_is_kept};

@@ -28,10 +28,12 @@ use Rattle.links.specs.Passed.{Passed, Came, Sent, sends, sent_bytes}
 use Rattle.live.specs.Runs.{Goes, Kind}
 use Rattle.live.specs.Saying.{ComesTo, SaysEntry}
 use Rattle.links.specs.Typing.{Input, Line, End}
+use Rattle.links.specs.declared.aside.Aside.{Aside}
+use Rattle.live.specs.Asides.{aside_text}
 use Rattle.live.specs.Texts.{came_text, reminder_text, said_text, unopened_text, warned_after, warned_reminded, warned_unopened}
 use Rattle.live.specs.LostLines.{end_given, end_here}
 use Rattle.live.specs.Ends.{Course, course_of, end_of, ending, further, known_at, known_to, turns_after}
-use Rattle.live.specs.Desks.{Blames, disks_of, Calls, DeskCall, DeskGoes, DeskProcess, DeskStep, Given, FitsLongest, MayCall, MayRemind, Looked, Read, Reminded, Ticked, TurnEnded, Typed}
+use Rattle.live.specs.Desks.{Blames, disks_of, Calls, DeskCall, DeskGoes, DeskProcess, DeskStep, Given, FitsLongest, MayCall, MayRemind, Looked, Read, Reminded, Ticked, ToldAside, TurnEnded, Typed}
 use Rattle.live.specs.Desks.{TypingEnded, Unopened, after_call, beat_of, course_after, desk_kind, entry_in, given, innings_of, kind_of, loss_in, own_line, process_of, told_of, typed}
 use Rattle.live.specs.Ticks.{IsInTime, MayBeat, Ticking, after_look, reads}
 use Rattle.live.specs.declared.{reminder.Reminder.Reminder, said.Said.Said, warned.Warned.Warned, ends.DeskEnd.DeskEnd}
@@ -184,6 +186,12 @@ module _ {S B D : Type 0} {g : Files S D} {h : Disks D} {b : Books B} where
     reminds reminder beats same may tells is text =
         called (Reminded reminder) {ticking = ticking} may beats (unmoved (Reminded reminder) (refl, refl) (λ e. (cc))) (rw append-nil) (rw append-nil) (rw append-nil)
         (rw (tells, same, is)) text
+
+    -- its scorer is told of lines that it isn't given
+    pub tells_aside : (aside : Aside) {course : Course} {y : List Input} {t : Option (List ℕ)} → IsInTime ticking → y ≡ x → course ≡ further → Appends s t (aside_text aside)
+        → DeskGoes sheet k k (process_of k warned turns ticking further) (process_of k warned turns ticking course) log log x y m m s t
+    tells_aside aside beats types is text =
+        called (ToldAside aside) {ticking = ticking} tt beats (unmoved (ToldAside aside) (refl, refl) (λ e. (cc))) (rw append-nil) (rw (append-nil, types)) (rw append-nil) (rw is) text
 
     -- its scorer types no more
     pub typing_over : {y : List Input} → IsInTime ticking → y ≡ x ++ End ∷ []

@@ -16,9 +16,11 @@ use Rattle.cards.specs.Sheet.{Sheet}
 use Rattle.desk.specs.declared.desk.Desk.{Desk}
 use Rattle.desk.specs.Desk.{SameOwner, book_of, disk_of, game_of, last_entry, state_of, view_of}
 use Rattle.desk.specs.Takes.{Takes}
+use Rattle.links.specs.declared.aside.Aside.{Aside}
 use Rattle.live.specs.declared.{ends.DeskEnd.DeskEnd, reminder.Reminder.Reminder, said.Said.Said, warned.Warned.Warned}
 use Rattle.live.specs.declared.ends.DeskEnd.TheVariants.{NoMoreLines, Device, Write}
 use Rattle.live.specs.declared.reminder.Reminder.TheVariants.{HasWritten, IsHeard, IsMissed}
+use Rattle.live.specs.Asides.{aside_text}
 use Rattle.live.specs.Ends.{Course, end_of, further, known_at}
 use Rattle.live.specs.LostLines.{end_here, shows_loss}
 use Rattle.links.specs.Passed.{Passed, Came, sends}
@@ -30,7 +32,7 @@ use Rattle.links.specs.Typing.{Input, Line, End}
 
 -- a call of a desk: its scorer's line, the end of its scorer's lines, bytes that it is given, bytes that don't open, of
 -- which it is given nothing, a look at its clock, whether a tick is due, a tick, another reading of its clock, each with
--- what it shows, what it tells its scorer of the other desk, or the end of a turn
+-- what it shows, what it tells its scorer of the other desk, or of lines that it isn't given, or the end of a turn
 pub data DeskCall : Type 0 where
   Typed : List ℕ → Said → DeskCall
   TypingEnded : DeskCall
@@ -40,6 +42,7 @@ pub data DeskCall : Type 0 where
   Ticked : DeskCall
   Read : ℕ → DeskCall
   Reminded : Reminder → DeskCall
+  ToldAside : Aside → DeskCall
   TurnEnded : DeskCall
 
 -- with this sheet, in a match of this number and innings a side
@@ -161,6 +164,7 @@ told_of sheet innings k (Given bytes what) l =
     (loss_in k.desk bytes what) what
 told_of sheet innings k Unopened l = unopened_text k.warned
 told_of sheet innings k (Reminded reminder) l = reminder_text k.desk.seat.position.place reminder
+told_of sheet innings k (ToldAside aside) l = aside_text aside
 told_of sheet innings k call l = []
 
 abbrev pub desk_kind : {Disk : Type 0} → Sheet → FileView Disk → DiskView Disk → ℕ → ℕ → Kind (DeskProcess Disk) DeskCall

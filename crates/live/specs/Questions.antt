@@ -40,3 +40,4 @@ unclear_text sheet (Unclear.NoFielder how name) =
 unclear_text sheet (Unclear.UnknownWord word) = unknown_text word.bytes
 unclear_text sheet (Unclear.WhichPlayer side name) =
     codes "which one? " ++ listed (team_of sheet side) true (candidates (team_of sheet side) name.bytes) ++ codes "\n"
+unclear_text sheet Unclear.NothingStands = codes "undo: no entry stands\n"

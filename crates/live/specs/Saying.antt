@@ -34,11 +34,16 @@ abbrev pub SaysOnceMore : List Ballot → Bool → List ℕ → Entry → Type 0
 SaysOnceMore votes differs line e =
     (differs ≡ true) × (line ≡ codes "again") × (last_entry votes ≡ Some e) × IsEntry e
 
--- a text that is in full the entry's, behind `again ` where the two scorers differed; or, there, `again` alone
+-- the line is none of the words that are no entry's
+abbrev pub IsNoWord : List ℕ → Type 0
+IsNoWord line = (is_end line ≡ false) × (word_of line ≡ None)
+
+-- no such word, but a text that is in full the entry's, behind `again ` where the two scorers differed; or, there, `again`
+-- alone
 abbrev pub LineMeans : Sheet → List Entry → List Ballot → Bool → List ℕ → Entry → Type 0
 LineMeans s book votes differs line e =
-    ((text : List ℕ) × (line ≡ says_again differs text) × MeansEntry s book text e)
-    ⊎ SaysOnceMore votes differs line e
+    IsNoWord line
+    × (((text : List ℕ) × (line ≡ says_again differs text) × MeansEntry s book text e) ⊎ SaysOnceMore votes differs line e)
 
 -- the line says the entry in this round
 abbrev pub SaysEntry : Sheet → List Entry → List Ballot → ℕ → List ℕ → Entry → Type 0
@@ -50,10 +55,6 @@ MeansNone s book text (Unclear unclear) = in_full s book text ≡ Err (reason_of
 MeansNone s book text (Fault fault) =
     (full : List ℕ) × (in_full s book text ≡ Ok full) × (line_answer full ≡ Err fault)
 MeansNone s book text said = ⊥
-
--- the line is none of the words that are no entry's
-abbrev pub IsNoWord : List ℕ → Type 0
-IsNoWord line = (is_end line ≡ false) × (word_of line ≡ None)
 
 -- the line doesn't begin with the word `again`
 abbrev pub IsNotAgain : List ℕ → Type 0

@@ -1,6 +1,6 @@
 //! A desk's process.
 
-ghost use Rattle.std.specs.Prelude.{◌≡◌, ◌++◌, ◌∷◌, [], ℕ, List, Option, true, false, Err, IfErr, IfSome, IsSome, OnErr, OnOk};
+ghost use Rattle.std.specs.Prelude.{◌≡◌, ◌++◌, ◌∷◌, [], ℕ, List, Option, true, false, Err, IfErr, IfSome, IsSome, OnErr, OnOk, is_some};
 ghost use Rattle.std.specs.Io.KnownBytes.{Appends};
 ghost use Rattle.notation.specs.Written.{IsEntry};
 ghost use Rattle.entry_log.specs.Blame.{BlamesDisk};
@@ -17,6 +17,7 @@ ghost use Rattle.links.specs.Passed.{Came, Passed};
 ghost use Rattle.live.specs.Texts.{greeting, unopened_text, warned_unopened};
 ghost use Rattle.links.specs.Typing.{Input};
 
+use crate::aside::tell_aside;
 use crate::between::Between;
 use crate::both::Both;
 use crate::desk_calls::{pen, receive, tick};
@@ -34,7 +35,7 @@ use cards::MatchSheet;
 use corrections::BookOf;
 use desk::Desk;
 use entry_log::SlotsOf;
-use links::{Clock, Keys, LINE_ROOM, Link, MOST_TAKEN, ROOM, Taken, Typed};
+use links::{Clock, Keys, LINE_ROOM, Link, MOST_TAKEN, ROOM, Stand, Taken, Typed};
 use notation::Entry;
 use std::io::Write;
 use streams::Watched;
@@ -48,6 +49,20 @@ fn own_line<S: SlotsOf, B: BookOf + Drop>(desk: &Desk<S, B>) -> Option<Entry>
         desk.last_entry()
     } else {
         None
+    }
+}
+
+/// Where a desk stands, as far as its scorer's lines ask.
+fn stand_of<S: SlotsOf, B: BookOf + Drop>(desk: &Desk<S, B>) -> Stand
+    ensures place { result.place ≡ (state_of desk.now).seat.position.place }
+    ensures round { result.round ≡ (state_of desk.now).seat.position.round }
+    ensures vote { result.has_voted ≡ is_some (state_of desk.now).seat.mine }
+{
+    let at = desk.position();
+    Stand {
+        place: at.place,
+        round: at.round,
+        has_voted: desk.has_voted(),
     }
 }
 
@@ -68,10 +83,11 @@ fn take_line<S: SlotsOf, B: BookOf + Drop, L: Link, K: Keys, W: Write>(
     ensures failed { result ≡ Err DeskEnd.Write → has_failed out.new ≡ true }
 {
     let mut buffer = [0; LINE_ROOM];
-    let count = match keys.line(&mut buffer) {
+    let count = match keys.line(stand_of(desk), &mut buffer) {
         Typed::Nothing => return Ok(()),
         Typed::Ended => return Err(DeskEnd::NoMoreLines),
         Typed::Line(count) => count,
+        Typed::Aside(aside) => return tell_aside(out, &aside),
     };
     let at = desk.position();
     let both = Both {

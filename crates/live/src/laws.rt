@@ -1,5 +1,5 @@
-//! What a scorer can't see, what is seen of two votes that differ, that a reminder comes once, that a station ticks, and that
-//! nothing is asked for in vain.
+//! What a scorer can't see, what is seen of two votes that differ, that a reminder comes once, that a station ticks, that votes are
+//! for lines that were typed, and that nothing is asked for in vain.
 //!
 //! These functions do nothing: they stand for the laws that they ensure.
 
@@ -8,6 +8,7 @@ ghost use Rattle.agree_core.specs.declared.messages.DeskId.{DeskId as ADesk};
 ghost use Rattle.agree_core.specs.declared.position.Position.{Position as APosition};
 ghost use Rattle.vote_store.specs.View.{file_view};
 ghost use Rattle.cards.specs.Sheet.{Sheet};
+ghost use Rattle.live.specs.Before.{VotesWereTyped};
 ghost use Rattle.live.specs.Boards.{board_kind};
 ghost use Rattle.live.specs.Desks.{FitsLongest, desk_kind};
 ghost use Rattle.live.specs.Hidden.{HidesTheOther, TellsBoth};
@@ -42,6 +43,13 @@ pub fn stations_are_never_silent<S: SlotsOf>()
         IsNeverSilent (desk_kind sheet (file_view S.contents S.Disk.seen S.Disk.images desk game)
         (record { faults = S.Disk.faults; FitsLongest = FitsLongest S.room cap }) game innings) }
     ensures boards { (sheet : Sheet) (game innings : ℕ) → IsNeverSilent (board_kind sheet game innings) }
+{}
+
+/// Where a desk's keys are an `Ahead`, each vote is for a line that its scorer typed before and didn't take back, each line
+/// being used at most once, in their order.
+pub fn votes_were_typed<S: SlotsOf>()
+    ensures { (desk : ADesk) (game cap : ℕ) → VotesWereTyped (file_view S.contents S.Disk.seen S.Disk.images desk game)
+        (record { faults = S.Disk.faults; FitsLongest = FitsLongest S.room cap }) }
 {}
 
 /// A scorer is told that no vote can be cast at a position just where a desk refuses each for that, and `again` is asked for at

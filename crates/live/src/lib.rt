@@ -2,6 +2,7 @@
 //! peers.
 #![tactic(auto)]
 
+mod aside;
 mod begin;
 mod between;
 pub mod board_calls;

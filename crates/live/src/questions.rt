@@ -140,5 +140,6 @@ pub fn print_unclear<W: Write>(
         Unclear::NoFielder(how, name) => print_no_fielder(out, *how, name.as_str()),
         Unclear::UnknownWord(word) => print_unknown(out, word.as_str()),
         Unclear::WhichPlayer(side, name) => print_candidates(out, sheet, *side, name.as_str()),
+        Unclear::NothingStands => writeln!(out, "undo: no entry stands"),
     }
 }

@@ -5,7 +5,7 @@ ghost use Rattle.links.specs.Logs.{inputs_of};
 
 use crate::waiting::can_read;
 use arrayvec::ArrayVec;
-use links::{InputLog, Keys, LINE_ROOM, Typed};
+use links::{InputLog, Keys, LINE_ROOM, Stand, Typed};
 use std::io::{self, ErrorKind, Read};
 use std::os::fd::{AsRawFd, RawFd};
 use std::rt::Stdin;
@@ -45,7 +45,9 @@ impl Read for StandardInput {
 impl Keyboard<StandardInput> {
     /// Standard input, from where it stands. It isn't opened anew and none of its flags is changed: so it may be a file, a
     /// pipe, a terminal or a socket of whomever, and stays as it is for other programs.
-    pub fn of_standard_input(rt: &HostRuntime) -> Keyboard<StandardInput> {
+    pub fn of_standard_input(rt: &HostRuntime) -> Keyboard<StandardInput>
+        ensures { inputs_of result.given ≡ [] }
+    {
         Keyboard::new(StandardInput { stream: rt.stdin() })
     }
 
@@ -199,7 +201,7 @@ impl<R: Read> Keys for Keyboard<R> {
 
     ghost inputs = { λ keyboard. inputs_of keyboard.given };
 
-    fn line(&mut self, buffer: &mut [u8; 128]) -> Typed {
+    fn line(&mut self, _at: Stand, buffer: &mut [u8; 128]) -> Typed {
         if let Some(count) = self.next(buffer) {
             self.given = self.given.line(buffer, count);
             return Typed::Line(count);

@@ -34,7 +34,8 @@ use Rattle.processes.proofs.SecondVotes.{each_takes_second}
 
 -- a ballot that was typed has its numbers in their ranges
 said_entry : (x : Sheet) (book : List Entry) (votes : List Ballot) (round : ℕ) (line : List ℕ) (e : Entry) → SaysEntry x book votes round line e → IsEntry e
-said_entry x book votes round line e h0 = grind arith
+said_entry x book votes round line e (none, inl h) = h.2.0
+said_entry x book votes round line e (none, inr h) = h.3
 
 module _ {Disk : Type 0} where
   -- at the start no fault is due

@@ -41,7 +41,8 @@ use Rattle.live.specs.declared.ends.DeskEnd.TheVariants.{Device}
 use Rattle.live.specs.declared.reminder.Reminder.TheVariants.{HasWritten}
 use Rattle.live.specs.declared.said.Said.TheVariants.{Penned}
 use Rattle.headline.specs.Configurations.{board_at, fresh_boards, node}
-use Rattle.live.specs.Saying.{SaysEntry}
+use Rattle.screen.specs.Words.{is_end, word_of}
+use Rattle.live.specs.Saying.{IsNoWord, SaysEntry}
 use Rattle.processes.specs.Lives.{Beginning, BoardProcess, BoardRuns, CallsMade, IsBoardLife, IsLife, ProcessEnd, RunsFrom, Stage, board_happens, fresh_turn, life_happens}
 use Rattle.live.specs.Sights.{Sight, sight_of}
 use Rattle.processes.specs.Sealing.{IsAuthentic}
@@ -124,8 +125,12 @@ module _ (s : Sheet) where
       CallsMade s a_again [] ∷ Beginning (Opened a_again) ∷ Beginning (NotOpened OpenRefusal.DeviceFailed disk_with) ∷ ProcessEnd disk_with
       ∷ CallsMade s (new_desk A) (pens ∷ []) ∷ []
 
+  no_word : IsNoWord (codes "void")
+  unfolding is_end word_of
+  no_word = (refl, refl)
+
   says : SaysEntry s [] [] 0 (codes "void") (Write Void)
-  says = inl (codes "void", refl, (tt, full_lines_stand s [] (Write Void) tt))
+  says = (no_word, inl (codes "void", refl, (tt, full_lines_stand s [] (Write Void) tt)))
 
   a_pens : desks.DeskStep s (view A) 7 1 (new_desk A) (desks.Typed (codes "void") (Penned (Write Void) Settled.Pending)) (a_says ∷ []) a_penned
   a_pens = (says, (((refl, refl), ((omega arith, omega arith), omega arith), taken 1), ((refl, refl), refl, refl, refl, holds_one A), refl))

@@ -30,8 +30,8 @@ abbrev pub AtEachTime : {Disk : Type 0} → Configuration Disk → List (Happeni
 AtEachTime w [] P = P w
 AtEachTime w (h ∷ hs) P = P (after w (h ∷ hs)) × AtEachTime w hs P
 
--- the desk's scorer typed a line at the ballot's position that says the ballot's entry: put in full, by the sheet of the
--- desk's process and the book of the desk, it is the entry's line, or it says once more what this scorer wrote last
+-- the desk was given a line of its scorer's at the ballot's position that says the ballot's entry: put in full, by the sheet
+-- of the desk's process and the book of the desk, it is the entry's line, or it says once more what this scorer wrote last
 abbrev pub TypesBallot : {Disk : Type 0} → Configuration Disk → Happening Disk → DeskId → Ballot → Type 0
 TypesBallot w (DeskCalled c s (desks.Typed line said) out l text) d b =
     (d ≡ c) × (k : DeskState _) × ((node w c).process ≡ Running k) × (k.seat.position ≡ b.at)
@@ -64,8 +64,8 @@ pub record ProcessHeadline {Disk : Type 0} (game innings : ℕ) (w : Configurati
       → AtSomeTime w hs (λ v. Shows v u ys) → BeginsWith ys xs ⊎ BeginsWith xs ys
   -- both desks have voted in one round for each entry of a book that a process shows
   pub by_both : AtEachTime w hs ByBoth
-  -- each vote of a desk was typed there, at its position, as a line that in full is its entry's, behind `again ` in every
-  -- round but the first, or there as `again` alone, for the entry of the round before
+  -- each vote of a desk is for a line that its scorer typed there, and that it was given at its position and that in full is
+  -- its entry's, behind `again ` in every round but the first, or there as `again` alone, for the entry of the round before
   pub typed : (d : DeskId) (b : Ballot) → In b (votes_by (all_votes (after w hs)) d) → WasTyped w hs d b
   -- each score is the Laws' score of its book: in a match of one or two innings a side each book that a process shows has
   -- one, and books of one length have the same, whichever processes show them at whatever times

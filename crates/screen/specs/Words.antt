@@ -6,7 +6,7 @@ use Rattle.notation.specs.Written.{Token, tokens, found_number}
 use Rattle.match_laws.specs.History.{or_else}
 use Rattle.cards.specs.Sheet.{is_printable}
 use Rattle.screen.specs.declared.{topic.Topic.Topic, word.Word.Word}
-use Rattle.screen.specs.declared.topic.Topic.TheVariants.{Innings, In, Ball, Gone, Over, Penalty, Swap, End, Close, Void, Fix, Late, Again, Listing, Score, Card, Players, Quit, Short}
+use Rattle.screen.specs.declared.topic.Topic.TheVariants.{Innings, In, Ball, Gone, Over, Penalty, Swap, End, Close, Void, Fix, Late, Again, Undo, Listing, Score, Card, Players, Quit, Short}
 
 -- the words that begin a line of an entry, but marks
 abbrev pub line_topic : Token → Option Topic
@@ -29,7 +29,8 @@ line_topic t =
 -- the words of a desk, and `short`
 abbrev pub desk_topic : Token → Option Topic
 desk_topic t =
-    if bytes_eq t (codes "list") then Some Listing
+    if bytes_eq t (codes "undo") then Some Undo
+    else if bytes_eq t (codes "list") then Some Listing
     else if bytes_eq t (codes "score") then Some Score
     else if bytes_eq t (codes "card") then Some Card
     else if bytes_eq t (codes "players") then Some Players

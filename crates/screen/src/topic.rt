@@ -20,6 +20,7 @@ pub enum Topic {
     Fix,
     Late,
     Again,
+    Undo,
     Listing,
     Score,
     Card,
@@ -47,6 +48,7 @@ void
 fix p E         place p is to read E, any line above
 late p E        E, any line above, belongs after place p
 again [E]       E, or what you wrote before, where you two differ
+undo            takes back the line held last; none held: voids the last entry
 list [n]        the last n entries, 12 or 1 to 200, with their places
 score, card     this over and the total; both cards of the innings
 players         both sides, by number and name; an empty line: where you stand
@@ -107,6 +109,7 @@ fn desk_topic(word: &str) -> Option<Topic>
     ensures { result ≡ words.desk_topic word.now }
 {
     match word {
+        "undo" => Some(Topic::Undo),
         "list" => Some(Topic::Listing),
         "score" => Some(Topic::Score),
         "card" => Some(Topic::Card),
@@ -147,6 +150,9 @@ pub fn help_on(topic: Topic) -> &'static str
         Topic::Late => "late p E: E was left out, and belongs after place p\n  late 12 in 5\n",
         Topic::Again => {
             "again [E]: where you two differ, E, or what you wrote before\n  again ball 10 bat 2\n"
+        }
+        Topic::Undo => {
+            "undo: takes back the line held last; none held: fix p void of the last entry\n  undo\n"
         }
         Topic::Listing => {
             "list [n]: the last n entries with their places, 1 to 200; 12, left out\n  list 30\n"

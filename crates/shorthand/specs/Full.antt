@@ -15,10 +15,11 @@ use Rattle.shorthand.specs.declared.names.Among.TheVariants.{Anyone}
 use Rattle.shorthand.specs.declared.names.Found.TheVariants.{NoOne}
 use Rattle.shorthand.specs.declared.point.Belongs.TheVariants.{Last, At, After}
 use Rattle.shorthand.specs.Words.{behind_one, is_desk_word, is_how, is_line_word, is_no_ball, is_one_of, is_run_out, trimmed, two_meanings, way_of, without_fielder}
-use Rattle.shorthand.specs.Lines.{Reason, Fault, WhoBowls, TwoMeanings, Word, as_typed, joined, plus}
+use Rattle.shorthand.specs.Lines.{NothingStands, Reason, Fault, WhoBowls, TwoMeanings, Word, as_typed, joined, plus}
 use Rattle.shorthand.specs.Names.{player, fielder, named, number_word, colon_name, names_bowler, no_fielder, unknown_word, is_colon, is_digit_first}
 use Rattle.shorthand.specs.Marks.{mark}
 use Rattle.shorthand.specs.Points.{batters_at, point_at}
+use Rattle.shorthand.specs.Undo.{last_standing}
 
 -- ---- OUT: [out] HOW [WHO] [F] [crossed]
 
@@ -235,10 +236,16 @@ abbrev pub placed : Sheet → List Entry → Bool → List Token → List Word
 placed s book is_late [] = []
 placed s book is_late (t ∷ ts) = at_place s book is_late t ts (found_number 0 8191 t)
 
+-- `undo`: the entry of this place is void
+abbrev pub undoing : Option ℕ → List Token → List Word
+undoing None ts = Err NothingStands ∷ []
+undoing (Some p) ts = Ok (codes "fix") ∷ Ok (decimal p) ∷ Ok (codes "void") ∷ as_typed ts
+
 abbrev pub words_in_full : Sheet → List Entry → List Token → List Word
 words_in_full s book [] = []
 words_in_full s book (t ∷ ts) =
     if is_one_of (codes "fix" ∷ codes "late" ∷ []) t then Ok t ∷ placed s book (bytes_eq t (codes "late")) ts
+    else if bytes_eq t (codes "undo") then undoing (last_standing book) ts
     else item_at s book Last t ts
 
 -- ---- a word that is none

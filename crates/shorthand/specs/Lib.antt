@@ -6,6 +6,7 @@ pub mod Names
 pub mod Candidates
 pub mod Marks
 pub mod Lines
+pub mod Undo
 pub mod Full
 pub mod Laws
 pub mod Worked

@@ -5,13 +5,14 @@ use Rattle.notation.specs.declared.{fault.LineFault.LineFault, entry.Side.Side}
 use Rattle.notation.specs.declared.fault.LineFault.TheVariants.{TooLong}
 use Rattle.shorthand.specs.declared.unclear.{Letter.Letter, Unaided.Unaided, Unclear.Unclear}
 
--- what isn't clear in a line: its words, who bowls, which player of a side a name means, which of its two meanings a
--- letter has, what a fielder has to do with a way of being out, or a word that is none
+-- what isn't clear in a line: its words, who bowls, which player of a side a name means, what `undo` undoes, which of
+-- its two meanings a letter has, what a fielder has to do with a way of being out, or a word that is none
 pub data Reason : Type 0 where
   Fault : LineFault → Reason
   WhoBowls : Reason
   NoSuchPlayer : Token → Reason
   WhichPlayer : Side → Token → Reason
+  NothingStands : Reason
   TwoMeanings : Letter → Reason
   NoFielder : Unaided → Token → Reason
   UnknownWord : Token → Reason
@@ -21,6 +22,7 @@ reason_of (Unclear.Fault f) = Fault f
 reason_of Unclear.WhoBowls = WhoBowls
 reason_of (Unclear.NoSuchPlayer t) = NoSuchPlayer t.bytes
 reason_of (Unclear.WhichPlayer side t) = WhichPlayer side t.bytes
+reason_of Unclear.NothingStands = NothingStands
 reason_of (Unclear.TwoMeanings letter) = TwoMeanings letter
 reason_of (Unclear.NoFielder how t) = NoFielder how t.bytes
 reason_of (Unclear.UnknownWord t) = UnknownWord t.bytes

@@ -5,13 +5,13 @@ use Rattle.notation.specs.declared.entry.Side.TheVariants.{Home, Away}
 use Rattle.notation.specs.declared.entry.Kind.TheVariants.{Bat}
 use Rattle.notation.specs.declared.entry.Bound.TheVariants.{Run}
 use Rattle.notation.specs.declared.entry.{Plain.Plain, Entry.Entry}
-use Rattle.notation.specs.declared.entry.Plain.TheVariants.{Innings, Come, Ball as Bowl, Over}
-use Rattle.notation.specs.declared.entry.Entry.TheVariants.{Write, Late}
+use Rattle.notation.specs.declared.entry.Plain.TheVariants.{Innings, Come, Ball as Bowl, Over, Void}
+use Rattle.notation.specs.declared.entry.Entry.TheVariants.{Write, Fix, Late}
 use Rattle.notation.specs.Written.{tokens}
 use Rattle.cards.specs.Sheet.{Sheet, Team}
 use Rattle.shorthand.specs.declared.unclear.Letter.TheVariants.{B, W}
 use Rattle.shorthand.specs.declared.unclear.Unaided.TheVariants.{Bowled, Lbw}
-use Rattle.shorthand.specs.Lines.{Reason, WhoBowls, NoSuchPlayer, WhichPlayer, TwoMeanings, NoFielder, joined}
+use Rattle.shorthand.specs.Lines.{Reason, WhoBowls, NoSuchPlayer, WhichPlayer, NothingStands, TwoMeanings, NoFielder, joined}
 use Rattle.shorthand.specs.Full.{words_in_full}
 
 -- a dot ball of this bowler
@@ -99,7 +99,7 @@ pub record WorkedWords (s : Sheet) : Type 0 where
 abbrev pub with_late_over : List Entry
 with_late_over = two_overs ++ Late 5 Over ∷ Late 5 (dot 8) ∷ []
 
--- who bowls where a line belongs: behind all, at a place, and behind what belongs to a place
+-- who bowls where a line belongs: behind all, at a place, and behind what belongs to a place; and what `undo` undoes
 pub record WorkedPlaces (s : Sheet) : Type 0 where
   pub no_delivery : behind s opened (codes "4") ≡ Err WhoBowls
   pub after_over : behind s (two_overs ++ Write Over ∷ []) (codes "4") ≡ Err WhoBowls
@@ -111,6 +111,10 @@ pub record WorkedPlaces (s : Sheet) : Type 0 where
   pub behind_all : behind s with_late_over (codes ".") ≡ Ok (codes "ball 8 bat 0")
   pub behind_lates : behind s with_late_over (codes "late 5 4") ≡ Ok (codes "late 5 ball 8 bat 0 four")
   pub corrected_before : behind s with_late_over (codes "fix 5 4") ≡ Ok (codes "fix 5 ball 10 bat 0 four")
+  pub undo : behind s two_overs (codes "undo") ≡ Ok (codes "fix 5 void")
+  pub undo_once_more : behind s (two_overs ++ Fix 5 Void ∷ []) (codes "undo") ≡ Ok (codes "fix 4 void")
+  pub undo_late : behind s with_late_over (codes "undo") ≡ Ok (codes "fix 7 void")
+  pub undo_nothing : behind s [] (codes "undo") ≡ Err NothingStands
 
 abbrev pub alder : Team
 alder = record {

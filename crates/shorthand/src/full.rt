@@ -21,6 +21,7 @@ use crate::names::{
 use crate::point::{Belongs, Point, batters_at, point_at};
 use crate::rest::Rest;
 use crate::unclear::Unclear;
+use crate::undo::last_standing;
 use crate::unknown::{is_desk_word, with_words};
 use arrayvec::ArrayString;
 use cards::MatchSheet;
@@ -335,6 +336,21 @@ fn placed<B: BookOf>(
     }
 }
 
+/// Writes that the entry of this place is void.
+fn undoing(line: &mut Line, place: Option<u32>, rest: &mut Rest<'_>)
+    ensures { line.new ≡ plus_all line.old (full.undoing place rest.old) }
+{
+    match place {
+        Some(place) => {
+            line.word("fix");
+            line.place(place);
+            line.word("void");
+            line.rest(rest);
+        }
+        None => line.fail(Unclear::NothingStands),
+    }
+}
+
 /// Writes the words of a line in full.
 fn words_in_full<B: BookOf>(line: &mut Line, sheet: &MatchSheet, book: &B, rest: &mut Rest<'_>)
     ensures { line.new
@@ -346,6 +362,8 @@ fn words_in_full<B: BookOf>(line: &mut Line, sheet: &MatchSheet, book: &B, rest:
     if matches!(token, "fix" | "late") {
         line.word(token);
         placed(line, sheet, book, token == "late", rest);
+    } else if token == "undo" {
+        undoing(line, last_standing(book), rest);
     } else {
         item_at(line, sheet, book, Belongs::Last, token, rest);
     }

@@ -11,6 +11,7 @@ mod outs;
 mod point;
 mod rest;
 mod unclear;
+mod undo;
 mod unknown;
 mod worked;
 

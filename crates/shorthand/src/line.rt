@@ -6,6 +6,7 @@ ghost use Rattle.shorthand.specs.Lines.{as_typed, plus, plus_all, reason_of};
 use crate::rest::Rest;
 use crate::unclear::Unclear;
 use arrayvec::ArrayString;
+use itoa::Buffer;
 use notation::LineFault;
 use std::marker::Model;
 
@@ -124,6 +125,14 @@ impl Line {
         ensures { self.new ≡ plus self.old (Ok (decimal number)) }
     {
         self.word(digits(number));
+    }
+
+    /// Adds a place.
+    pub fn place(&mut self, place: u32)
+        ensures { self.new ≡ plus self.old (Ok (decimal place)) }
+    {
+        let mut buffer = Buffer::new();
+        self.word(buffer.format(place));
     }
 
     /// Adds the words that are left as they stand.

@@ -30,6 +30,8 @@ pub enum Unclear {
     NoSuchPlayer(ArrayString<96>),
     /// Several players of the side have.
     WhichPlayer(Side, ArrayString<96>),
+    /// Nothing stands that `undo` could make void.
+    NothingStands,
     /// A letter stands for what a delivery brought that means two things to scorers.
     TwoMeanings(Letter),
     /// This one is named as the fielder, where a batter is out in this way, in which none has a part.

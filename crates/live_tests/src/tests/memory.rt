@@ -2,7 +2,7 @@
 ghost use Rattle.std.specs.Prelude.{◌≡◌, ◌≤◌, IfSome};
 
 use super::*;
-use links::{Clock, ClockLog, InputLog, Keys, Link, Log, Taken, Typed};
+use links::{Clock, ClockLog, InputLog, Keys, Link, Log, Stand, Taken, Typed};
 use live::{Notice, NoticeLog, Notices, Shows, SightLog};
 use std::io::{self, Error, ErrorKind, Write};
 use streams::WriteFailed;
@@ -160,7 +160,7 @@ impl Keys for Lines {
 
     ghost inputs = { λ lines. inputs_of lines.log };
 
-    fn line(&mut self, buffer: &mut [u8; 128]) -> Typed {
+    fn line(&mut self, _at: Stand, buffer: &mut [u8; 128]) -> Typed {
         let line = match self.next() {
             Some("") => return Typed::Nothing,
             Some(line) => line.as_bytes(),

@@ -3,7 +3,7 @@ ghost use Rattle.std.specs.Prelude.{◌≡◌, ◌<◌};
 
 use super::timing::{Hand, Timed, World};
 use super::*;
-use links::{InputLog, Keys, Typed};
+use links::{InputLog, Keys, Stand, Typed};
 use std::io::{self, Write};
 
 /// A line, and when it is typed.
@@ -40,7 +40,7 @@ impl Keys for Timely<'_> {
 
     ghost inputs = { λ timely. inputs_of timely.log };
 
-    fn line(&mut self, buffer: &mut [u8; 128]) -> Typed {
+    fn line(&mut self, _at: Stand, buffer: &mut [u8; 128]) -> Typed {
         let line = match self.next() {
             Some(line) => line.as_bytes(),
             None => return Typed::Nothing,

@@ -1,6 +1,6 @@
 use Rattle.std.proofs.Common.{◌∙◌, ap, sym}
 use Rattle.live.specs.Texts.{said_text}
-use Rattle.live.proofs.DeskLemmas.{rests, says, says_last, typing_over}
+use Rattle.live.proofs.DeskLemmas.{rests, says, says_last, tells_aside, typing_over}
 use Rattle.live.proofs.TellingLemmas.{goes_further, tells_same}
 use Rattle.live.proofs.desk_loop.take_line.Goals as goal
 
@@ -9,6 +9,11 @@ returns-in-Nothing-clause-goes g c = λ turns ticking times beats. rw c.in-Nothi
 
 pub returns-in-Ended-clause-goes : goal.returns-in-Ended-clause-goes
 returns-in-Ended-clause-goes g c = λ turns ticking times beats. typing_over {ticking = ticking} beats c.in-Ended.ensures
+
+pub returns-in-Aside-clause-goes : goal.returns-in-Aside-clause-goes
+returns-in-Aside-clause-goes g c = λ turns ticking times beats.
+    let told = c.tell_aside.ensures in
+    tells_aside {ticking = ticking} c.in-Aside.aside beats c.in-Aside.ensures told.course told.text
 
 pub returns-in-Err-clause-goes : goal.returns-in-Err-clause-goes
 returns-in-Err-clause-goes g c = λ turns ticking times beats.

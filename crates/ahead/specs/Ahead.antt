@@ -1,0 +1,119 @@
+-- What becomes of the lines that were typed.
+use Rattle.std.specs.Prelude.{◌-◌, ◌==◌, ◌&&◌, ◌||◌, ℕ, Bool, true, nat_lt, not, List, [], ◌∷◌, ◌++◌, codes, drop, if◌then◌else◌, length, take}
+use Rattle.arrayvec.specs.ArrayString.{ArrayString}
+use Rattle.links.specs.Typing.{Input, Line, End}
+use Rattle.ahead.specs.declared.log.AheadLog.{AheadLog}
+use Rattle.ahead.specs.declared.log.AheadLog as logs
+use Rattle.ahead.specs.Sorts.{is_entry, may_cast}
+
+-- all that was typed, the oldest first
+abbrev pub typed_of : AheadLog → List Input
+typed_of logs.Empty = []
+typed_of (logs.Passed' marker before buffer count) = typed_of before ++ Line (take count.value buffer.value) ∷ []
+typed_of (logs.Held' marker before line) = typed_of before ++ Line line.value.bytes ∷ []
+typed_of (logs.Cast' marker before) = typed_of before
+typed_of (logs.TakenBack' marker before buffer count) = typed_of before ++ Line (take count.value buffer.value) ∷ []
+typed_of (logs.Dropped' marker before) = typed_of before
+typed_of (logs.Lost' marker before line) = typed_of before ++ Line line.value.bytes ∷ []
+typed_of (logs.Told' marker before) = typed_of before
+typed_of (logs.Unused' marker before buffer count) = typed_of before ++ Line (take count.value buffer.value) ∷ []
+typed_of (logs.Stopped' marker before) = typed_of before ++ End ∷ []
+typed_of (logs.Quit' marker before) = typed_of before
+typed_of (logs.Ended' marker before) = typed_of before
+
+-- the lines that are held, the oldest first
+abbrev pub held_of : AheadLog → List ArrayString
+held_of logs.Empty = []
+held_of (logs.Passed' marker before buffer count) = held_of before
+held_of (logs.Held' marker before line) = held_of before ++ line.value ∷ []
+held_of (logs.Cast' marker before) = drop 1 (held_of before)
+held_of (logs.TakenBack' marker before buffer count) = take (length (held_of before) - 1) (held_of before)
+held_of (logs.Dropped' marker before) = []
+held_of (logs.Lost' marker before line) = held_of before
+held_of (logs.Told' marker before) = held_of before
+held_of (logs.Unused' marker before buffer count) = held_of before
+held_of (logs.Stopped' marker before) = held_of before
+held_of (logs.Quit' marker before) = held_of before
+held_of (logs.Ended' marker before) = held_of before
+
+-- the lines that were dropped as they were typed, and weren't told yet
+abbrev pub lost_of : AheadLog → List ArrayString
+lost_of logs.Empty = []
+lost_of (logs.Passed' marker before buffer count) = lost_of before
+lost_of (logs.Held' marker before line) = lost_of before
+lost_of (logs.Cast' marker before) = lost_of before
+lost_of (logs.TakenBack' marker before buffer count) = lost_of before
+lost_of (logs.Dropped' marker before) = lost_of before
+lost_of (logs.Lost' marker before line) = lost_of before ++ line.value ∷ []
+lost_of (logs.Told' marker before) = []
+lost_of (logs.Unused' marker before buffer count) = lost_of before
+lost_of (logs.Stopped' marker before) = lost_of before
+lost_of (logs.Quit' marker before) = lost_of before
+lost_of (logs.Ended' marker before) = lost_of before
+
+-- the oldest of lines that are held, as the desk is given it
+abbrev pub oldest : List ArrayString → List Input
+oldest [] = []
+oldest (line ∷ lines) = Line line.bytes ∷ []
+
+-- what the desk was given, the oldest first
+abbrev pub given_of : AheadLog → List Input
+given_of logs.Empty = []
+given_of (logs.Passed' marker before buffer count) = given_of before ++ Line (take count.value buffer.value) ∷ []
+given_of (logs.Held' marker before line) = given_of before
+given_of (logs.Cast' marker before) = given_of before ++ oldest (held_of before)
+given_of (logs.TakenBack' marker before buffer count) = given_of before
+given_of (logs.Dropped' marker before) = given_of before
+given_of (logs.Lost' marker before line) = given_of before
+given_of (logs.Told' marker before) = given_of before
+given_of (logs.Unused' marker before buffer count) = given_of before
+given_of (logs.Stopped' marker before) = given_of before
+given_of (logs.Quit' marker before) = given_of before ++ Line (codes "quit") ∷ []
+given_of (logs.Ended' marker before) = given_of before ++ End ∷ []
+
+abbrev pub bytes_of : List ArrayString → List (List ℕ)
+bytes_of [] = []
+bytes_of (line ∷ lines) = line.bytes ∷ bytes_of lines
+
+-- the lines for which the desk may cast a vote
+abbrev pub casting : List Input → List (List ℕ)
+casting [] = []
+casting (Line line ∷ inputs) = (if may_cast line then line ∷ [] else []) ++ casting inputs
+casting (End ∷ inputs) = casting inputs
+
+-- all lines but the newest
+abbrev pub but_newest : {X : Type 0} → List X → List X
+but_newest lines = take (length lines - 1) lines
+
+-- the lines typed for which the desk may cast a vote, and that it was given at once, or that were held, without those that
+-- were taken back, the oldest first
+abbrev pub kept_of : AheadLog → List (List ℕ)
+kept_of logs.Empty = []
+kept_of (logs.Passed' marker before buffer count) = kept_of before ++ casting (Line (take count.value buffer.value) ∷ [])
+kept_of (logs.Held' marker before line) = kept_of before ++ line.value.bytes ∷ []
+kept_of (logs.Cast' marker before) = kept_of before
+kept_of (logs.TakenBack' marker before buffer count) = but_newest (kept_of before)
+kept_of (logs.Dropped' marker before) = kept_of before
+kept_of (logs.Lost' marker before line) = kept_of before
+kept_of (logs.Told' marker before) = kept_of before
+kept_of (logs.Unused' marker before buffer count) = kept_of before
+kept_of (logs.Stopped' marker before) = kept_of before
+kept_of (logs.Quit' marker before) = kept_of before
+kept_of (logs.Ended' marker before) = kept_of before
+
+-- A line for which the desk may cast a vote is handed on at once only where none is held; only a line that may be an entry's
+-- is held; and one is taken back only where one is held.
+abbrev pub is_ordered : AheadLog → Bool
+is_ordered logs.Empty = true
+is_ordered (logs.Passed' marker before buffer count) =
+    is_ordered before && (not (may_cast (take count.value buffer.value)) || (length (held_of before) == 0))
+is_ordered (logs.Held' marker before line) = is_ordered before && is_entry line.value.bytes
+is_ordered (logs.Cast' marker before) = is_ordered before
+is_ordered (logs.TakenBack' marker before buffer count) = is_ordered before && nat_lt 0 (length (held_of before))
+is_ordered (logs.Dropped' marker before) = is_ordered before
+is_ordered (logs.Lost' marker before line) = is_ordered before
+is_ordered (logs.Told' marker before) = is_ordered before
+is_ordered (logs.Unused' marker before buffer count) = is_ordered before
+is_ordered (logs.Stopped' marker before) = is_ordered before
+is_ordered (logs.Quit' marker before) = is_ordered before
+is_ordered (logs.Ended' marker before) = is_ordered before

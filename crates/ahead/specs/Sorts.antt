@@ -1,0 +1,39 @@
+-- What a line that was typed is to those that are held.
+use Rattle.std.specs.Prelude.{◌||◌, ℕ, Bool, true, false, List, Option, None, Some, bytes_eq, codes, if◌then◌else◌, take}
+use Rattle.screen.specs.Words.{is_end, trimmed, word_of}
+use Rattle.screen.specs.declared.word.Word.{Word}
+use Rattle.ahead.specs.declared.sorts.Sort.{Sort}
+
+abbrev pub says_again : List ℕ → Bool
+says_again line = bytes_eq line (codes "again") || bytes_eq (codes "again ") (take 6 line)
+
+-- a word that writes nothing, or any other line
+abbrev pub by_word : Option Word → Sort
+by_word None = Sort.Entry
+by_word (Some Word.Where) = Sort.Lists
+by_word (Some word) = Sort.Asks
+
+abbrev pub sort_of : List ℕ → Sort
+sort_of line =
+    if bytes_eq (trimmed line) (codes "undo") then Sort.Undo
+    else if is_end line then Sort.Quit
+    else if says_again line then Sort.Again
+    else by_word (word_of line)
+
+-- the desk may cast a vote for such a line
+abbrev pub casts : Sort → Bool
+casts Sort.Quit = false
+casts Sort.Lists = false
+casts Sort.Asks = false
+casts sort = true
+
+abbrev pub may_cast : List ℕ → Bool
+may_cast line = casts (sort_of line)
+
+-- it may be an entry's line: only such a line is held
+abbrev pub is_entrys : Sort → Bool
+is_entrys Sort.Entry = true
+is_entrys sort = false
+
+abbrev pub is_entry : List ℕ → Bool
+is_entry line = is_entrys (sort_of line)

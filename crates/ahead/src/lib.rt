@@ -1,0 +1,14 @@
+//! Lines that a scorer types ahead: those that are typed while the desk's vote is pending are held, and the desk is given them
+//! one after the other, each once the place of the one before it is agreed.
+#![tactic(auto)]
+
+mod ahead;
+mod laws;
+mod lines;
+mod log;
+mod queue;
+mod sorts;
+
+pub use ahead::Ahead;
+pub use laws::what_is_cast_was_typed;
+pub use log::AheadLog;

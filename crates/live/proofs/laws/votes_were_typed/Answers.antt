@@ -1,0 +1,5 @@
+use Rattle.live.proofs.BeforeLemmas.{votes_typed}
+use Rattle.live.proofs.laws.votes_were_typed.Goals as goal
+
+pub returns : goal.returns
+returns g c = λ desk game cap. votes_typed _ _

@@ -1,0 +1,168 @@
+//! What a desk's scorer is told of lines that the desk isn't given yet, or never will be.
+
+ghost use Rattle.std.specs.Prelude.{◌≡◌, ◌++◌, codes, decimal, true, Err, OnErr, OnOk};
+ghost use Rattle.std.specs.Io.KnownBytes.{Appends};
+ghost use Rattle.streams.specs.Watched.{Prints, has_failed, stream_of};
+ghost use Rattle.live.specs.Asides as asides;
+ghost use Rattle.live.specs.Ends.{course_of, further, known_at};
+
+use crate::ends::{DeskEnd, told};
+use crate::texts::print_at;
+use links::{Aside, HeldLine};
+use std::io::Write;
+use streams::{Watched, WriteFailed};
+
+/// Prints a line behind a comma.
+fn print_behind<W: Write>(out: &mut Watched<W>, line: &str) -> Result<(), WriteFailed>
+    ensures text { OnOk result (Prints W.contents out.old out.new (codes ", " ++ line.now)) }
+    ensures failed { OnErr result (has_failed out.new ≡ true) }
+{
+    write!(out, ", {line}")
+}
+
+/// Prints each line behind a comma.
+fn print_more<W: Write>(out: &mut Watched<W>, lines: &[HeldLine]) -> Result<(), WriteFailed>
+    ensures text { OnOk result (Prints W.contents out.old out.new (asides.more_lines lines.now)) }
+    ensures failed { OnErr result (has_failed out.new ≡ true) }
+{
+    let Some((line, more)) = lines.split_first() else {
+        return Ok(());
+    };
+    print_behind(out, line.as_str())?;
+    print_more(out, more)
+}
+
+/// Prints lines with a comma between two.
+fn print_lines<W: Write>(out: &mut Watched<W>, lines: &[HeldLine]) -> Result<(), WriteFailed>
+    ensures text { OnOk result (Prints W.contents out.old out.new (asides.lines_text lines.now)) }
+    ensures failed { OnErr result (has_failed out.new ≡ true) }
+{
+    let Some((line, more)) = lines.split_first() else {
+        return Ok(());
+    };
+    let words = line.as_str();
+    write!(out, "{words}")?;
+    print_more(out, more)
+}
+
+/// Prints lines with a comma between two, as a row.
+fn print_row<W: Write>(out: &mut Watched<W>, lines: &[HeldLine]) -> Result<(), WriteFailed>
+    ensures text { OnOk result (Prints W.contents out.old out.new (asides.lines_row lines.now)) }
+    ensures failed { OnErr result (has_failed out.new ≡ true) }
+{
+    print_lines(out, lines)?;
+    writeln!(out)
+}
+
+/// Prints that lines are dropped, in one row; nothing of none.
+fn print_dropped<W: Write>(out: &mut Watched<W>, lines: &[HeldLine]) -> Result<(), WriteFailed>
+    ensures text { OnOk result (Prints W.contents out.old out.new (asides.dropped_text lines.now)) }
+    ensures failed { OnErr result (has_failed out.new ≡ true) }
+{
+    if lines.is_empty() {
+        return Ok(());
+    }
+    let count = lines.len();
+    write!(out, "dropped {count}: ")?;
+    print_row(out, lines)
+}
+
+/// Prints that a line is held.
+fn print_held<W: Write>(out: &mut Watched<W>, place: u32, line: &str) -> Result<(), WriteFailed>
+    ensures text { OnOk result (Prints W.contents out.old out.new (asides.line_at place (codes " held: ") line.now)) }
+    ensures failed { OnErr result (has_failed out.new ≡ true) }
+{
+    writeln!(out, "{place} held: {line}")
+}
+
+/// Prints which lines are held.
+fn print_holds<W: Write>(
+    out: &mut Watched<W>,
+    place: u32,
+    lines: &[HeldLine],
+) -> Result<(), WriteFailed>
+    ensures text { OnOk result (Prints W.contents out.old out.new
+        (decimal place ++ codes " held: " ++ asides.lines_row lines.now)) }
+    ensures failed { OnErr result (has_failed out.new ≡ true) }
+{
+    write!(out, "{place} held: ")?;
+    print_row(out, lines)
+}
+
+/// Prints that one is taken back.
+fn print_taken_back<W: Write>(
+    out: &mut Watched<W>,
+    place: u32,
+    line: &str,
+) -> Result<(), WriteFailed>
+    ensures text { OnOk result (Prints W.contents out.old out.new (asides.line_at place (codes " taken back: ") line.now)) }
+    ensures failed { OnErr result (has_failed out.new ≡ true) }
+{
+    writeln!(out, "{place} taken back: {line}")
+}
+
+/// Prints that one wasn't taken, and that those behind it are dropped.
+fn print_not_taken<W: Write>(
+    out: &mut Watched<W>,
+    place: u32,
+    line: &str,
+    behind: &[HeldLine],
+) -> Result<(), WriteFailed>
+    ensures text { OnOk result (Prints W.contents out.old out.new
+        (asides.line_at place (codes " not taken: ") line.now ++ asides.dropped_text behind.now)) }
+    ensures failed { OnErr result (has_failed out.new ≡ true) }
+{
+    writeln!(out, "{place} not taken: {line}")?;
+    print_dropped(out, behind)
+}
+
+/// Prints that one can't be held.
+fn print_full<W: Write>(out: &mut Watched<W>, line: &str) -> Result<(), WriteFailed>
+    ensures text { OnOk result (Prints W.contents out.old out.new
+        (codes "24 lines are held, and not this: " ++ line.now ++ codes "\n")) }
+    ensures failed { OnErr result (has_failed out.new ≡ true) }
+{
+    writeln!(out, "24 lines are held, and not this: {line}")
+}
+
+/// Prints what is told of lines that the desk isn't given.
+fn print_of_lines<W: Write>(out: &mut Watched<W>, aside: &Aside) -> Result<(), WriteFailed>
+    ensures text { OnOk result (Prints W.contents out.old out.new (asides.aside_text aside.now)) }
+    ensures failed { OnErr result (has_failed out.new ≡ true) }
+{
+    match aside {
+        Aside::Held(place, line) => print_held(out, *place, line.as_str()),
+        Aside::Holds(place, lines) => print_holds(out, *place, lines.as_slice()),
+        Aside::TakenBack(place, line) => print_taken_back(out, *place, line.as_str()),
+        Aside::NotTaken(place, line, behind) => {
+            print_not_taken(out, *place, line.as_str(), behind.as_slice())
+        }
+        Aside::Dropped(lines) => print_dropped(out, lines.as_slice()),
+        Aside::Full(line) => print_full(out, line.as_str()),
+        Aside::NoText => writeln!(out, "not held: that line is no text"),
+        Aside::IsCast(place) => print_at(
+            out,
+            *place,
+            "is cast and stays: the other writes what is right, then type again and it",
+        ),
+    }
+}
+
+/// Prints it at once.
+fn print_aside<W: Write>(out: &mut Watched<W>, aside: &Aside) -> Result<(), WriteFailed>
+    ensures text { OnOk result (Prints W.contents out.old out.new (asides.aside_text aside.now)) }
+    ensures failed { OnErr result (has_failed out.new ≡ true) }
+{
+    print_of_lines(out, aside)?;
+    out.flush()
+}
+
+/// Tells the scorer of lines that the desk isn't given.
+pub fn tell_aside<W: Write>(out: &mut Watched<W>, aside: &Aside) -> Result<(), DeskEnd>
+    ensures text { Appends (known_at result (W.contents (stream_of out.old)))
+        (known_at result (W.contents (stream_of out.new))) (asides.aside_text aside.now) }
+    ensures course { course_of result ≡ further }
+    ensures failed { result ≡ Err DeskEnd.Write → has_failed out.new ≡ true }
+{
+    told(print_aside(out, aside))
+}

@@ -1,0 +1,46 @@
+//! The entry that `undo` makes void.
+
+ghost use Rattle.std.specs.Prelude.{◌≡◌, None};
+ghost use Rattle.shorthand.specs.Undo as undo;
+
+use corrections::{BookOf, Placed};
+use match_laws::is_void;
+
+/// The later of a place, if there is one, and another.
+fn later(last: Option<u32>, place: u32) -> Option<u32>
+    ensures { result ≡ undo.later last place }
+{
+    match last {
+        None => Some(place),
+        Some(before) => { if before < place { Some(place) } else { last } }
+    }
+}
+
+/// The last place, with an item more.
+fn with_item(last: Option<u32>, item: &Placed) -> Option<u32>
+    ensures { result ≡ undo.with_item last item.now }
+{
+    if is_void(&item.item) {
+        last
+    } else {
+        later(last, item.place)
+    }
+}
+
+/// The last of these places at which something stands.
+fn last_among(items: &[Placed]) -> Option<u32>
+    ensures { result ≡ undo.last_with None items.now }
+{
+    let mut last = None;
+    for index in 0..items.len() {
+        last = with_item(last, &items[index]);
+    }
+    last
+}
+
+/// The place of the last entry that stands in a book, if one does.
+pub fn last_standing<B: BookOf>(book: &B) -> Option<u32>
+    ensures { result ≡ undo.last_standing (B.content book.now) }
+{
+    last_among(book.clean_items())
+}
