@@ -9,6 +9,20 @@ its sealed form, or the message of a sealed one.
 import hashlib, hmac, sys, tomllib
 
 
+def limits_of(limits):
+    """The bytes of a sheet's table `limits`. A key that can't be what it says is as if it weren't there."""
+    is_overs = lambda number: type(number) is int and 1 <= number <= 450
+    is_pair = lambda pair: type(pair) is list and len(pair) == 2 and all(map(is_overs, pair)) and pair[0] <= pair[1]
+    fit = lambda values, test: values if type(values) is list and all(map(test, values)) else []
+    listed = lambda value: value if type(value) is list else [value]
+    marked = lambda mark, numbers: bytes([mark]) + b"".join(number.to_bytes(2, "big") for number in numbers)
+    overs = [marked(1, [number]) for number in fit(listed(limits.get("overs", [])), is_overs)]
+    bowler = [marked(2, [number]) for number in fit([limits.get("overs_a_bowler")], is_overs)]
+    free = [marked(3, [])] if limits.get("free_hits") is True else []
+    powerplays = [marked(4, pair) for pair in fit(limits.get("powerplays", []), is_pair)]
+    return b"".join(overs + bowler + free + powerplays)
+
+
 def digest_of(sheet):
     """The digest of a sheet, of which this is the file."""
     with open(sheet, "rb") as it:
@@ -16,7 +30,9 @@ def digest_of(sheet):
     text = lambda words: len(words.encode()).to_bytes(8, "big") + words.encode()
     side = lambda name: text(told[name]["name"]) + b"".join(map(text, told[name]["players"]))
     front = text(told["title"]) + told["number"].to_bytes(8, "big") + bytes([told["innings"]])
-    return hashlib.sha256(front + side("home") + side("away")).digest()
+    limits = told.get("limits")
+    behind = limits_of(limits) if type(limits) is dict else b""
+    return hashlib.sha256(front + side("home") + side("away") + behind).digest()
 
 
 def key_in(file):

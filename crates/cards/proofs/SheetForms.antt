@@ -11,7 +11,8 @@ use Rattle.std.proofs.lemmas.Bool.{and_parts}
 use Rattle.std.proofs.lemmas.Bool.Decides.{nat_tests}
 use Rattle.notation.specs.declared.entry.Side.TheVariants.{Home, Away}
 use Rattle.cards.specs.Sheet.{IsTeam, Sheet, Team, is_name, is_text, player_in}
-use Rattle.cards.specs.Digest.{IsSheet, side_text, text, texts_from, written}
+use Rattle.cards.specs.Digest.{IsSheet, limits_text, side_text, text, texts_from, written}
+use Rattle.cards.proofs.LimitForms.{same_limits}
 
 -- one text more
 pub texts_more : (f : ℕ → List ℕ) (k n : ℕ) → texts_from f k n ++ text (f (k + n)) ≡ texts_from f k (n + 1)
@@ -113,7 +114,8 @@ same_sheet s t h k e =
     let game : s.game ≡ t.game =
     sym (from_be_bytes-to_be_bytes_8 s.game h.0) ∙ ap (from_be_bytes w64) number ∙ from_be_bytes-to_be_bytes_8 t.game k.0 in
     let innings : s.innings ≡ t.innings = ap (λ (l : List ℕ). slice_index l 8) title.1 in
-    let sides : side_text s Home ++ side_text s Away ≡ side_text t Home ++ side_text t Away = ap (drop 9) title.1 in
-    let home = side_once s.home t.home h.1 k.1 (side_text s Away) (side_text t Away) sides in
-    let away = side_once s.away t.away h.2 k.2 [] [] (append-nil _ ∙ home.1 ∙ sym (append-nil _)) in
-    λ i. record { title = title.0 i; game = game i; innings = innings i; home = home.0 i; away = away.0 i }
+    let sides : side_text s Home ++ (side_text s Away ++ limits_text s.limits) ≡ side_text t Home ++ (side_text t Away ++ limits_text t.limits) = ap (drop 9) title.1 in
+    let home = side_once s.home t.home h.1 k.1 (side_text s Away ++ limits_text s.limits) (side_text t Away ++ limits_text t.limits) sides in
+    let away = side_once s.away t.away h.2 k.2 (limits_text s.limits) (limits_text t.limits) home.1 in
+    let limits = same_limits s.limits t.limits away.1 in
+    λ i. record { title = title.0 i; game = game i; innings = innings i; home = home.0 i; away = away.0 i; limits = limits i }

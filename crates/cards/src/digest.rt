@@ -1,12 +1,13 @@
 //! The digest of a match sheet.
 
-ghost use Rattle.std.specs.Prelude.{◌≡◌, ◌<◌, ◌+◌, ◌++◌, ℕ, List, length};
+ghost use Rattle.std.specs.Prelude.{◌≡◌, ◌<◌, ◌+◌, ◌++◌, ◌∷◌, ℕ, List, length};
 ghost use Rattle.cards.specs.Sheet.{Sheet};
 ghost use Rattle.cards.specs.Digest.{IsSheet, written};
 ghost use Rattle.sha2.specs.Hashers.{Holds256};
 ghost use Rattle.cards.specs.Digest as specs;
 
 use crate::sheet::MatchSheet;
+use limits::{Limits, Powerplay};
 use notation::{Player, Side};
 use sha2::{Digest, Sha256};
 
@@ -38,6 +39,82 @@ fn add_side(hasher: &mut Sha256, sheet: &MatchSheet, side: Side)
     }
 }
 
+/// A number of overs, behind a byte that says what they are of.
+fn add_overs(hasher: &mut Sha256, mark: u8, overs: u16)
+    ensures { (m : List ℕ) → Holds256 hasher.old m
+        → Holds256 hasher.new (m ++ mark ∷ specs.overs_bytes overs) }
+{
+    hasher.update([mark, (overs / 256) as u8, (overs % 256) as u8].as_slice());
+}
+
+/// Adds a powerplay.
+fn add_powerplay(hasher: &mut Sha256, powerplay: Powerplay)
+    ensures { (m : List ℕ) → Holds256 hasher.old m
+        → Holds256 hasher.new (m ++ (4 ∷ specs.overs_bytes powerplay.first ++ specs.overs_bytes powerplay.last)) }
+{
+    let first = powerplay.first;
+    let last = powerplay.last;
+    let bytes = [
+        4,
+        (first / 256) as u8,
+        (first % 256) as u8,
+        (last / 256) as u8,
+        (last % 256) as u8,
+    ];
+    hasher.update(bytes.as_slice());
+}
+
+/// Adds the overs of each innings.
+fn add_each_overs(hasher: &mut Sha256, overs: &[u16])
+    ensures { (m : List ℕ) → Holds256 hasher.old m
+        → Holds256 hasher.new (m ++ specs.each_overs overs.now) }
+{
+    for number in overs {
+        add_overs(hasher, 1, *number);
+    }
+}
+
+/// Adds each powerplay.
+fn add_powerplays(hasher: &mut Sha256, powerplays: &[Powerplay])
+    ensures { (m : List ℕ) → Holds256 hasher.old m
+        → Holds256 hasher.new (m ++ specs.each_powerplay powerplays.now) }
+{
+    for powerplay in powerplays {
+        add_powerplay(hasher, *powerplay);
+    }
+}
+
+/// Adds the overs of a bowler, if they are limited.
+fn add_bowler(hasher: &mut Sha256, overs: Option<u16>)
+    ensures { (m : List ℕ) → Holds256 hasher.old m
+        → Holds256 hasher.new (m ++ specs.bowler_bytes overs) }
+{
+    if let Some(overs) = overs {
+        add_overs(hasher, 2, overs);
+    }
+}
+
+/// Adds that there are free hits, if there are.
+fn add_free_hits(hasher: &mut Sha256, free_hits: bool)
+    ensures { (m : List ℕ) → Holds256 hasher.old m
+        → Holds256 hasher.new (m ++ specs.free_bytes free_hits) }
+{
+    if free_hits {
+        hasher.update([3].as_slice());
+    }
+}
+
+/// Adds what a sheet limits: no byte, where that is nothing.
+fn add_limits(hasher: &mut Sha256, limits: &Limits)
+    ensures { (m : List ℕ) → Holds256 hasher.old m
+        → Holds256 hasher.new (m ++ specs.limits_text limits.now) }
+{
+    add_each_overs(hasher, limits.overs());
+    add_bowler(hasher, limits.overs_a_bowler());
+    add_free_hits(hasher, limits.free_hits());
+    add_powerplays(hasher, limits.powerplays());
+}
+
 /// The digest of a sheet. It takes no memory.
 pub fn digest_of(sheet: &MatchSheet) -> [u8; 32]
     ensures { result ≡ specs.sheet_digest sheet.now }
@@ -48,6 +125,7 @@ pub fn digest_of(sheet: &MatchSheet) -> [u8; 32]
     hasher.update([sheet.innings() as u8].as_slice());
     add_side(&mut hasher, sheet, Side::Home);
     add_side(&mut hasher, sheet, Side::Away);
+    add_limits(&mut hasher, sheet.limits());
     hasher.finalize()
 }
 

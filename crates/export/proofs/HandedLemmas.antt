@@ -15,11 +15,12 @@ use Rattle.match_laws.specs.declared.outcome.Outcome.{Outcome}
 use Rattle.match_laws.specs.declared.outcome.Outcome.TheVariants.{Undecided}
 use Rattle.match_laws.specs.Result.{outcome}
 use Rattle.cards.specs.Sheet.{Sheet}
+use Rattle.limits.specs.Limits.{overs_for}
 use Rattle.toml.specs.Data.{Data, Members, no_members, member, get_member}
 use Rattle.json.specs.Json.{Json}
 use Rattle.json_fields.specs.Values.{Field, members_of, number_field}
 use Rattle.export.specs.Given.{IsValueOf, AreFieldsOf, HandsOn, info_in, is_own, others}
-use Rattle.export.specs.Info.{event_field, has_event, teams_field, players_field, outcome_fields, info_of}
+use Rattle.export.specs.Info.{event_field, event_fields, has_event, has_overs, overs_fields, overs_told, teams_field, players_field, outcome_fields, info_of}
 use Rattle.export.specs.Laws.{member_at, at, HasEachKey, LeavesOwn}
 
 by_order : {A : Type 0} (o : Ordering) (x y : A) → match_ordering o y x y ≡ cond (is_eq o) x y
@@ -103,12 +104,22 @@ module _ (key : List ℕ) where
   past_outcome s Undecided fs apart = refl
   past_outcome s o fs apart = past _ fs apart
 
-  no_event : (given : List Field) (b : Bool) → list_any (λ f. bytes_eq key f.0) given ≡ true →
-      has_event given ≡ false → bytes_eq key (codes "event") ≡ b → b ≡ false
-  no_event given true here none same =
-      let event = (bytes_eq-Decides key (codes "event")).0 same in
-      absurd (true≢false (sym here ∙ (ap (λ k. list_any (λ f. bytes_eq k f.0) given) event ∙ none)))
-  no_event given false here none same = refl
+  past_told : (overs : Option ℕ) (fs : List Field) → bytes_eq key (codes "overs") ≡ false → under (overs_told overs ++ fs) ≡ under fs
+  past_told None fs apart = refl
+  past_told (Some n) fs apart = past _ fs apart
+
+  past_overs : (has : Bool) (overs : Option ℕ) (fs : List Field) → (has ≡ false → bytes_eq key (codes "overs") ≡ false)
+      → under ((if has then [] else overs_told overs) ++ fs) ≡ under fs
+  past_overs true overs fs apart = refl
+  past_overs false overs fs apart = past_told overs fs (apart refl)
+
+  -- a key that is handed on is none that isn't
+  none_of : (name : List ℕ) (given : List Field) (b : Bool) → list_any (λ f. bytes_eq key f.0) given ≡ true →
+      list_any (λ f. bytes_eq name f.0) given ≡ false → bytes_eq key name ≡ b → b ≡ false
+  none_of name given true here none same =
+      let is = (bytes_eq-Decides key name).0 same in
+      absurd (true≢false (sym here ∙ (ap (λ k. list_any (λ f. bytes_eq k f.0) given) is ∙ none)))
+  none_of name given false here none same = refl
 
   past_own : (s : Sheet) (h : History) (given : List Field) → is_own key ≡ false → list_any (λ f. bytes_eq key f.0) given ≡ true →
       at key (info_of s h given) ≡ under given
@@ -118,7 +129,10 @@ module _ (key : List ℕ) where
       let (teams, players) = or_parts (bytes_eq key (codes "teams")) (bytes_eq key (codes "players")) two in
       let last = outcome_fields s (outcome s.innings h) ++ given in
       let each = number_field (codes "balls_per_over") 6 in
-      past_event (has_event given) (event_field s) (teams_field s ∷ players_field s ∷ each ∷ last) (λ none. no_event given (bytes_eq key (codes "event")) here none refl)
+      let rest = teams_field s ∷ players_field s ∷ each ∷ last in
+      ap under (append_assoc (event_fields s given) (overs_fields s given) rest)
+      ∙ past_event (has_event given) (event_field s) (overs_fields s given ++ rest) (λ none. none_of (codes "event") given (bytes_eq key (codes "event")) here none refl)
+      ∙ past_overs (has_overs given) (overs_for s.limits 0) rest (λ none. none_of (codes "overs") given (bytes_eq key (codes "overs")) here none refl)
       ∙ (past (teams_field s) (players_field s ∷ each ∷ last) teams ∙ (past (players_field s) (each ∷ last) players
       ∙ (past each last balls ∙ past_outcome s (outcome s.innings h) given result)))
 

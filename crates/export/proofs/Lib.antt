@@ -1,4 +1,5 @@
 pub mod Noting
+pub mod Singles
 pub mod EntryLemmas
 pub mod NameLemmas
 pub mod ReadLemmas

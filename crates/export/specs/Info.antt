@@ -1,5 +1,5 @@
 -- What is said of the match. s is the sheet, and given what its table [info] hands on.
-use Rattle.std.specs.Prelude.{ℕ, ◌+◌, Bool, if◌then◌else◌, bytes_eq, List, [], ◌∷◌, ◌++◌, codes}
+use Rattle.std.specs.Prelude.{ℕ, ◌+◌, Bool, if◌then◌else◌, bytes_eq, List, [], ◌∷◌, ◌++◌, Option, Some, None, codes}
 use Rattle.std.specs.List.{list_any}
 use Rattle.notation.specs.declared.entry.Side.{Side}
 use Rattle.notation.specs.declared.entry.Side.TheVariants.{Home, Away}
@@ -7,6 +7,7 @@ use Rattle.ball_laws.specs.History.{History}
 use Rattle.match_laws.specs.declared.outcome.Outcome.{Outcome}
 use Rattle.match_laws.specs.declared.outcome.Outcome.TheVariants.{Undecided, Draw, Tie, Runs, Wickets, InningsAnd, PenaltyRuns}
 use Rattle.match_laws.specs.Result.{outcome}
+use Rattle.limits.specs.Limits.{overs_for}
 use Rattle.cards.specs.Sheet.{Sheet, name_of, player_of}
 use Rattle.json.specs.Json.{Json, string}
 use Rattle.json_fields.specs.Values.{Field, array_of, object_of, text_field, number_field, up_to}
@@ -20,6 +21,21 @@ has_event given = list_any (λ f. bytes_eq (codes "event") f.0) given
 -- the title as the event, unless one is handed on
 abbrev pub event_fields : Sheet → List Field → List Field
 event_fields s given = if has_event given then [] else event_field s ∷ []
+
+-- how many overs an innings has, where the sheet limits them: the first one's
+abbrev pub overs_told : Option ℕ → List Field
+overs_told None = []
+overs_told (Some n) = number_field (codes "overs") n ∷ []
+
+abbrev pub has_overs : List Field → Bool
+has_overs given = list_any (λ f. bytes_eq (codes "overs") f.0) given
+
+-- unless the sheet's table [info] tells it
+abbrev pub overs_fields : Sheet → List Field → List Field
+overs_fields s given = if has_overs given then [] else overs_told (overs_for s.limits 0)
+
+abbrev pub head_fields : Sheet → List Field → List Field
+head_fields s given = event_fields s given ++ overs_fields s given
 
 abbrev pub sides_of : Sheet → List Json
 sides_of s = string (name_of s Home) ∷ [] ++ string (name_of s Away) ∷ []
@@ -69,10 +85,10 @@ outcome_fields s (Wickets side n) = win_field s side (margin_field (codes "wicke
 outcome_fields s (InningsAnd side n) = win_field s side (innings_margin n) ∷ []
 outcome_fields s (PenaltyRuns side) = win_field s side (method_field (codes "penalty runs")) ∷ []
 
--- the event, sides and players, how the match stands, and what is handed on
+-- the event, the overs of an innings, sides and players, how the match stands, and what is handed on
 abbrev pub info_of : Sheet → History → List Field → Json
 info_of s h given =
-    object_of (event_fields s given
+    object_of (head_fields s given
     ++ (teams_field s
     ∷ players_field s
     ∷ number_field (codes "balls_per_over") 6

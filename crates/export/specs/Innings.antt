@@ -1,6 +1,6 @@
 -- An innings over by over. s is the sheet, h the history, f which innings each side began first, i the innings, and xs
 -- the items of all innings with where they stand.
-use Rattle.std.specs.Prelude.{ℕ, ◌+◌, ◌-◌, ◌*◌, ◌==◌, nat_lt, Bool, false, true, not, ◌&&◌, if◌then◌else◌, List, [], ◌∷◌, ◌++◌, filter, Option, Some, None, codes}
+use Rattle.std.specs.Prelude.{ℕ, ◌+◌, ◌-◌, ◌*◌, ◌==◌, nat_lt, Bool, false, true, not, ◌&&◌, if◌then◌else◌, List, [], ◌∷◌, ◌++◌, filter, map, Option, Some, None, codes, decimal}
 use Rattle.std.specs.List.{list_any}
 use Rattle.notation.specs.declared.entry.{Side.Side, Cause.Cause, Plain.Plain}
 use Rattle.ball_laws.specs.History.{History}
@@ -8,10 +8,13 @@ use Rattle.match_laws.specs.History.{begun, side_of, opponent, is_at}
 use Rattle.match_laws.specs.Figures.{total}
 use Rattle.match_laws.specs.Result.{side_total}
 use Rattle.cards.specs.Sheet.{Sheet, name_of}
-use Rattle.json.specs.Json.{Json}
+use Rattle.limits.specs.declared.powerplay.Powerplay.{Powerplay}
+use Rattle.limits.specs.Limits.{overs_for}
+use Rattle.json.specs.Json.{Json, number}
 use Rattle.json_fields.specs.Values.{Field, array_of, object_of, text_field, number_field, count_field, flag_if, up_to}
 use Rattle.export.specs.declared.{begun.Begun.Begun, notes.Noted.Noted}
 use Rattle.export.specs.Notes.{begun_of, items_in, is_ball, carried}
+use Rattle.export.specs.Info.{overs_told}
 use Rattle.export.specs.Miscounts.{miscounted_fields}
 use Rattle.export.specs.Deliveries.{listed, penalties}
 
@@ -81,11 +84,31 @@ needed_in h i =
     let side = side_of h i in
     side_total h (opponent side) + 1 - (side_total h side - total h i)
 
+-- a number with a digit behind its point, as deliveries of overs are numbered
+abbrev pub ball_number : ℕ → ℕ → Json
+ball_number over ball = number (decimal over ++ codes "." ++ decimal ball)
+
+-- a powerplay, from the first delivery of its first over to the sixth of its last one. Overs are numbered from 0
+abbrev pub powerplay_value : Powerplay → Json
+powerplay_value p =
+    object_of ((codes "from", ball_number (p.first - 1) 1) ∷ []
+    ++ (codes "to", ball_number (p.last - 1) 6) ∷ []
+    ++ text_field (codes "type") (codes "mandatory") ∷ [])
+
+abbrev pub powerplay_fields : List Powerplay → List Field
+powerplay_fields [] = []
+powerplay_fields (p ∷ ps) = (codes "powerplays", array_of (map powerplay_value (p ∷ ps))) ∷ []
+
+-- so many runs, in so many overs where they are limited
+abbrev pub target_field : Sheet → History → ℕ → Field
+target_field s h i =
+    (codes "target", object_of (number_field (codes "runs") (needed_in h i) ∷ [] ++ overs_told (overs_for s.limits i)))
+
 -- the target, in the last innings of a match
 abbrev pub target_fields : Sheet → History → ℕ → List Field
 target_fields s h i =
     if i + 1 == 2 * s.innings
-    then (codes "target", object_of (number_field (codes "runs") (needed_in h i) ∷ [])) ∷ []
+    then target_field s h i ∷ []
     else []
 
 abbrev pub overs_field : Sheet → History → List Noted → ℕ → Field
@@ -98,6 +121,7 @@ rest_fields s h xs i =
     ++ flag_if (is_declared (items_in i xs)) (codes "declared")
     ++ flag_if (is_forfeited (items_in i xs)) (codes "forfeited")
     ++ target_fields s h i
+    ++ powerplay_fields s.limits.powerplays
     ++ miscounted_fields (items_in i xs)
 
 abbrev pub innings_of : Sheet → History → List Noted → ℕ → Json

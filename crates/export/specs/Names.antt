@@ -21,6 +21,7 @@ told_apart s = record {
   innings = s.innings;
   home = record { name = name_in s Home; players = s.home.players };
   away = record { name = name_in s Away; players = s.away.players };
+  limits = s.limits;
 }
 
 -- no two sides of an export have one name

@@ -48,6 +48,43 @@ fn put_title(out: &mut Pretty, sheet: &NamedSheet<'_>, info: &Table) -> Result<(
     put_event(out, sheet)
 }
 
+/// Whether the sheet's table `[info]` has overs.
+fn has_overs(info: &Table) -> bool
+    ensures { result ≡ is_some (get_member (codes "overs") (table_view info.now)) }
+{
+    info.get("overs").is_some()
+}
+
+/// Puts how many overs an innings has, where that is limited.
+pub fn put_overs_told(out: &mut Pretty, overs: Option<u16>) -> Result<(), AllocError>
+    ensures { PutsFields result out.old out.new (laws.overs_told overs) }
+{
+    match overs {
+        None => Ok(()),
+        Some(overs) => put_figure(out, "overs", u32::from(overs)),
+    }
+}
+
+/// Puts how many overs an innings has, unless `[info]` has it.
+fn put_overs_of(out: &mut Pretty, sheet: &NamedSheet<'_>, info: &Table) -> Result<(), AllocError>
+    ensures { (given : List Field) → AreFieldsOf (others (table_view info.now)) given
+        → PutsFields result out.old out.new (laws.overs_fields sheet.now given) }
+{
+    if has_overs(info) {
+        return Ok(());
+    }
+    put_overs_told(out, sheet.limits().overs_for(0))
+}
+
+/// Puts the event and the overs.
+fn put_head(out: &mut Pretty, sheet: &NamedSheet<'_>, info: &Table) -> Result<(), AllocError>
+    ensures { (given : List Field) → AreFieldsOf (others (table_view info.now)) given
+        → PutsFields result out.old out.new (laws.head_fields sheet.now given) }
+{
+    put_title(out, sheet, info)?;
+    put_overs_of(out, sheet, info)
+}
+
 /// Puts the names of both sides.
 fn put_sides(out: &mut Pretty, sheet: &NamedSheet<'_>) -> Result<(), AllocError>
     ensures { PutsValues result out.old out.new (laws.sides_of sheet.now) }
@@ -205,7 +242,7 @@ pub fn put_info(
         → OnOk result (PutsInfo sheet.now h (table_view info.now) out.old out.new) }
 {
     begin_field(out, "info")?;
-    put_title(out, sheet, info)?;
+    put_head(out, sheet, info)?;
     put_teams(out, sheet)?;
     put_players(out, sheet)?;
     put_figure(out, "balls_per_over", 6)?;

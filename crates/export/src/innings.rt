@@ -8,10 +8,12 @@ ghost use Rattle.export.specs.Notes.{begun_of, items_in};
 
 use crate::begun::Begun;
 use crate::deliveries::{penalties, plus, put_awarded};
+use crate::info::put_overs_told;
 use crate::miscounts::put_miscounts;
 use crate::named::NamedSheet;
 use crate::notes::{Noted, carried, items_in, noted_at};
 use crate::overs::put_overs;
+use crate::powerplays::put_powerplays;
 use json::Pretty;
 use json_fields::{
     begin_array, begin_field, begin_object, end_array, end_object, put_figure, put_flag, put_text,
@@ -135,6 +137,23 @@ fn needed_in(score: &Match, innings: usize) -> u32
     (score.side_total(opponent(side)) + 1).saturating_sub(before)
 }
 
+/// Puts what has to be reached, and in how many overs where these are limited.
+fn put_target_field(
+    out: &mut Pretty,
+    sheet: &NamedSheet<'_>,
+    score: &Match,
+    innings: usize,
+) -> Result<(), AllocError>
+    requires { innings < begun_in score.now }
+    ensures { ForEachHistory score.now (λ n h.
+        PutsFields result out.old out.new (laws.target_field sheet.now h innings ∷ [])) }
+{
+    begin_field(out, "target")?;
+    put_figure(out, "runs", needed_in(score, innings))?;
+    put_overs_told(out, sheet.limits().overs_for(innings))?;
+    end_object(out)
+}
+
 /// Puts the target, in the last innings of a match.
 fn put_target(
     out: &mut Pretty,
@@ -151,9 +170,7 @@ fn put_target(
     if innings as u32 + 1 != 2 * sheet.innings() {
         return Ok(());
     }
-    begin_field(out, "target")?;
-    put_figure(out, "runs", needed_in(score, innings))?;
-    end_object(out)
+    put_target_field(out, sheet, score, innings)
 }
 
 /// Puts how an innings ended, and what it has beside its overs. items are those of the innings, and notes those of all
@@ -179,6 +196,7 @@ fn put_rest(
     put_flag(out, "declared", is_declared(items))?;
     put_flag(out, "forfeited", is_forfeited(items))?;
     put_target(out, sheet, score, innings)?;
+    put_powerplays(alloc, out, sheet.limits().powerplays())?;
     put_miscounts(out, items)
 }
 

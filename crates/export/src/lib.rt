@@ -16,6 +16,7 @@ mod miscounts;
 mod named;
 mod notes;
 mod overs;
+mod powerplays;
 mod readers;
 mod text;
 mod value;

@@ -5,6 +5,7 @@ ghost use Rattle.cards.specs.Sheet as sheets;
 ghost use Rattle.export.specs.Names as names;
 
 use cards::MatchSheet;
+use limits::Limits;
 use notation::{Player, Side};
 use std::alloc::{AllocError, Global};
 use std::marker::Model;
@@ -29,6 +30,7 @@ impl<'a> Model for NamedSheet<'a> {
       innings = s.sheet.now.innings;
       home = record { name = string_bytes s.home; players = s.sheet.now.home.players };
       away = record { name = string_bytes s.away; players = s.sheet.now.away.players };
+      limits = s.sheet.now.limits;
     } };
 }
 
@@ -83,6 +85,13 @@ impl<'a> NamedSheet<'a> {
         ensures in_range { (1 ≤ result) × (result ≤ 2) }
     {
         self.sheet.innings()
+    }
+
+    /// What it limits.
+    pub fn limits(&self) -> &Limits
+        ensures { result.now ≡ self.now.limits }
+    {
+        self.sheet.limits()
     }
 
     /// The name of the side.

@@ -1,9 +1,11 @@
 -- What a scorer is told of a line that isn't clear or has a fault.
-use Rattle.std.specs.Prelude.{ℕ, true, List, ◌++◌, codes, decimal}
+use Rattle.std.specs.Prelude.{ℕ, true, if◌then◌else◌, is_some, List, [], ◌++◌, codes, decimal}
 use Rattle.notation.specs.declared.fault.LineFault.{LineFault}
 use Rattle.notation.specs.LineFault.{number_of, name_of}
+use Rattle.ball_laws.specs.History.{History}
 use Rattle.cards.specs.Sheet.{Sheet, team_of}
 use Rattle.screen.specs.Sentences.{of_fault}
+use Rattle.screen.specs.Limited.{bowlers}
 use Rattle.screen.specs.Sides.{listed}
 use Rattle.screen.specs.Near.{unknown_text}
 use Rattle.shorthand.specs.declared.unclear.{Letter.Letter, Unaided.Unaided, Unclear.Unclear}
@@ -41,3 +43,11 @@ unclear_text sheet (Unclear.UnknownWord word) = unknown_text word.bytes
 unclear_text sheet (Unclear.WhichPlayer side name) =
     codes "which one? " ++ listed (team_of sheet side) true (candidates (team_of sheet side) name.bytes) ++ codes "\n"
 unclear_text sheet Unclear.NothingStands = codes "undo: no entry stands\n"
+
+-- behind it who may bowl, where a line doesn't say who does and the sheet limits the overs of a bowler
+abbrev pub limited_bowlers : Sheet → History → List ℕ
+limited_bowlers sheet h = if is_some sheet.limits.overs_a_bowler then bowlers sheet h else []
+
+abbrev pub who_may : Sheet → History → Unclear → List ℕ
+who_may sheet h Unclear.WhoBowls = limited_bowlers sheet h
+who_may sheet h unclear = []

@@ -25,11 +25,12 @@ use Rattle.screen.specs.OverCheck.{over_check}
 use Rattle.screen.specs.Both.{both_cards}
 use Rattle.screen.specs.Listing.{listing}
 use Rattle.screen.specs.Sides.{both_sides}
+use Rattle.screen.specs.Limited.{bowlers}
 use Rattle.screen.specs.Help.{help, help_on}
 use Rattle.screen.specs.Sentences.{of_book, of_desk}
 use Rattle.screen.specs.declared.word.Word.{Word}
 use Rattle.live.specs.declared.{reminder.Reminder.Reminder, said.Said.Said, warned.Warned.Warned}
-use Rattle.live.specs.Questions.{explained, fault_text, numbered, unclear_text}
+use Rattle.live.specs.Questions.{explained, fault_text, numbered, unclear_text, who_may}
 
 -- the umpire calls over
 abbrev pub is_over : Entry → Bool
@@ -52,7 +53,7 @@ agreed_line place e = decimal place ++ codes " agreed: " ++ text_of e
 abbrev pub over_agreed : Sheet → ℕ → ℕ → History → Entry → List ℕ
 over_agreed sheet innings place h e =
     agreed_line place e ++ over_called h ++ over_note (counting (last_called_over h))
-    ++ aim (result_text sheet (outcome innings h)) None ++ codes "\n" ++ over_check sheet h
+    ++ aim (result_text sheet (outcome innings h)) None None ++ codes "\n" ++ over_check sheet h
 
 abbrev pub play_agreed : Sheet → ℕ → ℕ → History → Entry → List ℕ
 play_agreed sheet innings place h e = agreed_line place e ++ codes "\n" ++ row sheet innings h
@@ -162,6 +163,7 @@ word_text sheet innings at own waited silent book (Word.Entries most) = listing 
 word_text sheet innings at own waited silent book Word.Total = over_check sheet (history_of book)
 word_text sheet innings at own waited silent book Word.Cards = both_cards sheet (history_of book)
 word_text sheet innings at own waited silent book Word.Sides = both_sides sheet
+word_text sheet innings at own waited silent book Word.Bowlers = bowlers sheet (history_of book)
 word_text sheet innings at own waited silent book Word.Forms = help
 word_text sheet innings at own waited silent book (Word.More topic) = help_on topic
 
@@ -171,7 +173,8 @@ abbrev pub said_text : Sheet → ℕ → Position → Option Entry → Option En
 said_text sheet innings at own other silent book Said.Quit = []
 said_text sheet innings at own other silent book (Said.Asks word) =
     word_text sheet innings at own (is_waited_for own other) silent book word
-said_text sheet innings at own other silent book (Said.Unclear unclear) = unclear_text sheet unclear
+said_text sheet innings at own other silent book (Said.Unclear unclear) =
+    unclear_text sheet unclear ++ who_may sheet (history_of book) unclear
 said_text sheet innings at own other silent book (Said.Fault fault) = fault_text fault
 said_text sheet innings at own other silent book Said.SayAgain = again_text at (why_full at)
 said_text sheet innings at own other silent book Said.NoneDiffers =

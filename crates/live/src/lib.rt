@@ -29,6 +29,7 @@ mod shows;
 mod sight_log;
 mod texts;
 mod warned;
+mod who_bowls;
 
 pub use begin::begin_desk;
 pub use board_life::keep_board;

@@ -12,8 +12,9 @@ ghost use Rattle.live.specs.inner.Telling.{IsFine};
 ghost use Rattle.live.specs.Texts as texts;
 
 use crate::both::Both;
-use crate::questions::{print_fault, print_unclear};
+use crate::questions::print_fault;
 use crate::said::Said;
+use crate::who_bowls::print_question;
 use agree_core::{Position, ROUNDS, Settled};
 use cards::MatchSheet;
 use corrections::BookOf;
@@ -21,8 +22,8 @@ use desk::Refusal;
 use match_laws::Match;
 use notation::{Entry, PLACES, Plain, line_of};
 use screen::{
-    HELP, Word, help_on, print_cards, print_check, print_listing, print_over_note, print_result,
-    print_row, print_sides, refusal_sentence,
+    HELP, Word, help_on, print_bowlers, print_cards, print_check, print_listing, print_over_note,
+    print_result, print_row, print_sides, refusal_sentence,
 };
 use std::io::Write;
 use streams::{Watched, WriteFailed};
@@ -393,6 +394,7 @@ fn print_asked<B: BookOf, W: Write>(
         Word::Total => print_check(out, sheet, book),
         Word::Cards => print_cards(out, sheet, book),
         Word::Sides => print_sides(out, sheet),
+        Word::Bowlers => print_bowlers(out, sheet, book),
         Word::Forms => write!(out, "{HELP}"),
         Word::More(topic) => {
             let text = help_on(topic);
@@ -449,7 +451,7 @@ fn print_answer<B: BookOf, W: Write>(
                 *word,
             )
         }
-        Said::Unclear(unclear) => print_unclear(out, sheet, unclear),
+        Said::Unclear(unclear) => print_question(out, sheet, unclear, book),
         Said::Fault(fault) => print_fault(out, *fault),
         Said::SayAgain => print_again(out, at),
         Said::NoneDiffers => print_at(out, at.place, "doesn't differ: leave out again"),

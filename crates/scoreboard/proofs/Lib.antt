@@ -1,2 +1,6 @@
 pub mod Rows
+pub mod Singles
+pub mod StandLemmas
+pub mod RecentLemmas
+pub mod CountLemmas
 pub mod LawLemmas

@@ -1,6 +1,9 @@
--- What the public calls claim: Value with all that it cites (Innings, Now, and the marks of `cards`), and Laws. inner: for private functions only.
+-- What the public calls claim: Value with all that it cites (Innings, Now, Limited, Stand, OverRuns, and the marks of `cards`), and Laws. inner: for private functions only.
 pub mod Innings
+pub mod Limited
 pub mod Now
+pub mod Stand
+pub mod OverRuns
 pub mod Value
 pub mod Laws
 pub mod inner

@@ -1,23 +1,19 @@
--- What is going on: who bats and who bowls, this over and the last one, what is needed, and the result. s is the
+-- What is going on: who bats and who bowls, this over and the last one, what is needed, the result, and what is left. s is the
 -- sheet, n the innings a side and h the history.
-use Rattle.std.specs.Prelude.{ℕ, ◌-◌, ◌==◌, if◌then◌else◌, List, [], ◌∷◌, ◌++◌, Option, Some, None, map, option_map, reverse, codes}
+use Rattle.std.specs.Prelude.{ℕ, List, [], ◌∷◌, ◌++◌, Option, Some, None, map, reverse, codes}
 use Rattle.notation.specs.declared.entry.Ball.{Ball}
 use Rattle.ball_laws.specs.History.{History, open_over, last_called_over}
 use Rattle.ball_laws.specs.Laws.{state_after}
-use Rattle.match_laws.specs.History.{begun}
-use Rattle.match_laws.specs.Figures.{total}
-use Rattle.match_laws.specs.Result.{current, target, outcome}
+use Rattle.match_laws.specs.Result.{target, outcome}
 use Rattle.corrections.specs.Overs.{bowler_now}
+use Rattle.limits.specs.Figures.{runs_needed}
 use Rattle.cards.specs.Sheet.{Sheet}
 use Rattle.cards.specs.Results.{result_text}
 use Rattle.json.specs.Json.{Json, null, string}
-use Rattle.json_fields.specs.Values.{Field, array_of, object_of, number_value}
+use Rattle.json_fields.specs.Values.{Field, array_of, object_of}
 use Rattle.cards.specs.Marks.{mark_of}
-
--- a number, if there is one
-abbrev pub number_or_null : Option ℕ → Json
-number_or_null None = null
-number_or_null (Some n) = number_value n
+use Rattle.scoreboard.specs.Limited.{number_or_null, told_fields, told_of}
+use Rattle.scoreboard.specs.Stand.{stand_field, stand_now}
 
 -- a text, if there is one
 abbrev pub text_or_null : Option (List ℕ) → Json
@@ -27,10 +23,6 @@ text_or_null (Some text) = string text
 -- the deliveries of an over, the oldest first
 abbrev pub over_value : List Ball → Json
 over_value over = array_of (map (λ b. string (mark_of b)) over)
-
--- what the side that bats last needs yet to win (Law 16)
-abbrev pub needs : ℕ → History → Option ℕ
-needs n h = if begun h == 0 then None else option_map (λ runs. runs - total h (current h)) (target n h)
 
 abbrev pub players_fields : History → List Field
 players_fields h =
@@ -52,8 +44,9 @@ result_field s n h = (codes "result", text_or_null (result_text s (outcome n h))
 abbrev pub result_fields : Sheet → ℕ → History → List Field
 result_fields s n h =
     (codes "target", number_or_null (target n h)) ∷ []
-    ++ (codes "needs", number_or_null (needs n h)) ∷ []
+    ++ (codes "needs", number_or_null (runs_needed n h)) ∷ []
     ++ result_field s n h ∷ []
 
 abbrev pub now_value : Sheet → ℕ → History → Json
-now_value s n h = object_of (players_fields h ++ both_overs h ++ result_fields s n h)
+now_value s n h =
+    object_of (players_fields h ++ both_overs h ++ result_fields s n h ++ told_fields (told_of s n h) ++ stand_field (stand_now h) ∷ [])

@@ -9,7 +9,9 @@ use Rattle.json.specs.Tree.{json_tokens}
 use Rattle.json.specs.Print.{print}
 use Rattle.json_fields.specs.Values.{Field, array_of, object_of, text_field, number_field}
 use Rattle.scoreboard.specs.Innings.{all_innings}
+use Rattle.scoreboard.specs.Limited.{limits_value}
 use Rattle.scoreboard.specs.Now.{now_value}
+use Rattle.scoreboard.specs.OverRuns.{over_runs, overs_field}
 
 -- The match number is a text, since a reader's numbers may not go so far.
 abbrev pub head_fields : Sheet → ℕ → List Field
@@ -23,8 +25,10 @@ head_fields s entries =
 abbrev pub value_of : Sheet → ℕ → ℕ → History → Json
 value_of s n entries h =
     object_of (head_fields s entries
+    ++ (codes "limits", limits_value s.limits) ∷ []
     ++ (codes "innings", array_of (all_innings s h)) ∷ []
-    ++ (codes "now", now_value s n h) ∷ [])
+    ++ (codes "now", now_value s n h) ∷ []
+    ++ overs_field (over_runs h) ∷ [])
 
 abbrev pub board_value : Sheet → ℕ → List Entry → Json
 board_value s n book = value_of s n (length book) (history_of book)

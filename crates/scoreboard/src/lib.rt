@@ -5,9 +5,14 @@
 mod cards_put;
 mod innings;
 mod laws;
+mod limited;
 mod marks;
 mod now;
+mod over_runs;
+mod recent;
+mod stand;
 mod text;
+mod told;
 mod value;
 
 pub use laws::boards_add_up;

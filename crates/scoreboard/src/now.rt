@@ -1,34 +1,30 @@
 //! What is going on.
 
-ghost use Rattle.std.specs.Prelude.{◌≡◌, ◌∷◌, [], codes, option_map, reverse, string_bytes};
+ghost use Rattle.std.specs.Prelude.{◌≡◌, ◌∷◌, [], codes, reverse, string_bytes};
 ghost use Rattle.match_laws.specs.Stands.{ForEachHistory};
 ghost use Rattle.corrections.specs.Overs.{AreOversOf, balls_of};
 ghost use Rattle.json_fields.specs.Values.{PutsFields};
+ghost use Rattle.scoreboard.specs.Limited as limited;
 ghost use Rattle.scoreboard.specs.Now as laws;
+ghost use Rattle.scoreboard.specs.Stand.{stand_now};
 
+use crate::limited::{put_figure_or_null, put_told};
 use crate::marks::put_marks;
+use crate::stand::{Stand, put_stand};
+use crate::told::Told;
 use cards::{MatchSheet, result_text};
 use corrections::{Overs, Placed};
 use json_fields::{
     Compact, begin_array, begin_field, end_array, end_object, put_figure, put_null, put_text,
 };
+use limits::runs_needed;
 use match_laws::Match;
 use notation::Player;
 use std::alloc::{AllocError, Global};
 
-/// Puts a number, if there is one.
-fn put_number_or_null(out: &mut Compact, name: &str, number: Option<u32>) -> Result<(), AllocError>
-    ensures { PutsFields result out.old out.new ((name.now, laws.number_or_null number) ∷ []) }
-{
-    match number {
-        Some(number) => put_figure(out, name, number),
-        None => put_null(out, name),
-    }
-}
-
 /// Puts a player's number, if there is one.
 fn put_player(out: &mut Compact, name: &str, player: Option<Player>) -> Result<(), AllocError>
-    ensures { PutsFields result out.old out.new ((name.now, laws.number_or_null player) ∷ []) }
+    ensures { PutsFields result out.old out.new ((name.now, limited.number_or_null player) ∷ []) }
 {
     match player {
         Some(player) => put_figure(out, name, u32::from(player.number())),
@@ -65,18 +61,6 @@ fn put_overs(out: &mut Compact, alloc: Global, overs: &Overs<'_>) -> Result<(), 
     put_over(out, alloc, "last_over", overs.last)
 }
 
-/// What the side that bats last needs yet to win.
-fn needs(score: &Match) -> Option<u32>
-    ensures { ForEachHistory score.now (λ n h. result ≡ laws.needs n h) }
-{
-    let begun = score.begun();
-    if begun == 0 {
-        return None;
-    }
-    let runs = score.target()?;
-    Some(runs.saturating_sub(score.total(begun - 1)))
-}
-
 /// Puts the result, where there is one.
 fn put_result(
     out: &mut Compact,
@@ -103,8 +87,8 @@ fn put_aim(
     ensures { ForEachHistory score.now (λ n h.
         PutsFields result out.old out.new (laws.result_fields sheet.now n h)) }
 {
-    put_number_or_null(out, "target", score.target())?;
-    put_number_or_null(out, "needs", needs(score))?;
+    put_figure_or_null(out, "target", score.target())?;
+    put_figure_or_null(out, "needs", runs_needed(score))?;
     put_result(out, alloc, sheet, score)
 }
 
@@ -115,13 +99,17 @@ pub fn put_now(
     sheet: &MatchSheet,
     score: &Match,
     overs: &Overs<'_>,
+    told: &Told,
+    stand: Option<Stand>,
 ) -> Result<(), AllocError>
-    ensures { ForEachHistory score.now (λ n h. AreOversOf overs.now h →
-        PutsFields result out.old out.new ((codes "now", laws.now_value sheet.now n h) ∷ [])) }
+    ensures { ForEachHistory score.now (λ n h. AreOversOf overs.now h → told.now ≡ limited.told_of sheet.now n h →
+        stand ≡ stand_now h → PutsFields result out.old out.new ((codes "now", laws.now_value sheet.now n h) ∷ [])) }
 {
     begin_field(out, "now")?;
     put_players(out, score, overs)?;
     put_overs(out, alloc, overs)?;
     put_aim(out, alloc, sheet, score)?;
+    put_told(out, alloc, told)?;
+    put_stand(out, stand)?;
     end_object(out)
 }

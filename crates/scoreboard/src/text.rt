@@ -3,6 +3,9 @@
 ghost use Rattle.std.specs.Prelude.{◌≡◌, IfOk};
 ghost use Rattle.scoreboard.specs.Value.{board_text};
 
+use crate::over_runs::runs_by_over;
+use crate::stand::stand_now;
+use crate::told::told_of;
 use crate::value::put_board;
 use cards::MatchSheet;
 use corrections::{BookOf, overs_of};
@@ -20,8 +23,20 @@ pub fn board_text<B: BookOf>(
         text.items ≡ board_text sheet.now (B.innings_a_side book.now) (B.content book.now)) }
 {
     let overs = overs_of(book);
+    let runs = runs_by_over(alloc, book)?;
     let mut out = Compact::new(alloc);
-    put_board(&mut out, alloc, sheet, book.len(), book.score(), &overs)?;
+    let told = told_of(sheet, book);
+    put_board(
+        &mut out,
+        alloc,
+        sheet,
+        book.len(),
+        book.score(),
+        &overs,
+        &told,
+        stand_now(book),
+        runs.as_slice(),
+    )?;
     let mut text = out.into_inner();
     text.push(b'\n')?;
     Ok(text)

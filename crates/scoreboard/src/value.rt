@@ -1,13 +1,20 @@
 //! The state of a board as one JSON value.
 
-ghost use Rattle.std.specs.Prelude.{◌∷◌, []};
+ghost use Rattle.std.specs.Prelude.{◌≡◌, ◌∷◌, []};
 ghost use Rattle.match_laws.specs.Stands.{ForEachHistory};
 ghost use Rattle.corrections.specs.Overs.{AreOversOf};
 ghost use Rattle.json_fields.specs.Values.{PutsFields, PutsValues};
+ghost use Rattle.scoreboard.specs.Limited.{told_of};
+ghost use Rattle.scoreboard.specs.OverRuns.{over_runs};
+ghost use Rattle.scoreboard.specs.Stand.{stand_now};
 ghost use Rattle.scoreboard.specs.Value as laws;
 
 use crate::innings::put_all_innings;
+use crate::limited::put_limits;
 use crate::now::put_now;
+use crate::over_runs::{OverRuns, put_over_runs};
+use crate::stand::Stand;
+use crate::told::Told;
 use cards::MatchSheet;
 use corrections::Overs;
 use itoa::Buffer;
@@ -26,7 +33,7 @@ fn put_head(out: &mut Compact, sheet: &MatchSheet, entries: u32) -> Result<(), A
     put_figure(out, "entries", entries)
 }
 
-/// Puts the state of a board whose book has so many entries and this score, and these overs.
+/// Puts the state of a board whose book has so many entries and this score, these overs, and what follows of its limits.
 pub fn put_board(
     out: &mut Compact,
     alloc: Global,
@@ -34,13 +41,19 @@ pub fn put_board(
     entries: u32,
     score: &Match,
     overs: &Overs<'_>,
+    told: &Told,
+    stand: Option<Stand>,
+    runs: &[OverRuns],
 ) -> Result<(), AllocError>
-    ensures { ForEachHistory score.now (λ n h. AreOversOf overs.now h →
+    ensures { ForEachHistory score.now (λ n h. AreOversOf overs.now h → told.now ≡ told_of sheet.now n h → stand ≡ stand_now h →
+        runs.now ≡ over_runs h →
         PutsValues result out.old out.new (laws.value_of sheet.now n entries h ∷ [])) }
 {
     begin_object(out)?;
     put_head(out, sheet, entries)?;
+    put_limits(out, sheet.limits())?;
     put_all_innings(out, alloc, sheet, score)?;
-    put_now(out, alloc, sheet, score, overs)?;
+    put_now(out, alloc, sheet, score, overs, told, stand)?;
+    put_over_runs(out, runs)?;
     end_object(out)
 }

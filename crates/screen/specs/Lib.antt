@@ -1,6 +1,6 @@
--- What is claimed: Row, with Play; OverCheck, Both, Listing, Sides, Sentences, Near, Words, Help. inner: for
--- private functions only.
-pub mod Play
+-- What is claimed: Row and OverCheck, both with Limited; Both, Listing, Sides, Sentences, Near, Words, Help. inner: for private
+-- functions only.
+pub mod Limited
 pub mod Row
 pub mod OverCheck
 pub mod Both

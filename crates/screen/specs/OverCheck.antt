@@ -12,6 +12,7 @@ use Rattle.corrections.specs.Overs.{bowler_now, over_now}
 use Rattle.cards.specs.Sheet.{Sheet}
 use Rattle.cards.specs.Batting.{all_extras, extras_back}
 use Rattle.screen.specs.Row.{total_text, batters, bowler, marks}
+use Rattle.screen.specs.Limited.{limits_line}
 
 -- all extras, byes and leg byes
 abbrev pub extras_front : Extras → List ℕ
@@ -34,7 +35,7 @@ over_line s h i [] = []
 over_line s h i (b ∷ older) = bowler s h i (codes "  ") (bowler_now h) ++ over_text (b ∷ older)
 
 abbrev pub check_lines : Sheet → History → ℕ → List ℕ
-check_lines s h i = total_line s h i ++ batters_line s h i ++ over_line s h i (over_now h)
+check_lines s h i = total_line s h i ++ batters_line s h i ++ over_line s h i (over_now h) ++ limits_line s h i
 
 -- of the innings begun last
 abbrev pub over_check : Sheet → History → List ℕ

@@ -10,11 +10,13 @@ use Rattle.match_laws.specs.Figures.{total, wickets, overs, balls, batter_runs, 
 use Rattle.match_laws.specs.Parts.{bowling_row_of}
 use Rattle.match_laws.specs.Result.{current, outcome}
 use Rattle.corrections.specs.Overs.{bowler_now, newest_bowler}
+use Rattle.limits.specs.Limits.{overs_for}
+use Rattle.limits.specs.Figures.{runs_needed}
 use Rattle.cards.specs.Sheet.{Sheet, name_of, player_of}
 use Rattle.cards.specs.Bowling.{fielding, overs_of}
 use Rattle.cards.specs.Marks.{mark_of}
-use Rattle.screen.specs.Play.{needs}
 use Rattle.cards.specs.Results.{counted, result_text}
+use Rattle.screen.specs.Limited.{free_text, left_now, of_overs, off_text, past}
 
 -- the side, its total and its wickets
 abbrev pub total_text : Sheet → History → ℕ → List ℕ
@@ -22,8 +24,12 @@ total_text s h i =
     name_of s (side_of h i) ++ codes " " ++ decimal (total h i) ++ codes " for " ++ decimal (wickets h i)
 
 -- the overs called, and the counting deliveries since
-abbrev pub overs_text : History → ℕ → List ℕ
-overs_text h i = codes " (" ++ decimal (overs h i) ++ codes "." ++ decimal (balls h i) ++ codes ")"
+abbrev pub overs_front : History → ℕ → List ℕ
+overs_front h i = codes " (" ++ decimal (overs h i) ++ codes "." ++ decimal (balls h i)
+
+-- of so many, where they are limited
+abbrev pub overs_text : Sheet → History → ℕ → List ℕ
+overs_text s h i = overs_front h i ++ of_overs (overs_for s.limits i) ++ codes ")"
 
 -- who is at an end, with his runs and the balls that he faced, and this behind
 abbrev pub batter : Sheet → History → ℕ → List ℕ → Option ℕ → List ℕ
@@ -75,15 +81,15 @@ abbrev pub innings_win : Sheet → Side → ℕ → List ℕ
 innings_win s side n =
     codes "  " ++ name_of s side ++ codes " won by an innings and " ++ counted n (codes "run") (codes "runs")
 
--- what is needed, unless the match is decided; then the result
-abbrev pub aim : Option (List ℕ) → Option ℕ → List ℕ
-aim (Some result) runs = codes "  " ++ result
-aim None (Some runs) = codes "  needs " ++ decimal runs
-aim None None = []
+-- what is needed, of so many deliveries where they are limited, unless the match is decided; then the result
+abbrev pub aim : Option (List ℕ) → Option ℕ → Option ℕ → List ℕ
+aim (Some result) runs left = codes "  " ++ result
+aim None (Some runs) left = codes "  needs " ++ decimal runs ++ off_text runs left
+aim None None left = []
 
 -- the row to the batters, and behind them
 abbrev pub front : Sheet → History → ℕ → List ℕ
-front s h i = total_text s h i ++ overs_text h i ++ codes "  " ++ batters s h i
+front s h i = total_text s h i ++ overs_text s h i ++ codes "  " ++ batters s h i
 
 -- an over without its last delivery
 abbrev pub older_of : List Ball → List Ball
@@ -110,8 +116,9 @@ over_end over =
 
 abbrev pub back : Sheet → ℕ → History → ℕ → List ℕ
 back s n h i =
-    bowler s h i (codes "  ") (bowler_now h) ++ open_marks (open_over h)
-    ++ aim (result_text s (outcome n h)) (needs n h) ++ over_end (open_over h) ++ codes "\n"
+    bowler s h i (codes "  ") (bowler_now h) ++ past s.limits.overs_a_bowler h (bowler_now h)
+    ++ open_marks (open_over h) ++ free_text s h
+    ++ aim (result_text s (outcome n h)) (runs_needed n h) (left_now s h i) ++ over_end (open_over h) ++ codes "\n"
 
 abbrev pub innings_row : Sheet → ℕ → History → ℕ → List ℕ
 innings_row s n h i = front s h i ++ back s n h i

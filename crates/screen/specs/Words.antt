@@ -6,7 +6,7 @@ use Rattle.notation.specs.Written.{Token, tokens, found_number}
 use Rattle.match_laws.specs.History.{or_else}
 use Rattle.cards.specs.Sheet.{is_printable}
 use Rattle.screen.specs.declared.{topic.Topic.Topic, word.Word.Word}
-use Rattle.screen.specs.declared.topic.Topic.TheVariants.{Innings, In, Ball, Gone, Over, Penalty, Swap, End, Close, Void, Fix, Late, Again, Undo, Listing, Score, Card, Players, Quit, Short}
+use Rattle.screen.specs.declared.topic.Topic.TheVariants.{Innings, In, Ball, Gone, Over, Penalty, Swap, End, Close, Void, Fix, Late, Again, Undo, Listing, Score, Card, Players, Bowlers, Quit, Short}
 
 -- the words that begin a line of an entry, but marks
 abbrev pub line_topic : Token → Option Topic
@@ -34,6 +34,7 @@ desk_topic t =
     else if bytes_eq t (codes "score") then Some Score
     else if bytes_eq t (codes "card") then Some Card
     else if bytes_eq t (codes "players") then Some Players
+    else if bytes_eq t (codes "bowlers") then Some Bowlers
     else if bytes_eq t (codes "quit") then Some Quit
     else if bytes_eq t (codes "short") then Some Short
     else None
@@ -50,6 +51,7 @@ single t =
     else if bytes_eq t (codes "score") then Some Word.Total
     else if bytes_eq t (codes "card") then Some Word.Cards
     else if bytes_eq t (codes "players") then Some Word.Sides
+    else if bytes_eq t (codes "bowlers") then Some Word.Bowlers
     else if bytes_eq t (codes "help") then Some Word.Forms
     else None
 

@@ -3,12 +3,13 @@
 #![tactic(auto)]
 
 mod both;
+mod bowlers;
+mod limited;
 mod listing;
 mod marks;
 mod near;
 mod over_check;
 mod over_end;
-mod play;
 mod row;
 mod sentences;
 mod sides;
@@ -16,6 +17,7 @@ mod topic;
 mod word;
 
 pub use both::print_cards;
+pub use bowlers::print_bowlers;
 pub use listing::print_listing;
 pub use near::print_unknown;
 pub use over_check::print_check;

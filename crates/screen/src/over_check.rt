@@ -10,6 +10,7 @@ ghost use Rattle.cards.specs.Batting as card;
 ghost use Rattle.streams.specs.Watched.{Prints, has_failed};
 ghost use Rattle.screen.specs.OverCheck as check;
 
+use crate::limited::print_limits;
 use crate::marks::{print_marks, runs_of};
 use crate::row::{print_batters, print_bowler, print_total};
 use cards::MatchSheet;
@@ -132,7 +133,8 @@ fn print_lines<W: Write, B: BookOf>(
     let score = book.score();
     print_total_line(out, sheet, score, innings)?;
     print_batters_line(out, sheet, score, innings)?;
-    print_over_line(out, sheet, book, innings)
+    print_over_line(out, sheet, book, innings)?;
+    print_limits(out, sheet, book, innings)
 }
 
 /// Prints what two scorers compare after an over: the total with the extras, both batters, and the bowler of the last

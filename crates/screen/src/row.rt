@@ -6,17 +6,18 @@ ghost use Rattle.match_laws.specs.Result.{outcome};
 ghost use Rattle.match_laws.specs.Stands.{ForEachHistory, begun_in};
 ghost use Rattle.corrections.specs.CleanList.{history_of};
 ghost use Rattle.corrections.specs.Overs.{balls_of};
-ghost use Rattle.screen.specs.Play as play;
+ghost use Rattle.limits.specs.Figures as figures;
 ghost use Rattle.cards.specs.Bowling.{overs_of};
 ghost use Rattle.cards.specs.Results.{result_text};
 ghost use Rattle.streams.specs.Watched.{Prints, has_failed};
 ghost use Rattle.screen.specs.Row as rows;
 
+use crate::limited::{left_now, print_free, print_of, print_off, print_past};
 use crate::marks::print_marks;
 use crate::over_end::print_over_end;
-use crate::play::needs;
 use cards::MatchSheet;
 use corrections::{BookOf, Placed, bowler_of, overs_of};
+use limits::runs_needed;
 use match_laws::{BowlingRow, Match, Outcome, opponent};
 use notation::{Player, Side};
 use std::io::Write;
@@ -40,18 +41,35 @@ pub fn print_total<W: Write>(
     write!(out, "{team} {total} for {wickets}")
 }
 
-fn print_overs<W: Write>(
+fn print_overs_front<W: Write>(
     out: &mut Watched<W>,
     score: &Match,
     innings: usize,
 ) -> Result<(), WriteFailed>
     requires { innings < begun_in score.now }
     ensures text { ForEachHistory score.now (λ n h.
-        OnOk result (Prints W.contents out.old out.new (rows.overs_text h innings))) }
+        OnOk result (Prints W.contents out.old out.new (rows.overs_front h innings))) }
     ensures failed { OnErr result (has_failed out.new ≡ true) }
 {
     let (called, since) = score.overs(innings);
-    write!(out, " ({called}.{since})")
+    write!(out, " ({called}.{since}")
+}
+
+/// Prints the overs of an innings, of so many where they are limited.
+fn print_overs<W: Write>(
+    out: &mut Watched<W>,
+    sheet: &MatchSheet,
+    score: &Match,
+    innings: usize,
+) -> Result<(), WriteFailed>
+    requires { innings < begun_in score.now }
+    ensures text { ForEachHistory score.now (λ n h.
+        OnOk result (Prints W.contents out.old out.new (rows.overs_text sheet.now h innings))) }
+    ensures failed { OnErr result (has_failed out.new ≡ true) }
+{
+    print_overs_front(out, score, innings)?;
+    print_of(out, sheet.limits().overs_for(innings))?;
+    write!(out, ")")
 }
 
 /// Prints who is at an end, with this behind.
@@ -178,14 +196,21 @@ fn print_open_marks<W: Write>(out: &mut Watched<W>, over: &[Placed]) -> Result<(
     print_marks(out, over)
 }
 
-/// Prints what is needed.
-fn print_needs<W: Write>(out: &mut Watched<W>, runs: Option<u32>) -> Result<(), WriteFailed>
-    ensures text { OnOk result (Prints W.contents out.old out.new (rows.aim None runs)) }
+/// Prints what is needed, of so many deliveries where they are limited.
+fn print_needs<W: Write>(
+    out: &mut Watched<W>,
+    runs: Option<u32>,
+    left: Option<u32>,
+) -> Result<(), WriteFailed>
+    ensures text { OnOk result (Prints W.contents out.old out.new (rows.aim None runs left)) }
     ensures failed { OnErr result (has_failed out.new ≡ true) }
 {
     match runs {
         None => Ok(()),
-        Some(runs) => write!(out, "  needs {runs}"),
+        Some(runs) => {
+            write!(out, "  needs {runs}")?;
+            print_off(out, runs, left)
+        }
     }
 }
 
@@ -258,13 +283,14 @@ fn print_outcome<W: Write>(
     sheet: &MatchSheet,
     score: &Match,
     needed: Option<u32>,
+    left: Option<u32>,
 ) -> Result<(), WriteFailed>
     ensures text { ForEachHistory score.now (λ n h. OnOk result (Prints W.contents out.old out.new
-        (rows.aim (result_text sheet.now (outcome n h)) needed))) }
+        (rows.aim (result_text sheet.now (outcome n h)) needed left))) }
     ensures failed { OnErr result (has_failed out.new ≡ true) }
 {
     match score.result() {
-        Outcome::Undecided => print_needs(out, needed),
+        Outcome::Undecided => print_needs(out, needed, left),
         Outcome::Draw => write!(out, "  match drawn"),
         Outcome::Tie => write!(out, "  match tied"),
         Outcome::Runs(side, count) => {
@@ -286,12 +312,13 @@ fn print_aim<W: Write>(
     out: &mut Watched<W>,
     sheet: &MatchSheet,
     score: &Match,
+    left: Option<u32>,
 ) -> Result<(), WriteFailed>
     ensures text { ForEachHistory score.now (λ n h. OnOk result (Prints W.contents out.old out.new
-        (rows.aim (result_text sheet.now (outcome n h)) (play.needs n h)))) }
+        (rows.aim (result_text sheet.now (outcome n h)) (figures.runs_needed n h) left))) }
     ensures failed { OnErr result (has_failed out.new ≡ true) }
 {
-    print_outcome(out, sheet, score, needs(score))
+    print_outcome(out, sheet, score, runs_needed(score), left)
 }
 
 /// Prints the result of a match that is decided.
@@ -301,10 +328,10 @@ pub fn print_result<W: Write>(
     score: &Match,
 ) -> Result<(), WriteFailed>
     ensures text { ForEachHistory score.now (λ n h. OnOk result (Prints W.contents out.old out.new
-        (rows.aim (result_text sheet.now (outcome n h)) None))) }
+        (rows.aim (result_text sheet.now (outcome n h)) None None))) }
     ensures failed { OnErr result (has_failed out.new ≡ true) }
 {
-    print_outcome(out, sheet, score, None)
+    print_outcome(out, sheet, score, None, None)
 }
 
 /// Prints the row of an innings, behind its batters.
@@ -321,9 +348,12 @@ fn print_back<W: Write, B: BookOf>(
 {
     let score = book.score();
     let overs = overs_of(book);
-    print_bowler(out, sheet, score, innings, "  ", overs.bowler())?;
+    let bowler = overs.bowler();
+    print_bowler(out, sheet, score, innings, "  ", bowler)?;
+    print_past(out, book, sheet.limits().overs_a_bowler(), bowler)?;
     print_open_marks(out, overs.this)?;
-    print_aim(out, sheet, score)?;
+    print_free(out, sheet, book)?;
+    print_aim(out, sheet, score, left_now(score, sheet, innings))?;
     print_over_end(out, overs.this)?;
     writeln!(out)
 }
@@ -341,7 +371,7 @@ fn print_front<W: Write>(
     ensures failed { OnErr result (has_failed out.new ≡ true) }
 {
     print_total(out, sheet, score, innings)?;
-    print_overs(out, score, innings)?;
+    print_overs(out, sheet, score, innings)?;
     write!(out, "  ")?;
     print_batters(out, sheet, score, innings)
 }

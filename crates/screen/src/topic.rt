@@ -25,6 +25,7 @@ pub enum Topic {
     Score,
     Card,
     Players,
+    Bowlers,
     Quit,
     /// Short lines.
     Short,
@@ -52,6 +53,7 @@ undo            takes back the line held last; none held: voids the last entry
 list [n]        the last n entries, 12 or 1 to 200, with their places
 score, card     this over and the total; both cards of the innings
 players         both sides, by number and name; an empty line: where you stand
+bowlers         who may bowl the next ball
 help [word]     this, or more on one of these words; short: short lines
 quit, exit      ends; the same command goes on
 ";
@@ -114,6 +116,7 @@ fn desk_topic(word: &str) -> Option<Topic>
         "score" => Some(Topic::Score),
         "card" => Some(Topic::Card),
         "players" => Some(Topic::Players),
+        "bowlers" => Some(Topic::Bowlers),
         "quit" => Some(Topic::Quit),
         "short" => Some(Topic::Short),
         _ => None,
@@ -162,6 +165,9 @@ pub fn help_on(topic: Topic) -> &'static str
         }
         Topic::Card => "card: both cards of the innings begun last\n  card\n",
         Topic::Players => "players: both sides, by number and name\n  players\n",
+        Topic::Bowlers => {
+            "bowlers: who may bowl the next ball; how many overs he has left\n  bowlers\n"
+        }
         Topic::Quit => "quit: ends the desk; the same command goes on\n  quit\n",
         Topic::Short => HELP_SHORT,
     }

@@ -29,6 +29,8 @@ pub enum Word {
     Cards,
     /// `players`: both sides.
     Sides,
+    /// `bowlers`: who may bowl the next delivery.
+    Bowlers,
     /// `help`: the forms of all lines.
     Forms,
     /// `help` with a word: what this word does.
@@ -54,6 +56,7 @@ fn single(token: &str) -> Option<Word>
         "score" => Some(Word::Total),
         "card" => Some(Word::Cards),
         "players" => Some(Word::Sides),
+        "bowlers" => Some(Word::Bowlers),
         "help" => Some(Word::Forms),
         _ => None,
     }

@@ -12,6 +12,7 @@ mod sealing;
 mod sheet;
 mod short_sheet;
 mod twins;
+mod unfit_keys;
 mod votes_file;
 
 pub use crate::copies::{CopiedDisk, Kept, paired_disk, tell_copies};
@@ -26,6 +27,7 @@ pub use crate::short_sheet::{
     LONGEST_SHEET, short_sheet_at, short_sheet_bytes, short_sheet_of, stations_at, tell_station,
 };
 pub use crate::twins::{tell_twins, told_sheet_at, told_sheet_of};
+pub use crate::unfit_keys::tell_unfit_keys;
 pub use crate::votes_file::{
     VotesDisk, empty_disk, kept_votes, new_disk_at, renewed_disk, with_cause, with_copys_cause,
 };

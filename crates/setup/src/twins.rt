@@ -3,6 +3,7 @@
 use crate::fault::{StopFault, Stopped};
 use crate::opening::bytes_at;
 use crate::sheet::NoSheet;
+use crate::unfit_keys::tell_unfit_keys;
 use cards::{MatchSheet, read_sheet};
 use notation::{Player, Side};
 use std::io::{self, Write};
@@ -54,7 +55,8 @@ pub fn tell_twins<W: Write>(errors: &mut W, sheet: &MatchSheet) -> io::Result<()
     tell_players(errors, sheet, Side::Away)
 }
 
-/// The match sheet of a file's bytes. Standard error is told of each name that two bear; that it can't be told is no fault.
+/// The match sheet of a file's bytes. Standard error is told of each name that two bear, and of each key of `limits` that can't
+/// be what it says; that it can't be told is no fault.
 pub fn told_sheet_of<'a>(
     rt: &HostRuntime,
     path: &'a str,
@@ -63,6 +65,7 @@ pub fn told_sheet_of<'a>(
     match read_sheet(rt.alloc(), text) {
         Ok(sheet) => {
             let _ = tell_twins(&mut rt.stderr(), &sheet);
+            let _ = tell_unfit_keys(&mut rt.stderr(), rt.alloc(), text);
             Ok(sheet)
         }
         Err(why) => Err(Stopped::at(path, StopFault::from(NoSheet::from(why)))),

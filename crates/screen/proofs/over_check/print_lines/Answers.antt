@@ -5,4 +5,5 @@ pub returns-clause-text : goal.returns-clause-text
 returns-clause-text g c =
     let stands = c.score-score.ensures.score in
     let two = appends_both _ _ _ _ _ (c.in_ok-print_total_line.ensures.text _ _ stands) (c.in_ok-print_batters_line.ensures.text _ _ stands) in
-    appends_last c.print_over_line.result _ _ _ _ _ two c.print_over_line.ensures.text
+    let three = appends_both _ _ _ _ _ two c.in_ok-print_over_line.ensures.text in
+    appends_last c.print_limits.result _ _ _ _ _ three c.print_limits.ensures.text

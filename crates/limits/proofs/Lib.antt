@@ -1,0 +1,3 @@
+pub mod ListItems
+pub mod PowerplayLemmas
+pub mod WalkLemmas

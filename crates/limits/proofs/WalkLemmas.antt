@@ -1,0 +1,64 @@
+-- Walks over what stands, and what histories make.
+use Rattle.std.proofs.Common.{arith, ◌≡◌, ℕ, true, false, List, [], ◌∷◌, refl, sym, ap, ◌∙◌, inl, inr}
+use Rattle.std.proofs.lemmas.Bool.{cases_Bool}
+use Rattle.notation.specs.declared.entry.{Plain.Plain, Entry.Entry}
+use Rattle.ball_laws.specs.History.{History}
+use Rattle.match_laws.specs.History.{is_void}
+use Rattle.corrections.specs.declared.placed.Placed.{Placed}
+use Rattle.corrections.specs.CleanList.{clean_items_of, history_of, kept}
+use Rattle.corrections.specs.inner.Scoring.{history_after}
+use Rattle.corrections.proofs.LegalLemmas.{history_of-clean_items}
+use Rattle.corrections.proofs.ScoringLemmas.{kept_first, kept_not}
+use Rattle.limits.specs.Figures.{is_free_hit, free_hit_after}
+use Rattle.limits.specs.inner.Walks.{along, bowled_after, bowled_of, none_bowled, walk}
+
+-- a walk goes along the history of its items
+walk_after : {S : Type 0} (step : Plain → S → S) (s : S) (h : History) (xs : List Placed)
+    → walk step (along step s h) xs ≡ along step s (history_after h xs)
+walk_after step s h [] = refl
+walk_after step s h (x ∷ xs) = walk_after step s (x.item ∷ h) xs
+
+-- a step that `void`s don't change
+abbrev pub PassesVoids : {S : Type 0} → (Plain → S → S) → Type 0
+PassesVoids {S} step = (x : Plain) (s : S) → is_void x ≡ true → step x s ≡ s
+
+walk_kept : {S : Type 0} (step : Plain → S → S) → PassesVoids step → (s : S) (xs : List Placed) → walk step s (kept xs) ≡ walk step s xs
+walk_kept step passes s [] = refl
+walk_kept step passes s (x ∷ xs) = elim (cases_Bool (is_void x.item)) [
+  | inl v ↦ rw (kept_not x xs v, passes x.item s v) (walk_kept step passes s xs)
+  | inr v ↦ rw (kept_first x xs v) (walk_kept step passes (step x.item s) xs)
+]
+
+pub walk_book : {S : Type 0} (step : Plain → S → S) → PassesVoids step → (s : S) (book : List Entry) (items : List Placed)
+    → items ≡ clean_items_of book → walk step s items ≡ along step s (history_of book)
+walk_book step passes s book items is =
+    ap (walk step s) is ∙ sym (walk_kept step passes s (clean_items_of book))
+    ∙ walk_after step s [] (kept (clean_items_of book)) ∙ ap (along step s) (history_of-clean_items book)
+
+-- ---- free hits
+
+free_passes : PassesVoids free_hit_after
+free_passes x s v = grind arith
+
+free_along : (h : History) → along free_hit_after false h ≡ is_free_hit h
+free_along [] = refl
+free_along (x ∷ h) = ap (free_hit_after x) (free_along h)
+
+pub free_book : (book : List Entry) (items : List Placed) → items ≡ clean_items_of book → walk free_hit_after false items ≡ is_free_hit (history_of book)
+free_book book items is = walk_book free_hit_after free_passes false book items is ∙ free_along (history_of book)
+
+-- ---- overs of a bowler
+
+bowled_passes : (p : ℕ) → PassesVoids (bowled_after p)
+bowled_passes p x s v = grind arith
+
+bowled_more : (p : ℕ) (x : Plain) (h : History) → bowled_after p x (bowled_of p h) ≡ bowled_of p (x ∷ h)
+bowled_more p x h = grind arith
+
+bowled_along : (p : ℕ) (h : History) → along (bowled_after p) none_bowled h ≡ bowled_of p h
+bowled_along p [] = refl
+bowled_along p (x ∷ h) = ap (bowled_after p x) (bowled_along p h) ∙ bowled_more p x h
+
+pub bowled_book : (p : ℕ) (book : List Entry) (items : List Placed) → items ≡ clean_items_of book
+    → walk (bowled_after p) none_bowled items ≡ bowled_of p (history_of book)
+bowled_book p book items is = walk_book (bowled_after p) (bowled_passes p) none_bowled book items is ∙ bowled_along p (history_of book)

@@ -1,0 +1,10 @@
+use Rattle.std.proofs.Common.{◌≡◌, ◌≤◌, ◌*◌, drop}
+use Rattle.limits.specs.inner.Walks.{walk}
+use Rattle.scoreboard.specs.Stand.{no_stand, stand_after}
+use Rattle.scoreboard.proofs.stand.stand_of.Given as goal
+
+-- the walk over all goes on from here with what is left; each item has 260 runs at most
+abbrev pub invariant-loop-placed : goal.invariant-loop-placed
+invariant-loop-placed l =
+    (walk stand_after no_stand l.items ≡ walk stand_after l.stand (drop l.placed-index l.items))
+    × (l.stand.runs ≤ 260 * l.placed-index) × (l.stand.balls ≤ l.placed-index)

@@ -1,0 +1,176 @@
+//! What the sheet limits, and what follows.
+
+ghost use Rattle.std.specs.Prelude.{◌≡◌, ◌∷◌, [], IfOk, codes, map, string_bytes};
+ghost use Rattle.limits.specs.Rates.{two_places};
+ghost use Rattle.json_fields.specs.Values.{PutsFields, PutsValues, array_of, number_value};
+ghost use Rattle.scoreboard.specs.Limited as laws;
+
+use crate::told::Told;
+use itoa::Buffer;
+use json_fields::{
+    Compact, begin_array, begin_field, begin_object, end_array, end_object, put_bool, put_figure,
+    put_integer, put_null, put_number, put_text,
+};
+use limits::{Limits, Powerplay};
+use std::alloc::{AllocError, Global};
+
+/// Puts a number, if there is one.
+pub fn put_figure_or_null(
+    out: &mut Compact,
+    name: &str,
+    number: Option<u32>,
+) -> Result<(), AllocError>
+    ensures { PutsFields result out.old out.new ((name.now, laws.number_or_null number) ∷ []) }
+{
+    match number {
+        Some(number) => put_figure(out, name, number),
+        None => put_null(out, name),
+    }
+}
+
+/// Puts a number of overs, if there is one.
+fn put_overs_or_null(out: &mut Compact, name: &str, number: Option<u16>) -> Result<(), AllocError>
+    ensures { PutsFields result out.old out.new ((name.now, laws.number_or_null number) ∷ []) }
+{
+    match number {
+        Some(number) => put_figure(out, name, u32::from(number)),
+        None => put_null(out, name),
+    }
+}
+
+/// Puts which of some it is, if it is one.
+fn put_count_or_null(out: &mut Compact, name: &str, number: Option<usize>) -> Result<(), AllocError>
+    ensures { PutsFields result out.old out.new ((name.now, laws.number_or_null number) ∷ []) }
+{
+    match number {
+        Some(number) => put_number(out, name, number as u64),
+        None => put_null(out, name),
+    }
+}
+
+/// The text of a rate, with two places.
+fn rate_text(alloc: Global, hundredths: u64) -> Result<String, AllocError>
+    ensures { IfOk result (λ text. string_bytes text ≡ two_places hundredths) }
+{
+    let mut buffer = Buffer::new();
+    let mut text = String::from_str(alloc, buffer.format(hundredths / 100))?;
+    text.push_str(".")?;
+    text.push_str(buffer.format(hundredths / 10 % 10))?;
+    text.push_str(buffer.format(hundredths % 10))?;
+    Ok(text)
+}
+
+/// Puts a rate, if there is one.
+fn put_rate(
+    out: &mut Compact,
+    alloc: Global,
+    name: &str,
+    rate: Option<u64>,
+) -> Result<(), AllocError>
+    ensures { PutsFields result out.old out.new ((name.now, laws.rate_or_null rate) ∷ []) }
+{
+    match rate {
+        Some(hundredths) => {
+            let text = rate_text(alloc, hundredths)?;
+            put_text(out, name, text.as_str())
+        }
+        None => put_null(out, name),
+    }
+}
+
+/// Puts each number of overs.
+fn put_each_overs(out: &mut Compact, overs: &[u16]) -> Result<(), AllocError>
+    ensures { PutsValues result out.old out.new (map number_value overs.now) }
+{
+    for number in overs {
+        put_integer(out, u64::from(*number))?;
+    }
+    Ok(())
+}
+
+/// Puts the field of them.
+fn put_overs(out: &mut Compact, overs: &[u16]) -> Result<(), AllocError>
+    ensures { PutsFields result out.old out.new ((codes "overs", array_of (map number_value overs.now)) ∷ []) }
+{
+    begin_array(out, "overs")?;
+    put_each_overs(out, overs)?;
+    end_array(out)
+}
+
+fn put_powerplay(out: &mut Compact, powerplay: Powerplay) -> Result<(), AllocError>
+    ensures { PutsValues result out.old out.new (laws.powerplay_value powerplay ∷ []) }
+{
+    begin_object(out)?;
+    put_figure(out, "first", u32::from(powerplay.first))?;
+    put_figure(out, "last", u32::from(powerplay.last))?;
+    end_object(out)
+}
+
+/// Puts each powerplay.
+fn put_each_powerplay(out: &mut Compact, powerplays: &[Powerplay]) -> Result<(), AllocError>
+    ensures { PutsValues result out.old out.new (map laws.powerplay_value powerplays.now) }
+{
+    for powerplay in powerplays {
+        put_powerplay(out, *powerplay)?;
+    }
+    Ok(())
+}
+
+/// Puts the field of them.
+fn put_powerplays(out: &mut Compact, powerplays: &[Powerplay]) -> Result<(), AllocError>
+    ensures { PutsFields result out.old out.new
+        ((codes "powerplays", array_of (map laws.powerplay_value powerplays.now)) ∷ []) }
+{
+    begin_array(out, "powerplays")?;
+    put_each_powerplay(out, powerplays)?;
+    end_array(out)
+}
+
+/// Puts what a sheet limits.
+pub fn put_limits(out: &mut Compact, limits: &Limits) -> Result<(), AllocError>
+    ensures { PutsFields result out.old out.new ((codes "limits", laws.limits_value limits.now) ∷ []) }
+{
+    begin_field(out, "limits")?;
+    put_overs(out, limits.overs())?;
+    put_overs_or_null(out, "overs_a_bowler", limits.overs_a_bowler())?;
+    put_bool(out, "free_hits", limits.free_hits())?;
+    put_powerplays(out, limits.powerplays())?;
+    end_object(out)
+}
+
+/// Puts what is left.
+fn put_left(out: &mut Compact, told: &Told) -> Result<(), AllocError>
+    ensures { PutsFields result out.old out.new (laws.left_fields told.now) }
+{
+    put_overs_or_null(out, "overs", told.overs)?;
+    put_figure_or_null(out, "overs_left", told.overs_left)?;
+    put_figure_or_null(out, "balls_left", told.balls_left)
+}
+
+/// Puts what is needed, and how fast runs came.
+fn put_rates(out: &mut Compact, alloc: Global, told: &Told) -> Result<(), AllocError>
+    ensures { PutsFields result out.old out.new (laws.rate_fields told.now) }
+{
+    put_rate(out, alloc, "needed_an_over", told.needed_an_over)?;
+    put_rate(out, alloc, "needed_a_ball", told.needed_a_ball)?;
+    put_rate(out, alloc, "run_rate", told.run_rate)?;
+    put_rate(out, alloc, "last_rate", told.last_rate)
+}
+
+/// Puts a free hit, the powerplay, and the overs of the bowler.
+fn put_play(out: &mut Compact, told: &Told) -> Result<(), AllocError>
+    ensures { PutsFields result out.old out.new (laws.play_fields told.now) }
+{
+    put_bool(out, "free_hit", told.free_hit)?;
+    put_count_or_null(out, "powerplay", told.powerplay)?;
+    put_figure_or_null(out, "bowler_overs", told.bowler_overs)
+}
+
+/// Puts what follows of what the sheet limits.
+pub fn put_told(out: &mut Compact, alloc: Global, told: &Told) -> Result<(), AllocError>
+    ensures { PutsFields result out.old out.new (laws.told_fields told.now) }
+{
+    put_left(out, told)?;
+    put_rates(out, alloc, told)?;
+    put_play(out, told)
+}

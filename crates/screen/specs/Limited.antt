@@ -1,0 +1,119 @@
+-- What a desk tells of what the sheet limits. s is the sheet, h the history and i the innings.
+use Rattle.std.specs.Prelude.{ℕ, ◌/◌, ◌%◌, ◌==◌, ◌&&◌, ◌||◌, not, nat_lt, if◌then◌else◌, List, [], ◌∷◌, ◌++◌, Option, Some, None, option_map, codes, decimal}
+use Rattle.ball_laws.specs.History.{History}
+use Rattle.ball_laws.specs.Over.{numbers}
+use Rattle.match_laws.specs.History.{begun, is_open}
+use Rattle.match_laws.specs.Result.{current}
+use Rattle.corrections.specs.Overs.{bowler_now}
+use Rattle.limits.specs.Limits.{overs_for}
+use Rattle.limits.specs.Rates.{an_over, two_places}
+use Rattle.limits.specs.Figures.{overs_left, deliveries_left, overs_bowled, overs_yet, may_bowl, is_free_hit}
+use Rattle.cards.specs.Sheet.{Sheet, player_of}
+use Rattle.cards.specs.Bowling.{fielding}
+
+-- ---- in the row of a match
+
+-- of how many overs the innings is
+abbrev pub of_overs : Option ℕ → List ℕ
+of_overs None = []
+of_overs (Some n) = codes " of " ++ decimal n
+
+-- runs for an over, where there is a rate
+abbrev pub rate_text : Option ℕ → List ℕ
+rate_text None = []
+rate_text (Some x) = codes " (" ++ two_places x ++ codes ")"
+
+-- behind the runs that are needed: off how many deliveries, and how many that is an over
+abbrev pub off_text : ℕ → Option ℕ → List ℕ
+off_text runs None = []
+off_text runs (Some left) = codes " off " ++ decimal left ++ rate_text (an_over runs left)
+
+-- the deliveries left
+abbrev pub left_now : Sheet → History → ℕ → Option ℕ
+left_now s h i = option_map (λ n. deliveries_left n h i) (overs_for s.limits i)
+
+-- the next delivery is a free hit
+abbrev pub free_text : Sheet → History → List ℕ
+free_text s h = if s.limits.free_hits && is_free_hit h then codes "  free hit" else []
+
+-- a bowler who bowled in more overs than he has is past them
+abbrev pub past_text : ℕ → ℕ → List ℕ
+past_text most bowled = if nat_lt most bowled then codes " past " ++ decimal most else []
+
+abbrev pub past : Option ℕ → History → Option ℕ → List ℕ
+past None h b = []
+past (Some most) h None = []
+past (Some most) h (Some p) = past_text most (overs_bowled p h)
+
+-- ---- in the check of an over
+
+-- so many overs: six deliveries are one, and what is left behind a point
+abbrev pub rest_text : ℕ → List ℕ
+rest_text rest = if rest == 0 then [] else codes "." ++ decimal rest
+
+abbrev pub overs_word : ℕ → List ℕ
+overs_word deliveries = if deliveries == 6 then codes " over left" else codes " overs left"
+
+abbrev pub left_text : ℕ → List ℕ
+left_text deliveries = decimal (deliveries / 6) ++ rest_text (deliveries % 6) ++ overs_word deliveries
+
+-- all overs are bowled
+abbrev pub all_bowled : ℕ → List ℕ
+all_bowled n = decimal n ++ (if n == 1 then codes " over: end overs" else codes " overs: end overs")
+
+abbrev pub innings_left : ℕ → History → ℕ → List ℕ
+innings_left n h i = if overs_left n h i == 0 then all_bowled n else left_text (deliveries_left n h i)
+
+-- in how many overs the bowler has bowled, of how many
+abbrev pub bowled_of : Sheet → History → ℕ → ℕ → ℕ → List ℕ
+bowled_of s h i most p =
+    codes "  " ++ player_of s (fielding h i) p ++ codes " " ++ decimal (overs_bowled p h) ++ codes " of " ++ decimal most
+
+-- the bowler of the last delivery, where both are known
+abbrev pub bowler_part : Sheet → History → ℕ → Option ℕ → Option ℕ → List ℕ
+bowler_part s h i None b = []
+bowler_part s h i (Some most) None = []
+bowler_part s h i (Some most) (Some p) = bowled_of s h i most p
+
+-- alone in a line
+abbrev pub bowler_line : Sheet → History → ℕ → Option ℕ → Option ℕ → List ℕ
+bowler_line s h i None b = []
+bowler_line s h i (Some most) None = []
+bowler_line s h i (Some most) (Some p) = bowled_of s h i most p ++ codes "\n"
+
+-- behind the overs left of so many
+abbrev pub left_line : Sheet → History → ℕ → ℕ → List ℕ
+left_line s h i n =
+    codes "  " ++ innings_left n h i ++ bowler_part s h i s.limits.overs_a_bowler (bowler_now h) ++ codes "\n"
+
+abbrev pub line_for : Sheet → History → ℕ → Option ℕ → List ℕ
+line_for s h i None = bowler_line s h i s.limits.overs_a_bowler (bowler_now h)
+line_for s h i (Some n) = left_line s h i n
+
+-- while an innings is open
+abbrev pub limits_line : Sheet → History → ℕ → List ℕ
+limits_line s h i = if is_open h then line_for s h i (overs_for s.limits i) else []
+
+-- ---- who may bowl
+
+abbrev pub yet_text : Option ℕ → ℕ → History → List ℕ
+yet_text None p h = []
+yet_text (Some most) p h = codes ", " ++ decimal (overs_yet most p h) ++ codes " left"
+
+abbrev pub bowler_row : Sheet → History → ℕ → ℕ → List ℕ
+bowler_row s h i p =
+    decimal p ++ codes " " ++ player_of s (fielding h i) p ++ yet_text s.limits.overs_a_bowler p h ++ codes "\n"
+
+-- where he may bowl the next delivery
+abbrev pub row_if_may : Sheet → History → ℕ → ℕ → List ℕ
+row_if_may s h i p = if may_bowl s.limits.overs_a_bowler p h then bowler_row s h i p else []
+
+-- of these players
+abbrev pub bowlers_among : Sheet → History → ℕ → List ℕ → List ℕ
+bowlers_among s h i [] = []
+bowlers_among s h i (p ∷ ps) = row_if_may s h i p ++ bowlers_among s h i ps
+
+-- those of the innings in play
+abbrev pub bowlers : Sheet → History → List ℕ
+bowlers s h =
+    if begun h == 0 || not (is_open h) then codes "No innings is open\n" else bowlers_among s h (current h) numbers
