@@ -348,9 +348,9 @@ fn print_back<W: Write, B: BookOf>(
 {
     let score = book.score();
     let overs = overs_of(book);
-    let bowler = overs.bowler();
-    print_bowler(out, sheet, score, innings, "  ", bowler)?;
-    print_past(out, book, sheet.limits().overs_a_bowler(), bowler)?;
+    print_bowler(out, sheet, score, innings, "  ", overs.bowler())?;
+    let most = sheet.limits().overs_a_bowler();
+    print_past(out, book, most, overs.bowler())?;
     print_open_marks(out, overs.this)?;
     print_free(out, sheet, book)?;
     print_aim(out, sheet, score, left_now(score, sheet, innings))?;

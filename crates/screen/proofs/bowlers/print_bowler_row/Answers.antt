@@ -10,4 +10,4 @@ returns-clause-text g c =
     let most = c.overs_a_bowler.ensures ∙ ap (λ (l : Limits). l.overs_a_bowler) c.limits.ensures in
     let two = appends_both _ _ _ _ _ c.in_ok-print_name.ensures.text (rw most at c.in_ok-print_yet.ensures.text) in
     let text = appends_last c.writeln.result _ _ _ _ _ two c.writeln.ensures.bytes in
-    rw (← side, ← c.player.ensures) text
+    rw (← side, ← c.player.ensures) (rw c.number.ensures.value at text)
