@@ -1,15 +1,28 @@
-"""What follows for a match of so many overs, reckoned from the lines that stand: what a board's file has to tell.
+"""What follows for a match of so many overs, reckoned from the lines that stand: what a board's file and a desk's row have to tell.
 
-It knows nothing of the program: the sheet's table `limits`, the plain lines, and the runs of each delivery are enough.
+It knows nothing of the program: the sheet's table `limits`, the plain lines, and what docs/LINES.md says of them are enough.
 """
 from decimal import ROUND_HALF_UP, Decimal
 
 FAIR = ("bat", "bye", "leg")
+BOUNDARIES = {"four": 4, "six": 6}
+NOBODY = [None, None]
 
 
 def counts(line):
     """Whether a delivery counts in its over."""
     return line[2] in FAIR and "dead" not in line
+
+
+def scored(line):
+    """The runs of a delivery beyond a Wide's or a No ball's own."""
+    ran = int(line[3])
+    return 4 + ran if "overthrow" in line else max([ran, *(BOUNDARIES[it] for it in line if it in BOUNDARIES)])
+
+
+def runs_of(line):
+    """All of them."""
+    return scored(line) + (line[2] not in FAIR)
 
 
 def rate(runs, deliveries, each=6):
@@ -19,51 +32,103 @@ def rate(runs, deliveries, each=6):
     return str((Decimal(runs * each) / deliveries).quantize(Decimal("0.01"), ROUND_HALF_UP))
 
 
+def ends_after(line, ends):
+    """Who is at the striker's end and at the other after a delivery."""
+    ran, short = int(line[3]), int(line[line.index("short") + 1]) if "short" in line else 0
+    if "out" in line:
+        how, who = line[line.index("out") + 1 :][:2]
+        gone = ends[0 if who == "striker" else 1]
+        if how not in ("runout", "obstructing"):
+            return [None, ends[1]]
+        turned = ends[::-1] if (ran + short + ("crossed" in line)) % 2 else ends
+        return [None if it == gone else it for it in turned]
+    worth = max((BOUNDARIES[it] for it in line if it in BOUNDARIES), default=-1)
+    return ends[::-1] if ran > worth and (ran + short) % 2 else ends
+
+
 class Course:
     """The course of a match, line by line."""
 
     def __init__(self):
-        self.innings, self.is_open, self.called, self.over = 0, False, [], []
-        self.is_free, self.runs, self.balls, self.all_overs = False, 0, 0, []
+        self.innings, self.side, self.all_overs, self.totals = 0, None, [], {}
+        self.begin(False)
 
     def begin(self, is_open):
-        self.is_open, self.called, self.over, self.is_free, self.runs, self.balls = is_open, [], [], False, 0, 0
+        self.is_open, self.called, self.over, self.is_free, self.ends = is_open, [], [], False, NOBODY
+        self.part()
 
-    def take(self, line, runs):
+    def part(self):
+        """A partnership begins: its runs and balls, and of them each batter's."""
+        self.runs, self.balls, self.shares = 0, 0, {}
+
+    def share(self, player):
+        return None if player is None else dict(zip(("runs", "balls"), self.shares.get(player, (0, 0))))
+
+    def play(self, line):
+        """A delivery: the partnership first, which a wicket ends."""
+        faced, batted = line[2] != "wide", scored(line) if line[2] in ("bat", "nb") else 0
+        runs, balls = self.shares.get(self.ends[0], (0, 0))
+        self.shares[self.ends[0]] = runs + batted, balls + faced
+        self.runs, self.balls = self.runs + runs_of(line), self.balls + faced
+        self.over.append((int(line[1]), counts(line), runs_of(line)))
+        self.totals[self.side] += runs_of(line)
+        self.is_free = line[2].startswith("nb") or self.is_free and not counts(line)
+        self.ends = ends_after(line, self.ends)
+        if "out" in line:
+            self.part()
+
+    def take(self, line):
         word = line[0]
         if word == "innings":
-            self.innings += 1
+            self.innings, self.side = self.innings + 1, line[1]
+            self.totals.setdefault(self.side, 0)
         if word in ("innings", "end"):
             self.begin(word == "innings")
         elif word == "over":
             self.all_overs.append({"innings": self.innings, "runs": sum(it for _, _, it in self.over)})
             self.called.append(self.over)
-            self.over = []
+            self.over, self.ends = [], self.ends[::-1]
         elif word == "ball":
-            self.over.append((int(line[1]), counts(line), runs))
-            self.is_free = line[2].startswith("nb") or self.is_free and not counts(line)
-            self.runs, self.balls = (0, 0) if "out" in line else (self.runs + runs, self.balls + (line[2] != "wide"))
-        elif word == "gone" and line[1] != "retiredhurt":
-            self.runs, self.balls = 0, 0
+            self.play(line)
+        elif word == "in":
+            self.ends = [int(line[1]), self.ends[1]] if self.ends[0] is None else [self.ends[0], int(line[1])]
+        elif word == "swap":
+            self.ends = self.ends[::-1]
+        elif word == "gone":
+            self.ends = [None if it == int(line[2]) else it for it in self.ends]
+            if line[1] != "retiredhurt":
+                self.part()
 
 
-def told(limits, lines, made, innings, bowler, needs):
-    """What a board tells, of these lines with their places, with the runs that each delivery made. `innings` is the last one
-    of its file, if there is one, of which the total and the overs are looked at elsewhere."""
+def course_of(lines):
     course = Course()
-    for place, line in lines:
-        course.take(line, made.get(place, 0))
+    for line in lines:
+        course.take(line)
+    return course
+
+
+def overs_of(limits, course):
+    """How many overs the open innings has, how many are left of them, and how many deliveries."""
     overs = limits.get("overs", [])
     overs = overs if isinstance(overs, list) else [overs]
-    most = overs[min(course.innings, len(overs)) - 1] if overs and course.is_open else None
-    left = None if most is None else max(0, most - len(course.called))
-    gone = min(6, sum(1 for _, it, _ in course.over if it))
-    balls = None if left is None else max(0, 6 * left - gone)
+    if not overs or not course.is_open:
+        return None, None, None
+    most = overs[min(course.innings, len(overs)) - 1]
+    left = max(0, most - len(course.called))
+    return most, left, max(0, 6 * left - min(6, sum(it for _, it, _ in course.over)))
+
+
+def told(limits, lines, innings, bowler, needs):
+    """What a board tells of these lines. `innings` is the last one of its file, if there is one, of which the total and the
+    overs are looked at elsewhere."""
+    course = course_of(lines)
+    most, left, balls = overs_of(limits, course)
     now = len(course.called) + 1
     powerplays = [n for n, (first, last) in enumerate(limits.get("powerplays", []), 1) if course.is_open and first <= now <= last]
     had = innings and [int(it) for it in innings["overs"].split(".")]
     recent = course.called[-5:]
     by = sum(any(one == bowler for one, _, _ in over) for over in [*course.called, course.over])
+    stand = {"runs": course.runs, "balls": course.balls, "striker": course.share(course.ends[0]), "other": course.share(course.ends[1])}
     return {
         "overs": most,
         "overs_left": left,
@@ -75,5 +140,18 @@ def told(limits, lines, made, innings, bowler, needs):
         "free_hit": limits.get("free_hits", False) and course.is_free,
         "powerplay": powerplays[0] if powerplays else None,
         "bowler_overs": None if bowler is None else by,
-        "partnership": {"runs": course.runs, "balls": course.balls} if course.is_open else None,
+        "partnership": stand if course.is_open else None,
     }, course.all_overs
+
+
+def chase(limits, lines):
+    """What a desk's row has of a chase of one innings a side, in which no penalty runs were awarded: the total with the overs,
+    and behind the marks a free hit and what is needed."""
+    course = course_of(lines)
+    most, left, balls = overs_of(limits, course)
+    total, other = course.totals[course.side], sum(it for side, it in course.totals.items() if side != course.side)
+    needs = other + 1 - total
+    front = f" {total} for {sum('out' in it for it in lines[lines.index(['innings', course.side]):])} ({len(course.called)}.{sum(it for _, it, _ in course.over)} of {most})"
+    free = "  free hit" if limits.get("free_hits") and course.is_free else ""
+    rated = rate(needs, balls)
+    return front, free, f"  needs {needs} off {balls}" + (f" ({rated})" if rated else "") if needs > 0 else None

@@ -8,7 +8,7 @@ ghost use Rattle.setup.specs.Ends.{EndsWriting};
 
 use crate::printing::PrintFault;
 use cards::{MatchSheet, SheetFault, read_sheet};
-use setup::{StopFault, Stopped, output, short_sheet_bytes, tell_twins, tell_unfit_keys};
+use setup::{StopFault, Stopped, output, short_sheet_bytes, tell_twins};
 use sheet_check::{report_of, shown_sheet};
 use std::alloc::Global;
 use std::io::Write;
@@ -55,8 +55,8 @@ fn is_nothing(report: &str) -> bool
     report.is_empty()
 }
 
-/// `ground sheet`: prints the sheet of a file's bytes as it was read, or, where something is wrong with it or with its table
-/// of stations, all that is. It answers whether something is.
+/// `ground sheet`: prints the sheet of a file's bytes as it was read, or, where something is wrong with it, with its table of
+/// stations or with what it limits, all that is. It answers whether something is.
 pub fn sheet_run<W: Write>(
     alloc: Global,
     text: &[u8],
@@ -80,8 +80,7 @@ pub fn sheet_run<W: Write>(
     }
 }
 
-/// Runs `sheet` over a file. Standard error is told of each name that two bear, and of each key of `limits` that can't be what it
-/// says, where the sheet can be read.
+/// Runs `sheet` over a file. Standard error is told of each name that two bear, where the sheet can be read.
 #[inline(never)]
 pub fn start_sheet<'a>(rt: &HostRuntime, sheet: &'a str) -> Result<bool, Stopped<'a>> {
     let text = short_sheet_bytes(rt, sheet)?;
@@ -89,7 +88,6 @@ pub fn start_sheet<'a>(rt: &HostRuntime, sheet: &'a str) -> Result<bool, Stopped
     let answer = sheet_run(rt.alloc(), text.as_slice(), &mut writer);
     if let Ok(sheet) = read_sheet(rt.alloc(), text.as_slice()) {
         let _ = tell_twins(&mut rt.stderr(), &sheet);
-        let _ = tell_unfit_keys(&mut rt.stderr(), rt.alloc(), text.as_slice());
     }
     answer.map_err(|fault| Stopped::at("-", StopFault::from(fault)))
 }

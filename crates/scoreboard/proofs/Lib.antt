@@ -1,6 +1,7 @@
 pub mod Rows
 pub mod Singles
 pub mod StandLemmas
+pub mod ShareLemmas
 pub mod RecentLemmas
 pub mod CountLemmas
 pub mod LawLemmas

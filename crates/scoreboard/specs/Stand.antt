@@ -1,13 +1,16 @@
--- The partnership: what came since the last wicket of the open innings fell, or since that began.
-use Rattle.std.specs.Prelude.{ℕ, ◌+◌, is_some, if◌then◌else◌, List, [], ◌∷◌, ◌++◌, Option, Some, None, codes}
+-- The partnership: what came since the last wicket of the open innings fell, or since that began, and what each of the two who
+-- are in made of it.
+use Rattle.std.specs.Prelude.{ℕ, ◌+◌, is_some, if◌then◌else◌, List, [], ◌∷◌, ◌++◌, Option, Some, None, option_map, codes}
 use Rattle.notation.specs.declared.entry.{Ball.Ball, Leave.Leave, Plain.Plain}
 use Rattle.notation.specs.declared.entry.Leave as leave
+use Rattle.ball_laws.specs.declared.ends.Ends.{Ends}
 use Rattle.ball_laws.specs.History.{History}
-use Rattle.match_laws.specs.History.{is_open}
-use Rattle.match_laws.specs.Figures.{runs_of, faced_of}
+use Rattle.ball_laws.specs.Laws.{state_after}
+use Rattle.match_laws.specs.History.{is_at, is_open}
+use Rattle.match_laws.specs.Figures.{runs_of, batted_of, faced_of}
 use Rattle.json.specs.Json.{Json, null}
 use Rattle.json_fields.specs.Values.{Field, object_of, number_field}
-use Rattle.scoreboard.specs.declared.stand.Stand.{Stand}
+use Rattle.scoreboard.specs.declared.stand.{Stand.Stand, Partnership.Partnership}
 
 -- nothing yet
 abbrev pub no_stand : Stand
@@ -38,16 +41,49 @@ abbrev pub stand_of : History → Stand
 stand_of [] = no_stand
 stand_of (x ∷ h) = stand_after x (stand_of h)
 
-abbrev pub stand_value : Stand → Json
-stand_value s = object_of (number_field (codes "runs") s.runs ∷ [] ++ number_field (codes "balls") s.balls ∷ [])
+-- ---- a batter's share
+
+-- a delivery more that he faced: the runs off his bat, and one ball unless it is a Wide
+abbrev pub share_with : Ball → Stand → Stand
+share_with b s = record { runs = s.runs + batted_of b; balls = s.balls + faced_of b }
+
+-- of player p, behind an item before which these were at the ends: it ends where the partnership does
+abbrev pub share_after : ℕ → Ends → Plain → Stand → Stand
+share_after p e (Plain.Ball b) s = if is_some b.out then no_stand else if is_at e.striker p then share_with b s else s
+share_after p e x s = stand_after x s
+
+abbrev pub share_of : ℕ → History → Stand
+share_of p [] = no_stand
+share_of p (x ∷ h) = share_after p (state_after h).ends x (share_of p h)
+
+-- ---- all of it
+
+-- with the shares of these two
+abbrev pub partnership_of : History → Ends → Partnership
+partnership_of h e = record {
+  all = stand_of h;
+  striker = option_map (λ p. share_of p h) e.striker;
+  other = option_map (λ p. share_of p h) e.other;
+}
 
 -- while an innings is open
-abbrev pub stand_now : History → Option Stand
-stand_now h = if is_open h then Some (stand_of h) else None
+abbrev pub partnership_now : History → Option Partnership
+partnership_now h = if is_open h then Some (partnership_of h (state_after h).ends) else None
 
-abbrev pub stand_or_null : Option Stand → Json
-stand_or_null None = null
-stand_or_null (Some s) = stand_value s
+abbrev pub stand_fields : Stand → List Field
+stand_fields s = number_field (codes "runs") s.runs ∷ [] ++ number_field (codes "balls") s.balls ∷ []
 
-abbrev pub stand_field : Option Stand → Field
-stand_field s = (codes "partnership", stand_or_null s)
+abbrev pub share_or_null : Option Stand → Json
+share_or_null None = null
+share_or_null (Some s) = object_of (stand_fields s)
+
+abbrev pub partnership_value : Partnership → Json
+partnership_value p =
+    object_of (stand_fields p.all ++ (codes "striker", share_or_null p.striker) ∷ [] ++ (codes "other", share_or_null p.other) ∷ [])
+
+abbrev pub partnership_or_null : Option Partnership → Json
+partnership_or_null None = null
+partnership_or_null (Some p) = partnership_value p
+
+abbrev pub partnership_field : Option Partnership → Field
+partnership_field p = (codes "partnership", partnership_or_null p)

@@ -10,6 +10,7 @@ mod marks;
 mod now;
 mod over_runs;
 mod recent;
+mod shares;
 mod stand;
 mod text;
 mod told;

@@ -6,11 +6,11 @@ ghost use Rattle.corrections.specs.Overs.{AreOversOf, balls_of};
 ghost use Rattle.json_fields.specs.Values.{PutsFields};
 ghost use Rattle.scoreboard.specs.Limited as limited;
 ghost use Rattle.scoreboard.specs.Now as laws;
-ghost use Rattle.scoreboard.specs.Stand.{stand_now};
+ghost use Rattle.scoreboard.specs.Stand.{partnership_now};
 
 use crate::limited::{put_figure_or_null, put_told};
 use crate::marks::put_marks;
-use crate::stand::{Stand, put_stand};
+use crate::stand::{Partnership, put_partnership};
 use crate::told::Told;
 use cards::{MatchSheet, result_text};
 use corrections::{Overs, Placed};
@@ -100,16 +100,16 @@ pub fn put_now(
     score: &Match,
     overs: &Overs<'_>,
     told: &Told,
-    stand: Option<Stand>,
+    partnership: Option<Partnership>,
 ) -> Result<(), AllocError>
     ensures { ForEachHistory score.now (λ n h. AreOversOf overs.now h → told.now ≡ limited.told_of sheet.now n h →
-        stand ≡ stand_now h → PutsFields result out.old out.new ((codes "now", laws.now_value sheet.now n h) ∷ [])) }
+        partnership ≡ partnership_now h → PutsFields result out.old out.new ((codes "now", laws.now_value sheet.now n h) ∷ [])) }
 {
     begin_field(out, "now")?;
     put_players(out, score, overs)?;
     put_overs(out, alloc, overs)?;
     put_aim(out, alloc, sheet, score)?;
     put_told(out, alloc, told)?;
-    put_stand(out, stand)?;
+    put_partnership(out, partnership)?;
     end_object(out)
 }

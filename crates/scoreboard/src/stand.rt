@@ -1,17 +1,21 @@
 //! The partnership.
 
-ghost use Rattle.std.specs.Prelude.{◌≡◌, ◌+◌, ◌*◌, ◌≤◌, ◌∷◌, [], Some, length};
+ghost use Rattle.std.specs.Prelude.{◌≡◌, ◌+◌, ◌*◌, ◌≤◌, ◌∷◌, [], Some, length, option_map};
 ghost use Rattle.notation.specs.declared.entry.TheConstants.{PLACES};
+ghost use Rattle.ball_laws.specs.Laws.{IsPlayed};
 ghost use Rattle.match_laws.specs.Figures.{faced_of};
-ghost use Rattle.corrections.specs.CleanList.{history_of};
+ghost use Rattle.corrections.specs.CleanList.{history_of, kept};
+ghost use Rattle.corrections.specs.inner.Scoring.{history_after};
 ghost use Rattle.limits.specs.inner.Walks.{walk};
 ghost use Rattle.json_fields.specs.Values.{PutsFields};
 ghost use Rattle.scoreboard.specs.Stand as laws;
 
+use crate::shares::share_of;
+use ball_laws::Ends;
 use cards::all_runs;
 use corrections::{BookOf, Placed};
 use json_fields::{Compact, begin_field, end_object, put_figure, put_null};
-use notation::{Ball, Kind, Leave, Plain};
+use notation::{Ball, Kind, Leave, Plain, Player};
 use std::alloc::AllocError;
 
 /// What came since a wicket fell: runs, and balls that were faced.
@@ -21,15 +25,23 @@ pub struct Stand {
     pub balls: u32,
 }
 
+/// What came of both, and what each who is in made of it.
+#[derive(Clone, Copy, Debug, PartialEq, Eq)]
+pub struct Partnership {
+    pub all: Stand,
+    pub striker: Option<Stand>,
+    pub other: Option<Stand>,
+}
+
 /// Nothing yet.
-fn no_stand() -> Stand
+pub fn no_stand() -> Stand
     ensures { result ≡ laws.no_stand }
 {
     Stand { runs: 0, balls: 0 }
 }
 
 /// One, unless the delivery is a Wide.
-fn faced(ball: &Ball) -> u32
+pub fn faced(ball: &Ball) -> u32
     ensures value { result ≡ faced_of ball.now }
     ensures bound { result ≤ 1 }
 {
@@ -81,7 +93,7 @@ fn stand_left(how: Leave, stand: Stand) -> Stand
 }
 
 /// Behind an item.
-fn stand_after(item: &Plain, stand: Stand) -> Stand
+pub fn stand_after(item: &Plain, stand: Stand) -> Stand
     requires runs { stand.runs ≤ 260 * PLACES }
     requires balls { stand.balls ≤ PLACES }
     ensures value { result ≡ laws.stand_after item.now stand }
@@ -108,33 +120,88 @@ fn stand_of(items: &[Placed]) -> Stand
     stand
 }
 
-/// The partnership of a book, while an innings is open.
-pub fn stand_now<B: BookOf>(book: &B) -> Option<Stand>
-    ensures { result ≡ laws.stand_now (history_of (B.content book.now)) }
+/// The share of a batter who is in.
+fn share_for(items: &[Placed], batter: Option<Player>) -> Option<Stand>
+    requires few { length items.now ≤ PLACES }
+    requires played { IsPlayed (history_after [] (kept items.now)) }
+    ensures { result ≡ option_map (λ player. laws.share_of player (history_after [] (kept items.now))) batter }
 {
-    if book.score().is_open() {
-        Some(stand_of(book.clean_items()))
+    match batter {
+        Some(player) => Some(share_of(player, items)),
+        None => None,
+    }
+}
+
+/// The partnership of a book, with these two at the ends.
+fn partnership_of<B: BookOf>(book: &B, ends: Ends) -> Partnership
+    requires { IsPlayed (history_of (B.content book.now)) }
+    ensures { result ≡ laws.partnership_of (history_of (B.content book.now)) ends }
+{
+    let items = book.clean_items();
+    Partnership {
+        all: stand_of(items),
+        striker: share_for(items, ends.striker),
+        other: share_for(items, ends.other),
+    }
+}
+
+/// The partnership of a book, while an innings is open.
+pub fn partnership_now<B: BookOf>(book: &B) -> Option<Partnership>
+    ensures { result ≡ laws.partnership_now (history_of (B.content book.now)) }
+{
+    let score = book.score();
+    if score.is_open() {
+        Some(partnership_of(book, score.ends()))
     } else {
         None
     }
 }
 
-/// Puts it.
-fn put_some(out: &mut Compact, stand: Stand) -> Result<(), AllocError>
-    ensures { PutsFields result out.old out.new ((laws.stand_field (Some stand)) ∷ []) }
+/// Puts runs and balls.
+fn put_figures(out: &mut Compact, stand: Stand) -> Result<(), AllocError>
+    ensures { PutsFields result out.old out.new (laws.stand_fields stand) }
 {
-    begin_field(out, "partnership")?;
     put_figure(out, "runs", stand.runs)?;
-    put_figure(out, "balls", stand.balls)?;
+    put_figure(out, "balls", stand.balls)
+}
+
+fn put_some_share(out: &mut Compact, name: &str, share: Stand) -> Result<(), AllocError>
+    ensures { PutsFields result out.old out.new ((name.now, laws.share_or_null (Some share)) ∷ []) }
+{
+    begin_field(out, name)?;
+    put_figures(out, share)?;
     end_object(out)
 }
 
-/// Puts it, if there is one.
-pub fn put_stand(out: &mut Compact, stand: Option<Stand>) -> Result<(), AllocError>
-    ensures { PutsFields result out.old out.new (laws.stand_field stand ∷ []) }
+/// Puts a batter's share, if he is in.
+fn put_share(out: &mut Compact, name: &str, share: Option<Stand>) -> Result<(), AllocError>
+    ensures { PutsFields result out.old out.new ((name.now, laws.share_or_null share) ∷ []) }
 {
-    match stand {
-        Some(stand) => put_some(out, stand),
+    match share {
+        Some(share) => put_some_share(out, name, share),
+        None => put_null(out, name),
+    }
+}
+
+fn put_some(out: &mut Compact, partnership: Partnership) -> Result<(), AllocError>
+    ensures { PutsFields result out.old out.new (laws.partnership_field (Some partnership) ∷ []) }
+{
+    begin_field(out, "partnership")?;
+    put_figures(out, partnership.all)?;
+    put_share(out, "striker", partnership.striker)?;
+    put_share(out, "other", partnership.other)?;
+    end_object(out)
+}
+
+/// Puts a partnership, if there is one.
+pub fn put_partnership(
+    out: &mut Compact,
+    partnership: Option<Partnership>,
+) -> Result<(), AllocError>
+    ensures { PutsFields result out.old out.new (laws.partnership_field partnership ∷ []) }
+{
+    match partnership {
+        Some(partnership) => put_some(out, partnership),
         None => put_null(out, "partnership"),
     }
 }

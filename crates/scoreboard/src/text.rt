@@ -4,7 +4,7 @@ ghost use Rattle.std.specs.Prelude.{◌≡◌, IfOk};
 ghost use Rattle.scoreboard.specs.Value.{board_text};
 
 use crate::over_runs::runs_by_over;
-use crate::stand::stand_now;
+use crate::stand::partnership_now;
 use crate::told::told_of;
 use crate::value::put_board;
 use cards::MatchSheet;
@@ -34,7 +34,7 @@ pub fn board_text<B: BookOf>(
         book.score(),
         &overs,
         &told,
-        stand_now(book),
+        partnership_now(book),
         runs.as_slice(),
     )?;
     let mut text = out.into_inner();

@@ -6,14 +6,14 @@ ghost use Rattle.corrections.specs.Overs.{AreOversOf};
 ghost use Rattle.json_fields.specs.Values.{PutsFields, PutsValues};
 ghost use Rattle.scoreboard.specs.Limited.{told_of};
 ghost use Rattle.scoreboard.specs.OverRuns.{over_runs};
-ghost use Rattle.scoreboard.specs.Stand.{stand_now};
+ghost use Rattle.scoreboard.specs.Stand.{partnership_now};
 ghost use Rattle.scoreboard.specs.Value as laws;
 
 use crate::innings::put_all_innings;
 use crate::limited::put_limits;
 use crate::now::put_now;
 use crate::over_runs::{OverRuns, put_over_runs};
-use crate::stand::Stand;
+use crate::stand::Partnership;
 use crate::told::Told;
 use cards::MatchSheet;
 use corrections::Overs;
@@ -42,10 +42,10 @@ pub fn put_board(
     score: &Match,
     overs: &Overs<'_>,
     told: &Told,
-    stand: Option<Stand>,
+    partnership: Option<Partnership>,
     runs: &[OverRuns],
 ) -> Result<(), AllocError>
-    ensures { ForEachHistory score.now (λ n h. AreOversOf overs.now h → told.now ≡ told_of sheet.now n h → stand ≡ stand_now h →
+    ensures { ForEachHistory score.now (λ n h. AreOversOf overs.now h → told.now ≡ told_of sheet.now n h → partnership ≡ partnership_now h →
         runs.now ≡ over_runs h →
         PutsValues result out.old out.new (laws.value_of sheet.now n entries h ∷ [])) }
 {
@@ -53,7 +53,7 @@ pub fn put_board(
     put_head(out, sheet, entries)?;
     put_limits(out, sheet.limits())?;
     put_all_innings(out, alloc, sheet, score)?;
-    put_now(out, alloc, sheet, score, overs, told, stand)?;
+    put_now(out, alloc, sheet, score, overs, told, partnership)?;
     put_over_runs(out, runs)?;
     end_object(out)
 }

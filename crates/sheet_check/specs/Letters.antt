@@ -1,5 +1,5 @@
 -- How a text of a sheet is shown where something is wrong with it, and which of its letters aren't plain.
-use Rattle.std.specs.Prelude.{ℕ, Bool, ◌||◌, not, if◌then◌else◌, List, ◌++◌, codes, chars, encode_utf8, flat_map}
+use Rattle.std.specs.Prelude.{ℕ, Bool, ◌||◌, if◌then◌else◌, List, ◌++◌, codes, chars, encode_utf8, flat_map}
 use Rattle.std.specs.Int.{is_in_range}
 use Rattle.cards.specs.Sheet.{is_printable}
 

@@ -5,6 +5,7 @@ use Rattle.toml.specs.Data.{Members}
 use Rattle.cards.specs.Reading.{HasNoTable, HasTable}
 use Rattle.cards.specs.declared.fault.SheetFault.{SheetFault}
 use Rattle.sheet_check.specs.Faults.{Fault, faults}
+use Rattle.sheet_check.specs.Limits.{limit_faults}
 use Rattle.sheet_check.specs.Stations.{station_faults}
 use Rattle.sheet_check.specs.declared.putting.Fault.{Fault as KeptFault}
 
@@ -19,9 +20,13 @@ faults_in kept = map fault_of kept.items
 abbrev pub Puts : {T E : Type 0} → Result T E → Vec KeptFault Global → Vec KeptFault Global → List Fault → Type 0
 Puts result old new faults = OnOk result (faults_in new ≡ faults_in old ++ faults)
 
--- all that is wrong with a sheet of this table: with itself, and with its table of stations
+-- why nothing begins with a sheet of this table: what is wrong with itself, and with its table of stations
+abbrev pub begin_faults : Members → List Fault
+begin_faults ms = faults ms ++ station_faults ms
+
+-- all that is wrong with it: with what it limits too
 abbrev pub all_faults : Members → List Fault
-all_faults ms = faults ms ++ station_faults ms
+all_faults ms = begin_faults ms ++ limit_faults ms
 
 -- the line of a fault, and the lines of these
 abbrev pub line : Fault → List ℕ

@@ -1,8 +1,11 @@
--- A sheet as it was read: its title, number and innings, and both sides with their players' numbers and names. s is the sheet.
-use Rattle.std.specs.Prelude.{ℕ, List, [], ◌∷◌, ◌++◌, codes, decimal}
+-- A sheet as it was read: its title, number and innings, both sides with their players' numbers and names, and what it limits. s is
+-- the sheet.
+use Rattle.std.specs.Prelude.{ℕ, Bool, if◌then◌else◌, List, [], ◌∷◌, ◌++◌, Option, Some, None, codes, decimal}
 use Rattle.notation.specs.declared.entry.Side.{Side}
 use Rattle.notation.specs.declared.entry.Side.TheVariants.{Home, Away}
 use Rattle.ball_laws.specs.Over.{numbers}
+use Rattle.limits.specs.declared.powerplay.Powerplay.{Powerplay}
+use Rattle.limits.specs.Limits.{Limits}
 use Rattle.cards.specs.Sheet.{Sheet, name_of, player_of}
 
 -- a row: what it is, and its text
@@ -17,6 +20,27 @@ players s side (n ∷ ns) = row (decimal n) (player_of s side n) ++ players s si
 abbrev pub team : Sheet → List ℕ → Side → List ℕ
 team s what side = row what (name_of s side) ++ players s side numbers
 
+-- the overs of each innings, in order
+abbrev pub overs_rows : List ℕ → List ℕ
+overs_rows [] = []
+overs_rows (n ∷ ns) = row (codes "overs") (decimal n) ++ overs_rows ns
+
+abbrev pub bowler_row : Option ℕ → List ℕ
+bowler_row None = []
+bowler_row (Some n) = row (codes "overs_a_bowler") (decimal n)
+
+abbrev pub free_row : Bool → List ℕ
+free_row free = if free then row (codes "free_hits") (codes "true") else []
+
+-- the first over of each, and the last
+abbrev pub powerplay_rows : List Powerplay → List ℕ
+powerplay_rows [] = []
+powerplay_rows (p ∷ ps) = row (codes "powerplay") (decimal p.first ++ codes " " ++ decimal p.last) ++ powerplay_rows ps
+
+-- no row, where it limits nothing
+abbrev pub limits_rows : Limits → List ℕ
+limits_rows l = overs_rows l.overs ++ bowler_row l.overs_a_bowler ++ free_row l.free_hits ++ powerplay_rows l.powerplays
+
 abbrev pub shown_sheet : Sheet → List ℕ
 shown_sheet s =
     row (codes "title") s.title
@@ -24,3 +48,4 @@ shown_sheet s =
     ++ row (codes "innings") (decimal s.innings)
     ++ team s (codes "home") Home
     ++ team s (codes "away") Away
+    ++ limits_rows s.limits

@@ -1,5 +1,5 @@
 -- What is wrong with a sheet's table `[stations]`, key by key.
-use Rattle.std.specs.Prelude.{ℕ, ◌||◌, nat_le, ◌&&◌, Bool, true, false, if◌then◌else◌, List, [], ◌∷◌, ◌++◌, Option, Some, None, is_some, codes, bytes_eq}
+use Rattle.std.specs.Prelude.{ℕ, ◌||◌, nat_le, ◌&&◌, Bool, true, if◌then◌else◌, List, [], ◌∷◌, ◌++◌, Option, Some, None, is_some, codes, bytes_eq}
 use Rattle.toml.specs.Data.{Data, Items, no_items, item, Members, no_members, member, get_member, as_str, as_array, as_table}
 use Rattle.cards.specs.Reading.{count_of}
 use Rattle.cards.specs.declared.fault.SheetFault.TheVariants.{WrongKind}

@@ -4,6 +4,7 @@
 mod faults;
 mod laws;
 mod letters;
+mod limits;
 mod putting;
 mod report;
 mod shown;

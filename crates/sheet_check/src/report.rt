@@ -2,9 +2,10 @@
 
 ghost use Rattle.std.specs.Prelude.{◌≡◌, map, string_bytes, IfOk};
 ghost use Rattle.toml.specs.View.{table_view};
-ghost use Rattle.sheet_check.specs.Reports.{IsReport, IsTomlLine, all_faults, fault_of, faults_in, told};
+ghost use Rattle.sheet_check.specs.Reports.{IsReport, IsTomlLine, all_faults, begin_faults, fault_of, faults_in, told};
 
 use crate::faults::put_faults;
+use crate::limits::put_limits;
 use crate::putting::{Fault, push_number};
 use crate::stations::put_stations;
 use std::alloc::{AllocError, Global};
@@ -33,9 +34,9 @@ fn toml_line(alloc: Global, line: usize, why: &str) -> Result<String, AllocError
     Ok(out)
 }
 
-/// All that is wrong with a sheet, by its table.
+/// Why nothing begins with a sheet, by its table: all that is wrong with it and its stations.
 pub fn faults_of(alloc: Global, table: &Table) -> Result<Vec<Fault>, AllocError>
-    ensures { IfOk result (λ faults. faults_in faults ≡ all_faults (table_view table.now)) }
+    ensures { IfOk result (λ faults. faults_in faults ≡ begin_faults (table_view table.now)) }
 {
     let mut out = Vec::new(alloc);
     put_faults(alloc, &mut out, table)?;
@@ -59,11 +60,12 @@ fn lines_of(alloc: Global, faults: &[Fault]) -> Result<String, AllocError>
 fn table_report(alloc: Global, table: &Table) -> Result<String, AllocError>
     ensures { IfOk result (λ report. string_bytes report ≡ told (all_faults (table_view table.now))) }
 {
-    let faults = faults_of(alloc, table)?;
+    let mut faults = faults_of(alloc, table)?;
+    put_limits(alloc, &mut faults, table)?;
     lines_of(alloc, faults.as_slice())
 }
 
-/// All that is wrong with a sheet and its table of stations, a line each; without a byte where that is nothing.
+/// All that is wrong with a sheet, its table of stations and what it limits, a line each; without a byte where that is nothing.
 pub fn report_of(alloc: Global, text: &[u8]) -> Result<String, AllocError>
     ensures { IfOk result (λ report. IsReport text.now (string_bytes report)) }
 {

@@ -7,6 +7,7 @@ ghost use Rattle.sheet_check.specs.inner.Numbers.{is_number};
 
 use crate::putting::push_number;
 use cards::MatchSheet;
+use limits::{Limits, Powerplay};
 use notation::{Player, Side};
 use std::alloc::{AllocError, Global};
 
@@ -71,6 +72,81 @@ fn push_team(
     )
 }
 
+/// Puts a row with a number.
+fn push_figure(alloc: Global, out: &mut String, what: &str, number: u16) -> Result<(), AllocError>
+    ensures { OnOk result (string_bytes out.new ≡ string_bytes out.old ++ texts.row what.now (decimal number)) }
+{
+    let text = number_text(alloc, u64::from(number))?;
+    push_row(out, what, text.as_str())
+}
+
+/// Puts the overs of each innings.
+fn push_overs(alloc: Global, out: &mut String, overs: &[u16]) -> Result<(), AllocError>
+    ensures { OnOk result (string_bytes out.new ≡ string_bytes out.old ++ texts.overs_rows overs.now) }
+{
+    let Some((number, more)) = overs.split_first() else {
+        return Ok(());
+    };
+    push_figure(alloc, out, "overs", *number)?;
+    push_overs(alloc, out, more)
+}
+
+/// Puts the overs of a bowler, if they are limited.
+fn push_bowler(alloc: Global, out: &mut String, overs: Option<u16>) -> Result<(), AllocError>
+    ensures { OnOk result (string_bytes out.new ≡ string_bytes out.old ++ texts.bowler_row overs) }
+{
+    match overs {
+        Some(number) => push_figure(alloc, out, "overs_a_bowler", number),
+        None => Ok(()),
+    }
+}
+
+/// Puts that there are free hits, if there are.
+fn push_free(out: &mut String, free_hits: bool) -> Result<(), AllocError>
+    ensures { OnOk result (string_bytes out.new ≡ string_bytes out.old ++ texts.free_row free_hits) }
+{
+    if free_hits {
+        push_row(out, "free_hits", "true")
+    } else {
+        Ok(())
+    }
+}
+
+fn push_powerplay(alloc: Global, out: &mut String, powerplay: Powerplay) -> Result<(), AllocError>
+    ensures { OnOk result (string_bytes out.new ≡ string_bytes out.old
+        ++ texts.row (codes "powerplay") (decimal powerplay.first ++ codes " " ++ decimal powerplay.last)) }
+{
+    let mut text = number_text(alloc, u64::from(powerplay.first))?;
+    text.push_str(" ")?;
+    push_number(&mut text, u64::from(powerplay.last))?;
+    push_row(out, "powerplay", text.as_str())
+}
+
+/// Puts each powerplay.
+fn push_powerplays(
+    alloc: Global,
+    out: &mut String,
+    powerplays: &[Powerplay],
+) -> Result<(), AllocError>
+    ensures { OnOk result (string_bytes out.new ≡ string_bytes out.old ++ texts.powerplay_rows powerplays.now) }
+{
+    let Some((powerplay, more)) = powerplays.split_first() else {
+        return Ok(());
+    };
+    push_powerplay(alloc, out, *powerplay)?;
+    push_powerplays(alloc, out, more)
+}
+
+/// Puts what a sheet limits.
+fn push_limits(alloc: Global, out: &mut String, limits: &Limits) -> Result<(), AllocError>
+    ensures { OnOk result (string_bytes out.new ≡ string_bytes out.old ++ texts.limits_rows limits.now) }
+{
+    push_overs(alloc, out, limits.overs())?;
+    push_bowler(alloc, out, limits.overs_a_bowler())?;
+    push_free(out, limits.free_hits())?;
+    push_powerplays(alloc, out, limits.powerplays())
+}
+
 /// A sheet as it was read.
 pub fn shown_sheet(alloc: Global, sheet: &MatchSheet) -> Result<String, AllocError>
     ensures { IfOk result (λ text. string_bytes text ≡ texts.shown_sheet sheet.now) }
@@ -83,5 +159,6 @@ pub fn shown_sheet(alloc: Global, sheet: &MatchSheet) -> Result<String, AllocErr
     push_row(&mut out, "innings", innings.as_str())?;
     push_team(alloc, &mut out, "home", sheet, Side::Home)?;
     push_team(alloc, &mut out, "away", sheet, Side::Away)?;
+    push_limits(alloc, &mut out, sheet.limits())?;
     Ok(out)
 }

@@ -2,7 +2,7 @@
 
 /// What may be run and loaded in the page: its own style and script, and what it asks of this board.
 pub const POLICY: &[u8] =
-    b"default-src 'none'; script-src 'sha256-P1GO48bQQ3NUxF3IUV5VaPdZmCQuymWwmY/xe9fd6E8='; style-src 'sha256-pUpYdcyPlQgg/FTZuuOXxD1NQgxxFLlbHPcyfOoAN7Q='; connect-src 'self'; img-src data:; base-uri 'none'; form-action 'none'; frame-ancestors 'none'";
+    b"default-src 'none'; script-src 'sha256-4vwn6R1LksLtihgwdt9w6B4G/W0tYRcAOl2emYeOALA='; style-src 'sha256-VuLDZmqkK7jGczWNfOT/rQoajGxTx34AfkeRyGN2jhg='; connect-src 'self'; img-src data:; base-uri 'none'; form-action 'none'; frame-ancestors 'none'";
 
 /// The page.
 pub const PAGE: &[u8] = b"<!DOCTYPE html>
@@ -38,6 +38,7 @@ h2 { font-size: .85em; letter-spacing: .06em; text-transform: uppercase; color: 
 #runs { font-size: 4.5em; font-weight: 700; line-height: 1.05; white-space: nowrap; }
 #overs { font-size: 1.5em; color: var(--quiet); white-space: nowrap; }
 #aim, #result { font-size: 1.4em; color: var(--bright); font-weight: 600; overflow-wrap: anywhere; }
+#left, #stand { color: var(--quiet); overflow-wrap: anywhere; }
 #runs:empty, #overs:empty { display: none; }
 #missing { margin-top: .4em; max-width: 45em; }
 #missing code { color: var(--bright); overflow-wrap: anywhere; }
@@ -58,6 +59,9 @@ ol.over li.wicket { border-color: #fff; border-radius: .2em; background: #fff; c
 .falls, .absent { color: var(--quiet); font-size: .9em; padding: .4em; overflow-wrap: anywhere; }
 .unseen { position: absolute; width: 1px; height: 1px; overflow: hidden; clip-path: inset(50%); white-space: nowrap; }
 #cards { display: grid; gap: .75em; grid-template-columns: minmax(0, 1fr); }
+.bars { display: flex; align-items: flex-end; gap: 2px; height: 5em; margin-top: .4em; border-bottom: 1px solid var(--line); }
+.bars span { flex: 1 1 0; min-width: 1px; max-width: 1.6em; background: var(--bright); }
+.bars.earlier span { background: var(--line); }
 [hidden] { display: none !important; }
 
 /* A screen at the ground: the score can be read from across the field. */
@@ -68,11 +72,13 @@ ol.over li.wicket { border-color: #fff; border-radius: .2em; background: #fff; c
   #overs { font-size: 3.6em; }
   #score h2 { font-size: 2.2em; color: var(--text); }
   #aim, #result { font-size: 3em; line-height: 1.1; }
+  #left, #stand { font-size: 1.7em; }
   #crease th, #crease td { font-size: 2.5em; padding: .06em .25em; }
   #crease thead th { font-size: 1.1em; }
   ol.over { font-size: 2.3em; min-height: 1.8em; }
   #last-over { font-size: 1.5em; }
   #wickets th, #wickets td { font-size: 1.3em; }
+  #chart { grid-column: 1 / -1; }
   #cards { grid-column: 1 / -1; grid-template-columns: repeat(2, minmax(0, 1fr)); }
   .card .both { display: grid; grid-template-columns: minmax(0, 1.5fr) minmax(0, 1fr); gap: 1em; align-items: start; }
   .card th, .card td { font-size: .95em; padding: .02em .3em; }
@@ -80,7 +86,7 @@ ol.over li.wicket { border-color: #fff; border-radius: .2em; background: #fff; c
 
 /* A stream: a lower third over the picture. */
 html.overlay { background: transparent; }
-.overlay h1, .overlay #age:not(.old), .overlay #missing, .overlay #wickets, .overlay #cards { display: none; }
+.overlay h1, .overlay #age:not(.old), .overlay #missing, .overlay #wickets, .overlay #chart, .overlay #cards { display: none; }
 .overlay header { position: fixed; right: 2vw; top: 2vh; padding: 0; border: 0; }
 .overlay main { position: fixed; left: 2vw; right: 2vw; bottom: 3vh; padding: 0; align-items: stretch; grid-template-columns: minmax(0, 1fr) minmax(0, 1.5fr) minmax(0, 1fr); }
 .overlay section { background: rgba(10, 24, 16, .92); border: 0; }
@@ -89,6 +95,7 @@ html.overlay { background: transparent; }
   .overlay #overs { font-size: 1.7em; }
   .overlay #score h2 { font-size: 1.3em; }
   .overlay #aim, .overlay #result { font-size: 1.4em; }
+  .overlay #left, .overlay #stand { font-size: 1em; }
   .overlay #crease th, .overlay #crease td { font-size: 1.35em; }
   .overlay #crease thead th { font-size: .8em; }
   .overlay ol.over { font-size: 1.35em; }
@@ -101,19 +108,20 @@ html.overlay { background: transparent; }
 .big h1 { white-space: nowrap; }
 .big main { display: block; padding: .3em 1.4em 0; }
 .big section { background: none; border: 0; border-radius: 0; padding: 0; }
-.big #over, .big #wickets, .big #cards, .big #crease-heading { display: none; }
+.big #stand, .big #over, .big #wickets, .big #chart, .big #cards, .big #crease-heading { display: none; }
 .big #team, .big #aim, .big #result, .big #batters td, .big #batters tbody th, .big #bowler td, .big #bowler tbody th { font-size: calc(7 * var(--u)); line-height: 1.12; }
 .big #team { color: var(--text); white-space: nowrap; }
 .big #team .label { font-size: calc(3 * var(--u)); }
 .big #runs { font-size: calc(26 * var(--u)); line-height: .9; }
 .big #overs { font-size: calc(9 * var(--u)); margin-left: .3em; }
 .big #aim { white-space: nowrap; }
+.big #left { font-size: calc(3.6 * var(--u)); white-space: nowrap; }
 .big #crease th, .big #crease td { padding: .05em 0 .05em .4em; white-space: nowrap; }
 .big #crease th:first-child { padding-left: 0; }
 .big #crease th:first-child { width: 100%; }
 .big #crease thead th { font-size: calc(3 * var(--u)); }
 .big #batters tr > :nth-child(n + 4) { display: none; }
-.big[data-turn=\"card\"] #crease, .big[data-turn=\"card\"] #aim, .big[data-turn=\"card\"] #result { display: none; }
+.big[data-turn=\"card\"] #crease, .big[data-turn=\"card\"] #left, .big[data-turn=\"card\"] #aim, .big[data-turn=\"card\"] #result { display: none; }
 .big[data-turn=\"card\"] #score { display: flex; gap: 1em; align-items: baseline; border-bottom: 2px solid var(--line); white-space: nowrap; }
 .big[data-turn=\"card\"] #team, .big[data-turn=\"card\"] #runs, .big[data-turn=\"card\"] #overs { font-size: calc(4.6 * var(--u)); line-height: 1.3; }
 .big[data-turn=\"card\"] #cards, .big .card .both { display: block; }
@@ -136,6 +144,8 @@ html.overlay { background: transparent; }
     <div role=\"status\" aria-live=\"polite\" aria-atomic=\"true\">
       <span id=\"runs\"></span> <span id=\"overs\"></span> <span id=\"fallen\" class=\"unseen\"></span>
       <p id=\"aim\" hidden></p>
+      <p id=\"left\" hidden></p>
+      <p id=\"stand\" hidden></p>
       <p id=\"result\" hidden></p>
       <p id=\"missing\" hidden></p>
     </div>
@@ -162,6 +172,10 @@ html.overlay { background: transparent; }
       <thead class=\"unseen\"><tr><th scope=\"col\">Batter</th><th scope=\"col\">How</th><th scope=\"col\">Runs</th><th scope=\"col\">Fall</th></tr></thead>
       <tbody></tbody>
     </table>
+  </section>
+  <section id=\"chart\" aria-labelledby=\"chart-heading\" hidden>
+    <h2 id=\"chart-heading\">Runs by over</h2>
+    <div id=\"bars\"></div>
   </section>
   <div id=\"cards\"></div>
 </main>
@@ -272,6 +286,27 @@ function showWickets(innings) {
   at(\"wickets\").hidden = rows.length === 0;
 }
 
+// A bar for each over that was called, innings by innings, the last one bright.
+function showChart(board) {
+  const overs = board.overs_runs || [];
+  const most = Math.max(1, ...overs.map(over => over.runs));
+  const rows = board.innings.map((innings, n) => {
+    const made = element(\"div\", undefined, n + 1 < board.innings.length ? \"bars earlier\" : \"bars\");
+    const own = overs.filter(over => over.innings === n + 1);
+    made.setAttribute(\"role\", \"img\");
+    made.setAttribute(\"aria-label\", innings.team + \", runs by over: \" + own.map(over => over.runs).join(\", \"));
+    made.append(...own.map((over, at) => {
+      const bar = element(\"span\");
+      bar.style.height = 100 * over.runs / most + \"%\";
+      bar.title = \"Over \" + (at + 1) + \": \" + over.runs;
+      return bar;
+    }));
+    return made;
+  });
+  at(\"bars\").replaceChildren(...rows);
+  at(\"chart\").hidden = overs.length === 0;
+}
+
 // Who hasn't batted: those names that another innings of the side tells, and how many more.
 function absent(innings, board) {
   const all = board.innings;
@@ -320,6 +355,33 @@ function card(innings, board) {
   return made;
 }
 
+// A board of an earlier version tells nothing of overs and rates.
+const known = figure => figure !== null && figure !== undefined;
+
+// Off how many deliveries the runs are needed, and how many that is an over.
+function off(now) {
+  if (!known(now.balls_left)) return \"\";
+  return \" off \" + now.balls_left + (known(now.needed_an_over) ? \" (\" + now.needed_an_over + \")\" : \"\");
+}
+
+// What came since the last wicket, and what each who is in made of it.
+function partnership(now, innings) {
+  const off = stand => stand.runs + \" off \" + stand.balls;
+  const told = now.partnership;
+  const shares = [\"striker\", \"other\"].filter(end => known(told[end])).map(end => of(innings.batting, now[end]).name + \" \" + off(told[end]));
+  return \"Partnership \" + off(told) + (shares.length > 0 ? \": \" + shares.join(\", \") : \"\");
+}
+
+// What else is told of the overs, part by part.
+function left(now) {
+  const parts = [];
+  if (now.free_hit) parts.push(\"Free hit\");
+  if (known(now.powerplay)) parts.push(\"Powerplay \" + now.powerplay);
+  if (known(now.overs_left)) parts.push(now.overs_left + (now.overs_left === 1 ? \" over left\" : \" overs left\"));
+  if (known(now.run_rate)) parts.push(\"Run rate \" + now.run_rate + (known(now.last_rate) ? \", last five overs \" + now.last_rate : \"\"));
+  return parts;
+}
+
 function show(board, before) {
   const now = board.now;
   const last = board.innings[board.innings.length - 1];
@@ -328,8 +390,10 @@ function show(board, before) {
   at(\"team\").replaceChildren(...(last ? [element(\"span\", last.closed ? \"Innings closed: \" : \"Batting: \", \"label\"), last.team] : [\"No play yet\"]));
   putIf(\"missing\", \"\");
   put(\"runs\", last ? last.runs + \"/\" + last.wickets : \"\");
-  put(\"overs\", last ? last.overs + \" overs\" : \"\");
-  putIf(\"aim\", now.result === null && now.target !== null ? \"Target \" + now.target + \", needs \" + now.needs : \"\");
+  put(\"overs\", last ? last.overs + (known(now.overs) ? \" of \" + now.overs : \"\") + \" overs\" : \"\");
+  putIf(\"aim\", now.result === null && now.target !== null ? \"Target \" + now.target + \", needs \" + now.needs + off(now) : \"\");
+  putIf(\"left\", last && now.result === null ? left(now).join(\" \\u00b7 \") : \"\");
+  putIf(\"stand\", last && now.result === null && known(now.partnership) ? partnership(now, last) : \"\");
   putIf(\"result\", now.result || \"\");
   for (const id of [\"crease\", \"over\", \"wickets\"]) at(id).hidden = !last;
   if (last) {
@@ -339,6 +403,7 @@ function show(board, before) {
     at(\"this-over\").replaceChildren(...now.this_over.map(ball));
     put(\"last-over\", now.last_over.length > 0 ? \"Last over: \" + now.last_over.map(mark => mark === \".\" ? \"\\u2022\" : mark).join(\" \") : \"\");
   }
+  showChart(board);
   at(\"cards\").replaceChildren(...board.innings.slice().reverse().map(innings => card(innings, board)));
   showTurn();
 }

@@ -3,4 +3,5 @@ use Rattle.scoreboard.proofs.stand.put_some.Goals as goal
 
 pub returns : goal.returns
 returns c =
-    is_object_field c.end_object.result _ (begins c.in_ok-begin_field.ensures ▸ c.in_ok-put_figure.ensures ▸ c.in_ok-put_figure-2.ensures) c.end_object.ensures
+    is_object_field c.end_object.result _
+    (begins c.in_ok-begin_field.ensures ▸ c.in_ok-put_figures.ensures ▸ c.in_ok-put_share.ensures ▸ c.in_ok-put_share-2.ensures) c.end_object.ensures

@@ -1,0 +1,11 @@
+use Rattle.std.proofs.Common.{◌≡◌, ◌++◌}
+use Rattle.toml.specs.View.{members_view}
+use Rattle.sheet_check.specs.Limits.{unknown_faults}
+use Rattle.sheet_check.specs.Reports.{faults_in}
+use Rattle.sheet_check.proofs.limits.put_unknowns.Given as goal
+
+-- what is put so far, and what the keys from here on are told of
+abbrev pub invariant-loop-key : goal.invariant-loop-key
+invariant-loop-key l =
+    faults_in l.out ++ unknown_faults (members_view l.key-iterator)
+    ≡ faults_in l.initial.out ++ unknown_faults (members_view l.table.entries)
