@@ -1,12 +1,24 @@
 """What follows for a match of so many overs, reckoned from the lines that stand: what a board's file and a desk's row have to tell.
 
 It knows nothing of the program: the sheet's table `limits`, the plain lines, and what docs/LINES.md says of them are enough.
+What the file tells before the first entry stands in begun.json.
 """
+import json, os
 from decimal import ROUND_HALF_UP, Decimal
+
+BEGUN = f"{os.path.dirname(os.path.realpath(__file__))}/begun.json"
 
 FAIR = ("bat", "bye", "leg")
 BOUNDARIES = {"four": 4, "six": 6}
 NOBODY = [None, None]
+
+
+def begun(match, title, overs=()):
+    """The file of a match without an entry, of so many overs an innings."""
+    with open(BEGUN) as it:
+        value = json.load(it)
+    limits = {**value["limits"], "overs": list(overs)}
+    return json.dumps({**value, "match": match, "title": title, "limits": limits}, separators=(",", ":"), ensure_ascii=False) + "\n"
 
 
 def counts(line):

@@ -3,6 +3,7 @@ import errno, os, re, shutil, signal, tempfile
 from lives import BOARD, BOOK, SHEET, TOOLS, OtherDesk, board, desk, has_book, vote
 from plans import EIO, FULL, Plan, ends_of_board, ends_of_desk, ends_of_key, ends_of_words, only
 from record import TOP, Call, Judge, Wrong, bytes_at, calls_in, stored_before_sent, votes_in
+from words import READING
 
 AGREED = {(place, 0): line for place, line in enumerate(BOOK)}
 DIFFERED = {**AGREED, (2, 1): BOOK[2]}
@@ -272,21 +273,6 @@ def recorded_board(had=None, disturb=None):
 
 # ---- words that only read, and write to standard output ----
 
-FILES = f"{TOP}/tests/rows/files"
-BOTH_SHEET, BOTH_A, BOTH_B = (f"{FILES}/{name}" for name in ("two-innings.toml", "four-of-a.votes", "four-of-b.votes"))
-READING = {
-    "help": (["help", "desk"], b""),
-    "sheet": (["sheet", "--sheet", SHEET], b""),
-    "check": (["check"], b"innings home\nin 1\nin 2\nball 7 bat 1\n"),
-    "card": (["card", "--sheet", SHEET, "--from", f"{TOP}/examples/innings.txt", "--kind", "book"], b""),
-    "export": (["export", "--sheet", SHEET, "--from", f"{TOP}/examples/innings.txt", "--kind", "book"], b""),
-    "export of rows": (["export", "--rows", "--sheet", SHEET, "--from", f"{TOP}/examples/innings.txt", "--kind", "book"], b""),
-    "page": (["page", "--sheet", SHEET, "--from", f"{TOP}/examples/innings.txt", "--kind", "book"], b""),
-    "lines": (["lines", "--sheet", SHEET, "--from", f"{TOP}/examples/innings.txt", "--kind", "book"], b""),
-    "compare": (["compare", "--sheet", BOTH_SHEET, "--a", BOTH_A, "--b", BOTH_B], b""),
-    "card of both files": (["card", "--sheet", BOTH_SHEET, "--kind", "both", "--from", BOTH_A, "--with", BOTH_B], b""),
-    "replay": (["replay", "--sheet", SHEET, "--schedule", f"{TOP}/examples/schedule.txt", "--boards", "1"], b""),
-}
 REFUSED = {
     "a file that isn't there": (["card", "--sheet", SHEET, "--from", "nowhere", "--kind", "book"], 3, "cannot read nowhere\n"),
     "a file that is no votes file": (["card", "--sheet", SHEET, "--from", SHEET, "--kind", "a"], 1, "votes: 41 Damaged\n"),

@@ -1,4 +1,4 @@
-//! Tests of votes and their files, from a seat's rounds to disks that fail.
+//! Tests of votes files, on disks that fail.
 #![tactic(auto)]
 
 #[cfg(test)]

@@ -1,4 +1,4 @@
-//! Tests of what carries datagrams: the sealed link, and the window over it.
+//! Tests of the window over the sealed link.
 #![tactic(auto)]
 
 #[cfg(test)]

@@ -1,4 +1,4 @@
-//! What opens, what is kept, what is said again and when.
+//! What is kept, what is said again and when.
 ghost use Rattle.std.specs.Prelude.{◌<◌};
 ghost use Rattle.notation.specs.Written.{IsEntry};
 
@@ -10,7 +10,6 @@ use tests_support::{entry_in, vote_of};
 use wire::bytes_of;
 
 mod behind;
-mod sealed;
 
 fn entry(rt: &impl Abort, line: &str) -> Entry
     ensures { IsEntry result }

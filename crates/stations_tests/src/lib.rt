@@ -1,4 +1,4 @@
-//! Tests of stations and of what they say and print: messages, desks on disks that fail, boards, sheets and cards.
+//! Tests of desks on disks that fail, and of cards and boards on writers that fail.
 #![tactic(auto)]
 
 #[cfg(test)]

@@ -1,5 +1,4 @@
-//! Messages, desks and boards, byte by byte, and writers of cards that fail. Where one allocation fails, the call made again
-//! gives its answer.
+//! Desks on disks that fail, and writers of cards that fail. Where one allocation fails, the call made again gives its answer.
 ghost use Rattle.std.specs.Prelude.{◌≡◌, ◌<◌, []};
 ghost use Rattle.notation.specs.Written.{IsEntry};
 
@@ -11,8 +10,6 @@ use std::process::Abort;
 use tests_support::{entry_in, vote_of};
 use wire::bytes_of;
 
-mod boards;
-mod datagrams;
 mod desks;
 mod device_calls;
 mod printing;

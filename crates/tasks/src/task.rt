@@ -8,7 +8,7 @@ use station_table::{BoardOptions, DeskOptions};
 use std::net::SocketAddr;
 
 /// What the program is asked to do.
-#[derive(Clone, Copy, Debug, PartialEq, Eq)]
+#[derive(Clone, Copy)]
 pub enum Task<'a> {
     /// To take pen lines from standard input, in a match of so many innings a side, 1 or 2.
     Check {

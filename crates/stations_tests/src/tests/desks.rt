@@ -1,13 +1,11 @@
-//! Desks on disks in memory: their files, their votes, and bytes that are no message.
-ghost use Rattle.std.specs.Prelude.{◌<◌};
-
+//! Desks on disks in memory: their files and their votes.
 use super::*;
 use agree_core::{Heard, Settled, Vote};
 use corrections::BookOf;
 use desk::{Desk, OpenRefusal};
 use entry_log::{GatedSlots, MemDisk, Version, Version1, Version2};
 use vote_store::{Refusal as FileRefusal, Votes};
-use wire::{What, WireFault};
+use wire::What;
 
 pub type Station<V> = Desk<GatedSlots<V, MemDisk>, Book>;
 
@@ -185,46 +183,4 @@ fn files_that_are_refused(rt: HostRuntime) {
     }
     let disk = empty_disk(&rt, rt.alloc(), 400);
     unopened::<Version2>(&rt, rt.alloc(), disk, DeskId::A, 41);
-}
-
-/// What the vote is at a desk that waits for it, with this byte set to 255.
-fn damaged(i: usize) -> What {
-    match i {
-        0 | 1 => What::Bad(WireFault::NotOurs),
-        2 => What::Bad(WireFault::Version),
-        3 => What::Bad(WireFault::Kind),
-        4..=11 => What::Bad(WireFault::OtherMatch),
-        16 | 18 => What::Heard(Heard::Ahead),
-        _ => What::Bad(WireFault::Field),
-    }
-}
-
-// Bytes that are no message, and those of a later place or round, at desk B.
-#[test]
-fn damaged_bytes(rt: HostRuntime) {
-    let disk = empty_disk(&rt, rt.alloc(), 400);
-    let mut b = made(&rt, create::<Version2>(&rt, rt.alloc(), disk, DeskId::B));
-    for (place, line) in [(0, LINES[0]), (1, LINES[1]), (2, LINES[2])] {
-        assert!(rt; place < PLACES);
-        assert!(rt; refused::<Version2>(&rt, &mut b, line).is_none());
-        let from_a = vote(&rt, DeskId::A, place, 0, line);
-        assert!(rt; give::<Version2>(&rt, &mut b, &from_a) == Heard::Agreed);
-    }
-    assert!(rt; b.receive(&VOTE[..47]).what == What::Bad(WireFault::Length));
-    let mut long = [0; 49];
-    long[..48].copy_from_slice(&VOTE);
-    assert!(rt; b.receive(&long).what == What::Bad(WireFault::Length));
-    for i in 0..48 {
-        let mut bytes = VOTE;
-        bytes[i] = 255;
-        let received = b.receive(&bytes);
-        assert!(rt; received.what == damaged(i), "{i}");
-        assert!(rt; received.reply.is_none());
-    }
-    assert_eq!(rt; stands_at::<Version2>(&b), (3, (3, 0), 3));
-    assert!(rt; give::<Version2>(&rt, &mut b, &VOTE) == Heard::Noted);
-    assert!(rt; give::<Version2>(&rt, &mut b, &VOTE) == Heard::Again);
-    let mine = vote(&rt, DeskId::B, 3, 0, "void");
-    assert!(rt; give::<Version2>(&rt, &mut b, &mine) == Heard::Mine);
-    let_go(b);
 }

@@ -1,12 +1,11 @@
-//! Sheets and their readers, and writers that fail.
+//! Writers that fail.
 //! What takes memory is done again where an allocation failed, so that the tests pass with any one refused.
 
 use cards::{
-    MatchSheet, SheetFault, batting_card, board_lines, book_page, bowling_card, plain_sheet,
-    read_sheet,
+    MatchSheet, SheetFault, batting_card, board_lines, book_page, bowling_card, read_sheet,
 };
 use corrections::{Book, BookOf};
-use notation::{Player, Side, read_line};
+use notation::read_line;
 use std::alloc::{AllocError, Global};
 use std::io::Write;
 use std::process::Abort;
@@ -80,30 +79,6 @@ fn print<W: Write>(
         Call::Page => book_page(sheet, book, out),
         Call::Board => board_lines(sheet, game, out),
     }
-}
-
-#[test]
-fn a_sheet(rt: HostRuntime) {
-    let sheet = read(rt.alloc(), SHEET.as_bytes()).expect(&rt, "a sheet");
-    assert!(rt; sheet.title() == "T" && sheet.game() == 7 && sheet.innings() == 2);
-    assert!(rt; sheet.name(Side::Away) == "Birch");
-    let eleven = Player::new(11).expect(&rt, "a player");
-    assert!(rt; sheet.player(Side::Home, eleven) == "H11");
-    let fault = read(rt.alloc(), b"title =").err();
-    assert!(rt; fault.and_then(|why| why.number()) == Some(70));
-}
-
-#[test]
-fn the_plain_sheet(rt: HostRuntime) {
-    let alloc = rt.alloc();
-    let sheet = match plain_sheet(alloc, 7, 1) {
-        Ok(sheet) => sheet,
-        Err(_) => plain_sheet(alloc, 7, 1).expect(&rt, "memory for a sheet"),
-    };
-    assert!(rt; sheet.title() == "match" && sheet.game() == 7 && sheet.innings() == 1);
-    assert!(rt; sheet.name(Side::Home) == "home" && sheet.name(Side::Away) == "away");
-    let eleven = Player::new(11).expect(&rt, "a player");
-    assert!(rt; sheet.player(Side::Away, eleven) == "11");
 }
 
 /// How many of the writes of a text fail it, each in turn: a fault tells that the writer failed.
