@@ -1,5 +1,5 @@
 -- What is cast was typed, once and in order.
-use Rattle.std.proofs.Common.{◌≡◌, ◌⊎◌, ◌+◌, ◌-◌, ◌==◌, ◌&&◌, ◌||◌, ℕ, zero, suc, Bool, true, false, List, [], ◌∷◌, ◌++◌, arith, refl, sym, ap, ◌∙◌, subst, inl, inr}
+use Rattle.std.proofs.Common.{◌≡◌, ◌+◌, ◌-◌, ◌==◌, ◌&&◌, ◌||◌, ℕ, zero, suc, Bool, true, false, List, [], ◌∷◌, ◌++◌, arith, refl, sym, ap, ◌∙◌, subst, inl, inr}
 use Rattle.std.proofs.Common.{append-nil, append_assoc, drop, length, nat_lt, take}
 use Rattle.std.proofs.lemmas.Bool.Decides.{nat_tests}
 use Rattle.std.proofs.lemmas.List.{length-append}
@@ -12,7 +12,7 @@ use Rattle.ahead.specs.declared.log.AheadLog.{AheadLog}
 use Rattle.ahead.specs.declared.log.AheadLog as logs
 use Rattle.ahead.specs.Ahead.{but_newest, bytes_of, casting, given_of, held_of, is_ordered, kept_of, oldest, typed_of}
 use Rattle.ahead.specs.Order.{AreAmong, CastsInOrder, lines_of}
-use Rattle.ahead.specs.Sorts.{by_word, casts, is_entry, is_entrys, may_cast, sort_of}
+use Rattle.ahead.specs.Sorts.{casts, is_entry, is_entrys, may_cast, sort_of}
 use Rattle.ahead.specs.declared.sorts.Sort.{Sort}
 
 and_left : (a b : Bool) → (a && b) ≡ true → a ≡ true
@@ -255,7 +255,7 @@ fronted (logs.Cast' marker before) e =
     more_given (given_of before) (oldest (held_of before)) (kept_of before) (drop 1 (held_of before))
     (one_given (casting (given_of before)) (kept_of before) (held_of before) (fronted before e))
 fronted (logs.TakenBack' marker before buffer count) e =
-    one_back (casting (given_of before)) (kept_of before) (held_of before) (and_right (is_ordered before) _ e)
+    one_back (casting (given_of before)) (kept_of before) (held_of before) (and_left (nat_lt 0 (length (held_of before))) _ (and_right (is_ordered before) _ e))
     (fronted before (and_left (is_ordered before) _ e))
 fronted (logs.Dropped' marker before) e = all_dropped (casting (given_of before)) (kept_of before) (held_of before) (fronted before e)
 fronted (logs.Lost' marker before line) e = fronted before e

@@ -4,7 +4,7 @@ use Rattle.arrayvec.specs.ArrayString.{ArrayString}
 use Rattle.links.specs.Typing.{Input, Line, End}
 use Rattle.ahead.specs.declared.log.AheadLog.{AheadLog}
 use Rattle.ahead.specs.declared.log.AheadLog as logs
-use Rattle.ahead.specs.Sorts.{is_entry, may_cast}
+use Rattle.ahead.specs.Sorts.{is_entry, is_undo, may_cast}
 
 -- all that was typed, the oldest first
 abbrev pub typed_of : AheadLog → List Input
@@ -50,6 +50,21 @@ lost_of (logs.Unused' marker before buffer count) = lost_of before
 lost_of (logs.Stopped' marker before) = lost_of before
 lost_of (logs.Quit' marker before) = lost_of before
 lost_of (logs.Ended' marker before) = lost_of before
+
+-- the lines of which it was told that they are dropped, in the order of that
+abbrev pub dropped_of : AheadLog → List ArrayString
+dropped_of logs.Empty = []
+dropped_of (logs.Passed' marker before buffer count) = dropped_of before
+dropped_of (logs.Held' marker before line) = dropped_of before
+dropped_of (logs.Cast' marker before) = dropped_of before
+dropped_of (logs.TakenBack' marker before buffer count) = dropped_of before
+dropped_of (logs.Dropped' marker before) = dropped_of before ++ held_of before
+dropped_of (logs.Lost' marker before line) = dropped_of before
+dropped_of (logs.Told' marker before) = dropped_of before ++ lost_of before
+dropped_of (logs.Unused' marker before buffer count) = dropped_of before
+dropped_of (logs.Stopped' marker before) = dropped_of before
+dropped_of (logs.Quit' marker before) = dropped_of before
+dropped_of (logs.Ended' marker before) = dropped_of before
 
 -- the oldest of lines that are held, as the desk is given it
 abbrev pub oldest : List ArrayString → List Input
@@ -102,14 +117,15 @@ kept_of (logs.Quit' marker before) = kept_of before
 kept_of (logs.Ended' marker before) = kept_of before
 
 -- A line for which the desk may cast a vote is handed on at once only where none is held; only a line that may be an entry's
--- is held; and one is taken back only where one is held.
+-- is held; and one is taken back only where one is held, by `undo`.
 abbrev pub is_ordered : AheadLog → Bool
 is_ordered logs.Empty = true
 is_ordered (logs.Passed' marker before buffer count) =
     is_ordered before && (not (may_cast (take count.value buffer.value)) || (length (held_of before) == 0))
 is_ordered (logs.Held' marker before line) = is_ordered before && is_entry line.value.bytes
 is_ordered (logs.Cast' marker before) = is_ordered before
-is_ordered (logs.TakenBack' marker before buffer count) = is_ordered before && nat_lt 0 (length (held_of before))
+is_ordered (logs.TakenBack' marker before buffer count) =
+    is_ordered before && (nat_lt 0 (length (held_of before)) && is_undo (take count.value buffer.value))
 is_ordered (logs.Dropped' marker before) = is_ordered before
 is_ordered (logs.Lost' marker before line) = is_ordered before
 is_ordered (logs.Told' marker before) = is_ordered before

@@ -1,8 +1,10 @@
--- When all lines that are held are dropped, and which lines a row tells as dropped.
-use Rattle.std.specs.Prelude.{◌&&◌, ◌==◌, Bool, false, not, nat_lt, Option, None, Some, List}
+-- When lines that are held are dropped, and what rows tell of lines.
+use Rattle.std.specs.Prelude.{◌≡◌, ◌⊎◌, ◌&&◌, ◌==◌, ◌++◌, Bool, false, not, nat_lt, drop, Option, None, Some, List, [], ◌∷◌}
 use Rattle.arrayvec.specs.ArrayString.{ArrayString}
 use Rattle.links.specs.declared.{aside.Aside.Aside, keys.Typed.Typed, stand.Stand.Stand}
-use Rattle.ahead.specs.declared.queue.Tried.{Tried}
+use Rattle.ahead.specs.declared.log.AheadLog.{AheadLog}
+use Rattle.ahead.specs.declared.tried.Tried.{Tried}
+use Rattle.ahead.specs.Ahead.{given_of, held_of, oldest}
 
 -- the two scorers differed since the desk was seen last: it stands at the same place in a later round
 abbrev pub differs_since : Option Stand → Stand → Bool
@@ -14,16 +16,32 @@ abbrev pub is_not_taken : Option Tried → Stand → Bool
 is_not_taken None at = false
 is_not_taken (Some tried) at = (at.place == tried.place) && ((at.round == tried.round) && not at.has_voted)
 
--- the lines of which a row tells that they are dropped, all in one row
-abbrev pub dropped : Aside → Option (List ArrayString)
-dropped (Aside.Dropped lines) = Some lines.items
-dropped (Aside.NotTaken place line lines) = Some lines.items
-dropped aside = None
+-- the lines of which a row tells that they are dropped
+abbrev pub dropped : Aside → List ArrayString
+dropped (Aside.Dropped lines) = lines.items
+dropped (Aside.NotTaken place line lines) = lines.items
+dropped aside = []
 
-abbrev pub dropped_in : Option Aside → Option (List ArrayString)
-dropped_in None = None
+abbrev pub dropped_in : Option Aside → List ArrayString
+dropped_in None = []
 dropped_in (Some aside) = dropped aside
 
-abbrev pub dropped_by : Typed → Option (List ArrayString)
+abbrev pub dropped_by : Typed → List ArrayString
 dropped_by (Typed.Aside aside) = dropped aside
-dropped_by typed = None
+dropped_by typed = []
+
+-- the line of which a row tells that it is held
+abbrev pub held_by : Typed → List ArrayString
+held_by (Typed.Aside (Aside.Held place line)) = line ∷ []
+held_by typed = []
+
+-- the line of which a row tells that it is taken back
+abbrev pub taken_back_by : Typed → List ArrayString
+taken_back_by (Typed.Aside (Aside.TakenBack place line)) = line ∷ []
+taken_back_by typed = []
+
+-- none that was held is dropped: all are held still, or all but the oldest, which the desk is given
+abbrev pub Keeps : AheadLog → AheadLog → Type 0
+Keeps before after =
+    (held_of after ≡ held_of before)
+    ⊎ ((held_of after ≡ drop 1 (held_of before)) × (given_of after ≡ given_of before ++ oldest (held_of before)))

@@ -1,4 +1,4 @@
--- What is claimed: Sorts, which lines may be held; Ahead, what becomes of the lines that were typed; Order, that those which can cast a vote are such lines, once each and in their order; Dropping, when all that are held are dropped and told.
+-- What is claimed: Sorts, which lines may be held; Ahead, what becomes of the lines that were typed; Order, that those which can cast a vote are such lines, once each and in their order; Dropping, when lines that are held are dropped, and what rows tell of lines.
 pub mod Sorts
 pub mod Ahead
 pub mod Order

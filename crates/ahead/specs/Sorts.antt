@@ -37,3 +37,11 @@ is_entrys sort = false
 
 abbrev pub is_entry : List ℕ → Bool
 is_entry line = is_entrys (sort_of line)
+
+-- it takes a line back
+abbrev pub takes_back : Sort → Bool
+takes_back Sort.Undo = true
+takes_back sort = false
+
+abbrev pub is_undo : List ℕ → Bool
+is_undo line = takes_back (sort_of line)

@@ -1,7 +1,7 @@
 //! A scorer's lines, of which some are held.
 
-ghost use Rattle.std.specs.Prelude.{◌≡◌, [], List};
-ghost use Rattle.links.specs.Typing.{Input};
+ghost use Rattle.std.specs.Prelude.{◌≡◌, [], List, false, true};
+ghost use Rattle.links.specs.Typing.{Input, IsTyped};
 ghost use Rattle.ahead.specs.Ahead.{given_of, typed_of};
 
 use crate::queue::Queue;
@@ -37,11 +37,19 @@ impl<K: Keys> Ahead<K> {
 }
 
 impl<K: Keys> Keys for Ahead<K> {
-    ghost use Rattle.ahead.specs.Ahead.{given_of};
+    ghost use Rattle.ahead.specs.Ahead.{given_of, held_of};
+    ghost use Rattle.ahead.specs.Dropping.{differs_since, dropped_by, is_not_taken};
 
     ghost inputs = { λ ahead. given_of (ahead.queue).log };
 
-    fn line(&mut self, at: Stand, buffer: &mut [u8; 128]) -> Typed {
+    fn line(&mut self, at: Stand, buffer: &mut [u8; 128]) -> Typed
+        ensures given { IsTyped result buffer.new (given_of (self.old.queue).log) (given_of (self.new.queue).log) }
+        ensures differs { differs_since (self.old.queue).seen at ≡ true
+            → (held_of (self.new.queue).log ≡ []) × (dropped_by result ≡ held_of (self.old.queue).log) }
+        ensures not_taken { is_not_taken (self.old.queue).tried at ≡ true
+            → (held_of (self.new.queue).log ≡ []) × (dropped_by result ≡ held_of (self.old.queue).log) }
+        ensures hands_on { result ≡ Typed.Nothing → at.has_voted ≡ false → held_of (self.new.queue).log ≡ [] }
+    {
         match self.queue.due(at, buffer) {
             Typed::Nothing => {}
             due => return due,

@@ -8,6 +8,8 @@ mod lines;
 mod log;
 mod queue;
 mod sorts;
+mod taking;
+mod tried;
 
 pub use ahead::Ahead;
 pub use laws::what_is_cast_was_typed;

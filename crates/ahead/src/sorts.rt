@@ -1,6 +1,6 @@
 //! What a line that was typed is to those that are held.
 
-ghost use Rattle.std.specs.Prelude.{◌≡◌, IfSome};
+ghost use Rattle.std.specs.Prelude.{◌≡◌, ◌≤◌, IfSome, IsSome, IsUtf8, length};
 ghost use Rattle.screen.specs.Words as words;
 ghost use Rattle.ahead.specs.Sorts as sorts;
 
@@ -71,7 +71,8 @@ pub fn sort_of(line: &[u8]) -> Sort
 
 /// The text of a line, if it is text.
 pub fn text_of(line: &[u8]) -> Option<HeldLine>
-    ensures { IfSome result (λ text. text.bytes ≡ line.now) }
+    ensures same { IfSome result (λ text. text.bytes ≡ line.now) }
+    ensures some { IsUtf8 line.now → length line.now ≤ 128 → IsSome result }
 {
     match str::from_utf8(line) {
         Ok(text) => HeldLine::from(text).ok(),

@@ -1,0 +1,35 @@
+//! Where a desk stands behind a line that it was given.
+
+ghost use Rattle.std.specs.Prelude.{◌≡◌};
+ghost use Rattle.ahead.specs.Dropping.{differs_since, is_not_taken};
+
+use links::{HeldLine, Stand};
+
+/// An entry's line that the desk was given at this position, and whether it was held before.
+#[derive(Clone, Copy, Debug, PartialEq, Eq)]
+pub struct Tried {
+    pub line: HeldLine,
+    pub place: u32,
+    pub round: u32,
+    pub was_held: bool,
+}
+
+/// Whether the two scorers differed since the desk was seen last.
+pub fn differs_since(seen: Option<Stand>, at: Stand) -> bool
+    ensures { result ≡ differs_since seen at }
+{
+    match seen {
+        None => false,
+        Some(seen) => at.place == seen.place && at.round > seen.round,
+    }
+}
+
+/// Whether the desk cast no vote for the line that it was given last.
+pub fn is_not_taken(tried: Option<Tried>, at: Stand) -> bool
+    ensures { result ≡ is_not_taken tried at }
+{
+    match tried {
+        None => false,
+        Some(tried) => at.place == tried.place && at.round == tried.round && !at.has_voted,
+    }
+}
