@@ -4,7 +4,7 @@
 mod faults;
 mod laws;
 mod letters;
-mod limits;
+mod limited;
 mod putting;
 mod report;
 mod shown;

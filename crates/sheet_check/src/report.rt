@@ -5,7 +5,7 @@ ghost use Rattle.toml.specs.View.{table_view};
 ghost use Rattle.sheet_check.specs.Reports.{IsReport, IsTomlLine, all_faults, begin_faults, fault_of, faults_in, told};
 
 use crate::faults::put_faults;
-use crate::limits::put_limits;
+use crate::limited::put_limits;
 use crate::putting::{Fault, push_number};
 use crate::stations::put_stations;
 use std::alloc::{AllocError, Global};

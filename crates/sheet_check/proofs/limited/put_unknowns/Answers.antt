@@ -3,7 +3,7 @@ use Rattle.toml.specs.View.{members_view}
 use Rattle.toml.proofs.Views.{Entry}
 use Rattle.sheet_check.specs.Limits.{unknown_faults, unknown_of}
 use Rattle.sheet_check.specs.Reports.{faults_in}
-use Rattle.sheet_check.proofs.limits.put_unknowns.Goals as goal
+use Rattle.sheet_check.proofs.limited.put_unknowns.Goals as goal
 
 pub loop-key-preserved : goal.loop-key-preserved
 loop-key-preserved c =

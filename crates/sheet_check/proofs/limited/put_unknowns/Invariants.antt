@@ -2,7 +2,7 @@ use Rattle.std.proofs.Common.{◌≡◌, ◌++◌}
 use Rattle.toml.specs.View.{members_view}
 use Rattle.sheet_check.specs.Limits.{unknown_faults}
 use Rattle.sheet_check.specs.Reports.{faults_in}
-use Rattle.sheet_check.proofs.limits.put_unknowns.Given as goal
+use Rattle.sheet_check.proofs.limited.put_unknowns.Given as goal
 
 -- what is put so far, and what the keys from here on are told of
 abbrev pub invariant-loop-key : goal.invariant-loop-key
