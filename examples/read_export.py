@@ -5,6 +5,7 @@ archives, 1.1.0, with `yermudosh` beside it.
 usage: read_export.py EXPORT CARD    checks every key and type, adds up innings, batters and bowlers from the deliveries,
                                      and compares them with the lines of `ground card`
        read_export.py --lines EXPORT prints the lines of the book, for `ground check` or `ground card`
+       read_export.py --sheet EXPORT prints the match sheet, with the fingerprint of the one that was exported
 """
 import datetime
 import json
@@ -15,8 +16,13 @@ KINDS = {
     "bowled", "caught", "caught and bowled", "lbw", "stumped", "run out", "hit wicket", "hit the ball twice",
     "obstructing the field", "timed out", "retired hurt", "retired out", "retired not out", "handled the ball",
 }
+# the kinds of who may leave between deliveries, and so needn't be a batter of the one that carries it
+BETWEEN = {"timed out", "retired hurt", "retired out", "run out"}
 # the kinds of which a bowler has credit
 CREDITED = {"bowled", "caught", "caught and bowled", "lbw", "stumped", "hit wicket"}
+
+# what stands behind the names of teams that have one
+MARKS = (" (home)", " (away)")
 
 # the lines of the card of an innings
 HEAD_LINE = re.compile(r"(.*), innings \d+")
@@ -88,6 +94,14 @@ DELIVERY = is_mapping_of(
 )
 OVER = is_mapping_of({"over": is_number, "deliveries": lambda listed: listed != [] and is_list_of(DELIVERY)(listed)})
 MISCOUNTED = is_mapping_of({"balls": is_number}, {"umpire": is_text})
+
+
+def is_ball_number(value):
+    """An over from 0, and a ball of it."""
+    return isinstance(value, float) and value > 0
+
+
+POWERPLAY = is_mapping_of({"from": is_ball_number, "to": is_ball_number, "type": lambda kind: kind in ("mandatory", "batting", "fielding")})
 INNINGS = is_mapping_of(
     {"team": is_text, "overs": is_list_of(OVER)},
     {
@@ -98,6 +112,7 @@ INNINGS = is_mapping_of(
             key.isdigit() and MISCOUNTED(value) for key, value in overs.items()
         ),
         "target": is_mapping_of({"runs": is_number}, {"overs": is_number}),
+        "powerplays": lambda listed: listed != [] and is_list_of(POWERPLAY)(listed),
     },
 )
 OUTCOME = is_mapping_of(
@@ -105,7 +120,7 @@ OUTCOME = is_mapping_of(
     {
         "winner": is_text,
         "by": is_mapping_of({}, {"runs": is_number, "wickets": is_number, "innings": lambda count: count == 1}),
-        "result": lambda word: word in ("draw", "tie"),
+        "result": lambda word: word in ("draw", "tie", "no result"),
         "method": is_text,
     },
 )
@@ -163,8 +178,18 @@ META = is_mapping_of(
     {"data_version": lambda version: version == "1.1.0", "revision": lambda count: is_number(count) and count > 0}, {"created": is_date}
 )
 ENTRY = is_mapping_of({"place": is_number, "line": is_text, "corrected_by": is_list_of(is_number)})
+FALL = is_mapping_of(
+    {"innings": is_number, "wicket": is_number, "runs": is_number, "overs": is_text, "player": is_number, "player_out": is_text}
+)
+LIMITS = is_mapping_of(
+    {}, {"overs": is_list_of(is_number), "overs_a_bowler": is_number, "free_hits": is_true, "powerplays": is_list_of(is_list_of(is_number))}
+)
 OURS = is_mapping_of(
-    {"program": is_text, "match_number": is_match_number, "innings_a_side": lambda count: count in (1, 2), "book": is_list_of(ENTRY)}
+    {
+        "program": is_text, "match_number": is_match_number, "innings_a_side": lambda count: count in (1, 2), "falls": is_list_of(FALL),
+        "book": is_list_of(ENTRY),
+    },
+    {"title": is_text, "limits": LIMITS},
 )
 MATCH = is_mapping_of({"meta": META, "info": INFO, "innings": is_list_of(INNINGS), "yermudosh": OURS})
 
@@ -180,6 +205,8 @@ def check_delivery(delivery, batting, fielding):
     wants(delivery["bowler"] in fielding, "a bowler of the other team")
     for wicket in delivery.get("wickets", []):
         wants(wicket["player_out"] in batting, "who is out")
+        was_there = wicket["player_out"] in (delivery["batter"], delivery["non_striker"])
+        wants(was_there or wicket["kind"] in BETWEEN, f"{wicket['kind']} of one who wasn't in")
         if wicket["kind"] == "caught and bowled":
             wants([fielder["name"] for fielder in wicket["fielders"]] == [delivery["bowler"]], "who caught and bowled")
 
@@ -221,6 +248,23 @@ def balls_penned(match):
     lists = [[next(penned, None) for _ in deliveries_of(innings)] for innings in match["innings"]]
     wants(next(penned, None) is None and all(None not in listed for listed in lists), "the deliveries of the book")
     return lists
+
+
+def falls_penned(book):
+    """For each innings the over and the ball of each fall, by the lines that stand."""
+    innings, called, since = [], 0, 0
+    for line in standing(book):
+        word, *named = line.split(" ")
+        if word == "innings":
+            innings.append([])
+            called = since = 0
+        elif word == "over":
+            called, since = called + 1, 0
+        elif word == "ball":
+            since += named[1] not in ("wide", "nb", "nbbye", "nbleg") and "dead" not in named
+        if word == "ball" and "out" in named or word == "gone" and named[0] != "retiredhurt":
+            innings[-1].append(f"{called}.{since}")
+    return innings
 
 
 def boundary(words):
@@ -336,10 +380,24 @@ def compare_innings(innings, penned, card):
         wants(row[1:] == printed, f"{name} {row[1:]} and {printed}")
 
 
+def compare_falls(match, card):
+    """The first fall that isn't the card's, at the over and the ball of the book's lines."""
+    players, found, penned = match["info"]["players"], [], falls_penned(match["yermudosh"]["book"])
+    for number, (innings, printed, overs) in enumerate(zip(match["innings"], card.innings, penned, strict=True), 1):
+        wants(len(overs) == len(printed.falls), f"{len(overs)} falls in the book and {len(printed.falls)} on the card")
+        for wicket, ((runs, name), at) in enumerate(zip(printed.falls, overs), 1):
+            found.append((number, wicket, runs, at, name, innings["team"]))
+    told = [(fall["innings"], fall["wicket"], fall["runs"], fall["overs"], fall["player_out"]) for fall in match["yermudosh"]["falls"]]
+    wants(told == [fall[:5] for fall in found], f"falls {told} and {found}")
+    for fall, (*_, team) in zip(match["yermudosh"]["falls"], found):
+        wants(players[team][fall["player"] - 1] == fall["player_out"], f"the player of {fall}")
+
+
 def compare(match, card):
     """The first thing at which the deliveries and the card differ."""
     listed = match["innings"]
     wants(len(listed) == len(card.innings), "how many innings there are")
+    compare_falls(match, card)
     for number, (innings, penned, printed) in enumerate(zip(listed, balls_penned(match), card.innings, strict=True)):
         try:
             compare_innings(innings, penned, printed)
@@ -361,11 +419,28 @@ def check(match):
             check_delivery(delivery, players[innings["team"]], fielding)
 
 
+def sheet_of(match):
+    """The match sheet of an export, as TOML. Teams of one name have their marks taken off."""
+    info, own = match["info"], match["yermudosh"]
+    names = list(info["teams"])
+    if all(name.endswith(mark) for name, mark in zip(names, MARKS)):
+        plain = [name.removesuffix(mark) for name, mark in zip(names, MARKS)]
+        names = plain if plain[0] == plain[1] else names
+    title = own["title"] if "title" in own else info["event"]["name"]
+    lines = [f"title = {json.dumps(title)}", f"number = {own['match_number']}", f"innings = {own['innings_a_side']}"]
+    for side, name, team in zip(("home", "away"), names, info["teams"]):
+        lines += [f"[{side}]", f"name = {json.dumps(name)}", f"players = {json.dumps(info['players'][team])}"]
+    if "limits" in own:
+        lines += ["[limits]"] + [f"{key} = {json.dumps(value)}" for key, value in own["limits"].items()]
+    return "".join(line + "\n" for line in lines)
+
+
 def main(words):
-    if len(words) == 2 and words[0] == "--lines":
+    if len(words) == 2 and words[0] in ("--lines", "--sheet"):
         with open(words[1], encoding="utf-8") as file:
-            for entry in json.load(file)["yermudosh"]["book"]:
-                print(entry["line"])
+            match = json.load(file)
+        lines = [entry["line"] + "\n" for entry in match["yermudosh"]["book"]]
+        print(sheet_of(match) if words[0] == "--sheet" else "".join(lines), end="")
         return 0
     if len(words) != 2:
         print(__doc__, file=sys.stderr)

@@ -1,5 +1,5 @@
 -- What a board's files are given of what is handed over to be shown.
-use Rattle.std.specs.Prelude.{◌≡◌, ◌⊎◌, ◌-◌, ℕ, Bool, true, false, nat_eq, nat_le, if◌then◌else◌, List, length, Option, Some, None, ⊤}
+use Rattle.std.specs.Prelude.{◌≡◌, ◌⊎◌, ◌-◌, ℕ, Bool, true, false, nat_eq, nat_le, if◌then◌else◌, List, ◌++◌, length, Option, Some, None, ⊤, codes}
 use Rattle.corrections.specs.CleanList.{history_of}
 use Rattle.cards.specs.Board.{board as six_lines}
 use Rattle.live.specs.Sights.{Sight}
@@ -8,12 +8,19 @@ use Rattle.scoreboard.specs.Value.{board_text}
 use Rattle.board_command.specs.declared.files.{Files.Files, Kept.Kept, Tried.Tried}
 use Rattle.board_command.specs.declared.files.TheConstants.{AGAIN, FOREVER, LONGEST, SHORTEST}
 
--- the two texts of what is handed over: its six lines, and its state as JSON
+-- the texts of what is handed over: its six lines, its state as JSON, and that as a script, for a page that was opened from a
+-- folder: a value of JSON in printable ASCII is one of JavaScript's
 abbrev pub lines_of : Sight → List ℕ
 lines_of s = six_lines s.sheet s.innings (history_of s.book)
 
 abbrev pub state_of : Sight → List ℕ
 state_of s = board_text s.sheet s.innings s.book
+
+abbrev pub script_with : List ℕ → List ℕ
+script_with state = codes "window.yermudosh = " ++ state
+
+abbrev pub script_of : Sight → List ℕ
+script_of s = script_with (state_of s)
 
 -- what was tried is noted: of how many entries, when, and whether it failed
 abbrev pub tried_at : ℕ → ℕ → Bool → Tried
@@ -50,9 +57,10 @@ module _ {T E : Type 0} (given : T → Option (List (List ℕ))) (longest entrie
   AreKept _ _ = ⊥
 
 -- What is handed over is the newest: the file of the six lines is given just its lines where it hasn't their book yet, and
--- that of the state just its state, also where what it has becomes old.
+-- that of the state just its state, and that of the script just its script, also where what they have becomes old.
 pub record FilesGoOn
     {T E B : Type 0} (given : T → Option (List (List ℕ))) (old : Files T E B) (sight : Sight) (now : ℕ) (new : Files T E B)
     : Type 0 where
   pub lines : AreKept given FOREVER (length sight.book) now (lines_of sight) old.text new.text
   pub state : AreKept given LONGEST (length sight.book) now (state_of sight) old.state new.state
+  pub script : AreKept given LONGEST (length sight.book) now (script_of sight) old.script new.script

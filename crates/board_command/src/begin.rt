@@ -33,6 +33,7 @@ struct Paths<'a> {
     key: Option<&'a str>,
     text: Option<&'a str>,
     state: Option<&'a str>,
+    script: Option<&'a str>,
 }
 
 impl<'a> Paths<'a> {
@@ -53,25 +54,6 @@ impl<'a> Paths<'a> {
         }
     }
 
-    /// Asks that the text and the state aren't written to one file.
-    fn expect_two(
-        &self,
-        text: &Option<TextFile<'a>>,
-        state: &Option<TextFile<'a>>,
-    ) -> Result<(), Stopped<'a>> {
-        let (Some(text), Some(state)) = (text, state) else {
-            return Ok(());
-        };
-        let why = WriteFault {
-            name: Name::Own,
-            why: Cause::Both,
-        };
-        match text.meets(state) {
-            Ok(false) => Ok(()),
-            Ok(true) | Err(_) => Err(Stopped::at(self.state.unwrap_or("-"), StopFault::File(why))),
-        }
-    }
-
     /// A board's files, where these are named.
     fn files<'s>(
         &self,
@@ -80,12 +62,35 @@ impl<'a> Paths<'a> {
     ) -> Result<BoardFiles<'s, 'a>, Stopped<'a>> {
         let text = self.file_at(rt, self.text)?;
         let state = self.file_at(rt, self.state)?;
-        self.expect_two(&text, &state)?;
+        let script = self.file_at(rt, self.script)?;
+        expect_two(&text, &state, self.state)?;
+        expect_two(&text, &script, self.script)?;
+        expect_two(&state, &script, self.script)?;
         Ok(Files::new(
             rt.alloc(),
             kept(text, self.text, errors),
             kept(state, self.state, errors),
+            kept(script, self.script, errors),
         ))
+    }
+}
+
+/// Asks that two of a board's files aren't one, of which the second has this path.
+fn expect_two<'a>(
+    one: &Option<TextFile<'a>>,
+    other: &Option<TextFile<'a>>,
+    path: Option<&'a str>,
+) -> Result<(), Stopped<'a>> {
+    let (Some(one), Some(other)) = (one, other) else {
+        return Ok(());
+    };
+    let why = WriteFault {
+        name: Name::Own,
+        why: Cause::Both,
+    };
+    match one.meets(other) {
+        Ok(false) => Ok(()),
+        Ok(true) | Err(_) => Err(Stopped::at(path.unwrap_or("-"), StopFault::File(why))),
     }
 }
 
@@ -107,9 +112,9 @@ fn board_of(rt: &HostRuntime, sheet: &MatchSheet) -> Result<Board<CheckedBook>, 
 }
 
 /// `ground board`: keeps a board that listens at an address, shows its six lines at the start and whenever they
-/// change, and tells standard error what it can't take. Its text is also put into a file, and its state as JSON into
-/// another one, where they are named; a failed write of these ends no board. A page shows both at an address, where one is
-/// given. Its datagrams are sealed with the sheet and the key in a file, where one is named.
+/// change, and tells standard error what it can't take. Its text is also put into a file, its state as JSON into another
+/// one, and the same as a script into a third, where they are named; a failed write of these ends no board. A page shows
+/// text and state at an address, where one is given. Its datagrams are sealed with the sheet and the key in a file, where one is named.
 #[inline(never)]
 pub fn start_board<'a>(
     rt: &'a HostRuntime,
@@ -118,6 +123,7 @@ pub fn start_board<'a>(
     peers: [Option<SocketAddr>; MOST_PEERS],
     text: Option<&'a str>,
     json: Option<&'a str>,
+    script: Option<&'a str>,
     serve: Option<Address<'a>>,
     key: Option<&'a str>,
 ) -> Result<bool, Stopped<'a>> {
@@ -130,6 +136,7 @@ pub fn start_board<'a>(
         key,
         text,
         state: json,
+        script,
     };
     let files = paths.files(rt, &errors)?;
     let page = Page::at(rt, serve)?;

@@ -1,10 +1,11 @@
-//! The files of a board, which others read: its text, and its state.
+//! The files of a board, which others read: its text, its state, and that as a script.
 
 ghost use Rattle.std.specs.Prelude.{◌≡◌, Some, is_err, false, length, IfOk};
 ghost use Rattle.corrections.specs.CleanList.{history_of};
 ghost use Rattle.cards.specs.Board as texts;
 ghost use Rattle.machine.specs.Texts.{Takes};
 ghost use Rattle.scoreboard.specs.Value as laws;
+ghost use Rattle.board_command.specs.Files as given;
 ghost use Rattle.board_command.specs.Files.{AreKept};
 ghost use Rattle.board_command.specs.declared.files.TheConstants.{FOREVER, LONGEST};
 
@@ -14,7 +15,7 @@ use live::{Shows, SightLog};
 use machine::Replaces;
 use scoreboard::board_text;
 use setup::{StopFault, print_fault, printable};
-use std::alloc::Global;
+use std::alloc::{AllocError, Global};
 use std::io::Write;
 use streams::{Watched, WriteFailed};
 
@@ -160,6 +161,34 @@ fn put_state<B: BookOf, T: Replaces>(
     }
 }
 
+/// The script of a state.
+fn script_with(alloc: Global, state: &[u8]) -> Result<Vec<u8>, AllocError>
+    ensures { IfOk result (λ script. script.items ≡ given.script_with state.now) }
+{
+    let mut script = Vec::new(alloc);
+    script.extend_from_slice("window.yermudosh = ".as_bytes())?;
+    script.extend_from_slice(state)?;
+    Ok(script)
+}
+
+/// Puts the state of a board with this book into a file, as a script.
+fn put_script<B: BookOf, T: Replaces>(
+    alloc: Global,
+    sheet: &MatchSheet,
+    book: &B,
+    file: &mut T,
+) -> Result<(), StopFault>
+    ensures { Takes result (T.given file.old) (T.given file.new)
+        (given.script_with (laws.board_text sheet.now (B.innings_a_side book.now) (B.content book.now))) }
+{
+    let state = board_text(alloc, sheet, book)?;
+    let script = script_with(alloc, state.as_slice())?;
+    match file.replace(script.as_slice()) {
+        Ok(()) => Ok(()),
+        Err(why) => Err(StopFault::File(why)),
+    }
+}
+
 /// Puts the six lines into a file, where there is one and that is due.
 fn show_lines<B: BookOf, T: Replaces, E: Write>(
     alloc: Global,
@@ -202,12 +231,34 @@ fn show_state<B: BookOf, T: Replaces, E: Write>(
     }
 }
 
+/// Puts the script into a file, where there is one and that is due.
+fn show_script<B: BookOf, T: Replaces, E: Write>(
+    alloc: Global,
+    sheet: &MatchSheet,
+    book: &B,
+    now: u64,
+    file: &mut Option<Kept<'_, T, E>>,
+)
+    ensures { AreKept T.given LONGEST (length (B.content book.now)) now
+        (given.script_with (laws.board_text sheet.now (B.innings_a_side book.now) (B.content book.now))) file.old file.new }
+{
+    let entries = book.len();
+    let Some(kept) = file else {
+        return;
+    };
+    if kept.is_due(entries, now, LONGEST) {
+        let put = put_script(alloc, sheet, book, &mut kept.file);
+        kept.note(put, entries, now);
+    }
+}
+
 /// The files of a board, where there are some: each holds a text that the board had, whole.
 #[derive(Drop)]
 pub struct Files<'a, T, E, B> {
     alloc: Global,
     text: Option<Kept<'a, T, E>>,
     state: Option<Kept<'a, T, E>>,
+    script: Option<Kept<'a, T, E>>,
     log: SightLog<B>,
 }
 
@@ -217,11 +268,13 @@ impl<'a, T: Replaces, E: Write, B: BookOf> Files<'a, T, E, B> {
         alloc: Global,
         text: Option<Kept<'a, T, E>>,
         state: Option<Kept<'a, T, E>>,
+        script: Option<Kept<'a, T, E>>,
     ) -> Files<'a, T, E, B> {
         Files {
             alloc,
             text,
             state,
+            script,
             log: SightLog::Empty,
         }
     }
@@ -238,11 +291,12 @@ impl<T: Replaces, E: Write, B: BookOf + Drop> Shows<B> for Files<'_, T, E, B> {
     /// A file that can't be written ends no board.
     ghost failed = { λ _. false };
 
-    /// Writes both at the first call, then where the book has grown, at most ten times a second, and where they couldn't be
-    /// written, once a second. The state is otherwise written anew before ten seconds are over.
+    /// Writes each at the first call, then where the book has grown, at most ten times a second, and where it couldn't be
+    /// written, once a second. State and script are otherwise written anew before ten seconds are over.
     fn show(&mut self, sheet: &MatchSheet, book: &B, now: u64) -> Result<(), WriteFailed> {
         show_lines(self.alloc, sheet, book, now, &mut self.text);
         show_state(self.alloc, sheet, book, now, &mut self.state);
+        show_script(self.alloc, sheet, book, now, &mut self.script);
         self.log = self.log.handed(sheet, book);
         Ok(())
     }

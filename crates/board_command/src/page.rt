@@ -83,7 +83,7 @@ impl<'a> Page<'a> {
         errors: &'s RefCell<Errors<'a>>,
     ) -> Panes<'v, 's, 'a> {
         let Some(served) = &self.served else {
-            return Files::new(alloc, None, None);
+            return Files::new(alloc, None, None, None);
         };
         let place = served.at.text;
         let lines = Pane::of(alloc, &served.viewers, Kind::Lines);
@@ -92,6 +92,7 @@ impl<'a> Page<'a> {
             alloc,
             Some(Kept::new(lines, place, Shared::of(errors))),
             Some(Kept::new(state, place, Shared::of(errors))),
+            None,
         )
     }
 }

@@ -100,9 +100,10 @@ module _ (key : List ℕ) where
   past_event true f fs apart = refl
   past_event false f fs apart = past f fs (apart refl)
 
-  past_outcome : (s : Sheet) (o : Outcome) (fs : List Field) → bytes_eq key (codes "outcome") ≡ false → under (outcome_fields s o ++ fs) ≡ under fs
-  past_outcome s Undecided fs apart = refl
-  past_outcome s o fs apart = past _ fs apart
+  past_outcome : (s : Sheet) (info : Members) (o : Outcome) (fs : List Field) → bytes_eq key (codes "outcome") ≡ false
+      → under (outcome_fields s info o ++ fs) ≡ under fs
+  past_outcome s info Undecided fs apart = refl
+  past_outcome s info o fs apart = past _ fs apart
 
   past_told : (overs : Option ℕ) (fs : List Field) → bytes_eq key (codes "overs") ≡ false → under (overs_told overs ++ fs) ≡ under fs
   past_told None fs apart = refl
@@ -121,25 +122,25 @@ module _ (key : List ℕ) where
       absurd (true≢false (sym here ∙ (ap (λ k. list_any (λ f. bytes_eq k f.0) given) is ∙ none)))
   none_of name given false here none same = refl
 
-  past_own : (s : Sheet) (h : History) (given : List Field) → is_own key ≡ false → list_any (λ f. bytes_eq key f.0) given ≡ true →
-      at key (info_of s h given) ≡ under given
-  past_own s h given other here =
+  past_own : (s : Sheet) (h : History) (info : Members) (given : List Field) → is_own key ≡ false → list_any (λ f. bytes_eq key f.0) given ≡ true →
+      at key (info_of s h info given) ≡ under given
+  past_own s h info given other here =
       let (three, result) = or_parts _ (bytes_eq key (codes "outcome")) other in
       let (two, balls) = or_parts _ (bytes_eq key (codes "balls_per_over")) three in
       let (teams, players) = or_parts (bytes_eq key (codes "teams")) (bytes_eq key (codes "players")) two in
-      let last = outcome_fields s (outcome s.innings h) ++ given in
+      let last = outcome_fields s info (outcome s.innings h) ++ given in
       let each = number_field (codes "balls_per_over") 6 in
       let rest = teams_field s ∷ players_field s ∷ each ∷ last in
       ap under (append_assoc (event_fields s given) (overs_fields s given) rest)
       ∙ past_event (has_event given) (event_field s) (overs_fields s given ++ rest) (λ none. none_of (codes "event") given (bytes_eq key (codes "event")) here none refl)
       ∙ past_overs (has_overs given) (overs_for s.limits 0) rest (λ none. none_of (codes "overs") given (bytes_eq key (codes "overs")) here none refl)
       ∙ (past (teams_field s) (players_field s ∷ each ∷ last) teams ∙ (past (players_field s) (each ∷ last) players
-      ∙ (past each last balls ∙ past_outcome s (outcome s.innings h) given result)))
+      ∙ (past each last balls ∙ past_outcome s info (outcome s.innings h) given result)))
 
 pub has_each_key : (s : Sheet) (h : History) (document : Members) (given : List Field) → HandsOn document given → HasEachKey s h document given
 has_each_key s h document given are key d here other =
     let held = has_key key (info_in document) given are other ∙ ap is_some here in
-    subst (IsValueOf d) (sym (past_own key s h given other held)) (found key d (info_in document) given are here other)
+    subst (IsValueOf d) (sym (past_own key s h (info_in document) given other held)) (found key d (info_in document) given are here other)
 
 -- ---- the fields in a row
 

@@ -26,7 +26,10 @@ use Rattle.export.specs.Notes.{note, notes, begun_of, awards_to, is_awarded, car
 use Rattle.export.specs.Deliveries.{penalties}
 use Rattle.json.specs.Json.{Json, null}
 use Rattle.json_fields.specs.Values.{Field, members_of, number_field, object_of, flag_if}
-use Rattle.export.specs.Innings.{runs_before, runs_after, penalty_field, needed_in, overs_of, is_declared, is_forfeited}
+use Rattle.limits.specs.declared.powerplay.Powerplay.{Powerplay}
+use Rattle.limits.specs.Limits.{overs_for}
+use Rattle.export.specs.Info.{overs_told}
+use Rattle.export.specs.Innings.{runs_before, runs_after, penalty_field, powerplay_fields, needed_in, overs_of, is_declared, is_forfeited}
 use Rattle.export.specs.Miscounts.{is_miscounted, miscounts}
 use Rattle.export.specs.Laws.{IsCount, TotalsAddUp, at, noted_items, member_at, total_in}
 use Rattle.export.proofs.Weights.{ball_here, gone_here, in_innings, noted_weight, weights_in, weights_so_far}
@@ -119,21 +122,22 @@ pre_post : (no_pre no_post : Bool) (n m : ℕ) → (no_pre ≡ true → n ≡ 0)
 pre_post no_pre no_post n m pre post = grind (arith, pre, post)
 
 -- behind the penalty runs nothing has their key
-none_there : (d e t m : Bool) (runs overs : Json)
-    → member_at (codes "penalty_runs") (members_of (((flag_if d (codes "declared") ++ flag_if e (codes "forfeited"))
-    ++ cond t ((codes "target", runs) ∷ []) []) ++ cond m ((codes "miscounted_overs", overs) ∷ []) [])) ≡ null
-none_there d e t m runs overs = grind arith
+none_there : (d e t m : Bool) (runs overs : Json) (ps : List Powerplay)
+    → member_at (codes "penalty_runs") (members_of ((((flag_if d (codes "declared") ++ flag_if e (codes "forfeited"))
+    ++ cond t ((codes "target", runs) ∷ []) []) ++ powerplay_fields ps) ++ cond m ((codes "miscounted_overs", overs) ∷ []) [])) ≡ null
+none_there d e t m runs overs [] = grind arith
+none_there d e t m runs overs (p ∷ ps) = grind arith
 
-abbrev rest : Bool → Bool → Bool → Bool → Bool → ℕ → ℕ → Json → Json → List Field
-rest z d e t m before after runs overs =
-    (((cond z [] (penalty_field before after ∷ []) ++ flag_if d (codes "declared")) ++ flag_if e (codes "forfeited"))
-    ++ cond t ((codes "target", runs) ∷ []) []) ++ cond m ((codes "miscounted_overs", overs) ∷ []) []
+abbrev rest : Bool → Bool → Bool → Bool → Bool → ℕ → ℕ → Json → Json → List Powerplay → List Field
+rest z d e t m before after runs overs ps =
+    ((((cond z [] (penalty_field before after ∷ []) ++ flag_if d (codes "declared")) ++ flag_if e (codes "forfeited"))
+    ++ cond t ((codes "target", runs) ∷ []) []) ++ powerplay_fields ps) ++ cond m ((codes "miscounted_overs", overs) ∷ []) []
 
-rest_read : (d e t m : Bool) (before after : ℕ) (runs overs : Json) (z : Bool) → (z ≡ true → before + after ≡ 0)
-    → let there = member_at (codes "penalty_runs") (members_of (rest z d e t m before after runs overs)) in
+rest_read : (d e t m : Bool) (before after : ℕ) (runs overs : Json) (ps : List Powerplay) (z : Bool) → (z ≡ true → before + after ≡ 0)
+    → let there = member_at (codes "penalty_runs") (members_of (rest z d e t m before after runs overs ps)) in
     IsCount before (at (codes "pre") there) × IsCount after (at (codes "post") there)
-rest_read d e t m before after runs overs true none = let sum = none refl in rw (none_there d e t m runs overs) (omega (arith, sum), omega (arith, sum))
-rest_read d e t m before after runs overs false none = pre_post (before == 0) (after == 0) before after (eqb-true before 0) (eqb-true after 0)
+rest_read d e t m before after runs overs ps true none = let sum = none refl in rw (none_there d e t m runs overs ps) (omega (arith, sum), omega (arith, sum))
+rest_read d e t m before after runs overs ps false none = pre_post (before == 0) (after == 0) before after (eqb-true before 0) (eqb-true after 0)
 
 pub totals_add_up : (s : Sheet) (n : ℕ) (book : List Entry) → IsLegalBook n book → TotalsAddUp s book
 totals_add_up s n book legal i =
@@ -144,7 +148,7 @@ totals_add_up s n book legal i =
     let before = runs_before f i xs in
     let after = runs_after f i xs in
     let (pre, post) = rest_read (is_declared ys) (is_forfeited ys) (i + 1 == 2 * s.innings) (list_any is_miscounted ys) before after
-    (object_of (number_field (codes "runs") (needed_in h i) ∷ [])) (object_of (miscounts ys)) (before + after == 0) (eqb-true (before + after) 0) in record {
+    (object_of (number_field (codes "runs") (needed_in h i) ∷ [] ++ overs_told (overs_for s.limits i))) (object_of (miscounts ys)) s.limits.powerplays (before + after == 0) (eqb-true (before + after) 0) in record {
       totals = totals_of f i ys;
       before = before;
       after = after;

@@ -1,11 +1,13 @@
 pub mod Noting
 pub mod Singles
+pub mod PointLemmas
 pub mod EntryLemmas
 pub mod NameLemmas
 pub mod ReadLemmas
 pub mod Weights
 pub mod LawLemmas
 pub mod WicketLemmas
+pub mod FallLemmas
 pub mod LineLemmas
 pub mod ReaderLemmas
 pub mod SumLemmas

@@ -1,5 +1,5 @@
--- What is said of the match. s is the sheet, and given what its table [info] hands on.
-use Rattle.std.specs.Prelude.{ℕ, ◌+◌, Bool, if◌then◌else◌, bytes_eq, List, [], ◌∷◌, ◌++◌, Option, Some, None, codes}
+-- What is said of the match. s is the sheet, info its table [info], and given what that hands on.
+use Rattle.std.specs.Prelude.{ℕ, ◌+◌, Bool, false, if◌then◌else◌, bytes_eq, List, [], ◌∷◌, ◌++◌, Option, Some, None, option_and_then, codes}
 use Rattle.std.specs.List.{list_any}
 use Rattle.notation.specs.declared.entry.Side.{Side}
 use Rattle.notation.specs.declared.entry.Side.TheVariants.{Home, Away}
@@ -9,8 +9,10 @@ use Rattle.match_laws.specs.declared.outcome.Outcome.TheVariants.{Undecided, Dra
 use Rattle.match_laws.specs.Result.{outcome}
 use Rattle.limits.specs.Limits.{overs_for}
 use Rattle.cards.specs.Sheet.{Sheet, name_of, player_of}
+use Rattle.toml.specs.Data.{Data, Members, get_member, string as text}
 use Rattle.json.specs.Json.{Json, string}
 use Rattle.json_fields.specs.Values.{Field, array_of, object_of, text_field, number_field, up_to}
+use Rattle.export.specs.Given.{table_in}
 
 abbrev pub event_field : Sheet → Field
 event_field s = (codes "event", object_of (text_field (codes "name") s.title ∷ []))
@@ -75,24 +77,40 @@ win_field s side how = (codes "outcome", object_of (text_field (codes "winner") 
 abbrev pub result_field : List ℕ → Field
 result_field word = (codes "outcome", object_of (text_field (codes "result") word ∷ []))
 
+abbrev pub is_text : List ℕ → Option Data → Bool
+is_text word (Some (text told)) = bytes_eq told word
+is_text word _ = false
+
+-- what the `outcome` of the table [info] has at a key
+abbrev pub outcome_at : List ℕ → Members → Option Data
+outcome_at key info = option_and_then (get_member key) (table_in (codes "outcome") info)
+
+-- its `result` is that there is none
+abbrev pub has_no_result : Members → Bool
+has_no_result info = is_text (codes "no result") (outcome_at (codes "result") info)
+
+-- the result of a match that was closed before it was decided: a draw, unless the sheet knows better
+abbrev pub closed_word : Members → List ℕ
+closed_word info = if has_no_result info then codes "no result" else codes "draw"
+
 -- the result of a match, where it has one
-abbrev pub outcome_fields : Sheet → Outcome → List Field
-outcome_fields s Undecided = []
-outcome_fields s Draw = result_field (codes "draw") ∷ []
-outcome_fields s Tie = result_field (codes "tie") ∷ []
-outcome_fields s (Runs side n) = win_field s side (margin_field (codes "runs") n) ∷ []
-outcome_fields s (Wickets side n) = win_field s side (margin_field (codes "wickets") n) ∷ []
-outcome_fields s (InningsAnd side n) = win_field s side (innings_margin n) ∷ []
-outcome_fields s (PenaltyRuns side) = win_field s side (method_field (codes "penalty runs")) ∷ []
+abbrev pub outcome_fields : Sheet → Members → Outcome → List Field
+outcome_fields s info Undecided = []
+outcome_fields s info Draw = result_field (closed_word info) ∷ []
+outcome_fields s info Tie = result_field (codes "tie") ∷ []
+outcome_fields s info (Runs side n) = win_field s side (margin_field (codes "runs") n) ∷ []
+outcome_fields s info (Wickets side n) = win_field s side (margin_field (codes "wickets") n) ∷ []
+outcome_fields s info (InningsAnd side n) = win_field s side (innings_margin n) ∷ []
+outcome_fields s info (PenaltyRuns side) = win_field s side (method_field (codes "penalty runs")) ∷ []
 
 -- the event, the overs of an innings, sides and players, how the match stands, and what is handed on
-abbrev pub info_of : Sheet → History → List Field → Json
-info_of s h given =
+abbrev pub info_of : Sheet → History → Members → List Field → Json
+info_of s h info given =
     object_of (head_fields s given
     ++ (teams_field s
     ∷ players_field s
     ∷ number_field (codes "balls_per_over") 6
-    ∷ (outcome_fields s (outcome s.innings h) ++ given)))
+    ∷ (outcome_fields s info (outcome s.innings h) ++ given)))
 
-abbrev pub info_field : Sheet → History → List Field → Field
-info_field s h given = (codes "info", info_of s h given)
+abbrev pub info_field : Sheet → History → Members → List Field → Field
+info_field s h info given = (codes "info", info_of s h info given)

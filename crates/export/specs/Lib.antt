@@ -1,5 +1,5 @@
--- What the public calls claim: Value with all that it cites (Notes, Wickets, Deliveries, Innings, Document, Given, Meta, Info, Entries,
--- Escapes, and Values but for its last part), Names, Laws and Readers. inner: for private functions only.
+-- What the public calls claim: Value with all that it cites (Notes, Wickets, Deliveries, Innings, Document, Given, Meta, Info, Limited,
+-- Falls, Entries, Escapes, and Values but for its last part), Names, Laws and Readers. inner: for private functions only.
 pub mod Notes
 pub mod Wickets
 pub mod Deliveries
@@ -9,6 +9,8 @@ pub mod Document
 pub mod Given
 pub mod Meta
 pub mod Info
+pub mod Limited
+pub mod Falls
 pub mod Entries
 pub mod Escapes
 pub mod Value

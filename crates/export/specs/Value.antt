@@ -10,9 +10,11 @@ use Rattle.json.specs.Tree.{json_tokens}
 use Rattle.json.specs.Layout.{pretty}
 use Rattle.json_fields.specs.Values.{Field, object_of, text_field, number_field}
 use Rattle.export.specs.Notes.{notes}
-use Rattle.export.specs.Given.{HandsOn}
+use Rattle.export.specs.Given.{HandsOn, info_in}
 use Rattle.export.specs.Meta.{meta_field}
-use Rattle.export.specs.Info.{info_field}
+use Rattle.export.specs.Info.{has_event, info_field}
+use Rattle.export.specs.Falls.{falls_field}
+use Rattle.export.specs.Limited.{limits_field}
 use Rattle.export.specs.Innings.{innings_field}
 use Rattle.export.specs.Entries.{book_field}
 use Rattle.export.specs.Escapes.{shown}
@@ -25,23 +27,34 @@ is_exact n = nat_le n (2 ^ 53)
 abbrev pub game_field : ℕ → Field
 game_field n = if is_exact n then number_field (codes "match_number") n else text_field (codes "match_number") (decimal n)
 
--- what the format of archives can't hold: the match's number, how many innings a side has, and each entry as it was
--- penned
-abbrev pub own_field : Sheet → List Entry → Field
-own_field s book = (
+-- the title, where an event is handed on, which takes its place under `info`
+abbrev pub title_fields : Sheet → List Field → List Field
+title_fields s given = if has_event given then text_field (codes "title") s.title ∷ [] else []
+
+-- what else is on the sheet
+abbrev pub sheet_fields : Sheet → List Field → List Field
+sheet_fields s given =
+    title_fields s given
+    ++ game_field s.game ∷ []
+    ++ number_field (codes "innings_a_side") s.innings ∷ []
+    ++ limits_field s.limits
+
+-- what the format of archives can't hold: the rest of the sheet, the falls of wickets, and each entry as it was penned
+abbrev pub own_field : Sheet → List Field → List Entry → Field
+own_field s given book = (
   codes "yermudosh",
   object_of (text_field (codes "program") (codes "yermudosh 1") ∷ []
-      ++ game_field s.game ∷ []
-      ++ number_field (codes "innings_a_side") s.innings ∷ []
+      ++ sheet_fields s given
+      ++ falls_field s (history_of book) (notes [] (clean book)) ∷ []
       ++ book_field book ∷ []),
 )
 
 abbrev pub export_of : Sheet → Members → List Field → List Entry → Json
 export_of s document given book =
     object_of (meta_field document ∷ []
-    ++ info_field s (history_of book) given ∷ []
+    ++ info_field s (history_of book) (info_in document) given ∷ []
     ++ innings_field s (history_of book) (notes [] (clean book)) ∷ []
-    ++ own_field s book ∷ [])
+    ++ own_field s given book ∷ [])
 
 -- the value of a book by a sheet and its document, as the library lays it out
 pub record IsLaidOut (s : Sheet) (document : Members) (book : List Entry) (text : List ℕ) : Type 0 where

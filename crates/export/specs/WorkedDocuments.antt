@@ -4,6 +4,7 @@ use Rattle.toml.specs.Data.{Data, Members, no_members, member, datetime, string,
 use Rattle.toml_datetime.specs.declared.datetime.{Date.Date, Time.Time}
 use Rattle.json_fields.specs.Values.{Field, object_of, text_field, number_field}
 use Rattle.export.specs.Document.{is_fine_document}
+use Rattle.export.specs.Info.{has_no_result}
 use Rattle.export.specs.Meta.{meta_of}
 
 -- a document that has one key
@@ -16,6 +17,10 @@ with_meta key d = with_key (codes "meta") (table (with_key key d))
 -- whose `created` is a text, and whose `revision` is a number
 abbrev pub dated : List ℕ → Members
 dated text = with_meta (codes "created") (string text)
+
+-- a table [info] whose `outcome` has this `result`
+abbrev pub with_result : Data → Members
+with_result result = with_key (codes "outcome") (table (with_key (codes "result") result))
 
 abbrev pub day : Date
 day = record { year = 2026; month = 8; day = 22 }
@@ -56,3 +61,8 @@ pub record WorkedDocuments : Type 0 where
   pub meta_no_table : is_fine_document (with_key (codes "meta") (string (codes "2026-08-22"))) ≡ false
   pub info_no_table : is_fine_document (with_key (codes "info") (string (codes "at Alder Green"))) ≡ false
   pub outside : is_fine_document (with_key (codes "created") (string (codes "today"))) ≡ true
+  pub no_result : has_no_result (with_result (string (codes "no result"))) ≡ true
+  pub a_draw : has_no_result (with_result (string (codes "draw"))) ≡ false
+  pub result_no_text : has_no_result (with_result (integer (pos 0))) ≡ false
+  pub outcome_no_table : has_no_result (with_key (codes "outcome") (string (codes "no result"))) ≡ false
+  pub no_outcome : has_no_result no_members ≡ false

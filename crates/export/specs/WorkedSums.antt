@@ -13,8 +13,10 @@ use Rattle.ball_laws.specs.Worked.{ball, with_bound, with_crossed_out, with_out,
 use Rattle.match_laws.specs.Figures.{bowler_balls, bowler_overs}
 use Rattle.corrections.specs.CleanList.{history_of}
 use Rattle.cards.specs.Sheet.{plain_sheet}
-use Rattle.json.specs.Json.{Json}
-use Rattle.export.specs.Laws.{innings_at}
+use Rattle.json.specs.Json.{Json, string}
+use Rattle.json_fields.specs.Values.{number_value}
+use Rattle.export.specs.Falls.{falls_of}
+use Rattle.export.specs.Laws.{at, innings_at, noted_items}
 use Rattle.export.specs.Readers.{bat_runs, boundary_in, bowled_in, credited_in, dead_balls, debited_in, faced_in}
 use Rattle.export.specs.Readers.{fours_outrun, noballs_in, over_balls, sixes_outrun, summed, wides_in}
 
@@ -31,6 +33,10 @@ batter_sums book name =
 abbrev pub bowler_sums : List Entry → List ℕ → List ℕ
 bowler_sums book name =
     map (λ f. summed (codes "bowler") f name (first_innings book)) (bowled_in ∷ debited_in ∷ credited_in ∷ wides_in ∷ noballs_in ∷ [])
+
+-- what stands under a key of each fall
+abbrev pub of_falls : List ℕ → List Entry → List Json
+of_falls key book = map (at key) (falls_of (plain_sheet 0 1) (history_of book) (noted_items book) 0)
 
 -- `examples/two-overs.txt`
 abbrev pub two_overs : List Entry
@@ -89,3 +95,7 @@ pub record WorkedSums : Type 0 where
   pub own_over : over_balls (history_of odd_balls) 0 7 ≡ 5
   pub one_over : bowler_overs (history_of odd_balls) 0 7 ≡ 1
   pub no_ball_more : bowler_balls (history_of odd_balls) 0 7 ≡ 0
+  pub fall_overs : of_falls (codes "overs") two_overs ≡ string (codes "1.1") ∷ string (codes "1.3") ∷ []
+  pub fall_runs : of_falls (codes "runs") two_overs ≡ number_value 17 ∷ number_value 19 ∷ []
+  pub fallen : of_falls (codes "player") two_overs ≡ number_value 2 ∷ number_value 3 ∷ []
+  pub past_a_dead_one : of_falls (codes "overs") odd_balls ≡ string (codes "0.4") ∷ []

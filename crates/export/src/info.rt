@@ -1,16 +1,16 @@
 //! What is said of the match.
 
-ghost use Rattle.std.specs.Prelude.{◌≡◌, ◌+◌, ◌<◌, ◌∷◌, [], codes, is_some, List, OnOk};
+ghost use Rattle.std.specs.Prelude.{◌≡◌, ◌+◌, ◌<◌, ◌∷◌, [], codes, is_some, List, OnOk, option_map};
 ghost use Rattle.ball_laws.specs.History.{History};
 ghost use Rattle.match_laws.specs.Stands.{StandsFor};
 ghost use Rattle.toml.specs.Data.{get_member};
-ghost use Rattle.toml.specs.View.{table_view};
+ghost use Rattle.toml.specs.View.{table_view, view};
 ghost use Rattle.json_fields.specs.Values.{Field, PutsFields, PutsValues};
 ghost use Rattle.export.specs.Given.{AreFieldsOf, others};
 ghost use Rattle.export.specs.inner.Putting.{PutsInfo};
 ghost use Rattle.export.specs.Info as laws;
 
-use crate::given::put_given;
+use crate::given::{put_given, table_in};
 use crate::named::NamedSheet;
 use json::Pretty;
 use json_fields::{
@@ -19,10 +19,10 @@ use json_fields::{
 use match_laws::{Match, Outcome};
 use notation::{Player, Side};
 use std::alloc::{AllocError, Global};
-use toml::Table;
+use toml::{Table, Value};
 
 /// Whether the sheet's table `[info]` has an event.
-fn has_event(info: &Table) -> bool
+pub fn has_event(info: &Table) -> bool
     ensures { result ≡ is_some (get_member (codes "event") (table_view info.now)) }
 {
     info.get("event").is_some()
@@ -215,13 +215,56 @@ fn put_result(out: &mut Pretty, word: &str) -> Result<(), AllocError>
     end_object(out)
 }
 
+/// Whether a value of TOML is this text.
+fn is_text(value: Option<&Value>, word: &str) -> bool
+    ensures { result ≡ laws.is_text word.now (option_map (λ value. view value.now) value.entry) }
+{
+    match value {
+        Some(Value::String(text)) => text.as_str() == word,
+        _ => false,
+    }
+}
+
+/// What the outcome of the sheet's table `[info]` has at a key.
+fn outcome_at<'a>(info: &'a Table, key: &str) -> Option<&'a Value>
+    ensures { option_map (λ value. view value.now) result ≡ laws.outcome_at key.now (table_view info.now) }
+{
+    match table_in(info, "outcome") {
+        Some(outcome) => outcome.get(key),
+        None => None,
+    }
+}
+
+/// Whether the outcome of the sheet's table `[info]` is that there is no result.
+fn has_no_result(info: &Table) -> bool
+    ensures { result ≡ laws.has_no_result (table_view info.now) }
+{
+    is_text(outcome_at(info, "result"), "no result")
+}
+
+/// The result of a match that was closed before it was decided.
+fn closed_word(info: &Table) -> &'static str
+    ensures { result.now ≡ laws.closed_word (table_view info.now) }
+{
+    if has_no_result(info) {
+        "no result"
+    } else {
+        "draw"
+    }
+}
+
 /// Puts the result of a match, where it has one.
-fn put_outcome(out: &mut Pretty, sheet: &NamedSheet<'_>, outcome: Outcome) -> Result<(), AllocError>
-    ensures { PutsFields result out.old out.new (laws.outcome_fields sheet.now outcome) }
+fn put_outcome(
+    out: &mut Pretty,
+    sheet: &NamedSheet<'_>,
+    info: &Table,
+    outcome: Outcome,
+) -> Result<(), AllocError>
+    ensures { PutsFields result out.old out.new (laws.outcome_fields sheet.now (table_view info.now) outcome) }
 {
     match outcome {
         Outcome::Undecided => Ok(()),
-        Outcome::Draw => put_result(out, "draw"),
+        Outcome::Draw => put_result(out, closed_word(info)),
         Outcome::Tie => put_result(out, "tie"),
         Outcome::Runs(side, count) => put_win(out, sheet, side, "runs", count),
         Outcome::Wickets(side, count) => put_win(out, sheet, side, "wickets", count),
@@ -246,7 +289,7 @@ pub fn put_info(
     put_teams(out, sheet)?;
     put_players(out, sheet)?;
     put_figure(out, "balls_per_over", 6)?;
-    put_outcome(out, sheet, score.result())?;
+    put_outcome(out, sheet, info, score.result())?;
     put_given(alloc, out, info)?;
     end_object(out)
 }

@@ -13,16 +13,18 @@ ghost use Rattle.json_fields.specs.Values.{Field};
 ghost use Rattle.export.specs.Document.{is_fine_document};
 ghost use Rattle.export.specs.Escapes.{IsPlain, IsReadBack, is_obeyed};
 ghost use Rattle.export.specs.Given.{HandsOn};
-ghost use Rattle.export.specs.Laws.{HasEachEntry, HasEachKey, LeavesOwn, TellsDay, TellsOfFile, TotalsAddUp, WicketsAddUp, in_meta};
+ghost use Rattle.export.specs.Laws.{FallsStand, HasEachEntry, HasEachKey, LeavesOwn, TellsDay, TellsOfFile, TotalsAddUp, WicketsAddUp, in_meta};
 ghost use Rattle.export.specs.Names.{NamesTwoSides};
 ghost use Rattle.export.specs.WorkedDocuments.{WorkedDocuments};
 
 /// Looked up in the value of an innings, as it stands in an export: the totals of its deliveries and its penalty runs
 /// before and after add up to the innings' total. As many wickets stand among its deliveries as have fallen, not counting
-/// who is retired hurt, where it has a delivery. Each entry of the book stands once, at its place.
+/// who is retired hurt, where it has a delivery. Each fall of the card stands with the over and the ball at which that player
+/// was out. Each entry of the book stands once, at its place.
 pub fn exports_add_up()
     ensures totals { (s : Sheet) → (n : ℕ) → (book : List Entry) → IsLegalBook n book → TotalsAddUp s book }
     ensures wickets { (s : Sheet) → (n : ℕ) → (book : List Entry) → IsLegalBook n book → WicketsAddUp s book }
+    ensures falls { (n : ℕ) → (book : List Entry) → IsLegalBook n book → FallsStand book }
     ensures entries { (book : List Entry) → HasEachEntry book }
 {}
 

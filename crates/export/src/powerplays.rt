@@ -11,7 +11,7 @@ use limits::Powerplay;
 use std::alloc::{AllocError, Global};
 
 /// The number of a delivery.
-fn ball_text(alloc: Global, over: u16, ball: u16) -> Result<String, AllocError>
+pub fn ball_text(alloc: Global, over: u64, ball: u64) -> Result<String, AllocError>
     ensures { IfOk result (λ text. string_bytes text ≡ decimal over ++ codes "." ++ decimal ball) }
 {
     let mut buffer = Buffer::new();
@@ -31,7 +31,7 @@ fn put_ball(
 ) -> Result<(), AllocError>
     ensures { PutsFields result out.old out.new ((name.now, laws.ball_number over ball) ∷ []) }
 {
-    let text = ball_text(alloc, over, ball)?;
+    let text = ball_text(alloc, u64::from(over), u64::from(ball))?;
     out.token(Token::Key(name))?;
     out.token(Token::Number(text.as_str()))
 }

@@ -1,20 +1,23 @@
 //! The book of a match as one JSON value.
 
-ghost use Rattle.std.specs.Prelude.{◌≡◌, ◌∷◌, [], codes, decimal, OnOk};
+ghost use Rattle.std.specs.Prelude.{◌≡◌, ◌∷◌, [], List, codes, decimal, OnOk};
 ghost use Rattle.corrections.specs.CleanList.{clean, history_of};
 ghost use Rattle.match_laws.specs.Stands.{StandsFor};
 ghost use Rattle.export.specs.Notes.{begun_of, notes};
 ghost use Rattle.toml.specs.View.{table_view};
-ghost use Rattle.json_fields.specs.Values.{PutsFields, text_field};
+ghost use Rattle.json_fields.specs.Values.{Field, PutsFields, text_field};
+ghost use Rattle.export.specs.Given.{AreFieldsOf, others};
 ghost use Rattle.export.specs.Value as laws;
-ghost use Rattle.export.specs.Value.{own_field};
+ghost use Rattle.export.specs.Value.{own_field, sheet_fields, title_fields};
 ghost use Rattle.export.specs.inner.Putting.{PutsExport};
 
 use crate::begun::Begun;
 use crate::entries::put_entries;
+use crate::falls::put_falls;
 use crate::given::info_or;
-use crate::info::put_info;
+use crate::info::{has_event, put_info};
 use crate::innings::put_all_innings;
+use crate::limited::put_limits;
 use crate::meta::put_meta;
 use crate::named::NamedSheet;
 use crate::notes::Noted;
@@ -52,19 +55,54 @@ fn put_game(out: &mut Pretty, game: u64) -> Result<(), AllocError>
     }
 }
 
+/// Puts the title.
+fn put_own_title(out: &mut Pretty, sheet: &NamedSheet<'_>) -> Result<(), AllocError>
+    ensures { PutsFields result out.old out.new (text_field (codes "title") sheet.now.title ∷ []) }
+{
+    put_text(out, "title", sheet.title())
+}
+
+/// Puts the title, where `[info]` has an event.
+fn put_title(out: &mut Pretty, sheet: &NamedSheet<'_>, info: &Table) -> Result<(), AllocError>
+    ensures { (given : List Field) → AreFieldsOf (others (table_view info.now)) given
+        → PutsFields result out.old out.new (title_fields sheet.now given) }
+{
+    if !has_event(info) {
+        return Ok(());
+    }
+    put_own_title(out, sheet)
+}
+
+/// Puts what else is on the sheet.
+fn put_sheet(out: &mut Pretty, sheet: &NamedSheet<'_>, info: &Table) -> Result<(), AllocError>
+    ensures { (given : List Field) → AreFieldsOf (others (table_view info.now)) given
+        → PutsFields result out.old out.new (sheet_fields sheet.now given) }
+{
+    put_title(out, sheet, info)?;
+    put_game(out, sheet.game())?;
+    put_figure(out, "innings_a_side", sheet.innings())?;
+    put_limits(out, sheet.limits())
+}
+
 /// Puts what the format of archives can't hold.
 fn put_own<B: BookOf>(
     alloc: Global,
     out: &mut Pretty,
     sheet: &NamedSheet<'_>,
+    info: &Table,
+    score: &Match,
     book: &B,
+    noted: &[Noted],
 ) -> Result<(), AllocError>
-    ensures { PutsFields result out.old out.new (own_field sheet.now (B.content book.now) ∷ []) }
+    requires noted { noted.now ≡ notes [] (clean (B.content book.now)) }
+    requires stands { StandsFor score.now sheet.now.innings (history_of (B.content book.now)) }
+    ensures { (given : List Field) → AreFieldsOf (others (table_view info.now)) given
+        → PutsFields result out.old out.new (own_field sheet.now given (B.content book.now) ∷ []) }
 {
     begin_field(out, "yermudosh")?;
     put_text(out, "program", "yermudosh 1")?;
-    put_game(out, sheet.game())?;
-    put_figure(out, "innings_a_side", sheet.innings())?;
+    put_sheet(out, sheet, info)?;
+    put_falls(alloc, out, sheet, score, noted)?;
     put_entries(alloc, out, book)?;
     end_object(out)
 }
@@ -89,8 +127,9 @@ pub fn put_export<B: BookOf>(
     begin_object(out)?;
     put_meta(alloc, out, document)?;
     let empty = Table::new(alloc);
-    put_info(alloc, out, sheet, info_or(document, &empty), score)?;
+    let info = info_or(document, &empty);
+    put_info(alloc, out, sheet, info, score)?;
     put_all_innings(alloc, out, sheet, score, begun, noted)?;
-    put_own(alloc, out, sheet, book)?;
+    put_own(alloc, out, sheet, info, score, book, noted)?;
     end_object(out)
 }

@@ -66,6 +66,7 @@ rows Board =
     codes "  --desk-b ADDR:PORT  the address of desk B" ∷
     codes "  --text T            a file for its six lines; or left out" ∷
     codes "  --json J            a file of all that a page shows, as JSON; or left out" ∷
+    codes "  --script C          the same, for a page opened from a folder; or left out" ∷
     codes "  --serve ADDR:PORT   where browsers find its page; or left out" ∷
     codes "  --key K             the file of the key, the same everywhere; or left out" ∷
     codes "" ∷

@@ -61,6 +61,7 @@ it lacks from the desks. To end it, close its window.
   --desk-b ADDR:PORT  the address of desk B
   --text T            a file for its six lines; or left out
   --json J            a file of all that a page shows, as JSON; or left out
+  --script C          the same, for a page opened from a folder; or left out
   --serve ADDR:PORT   where browsers find its page; or left out
   --key K             the file of the key, the same everywhere; or left out
 

@@ -8,7 +8,7 @@ pub const HEAD: &str = "\
 <head>
 <meta charset='utf-8'>
 <meta http-equiv='Content-Security-Policy' content=\"default-src 'none'; img-src data:; base-uri 'none'; form-action 'none'; \
-style-src 'sha256-IlMevs8LbEs0MQ8OJMvzM4i8h5hu/0Wtz78L6c2IcBo='; script-src 'sha256-xZJKIf+61bPMMmug0udHcww5FPtmeGJSjbStsFTzaWE='\">
+style-src 'sha256-IlMevs8LbEs0MQ8OJMvzM4i8h5hu/0Wtz78L6c2IcBo='; script-src 'sha256-4vn311CWk1IF3Fc/7hvL6cH+nE2yNynlqmuX6Iyp5lw='\">
 <meta name='viewport' content='width=device-width, initial-scale=1'>
 <meta name='referrer' content='no-referrer'>
 <link rel='icon' href='data:,'>

@@ -34,7 +34,7 @@ function titleOfMatch() {
 function result() {
   const outcome = match.info.outcome;
   if (outcome === undefined) return 'No result yet';
-  if (outcome.result) return { draw: 'Match drawn', tie: 'Match tied' }[outcome.result];
+  if (outcome.result) return { draw: 'Match drawn', tie: 'Match tied', 'no result': 'No result' }[outcome.result];
   const { runs, wickets, innings } = outcome.by || {};
   if (innings) return outcome.winner + ' won by an innings and ' + counted(runs, 'run');
   if (runs !== undefined) return outcome.winner + ' won by ' + counted(runs, 'run');

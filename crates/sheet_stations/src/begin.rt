@@ -147,6 +147,7 @@ pub fn start_board_of<'a>(
     named: BoardOptions<'a>,
     text: Option<&'a str>,
     json: Option<&'a str>,
+    script: Option<&'a str>,
     serve: Option<Address<'a>>,
     table: &'a Table,
 ) -> Result<bool, Stopped<'a>> {
@@ -155,5 +156,5 @@ pub fn start_board_of<'a>(
     let a = address(rt, sheet, "stations, a", begun.a)?;
     let b = address(rt, sheet, "stations, b", begun.b)?;
     let (at, peers) = found(rt, sheet, addresses_in(at, a, &[b]))?;
-    start_board(rt, sheet, at, peers, text, json, serve, begun.key)
+    start_board(rt, sheet, at, peers, text, json, script, serve, begun.key)
 }

@@ -16,7 +16,7 @@ plain_task = Check 2
 abbrev pub IsTask : Task → Type 0
 IsTask (Check innings) = (1 ≤ innings) × (innings ≤ 2)
 IsTask (Replay sheet schedule boards is_old) = boards ≤ 4
-IsTask (BoardOfSheet sheet index named text json serve) = index ≤ 3
+IsTask (BoardOfSheet sheet index named text json script serve) = index ≤ 3
 IsTask task = ⊤
 
 -- why the words can't be had from the host: out of memory, or they are no text

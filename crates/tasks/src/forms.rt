@@ -128,6 +128,7 @@ fn board_words<'a>(alloc: Global) -> Result<Command<'a>, AllocError> {
         .arg(of_station(alloc, "desk-b")?)?
         .arg(free(alloc, "text"))?
         .arg(free(alloc, "json"))?
+        .arg(free(alloc, "script"))?
         .arg(free(alloc, "serve"))?
         .arg(free(alloc, "key"))
 }

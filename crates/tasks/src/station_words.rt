@@ -70,6 +70,7 @@ fn full_board_task<'a>(words: &ArgMatches<'a>) -> Option<Task<'a>>
         peers,
         text: words.get_str("text"),
         json: words.get_str("json"),
+        script: words.get_str("script"),
         serve: served_in(words)?,
         key: words.get_str("key"),
     })
@@ -164,6 +165,7 @@ fn board_of_sheet<'a>(number: &str, words: &ArgMatches<'a>) -> Option<Task<'a>>
         named,
         text: words.get_str("text"),
         json: words.get_str("json"),
+        script: words.get_str("script"),
         serve: served_in(words)?,
     })
 }

@@ -125,13 +125,15 @@ pub enum Task<'a> {
         key: Option<&'a str>,
     },
     /// To keep a board at an address. Its peers are both desks. Its text is put into a file, its state as JSON into
-    /// another one, and the scorers' key is in one, where they are named. A page shows both at an address, where it is given.
+    /// another one, the same as a script into a third, and the scorers' key is in one, where they are named. A page shows text
+    /// and state at an address, where it is given.
     Board {
         sheet: &'a str,
         at: Address<'a>,
         peers: [Option<SocketAddr>; MOST_PEERS],
         text: Option<&'a str>,
         json: Option<&'a str>,
+        script: Option<&'a str>,
         serve: Option<Address<'a>>,
         key: Option<&'a str>,
     },
@@ -148,6 +150,7 @@ pub enum Task<'a> {
         named: BoardOptions<'a>,
         text: Option<&'a str>,
         json: Option<&'a str>,
+        script: Option<&'a str>,
         serve: Option<Address<'a>>,
     },
 }

@@ -2,7 +2,7 @@
 
 /// What may be run and loaded in the page: its own style and script, and what it asks of this board.
 pub const POLICY: &[u8] =
-    b"default-src 'none'; script-src 'sha256-4vwn6R1LksLtihgwdt9w6B4G/W0tYRcAOl2emYeOALA='; style-src 'sha256-VuLDZmqkK7jGczWNfOT/rQoajGxTx34AfkeRyGN2jhg='; connect-src 'self'; img-src data:; base-uri 'none'; form-action 'none'; frame-ancestors 'none'";
+    b"default-src 'none'; script-src 'sha256-T7Ugfim36qEmMgQmmAHnzhE/fKQN72ww43EHoZqO+1k='; style-src 'sha256-VuLDZmqkK7jGczWNfOT/rQoajGxTx34AfkeRyGN2jhg='; connect-src 'self'; img-src data:; base-uri 'none'; form-action 'none'; frame-ancestors 'none'";
 
 /// The page.
 pub const PAGE: &[u8] = b"<!DOCTYPE html>
@@ -469,8 +469,8 @@ function showMissing() {
   put(\"team\", \"No board to be seen\");
   at(\"missing\").hidden = false;
   const parts = isServed ? [\"The board isn't heard. Is it running, and is this machine in its network?\"] : isFolder
-    ? [\"This page was opened from a folder, where it reads the script \", file, \" beside it, and there is none. Have a web server give the folder: in it, \",
-      \"python3 -m http.server 8000\", \", and open \", \"http://localhost:8000/\"]
+    ? [\"This page was opened from a folder, where it reads the script \", file, \" beside it, and there is none. Start the board with \",
+      \"--script \" + file, \" in this folder.\"]
     : [\"There is no \", file, \" beside this page. Start the board with \", \"--json \" + file, \" in this folder.\"];
   if (at(\"missing\").childNodes.length === 0) at(\"missing\").append(...parts.map((part, n) => n % 2 ? element(\"code\", part) : part));
 }

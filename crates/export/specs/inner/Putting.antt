@@ -34,7 +34,7 @@ PutsHanded key d old new = PutsGiven (member key d no_members) old new
 
 -- what is said of the match, with what the table [info] of these members hands on
 abbrev pub PutsInfo : Sheet → History → Members → List Token → List Token → Type 0
-PutsInfo s h ms old new = (given : List Field) × AreFieldsOf (others ms) given × (new ≡ old ++ fields_tokens (info_field s h given ∷ []))
+PutsInfo s h ms old new = (given : List Field) × AreFieldsOf (others ms) given × (new ≡ old ++ fields_tokens (info_field s h ms given ∷ []))
 
 abbrev pub PutsExport : Sheet → List Entry → Members → List Token → List Token → Type 0
 PutsExport s book document old new =

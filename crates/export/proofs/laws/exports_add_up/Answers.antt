@@ -1,6 +1,7 @@
 use Rattle.export.proofs.LawLemmas.{totals_add_up}
 use Rattle.export.proofs.WicketLemmas.{wickets_add_up}
 use Rattle.export.proofs.EntryLemmas.{has_each}
+use Rattle.export.proofs.FallLemmas.{falls_stand}
 use Rattle.export.proofs.laws.exports_add_up.Goals as goal
 
 pub returns-clause-totals : goal.returns-clause-totals
@@ -8,6 +9,9 @@ returns-clause-totals c s n book legal = totals_add_up s n book legal
 
 pub returns-clause-wickets : goal.returns-clause-wickets
 returns-clause-wickets c s n book legal = wickets_add_up s n book legal
+
+pub returns-clause-falls : goal.returns-clause-falls
+returns-clause-falls c n book legal = falls_stand n book legal
 
 pub returns-clause-entries : goal.returns-clause-entries
 returns-clause-entries c book = has_each book

@@ -30,4 +30,9 @@ returns c = record {
   meta_no_table = refl;
   info_no_table = refl;
   outside = refl;
+  no_result = refl;
+  a_draw = refl;
+  result_no_text = refl;
+  outcome_no_table = refl;
+  no_outcome = refl;
 }

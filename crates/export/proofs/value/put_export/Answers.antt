@@ -8,9 +8,9 @@ pub returns : goal.returns
 returns g c =
     let s = c.requires.stands in
     let put = c.in_ok-put_info.ensures _ s in
-    let hands_on = subst (λ ms. AreFieldsOf (others ms) put.0) c.info_or.ensures put.1 in
+    let hands_on = subst (λ ms. AreFieldsOf (others ms) put.0) c.info_or-info.ensures put.1 in
     let meta = begins c.in_ok-begin_object.ensures ▸ c.in_ok-put_meta.ensures in
-    let info = meta ▸ put.2 in
-    let innings = info ▸ (c.in_ok-put_all_innings.ensures _ _ s c.requires.begun) in
-    let own = innings ▸ c.in_ok-put_own.ensures in
-    rw (← c.requires.noted) (on_ok_weaker c.end_object.result (λ e. (put.0, hands_on, e)) (is_object c.end_object.result _ own c.end_object.ensures))
+    let info = meta ▸ (rw c.info_or-info.ensures at put.2) in
+    let innings = info ▸ (rw c.requires.noted at (c.in_ok-put_all_innings.ensures _ _ s c.requires.begun)) in
+    let own = innings ▸ (c.in_ok-put_own.ensures put.0 put.1) in
+    on_ok_weaker c.end_object.result (λ e. (put.0, hands_on, e)) (is_object c.end_object.result _ own c.end_object.ensures)
