@@ -101,6 +101,14 @@ fn print_taken_back<W: Write>(
     writeln!(out, "{place} taken back: {line}")
 }
 
+/// Prints that one wasn't taken.
+fn print_untaken<W: Write>(out: &mut Watched<W>, place: u32, line: &str) -> Result<(), WriteFailed>
+    ensures text { OnOk result (Prints W.contents out.old out.new (asides.line_at place (codes " not taken: ") line.now)) }
+    ensures failed { OnErr result (has_failed out.new ≡ true) }
+{
+    writeln!(out, "{place} not taken: {line}")
+}
+
 /// Prints that one wasn't taken, and that those behind it are dropped.
 fn print_not_taken<W: Write>(
     out: &mut Watched<W>,
@@ -112,7 +120,7 @@ fn print_not_taken<W: Write>(
         (asides.line_at place (codes " not taken: ") line.now ++ asides.dropped_text behind.now)) }
     ensures failed { OnErr result (has_failed out.new ≡ true) }
 {
-    writeln!(out, "{place} not taken: {line}")?;
+    print_untaken(out, place, line)?;
     print_dropped(out, behind)
 }
 

@@ -3,4 +3,4 @@ use Rattle.live.proofs.aside.print_not_taken.Goals as goal
 
 pub returns-clause-text : goal.returns-clause-text
 returns-clause-text g c =
-    appends_last c.print_dropped.result _ _ _ _ _ c.in_ok-writeln.ensures.bytes c.print_dropped.ensures.text
+    appends_last c.print_dropped.result _ _ _ _ _ c.in_ok-print_untaken.ensures.text c.print_dropped.ensures.text
