@@ -157,13 +157,16 @@ def told(limits, lines, innings, bowler, needs):
 
 
 def chase(limits, lines):
-    """What a desk's row has of a chase of one innings a side, in which no penalty runs were awarded: the total with the overs,
-    and behind the marks a free hit and what is needed."""
+    """What a desk's row has of a chase of one innings a side, in which no penalty runs were awarded: the total with the overs; a
+    free hit; and at its end what is needed, and from the sixth ball on how many the over has. It is won where that is None."""
     course = course_of(lines)
     most, left, balls = overs_of(limits, course)
     total, other = course.totals[course.side], sum(it for side, it in course.totals.items() if side != course.side)
-    needs = other + 1 - total
-    front = f" {total} for {sum('out' in it for it in lines[lines.index(['innings', course.side]):])} ({len(course.called)}.{sum(it for _, it, _ in course.over)} of {most})"
-    free = "  free hit" if limits.get("free_hits") and course.is_free else ""
+    wickets = sum("out" in it for it in lines[lines.index(["innings", course.side]) :])
+    needs, had = other + 1 - total, sum(it for _, it, _ in course.over)
     rated = rate(needs, balls)
-    return front, free, f"  needs {needs} off {balls}" + (f" ({rated})" if rated else "") if needs > 0 else None
+    return (
+        f" {total} for {wickets} ({len(course.called)}.{had} of {most})",
+        limits.get("free_hits", False) and course.is_free,
+        f"  needs {needs} off {balls}" + (f" ({rated})" if rated else "") + (f"  {had} balls" if had >= 6 else "") if needs > 0 else None,
+    )

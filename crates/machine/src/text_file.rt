@@ -74,7 +74,7 @@ fn is_locked(file: &File) -> bool {
 }
 
 /// Asks that what a file holds may give way to a text: it has no byte and no other process has it to itself, or it begins
-/// as a board's text or its state.
+/// as a file of a board.
 fn expect_text(file: &mut File, len: u64) -> Result<(), Cause> {
     match front_of(file, len).map_err(|why| cause_of(&why))? {
         Front::Text => Ok(()),

@@ -44,9 +44,9 @@ pub enum Cause {
     Sheet,
     Key,
     Votes,
-    /// Something stands there that begins neither as a board's text nor as its state.
+    /// Something stands there that begins as no file of a board does.
     Other,
-    /// Text and state would be one file.
+    /// Two of a board's files would be one.
     Both,
     /// It was moved, deleted or replaced, or is shorter or longer than it was left.
     Lost,
@@ -117,7 +117,7 @@ impl Cause {
             Cause::Key => "is the key",
             Cause::Votes => "is a votes file",
             Cause::Other => "is something else's: take another name",
-            Cause::Both => "is the file of the text and of the state",
+            Cause::Both => "is another file of this board",
             Cause::Lost => "isn't as it was left",
             Cause::Device => "the disk fails",
             Cause::NoMemory => "no memory",

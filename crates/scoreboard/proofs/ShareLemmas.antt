@@ -24,11 +24,11 @@ played_before h [] all = all
 played_before h (x ∷ xs) all = (played_before (x.item ∷ h) xs all).0
 
 -- a player's share of what stands up to what is left of it, and the crease there
-pub record Sharing (p : ℕ) (all left : List Placed) (crease : Standing) (share : Stand) : Type 0 where
+pub record Sharing (p : ℕ) (all left : List Placed) (there : Standing) (made : Stand) : Type 0 where
   pub history : History
   pub ends : history_after history left ≡ history_after [] all
-  pub crease : crease ≡ standing_of (state_after history)
-  pub share : share ≡ share_of p history
+  pub crease : there ≡ standing_of (state_after history)
+  pub share : made ≡ share_of p history
 
 pub shares_none : (p : ℕ) (all : List Placed) (crease : Standing) → crease ≡ standing_of start → Sharing p all all crease no_stand
 shares_none p all crease is = record { history = []; ends = refl; crease = is; share = refl }

@@ -2,7 +2,7 @@
 
 /// What may be run and loaded in the page: its own style and script, and what it asks of this board.
 pub const POLICY: &[u8] =
-    b"default-src 'none'; script-src 'sha256-T7Ugfim36qEmMgQmmAHnzhE/fKQN72ww43EHoZqO+1k='; style-src 'sha256-VuLDZmqkK7jGczWNfOT/rQoajGxTx34AfkeRyGN2jhg='; connect-src 'self'; img-src data:; base-uri 'none'; form-action 'none'; frame-ancestors 'none'";
+    b"default-src 'none'; script-src 'sha256-fX40CQmT4hYy+a7H5+FosRfQ4Kw22PUcrxZJumdMwTE='; style-src 'sha256-VuLDZmqkK7jGczWNfOT/rQoajGxTx34AfkeRyGN2jhg='; connect-src 'self'; img-src data:; base-uri 'none'; form-action 'none'; frame-ancestors 'none'";
 
 /// The page.
 pub const PAGE: &[u8] = b"<!DOCTYPE html>
@@ -372,12 +372,15 @@ function partnership(now, innings) {
   return \"Partnership \" + off(told) + (shares.length > 0 ? \": \" + shares.join(\", \") : \"\");
 }
 
+// So many deliveries in overs, as 4.4.
+const inOvers = balls => Math.floor(balls / 6) + (balls % 6 > 0 ? \".\" + balls % 6 : \"\");
+
 // What else is told of the overs, part by part.
 function left(now) {
   const parts = [];
   if (now.free_hit) parts.push(\"Free hit\");
   if (known(now.powerplay)) parts.push(\"Powerplay \" + now.powerplay);
-  if (known(now.overs_left)) parts.push(now.overs_left + (now.overs_left === 1 ? \" over left\" : \" overs left\"));
+  if (known(now.balls_left)) parts.push(inOvers(now.balls_left) + (now.balls_left === 6 ? \" over left\" : \" overs left\"));
   if (known(now.run_rate)) parts.push(\"Run rate \" + now.run_rate + (known(now.last_rate) ? \", last five overs \" + now.last_rate : \"\"));
   return parts;
 }

@@ -9,6 +9,9 @@ const VOTES: &[u8] = b"CBVOTES";
 /// What a board's state begins with.
 const STATE: &[u8] = b"{\"format\":\"yermudosh board ";
 
+/// What the same as a script begins with.
+const SCRIPT: &[u8] = b"window.yermudosh = {\"format\":\"yermudosh board ";
+
 /// What the lines of a board's text behind the first begin with.
 const LINES: [&[u8]; 5] = [b"Overs ", b"Striker ", b"Other ", b"Target ", b"Result "];
 
@@ -20,7 +23,7 @@ const ROOM: usize = 1024;
 pub enum Front {
     /// It has no byte.
     Nothing,
-    /// A board's text, or its state.
+    /// A board's text, its state, or that as a script.
     Text,
     /// A desk's votes.
     Votes,
@@ -64,7 +67,7 @@ fn judged(bytes: &[u8]) -> Front {
         Front::Nothing
     } else if bytes.starts_with(VOTES) {
         Front::Votes
-    } else if agree(bytes, STATE) || is_board_text(bytes) {
+    } else if agree(bytes, STATE) || agree(bytes, SCRIPT) || is_board_text(bytes) {
         Front::Text
     } else {
         Front::Other

@@ -1,5 +1,5 @@
-use Rattle.std.proofs.Common.{◌∷◌, [], refl}
-use Rattle.std.proofs.lemmas.Option.{slice_get_read}
+use Rattle.std.proofs.Common.{◌∷◌, []}
+use Rattle.std.proofs.lemmas.Option.{slice_get-get_or}
 use Rattle.json_fields.proofs.Putting.{adds_each, ends_each, no_values}
 use Rattle.scoreboard.specs.OverRuns.{over_value}
 use Rattle.scoreboard.proofs.Singles.{singles}
@@ -10,7 +10,7 @@ loop-over-init c = no_values _
 
 pub loop-over-preserved : goal.loop-over-preserved
 loop-over-preserved c =
-    let here = slice_get_read c.args.overs.now _ c.loop-over.over-index _ refl c.loop-over-test.true c.over-item.is in
+    let here = slice_get-get_or c.args.overs.now c.loop-over.over-index _ c.loop-over-test.true in
     adds_each _ _ _ (λ x. over_value x ∷ []) c.args.overs.now c.loop-over.over-index _ c.loop-over.invariant here c.in_ok-put_over.ensures
 
 pub returns : goal.returns

@@ -6,8 +6,8 @@ use Rattle.scoreboard.proofs.stand.partnership_of.Goals as goal
 pub share_for-requires-clause-played : goal.share_for-requires-clause-played
 share_for-requires-clause-played g c = rw (c.clean_items-items.ensures.value, history_of-clean_items _) c.requires
 
-pub share_for-2-requires-clause-played : goal.share_for-2-requires-clause-played
-share_for-2-requires-clause-played g c = rw (c.clean_items-items.ensures.value, history_of-clean_items _) c.requires
+pub share_for-requires-2-clause-played : goal.share_for-requires-2-clause-played
+share_for-requires-2-clause-played g c = rw (c.clean_items-items.ensures.value, history_of-clean_items _) c.requires
 
 pub returns : goal.returns
 returns g c =
