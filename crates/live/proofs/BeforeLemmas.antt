@@ -39,7 +39,7 @@ module _ {Disk : Type 0} (sheet : Sheet) (view : FileView Disk) (disks : DiskVie
   said_here : (k l : DeskProcess Disk) (call : DeskCall) (out : List Message) → ProcessStep sheet view disks game innings k call out l
       → AreAmong (line_said call) (casting (typed call))
   said_here k l (Typed line (Said.Penned entry settled)) out step = one_line line (no_word_casts line step.1.0.0)
-  said_here k l (Typed line (Said.Refused why)) out step = one_line line (no_word_casts line step.1.1.0)
+  said_here k l (Typed line (Said.Refused entry why)) out step = one_line line (no_word_casts line step.1.0.0)
   said_here k l call out step = tt
 
   said_among : (k : DeskProcess Disk) (ms : List (Moment (DeskProcess Disk) DeskCall)) → Run (desk_kind sheet view disks game innings) k ms

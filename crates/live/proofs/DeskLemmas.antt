@@ -283,7 +283,7 @@ module _ {S B D : Type 0} {g : Files S D} {h : Disks D} {b : Books B} where
   -- a refusal blames the disk as the pen did
   refuses : (k l : Desk S B D g h b) (e : Entry) (why : Refusal) (out : List Message) → (state_of k).failed ≡ false
       → Pens (view_of k) (rules_of k) (state_of k) e (pen_answer (Err why)) (state_of l) out → PenBlame k (Err why) l
-      → DeskBlame k (end_of (Said.Refused why)) l
+      → DeskBlame k (end_of (Said.Refused e why)) l
   refuses k l e Refusal.Device out runs r blame =
       let failed : Result Penned Refusal = Err Refusal.Device in
       blamed failed Refusal.Device (Err DeskEnd.Device) _ _ (λ q. refl) (λ q. refl) (λ q room. room (length (own_votes k) + 1) (omega (arith, r.0.1.1))) blame
@@ -292,9 +292,9 @@ module _ {S B D : Type 0} {g : Files S D} {h : Disks D} {b : Books B} where
 
   pub refused : (sheet : Sheet) (k l : Desk S B D g h b) (line : List ℕ) (e : Entry) (why : Refusal) (log : List Passed) → SameOwner k l
       → SaysEntry sheet (state_of k).book (state_of k).votes (state_of k).seat.position.round line e
-      → PenStep k e (Err why) l → PenBlame k (Err why) l → Calls sheet k l (Typed line (Said.Refused why)) log log
+      → PenStep k e (Err why) l → PenBlame k (Err why) l → Calls sheet k l (Typed line (Said.Refused e why)) log log
   refused sheet k l line e why log same says step blame =
-      calls_with (Typed line (Said.Refused why)) [] step.0 same step.1 step.2 (rw append-nil) (e, says, step.3) (λ runs. refuses k l e why step.0 runs step.3 blame)
+      calls_with (Typed line (Said.Refused e why)) [] step.0 same step.1 step.2 (rw append-nil) (says, step.3) (λ runs. refuses k l e why step.0 runs step.3 blame)
 
   -- what it answers to bytes blames the disk as the call did
   answers : (k l : Desk S B D g h b) (bytes : List ℕ) (what : What) (out : List Message) → (state_of k).failed ≡ false

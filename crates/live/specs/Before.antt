@@ -12,7 +12,7 @@ use Rattle.live.specs.declared.said.Said.{Said}
 -- the line of a call that says an entry, be its vote cast or refused
 abbrev pub line_said : DeskCall → List (List ℕ)
 line_said (Typed line (Said.Penned entry settled)) = line ∷ []
-line_said (Typed line (Said.Refused why)) = line ∷ []
+line_said (Typed line (Said.Refused entry why)) = line ∷ []
 line_said call = []
 
 -- these lines in such moments, the oldest first

@@ -16,8 +16,8 @@ further = Ok tt
 -- after what a line came to: it ends at `quit` and at a failed disk
 abbrev pub end_of : Said → Course
 end_of Said.Quit = Err Quit
-end_of (Said.Refused Refusal.Device) = Err Device
-end_of (Said.Refused Refusal.Failed) = Err Device
+end_of (Said.Refused e Refusal.Device) = Err Device
+end_of (Said.Refused e Refusal.Failed) = Err Device
 end_of answer = further
 
 -- after the answer to bytes that came

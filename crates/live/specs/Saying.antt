@@ -95,7 +95,7 @@ ComesTo s book votes differs is_cast line SayAgain = IsNoWord line × (differs �
 ComesTo s book votes differs is_cast line NoneDiffers = IsAgainInVain votes differs line
 ComesTo s book votes differs is_cast line Waiting =
     (differs ≡ true) × (is_cast ≡ true) × IsNotAgain line × ((e : Entry) × MeansEntry s book line e)
-ComesTo s book votes differs is_cast line (Refused why) = ⊥
+ComesTo s book votes differs is_cast line (Refused e why) = ⊥
 ComesTo s book votes differs is_cast line (Penned e settled) = ⊥
 
 -- a desk that has this sheet is given a scorer's line: it answers, goes on as the second desk, and hands out these
@@ -105,7 +105,7 @@ abbrev pub Types :
     → DeskState Disk → List ℕ → Said → DeskState Disk → List Message → Type 0
 Types s view rules k line (Penned e settled) l out =
     SaysEntry s k.book k.votes k.seat.position.round line e × Pens view rules k e (desks.Penned settled) l out
-Types s view rules k line (Refused why) l out =
-    (e : Entry) × SaysEntry s k.book k.votes k.seat.position.round line e × Pens view rules k e (pen_answer (Err why)) l out
+Types s view rules k line (Refused e why) l out =
+    SaysEntry s k.book k.votes k.seat.position.round line e × Pens view rules k e (pen_answer (Err why)) l out
 Types s view rules k line said l out =
     ComesTo s k.book k.votes (nat_lt 0 k.seat.position.round) (is_some k.seat.mine) line said × (l ≡ k) × (out ≡ [])

@@ -9,6 +9,7 @@ use Rattle.match_laws.specs.History.{begun}
 use Rattle.match_laws.specs.Figures.{overs}
 use Rattle.match_laws.specs.Result.{current, outcome}
 use Rattle.match_laws.specs.LawRefusal.{number_of as law_number}
+use Rattle.match_laws.specs.declared.refusals.LawRefusal.{LawRefusal}
 use Rattle.corrections.specs.declared.refusal.Refusal.TheVariants.{Later}
 use Rattle.corrections.specs.CleanList.{history_of}
 use Rattle.agree_core.specs.declared.{position.Position.Position, position.TheConstants.ROUNDS, seat.Settled.Settled, seat.Heard.Heard}
@@ -20,6 +21,8 @@ use Rattle.desk.specs.declared.refusal.Refusal.{Refusal}
 use Rattle.cards.specs.Page.{over_note}
 use Rattle.cards.specs.Results.{result_text}
 use Rattle.cards.specs.Sheet.{Sheet}
+use Rattle.changes.specs.Before.{item_with}
+use Rattle.changes.specs.Text.{last_changes}
 use Rattle.screen.specs.Row.{aim, row}
 use Rattle.screen.specs.OverCheck.{over_check}
 use Rattle.screen.specs.Both.{both_cards}
@@ -27,7 +30,7 @@ use Rattle.screen.specs.Listing.{listing}
 use Rattle.screen.specs.Sides.{both_sides}
 use Rattle.screen.specs.Limited.{bowlers}
 use Rattle.screen.specs.Help.{help, help_on}
-use Rattle.screen.specs.Sentences.{of_book, of_desk}
+use Rattle.screen.specs.Sentences.{of_desk, of_law}
 use Rattle.screen.specs.declared.word.Word.{Word}
 use Rattle.live.specs.declared.{reminder.Reminder.Reminder, said.Said.Said, warned.Warned.Warned}
 use Rattle.live.specs.Questions.{explained, fault_text, numbered, unclear_text, who_may}
@@ -67,17 +70,28 @@ abbrev pub agreed_at : Sheet → ℕ → ℕ → History → Option Entry → Li
 agreed_at sheet innings place h None = []
 agreed_at sheet innings place h (Some e) = agreed_entry sheet innings place h e
 
+-- and, where it is a `fix` or a `late`, what it has changed
 abbrev pub agreed : Sheet → ℕ → ℕ → List Entry → List ℕ
-agreed sheet innings place book = agreed_at sheet innings place (history_of book) (slice_get book place)
+agreed sheet innings place book =
+    agreed_at sheet innings place (history_of book) (slice_get book place) ++ last_changes sheet innings book
 
--- of a correction, the first place that it leaves refused, and why
 abbrev pub refused_text : Refusal → List ℕ
 refused_text Refusal.Failed = []
 refused_text Refusal.Device = []
-refused_text (Refusal.Book (Later place why)) =
-    codes "refused 32 Later " ++ decimal place ++ codes " " ++ decimal (law_number why)
-    ++ codes ": " ++ of_book (Later place why) ++ codes "\n"
 refused_text why = explained (codes "refused") (number_of why) (name_of why) (of_desk why)
+
+-- of a correction of the book, the first place that it leaves refused with what would stand there, and why
+abbrev pub later_numbers : ℕ → LawRefusal → List ℕ
+later_numbers place why = codes "refused 32 Later " ++ decimal place ++ codes " " ++ decimal (law_number why)
+
+abbrev pub later_words : ℕ → Plain → LawRefusal → List ℕ
+later_words place item why =
+    codes ": place " ++ decimal place ++ codes ", " ++ text_of (Write item) ++ codes ":\n  " ++ of_law why ++ codes "\n"
+
+abbrev pub refused_entry : List Entry → Entry → Refusal → List ℕ
+refused_entry book e (Refusal.Book (Later place why)) =
+    later_numbers place why ++ later_words place (item_with book e place) why
+refused_entry book e why = refused_text why
 
 -- that the two scorers differ at a place, with the entry of each where it is known: it is, once both votes are stored
 abbrev pub both_lines : Entry → Entry → List ℕ
@@ -180,7 +194,7 @@ said_text sheet innings at own other silent book Said.SayAgain = again_text at (
 said_text sheet innings at own other silent book Said.NoneDiffers =
     at_place at.place (codes "doesn't differ: leave out again")
 said_text sheet innings at own other silent book Said.Waiting = refused_text Refusal.Waiting
-said_text sheet innings at own other silent book (Said.Refused why) = refused_text why
+said_text sheet innings at own other silent book (Said.Refused e why) = refused_entry book e why
 said_text sheet innings at own other silent book (Said.Penned e settled) =
     settled_text sheet innings at.place other book e settled
 

@@ -37,7 +37,7 @@ pub fn pen<S: SlotsOf, B: BookOf + Drop, L: Link>(
             link.send(&penned.send);
             Said::Penned(entry, penned.settled)
         }
-        Err(why) => Said::Refused(why),
+        Err(why) => Said::Refused(entry, why),
     }
 }
 

@@ -29,7 +29,7 @@ pub fn end_of(said: &Said) -> Result<(), DeskEnd>
 {
     match said {
         Said::Quit => Err(DeskEnd::Quit),
-        Said::Refused(Refusal::Device | Refusal::Failed) => Err(DeskEnd::Device),
+        Said::Refused(_, Refusal::Device | Refusal::Failed) => Err(DeskEnd::Device),
         _ => Ok(()),
     }
 }

@@ -2,7 +2,7 @@
 
 ghost use Rattle.std.specs.Prelude.{◌≡◌, true, codes, slice_get, IfSome, OnErr, OnOk};
 ghost use Rattle.streams.specs.Watched.{Prints, has_failed};
-ghost use Rattle.notation.specs.Written.{IsEntry};
+ghost use Rattle.notation.specs.Written.{IsEntry, IsPlain};
 ghost use Rattle.match_laws.specs.Stands.{ForEachHistory};
 ghost use Rattle.corrections.specs.CleanList.{history_of};
 ghost use Rattle.desk.specs.Refusal.{name_of, number_of};
@@ -17,9 +17,10 @@ use crate::said::Said;
 use crate::who_bowls::print_question;
 use agree_core::{Position, ROUNDS, Settled};
 use cards::MatchSheet;
+use changes::{item_with, print_last_changes};
 use corrections::BookOf;
 use desk::Refusal;
-use match_laws::Match;
+use match_laws::{LawRefusal, Match};
 use notation::{Entry, PLACES, Plain, line_of};
 use screen::{
     HELP, Word, help_on, print_bowlers, print_cards, print_check, print_listing, print_over_note,
@@ -143,7 +144,25 @@ fn entry_at<B: BookOf>(book: &B, place: u32) -> Option<Entry>
     }
 }
 
-/// Prints that a place is agreed, where the book has its entry.
+/// Prints that a place is agreed, where the book has its entry, and what it brought.
+fn print_agreed_at<B: BookOf, W: Write>(
+    out: &mut Watched<W>,
+    sheet: &MatchSheet,
+    place: u32,
+    book: &B,
+) -> Result<(), WriteFailed>
+    ensures text { OnOk result (Prints W.contents out.old out.new
+        (texts.agreed_at sheet.now (B.innings_a_side book.now) place (history_of (B.content book.now))
+        (slice_get (B.content book.now) place))) }
+    ensures failed { OnErr result (has_failed out.new ≡ true) }
+{
+    match entry_at(book, place) {
+        None => Ok(()),
+        Some(entry) => print_entry(out, sheet, place, &entry, book),
+    }
+}
+
+/// Prints that a place is agreed, and what a `fix` or a `late` there has changed.
 pub fn print_agreed<B: BookOf, W: Write>(
     out: &mut Watched<W>,
     sheet: &MatchSheet,
@@ -154,10 +173,8 @@ pub fn print_agreed<B: BookOf, W: Write>(
         (texts.agreed sheet.now (B.innings_a_side book.now) place (B.content book.now))) }
     ensures failed { OnErr result (has_failed out.new ≡ true) }
 {
-    match entry_at(book, place) {
-        None => Ok(()),
-        Some(entry) => print_entry(out, sheet, place, &entry, book),
-    }
+    print_agreed_at(out, sheet, place, book)?;
+    print_last_changes(out, sheet, book)
 }
 
 /// Prints the number and the name of a refusal, and its sentence.
@@ -176,21 +193,64 @@ fn print_refused<W: Write>(out: &mut Watched<W>, why: Refusal) -> Result<(), Wri
     ensures text { OnOk result (Prints W.contents out.old out.new (texts.refused_text why)) }
     ensures failed { OnErr result (has_failed out.new ≡ true) }
 {
-    let sentence = refusal_sentence(why);
     match why {
         Refusal::Failed | Refusal::Device => Ok(()),
-        Refusal::Book(corrections::Refusal::Later { place, why }) => {
-            let cause = why.number();
-            writeln!(out, "refused 32 Later {place} {cause}: {sentence}")
-        }
         Refusal::Waiting => print_explained(out, Refusal::Waiting),
         Refusal::PlacesFull => print_explained(out, Refusal::PlacesFull),
         Refusal::RoundsFull => print_explained(out, Refusal::RoundsFull),
         Refusal::SlotsFull => print_explained(out, Refusal::SlotsFull),
-        Refusal::Book(corrections::Refusal::Law(_)) => print_explained(out, why),
-        Refusal::Book(corrections::Refusal::NoSuchPlace) => print_explained(out, why),
-        Refusal::Book(corrections::Refusal::NotFixable) => print_explained(out, why),
-        Refusal::Book(corrections::Refusal::NotAnchor) => print_explained(out, why),
+        Refusal::Book(_) => print_explained(out, why),
+    }
+}
+
+/// Prints the place that a correction leaves refused, and the cause, by their numbers.
+fn print_later_numbers<W: Write>(
+    out: &mut Watched<W>,
+    place: u32,
+    why: LawRefusal,
+) -> Result<(), WriteFailed>
+    ensures text { OnOk result (Prints W.contents out.old out.new (texts.later_numbers place why)) }
+    ensures failed { OnErr result (has_failed out.new ≡ true) }
+{
+    let cause = why.number();
+    write!(out, "refused 32 Later {place} {cause}")
+}
+
+/// Prints what would stand at the place, and why that is refused.
+fn print_later_words<W: Write>(
+    out: &mut Watched<W>,
+    place: u32,
+    item: Plain,
+    why: LawRefusal,
+) -> Result<(), WriteFailed>
+    requires { IsPlain item }
+    ensures text { OnOk result (Prints W.contents out.old out.new (texts.later_words place item why)) }
+    ensures failed { OnErr result (has_failed out.new ≡ true) }
+{
+    let line = line_of(&Entry::Write(item));
+    let words = line.as_str();
+    let sentence = refusal_sentence(Refusal::Book(corrections::Refusal::Law(why)));
+    writeln!(out, ": place {place}, {words}:\n  {sentence}")
+}
+
+/// Prints why an entry is refused; of a correction, the first place that it leaves refused, with what would stand there.
+fn print_refused_entry<B: BookOf, W: Write>(
+    out: &mut Watched<W>,
+    book: &B,
+    entry: &Entry,
+    why: Refusal,
+) -> Result<(), WriteFailed>
+    requires { IsEntry entry.now }
+    ensures text { OnOk result (Prints W.contents out.old out.new
+        (texts.refused_entry (B.content book.now) entry.now why)) }
+    ensures failed { OnErr result (has_failed out.new ≡ true) }
+{
+    match why {
+        Refusal::Book(corrections::Refusal::Later { place, why }) => {
+            print_later_numbers(out, place, why)?;
+            print_later_words(out, place, item_with(book, entry, place), why)
+        }
+        _ => print_refused(out, why),
     }
 }
 
@@ -456,7 +516,7 @@ fn print_answer<B: BookOf, W: Write>(
         Said::SayAgain => print_again(out, at),
         Said::NoneDiffers => print_at(out, at.place, "doesn't differ: leave out again"),
         Said::Waiting => print_refused(out, Refusal::Waiting),
-        Said::Refused(why) => print_refused(out, *why),
+        Said::Refused(entry, why) => print_refused_entry(out, book, entry, *why),
         Said::Penned(entry, settled) => {
             print_settled(out, sheet, at.place, both.other, entry, *settled, book)
         }

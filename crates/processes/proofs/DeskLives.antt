@@ -87,8 +87,8 @@ module _ {Disk : Type 0} (view : FileVersion → FileView Disk) (seen : Disk →
 
   -- a call whose disk failed prints nothing
   silent : (s : Sheet) (k l : DeskState Disk) (call : DeskCall) → course_after k call ≡ Err Device → Tells s innings k call l []
-  silent s k l (desks.Typed line (Said.Refused Refusal.Failed)) e = (fresh k, refl, tt, refl)
-  silent s k l (desks.Typed line (Said.Refused Refusal.Device)) e = (fresh k, refl, tt, refl)
+  silent s k l (desks.Typed line (Said.Refused entry Refusal.Failed)) e = (fresh k, refl, tt, refl)
+  silent s k l (desks.Typed line (Said.Refused entry Refusal.Device)) e = (fresh k, refl, tt, refl)
   silent s k l (desks.Given bytes What.Device) e = (fresh k, refl, tt, refl)
   silent s k l (desks.Given bytes What.Failed) e = (fresh k, refl, tt, refl)
   silent s k l (desks.Given bytes (What.Heard Heard.Ahead)) e = absurd (no_device (is_in_reach k.seat (position_in bytes)) e)

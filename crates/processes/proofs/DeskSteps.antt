@@ -156,8 +156,8 @@ module _
         → Leads s (Fits (DeskCalled d sheet call out l text) v) v (with_process v d (Running l) out)
     desk_moment sheet k l (desks.Typed line (Penned e settled)) out at came h =
         says_pens sheet k l out at line (Penned e settled) e (PenAnswer.Penned settled) h.0 (by_rules sheet k l out at e (PenAnswer.Penned settled) h.1)
-    desk_moment sheet k l (desks.Typed line (Refused why)) out at came h =
-        says_pens sheet k l out at line (Refused why) h.0 (pen_answer (Err why)) h.1 (by_rules sheet k l out at h.0 (pen_answer (Err why)) h.2)
+    desk_moment sheet k l (desks.Typed line (Refused e why)) out at came h =
+        says_pens sheet k l out at line (Refused e why) e (pen_answer (Err why)) h.0 (by_rules sheet k l out at e (pen_answer (Err why)) h.1)
     desk_moment sheet k l (desks.Typed line said) out at came h = still sheet k l out at (desks.Typed line said) h.1 h.2
     desk_moment sheet k l (desks.Given bytes What.Failed) out at came h = still sheet k l out at (desks.Given bytes What.Failed) h.1 h.2
     desk_moment sheet k l (desks.Given bytes (What.Bad fault)) out at came h = still sheet k l out at (desks.Given bytes (What.Bad fault)) h.2 h.3

@@ -1,0 +1,122 @@
+-- The rows of what differs. s is the sheet, `was` and `now` are the stages, or what they show.
+use Rattle.std.specs.Prelude.{ℕ, ◌+◌, ◌==◌, nat_le, if◌then◌else◌, Bool, Option, Some, None, List, ◌++◌, length, codes, decimal}
+use Rattle.notation.specs.declared.entry.Side.{Side}
+use Rattle.ball_laws.specs.History.{History}
+use Rattle.match_laws.specs.declared.rows.{Fate.Fate, BattingRow.BattingRow, BowlingRow.BowlingRow}
+use Rattle.match_laws.specs.declared.outcome.Outcome.{Outcome}
+use Rattle.match_laws.specs.History.{opponent}
+use Rattle.match_laws.specs.Result.{current, outcome}
+use Rattle.cards.specs.Sheet.{Sheet, name_of, player_of}
+use Rattle.cards.specs.Dismissals.{fate_text}
+use Rattle.cards.specs.Bowling.{overs_of}
+use Rattle.cards.specs.Results.{result_text}
+use Rattle.changes.specs.declared.stage.{Total.Total, Batter.Batter}
+use Rattle.changes.specs.declared.change.{Part.Part, Change.Change}
+use Rattle.changes.specs.Stage.{Stage, batting_in, bowling_in, total_in, striker}
+
+-- before what is of innings i: of the last one `now`, of another its number
+abbrev pub innings_lead : ℕ → List ℕ
+innings_lead i =
+    if i == 0 then codes "innings 1: " else (if i == 1 then codes "innings 2: "
+    else (if i == 2 then codes "innings 3: " else codes "innings 4: "))
+
+abbrev pub lead : History → ℕ → List ℕ
+lead h i = if i == current h then codes "now: " else innings_lead i
+
+-- whom a row is of, behind what stands before him
+abbrev pub named : List ℕ → List ℕ → List ℕ
+named first name = first ++ name ++ codes " "
+
+-- ---- batters
+
+-- runs, and balls faced
+abbrev pub figures_text : BattingRow → List ℕ
+figures_text row = decimal row.runs ++ codes " (" ++ decimal row.faced ++ codes ")"
+
+-- what became of a batter of the side, as the card has it, and his figures
+abbrev pub fate_figures : Sheet → Side → Option Fate → BattingRow → List ℕ
+fate_figures s side None row = codes "not in"
+fate_figures s side (Some fate) row = fate_text s (opponent side) (Some fate) ++ (codes " " ++ figures_text row)
+
+abbrev pub batting_text : Sheet → Side → BattingRow → List ℕ
+batting_text s side row = fate_figures s side row.fate row
+
+-- behind a row that would have more than 80 columns what was stands in a second one
+abbrev pub joint : Bool → List ℕ
+joint fits = if fits then codes ", was " else codes ",\n  was "
+
+abbrev pub fits : List ℕ → List ℕ → Bool
+fits now was = nat_le (length now + (6 + length was)) 80
+
+abbrev pub joined : List ℕ → List ℕ → List ℕ
+joined now was = now ++ (joint (fits now was) ++ (was ++ codes "\n"))
+
+abbrev pub fate_row : Sheet → List ℕ → Side → ℕ → BattingRow → BattingRow → List ℕ
+fate_row s first side p was now =
+    joined (named first (player_of s side p) ++ batting_text s side now) (batting_text s side was)
+
+abbrev pub figures_row : Sheet → List ℕ → Side → ℕ → BattingRow → BattingRow → List ℕ
+figures_row s first side p was now =
+    named first (player_of s side p) ++ (figures_text now ++ (codes ", was " ++ (figures_text was ++ codes "\n")))
+
+-- ---- bowlers: overs, maidens, runs and wickets
+
+abbrev pub behind_overs : BowlingRow → List ℕ
+behind_overs row = codes "-" ++ decimal row.maidens ++ codes "-" ++ decimal row.runs ++ codes "-" ++ decimal row.wickets
+
+abbrev pub bowling_text : BowlingRow → List ℕ
+bowling_text row = overs_of row ++ behind_overs row
+
+abbrev pub bowling_row : Sheet → List ℕ → Side → ℕ → BowlingRow → BowlingRow → List ℕ
+bowling_row s first side p was now =
+    named first (player_of s side p) ++ (bowling_text now ++ (codes ", was " ++ (bowling_text was ++ codes "\n")))
+
+-- ---- of a match
+
+-- total, wickets, and overs
+abbrev pub total_text : Option Total → List ℕ
+total_text None = codes "not begun"
+total_text (Some t) =
+    decimal t.total ++ codes " for " ++ decimal t.wickets ++ codes " (" ++ decimal t.overs ++ codes "." ++ decimal t.balls ++ codes ")"
+
+abbrev pub total_row : Sheet → List ℕ → Side → Option Total → Option Total → List ℕ
+total_row s first side was now =
+    named first (name_of s side) ++ (total_text now ++ (codes ", was " ++ (total_text was ++ codes "\n")))
+
+abbrev pub words_or_none : Option (List ℕ) → List ℕ
+words_or_none None = codes "no result"
+words_or_none (Some words) = words
+
+abbrev pub result_words : Sheet → Outcome → List ℕ
+result_words s result = words_or_none (result_text s result)
+
+-- in two rows
+abbrev pub result_row : Sheet → Outcome → Outcome → List ℕ
+result_row s was now =
+    codes "now: " ++ (result_words s now ++ (codes ",\n  was " ++ (result_words s was ++ codes "\n")))
+
+abbrev pub batter_name : Sheet → Option Batter → List ℕ
+batter_name s None = codes "nobody"
+batter_name s (Some b) = player_of s b.side b.player
+
+abbrev pub strike_row : Sheet → Option Batter → Option Batter → List ℕ
+strike_row s was now =
+    codes "now: " ++ (batter_name s now ++ (codes " on strike, was " ++ (batter_name s was ++ codes "\n")))
+
+-- ---- the row of each
+
+abbrev pub part_row : Sheet → Part → Stage → Stage → ℕ → Side → ℕ → List ℕ
+part_row s Part.Fate was now i side p =
+    fate_row s (lead now.history i) side p (batting_in was.history i side p) (batting_in now.history i side p)
+part_row s Part.Figures was now i side p =
+    figures_row s (lead now.history i) side p (batting_in was.history i side p) (batting_in now.history i side p)
+part_row s Part.Bowling was now i side p =
+    bowling_row s (lead now.history i) side p (bowling_in was.history i side p) (bowling_in now.history i side p)
+
+abbrev pub row : Sheet → Stage → Stage → Change → List ℕ
+row s was now (Change.Player part i side p) = part_row s part was now i side p
+row s was now (Change.Total i side) =
+    total_row s (lead now.history i) side (total_in was.history i side) (total_in now.history i side)
+row s was now Change.Result =
+    result_row s (outcome was.innings_a_side was.history) (outcome now.innings_a_side now.history)
+row s was now Change.Strike = strike_row s (striker was.history) (striker now.history)

@@ -1,0 +1,3 @@
+-- What serves private functions and proofs only.
+pub mod Telling
+pub mod Words

@@ -1,0 +1,15 @@
+//! What a correction changes: what differs between the cards before it and after it.
+#![tactic(auto)]
+
+mod before;
+mod change;
+mod differs;
+mod fate;
+mod results;
+mod rows;
+mod stage;
+mod telling;
+mod worked;
+
+pub use before::{item_with, score_before};
+pub use telling::{print_changes, print_last_changes};

@@ -1,0 +1,93 @@
+//! The row of a result.
+
+ghost use Rattle.std.specs.Prelude.{◌≡◌, ◌==◌, ◌++◌, true, codes, decimal, if◌then◌else◌, OnErr, OnOk};
+ghost use Rattle.streams.specs.Watched.{Prints, has_failed};
+ghost use Rattle.changes.specs.Rows as rows;
+
+use cards::MatchSheet;
+use match_laws::Outcome;
+use std::io::Write;
+use streams::{Watched, WriteFailed};
+
+/// The word for one, or for another number.
+fn unit(count: u32, one: &'static str, many: &'static str) -> &'static str
+    ensures { result.now ≡ (if count == 1 then one.now else many.now) }
+{
+    if count == 1 { one } else { many }
+}
+
+/// Prints a side that has won by so many of this.
+fn print_win<W: Write>(
+    out: &mut Watched<W>,
+    side: &str,
+    how: &str,
+    count: u32,
+    unit: &str,
+) -> Result<(), WriteFailed>
+    ensures text { OnOk result (Prints W.contents out.old out.new
+        (side.now ++ how.now ++ (decimal count ++ codes " " ++ unit.now))) }
+    ensures failed { OnErr result (has_failed out.new ≡ true) }
+{
+    write!(out, "{side}{how}")?;
+    write!(out, "{count} {unit}")
+}
+
+/// Prints a result, or that there is none.
+fn print_result<W: Write>(
+    out: &mut Watched<W>,
+    sheet: &MatchSheet,
+    outcome: Outcome,
+) -> Result<(), WriteFailed>
+    ensures text { OnOk result (Prints W.contents out.old out.new (rows.result_words sheet.now outcome)) }
+    ensures failed { OnErr result (has_failed out.new ≡ true) }
+{
+    match outcome {
+        Outcome::Undecided => write!(out, "no result"),
+        Outcome::Draw => write!(out, "match drawn"),
+        Outcome::Tie => write!(out, "match tied"),
+        Outcome::Runs(side, count) => {
+            print_win(
+                out,
+                sheet.name(side),
+                " won by ",
+                count,
+                unit(count, "run", "runs"),
+            )
+        }
+        Outcome::Wickets(side, count) => print_win(
+            out,
+            sheet.name(side),
+            " won by ",
+            count,
+            unit(count, "wicket", "wickets"),
+        ),
+        Outcome::InningsAnd(side, count) => print_win(
+            out,
+            sheet.name(side),
+            " won by an innings and ",
+            count,
+            unit(count, "run", "runs"),
+        ),
+        Outcome::PenaltyRuns(side) => {
+            let name = sheet.name(side);
+            write!(out, "{name} won by penalty runs")
+        }
+    }
+}
+
+/// Prints a result, and the one that was, in two rows.
+pub fn print_results<W: Write>(
+    out: &mut Watched<W>,
+    sheet: &MatchSheet,
+    was: Outcome,
+    now: Outcome,
+) -> Result<(), WriteFailed>
+    ensures text { OnOk result (Prints W.contents out.old out.new (rows.result_row sheet.now was now)) }
+    ensures failed { OnErr result (has_failed out.new ≡ true) }
+{
+    write!(out, "now: ")?;
+    print_result(out, sheet, now)?;
+    write!(out, ",\n  was ")?;
+    print_result(out, sheet, was)?;
+    writeln!(out)
+}

@@ -1,0 +1,282 @@
+//! What is told behind a correction.
+
+ghost use Rattle.std.specs.Prelude.{◌≡◌, ◌+◌, ◌≤◌, ◌∷◌, [], true, length, map, IfOk, OnErr, OnOk};
+ghost use Rattle.std.specs.List.{list_all};
+ghost use Rattle.ball_laws.specs.Over.{numbers as all_numbers};
+ghost use Rattle.streams.specs.Watched.{Prints, has_failed};
+ghost use Rattle.changes.specs.declared.change.Change.TheVariants as kinds;
+ghost use Rattle.changes.specs.Changes as changes;
+ghost use Rattle.changes.specs.Stage.{ForBoth};
+ghost use Rattle.changes.specs.Text as texts;
+ghost use Rattle.changes.specs.inner.Telling.{Tells, is_number};
+
+use crate::before::score_before;
+use crate::change::{Change, Part};
+use crate::differs::differs;
+use crate::rows::print_change;
+use cards::MatchSheet;
+use corrections::BookOf;
+use match_laws::Match;
+use notation::{Player, Side};
+use std::io::Write;
+use streams::{Watched, WriteFailed};
+
+/// How many rows are told at most.
+const MOST: u32 = 6;
+
+/// Tells this change where it differs and fewer than six were told, and answers how many differ with it.
+fn tell<W: Write>(
+    out: &mut Watched<W>,
+    sheet: &MatchSheet,
+    was: &Match,
+    now: &Match,
+    told: u32,
+    change: &Change,
+) -> Result<u32, WriteFailed>
+    requires { told ≤ 1000 }
+    ensures text { ForBoth was.now now.now (λ w n.
+        Tells W.contents out.old out.new result sheet.now w n told (change.now ∷ [])) }
+    ensures most { IfOk result (λ count. count ≤ told + 1) }
+    ensures failed { OnErr result (has_failed out.new ≡ true) }
+{
+    if !differs(was, now, change) {
+        return Ok(told);
+    }
+    if told < MOST {
+        print_change(out, sheet, was, now, change)?;
+    }
+    Ok(told + 1)
+}
+
+/// The same of these players of a side, in an innings.
+fn tell_players<W: Write>(
+    out: &mut Watched<W>,
+    sheet: &MatchSheet,
+    was: &Match,
+    now: &Match,
+    told: u32,
+    part: Part,
+    innings: usize,
+    side: Side,
+    numbers: &[u8],
+) -> Result<u32, WriteFailed>
+    requires numbers { list_all is_number numbers.now ≡ true }
+    requires room { told + length numbers.now ≤ 1000 }
+    ensures text { ForBoth was.now now.now (λ w n. Tells W.contents out.old out.new result sheet.now w n told
+        (changes.of_players part innings side numbers.now)) }
+    ensures most { IfOk result (λ count. count ≤ told + length numbers.now) }
+    ensures failed { OnErr result (has_failed out.new ≡ true) }
+{
+    let Some((number, more)) = numbers.split_first() else {
+        return Ok(told);
+    };
+    let Some(player) = Player::new(*number) else {
+        return Ok(told);
+    };
+    let change = Change::Player(part, innings, side, player);
+    let told = tell(out, sheet, was, now, told, &change)?;
+    tell_players(out, sheet, was, now, told, part, innings, side, more)
+}
+
+/// The same of all players of a side.
+fn tell_side<W: Write>(
+    out: &mut Watched<W>,
+    sheet: &MatchSheet,
+    was: &Match,
+    now: &Match,
+    told: u32,
+    part: Part,
+    innings: usize,
+    side: Side,
+) -> Result<u32, WriteFailed>
+    requires { told ≤ 900 }
+    ensures text { ForBoth was.now now.now (λ w n. Tells W.contents out.old out.new result sheet.now w n told
+        (changes.of_players part innings side all_numbers)) }
+    ensures most { IfOk result (λ count. count ≤ told + 11) }
+    ensures failed { OnErr result (has_failed out.new ≡ true) }
+{
+    tell_players(
+        out,
+        sheet,
+        was,
+        now,
+        told,
+        part,
+        innings,
+        side,
+        &[1, 2, 3, 4, 5, 6, 7, 8, 9, 10, 11],
+    )
+}
+
+/// The same of all players of both sides.
+fn tell_sides<W: Write>(
+    out: &mut Watched<W>,
+    sheet: &MatchSheet,
+    was: &Match,
+    now: &Match,
+    told: u32,
+    part: Part,
+    innings: usize,
+) -> Result<u32, WriteFailed>
+    requires { told ≤ 800 }
+    ensures text { ForBoth was.now now.now (λ w n. Tells W.contents out.old out.new result sheet.now w n told
+        (changes.of_sides part innings)) }
+    ensures most { IfOk result (λ count. count ≤ told + 22) }
+    ensures failed { OnErr result (has_failed out.new ≡ true) }
+{
+    let told = tell_side(out, sheet, was, now, told, part, innings, Side::Home)?;
+    tell_side(out, sheet, was, now, told, part, innings, Side::Away)
+}
+
+/// The same in each innings that a match can have.
+fn tell_part<W: Write>(
+    out: &mut Watched<W>,
+    sheet: &MatchSheet,
+    was: &Match,
+    now: &Match,
+    told: u32,
+    part: Part,
+) -> Result<u32, WriteFailed>
+    requires { told ≤ 600 }
+    ensures text { ForBoth was.now now.now (λ w n. Tells W.contents out.old out.new result sheet.now w n told
+        (changes.in_all (changes.of_sides part))) }
+    ensures most { IfOk result (λ count. count ≤ told + 88) }
+    ensures failed { OnErr result (has_failed out.new ≡ true) }
+{
+    let told = tell_sides(out, sheet, was, now, told, part, 0)?;
+    let told = tell_sides(out, sheet, was, now, told, part, 1)?;
+    let told = tell_sides(out, sheet, was, now, told, part, 2)?;
+    tell_sides(out, sheet, was, now, told, part, 3)
+}
+
+/// Tells the totals of both sides in an innings that differ.
+fn tell_totals<W: Write>(
+    out: &mut Watched<W>,
+    sheet: &MatchSheet,
+    was: &Match,
+    now: &Match,
+    told: u32,
+    innings: usize,
+) -> Result<u32, WriteFailed>
+    requires { told ≤ 900 }
+    ensures text { ForBoth was.now now.now (λ w n. Tells W.contents out.old out.new result sheet.now w n told
+        (changes.of_totals innings)) }
+    ensures most { IfOk result (λ count. count ≤ told + 2) }
+    ensures failed { OnErr result (has_failed out.new ≡ true) }
+{
+    let told = tell(
+        out,
+        sheet,
+        was,
+        now,
+        told,
+        &Change::Total(innings, Side::Home),
+    )?;
+    tell(
+        out,
+        sheet,
+        was,
+        now,
+        told,
+        &Change::Total(innings, Side::Away),
+    )
+}
+
+/// The same in each innings that a match can have.
+fn tell_all_totals<W: Write>(
+    out: &mut Watched<W>,
+    sheet: &MatchSheet,
+    was: &Match,
+    now: &Match,
+    told: u32,
+) -> Result<u32, WriteFailed>
+    requires { told ≤ 800 }
+    ensures text { ForBoth was.now now.now (λ w n. Tells W.contents out.old out.new result sheet.now w n told
+        (changes.in_all changes.of_totals)) }
+    ensures most { IfOk result (λ count. count ≤ told + 8) }
+    ensures failed { OnErr result (has_failed out.new ≡ true) }
+{
+    let told = tell_totals(out, sheet, was, now, told, 0)?;
+    let told = tell_totals(out, sheet, was, now, told, 1)?;
+    let told = tell_totals(out, sheet, was, now, told, 2)?;
+    tell_totals(out, sheet, was, now, told, 3)
+}
+
+/// Tells whether the result and the strike differ.
+fn tell_match<W: Write>(
+    out: &mut Watched<W>,
+    sheet: &MatchSheet,
+    was: &Match,
+    now: &Match,
+    told: u32,
+) -> Result<u32, WriteFailed>
+    requires { told ≤ 900 }
+    ensures text { ForBoth was.now now.now (λ w n. Tells W.contents out.old out.new result sheet.now w n told
+        (kinds.Result ∷ kinds.Strike ∷ [])) }
+    ensures most { IfOk result (λ count. count ≤ told + 2) }
+    ensures failed { OnErr result (has_failed out.new ≡ true) }
+{
+    let told = tell(out, sheet, was, now, told, &Change::Result)?;
+    tell(out, sheet, was, now, told, &Change::Strike)
+}
+
+/// Tells the first six of all that differs, and answers how much does.
+fn tell_all<W: Write>(
+    out: &mut Watched<W>,
+    sheet: &MatchSheet,
+    was: &Match,
+    now: &Match,
+) -> Result<u32, WriteFailed>
+    ensures text { ForBoth was.now now.now (λ w n.
+        Tells W.contents out.old out.new result sheet.now w n 0 changes.all_changes) }
+    ensures failed { OnErr result (has_failed out.new ≡ true) }
+{
+    let told = tell_part(out, sheet, was, now, 0, Part::Fate)?;
+    let told = tell_all_totals(out, sheet, was, now, told)?;
+    let told = tell_match(out, sheet, was, now, told)?;
+    let told = tell_part(out, sheet, was, now, told, Part::Figures)?;
+    tell_part(out, sheet, was, now, told, Part::Bowling)
+}
+
+/// Prints how many more there are than the six that are told.
+fn print_more<W: Write>(out: &mut Watched<W>, count: u32) -> Result<(), WriteFailed>
+    ensures text { OnOk result (Prints W.contents out.old out.new (texts.more_text count)) }
+    ensures failed { OnErr result (has_failed out.new ≡ true) }
+{
+    if count <= MOST {
+        return Ok(());
+    }
+    let more = count - MOST;
+    writeln!(out, ".. and {more} more: card")
+}
+
+/// Prints what differs between two stages of a match: a row for each of the first six, and how many more there are.
+pub fn print_changes<W: Write>(
+    out: &mut Watched<W>,
+    sheet: &MatchSheet,
+    was: &Match,
+    now: &Match,
+) -> Result<(), WriteFailed>
+    ensures text { ForBoth was.now now.now (λ w n.
+        OnOk result (Prints W.contents out.old out.new (texts.changes_text sheet.now w n))) }
+    ensures failed { OnErr result (has_failed out.new ≡ true) }
+{
+    let count = tell_all(out, sheet, was, now)?;
+    print_more(out, count)
+}
+
+/// Prints what the last entry of a book has changed, where that is a `fix` or a `late`.
+pub fn print_last_changes<W: Write, B: BookOf>(
+    out: &mut Watched<W>,
+    sheet: &MatchSheet,
+    book: &B,
+) -> Result<(), WriteFailed>
+    ensures text { OnOk result (Prints W.contents out.old out.new
+        (texts.last_changes sheet.now (B.innings_a_side book.now) (B.content book.now))) }
+    ensures failed { OnErr result (has_failed out.new ≡ true) }
+{
+    match score_before(book) {
+        None => Ok(()),
+        Some(was) => print_changes(out, sheet, &was, book.score()),
+    }
+}
