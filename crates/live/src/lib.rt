@@ -22,6 +22,7 @@ mod notices;
 mod pace;
 mod peer;
 mod questions;
+mod refusals;
 mod reminder;
 mod reminding;
 mod said;

@@ -1,26 +1,24 @@
 //! What a desk's scorer is told.
 
-ghost use Rattle.std.specs.Prelude.{◌≡◌, true, codes, slice_get, IfSome, OnErr, OnOk};
+ghost use Rattle.std.specs.Prelude.{◌≡◌, true, slice_get, IfSome, OnErr, OnOk};
 ghost use Rattle.streams.specs.Watched.{Prints, has_failed};
-ghost use Rattle.notation.specs.Written.{IsEntry, IsPlain};
+ghost use Rattle.notation.specs.Written.{IsEntry};
 ghost use Rattle.match_laws.specs.Stands.{ForEachHistory};
 ghost use Rattle.corrections.specs.CleanList.{history_of};
-ghost use Rattle.desk.specs.Refusal.{name_of, number_of};
-ghost use Rattle.screen.specs.Sentences.{of_desk};
-ghost use Rattle.live.specs.Questions.{explained};
 ghost use Rattle.live.specs.inner.Telling.{IsFine};
 ghost use Rattle.live.specs.Texts as texts;
 
 use crate::both::Both;
 use crate::questions::print_fault;
+use crate::refusals::{print_refused, print_refused_entry};
 use crate::said::Said;
 use crate::who_bowls::print_question;
 use agree_core::{Position, ROUNDS, Settled};
 use cards::MatchSheet;
-use changes::{item_with, print_last_changes};
+use changes::print_last_changes;
 use corrections::BookOf;
 use desk::Refusal;
-use match_laws::{LawRefusal, Match};
+use match_laws::Match;
 use notation::{Entry, PLACES, Plain, line_of};
 use screen::{
     HELP, Word, help_on, print_bowlers, print_cards, print_check, print_listing, print_over_note,
@@ -175,83 +173,6 @@ pub fn print_agreed<B: BookOf, W: Write>(
 {
     print_agreed_at(out, sheet, place, book)?;
     print_last_changes(out, sheet, book)
-}
-
-/// Prints the number and the name of a refusal, and its sentence.
-fn print_explained<W: Write>(out: &mut Watched<W>, why: Refusal) -> Result<(), WriteFailed>
-    ensures text { OnOk result (Prints W.contents out.old out.new
-        (explained (codes "refused") (number_of why) (name_of why) (of_desk why))) }
-    ensures failed { OnErr result (has_failed out.new ≡ true) }
-{
-    let code = why.number();
-    let sentence = refusal_sentence(why);
-    writeln!(out, "refused {code} {why}: {sentence}")
-}
-
-/// Prints why an entry is refused. A failed disk isn't told here.
-fn print_refused<W: Write>(out: &mut Watched<W>, why: Refusal) -> Result<(), WriteFailed>
-    ensures text { OnOk result (Prints W.contents out.old out.new (texts.refused_text why)) }
-    ensures failed { OnErr result (has_failed out.new ≡ true) }
-{
-    match why {
-        Refusal::Failed | Refusal::Device => Ok(()),
-        Refusal::Waiting => print_explained(out, Refusal::Waiting),
-        Refusal::PlacesFull => print_explained(out, Refusal::PlacesFull),
-        Refusal::RoundsFull => print_explained(out, Refusal::RoundsFull),
-        Refusal::SlotsFull => print_explained(out, Refusal::SlotsFull),
-        Refusal::Book(_) => print_explained(out, why),
-    }
-}
-
-/// Prints the place that a correction leaves refused, and the cause, by their numbers.
-fn print_later_numbers<W: Write>(
-    out: &mut Watched<W>,
-    place: u32,
-    why: LawRefusal,
-) -> Result<(), WriteFailed>
-    ensures text { OnOk result (Prints W.contents out.old out.new (texts.later_numbers place why)) }
-    ensures failed { OnErr result (has_failed out.new ≡ true) }
-{
-    let cause = why.number();
-    write!(out, "refused 32 Later {place} {cause}")
-}
-
-/// Prints what would stand at the place, and why that is refused.
-fn print_later_words<W: Write>(
-    out: &mut Watched<W>,
-    place: u32,
-    item: Plain,
-    why: LawRefusal,
-) -> Result<(), WriteFailed>
-    requires { IsPlain item }
-    ensures text { OnOk result (Prints W.contents out.old out.new (texts.later_words place item why)) }
-    ensures failed { OnErr result (has_failed out.new ≡ true) }
-{
-    let line = line_of(&Entry::Write(item));
-    let words = line.as_str();
-    let sentence = refusal_sentence(Refusal::Book(corrections::Refusal::Law(why)));
-    writeln!(out, ": place {place}, {words}:\n  {sentence}")
-}
-
-/// Prints why an entry is refused; of a correction, the first place that it leaves refused, with what would stand there.
-fn print_refused_entry<B: BookOf, W: Write>(
-    out: &mut Watched<W>,
-    book: &B,
-    entry: &Entry,
-    why: Refusal,
-) -> Result<(), WriteFailed>
-    requires { IsEntry entry.now }
-    ensures text { OnOk result (Prints W.contents out.old out.new
-        (texts.refused_entry (B.content book.now) entry.now why)) }
-    ensures failed { OnErr result (has_failed out.new ≡ true) }
-{
-    match why {
-        Refusal::Book(corrections::Refusal::Later { place, why }) => {
-            print_later_numbers(out, place, why)?;
-            print_later_words(out, place, item_with(book, entry, place), why)
-        }
-        _ => print_refused(out, why),
-    }
 }
 
 /// Prints that the entry was penned at this place, in full.
