@@ -68,13 +68,25 @@ fn print_ends<W: Write>(
 }
 
 /// Both desks' votes files, A's and B's, read whole.
-#[derive(Drop)]
 pub struct WholeFiles<'a> {
     a: &'a str,
     b: &'a str,
     first: Vec<u8>,
     second: Vec<u8>,
     places: Option<(u32, u32)>,
+}
+
+// one step for whoever lets it go, in place of one a part
+impl Drop for WholeFiles<'_> {
+    fn drop(self) {
+        let WholeFiles {
+            a: _,
+            b: _,
+            first: _,
+            second: _,
+            places: _,
+        } = self;
+    }
 }
 
 impl<'a> WholeFiles<'a> {

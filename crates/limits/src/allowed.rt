@@ -8,12 +8,23 @@ use std::alloc::Global;
 use std::marker::Model;
 
 /// What a sheet limits. All of it may be absent.
-#[derive(Drop)]
 pub struct Limits {
     overs: Vec<u16>,
     overs_a_bowler: Option<u16>,
     free_hits: bool,
     powerplays: Vec<Powerplay>,
+}
+
+// one step for whoever lets it go, in place of one a part
+impl Drop for Limits {
+    fn drop(self) {
+        let Limits {
+            overs: _,
+            overs_a_bowler: _,
+            free_hits: _,
+            powerplays: _,
+        } = self;
+    }
 }
 
 impl Model for Limits {

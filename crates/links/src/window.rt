@@ -28,7 +28,6 @@ fn put(message: &[u8; 48], buffer: &mut [u8; 64])
 /// answers are here. And it makes asks up, as anybody may: an ask that came stands for those for the places behind it, and
 /// the station's for those for the places whose votes were lost; and a station that is silent asks for the votes of its
 /// position, so that others hear it.
-#[derive(Drop)]
 pub struct Window<L: PeerLink, C: Clock> {
     link: L,
     clock: C,
@@ -38,6 +37,21 @@ pub struct Window<L: PeerLink, C: Clock> {
     known: Known,
     silence: Silence,
     log: Log,
+}
+
+// one step for whoever lets it go, in place of one a part
+impl<L: PeerLink + Drop, C: Clock + Drop> Drop for Window<L, C> {
+    fn drop(self) {
+        let Window {
+            link: _,
+            clock: _,
+            game: _,
+            company: _,
+            known: _,
+            silence: _,
+            log: _,
+        } = self;
+    }
 }
 
 impl<L: PeerLink, C: Clock> Model for Window<L, C> {

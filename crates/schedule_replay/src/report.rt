@@ -17,7 +17,6 @@ use notation::Entry;
 use std::alloc::Global;
 
 /// What a replay reports.
-#[derive(Drop)]
 pub struct Report {
     /// What each event was answered.
     pub outcomes: Vec<Seen>,
@@ -26,6 +25,17 @@ pub struct Report {
     /// Each station with the length of its book and its score, as it was shown at the start or after an
     /// event; once each.
     pub seen: Vec<(Station, u32, Match)>,
+}
+
+// one step for whoever lets it go, in place of one a part
+impl Drop for Report {
+    fn drop(self) {
+        let Report {
+            outcomes: _,
+            agreed: _,
+            seen: _,
+        } = self;
+    }
 }
 
 /// Runs a new world on files of version 2, for a match with this number and innings a side (1 or 2) and so many

@@ -31,7 +31,6 @@ use vote_store::migrate;
 use wire::{Datagram, What};
 
 /// A desk's place in the world: the desk while it runs, otherwise its disk alone.
-#[derive(Drop)]
 pub struct Site {
     alloc: Global,
     name: DeskId,
@@ -46,6 +45,23 @@ pub struct Site {
     votes: u32,
     /// The fault that was asked for last, until it is spent.
     due: Option<Fault>,
+}
+
+// one step for whoever lets it go, in place of one a part
+impl Drop for Site {
+    fn drop(self) {
+        let Site {
+            alloc: _,
+            name: _,
+            game: _,
+            innings_a_side: _,
+            version: _,
+            desk: _,
+            disk: _,
+            votes: _,
+            due: _,
+        } = self;
+    }
 }
 
 fn is_device(why: Refusal) -> bool

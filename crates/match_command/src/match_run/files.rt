@@ -16,11 +16,21 @@ struct VotesFile {
 }
 
 /// The votes files of both desks of a match.
-#[derive(Drop)]
 pub struct MatchFiles<'a> {
     folder: &'a str,
     a: VotesFile,
     b: VotesFile,
+}
+
+// one step for whoever lets it go, in place of one a part
+impl Drop for MatchFiles<'_> {
+    fn drop(self) {
+        let MatchFiles {
+            folder: _,
+            a: _,
+            b: _,
+        } = self;
+    }
 }
 
 /// The votes file of this name in a folder, which may not be there yet.

@@ -51,9 +51,6 @@ returns-in-Err-clause-same c = grind (
       c.not_found.new.self c.not_found.result c.not_found.ensures.refused,
 )
 
-pub invariant_of-new : goal.invariant_of-new
-invariant_of-new c = assumption (c.move_fault-in-Err.new.self)
-
 pub returns-in-Ok-clause-counted : goal.returns-in-Ok-clause-counted
 returns-in-Ok-clause-counted c =
     let there = sym c.take.ensures.value ∙ c.unwrap-old.ensures in
