@@ -39,5 +39,6 @@ pub use screen::Screen;
 pub use sockets::Sockets;
 pub use standard_stream::StandardStream;
 pub use text_file::{TextFile, is_same_file};
+pub use waiting::WaitEnds;
 pub use whole_text::{Replaces, TwoNames, WholeText};
 pub use write_fault::{Cause, Name, WriteFault, cause_of};

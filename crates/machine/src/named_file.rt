@@ -15,7 +15,6 @@ pub type LastFault = Cell<Option<WriteFault>>;
 
 /// A file for this process alone, and its name. It is written, cut and synced only while that names this very file, and
 /// it is as long as it was left: where it was moved, deleted, replaced, or changed in place, each of these fails.
-#[derive(Drop)]
 pub struct NamedFile<'a> {
     rt: &'a HostRuntime,
     file: File,
@@ -28,6 +27,21 @@ pub struct NamedFile<'a> {
     /// How long it was left, where that is known.
     len: Option<u64>,
     last_fault: Option<&'a LastFault>,
+}
+
+// one step for whoever lets it go, in place of one a part
+impl Drop for NamedFile<'_> {
+    fn drop(self) {
+        let NamedFile {
+            rt: _,
+            file: _,
+            name: _,
+            beside: _,
+            before: _,
+            len: _,
+            last_fault: _,
+        } = self;
+    }
 }
 
 /// Asks that this is the name of this open file, the same device and there the same number, and tells what is known of it.
@@ -165,14 +179,23 @@ impl<'a> NamedFile<'a> {
         let beside = format!(in rt.alloc(); "{whole}.unfinished").map_err(|_| Cause::NoMemory)?;
         let file = made(rt, beside.as_str())?;
         give_access(&self.file, &file).map_err(|why| cause_of(&why))?;
+        let NamedFile {
+            rt: _,
+            file: before,
+            name,
+            beside: _,
+            before: _,
+            len: _,
+            last_fault,
+        } = self;
         Ok(NamedFile {
             rt,
             file,
-            name: self.name,
+            name,
             beside: Some(beside),
-            before: Some(self.file),
+            before: Some(before),
             len: Some(0),
-            last_fault: self.last_fault,
+            last_fault,
         })
     }
 

@@ -4,11 +4,11 @@ ghost use Rattle.std.specs.Prelude.{◌≡◌, ◌≤◌, ℕ, [], IfOk};
 
 use crate::address::MOST_PEERS;
 use crate::port::{Port, is_late, missed};
+use crate::waiting::WaitEnds;
 use links::{CarriedLog, SealedCarrier, Taken};
 use seal::Seal;
 use std::io::{self, ErrorKind, Write};
 use std::net::{Net, SocketAddr};
-use std::os::fd::RawFd;
 
 /// Whether a send was refused by the machine, and not held up for a moment.
 fn is_refusal(error: &io::Error) -> bool {
@@ -115,31 +115,35 @@ impl<E: Write + Drop> Mail<E> {
 
 /// A socket at an address, which sends to its peers and takes what they sent. Standard error is told once of each
 /// peer to which the machine sends nothing, and once of a datagram of the match that comes from elsewhere.
-#[derive(Drop)]
 pub struct Peers<E> {
     mail: Mail<E>,
     log: CarriedLog,
 }
 
+// one step for whoever lets it go, in place of one a part
+impl<E: Drop> Drop for Peers<E> {
+    fn drop(self) {
+        let Peers { mail: _, log: _ } = self;
+    }
+}
+
 impl<E: Write + Drop> Peers<E> {
     ghost use Rattle.links.specs.Logs.{carried_of};
 
-    /// A socket at this address, in the match with this seal, of which no call waits without a limit. Where a keyboard's
-    /// descriptor is named, a wait for datagrams ends for it too.
+    /// A socket at this address, in the match with this seal, of which no call waits without a limit. A
+    /// wait for datagrams ends for these too.
     pub fn new(
         net: &impl Net,
         at: SocketAddr,
         peers: [Option<SocketAddr>; MOST_PEERS],
-        keyboard: Option<RawFd>,
+        ends: WaitEnds,
         seal: Seal,
         errors: E,
     ) -> io::Result<Peers<E>>
         ensures { IfOk result (λ peers. carried_of peers.log ≡ []) }
     {
         let mut port = Port::new(net, at)?;
-        if let Some(descriptor) = keyboard {
-            port.watch(descriptor);
-        }
+        port.watch(ends);
         Ok(Peers {
             mail: Mail {
                 port,

@@ -2,11 +2,11 @@
 
 ghost use Rattle.std.specs.Prelude.{◌≡◌, ◌≤◌, ◌⊎◌, IfOk, length};
 
-use crate::waiting::{NO_DESCRIPTOR, wait_at};
+use crate::waiting::{NO_DESCRIPTOR, WaitEnds, wait_at};
 use links::Taken;
 use std::io::{self, ErrorKind};
 use std::net::{Net, SocketAddr, UdpSocket};
-use std::os::fd::{AsRawFd, RawFd};
+use std::os::fd::AsRawFd;
 use std::time::Duration;
 
 /// How long a call of the socket waits at most, in milliseconds, and how long it is left alone after one that failed.
@@ -22,7 +22,7 @@ pub fn is_late(error: &io::Error) -> bool {
 pub struct Port {
     socket: UdpSocket,
     /// What a wait for datagrams ends for, too.
-    keyboard: RawFd,
+    ends: WaitEnds,
     /// Whether the last receive failed.
     fails: bool,
 }
@@ -36,14 +36,14 @@ impl Port {
         socket.set_write_timeout(limit)?;
         Ok(Port {
             socket,
-            keyboard: NO_DESCRIPTOR,
+            ends: WaitEnds::NONE,
             fails: false,
         })
     }
 
-    /// From here on a wait for datagrams ends for this keyboard too.
-    pub fn watch(&mut self, keyboard: RawFd) {
-        self.keyboard = keyboard;
+    /// From here on a wait for datagrams ends for these too.
+    pub fn watch(&mut self, ends: WaitEnds) {
+        self.ends = ends;
     }
 
     /// Its address.
@@ -60,14 +60,14 @@ impl Port {
     /// failed is left alone for a moment: so one that always fails doesn't keep the processor busy.
     fn is_ready(&self, wait: u64) -> bool {
         if self.fails {
-            let _ = wait_at(NO_DESCRIPTOR, self.keyboard, LIMIT.min(wait));
+            let _ = wait_at(NO_DESCRIPTOR, self.ends, LIMIT.min(wait));
             return true;
         }
-        wait_at(self.socket.as_raw_fd(), self.keyboard, wait)
+        wait_at(self.socket.as_raw_fd(), self.ends, wait)
     }
 
     /// The next datagram, of so many bytes, as far as there is room, and where it came from. It is waited for, so many
-    /// milliseconds at most, and no longer than until the keyboard can be read.
+    /// milliseconds at most, and no longer than until one of its ends can be read.
     pub fn receive(&mut self, buffer: &mut [u8], wait: u64) -> io::Result<(usize, SocketAddr)>
         ensures { IfOk result (λ came. came.0 ≤ length buffer.old) }
     {

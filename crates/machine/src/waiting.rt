@@ -7,6 +7,21 @@ use std::os::fd::RawFd;
 /// What is passed over by a wait.
 pub const NO_DESCRIPTOR: RawFd = -1;
 
+/// What ends a wait for datagrams besides: a keyboard at which something was typed, and a page at which somebody came or asks.
+#[derive(Clone, Copy, Debug)]
+pub struct WaitEnds {
+    pub keyboard: Option<RawFd>,
+    pub page: Option<RawFd>,
+}
+
+impl WaitEnds {
+    /// Nothing does.
+    pub const NONE: WaitEnds = WaitEnds {
+        keyboard: None,
+        page: None,
+    };
+}
+
 /// What asks whether a descriptor can be read.
 fn reads_of(descriptor: RawFd) -> pollfd {
     pollfd {
@@ -32,10 +47,12 @@ pub fn can_write(descriptor: RawFd, limit: u64) -> bool {
     poll(&mut [asked], limit) > 0
 }
 
-/// Waits until a socket or a keyboard can be read, so many milliseconds at most, and tells whether the socket may be. A
+/// Waits until a socket or one of these can be read, so many milliseconds at most, and tells whether the socket may be. A
 /// wait that fails says that it may: so whoever waits reads it, and no call ends at once for ever.
-pub fn wait_at(socket: RawFd, keyboard: RawFd, limit: u64) -> bool {
-    let mut asked = [reads_of(socket), reads_of(keyboard)];
+pub fn wait_at(socket: RawFd, ends: WaitEnds, limit: u64) -> bool {
+    let keyboard = ends.keyboard.unwrap_or(NO_DESCRIPTOR);
+    let page = ends.page.unwrap_or(NO_DESCRIPTOR);
+    let mut asked = [reads_of(socket), reads_of(keyboard), reads_of(page)];
     let limit = i32::try_from(limit).unwrap_or(i32::MAX);
     poll(&mut asked, limit) < 0 || asked[0].revents != 0
 }

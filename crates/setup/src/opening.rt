@@ -10,12 +10,11 @@ use crate::sheet::sheet_run;
 use agree_core::DeskId;
 use cards::MatchSheet;
 use entry_log::OldSlots;
-use machine::{Address, FileDisk, MOST_PEERS, OpenFault, Peers, StandardStream};
+use machine::{Address, FileDisk, MOST_PEERS, OpenFault, Peers, StandardStream, WaitEnds};
 use seal::Seal;
 use std::fs::File;
 use std::io::{BufWriter, Write};
 use std::net::{Net, SocketAddr};
-use std::os::fd::RawFd;
 use std::rt::Stdout;
 use streams::{Watched, read_all};
 use vote_store::Votes;
@@ -93,18 +92,18 @@ pub fn output(rt: &HostRuntime) -> Result<Output<'_>, Stopped<'static>> {
     Ok(Watched::new(printer(rt)?))
 }
 
-/// A station's socket at its address, in the match with this seal, and the keyboard that ends its waits, where there is one.
+/// A station's socket at its address, in the match with this seal, and what else ends its waits.
 pub fn peers_at<'a, E: Write + Drop>(
     net: &impl Net,
     at: Address<'a>,
     peers: [Option<SocketAddr>; MOST_PEERS],
-    keyboard: Option<RawFd>,
+    ends: WaitEnds,
     seal: Seal,
     errors: E,
 ) -> Result<Peers<E>, Stopped<'a>>
     ensures { IfOk result (λ peers. carried_of peers.log ≡ []) }
 {
-    match Peers::new(net, at.socket, peers, keyboard, seal, errors) {
+    match Peers::new(net, at.socket, peers, ends, seal, errors) {
         Ok(peers) => Ok(peers),
         Err(_) => Err(Stopped {
             path: at.text,

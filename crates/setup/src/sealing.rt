@@ -12,12 +12,11 @@ use crate::opening::{bytes_at, peers_at};
 use cards::{MatchSheet, digest_of};
 use hex::encode_to_slice;
 use links::{Sealed, Window};
-use machine::{Address, MOST_PEERS, MonotonicClock, Peers, is_same_file};
+use machine::{Address, MOST_PEERS, MonotonicClock, Peers, WaitEnds, is_same_file};
 use seal::Seal;
 use std::fs;
 use std::io::{self, Write};
 use std::net::SocketAddr;
-use std::os::fd::RawFd;
 use std::os::unix::fs::MetadataExt;
 
 /// A station's link: in a window, over sealed datagrams, at a socket.
@@ -178,28 +177,28 @@ impl Sealing {
         rt: &HostRuntime,
         at: Address<'a>,
         peers: [Option<SocketAddr>; MOST_PEERS],
-        keyboard: Option<RawFd>,
+        ends: WaitEnds,
         errors: E,
     ) -> Result<Sealed<Peers<E>>, Stopped<'a>>
         ensures seal { IfOk result (λ sealed. sealed.seal ≡ seal_of self.now.key.items self.now.digest) }
         ensures log { IfOk result (λ sealed. carried_of sealed.carrier.log ≡ []) }
     {
-        let peers = peers_at(rt, at, peers, keyboard, self.seal(), errors)?;
+        let peers = peers_at(rt, at, peers, ends, self.seal(), errors)?;
         Ok(Sealed::new(peers, self.seal()))
     }
 
-    /// A station's link at its address. Where a keyboard's descriptor is named, waits end for it too.
+    /// A station's link at its address. Its waits end for these too.
     pub fn link_at<'r, 'a, E: Write + Drop>(
         &self,
         rt: &'r HostRuntime,
         at: Address<'a>,
         peers: [Option<SocketAddr>; MOST_PEERS],
-        keyboard: Option<RawFd>,
+        ends: WaitEnds,
         errors: E,
     ) -> Result<StationLink<'r, E>, Stopped<'a>>
         ensures { IfOk result (λ link. (link.game ≡ self.now.game) × (link.above ≡ [])) }
     {
-        let link = self.sealed_at(rt, at, peers, keyboard, errors)?;
+        let link = self.sealed_at(rt, at, peers, ends, errors)?;
         let clock = MonotonicClock::new(rt);
         Ok(Window::new(rt.alloc(), link, clock, self.game))
     }
