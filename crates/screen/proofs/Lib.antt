@@ -1,4 +1,6 @@
 pub mod MarkLemmas
+pub mod Listed
 pub mod OverEnds
+pub mod OverWalk
 pub mod Plain
 pub mod Columns

@@ -24,9 +24,8 @@ rate_text None = []
 rate_text (Some x) = codes " (" ++ two_places x ++ codes ")"
 
 -- behind the runs that are needed: off how many deliveries, and how many that is an over
-abbrev pub off_text : ℕ → Option ℕ → List ℕ
-off_text runs None = []
-off_text runs (Some left) = codes " off " ++ decimal left ++ rate_text (an_over runs left)
+abbrev pub off_text : ℕ → ℕ → List ℕ
+off_text runs left = codes " off " ++ decimal left ++ rate_text (an_over runs left)
 
 -- the deliveries left
 abbrev pub left_now : Sheet → History → ℕ → Option ℕ

@@ -81,11 +81,16 @@ abbrev pub innings_win : Sheet → Side → ℕ → List ℕ
 innings_win s side n =
     codes "  " ++ name_of s side ++ codes " won by an innings and " ++ counted n (codes "run") (codes "runs")
 
--- what is needed, of so many deliveries where they are limited, unless the match is decided; then the result
+-- what is needed, where nothing limits the deliveries, unless the match is decided; then the result
 abbrev pub aim : Option (List ℕ) → Option ℕ → Option ℕ → List ℕ
 aim (Some result) runs left = codes "  " ++ result
-aim None (Some runs) left = codes "  needs " ++ decimal runs ++ off_text runs left
-aim None None left = []
+aim None (Some runs) None = codes "  needs " ++ decimal runs
+aim None runs left = []
+
+-- what is needed off so many deliveries, where they are limited, unless the match is decided: a row of its own
+abbrev pub needs_row : Option (List ℕ) → Option ℕ → Option ℕ → List ℕ
+needs_row None (Some runs) (Some left) = codes "  needs " ++ decimal runs ++ off_text runs left ++ codes "\n"
+needs_row result runs left = []
 
 -- the row to the batters, and behind them
 abbrev pub front : Sheet → History → ℕ → List ℕ
@@ -121,7 +126,8 @@ back s n h i =
     ++ aim (result_text s (outcome n h)) (runs_needed n h) (left_now s h i) ++ over_end (open_over h) ++ codes "\n"
 
 abbrev pub innings_row : Sheet → ℕ → History → ℕ → List ℕ
-innings_row s n h i = front s h i ++ back s n h i
+innings_row s n h i =
+    front s h i ++ back s n h i ++ needs_row (result_text s (outcome n h)) (runs_needed n h) (left_now s h i)
 
 -- the innings begun last, or no play
 abbrev pub row : Sheet → ℕ → History → List ℕ

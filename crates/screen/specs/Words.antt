@@ -2,11 +2,13 @@
 use Rattle.std.specs.Prelude.{ℕ, ◌-◌, ◌==◌, Bool, ◌||◌, length, take, Option, Some, None, if◌then◌else◌, List, [], ◌∷◌, codes, bytes_eq, option_map}
 use Rattle.std.specs.Char.{is_ascii_whitespace}
 use Rattle.std.specs.List.{list_all, suffix_len}
+use Rattle.notation.specs.declared.entry.Side.{Side}
+use Rattle.notation.specs.declared.entry.Side.TheVariants.{Home, Away}
 use Rattle.notation.specs.Written.{Token, tokens, found_number}
 use Rattle.match_laws.specs.History.{or_else}
 use Rattle.cards.specs.Sheet.{is_printable}
 use Rattle.screen.specs.declared.{topic.Topic.Topic, word.Word.Word}
-use Rattle.screen.specs.declared.topic.Topic.TheVariants.{Innings, In, Ball, Gone, Over, Penalty, Swap, End, Close, Void, Fix, Late, Again, Undo, Listing, Score, Card, Players, Bowlers, Quit, Short}
+use Rattle.screen.specs.declared.topic.Topic.TheVariants.{Innings, In, Ball, Gone, Over, Penalty, Swap, End, Close, Void, Fix, Late, Again, Undo, Listing, Score, Card, Players, Bowlers, Who, Quit, Short}
 
 -- the words that begin a line of an entry, but marks
 abbrev pub line_topic : Token → Option Topic
@@ -35,6 +37,7 @@ desk_topic t =
     else if bytes_eq t (codes "card") then Some Card
     else if bytes_eq t (codes "players") then Some Players
     else if bytes_eq t (codes "bowlers") then Some Bowlers
+    else if bytes_eq t (codes "who") then Some Who
     else if bytes_eq t (codes "quit") then Some Quit
     else if bytes_eq t (codes "short") then Some Short
     else None
@@ -52,21 +55,47 @@ single t =
     else if bytes_eq t (codes "card") then Some Word.Cards
     else if bytes_eq t (codes "players") then Some Word.Sides
     else if bytes_eq t (codes "bowlers") then Some Word.Bowlers
+    else if bytes_eq t (codes "who") then Some Word.Waiting
     else if bytes_eq t (codes "help") then Some Word.Forms
     else None
 
 -- two tokens
 abbrev pub pair : Token → Token → Option Word
 pair t u =
-    if bytes_eq t (codes "list") then option_map Word.Entries (found_number 1 200 u)
+    if bytes_eq t (codes "list") then option_map Word.Entries (found_number 1 8192 u)
+    else if bytes_eq t (codes "card") then option_map Word.CardsOf (found_number 1 4 u)
+    else if bytes_eq t (codes "over") then option_map Word.Over (found_number 1 8191 u)
     else if bytes_eq t (codes "help") then option_map Word.More (topic_of u)
     else None
+
+-- three tokens
+abbrev pub range : Option ℕ → Option ℕ → Option Word
+range (Some first) (Some last) = Some (Word.Range first last)
+range first last = None
+
+abbrev pub triple : Token → Token → Token → Option Word
+triple t u v =
+    if bytes_eq t (codes "list") then range (found_number 0 8191 u) (found_number 0 8191 v) else None
+
+-- four tokens
+abbrev pub side_in : Token → Option Side
+side_in t = if bytes_eq t (codes "home") then Some Home else if bytes_eq t (codes "away") then Some Away else None
+
+abbrev pub over_of : Option ℕ → Option Side → Option ℕ → Option Word
+over_of (Some n) (Some side) (Some k) = Some (Word.OverOf n side k)
+over_of n side k = None
+
+abbrev pub quadruple : Token → Token → Token → Token → Option Word
+quadruple t u v w =
+    if bytes_eq t (codes "over") then over_of (found_number 1 8191 u) (side_in v) (found_number 1 2 w) else None
 
 abbrev pub word_from : List Token → Option Word
 word_from [] = None
 word_from (t ∷ []) = single t
 word_from (t ∷ u ∷ []) = pair t u
-word_from (t ∷ u ∷ v ∷ ts) = None
+word_from (t ∷ u ∷ v ∷ []) = triple t u v
+word_from (t ∷ u ∷ v ∷ w ∷ []) = quadruple t u v w
+word_from (t ∷ u ∷ v ∷ w ∷ x ∷ ts) = None
 
 -- a line without the blanks at its end
 abbrev pub trimmed : List ℕ → List ℕ

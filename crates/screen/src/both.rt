@@ -4,12 +4,19 @@ ghost use Rattle.std.specs.Prelude.{◌≡◌, ◌<◌, OnErr, OnOk, true};
 ghost use Rattle.match_laws.specs.History.{begun};
 ghost use Rattle.corrections.specs.CleanList.{history_of};
 ghost use Rattle.streams.specs.Watched.{Prints, has_failed};
-ghost use Rattle.screen.specs.Both.{both_cards, cards_of};
+ghost use Rattle.screen.specs.Both.{both_cards, cards_number, cards_of, headed_cards};
 
 use cards::{MatchSheet, batting_card, bowling_card};
 use corrections::BookOf;
 use std::io::Write;
 use streams::{Watched, WriteFailed};
+
+/// What stands over the columns of the batting card.
+const BATTING_HEAD: &str =
+    "batting                                                    R    B  4s  6s\n";
+
+/// What stands over the columns of the bowling card.
+const BOWLING_HEAD: &str = "bowling               O   M    R   W  Wd  Nb\n";
 
 /// Prints both cards of an innings.
 fn print_innings<W: Write, B: BookOf>(
@@ -26,6 +33,43 @@ fn print_innings<W: Write, B: BookOf>(
     let score = book.score();
     batting_card(sheet, score, innings, out)?;
     bowling_card(sheet, score, innings, out)
+}
+
+/// Prints both cards of an innings, with a line over their columns.
+fn print_headed<W: Write, B: BookOf>(
+    out: &mut Watched<W>,
+    sheet: &MatchSheet,
+    book: &B,
+    innings: usize,
+) -> Result<(), WriteFailed>
+    requires { innings < begun (history_of (B.content book.now)) }
+    ensures text { OnOk result (Prints W.contents out.old out.new
+        (headed_cards sheet.now (history_of (B.content book.now)) innings)) }
+    ensures failed { OnErr result (has_failed out.new ≡ true) }
+{
+    let score = book.score();
+    write!(out, "{BATTING_HEAD}")?;
+    batting_card(sheet, score, innings, out)?;
+    write!(out, "{BOWLING_HEAD}")?;
+    bowling_card(sheet, score, innings, out)
+}
+
+/// Prints both cards of the innings with this number, from 1, if it has begun.
+pub fn print_cards_of<W: Write, B: BookOf>(
+    out: &mut Watched<W>,
+    sheet: &MatchSheet,
+    book: &B,
+    number: usize,
+) -> Result<(), WriteFailed>
+    ensures text { OnOk result (Prints W.contents out.old out.new
+        (cards_number sheet.now (history_of (B.content book.now)) number)) }
+    ensures failed { OnErr result (has_failed out.new ≡ true) }
+{
+    let begun = book.score().begun();
+    if number < 1 || number > begun {
+        return writeln!(out, "no such innings yet");
+    }
+    print_headed(out, sheet, book, number - 1)
 }
 
 /// Prints both cards of the innings begun last.

@@ -48,21 +48,12 @@ fn print_rate<W: Write>(out: &mut Watched<W>, rate: Option<u64>) -> Result<(), W
 }
 
 /// Prints off how many deliveries so many runs are needed, and how many that is an over.
-pub fn print_off<W: Write>(
-    out: &mut Watched<W>,
-    runs: u32,
-    left: Option<u32>,
-) -> Result<(), WriteFailed>
+pub fn print_off<W: Write>(out: &mut Watched<W>, runs: u32, left: u32) -> Result<(), WriteFailed>
     ensures text { OnOk result (Prints W.contents out.old out.new (limited.off_text runs left)) }
     ensures failed { OnErr result (has_failed out.new ≡ true) }
 {
-    match left {
-        None => Ok(()),
-        Some(left) => {
-            write!(out, " off {left}")?;
-            print_rate(out, an_over(runs, left))
-        }
-    }
+    write!(out, " off {left}")?;
+    print_rate(out, an_over(runs, left))
 }
 
 /// How many deliveries are left, where the sheet limits the overs.

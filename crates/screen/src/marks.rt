@@ -33,8 +33,8 @@ fn dead_mark(is_dead: bool) -> &'static str
     if is_dead { "d" } else { "" }
 }
 
-/// Prints a delivery.
-fn print_ball<W: Write>(out: &mut Watched<W>, ball: &Ball) -> Result<(), WriteFailed>
+/// Prints a delivery's mark, behind a space.
+pub fn print_ball<W: Write>(out: &mut Watched<W>, ball: &Ball) -> Result<(), WriteFailed>
     ensures text { OnOk result (Prints W.contents out.old out.new (rows.spaced_mark ball.now)) }
     ensures failed { OnErr result (has_failed out.new ≡ true) }
 {

@@ -1,6 +1,6 @@
 //! How a match stands, in one row.
 
-ghost use Rattle.std.specs.Prelude.{◌≡◌, ◌==◌, ◌<◌, ◌++◌, None, OnErr, OnOk, codes, decimal, if◌then◌else◌, true};
+ghost use Rattle.std.specs.Prelude.{◌≡◌, ◌==◌, ◌<◌, ◌++◌, None, OnErr, OnOk, Some, codes, decimal, if◌then◌else◌, true};
 ghost use Rattle.match_laws.specs.History.{begun};
 ghost use Rattle.match_laws.specs.Result.{outcome};
 ghost use Rattle.match_laws.specs.Stands.{ForEachHistory, begun_in};
@@ -196,7 +196,7 @@ fn print_open_marks<W: Write>(out: &mut Watched<W>, over: &[Placed]) -> Result<(
     print_marks(out, over)
 }
 
-/// Prints what is needed, of so many deliveries where they are limited.
+/// Prints what is needed, where nothing limits the deliveries.
 fn print_needs<W: Write>(
     out: &mut Watched<W>,
     runs: Option<u32>,
@@ -205,12 +205,36 @@ fn print_needs<W: Write>(
     ensures text { OnOk result (Prints W.contents out.old out.new (rows.aim None runs left)) }
     ensures failed { OnErr result (has_failed out.new ≡ true) }
 {
-    match runs {
-        None => Ok(()),
-        Some(runs) => {
-            write!(out, "  needs {runs}")?;
-            print_off(out, runs, left)
-        }
+    match (runs, left) {
+        (Some(runs), None) => write!(out, "  needs {runs}"),
+        _ => Ok(()),
+    }
+}
+
+/// Prints that so many runs are needed off so many deliveries, on a row of its own.
+fn print_needs_off<W: Write>(out: &mut Watched<W>, runs: u32, left: u32) -> Result<(), WriteFailed>
+    ensures text { OnOk result (Prints W.contents out.old out.new (rows.needs_row None (Some runs) (Some left))) }
+    ensures failed { OnErr result (has_failed out.new ≡ true) }
+{
+    write!(out, "  needs {runs}")?;
+    print_off(out, runs, left)?;
+    writeln!(out)
+}
+
+/// Prints what is needed off how many deliveries, where they are limited and the match isn't decided.
+fn print_needs_row<W: Write>(
+    out: &mut Watched<W>,
+    sheet: &MatchSheet,
+    score: &Match,
+    left: Option<u32>,
+) -> Result<(), WriteFailed>
+    ensures text { ForEachHistory score.now (λ n h. OnOk result (Prints W.contents out.old out.new
+        (rows.needs_row (result_text sheet.now (outcome n h)) (figures.runs_needed n h) left))) }
+    ensures failed { OnErr result (has_failed out.new ≡ true) }
+{
+    match (score.result(), runs_needed(score), left) {
+        (Outcome::Undecided, Some(runs), Some(left)) => print_needs_off(out, runs, left),
+        _ => Ok(()),
     }
 }
 
@@ -376,7 +400,7 @@ fn print_front<W: Write>(
     print_batters(out, sheet, score, innings)
 }
 
-/// Prints the row of an innings.
+/// Prints the row of an innings, and what is needed behind it.
 fn print_innings<W: Write, B: BookOf>(
     out: &mut Watched<W>,
     sheet: &MatchSheet,
@@ -388,11 +412,13 @@ fn print_innings<W: Write, B: BookOf>(
         (rows.innings_row sheet.now (B.innings_a_side book.now) (history_of (B.content book.now)) innings)) }
     ensures failed { OnErr result (has_failed out.new ≡ true) }
 {
-    print_front(out, sheet, book.score(), innings)?;
-    print_back(out, sheet, book, innings)
+    let score = book.score();
+    print_front(out, sheet, score, innings)?;
+    print_back(out, sheet, book, innings)?;
+    print_needs_row(out, sheet, score, left_now(score, sheet, innings))
 }
 
-/// Prints how the match of a book stands, in one row.
+/// Prints how the match of a book stands, in one row. In a chase of limited overs a second one tells what is needed.
 pub fn print_row<W: Write, B: BookOf>(
     out: &mut Watched<W>,
     sheet: &MatchSheet,

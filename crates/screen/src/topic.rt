@@ -26,6 +26,7 @@ pub enum Topic {
     Card,
     Players,
     Bowlers,
+    Who,
     Quit,
     /// Short lines.
     Short,
@@ -40,19 +41,19 @@ ball b K r [short s] [B] [dead] [out H W f [crossed]]
   H: bowled caught lbw stumped hitwicket hittwice obstructing runout
   W: striker other    f: 0 none, 12 a substitute
 gone L n        L: timedout retiredout retiredhurt runout
-over
+over            ends the over; over n [S i]: the entries of the n-th one
 penalty S x y   by Law x.y
 swap
 end C           C: allout nobatter declared forfeited overs
 close
 void
-fix p E         place p is to read E, any line above
+fix p E         place p, or the ball 9.2, is to read E, any line above
 late p E        E, any line above, belongs after place p
 again [E]       E, or what you wrote before, where you two differ
 undo            takes back the line held last; none held: voids the last entry
-list [n]        the last n entries, 12 or 1 to 200, with their places
-score, card     this over and the total; both cards of the innings
-players         both sides, by number and name; an empty line: where you stand
+list [n], a b   the last n entries, 12 left out; those of the places a to b
+score, card [n] this over and the total; both cards of this innings or the n-th
+players, who    both sides; who isn't out or in; an empty line: where you stand
 bowlers         who may bowl the next ball
 help [word]     this, or more on one of these words; short: short lines
 quit, exit      ends; the same command goes on
@@ -117,6 +118,7 @@ fn desk_topic(word: &str) -> Option<Topic>
         "card" => Some(Topic::Card),
         "players" => Some(Topic::Players),
         "bowlers" => Some(Topic::Bowlers),
+        "who" => Some(Topic::Who),
         "quit" => Some(Topic::Quit),
         "short" => Some(Topic::Short),
         _ => None,
@@ -141,7 +143,8 @@ pub fn help_on(topic: Topic) -> &'static str
             "ball b K r [short s] [B] [dead] [out H W f [crossed]]: a delivery of bowler b\n  ball 10 bat 0 out caught striker 4\n"
         }
         Topic::Gone => "gone L n: batter n leaves between deliveries\n  gone retiredhurt 3\n",
-        Topic::Over => "over: the umpire calls over\n  over\n",
+        Topic::Over =>
+            "over: the umpire calls over; over n [S i]: the entries of over n\n  over 9 home 1\n",
         Topic::Penalty => {
             "penalty S x y: five penalty runs to side S, by Law x.y\n  penalty away 41 7\n"
         }
@@ -149,7 +152,7 @@ pub fn help_on(topic: Topic) -> &'static str
         Topic::End => "end C: the innings ends, by this cause\n  end declared\n",
         Topic::Close => "close: the match is closed; corrections are taken still\n  close\n",
         Topic::Void => "void: nothing, as in place of what is struck out\n  fix 12 void\n",
-        Topic::Fix => "fix p E: place p is to read E\n  fix 12 ball 10 bat 2\n",
+        Topic::Fix => "fix p E: place p, or the ball 9.2, is to read E\n  fix 12 ball 10 bat 2\n",
         Topic::Late => "late p E: E was left out, and belongs after place p\n  late 12 in 5\n",
         Topic::Again => {
             "again [E]: where you two differ, E, or what you wrote before\n  again ball 10 bat 2\n"
@@ -158,16 +161,17 @@ pub fn help_on(topic: Topic) -> &'static str
             "undo: takes back the line held last; none held: fix p void of the last entry\n  undo\n"
         }
         Topic::Listing => {
-            "list [n]: the last n entries with their places, 1 to 200; 12, left out\n  list 30\n"
+            "list [n], list a b: the last n entries, or those of the places a to b\n  list 45 70\n"
         }
         Topic::Score => {
             "score: total, extras, both batters, the bowler and his last over\n  score\n"
         }
-        Topic::Card => "card: both cards of the innings begun last\n  card\n",
+        Topic::Card => "card [n]: both cards of the innings begun last, or of the n-th\n  card 1\n",
         Topic::Players => "players: both sides, by number and name\n  players\n",
         Topic::Bowlers => {
             "bowlers: who may bowl the next ball; how many overs he has left\n  bowlers\n"
         }
+        Topic::Who => "who: who of the side that bats isn't out and isn't in\n  who\n",
         Topic::Quit => "quit: ends the desk; the same command goes on\n  quit\n",
         Topic::Short => HELP_SHORT,
     }

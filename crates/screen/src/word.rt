@@ -7,14 +7,17 @@ ghost use Rattle.cards.specs.Sheet as sheets;
 ghost use Rattle.screen.specs.Words as words;
 
 use crate::topic::{Topic, topic_of};
-use notation::{Tokens, number_in};
+use notation::{Side, Tokens, number_in};
 use std::str;
 
 /// How many entries `list` shows where it isn't said.
 const LISTED: u32 = 12;
 
-/// How many it shows at most.
-const MOST_LISTED: u16 = 200;
+/// How many it looks at at most.
+const MOST_LISTED: u16 = 8192;
+
+/// The last place of a book.
+const LAST_PLACE: u16 = 8191;
 
 /// What a scorer asks to see. It changes nothing.
 #[derive(Clone, Copy, Debug, PartialEq, Eq)]
@@ -23,14 +26,24 @@ pub enum Word {
     Where,
     /// `list`: so many entries of the book, the last ones.
     Entries(u32),
+    /// `list` with two places: the entries from the one to the other.
+    Range(u32, u32),
+    /// `over` with a number: the entries of this over of the innings begun last.
+    Over(u32),
+    /// `over` with a number, a side and 1 or 2: of an over of the side's first or second innings.
+    OverOf(u32, Side, u8),
     /// `score`: the check of an over.
     Total,
     /// `card`: both cards of the innings begun last.
     Cards,
+    /// `card` with a number: both cards of this innings.
+    CardsOf(u8),
     /// `players`: both sides.
     Sides,
     /// `bowlers`: who may bowl the next delivery.
     Bowlers,
+    /// `who`: who isn't out and isn't in.
+    Waiting,
     /// `help`: the forms of all lines.
     Forms,
     /// `help` with a word: what this word does.
@@ -57,6 +70,7 @@ fn single(token: &str) -> Option<Word>
         "card" => Some(Word::Cards),
         "players" => Some(Word::Sides),
         "bowlers" => Some(Word::Bowlers),
+        "who" => Some(Word::Waiting),
         "help" => Some(Word::Forms),
         _ => None,
     }
@@ -64,10 +78,76 @@ fn single(token: &str) -> Option<Word>
 
 /// What `list` with this token asks for.
 fn listed(token: &str) -> Option<Word>
-    ensures { result ≡ option_map Word.Entries (found_number 1 200 token.now) }
+    ensures { result ≡ option_map Word.Entries (found_number 1 8192 token.now) }
 {
     let count = number_in(token, 1, MOST_LISTED)?;
     Some(Word::Entries(u32::from(count)))
+}
+
+/// What `card` with this token asks for.
+fn carded(token: &str) -> Option<Word>
+    ensures { result ≡ option_map Word.CardsOf (found_number 1 4 token.now) }
+{
+    let number = number_in(token, 1, 4)?;
+    Some(Word::CardsOf(number as u8))
+}
+
+/// What `list` with these tokens asks for.
+fn ranged(first: &str, last: &str) -> Option<Word>
+    ensures { result ≡ words.range (found_number 0 8191 first.now) (found_number 0 8191 last.now) }
+{
+    let first = number_in(first, 0, LAST_PLACE)?;
+    let last = number_in(last, 0, LAST_PLACE)?;
+    Some(Word::Range(u32::from(first), u32::from(last)))
+}
+
+/// What `over` with this token asks for.
+fn numbered(token: &str) -> Option<Word>
+    ensures { result ≡ option_map Word.Over (found_number 1 8191 token.now) }
+{
+    let number = number_in(token, 1, LAST_PLACE)?;
+    Some(Word::Over(u32::from(number)))
+}
+
+/// The side that a token names.
+fn side_in(token: &str) -> Option<Side>
+    ensures { result ≡ words.side_in token.now }
+{
+    match token {
+        "home" => Some(Side::Home),
+        "away" => Some(Side::Away),
+        _ => None,
+    }
+}
+
+/// What `over` with these tokens asks for.
+fn numbered_of(number: &str, side: &str, innings: &str) -> Option<Word>
+    ensures { result ≡ words.over_of (found_number 1 8191 number.now) (words.side_in side.now) (found_number 1 2 innings.now) }
+{
+    let number = number_in(number, 1, LAST_PLACE)?;
+    let side = side_in(side)?;
+    let innings = number_in(innings, 1, 2)?;
+    Some(Word::OverOf(u32::from(number), side, innings as u8))
+}
+
+/// What four tokens ask for.
+fn quadruple(token: &str, next: &str, third: &str, fourth: &str) -> Option<Word>
+    ensures { result ≡ words.quadruple token.now next.now third.now fourth.now }
+{
+    match token {
+        "over" => numbered_of(next, third, fourth),
+        _ => None,
+    }
+}
+
+/// What three tokens ask for.
+fn triple(token: &str, next: &str, third: &str) -> Option<Word>
+    ensures { result ≡ words.triple token.now next.now third.now }
+{
+    match token {
+        "list" => ranged(next, third),
+        _ => None,
+    }
 }
 
 /// What `help` with this token asks for.
@@ -83,6 +163,8 @@ fn pair(token: &str, next: &str) -> Option<Word>
 {
     match token {
         "list" => listed(next),
+        "card" => carded(next),
+        "over" => numbered(next),
         "help" => more(next),
         _ => None,
     }
@@ -96,8 +178,14 @@ fn word_from(tokens: &mut Tokens<'_>) -> Option<Word>
     let Some(next) = tokens.next() else {
         return single(token);
     };
+    let Some(third) = tokens.next() else {
+        return pair(token, next);
+    };
+    let Some(fourth) = tokens.next() else {
+        return triple(token, next, third);
+    };
     if tokens.is_empty() {
-        pair(token, next)
+        quadruple(token, next, third, fourth)
     } else {
         None
     }

@@ -10,13 +10,15 @@ use Rattle.notation.specs.declared.{fault.LineFault.LineFault, entry.Entry.Entry
 use Rattle.notation.specs.declared.fault.LineFault.TheVariants.{TooLong, UnknownWord as NoWord, Spaces}
 use Rattle.match_laws.specs.History.{opponent, or_else}
 use Rattle.cards.specs.Sheet.{Sheet, team_of}
+use Rattle.over_numbers.specs.declared.balls.Named.{Named}
+use Rattle.over_numbers.specs.Balls.{named_ball, place_of}
 use Rattle.shorthand.specs.declared.{names.Among.Among, names.Found.Found, point.Belongs.Belongs, point.Point.Point, unclear.Letter.Letter, unclear.Unaided.Unaided}
 use Rattle.shorthand.specs.declared.names.Among.TheVariants.{Anyone}
 use Rattle.shorthand.specs.declared.names.Found.TheVariants.{NoOne}
 use Rattle.shorthand.specs.declared.point.Belongs.TheVariants.{Last, At, After}
 use Rattle.shorthand.specs.Words.{behind_one, is_desk_word, is_how, is_line_word, is_no_ball, is_one_of, is_run_out, trimmed, two_meanings, way_of, without_fielder}
 use Rattle.shorthand.specs.Lines.{NothingStands, Reason, Fault, WhoBowls, TwoMeanings, Word, as_typed, joined, plus}
-use Rattle.shorthand.specs.Names.{player, fielder, named, number_word, colon_name, names_bowler, no_fielder, unknown_word, is_colon, is_digit_first}
+use Rattle.shorthand.specs.Names.{player, fielder, named, number_word, colon_name, names_bowler, no_fielder, no_such_ball, unknown_word, is_colon, is_digit_first}
 use Rattle.shorthand.specs.Marks.{mark}
 use Rattle.shorthand.specs.Points.{batters_at, point_at}
 use Rattle.shorthand.specs.Undo.{last_standing}
@@ -232,9 +234,18 @@ abbrev pub at_place : Sheet → List Entry → Bool → Token → List Token →
 at_place s book is_late t ts None = as_typed (t ∷ ts)
 at_place s book is_late t ts (Some p) = Ok t ∷ item s book (belonging is_late p) ts
 
+-- a delivery by its over and its number there, as `9.2`: its place, and what belongs there
+abbrev pub at_ball : Sheet → List Entry → Bool → Token → List Token → Option ℕ → List Word
+at_ball s book is_late t ts None = Err (no_such_ball t) ∷ []
+at_ball s book is_late t ts (Some p) = Ok (decimal p) ∷ item s book (belonging is_late p) ts
+
+abbrev pub ball_or_place : Sheet → List Entry → Bool → Token → List Token → Option Named → List Word
+ball_or_place s book is_late t ts None = at_place s book is_late t ts (found_number 0 8191 t)
+ball_or_place s book is_late t ts (Some named) = at_ball s book is_late t ts (place_of book named)
+
 abbrev pub placed : Sheet → List Entry → Bool → List Token → List Word
 placed s book is_late [] = []
-placed s book is_late (t ∷ ts) = at_place s book is_late t ts (found_number 0 8191 t)
+placed s book is_late (t ∷ ts) = ball_or_place s book is_late t ts (named_ball t)
 
 -- `undo`: the entry of this place is void
 abbrev pub undoing : Option ℕ → List Token → List Word

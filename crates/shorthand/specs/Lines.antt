@@ -6,7 +6,8 @@ use Rattle.notation.specs.declared.fault.LineFault.TheVariants.{TooLong}
 use Rattle.shorthand.specs.declared.unclear.{Letter.Letter, Unaided.Unaided, Unclear.Unclear}
 
 -- what isn't clear in a line: its words, who bowls, which player of a side a name means, what `undo` undoes, which of
--- its two meanings a letter has, what a fielder has to do with a way of being out, or a word that is none
+-- its two meanings a letter has, what a fielder has to do with a way of being out, a word that is none, or a delivery
+-- that there isn't
 pub data Reason : Type 0 where
   Fault : LineFault → Reason
   WhoBowls : Reason
@@ -16,6 +17,7 @@ pub data Reason : Type 0 where
   TwoMeanings : Letter → Reason
   NoFielder : Unaided → Token → Reason
   UnknownWord : Token → Reason
+  NoSuchBall : Token → Reason
 
 abbrev pub reason_of : Unclear → Reason
 reason_of (Unclear.Fault f) = Fault f
@@ -26,6 +28,7 @@ reason_of Unclear.NothingStands = NothingStands
 reason_of (Unclear.TwoMeanings letter) = TwoMeanings letter
 reason_of (Unclear.NoFielder how t) = NoFielder how t.bytes
 reason_of (Unclear.UnknownWord t) = UnknownWord t.bytes
+reason_of (Unclear.NoSuchBall t) = NoSuchBall t.bytes
 
 -- a word of the line, or why there is none
 abbrev pub Word : Type 0

@@ -16,7 +16,7 @@ use Rattle.shorthand.specs.declared.names.{Among.Among, Fit.Fit, Found.Found}
 use Rattle.shorthand.specs.declared.names.Among.TheVariants.{Anyone, AnEnd}
 use Rattle.shorthand.specs.declared.names.Fit.TheVariants.{Whole, LastWord, Beginning}
 use Rattle.shorthand.specs.declared.names.Found.TheVariants.{NoOne, One, Several}
-use Rattle.shorthand.specs.Lines.{Reason, Fault, NoSuchPlayer, WhichPlayer, NoFielder, UnknownWord, Word, plus}
+use Rattle.shorthand.specs.Lines.{Reason, Fault, NoSuchPlayer, WhichPlayer, NoFielder, NoSuchBall, UnknownWord, Word, plus}
 
 -- the same letters, in either case
 abbrev pub is_same : Token → Token → Bool
@@ -140,6 +140,9 @@ no_fielder how t = if nat_le (length t) 96 then NoFielder how t else Fault TooLo
 
 abbrev pub unknown_word : Token → Reason
 unknown_word t = if nat_le (length t) 96 then UnknownWord t else Fault TooLong
+
+abbrev pub no_such_ball : Token → Reason
+no_such_ball t = if nat_le (length t) 96 then NoSuchBall t else Fault TooLong
 
 abbrev pub number_word : Side → Token → Found → Word
 number_word side t NoOne = Err (no_such_player t)

@@ -92,7 +92,8 @@ two_meanings t = if bytes_eq t (codes "b") then Some B else if bytes_eq t (codes
 -- the words that ask for something at a desk
 abbrev pub desk_words : List Token
 desk_words =
-    codes "list" ∷ codes "score" ∷ codes "card" ∷ codes "players" ∷ codes "help" ∷ codes "quit" ∷ codes "exit" ∷ []
+    codes "list" ∷ codes "score" ∷ codes "card" ∷ codes "players" ∷ codes "bowlers" ∷ codes "who" ∷ codes "help"
+    ∷ codes "quit" ∷ codes "exit" ∷ []
 
 abbrev pub is_desk_word : Token → Bool
 is_desk_word t = is_one_of desk_words t

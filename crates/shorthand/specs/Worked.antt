@@ -12,7 +12,7 @@ use Rattle.limits.specs.Limits.{no_limits}
 use Rattle.cards.specs.Sheet.{Sheet, Team}
 use Rattle.shorthand.specs.declared.unclear.Letter.TheVariants.{B, W}
 use Rattle.shorthand.specs.declared.unclear.Unaided.TheVariants.{Bowled, Lbw}
-use Rattle.shorthand.specs.Lines.{Reason, WhoBowls, NoSuchPlayer, WhichPlayer, NothingStands, TwoMeanings, NoFielder, joined}
+use Rattle.shorthand.specs.Lines.{Reason, WhoBowls, NoSuchPlayer, WhichPlayer, NothingStands, TwoMeanings, NoFielder, NoSuchBall, joined}
 use Rattle.shorthand.specs.Full.{words_in_full}
 
 -- a dot ball of this bowler
@@ -111,6 +111,10 @@ pub record WorkedPlaces (s : Sheet) : Type 0 where
   pub no_place : behind s two_overs (codes "fix 03 4") ≡ Ok (codes "fix 03 4")
   pub behind_all : behind s with_late_over (codes ".") ≡ Ok (codes "ball 8 bat 0")
   pub behind_lates : behind s with_late_over (codes "late 5 4") ≡ Ok (codes "late 5 ball 8 bat 0 four")
+  pub by_over : behind s two_overs (codes "fix 1.1 4") ≡ Ok (codes "fix 3 ball 7 bat 0 four")
+  pub late_by_over : behind s two_overs (codes "late 2.1 wd") ≡ Ok (codes "late 5 ball 10 wide 0")
+  pub late_counts_too : behind s with_late_over (codes "fix 3.1 4") ≡ Ok (codes "fix 7 ball 8 bat 0 four")
+  pub no_such_ball : behind s two_overs (codes "fix 1.2 4") ≡ Err (NoSuchBall (codes "1.2"))
   pub corrected_before : behind s with_late_over (codes "fix 5 4") ≡ Ok (codes "fix 5 ball 10 bat 0 four")
   pub undo : behind s two_overs (codes "undo") ≡ Ok (codes "fix 5 void")
   pub undo_once_more : behind s (two_overs ++ Fix 5 Void ∷ []) (codes "undo") ≡ Ok (codes "fix 4 void")

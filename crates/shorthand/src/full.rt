@@ -3,7 +3,8 @@
 ghost use Rattle.std.specs.Prelude.{◌≡◌, ◌&&◌, [], ◌∷◌, nat_le, length, true, false, Ok, Err, IfOk, OnErr, MatchResult};
 ghost use Rattle.cards.specs.Sheet.{team_of};
 ghost use Rattle.notation.specs.Reading.{line_answer};
-ghost use Rattle.notation.specs.Written.{is_spaced, tokens};
+ghost use Rattle.notation.specs.Written.{found_number, is_spaced, tokens};
+ghost use Rattle.over_numbers.specs.Balls as balls;
 ghost use Rattle.shorthand.specs.Lines as lines;
 ghost use Rattle.shorthand.specs.Lines.{plus, plus_all, reason_of};
 ghost use Rattle.shorthand.specs.declared.names.Among.TheVariants.{Anyone};
@@ -16,18 +17,20 @@ use crate::delivery::{
 };
 use crate::line::Line;
 use crate::names::{
-    Among, Found, colon_name, is_digit_first, named, named_bowler, number_word, player,
+    Among, Found, colon_name, is_digit_first, named, named_bowler, no_such_ball, number_word,
+    player,
 };
 use crate::point::{Belongs, Point, batters_at, point_at};
 use crate::rest::Rest;
 use crate::unclear::Unclear;
 use crate::undo::last_standing;
-use crate::unknown::{is_desk_word, with_words};
+use crate::unknown::{is_line_word, with_words};
 use arrayvec::ArrayString;
 use cards::MatchSheet;
 use corrections::BookOf;
 use match_laws::opponent;
 use notation::{LineFault, Player, Side, number_in, read_line};
+use over_numbers::{Named, named_ball, place_of};
 use std::str;
 
 /// Writes a batter's number, and the rest.
@@ -133,28 +136,6 @@ fn by_colon(line: &mut Line, sheet: &MatchSheet, side: Side, token: &str, rest: 
         }
         None => spoken(line, sheet, side, token, rest),
     }
-}
-
-/// Whether the token begins a line, or asks for something.
-fn is_line_word(token: &str) -> bool
-    ensures { result ≡ words.is_line_word token.now }
-{
-    matches!(
-        token,
-        "innings"
-            | "in"
-            | "ball"
-            | "gone"
-            | "over"
-            | "penalty"
-            | "swap"
-            | "end"
-            | "close"
-            | "void"
-            | "fix"
-            | "late"
-            | "again"
-    ) || is_desk_word(token)
 }
 
 /// Whether a token begins no line and is no number, so that it may be a bowler's name.
@@ -305,13 +286,60 @@ fn item<B: BookOf>(
 }
 
 /// Where a `late` line and a `fix` line of a place belong.
-fn belonging(is_late: bool, place: u16) -> Belongs
+fn belonging(is_late: bool, place: u32) -> Belongs
     ensures { result ≡ full.belonging is_late place }
 {
     if is_late {
-        Belongs::After(u32::from(place))
+        Belongs::After(place)
     } else {
-        Belongs::At(u32::from(place))
+        Belongs::At(place)
+    }
+}
+
+/// Writes a place, and what belongs there; where no place stands, all as it stands.
+fn at_place<B: BookOf>(
+    line: &mut Line,
+    sheet: &MatchSheet,
+    book: &B,
+    is_late: bool,
+    token: &str,
+    rest: &mut Rest<'_>,
+)
+    ensures { line.new ≡ plus_all line.old
+        (full.at_place sheet.now (B.content book.now) is_late token.now rest.old (found_number 0 8191 token.now)) }
+{
+    line.word(token);
+    match number_in(token, 0, 8191) {
+        Some(place) => item(
+            line,
+            sheet,
+            book,
+            belonging(is_late, u32::from(place)),
+            rest,
+        ),
+        None => line.rest(rest),
+    }
+}
+
+/// Writes the place of a delivery that is named by its over and its number there, and what belongs there.
+fn at_ball<B: BookOf>(
+    line: &mut Line,
+    sheet: &MatchSheet,
+    book: &B,
+    is_late: bool,
+    named: Named,
+    token: &str,
+    rest: &mut Rest<'_>,
+)
+    ensures { line.new ≡ plus_all line.old
+        (full.at_ball sheet.now (B.content book.now) is_late token.now rest.old (balls.place_of (B.content book.now) named)) }
+{
+    match place_of(book, named) {
+        Some(place) => {
+            line.place(place);
+            item(line, sheet, book, belonging(is_late, place), rest);
+        }
+        None => line.fail(no_such_ball(token)),
     }
 }
 
@@ -329,10 +357,9 @@ fn placed<B: BookOf>(
     let Some(token) = rest.next() else {
         return;
     };
-    line.word(token);
-    match number_in(token, 0, 8191) {
-        Some(place) => item(line, sheet, book, belonging(is_late, place), rest),
-        None => line.rest(rest),
+    match named_ball(token) {
+        Some(named) => at_ball(line, sheet, book, is_late, named, token, rest),
+        None => at_place(line, sheet, book, is_late, token, rest),
     }
 }
 

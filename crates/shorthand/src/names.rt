@@ -325,6 +325,16 @@ pub fn unknown_word(token: &str) -> Unclear
     }
 }
 
+/// That there is no delivery of this name.
+pub fn no_such_ball(token: &str) -> Unclear
+    ensures { reason_of result ≡ names.no_such_ball token.now }
+{
+    match ArrayString::from(token) {
+        Ok(name) => Unclear::NoSuchBall(name),
+        Err(_) => Unclear::Fault(LineFault::TooLong),
+    }
+}
+
 /// Writes the number of the player whom a token means, or why there is none.
 pub fn number_word(line: &mut Line, side: Side, token: &str, found: Found)
     ensures { line.new ≡ plus line.old (names.number_word side token.now found) }

@@ -38,4 +38,6 @@ pub enum Unclear {
     NoFielder(Unaided, ArrayString<96>),
     /// A word stands where another must: in full, the line would be refused for this one.
     UnknownWord(ArrayString<96>),
+    /// The innings begun last has no delivery that is named so, as `9.2`.
+    NoSuchBall(ArrayString<96>),
 }

@@ -46,13 +46,35 @@ fn word_from<'a>(front: &Line, rest: &Rest<'a>) -> Option<&'a str>
 }
 
 /// Whether the token asks for something at a desk.
-pub fn is_desk_word(token: &str) -> bool
+fn is_desk_word(token: &str) -> bool
     ensures { result ≡ words.is_desk_word token.now }
 {
     matches!(
         token,
-        "list" | "score" | "card" | "players" | "help" | "quit" | "exit"
+        "list" | "score" | "card" | "players" | "bowlers" | "who" | "help" | "quit" | "exit"
     )
+}
+
+/// Whether the token begins a line, or asks for something.
+pub fn is_line_word(token: &str) -> bool
+    ensures { result ≡ words.is_line_word token.now }
+{
+    matches!(
+        token,
+        "innings"
+            | "in"
+            | "ball"
+            | "gone"
+            | "over"
+            | "penalty"
+            | "swap"
+            | "end"
+            | "close"
+            | "void"
+            | "fix"
+            | "late"
+            | "again"
+    ) || is_desk_word(token)
 }
 
 /// What stands behind a word that asks for something.

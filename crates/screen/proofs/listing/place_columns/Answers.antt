@@ -1,4 +1,4 @@
-use Rattle.std.proofs.Common.{sym}
+use Rattle.std.proofs.Common.{sym, arith}
 use Rattle.screen.proofs.Columns.{one_digit, two_digits, three_digits, four_digits}
 use Rattle.screen.proofs.listing.place_columns.Goals as goal
 
@@ -12,4 +12,4 @@ pub returns-then-place-lt1000 : goal.returns-then-place-lt1000
 returns-then-place-lt1000 c = sym (three_digits c.args.place c.if-place-lt100.false c.if-place-lt1000.true)
 
 pub returns-else-place-lt1000 : goal.returns-else-place-lt1000
-returns-else-place-lt1000 c = sym (four_digits c.args.place c.if-place-lt1000.false c.requires)
+returns-else-place-lt1000 c = sym (four_digits c.args.place c.if-place-lt1000.false (omega (arith, c.ranges.place.fits)))

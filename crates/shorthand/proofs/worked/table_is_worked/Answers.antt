@@ -24,5 +24,5 @@ unfolding clean_items_of clean history_of digits begins_delivery by_bowler by_le
 returns-clause-several c = assumption
 
 pub returns-clause-places : goal.returns-clause-places
-unfolding clean_items_of digits begins_delivery by_bowler by_letter by_same_bowler colon_delivery item_from runs_from unnamed
+unfolding clean_items_of clean history_of digits begins_delivery by_bowler by_letter by_same_bowler colon_delivery item_from runs_from unnamed
 returns-clause-places c = assumption

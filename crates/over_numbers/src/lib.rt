@@ -1,0 +1,8 @@
+//! Overs and deliveries by number, as `9.2`.
+#![tactic(auto)]
+
+mod balls;
+mod count;
+
+pub use balls::{Named, named_ball, place_of};
+pub use count::Count;

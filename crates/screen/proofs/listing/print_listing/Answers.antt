@@ -1,5 +1,0 @@
-use Rattle.cards.proofs.Pages.{copies_next}
-use Rattle.screen.proofs.listing.print_listing.Goals as goal
-
-pub loop-place-preserved : goal.loop-place-preserved
-loop-place-preserved g c = copies_next _ _ _ c.loop-place.place _ _ _ _ c.loop-place.invariant c.entry.ensures.value c.in_ok-print_line.ensures.text

@@ -1,0 +1,152 @@
+//! Who of the side that bats isn't out and isn't in.
+
+ghost use Rattle.std.specs.Prelude.{◌≡◌, ◌<◌, ◌++◌, OnErr, OnOk, codes, true};
+ghost use Rattle.std.specs.List.{list_all};
+ghost use Rattle.match_laws.specs.History.{begun};
+ghost use Rattle.match_laws.specs.Stands.{ForEachHistory, begun_in};
+ghost use Rattle.corrections.specs.CleanList.{history_of};
+ghost use Rattle.cards.specs.Sheet.{name_of, team_of};
+ghost use Rattle.streams.specs.Watched.{Prints, has_failed};
+ghost use Rattle.screen.specs.Sides.{player_text};
+ghost use Rattle.screen.specs.Waiting as waiting;
+ghost use Rattle.screen.specs.inner.Items.{is_number};
+
+use crate::sides::print_player;
+use cards::MatchSheet;
+use corrections::BookOf;
+use match_laws::{Fate, Match};
+use notation::{Player, Side};
+use std::io::Write;
+use streams::{Watched, WriteFailed};
+
+/// Whether he hasn't come in yet, or is retired hurt.
+fn waits(fate: Option<Fate>) -> bool
+    ensures { result ≡ waiting.waits fate }
+{
+    matches!(fate, None | Some(Fate::Hurt))
+}
+
+fn next_column(column: u8) -> u8
+    requires { column < 3 }
+    ensures column { result ≡ waiting.next_column column }
+    ensures bound { result < 3 }
+{
+    if column == 2 { 0 } else { column + 1 }
+}
+
+fn before_player(column: u8) -> &'static str
+    ensures { result.now ≡ waiting.before_player column }
+{
+    if column == 0 { "\n  " } else { ", " }
+}
+
+/// Prints a player by number and name, at this place of a row.
+fn print_next<W: Write>(
+    out: &mut Watched<W>,
+    sheet: &MatchSheet,
+    side: Side,
+    column: u8,
+    player: Player,
+) -> Result<(), WriteFailed>
+    ensures text { OnOk result (Prints W.contents out.old out.new
+        (waiting.before_player column ++ player_text (team_of sheet.now side) player)) }
+    ensures failed { OnErr result (has_failed out.new ≡ true) }
+{
+    let before = before_player(column);
+    write!(out, "{before}")?;
+    print_player(out, sheet, side, player, true)
+}
+
+/// Prints those of the players of these numbers who wait.
+fn print_those<W: Write>(
+    out: &mut Watched<W>,
+    sheet: &MatchSheet,
+    score: &Match,
+    innings: usize,
+    column: u8,
+    numbers: &[u8],
+) -> Result<(), WriteFailed>
+    requires column { column < 3 }
+    requires begun { innings < begun_in score.now }
+    requires numbers { list_all is_number numbers.now ≡ true }
+    ensures text { ForEachHistory score.now (λ n h. OnOk result (Prints W.contents out.old out.new
+        (waiting.waiting sheet.now h innings column numbers.now))) }
+    ensures failed { OnErr result (has_failed out.new ≡ true) }
+{
+    let Some((number, more)) = numbers.split_first() else {
+        return Ok(());
+    };
+    let Some(player) = Player::new(*number) else {
+        return Ok(());
+    };
+    if !waits(score.batting_row(innings, player).fate) {
+        return print_those(out, sheet, score, innings, column, more);
+    }
+    print_next(out, sheet, score.side(innings), column, player)?;
+    print_those(out, sheet, score, innings, next_column(column), more)
+}
+
+/// Prints all of a side who wait.
+#[tactic(auto, unfolding(crate::specs::Waiting::all_waiting))]
+fn print_all<W: Write>(
+    out: &mut Watched<W>,
+    sheet: &MatchSheet,
+    score: &Match,
+    innings: usize,
+) -> Result<(), WriteFailed>
+    requires { innings < begun_in score.now }
+    ensures text { ForEachHistory score.now (λ n h. OnOk result (Prints W.contents out.old out.new
+        (waiting.all_waiting sheet.now h innings))) }
+    ensures failed { OnErr result (has_failed out.new ≡ true) }
+{
+    let all = [1, 2, 3, 4, 5, 6, 7, 8, 9, 10, 11];
+    print_those(out, sheet, score, innings, 0, &all)
+}
+
+/// Prints the name of a side, before those who wait.
+fn print_head<W: Write>(
+    out: &mut Watched<W>,
+    sheet: &MatchSheet,
+    side: Side,
+) -> Result<(), WriteFailed>
+    ensures text { OnOk result (Prints W.contents out.old out.new (name_of sheet.now side ++ codes ":")) }
+    ensures failed { OnErr result (has_failed out.new ≡ true) }
+{
+    let team = sheet.name(side);
+    write!(out, "{team}:")
+}
+
+/// Prints the side that bats in an innings, and who of it waits.
+fn print_lines<W: Write, B: BookOf>(
+    out: &mut Watched<W>,
+    sheet: &MatchSheet,
+    book: &B,
+    innings: usize,
+) -> Result<(), WriteFailed>
+    requires { innings < begun (history_of (B.content book.now)) }
+    ensures text { OnOk result (Prints W.contents out.old out.new
+        (waiting.waiting_lines sheet.now (history_of (B.content book.now)) innings)) }
+    ensures failed { OnErr result (has_failed out.new ≡ true) }
+{
+    let score = book.score();
+    print_head(out, sheet, score.side(innings))?;
+    print_all(out, sheet, score, innings)?;
+    writeln!(out)
+}
+
+/// Prints who of the side that bats isn't out and isn't in, three in a row.
+pub fn print_waiting<W: Write, B: BookOf>(
+    out: &mut Watched<W>,
+    sheet: &MatchSheet,
+    book: &B,
+) -> Result<(), WriteFailed>
+    ensures text { OnOk result (Prints W.contents out.old out.new
+        (waiting.who_waits sheet.now (history_of (B.content book.now)))) }
+    ensures failed { OnErr result (has_failed out.new ≡ true) }
+{
+    let begun = book.score().begun();
+    if begun == 0 {
+        return writeln!(out, "No play");
+    }
+    print_lines(out, sheet, book, begun - 1)
+}
