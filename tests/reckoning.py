@@ -62,7 +62,7 @@ class Course:
     """The course of a match, line by line."""
 
     def __init__(self):
-        self.innings, self.side, self.all_overs, self.totals = 0, None, [], {}
+        self.innings, self.side, self.all_overs, self.totals, self.falls = 0, None, [], {}, []
         self.begin(False)
 
     def begin(self, is_open):
@@ -72,6 +72,11 @@ class Course:
     def part(self):
         """A partnership begins: its runs and balls, and of them each batter's."""
         self.runs, self.balls, self.shares = 0, 0, {}
+
+    def fall(self):
+        """A wicket falls: after so many overs, and at such a ball of the next one."""
+        self.falls[-1].append(f"{len(self.called)}.{sum(it for _, it, _ in self.over)}")
+        self.part()
 
     def share(self, player):
         return None if player is None else dict(zip(("runs", "balls"), self.shares.get(player, (0, 0))))
@@ -87,13 +92,14 @@ class Course:
         self.is_free = line[2].startswith("nb") or self.is_free and not counts(line)
         self.ends = ends_after(line, self.ends)
         if "out" in line:
-            self.part()
+            self.fall()
 
     def take(self, line):
         word = line[0]
         if word == "innings":
             self.innings, self.side = self.innings + 1, line[1]
             self.totals.setdefault(self.side, 0)
+            self.falls.append([])
         if word in ("innings", "end"):
             self.begin(word == "innings")
         elif word == "over":
@@ -109,7 +115,7 @@ class Course:
         elif word == "gone":
             self.ends = [None if it == int(line[2]) else it for it in self.ends]
             if line[1] != "retiredhurt":
-                self.part()
+                self.fall()
 
 
 def course_of(lines):
@@ -158,7 +164,7 @@ def told(limits, lines, innings, bowler, needs):
 
 def chase(limits, lines):
     """What a desk's row has of a chase of one innings a side, in which no penalty runs were awarded: the total with the overs; a
-    free hit; and at its end what is needed, and from the sixth ball on how many the over has. It is won where that is None."""
+    free hit; at its end, from the sixth ball on, how many the over has; and the row behind it, what is needed. It is won where that is None."""
     course = course_of(lines)
     most, left, balls = overs_of(limits, course)
     total, other = course.totals[course.side], sum(it for side, it in course.totals.items() if side != course.side)
@@ -168,5 +174,6 @@ def chase(limits, lines):
     return (
         f" {total} for {wickets} ({len(course.called)}.{had} of {most})",
         limits.get("free_hits", False) and course.is_free,
-        f"  needs {needs} off {balls}" + (f" ({rated})" if rated else "") + (f"  {had} balls" if had >= 6 else "") if needs > 0 else None,
+        f"  {had} balls" if had >= 6 else "",
+        f"  needs {needs} off {balls}" + (f" ({rated})" if rated else "") if needs > 0 else None,
     )

@@ -1,12 +1,10 @@
 -- What an export tells of its match, in a reader's words: what is looked up in its value.
-use Rattle.std.specs.Prelude.{◌≡◌, ◌≢◌, ℕ, ◌+◌, Bool, true, false, not, bytes_eq, if◌then◌else◌, List, [], ◌∷◌, length, map, codes, Option, Some, None, slice_get}
+use Rattle.std.specs.Prelude.{◌≡◌, ◌≢◌, ℕ, ◌+◌, Bool, true, false, not, bytes_eq, if◌then◌else◌, List, [], ◌∷◌, length, map, codes, Some, None, slice_get}
 use Rattle.std.specs.List.{flat_map, list_any}
-use Rattle.notation.specs.declared.entry.{Entry.Entry, Plain.Plain}
-use Rattle.ball_laws.specs.declared.ends.Ends.{Ends}
-use Rattle.ball_laws.specs.Ends.{dismissed}
+use Rattle.notation.specs.declared.entry.{Entry.Entry}
 use Rattle.ball_laws.specs.History.{History}
 use Rattle.ball_laws.specs.Sums.{tally, count_of}
-use Rattle.match_laws.specs.Figures.{falls, total, wickets}
+use Rattle.match_laws.specs.Figures.{total, wickets}
 use Rattle.corrections.specs.CleanList.{clean, history_of}
 use Rattle.cards.specs.Sheet.{Sheet}
 use Rattle.toml.specs.Data.{Data, Members as Table, get_member}
@@ -15,8 +13,7 @@ use Rattle.toml_datetime.specs.declared.datetime.Date.{Date}
 use Rattle.toml_datetime.specs.Text.{date_text}
 use Rattle.json_fields.specs.Values.{Field, number_value}
 use Rattle.export.specs.declared.notes.Noted.{Noted}
-use Rattle.export.specs.Notes.{items_in, notes}
-use Rattle.export.specs.Falls.{wickets_at}
+use Rattle.export.specs.Notes.{notes}
 use Rattle.export.specs.Given.{IsValueOf, info_in, is_own}
 use Rattle.export.specs.Meta.{day_of, meta_at, meta_of}
 use Rattle.export.specs.Info.{info_of}
@@ -95,18 +92,6 @@ fallen_in innings = tally (λ delivery. count_of has_fallen (wickets_of delivery
 -- as many as fell in an innings that has a delivery: one without any has no place for a wicket
 abbrev pub WicketsAddUp : Sheet → List Entry → Type 0
 WicketsAddUp s book = (i : ℕ) → deliveries_in (innings_at s book i) ≢ [] → fallen_in (innings_at s book i) ≡ wickets (history_of book) i
-
--- who is out by an item, before which these were at the ends
-abbrev pub out_by : Plain → Ends → Option ℕ
-out_by (Plain.Ball b) ends = dismissed b.out ends
-out_by (Plain.Gone way p) ends = Some p
-out_by _ ends = None
-
--- The falls of the card are those of the items at which a wicket falls, one for each, in their order: so each fall of an export
--- has the over and the ball of the item by which that player was out.
-abbrev pub FallsStand : List Entry → Type 0
-FallsStand book =
-    (i : ℕ) → map (λ fall. Some fall.player) (falls (history_of book) i) ≡ map (λ x. out_by x.item x.ends) (wickets_at (items_in i (noted_items book)))
 
 -- each entry stands once, at its place
 pub record HasEachEntry (book : List Entry) : Type 0 where

@@ -45,7 +45,7 @@ own_field s given book = (
   codes "yermudosh",
   object_of (text_field (codes "program") (codes "yermudosh 1") ∷ []
       ++ sheet_fields s given
-      ++ falls_field s (history_of book) (notes [] (clean book)) ∷ []
+      ++ falls_field s (history_of book) ∷ []
       ++ book_field book ∷ []),
 )
 

@@ -16,7 +16,7 @@ use Rattle.cards.specs.Sheet.{plain_sheet}
 use Rattle.json.specs.Json.{Json, string}
 use Rattle.json_fields.specs.Values.{number_value}
 use Rattle.export.specs.Falls.{falls_of}
-use Rattle.export.specs.Laws.{at, innings_at, noted_items}
+use Rattle.export.specs.Laws.{at, innings_at}
 use Rattle.export.specs.Readers.{bat_runs, boundary_in, bowled_in, credited_in, dead_balls, debited_in, faced_in}
 use Rattle.export.specs.Readers.{fours_outrun, noballs_in, over_balls, sixes_outrun, summed, wides_in}
 
@@ -36,7 +36,7 @@ bowler_sums book name =
 
 -- what stands under a key of each fall
 abbrev pub of_falls : List ℕ → List Entry → List Json
-of_falls key book = map (at key) (falls_of (plain_sheet 0 1) (history_of book) (noted_items book) 0)
+of_falls key book = map (at key) (falls_of (plain_sheet 0 1) (history_of book) 0)
 
 -- `examples/two-overs.txt`
 abbrev pub two_overs : List Entry

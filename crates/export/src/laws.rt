@@ -5,15 +5,17 @@
 ghost use Rattle.std.specs.Prelude.{◌≡◌, ℕ, IsUtf8, List, codes, true};
 ghost use Rattle.notation.specs.declared.entry.Entry.{Entry};
 ghost use Rattle.ball_laws.specs.History.{History};
+ghost use Rattle.corrections.specs.CleanList.{history_of};
 ghost use Rattle.corrections.specs.Legal.{IsLegalBook};
 ghost use Rattle.cards.specs.Sheet.{Sheet};
 ghost use Rattle.toml.specs.Data.{Members};
+ghost use Rattle.falls.specs.Laws.{FallsStand};
 ghost use Rattle.json.specs.Json.{string};
 ghost use Rattle.json_fields.specs.Values.{Field};
 ghost use Rattle.export.specs.Document.{is_fine_document};
 ghost use Rattle.export.specs.Escapes.{IsPlain, IsReadBack, is_obeyed};
 ghost use Rattle.export.specs.Given.{HandsOn};
-ghost use Rattle.export.specs.Laws.{FallsStand, HasEachEntry, HasEachKey, LeavesOwn, TellsDay, TellsOfFile, TotalsAddUp, WicketsAddUp, in_meta};
+ghost use Rattle.export.specs.Laws.{HasEachEntry, HasEachKey, LeavesOwn, TellsDay, TellsOfFile, TotalsAddUp, WicketsAddUp, in_meta};
 ghost use Rattle.export.specs.Names.{NamesTwoSides};
 ghost use Rattle.export.specs.WorkedDocuments.{WorkedDocuments};
 
@@ -24,7 +26,8 @@ ghost use Rattle.export.specs.WorkedDocuments.{WorkedDocuments};
 pub fn exports_add_up()
     ensures totals { (s : Sheet) → (n : ℕ) → (book : List Entry) → IsLegalBook n book → TotalsAddUp s book }
     ensures wickets { (s : Sheet) → (n : ℕ) → (book : List Entry) → IsLegalBook n book → WicketsAddUp s book }
-    ensures falls { (n : ℕ) → (book : List Entry) → IsLegalBook n book → FallsStand book }
+    ensures falls { (n : ℕ) → (book : List Entry) → IsLegalBook n book
+        → (i : ℕ) → FallsStand (history_of book) i }
     ensures entries { (book : List Entry) → HasEachEntry book }
 {}
 

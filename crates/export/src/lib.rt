@@ -7,7 +7,7 @@ mod deliveries;
 mod document;
 mod entries;
 mod escapes;
-mod falls;
+mod fall_values;
 mod given;
 mod info;
 mod innings;

@@ -11,11 +11,21 @@ use std::alloc::{AllocError, Global};
 use std::marker::Model;
 
 /// A match sheet whose sides are told apart: where both have one name, each has its word behind it.
-#[derive(Drop)]
 pub struct NamedSheet<'a> {
     sheet: &'a MatchSheet,
     home: String,
     away: String,
+}
+
+// one step for whoever lets it go, in place of one a part
+impl Drop for NamedSheet<'_> {
+    fn drop(self) {
+        let NamedSheet {
+            sheet: _,
+            home: _,
+            away: _,
+        } = self;
+    }
 }
 
 impl<'a> Model for NamedSheet<'a> {

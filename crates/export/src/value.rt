@@ -13,7 +13,7 @@ ghost use Rattle.export.specs.inner.Putting.{PutsExport};
 
 use crate::begun::Begun;
 use crate::entries::put_entries;
-use crate::falls::put_falls;
+use crate::fall_values::put_falls;
 use crate::given::info_or;
 use crate::info::{has_event, put_info};
 use crate::innings::put_all_innings;
@@ -22,6 +22,7 @@ use crate::meta::put_meta;
 use crate::named::NamedSheet;
 use crate::notes::Noted;
 use corrections::BookOf;
+use falls::falls_at;
 use itoa::Buffer;
 use json::Pretty;
 use json_fields::{begin_field, begin_object, end_object, put_figure, put_number, put_text};
@@ -92,17 +93,16 @@ fn put_own<B: BookOf>(
     info: &Table,
     score: &Match,
     book: &B,
-    noted: &[Noted],
 ) -> Result<(), AllocError>
-    requires noted { noted.now ≡ notes [] (clean (B.content book.now)) }
-    requires stands { StandsFor score.now sheet.now.innings (history_of (B.content book.now)) }
+    requires { StandsFor score.now sheet.now.innings (history_of (B.content book.now)) }
     ensures { (given : List Field) → AreFieldsOf (others (table_view info.now)) given
         → PutsFields result out.old out.new (own_field sheet.now given (B.content book.now) ∷ []) }
 {
+    let falls = falls_at(alloc, book)?;
     begin_field(out, "yermudosh")?;
     put_text(out, "program", "yermudosh 1")?;
     put_sheet(out, sheet, info)?;
-    put_falls(alloc, out, sheet, score, noted)?;
+    put_falls(alloc, out, sheet, score, falls.as_slice())?;
     put_entries(alloc, out, book)?;
     end_object(out)
 }
@@ -130,6 +130,6 @@ pub fn put_export<B: BookOf>(
     let info = info_or(document, &empty);
     put_info(alloc, out, sheet, info, score)?;
     put_all_innings(alloc, out, sheet, score, begun, noted)?;
-    put_own(alloc, out, sheet, info, score, book, noted)?;
+    put_own(alloc, out, sheet, info, score, book)?;
     end_object(out)
 }

@@ -1,5 +1,5 @@
 -- The last five overs by what stands, and by the history.
-use Rattle.std.proofs.Common.{arith, ◌≡◌, ◌+◌, ◌*◌, ℕ, min, List, [], ◌∷◌, length, take, refl, ap, ◌∙◌}
+use Rattle.std.proofs.Common.{arith, ◌≡◌, ◌*◌, ℕ, List, [], ◌∷◌, length, take, refl, ap, ◌∙◌}
 use Rattle.notation.specs.declared.entry.{Plain.Plain, Entry.Entry}
 use Rattle.ball_laws.specs.History.{History}
 use Rattle.ball_laws.specs.Sums.{tally}

@@ -1,5 +1,5 @@
 -- An innings with its cards. s is the sheet, h the history and i the innings, numbered from 0.
-use Rattle.std.specs.Prelude.{ℕ, ◌+◌, ◌==◌, Bool, not, ◌&&◌, List, [], ◌∷◌, ◌++◌, map, codes, decimal}
+use Rattle.std.specs.Prelude.{ℕ, ◌+◌, ◌==◌, Bool, not, ◌&&◌, List, [], ◌∷◌, ◌++◌, map, slice_get, Option, Some, None, codes, decimal}
 use Rattle.notation.specs.declared.entry.Side.{Side}
 use Rattle.ball_laws.specs.History.{History}
 use Rattle.match_laws.specs.declared.{score.Extras.Extras, rows.BattingRow.BattingRow, rows.BowlingRow.BowlingRow, rows.Fall.Fall}
@@ -9,7 +9,9 @@ use Rattle.match_laws.specs.Parts.{extras_of, batting_row_of, bowling_row_of}
 use Rattle.cards.specs.Sheet.{Sheet, name_of, player_of}
 use Rattle.cards.specs.Dismissals.{fate_text}
 use Rattle.cards.specs.Bowling.{fielding}
-use Rattle.json.specs.Json.{Json, boolean}
+use Rattle.falls.specs.declared.fallen.FallAt.{FallAt}
+use Rattle.falls.specs.Falls.{falls_at, falls_in, over_and_ball}
+use Rattle.json.specs.Json.{Json, boolean, string}
 use Rattle.json_fields.specs.Values.{Field, array_of, object_of, text_field, number_field, up_to}
 
 -- so many overs, and so many balls of another
@@ -59,18 +61,24 @@ bowler_value s side p row =
     ++ number_field (codes "wides") row.wides ∷ []
     ++ number_field (codes "noballs") row.noballs ∷ [])
 
--- the n-th fall of a side's wickets, at this total
-abbrev pub fall_value : Sheet → Side → ℕ → Fall → Json
-fall_value s side n fall =
-    object_of (number_field (codes "wicket") n ∷ []
+-- the over and the ball of a fall, where it is known
+abbrev pub overs_fields : Option FallAt → List Field
+overs_fields None = []
+overs_fields (Some at) = text_field (codes "overs") (over_and_ball at) ∷ []
+
+-- the fall of a side's wicket behind k others, at this total; those of its innings fell there
+abbrev pub fall_value : Sheet → Side → List FallAt → ℕ → Fall → Json
+fall_value s side there k fall =
+    object_of (number_field (codes "wicket") (k + 1) ∷ []
     ++ number_field (codes "runs") fall.total ∷ []
+    ++ overs_fields (slice_get there k)
     ++ player_field fall.player ∷ []
     ++ text_field (codes "name") (player_of s side fall.player) ∷ [])
 
--- the value of each of these, with its number from n on
+-- the value of each of these, with how many stand before it
 abbrev pub values_from : {X : Type 0} → (ℕ → X → Json) → ℕ → List X → List Json
-values_from value n [] = []
-values_from value n (x ∷ xs) = value n x ∷ values_from value (n + 1) xs
+values_from value k [] = []
+values_from value k (x ∷ xs) = value k x ∷ values_from value (k + 1) xs
 
 -- players p of innings i
 abbrev pub batter_of : Sheet → History → ℕ → ℕ → Json
@@ -88,7 +96,7 @@ abbrev pub bowling : Sheet → History → ℕ → List Json
 bowling s h i = map (bowler_of s h i) (bowling_order h i)
 
 abbrev pub falls_values : Sheet → History → ℕ → List Json
-falls_values s h i = values_from (fall_value s (side_of h i)) 1 (falls h i)
+falls_values s h i = values_from (fall_value s (side_of h i) (falls_in (i + 1) (falls_at h))) 0 (falls h i)
 
 abbrev pub overs_field : History → ℕ → Field
 overs_field h i = text_field (codes "overs") (overs_text (overs h i) (balls h i))
@@ -103,9 +111,14 @@ score_fields s h i =
     ++ (codes "closed", boolean (is_closed h i)) ∷ []
     ++ (codes "extras", extras_value (extras_of h i)) ∷ []
 
+-- the names of a side's eleven, in the order of their numbers
+abbrev pub names_of : Sheet → Side → List Json
+names_of s side = up_to (λ k. string (player_of s side (k + 1)) ∷ []) 11
+
 abbrev pub innings_value : Sheet → History → ℕ → Json
 innings_value s h i =
     object_of (score_fields s h i
+    ++ (codes "players", array_of (names_of s (side_of h i))) ∷ []
     ++ (codes "batting", array_of (batting s h i)) ∷ []
     ++ (codes "bowling", array_of (bowling s h i)) ∷ []
     ++ (codes "falls", array_of (falls_values s h i)) ∷ [])

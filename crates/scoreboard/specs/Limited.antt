@@ -1,6 +1,6 @@
 -- What a board tells of what the sheet limits, and of what follows. s is the sheet, n the innings a side, h the history and i
 -- the innings.
-use Rattle.std.specs.Prelude.{ℕ, ◌==◌, ◌&&◌, Bool, false, if◌then◌else◌, List, [], ◌∷◌, ◌++◌, Option, Some, None, map, option_map, codes}
+use Rattle.std.specs.Prelude.{ℕ, ◌==◌, ◌&&◌, Bool, false, if◌then◌else◌, List, [], ◌∷◌, ◌++◌, Option, Some, None, map, codes}
 use Rattle.ball_laws.specs.History.{History}
 use Rattle.match_laws.specs.History.{begun, is_open}
 use Rattle.match_laws.specs.Result.{current}

@@ -1,5 +1,5 @@
 -- The runs off each over that was called, of all innings, the oldest first.
-use Rattle.std.specs.Prelude.{ℕ, List, [], ◌∷◌, ◌++◌, map, codes}
+use Rattle.std.specs.Prelude.{List, [], ◌∷◌, ◌++◌, map, codes}
 use Rattle.notation.specs.declared.entry.Plain.{Plain}
 use Rattle.ball_laws.specs.History.{History, open_over}
 use Rattle.ball_laws.specs.Sums.{tally}

@@ -1,11 +1,15 @@
 //! The rows of an innings' cards.
 
-ghost use Rattle.std.specs.Prelude.{◌≡◌, ◌<◌, ◌∷◌, [], IfOk, codes, string_bytes};
+ghost use Rattle.std.specs.Prelude.{◌≡◌, ◌<◌, ◌∷◌, [], IfOk, codes, slice_get, string_bytes};
+ghost use Rattle.falls.specs.Falls.{falls_at};
+ghost use Rattle.match_laws.specs.Figures as figures;
+ghost use Rattle.match_laws.specs.History.{side_of};
 ghost use Rattle.match_laws.specs.Stands.{ForEachHistory, begun_in};
 ghost use Rattle.json_fields.specs.Values.{PutsFields, PutsValues, text_field};
 ghost use Rattle.scoreboard.specs.Innings as laws;
 
 use cards::{MatchSheet, fate_text};
+use falls::{FallAt, falls_in, over_and_ball};
 use itoa::Buffer;
 use json_fields::{Compact, begin_object, end_object, put_figure, put_text};
 use match_laws::{BattingRow, BowlingRow, Fall, Match, opponent};
@@ -100,20 +104,42 @@ fn put_bowler(
     end_object(out)
 }
 
-/// Puts the fall of a side's wicket, by its number from 1.
+/// The fall at an index, where there is one.
+fn fall_there(there: &[FallAt], index: usize) -> Option<FallAt>
+    ensures { result ≡ slice_get there.now index }
+{
+    there.get(index).copied()
+}
+
+/// Puts the over and the ball of a fall, where they are known.
+fn put_overs_at(out: &mut Compact, alloc: Global, at: Option<FallAt>) -> Result<(), AllocError>
+    ensures { PutsFields result out.old out.new (laws.overs_fields at) }
+{
+    let Some(at) = at else {
+        return Ok(());
+    };
+    let text = over_and_ball(alloc, at)?;
+    put_text(out, "overs", text.as_str())
+}
+
+/// Puts the fall of a side's wicket, behind so many others; those of its innings fell there.
 fn put_fall(
     out: &mut Compact,
+    alloc: Global,
     sheet: &MatchSheet,
     side: Side,
-    number: u32,
+    there: &[FallAt],
+    index: usize,
     fall: &Fall,
 ) -> Result<(), AllocError>
+    requires { index < 10 }
     ensures { PutsValues result out.old out.new
-        (laws.fall_value sheet.now side number fall.now ∷ []) }
+        (laws.fall_value sheet.now side there.now index fall.now ∷ []) }
 {
     begin_object(out)?;
-    put_figure(out, "wicket", number)?;
+    put_figure(out, "wicket", index as u32 + 1)?;
     put_figure(out, "runs", fall.total)?;
+    put_overs_at(out, alloc, fall_there(there, index))?;
     put_number_of(out, fall.player)?;
     put_text(out, "name", sheet.player(side, fall.player))?;
     end_object(out)
@@ -202,23 +228,44 @@ pub fn put_bowlers(
     Ok(())
 }
 
-/// Puts the falls of an innings.
-pub fn put_falls(
+/// Puts each fall of an innings; its wickets fell there.
+fn put_each_fall(
     out: &mut Compact,
+    alloc: Global,
     sheet: &MatchSheet,
     score: &Match,
     innings: usize,
+    there: &[FallAt],
 ) -> Result<(), AllocError>
     requires { innings < begun_in score.now }
-    ensures { ForEachHistory score.now (λ n h.
-        PutsValues result out.old out.new (laws.falls_values sheet.now h innings)) }
+    ensures { ForEachHistory score.now (λ n h. PutsValues result out.old out.new
+        (laws.values_from (laws.fall_value sheet.now (side_of h innings) there.now) 0 (figures.falls h innings))) }
 {
     let side = score.side(innings);
     let falls = score.falls(innings);
     for (index, place) in falls.iter().enumerate() {
         if let Some(fall) = place {
-            put_fall(out, sheet, side, index as u32 + 1, fall)?;
+            put_fall(out, alloc, sheet, side, there, index, fall)?;
         }
     }
     Ok(())
+}
+
+/// Puts the falls of an innings, by where the wickets of all innings fell.
+pub fn put_falls(
+    out: &mut Compact,
+    alloc: Global,
+    sheet: &MatchSheet,
+    score: &Match,
+    innings: usize,
+    falls: &[FallAt],
+) -> Result<(), AllocError>
+    requires { innings < begun_in score.now }
+    ensures { ForEachHistory score.now (λ n h. falls.now ≡ falls_at h →
+        PutsValues result out.old out.new (laws.falls_values sheet.now h innings)) }
+{
+    let begun = score.begun();
+    prove!(innings < begun);
+    let there = falls_in(alloc, innings + 1, falls)?;
+    put_each_fall(out, alloc, sheet, score, innings, there.as_slice())
 }

@@ -1,19 +1,23 @@
 //! An innings with its cards.
 
-ghost use Rattle.std.specs.Prelude.{◌≡◌, ◌<◌, ◌∷◌, [], codes};
+ghost use Rattle.std.specs.Prelude.{◌≡◌, ◌+◌, ◌<◌, ◌∷◌, [], codes};
+ghost use Rattle.match_laws.specs.History.{side_of};
 ghost use Rattle.match_laws.specs.Parts.{extras_of};
 ghost use Rattle.match_laws.specs.Stands.{ForEachHistory, begun_in};
 ghost use Rattle.json.specs.Json.{boolean};
 ghost use Rattle.json_fields.specs.Values.{PutsFields, PutsValues, array_of};
+ghost use Rattle.falls.specs.Falls.{falls_at};
 ghost use Rattle.scoreboard.specs.Innings as laws;
 
 use crate::cards_put::{put_batters, put_bowlers, put_falls, put_overs};
 use cards::MatchSheet;
+use falls::FallAt;
 use json_fields::{
     Compact, begin_array, begin_field, begin_object, end_array, end_object, put_bool, put_figure,
-    put_text,
+    put_string, put_text,
 };
 use match_laws::{Extras, Match};
+use notation::{Player, Side};
 use std::alloc::{AllocError, Global};
 
 /// Puts the extras of an innings.
@@ -75,6 +79,41 @@ fn put_score(
     put_extras(out, &score.extras(innings))
 }
 
+/// The player at an index, from 0 to 10.
+fn player_at(index: u8) -> Player
+    requires { index < 11 }
+    ensures { result ≡ index + 1 }
+{
+    Player::new(index + 1).unwrap()
+}
+
+/// Puts the names of a side's players.
+fn put_names(out: &mut Compact, sheet: &MatchSheet, side: Side) -> Result<(), AllocError>
+    ensures { PutsValues result out.old out.new (laws.names_of sheet.now side) }
+{
+    for index in 0..11 {
+        put_string(out, sheet.player(side, player_at(index)))?;
+    }
+    Ok(())
+}
+
+/// Puts the field of them, of the side that bats.
+fn put_players(
+    out: &mut Compact,
+    sheet: &MatchSheet,
+    score: &Match,
+    innings: usize,
+) -> Result<(), AllocError>
+    requires { innings < begun_in score.now }
+    ensures { ForEachHistory score.now (λ n h.
+        PutsFields result out.old out.new
+        ((codes "players", array_of (laws.names_of sheet.now (side_of h innings))) ∷ [])) }
+{
+    begin_array(out, "players")?;
+    put_names(out, sheet, score.side(innings))?;
+    end_array(out)
+}
+
 /// Puts the batting card.
 fn put_batting(
     out: &mut Compact,
@@ -111,71 +150,77 @@ fn put_bowling(
     end_array(out)
 }
 
-/// Puts the fall of wickets.
+/// Puts the fall of wickets, by where those of all innings fell.
 fn put_falls_of(
     out: &mut Compact,
+    alloc: Global,
     sheet: &MatchSheet,
     score: &Match,
     innings: usize,
+    falls: &[FallAt],
 ) -> Result<(), AllocError>
     requires { innings < begun_in score.now }
-    ensures { ForEachHistory score.now (λ n h.
+    ensures { ForEachHistory score.now (λ n h. falls.now ≡ falls_at h →
         PutsFields result out.old out.new
         ((codes "falls", array_of (laws.falls_values sheet.now h innings)) ∷ [])) }
 {
     begin_array(out, "falls")?;
-    put_falls(out, sheet, score, innings)?;
+    put_falls(out, alloc, sheet, score, innings, falls)?;
     end_array(out)
 }
 
-/// Puts an innings.
+/// Puts an innings, by where the wickets of all innings fell.
 fn put_innings(
     out: &mut Compact,
     alloc: Global,
     sheet: &MatchSheet,
     score: &Match,
     innings: usize,
+    falls: &[FallAt],
 ) -> Result<(), AllocError>
     requires { innings < begun_in score.now }
-    ensures { ForEachHistory score.now (λ n h.
+    ensures { ForEachHistory score.now (λ n h. falls.now ≡ falls_at h →
         PutsValues result out.old out.new (laws.innings_value sheet.now h innings ∷ [])) }
 {
     begin_object(out)?;
     put_score(out, alloc, sheet, score, innings)?;
+    put_players(out, sheet, score, innings)?;
     put_batting(out, alloc, sheet, score, innings)?;
     put_bowling(out, alloc, sheet, score, innings)?;
-    put_falls_of(out, sheet, score, innings)?;
+    put_falls_of(out, alloc, sheet, score, innings, falls)?;
     end_object(out)
 }
 
-/// Puts each innings that has begun.
+/// Puts each innings that has begun, by where the wickets of all fell.
 fn put_each(
     out: &mut Compact,
     alloc: Global,
     sheet: &MatchSheet,
     score: &Match,
+    falls: &[FallAt],
 ) -> Result<(), AllocError>
-    ensures { ForEachHistory score.now (λ n h.
+    ensures { ForEachHistory score.now (λ n h. falls.now ≡ falls_at h →
         PutsValues result out.old out.new (laws.all_innings sheet.now h)) }
 {
     for innings in 0..score.begun() {
-        put_innings(out, alloc, sheet, score, innings)?;
+        put_innings(out, alloc, sheet, score, innings, falls)?;
     }
     Ok(())
 }
 
-/// Puts the field of all innings that have begun.
+/// Puts the field of all innings that have begun, by where the wickets of all fell.
 pub fn put_all_innings(
     out: &mut Compact,
     alloc: Global,
     sheet: &MatchSheet,
     score: &Match,
+    falls: &[FallAt],
 ) -> Result<(), AllocError>
-    ensures { ForEachHistory score.now (λ n h.
+    ensures { ForEachHistory score.now (λ n h. falls.now ≡ falls_at h →
         PutsFields result out.old out.new
         ((codes "innings", array_of (laws.all_innings sheet.now h)) ∷ [])) }
 {
     begin_array(out, "innings")?;
-    put_each(out, alloc, sheet, score)?;
+    put_each(out, alloc, sheet, score, falls)?;
     end_array(out)
 }

@@ -5,11 +5,14 @@
 ghost use Rattle.std.specs.Prelude.{ℕ};
 ghost use Rattle.ball_laws.specs.History.{History, IsInRange};
 ghost use Rattle.match_laws.specs.Refusals.{IsLegal};
+ghost use Rattle.falls.specs.Laws.{FallsStand};
 ghost use Rattle.scoreboard.specs.Laws.{AddsUp, CountsThisOver};
 
-/// The runs of an innings are those of its batters and its extras; as many falls stand there as wickets fell; the
-/// deliveries of this over that count are the balls behind the point of the innings' overs.
+/// The runs of an innings are those of its batters and its extras; as many falls stand there as wickets fell, each with the over
+/// and the ball by which that player was out; the deliveries of this over that count are the balls behind the point of the
+/// innings' overs.
 pub fn boards_add_up()
     ensures innings { (n : ℕ) → (h : History) → IsLegal n h → IsInRange h → (i : ℕ) → AddsUp h i }
+    ensures falls { (n : ℕ) → (h : History) → IsLegal n h → (i : ℕ) → FallsStand h i }
     ensures this_over { (h : History) → CountsThisOver h }
 {}

@@ -3,6 +3,7 @@
 ghost use Rattle.std.specs.Prelude.{◌≡◌, ◌∷◌, []};
 ghost use Rattle.match_laws.specs.Stands.{ForEachHistory};
 ghost use Rattle.corrections.specs.Overs.{AreOversOf};
+ghost use Rattle.falls.specs.Falls.{falls_at};
 ghost use Rattle.json_fields.specs.Values.{PutsFields, PutsValues};
 ghost use Rattle.scoreboard.specs.Limited.{told_of};
 ghost use Rattle.scoreboard.specs.OverRuns.{over_runs};
@@ -17,6 +18,7 @@ use crate::stand::Partnership;
 use crate::told::Told;
 use cards::MatchSheet;
 use corrections::Overs;
+use falls::FallAt;
 use itoa::Buffer;
 use json_fields::{Compact, begin_object, end_object, put_figure, put_text};
 use match_laws::Match;
@@ -33,7 +35,8 @@ fn put_head(out: &mut Compact, sheet: &MatchSheet, entries: u32) -> Result<(), A
     put_figure(out, "entries", entries)
 }
 
-/// Puts the state of a board whose book has so many entries and this score, these overs, and what follows of its limits.
+/// Puts the state of a board whose book has so many entries and this score, these overs, what follows of its limits, and whose wickets
+/// fell there.
 pub fn put_board(
     out: &mut Compact,
     alloc: Global,
@@ -44,15 +47,16 @@ pub fn put_board(
     told: &Told,
     partnership: Option<Partnership>,
     runs: &[OverRuns],
+    falls: &[FallAt],
 ) -> Result<(), AllocError>
     ensures { ForEachHistory score.now (λ n h. AreOversOf overs.now h → told.now ≡ told_of sheet.now n h → partnership ≡ partnership_now h →
-        runs.now ≡ over_runs h →
+        runs.now ≡ over_runs h → falls.now ≡ falls_at h →
         PutsValues result out.old out.new (laws.value_of sheet.now n entries h ∷ [])) }
 {
     begin_object(out)?;
     put_head(out, sheet, entries)?;
     put_limits(out, sheet.limits())?;
-    put_all_innings(out, alloc, sheet, score)?;
+    put_all_innings(out, alloc, sheet, score, falls)?;
     put_now(out, alloc, sheet, score, overs, told, partnership)?;
     put_over_runs(out, runs)?;
     end_object(out)

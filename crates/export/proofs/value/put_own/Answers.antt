@@ -1,3 +1,4 @@
+use Rattle.std.proofs.Common.{◌∙◌}
 use Rattle.json_fields.proofs.Putting.{◌▸◌, begins, is_object_field}
 use Rattle.export.proofs.value.put_own.Goals as goal
 
@@ -5,4 +6,4 @@ pub returns : goal.returns
 returns g c = λ given are.
     is_object_field c.end_object.result _
     (begins c.in_ok-begin_field.ensures ▸ c.in_ok-put_text.ensures ▸ (c.in_ok-put_sheet.ensures given are)
-    ▸ (rw c.requires.noted at (c.in_ok-put_falls.ensures _ _ c.requires.stands)) ▸ c.in_ok-put_entries.ensures) c.end_object.ensures
+    ▸ (c.in_ok-put_falls.ensures _ _ c.requires (c.as_slice.ensures.value ∙ c.in_ok-falls.ensures)) ▸ c.in_ok-put_entries.ensures) c.end_object.ensures

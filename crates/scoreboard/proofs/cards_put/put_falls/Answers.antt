@@ -1,25 +1,5 @@
-use Rattle.std.proofs.Common.{◌∙◌, ap, rules, Some}
-use Rattle.std.proofs.lemmas.Option.{slice_get-get_or}
-use Rattle.cards.proofs.Slots.{begins, goes_on, skips, ends}
-use Rattle.scoreboard.specs.Innings.{fall_value}
-use Rattle.scoreboard.proofs.Rows.{putting, parts_from-values}
 use Rattle.scoreboard.proofs.cards_put.put_falls.Goals as goal
-use Rattle.scoreboard.proofs.cards_put.put_falls.Goals.{in-Some+in_ok-put_fall, in_default}
-
-pub loop-index-init : goal.loop-index-init
-loop-index-init c = begins putting
-
-pub loop-index-preserved : goal.loop-index-preserved
-loop-index-preserved c =
-    let m = c.loop-index.invariant in
-    let here = slice_get-get_or c.falls-falls.result c.loop-index.index c.place-item.result (search rules) in
-    elim c.match-place.branch [
-      | in-Some+in_ok-put_fall w ↦ rw w.out-is (goes_on putting m (here ∙ ap Some w.in-Some.is) w.in_ok-put_fall.ensures)
-      | in_default w ↦ rw w.out-is (skips putting m (here ∙ ap Some w.in_default.is))
-    ]
 
 pub returns : goal.returns
-returns c = λ n h s.
-    let falls = c.falls-falls in
-    rw (← c.side-side.ensures n h s, ← parts_from-values (fall_value c.args.sheet.now c.side-side.result) 1 _)
-    (ends putting 10 _ c.loop-index.invariant c.loop-index-test.false (falls.ensures.filled n h s) (falls.ensures.all n h s))
+returns c = λ n h s falls.
+    rw (← falls, ← c.in_ok-there.ensures, ← c.as_slice.ensures.value) (c.put_each_fall.ensures n h s)

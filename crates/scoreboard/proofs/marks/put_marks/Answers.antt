@@ -4,7 +4,7 @@ use Rattle.std.proofs.lemmas.List.{map_push, reverse-append}
 use Rattle.std.proofs.lemmas.Option.{slice_get_read}
 use Rattle.notation.specs.declared.entry.{Ball.Ball, Plain.Plain}
 use Rattle.corrections.specs.declared.placed.Placed.{Placed}
-use Rattle.corrections.specs.Overs.{balls_of, bowled, with_balls}
+use Rattle.corrections.specs.Overs.{bowled, with_balls}
 use Rattle.json.specs.Json.{Json, string}
 use Rattle.json_fields.proofs.Putting.{adds_each, ends_each, no_values}
 use Rattle.cards.specs.Marks.{mark_of}

@@ -1,4 +1,4 @@
-use Rattle.std.proofs.Common.{◌≡◌, sym, ap, ◌∙◌, arith}
+use Rattle.std.proofs.Common.{sym, ap, ◌∙◌, arith}
 use Rattle.ball_laws.specs.Laws.{state_after}
 use Rattle.cards.proofs.Pages.{kept_later, kept_next}
 use Rattle.scoreboard.proofs.ShareLemmas.{shares_one, shares_played}

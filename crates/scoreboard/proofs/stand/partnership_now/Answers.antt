@@ -1,4 +1,4 @@
-use Rattle.std.proofs.Common.{ap, ◌∙◌, Some, refl}
+use Rattle.std.proofs.Common.{ap, Some, refl}
 use Rattle.scoreboard.proofs.ShareLemmas.{played}
 use Rattle.scoreboard.proofs.stand.partnership_now.Goals as goal
 

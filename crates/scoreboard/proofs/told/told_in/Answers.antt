@@ -1,4 +1,4 @@
-use Rattle.std.proofs.Common.{◌≡◌, ap, ◌∙◌}
+use Rattle.std.proofs.Common.{ap, ◌∙◌}
 use Rattle.corrections.specs.CleanList.{history_of}
 use Rattle.limits.specs.Limits.{Limits}
 use Rattle.limits.specs.Rates.{an_over, a_ball}

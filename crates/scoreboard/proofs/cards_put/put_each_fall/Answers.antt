@@ -1,10 +1,10 @@
 use Rattle.std.proofs.Common.{◌≡◌, ◌+◌, ◌∙◌, ap, arith, rules, Some}
 use Rattle.std.proofs.lemmas.Option.{slice_get-get_or}
 use Rattle.cards.proofs.Slots.{begins, goes_on, skips, ends}
-use Rattle.export.specs.Falls.{fall_value}
-use Rattle.export.proofs.FallLemmas.{parts_from-falls, putting}
-use Rattle.export.proofs.falls.put_each.Goals as goal
-use Rattle.export.proofs.falls.put_each.Goals.{in-Some+in_ok-put_fall, in_default}
+use Rattle.scoreboard.specs.Innings.{fall_value}
+use Rattle.scoreboard.proofs.Rows.{putting, parts_from-values}
+use Rattle.scoreboard.proofs.cards_put.put_each_fall.Goals as goal
+use Rattle.scoreboard.proofs.cards_put.put_each_fall.Goals.{in-Some+in_ok-put_fall, in_default}
 
 pub loop-index-init : goal.loop-index-init
 loop-index-init c = begins putting
@@ -22,5 +22,5 @@ loop-index-preserved c =
 pub returns : goal.returns
 returns c = λ n h s.
     let falls = c.falls-falls in
-    rw (← c.side-side.ensures n h s, ← parts_from-falls (fall_value c.args.sheet.now c.side-side.result c.args.innings c.args.wickets.now) 0 _)
+    rw (← c.side-side.ensures n h s, ← parts_from-values (fall_value c.args.sheet.now c.side-side.result c.args.there.now) 0 _)
     (ends putting 10 _ c.loop-index.invariant c.loop-index-test.false (falls.ensures.filled n h s) (falls.ensures.all n h s))

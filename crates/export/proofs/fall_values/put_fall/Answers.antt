@@ -1,9 +1,9 @@
 use Rattle.json_fields.proofs.Putting.{◌▸◌, begins, is_object}
-use Rattle.export.proofs.falls.put_fall.Goals as goal
+use Rattle.export.proofs.fall_values.put_fall.Goals as goal
 
 pub returns : goal.returns
 returns c =
     is_object c.end_object.result _
     (begins c.in_ok-begin_object.ensures ▸ c.in_ok-put_figure.ensures ▸ c.in_ok-put_figure-2.ensures ▸ c.in_ok-put_figure-3.ensures
-    ▸ (rw c.wicket_at.ensures at c.in_ok-put_overs.ensures) ▸ c.in_ok-put_player.ensures
+    ▸ (rw c.fall_there.ensures at c.in_ok-put_overs.ensures) ▸ c.in_ok-put_player.ensures
     ▸ (rw c.player.ensures at c.in_ok-put_text.ensures)) c.end_object.ensures

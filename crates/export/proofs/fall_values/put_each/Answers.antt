@@ -1,0 +1,26 @@
+use Rattle.std.proofs.Common.{◌≡◌, ◌+◌, ◌∙◌, ap, arith, rules, Some}
+use Rattle.std.proofs.lemmas.Option.{slice_get-get_or}
+use Rattle.cards.proofs.Slots.{begins, goes_on, skips, ends}
+use Rattle.export.specs.Falls.{fall_value}
+use Rattle.export.proofs.FallLemmas.{parts_from-falls, putting}
+use Rattle.export.proofs.fall_values.put_each.Goals as goal
+use Rattle.export.proofs.fall_values.put_each.Goals.{in-Some+in_ok-put_fall, in_default}
+
+pub loop-index-init : goal.loop-index-init
+loop-index-init c = begins putting
+
+pub loop-index-preserved : goal.loop-index-preserved
+loop-index-preserved c =
+    let m = c.loop-index.invariant in
+    let same : c.loop-index.index + 0 ≡ c.loop-index.index = omega arith in
+    let here = slice_get-get_or c.falls-falls.result c.loop-index.index c.place-item.result (search rules) in
+    elim c.match-place.branch [
+      | in-Some+in_ok-put_fall w ↦ rw w.out-is (goes_on putting m (here ∙ ap Some w.in-Some.is) (rw same w.in_ok-put_fall.ensures))
+      | in_default w ↦ rw w.out-is (skips putting m (here ∙ ap Some w.in_default.is))
+    ]
+
+pub returns : goal.returns
+returns c = λ n h s.
+    let falls = c.falls-falls in
+    rw (← c.side-side.ensures n h s, ← parts_from-falls (fall_value c.args.sheet.now c.side-side.result c.args.innings c.args.there.now) 0 _)
+    (ends putting 10 _ c.loop-index.invariant c.loop-index-test.false (falls.ensures.filled n h s) (falls.ensures.all n h s))

@@ -1,0 +1,2 @@
+pub mod FallingLemmas
+pub mod LawLemmas
