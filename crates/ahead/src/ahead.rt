@@ -2,10 +2,10 @@
 
 ghost use Rattle.std.specs.Prelude.{◌≡◌, [], List, false, true};
 ghost use Rattle.links.specs.Typing.{Input, IsTyped};
-ghost use Rattle.ahead.specs.Ahead.{given_of, typed_of};
+ghost use Rattle.ahead.specs.Ahead.{given_of, held_of, typed_of};
 
 use crate::queue::Queue;
-use links::{Keys, Stand, Typed};
+use links::{HeldLine, Keys, Stand, Typed};
 
 /// A scorer's lines, of which some are held: the desk is given what was typed, and when.
 #[derive(Drop)]
@@ -28,6 +28,13 @@ impl<K: Keys> Ahead<K> {
         }
     }
 
+    /// The lines that are held, the oldest first.
+    pub fn held(&self) -> &[HeldLine]
+        ensures { result.now ≡ held_of (self.now.queue).log }
+    {
+        self.queue.held.as_slice()
+    }
+
     /// The keyboard.
     pub fn keys(&self) -> &K
         ensures { result.now ≡ self.now.keys }
@@ -37,7 +44,6 @@ impl<K: Keys> Ahead<K> {
 }
 
 impl<K: Keys> Keys for Ahead<K> {
-    ghost use Rattle.ahead.specs.Ahead.{given_of, held_of};
     ghost use Rattle.ahead.specs.Dropping.{differs_since, dropped_by, is_not_taken};
 
     ghost inputs = { λ ahead. given_of (ahead.queue).log };

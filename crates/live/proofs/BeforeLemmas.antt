@@ -8,9 +8,8 @@ use Rattle.links.specs.Typing.{Line}
 use Rattle.screen.specs.Words.{is_end, trimmed, word_of}
 use Rattle.screen.specs.declared.word.Word.{Word}
 use Rattle.ahead.specs.declared.sorts.Sort.{Sort}
-use Rattle.ahead.specs.declared.log.AheadLog.{AheadLog}
 use Rattle.ahead.specs.Ahead.{bytes_of, casting, given_of, held_of, kept_of}
-use Rattle.ahead.specs.Order.{AreAmong, CastsInOrder}
+use Rattle.ahead.specs.Order.{AreAmong}
 use Rattle.ahead.specs.Sorts.{by_word, casts, may_cast, says_again}
 use Rattle.ahead.proofs.OrderLemmas.{among_front, among_joined, among_through, casting_more}
 use Rattle.live.specs.Before.{VotesWereTyped, line_said, lines_said}

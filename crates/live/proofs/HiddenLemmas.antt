@@ -62,6 +62,7 @@ hides_the_other view = record {
   cast = only_cast;
   noted = not_by_noted;
   whether = not_by_which;
+  shown = λ sheet innings k e. refl;
   told = told_of_any;
   stored = λ rules k l own out h. h.1.4;
 }

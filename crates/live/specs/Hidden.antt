@@ -15,6 +15,7 @@ use Rattle.cards.specs.Sheet.{Sheet}
 use Rattle.screen.specs.declared.word.Word.{Word}
 use Rattle.live.specs.declared.{reminder.Reminder.Reminder, said.Said.Said}
 use Rattle.live.specs.Desks.{DeskCall, DeskProcess, Given, MayRemind, Typed, loss_in, own_line, told_of}
+use Rattle.live.specs.DeskSights.{desk_sight}
 use Rattle.live.specs.Texts.{at_place, both_lines}
 
 -- the same seat, desk and process, with another vote of the other desk noted, or none
@@ -41,7 +42,8 @@ AsksWhere call = (line : List ℕ) × (call ≡ Typed line (Said.Asks Word.Where
 -- only asks and votes for earlier positions do, unless the answer is `Differ`, which is given only where the own vote was
 -- cast before; and it depends on no vote that is noted, unless a vote is penned that differs from it, which is stored
 -- then; where the scorer asks where the desk stands, it depends on whether a vote is noted, and not on which, and so does
--- it whether he may be reminded. So two runs that differ in that entry alone print the same until then.
+-- it whether he may be reminded; and what is seen of the desk beside its rows depends on no vote that is noted. So two
+-- runs that differ in that entry alone print the same until then.
 pub record HidesTheOther {Disk : Type 0} (view : FileView Disk) : Type 0 where
   pub answer : (s t : SeatState) (v : Vote) (h : Heard) → s.mine ≡ None → s.theirs ≡ None → IsForNow s v → Hears s v h t
       → h ≡ Heard.Noted
@@ -60,6 +62,8 @@ pub record HidesTheOther {Disk : Type 0} (view : FileView Disk) : Type 0 where
       → (IsPennedDiffering call → ⊥)
       → told_of sheet innings (process_with k (Some e)) call (process_with l o)
       ≡ told_of sheet innings (process_with k (Some f)) call (process_with l p)
+  pub shown : (sheet : Sheet) (innings : ℕ) (k : DeskState Disk) (e : Option Entry)
+      → desk_sight sheet innings (desk_with k e) ≡ desk_sight sheet innings k
   pub told : (k : DeskProcess Disk) (reminder : Reminder) (e f : Entry)
       → MayRemind (process_with k (Some e)) reminder → MayRemind (process_with k (Some f)) reminder
   pub stored : (rules : Rules BookRefusal) (k l : DeskState Disk) (own : Entry) (out : List Message)

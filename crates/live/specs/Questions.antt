@@ -40,6 +40,7 @@ unclear_text sheet (Unclear.TwoMeanings letter) = meanings letter
 unclear_text sheet (Unclear.NoFielder how name) =
     way_text how ++ codes " has no fielder: " ++ name.bytes ++ codes " bowls?\n"
 unclear_text sheet (Unclear.UnknownWord word) = unknown_text word.bytes
+unclear_text sheet (Unclear.NoSuchBall name) = codes "no such ball: " ++ name.bytes ++ codes "\n"
 unclear_text sheet (Unclear.WhichPlayer side name) =
     codes "which one? " ++ listed (team_of sheet side) true (candidates (team_of sheet side) name.bytes) ++ codes "\n"
 unclear_text sheet Unclear.NothingStands = codes "undo: no entry stands\n"

@@ -25,8 +25,10 @@ use Rattle.changes.specs.Before.{item_with}
 use Rattle.changes.specs.Text.{last_changes}
 use Rattle.screen.specs.Row.{aim, row}
 use Rattle.screen.specs.OverCheck.{over_check}
-use Rattle.screen.specs.Both.{both_cards}
-use Rattle.screen.specs.Listing.{listing}
+use Rattle.screen.specs.Both.{both_cards, cards_number}
+use Rattle.screen.specs.Listing.{listing, range}
+use Rattle.screen.specs.OverEntries.{over_by_side, over_last}
+use Rattle.screen.specs.Waiting.{who_waits}
 use Rattle.screen.specs.Sides.{both_sides}
 use Rattle.screen.specs.Limited.{bowlers}
 use Rattle.screen.specs.Help.{help, help_on}
@@ -174,10 +176,15 @@ standing sheet innings book at own waited silent =
 abbrev pub word_text : Sheet → ℕ → Position → Option Entry → Bool → Bool → List Entry → Word → List ℕ
 word_text sheet innings at own waited silent book Word.Where = standing sheet innings book at own waited silent
 word_text sheet innings at own waited silent book (Word.Entries most) = listing most book
+word_text sheet innings at own waited silent book (Word.Range first last) = range first last book
+word_text sheet innings at own waited silent book (Word.Over number) = over_last sheet book number
+word_text sheet innings at own waited silent book (Word.OverOf number side which) = over_by_side sheet book number side which
 word_text sheet innings at own waited silent book Word.Total = over_check sheet (history_of book)
 word_text sheet innings at own waited silent book Word.Cards = both_cards sheet (history_of book)
+word_text sheet innings at own waited silent book (Word.CardsOf number) = cards_number sheet (history_of book) number
 word_text sheet innings at own waited silent book Word.Sides = both_sides sheet
 word_text sheet innings at own waited silent book Word.Bowlers = bowlers sheet (history_of book)
+word_text sheet innings at own waited silent book Word.Waiting = who_waits sheet (history_of book)
 word_text sheet innings at own waited silent book Word.Forms = help
 word_text sheet innings at own waited silent book (Word.More topic) = help_on topic
 

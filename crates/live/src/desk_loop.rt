@@ -9,6 +9,7 @@ ghost use Rattle.streams.specs.Watched.{Prints, has_failed, stream_of};
 ghost use Rattle.desk.specs.Desk.{disk_of, state_of};
 ghost use Rattle.live.specs.Desks as desks;
 ghost use Rattle.live.specs.Desks.{DeskGoes, DeskRuns, FitsLongest, innings_of, process_of};
+ghost use Rattle.live.specs.DeskSights.{IsShown, desk_sight};
 ghost use Rattle.live.specs.Ends as ends;
 ghost use Rattle.live.specs.Ends.{course_of, further, known_at, turns_after};
 ghost use Rattle.live.specs.Paces.{ticking_of};
@@ -28,6 +29,7 @@ use crate::news::{print_came, print_unopened};
 use crate::pace::Pace;
 use crate::peer::Peer;
 use crate::reminding::remind;
+use crate::shows_desk::ShowsDesk;
 use crate::texts::{print_greeting, print_said};
 use crate::warned::Warned;
 use agree_core::DeskId;
@@ -340,8 +342,19 @@ fn greet<S: SlotsOf, B: BookOf + Drop, W: Write>(
     told(out.flush())
 }
 
+/// Hands on what is seen of a desk.
+fn show<S: SlotsOf, B: BookOf + Drop, P: ShowsDesk<B>>(
+    desk: &Desk<S, B>,
+    sheet: &MatchSheet,
+    page: &mut P,
+)
+    ensures { P.goes_on page.old (desk_sight sheet.now (innings_of desk.now) (state_of desk.now)) page.new }
+{
+    page.show(sheet, desk.book(), desk.position(), own_line(desk));
+}
+
 /// Tells the scorer where the desk of this letter stands, and takes so many turns.
-fn take_turns<S: SlotsOf, B: BookOf + Drop, L: Link, K: Keys, C: Clock, W: Write>(
+fn take_turns<S: SlotsOf, B: BookOf + Drop, L: Link, K: Keys, C: Clock, W: Write, P: ShowsDesk<B>>(
     desk: &mut Desk<S, B>,
     own: DeskId,
     sheet: &MatchSheet,
@@ -349,11 +362,14 @@ fn take_turns<S: SlotsOf, B: BookOf + Drop, L: Link, K: Keys, C: Clock, W: Write
     keys: &mut K,
     clock: &mut C,
     out: &mut Watched<W>,
+    page: &mut P,
     turns: u64,
 ) -> Result<(), DeskEnd>
     ensures runs { DeskRuns sheet.now desk.old desk.new (L.log link.old) (L.log link.new)
         (K.inputs keys.old) (K.inputs keys.new) (C.readings clock.old) (C.readings clock.new)
         (W.contents (stream_of out.old)) (W.contents (stream_of out.new)) turns result }
+    ensures shown { IsShown (desks.kind_of sheet.now desk.old) sheet.now (innings_of desk.old) P.goes_on
+        (state_of desk.old) page.old page.new }
     ensures failed { result ≡ Err DeskEnd.Write → has_failed out.new ≡ true }
 {
     greet(desk, sheet, out)?;
@@ -364,6 +380,7 @@ fn take_turns<S: SlotsOf, B: BookOf + Drop, L: Link, K: Keys, C: Clock, W: Write
     };
     for number in 0..turns {
         turn(desk, sheet, link, keys, clock, out, &mut between)?;
+        show(desk, sheet, page);
     }
     Ok(())
 }
@@ -383,8 +400,17 @@ fn end_told(end: Result<(), DeskEnd>, flushed: Result<(), DeskEnd>) -> Result<()
 /// lines, tells what comes of them, sends its votes and replies, asks for what it lacks, and tells by its clock that the other
 /// has written, that the other desk isn't heard, and that it is again. However it ends, it is a run of the
 /// definitions of a desk: its datagrams are just those that passed at the link, its lines just those that were
-/// typed, its times just those that its clock showed, its texts just those that were written.
-pub fn run_desk<S: SlotsOf, B: BookOf + Drop, L: Link, K: Keys, C: Clock, W: Write>(
+/// typed, its times just those that its clock showed, its texts just those that were written. And what is handed on to be
+/// shown, after each turn, is just what is seen of the desk then.
+pub fn run_desk<
+    S: SlotsOf,
+    B: BookOf + Drop,
+    L: Link,
+    K: Keys,
+    C: Clock,
+    W: Write,
+    P: ShowsDesk<B>,
+>(
     desk: &mut Desk<S, B>,
     own: DeskId,
     sheet: &MatchSheet,
@@ -392,17 +418,20 @@ pub fn run_desk<S: SlotsOf, B: BookOf + Drop, L: Link, K: Keys, C: Clock, W: Wri
     keys: &mut K,
     clock: &mut C,
     out: &mut Watched<W>,
+    page: &mut P,
     turns: u64,
 ) -> Result<(), DeskEnd>
     ensures runs { DeskRuns sheet.now desk.old desk.new (L.log link.old) (L.log link.new)
         (K.inputs keys.old) (K.inputs keys.new) (C.readings clock.old) (C.readings clock.new)
         (W.contents (stream_of out.old)) (W.contents (stream_of out.new)) turns result }
+    ensures shown { IsShown (desks.kind_of sheet.now desk.old) sheet.now (innings_of desk.old) P.goes_on
+        (state_of desk.old) page.old page.new }
     // `Device` is answered exactly where the disk failed in this run.
     ensures blame { (state_of desk.old).failed ≡ false →
         BlamesDisk DeskEnd.Device (FitsLongest S.room (S.Disk.cap (disk_of desk.old))) result
         (S.Disk.faults (disk_of desk.old)) (S.Disk.faults (disk_of desk.new)) }
     ensures failed { result ≡ Err DeskEnd.Write → has_failed out.new ≡ true }
 {
-    let end = take_turns(desk, own, sheet, link, keys, clock, out, turns);
+    let end = take_turns(desk, own, sheet, link, keys, clock, out, page, turns);
     end_told(end, told(out.flush()))
 }

@@ -27,6 +27,7 @@ mod reminder;
 mod reminding;
 mod said;
 mod shows;
+mod shows_desk;
 mod sight_log;
 mod texts;
 mod warned;
@@ -45,4 +46,5 @@ pub use laws::{
 pub use notice_log::NoticeLog;
 pub use notices::{Notice, Notices, print_notice};
 pub use shows::Shows;
+pub use shows_desk::{RowsAlone, ShowsDesk};
 pub use sight_log::SightLog;

@@ -96,6 +96,15 @@ fn print_no_such<W: Write>(out: &mut Watched<W>, name: &str) -> Result<(), Write
     writeln!(out, "no such player: {name}")
 }
 
+/// Prints that the innings begun last has no such delivery.
+fn print_no_such_ball<W: Write>(out: &mut Watched<W>, name: &str) -> Result<(), WriteFailed>
+    ensures text { OnOk result (Prints W.contents out.old out.new
+        (codes "no such ball: " ++ name.now ++ codes "\n")) }
+    ensures failed { OnErr result (has_failed out.new ≡ true) }
+{
+    writeln!(out, "no such ball: {name}")
+}
+
 /// Prints both meanings of a letter.
 fn print_meanings<W: Write>(out: &mut Watched<W>, letter: Letter) -> Result<(), WriteFailed>
     ensures text { OnOk result (Prints W.contents out.old out.new (questions.meanings letter)) }
@@ -139,6 +148,7 @@ pub fn print_unclear<W: Write>(
         Unclear::TwoMeanings(letter) => print_meanings(out, *letter),
         Unclear::NoFielder(how, name) => print_no_fielder(out, *how, name.as_str()),
         Unclear::UnknownWord(word) => print_unknown(out, word.as_str()),
+        Unclear::NoSuchBall(name) => print_no_such_ball(out, name.as_str()),
         Unclear::WhichPlayer(side, name) => print_candidates(out, sheet, *side, name.as_str()),
         Unclear::NothingStands => writeln!(out, "undo: no entry stands"),
     }

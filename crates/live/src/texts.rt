@@ -21,8 +21,9 @@ use desk::Refusal;
 use match_laws::Match;
 use notation::{Entry, PLACES, Plain, line_of};
 use screen::{
-    HELP, Word, help_on, print_bowlers, print_cards, print_check, print_listing, print_over_note,
-    print_result, print_row, print_sides, refusal_sentence,
+    HELP, Word, help_on, print_bowlers, print_cards, print_cards_of, print_check, print_listing,
+    print_over_by_side, print_over_last, print_over_note, print_range, print_result, print_row,
+    print_sides, print_waiting, refusal_sentence,
 };
 use std::io::Write;
 use streams::{Watched, WriteFailed};
@@ -372,10 +373,17 @@ fn print_asked<B: BookOf, W: Write>(
     match word {
         Word::Where => print_standing(out, sheet, at, own, is_waited_for, is_silent, book),
         Word::Entries(most) => print_listing(out, book, most),
+        Word::Range(first, last) => print_range(out, book, first, last),
+        Word::Over(number) => print_over_last(out, sheet, book, number),
+        Word::OverOf(number, side, which) => {
+            print_over_by_side(out, sheet, book, number, side, which)
+        }
         Word::Total => print_check(out, sheet, book),
         Word::Cards => print_cards(out, sheet, book),
+        Word::CardsOf(number) => print_cards_of(out, sheet, book, usize::from(number)),
         Word::Sides => print_sides(out, sheet),
         Word::Bowlers => print_bowlers(out, sheet, book),
+        Word::Waiting => print_waiting(out, sheet, book),
         Word::Forms => write!(out, "{HELP}"),
         Word::More(topic) => {
             let text = help_on(topic);

@@ -49,6 +49,7 @@ fn print_who_may<B: BookOf, W: Write>(
         Unclear::TwoMeanings(_) => Ok(()),
         Unclear::NoFielder(_, _) => Ok(()),
         Unclear::UnknownWord(_) => Ok(()),
+        Unclear::NoSuchBall(_) => Ok(()),
         Unclear::NothingStands => Ok(()),
     }
 }

@@ -7,7 +7,7 @@ use cards::{MatchSheet, plain_sheet};
 use corrections::{Book, BookOf};
 use desk::{Desk, OpenRefusal};
 use entry_log::{MemDisk, Slots};
-use live::{DeskEnd, begin_desk, run_desk};
+use live::{DeskEnd, RowsAlone, begin_desk, run_desk};
 use memory::{Lines, Queue, Ticking};
 use notation::Entry;
 use std::alloc::Global;
@@ -103,6 +103,16 @@ fn told(
     let mut out = Watched::new(Vec::new(alloc));
     let mut clock = Ticking::new();
     let own = DeskId::A;
-    let answer = run_desk(desk, own, &sheet, link, lines, &mut clock, &mut out, turns);
+    let answer = run_desk(
+        desk,
+        own,
+        &sheet,
+        link,
+        lines,
+        &mut clock,
+        &mut out,
+        &mut RowsAlone,
+        turns,
+    );
     (answer, out.into_inner())
 }

@@ -126,6 +126,7 @@ fn is_told(
         &mut typed,
         &mut clock,
         &mut out,
+        &mut RowsAlone,
         150,
     );
     assert!(rt; answer.is_ok());

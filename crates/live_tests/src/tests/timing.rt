@@ -172,7 +172,15 @@ fn run(
     let mut clock = Hand::new(world);
     let own = DeskId::A;
     let answer = run_desk(
-        &mut desk, own, &sheet, link, lines, &mut clock, &mut out, turns,
+        &mut desk,
+        own,
+        &sheet,
+        link,
+        lines,
+        &mut clock,
+        &mut out,
+        &mut RowsAlone,
+        turns,
     );
     assert!(rt; answer.is_ok());
 }

@@ -1,5 +1,7 @@
 use Rattle.streams.specs.Watched.{stream_of}
-use Rattle.live.specs.Desks.{DeskGoes, process_of}
+use Rattle.desk.specs.Desk.{state_of}
+use Rattle.live.specs.DeskSights.{IsShown}
+use Rattle.live.specs.Desks.{DeskGoes, innings_of, kind_of, process_of}
 use Rattle.live.specs.Ends.{further}
 use Rattle.live.specs.Paces.{ticking_of}
 use Rattle.live.specs.Texts.{unwarned}
@@ -13,3 +15,4 @@ invariant-loop-number g l =
     (g.L.Link.log l.initial.link) (g.L.Link.log l.link) (g.K.Keys.inputs l.initial.keys) (g.K.Keys.inputs l.keys)
     (g.C.Clock.readings l.initial.clock) (g.C.Clock.readings l.clock)
     (g.W.Write.contents (stream_of l.initial.out)) (g.W.Write.contents (stream_of l.out))
+    × IsShown (kind_of l.sheet l.initial.desk) l.sheet (innings_of l.initial.desk) g.P.ShowsDesk.goes_on (state_of l.initial.desk) l.initial.page l.page
