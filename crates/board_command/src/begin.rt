@@ -3,7 +3,7 @@
 use crate::files::{Files, Kept};
 use crate::notes::Notes;
 use crate::page::Page;
-use crate::served::{Attended, Both};
+use crate::served::Both;
 use crate::shown::Shown;
 use board::Board;
 use cards::MatchSheet;
@@ -14,6 +14,7 @@ use machine::{
     WriteFault,
 };
 use setup::{Sealing, StopFault, Stopped, short_sheet_at};
+use station_pages::Attended;
 use station_screens::{Errors, Shared, errors_at, output_at};
 use std::cell::RefCell;
 use std::net::SocketAddr;
@@ -141,10 +142,11 @@ pub fn start_board<'a>(
     let files = paths.files(rt, &errors)?;
     let page = Page::at(rt, serve)?;
     let mut board = board_of(rt, &sheet)?;
+    let below = sealing.link_at(rt, at, peers, page.wait_ends(), Shared::of(&errors))?;
     let mut link = Attended {
-        link: sealing.link_at(rt, at, peers, page.descriptor(), Shared::of(&errors))?,
+        link: below,
         clock: MonotonicClock::new(rt),
-        viewers: page.viewers(),
+        page: page.viewers(),
     };
     let _ = sealing.tell_fingerprints(&mut Shared::of(&errors));
     page.tell(&mut Shared::of(&errors));

@@ -4,14 +4,14 @@ use crate::begin::Told;
 use crate::files::{Files, Kept};
 use crate::pane::{Kind, Pane};
 use corrections::CheckedBook;
-use machine::Address;
+use machine::{Address, WaitEnds};
 use setup::{StopFault, Stopped};
 use station_screens::{Errors, Shared};
 use std::alloc::Global;
 use std::cell::RefCell;
 use std::io::Write;
 use std::os::fd::RawFd;
-use viewers::Viewers;
+use viewers::{Station, Viewers};
 
 /// What a page shows of a board, as its files do.
 type Panes<'v, 's, 'a> = Files<'a, Pane<'v>, Told<'s, 'a>, CheckedBook>;
@@ -37,7 +37,7 @@ impl<'a> Page<'a> {
         let Some(at) = at else {
             return Ok(Page { served: None });
         };
-        match Viewers::new(rt, rt.alloc(), at.socket) {
+        match Viewers::new(rt, rt.alloc(), at.socket, Station::Board, None) {
             Ok(viewers) => {
                 let ends = viewers.descriptor();
                 Ok(Page {
@@ -60,11 +60,11 @@ impl<'a> Page<'a> {
         }
     }
 
-    /// What ends a board's waits where somebody looks at its page, as a keyboard does those of a desk.
-    pub fn descriptor(&self) -> Option<RawFd> {
-        match &self.served {
-            Some(served) => Some(served.ends),
-            None => None,
+    /// What ends a board's waits where somebody looks at its page.
+    pub fn wait_ends(&self) -> WaitEnds {
+        WaitEnds {
+            keyboard: None,
+            page: self.served.as_ref().map(|served| served.ends),
         }
     }
 

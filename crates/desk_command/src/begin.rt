@@ -3,8 +3,8 @@
 ghost use Rattle.std.specs.Prelude.{◌≡◌, [], false, IfErr, IfOk, None, Some};
 ghost use Rattle.desk_command.specs.Ends as ends;
 
+use crate::page::Page;
 use agree_core::DeskId;
-use ahead::Ahead;
 use cards::MatchSheet;
 use corrections::CheckedBook;
 use desk::restore::Restoring;
@@ -18,9 +18,10 @@ use setup::{
     CopiedDisk, Kept, Sealing, StopFault, Stopped, VotesDisk, compared, empty_disk, kept_votes,
     paired_disk, renewed_disk, short_sheet_at, tell_copies, with_cause, with_copys_cause,
 };
+use station_pages::{Attended, HeldKeys, PageKeys, PageRows, PageSight, ScorersPage};
 use station_screens::{DeskScreen, Shared, errors_at, output_at};
 use std::cell::RefCell;
-use std::io::Write;
+use std::io::{IsTerminal, Write};
 use std::mem::drop;
 use std::net::SocketAddr;
 use streams::Watched;
@@ -229,11 +230,13 @@ fn keep<D: Disk + Drop, L: Link, K: Keys, W: Write>(
     link: &mut L,
     keys: &mut K,
     out: &mut Watched<W>,
+    page: Option<&RefCell<ScorersPage>>,
 ) -> Result<(), LifeEnd>
     requires { book.entries ≡ [] }
 {
     let mut clock = MonotonicClock::new(rt);
-    keep_desk::<Slots<D>, CheckedBook, _, _, _, _>(
+    let mut sight = PageSight::new(rt.alloc(), desk, page);
+    keep_desk::<Slots<D>, CheckedBook, _, _, _, _, _>(
         rt.alloc(),
         disk,
         desk,
@@ -243,19 +246,39 @@ fn keep<D: Disk + Drop, L: Link, K: Keys, W: Write>(
         keys,
         &mut clock,
         out,
+        &mut sight,
         u64::MAX,
     )
 }
 
 /// Waits until all that was written to a desk's screen is taken, and tells whether it is. Where a write of it failed, no other
 /// one is made.
-fn is_seen<O: Outlet + Drop, E: Outlet>(screen: Watched<DeskScreen<'_, O, E>>) -> bool {
-    !screen.has_failed() && screen.into_inner().into_output().end().is_ok()
+fn is_seen<'s, O: Outlet + Drop, E: Outlet>(
+    rows: Watched<PageRows<'s, DeskScreen<'s, O, E>>>,
+) -> bool {
+    !rows.has_failed() && rows.into_inner().into_screen().into_output().end().is_ok()
+}
+
+/// The command's answer, where its screen was read whole or wasn't.
+fn answer_of<'a>(
+    ended: Result<(), LifeEnd>,
+    keyboard_failed: bool,
+    is_seen: bool,
+    file: &'a str,
+    copy: Option<&'a str>,
+    lasts: &[LastFault; 2],
+) -> Result<bool, Stopped<'a>> {
+    match answer(ended, keyboard_failed, file) {
+        Ok(_) if !is_seen => Err(Stopped::at("-", StopFault::Write)),
+        Ok(refused) => Ok(refused),
+        Err(stopped) => Err(with_lasts(stopped, file, lasts[0].get(), copy, lasts[1].get())),
+    }
 }
 
 /// `ground desk`: keeps a scorer's desk with its votes in a file, and in a copy, where one is named, listening at an address,
 /// until the scorer types `quit` or no more. Then, with its files and its address free, it waits until its screen is read. Its
-/// datagrams are sealed with the sheet and the key in a file, where one is named.
+/// datagrams are sealed with the sheet and the key in a file, where one is named. The scorer has a page at an address, where
+/// one is given.
 #[inline(never)]
 pub fn start_desk<'a>(
     rt: &HostRuntime,
@@ -265,37 +288,48 @@ pub fn start_desk<'a>(
     copy: Option<&'a str>,
     at: Address<'a>,
     peers: [Option<SocketAddr>; MOST_PEERS],
+    serve: Option<Address<'a>>,
     key: Option<&'a str>,
 ) -> Result<bool, Stopped<'a>> {
     let sheet = short_sheet_at(rt, sheet_path)?;
     let sealing = Sealing::of(rt, &sheet, sheet_path, key)?;
     let errors = RefCell::new(errors_at(rt)?);
-    let mut writer = Watched::new(DeskScreen::new(output_at(rt)?, &errors));
-    let mut keys = Ahead::new(Keyboard::of_standard_input(rt));
+    let page = Page::at(rt, serve)?;
+    let scorers = page.scorers();
+    let screen = DeskScreen::new(output_at(rt)?, &errors);
+    let mut writer = Watched::new(PageRows::new(screen, scorers));
+    let keyboard = Keyboard::of_standard_input(rt);
+    let ends = page.ends_with(keyboard.descriptor());
+    let mut keys = HeldKeys::new(
+        PageKeys::new(keyboard, scorers, Shared::of(&errors)),
+        scorers,
+    );
     let lasts = [LastFault::new(None), LastFault::new(None)];
     let book = empty_book(rt, &sheet)?;
     let disk = desk_disk_at(rt, &sheet, desk, file, copy, &lasts)?;
-    let keyboard = Some(keys.keys().descriptor());
-    let made = sealing.link_at(rt, at, peers, keyboard, Shared::of(&errors));
-    let mut link = match made {
+    let link = match sealing.link_at(rt, at, peers, ends, Shared::of(&errors)) {
         Ok(link) => link,
         Err(stopped) => {
             close(disk);
             return Err(stopped);
         }
     };
+    let mut link = Attended {
+        link,
+        clock: MonotonicClock::new(rt),
+        page: scorers,
+    };
     let _ = sealing.tell_fingerprints(&mut Shared::of(&errors));
+    page.tell(&mut Shared::of(&errors), rt.stderr().is_terminal());
     let (on, by, out) = (&mut link, &mut keys, &mut writer);
     let ended = match disk {
-        DeskDisk::One(disk) => keep(rt, disk, desk, book, &sheet, on, by, out),
-        DeskDisk::Two(disk) => keep(rt, disk, desk, book, &sheet, on, by, out),
+        DeskDisk::One(disk) => keep(rt, disk, desk, book, &sheet, on, by, out, scorers),
+        DeskDisk::Two(disk) => keep(rt, disk, desk, book, &sheet, on, by, out, scorers),
     };
     drop(link);
     let is_seen = is_seen(writer);
+    let keyboard_failed = keys.keys().keyboard().has_failed();
+    drop(keys);
     let _ = errors.into_inner().end();
-    match answer(ended, keys.keys().has_failed(), file) {
-        Ok(_) if !is_seen => Err(Stopped::at("-", StopFault::Write)),
-        Ok(refused) => Ok(refused),
-        Err(stopped) => Err(with_lasts(stopped, file, lasts[0].get(), copy, lasts[1].get())),
-    }
+    answer_of(ended, keyboard_failed, is_seen, file, copy, &lasts)
 }

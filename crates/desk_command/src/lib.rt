@@ -3,6 +3,7 @@
 
 mod begin;
 mod key;
+mod page;
 
 pub use crate::begin::start_desk;
 pub use crate::key::{key_text, start_key};

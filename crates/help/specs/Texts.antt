@@ -48,6 +48,7 @@ rows Desk =
     codes "  --at ADDR:PORT     its own address" ∷
     codes "  --other ADDR:PORT  the other desk's address" ∷
     codes "  --board ADDR:PORT  a board's address; up to four times, or left out" ∷
+    codes "  --serve ADDR:PORT  where its scorer finds its page; or left out" ∷
     codes "  --key K            the file of the key, the same everywhere; or left out" ∷
     codes "" ∷
     codes "Where sheet.toml has a table [stations], ./ground desk a begins desk A with it." ∷

@@ -41,6 +41,7 @@ the same command goes on where it was.
   --at ADDR:PORT     its own address
   --other ADDR:PORT  the other desk's address
   --board ADDR:PORT  a board's address; up to four times, or left out
+  --serve ADDR:PORT  where its scorer finds its page; or left out
   --key K            the file of the key, the same everywhere; or left out
 
 Where sheet.toml has a table [stations], ./ground desk a begins desk A with it.

@@ -2,6 +2,7 @@
 
 mod books;
 mod deliveries;
+mod desk_states;
 mod entries;
 mod matches;
 mod short_lines;

@@ -130,12 +130,15 @@ pub fn start_desk_of<'a>(
     sheet: &'a str,
     desk: DeskId,
     named: DeskOptions<'a>,
+    serve: Option<Address<'a>>,
     table: &'a Table,
 ) -> Result<bool, Stopped<'a>> {
     let begun = desk_begun(desk, named, table);
     let (at, peers) = addresses_of(rt, sheet, desk, begun)?;
     let file = present(rt, sheet, "stations, votes", begun.file)?;
-    start_desk(rt, sheet, desk, file, begun.copy, at, peers, begun.key)
+    start_desk(
+        rt, sheet, desk, file, begun.copy, at, peers, serve, begun.key,
+    )
 }
 
 /// `ground board` with a number: keeps that board of the table, in the same way.

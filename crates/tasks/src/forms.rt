@@ -115,6 +115,7 @@ fn desk_words<'a>(alloc: Global) -> Result<Command<'a>, AllocError> {
         .arg(of_station(alloc, "other")?)?
         .arg(free(alloc, "copy"))?
         .arg(free(alloc, "board").action(ArgAction::Append))?
+        .arg(free(alloc, "serve"))?
         .arg(free(alloc, "key"))
 }
 

@@ -21,6 +21,22 @@ const NO_BOARDS: BoardNames<'static> = BoardNames {
     fourth: None,
 };
 
+/// The address of a page, if the text is one with a port of its own.
+fn place_in(text: &str) -> Option<Address<'_>> {
+    match text.parse::<SocketAddr>() {
+        Ok(socket) if socket.port() != 0 => Some(Address { text, socket }),
+        _ => None,
+    }
+}
+
+/// Where the words say that a page is, if they do.
+fn served_in<'a>(words: &ArgMatches<'a>) -> Option<Option<Address<'a>>> {
+    match words.get_str("serve") {
+        Some(text) => Some(Some(place_in(text)?)),
+        None => Some(None),
+    }
+}
+
 /// The task of a desk whose options are all named.
 fn full_desk_task<'a>(words: &ArgMatches<'a>) -> Option<Task<'a>>
     ensures { IfSome result IsTask }
@@ -38,24 +54,9 @@ fn full_desk_task<'a>(words: &ArgMatches<'a>) -> Option<Task<'a>>
         copy: words.get_str("copy"),
         at,
         peers,
+        serve: served_in(words)?,
         key: words.get_str("key"),
     })
-}
-
-/// The address of a page, if the text is one with a port of its own.
-fn place_in(text: &str) -> Option<Address<'_>> {
-    match text.parse::<SocketAddr>() {
-        Ok(socket) if socket.port() != 0 => Some(Address { text, socket }),
-        _ => None,
-    }
-}
-
-/// Where the words say that a page is, if they do.
-fn served_in<'a>(words: &ArgMatches<'a>) -> Option<Option<Address<'a>>> {
-    match words.get_str("serve") {
-        Some(text) => Some(Some(place_in(text)?)),
-        None => Some(None),
-    }
 }
 
 /// The task of a board whose options are all named.
@@ -120,6 +121,7 @@ fn desk_of_sheet<'a>(letter: &str, words: &ArgMatches<'a>) -> Option<Task<'a>>
         sheet: words.get_str("sheet").unwrap_or(SHEET),
         desk: desk_in(letter)?,
         named,
+        serve: served_in(words)?,
     })
 }
 

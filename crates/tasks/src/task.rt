@@ -114,7 +114,8 @@ pub enum Task<'a> {
         to: &'a str,
     },
     /// To keep a scorer's desk, with its votes in a file, at an address. Its peers are the other desk and boards. A copy of
-    /// its votes is kept in a file, and the scorers' key is in one, where they are named.
+    /// its votes is kept in a file, and the scorers' key is in one, where they are named. Its scorer has a page at an address,
+    /// where it is given.
     Desk {
         sheet: &'a str,
         desk: DeskId,
@@ -122,6 +123,7 @@ pub enum Task<'a> {
         copy: Option<&'a str>,
         at: Address<'a>,
         peers: [Option<SocketAddr>; MOST_PEERS],
+        serve: Option<Address<'a>>,
         key: Option<&'a str>,
     },
     /// To keep a board at an address. Its peers are both desks. Its text is put into a file, its state as JSON into
@@ -142,6 +144,7 @@ pub enum Task<'a> {
         sheet: &'a str,
         desk: DeskId,
         named: DeskOptions<'a>,
+        serve: Option<Address<'a>>,
     },
     /// To keep a board of the sheet's table, counted from 0, likewise.
     BoardOfSheet {

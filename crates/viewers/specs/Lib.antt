@@ -1,4 +1,5 @@
--- What a viewer is sent: Replies. That each answer is one of HTTP: Responses. What was said to one, and what its stream has taken: Said.
+-- What a viewer is sent: Replies. That each answer is one of HTTP: Responses. What was said to one, and what its stream has taken: Said. The lines that wait for a desk: Inboxes.
 pub mod Replies
 pub mod Responses
 pub mod Said
+pub mod Inboxes

@@ -1,25 +1,41 @@
 -- What a viewer is sent, of what is shown: a head by HTTP's grammar, as `http1` writes it, and behind it the page, a text
 -- that was handed over, or a refusal.
-use Rattle.std.specs.Prelude.{ℕ, Bool, if◌then◌else◌, List, [], ◌∷◌, ◌++◌, length, codes, decimal}
+use Rattle.std.specs.Prelude.{ℕ, Bool, false, if◌then◌else◌, List, [], ◌∷◌, ◌++◌, length, codes, decimal}
 use Rattle.http1.specs.declared.server.Server.{Server}
 use Rattle.http1.specs.declared.conn.BodySize.TheVariants.{Known, Unknown}
 use Rattle.http1.specs.Fields.{Header}
 use Rattle.http1.specs.Server.{after_response, planned_response, writing}
 use Rattle.http1.specs.Conn.{after_data, data_text, finish_text}
 use Rattle.viewers.specs.declared.asks.{Ask.Ask, Asked.Asked}
-use Rattle.viewers.specs.declared.asks.Ask.TheVariants.{Page, Lines, State, Events, Unready, Missing, Method, Foreign, Faulty}
-use Rattle.viewers.specs.declared.shown.Shown.{Shown}
-use Rattle.viewers.specs.declared.page.TheConstants.{PAGE, POLICY}
+use Rattle.viewers.specs.declared.asks.Ask.TheVariants.{Page, Lines, State, Events, Given, Typed, Unready, Missing, Method, Foreign, Faulty}
+use Rattle.viewers.specs.declared.{shown.Shown.Shown, station.Station.Station}
+use Rattle.viewers.specs.declared.page.TheConstants as board
+use Rattle.viewers.specs.declared.desk_page.TheConstants as desk
+use Rattle.viewers.specs.declared.station.Station.TheVariants.{Board, Desk}
+
+-- a station's page, and what may be run and loaded in it
+abbrev pub page_of : Station → List ℕ
+page_of Board = board.PAGE.now
+page_of Desk = desk.PAGE.now
+
+abbrev pub policy_of : Station → List ℕ
+policy_of Board = board.POLICY.now
+policy_of Desk = desk.POLICY.now
+
+-- what may be done at a station's page
+abbrev pub allowed_at : Station → List ℕ
+allowed_at Board = codes "GET, HEAD"
+allowed_at Desk = codes "GET, HEAD, POST"
 
 -- the fields of each head, with what kind of text follows it
-abbrev pub fields_of : List ℕ → List Header
-fields_of kind =
+abbrev pub fields_of : Station → List ℕ → List Header
+fields_of station kind =
     (codes "content-type", kind)
     ∷ (codes "cache-control", codes "no-store")
     ∷ (codes "x-content-type-options", codes "nosniff")
     ∷ (codes "referrer-policy", codes "no-referrer")
-    ∷ (codes "content-security-policy", POLICY.now)
-    ∷ (codes "allow", codes "GET, HEAD")
+    ∷ (codes "content-security-policy", policy_of station)
+    ∷ (codes "allow", allowed_at station)
     ∷ (codes "connection", codes "close")
     ∷ []
 
@@ -28,12 +44,12 @@ abbrev pub sent_of : List ℕ → Bool → List ℕ
 sent_of text is_head = if is_head then [] else text
 
 -- a head of this status and a whole text of this kind, of which the head alone may be asked for
-abbrev pub whole_text : Server → ℕ → List ℕ → List ℕ → List ℕ → Bool → List ℕ
-whole_text s status reason kind text is_head =
+abbrev pub whole_text : Server → Station → ℕ → List ℕ → List ℕ → List ℕ → Bool → List ℕ
+whole_text s station status reason kind text is_head =
     let size = Known (length text) in
     let sent = sent_of text is_head in
-    let after = writing (after_response s status size (fields_of kind)) in
-    planned_response s status reason size (fields_of kind)
+    let after = writing (after_response s status size (fields_of station kind)) in
+    planned_response s status reason size (fields_of station kind)
     ++ data_text after sent
     ++ finish_text (after_data after (length sent)) []
 
@@ -50,30 +66,49 @@ abbrev pub events : List ℕ
 events = codes "text/event-stream"
 
 -- a head alone, behind which states follow
-abbrev pub stream_text : Server → List ℕ
-stream_text s = planned_response s 200 (codes "OK") Unknown (fields_of events)
+abbrev pub stream_text : Server → Station → List ℕ
+stream_text s station = planned_response s 200 (codes "OK") Unknown (fields_of station events)
 
-abbrev pub page_text : Server → Bool → List ℕ
-page_text s head = whole_text s 200 (codes "OK") html PAGE.now head
+abbrev pub page_text : Server → Station → Bool → List ℕ
+page_text s station head = whole_text s station 200 (codes "OK") html (page_of station) head
+
+-- a nonce, as a text of one line
+abbrev pub nonce_text : Server → Station → ℕ → List ℕ
+nonce_text s station nonce = whole_text s station 200 (codes "OK") plain (decimal nonce ++ codes "\n") false
+
+-- what the lines of a station are
+abbrev pub lines_kind : Station → List ℕ
+lines_kind Board = plain
+lines_kind Desk = json
 
 -- the answer to what is asked for, while this is shown
 abbrev pub answer_text : Server → Ask → Bool → Shown → List ℕ
-answer_text s Page head shown = page_text s head
-answer_text s Lines head shown = whole_text s 200 (codes "OK") plain shown.lines.items head
-answer_text s State head shown = whole_text s 200 (codes "OK") json shown.state.items head
-answer_text s Events head shown = stream_text s
-answer_text s Unready head shown = whole_text s 503 (codes "Not Yet") plain (codes "no score yet\n") head
-answer_text s Missing head shown = whole_text s 404 (codes "Not Found") plain (codes "not here\n") head
-answer_text s Method head shown = whole_text s 405 (codes "Not Allowed") plain (codes "only GET\n") head
-answer_text s Foreign head shown = whole_text s 403 (codes "Forbidden") plain (codes "another host\n") head
-answer_text s (Faulty status) head shown = whole_text s status (codes "Refused") plain (codes "refused\n") head
+answer_text s Page head shown = page_text s shown.station head
+answer_text s Lines head shown =
+    whole_text s shown.station 200 (codes "OK") (lines_kind shown.station) shown.lines.items head
+answer_text s State head shown = whole_text s shown.station 200 (codes "OK") json shown.state.items head
+answer_text s Events head shown = stream_text s shown.station
+answer_text s (Given nonce) head shown = nonce_text s shown.station nonce
+answer_text s Typed head shown = whole_text s shown.station 200 (codes "OK") plain (codes "typed\n") head
+answer_text s Unready head shown = whole_text s shown.station 503 (codes "Not Yet") plain (codes "no score yet\n") head
+answer_text s Missing head shown = whole_text s shown.station 404 (codes "Not Found") plain (codes "not here\n") head
+answer_text s Method head shown = whole_text s shown.station 405 (codes "Not Allowed") plain (codes "only GET\n") head
+answer_text s Foreign head shown = whole_text s shown.station 403 (codes "Forbidden") plain (codes "another host\n") head
+answer_text s (Faulty status) head shown = whole_text s shown.station status (codes "Refused") plain (codes "refused\n") head
 
 abbrev pub reply_text : Server → Asked → Shown → List ℕ
 reply_text s asked shown = answer_text s asked.ask asked.is_head shown
 
--- the state that is shown, as an event: its number, and its text, which ends its own line
+-- the lines of a desk, in its events: a text that ends its own line
+abbrev pub lines_data : Station → List ℕ → List ℕ
+lines_data Board lines = []
+lines_data Desk lines = codes "data: " ++ lines
+
+-- the state that is shown, as an event: its number, and its text, which ends its own line; of a desk its lines too
 abbrev pub event : Shown → List ℕ
-event shown = codes "id: " ++ decimal shown.number ++ codes "\ndata: " ++ shown.state.items ++ codes "\n"
+event shown =
+    codes "id: " ++ decimal shown.number ++ codes "\ndata: " ++ shown.state.items
+    ++ lines_data shown.station shown.lines.items ++ codes "\n"
 
 -- to who has asked for each new state: the state, or that there is none but that the board is there
 abbrev pub told_text : Server → Shown → List ℕ

@@ -3,7 +3,7 @@ use Rattle.std.specs.Prelude.{ℕ, List, [], ◌++◌, drop, take}
 use Rattle.viewers.specs.Replies.{reply_text, told_text, beat_text}
 use Rattle.viewers.specs.declared.logs.{SaidLog.SaidLog, SaidLog.Empty, SaidLog.Answered', SaidLog.Told', SaidLog.Beat', TakenLog.TakenLog}
 use Rattle.viewers.specs.declared.logs.TakenLog as taken
-use Rattle.viewers.specs.declared.wire.Wire.{Wire}
+use Rattle.viewers.specs.declared.stream.Wire.{Wire}
 
 -- the bytes of all that was said: answers, states and beats, and nothing between them
 abbrev pub said_in : SaidLog → List ℕ

@@ -3,8 +3,11 @@
 ghost use Rattle.std.specs.Prelude.{◌≡◌, false};
 
 use crate::host::is_named;
+use crate::station::Station;
 use httparse::spans::{HeaderSpan, RequestSpans, Span};
+use posts::Stamp;
 use std::net::SocketAddr;
+use std::str;
 
 /// What is asked for, as far as its head tells, or why it isn't had.
 #[derive(Clone, Copy, Debug, PartialEq, Eq)]
@@ -17,6 +20,10 @@ pub enum Ask {
     State,
     /// The state, now and whenever it is new.
     Events,
+    /// This nonce was given.
+    Given(u64),
+    /// A line was typed.
+    Typed,
     /// Nothing was handed over yet.
     Unready,
     /// Something that isn't here.
@@ -36,8 +43,27 @@ pub struct Asked {
     pub is_head: bool,
 }
 
+/// What a head wishes.
+#[derive(Clone, Copy, Debug)]
+pub enum Wish {
+    /// An answer.
+    Answer(Asked),
+    /// A nonce of the desk's.
+    Nonce,
+    /// To type the line that follows.
+    Line(Heading),
+}
+
+/// What the head of a post says of its line.
+#[derive(Clone, Copy, Debug)]
+pub struct Heading {
+    /// Whether it comes from this page, or from none.
+    pub is_from_here: bool,
+    pub stamp: Option<Stamp>,
+}
+
 /// The bytes of a span, where they are there.
-fn bytes_at(input: &[u8], span: Span) -> &[u8] {
+pub fn bytes_at(input: &[u8], span: Span) -> &[u8] {
     match input.get(span.start..span.end) {
         Some(bytes) => bytes,
         None => b"".as_slice(),
@@ -55,18 +81,37 @@ fn path_of(target: &[u8]) -> &[u8] {
     }
 }
 
-/// The value of the field `host`.
-fn host_in<'i>(input: &'i [u8], fields: &[HeaderSpan]) -> &'i [u8] {
+/// The value of the first field of this name, if there is one.
+fn field_in<'i>(input: &'i [u8], fields: &[HeaderSpan], name: &[u8]) -> Option<&'i [u8]> {
     for field in fields {
-        if bytes_at(input, field.name).eq_ignore_ascii_case(b"host") {
-            return bytes_at(input, field.value);
+        if bytes_at(input, field.name).eq_ignore_ascii_case(name) {
+            return Some(bytes_at(input, field.value));
         }
     }
-    b"".as_slice()
+    None
 }
 
-/// What stands at a path.
-fn ask_at(path: &[u8]) -> Ask {
+/// The same as a text, or an empty one.
+fn text_in<'i>(input: &'i [u8], fields: &[HeaderSpan], name: &[u8]) -> &'i str {
+    match field_in(input, fields, name) {
+        Some(value) => str::from_utf8(value).unwrap_or(""),
+        None => "",
+    }
+}
+
+/// Whether a request comes from a page of the host that it names, or from none that says so.
+fn is_own_page(origin: Option<&[u8]>, host: &[u8]) -> bool {
+    match origin {
+        None => true,
+        Some(origin) => match origin.strip_prefix(b"http://".as_slice()) {
+            Some(from) => from == host,
+            None => false,
+        },
+    }
+}
+
+/// What stands at a path of a board's page.
+fn board_ask(path: &[u8]) -> Ask {
     if path == b"/".as_slice() {
         Ask::Page
     } else if path == b"/board.json".as_slice() {
@@ -80,12 +125,35 @@ fn ask_at(path: &[u8]) -> Ask {
     }
 }
 
+/// What stands at a path of a desk's page.
+fn desk_ask(path: &[u8]) -> Ask {
+    if path == b"/".as_slice() {
+        Ask::Page
+    } else if path == b"/desk.json".as_slice() {
+        Ask::State
+    } else if path == b"/rows.json".as_slice() {
+        Ask::Lines
+    } else if path == b"/events".as_slice() {
+        Ask::Events
+    } else {
+        Ask::Missing
+    }
+}
+
+/// What stands at a path of a station's page.
+fn ask_at(station: Station, path: &[u8]) -> Ask {
+    match station {
+        Station::Board => board_ask(path),
+        Station::Desk => desk_ask(path),
+    }
+}
+
 /// What a request of this method and for this target asks for, where it names this host or doesn't.
-pub fn asked_by(method: &[u8], target: &[u8], is_here: bool) -> Asked
+pub fn asked_by(station: Station, method: &[u8], target: &[u8], is_here: bool) -> Asked
     ensures foreign { is_here ≡ false → result.ask ≡ Ask.Foreign }
 {
     let is_head = method == b"HEAD".as_slice();
-    let found = ask_at(path_of(target));
+    let found = ask_at(station, path_of(target));
     let ask = if !is_here {
         Ask::Foreign
     } else if is_head && found == Ask::Events {
@@ -98,9 +166,47 @@ pub fn asked_by(method: &[u8], target: &[u8], is_here: bool) -> Asked
     Asked { ask, is_head }
 }
 
-/// What a head asks for at this address.
-pub fn asked_in(input: &[u8], head: &RequestSpans, fields: &[HeaderSpan], at: SocketAddr) -> Asked {
+/// Whether a request is one that only a desk takes: this method, for this path.
+fn is_of_desk(station: Station, method: &[u8], target: &[u8], of: &[u8], path: &[u8]) -> bool {
+    station == Station::Desk && method == of && path_of(target) == path
+}
+
+/// What a request wishes that names this host.
+fn wished_by(station: Station, method: &[u8], target: &[u8], heading: Heading) -> Wish {
+    if is_of_desk(station, method, target, b"GET", b"/nonce") {
+        Wish::Nonce
+    } else if is_of_desk(station, method, target, b"POST", b"/line") {
+        Wish::Line(heading)
+    } else {
+        Wish::Answer(asked_by(station, method, target, true))
+    }
+}
+
+/// What the head of a post says of its line.
+fn heading_in(input: &[u8], fields: &[HeaderSpan], host: &[u8]) -> Heading {
+    let at = text_in(input, fields, b"x-at");
+    let nonce = text_in(input, fields, b"x-nonce");
+    let tag = text_in(input, fields, b"x-tag");
+    Heading {
+        is_from_here: is_own_page(field_in(input, fields, b"origin"), host),
+        stamp: Stamp::read(at, nonce, tag),
+    }
+}
+
+/// What a head wishes of a station's page at this address.
+pub fn wish_in(
+    station: Station,
+    input: &[u8],
+    head: &RequestSpans,
+    fields: &[HeaderSpan],
+    at: SocketAddr,
+) -> Wish {
     let method = bytes_at(input, head.method);
     let target = bytes_at(input, head.path);
-    asked_by(method, target, is_named(host_in(input, fields), at))
+    let host = field_in(input, fields, b"host").unwrap_or(b"");
+    if is_named(host, at) {
+        wished_by(station, method, target, heading_in(input, fields, host))
+    } else {
+        Wish::Answer(asked_by(station, method, target, false))
+    }
 }

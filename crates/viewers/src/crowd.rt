@@ -1,10 +1,13 @@
 //! All who look at a page.
 
-ghost use Rattle.std.specs.Prelude.{◌≡◌};
+ghost use Rattle.std.specs.Prelude.{◌≡◌, ◌≤◌, IfSome};
 
+use crate::inbox::Inbox;
 use crate::listening::listener_at;
 use crate::shown::Shown;
+use crate::station::Station;
 use crate::viewer::Viewer;
+use agree_core::Position;
 use mio::net::{TcpListener, TcpStream};
 use mio::{Events, Interest, Poll, Token};
 use std::alloc::Global;
@@ -13,8 +16,10 @@ use std::net::{Net, SocketAddr};
 use std::os::fd::{AsRawFd, RawFd};
 use std::time::Duration;
 
-/// How many there are at most.
+/// How many there are at most: of a board, and of a desk.
 const MOST_VIEWERS: usize = 256;
+
+const MOST_SCORERS: usize = 16;
 
 /// How many events are taken of the machine at once.
 const MOST_EVENTS: usize = 64;
@@ -34,6 +39,8 @@ struct Crowd {
     events: Events<Global>,
     listener: TcpListener,
     viewers: Vec<Option<Viewer<TcpStream>>>,
+    /// How many there are at most.
+    most: usize,
     /// Whether somebody may wait to come in.
     has_guests: bool,
     /// When they last heard that the board is there.
@@ -42,7 +49,7 @@ struct Crowd {
 
 impl Crowd {
     /// At this address.
-    fn new(net: &impl Net, alloc: Global, at: SocketAddr) -> io::Result<Crowd> {
+    fn new(net: &impl Net, alloc: Global, at: SocketAddr, most: usize) -> io::Result<Crowd> {
         let mut listener = listener_at(net, at)?;
         let poll = Poll::new(net)?;
         poll.registry()
@@ -54,6 +61,7 @@ impl Crowd {
             events: Events::with_capacity(alloc, MOST_EVENTS)?,
             listener,
             viewers: Vec::new(alloc),
+            most,
             has_guests: true,
             beat: 0,
         })
@@ -65,7 +73,7 @@ impl Crowd {
             return Ok(Some(at));
         }
         let at = self.viewers.len();
-        if at >= MOST_VIEWERS {
+        if at >= self.most {
             return Ok(None);
         }
         self.viewers.push(None)?;
@@ -119,12 +127,12 @@ impl Crowd {
     }
 
     /// Serves who is at this place, and lets go who has had time enough.
-    fn serve(&mut self, at: usize, shown: &Shown, now: u64) {
+    fn serve(&mut self, at: usize, shown: &Shown, inbox: &mut Option<Inbox>, now: u64) {
         let Some(slot) = self.viewers.get_mut(at) else {
             return;
         };
         if let Some(viewer) = slot {
-            viewer.serve(self.alloc, self.at, shown, now);
+            viewer.serve(self.alloc, self.at, shown, inbox, now);
             if viewer.is_over(now) {
                 *slot = None;
             }
@@ -140,13 +148,13 @@ impl Crowd {
     }
 
     /// Does what can be done at once.
-    fn pump(&mut self, shown: &Shown, now: u64) {
+    fn pump(&mut self, shown: &Shown, inbox: &mut Option<Inbox>, now: u64) {
         self.look();
         if self.has_guests {
             self.admit_all(now);
         }
         for at in 0..self.viewers.len() {
-            self.serve(at, shown, now);
+            self.serve(at, shown, inbox, now);
         }
     }
 
@@ -170,27 +178,40 @@ impl Crowd {
     }
 }
 
-/// A page at an address, with all who look at it. What they send changes nothing of what is shown.
+/// How many may look at a station's page at once.
+fn most_at(station: Station) -> usize {
+    match station {
+        Station::Board => MOST_VIEWERS,
+        Station::Desk => MOST_SCORERS,
+    }
+}
+
+/// A page at an address, with all who look at it. What they send changes nothing of what is shown. Of a desk's page it may be
+/// lines for the desk.
 #[derive(Drop)]
 pub struct Viewers {
     crowd: Crowd,
     shown: Shown,
+    inbox: Option<Inbox>,
 }
 
 impl Viewers {
     /// A page at this address, of which nothing is shown yet.
-    pub fn new(net: &impl Net, alloc: Global, at: SocketAddr) -> io::Result<Viewers> {
+    pub fn new(
+        net: &impl Net,
+        alloc: Global,
+        at: SocketAddr,
+        station: Station,
+        inbox: Option<Inbox>,
+    ) -> io::Result<Viewers> {
         Ok(Viewers {
-            crowd: Crowd::new(net, alloc, at)?,
-            shown: Shown {
-                lines: Vec::new(alloc),
-                state: Vec::new(alloc),
-                number: 0,
-            },
+            crowd: Crowd::new(net, alloc, at, most_at(station))?,
+            shown: Shown::new(alloc, station),
+            inbox,
         })
     }
 
-    /// These six lines are shown from here on.
+    /// These lines are shown from here on.
     pub fn put_lines(&mut self, lines: Vec<u8>)
         ensures lines { self.new.shown.lines ≡ lines }
         ensures state { self.new.shown.state ≡ self.old.shown.state }
@@ -215,13 +236,42 @@ impl Viewers {
     pub fn pump(&mut self, now: u64)
         ensures { self.new.shown ≡ self.old.shown }
     {
-        self.crowd.pump(&self.shown, now);
+        self.crowd.pump(&self.shown, &mut self.inbox, now);
     }
 
-    /// Tells all who asked for it what is shown, where they weren't told it, or each two seconds that the board is there.
+    /// Tells all who asked for it what is shown, where they weren't told it, or each two seconds that the station is there.
     pub fn tell(&mut self, now: u64)
         ensures { self.new.shown ≡ self.old.shown }
     {
         self.crowd.tell(&self.shown, now);
+    }
+
+    /// The desk is at this position from here on. Lines that were posted for another one are dropped: it tells how many.
+    pub fn stand(&mut self, at: Position) -> usize
+        ensures { self.new.shown ≡ self.old.shown }
+    {
+        match &mut self.inbox {
+            Some(inbox) => inbox.stand(at),
+            None => 0,
+        }
+    }
+
+    /// Takes the oldest line that was posted, if there is one: it stands in front of the buffer.
+    pub fn next_line(&mut self, buffer: &mut [u8; 128]) -> Option<usize>
+        ensures count { IfSome result (λ count. count ≤ 128) }
+        ensures shown { self.new.shown ≡ self.old.shown }
+    {
+        match &mut self.inbox {
+            Some(inbox) => inbox.next_line(buffer),
+            None => None,
+        }
+    }
+
+    /// Whether a line waits.
+    pub fn has_lines(&self) -> bool {
+        match &self.inbox {
+            Some(inbox) => inbox.has_lines(),
+            None => false,
+        }
     }
 }

@@ -3,20 +3,24 @@
 
 mod asks;
 mod crowd;
+mod desk_page;
 mod host;
+mod inbox;
 mod listening;
 mod logs;
 mod page;
 mod replies;
 mod shown;
+mod station;
+mod stream;
 mod viewer;
-mod wire;
 
-pub use asks::{Ask, Asked};
+pub use asks::{Ask, Asked, Heading};
 pub use crowd::Viewers;
 pub use host::is_named;
-pub use page::PAGE;
+pub use inbox::Inbox;
 pub use replies::reply;
 pub use shown::Shown;
+pub use station::Station;
+pub use stream::{Stream, Wire};
 pub use viewer::Viewer;
-pub use wire::{Stream, Wire};

@@ -1,8 +1,8 @@
 //! The scoreboard's page. `tools/served` writes this file, of examples/scoreboard/index.html.
 
-/// What may be run and loaded in the page: its own style and script, and what it asks of this board.
+/// What may be run and loaded in the page: its own style and script, and what it asks of its station.
 pub const POLICY: &[u8] =
-    b"default-src 'none'; script-src 'sha256-fX40CQmT4hYy+a7H5+FosRfQ4Kw22PUcrxZJumdMwTE='; style-src 'sha256-VuLDZmqkK7jGczWNfOT/rQoajGxTx34AfkeRyGN2jhg='; connect-src 'self'; img-src data:; base-uri 'none'; form-action 'none'; frame-ancestors 'none'";
+    b"default-src 'none'; script-src 'sha256-RvPHEjnOlT8Y4CVnG/8GGIEA9Dcm18wc0SSH/wgRfDU='; style-src 'sha256-QTzaF9fK6xdGbJz7DGRRKpa/QtTpHcO/oL3P59HrW1w='; connect-src 'self'; img-src data:; base-uri 'none'; form-action 'none'; frame-ancestors 'none'";
 
 /// The page.
 pub const PAGE: &[u8] = b"<!DOCTYPE html>
@@ -20,7 +20,14 @@ pub const PAGE: &[u8] = b"<!DOCTYPE html>
 <style>
 :root {
   --ground: #0d1a12; --panel: #14271b; --line: #3c5c47; --text: #ffffff; --quiet: #c4d6ca; --bright: #ffd84d;
-  --alarm-ground: #b00020; --alarm-text: #ffffff; --unit: 16px;
+  --alarm-ground: #b00020; --alarm-text: #ffffff; --ball: #1e3a29; --marked: #3a3310; --wicket: #ffffff; --wicket-text: #000000; --unit: 16px;
+}
+/* In the hand, where the telephone or the tablet asks for it: light, to be read in the sun. */
+@media (prefers-color-scheme: light) and (max-width: 899px) {
+  :root:not(.overlay, .big) {
+    --ground: #eef3ef; --panel: #ffffff; --line: #8fa698; --text: #0d1a12; --quiet: #33493c; --bright: #6b4700;
+    --ball: #e4ede7; --marked: #fff1c2; --wicket: #0d1a12; --wicket-text: #ffffff;
+  }
 }
 * { box-sizing: border-box; }
 html { background: var(--ground); color: var(--text); font: var(--unit)/1.25 \"DejaVu Sans\", Verdana, Arial, sans-serif; font-variant-numeric: tabular-nums; }
@@ -38,6 +45,7 @@ h2 { font-size: .85em; letter-spacing: .06em; text-transform: uppercase; color: 
 #runs { font-size: 4.5em; font-weight: 700; line-height: 1.05; white-space: nowrap; }
 #overs { font-size: 1.5em; color: var(--quiet); white-space: nowrap; }
 #aim, #result { font-size: 1.4em; color: var(--bright); font-weight: 600; overflow-wrap: anywhere; }
+#result::first-letter { text-transform: uppercase; }
 #left, #stand { color: var(--quiet); overflow-wrap: anywhere; }
 #runs:empty, #overs:empty { display: none; }
 #missing { margin-top: .4em; max-width: 45em; }
@@ -48,15 +56,18 @@ thead th { font-size: .8em; font-weight: 400; color: var(--quiet); border-top: 0
 th:first-child, th.words, td.words { text-align: left; overflow-wrap: anywhere; }
 tbody th { font-weight: 400; }
 td.words, tfoot td.words { color: var(--quiet); }
+td:not(.words) { white-space: nowrap; }
 tfoot th { white-space: nowrap; }
+tfoot tr { border-top: 1px solid var(--line); }
 tr.strike th::before { content: \"\\25B6\\00A0\"; color: var(--bright); }
 tr.strike th { font-weight: 700; }
 ol.over { list-style: none; display: flex; flex-wrap: wrap; gap: .3em; font-weight: 700; min-height: 2em; }
-ol.over li { min-width: 2em; padding: .3em .4em; text-align: center; border: 2px solid var(--line); border-radius: 1em; background: #1e3a29; line-height: 1.1; }
-ol.over li.marked { border-color: var(--bright); border-radius: .2em; background: #3a3310; }
-ol.over li.wicket { border-color: #fff; border-radius: .2em; background: #fff; color: #000; }
+ol.over li { min-width: 2em; padding: .3em .4em; text-align: center; border: 2px solid var(--line); border-radius: 1em; background: var(--ball); line-height: 1.1; }
+ol.over li.marked { border-color: var(--bright); border-radius: .2em; background: var(--marked); }
+ol.over li.wicket { border-color: var(--wicket); border-radius: .2em; background: var(--wicket); color: var(--wicket-text); }
 #last-over { color: var(--quiet); font-size: .95em; margin-top: .4em; }
 .falls, .absent { color: var(--quiet); font-size: .9em; padding: .4em; overflow-wrap: anywhere; }
+.falls span { display: inline-block; max-width: 100%; }
 .unseen { position: absolute; width: 1px; height: 1px; overflow: hidden; clip-path: inset(50%); white-space: nowrap; }
 #cards { display: grid; gap: .75em; grid-template-columns: minmax(0, 1fr); }
 .bars { display: flex; align-items: flex-end; gap: 2px; height: 5em; margin-top: .4em; border-bottom: 1px solid var(--line); }
@@ -293,6 +304,7 @@ function showChart(board) {
   const rows = board.innings.map((innings, n) => {
     const made = element(\"div\", undefined, n + 1 < board.innings.length ? \"bars earlier\" : \"bars\");
     const own = overs.filter(over => over.innings === n + 1);
+    made.hidden = own.length === 0;
     made.setAttribute(\"role\", \"img\");
     made.setAttribute(\"aria-label\", innings.team + \", runs by over: \" + own.map(over => over.runs).join(\", \"));
     made.append(...own.map((over, at) => {
@@ -307,25 +319,20 @@ function showChart(board) {
   at(\"chart\").hidden = overs.length === 0;
 }
 
-// Who hasn't batted: those names that another innings of the side tells, and how many more.
+// Who hasn't batted. A board of an earlier version tells no names of those: then how many.
 function absent(innings, board) {
-  const all = board.innings;
   const came = new Set(innings.batting.map(b => b.number));
-  const isOneName = all.some(one => one !== innings && one.team === innings.team && all.indexOf(one) % 2 !== all.indexOf(innings) % 2);
-  const names = new Map();
-  for (const one of isOneName ? [] : all) {
-    for (const b of one.team === innings.team ? one.batting : one.bowling) if (!came.has(b.number)) names.set(b.number, b.name);
-  }
-  const known = [...names].sort(([a], [b]) => a - b).map(([, name]) => name);
-  const more = PLAYERS - came.size - known.length;
-  if (known.length + more === 0) return \"\";
-  const rest = known.length === 0 ? [String(more)] : more > 0 ? [more + \" more\"] : [];
-  return (innings.closed || board.now.result !== null ? \"Did not bat: \" : \"Yet to bat: \") + [...known, ...rest].join(\", \");
+  const names = (innings.players || []).filter((name, n) => !came.has(n + 1));
+  if (came.size === PLAYERS) return \"\";
+  const isOver = innings.closed || board.now.result !== null;
+  return (isOver ? \"Did not bat: \" : \"Yet to bat: \") + (names.length > 0 ? names.join(\", \") : PLAYERS - came.size);
 }
 
 function card(innings, board) {
   const made = element(\"section\", undefined, \"card\");
-  made.append(element(\"h2\", innings.team + \" \" + innings.runs + \" for \" + innings.wickets + \" (\" + innings.overs + \" overs)\"));
+  const its = board.innings.filter(one => one.team === innings.team);
+  const team = innings.team + (its.length > 1 ? \", innings \" + (its.indexOf(innings) + 1) + \":\" : \"\");
+  made.append(element(\"h2\", team + \" \" + innings.runs + \" for \" + innings.wickets + \" (\" + innings.overs + \" overs)\"));
   const batting = element(\"table\", undefined, \"batting\");
   const rows = element(\"tbody\");
   rows.append(...innings.batting.map(b => row(b.name, [{ words: b.how }, ...batted(b)])));
@@ -339,6 +346,7 @@ function card(innings, board) {
   const bowlers = element(\"tbody\");
   bowlers.append(...innings.bowling.map(b => row(b.name, bowled(b))));
   bowling.append(headings(BOWLING), bowlers);
+  bowling.hidden = innings.bowling.length === 0;
   const left = element(\"div\", undefined, \"batted\");
   left.append(batting);
   const others = absent(innings, board);
@@ -346,8 +354,13 @@ function card(innings, board) {
   const right = element(\"div\", undefined, \"bowled\");
   right.append(bowling);
   if (innings.falls.length > 0) {
-    const falls = innings.falls.map(fall => fall.wicket + \"-\" + fall.runs + \" \" + fall.name + (fall.overs ? \" (\" + fall.overs + \")\" : \"\"));
-    right.append(element(\"p\", \"Fall: \" + falls.join(\", \"), \"falls\"));
+    const falls = element(\"p\", \"Fall:\", \"falls\");
+    const last = innings.falls.length - 1;
+    innings.falls.forEach((fall, n) => {
+      const where = fall.name + (fall.overs ? \", \" + fall.overs : \"\");
+      falls.append(\" \", element(\"span\", fall.wicket + \"-\" + fall.runs + \" (\" + where + \")\" + (n < last ? \",\" : \"\")));
+    });
+    right.append(falls);
   }
   const both = element(\"div\", undefined, \"both\");
   both.append(left, right);
@@ -390,7 +403,8 @@ function show(board, before) {
   const last = board.innings[board.innings.length - 1];
   put(\"title\", board.title);
   document.title = last ? last.team + \" \" + last.runs + \"/\" + last.wickets : board.title;
-  at(\"team\").replaceChildren(...(last ? [element(\"span\", last.closed ? \"Innings closed: \" : \"Batting: \", \"label\"), last.team] : [\"No play yet\"]));
+  const label = now.result !== null ? \"Last innings: \" : last && last.closed ? \"Innings closed: \" : \"Batting: \";
+  at(\"team\").replaceChildren(...(last ? [element(\"span\", label, \"label\"), last.team] : [\"No play yet\"]));
   putIf(\"missing\", \"\");
   put(\"runs\", last ? last.runs + \"/\" + last.wickets : \"\");
   put(\"overs\", last ? last.overs + (known(now.overs) ? \" of \" + now.overs : \"\") + \" overs\" : \"\");

@@ -1,6 +1,6 @@
 //! What a viewer is sent.
 
-ghost use Rattle.std.specs.Prelude.{◌≡◌, ◌<◌, ◌^◌, ◌++◌, [], IfOk, None, OnOk, codes, length};
+ghost use Rattle.std.specs.Prelude.{◌≡◌, ◌<◌, ◌^◌, ◌++◌, [], IfOk, None, OnOk, codes, decimal, length};
 ghost use Rattle.http1.specs.Head.{pairs};
 ghost use Rattle.http1.specs.Server.{after_response, planned_response, response_refusal, writing};
 ghost use Rattle.http1.specs.Conn.{after_data, data_refusal, data_text, finish_refusal, finish_text};
@@ -8,8 +8,8 @@ ghost use Rattle.viewers.specs.Responses.{IsResponse};
 ghost use Rattle.viewers.specs.Replies as texts;
 
 use crate::asks::Ask;
-use crate::page::{PAGE, POLICY};
 use crate::shown::Shown;
+use crate::station::{Station, page_of, policy_of};
 use http1::{BodySize, Header, Server, WriteError};
 use itoa::Buffer;
 use std::alloc::{AllocError, Global};
@@ -25,9 +25,19 @@ const STREAM: &[u8] = b"text/event-stream";
 /// What says that the board is there, where there is nothing new.
 const BEAT: &[u8] = b"event: beat\ndata: -\n\n";
 
+/// What may be done at a station's page.
+fn allowed_at(station: Station) -> &'static [u8]
+    ensures { result.now ≡ texts.allowed_at station }
+{
+    match station {
+        Station::Board => b"GET, HEAD",
+        Station::Desk => b"GET, HEAD, POST",
+    }
+}
+
 /// The fields of a head, with what kind of text follows it.
-fn fields_of(kind: &[u8]) -> [Header<'_>; 7]
-    ensures { pairs result ≡ texts.fields_of kind.now }
+fn fields_of(station: Station, kind: &[u8]) -> [Header<'_>; 7]
+    ensures { pairs result ≡ texts.fields_of station kind.now }
 {
     [
         Header {
@@ -48,11 +58,11 @@ fn fields_of(kind: &[u8]) -> [Header<'_>; 7]
         },
         Header {
             name: b"content-security-policy",
-            value: POLICY,
+            value: policy_of(station),
         },
         Header {
             name: b"allow",
-            value: b"GET, HEAD",
+            value: allowed_at(station),
         },
         Header {
             name: b"connection",
@@ -65,17 +75,18 @@ fn fields_of(kind: &[u8]) -> [Header<'_>; 7]
 fn front(
     alloc: Global,
     server: &mut Server,
+    station: Station,
     status: u16,
     reason: &[u8],
     kind: &[u8],
     size: BodySize,
 ) -> Result<Vec<u8>, WriteError>
     ensures text { IfOk result (λ bytes.
-        bytes.items ≡ planned_response server.old status reason.now size (texts.fields_of kind.now)) }
-    ensures next { OnOk result (server.new ≡ after_response server.old status size (texts.fields_of kind.now)) }
-    ensures taken { OnOk result (response_refusal server.old status reason.now size (texts.fields_of kind.now) ≡ None) }
+        bytes.items ≡ planned_response server.old status reason.now size (texts.fields_of station kind.now)) }
+    ensures next { OnOk result (server.new ≡ after_response server.old status size (texts.fields_of station kind.now)) }
+    ensures taken { OnOk result (response_refusal server.old status reason.now size (texts.fields_of station kind.now) ≡ None) }
 {
-    let fields = fields_of(kind);
+    let fields = fields_of(station, kind);
     let mut out = Vec::new(alloc);
     server.write_response(&mut out, status, reason, &fields, size)?;
     Ok(out)
@@ -94,6 +105,16 @@ fn put_text(server: &mut Server, out: &mut Vec<u8>, text: &[u8]) -> Result<(), W
     server.write_end(out, &[])
 }
 
+/// What the lines of a station are: a board's six as text, or those that a desk told as JSON.
+fn lines_kind(station: Station) -> &'static [u8]
+    ensures { result.now ≡ texts.lines_kind station }
+{
+    match station {
+        Station::Board => TEXT,
+        Station::Desk => JSON,
+    }
+}
+
 /// What is sent of a text: nothing of it, where the head alone is asked for.
 fn sent_of(text: &[u8], is_head: bool) -> &[u8]
     ensures { result.now ≡ texts.sent_of text.now is_head }
@@ -105,6 +126,7 @@ fn sent_of(text: &[u8], is_head: bool) -> &[u8]
 fn whole(
     alloc: Global,
     server: &mut Server,
+    station: Station,
     status: u16,
     reason: &[u8],
     kind: &[u8],
@@ -112,12 +134,12 @@ fn whole(
     is_head: bool,
 ) -> Result<Vec<u8>, WriteError>
     ensures text { IfOk result (λ bytes.
-        bytes.items ≡ texts.whole_text server.old status reason.now kind.now text.now is_head) }
+        bytes.items ≡ texts.whole_text server.old station status reason.now kind.now text.now is_head) }
     ensures http { IfOk result (λ bytes.
-        IsResponse server.old status reason.now (texts.fields_of kind.now) (texts.sent_of text.now is_head) bytes.items) }
+        IsResponse server.old status reason.now (texts.fields_of station kind.now) (texts.sent_of text.now is_head) bytes.items) }
 {
     let size = BodySize::Known(text.len() as u64);
-    let mut out = front(alloc, server, status, reason, kind, size)?;
+    let mut out = front(alloc, server, station, status, reason, kind, size)?;
     put_text(server, &mut out, sent_of(text, is_head))?;
     Ok(out)
 }
@@ -126,43 +148,101 @@ fn whole(
 fn refusal(
     alloc: Global,
     server: &mut Server,
+    station: Station,
     status: u16,
     reason: &[u8],
     text: &[u8],
     is_head: bool,
 ) -> Result<Vec<u8>, WriteError>
     ensures { IfOk result (λ bytes.
-        bytes.items ≡ texts.whole_text server.old status reason.now texts.plain text.now is_head) }
+        bytes.items ≡ texts.whole_text server.old station status reason.now texts.plain text.now is_head) }
 {
-    whole(alloc, server, status, reason, TEXT, text, is_head)
+    whole(alloc, server, station, status, reason, TEXT, text, is_head)
 }
 
 /// The page.
-fn page(alloc: Global, server: &mut Server, is_head: bool) -> Result<Vec<u8>, WriteError>
-    ensures { IfOk result (λ bytes. bytes.items ≡ texts.page_text server.old is_head) }
+fn page(
+    alloc: Global,
+    server: &mut Server,
+    station: Station,
+    is_head: bool,
+) -> Result<Vec<u8>, WriteError>
+    ensures { IfOk result (λ bytes. bytes.items ≡ texts.page_text server.old station is_head) }
 {
-    whole(alloc, server, 200, b"OK", HTML, PAGE, is_head)
+    whole(
+        alloc,
+        server,
+        station,
+        200,
+        b"OK",
+        HTML,
+        page_of(station),
+        is_head,
+    )
 }
 
 /// One of the texts that are shown.
 fn shown_text(
     alloc: Global,
     server: &mut Server,
+    station: Station,
     kind: &[u8],
     text: &[u8],
     is_head: bool,
 ) -> Result<Vec<u8>, WriteError>
     ensures { IfOk result (λ bytes.
-        bytes.items ≡ texts.whole_text server.old 200 (codes "OK") kind.now text.now is_head) }
+        bytes.items ≡ texts.whole_text server.old station 200 (codes "OK") kind.now text.now is_head) }
 {
-    whole(alloc, server, 200, b"OK", kind, text, is_head)
+    whole(alloc, server, station, 200, b"OK", kind, text, is_head)
 }
 
 /// A head alone, behind which states follow for as long as the viewer stays.
-fn stream(alloc: Global, server: &mut Server) -> Result<Vec<u8>, WriteError>
-    ensures { IfOk result (λ bytes. bytes.items ≡ texts.stream_text server.old) }
+fn stream(alloc: Global, server: &mut Server, station: Station) -> Result<Vec<u8>, WriteError>
+    ensures { IfOk result (λ bytes. bytes.items ≡ texts.stream_text server.old station) }
 {
-    front(alloc, server, 200, b"OK", STREAM, BodySize::Unknown)
+    front(
+        alloc,
+        server,
+        station,
+        200,
+        b"OK",
+        STREAM,
+        BodySize::Unknown,
+    )
+}
+
+fn nonce_line(alloc: Global, nonce: u64) -> Result<Vec<u8>, AllocError>
+    ensures { IfOk result (λ line. line.items ≡ decimal nonce ++ codes "\n") }
+{
+    let mut digits = Buffer::new();
+    let mut line = Vec::new(alloc);
+    line.extend_from_slice(digits.format(nonce).as_bytes())?;
+    line.extend_from_slice(b"\n")?;
+    Ok(line)
+}
+
+/// A nonce, as a text of one line.
+fn nonce_text(
+    alloc: Global,
+    server: &mut Server,
+    station: Station,
+    nonce: u64,
+) -> Result<Vec<u8>, WriteError>
+    ensures { IfOk result (λ bytes. bytes.items ≡ texts.nonce_text server.old station nonce) }
+{
+    match nonce_line(alloc, nonce) {
+        Ok(line) => whole(
+            alloc,
+            server,
+            station,
+            200,
+            b"OK",
+            TEXT,
+            line.as_slice(),
+            false,
+        ),
+        Err(_) => Err(WriteError::OutOfMemory),
+    }
 }
 
 /// The answer to what was asked for, while this is shown.
@@ -175,20 +255,84 @@ pub fn reply(
 ) -> Result<Vec<u8>, WriteError>
     ensures { IfOk result (λ bytes. bytes.items ≡ texts.answer_text server.old ask head shown.now) }
 {
+    let station = shown.station;
     match ask {
-        Ask::Page => page(alloc, server, head),
-        Ask::Lines => shown_text(alloc, server, TEXT, shown.lines.as_slice(), head),
-        Ask::State => shown_text(alloc, server, JSON, shown.state.as_slice(), head),
-        Ask::Events => stream(alloc, server),
-        Ask::Unready => refusal(alloc, server, 503, b"Not Yet", b"no score yet\n", head),
-        Ask::Missing => refusal(alloc, server, 404, b"Not Found", b"not here\n", head),
-        Ask::Method => refusal(alloc, server, 405, b"Not Allowed", b"only GET\n", head),
-        Ask::Foreign => refusal(alloc, server, 403, b"Forbidden", b"another host\n", head),
-        Ask::Faulty(status) => refusal(alloc, server, status, b"Refused", b"refused\n", head),
+        Ask::Page => page(alloc, server, station, head),
+        Ask::Lines => shown_text(
+            alloc,
+            server,
+            station,
+            lines_kind(station),
+            shown.lines.as_slice(),
+            head,
+        ),
+        Ask::State => shown_text(alloc, server, station, JSON, shown.state.as_slice(), head),
+        Ask::Events => stream(alloc, server, station),
+        Ask::Given(nonce) => nonce_text(alloc, server, station, nonce),
+        Ask::Typed => refusal(alloc, server, station, 200, b"OK", b"typed\n", head),
+        Ask::Unready => refusal(
+            alloc,
+            server,
+            station,
+            503,
+            b"Not Yet",
+            b"no score yet\n",
+            head,
+        ),
+        Ask::Missing => refusal(
+            alloc,
+            server,
+            station,
+            404,
+            b"Not Found",
+            b"not here\n",
+            head,
+        ),
+        Ask::Method => refusal(
+            alloc,
+            server,
+            station,
+            405,
+            b"Not Allowed",
+            b"only GET\n",
+            head,
+        ),
+        Ask::Foreign => refusal(
+            alloc,
+            server,
+            station,
+            403,
+            b"Forbidden",
+            b"another host\n",
+            head,
+        ),
+        Ask::Faulty(status) => refusal(
+            alloc,
+            server,
+            station,
+            status,
+            b"Refused",
+            b"refused\n",
+            head,
+        ),
     }
 }
 
-/// A state as an event: its number, and its text, which is one line.
+/// Adds the lines of a desk.
+fn put_lines(out: &mut Vec<u8>, shown: &Shown) -> Result<(), AllocError>
+    ensures { OnOk result (out.new.items ≡ out.old.items
+        ++ texts.lines_data shown.now.station shown.now.lines.items) }
+{
+    match shown.station {
+        Station::Board => Ok(()),
+        Station::Desk => {
+            out.extend_from_slice(b"data: ")?;
+            out.extend_from_slice(shown.lines.as_slice())
+        }
+    }
+}
+
+/// A state as an event: its number, and its text, which is one line; of a desk its lines too, which are one.
 fn event_of(alloc: Global, shown: &Shown) -> Result<Vec<u8>, AllocError>
     ensures { IfOk result (λ bytes. bytes.items ≡ texts.event shown.now) }
 {
@@ -198,6 +342,7 @@ fn event_of(alloc: Global, shown: &Shown) -> Result<Vec<u8>, AllocError>
     out.extend_from_slice(digits.format(shown.number).as_bytes())?;
     out.extend_from_slice(b"\ndata: ")?;
     out.extend_from_slice(shown.state.as_slice())?;
+    put_lines(&mut out, shown)?;
     out.extend_from_slice(b"\n")?;
     Ok(out)
 }

@@ -4,14 +4,17 @@ ghost use Rattle.std.specs.Prelude.{◌≡◌, ◌≤◌, ◌++◌, drop, nat_lt
 ghost use Rattle.std.specs.Result.{ForOk};
 ghost use Rattle.viewers.specs.Said.{said_in, taken_by};
 
-use crate::asks::{Ask, Asked, asked_in};
+use crate::asks::{Ask, Asked, Heading, Wish, bytes_at, wish_in};
+use crate::inbox::{Inbox, give, take};
 use crate::logs::SaidLog;
 use crate::replies::{beat, reply, told};
 use crate::shown::Shown;
-use crate::wire::{Stream, Wire};
+use crate::station::Station;
+use crate::stream::{Stream, Wire};
+use arrayvec::ArrayVec;
 use bytes::{Buf, BytesMut};
 use http1::{Event, Limits, Server, WriteError};
-use httparse::spans::{EMPTY_HEADER_SPAN, HeaderSpan};
+use httparse::spans::{EMPTY_HEADER_SPAN, HeaderSpan, Span};
 use std::alloc::Global;
 use std::io;
 use std::net::SocketAddr;
@@ -33,10 +36,12 @@ const LIMITS: Limits = Limits {
 };
 
 /// What a connection is about.
-#[derive(Clone, Copy, Debug, PartialEq, Eq)]
+#[derive(Clone, Copy, Debug)]
 enum Stage {
     /// A head is read.
     Head,
+    /// A line that is to be typed is read.
+    Line(Heading),
     /// It is told each new state, and was told those up to this number.
     Watching(u64),
     /// It was answered. What comes is passed over.
@@ -52,6 +57,8 @@ pub struct Viewer<S: Stream> {
     wire: Wire<S>,
     server: Server,
     input: BytesMut,
+    /// What came of a line that is to be typed: one byte more than any line has, where it is too long.
+    line: ArrayVec<u8, 129>,
     /// What was said last.
     out: Vec<u8>,
     /// How many bytes of it are taken.
@@ -74,6 +81,7 @@ impl<S: Stream> Viewer<S> {
             wire: Wire::of(stream),
             server: Server::new(LIMITS),
             input: BytesMut::new(alloc),
+            line: ArrayVec::new(),
             out: Vec::new(alloc),
             done: 0,
             said: SaidLog::Empty,
@@ -133,56 +141,140 @@ impl<S: Stream> Viewer<S> {
         self.say(text, said);
     }
 
-    /// What the head asks for that came, once it is whole.
-    fn asked(&mut self, at: SocketAddr) -> Option<Asked> {
+    /// What the head wishes that came, once it is whole.
+    fn wish(&mut self, at: SocketAddr, station: Station) -> Option<Wish> {
         let mut fields: [HeaderSpan; 32] = [EMPTY_HEADER_SPAN; MOST_FIELDS];
-        match self.server.read(self.input.as_slice(), &mut fields) {
-            Ok(read) => match read.event {
-                Event::Head(head) => {
-                    let count = head.headers.min(MOST_FIELDS);
-                    let input = self.input.as_slice();
-                    Some(asked_in(input, &head, &fields[..count], at))
-                }
-                _ => None,
-            },
-            Err(why) => Some(Asked {
-                ask: Ask::Faulty(why.status()),
-                is_head: false,
-            }),
+        let read = match self.server.read(self.input.as_slice(), &mut fields) {
+            Ok(read) => read,
+            Err(why) => return Some(refused(why.status())),
+        };
+        let wish = match read.event {
+            Event::Head(head) => {
+                let count = head.headers.min(MOST_FIELDS);
+                let input = self.input.as_slice();
+                Some(wish_in(station, input, &head, &fields[..count], at))
+            }
+            _ => None,
+        };
+        self.input.advance(read.consumed);
+        wish
+    }
+
+    /// Keeps a piece of a line, as far as it may be one.
+    fn keep(&mut self, piece: Span)
+        ensures { self.new.input ≡ self.old.input }
+    {
+        for byte in bytes_at(self.input.as_slice(), piece) {
+            let _full = self.line.try_push(*byte);
         }
     }
 
-    /// Takes bytes that came. Those behind the first head are passed over.
-    fn take(&mut self, alloc: Global, bytes: &[u8], at: SocketAddr, shown: &Shown) {
-        if self.stage != Stage::Head {
+    /// Reads on in a line that is to be typed, and answers once it is whole.
+    fn read_line(
+        &mut self,
+        alloc: Global,
+        heading: Heading,
+        shown: &Shown,
+        inbox: &mut Option<Inbox>,
+    ) {
+        let mut fields: [HeaderSpan; 32] = [EMPTY_HEADER_SPAN; MOST_FIELDS];
+        let read = match self.server.read(self.input.as_slice(), &mut fields) {
+            Ok(read) => read,
+            Err(why) => {
+                self.reply_to(alloc, Ask::Faulty(why.status()), shown);
+                return;
+            }
+        };
+        match read.event {
+            Event::Data(piece) => self.keep(piece),
+            Event::End(_) => {
+                let ask = take(inbox, heading, self.line.as_slice());
+                self.reply_to(alloc, ask, shown);
+                return;
+            }
+            _ => {}
+        }
+        self.input.advance(read.consumed);
+    }
+
+    /// Answers, not as to a request for a head alone.
+    fn reply_to(&mut self, alloc: Global, ask: Ask, shown: &Shown) {
+        self.answer(
+            alloc,
+            Asked {
+                ask,
+                is_head: false,
+            },
+            shown,
+        );
+    }
+
+    /// Reads the head that came, once it is whole, and does what it wishes.
+    fn read_head(
+        &mut self,
+        alloc: Global,
+        at: SocketAddr,
+        shown: &Shown,
+        inbox: &mut Option<Inbox>,
+    ) {
+        match self.wish(at, shown.station) {
+            Some(Wish::Answer(asked)) => self.answer(alloc, ready(asked, shown), shown),
+            Some(Wish::Nonce) => {
+                let given = give(inbox);
+                self.reply_to(alloc, given, shown);
+            }
+            Some(Wish::Line(heading)) => self.stage = Stage::Line(heading),
+            None => {}
+        }
+    }
+
+    /// Does what follows of what came, in so many steps: a head, a line's pieces, its end. What stands behind is passed over.
+    fn go_on(&mut self, alloc: Global, at: SocketAddr, shown: &Shown, inbox: &mut Option<Inbox>) {
+        for _ in 0..MOST_PIECES {
+            match self.stage {
+                Stage::Head => self.read_head(alloc, at, shown, inbox),
+                Stage::Line(heading) => self.read_line(alloc, heading, shown, inbox),
+                _ => break,
+            }
+        }
+    }
+
+    /// Takes bytes that came. Those behind the first request are passed over.
+    fn take(
+        &mut self,
+        alloc: Global,
+        bytes: &[u8],
+        at: SocketAddr,
+        shown: &Shown,
+        inbox: &mut Option<Inbox>,
+    ) {
+        if !matches!(self.stage, Stage::Head | Stage::Line(_)) {
             return;
         }
         if self.input.extend_from_slice(bytes).is_err() {
             self.is_gone = true;
             return;
         }
-        if let Some(asked) = self.asked(at) {
-            self.answer(alloc, ready(asked, shown), shown);
-        }
+        self.go_on(alloc, at, shown, inbox);
     }
 
     /// Nothing more comes. Who was answered still gets the rest of it.
     fn leave(&mut self) {
         self.may_read = false;
         self.is_left = true;
-        if self.stage != Stage::Answered || !self.is_sending() {
+        if !matches!(self.stage, Stage::Answered) || !self.is_sending() {
             self.is_gone = true;
         }
     }
 
     /// Reads once, and answers what was asked for.
-    fn read(&mut self, alloc: Global, at: SocketAddr, shown: &Shown) {
+    fn read(&mut self, alloc: Global, at: SocketAddr, shown: &Shown, inbox: &mut Option<Inbox>) {
         let mut buffer = [0u8; 2048];
         match self.wire.read(&mut buffer) {
             Ok(Some(0)) => self.leave(),
             Ok(Some(count)) => {
                 let count = count.min(buffer.len());
-                self.take(alloc, &buffer[..count], at, shown);
+                self.take(alloc, &buffer[..count], at, shown, inbox);
             }
             Ok(None) => self.may_read = false,
             Err(_) => self.is_gone = true,
@@ -223,7 +315,7 @@ impl<S: Stream> Viewer<S> {
 
     /// Tells who was answered that nothing follows, once all is sent.
     fn end(&mut self) {
-        if self.stage != Stage::Answered || self.is_sending() {
+        if !matches!(self.stage, Stage::Answered) || self.is_sending() {
             return;
         }
         if self.is_left {
@@ -245,12 +337,19 @@ impl<S: Stream> Viewer<S> {
     }
 
     /// Reads what came, as far as that goes at once, and answers it.
-    pub fn serve(&mut self, alloc: Global, at: SocketAddr, shown: &Shown, now: u64) {
+    pub fn serve(
+        &mut self,
+        alloc: Global,
+        at: SocketAddr,
+        shown: &Shown,
+        inbox: &mut Option<Inbox>,
+        now: u64,
+    ) {
         for _ in 0..MOST_PIECES {
             if !self.may_read || self.is_gone {
                 break;
             }
-            self.read(alloc, at, shown);
+            self.read(alloc, at, shown, inbox);
         }
         self.send(now);
     }
@@ -293,6 +392,14 @@ impl<S: Stream> Viewer<S> {
         self.since = now;
         self.send(now);
     }
+}
+
+/// That a head is refused with this status.
+fn refused(status: u16) -> Wish {
+    Wish::Answer(Asked {
+        ask: Ask::Faulty(status),
+        is_head: false,
+    })
 }
 
 /// What is asked for, where something was handed over to be shown, or that nothing was.

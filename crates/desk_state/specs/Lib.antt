@@ -1,0 +1,10 @@
+-- What the public call claims: Value with all that it cites.
+pub mod Wants
+pub mod Players
+pub mod Over
+pub mod Sides
+pub mod Head
+pub mod Value
+pub mod Laws
+pub mod Worked
+pub mod inner

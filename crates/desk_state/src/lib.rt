@@ -1,0 +1,19 @@
+//! The state of a desk as one JSON value, for a page that a scorer taps at: what the match wants next, who may come in
+//! and who may bowl, this over with its places, both sides, the desk's own vote and the lines that are held.
+#![tactic(auto, unfolding(json_fields::specs::Values::fields_tokens, json_fields::specs::Values::values_tokens))]
+
+mod board;
+mod deliveries;
+mod head;
+mod laws;
+mod next;
+mod over;
+mod players;
+mod sides;
+mod text;
+mod value;
+mod wants;
+mod worked;
+
+pub use laws::{offers_are_taken, the_over_is_shown};
+pub use text::state_text;

@@ -1,0 +1,38 @@
+//! The text of a desk's state.
+
+ghost use Rattle.std.specs.Prelude.{◌≡◌, IfOk, IfSome};
+ghost use Rattle.notation.specs.Written.{IsEntry};
+ghost use Rattle.desk_state.specs.Value.{state_text as text_of};
+
+use crate::value::put_state;
+use agree_core::{DeskId, Position};
+use arrayvec::ArrayString;
+use cards::MatchSheet;
+use corrections::BookOf;
+use json_fields::Compact;
+use notation::Entry;
+use std::alloc::{AllocError, Global};
+
+/// The state of a desk as one JSON value, and a newline: the desk with this book votes at this position, has cast this vote
+/// there, if any, and holds these lines, the oldest first. Beside them it has what the match wants next, who may come in
+/// and who may bowl, the over with the places of its deliveries, both sides, and what a board with this book shows.
+/// Nothing of it is the other desk's vote. It fails only where memory is refused.
+pub fn state_text<B: BookOf>(
+    alloc: Global,
+    sheet: &MatchSheet,
+    book: &B,
+    desk: DeskId,
+    at: Position,
+    own: Option<Entry>,
+    held: &[ArrayString<128>],
+) -> Result<Vec<u8>, AllocError>
+    requires { IfSome own IsEntry }
+    ensures { IfOk result (λ text. text.items ≡ text_of sheet.now
+        (B.innings_a_side book.now) (B.content book.now) desk at own held.now) }
+{
+    let mut out = Compact::new(alloc);
+    put_state(&mut out, alloc, sheet, book, desk, at, own, held)?;
+    let mut text = out.into_inner();
+    text.push(b'\n')?;
+    Ok(text)
+}

@@ -1,0 +1,58 @@
+//! The state of a desk as one JSON value.
+
+ghost use Rattle.std.specs.Prelude.{◌≡◌, ◌∷◌, [], IfSome};
+ghost use Rattle.notation.specs.Written.{IsEntry};
+ghost use Rattle.json_fields.specs.Values.{PutsFields, PutsValues};
+ghost use Rattle.desk_state.specs.Value as laws;
+
+use crate::board::put_board_field;
+use crate::deliveries::over_shown;
+use crate::head::put_head;
+use crate::next::put_next;
+use crate::over::put_over;
+use crate::sides::put_sides;
+use agree_core::{DeskId, Position};
+use arrayvec::ArrayString;
+use cards::MatchSheet;
+use corrections::BookOf;
+use json_fields::{Compact, begin_object, end_object};
+use notation::Entry;
+use std::alloc::{AllocError, Global};
+
+/// Puts what the sheet and the book say.
+fn put_book<B: BookOf>(
+    out: &mut Compact,
+    alloc: Global,
+    sheet: &MatchSheet,
+    book: &B,
+) -> Result<(), AllocError>
+    ensures { PutsFields result out.old out.new
+        (laws.book_fields sheet.now (B.innings_a_side book.now) (B.content book.now)) }
+{
+    let over = over_shown(alloc, book)?;
+    put_next(out, sheet, book)?;
+    put_over(out, alloc, over.as_slice())?;
+    put_sides(out, sheet)?;
+    put_board_field(out, alloc, sheet, book)
+}
+
+/// Puts the state of a desk with this book, that votes at this position, voted so there, and holds these lines.
+pub fn put_state<B: BookOf>(
+    out: &mut Compact,
+    alloc: Global,
+    sheet: &MatchSheet,
+    book: &B,
+    desk: DeskId,
+    at: Position,
+    own: Option<Entry>,
+    held: &[ArrayString<128>],
+) -> Result<(), AllocError>
+    requires { IfSome own IsEntry }
+    ensures { PutsValues result out.old out.new (laws.state_value sheet.now
+        (B.innings_a_side book.now) (B.content book.now) desk at own held.now ∷ []) }
+{
+    begin_object(out)?;
+    put_head(out, sheet, desk, at, own, held)?;
+    put_book(out, alloc, sheet, book)?;
+    end_object(out)
+}

@@ -1,0 +1,217 @@
+-- What is out over many calls.
+use Rattle.std.proofs.Common.{◌≡◌, ◌≢◌, ◌∙◌, ◌<◌, ◌≤◌, ◌+◌, ◌==◌, ◌&&◌, ◌||◌, ℕ, zero, suc, Bool, true, false, List, [], ◌∷◌, ◌++◌, Option, None, Some, Result, Ok, Err, All, AllPairs, length, drop, filter, codes, if◌then◌else◌, nat_lt, arith, refl, sym, ap, subst}
+use Rattle.std.specs.List.{list_any}
+use Rattle.std.proofs.lemmas.Bool.Decides.{nat_tests}
+use Rattle.std.proofs.lemmas.List.Elements.{All-nil, All-cons}
+use Rattle.std.proofs.lemmas.List.Kept.{AllPairs-cons}
+use Rattle.std.proofs.lemmas.List.Folds.{list_any-append}
+use Rattle.std.proofs.lemmas.Slice.Eq.{bytes_eq-Decides}
+use Rattle.agree_core.specs.declared.position.Position.{Position}
+use Rattle.screen.specs.Words.{is_end}
+use Rattle.posts.specs.Texts.{tag_of}
+use Rattle.posts.specs.Posts.{IsTaken, after_check, checked, is_line, is_out, is_same_place, is_tagged, line_of, out_after, stamped, used_by, verdict, with_given, without}
+use Rattle.posts.specs.Runs.{Call, accepted, accepted_by, nonce_in}
+use Rattle.posts.specs.Runs.Call.{Give, Judge}
+use Rattle.posts.specs.declared.{judging.Post.Post, refusal.Refusal.Refusal, stamp.Stamp.Stamp}
+
+-- ---- what is known of a post whose line is typed
+
+same_tag : (secret : List ℕ) (s : Stamp) (line : List ℕ) → is_tagged secret s line ≡ true → s.tag ≡ tag_of secret s.nonce s.at line
+same_tag secret s line h = (bytes_eq-Decides s.tag (tag_of secret s.nonce s.at line)).0 h
+
+-- of a stamp that is good
+record IsGood (secret out : List ℕ) (o : Option Stamp) (line : List ℕ) (s : Stamp) : Type 0 where
+  is_it : o ≡ Some s
+  was_out : is_out out s.nonce ≡ true
+  tagged : is_tagged secret s line ≡ true
+
+good : (secret out : List ℕ) (o : Option Stamp) (line : List ℕ) (s : Stamp) → stamped secret out o line ≡ Ok s → IsGood secret out o line s
+good secret out None line s h = absurd (cc)
+good secret out (Some t) line s h =
+    let same : t ≡ s = by_tests (is_line line) (is_out out t.nonce) (is_tagged secret t line) t s h in
+    let outs = by_out (is_line line) (is_out out t.nonce) (is_tagged secret t line) t s h in
+    let tags = by_tag (is_line line) (is_out out t.nonce) (is_tagged secret t line) t s h in
+    record { is_it = ap Some same; was_out = subst (λ x. is_out out x.nonce ≡ true) same outs; tagged = subst (λ x. is_tagged secret x line ≡ true) same tags }
+  where
+    by_tests : (a b c : Bool) (t s : Stamp) → ◌≡◌ {A = Result Stamp Refusal} (if a then (if b then (if c then Ok t else Err Refusal.WrongTag) else Err Refusal.NotOut) else Err Refusal.Malformed) (Ok s) → t ≡ s
+    by_tests a b c t s h = grind (arith, h)
+
+    by_out : (a b c : Bool) (t s : Stamp) → ◌≡◌ {A = Result Stamp Refusal} (if a then (if b then (if c then Ok t else Err Refusal.WrongTag) else Err Refusal.NotOut) else Err Refusal.Malformed) (Ok s) → b ≡ true
+    by_out a b c t s h = grind (arith, h)
+
+    by_tag : (a b c : Bool) (t s : Stamp) → ◌≡◌ {A = Result Stamp Refusal} (if a then (if b then (if c then Ok t else Err Refusal.WrongTag) else Err Refusal.NotOut) else Err Refusal.Malformed) (Ok s) → c ≡ true
+    by_tag a b c t s h = grind (arith, h)
+
+-- the stamp of a post that is from here and good
+record IsChecked (secret out : List ℕ) (post : Post) (s : Stamp) : Type 0 where
+  from_here : post.is_from_here ≡ true
+  is_good : IsGood secret out post.stamp post.line.now s
+
+from_here : (here long : Bool) (r : Result Stamp Refusal) (s : Stamp)
+    → ◌≡◌ {A = Result Stamp Refusal} (if here then (if long then Err Refusal.TooLong else r) else Err Refusal.Foreign) (Ok s)
+    → (here ≡ true) × (r ≡ Ok s)
+from_here here long r s h = (grind (arith, h), grind (arith, h))
+
+is_checked : (secret out : List ℕ) (post : Post) (s : Stamp) → checked secret out post ≡ Ok s → IsChecked secret out post s
+is_checked secret out post s h =
+    let both = from_here post.is_from_here (nat_lt 128 (length post.line.now)) (stamped secret out post.stamp post.line.now) s h in
+    record { from_here = both.0; is_good = good secret out post.stamp post.line.now s both.1 }
+
+after : (r : Result Stamp Refusal) (line : List ℕ) (at : Position) (waiting : ℕ) (l : List ℕ) → after_check r line at waiting ≡ Ok l
+    → (s : Stamp) × (r ≡ Ok s) × (line_of s line at waiting ≡ Ok l)
+after (Err why) line at waiting l h = absurd (cc)
+after (Ok s) line at waiting l h = (s, refl, h)
+
+same_place : (p q : Position) → is_same_place p q ≡ true → p ≡ q
+same_place p q h =
+    let place : p.place ≡ q.place = grind (arith, nat_tests, h) in
+    let round : p.round ≡ q.round = grind (arith, nat_tests, h) in
+    λ i. record { place = place i; round = round i }
+
+placed : (ends same room : Bool) (line l : List ℕ)
+    → ◌≡◌ {A = Result (List ℕ) Refusal} (if ends then Err Refusal.Ends else if same then (if room then Ok line else Err Refusal.Busy) else Err Refusal.Elsewhere) (Ok l)
+    → (ends ≡ false) × (same ≡ true)
+placed ends same room line l h = (grind (arith, h), grind (arith, h))
+
+-- what is let go is out no more
+pub without_lacks : (n : ℕ) (out : List ℕ) → is_out (without n out) n ≡ false
+without_lacks n [] = refl
+without_lacks n (x ∷ xs) = by_test (x == n) refl (without_lacks n xs)
+  where
+    by_test : (b : Bool) → (x == n) ≡ b → is_out (without n xs) n ≡ false
+        → is_out (if (if b then false else true) then x ∷ without n xs else without n xs) n ≡ false
+    by_test true e rest = rest
+    by_test false e rest = ap (λ t. t || is_out (without n xs) n) e ∙ rest
+
+pub taken : (secret out : List ℕ) (post : Post) (at : Position) (waiting : ℕ) (line : List ℕ)
+    → verdict secret out post at waiting ≡ Ok line → IsTaken secret out post at
+taken secret out post at waiting line h =
+    let found = after (checked secret out post) post.line.now at waiting line h in
+    let s = found.0 in
+    let known = is_checked secret out post s found.1 in
+    let place = placed (is_end post.line.now) (is_same_place s.at at) (nat_lt waiting 8) post.line.now line found.2 in
+    record {
+      stamp = s;
+      has_stamp = known.is_good.is_it;
+      is_from_here = known.from_here;
+      was_out = known.is_good.was_out;
+      is_used = ap (λ r. is_out (used_by r out) s.nonce) found.1 ∙ without_lacks s.nonce out;
+      tag = same_tag secret s post.line.now known.is_good.tagged;
+      place = same_place s.at at place.1;
+      ends_no_desk = place.0;
+    }
+
+-- ---- what is out
+
+-- each nonce that is out was given: it is below the next
+abbrev pub IsBelow : List ℕ → ℕ → Type 0
+IsBelow out next = (n : ℕ) → is_out out n ≡ true → n < next
+
+or_right : (b c : Bool) → c ≡ true → (b || c) ≡ true
+or_right true c h = refl
+or_right false c h = h
+
+or_more : (b c d : Bool) → (c ≡ true → d ≡ true) → (b || c) ≡ true → (b || d) ≡ true
+or_more true c d more h = refl
+or_more false c d more h = more h
+
+fewer_by : (n m : ℕ) (out : List ℕ) → is_out (without m out) n ≡ true → is_out out n ≡ true
+fewer_by n m [] h = h
+fewer_by n m (x ∷ xs) h = by_test (x == m) h (fewer_by n m xs)
+  where
+    by_test : (b : Bool) → is_out (if (if b then false else true) then x ∷ without m xs else without m xs) n ≡ true
+        → (is_out (without m xs) n ≡ true → is_out xs n ≡ true) → is_out (x ∷ xs) n ≡ true
+    by_test true h more = or_right (x == n) (is_out xs n) (more h)
+    by_test false h more = or_more (x == n) (is_out (without m xs) n) (is_out xs n) more h
+
+used_fewer : (r : Result Stamp Refusal) (n : ℕ) (out : List ℕ) → is_out (used_by r out) n ≡ true → is_out out n ≡ true
+used_fewer (Err why) n out h = h
+used_fewer (Ok s) n out h = fewer_by n s.nonce out h
+
+dropped : (n : ℕ) (out : List ℕ) → is_out (drop 1 out) n ≡ true → is_out out n ≡ true
+dropped n [] h = h
+dropped n (x ∷ xs) h = or_right (x == n) (is_out xs n) h
+
+kept : (full : Bool) (n : ℕ) (out : List ℕ) → is_out (if full then drop 1 out else out) n ≡ true → is_out out n ≡ true
+kept true n out h = dropped n out h
+kept false n out h = h
+
+-- what is out once a nonce is given was out, or is it
+given : (n next : ℕ) (out : List ℕ) → is_out (with_given out next) n ≡ true → (n ≢ next) → is_out out n ≡ true
+given n next out h other =
+    let full = length out == 64 in
+    let split = sym (list_any-append (λ m. m == n) (if full then drop 1 out else out) (next ∷ [])) ∙ h in
+    kept full n out (grind (arith, nat_tests, split, other))
+
+not_true : (b c : Bool) → (b ≡ true → c ≡ true) → c ≡ false → b ≡ false
+not_true true c h e = absurd (cc (h refl, e))
+not_true false c h e = refl
+
+differs : (n m : ℕ) → (n == m) ≡ false → n ≢ m
+differs n m e = λ s. grind (arith, nat_tests, e, s)
+
+same_numbers : (n m : ℕ) → (n == m) ≡ true → n ≡ m
+same_numbers n m e = grind (arith, nat_tests, e)
+
+below_given : (out : List ℕ) (next : ℕ) → IsBelow out next → IsBelow (with_given out next) (next + 1)
+below_given out next below = λ n is. by_test n is (n == next) refl
+  where
+    by_test : (n : ℕ) → is_out (with_given out next) n ≡ true → (b : Bool) → (n == next) ≡ b → n < next + 1
+    by_test n is true e = let same = same_numbers n next e in omega (arith, same)
+    by_test n is false e = let was = below n (given n next out is (differs n next e)) in omega (arith, was)
+
+-- ---- the nonces of lines that are typed
+
+same_stamp : (o : Option Stamp) (s t : Stamp) → o ≡ Some s → o ≡ Some t → s ≡ t
+same_stamp o s t h k = cc (h, k)
+
+-- what holds of the nonce of a line that a post types, and of all later ones
+each_nonce : (P : ℕ → Type 0) (r : Result (List ℕ) Refusal) (o : Option Stamp) (post : Post) (rest : List ℕ) → post.stamp ≡ o
+    → ((s : Stamp) (line : List ℕ) → r ≡ Ok line → o ≡ Some s → P s.nonce) → All P rest → All P (accepted_by r post ++ rest)
+each_nonce P (Err why) o post rest e h all = all
+each_nonce P (Ok line) None post rest e h all = subst (λ x. All P (nonce_in x ++ rest)) (sym e) all
+each_nonce P (Ok line) (Some s) post rest e h all =
+    subst (λ x. All P (nonce_in x ++ rest)) (sym e) (All-cons P s.nonce rest (h s line refl refl) all)
+
+-- a nonce that was given and is out no more types nothing
+never : (secret : List ℕ) (n : ℕ) (calls : List Call) (out : List ℕ) (next : ℕ) → n < next → is_out out n ≡ false
+    → All (λ m. n ≢ m) (accepted secret out next calls)
+never secret n [] out next below lacks = All-nil (λ m. n ≢ m)
+never secret n (Give ∷ calls) out next below lacks =
+    never secret n calls (with_given out next) (next + 1) (omega (arith, below))
+    (not_true _ _ (λ is. given n next out is (λ e. omega (arith, below, e))) lacks)
+never secret n (Judge post at waiting ∷ calls) out next below lacks =
+    each_nonce (λ m. n ≢ m) (verdict secret out post at waiting) post.stamp post _ refl
+    (λ s line typed has e.
+    let known = taken secret out post at waiting line typed in
+    let was : is_out out n ≡ true = subst (λ x. is_out out x ≡ true) (ap (λ x. x.nonce) (same_stamp post.stamp known.stamp s known.has_stamp has) ∙ sym e) known.was_out in
+    absurd (cc (was, lacks)))
+    (never secret n calls (out_after secret out post) next below
+    (not_true _ _ (used_fewer (checked secret out post) n out) lacks))
+
+first_and_rest : (r : Result (List ℕ) Refusal) (o : Option Stamp) (post : Post) (rest : List ℕ) → post.stamp ≡ o
+    → ((s : Stamp) (line : List ℕ) → r ≡ Ok line → o ≡ Some s → All (λ m. s.nonce ≢ m) rest)
+    → AllPairs (λ m n. m ≢ n) rest → AllPairs (λ m n. m ≢ n) (accepted_by r post ++ rest)
+first_and_rest (Err why) o post rest e h pairs = pairs
+first_and_rest (Ok line) None post rest e h pairs = subst (λ x. AllPairs (λ m n. m ≢ n) (nonce_in x ++ rest)) (sym e) pairs
+first_and_rest (Ok line) (Some s) post rest e h pairs =
+    subst (λ x. AllPairs (λ m n. m ≢ n) (nonce_in x ++ rest)) (sym e)
+    (AllPairs-cons (λ m n. m ≢ n) s.nonce rest (h s line refl refl) pairs)
+
+pub once : (secret : List ℕ) (calls : List Call) (out : List ℕ) (next : ℕ) → IsBelow out next
+    → AllPairs (λ m n. m ≢ n) (accepted secret out next calls)
+once secret [] out next below = λ i j d less within. omega (arith, within)
+once secret (Give ∷ calls) out next below =
+    once secret calls (with_given out next) (next + 1) (below_given out next below)
+once secret (Judge post at waiting ∷ calls) out next below =
+    first_and_rest (verdict secret out post at waiting) post.stamp post _ refl
+    (λ s line typed has.
+    let known = taken secret out post at waiting line typed in
+    let same = ap (λ x. x.nonce) (same_stamp post.stamp known.stamp s known.has_stamp has) in
+    never secret s.nonce calls (out_after secret out post) next
+    (below s.nonce (subst (λ x. is_out out x ≡ true) same known.was_out))
+    (subst (λ x. is_out (out_after secret out post) x ≡ false) same known.is_used))
+    (once secret calls (out_after secret out post) next (λ n is. below n (used_fewer (checked secret out post) n out is)))
+
+pub none_is_below : IsBelow [] 1
+none_is_below = λ n is. absurd (cc is)

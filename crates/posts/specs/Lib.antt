@@ -1,0 +1,6 @@
+-- The texts of a post and its tag: Texts, Stamps. What a page knows of posts: Doors. What a post comes to: Posts. What goes on over many of them: Runs.
+pub mod Doors
+pub mod Posts
+pub mod Runs
+pub mod Stamps
+pub mod Texts

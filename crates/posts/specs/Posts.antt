@@ -1,0 +1,93 @@
+-- What a page's post comes to, by the secret, the nonces that are out, and where the desk is.
+use Rattle.std.specs.Prelude.{◌≡◌, ℕ, ◌==◌, Bool, ◌&&◌, true, false, nat_lt, nat_le, if◌then◌else◌, bytes_eq, List, [], ◌∷◌, ◌++◌, length, drop, filter, Option, None, Some, Result, Ok, Err}
+use Rattle.std.specs.List.{list_any}
+use Rattle.agree_core.specs.declared.position.Position.{Position}
+use Rattle.screen.specs.Words.{is_end}
+use Rattle.posts.specs.Texts.{tag_of}
+use Rattle.posts.specs.declared.{judging.Post.Post, refusal.Refusal.Refusal, stamp.Stamp.Stamp}
+use Rattle.posts.specs.declared.refusal.Refusal.TheVariants.{Foreign, TooLong, Malformed, NotOut, WrongTag, Ends, Elsewhere, Busy}
+
+-- with which status a refusal is answered
+abbrev pub status_of : Refusal → ℕ
+status_of Malformed = 400
+status_of Foreign = 403
+status_of WrongTag = 403
+status_of Ends = 403
+status_of Elsewhere = 409
+status_of NotOut = 410
+status_of TooLong = 413
+status_of Busy = 503
+
+-- the nonces that are out once this one is given: the newest 64
+abbrev pub with_given : List ℕ → ℕ → List ℕ
+with_given out nonce = (if length out == 64 then drop 1 out else out) ++ nonce ∷ []
+
+-- those that are left once this one is used
+abbrev pub without : ℕ → List ℕ → List ℕ
+without nonce out = filter (λ n. if n == nonce then false else true) out
+
+abbrev pub is_out : List ℕ → ℕ → Bool
+is_out out nonce = list_any (λ n. n == nonce) out
+
+abbrev pub is_newline : ℕ → Bool
+is_newline byte = byte == 10
+
+-- it may be a line: it isn't empty, and has no end of a line in it
+abbrev pub is_line : List ℕ → Bool
+is_line text = if list_any is_newline text then false else nat_lt 0 (length text)
+
+-- its tag is made with the secret, of its nonce, its position and its line
+abbrev pub is_tagged : List ℕ → Stamp → List ℕ → Bool
+is_tagged secret s line = bytes_eq s.tag (tag_of secret s.nonce s.at line)
+
+-- a post from here with such a stamp, of this line
+abbrev pub stamped : List ℕ → List ℕ → Option Stamp → List ℕ → Result Stamp Refusal
+stamped secret out None line = Err Malformed
+stamped secret out (Some s) line =
+    if is_line line then
+    (if is_out out s.nonce then (if is_tagged secret s line then Ok s else Err WrongTag) else Err NotOut)
+    else Err Malformed
+
+-- whether who made a post had the secret: its stamp, or why not. In the order of these tests
+abbrev pub checked : List ℕ → List ℕ → Post → Result Stamp Refusal
+checked secret out post =
+    if post.is_from_here then
+    (if nat_lt 128 (length post.line.now) then Err TooLong else stamped secret out post.stamp post.line.now)
+    else Err Foreign
+
+abbrev pub is_same_place : Position → Position → Bool
+is_same_place p q = p.place == q.place && p.round == q.round
+
+-- what becomes of the line of who had the secret, where the desk is at this position and so many lines wait. In this order
+abbrev pub line_of : Stamp → List ℕ → Position → ℕ → Result (List ℕ) Refusal
+line_of s line at waiting =
+    if is_end line then Err Ends
+    else if is_same_place s.at at then (if nat_lt waiting 8 then Ok line else Err Busy)
+    else Err Elsewhere
+
+abbrev pub after_check : Result Stamp Refusal → List ℕ → Position → ℕ → Result (List ℕ) Refusal
+after_check (Err why) line at waiting = Err why
+after_check (Ok s) line at waiting = line_of s line at waiting
+
+-- the line that a post types, or why it types none
+abbrev pub verdict : List ℕ → List ℕ → Post → Position → ℕ → Result (List ℕ) Refusal
+verdict secret out post at waiting = after_check (checked secret out post) post.line.now at waiting
+
+-- the nonces that are out after it: that of who had the secret is used, whatever becomes of the line
+abbrev pub used_by : Result Stamp Refusal → List ℕ → List ℕ
+used_by (Err why) out = out
+used_by (Ok s) out = without s.nonce out
+
+abbrev pub out_after : List ℕ → List ℕ → Post → List ℕ
+out_after secret out post = used_by (checked secret out post) out
+
+-- what is known of a post whose line is typed
+pub record IsTaken (secret out : List ℕ) (post : Post) (at : Position) : Type 0 where
+  pub stamp : Stamp
+  pub has_stamp : post.stamp ≡ Some stamp
+  pub is_from_here : post.is_from_here ≡ true
+  pub was_out : is_out out stamp.nonce ≡ true
+  pub is_used : is_out (out_after secret out post) stamp.nonce ≡ false
+  pub tag : stamp.tag ≡ tag_of secret stamp.nonce stamp.at post.line.now
+  pub place : stamp.at ≡ at
+  pub ends_no_desk : is_end post.line.now ≡ false

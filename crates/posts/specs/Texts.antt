@@ -1,0 +1,18 @@
+-- The texts of a post, and what its tag is made of.
+use Rattle.std.specs.Prelude.{ℕ, ◌==◌, Bool, List, ◌++◌, codes, decimal}
+use Rattle.agree_core.specs.declared.position.Position.{Position}
+use Rattle.seal.specs.Hmac.{hmac}
+
+abbrev pub is_point : ℕ → Bool
+is_point byte = byte == 46
+
+-- a position: its place, a point and its round
+abbrev pub place_text : Position → List ℕ
+place_text at = decimal at.place ++ codes "." ++ decimal at.round
+
+-- what a tag is made of: the nonce, the position and the line
+abbrev pub tagged : ℕ → Position → List ℕ → List ℕ
+tagged nonce at line = decimal nonce ++ codes " " ++ place_text at ++ codes " " ++ line
+
+abbrev pub tag_of : List ℕ → ℕ → Position → List ℕ → List ℕ
+tag_of secret nonce at line = hmac secret (tagged nonce at line)

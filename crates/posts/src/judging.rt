@@ -1,0 +1,165 @@
+//! What a page's post comes to.
+
+ghost use Rattle.std.specs.Prelude.{◌≡◌, ◌+◌, ◌<◌, ◌^◌, ◌≤◌, [], Err, IfOk, IsSome, MatchOption, MatchResult, Ok, OnOk, Some, length};
+ghost use Rattle.posts.specs.Posts as posts;
+
+use crate::nonces::{Nonces, is_out, let_go, put};
+use crate::refusal::Refusal;
+use crate::stamp::Stamp;
+use crate::tags::{is_same, tag_of};
+use agree_core::Position;
+use arrayvec::ArrayVec;
+use screen::is_end;
+use std::marker::Model;
+
+/// How many lines wait at most.
+pub const MOST_WAITING: usize = 8;
+
+/// How many bytes a line has at most.
+const MOST_BYTES: usize = 128;
+
+/// A line that a post types.
+pub type PostedLine = ArrayVec<u8, 128>;
+
+/// A post of a page.
+#[derive(Clone, Copy, Debug)]
+pub struct Post<'p> {
+    /// Whether it names this host, and comes from a page of it or from none.
+    pub is_from_here: bool,
+    /// What it says of its line, where it says that.
+    pub stamp: Option<Stamp>,
+    pub line: &'p [u8],
+}
+
+/// Whether a text may be a line.
+fn is_line(text: &[u8]) -> bool
+    ensures { result ≡ posts.is_line text.now }
+{
+    if text.contains(&b'\n') {
+        false
+    } else {
+        text.len() > 0
+    }
+}
+
+/// What becomes of the line of who had the secret.
+fn line_of(stamp: &Stamp, line: &[u8], at: Position, waiting: usize) -> Result<PostedLine, Refusal>
+    requires { length line.now ≤ 128 }
+    ensures { MatchResult result (λ posted. posts.line_of stamp.now line.now at waiting ≡ Ok posted.items)
+        (λ why. posts.line_of stamp.now line.now at waiting ≡ Err why) }
+{
+    if is_end(line) {
+        return Err(Refusal::Ends);
+    }
+    if stamp.at.place != at.place || stamp.at.round != at.round {
+        return Err(Refusal::Elsewhere);
+    }
+    if waiting >= MOST_WAITING {
+        return Err(Refusal::Busy);
+    }
+    let mut posted = PostedLine::new();
+    let _fits = posted.try_extend_from_slice(line);
+    Ok(posted)
+}
+
+/// Who may type from a page: the secret of its link, and the nonces of which each is good for one post.
+#[derive(Drop)]
+pub struct Posts {
+    secret: [u8; 16],
+    out: Nonces,
+    next: u64,
+}
+
+impl Model for Posts {
+    ghost use Rattle.posts.specs.Doors.{Door};
+
+    ghost Value = { Door };
+
+    ghost view = { λ p. record { secret = p.secret; out = (p.out).items; next = p.next } };
+}
+
+impl Posts {
+    /// Of a page whose link has this secret. No nonce is out yet.
+    pub fn new(secret: [u8; 16]) -> Posts
+        ensures secret { result.secret ≡ secret }
+        ensures out { result.out ≡ [] }
+        ensures next { result.next ≡ 1 }
+    {
+        Posts {
+            secret,
+            out: ArrayVec::new(),
+            next: 1,
+        }
+    }
+
+    /// Gives the next nonce, unless all numbers are used up: then nothing changes.
+    pub fn give(&mut self) -> Option<u64>
+        ensures given { MatchOption result (self.new ≡ self.old)
+            (λ nonce. (nonce ≡ self.old.next) × (self.new.next ≡ self.old.next + 1)
+            × (self.new.out ≡ posts.with_given self.old.out self.old.next)) }
+        ensures some { self.old.next + 1 < 2 ^ 64 → IsSome result }
+        ensures secret { self.new.secret ≡ self.old.secret }
+    {
+        let nonce = self.next;
+        self.next = nonce.checked_add(1)?;
+        put(&mut self.out, nonce);
+        Some(nonce)
+    }
+
+    /// The stamp of a post from here.
+    fn stamped(&self, stamp: Stamp, line: &[u8]) -> Result<Stamp, Refusal>
+        requires { length line.now ≤ 128 }
+        ensures { result ≡ posts.stamped self.now.secret self.now.out (Some stamp) line.now }
+    {
+        if !is_line(line) {
+            return Err(Refusal::Malformed);
+        }
+        if !is_out(&self.out, stamp.nonce) {
+            return Err(Refusal::NotOut);
+        }
+        let tag = tag_of(&self.secret, stamp.nonce, stamp.at, line);
+        if !is_same(&stamp.tag, &tag) {
+            return Err(Refusal::WrongTag);
+        }
+        Ok(stamp)
+    }
+
+    /// The stamp of a post whose maker had the secret.
+    fn checked(&self, post: &Post<'_>) -> Result<Stamp, Refusal>
+        ensures result { result ≡ posts.checked self.now.secret self.now.out post.now }
+        ensures short { OnOk result (length post.now.line.now ≤ 128) }
+    {
+        if !post.is_from_here {
+            return Err(Refusal::Foreign);
+        }
+        if post.line.len() > MOST_BYTES {
+            return Err(Refusal::TooLong);
+        }
+        match post.stamp {
+            Some(stamp) => self.stamped(stamp, post.line),
+            None => Err(Refusal::Malformed),
+        }
+    }
+
+    /// The line that a post types at a desk that is at this position, where so many lines wait, or why it types none. The
+    /// nonce of who had the secret is used up, and nobody else's.
+    pub fn judge(
+        &mut self,
+        post: &Post<'_>,
+        at: Position,
+        waiting: usize,
+    ) -> Result<PostedLine, Refusal>
+        ensures verdict { MatchResult result
+            (λ line. posts.verdict self.old.secret self.old.out post.now at waiting ≡ Ok line.items)
+            (λ why. posts.verdict self.old.secret self.old.out post.now at waiting ≡ Err why) }
+        ensures line { IfOk result (λ line. line.items ≡ post.now.line.now) }
+        ensures room { OnOk result (waiting < MOST_WAITING) }
+        ensures out { self.new.out ≡ posts.out_after self.old.secret self.old.out post.now }
+        ensures secret { self.new.secret ≡ self.old.secret }
+        ensures next { self.new.next ≡ self.old.next }
+    {
+        let stamp = self.checked(post)?;
+        let_go(&mut self.out, stamp.nonce);
+        line_of(&stamp, post.line, at, waiting)
+    }
+}

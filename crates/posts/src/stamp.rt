@@ -1,0 +1,89 @@
+//! What a post says of its line: where it is meant, with which nonce and tag.
+
+ghost use Rattle.std.specs.Prelude.{◌≡◌, ◌<◌, ◌^◌, ℕ, List, None, Some, IfSome, MatchOption, MatchResult, decimal, length};
+ghost use Rattle.std.specs.List.{after_first, before_first, position_or_len};
+ghost use Rattle.hex.specs.Hex.{decode_sized};
+ghost use Rattle.posts.specs.Texts as texts;
+
+use agree_core::Position;
+use hex::FromHex;
+use itoa::Buffer;
+
+/// What a post says of its line.
+#[derive(Clone, Copy, Debug, PartialEq, Eq)]
+pub struct Stamp {
+    /// The position that the line is meant for.
+    pub at: Position,
+    pub nonce: u64,
+    pub tag: [u8; 32],
+}
+
+/// The number that a text is, in digits and without a needless zero.
+fn number_in(text: &str) -> Option<u64>
+    ensures only { IfSome result (λ n. text.now ≡ decimal n) }
+    ensures each { (n : ℕ) → n < 2 ^ 64 → text.now ≡ decimal n → result ≡ Some n }
+{
+    let number = text.parse::<u64>().ok()?;
+    if Buffer::new().format(number) == text {
+        Some(number)
+    } else {
+        None
+    }
+}
+
+/// The same below 2 to the power of 32.
+fn small_in(text: &str) -> Option<u32>
+    ensures only { IfSome result (λ n. text.now ≡ decimal n) }
+    ensures each { (n : ℕ) → n < 2 ^ 32 → text.now ≡ decimal n → result ≡ Some n }
+{
+    u32::try_from(number_in(text)?).ok()
+}
+
+/// What stands before the first point, and what stands after it.
+fn cut(text: &str) -> Option<(&str, &str)>
+    ensures { MatchOption result (position_or_len texts.is_point text.now ≡ length text.now)
+        (λ parts. (parts.0.now ≡ before_first texts.is_point text.now)
+        × (parts.1.now ≡ after_first texts.is_point text.now)
+        × (position_or_len texts.is_point text.now < length text.now)) }
+{
+    text.split_once('.')
+}
+
+/// The position that a text names, as `18.0`: a place, a point and a round.
+pub fn place_in(text: &str) -> Option<Position>
+    ensures only { IfSome result (λ at. text.now ≡ texts.place_text at) }
+    ensures each { (place round : ℕ) → place < 2 ^ 32 → round < 2 ^ 32
+        → text.now ≡ texts.place_text (record { place = place; round = round })
+        → result ≡ Some (record { place = place; round = round }) }
+{
+    let (place, round) = cut(text)?;
+    Some(Position {
+        place: small_in(place)?,
+        round: small_in(round)?,
+    })
+}
+
+/// The tag that 64 hex digits are.
+fn tag_in(text: &str) -> Option<[u8; 32]>
+    ensures { MatchResult (decode_sized text.now 32) (λ tag. result ≡ Some tag) (λ _. result ≡ None) }
+{
+    <[u8; 32] as FromHex>::from_hex(text).ok()
+}
+
+impl Stamp {
+    ghost use Rattle.posts.specs.Stamps.{IsStamp};
+
+    /// What a post says of its line by the texts of three fields, where each of them is one of these.
+    pub fn read(at: &str, nonce: &str, tag: &str) -> Option<Stamp>
+        ensures only { IfSome result (IsStamp at.now nonce.now tag.now) }
+        ensures each { (place round n : ℕ) (digest : List ℕ) → place < 2 ^ 32 → round < 2 ^ 32 → n < 2 ^ 64
+            → IsStamp at.now nonce.now tag.now (record { at = record { place = place; round = round }; nonce = n; tag = digest })
+            → result ≡ Some (record { at = record { place = place; round = round }; nonce = n; tag = digest }) }
+    {
+        Some(Stamp {
+            at: place_in(at)?,
+            nonce: number_in(nonce)?,
+            tag: tag_in(tag)?,
+        })
+    }
+}

@@ -1,0 +1,163 @@
+//! Posts whose tags Python's `hmac` computed, with the bytes 0 to 15 as the secret.
+
+use agree_core::Position;
+use posts::{Post, Posts, Refusal, Stamp};
+
+const SECRET: [u8; 16] = [0, 1, 2, 3, 4, 5, 6, 7, 8, 9, 10, 11, 12, 13, 14, 15];
+
+const FOUR: &str = "9f4346e3e01604c366ef0b187f50a9b181ed723c542be68f4b67bf317cfcc38e";
+
+const AGAIN: &str = "70c7209e5671f373c462bbda3b447ae6852432f0306f2aa206c02698bcfdad39";
+
+const QUIT: &str = "22657279d7e9d458238e416f4f9be4337f27304b60f24a42dba79f04ce5cee67";
+
+const EXIT: &str = "d0b719579b3c95af0f24591563132c39d5cab0c6b7d27efd20c37edff6fee796";
+
+const IN_3: &str = "d18d88b99adacf1e5c7bfa01a3a27d5fb679db44c4393fbbf4602c29b71ded92";
+
+const LONGEST: &str = "9a639f78cb130050410453560b36a93520daa795838a3b563da36cfc17862a11";
+
+const ONE: &str = "2377b60ac29a9590dba449c97dfa00aa029419b444d50a6c85f4ac59742898fc";
+
+const HERE: Position = Position {
+    place: 18,
+    round: 0,
+};
+
+/// What a post from here comes to at place 18 in its first round, with this many lines that wait.
+fn judged(
+    posts: &mut Posts,
+    fields: [&str; 3],
+    line: &[u8],
+    waiting: usize,
+) -> Result<usize, Refusal> {
+    let [at, nonce, tag] = fields;
+    let post = Post {
+        is_from_here: true,
+        stamp: Stamp::read(at, nonce, tag),
+        line,
+    };
+    match posts.judge(&post, HERE, waiting) {
+        Ok(posted) => Ok(posted.len()),
+        Err(why) => Err(why),
+    }
+}
+
+/// Of a page that has given so many nonces.
+fn given(count: u64) -> Posts {
+    let mut posts = Posts::new(SECRET);
+    for _ in 0..count {
+        let _ = posts.give();
+    }
+    posts
+}
+
+#[test]
+fn a_line_is_typed_once(rt: HostRuntime) {
+    let mut posts = Posts::new(SECRET);
+    let four = ["18.0", "1", FOUR];
+    assert_eq!(rt; judged(&mut posts, four, b"4", 0), Err(Refusal::NotOut));
+    assert_eq!(rt; posts.give(), Some(1));
+    assert_eq!(rt; judged(&mut posts, four, b"6", 0), Err(Refusal::WrongTag));
+    assert_eq!(rt;
+        judged(&mut posts, ["18.1", "1", FOUR], b"4", 0),
+        Err(Refusal::WrongTag)
+    );
+    assert_eq!(rt; judged(&mut posts, four, b"4", 7), Ok(1));
+    assert_eq!(rt; judged(&mut posts, four, b"4", 0), Err(Refusal::NotOut));
+    assert_eq!(rt; posts.give(), Some(2));
+}
+
+#[test]
+fn whoever_has_the_secret_uses_a_nonce_up(rt: HostRuntime) {
+    let rows: [(&str, &str, &str, &[u8], usize, Result<usize, Refusal>); 6] = [
+        ("18.1", "2", AGAIN, b"again", 0, Err(Refusal::Elsewhere)),
+        ("18.0", "3", QUIT, b"quit", 0, Err(Refusal::Ends)),
+        ("18.0", "4", EXIT, b"exit ", 0, Err(Refusal::Ends)),
+        ("18.0", "5", IN_3, b"in 3", 8, Err(Refusal::Busy)),
+        ("18.0", "6", LONGEST, [b'x'; 128].as_slice(), 0, Ok(128)),
+        ("18.0", "8", ONE, b"1", 0, Ok(1)),
+    ];
+    let mut posts = given(8);
+    for row in rows {
+        let (at, nonce, tag, line, waiting, wanted) = row;
+        let fields = [at, nonce, tag];
+        assert_eq!(rt;
+            judged(&mut posts, fields, line, waiting),
+            wanted,
+            "nonce {nonce}"
+        );
+        assert_eq!(rt;
+            judged(&mut posts, fields, line, waiting),
+            Err(Refusal::NotOut),
+            "nonce {nonce}"
+        );
+    }
+}
+
+#[test]
+fn what_is_no_post(rt: HostRuntime) {
+    let mut posts = given(1);
+    let four = ["18.0", "1", FOUR];
+    for line in [
+        b"".as_slice(),
+        b"\n".as_slice(),
+        b"4\n".as_slice(),
+        b"4\n4".as_slice(),
+    ] {
+        assert_eq!(rt; judged(&mut posts, four, line, 0), Err(Refusal::Malformed));
+    }
+    assert_eq!(rt;
+        judged(&mut posts, four, [b'4'; 129].as_slice(), 0),
+        Err(Refusal::TooLong)
+    );
+    for at in [
+        "",
+        "18",
+        "18.",
+        ".0",
+        "18.00",
+        "018.0",
+        "18.0.0",
+        "+18.0",
+        "18.-0",
+        "18,0",
+        " 18.0",
+        "4294967296.0",
+    ] {
+        assert_eq!(rt;
+            judged(&mut posts, [at, "1", FOUR], b"4", 0),
+            Err(Refusal::Malformed),
+            "at {at}"
+        );
+    }
+    for nonce in ["", "01", "+1", "1 ", "one", "18446744073709551616"] {
+        assert_eq!(rt;
+            judged(&mut posts, ["18.0", nonce, FOUR], b"4", 0),
+            Err(Refusal::Malformed),
+            "nonce {nonce}"
+        );
+    }
+    for tag in ["", "9f", &FOUR[1..]] {
+        assert_eq!(rt;
+            judged(&mut posts, ["18.0", "1", tag], b"4", 0),
+            Err(Refusal::Malformed),
+            "tag {tag}"
+        );
+    }
+    let foreign = Post {
+        is_from_here: false,
+        stamp: Stamp::read("18.0", "1", FOUR),
+        line: b"4",
+    };
+    assert!(rt; matches!(posts.judge(&foreign, HERE, 0), Err(Refusal::Foreign)));
+    assert_eq!(rt; judged(&mut posts, four, b"4", 0), Ok(1));
+}
+
+#[test]
+fn the_oldest_nonce_is_forgotten(rt: HostRuntime) {
+    let four = ["18.0", "1", FOUR];
+    assert_eq!(rt; judged(&mut given(64), four, b"4", 0), Ok(1));
+    assert_eq!(rt; judged(&mut given(65), four, b"4", 0), Err(Refusal::NotOut));
+    assert_eq!(rt; judged(&mut given(65), ["18.0", "8", ONE], b"1", 0), Ok(1));
+}

@@ -1,0 +1,55 @@
+-- Which modules of a code are dark. A module's place is 33 times its row, and its column.
+use Rattle.std.specs.Prelude.{◌≡◌, ℕ, ◌+◌, ◌-◌, ◌*◌, ◌/◌, ◌%◌, ◌^◌, ◌<◌, ◌==◌, ◌&&◌, nat_lt, if◌then◌else◌, Bool, false, not, List, filter, map, length}
+use Rattle.std.specs.Prelude.{slice_index, slice_index_or}
+use Rattle.std.specs.List.{range_with_len}
+use Rattle.qr.specs.declared.code.Code.{Code}
+use Rattle.qr.specs.declared.pattern.TheConstants.{MODULES, PATTERN, SIDE}
+use Rattle.qr.specs.declared.placing.TheConstants.{STEPS}
+use Rattle.qr.specs.Content.{codewords}
+
+-- the module is one of data: `-` in the pattern
+abbrev pub is_data : ℕ → Bool
+is_data at = slice_index PATTERN.now at == 45
+
+-- it is dark in each code: `#`
+abbrev pub is_dark_in_all : ℕ → Bool
+is_dark_in_all at = slice_index PATTERN.now at == 35
+
+-- the way that data takes: up and down in columns of two modules, from the right, without the column of the timing pattern
+abbrev pub place : ℕ → ℕ
+place step =
+    let pair = step / 66 in
+    let right = if nat_lt pair 13 then 32 - 2 * pair else 31 - 2 * pair in
+    let down = step % 66 / 2 in
+    let row = if pair % 2 == 0 then 32 - down else down in
+    33 * row + right - step % 2
+
+-- the modules of data among the first steps
+abbrev pub data_places : ℕ → List ℕ
+data_places steps = filter is_data (map place (range_with_len 0 steps))
+
+-- a bit of codewords, of which the highest comes first; behind the last one none is set
+abbrev pub is_set : List ℕ → ℕ → Bool
+is_set codewords bit = slice_index codewords (bit / 8) / 2 ^ (7 - bit % 8) % 2 == 1
+
+-- the mask turns each second module, as a chessboard's squares: as a row has 33, these are the ones at even places
+abbrev pub masked : ℕ → Bool → Bool
+masked at dark = if at % 2 == 0 then not dark else dark
+
+abbrev pub unmasked : List Bool → ℕ → Bool
+unmasked modules at = masked at (slice_index_or modules at false)
+
+-- without the mask the modules of data are the bits of the codewords, and 7 that are not set. All others are as in each code
+pub record IsPlaced (codewords : List ℕ) (modules : List Bool) : Type 0 where
+  pub whole : length modules ≡ MODULES
+  pub bits : map (unmasked modules) (data_places STEPS) ≡ map (is_set codewords) (range_with_len 0 807)
+  pub pattern : (at : ℕ) → at < MODULES → is_data at ≡ false → slice_index_or modules at false ≡ is_dark_in_all at
+
+-- a code has a text's modules
+abbrev pub IsCodeOf : List ℕ → Code → Type 0
+IsCodeOf text code = IsPlaced (codewords text) code.modules
+
+-- a module of a code by row and column; beyond it none is dark
+abbrev pub is_dark : Code → ℕ → ℕ → Bool
+is_dark code row column =
+    if nat_lt row SIDE && nat_lt column SIDE then slice_index_or code.modules (SIDE * row + column) false else false

@@ -1,0 +1,32 @@
+-- A code as text.
+use Rattle.std.specs.Prelude.{ℕ, ◌+◌, ◌-◌, ◌*◌, ◌||◌, nat_lt, if◌then◌else◌, Bool, true, false, List, [], ◌∷◌, ◌++◌, codes}
+use Rattle.std.specs.List.{flat_map, range_with_len}
+use Rattle.qr.specs.declared.code.Code.{Code}
+use Rattle.qr.specs.declared.printing.TheConstants.{MARGIN}
+use Rattle.qr.specs.Modules.{is_dark}
+
+-- of two modules, one above the other: a space, and U+2584, U+2580 and U+2588 in UTF-8
+abbrev pub block : Bool → Bool → List ℕ
+block false false = 32 ∷ []
+block false true = 226 ∷ 150 ∷ 132 ∷ []
+block true false = 226 ∷ 150 ∷ 128 ∷ []
+block true true = 226 ∷ 150 ∷ 136 ∷ []
+
+-- a module of a code with a margin of 4
+abbrev pub is_dark_within : Code → ℕ → ℕ → Bool
+is_dark_within code row column =
+    if nat_lt row MARGIN || nat_lt column MARGIN then false else is_dark code (row - MARGIN) (column - MARGIN)
+
+abbrev pub block_at : Code → ℕ → ℕ → List ℕ
+block_at code row column = block (is_dark_within code (2 * row) column) (is_dark_within code (2 * row + 1) column)
+
+-- the characters of a row
+abbrev pub blocks : Code → ℕ → List ℕ
+blocks code row = flat_map (block_at code row) (range_with_len 0 41)
+
+-- a row, black on white
+abbrev pub row_text : Code → ℕ → List ℕ
+row_text code row = 27 ∷ codes "[30;47m" ++ blocks code row ++ 27 ∷ codes "[0m\n"
+
+abbrev pub printed : Code → List ℕ
+printed code = flat_map (row_text code) (range_with_len 0 21)

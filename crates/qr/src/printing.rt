@@ -1,0 +1,78 @@
+//! A code, printed.
+
+ghost use Rattle.std.specs.Prelude.{◌≡◌, Some};
+ghost use Rattle.qr.specs.Print as print;
+
+use crate::code::Code;
+use std::fmt;
+
+/// How many light modules are printed around a code.
+const MARGIN: usize = 4;
+
+/// A character of two modules, one above the other.
+fn block(upper: bool, lower: bool) -> &'static str
+    ensures { result.now ≡ print.block upper lower }
+{
+    match (upper, lower) {
+        (false, false) => " ",
+        (false, true) => "▄",
+        (true, false) => "▀",
+        (true, true) => "█",
+    }
+}
+
+impl Code {
+    /// Whether a module is dark, where the margin is counted too.
+    fn is_dark_within(&self, row: usize, column: usize) -> bool
+        ensures { result ≡ print.is_dark_within self.now row column }
+    {
+        if row < MARGIN || column < MARGIN {
+            false
+        } else {
+            self.is_dark(row - MARGIN, column - MARGIN)
+        }
+    }
+
+    /// The character at a place of the print.
+    fn block_at(&self, row: u8, column: u8) -> &'static str
+        ensures { result.now ≡ print.block_at self.now row column }
+    {
+        let upper = 2 * usize::from(row);
+        let column = usize::from(column);
+        block(
+            self.is_dark_within(upper, column),
+            self.is_dark_within(upper + 1, column),
+        )
+    }
+}
+
+/// The characters of a row of the print.
+#[derive(Clone, Copy)]
+struct Blocks<'a> {
+    code: &'a Code,
+    row: u8,
+}
+
+impl fmt::Display for Blocks<'_> {
+    ghost output = { λ b. Some (print.blocks b.code.now b.row) };
+
+    fn fmt<W: fmt::Write>(&self, f: &mut fmt::Formatter<W>) -> fmt::Result {
+        for column in 0..41 {
+            f.write_str(self.code.block_at(self.row, column))?;
+        }
+        Ok(())
+    }
+}
+
+impl fmt::Display for Code {
+    ghost output = { λ code. Some (print.printed code) };
+
+    /// Writes it as 21 rows, each with a line feed.
+    fn fmt<W: fmt::Write>(&self, f: &mut fmt::Formatter<W>) -> fmt::Result {
+        for row in 0..21 {
+            let blocks = Blocks { code: self, row };
+            write!(f, "\x1b[30;47m{blocks}\x1b[0m\n")?;
+        }
+        Ok(())
+    }
+}

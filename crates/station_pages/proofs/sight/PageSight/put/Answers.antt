@@ -1,0 +1,7 @@
+use Rattle.std.proofs.Common.{◌∙◌, ◌∷◌, ◌++◌, [], ap, inr}
+use Rattle.station_pages.specs.Sights.{texts_in}
+use Rattle.station_pages.proofs.sight.PageSight.put.Goals as goal
+
+pub returns-in-Ok-clause-shows : goal.returns-in-Ok-clause-shows
+returns-in-Ok-clause-shows g c =
+    inr (c.held.result.now, c.given.ensures ∙ ap (λ text. texts_in c.args.self.now.log ++ text ∷ []) c.in-Ok.ensures)

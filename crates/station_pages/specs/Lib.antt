@@ -1,0 +1,2 @@
+-- What a page shows of a desk: Sights.
+pub mod Sights

@@ -1,0 +1,18 @@
+//! A station and its page: waits in which it is seen to, and of a desk what is typed in it, the rows that it shows, and the
+//! state.
+#![tactic(auto)]
+
+mod attended;
+mod held_keys;
+mod page_keys;
+mod page_rows;
+mod rows;
+mod scorers_page;
+mod sight;
+
+pub use attended::{Attended, Attends};
+pub use held_keys::HeldKeys;
+pub use page_keys::PageKeys;
+pub use page_rows::PageRows;
+pub use scorers_page::ScorersPage;
+pub use sight::PageSight;

@@ -1,0 +1,103 @@
+//! The page of a desk.
+
+ghost use Rattle.std.specs.Prelude.{◌≤◌, IfSome};
+
+use crate::attended::Attends;
+use crate::rows::Rows;
+use agree_core::Position;
+use links::{HeldLine, HeldLines};
+use std::alloc::Global;
+use std::os::fd::RawFd;
+use viewers::Viewers;
+
+/// The page of a desk: who looks at it, the newest rows that its scorer was told, and the lines that are held.
+#[derive(Drop)]
+pub struct ScorersPage {
+    viewers: Viewers,
+    rows: Rows,
+    held: HeldLines,
+    /// How often other lines were held.
+    number: u64,
+}
+
+impl ScorersPage {
+    /// With these who look at it.
+    pub fn new(alloc: Global, viewers: Viewers) -> ScorersPage {
+        ScorersPage {
+            viewers,
+            rows: Rows::new(alloc),
+            held: HeldLines::new(),
+            number: 0,
+        }
+    }
+
+    /// What ends a desk's waits where somebody looks or types.
+    pub fn descriptor(&self) -> RawFd {
+        self.viewers.descriptor()
+    }
+
+    /// Takes what the scorer was told.
+    pub fn tell(&mut self, told: &[u8]) {
+        self.rows.take(told);
+    }
+
+    /// Shows the rows that are new.
+    pub fn show_rows(&mut self) {
+        if let Ok(Some(text)) = self.rows.take_news() {
+            self.viewers.put_lines(text);
+        }
+    }
+
+    /// This state is shown from here on.
+    pub fn show_state(&mut self, text: Vec<u8>) {
+        self.viewers.put_state(text);
+    }
+
+    /// These lines are held from here on.
+    pub fn hold(&mut self, held: &[HeldLine]) {
+        if self.held.as_slice() == held {
+            return;
+        }
+        self.held.clear();
+        let _fits = self.held.try_extend_from_slice(held);
+        self.number = self.number.saturating_add(1);
+    }
+
+    /// The lines that are held.
+    pub fn held(&self) -> &[HeldLine] {
+        self.held.as_slice()
+    }
+
+    /// How often other lines were held.
+    pub fn held_number(&self) -> u64 {
+        self.number
+    }
+
+    /// The desk is at this position from here on. Lines that were typed here for another one are dropped, and told.
+    pub fn stand(&mut self, at: Position) {
+        if self.viewers.stand(at) > 0 {
+            self.rows
+                .take(b"page: dropped, the desk is at another place\n");
+            self.show_rows();
+        }
+    }
+
+    /// Takes the next line that was typed here, if there is one: it stands in front of the buffer.
+    pub fn next_line(&mut self, buffer: &mut [u8; 128]) -> Option<usize>
+        ensures { IfSome result (λ count. count ≤ 128) }
+    {
+        self.viewers.next_line(buffer)
+    }
+
+    /// Whether a line waits.
+    pub fn has_lines(&self) -> bool {
+        self.viewers.has_lines()
+    }
+}
+
+impl Attends for ScorersPage {
+    fn attend(&mut self, now: u64) {
+        self.viewers.pump(now);
+        self.viewers.tell(now);
+    }
+}

@@ -1,0 +1,1397 @@
+//! The page of a desk. `tools/served` writes this file, of examples/desk.html.
+
+/// What may be run and loaded in the page: its own style and script, and what it asks of its station.
+pub const POLICY: &[u8] =
+    b"default-src 'none'; script-src 'sha256-VVk7NryqN6NFzJBTqZ/AfCucf6HDGmKyCzocqeoD5No='; style-src 'sha256-MkrAkl4AGkt9Ln35Dw5HydnBaQDquZj47c3omPRUCeA='; connect-src 'self'; img-src data:; base-uri 'none'; form-action 'none'; frame-ancestors 'none'";
+
+/// The page.
+pub const PAGE: &[u8] = b"<!DOCTYPE html>
+<html lang=\"en\">
+<head>
+<meta charset=\"utf-8\">
+<meta name=\"viewport\" content=\"width=device-width, initial-scale=1, viewport-fit=cover\">
+<meta name=\"served\" content=\"events\">
+<link rel=\"icon\" href=\"data:,\">
+<title>Desk</title>
+<!-- A scorer's page, for a telephone in one hand, a tablet or a laptop. A desk serves it: it tells its state and its rows (GET /events), and takes
+     what a scorer would type there (POST /line). The page writes only such lines, most of them short ones, and keeps no book: each figure is the
+     desk's. A line that was tapped stands for 1.2 seconds and may be taken back (?grace=3000 behind the address for another time), then it is sent
+     once, with the place and the round that the scorer saw, and signed with the secret behind # in the desk's link. It is never sent again by itself. -->
+<style>
+:root {
+  color-scheme: light dark;
+  --ground: #eef2ec; --panel: #ffffff; --ink: #0f1a12; --quiet: #37463c; --line: #aab8ad; --key: #ffffff; --soft: #dfe8df; --press: #c3d5c7;
+  --go: #0f5a2c; --go-ink: #ffffff; --wait: #ffe7a8; --wait-ink: #2b1d00; --bad: #9b0018; --bad-ink: #ffffff; --out: #83000f; --ring: #0b4fb3;
+}
+@media (prefers-color-scheme: dark) {
+  :root {
+    --ground: #0d1a12; --panel: #14271b; --ink: #ffffff; --quiet: #c4d6ca; --line: #3c5c47; --key: #234230; --soft: #183022; --press: #3a684e;
+    --go: #ffd84d; --go-ink: #1c1600; --wait: #4a3600; --wait-ink: #ffedc0; --bad: #b00020; --bad-ink: #ffffff; --out: #ffc9c9; --ring: #9cc8ff;
+  }
+}
+* { box-sizing: border-box; -webkit-tap-highlight-color: transparent; touch-action: manipulation; }
+html, body { height: 100%; margin: 0; overflow: hidden; overscroll-behavior: none; }
+body { background: var(--ground); color: var(--ink); font: 16px/1.25 system-ui, \"DejaVu Sans\", Verdana, Arial, sans-serif;
+  font-variant-numeric: tabular-nums; -webkit-text-size-adjust: 100%; }
+h1, h2, p, ol, table { margin: 0; padding: 0; font-size: 1em; }
+button { font: inherit; color: inherit; margin: 0; padding: .2em .4em; min-width: 48px; min-height: 48px;
+  border: 1px solid var(--line); border-radius: 12px; background: var(--key); cursor: pointer; user-select: none; -webkit-user-select: none; overflow-wrap: anywhere; line-height: 1.1; }
+button:active { background: var(--press); }
+button[aria-disabled=\"true\"] { opacity: .4; cursor: default; }
+button small { display: block; font-size: .72em; font-weight: 400; color: var(--quiet); margin-top: .2em; }
+:focus-visible { outline: 3px solid var(--ring); outline-offset: 1px; }
+[hidden] { display: none !important; }
+.unseen { position: absolute; width: 1px; height: 1px; overflow: hidden; clip-path: inset(50%); white-space: nowrap; }
+
+/* A telephone: the score, this over, what is asked, and the pads where the thumb is. */
+#desk { height: 100vh; height: 100dvh; display: grid; gap: 8px; grid-template: \"score\" auto \"over\" auto \"state\" auto \"pads\" minmax(0, 1fr) / minmax(0, 1fr);
+  padding: max(8px, env(safe-area-inset-top)) max(8px, env(safe-area-inset-right)) max(8px, env(safe-area-inset-bottom)) max(8px, env(safe-area-inset-left)); }
+#score { grid-area: score; }
+#first { display: flex; align-items: center; gap: .5em; min-height: 48px; }
+#total { flex: 1; min-width: 0; font-weight: 400; display: flex; align-items: baseline; gap: .35em; }
+#team { min-width: 0; font-size: 1.2em; overflow: hidden; text-overflow: ellipsis; white-space: nowrap; }
+#runs { font-size: 2.3em; font-weight: 700; line-height: 1; white-space: nowrap; }
+#open-told { flex: none; min-width: 60px; }
+#open-told small { margin: 0; }
+#second { min-height: 1.25em; overflow: hidden; text-overflow: ellipsis; white-space: nowrap; }
+#overs { color: var(--quiet); }
+#overs:not(:empty)::after { content: \"\\A0\"; }
+#aim { font-weight: 700; }
+#crease { width: 100%; border-collapse: collapse; table-layout: fixed; }
+#crease th, #crease td { padding: .1em 0; font-weight: 400; text-align: left; white-space: nowrap; overflow: hidden; text-overflow: ellipsis; height: 1.45em; }
+#crease td { text-align: right; width: 42%; }
+#crease tr.strike > * { font-weight: 700; }
+#crease th::before { content: \"\"; display: inline-block; width: 1.15em; }
+#crease tr.strike th::before { content: \"\\25B6\"; font-size: .8em; width: 1.44em; }
+#crease tr.bowls > * { color: var(--quiet); border-top: 1px solid var(--line); }
+#over { grid-area: over; display: flex; align-items: center; gap: 6px; min-width: 0; min-height: 48px; }
+#over h2 { font-weight: 400; color: var(--quiet); font-size: .85em; flex: none; width: 2.7em; line-height: 1.1; }
+#marks { list-style: none; display: flex; gap: 4px; overflow-x: auto; min-width: 0; scrollbar-width: none; }
+#marks button { border-radius: 24px; padding: 0 .4em; font-weight: 700; white-space: nowrap; }
+#marks button.extra { border-radius: 12px; background: var(--soft); }
+#marks button.wicket { border-radius: 12px; background: var(--ink); color: var(--ground); }
+#marks button[aria-pressed=\"true\"] { background: var(--wait); color: var(--wait-ink); border: 2px solid var(--wait-ink); }
+
+/* What is asked or told, with its answers. Its height never changes. */
+#state { grid-area: state; position: relative; overflow: hidden; height: clamp(176px, 23vh, 200px); display: flex; flex-direction: column; gap: 6px;
+  padding: 9px 10px 10px; border-radius: 14px; background: var(--panel); border: 1px solid var(--line); }
+#message { flex: 1; min-height: 0; overflow-y: auto; outline: 0; }
+#head { display: block; font-weight: 700; font-size: 1.1em; overflow-wrap: anywhere; }
+#detail { display: block; white-space: pre-line; overflow-wrap: anywhere; font-size: .875em; margin-top: .1em; }
+#answers { display: grid; grid-auto-flow: column; grid-auto-columns: minmax(0, 1fr); gap: 6px; }
+#answers:empty { display: none; }
+#answers button { min-height: 52px; font-weight: 600; color: var(--ink); background: var(--key); }
+#state.ask { border: 2px solid var(--go); padding: 8px 9px 9px; }
+#state.go { background: var(--go); color: var(--go-ink); border-color: var(--go); }
+#state.wait { background: var(--wait); color: var(--wait-ink); border-color: var(--wait-ink); }
+#state.bad { background: var(--bad); color: var(--bad-ink); border-color: var(--bad); }
+#answers button.main { background: var(--go); color: var(--go-ink); border-color: var(--go); }
+#answers button.main small { color: inherit; }
+#state.bad #answers button { background: var(--key); color: var(--ink); }
+#state.go #answers button { font-size: 1.15em; }
+#clock { position: absolute; left: 0; bottom: 0; height: 5px; width: 100%; background: currentColor; transform-origin: left; visibility: hidden; }
+#state.go #clock { visibility: visible; animation: runs-out linear forwards; }
+@keyframes runs-out { to { transform: scaleX(0); } }
+@media (prefers-reduced-motion: reduce) { #state.go #clock { animation: none; } }
+
+#pads { grid-area: pads; display: grid; gap: 7px; grid-template-columns: repeat(12, minmax(0, 1fr));
+  grid-template-rows: minmax(48px, 3fr) minmax(48px, 5fr) minmax(48px, 5fr) minmax(48px, 3fr); min-height: 0; }
+#pads button { grid-column: span 3; background: var(--soft); font-weight: 600; }
+#pads button:active { background: var(--press); }
+#pads .run { grid-column: span 4; background: var(--key); font-size: 2.1em; font-weight: 700; border-radius: 16px; }
+#pads .run small { font-size: .4em; }
+#pads .wicket { color: var(--out); }
+#pads .due { background: var(--go); color: var(--go-ink); border-color: var(--go); }
+#pads .due:active { background: var(--go); }
+
+/* What the desk told, and any line. */
+#told { display: none; flex-direction: column; gap: 8px; min-height: 0; background: var(--panel); }
+#told.open { display: flex; position: fixed; inset: 0; z-index: 1; padding: max(8px, env(safe-area-inset-top)) 8px max(8px, env(safe-area-inset-bottom)); }
+.bar { display: flex; align-items: center; justify-content: space-between; gap: 8px; min-height: 48px; }
+.bar h2 { font-weight: 700; padding-left: .2em; outline: 0; }
+.bar button { flex: none; padding: .2em 1em; }
+#rows { flex: 1; min-height: 0; overflow-y: auto;
+  font: 13px/1.4 ui-monospace, \"DejaVu Sans Mono\", Menlo, Consolas, monospace; white-space: pre-wrap; overflow-wrap: anywhere; }
+#rows .agreed { font-weight: 700; }
+#rows .stands { color: var(--quiet); }
+#rows .wrong { color: var(--out); font-weight: 700; }
+form { display: flex; gap: 6px; }
+form input { flex: 1; min-width: 0; font: inherit; color: var(--ink); background: var(--key); padding: .4em .7em; min-height: 48px;
+  border: 1px solid var(--line); border-radius: 12px; }
+form input::placeholder { color: var(--quiet); opacity: 1; }
+
+/* A question with many answers: over the pads. */
+#sheet { position: fixed; inset: 0; z-index: 2; display: flex; flex-direction: column; justify-content: flex-end; background: rgba(8, 18, 11, .55); }
+#card { max-height: 100%; overflow-y: auto; background: var(--ground); border-radius: 18px 18px 0 0; padding: 8px 8px max(10px, env(safe-area-inset-bottom)); }
+#choices { display: grid; gap: 7px; grid-template-columns: repeat(3, minmax(0, 1fr)); margin-top: 4px; }
+#choices button { min-height: 60px; padding: .2em; font-weight: 600; font-size: .95em; }
+#choices .second { background: var(--soft); }
+#ask { margin-top: 10px; }
+
+@media (min-width: 700px) {
+  #desk { gap: 12px; padding: 12px; grid-template: \"score state\" auto \"over pads\" auto \"told pads\" minmax(0, 1fr) / minmax(0, 5fr) minmax(0, 7fr); }
+  #runs { font-size: 3em; }
+  #team { font-size: 1.5em; }
+  #crease, #second { font-size: 1.1em; }
+  #open-told, #told .bar button { display: none; }
+  #told, #told.open { grid-area: told; display: flex; position: static; padding: 10px; border: 1px solid var(--line); border-radius: 14px; }
+  #told .bar { min-height: 0; }
+  #told .bar h2 { font-weight: 400; color: var(--quiet); font-size: .85em; }
+  #state { height: 208px; }
+  #head { font-size: 1.3em; }
+  #detail { font-size: 1em; }
+  #answers button { min-height: 60px; }
+  #pads .run { font-size: 2.6em; }
+  #sheet { align-items: flex-end; justify-content: flex-end; padding: 12px; }
+  #card { width: min(100%, 58.3vw); border-radius: 18px; padding: 12px; }
+  #choices { grid-template-columns: repeat(4, minmax(0, 1fr)); }
+}
+/* Small telephones, and one that is held across. */
+@media (max-width: 350px) {
+  #pads button:not(.run) { font-size: .85em; padding: 0; }
+}
+@media (max-width: 699px) and (max-height: 660px) {
+  #pads .run { font-size: 1.7em; }
+  #pads .run small { display: none; }
+}
+@media (max-width: 699px) and (max-height: 620px) {
+  #desk { gap: 6px; padding: 6px; }
+  #second { font-size: .85em; }
+  #crease th, #crease td { height: 1.25em; padding: 0; }
+  #state { height: 136px; }
+}
+@media (min-width: 700px) and (max-height: 520px) {
+  #desk { gap: 6px; padding: 6px; }
+  #state { height: 136px; }
+  #head { font-size: 1.1em; }
+  #detail { font-size: .875em; }
+  #answers button { min-height: 50px; }
+  #told, #told.open { padding: 6px; }
+  #told .bar { display: none; }
+  #runs { font-size: 2em; }
+  #pads .run { font-size: 1.5em; }
+  #pads .run small { display: none; }
+}
+</style>
+</head>
+<body>
+<main id=\"desk\">
+  <section id=\"score\" aria-label=\"Score\">
+    <div id=\"first\">
+      <h1 id=\"total\"><span id=\"team\">No play yet</span> <span id=\"runs\"></span></h1>
+      <button type=\"button\" id=\"open-told\">Rows<small id=\"which\"></small></button>
+    </div>
+    <p id=\"second\"><span id=\"overs\"></span> <span id=\"aim\"></span></p>
+    <table id=\"crease\" aria-label=\"At the crease\"><tbody></tbody></table>
+  </section>
+  <section id=\"over\" aria-labelledby=\"over-heading\">
+    <h2 id=\"over-heading\">This over</h2>
+    <ol id=\"marks\"></ol>
+  </section>
+  <section id=\"state\" aria-label=\"What is asked\">
+    <p id=\"message\" role=\"status\" aria-live=\"polite\" aria-atomic=\"true\" tabindex=\"-1\"><strong id=\"head\">Connecting to the desk</strong> <span id=\"detail\"></span></p>
+    <div id=\"answers\" role=\"group\" aria-label=\"Answers\"></div>
+    <div id=\"clock\"></div>
+  </section>
+  <p id=\"alarm\" class=\"unseen\" role=\"alert\"></p>
+  <section id=\"pads\" aria-label=\"Write\">
+    <button type=\"button\" data-pad=\"wide\">Wide</button>
+    <button type=\"button\" data-pad=\"noball\">No ball</button>
+    <button type=\"button\" data-pad=\"bye\">Bye</button>
+    <button type=\"button\" data-pad=\"legbye\">Leg bye</button>
+    <button type=\"button\" data-line=\".\" class=\"run\" aria-label=\"No run\">&#8226;</button>
+    <button type=\"button\" data-line=\"1\" class=\"run\" aria-label=\"1 run\">1</button>
+    <button type=\"button\" data-line=\"2\" class=\"run\" aria-label=\"2 runs\">2</button>
+    <button type=\"button\" data-line=\"3\" class=\"run\" aria-label=\"3 runs\">3</button>
+    <button type=\"button\" data-line=\"4\" class=\"run\" aria-label=\"Four to the boundary\">4<small>boundary</small></button>
+    <button type=\"button\" data-line=\"6\" class=\"run\" aria-label=\"Six\">6<small>boundary</small></button>
+    <button type=\"button\" data-pad=\"wicket\" class=\"wicket\">Wicket</button>
+    <button type=\"button\" data-pad=\"over\">Over</button>
+    <button type=\"button\" data-pad=\"bowler\">Bowler</button>
+    <button type=\"button\" data-pad=\"more\">More</button>
+  </section>
+  <aside id=\"told\" aria-labelledby=\"told-heading\">
+    <div class=\"bar\"><h2 id=\"told-heading\" tabindex=\"-1\">Told at the desk</h2><button type=\"button\" id=\"close-told\">Close</button></div>
+    <div id=\"rows\" role=\"log\" aria-live=\"off\" aria-labelledby=\"told-heading\" tabindex=\"0\"></div>
+    <form id=\"typed\"><label for=\"line\" class=\"unseen\">Any line, as at the desk</label>
+      <input id=\"line\" maxlength=\"128\" autocomplete=\"off\" autocapitalize=\"off\" autocorrect=\"off\" spellcheck=\"false\" enterkeyhint=\"send\" placeholder=\"any line, as at the desk\">
+      <button>Write</button></form>
+  </aside>
+</main>
+<div id=\"sheet\" hidden>
+  <div id=\"card\" role=\"dialog\" aria-modal=\"true\" aria-labelledby=\"question\">
+    <div class=\"bar\"><h2 id=\"question\" tabindex=\"-1\"></h2><button type=\"button\" id=\"back\">Cancel</button></div>
+    <div id=\"choices\"></div>
+    <form id=\"ask\" hidden><label for=\"answer\" class=\"unseen\">The secret</label>
+      <input id=\"answer\" autocomplete=\"off\" autocapitalize=\"off\" autocorrect=\"off\" spellcheck=\"false\" enterkeyhint=\"done\" placeholder=\"what stands behind #\">
+      <button>Use it</button></form>
+  </div>
+</div>
+<script>
+\"use strict\";
+const address = new URLSearchParams(location.search);
+const GRACE = Math.min(10000, Math.max(400, Number(address.get(\"grace\")) || 1200));   // milliseconds in which a tapped line may be taken back
+const LOST = 7000;       // milliseconds without a word of the desk, which tells each 2000 that it is there
+const TWICE = 400;       // a tap so soon after another at the same spot is no second one
+const NEAR = 40;         // points that are the same spot
+const SETTLE = 300;      // milliseconds in which what has just changed takes no tap
+const HELD = 3000;       // milliseconds for which nothing changes under a finger
+const LIFTED = 300;      // milliseconds behind a finger that is up in which its tap may still come
+const ANSWER = 4000;     // milliseconds in which the desk makes something of a line
+const ROWS = 200;        // rows that are kept
+const NUMBERS = [1, 2, 3, 4, 5, 6, 7, 8, 9, 10, 11];
+const SUBSTITUTE = 12;
+
+const at = id => document.getElementById(id);
+const now = () => performance.now();
+
+function put(id, text) {
+  // What a screen reader was told is left alone while it stays so.
+  if (at(id).textContent !== text) at(id).textContent = text;
+}
+
+// An element with this text. A name is never read as anything but text.
+function element(name, text, kind) {
+  const made = document.createElement(name);
+  if (text !== undefined) made.textContent = text;
+  if (kind) made.className = kind;
+  return made;
+}
+
+// ---- The tag of a line: HMAC (RFC 2104) with SHA-256 (FIPS 180-4). A browser has none of its own for a page without TLS.
+const PRIMES = [];
+for (let n = 2; PRIMES.length < 64; n += 1) if (PRIMES.every(prime => n % prime !== 0)) PRIMES.push(n);
+const fraction = root => (root - Math.floor(root)) * 4294967296 | 0;
+const FIRST = PRIMES.slice(0, 8).map(prime => fraction(Math.sqrt(prime)));
+const ROUNDS = PRIMES.map(prime => fraction(Math.cbrt(prime)));
+const turned = (word, by) => word >>> by | word << 32 - by;
+
+// The 64 words of a block.
+function schedule(block) {
+  const words = new Int32Array(64);
+  for (let t = 0; t < 16; t += 1) words[t] = block.getInt32(4 * t);
+  for (let t = 16; t < 64; t += 1) {
+    const a = words[t - 15], b = words[t - 2];
+    words[t] = words[t - 16] + (turned(a, 7) ^ turned(a, 18) ^ a >>> 3) + words[t - 7] + (turned(b, 17) ^ turned(b, 19) ^ b >>> 10);
+  }
+  return words;
+}
+
+function mixed(sums, block) {
+  const words = schedule(block);
+  let [a, b, c, d, e, f, g, h] = sums;
+  for (let t = 0; t < 64; t += 1) {
+    const one = h + (turned(e, 6) ^ turned(e, 11) ^ turned(e, 25)) + (e & f ^ ~e & g) + ROUNDS[t] + words[t] | 0;
+    const two = (turned(a, 2) ^ turned(a, 13) ^ turned(a, 22)) + (a & b ^ a & c ^ b & c) | 0;
+    [h, g, f, e, d, c, b, a] = [g, f, e, d + one | 0, c, b, a, one + two | 0];
+  }
+  return [a, b, c, d, e, f, g, h].map((word, n) => word + sums[n] | 0);
+}
+
+function sha256(bytes) {
+  const padded = new Uint8Array((bytes.length + 8 >> 6) + 1 << 6);
+  padded.set(bytes);
+  padded[bytes.length] = 128;
+  const view = new DataView(padded.buffer);
+  view.setUint32(padded.length - 4, 8 * bytes.length);
+  let sums = FIRST;
+  for (let from = 0; from < padded.length; from += 64) sums = mixed(sums, new DataView(padded.buffer, from, 64));
+  sums.forEach((word, n) => view.setInt32(4 * n, word));
+  return padded.slice(0, 32);
+}
+
+function hmac(key, bytes) {
+  const block = new Uint8Array(64);
+  block.set(key.length > 64 ? sha256(key) : key);
+  const inner = sha256(Uint8Array.of(...block.map(byte => byte ^ 0x36), ...bytes));
+  return sha256(Uint8Array.of(...block.map(byte => byte ^ 0x5c), ...inner));
+}
+
+const hex = bytes => Array.from(bytes, byte => byte.toString(16).padStart(2, \"0\")).join(\"\");
+
+// The bytes of 32 hex digits at the end of a text, as of a whole link.
+function secretIn(text) {
+  const found = /(?:^|[^0-9a-f])([0-9a-f]{32})$/i.exec(text.trim());
+  return found && Uint8Array.from(found[1].match(/../g), pair => parseInt(pair, 16));
+}
+
+// ---- What the desk tells.
+let state = null;        // its state
+let version = 0;         // how many states came
+let secret = null;       // the link's, in memory alone
+let source = null;       // its events
+let isOpen = false;      // whether they come
+let asked = 0;           // when they were asked for last, by this page's clock
+let isLive = false;      // whether what comes is new: first comes what was told before
+let isFirst = true;      // whether no state came yet
+let heard = 0;           // when something came last
+let told = nothingTold();
+
+// What the rows tell, from those that the desk keeps on.
+function nothingTold() {
+  const entries = new Map();   // what stands at each place, as it was corrected last
+  return { all: [], rows: [], entries, last: null, differs: null, other: null, isHeard: true, check: [], isChecking: false, spells: [], bowls: null, side: null, part: \"\" };
+}
+
+const isKnown = () => state !== null && state.format === \"yermudosh desk 1\";
+const position = () => state ? state.place + \".\" + state.round : \"\";
+const innings = () => state.board.innings[state.board.innings.length - 1];
+const isLost = () => !isOpen || Date.now() - heard > LOST;
+const differs = () => state.round > 0 && state.pending === null;
+const standing = () => JSON.stringify([state.place, state.round, state.pending, state.held]);
+
+function readSecret() {
+  const found = secretIn(location.hash);
+  if (location.hash) history.replaceState(null, \"\", location.pathname + location.search);
+  if (found) { secret = found; note = null; }
+  later();
+}
+
+function hearAgain() {
+  heard = Date.now();
+  later();
+}
+
+function listen() {
+  if (source) source.close();
+  asked = Date.now();
+  source = new EventSource(\"events\");
+  source.onopen = () => { told = nothingTold(); isLive = false; isFirst = true; isOpen = true; hearAgain(); };
+  source.onerror = () => { isOpen = false; later(); };
+  source.onmessage = event => takeBoth(...event.data.split(\"\\n\").map(part => JSON.parse(part)));
+  source.addEventListener(\"beat\", () => { isLive = true; hearAgain(); });
+}
+
+// The newest rows, of which those that came before are known.
+function newRows(rows) {
+  const known = told.all;
+  let from = 0;
+  while (known.slice(from).some((row, n) => row !== rows[n])) from += 1;
+  told.all = rows;
+  return rows.slice(known.length - from);
+}
+
+// An event has the desk's state and its newest rows.
+function takeBoth(next, rows) {
+  isLive = isLive || !isFirst;
+  newRows(rows).forEach(hear);
+  take(next);
+}
+
+function take(next) {
+  const isAnother = state === null || state.place !== next.place || state.round !== next.round;
+  state = next;
+  version += 1;
+  isLive = isLive || !isFirst;
+  isFirst = false;
+  if (isAnother) {
+    isAhead = false;
+    settles = now() + SETTLE;
+    if (state.wants !== \"bowler\") bowler = null;
+  }
+  if (sent && sent.before !== standing()) sent = null;
+  hearAgain();
+}
+
+// A correction changes what stands at its place, a late entry stands at its own.
+function agree(place, line) {
+  const [word, second, ...rest] = line.split(\" \");
+  told.entries.set(word === \"fix\" ? Number(second) : place, word === \"fix\" || word === \"late\" ? rest.join(\" \") : line);
+  told.last = { place, line };
+  told.other = null;
+  told.part = word;
+  if (word === \"ball\") told.bowls = Number(second);
+  if (word === \"over\") { told.spells.push(told.bowls); told.bowls = null; told.check = []; told.isChecking = true; }
+  if (word === \"innings\") { told.side = second; told.spells = []; told.bowls = null; told.check = []; }
+}
+
+// What a row says of the place, of the other scorer and of the over.
+function follow(row) {
+  const agreed = /^(\\d+) agreed: (.*)$/.exec(row);
+  const two = /^(\\d+) differs: you (.*), the other (.*)$/.exec(row);
+  const other = /^(\\d+) the other has written$/.exec(row);
+  if (told.isChecking && row.startsWith(\"  \")) told.check.push(row.trim());
+  else told.isChecking = false;
+  if (agreed) agree(Number(agreed[1]), agreed[2].replace(/^over .*/, \"over\"));
+  else if (two) { told.differs = { place: Number(two[1]), you: two[2], other: two[3] }; told.other = null; }
+  else if (other) told.other = Number(other[1]);
+  else if (row === \"the other desk isn't heard\") told.isHeard = false;
+  else if (row === \"the other desk is heard again\") told.isHeard = true;
+  else if (row.startsWith(\"dropped \") && / differs: you /.test(told.rows[told.rows.length - 2])) told.differs.dropped = row;
+}
+
+const WRONG = new RegExp(\"^(fault |refused |which one|no such player|who bowls|undo: |[wb]: |\\\\w+ has no fielder|\" +
+  \"\\\\d+ (not taken|doesn't differ|is cast|differs: begin)|dropped |24 lines |not held|peer: |not a peer|cannot |this file |this is the copy|the other desk's file |its file |votes)\");
+const CHANGED = /^(now: |innings \\d+: |\\.\\. and )/;
+
+// What the scorer is to read before going on: a row that says why a line isn't taken, or what a correction has changed. Not what was told before this page came.
+function heed(row) {
+  if (!isLive && !sent) return;
+  const isWrong = WRONG.test(row) && !(told.differs && told.differs.dropped === row);
+  const isMore = note && now() - note.since < 500 && (isWrong || row.startsWith(\"  \") || CHANGED.test(row));
+  if (isMore) note.detail += \"\\n\" + row.trim();
+  else if (isWrong) tell(\"bad\", sent ? \"Not written: \" + sent.label : \"The desk says\", row);
+  else if (CHANGED.test(row) && (told.part === \"fix\" || told.part === \"late\")) tell(\"ask\", \"Put right. Read it first\", row);
+  if (isWrong || sent && sent.isQuestion && !row.startsWith(\"page: \")) sent = null;
+}
+
+function hear(row) {
+  told.rows.push(row);
+  if (told.rows.length > ROWS) told.rows.shift();
+  follow(row);
+  heed(row);
+  hearAgain();
+}
+
+// ---- What the scorer writes.
+let held = null;         // a tapped line that may be taken back
+let sent = null;         // a line of which the desk has told nothing yet
+let note = null;         // what is to be read
+let bowler = null;       // who was chosen to bowl; the next ball is written with it
+let amend = null;        // the place that is put right, or behind which an entry was left out
+let isAhead = false;     // whether a line is written ahead of the other scorer
+let settles = 0;         // until then nothing is taken
+
+function tell(kind, head, detail) {
+  note = { kind, head, detail, since: now() };
+  later();
+}
+
+// Whether a line may be written now.
+const mayWrite = () => state !== null && !isLost() && secret !== null && !held && !sent && (state.pending === null || isAhead);
+
+// A line that was tapped: it stands for a moment, and is then sent.
+function write(line, label) {
+  const where = questions.length > 0 ? begun : position();
+  closeSheet();
+  if (where !== position() || !mayWrite()) return tell(\"bad\", \"Not written: \" + label, isLost() ? UNREACHED : REFUSED[409]);
+  const full = (differs() && line !== \"again\" ? \"again \" : \"\") + (amend ? amend.kind + \" \" + amend.place + \" \" : \"\") + line;
+  held = { line: full, label: (amend ? \"place \" + amend.place + \", \" : \"\") + label, where, since: Date.now(), timer: setTimeout(flush, GRACE) };
+  at(\"clock\").style.animationDuration = GRACE + \"ms\";
+  note = null;
+  show();
+}
+
+function drop() {
+  clearTimeout(held.timer);
+  const { label } = held;
+  held = null;
+  return label;
+}
+
+function takeBack() {
+  if (held) drop();
+  show();
+}
+
+function flush() {
+  // While a finger is down, perhaps on its way to take it back, it waits.
+  if (isDown && now() - downSince < HELD) {
+    held.timer = setTimeout(flush, 50);
+    return;
+  }
+  const { line, where, since } = held;
+  const label = drop();
+  // A telephone that slept since then doesn't write what was tapped before.
+  if (Date.now() - since > GRACE + HELD + 2000 || isLost()) return tell(\"bad\", \"Not written: \" + label, UNREACHED);
+  if (state.pending !== null && !isAhead) return tell(\"bad\", \"Not written: \" + label, \"Another line of yours waits at this place already.\");
+  if (isAhead) bowler = null;
+  amend = null;
+  isAhead = false;
+  send(line, label, where);
+}
+
+const UNREACHED = \"The desk wasn't reached. Tap it again when it is back.\";
+const REFUSED = {
+  400: \"The desk couldn't read it.\",
+  403: \"This link isn't the desk's. Was the desk started again? Then open its new link.\",
+  409: \"The desk is at another place by now. Look, and tap again.\",
+  410: \"It came too late. Tap it again.\",
+  413: \"A line has at most 128 letters.\",
+  503: \"Eight lines wait at the desk. Wait a moment, and tap it again.\",
+};
+const QUESTION = /^(list|score|card|players|bowlers|help|short)\\b/;
+
+// Asks the desk, and waits five seconds at most.
+function request(path, options) {
+  const stop = new AbortController();
+  const timer = setTimeout(() => stop.abort(), 5000);
+  return fetch(path, { cache: \"no-store\", signal: stop.signal, ...options }).finally(() => clearTimeout(timer));
+}
+
+async function nonceGiven() {
+  const answer = await request(\"nonce\");
+  if (!answer.ok) throw new Error(answer.status);
+  return (await answer.text()).trim();
+}
+
+function fail(head, detail) {
+  sent = null;
+  tell(\"bad\", head, detail);
+}
+
+// Sends a line, once. What was sent and not answered may stand at the desk.
+async function send(line, label, where) {
+  sent = { line, label, before: standing(), since: now(), isQuestion: QUESTION.test(line) };
+  note = null;
+  show();
+  let answer = null, nonce = null;
+  try {
+    nonce = await nonceGiven();
+  } catch (why) {
+    return fail(\"Not written: \" + label, UNREACHED);
+  }
+  const tag = hex(hmac(secret, new TextEncoder().encode(nonce + \" \" + where + \" \" + line)));
+  try {
+    answer = await request(\"line\", { method: \"POST\", headers: { \"X-At\": where, \"X-Nonce\": nonce, \"X-Tag\": tag }, body: line });
+  } catch (why) {
+    return fail(\"No answer: \" + label, \"It was sent. See whether it stands at the desk before you tap it again.\");
+  }
+  if (answer.status === 403) secret = null;
+  if (!answer.ok) return fail(\"Not written: \" + label, REFUSED[answer.status] || \"The desk answered \" + answer.status + \".\");
+  if (sent) {
+    sent.since = now();
+    sent.isTaken = true;
+  }
+}
+
+// What is asked of the desk writes nothing; its answer is among the rows.
+function question(line) {
+  closeSheet();
+  openTold();
+  send(line, line, position());
+}
+
+// ---- What lines and numbers mean in words.
+const name = (side, number) => state.sides[side].players[number - 1];
+const other = side => side === \"home\" ? \"away\" : \"home\";
+const one = (count, word) => count + \" \" + word + (count === 1 ? \"\" : \"s\");
+const capital = text => text.charAt(0).toUpperCase() + text.slice(1);
+
+function batting() {
+  const { home, away } = state.sides;
+  if (!innings() || home.name === away.name) return told.side || \"home\";
+  return innings().team === home.name ? \"home\" : \"away\";
+}
+
+// The side that bats at a place, or null where the rows don't tell it.
+function sideAt(place) {
+  const begun = [...told.entries].filter(([, line]) => line.startsWith(\"innings \")).sort(([a], [b]) => a - b);
+  const before = begun.filter(([it]) => it <= place).pop();
+  return before ? before[1].split(\" \")[1] : begun.length > 0 ? null : batting();
+}
+
+const batsThere = () => amend && sideAt(amend.place) || batting();
+const batter = number => name(batting(), number);
+
+const RUNS = {
+  bat: (r, far) => far || (r === 0 ? \"no run\" : r === 4 ? \"4 all run\" : one(r, \"run\")),
+  bye: (r, far) => far ? \"4 byes to the boundary\" : one(r, \"bye\"),
+  leg: (r, far) => far ? \"4 leg byes to the boundary\" : one(r, \"leg bye\"),
+  wide: (r, far) => \"Wide\" + (far ? \" to the boundary\" : r > 0 ? \" and \" + r : \"\"),
+  nb: (r, far) => \"No ball\" + (far ? \", \" + far + \" off the bat\" : r > 0 ? \", \" + r + \" off the bat\" : \"\"),
+  nbbye: (r, far) => \"No ball, \" + (far ? \"4 byes to the boundary\" : one(r, \"bye\")),
+  nbleg: (r, far) => \"No ball, \" + (far ? \"4 leg byes to the boundary\" : one(r, \"leg bye\")),
+};
+const HOW = { bowled: \"bowled\", caught: \"caught\", lbw: \"LBW\", stumped: \"stumped\",
+  hitwicket: \"hit wicket\", hittwice: \"hit the ball twice\", obstructing: \"obstructing the field\", runout: \"run out\" };
+const LEFT = { timedout: \"is timed out\", retiredout: \"retires out\", retiredhurt: \"retires hurt\", runout: \"is run out, no ball bowled\" };
+const ENDS = { allout: \"all out\", nobatter: \"no batter is left\", declared: \"declared\", forfeited: \"forfeited\", overs: \"its overs are bowled\" };
+
+function outWords([how, who, number, crossed], side) {
+  const by = number === \"0\" ? \"\" : \" by \" + (number === String(SUBSTITUTE) ? \"a substitute\" : side ? name(other(side), Number(number)) : \"fielder \" + number);
+  const whose = how === \"runout\" || how === \"obstructing\" ? (who === \"striker\" ? \", the striker\" : \", the other batter\") : \"\";
+  return HOW[how] + by + whose + (crossed ? \", they had crossed\" : \"\");
+}
+
+// Of a delivery, what stands behind its bowler.
+function ballWords([kind, runs, ...rest], side) {
+  const far = rest.includes(\"four\") ? \"four\" : rest.includes(\"six\") ? \"six\" : \"\";
+  const parts = [RUNS[kind](Number(runs), far)];
+  const out = rest.indexOf(\"out\");
+  if (rest.includes(\"short\")) parts.push(rest[rest.indexOf(\"short\") + 1] + \" short\");
+  if (rest.includes(\"overthrow\")) parts.push(\"overthrows to the boundary\");
+  if (rest.includes(\"dead\")) parts.push(\"doesn't count\");
+  if (out >= 0) parts.push(outWords(rest.slice(out + 1), side));
+  return (out === 0 && kind === \"bat\" && runs === \"0\" ? parts.slice(1) : parts).join(\", \");
+}
+
+// A full line in words, by the side that bats where it stands; without it with numbers for names.
+function inWords(line, side = batting()) {
+  const [word, first, second, third, ...rest] = line.split(\" \");
+  const who = number => side ? name(side, Number(number)) : \"player \" + number;
+  const inner = () => inWords(line.split(\" \").slice(2).join(\" \"), sideAt(Number(first)));
+  switch (word) {
+    case \"innings\": return state.sides[first].name + \" bats\";
+    case \"in\": return who(first) + \" comes in\";
+    case \"ball\": return (side ? name(other(side), Number(first)) + \": \" : \"\") + ballWords([second, third, ...rest], side);
+    case \"gone\": return who(second) + \" \" + LEFT[first];
+    case \"over\": return \"over\";
+    case \"penalty\": return \"5 penalty runs to \" + state.sides[first].name + \", Law \" + second + \".\" + third;
+    case \"swap\": return \"the batters change ends\";
+    case \"end\": return \"the innings ends, \" + ENDS[first];
+    case \"close\": return \"the match is closed\";
+    case \"void\": return \"nothing\";
+    case \"fix\": return \"place \" + first + \" is to read: \" + inner();
+    case \"late\": return \"after place \" + first + \": \" + inner();
+    default: return line;
+  }
+}
+
+const entryWords = place => told.entries.has(place) ? inWords(told.entries.get(place), sideAt(place)) : \"entry \" + place;
+
+// ---- What comes next.
+const aheadLines = () => isAhead && state.pending !== null ? [state.pending, ...state.held] : [];
+const OUT = /\\b(out|bowled|caught|ct|c|lbw|stumped|st|runout|ro|hitwicket|hittwice|obstructing)\\b/;
+
+// What the desk wants, or will want behind the lines that are written ahead.
+function wants() {
+  const lines = aheadLines();
+  if (lines.length === 0) return state.wants;
+  const tail = lines[lines.length - 1].replace(/^again /, \"\");
+  const came = lines.filter(line => line.startsWith(\"in \")).length;
+  const vacant = [state.board.now.striker, state.board.now.other].filter(number => number === null).length;
+  if (tail === \"/\" || tail === \"over\") return \"bowler\";
+  if (tail.startsWith(\"innings \") || tail.startsWith(\"gone \") || OUT.test(tail)) return \"batter\";
+  if (tail.startsWith(\"end \")) return \"innings\";
+  if (!tail.startsWith(\"in \")) return state.wants === \"over\" ? \"over\" : \"ball\";
+  return vacant > came ? \"batter\" : state.over.length > 0 && state.wants !== \"bowler\" ? \"ball\" : \"bowler\";
+}
+
+// Who may come in, in the sheet's order.
+function comers() {
+  const gone = aheadLines().filter(line => line.startsWith(\"in \")).map(line => Number(line.slice(3)));
+  const all = state.may_come_in.length > 0 || !isAhead ? state.may_come_in : NUMBERS.filter(number => !innings() || !innings().batting.some(b => b.number === number));
+  return all.filter(number => !gone.includes(number));
+}
+
+const figures = number => innings() && innings().bowling.find(b => b.number === number);
+
+// Whether a bowler has bowled all overs that he has.
+function isBowledOut(number) {
+  const most = state.board.limits && state.board.limits.overs_a_bowler;
+  const row = figures(number);
+  return Boolean(most && row && parseInt(row.overs, 10) >= most);
+}
+
+// Who may bowl: first who bowled the over before the last, then who bowled of late, then the others.
+function bowlers() {
+  const isOverCalled = aheadLines().length > 0 && wants() === \"bowler\";
+  const may = isOverCalled || state.may_bowl.length === 0 ? NUMBERS : state.may_bowl;
+  const barred = isOverCalled ? told.bowls : null;
+  const spells = isOverCalled ? [...told.spells, told.bowls] : told.spells;
+  const late = [...spells.slice(0, -1).reverse(), ...spells.slice(-1), ...(innings() ? innings().bowling.map(b => b.number) : []), ...NUMBERS];
+  const all = [...new Set(late)].filter(number => may.includes(number) && number !== barred);
+  return [...all.filter(number => !isBowledOut(number)), ...all.filter(isBowledOut)];
+}
+
+function bowlerFigures(number) {
+  const row = figures(number);
+  return row ? row.overs + \"-\" + row.maidens + \"-\" + row.runs + \"-\" + row.wickets : \"\";
+}
+
+const ofBowler = number => number + (isBowledOut(number) ? \"  all bowled \" : \"  \") + bowlerFigures(number);
+
+// ---- Questions with many answers.
+let questions = [];      // those that are open, one behind the other
+let begun = \"\";          // the place at which the first was asked
+let opener = null;       // what had the focus before
+
+function ask(title, options, then) {
+  if (questions.length === 0) {
+    begun = position();
+    opener = document.activeElement;
+  }
+  questions.push({ title, options, then });
+  drawSheet();
+}
+
+function choice([text, value, small, kind], then) {
+  const made = element(\"button\", text, kind);
+  made.type = \"button\";
+  if (small) made.append(element(\"small\", small));
+  made.addEventListener(\"click\", () => then(value, text));
+  return made;
+}
+
+function drawSheet() {
+  const top = questions[questions.length - 1];
+  at(\"sheet\").hidden = !top;
+  at(\"desk\").inert = Boolean(top);
+  if (!top) return;
+  put(\"question\", top.title);
+  put(\"back\", questions.length > 1 ? \"Back\" : \"Cancel\");
+  at(\"ask\").hidden = top.options.length > 0;
+  at(\"choices\").replaceChildren(...top.options.map(option => choice(option, top.then)));
+  at(\"card\").scrollTop = 0;
+  at(\"question\").focus();
+}
+
+function closeSheet() {
+  if (questions.length === 0) return;
+  questions = [];
+  drawSheet();
+  if (opener && opener.isConnected) opener.focus({ preventScroll: true });
+}
+
+function back() {
+  if (questions.length <= 1) {
+    closeSheet();
+    return show();
+  }
+  questions.pop();
+  drawSheet();
+}
+
+const people = (side, numbers, small) => numbers.map(number => [name(side, number), number, small ? small(number) : String(number)]);
+
+function askFielder(title, then) {
+  const of = other(batsThere());
+  const eleven = people(of, NUMBERS, number => number + (number === state.board.now.bowler ? \" bowler\" : \"\"));
+  ask(title, [...eleven, [\"Substitute\", SUBSTITUTE, \"\", \"second\"], [\"Not known\", 0, \"\", \"second\"]],
+    number => then(number, number === 0 ? \"\" : \" by \" + (number === SUBSTITUTE ? \"a substitute\" : name(of, number))));
+}
+
+function askBowler(then) {
+  ask(\"Who bowls?\", people(other(batting()), bowlers(), ofBowler), then);
+}
+
+// A delivery. The first of an over is written with its bowler.
+function ball(line, label) {
+  const needs = amend === null && bowler === null && wants() === \"bowler\";
+  const own = needs && differs() && told.differs && /^ball (\\d+) /.exec(told.differs.you);
+  if (own) bowler = Number(own[1]);
+  if (needs && !own) return askBowler(number => { bowler = number; ball(line, label); });
+  if (amend !== null || bowler === null) return write(line, label);
+  write(bowler + \": \" + line, name(other(batting()), bowler) + \": \" + label);
+}
+
+const RUN_LABELS = { \".\": \"no run\", 1: \"1 run\", 2: \"2 runs\", 3: \"3 runs\", 4: \"four\", 6: \"six\" };
+
+function wide() {
+  const options = [[\"Wide only\", \"wd\"], [\"and 1 run\", \"wd1\"], [\"and 2\", \"wd2\"], [\"and 3\", \"wd3\"], [\"to the boundary\", \"wd4\"],
+    [\"Stumped\", \"st\", \"off a Wide\", \"second\"], [\"Run out\", \"ro\", \"off a Wide\", \"second\"]];
+  ask(\"Wide\", options, (value, text) => {
+    if (value === \"st\") return askFielder(\"Stumped by\", (number, by) => ball(\"wd stumped \" + number, \"Wide, stumped\" + by));
+    if (value === \"ro\") return runOut(\"wd\");
+    ball(value, value === \"wd\" ? \"Wide\" : \"Wide \" + text);
+  });
+}
+
+function noBall() {
+  const bat = [[\"No ball only\", \"nb\"], [\"1\", \"nb1\", \"off the bat\"], [\"2\", \"nb2\", \"off the bat\"], [\"3\", \"nb3\", \"off the bat\"],
+    [\"4\", \"nb4\", \"boundary, bat\"], [\"6\", \"nb6\", \"off the bat\"]];
+  const others = [[\"1\", \"nbb1\", \"bye\"], [\"2\", \"nbb2\", \"byes\"], [\"4\", \"nbb4\", \"byes, boundary\"],
+    [\"1\", \"nblb1\", \"leg bye\"], [\"2\", \"nblb2\", \"leg byes\"], [\"4\", \"nblb4\", \"leg byes, boundary\"], [\"Run out\", \"ro\", \"off a No ball\"]];
+  const options = [...bat, ...others.map(([text, value, small]) => [text, value, small, \"second\"])];
+  ask(\"No ball\", options, value => {
+    const small = options.find(option => option[1] === value);
+    if (value === \"ro\") return runOut(\"nb\");
+    ball(value, value === \"nb\" ? \"No ball\" : \"No ball, \" + small[0] + \" \" + small[2]);
+  });
+}
+
+function byes(letters, word) {
+  const options = [1, 2, 3].map(count => [String(count), letters + count]);
+  const fours = [[\"4\", letters + \"4\", \"boundary\"], [\"4\", (letters === \"b\" ? \"bye\" : \"leg\") + \" 4\", \"all run\"]];
+  ask(word + \"s\", [...options, ...fours], (value, text) => ball(value, one(Number(text), word.toLowerCase())));
+}
+
+function askEnd(title, then) {
+  const of = number => amend || number === null ? \"\" : batter(number);
+  ask(title, [[\"Striker\", \"striker\", of(state.board.now.striker)], [\"Other batter\", \"other\", of(state.board.now.other)]],
+    who => then(who, who === \"striker\" ? of(state.board.now.striker) || \"the striker\" : of(state.board.now.other) || \"the other batter\"));
+}
+
+const RUN_OUT_OFF = [[\"Byes\", \"b\"], [\"Leg byes\", \"lb\"], [\"Off a Wide\", \"wd\"], [\"Off a No ball\", \"nb\"]];
+const RUN_OUT_OF = { \"\": \"\", b: \", byes\", lb: \", leg byes\", wd: \" off a Wide\", nb: \" off a No ball\" };
+
+// Runs that were completed, who, by whom, and whether they had crossed in the next.
+function runOut(kind) {
+  const runs = [0, 1, 2, 3].map(count => [String(count), count, count === 0 ? \"none completed\" : \"completed\"]);
+  const kinds = kind === \"\" ? RUN_OUT_OFF.map(([text, value]) => [text, value, \"\", \"second\"]) : [];
+  ask(\"Run out\" + RUN_OUT_OF[kind] + \": runs\", [...runs, ...kinds], count => {
+    if (typeof count === \"string\") return runOut(count);
+    const front = count > 0 ? kind + count : kind === \"wd\" || kind === \"nb\" ? kind : \"\";
+    askEnd(\"Who is out?\", (who, whose) => askFielder(\"Run out by\", (number, by) => askCrossed(crossed => {
+      const parts = [front, \"runout\", who, number, crossed];
+      ball(parts.filter(part => part !== \"\").join(\" \"), (count > 0 ? one(count, \"run\") + \", \" : \"\") + whose + \" run out\" + by);
+    })));
+  });
+}
+
+const askCrossed = then => ask(\"Had they crossed in another run?\", [[\"No\", \"\"], [\"Yes, crossed\", \"crossed\"]], then);
+
+const WAYS = [[\"Bowled\", \"bowled\"], [\"Caught\", \"caught\"], [\"LBW\", \"lbw\"], [\"Run out\", \"runout\"], [\"Stumped\", \"stumped\"], [\"Hit wicket\", \"hitwicket\"],
+  [\"Obstructing\", \"obstructing\", \"the field\", \"second\"], [\"Hit twice\", \"hittwice\", \"\", \"second\"], [\"Timed out\", \"timedout\", \"\", \"second\"],
+  [\"Retired out\", \"retiredout\", \"\", \"second\"], [\"Retired hurt\", \"retiredhurt\", \"no wicket\", \"second\"], [\"Run out\", \"gone runout\", \"no ball bowled\", \"second\"]];
+
+function wicket() {
+  ask(\"How out?\", WAYS, (how, text) => {
+    if (how === \"caught\" || how === \"stumped\") return askFielder(text + \" by\", (number, by) => ball(how + \" \" + number, how + by));
+    if (how === \"runout\") return runOut(\"\");
+    if (how === \"obstructing\") return askEnd(\"Who is out?\", (who, whose) => ball(\"obstructing \" + who, whose + \" obstructing the field\"));
+    if (how === \"timedout\") return ask(\"Who is timed out?\", people(batting(), comers()), (number, text) => write(\"gone timedout \" + number, text + \" is timed out\"));
+    if (how === \"retiredout\" || how === \"retiredhurt\" || how === \"gone runout\") return leave(how.replace(\"gone \", \"\"));
+    ball(how, HOW[how]);
+  });
+}
+
+// A batter leaves between deliveries.
+function leave(how) {
+  const { striker, other } = state.board.now;
+  const in_ = (how === \"runout\" ? [other] : [striker, other]).filter(number => number !== null);
+  ask(\"Who?\", people(batting(), in_), (number, text) => write(\"gone \" + how + \" \" + number, text + \" \" + LEFT[how]));
+}
+
+function sides() {
+  const last = innings() ? batting() : null;
+  return (last === \"home\" ? [\"away\", \"home\"] : [\"home\", \"away\"]).map(side => [state.sides[side].name, side]);
+}
+
+const begin = side => write(\"innings \" + side, state.sides[side].name + \" bats\");
+const comeIn = number => write(\"in \" + number, batter(number) + \" comes in\");
+
+// The balls of the over that is open that count.
+const balls = () => Number(innings().overs.split(\".\")[1]);
+const over = () => write(\"/\", \"over\" + (isAhead || balls() === 6 ? \"\" : \", \" + one(balls(), \"ball\")));
+const askComer = () => ask(\"Who comes in?\", people(batting(), comers()), comeIn);
+const askInnings = () => ask(\"Whose innings?\", sides(), begin);
+
+// The causes of an innings' end, those that seem to hold first.
+function endings() {
+  const all = [[\"All out\", \"allout\"], [\"Declared\", \"declared\"], [\"Overs bowled\", \"overs\"], [\"No batter left\", \"nobatter\"], [\"Forfeited\", \"forfeited\"]];
+  const isAllOut = innings() && innings().wickets === 10;
+  const first = isAllOut ? \"allout\" : state.board.now.overs_left === 0 ? \"overs\" : comers().length === 0 && wants() === \"batter\" ? \"nobatter\" : null;
+  return [...all.filter(([, cause]) => cause === first), ...all.filter(([, cause]) => cause !== first)];
+}
+
+const endInnings = cause => write(\"end \" + cause, \"the innings ends, \" + ENDS[cause]);
+const askEnding = () => ask(\"The innings ends\", endings(), endInnings);
+
+// The Laws under which the umpires award five runs, and to whom they mostly go.
+const LAWS = [[\"24.4\", \"came back without leave\", \"field\"], [\"28.2\", \"ball fielded illegally\", \"field\"], [\"28.3\", \"helmet on the ground\", \"field\"],
+  [\"41.2\", \"unfair action\", \"\"], [\"41.3\", \"the ball's condition\", \"\"], [\"41.4\", \"striker distracted\", \"field\"], [\"41.5\", \"batter deceived\", \"field\"],
+  [\"41.9\", \"time wasted in the field\", \"field\"], [\"41.10\", \"time wasted by a batter\", \"bat\"], [\"41.12\", \"pitch damaged by a fielder\", \"field\"],
+  [\"41.14\", \"pitch damaged by a batter\", \"bat\"], [\"41.15\", \"striker in protected area\", \"bat\"], [\"41.17\", \"stealing a run\", \"bat\"],
+  [\"42.2\", \"conduct, level 1\", \"\"], [\"42.3\", \"conduct, level 2\", \"\"], [\"42.4\", \"conduct, level 3\", \"\"]];
+
+function penalty() {
+  ask(\"Five runs, by which Law?\", [...LAWS.map(([law, words]) => [law, law, words]), [\"Another\", null, \"to be typed\", \"second\"]], law => {
+    if (law === null) return typeIt(\"penalty \" + batting() + \" \");
+    const offender = LAWS.find(it => it[0] === law)[2];
+    const first = offender === \"bat\" ? other(batting()) : batting();
+    ask(\"Law \" + law + \": runs to\", [first, other(first)].map(side => [state.sides[side].name, side]), side => {
+      const line = \"penalty \" + side + \" \" + law.replace(\".\", \" \");
+      write(line, inWords(line));
+    });
+  });
+}
+
+function shortRuns() {
+  ask(\"Short: runs that count\", [0, 1, 2, 3].map(count => [String(count), count]), count => ask(\"How many were short?\", [[\"1\", 1], [\"2\", 2]], few =>
+    ball((count > 0 ? count : \".\") + \" short \" + few, one(count, \"run\") + \", \" + few + \" short\")));
+}
+
+function overthrows() {
+  ask(\"Overthrows to the boundary: runs before\", [0, 1, 2, 3].map(count => [String(count), count]), count =>
+    ball((count > 0 ? count : \".\") + \" overthrow\", one(count, \"run\") + \" and four overthrows\"));
+}
+
+// The entries that rows still tell, as they stand, the newest first.
+function earlier() {
+  const places = [...told.entries.keys()].sort((a, b) => b - a).slice(0, 60);
+  ask(\"Which entry was wrong?\", places.map(place => [capital(entryWords(place)), place, \"place \" + place]), place => {
+    closeSheet();
+    beginAmend(place, \"fix\");
+  });
+}
+
+const MORE = {
+  all4: [\"4 all run\", \"\", () => ball(\"bat 4\", \"4 all run\")],
+  five: [\"5 run\", \"\", () => ball(\"5\", \"5 runs\")],
+  short: [\"Short run\", \"\", shortRuns],
+  overthrow: [\"Overthrows\", \"to the boundary\", overthrows],
+  dead: [\"Dead ball\", \"doesn't count\", () => ball(\"dead\", \"dead ball\")],
+  comer: [\"Batter in\", \"\", askComer],
+  hurt: [\"Retired hurt\", \"\", () => leave(\"retiredhurt\")],
+  swap: [\"Change ends\", \"by the umpires\", () => write(\"swap\", \"the batters change ends\")],
+  penalty: [\"Penalty runs\", \"\", penalty],
+  earlier: [\"Put right\", \"an earlier entry\", earlier],
+  undo: [\"Strike out\", \"the last entry\", () => write(\"undo\", \"the last entry is struck out\")],
+  innings: [\"Innings\", \"begins\", askInnings],
+  ending: [\"Innings\", \"ends\", askEnding],
+  close: [\"Match\", \"is closed\", () => write(\"close\", \"the match is closed\")],
+};
+const QUESTIONS = [[\"Check\", \"score\", \"score\"], [\"Bowlers\", \"bowlers\", \"who may bowl\"],
+  [\"Last entries\", \"list 30\", \"list\"], [\"Cards\", \"card\", \"of both sides\"], [\"Rows\", \"\", \"and any line\"]];
+
+function more() {
+  const lines = mayWrite() ? Object.entries(MORE).filter(([key]) => !(isAhead && key === \"undo\")).map(([key, [text, small]]) => [text, key, small]) : [];
+  const asks = QUESTIONS.map(([text, value, small]) => [text, \"? \" + value, small, \"second\"]);
+  ask(\"More\", [...lines, ...asks], key => {
+    if (key === \"? \") { closeSheet(); return openTold(); }
+    if (key.startsWith(\"? \")) return question(key.slice(2));
+    MORE[key][2]();
+  });
+}
+
+function anotherBowler() {
+  if (amend) return otherBowler();
+  askBowler(number => { closeSheet(); choose(number); });
+}
+
+const PADS = { wide, noball: noBall, bye: () => byes(\"b\", \"Bye\"), legbye: () => byes(\"lb\", \"Leg bye\"), wicket, over, bowler: anotherBowler, more };
+
+// Puts an entry right: what is tapped next is what it was, or what was left out behind it.
+function beginAmend(place, kind) {
+  amend = { place, kind };
+  note = null;
+  show();
+}
+
+function endAmend() {
+  amend = null;
+  show();
+}
+
+function otherBowler() {
+  const line = told.entries.get(amend.place) || \"\";
+  if (!line.startsWith(\"ball \")) return;
+  ask(\"Who bowled it?\", people(other(batsThere()), NUMBERS), (number, text) => write(line.replace(/^ball \\d+/, \"ball \" + number), text + \" bowled it\"));
+}
+
+// ---- What the scorer is told and asked: the first of these that holds.
+function lostView() {
+  if (state && !isLost()) return null;
+  if (!state && isOpen) return { kind: \"\", head: \"Waiting for the desk\", detail: \"\" };
+  const why = note && note.kind === \"bad\" ? note.head + \". \" + note.detail + \"\\n\" : \"\";
+  return { kind: \"bad\", head: \"The desk isn't reached\", detail: why + \"Nothing is written here until it is back. The desk's own keyboard goes on.\" };
+}
+
+function formatView() {
+  if (isKnown()) return null;
+  return { kind: \"bad\", head: \"Load this page again\", detail: \"The desk's state is of another version.\" };
+}
+
+function secretView() {
+  if (secret !== null) return null;
+  const why = note ? note.head + \". \" + note.detail + \"\\n\" : \"\";
+  const detail = why + \"Open the link that the desk tells, or type what stands behind # in it.\";
+  return { kind: why ? \"bad\" : \"wait\", head: \"This page can't write yet\", detail, answers: [[\"Type it\", askSecret, \"\", \"main\"]] };
+}
+
+function heldView() {
+  if (held) return { kind: \"go\", head: \"Writing: \" + held.label, detail: held.line, answers: [[\"Take back\", takeBack]] };
+  return sent ? { kind: sent.isQuestion ? \"\" : \"go\", head: (sent.isQuestion ? \"Asking: \" : \"Writing: \") + sent.label, detail: sent.isQuestion ? \"\" : sent.line } : null;
+}
+
+function noteView() {
+  return note ? { kind: note.kind, head: note.head, detail: note.detail, answers: [[\"OK\", () => { note = null; show(); }]] } : null;
+}
+
+const bothWords = line => inWords(line) + \"  (\" + line + \")\";
+
+function differsView() {
+  if (!differs() || amend) return null;
+  const two = told.differs && told.differs.place === state.place ? told.differs : null;
+  const third = { innings: [\"Another side\", askInnings], batter: [\"Another\", askComer] }[state.wants];
+  const lines = two ? [\"You: \" + bothWords(two.you), \"The other: \" + bothWords(two.other)] : [];
+  const detail = [...lines, \"Talk, then both write what it was.\", two && two.dropped || \"\"].join(\"\\n\").trim();
+  const mine = [\"Mine stands\", () => write(\"again\", \"mine stands\" + (two ? \", \" + inWords(two.you) : \"\"))];
+  const others = two ? [[\"The other's\", () => write(two.other, inWords(two.other))]] : [];
+  return { kind: \"bad\", head: \"You two differ at place \" + state.place, detail, answers: [mine, ...others, ...(third ? [third] : [])] };
+}
+
+// What may be tapped beside the pads where an entry is put right.
+function changes(line) {
+  if (line.startsWith(\"ball \")) return [[\"Bowler\", otherBowler, \"another\"]];
+  return line.startsWith(\"in \") ? [[\"Batter\", () => ask(\"Who came in?\", people(batsThere(), NUMBERS), comeIn), \"another\"]] : [];
+}
+
+function amendView() {
+  if (!amend) return null;
+  const { place, kind } = amend;
+  const cancel = [\"Cancel\", endAmend];
+  if (kind === \"late\") return { kind: \"wait\", head: \"What came after place \" + place + \"?\", detail: \"It stands after: \" + entryWords(place) + \".\\nTap what was left out.\", answers: [cancel] };
+  const gone = [\"Void\", () => write(\"void\", \"nothing\"), \"it was none\"];
+  const more = [\"Add\", () => beginAmend(place, \"late\"), \"one after\"];
+  const answers = [gone, more, ...changes(told.entries.get(place) || \"\"), cancel];
+  return { kind: \"wait\", head: \"What was place \" + place + \"?\", detail: \"It stands as: \" + entryWords(place) + \".\\nTap what it was.\", answers };
+}
+
+function writeAhead() {
+  isAhead = true;
+  settles = now() + SETTLE;
+  show();
+}
+
+function notAhead() {
+  isAhead = false;
+  show();
+}
+
+const UNHEARD = \"The other desk isn't heard: look at its laptop and the network.\";
+
+function pendingView() {
+  if (state.pending === null || isAhead) return null;
+  const last = state.held[state.held.length - 1];
+  const kept = [\"Kept: \" + inWords(state.pending) + \".\", told.isHeard ? \"\" : UNHEARD, last === undefined ? \"\" : \"Then: \" + state.held.join(\", \")];
+  const back = last === undefined ? [] : [[\"Take back\", () => send(\"undo\", \"take back \" + last, position()), last]];
+  const detail = kept.filter(text => text).join(\"\\n\");
+  return { kind: \"wait\", head: \"Waiting for the other scorer\", detail, answers: [[\"Write ahead\", writeAhead, \"the next line\"], ...back] };
+}
+
+// The two that are likely, and the way to the others.
+function some(options, then, more) {
+  const likely = options.slice(0, 2).map(([text, value, small]) => [text, () => then(value), small, \"main\"]);
+  return options.length > 2 ? [...likely, [\"Another\", more]] : likely;
+}
+
+// Whether the innings has had all its overs.
+const isBowledOff = () => state.board.now.overs_left === 0 && aheadLines().length === 0;
+
+function batterAsked() {
+  const { striker, other: far } = state.board.now;
+  const options = people(batting(), comers());
+  if (options.length === 0 || innings().wickets === 10 || isBowledOff()) return { head: \"The innings ends?\", answers: some(endings(), endInnings, askEnding) };
+  const isFirst = innings().batting.length === 0 && aheadLines().length === 0;
+  const isSecond = innings().batting.length === 1 && striker !== null && far === null;
+  return { head: isFirst ? \"Who takes strike?\" : isSecond ? \"Who is at the other end?\" : \"Who comes in?\", answers: some(options, comeIn, askComer) };
+}
+
+function choose(number) {
+  bowler = number;
+  show();
+}
+
+function bowlerAsked() {
+  const check = isAhead ? \"\" : told.check.join(\"\\n\");
+  if (isBowledOff() && bowler === null) {
+    const end = [\"End innings\", () => endInnings(\"overs\"), \"overs bowled\", \"main\"];
+    return { head: \"Its overs are bowled\", detail: check, answers: [end, [\"Another\", askEnding, \"cause\"], [\"Bowler\", anotherBowler, \"goes on\"]] };
+  }
+  if (bowler !== null) return { head: name(other(batting()), bowler) + \" bowls\", detail: (\"Tap the first ball.\\n\" + check).trim(), answers: [[\"Another bowler\", anotherBowler]] };
+  const options = people(other(batting()), bowlers(), number => isBowledOut(number) ? \"all bowled\" : bowlerFigures(number) || String(number));
+  return { head: check ? \"Who bowls? Read the check\" : \"Who bowls?\", detail: check, answers: some(options, choose, anotherBowler) };
+}
+
+const isClosed = () => [...told.entries.values()].includes(\"close\");
+
+function inningsAsked() {
+  if (isClosed()) return { head: \"The match is closed\", detail: state.board.now.result || \"\" };
+  const head = state.board.innings.length === 0 ? \"The toss: who bats first?\" : \"Who bats now?\";
+  return { head, answers: sides().map(([text, side]) => [text, () => begin(side), \"\", \"main\"]) };
+}
+
+function nothingAsked() {
+  const head = state.board.now.result || \"The match is decided\";
+  if (isClosed()) return { head, detail: \"The match is closed.\" };
+  return { head, detail: \"Read the cards to each other, then close it.\", answers: [[\"Close the match\", MORE.close[2], \"\", \"main\"]] };
+}
+
+const overAsked = () => ({ head: one(balls(), \"ball\") + \" are bowled\", detail: lastWords(), answers: [[\"Over\", over, \"\", \"main\"]] });
+const ASKED = { innings: inningsAsked, batter: batterAsked, bowler: bowlerAsked, over: overAsked, nothing: nothingAsked };
+const lastWords = () => told.last ? \"Agreed: \" + inWords(told.last.line) + \".\" : \"\";
+
+function askedView() {
+  const made = ASKED[wants()];
+  return made ? withNews({ kind: \"ask\", ...made() }) : null;
+}
+
+function readyView() {
+  const isOther = !isAhead && told.other === state.place;
+  const who = bowler !== null ? name(other(batting()), bowler) + \" bowls on. \" : \"\";
+  if (isOther) return withNews({ kind: \"wait\", head: \"The other has written\", detail: \"Write what you saw.\" }, true);
+  return withNews({ kind: told.isHeard ? \"\" : \"wait\", head: isAhead ? \"what came then?\" : who + \"What happened?\", detail: lastWords() });
+}
+
+// What is asked, with what is written ahead; or that the other has written, unless that is said, and that the other desk isn't heard.
+function withNews(view, isSaid) {
+  if (isAhead) {
+    const lines = aheadLines().map((line, n) => n === 0 ? inWords(line) : line);
+    return { ...view, kind: \"ask\", head: \"Ahead: \" + view.head, detail: \"After: \" + lines.join(\", \"), answers: [...(view.answers || []), [\"Not ahead\", notAhead]] };
+  }
+  const news = [told.other === state.place && !isSaid ? \"The other has written: write what you saw.\" : \"\", told.isHeard ? \"\" : UNHEARD, view.detail || \"\"];
+  return { ...view, detail: news.filter(text => text).join(\"\\n\") };
+}
+
+const VIEWS = [lostView, formatView, secretView, heldView, noteView, pendingView, amendView, differsView, askedView, readyView];
+
+// ---- Showing. Nothing is drawn anew under a finger: that would take the tap, or give it to something else.
+let isDown = false;      // a finger or a button is down
+let downSince = 0;
+let downAt = \"\";         // the place and the round then
+let drawn = {};          // what each part shows
+let drawnAt = \"\";        // the place and the round that are shown
+let answers = [];        // what the answers do
+let isLate = false;
+let isAtEnd = true;      // whether the last row is in sight
+
+function later() {
+  if (isLate) return;
+  isLate = true;
+  setTimeout(() => { isLate = false; show(); });
+}
+
+// Whether this is another value for a part than the one it shows.
+function isNew(part, value) {
+  const text = JSON.stringify(value);
+  if (drawn[part] === text) return false;
+  drawn[part] = text;
+  return true;
+}
+
+function drawAnswers(list) {
+  answers = list;
+  if (!isNew(\"answers\", list.map(([text, , small, kind]) => [text, small, kind]))) return;
+  const hadFocus = at(\"answers\").contains(document.activeElement);
+  const since = now();
+  const pressed = n => { if (now() - since > SETTLE && drawnAt === position()) answers[n][1](); };
+  at(\"answers\").replaceChildren(...list.map(([text, , small, kind], n) => choice([text, n, small, kind], pressed)));
+  if (hadFocus) (at(\"answers\").firstChild || at(\"message\")).focus({ preventScroll: true });
+}
+
+function drawState(view) {
+  at(\"state\").className = view.kind;
+  put(\"head\", view.head);
+  put(\"detail\", view.detail || \"\");
+  put(\"alarm\", view.kind === \"bad\" ? view.head + \". \" + (view.detail || \"\") : \"\");
+  drawAnswers(view.answers || []);
+}
+
+function creaseRow(kind, who, text) {
+  const made = element(\"tr\", undefined, kind);
+  const head = element(\"th\", who);
+  head.scope = \"row\";
+  if (kind === \"strike\") head.append(element(\"span\", \" on strike\", \"unseen\"));
+  made.append(head, element(\"td\", text));
+  return made;
+}
+
+function crease() {
+  const { striker, other: far, bowler: last } = state.board.now;
+  const of = (number, kind) => {
+    const b = number === null ? null : innings().batting.find(it => it.number === number);
+    return b ? [kind, b.name, b.runs + \" (\" + b.balls + \")\"] : [kind && \"\", \"\\u2013\", \"\"];
+  };
+  const who = bowler !== null ? bowler : last;
+  const bowls = who === null || who === undefined ? [\"bowls\", \"\\u2013\", \"\"] : [\"bowls\", name(other(batting()), who), bowlerFigures(who)];
+  return innings() ? [of(striker, \"strike\"), of(far, \"\"), bowls] : [[\"\", \"\\u2013\", \"\"], [\"\", \"\\u2013\", \"\"], [\"bowls\", \"\\u2013\", \"\"]];
+}
+
+function aim() {
+  const it = state.board.now;
+  if (it.result) return it.result;
+  const parts = [];
+  if (it.free_hit) parts.push(\"Free hit\");
+  if (it.needs !== null && it.needs !== undefined) parts.push(\"needs \" + it.needs + (it.balls_left ? \" off \" + it.balls_left : \"\"));
+  if (it.powerplay) parts.push(\"Powerplay \" + it.powerplay);
+  return parts.join(\" \\u00b7 \");
+}
+
+function drawScore() {
+  if (!isNew(\"score\", [version, bowler, told.side])) return;
+  const last = innings(), overs = state.board.now.overs;
+  put(\"team\", last ? last.team : \"No play yet\");
+  put(\"runs\", last ? last.runs + \"/\" + last.wickets : \"\");
+  put(\"overs\", last && !state.board.now.result ? last.overs + (overs ? \" of \" + overs : \"\") + \" overs\" : \"\");
+  put(\"which\", \"desk \" + state.desk.toUpperCase());
+  put(\"told-heading\", \"Told at desk \" + state.desk.toUpperCase() + \", place \" + state.place + \" next\");
+  put(\"aim\", aim());
+  at(\"crease\").tBodies[0].replaceChildren(...crease().map(row => creaseRow(...row)));
+  document.title = (last ? last.team + \" \" + last.runs + \"/\" + last.wickets : state.title) + \", desk \" + state.desk.toUpperCase();
+}
+
+const markKind = mark => mark.includes(\"W\") ? \"wicket\" : /[a-z]/.test(mark) ? \"extra\" : \"\";
+
+function drawMarks() {
+  const isOpenOver = state.board.now.this_over.length > 0;
+  put(\"over-heading\", isOpenOver || state.over.length === 0 ? \"This over\" : \"Last over\");
+  if (!isNew(\"marks\", [state.over, amend])) return;
+  at(\"marks\").replaceChildren(...state.over.map(({ place, mark }) => {
+    const item = element(\"li\");
+    const made = choice([mark === \".\" ? \"\\u2022\" : mark, place, \"\", markKind(mark)], () => { if (drawnAt === position() && mayWrite()) beginAmend(place, \"fix\"); });
+    made.setAttribute(\"aria-label\", \"Place \" + place + \", \" + (mark === \".\" ? \"no run\" : mark) + \": put it right\");
+    made.setAttribute(\"aria-pressed\", String(amend !== null && amend.place === place));
+    item.append(made);
+    return item;
+  }));
+  at(\"marks\").scrollLeft = 1e6;
+}
+
+// Which pads may be pressed.
+function padsOn() {
+  if (state === null || isLost() || now() < settles) return \"none\";
+  if (!mayWrite()) return held || sent || secret === null ? \"none\" : \"more\";
+  if (amend || differs()) return \"all\";
+  return { innings: \"more\", nothing: \"more\", batter: \"between\" }[wants()] || \"all\";
+}
+
+function isPadOn(key, on) {
+  if (on === \"between\" && key === \"over\") return state.board.now.this_over.length > 0;
+  return on === \"all\" || on !== \"none\" && key === \"more\" || on === \"between\" && key === \"wicket\";
+}
+
+function drawPads() {
+  const on = padsOn();
+  const due = state && mayWrite() && !amend && !differs() ? wants() : \"\";
+  if (!isNew(\"pads\", [on, due, bowler])) return;
+  for (const pad of at(\"pads\").children) {
+    const key = pad.dataset.pad || \"ball\";
+    pad.setAttribute(\"aria-disabled\", String(!isPadOn(key, on)));
+    if (key === \"over\") pad.classList.toggle(\"due\", due === \"over\");
+    if (key === \"bowler\") pad.classList.toggle(\"due\", due === \"bowler\" && bowler === null && state.board.now.overs_left !== 0);
+  }
+}
+
+function rowKind(row) {
+  if (/^\\d+ agreed: /.test(row)) return \"agreed\";
+  if (WRONG.test(row) || /^\\d+ differs/.test(row)) return \"wrong\";
+  return /^\\d+ (pending|held|next)|^page/.test(row) ? \"stands\" : \"\";
+}
+
+// The last row stays in sight, unless the scorer looks at earlier ones.
+function follows() {
+  if (isAtEnd) at(\"rows\").scrollTop = at(\"rows\").scrollHeight;
+}
+
+function drawRows() {
+  if (!isNew(\"rows\", [told.rows.length, told.rows[told.rows.length - 1], told.last])) return;
+  at(\"rows\").replaceChildren(...told.rows.map(row => element(\"div\", row || \" \", rowKind(row))));
+  follows();
+}
+
+function show() {
+  if (isDown && now() - downSince < HELD) return;
+  if (held && isLost()) tell(\"bad\", \"Not written: \" + drop(), UNREACHED);
+  drawState(VIEWS.reduce((found, make) => found || make(), null));
+  if (isKnown()) {
+    drawScore();
+    drawMarks();
+    drawPads();
+  }
+  drawRows();
+  drawnAt = position();
+  const wait = settles - now();
+  if (wait > 0) setTimeout(later, wait + 5);
+}
+
+// ---- Taps.
+function press(pad) {
+  const key = pad.dataset.pad || \"ball\";
+  if (drawnAt !== position()) return show();
+  if (!isPadOn(key, padsOn())) return;
+  if (pad.dataset.line) return ball(pad.dataset.line, RUN_LABELS[pad.dataset.line]);
+  PADS[key]();
+}
+
+// The finger is up, and what it tapped is done.
+function lift() {
+  isDown = false;
+  show();
+}
+
+let tapped = { time: -1e9, x: 0, y: 0 };
+
+// A second tap at once at the same spot is no tap, and a key that is held down is pressed once.
+function isTwice(event) {
+  if (event.detail === 0) return false;
+  const was = tapped;
+  tapped = { time: event.timeStamp, x: event.clientX, y: event.clientY };
+  return event.timeStamp - was.time < TWICE && Math.hypot(event.clientX - was.x, event.clientY - was.y) < NEAR;
+}
+
+// A finger that came down at another place, or another round, writes nothing here.
+function isMoved(event) {
+  return event.detail > 0 && now() - downSince < 2 * HELD && downAt !== position() && event.target.closest(\"#pads, #answers, #marks\") !== null;
+}
+
+function stop(event) {
+  event.stopImmediatePropagation();
+  event.preventDefault();
+}
+
+function openTold() {
+  at(\"told\").classList.add(\"open\");
+  isAtEnd = true;
+  follows();
+  at(\"told-heading\").focus();
+}
+
+// A line to be typed to its end.
+function typeIt(line) {
+  closeSheet();
+  openTold();
+  at(\"line\").value = line;
+  at(\"line\").focus();
+}
+
+function closeTold() {
+  at(\"told\").classList.remove(\"open\");
+  at(\"open-told\").focus();
+}
+
+function askSecret() {
+  ask(\"The secret of the desk's link\", [], () => {});
+}
+
+function useSecret(event) {
+  event.preventDefault();
+  const found = secretIn(at(\"answer\").value);
+  at(\"answer\").value = \"\";
+  if (found) { secret = found; note = null; }
+  closeSheet();
+  if (!found) tell(\"bad\", \"That is no secret\", \"It has 32 digits and letters from a to f.\");
+  show();
+}
+
+function typeLine(event) {
+  event.preventDefault();
+  const line = at(\"line\").value.trim();
+  if (line === \"\") return;
+  if (/^(quit|exit)\\b/.test(line)) return tell(\"bad\", \"Not written: \" + line, \"A desk is ended at its own keyboard.\");
+  if (secret === null || isLost() || held || sent) return tell(\"bad\", \"Not written: \" + line, isLost() ? UNREACHED : \"This page can't write now.\");
+  at(\"line\").value = \"\";
+  send(line, line, position());
+}
+
+addEventListener(\"click\", event => { if (event.target.closest(\"button\") && (isTwice(event) || isMoved(event))) stop(event); }, true);
+addEventListener(\"keydown\", event => { if (event.repeat && event.target.closest(\"button\") && (event.key === \"Enter\" || event.key === \" \")) stop(event); }, true);
+addEventListener(\"keydown\", event => {
+  if (event.key !== \"Escape\") return;
+  if (questions.length > 0) back();
+  else if (held) takeBack();
+  else if (at(\"told\").classList.contains(\"open\")) closeTold();
+  else if (amend) endAmend();
+});
+addEventListener(\"pointerdown\", () => { isDown = true; downSince = now(); downAt = position(); }, true);
+addEventListener(\"pointerup\", () => { const since = downSince; setTimeout(() => { if (since === downSince) lift(); }, LIFTED); }, true);
+addEventListener(\"pointercancel\", lift, true);
+addEventListener(\"click\", lift);
+at(\"pads\").addEventListener(\"click\", event => { const pad = event.target.closest(\"button\"); if (pad) press(pad); });
+at(\"back\").addEventListener(\"click\", back);
+at(\"sheet\").addEventListener(\"click\", event => { if (event.target === at(\"sheet\")) back(); });
+at(\"open-told\").addEventListener(\"click\", openTold);
+at(\"close-told\").addEventListener(\"click\", closeTold);
+at(\"typed\").addEventListener(\"submit\", typeLine);
+at(\"ask\").addEventListener(\"submit\", useSecret);
+at(\"rows\").addEventListener(\"scroll\", () => { const rows = at(\"rows\"); isAtEnd = rows.scrollHeight - rows.scrollTop - rows.clientHeight < 40; });
+addEventListener(\"resize\", follows);
+addEventListener(\"hashchange\", readSecret);
+document.addEventListener(\"visibilitychange\", () => { if (!document.hidden && isLost()) listen(); });
+
+// Looks whether the desk is there, and asks anew where it isn't.
+function tick() {
+  if (isLost() && Date.now() - asked > LOST) listen();
+  if (sent && sent.isTaken && now() - sent.since > ANSWER) sent = null;
+  show();
+}
+
+setInterval(tick, 500);
+readSecret();
+listen();
+</script>
+</body>
+</html>
+";

@@ -1,0 +1,118 @@
+//! The lines that are posted to a desk.
+
+ghost use Rattle.std.specs.Prelude.{◌≡◌, ◌≤◌, ◌∷◌, ◌++◌, [], IfSome, MatchOption, MatchResult, None, Some, if◌then◌else◌, length, take};
+ghost use Rattle.posts.specs.Posts as posts;
+ghost use Rattle.posts.specs.Posts.{is_same_place};
+ghost use Rattle.viewers.specs.Inboxes as inboxes;
+
+use crate::asks::{Ask, Heading};
+use agree_core::Position;
+use arrayvec::ArrayVec;
+use posts::{Post, PostedLine, Posts, Refusal};
+
+/// The lines that were posted to a desk and that it hasn't taken yet, and who may post.
+#[derive(Drop)]
+pub struct Inbox {
+    posts: Posts,
+    at: Position,
+    lines: ArrayVec<PostedLine, 8>,
+}
+
+impl Inbox {
+    /// Of a desk whose page has this secret in its link. Nothing is posted yet.
+    pub fn new(secret: [u8; 16]) -> Inbox
+        ensures { result.lines.items ≡ [] }
+    {
+        Inbox {
+            posts: Posts::new(secret),
+            at: Position::FIRST,
+            lines: ArrayVec::new(),
+        }
+    }
+
+    /// The desk is at this position from here on. Lines that were meant for another one are dropped: it tells how many.
+    pub fn stand(&mut self, at: Position) -> usize
+        ensures at { self.new.at ≡ at }
+        ensures posts { self.new.posts ≡ self.old.posts }
+        ensures lines { self.new.lines.items ≡ (if is_same_place self.old.at at then self.old.lines.items else []) }
+        ensures dropped { result ≡ (if is_same_place self.old.at at then 0 else length self.old.lines.items) }
+    {
+        if self.at.place == at.place && self.at.round == at.round {
+            return 0;
+        }
+        let count = self.lines.len();
+        self.at = at;
+        self.lines.clear();
+        count
+    }
+
+    /// Whether a line waits.
+    pub fn has_lines(&self) -> bool {
+        !self.lines.is_empty()
+    }
+
+    /// Takes the oldest line, if there is one: it stands in front of the buffer.
+    pub fn next_line(&mut self, buffer: &mut [u8; 128]) -> Option<usize>
+        ensures line { MatchOption result ((self.old.lines.items ≡ []) × (self.new ≡ self.old))
+            (λ count. inboxes.lines_in self.old.lines ≡ take count buffer.new ∷ inboxes.lines_in self.new.lines) }
+        ensures count { IfSome result (λ count. count ≤ 128) }
+    {
+        if self.lines.is_empty() {
+            return None;
+        }
+        let line = self.lines.remove(0);
+        let count = line.len();
+        buffer[..count].copy_from_slice(line.as_slice());
+        Some(count)
+    }
+
+    /// Gives a nonce, if there is one.
+    fn give(&mut self) -> Ask
+        ensures lines { self.new.lines ≡ self.old.lines }
+    {
+        match self.posts.give() {
+            Some(nonce) => Ask::Given(nonce),
+            None => Ask::Missing,
+        }
+    }
+
+    /// What a post comes to: its line waits from here on, or why not.
+    fn posted(&mut self, post: &Post<'_>) -> Option<Refusal>
+        ensures comes_to { MatchResult (posts.verdict self.old.posts.secret self.old.posts.out post.now self.old.at (length self.old.lines.items))
+            (λ line. (result ≡ None) × (inboxes.lines_in self.new.lines ≡ inboxes.lines_in self.old.lines ++ line ∷ []))
+            (λ why. (result ≡ Some why) × (self.new.lines ≡ self.old.lines)) }
+        ensures out { self.new.posts.out ≡ posts.out_after self.old.posts.secret self.old.posts.out post.now }
+    {
+        match self.posts.judge(post, self.at, self.lines.len()) {
+            Ok(line) => {
+                self.lines.push(line);
+                None
+            }
+            Err(why) => Some(why),
+        }
+    }
+}
+
+/// Gives a nonce for a post at a desk.
+pub fn give(inbox: &mut Option<Inbox>) -> Ask {
+    match inbox {
+        Some(inbox) => inbox.give(),
+        None => Ask::Missing,
+    }
+}
+
+/// Takes a post of this line, and answers what it came to.
+pub fn take(inbox: &mut Option<Inbox>, heading: Heading, line: &[u8]) -> Ask {
+    let Some(inbox) = inbox else {
+        return Ask::Missing;
+    };
+    let post = Post {
+        is_from_here: heading.is_from_here,
+        stamp: heading.stamp,
+        line,
+    };
+    match inbox.posted(&post) {
+        None => Ask::Typed,
+        Some(why) => Ask::Faulty(why.status()),
+    }
+}
