@@ -3,4 +3,6 @@ pub mod Listed
 pub mod OverEnds
 pub mod OverWalk
 pub mod Plain
+pub mod Rooms
+pub mod Newest
 pub mod Columns

@@ -1,6 +1,7 @@
--- What is claimed: Row and OverCheck, both with Limited; Both, Listing, OverEntries, Sides, Waiting, Sentences, Near, Words,
+-- What is claimed: Row and OverCheck, both with Limited and Fit; Both, Listing, OverEntries, Sides, Waiting, Sentences, Near, Words,
 -- Help. inner: for private functions only.
 pub mod Limited
+pub mod Fit
 pub mod Row
 pub mod OverCheck
 pub mod Both

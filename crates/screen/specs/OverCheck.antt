@@ -11,6 +11,7 @@ use Rattle.match_laws.specs.Result.{current}
 use Rattle.corrections.specs.Overs.{bowler_now, over_now}
 use Rattle.cards.specs.Sheet.{Sheet}
 use Rattle.cards.specs.Batting.{all_extras, extras_back}
+use Rattle.screen.specs.declared.form.Form.TheVariants.{Whole}
 use Rattle.screen.specs.Row.{total_text, batters, bowler, marks}
 use Rattle.screen.specs.Limited.{limits_line}
 
@@ -23,7 +24,7 @@ abbrev pub total_line : Sheet → History → ℕ → List ℕ
 total_line s h i = codes "  " ++ total_text s h i ++ extras_front (extras_of h i) ++ extras_back (extras_of h i)
 
 abbrev pub batters_line : Sheet → History → ℕ → List ℕ
-batters_line s h i = codes "  " ++ batters s h i ++ codes "\n"
+batters_line s h i = codes "  " ++ batters Whole s h i ++ codes "\n"
 
 -- the marks of an over, and all its runs
 abbrev pub over_text : List Ball → List ℕ
@@ -32,7 +33,7 @@ over_text over = codes " " ++ marks over ++ codes " = " ++ decimal (tally runs_o
 -- the bowler of the last delivery and its over, if there is one
 abbrev pub over_line : Sheet → History → ℕ → List Ball → List ℕ
 over_line s h i [] = []
-over_line s h i (b ∷ older) = bowler s h i (codes "  ") (bowler_now h) ++ over_text (b ∷ older)
+over_line s h i (b ∷ older) = bowler Whole s h i (bowler_now h) ++ over_text (b ∷ older)
 
 abbrev pub check_lines : Sheet → History → ℕ → List ℕ
 check_lines s h i = total_line s h i ++ batters_line s h i ++ over_line s h i (over_now h) ++ limits_line s h i

@@ -1,5 +1,6 @@
--- How a match stands, in one row. s is the sheet, n the innings a side, h the history and i the innings.
-use Rattle.std.specs.Prelude.{ℕ, ◌==◌, nat_le, if◌then◌else◌, Bool, false, not, ◌&&◌, List, [], ◌∷◌, ◌++◌, Option, Some, None, codes, decimal}
+-- How a match stands, in one row of at most 80 columns. s is the sheet, n the innings a side, h the history, i the innings
+-- and f what of it is shown.
+use Rattle.std.specs.Prelude.{ℕ, ◌==◌, nat_le, if◌then◌else◌, Bool, true, false, not, ◌&&◌, List, [], ◌∷◌, ◌++◌, Option, Some, None, codes, decimal}
 use Rattle.notation.specs.declared.entry.{Ball.Ball, Side.Side}
 use Rattle.ball_laws.specs.History.{History, open_over}
 use Rattle.ball_laws.specs.Laws.{state_after}
@@ -16,12 +17,22 @@ use Rattle.cards.specs.Sheet.{Sheet, name_of, player_of}
 use Rattle.cards.specs.Bowling.{fielding, overs_of}
 use Rattle.cards.specs.Marks.{mark_of}
 use Rattle.cards.specs.Results.{counted, result_text}
+use Rattle.screen.specs.declared.form.Form.{Form}
+use Rattle.screen.specs.declared.room.Room.{Room}
+use Rattle.screen.specs.Fit.{all_columns, behind, cut, first_fit, fits, has_team, is_left, letters}
 use Rattle.screen.specs.Limited.{free_text, left_now, of_overs, off_text, past}
+
+-- the total and the wickets
+abbrev pub runs_text : History → ℕ → List ℕ
+runs_text h i = decimal (total h i) ++ codes " for " ++ decimal (wickets h i)
 
 -- the side, its total and its wickets
 abbrev pub total_text : Sheet → History → ℕ → List ℕ
-total_text s h i =
-    name_of s (side_of h i) ++ codes " " ++ decimal (total h i) ++ codes " for " ++ decimal (wickets h i)
+total_text s h i = name_of s (side_of h i) ++ codes " " ++ runs_text h i
+
+-- the side, where it is shown
+abbrev pub team_text : Form → Sheet → History → ℕ → List ℕ
+team_text f s h i = if has_team f then name_of s (side_of h i) ++ codes " " else []
 
 -- the overs called, and the counting deliveries since
 abbrev pub overs_front : History → ℕ → List ℕ
@@ -31,17 +42,21 @@ overs_front h i = codes " (" ++ decimal (overs h i) ++ codes "." ++ decimal (bal
 abbrev pub overs_text : Sheet → History → ℕ → List ℕ
 overs_text s h i = overs_front h i ++ of_overs (overs_for s.limits i) ++ codes ")"
 
--- who is at an end, with his runs and the balls that he faced, and this behind
-abbrev pub batter : Sheet → History → ℕ → List ℕ → Option ℕ → List ℕ
-batter s h i behind None = codes "-"
-batter s h i behind (Some p) =
-    player_of s (side_of h i) p ++ codes " " ++ decimal (batter_runs h i p)
-    ++ codes " (" ++ decimal (faced h i p) ++ codes ")" ++ behind
+-- runs and the balls faced, with this mark behind
+abbrev pub batter_figures : ℕ → ℕ → List ℕ → List ℕ
+batter_figures runs balls_faced mark =
+    codes " " ++ decimal runs ++ codes " (" ++ decimal balls_faced ++ codes ")" ++ mark
+
+-- who is at an end, with this mark behind
+abbrev pub batter : Form → Sheet → History → ℕ → List ℕ → Option ℕ → List ℕ
+batter f s h i mark None = codes "-"
+batter f s h i mark (Some p) =
+    cut (letters f) (player_of s (side_of h i) p) ++ batter_figures (batter_runs h i p) (faced h i p) mark
 
 -- the striker, and the batter at the other end
-abbrev pub batters : Sheet → History → ℕ → List ℕ
-batters s h i =
-    batter s h i (codes "*") (state_after h).ends.striker ++ codes "  " ++ batter s h i [] (state_after h).ends.other
+abbrev pub batters : Form → Sheet → History → ℕ → List ℕ
+batters f s h i =
+    batter f s h i (codes "*") (state_after h).ends.striker ++ codes "  " ++ batter f s h i [] (state_after h).ends.other
 
 -- overs, maidens, runs and wickets
 abbrev pub behind_overs : BowlingRow → List ℕ
@@ -51,13 +66,13 @@ abbrev pub figures : BowlingRow → List ℕ
 figures row = overs_of row ++ behind_overs row
 
 -- a bowler of the side, by his row
-abbrev pub bowler_text : Sheet → Side → ℕ → BowlingRow → List ℕ
-bowler_text s side p row = player_of s side p ++ codes " " ++ figures row
+abbrev pub bowler_text : Form → Sheet → Side → ℕ → BowlingRow → List ℕ
+bowler_text f s side p row = cut (letters f) (player_of s side p) ++ codes " " ++ figures row
 
--- who bowled the last delivery, if there is one, behind this
-abbrev pub bowler : Sheet → History → ℕ → List ℕ → Option ℕ → List ℕ
-bowler s h i before None = []
-bowler s h i before (Some p) = before ++ bowler_text s (fielding h i) p (bowling_row_of h i p)
+-- who bowled the last delivery, if there is one, behind two blanks
+abbrev pub bowler : Form → Sheet → History → ℕ → Option ℕ → List ℕ
+bowler f s h i None = []
+bowler f s h i (Some p) = codes "  " ++ bowler_text f s (fielding h i) p (bowling_row_of h i p)
 
 abbrev pub dead_mark : Bool → List ℕ
 dead_mark is_dead = if is_dead then codes "d" else []
@@ -71,10 +86,20 @@ abbrev pub marks : List Ball → List ℕ
 marks [] = []
 marks (b ∷ older) = marks older ++ spaced_mark b
 
--- the marks of the open over
-abbrev pub open_marks : List Ball → List ℕ
-open_marks [] = []
-open_marks (b ∷ older) = codes " " ++ marks (b ∷ older)
+-- before marks, where older ones are left out
+abbrev pub left_out : Bool → List ℕ
+left_out is_all = if is_all then [] else codes " .."
+
+-- the marks of the open over: all of its deliveries, or these newest ones
+abbrev pub open_marks : List Ball → Bool → List Ball → List ℕ
+open_marks [] is_all shown = []
+open_marks (b ∷ older) is_all shown = codes " " ++ left_out is_all ++ marks shown
+
+-- as many of the newest deliveries, the newest first, as have room for their marks
+abbrev pub newest : Room → List Ball → List Ball
+newest room [] = []
+newest room (b ∷ older) =
+    if is_left (behind room (spaced_mark b)) then b ∷ newest (behind room (spaced_mark b)) older else []
 
 -- a win by an innings and so many runs
 abbrev pub innings_win : Sheet → Side → ℕ → List ℕ
@@ -93,8 +118,8 @@ needs_row None (Some runs) (Some left) = codes "  needs " ++ decimal runs ++ off
 needs_row result runs left = []
 
 -- the row to the batters, and behind them
-abbrev pub front : Sheet → History → ℕ → List ℕ
-front s h i = total_text s h i ++ overs_text s h i ++ codes "  " ++ batters s h i
+unfoldable pub front : Form → Sheet → History → ℕ → List ℕ
+front f s h i = team_text f s h i ++ runs_text h i ++ overs_text s h i ++ codes "  " ++ batters f s h i
 
 -- an over without its last delivery
 abbrev pub older_of : List Ball → List Ball
@@ -119,15 +144,39 @@ over_end over =
     if nat_le 6 (counting over) then codes "  " ++ decimal (counting over) ++ codes " balls" ++ uncalled_text over
     else []
 
-abbrev pub back : Sheet → ℕ → History → ℕ → List ℕ
-back s n h i =
-    bowler s h i (codes "  ") (bowler_now h) ++ past s.limits.overs_a_bowler h (bowler_now h)
-    ++ open_marks (open_over h) ++ free_text s h
-    ++ aim (result_text s (outcome n h)) (runs_needed n h) (left_now s h i) ++ over_end (open_over h) ++ codes "\n"
+-- the bowler, and what is told of him
+abbrev pub bowling : Form → Sheet → History → ℕ → List ℕ
+bowling f s h i = bowler f s h i (bowler_now h) ++ past s.limits.overs_a_bowler h (bowler_now h)
 
-abbrev pub innings_row : Sheet → ℕ → History → ℕ → List ℕ
+unfoldable pub back : Form → Bool → List Ball → Sheet → ℕ → History → ℕ → List ℕ
+back f is_all shown s n h i =
+    bowling f s h i ++ open_marks (open_over h) is_all shown ++ free_text s h
+    ++ aim (result_text s (outcome n h)) (runs_needed n h) (left_now s h i) ++ over_end (open_over h)
+
+-- the row of an innings, with all marks of the open over or with these
+abbrev pub line : Form → Bool → List Ball → Sheet → ℕ → History → ℕ → List ℕ
+line f is_all shown s n h i = front f s h i ++ back f is_all shown s n h i
+
+unfoldable pub whole_line : Form → Sheet → ℕ → History → ℕ → List ℕ
+whole_line f s n h i = line f true (open_over h) s n h i
+
+-- with as many marks as there is room for
+unfoldable pub short_line : Form → Sheet → ℕ → History → ℕ → List ℕ
+short_line f s n h i =
+    line f false (newest (behind all_columns (line f false [] s n h i)) (open_over h)) s n h i
+
+-- the first form in which the row fits
+unfoldable pub form_of : Sheet → ℕ → History → ℕ → Form
+form_of s n h i = first_fit (λ f. fits (whole_line f s n h i))
+
+-- the row of an innings in a form, all of it where it fits
+unfoldable pub line_in : Form → Sheet → ℕ → History → ℕ → List ℕ
+line_in f s n h i = if fits (whole_line f s n h i) then whole_line f s n h i else short_line f s n h i
+
+unfoldable pub innings_row : Sheet → ℕ → History → ℕ → List ℕ
 innings_row s n h i =
-    front s h i ++ back s n h i ++ needs_row (result_text s (outcome n h)) (runs_needed n h) (left_now s h i)
+    line_in (form_of s n h i) s n h i ++ codes "\n"
+    ++ needs_row (result_text s (outcome n h)) (runs_needed n h) (left_now s h i)
 
 -- the innings begun last, or no play
 abbrev pub row : Sheet → ℕ → History → List ℕ

@@ -27,7 +27,8 @@ fn print_mark<W: Write>(out: &mut Watched<W>, mark: Mark) -> Result<(), WriteFai
     }
 }
 
-fn dead_mark(is_dead: bool) -> &'static str
+/// The letter behind the mark of a delivery that was ruled dead.
+pub fn dead_mark(is_dead: bool) -> &'static str
     ensures { result.now ≡ rows.dead_mark is_dead }
 {
     if is_dead { "d" } else { "" }

@@ -10,6 +10,7 @@ ghost use Rattle.cards.specs.Batting as card;
 ghost use Rattle.streams.specs.Watched.{Prints, has_failed};
 ghost use Rattle.screen.specs.OverCheck as check;
 
+use crate::form::Form;
 use crate::limited::print_limits;
 use crate::marks::{print_marks, runs_of};
 use crate::row::{print_batters, print_bowler, print_total};
@@ -81,7 +82,7 @@ fn print_batters_line<W: Write>(
     ensures failed { OnErr result (has_failed out.new ≡ true) }
 {
     write!(out, "  ")?;
-    print_batters(out, sheet, score, innings)?;
+    print_batters(out, Form::Whole, sheet, score, innings)?;
     writeln!(out)
 }
 
@@ -114,7 +115,7 @@ fn print_over_line<W: Write, B: BookOf>(
     if bowler.is_none() {
         return Ok(());
     }
-    print_bowler(out, sheet, book.score(), innings, "  ", bowler)?;
+    print_bowler(out, Form::Whole, sheet, book.score(), innings, bowler)?;
     print_over(out, overs.newest())
 }
 

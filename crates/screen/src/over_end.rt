@@ -73,7 +73,7 @@ fn are_two(bowler: Option<Player>, other: Option<Player>) -> bool
 }
 
 /// Whether six deliveries counted before the over's last one, and another bowled that than the one before it.
-fn is_uncalled(over: &[Placed]) -> bool
+pub fn is_uncalled(over: &[Placed]) -> bool
     requires { length over.now ≤ PLACES }
     ensures { result ≡ rows.is_uncalled (balls_of over.now) }
 {

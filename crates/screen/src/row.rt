@@ -1,27 +1,62 @@
-//! How a match stands, in one row.
+//! How a match stands, in one row of at most 80 columns.
 
-ghost use Rattle.std.specs.Prelude.{◌≡◌, ◌==◌, ◌<◌, ◌++◌, None, OnErr, OnOk, Some, codes, decimal, if◌then◌else◌, true};
+ghost use Rattle.std.specs.Prelude.{◌≡◌, ◌<◌, OnErr, OnOk, true};
 ghost use Rattle.match_laws.specs.History.{begun};
-ghost use Rattle.match_laws.specs.Result.{outcome};
 ghost use Rattle.match_laws.specs.Stands.{ForEachHistory, begun_in};
 ghost use Rattle.corrections.specs.CleanList.{history_of};
 ghost use Rattle.corrections.specs.Overs.{balls_of};
-ghost use Rattle.limits.specs.Figures as figures;
 ghost use Rattle.cards.specs.Bowling.{overs_of};
-ghost use Rattle.cards.specs.Results.{result_text};
 ghost use Rattle.streams.specs.Watched.{Prints, has_failed};
 ghost use Rattle.screen.specs.Row as rows;
 
-use crate::limited::{left_now, print_free, print_of, print_off, print_past};
+use crate::aim::{print_aim, print_needs_row};
+use crate::fit::{form_of, is_fit, shown_of};
+use crate::form::{Form, print_name};
+use crate::limited::{left_now, print_free, print_of, print_past};
 use crate::marks::print_marks;
 use crate::over_end::print_over_end;
 use cards::MatchSheet;
 use corrections::{BookOf, Placed, bowler_of, overs_of};
-use limits::runs_needed;
-use match_laws::{BowlingRow, Match, Outcome, opponent};
+use match_laws::{BattingRow, BowlingRow, Match, opponent};
 use notation::{Player, Side};
 use std::io::Write;
 use streams::{Watched, WriteFailed};
+
+/// Prints a total and its wickets.
+fn print_runs<W: Write>(
+    out: &mut Watched<W>,
+    score: &Match,
+    innings: usize,
+) -> Result<(), WriteFailed>
+    requires { innings < begun_in score.now }
+    ensures text { ForEachHistory score.now (λ n h.
+        OnOk result (Prints W.contents out.old out.new (rows.runs_text h innings))) }
+    ensures failed { OnErr result (has_failed out.new ≡ true) }
+{
+    let total = score.total(innings);
+    let wickets = score.wickets(innings);
+    write!(out, "{total} for {wickets}")
+}
+
+/// Prints the side, where it is shown.
+fn print_team<W: Write>(
+    out: &mut Watched<W>,
+    form: Form,
+    sheet: &MatchSheet,
+    score: &Match,
+    innings: usize,
+) -> Result<(), WriteFailed>
+    requires { innings < begun_in score.now }
+    ensures text { ForEachHistory score.now (λ n h.
+        OnOk result (Prints W.contents out.old out.new (rows.team_text form sheet.now h innings))) }
+    ensures failed { OnErr result (has_failed out.new ≡ true) }
+{
+    if !form.has_team() {
+        return Ok(());
+    }
+    let team = sheet.name(score.side(innings));
+    write!(out, "{team} ")
+}
 
 /// Prints the side, its total and its wickets.
 pub fn print_total<W: Write>(
@@ -36,9 +71,8 @@ pub fn print_total<W: Write>(
     ensures failed { OnErr result (has_failed out.new ≡ true) }
 {
     let team = sheet.name(score.side(innings));
-    let total = score.total(innings);
-    let wickets = score.wickets(innings);
-    write!(out, "{team} {total} for {wickets}")
+    write!(out, "{team} ")?;
+    print_runs(out, score, innings)
 }
 
 fn print_overs_front<W: Write>(
@@ -72,28 +106,46 @@ fn print_overs<W: Write>(
     write!(out, ")")
 }
 
-/// Prints who is at an end, with this behind.
+/// Prints a batter's runs and the balls that he faced, with this mark behind.
+fn print_batter_figures<W: Write>(
+    out: &mut Watched<W>,
+    row: &BattingRow,
+    mark: &str,
+) -> Result<(), WriteFailed>
+    ensures text { OnOk result (Prints W.contents out.old out.new
+        (rows.batter_figures row.now.runs row.now.faced mark.now)) }
+    ensures failed { OnErr result (has_failed out.new ≡ true) }
+{
+    let runs = row.runs;
+    let faced = row.faced;
+    write!(out, " {runs} ({faced}){mark}")
+}
+
+/// Prints who is at an end, with this mark behind.
 fn print_batter<W: Write>(
     out: &mut Watched<W>,
+    form: Form,
     sheet: &MatchSheet,
     score: &Match,
     innings: usize,
-    behind: &str,
+    mark: &str,
     batter: Option<Player>,
 ) -> Result<(), WriteFailed>
     requires { innings < begun_in score.now }
     ensures text { ForEachHistory score.now (λ n h.
-        OnOk result (Prints W.contents out.old out.new (rows.batter sheet.now h innings behind.now batter))) }
+        OnOk result (Prints W.contents out.old out.new (rows.batter form sheet.now h innings mark.now batter))) }
     ensures failed { OnErr result (has_failed out.new ≡ true) }
 {
     match batter {
         None => write!(out, "-"),
         Some(player) => {
-            let name = sheet.player(score.side(innings), player);
+            print_name(
+                out,
+                sheet.player(score.side(innings), player),
+                form.letters(),
+            )?;
             let row = score.batting_row(innings, player);
-            let runs = row.runs;
-            let faced = row.faced;
-            write!(out, "{name} {runs} ({faced}){behind}")
+            print_batter_figures(out, &row, mark)
         }
     }
 }
@@ -101,19 +153,20 @@ fn print_batter<W: Write>(
 /// Prints the striker, and the batter at the other end.
 pub fn print_batters<W: Write>(
     out: &mut Watched<W>,
+    form: Form,
     sheet: &MatchSheet,
     score: &Match,
     innings: usize,
 ) -> Result<(), WriteFailed>
     requires { innings < begun_in score.now }
     ensures text { ForEachHistory score.now (λ n h.
-        OnOk result (Prints W.contents out.old out.new (rows.batters sheet.now h innings))) }
+        OnOk result (Prints W.contents out.old out.new (rows.batters form sheet.now h innings))) }
     ensures failed { OnErr result (has_failed out.new ≡ true) }
 {
     let ends = score.ends();
-    print_batter(out, sheet, score, innings, "*", ends.striker)?;
+    print_batter(out, form, sheet, score, innings, "*", ends.striker)?;
     write!(out, "  ")?;
-    print_batter(out, sheet, score, innings, "", ends.other)
+    print_batter(out, form, sheet, score, innings, "", ends.other)
 }
 
 /// Prints the overs that a bowler bowled, and his balls of other overs.
@@ -149,255 +202,179 @@ fn print_figures<W: Write>(out: &mut Watched<W>, row: &BowlingRow) -> Result<(),
 /// Prints a bowler of the side, by his row.
 fn print_bowler_row<W: Write>(
     out: &mut Watched<W>,
+    form: Form,
     sheet: &MatchSheet,
     side: Side,
     player: Player,
     row: &BowlingRow,
 ) -> Result<(), WriteFailed>
-    ensures text { OnOk result (Prints W.contents out.old out.new (rows.bowler_text sheet.now side player row.now)) }
+    ensures text { OnOk result (Prints W.contents out.old out.new (rows.bowler_text form sheet.now side player row.now)) }
     ensures failed { OnErr result (has_failed out.new ≡ true) }
 {
-    let name = sheet.player(side, player);
-    write!(out, "{name} ")?;
+    print_name(out, sheet.player(side, player), form.letters())?;
+    write!(out, " ")?;
     print_figures(out, row)
 }
 
-/// Prints who bowled the last delivery, if there is one, behind this.
+/// Prints who bowled the last delivery, if there is one.
 pub fn print_bowler<W: Write>(
     out: &mut Watched<W>,
+    form: Form,
     sheet: &MatchSheet,
     score: &Match,
     innings: usize,
-    before: &str,
     bowler: Option<Player>,
 ) -> Result<(), WriteFailed>
     requires { innings < begun_in score.now }
     ensures text { ForEachHistory score.now (λ n h.
-        OnOk result (Prints W.contents out.old out.new (rows.bowler sheet.now h innings before.now bowler))) }
+        OnOk result (Prints W.contents out.old out.new (rows.bowler form sheet.now h innings bowler))) }
     ensures failed { OnErr result (has_failed out.new ≡ true) }
 {
     let Some(player) = bowler else {
         return Ok(());
     };
-    write!(out, "{before}")?;
+    write!(out, "  ")?;
     let row = score.bowling_row(innings, player);
-    print_bowler_row(out, sheet, opponent(score.side(innings)), player, &row)
+    print_bowler_row(
+        out,
+        form,
+        sheet,
+        opponent(score.side(innings)),
+        player,
+        &row,
+    )
 }
 
-/// Prints the marks of the open over.
-fn print_open_marks<W: Write>(out: &mut Watched<W>, over: &[Placed]) -> Result<(), WriteFailed>
-    ensures text { OnOk result (Prints W.contents out.old out.new (rows.open_marks (balls_of over.now))) }
+/// Prints that older marks are left out, where they are.
+fn print_left_out<W: Write>(out: &mut Watched<W>, is_all: bool) -> Result<(), WriteFailed>
+    ensures text { OnOk result (Prints W.contents out.old out.new (rows.left_out is_all)) }
+    ensures failed { OnErr result (has_failed out.new ≡ true) }
+{
+    if is_all { Ok(()) } else { write!(out, " ..") }
+}
+
+/// Prints the marks of the open over: all, or these.
+fn print_open_marks<W: Write>(
+    out: &mut Watched<W>,
+    over: &[Placed],
+    is_all: bool,
+    shown: &[Placed],
+) -> Result<(), WriteFailed>
+    ensures text { OnOk result (Prints W.contents out.old out.new
+        (rows.open_marks (balls_of over.now) is_all (balls_of shown.now))) }
     ensures failed { OnErr result (has_failed out.new ≡ true) }
 {
     if bowler_of(over).is_none() {
         return Ok(());
     }
     write!(out, " ")?;
-    print_marks(out, over)
+    print_left_out(out, is_all)?;
+    print_marks(out, shown)
 }
 
-/// Prints what is needed, where nothing limits the deliveries.
-fn print_needs<W: Write>(
+/// Prints the bowler of the last delivery, and whether he is past his overs.
+fn print_bowling<W: Write, B: BookOf>(
     out: &mut Watched<W>,
-    runs: Option<u32>,
-    left: Option<u32>,
-) -> Result<(), WriteFailed>
-    ensures text { OnOk result (Prints W.contents out.old out.new (rows.aim None runs left)) }
-    ensures failed { OnErr result (has_failed out.new ≡ true) }
-{
-    match (runs, left) {
-        (Some(runs), None) => write!(out, "  needs {runs}"),
-        _ => Ok(()),
-    }
-}
-
-/// Prints that so many runs are needed off so many deliveries, on a row of its own.
-fn print_needs_off<W: Write>(out: &mut Watched<W>, runs: u32, left: u32) -> Result<(), WriteFailed>
-    ensures text { OnOk result (Prints W.contents out.old out.new (rows.needs_row None (Some runs) (Some left))) }
-    ensures failed { OnErr result (has_failed out.new ≡ true) }
-{
-    write!(out, "  needs {runs}")?;
-    print_off(out, runs, left)?;
-    writeln!(out)
-}
-
-/// Prints what is needed off how many deliveries, where they are limited and the match isn't decided.
-fn print_needs_row<W: Write>(
-    out: &mut Watched<W>,
-    sheet: &MatchSheet,
-    score: &Match,
-    left: Option<u32>,
-) -> Result<(), WriteFailed>
-    ensures text { ForEachHistory score.now (λ n h. OnOk result (Prints W.contents out.old out.new
-        (rows.needs_row (result_text sheet.now (outcome n h)) (figures.runs_needed n h) left))) }
-    ensures failed { OnErr result (has_failed out.new ≡ true) }
-{
-    match (score.result(), runs_needed(score), left) {
-        (Outcome::Undecided, Some(runs), Some(left)) => print_needs_off(out, runs, left),
-        _ => Ok(()),
-    }
-}
-
-fn run_word(count: u32) -> &'static str
-    ensures { result.now ≡ (if count == 1 then codes "run" else codes "runs") }
-{
-    if count == 1 { "run" } else { "runs" }
-}
-
-fn wicket_word(count: u32) -> &'static str
-    ensures { result.now ≡ (if count == 1 then codes "wicket" else codes "wickets") }
-{
-    if count == 1 { "wicket" } else { "wickets" }
-}
-
-/// Prints a side, and how it has won.
-fn print_winner<W: Write>(out: &mut Watched<W>, side: &str, how: &str) -> Result<(), WriteFailed>
-    ensures text { OnOk result (Prints W.contents out.old out.new (codes "  " ++ side.now ++ how.now)) }
-    ensures failed { OnErr result (has_failed out.new ≡ true) }
-{
-    write!(out, "  {side}{how}")
-}
-
-/// Prints by how many of this.
-fn print_margin<W: Write>(out: &mut Watched<W>, count: u32, unit: &str) -> Result<(), WriteFailed>
-    ensures text { OnOk result (Prints W.contents out.old out.new (decimal count ++ codes " " ++ unit.now)) }
-    ensures failed { OnErr result (has_failed out.new ≡ true) }
-{
-    write!(out, "{count} {unit}")
-}
-
-/// Prints that a side has won by so many of this.
-fn print_win<W: Write>(
-    out: &mut Watched<W>,
-    side: &str,
-    how: &str,
-    count: u32,
-    unit: &str,
-) -> Result<(), WriteFailed>
-    ensures text { OnOk result (Prints W.contents out.old out.new
-        (codes "  " ++ side.now ++ how.now ++ (decimal count ++ codes " " ++ unit.now))) }
-    ensures failed { OnErr result (has_failed out.new ≡ true) }
-{
-    print_winner(out, side, how)?;
-    print_margin(out, count, unit)
-}
-
-/// Prints that a side has won by an innings and so many runs.
-fn print_innings_win<W: Write>(
-    out: &mut Watched<W>,
-    sheet: &MatchSheet,
-    side: Side,
-    count: u32,
-) -> Result<(), WriteFailed>
-    ensures text { OnOk result (Prints W.contents out.old out.new (rows.innings_win sheet.now side count)) }
-    ensures failed { OnErr result (has_failed out.new ≡ true) }
-{
-    print_win(
-        out,
-        sheet.name(side),
-        " won by an innings and ",
-        count,
-        run_word(count),
-    )
-}
-
-/// Prints the result of a match, or what is needed, if it is told.
-fn print_outcome<W: Write>(
-    out: &mut Watched<W>,
-    sheet: &MatchSheet,
-    score: &Match,
-    needed: Option<u32>,
-    left: Option<u32>,
-) -> Result<(), WriteFailed>
-    ensures text { ForEachHistory score.now (λ n h. OnOk result (Prints W.contents out.old out.new
-        (rows.aim (result_text sheet.now (outcome n h)) needed left))) }
-    ensures failed { OnErr result (has_failed out.new ≡ true) }
-{
-    match score.result() {
-        Outcome::Undecided => print_needs(out, needed, left),
-        Outcome::Draw => write!(out, "  match drawn"),
-        Outcome::Tie => write!(out, "  match tied"),
-        Outcome::Runs(side, count) => {
-            print_win(out, sheet.name(side), " won by ", count, run_word(count))
-        }
-        Outcome::Wickets(side, count) => {
-            print_win(out, sheet.name(side), " won by ", count, wicket_word(count))
-        }
-        Outcome::InningsAnd(side, count) => print_innings_win(out, sheet, side, count),
-        Outcome::PenaltyRuns(side) => {
-            let name = sheet.name(side);
-            write!(out, "  {name} won by penalty runs")
-        }
-    }
-}
-
-/// Prints the result of a match, or what is needed.
-fn print_aim<W: Write>(
-    out: &mut Watched<W>,
-    sheet: &MatchSheet,
-    score: &Match,
-    left: Option<u32>,
-) -> Result<(), WriteFailed>
-    ensures text { ForEachHistory score.now (λ n h. OnOk result (Prints W.contents out.old out.new
-        (rows.aim (result_text sheet.now (outcome n h)) (figures.runs_needed n h) left))) }
-    ensures failed { OnErr result (has_failed out.new ≡ true) }
-{
-    print_outcome(out, sheet, score, runs_needed(score), left)
-}
-
-/// Prints the result of a match that is decided.
-pub fn print_result<W: Write>(
-    out: &mut Watched<W>,
-    sheet: &MatchSheet,
-    score: &Match,
-) -> Result<(), WriteFailed>
-    ensures text { ForEachHistory score.now (λ n h. OnOk result (Prints W.contents out.old out.new
-        (rows.aim (result_text sheet.now (outcome n h)) None None))) }
-    ensures failed { OnErr result (has_failed out.new ≡ true) }
-{
-    print_outcome(out, sheet, score, None, None)
-}
-
-/// Prints the row of an innings, behind its batters.
-fn print_back<W: Write, B: BookOf>(
-    out: &mut Watched<W>,
+    form: Form,
     sheet: &MatchSheet,
     book: &B,
     innings: usize,
 ) -> Result<(), WriteFailed>
     requires { innings < begun (history_of (B.content book.now)) }
     ensures text { OnOk result (Prints W.contents out.old out.new
-        (rows.back sheet.now (B.innings_a_side book.now) (history_of (B.content book.now)) innings)) }
+        (rows.bowling form sheet.now (history_of (B.content book.now)) innings)) }
+    ensures failed { OnErr result (has_failed out.new ≡ true) }
+{
+    let overs = overs_of(book);
+    let most = sheet.limits().overs_a_bowler();
+    print_bowler(out, form, sheet, book.score(), innings, overs.bowler())?;
+    print_past(out, book, most, overs.bowler())
+}
+
+/// Prints the row of an innings, behind its batters.
+fn print_back<W: Write, B: BookOf>(
+    out: &mut Watched<W>,
+    form: Form,
+    is_all: bool,
+    shown: &[Placed],
+    sheet: &MatchSheet,
+    book: &B,
+    innings: usize,
+) -> Result<(), WriteFailed>
+    requires { innings < begun (history_of (B.content book.now)) }
+    ensures text { OnOk result (Prints W.contents out.old out.new (rows.back form is_all (balls_of shown.now)
+        sheet.now (B.innings_a_side book.now) (history_of (B.content book.now)) innings)) }
     ensures failed { OnErr result (has_failed out.new ≡ true) }
 {
     let score = book.score();
-    let overs = overs_of(book);
-    print_bowler(out, sheet, score, innings, "  ", overs.bowler())?;
-    let most = sheet.limits().overs_a_bowler();
-    print_past(out, book, most, overs.bowler())?;
-    print_open_marks(out, overs.this)?;
+    let over = overs_of(book).this;
+    print_bowling(out, form, sheet, book, innings)?;
+    print_open_marks(out, over, is_all, shown)?;
     print_free(out, sheet, book)?;
     print_aim(out, sheet, score, left_now(score, sheet, innings))?;
-    print_over_end(out, overs.this)?;
-    writeln!(out)
+    print_over_end(out, over)
 }
 
 /// Prints the row of an innings, to its batters.
+#[tactic(auto, unfolding(crate::specs::Row::front))]
 fn print_front<W: Write>(
     out: &mut Watched<W>,
+    form: Form,
     sheet: &MatchSheet,
     score: &Match,
     innings: usize,
 ) -> Result<(), WriteFailed>
     requires { innings < begun_in score.now }
     ensures text { ForEachHistory score.now (λ n h.
-        OnOk result (Prints W.contents out.old out.new (rows.front sheet.now h innings))) }
+        OnOk result (Prints W.contents out.old out.new (rows.front form sheet.now h innings))) }
     ensures failed { OnErr result (has_failed out.new ≡ true) }
 {
-    print_total(out, sheet, score, innings)?;
+    print_team(out, form, sheet, score, innings)?;
+    print_runs(out, score, innings)?;
     print_overs(out, sheet, score, innings)?;
     write!(out, "  ")?;
-    print_batters(out, sheet, score, innings)
+    print_batters(out, form, sheet, score, innings)
+}
+
+/// Prints the row of an innings, with all marks of the open over or with these.
+fn print_line<W: Write, B: BookOf>(
+    out: &mut Watched<W>,
+    form: Form,
+    is_all: bool,
+    shown: &[Placed],
+    sheet: &MatchSheet,
+    book: &B,
+    innings: usize,
+) -> Result<(), WriteFailed>
+    requires { innings < begun (history_of (B.content book.now)) }
+    ensures text { OnOk result (Prints W.contents out.old out.new (rows.line form is_all (balls_of shown.now)
+        sheet.now (B.innings_a_side book.now) (history_of (B.content book.now)) innings)) }
+    ensures failed { OnErr result (has_failed out.new ≡ true) }
+{
+    print_front(out, form, sheet, book.score(), innings)?;
+    print_back(out, form, is_all, shown, sheet, book, innings)
+}
+
+/// Prints the row of an innings in a form: all of it, or with the marks that there is room for.
+#[tactic(auto, unfolding(crate::specs::Row::line_in, crate::specs::Row::whole_line, crate::specs::Row::short_line))]
+fn print_line_in<W: Write, B: BookOf>(
+    out: &mut Watched<W>,
+    form: Form,
+    sheet: &MatchSheet,
+    book: &B,
+    innings: usize,
+) -> Result<(), WriteFailed>
+    requires { innings < begun (history_of (B.content book.now)) }
+    ensures text { OnOk result (Prints W.contents out.old out.new
+        (rows.line_in form sheet.now (B.innings_a_side book.now) (history_of (B.content book.now)) innings)) }
+    ensures failed { OnErr result (has_failed out.new ≡ true) }
+{
+    if is_fit(form, sheet, book, innings) {
+        let over = overs_of(book).this;
+        return print_line(out, form, true, over, sheet, book, innings);
+    }
+    let shown = shown_of(form, sheet, book, innings);
+    print_line(out, form, false, shown, sheet, book, innings)
 }
 
 /// Prints the row of an innings, and what is needed behind it.
@@ -412,13 +389,16 @@ fn print_innings<W: Write, B: BookOf>(
         (rows.innings_row sheet.now (B.innings_a_side book.now) (history_of (B.content book.now)) innings)) }
     ensures failed { OnErr result (has_failed out.new ≡ true) }
 {
+    let form = form_of(sheet, book, innings);
+    print_line_in(out, form, sheet, book, innings)?;
+    writeln!(out)?;
     let score = book.score();
-    print_front(out, sheet, score, innings)?;
-    print_back(out, sheet, book, innings)?;
     print_needs_row(out, sheet, score, left_now(score, sheet, innings))
 }
 
-/// Prints how the match of a book stands, in one row. In a chase of limited overs a second one tells what is needed.
+/// Prints how the match of a book stands, in one row. Where it is longer than 80 columns the team's name is left out, then
+/// players' names are cut to twelve, eight and four letters, then the oldest marks of the over are left out. In a chase of
+/// limited overs a second row tells what is needed.
 pub fn print_row<W: Write, B: BookOf>(
     out: &mut Watched<W>,
     sheet: &MatchSheet,

@@ -1,11 +1,10 @@
 //! The words that are no entry's, as a scorer types them.
 
 ghost use Rattle.std.specs.Prelude.{◌≡◌, option_map};
-ghost use Rattle.std.specs.List.{list_all};
 ghost use Rattle.notation.specs.Written.{found_number};
-ghost use Rattle.cards.specs.Sheet as sheets;
 ghost use Rattle.screen.specs.Words as words;
 
+use crate::form::is_plain;
 use crate::topic::{Topic, topic_of};
 use notation::{Side, Tokens, number_in};
 use std::str;
@@ -48,13 +47,6 @@ pub enum Word {
     Forms,
     /// `help` with a word: what this word does.
     More(Topic),
-}
-
-/// Whether a line is plain text.
-fn is_plain(line: &[u8]) -> bool
-    ensures { result ≡ list_all sheets.is_printable line.now }
-{
-    line.iter().all(|byte| *byte >= 32 && *byte <= 126)
 }
 
 /// What one token asks for.

@@ -1,5 +1,5 @@
 use Rattle.std.proofs.Common.{◌≡◌, ℕ, List, [], ◌∷◌, ◌++◌, true, arith, refl, sym}
-use Rattle.std.specs.Prelude.{codes, is_some}
+use Rattle.std.specs.Prelude.{is_some}
 use Rattle.notation.specs.declared.entry.Ball.{Ball}
 use Rattle.ball_laws.specs.History.{History, open_over, last_called_over}
 use Rattle.match_laws.specs.History.{or_else}
@@ -7,6 +7,7 @@ use Rattle.corrections.specs.CleanList.{history_of}
 use Rattle.corrections.specs.Overs.{bowler_now, newest_bowler, over_now, this_or_last}
 use Rattle.cards.specs.Sheet.{Sheet}
 use Rattle.streams.proofs.Appending.{appends_last}
+use Rattle.screen.specs.declared.form.Form.TheVariants.{Whole}
 use Rattle.screen.specs.OverCheck.{over_line, over_text}
 use Rattle.screen.specs.Row.{bowler}
 use Rattle.screen.proofs.over_check.print_over_line.Goals as goal
@@ -17,7 +18,7 @@ newest_of this last = grind arith
 
 -- an over with a delivery has a line
 has_line : (s : Sheet) (h : History) (i : ℕ) (over : List Ball) → bowler_now h ≡ newest_bowler over → is_some (bowler_now h) ≡ true
-    → bowler s h i (codes "  ") (bowler_now h) ++ over_text over ≡ over_line s h i over
+    → bowler Whole s h i (bowler_now h) ++ over_text over ≡ over_line s h i over
 has_line s h i [] by some = absurd (cc)
 has_line s h i (b ∷ older) by some = refl
 

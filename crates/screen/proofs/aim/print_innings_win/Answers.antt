@@ -1,4 +1,4 @@
-use Rattle.screen.proofs.row.print_innings_win.Goals as goal
+use Rattle.screen.proofs.aim.print_innings_win.Goals as goal
 
 pub returns-clause-text : goal.returns-clause-text
 returns-clause-text g c =

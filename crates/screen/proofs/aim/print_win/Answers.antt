@@ -1,5 +1,5 @@
 use Rattle.streams.proofs.Appending.{appends_last}
-use Rattle.screen.proofs.row.print_win.Goals as goal
+use Rattle.screen.proofs.aim.print_win.Goals as goal
 
 pub returns-clause-text : goal.returns-clause-text
 returns-clause-text g c =
