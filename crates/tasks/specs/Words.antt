@@ -6,7 +6,7 @@ use Rattle.std.specs.declared.io.ErrorKind as host
 use Rattle.std.specs.declared.io.ErrorKind.TheVariants as hosts
 use Rattle.tasks.specs.declared.{task.Task.Task, words_fault.WordsFault.WordsFault}
 use Rattle.tasks.specs.declared.task.Task.TheVariants.{BoardOfSheet, Check, Replay}
-use Rattle.tasks.specs.declared.words_fault.WordsFault.TheVariants.{NotUnderstood, WrongOption, NoMemory}
+use Rattle.tasks.specs.declared.words_fault.WordsFault.TheVariants.{NotUnderstood, NotText, WrongOption, NoMemory}
 
 -- what no words ask for: `check` in a match of two innings a side
 abbrev pub plain_task : Task
@@ -19,9 +19,10 @@ IsTask (Replay sheet schedule boards is_old) = boards ≤ 4
 IsTask (BoardOfSheet sheet index named text json script serve) = index ≤ 3
 IsTask task = ⊤
 
--- why the words can't be had from the host: out of memory, or they are no text
+-- why the words can't be had from the host: out of memory, or one isn't UTF-8
 abbrev pub of_host : host.ErrorKind → WordsFault
 of_host hosts.OutOfMemory = NoMemory
+of_host hosts.InvalidData = NotText
 of_host kind = NotUnderstood
 
 -- why `clap` doesn't take them: out of memory, or they are none of the program's forms
@@ -32,6 +33,7 @@ of_parse kind = NotUnderstood
 -- what standard error is told
 abbrev pub words_text : WordsFault → List ℕ
 words_text NotUnderstood = codes "words not understood"
+words_text NotText = codes "words not understood: one isn't UTF-8"
 words_text (WrongOption word) = codes "words not understood: " ++ word.now
 words_text NoMemory = codes "no memory"
 

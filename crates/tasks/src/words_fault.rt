@@ -15,6 +15,8 @@ use thiserror::Error;
 pub enum WordsFault<'a> {
     /// They are none of the program's forms.
     NotUnderstood,
+    /// One of them isn't UTF-8.
+    NotText,
     /// This is no option of theirs.
     WrongOption(&'a str),
     /// Memory was refused.
@@ -30,6 +32,7 @@ impl fmt::Display for WordsFault<'_> {
     fn fmt<W: fmt::Write>(&self, f: &mut fmt::Formatter<W>) -> fmt::Result {
         match self {
             WordsFault::NotUnderstood => f.write_str("words not understood"),
+            WordsFault::NotText => f.write_str("words not understood: one isn't UTF-8"),
             WordsFault::WrongOption(word) => write!(f, "words not understood: {word}"),
             WordsFault::NoMemory => f.write_str("no memory"),
         }
@@ -52,10 +55,11 @@ impl From<io::Error> for WordsFault<'_> {
 
     ghost from_gives = { λ why fault. fault ≡ of_host (error_kind why) };
 
-    /// Why the host doesn't give the words: every kind but out of memory is of words that are no text.
+    /// Why the host doesn't give the words.
     fn from(why: io::Error) -> Self {
         match why.kind() {
             io::ErrorKind::OutOfMemory => WordsFault::NoMemory,
+            io::ErrorKind::InvalidData => WordsFault::NotText,
             _ => WordsFault::NotUnderstood,
         }
     }
