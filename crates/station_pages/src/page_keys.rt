@@ -41,13 +41,24 @@ impl<'p, K: Keys, E: Write> PageKeys<'p, K, E> {
         &self.keys
     }
 
+    /// Tells how many look at the page, where others did before.
+    fn tell_change(&mut self)
+        ensures { self.new.given ≡ self.old.given }
+    {
+        let _ = match change_of(self.page) {
+            None => Ok(()),
+            Some(0) => writeln!(self.errors, "no page"),
+            Some(1) => writeln!(self.errors, "page: 1 viewer"),
+            Some(count) => writeln!(self.errors, "page: {count} viewers"),
+        };
+    }
+
     /// Tells that a line was typed in the page.
     fn tell(&mut self, line: &[u8])
         ensures { self.new.given ≡ self.old.given }
     {
-        if let Ok(text) = str::from_utf8(line) {
-            let _ = writeln!(self.errors, "page: {text}");
-        }
+        let text = as_told(line);
+        let _ = writeln!(self.errors, "page: {text}");
     }
 
     /// The next line of the page.
@@ -55,10 +66,25 @@ impl<'p, K: Keys, E: Write> PageKeys<'p, K, E> {
         ensures count { IfSome result (λ count. count ≤ 128) }
         ensures given { self.new.given ≡ self.old.given }
     {
+        self.tell_change();
         let count = next_of(self.page, at, buffer)?;
         self.tell(&buffer[..count]);
         Some(count)
     }
+}
+
+/// A line as it is told: one with a character that a terminal would obey is a question mark.
+fn as_told(line: &[u8]) -> &str {
+    match str::from_utf8(line) {
+        Ok(text) if !text.chars().any(|letter| letter.is_control()) => text,
+        _ => "?",
+    }
+}
+
+/// How many look at a page, where others did when that was told last.
+fn change_of(page: Option<&RefCell<ScorersPage>>) -> Option<usize> {
+    let mut page = page?.try_borrow_mut().ok()?;
+    page.take_change()
 }
 
 /// The next line of a page, for the desk that stands so.

@@ -16,6 +16,8 @@ pub struct ScorersPage {
     viewers: Viewers,
     rows: Rows,
     held: HeldLines,
+    /// How many looked at it when that was told last.
+    told: usize,
     /// How often other lines were held.
     number: u64,
 }
@@ -27,6 +29,7 @@ impl ScorersPage {
             viewers,
             rows: Rows::new(alloc),
             held: HeldLines::new(),
+            told: 0,
             number: 0,
         }
     }
@@ -87,6 +90,16 @@ impl ScorersPage {
         ensures { IfSome result (λ count. count ≤ 128) }
     {
         self.viewers.next_line(buffer)
+    }
+
+    /// How many look at it, where others did when that was told last.
+    pub fn take_change(&mut self) -> Option<usize> {
+        let watching = self.viewers.watching();
+        if watching == self.told {
+            return None;
+        }
+        self.told = watching;
+        Some(watching)
     }
 
     /// Whether a line waits.

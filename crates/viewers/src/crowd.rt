@@ -158,6 +158,17 @@ impl Crowd {
         }
     }
 
+    /// How many are told each new state.
+    fn watching(&self) -> usize {
+        let mut count = 0;
+        for slot in &self.viewers {
+            if slot.as_ref().is_some_and(|viewer| viewer.is_watching()) {
+                count += 1;
+            }
+        }
+        count
+    }
+
     /// Whether it is time for a beat.
     fn take_beat(&mut self, now: u64) -> bool {
         let is_due = now.saturating_sub(self.beat) >= BEAT;
@@ -244,6 +255,11 @@ impl Viewers {
         ensures { self.new.shown ≡ self.old.shown }
     {
         self.crowd.tell(&self.shown, now);
+    }
+
+    /// How many are told what is shown.
+    pub fn watching(&self) -> usize {
+        self.crowd.watching()
     }
 
     /// The desk is at this position from here on. Lines that were posted for another one are dropped: it tells how many.

@@ -111,6 +111,11 @@ impl<S: Stream> Viewer<S> {
         self.is_gone || (!is_idle && now.saturating_sub(self.since) > PATIENCE)
     }
 
+    /// Whether it is told each new state.
+    pub fn is_watching(&self) -> bool {
+        matches!(self.stage, Stage::Watching(_)) && !self.is_gone
+    }
+
     /// Says this next, of which this is known. Where it couldn't be made, the viewer is let go.
     fn say(&mut self, text: Result<Vec<u8>, WriteError>, said: SaidLog)
         requires all { self.old.done ≡ vec_len self.old.out }
