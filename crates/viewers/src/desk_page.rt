@@ -2,7 +2,7 @@
 
 /// What may be run and loaded in the page: its own style and script, and what it asks of its station.
 pub const POLICY: &[u8] =
-    b"default-src 'none'; script-src 'sha256-VVk7NryqN6NFzJBTqZ/AfCucf6HDGmKyCzocqeoD5No='; style-src 'sha256-MkrAkl4AGkt9Ln35Dw5HydnBaQDquZj47c3omPRUCeA='; connect-src 'self'; img-src data:; base-uri 'none'; form-action 'none'; frame-ancestors 'none'";
+    b"default-src 'none'; script-src 'sha256-DSQmR6Sz1f5doi3Ksf0DBA2gRq4AJFGCOdXMKfuf7xU='; style-src 'sha256-6dBRJQ/ECCfocple47mASaOfxQIJcktZzIvS+201RyU='; connect-src 'self'; img-src data:; base-uri 'none'; form-action 'none'; frame-ancestors 'none'";
 
 /// The page.
 pub const PAGE: &[u8] = b"<!DOCTYPE html>
@@ -126,6 +126,13 @@ form input::placeholder { color: var(--quiet); opacity: 1; }
 #choices { display: grid; gap: 7px; grid-template-columns: repeat(3, minmax(0, 1fr)); margin-top: 4px; }
 #choices button { min-height: 60px; padding: .2em; font-weight: 600; font-size: .95em; }
 #choices .second { background: var(--soft); }
+/* A long name is whole, in smaller letters. */
+#answers .long { font-size: .85em; padding: .2em; }
+#answers .long small { font-size: .85em; }
+#answers .longer { font-size: .75em; padding: .2em; }
+#answers .longer small { font-size: .95em; }
+#choices .longer { font-size: .8em; }
+#choices .longer small { font-size: .85em; }
 #ask { margin-top: 10px; }
 
 @media (min-width: 700px) {
@@ -708,6 +715,8 @@ function ask(title, options, then) {
 
 function choice([text, value, small, kind], then) {
   const made = element(\"button\", text, kind);
+  const longest = Math.max(...text.split(/[ -]/).map(word => word.length));
+  if (longest > 8 && kind !== \"second\") made.classList.add(longest > 10 ? \"longer\" : \"long\");
   made.type = \"button\";
   if (small) made.append(element(\"small\", small));
   made.addEventListener(\"click\", () => then(value, text));
@@ -990,7 +999,11 @@ function noteView() {
   return note ? { kind: note.kind, head: note.head, detail: note.detail, answers: [[\"OK\", () => { note = null; show(); }]] } : null;
 }
 
-const bothWords = line => inWords(line) + \"  (\" + line + \")\";
+// In words, and where these leave room for it as it is written.
+function bothWords(line) {
+  const words = inWords(line);
+  return words.length > 44 ? words : words + \"  (\" + line + \")\";
+}
 
 function differsView() {
   if (!differs() || amend) return null;
@@ -1071,7 +1084,7 @@ function bowlerAsked() {
     const end = [\"End innings\", () => endInnings(\"overs\"), \"overs bowled\", \"main\"];
     return { head: \"Its overs are bowled\", detail: check, answers: [end, [\"Another\", askEnding, \"cause\"], [\"Bowler\", anotherBowler, \"goes on\"]] };
   }
-  if (bowler !== null) return { head: name(other(batting()), bowler) + \" bowls\", detail: (\"Tap the first ball.\\n\" + check).trim(), answers: [[\"Another bowler\", anotherBowler]] };
+  if (bowler !== null) return { head: name(other(batting()), bowler) + \" bowls\", detail: check || \"Tap the first ball.\", answers: [[\"Another bowler\", anotherBowler]] };
   const options = people(other(batting()), bowlers(), number => isBowledOut(number) ? \"all bowled\" : bowlerFigures(number) || String(number));
   return { head: check ? \"Who bowls? Read the check\" : \"Who bowls?\", detail: check, answers: some(options, choose, anotherBowler) };
 }
