@@ -2,7 +2,7 @@
 
 /// What may be run and loaded in the page: its own style and script, and what it asks of its station.
 pub const POLICY: &[u8] =
-    b"default-src 'none'; script-src 'sha256-DSQmR6Sz1f5doi3Ksf0DBA2gRq4AJFGCOdXMKfuf7xU='; style-src 'sha256-6dBRJQ/ECCfocple47mASaOfxQIJcktZzIvS+201RyU='; connect-src 'self'; img-src data:; base-uri 'none'; form-action 'none'; frame-ancestors 'none'";
+    b"default-src 'none'; script-src 'sha256-DSQmR6Sz1f5doi3Ksf0DBA2gRq4AJFGCOdXMKfuf7xU='; style-src 'sha256-MZtmT90Ayk2GQTi9KIOZx150EclrEg+xMFNfZmZJErE='; connect-src 'self'; img-src data:; base-uri 'none'; form-action 'none'; frame-ancestors 'none'";
 
 /// The page.
 pub const PAGE: &[u8] = b"<!DOCTYPE html>
@@ -151,7 +151,13 @@ form input::placeholder { color: var(--quiet); opacity: 1; }
   #pads .run { font-size: 2.6em; }
   #sheet { align-items: flex-end; justify-content: flex-end; padding: 12px; }
   #card { width: min(100%, 58.3vw); border-radius: 18px; padding: 12px; }
+}
+@media (min-width: 900px) {
   #choices { grid-template-columns: repeat(4, minmax(0, 1fr)); }
+}
+@media (min-width: 700px) and (max-width: 899px) {
+  #crease { font-size: 1em; }
+  #crease td { width: 38%; }
 }
 /* Small telephones, and one that is held across. */
 @media (max-width: 350px) {
