@@ -2,7 +2,7 @@
 
 /// What may be run and loaded in the page: its own style and script, and what it asks of its station.
 pub const POLICY: &[u8] =
-    b"default-src 'none'; script-src 'sha256-DSQmR6Sz1f5doi3Ksf0DBA2gRq4AJFGCOdXMKfuf7xU='; style-src 'sha256-MZtmT90Ayk2GQTi9KIOZx150EclrEg+xMFNfZmZJErE='; connect-src 'self'; img-src data:; base-uri 'none'; form-action 'none'; frame-ancestors 'none'";
+    b"default-src 'none'; script-src 'sha256-DSQmR6Sz1f5doi3Ksf0DBA2gRq4AJFGCOdXMKfuf7xU='; style-src 'sha256-TJJPdKyscPeFsFxnBDMw0VKlpaQlWwlCPIb52rVEc1E='; connect-src 'self'; img-src data:; base-uri 'none'; form-action 'none'; frame-ancestors 'none'";
 
 /// The page.
 pub const PAGE: &[u8] = b"<!DOCTYPE html>
@@ -144,7 +144,7 @@ form input::placeholder { color: var(--quiet); opacity: 1; }
   #told, #told.open { grid-area: told; display: flex; position: static; padding: 10px; border: 1px solid var(--line); border-radius: 14px; }
   #told .bar { min-height: 0; }
   #told .bar h2 { font-weight: 400; color: var(--quiet); font-size: .85em; }
-  #state { height: 208px; }
+  #state { height: 214px; }
   #head { font-size: 1.3em; }
   #detail { font-size: 1em; }
   #answers button { min-height: 60px; }
@@ -158,6 +158,8 @@ form input::placeholder { color: var(--quiet); opacity: 1; }
 @media (min-width: 700px) and (max-width: 899px) {
   #crease { font-size: 1em; }
   #crease td { width: 38%; }
+  #head { font-size: 1.1em; }
+  #detail { font-size: .875em; }
 }
 /* Small telephones, and one that is held across. */
 @media (max-width: 350px) {
