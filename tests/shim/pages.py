@@ -1,5 +1,5 @@
 """Lives of a board that serves a page, under shim.c, in which a call for it fails: its viewer is played here."""
-import socket, time
+import re, socket, time
 from lives import BOARD, LONGEST, SHEET, TOOLS, Process, answer_board, has_book
 from record import Wrong, bytes_at
 from trials import Ground, expect, shows_board
@@ -45,17 +45,35 @@ class Viewer:
         """What is answered to who asks for the state now, and asks again where that fails."""
         end = time.time() + LONGEST
         while time.time() < end:
-            try:
-                with socket.create_connection(self.where, timeout=2) as it:
-                    it.sendall(f"GET /board.json HTTP/1.1\r\nHost: {self.place}\r\n\r\n".encode())
-                    found = b""
-                    while more := it.recv(1 << 16):
-                        found += more
-                    if found.startswith(b"HTTP/1.1 200 OK\r\n"):
-                        return found.split(b"\r\n\r\n", 1)[1]
-            except OSError:
-                time.sleep(0.02)
+            status, text = answer_at(self.place, f"GET /board.json HTTP/1.1\r\nHost: {self.place}\r\n\r\n".encode())
+            if status == 200:
+                return text
+            time.sleep(0.02)
         raise Wrong("nobody answers who asks for the state")
+
+
+WHOLE = re.compile(rb"HTTP/1\.1 (\d{3}) (?:.*\r\n)*content-length: (\d+)\r\n(?:.*\r\n)*?\r\n")
+
+
+def in_answer(found):
+    """The status and the text of an answer; no status where it isn't whole yet."""
+    head = WHOLE.match(found)
+    text = found[head.end() :] if head else b""
+    return (int(head[1]), text) if head and len(text) == int(head[2]) else (None, b"")
+
+
+def answer_at(place, request):
+    """The status and the text of what is answered to these bytes; no status where it doesn't come whole."""
+    host, port = place.rsplit(":", 1)
+    found = b""
+    try:
+        with socket.create_connection((host, int(port)), timeout=2) as it:
+            it.sendall(request)
+            while in_answer(found)[0] is None and (more := it.recv(1 << 16)):
+                found += more
+    except OSError:
+        pass
+    return in_answer(found)
 
 
 def free_place():

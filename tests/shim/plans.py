@@ -33,7 +33,7 @@ HOWS = {
     "epoll_create1": (errno.EMFILE,),
     "epoll_ctl": (errno.ENOMEM,),
     "epoll_wait": (EINTR,),
-    "send": (errno.ECONNRESET, errno.EAGAIN, EINTR, "short"),
+    "send": (errno.ECONNRESET, errno.EAGAIN, EINTR, "short", "made"),
     "recv": (errno.ECONNRESET, EINTR, "short"),
     "shutdown": (errno.ENOTCONN,),
 }
@@ -104,12 +104,12 @@ def only(wrong):
     return Plan("none", "-", 1, 0, wrong)
 
 
-def plans(calls):
-    """A plan for each of these calls, and each way in which it can fail."""
-    counts = {}
+def plans(calls, more=()):
+    """A plan for each of these calls, and each way in which it can fail; of some more than the first few."""
+    counts, most = {}, {**AT_ANY_TIME, **dict(more)}
     for call in calls:
         at = call.name, call.label
-        counts[at] = min(counts.get(at, 0) + 1, AT_ANY_TIME.get(at, 1000))
+        counts[at] = min(counts.get(at, 0) + 1, most.get(at, 1000))
     found = []
     for (name, label), count in counts.items():
         hows = HOWS.get(name, ()) + (errno.EPIPE,) * (label == "stdout" and name == "write")
