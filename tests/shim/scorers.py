@@ -124,7 +124,7 @@ def goes_well(ground, judge, end, place):
     status, out, error = end
     if LINK.sub("", error, count=1) != f"page: {BOOK[0]}\n" or f"page: http://{place}/#" not in error or status:
         raise Wrong(f"it ended with {end}")
-    if [told(line) for line in out.splitlines() if line[0].isdigit()] != TOLD:
+    if [told(line) for line in out.splitlines() if line[:1].isdigit()] != TOLD:
         raise Wrong(f"the terminal was told {out!r}")
     judge.whole("a", VOTES)
     if card_agrees(ground.file("a.votes"), "a") != VOTES:

@@ -5,6 +5,7 @@ usage: siege.py HOST PORT COUNT
 """
 import os, random, select, socket, sys, time
 
+sys.dont_write_bytecode = True
 SOON = 0.1
 JUNK = [b"\r\n" * 3000, b"GET " * 2000, b"\x16\x03\x01" + bytes(600), b"G" * 6000, b"POST /line HTTP/1.1\r\nContent-Length: 9\r\n\r\n"]
 
