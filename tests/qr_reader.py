@@ -3,7 +3,8 @@
 SIDE, MARGIN = 33, 4
 FORMAT = "111011111000100"  # of level L and mask 0, from the standard's table
 MODULES = {" ": (0, 0), "▀": (1, 0), "▄": (0, 1), "█": (1, 1)}
-BLACK_ON_WHITE, PLAIN = "\x1b[30;47m", "\x1b[0m"
+BLACK_ON_WHITE, BOTH_BLACK, PLAIN = "\x1b[38;5;16;48;5;231m", "\x1b[48;5;16m \x1b[48;5;231m", "\x1b[0m"
+ROWS_LEFT_OUT = 2  # of the margin, above and below
 
 
 class Unreadable(Exception):
@@ -50,10 +51,11 @@ def modules_of(printed):
     rows = []
     for line in printed.split("\n"):
         expect(line.startswith(BLACK_ON_WHITE) and line.endswith(PLAIN), "colours")
-        blocks = [MODULES[it] for it in line[len(BLACK_ON_WHITE) : -len(PLAIN)]]
+        blocks = [MODULES[it] for it in line[len(BLACK_ON_WHITE) : -len(PLAIN)].replace(BOTH_BLACK, "█")]
         expect(len(blocks) == SIDE + 2 * MARGIN, "columns")
         rows += [[upper for upper, _ in blocks], [lower for _, lower in blocks]]
-    expect(len(rows) == SIDE + 2 * MARGIN + 1, "rows")
+    expect(len(rows) == SIDE + 2 * (MARGIN - ROWS_LEFT_OUT) + 1, "rows")
+    rows = ROWS_LEFT_OUT * [[0] * (SIDE + 2 * MARGIN)] + rows
     inner = range(MARGIN, MARGIN + SIDE)
     for r, row in enumerate(rows):
         for c, dark in enumerate(row):

@@ -5,12 +5,12 @@ use Rattle.qr.specs.declared.code.Code.{Code}
 use Rattle.qr.specs.declared.printing.TheConstants.{MARGIN}
 use Rattle.qr.specs.Modules.{is_dark}
 
--- of two modules, one above the other: a space, and U+2584, U+2580 and U+2588 in UTF-8
+-- of two modules, one above the other: a space, U+2584, U+2580 in UTF-8, and a space on black
 abbrev pub block : Bool → Bool → List ℕ
 block false false = 32 ∷ []
 block false true = 226 ∷ 150 ∷ 132 ∷ []
 block true false = 226 ∷ 150 ∷ 128 ∷ []
-block true true = 226 ∷ 150 ∷ 136 ∷ []
+block true true = 27 ∷ codes "[48;5;16m " ++ 27 ∷ codes "[48;5;231m"
 
 -- a module of a code with a margin of 4
 abbrev pub is_dark_within : Code → ℕ → ℕ → Bool
@@ -26,7 +26,11 @@ blocks code row = flat_map (block_at code row) (range_with_len 0 41)
 
 -- a row, black on white
 abbrev pub row_text : Code → ℕ → List ℕ
-row_text code row = 27 ∷ codes "[30;47m" ++ blocks code row ++ 27 ∷ codes "[0m\n"
+row_text code row = 27 ∷ codes "[38;5;16;48;5;231m" ++ blocks code row ++ 27 ∷ codes "[0m\n"
+
+-- the row behind this one: half of the margin is left out above and below
+abbrev pub row_behind : Code → ℕ → List ℕ
+row_behind code row = row_text code (row + 1)
 
 abbrev pub printed : Code → List ℕ
-printed code = flat_map (row_text code) (range_with_len 0 21)
+printed code = flat_map (row_behind code) (range_with_len 0 19)

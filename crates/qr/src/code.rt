@@ -8,7 +8,8 @@ use crate::content::{LONGEST, codewords_of};
 use crate::pattern::SIDE;
 use crate::placing::placed;
 
-/// A QR code. It prints as 21 rows of 41 half blocks, black on white, with the margin of four modules that readers ask for.
+/// A QR code. It prints as 19 rows of 41 half blocks, black on white, with the margin of four modules that readers ask for at both sides, and
+/// half of it above and below.
 #[derive(Clone, Copy, Debug, PartialEq, Eq)]
 pub struct Code {
     modules: [bool; 1089],

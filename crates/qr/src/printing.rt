@@ -9,7 +9,7 @@ use std::fmt;
 /// How many light modules are printed around a code.
 const MARGIN: usize = 4;
 
-/// A character of two modules, one above the other.
+/// Two modules, one above the other. Two dark ones are a dark background, as some letters don't fill their place.
 fn block(upper: bool, lower: bool) -> &'static str
     ensures { result.now ≡ print.block upper lower }
 {
@@ -17,7 +17,7 @@ fn block(upper: bool, lower: bool) -> &'static str
         (false, false) => " ",
         (false, true) => "▄",
         (true, false) => "▀",
-        (true, true) => "█",
+        (true, true) => "\x1b[48;5;16m \x1b[48;5;231m",
     }
 }
 
@@ -67,11 +67,15 @@ impl fmt::Display for Blocks<'_> {
 impl fmt::Display for Code {
     ghost output = { λ code. Some (print.printed code) };
 
-    /// Writes it as 21 rows, each with a line feed.
+    /// Writes it as 19 rows, each with a line feed, in black and white of 256 colours, which themes leave as they are. Half of
+    /// the margin is left out above and below, so that a screen of 24 rows has all.
     fn fmt<W: fmt::Write>(&self, f: &mut fmt::Formatter<W>) -> fmt::Result {
-        for row in 0..21 {
-            let blocks = Blocks { code: self, row };
-            write!(f, "\x1b[30;47m{blocks}\x1b[0m\n")?;
+        for row in 0..19 {
+            let blocks = Blocks {
+                code: self,
+                row: row + 1,
+            };
+            write!(f, "\x1b[38;5;16;48;5;231m{blocks}\x1b[0m\n")?;
         }
         Ok(())
     }

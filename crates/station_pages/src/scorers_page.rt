@@ -10,13 +10,18 @@ use std::alloc::Global;
 use std::os::fd::RawFd;
 use viewers::Viewers;
 
+/// How long who look at it aren't counted again, in milliseconds.
+const PAUSE: u64 = 5_000;
+
 /// The page of a desk: who looks at it, the newest rows that its scorer was told, and the lines that are held.
 #[derive(Drop)]
 pub struct ScorersPage {
     viewers: Viewers,
     rows: Rows,
     held: HeldLines,
-    /// How many looked at it when that was told last.
+    /// How many look at it, as was counted last, and when; and how many that was when it was told last.
+    watching: usize,
+    counted: u64,
     told: usize,
     /// How often other lines were held.
     number: u64,
@@ -29,6 +34,8 @@ impl ScorersPage {
             viewers,
             rows: Rows::new(alloc),
             held: HeldLines::new(),
+            watching: 0,
+            counted: 0,
             told: 0,
             number: 0,
         }
@@ -92,14 +99,21 @@ impl ScorersPage {
         self.viewers.next_line(buffer)
     }
 
-    /// How many look at it, where others did when that was told last.
+    /// Counts who look at it, once in a while: strangers who come and go fill no screen.
+    fn count(&mut self, now: u64) {
+        if now.saturating_sub(self.counted) >= PAUSE {
+            self.counted = now;
+            self.watching = self.viewers.watching();
+        }
+    }
+
+    /// How many look at it, where it were others when that was told last.
     pub fn take_change(&mut self) -> Option<usize> {
-        let watching = self.viewers.watching();
-        if watching == self.told {
+        if self.watching == self.told {
             return None;
         }
-        self.told = watching;
-        Some(watching)
+        self.told = self.watching;
+        Some(self.watching)
     }
 
     /// Whether a line waits.
@@ -112,5 +126,6 @@ impl Attends for ScorersPage {
     fn attend(&mut self, now: u64) {
         self.viewers.pump(now);
         self.viewers.tell(now);
+        self.count(now);
     }
 }

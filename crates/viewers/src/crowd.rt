@@ -41,6 +41,8 @@ struct Crowd {
     viewers: Vec<Option<Viewer<TcpStream>>>,
     /// How many there are at most.
     most: usize,
+    /// Whose place was taken last.
+    taken: usize,
     /// Whether somebody may wait to come in.
     has_guests: bool,
     /// When they last heard that the board is there.
@@ -62,9 +64,28 @@ impl Crowd {
             listener,
             viewers: Vec::new(alloc),
             most,
+            taken: 0,
             has_guests: true,
             beat: 0,
         })
+    }
+
+    /// The place of who is told each new state at a full desk, of each in turn: those who come may be its scorer's page, or a
+    /// line. A full board sends them away.
+    fn place_of_watcher(&mut self) -> Option<usize> {
+        if self.most > MOST_SCORERS {
+            return None;
+        }
+        for step in 1..=self.most {
+            let at = (self.taken + step) % self.most;
+            if let Some(Some(viewer)) = self.viewers.get(at) {
+                if viewer.is_watching() {
+                    self.taken = at;
+                    return Some(at);
+                }
+            }
+        }
+        None
     }
 
     /// A free place, where there is one.
@@ -74,7 +95,7 @@ impl Crowd {
         }
         let at = self.viewers.len();
         if at >= self.most {
-            return Ok(None);
+            return Ok(self.place_of_watcher());
         }
         self.viewers.push(None)?;
         Ok(Some(at))
@@ -103,7 +124,7 @@ impl Crowd {
 
     /// Lets in those who wait, until none is left or a call fails: then it is tried again in the next turn.
     fn admit_all(&mut self, now: u64) {
-        for _ in 0..MOST_VIEWERS {
+        for _ in 0..self.most {
             match self.admit(now) {
                 Ok(()) => {}
                 Err(why) => {
