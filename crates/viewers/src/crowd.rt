@@ -76,8 +76,9 @@ impl Crowd {
         if self.most > MOST_SCORERS {
             return None;
         }
-        for step in 1..=self.most {
-            let at = (self.taken + step) % self.most;
+        for step in 0..self.most {
+            let behind = self.taken.saturating_add(step).saturating_add(1);
+            let at = behind.checked_rem(self.most)?;
             if let Some(Some(viewer)) = self.viewers.get(at) {
                 if viewer.is_watching() {
                     self.taken = at;
@@ -181,10 +182,10 @@ impl Crowd {
 
     /// How many are told each new state.
     fn watching(&self) -> usize {
-        let mut count = 0;
+        let mut count: usize = 0;
         for slot in &self.viewers {
             if slot.as_ref().is_some_and(|viewer| viewer.is_watching()) {
-                count += 1;
+                count = count.saturating_add(1);
             }
         }
         count
