@@ -11,10 +11,11 @@ import tomllib
 from dataclasses import dataclass, field
 
 sys.path.append(os.path.join(os.path.dirname(os.path.realpath(__file__)), ".."))
-from read_export import CREDITED, Card, Wrong, balls_penned, boundary, compare, counts, deliveries_of, standing, wants
+from read_export import CREDITED, OUTCOME, Card, Wrong, balls_penned, boundary, compare, counts, deliveries_of, standing, wants
 
 FILES = ("sheet.toml", "a.votes", "b.votes")
 RESULTS = {"draw": "drawn", "tie": "tied", "no result": "no result"}
+PENALTY_RUNS = "penalty runs"
 # how a batter is out who isn't out by a delivery
 OUT_BETWEEN = {"timedout": "timed out", "retiredout": "retired out", "runout": "run out"}
 
@@ -103,10 +104,11 @@ def match_of(exported, folder, files):
     """The row of the match, and its players."""
     info, ours = exported["info"], exported["yermudosh"]
     home, away = info["teams"]
-    result, winner, words = result_of(info.get("outcome", {}))
+    sheet = sheet_of(folder)
+    result, winner, words = result_of(ruled(sheet, info["teams"]) or info.get("outcome", {}))
     row = dict(
-        number=str(ours["match_number"]), home=home, away=away, title=title_of(folder), day=first_day(info), venue=of_kind(str, info.get("venue")),
-        overs=of_kind(int, info.get("overs")), result=result, winner=winner, words=words, folder=folder, files=files,
+        number=str(ours["match_number"]), home=home, away=away, title=sheet["title"], day=first_day(info), venue=of_kind(str, info.get("venue")),
+        result=result, winner=winner, words=words, folder=folder, files=files,
     )
     match = Match(row)
     for team, names in info["players"].items():
@@ -116,9 +118,28 @@ def match_of(exported, folder, files):
     return match
 
 
-def title_of(folder):
+def sheet_of(folder):
     with open(os.path.join(folder, FILES[0]), "rb") as file:
-        return tomllib.load(file)["title"]
+        return tomllib.load(file)
+
+
+def ruled(sheet, teams):
+    """The outcome that the league wrote into the sheet's [info], if any: it goes before that of the Laws."""
+    outcome = (of_kind(dict, sheet.get("info")) or {}).get("outcome")
+    if outcome is None:
+        return None
+    try:
+        wants(OUTCOME(outcome), "it is no table")
+        wants(outcome.get("winner") in teams or "result" in outcome, f"the winner is neither {teams[0]} nor {teams[1]}")
+    except (Wrong, TypeError) as why:
+        raise LeftOut(f"the outcome in the sheet's [info]: {why}") from None
+    return outcome
+
+
+def overs_of(exported, number):
+    """How many overs an innings may have: by the sheet's [limits], or else by its [info]."""
+    limits = exported["yermudosh"].get("limits", {}).get("overs")
+    return limits[min(number, len(limits) - 1)] if limits else of_kind(int, exported["info"].get("overs"))
 
 
 def first_day(info):
@@ -136,10 +157,11 @@ def result_of(outcome):
     if "winner" not in outcome:
         result = RESULTS.get(outcome.get("result"), "unfinished")
         return result, None, result
-    by, winner = outcome.get("by", {}), outcome["winner"]
+    by, winner, method = outcome.get("by", {}), outcome["winner"], outcome.get("method", PENALTY_RUNS)
     parts = ["an innings"] * ("innings" in by)
     parts += [f"{by[unit]} {unit[:-1] if by[unit] == 1 else unit}" for unit in ("runs", "wickets") if unit in by]
-    return "won", winner, f"{winner} won by {' and '.join(parts) or outcome.get('method', '?')}"
+    parts += [method] * (method == PENALTY_RUNS and not parts)
+    return "won", winner, f"{winner} won" + f" by {' and '.join(parts)}" * bool(parts) + f" ({method})" * (method != PENALTY_RUNS)
 
 
 def add_innings(match, exported, card):
@@ -171,6 +193,7 @@ class Innings:
         self.fielding = next(team for team in players if team != self.team)
         self.names = players[self.team]
         self.at = dict(innings=number + 1, team=self.team)
+        self.most_overs = overs_of(exported, number)
         self.by_print = {name[:16].rstrip(): name for names in players.values() for name in names}
         self.deliveries = list(zip(deliveries_of(innings), penned, strict=True))
 
@@ -191,7 +214,7 @@ class Innings:
         self.match.add(
             "innings", **self.at, fielding=self.fielding, runs=self.card.runs, wickets=self.card.wickets, overs=self.card.overs,
             balls=sum(counts(*delivery) for delivery in self.deliveries), byes=byes, legbyes=legbyes, wides=wides, noballs=noballs,
-            penalty=penalty, target=self.innings.get("target", {}).get("runs"), ended=ended,
+            penalty=penalty, target=self.innings.get("target", {}).get("runs"), most_overs=self.most_overs, ended=ended,
         )
 
     def add_deliveries(self):

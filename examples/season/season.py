@@ -2,7 +2,8 @@
 """Makes a season's database and its page of matches that Yermudosh kept. It needs Python 3.11 and nothing else.
 
 usage: season.py [--ground PROGRAM] SEASON.db FOLDER..   reads the match in each folder: sheet.toml, a.votes and b.votes
-       season.py --sql QUESTION SEASON.db                prints what a question in SQL gives; a change is kept
+       season.py --sql QUESTION SEASON.db                prints what a question in SQL gives; a change is kept, such as
+                                                         DELETE FROM matches WHERE number = '202606031'
 
 Begun again it adds what is new: a match is known by its number and its two sides, and replaced where its sheet or a votes
 file has changed. It lists each folder that isn't taken, with the reason, and ends with status 1 where there is one. With no
@@ -18,8 +19,7 @@ from page import page_of
 from reading import LeftOut, hash_of, read_match
 
 HERE = os.path.dirname(os.path.realpath(__file__))
-VERSION = 1
-OF_MATCHES = ("appearances", "innings", "deliveries", "batters", "bowlers", "dismissals", "stands")
+VERSION = 2
 
 
 class Refused(Exception):
@@ -105,14 +105,8 @@ class Reading:
             return
         self.sums["changed" if old else "new"] += 1
         if old:
-            self.forget(old[0])
+            self.season.execute("DELETE FROM matches WHERE id = ?", (old[0],))
         self.put(match)
-
-    def forget(self, match):
-        self.season.execute("DELETE FROM matches WHERE id = ?", (match,))
-        for table in OF_MATCHES:
-            self.season.execute(f"DELETE FROM {table} WHERE match = ?", (match,))
-        self.season.execute("DELETE FROM players WHERE (team, player) NOT IN (SELECT team, player FROM appearances)")
 
     def put(self, match):
         self.insert("matches", [match.row])
@@ -149,8 +143,11 @@ def write_page(season, path):
 
 
 def ask(season, question):
-    """Prints the rows of a question, a line each."""
-    for row in season.execute(question):
+    """Prints the rows of a question, a line each. A change that changes nothing is refused."""
+    answer = season.execute(question)
+    if answer.rowcount == 0:
+        raise Refused("nothing is changed: there is no such row")
+    for row in answer:
         print(" | ".join("-" if value is None else f"{value}" for value in row))
 
 
@@ -169,6 +166,8 @@ def main(words):
         if not rest or rest[0].startswith("--"):
             sys.exit(__doc__)
         path, folders = rest[0], list(dict.fromkeys(os.path.normpath(folder) for folder in rest[1:]))
+    if not folders and not os.path.exists(path):
+        raise Refused(f"there is no {path}")
     season = opened(path)
     left_out = {}
     with season:

@@ -8,8 +8,7 @@ CREATE TABLE matches (
     title TEXT NOT NULL,
     day TEXT,                           -- the first of [info] dates, where the sheet tells it
     venue TEXT,
-    overs INTEGER,                      -- the most overs of an innings, where the sheet tells it
-    result TEXT NOT NULL,               -- won, tied, drawn, no result, unfinished
+    result TEXT NOT NULL,               -- won, tied, drawn, no result, unfinished; by the sheet's outcome, or else by the Laws
     winner TEXT,
     words TEXT NOT NULL,                -- "Birch won by 3 wickets"
     folder TEXT NOT NULL,
@@ -30,6 +29,7 @@ CREATE TABLE innings (
     runs INTEGER NOT NULL, wickets INTEGER NOT NULL, overs TEXT NOT NULL, balls INTEGER NOT NULL,
     byes INTEGER NOT NULL, legbyes INTEGER NOT NULL, wides INTEGER NOT NULL, noballs INTEGER NOT NULL, penalty INTEGER NOT NULL,
     target INTEGER,
+    most_overs INTEGER,                 -- how many it may have, where the sheet tells it
     ended TEXT,                         -- allout, nobatter, declared, forfeited, overs
     PRIMARY KEY (match, innings)
 );
@@ -81,6 +81,18 @@ CREATE TABLE stands (
     is_unbroken INTEGER NOT NULL,
     PRIMARY KEY (match, innings, place)
 );
+
+-- a match that is deleted takes all its rows with it
+CREATE TRIGGER forgotten AFTER DELETE ON matches BEGIN
+    DELETE FROM appearances WHERE match = old.id;
+    DELETE FROM innings WHERE match = old.id;
+    DELETE FROM deliveries WHERE match = old.id;
+    DELETE FROM batters WHERE match = old.id;
+    DELETE FROM bowlers WHERE match = old.id;
+    DELETE FROM dismissals WHERE match = old.id;
+    DELETE FROM stands WHERE match = old.id;
+    DELETE FROM players WHERE (team, player) NOT IN (SELECT team, player FROM appearances);
+END;
 
 -- which folders of the last reading aren't in the tables as they are now, and why
 CREATE TABLE left_out (folder TEXT PRIMARY KEY, why TEXT NOT NULL);
@@ -134,8 +146,8 @@ SELECT match, team, other, iif(result <> 'won', result, iif(winner = team, 'won'
 
 -- runs and overs of matches of limited overs that were won or tied: a side that is all out has had all its overs
 CREATE VIEW rates AS
-SELECT i.team, i.fielding, i.runs, iif(i.ended IN ('allout', 'nobatter'), 6 * m.overs, i.balls) / 6.0 AS overs
-FROM innings i JOIN matches m ON m.id = i.match WHERE m.overs IS NOT NULL AND m.result IN ('won', 'tied');
+SELECT i.team, i.fielding, i.runs, iif(i.ended IN ('allout', 'nobatter'), 6 * i.most_overs, i.balls) / 6.0 AS overs
+FROM innings i JOIN matches m ON m.id = i.match WHERE i.most_overs IS NOT NULL AND m.result IN ('won', 'tied');
 
 CREATE VIEW "table" AS
 SELECT team, count(*) AS played, sum(result = 'won') AS won, sum(result = 'lost') AS lost, sum(result = 'tied') AS tied,
