@@ -20,6 +20,7 @@ use Rattle.headline.specs.Setting.{Setting}
 use Rattle.headline.proofs.Given.{given_there}
 use Rattle.headline.specs.Steps.{Step, StepAt}
 use Rattle.progress.specs.Calm.{AllCalm, IsCalm}
+use Rattle.progress.specs.Exchange.{ComesTo}
 use Rattle.progress.proofs.CalmSeats.{before_trans, place_later, round_later}
 use Rattle.progress.proofs.Boards.{boards_set}
 use Rattle.progress.proofs.Trips.{NoVote}
@@ -168,10 +169,10 @@ module _ {Disk Why : Type 0} (s : Setting Disk Why) where
       (g.0, g.1, on_on k.reader h.0.reader g.0.reader h.2 g.2)
 
   -- a board that is given a vote for its position, and isn't answered that the votes are bad
-  pub board_hears : (w : Configuration Disk) (m : Moment Disk Why) (n r : ℕ) (k l : BoardState) (v : Vote) → Step s w m.event m.answer m.after
-      → m.event ≡ Event.Give r (Station.Board n) → board_at w.boards n ≡ Some k → board_at m.after.boards n ≡ Some l → slice_get w.sent r ≡ Some (Message.Vote v)
+  pub board_hears : (w : Configuration Disk) (m : Moment Disk Why) (n : ℕ) (k l : BoardState) (v : Vote) → Step s w m.event m.answer m.after
+      → ComesTo w m (Station.Board n) (Message.Vote v) → board_at w.boards n ≡ Some k → board_at m.after.boards n ≡ Some l
       → position_of v ≡ k.reader.position → IsSoundAnswer m.event m.answer → Before k.reader.position l.reader.position ⊎ HasNoted l.reader v.desk
-  board_hears w m n r k l v p e at there get pos sound =
+  board_hears w m n k l v p (r, e, get) at there pos sound =
       let q = subst (λ (z : Event). Step s w z m.answer m.after) e p in
       let same : q.0 ≡ k = one_board w.boards n q.0 k q.3 at in
       let boards : m.after.boards ≡ with_board w.boards n q.1 = ap (λ (z : Configuration Disk). z.boards) q.5 in

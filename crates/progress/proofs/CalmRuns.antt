@@ -1,5 +1,5 @@
 -- Calm runs: both desks stay up, and what was sent stays sent.
-use Rattle.std.proofs.Common.{◌≡◌, ℕ, zero, suc, Some, List, [], ◌∷◌, ◌++◌, ◌+◌, ◌<◌, ◌≤◌, length, length-append, append_assoc, refl, sym, ap, ◌∙◌, subst, inl, inr, arith}
+use Rattle.std.proofs.Common.{◌≡◌, ℕ, zero, suc, Some, List, [], ◌∷◌, ◌++◌, ◌+◌, ◌≤◌, length, length-append, append_assoc, refl, sym, ap, ◌∙◌, subst, inl, inr, arith}
 use Rattle.std.specs.Prelude.{slice_get}
 use Rattle.agree_core.specs.declared.messages.{DeskId.DeskId, Message.Message}
 use Rattle.agree_core.specs.declared.messages.DeskId.TheVariants.{A, B}
@@ -15,7 +15,7 @@ use Rattle.headline.specs.Setting.{Setting}
 use Rattle.headline.specs.Steps.{Step, StepAt}
 use Rattle.headline.proofs.Keeping.{Fine, step_keeps}
 use Rattle.progress.specs.Calm.{AllCalm, IsCalm, IsUp}
-use Rattle.progress.specs.Exchange.{Amid, Reaches}
+use Rattle.progress.specs.Exchange.{Amid, ComesTo, Reaches}
 use Rattle.progress.proofs.CalmSeats.{GoesOn, goes_on}
 use Rattle.progress.proofs.CalmSteps.{one_process, step_at_on}
 
@@ -30,13 +30,12 @@ get_here (z ∷ zs) ys x = get_here zs ys x
 
 -- the last of what is sent has the number that comes next
 pub get_last : {X : Type 0} → (xs ys sent : List X) (x : X) → sent ≡ xs ++ (ys ++ (x ∷ []))
-    → (n : ℕ) × (slice_get sent n ≡ Some x) × (length xs ≤ n) × (n < length sent)
+    → (n : ℕ) × (slice_get sent n ≡ Some x) × (length xs ≤ n)
 get_last xs ys sent x e =
     let whole : sent ≡ (xs ++ ys) ++ (x ∷ []) = e ∙ sym (append_assoc xs ys (x ∷ [])) in
     let got = subst (λ (z : List _). slice_get z (length (xs ++ ys)) ≡ Some x) (sym whole) (get_here (xs ++ ys) [] x) in
-    let long : length sent ≡ length (xs ++ ys) + 1 = ap length whole ∙ length-append (xs ++ ys) (x ∷ []) in
     let more : length (xs ++ ys) ≡ length xs + length ys = length-append xs ys in
-    (length (xs ++ ys), got, omega arith, omega arith)
+    (length (xs ++ ys), got, omega arith)
 
 pub node_set : {Disk : Type 0} → (w : Configuration Disk) (d : DeskId) (y : Node Disk) (out : List Message) → node (with_node w d y out) d ≡ y
 node_set w A y out = refl
@@ -56,11 +55,12 @@ module _ {Disk Why : Type 0} where
   calm_split (x ∷ xs) ys c = let h = calm_split xs ys c.0 in (h.0, (h.1, c.1))
 
   -- where a station is given a message
-  pub given_at : (t : Station) (n : ℕ) (ms : List (Moment Disk Why)) → Reaches t n ms → (at : Amid ms) × (at.moment.event ≡ Event.Give n t)
-  given_at t n [] g = absurd g
-  given_at t n (m ∷ ms) (inl e) = (record { later = []; moment = m; earlier = ms; whole = refl }, e)
-  given_at t n (m ∷ ms) (inr g) =
-      let h = given_at t n ms g in
+  pub given_at : (w : Configuration Disk) (t : Station) (message : Message) (ms : List (Moment Disk Why)) → Reaches w t message ms
+      → (at : Amid ms) × ComesTo (last_of w at.earlier) at.moment t message
+  given_at w t message [] g = absurd g
+  given_at w t message (m ∷ ms) (inl e) = (record { later = []; moment = m; earlier = ms; whole = refl }, e)
+  given_at w t message (m ∷ ms) (inr g) =
+      let h = given_at w t message ms g in
       (record { later = m ∷ h.0.later; moment = h.0.moment; earlier = h.0.earlier; whole = ap (λ (x : List (Moment Disk Why)). m ∷ x) h.0.whole }, h.1)
 
 module _ {Disk Why : Type 0} (s : Setting Disk Why) where

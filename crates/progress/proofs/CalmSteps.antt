@@ -1,5 +1,5 @@
 -- In calm moments desks that are up stay up, with the votes that they have.
-use Rattle.std.proofs.Common.{◌≡◌, ℕ, false, true≢false, Some, None, List, ◌++◌, refl, sym, ap, ◌∙◌, subst, inl, arith}
+use Rattle.std.proofs.Common.{◌≡◌, ℕ, false, true≢false, None, List, ◌++◌, refl, sym, ap, ◌∙◌, subst, inl, arith}
 use Rattle.agree_core.specs.declared.messages.{DeskId.DeskId, Message.Message}
 use Rattle.agree_core.specs.declared.messages.DeskId.TheVariants.{A, B}
 use Rattle.agree_core.specs.Ballots.{Ballot, votes_by}
@@ -17,7 +17,6 @@ use Rattle.headline.specs.Steps.{StepAt}
 use Rattle.headline.specs.Given.{IsGiven}
 use Rattle.headline.proofs.Given.{given_fine}
 use Rattle.headline.proofs.Keeping.{Fine, node_fine, running, their_message}
-use Rattle.agree_core.specs.Keeping.{MessageFine}
 use Rattle.progress.specs.Calm.{IsCalm, IsUp}
 use Rattle.progress.proofs.CalmSeats.{GoesOn, hears_on}
 

@@ -1,6 +1,5 @@
 -- What an exchange with a desk brings a board, and when its book is the agreed list.
 use Rattle.std.proofs.Common.{◌≡◌, ◌⊎◌, ◌<◌, ℕ, Some, List, [], ◌∷◌, ◌++◌, length, refl, sym, ap, ◌∙◌, subst, inl, inr, arith}
-use Rattle.std.specs.Prelude.{slice_get}
 use Rattle.notation.specs.declared.entry.Entry.{Entry}
 use Rattle.agree_core.specs.declared.{messages.Ask.Ask, messages.Asker.Asker, messages.DeskId.DeskId, messages.Message.Message, messages.Vote.Vote}
 use Rattle.agree_core.specs.declared.messages.DeskId.TheVariants.{A, B}
@@ -23,7 +22,7 @@ use Rattle.headline.specs.Steps.{Step}
 use Rattle.progress.specs.Exchange.{Amid, Exchange, IsAnswered, Reaches}
 use Rattle.progress.proofs.Boards.{BoardRounds}
 use Rattle.progress.proofs.BoardTrips.{BoardDone, BoardOn, HasNoted, OnFrom, board_goes, board_hears, board_step_on, board_ticks, done_from, done_on, none_there, on_on, one_board}
-use Rattle.progress.proofs.CalmRuns.{Around, CalmRun, Steady, around, ends, get_last, given_at, last_split, run_keeps_sent}
+use Rattle.progress.proofs.CalmRuns.{Around, CalmRun, Steady, around, ends, get_last, given_at, last_split}
 use Rattle.progress.proofs.Trips.{IsGivenTo, NoVote, fine_at, given_to, none_full, others_justified, other_other, replies}
 
 -- each of these answers is sound
@@ -108,10 +107,10 @@ module _ {Disk Why : Type 0} (s : Setting Disk Why) where
     -- the answer is heard
     returned : (c : Configuration Disk) (ns : List (Moment Disk Why)) → CalmRun s v c ns → AllSound ns → last_of w ms ≡ last_of c ns
         → (k2 : BoardState) → board_at c.boards n ≡ Some k2 → BoardOn k.reader k2.reader
-        → (i : ℕ) (x : Vote) → x.desk ≡ d → position_of x ≡ k.reader.position → slice_get c.sent i ≡ Some (Message.Vote x)
-        → Reaches (Station.Board n) i ns → BoardDone votes d k.reader l.reader
-    returned c ns run ok last k2 e2 g i x desk pos get given =
-        let h = given_at (Station.Board n) i ns given in
+        → (x : Vote) → x.desk ≡ d → position_of x ≡ k.reader.position
+        → Reaches c (Station.Board n) (Message.Vote x) ns → BoardDone votes d k.reader l.reader
+    returned c ns run ok last k2 e2 g x desk pos given =
+        let h = given_at c (Station.Board n) (Message.Vote x) ns given in
         let ar = around s v c ns run h.0 in
         let m = h.0.moment in
         let c3 = last_of c h.0.earlier in
@@ -120,11 +119,10 @@ module _ {Disk Why : Type 0} (s : Setting Disk Why) where
         let g3 = on_on k.reader k2.reader k3.0.reader g k3.2 in
         let g4 = on_on k.reader k3.0.reader k4.0.reader g3 k4.2 in
         let g5 = rest_on m.after h.0.later ar.after (last ∙ ar.last) k4.0 k4.1 in
-        let get3 = run_keeps_sent s c h.0.earlier i (Message.Vote x) ar.before.run get in
         elim g3 [
           | inl b ↦ done_on votes d k.reader k3.0.reader l.reader (inl b) (inl b) (on_on k3.0.reader k4.0.reader l.reader k4.2 g5)
           | inr e ↦
-              let p = board_hears s c3 m n i k3.0 k4.0 x ar.step h.1 k3.1 k4.1 get3 (pos ∙ sym e.0) (sound_amid ns ok h.0).1 in
+              let p = board_hears s c3 m n k3.0 k4.0 x ar.step h.1 k3.1 k4.1 (pos ∙ sym e.0) (sound_amid ns ok h.0).1 in
               let q : BoardDone votes d k3.0.reader k4.0.reader = elim p [
                 | inl b ↦ inl b
                 | inr b ↦ inr (inl (subst (HasNoted k4.0.reader) desk b))
@@ -133,7 +131,7 @@ module _ {Disk Why : Type 0} (s : Setting Disk Why) where
         ]
 
     -- the desk is given the ask
-    module _ (from : Asker) (i : ℕ) (get : slice_get w.sent i ≡ Some (ask_for from k.reader.position)) (x : IsAnswered w (Station.Board n) d i ms) where
+    module _ (from : Asker) (x : IsAnswered w (Station.Board n) d (ask_for from k.reader.position) ms) where
       abbrev here : Message
       here = ask_for from k.reader.position
 
@@ -153,7 +151,7 @@ module _ {Disk Why : Type 0} (s : Setting Disk Why) where
       st = ends s v w x.at.earlier ar.before
 
       to : IsGivenTo s c2 m d (st.up d).0 here
-      to = given_to s c2 m d i (st.up d).0 here (st.up d).1 ar.step x.given (run_keeps_sent s w x.at.earlier i here ar.before.run get)
+      to = given_to s c2 m d (st.up d).0 here (st.up d).1 ar.step x.given
 
       goes : OnFrom s n k m.after
       goes =
@@ -171,7 +169,7 @@ module _ {Disk Why : Type 0} (s : Setting Disk Why) where
           let sent : m.after.sent ≡ c2.sent ++ (Message.Vote vote ∷ []) = to.sent ∙ ap (λ (z : List Message). c2.sent ++ z) h.2 in
           let got = get_last c2.sent [] m.after.sent (Message.Vote vote) sent in
           let desk : o.0.seat.desk ≡ d = (fine_at s c2 v st d o.0 o.1).seat.desk in
-          returned m.after x.at.later ar.after (sound_amid ms sound x.at).0 ar.last goes.0 goes.1 goes.2 got.0 vote desk refl got.1 (x.heard got.0 (got.2, got.3))
+          returned m.after x.at.later ar.after (sound_amid ms sound x.at).0 ar.last goes.0 goes.1 goes.2 vote desk refl (x.heard (Message.Vote vote) (got.0, got.2, got.1))
 
       pub asked : BoardDone votes d k.reader l.reader
       asked = answered (replies s c2 m d (st.up d).0 q (st.up d).1 to)
@@ -213,8 +211,9 @@ module _ {Disk Why : Type 0} (s : Setting Disk Why) where
           none_there votes d k1.0.reader l.reader (none_full (votes_by v (other d)) votes k1.0.reader.position justified h.0)
           (rest_on v m.after x.at.later ar.after (sound_amid ms sound x.at).0 d n k1.0 l tick.3 there m.after x.at.later ar.after refl k1.0 tick.3)
       turn (inl h) =
-          let got = get_last c1.sent [] m.after.sent (ask_for Asker.Board k1.0.reader.position) (tick.2 ∙ ap (λ (z : List Message). c1.sent ++ z) h.1) in
-          asked v m.after x.at.later ar.after (sound_amid ms sound x.at).0 d n k1.0 l tick.3 there Asker.Board got.0 got.1 (x.answered got.0 (got.2, got.3))
+          let ask = ask_for Asker.Board k1.0.reader.position in
+          let got = get_last c1.sent [] m.after.sent ask (tick.2 ∙ ap (λ (z : List Message). c1.sent ++ z) h.1) in
+          asked v m.after x.at.later ar.after (sound_amid ms sound x.at).0 d n k1.0 l tick.3 there Asker.Board (x.answered ask (got.0, got.2, got.1))
 
   -- not both are noted
   pub lacks : (v : AllVotes) (r t : ReaderState) → ReaderWaits t → BoardDone v.a A r t → BoardDone v.b B r t

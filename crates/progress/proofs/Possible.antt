@@ -25,7 +25,7 @@ use Rattle.headline.specs.Steps.{Step}
 use Rattle.progress.specs.Calm.{AllCalm, IsCalm}
 use Rattle.progress.specs.Exchange.{Amid, Exchange, HandsOut, HasExchanges, IsAnswered, Reaches}
 use Rattle.progress.specs.Progress.{Hear, MayHear}
-use Rattle.progress.proofs.CalmRuns.{Steady, ends, last_split, step_sent, step_steady}
+use Rattle.progress.proofs.CalmRuns.{Steady, ends, last_split, run_keeps_sent, step_sent, step_steady}
 use Rattle.progress.proofs.CaughtUp.{voted_or_not}
 use Rattle.progress.proofs.Settled.{steady}
 use Rattle.progress.proofs.Followed.{run_join}
@@ -92,15 +92,15 @@ get_some [] n less = absurd (omega (arith, less))
 get_some (x ∷ xs) zero less = (x, refl)
 get_some (x ∷ xs) (suc n) less = get_some xs n (omega (arith, less))
 
-module _ {Disk Why : Type 0} where
-  given_more : (t : Station) (n : ℕ) (xs ys : List (Moment Disk Why)) → Reaches t n ys → Reaches t n (xs ++ ys)
-  given_more t n [] ys g = g
-  given_more t n (x ∷ xs) ys g = inr (given_more t n xs ys g)
+get_less : {X : Type 0} → (xs : List X) (n : ℕ) (x : X) → slice_get xs n ≡ Some x → n < length xs
+get_less [] n x e = absurd (cc)
+get_less (z ∷ zs) zero x e = omega arith
+get_less (z ∷ zs) (suc n) x e = let less = get_less zs n x e in omega (arith, less)
 
-  given_later : (t : Station) (n : ℕ) (xs ys : List (Moment Disk Why)) → Reaches t n xs → Reaches t n (xs ++ ys)
-  given_later t n [] ys g = absurd g
-  given_later t n (x ∷ xs) ys (inl e) = inl e
-  given_later t n (x ∷ xs) ys (inr g) = inr (given_later t n xs ys g)
+module _ {Disk Why : Type 0} where
+  given_more : (w : Configuration Disk) (t : Station) (message : Message) (xs ys : List (Moment Disk Why)) → Reaches w t message ys → Reaches w t message (xs ++ ys)
+  given_more w t message [] ys g = g
+  given_more w t message (x ∷ xs) ys g = inr (given_more w t message xs ys g)
 
   calm_join : (xs ys : List (Moment Disk Why)) → AllCalm ys → AllCalm xs → AllCalm (xs ++ ys)
   calm_join [] ys b a = b
@@ -115,20 +115,12 @@ module _ {Disk Why : Type 0} where
     whole = ap (λ (z : List (Moment Disk Why)). z ++ before) at.whole ∙ append_assoc at.later (at.moment ∷ at.earlier) before;
   }
 
-  answered_before : (w : Configuration Disk) (t : Station) (d : DeskId) (n : ℕ) (ms before : List (Moment Disk Why)) → IsAnswered (last_of w before) t d n ms
-      → IsAnswered w t d n (ms ++ before)
-  unfolding amid_before
-  answered_before w t d n ms before x = record {
-    at = amid_before ms before x.at;
-    given = x.given;
-    heard = λ r h. x.heard r (subst (λ (z : Configuration Disk). HandsOut z x.at.moment r) (last_split w x.at.earlier before) h);
-  }
-
-  answered_after : (w : Configuration Disk) (t : Station) (d : DeskId) (n : ℕ) (after ms : List (Moment Disk Why)) → IsAnswered w t d n ms → IsAnswered w t d n (after ++ ms)
-  answered_after w t d n after ms x = record {
+  answered_after : (w : Configuration Disk) (t : Station) (d : DeskId) (message : Message) (after ms : List (Moment Disk Why)) → IsAnswered w t d message ms
+      → IsAnswered w t d message (after ++ ms)
+  answered_after w t d message after ms x = record {
     at = record { later = after ++ x.at.later; moment = x.at.moment; earlier = x.at.earlier; whole = ap (λ (z : List (Moment Disk Why)). after ++ z) x.at.whole ∙ sym (append_assoc after x.at.later (x.at.moment ∷ x.at.earlier)) };
     given = x.given;
-    heard = λ r h. given_more t r after x.at.later (x.heard r h);
+    heard = λ r h. given_more x.at.moment.after t r after x.at.later (x.heard r h);
   }
 
   pub exchange_before : (w : Configuration Disk) (t : Station) (d : DeskId) (ms before : List (Moment Disk Why)) → Exchange (last_of w before) t d ms → Exchange w t d (ms ++ before)
@@ -136,14 +128,15 @@ module _ {Disk Why : Type 0} where
   exchange_before w t d ms before x = record {
     at = amid_before ms before x.at;
     ticks = x.ticks;
-    answered = λ n h. x.answered n (subst (λ (z : Configuration Disk). HandsOut z x.at.moment n) (last_split w x.at.earlier before) h);
+    answered = λ message h.
+        x.answered message (subst (λ (z : Configuration Disk). HandsOut z x.at.moment message) (last_split w x.at.earlier before) h);
   }
 
   pub exchange_after : (w : Configuration Disk) (t : Station) (d : DeskId) (after ms : List (Moment Disk Why)) → Exchange w t d ms → Exchange w t d (after ++ ms)
   exchange_after w t d after ms x = record {
     at = record { later = after ++ x.at.later; moment = x.at.moment; earlier = x.at.earlier; whole = ap (λ (z : List (Moment Disk Why)). after ++ z) x.at.whole ∙ sym (append_assoc after x.at.later (x.at.moment ∷ x.at.earlier)) };
     ticks = x.ticks;
-    answered = λ n h. answered_after x.at.moment.after t d n after x.at.later (x.answered n h);
+    answered = λ message h. answered_after x.at.moment.after t d message after x.at.later (x.answered message h);
   }
 
 module _ {Disk Why : Type 0} (s : Setting Disk Why) (v : AllVotes) where
@@ -256,8 +249,8 @@ module _ {Disk Why : Type 0} (s : Setting Disk Why) (v : AllVotes) where
 
   -- the station is given so many messages, from this number on
   all_given : (w : Configuration Disk) → Steady s v w → (t : Station) → Ready t w → (from many : ℕ) → from + many ≤ length w.sent
-      → SomeMoments w (λ ms. (r : ℕ) → from ≤ r → r < from + many → Reaches t r ms)
-  all_given w st t ready from zero less = record { ms = []; run = tt; calm = tt; so = λ r a b. absurd (omega (arith, a, b)) }
+      → SomeMoments w (λ ms. (message : Message) (r : ℕ) → from ≤ r → r < from + many → slice_get w.sent r ≡ Some message → Reaches w t message ms)
+  all_given w st t ready from zero less = record { ms = []; run = tt; calm = tt; so = λ message r a b get. absurd (omega (arith, a, b)) }
   all_given w st t ready from (suc many) less =
       let before = all_given w st t ready from many (omega (arith, less)) in
       let mid = ends s v w before.ms (record { begins = st; run = before.run; calm = before.calm }) in
@@ -269,17 +262,17 @@ module _ {Disk Why : Type 0} (s : Setting Disk Why) (v : AllVotes) where
         ms = m.0 ∷ before.ms;
         run = (before.run, m.2);
         calm = (before.calm, calm_give last t m.0 m.1);
-        so = λ r a b. elim (compare r last) [
-          | inl lo ↦ inr (before.so r a lo)
-          | inr (inl e) ↦ inl (m.1 ∙ ap (λ (z : ℕ). Event.Give z t) (sym e))
+        so = λ message r a b get. elim (compare r last) [
+          | inl lo ↦ inr (before.so message r a lo get)
+          | inr (inl e) ↦ inl (last, m.1, run_keeps_sent s w before.ms last message before.run (subst (λ (z : ℕ). slice_get w.sent z ≡ Some message) e get))
           | inr (inr hi) ↦ absurd (omega (arith, b, hi))
         ];
       }
 
   -- so many messages, from this number on, are given to a desk, and what it answers to the station
   all_answered : (w : Configuration Disk) → Steady s v w → (t : Station) → Ready t w → (d : DeskId) (from many : ℕ) → from + many ≤ length w.sent
-      → SomeMoments w (λ ms. (n : ℕ) → from ≤ n → n < from + many → IsAnswered w t d n ms)
-  all_answered w st t ready d from zero less = record { ms = []; run = tt; calm = tt; so = λ n a b. absurd (omega (arith, a, b)) }
+      → SomeMoments w (λ ms. (message : Message) (n : ℕ) → from ≤ n → n < from + many → slice_get w.sent n ≡ Some message → IsAnswered w t d message ms)
+  all_answered w st t ready d from zero less = record { ms = []; run = tt; calm = tt; so = λ message n a b get. absurd (omega (arith, a, b)) }
   all_answered w st t ready d from (suc many) less =
       let before = all_answered w st t ready d from many (omega (arith, less)) in
       let last = from + many in
@@ -298,13 +291,13 @@ module _ {Disk Why : Type 0} (s : Setting Disk Why) (v : AllVotes) where
         ms = replies.ms ++ (m.0 ∷ before.ms);
         run = run_join s w replies.ms (m.0 ∷ before.ms) (before.run, m.2) replies.run;
         calm = calm_join replies.ms (m.0 ∷ before.ms) (before.calm, calm) replies.calm;
-        so = λ n a b. elim (compare n last) [
+        so = λ message n a b get. elim (compare n last) [
           | inl lo ↦
-              answered_after w t d n replies.ms (m.0 ∷ before.ms) (answered_after w t d n (m.0 ∷ []) before.ms (before.so n a lo))
+              answered_after w t d message replies.ms (m.0 ∷ before.ms) (answered_after w t d message (m.0 ∷ []) before.ms (before.so message n a lo get))
           | inr (inl e) ↦ record {
             at = record { later = replies.ms; moment = m.0; earlier = before.ms; whole = refl };
-            given = m.1 ∙ ap (λ (z : ℕ). Event.Give z (Station.Desk d)) (sym e);
-            heard = λ r h. replies.so r h.0 (let less = h.1 in omega (arith, less, more));
+            given = (last, m.1, run_keeps_sent s w before.ms last message before.run (subst (λ (z : ℕ). slice_get w.sent z ≡ Some message) e get));
+            heard = λ reply h. replies.so reply h.0 h.1 (let less = get_less m.0.after.sent h.0 reply h.2 in omega (arith, less, more)) h.2;
           }
           | inr (inr hi) ↦ absurd (omega (arith, b, hi))
         ];
@@ -325,7 +318,7 @@ module _ {Disk Why : Type 0} (s : Setting Disk Why) (v : AllVotes) where
         so = record {
           at = record { later = x.ms; moment = m.0; earlier = []; whole = refl };
           ticks = m.1;
-          answered = λ n h. x.so n h.0 (let less = h.1 in omega (arith, less, more));
+          answered = λ message h. x.so message h.0 h.1 (let less = get_less m.0.after.sent h.0 message h.2 in omega (arith, less, more)) h.2;
         };
       }
 

@@ -1,6 +1,5 @@
 -- What one exchange brings a desk: a later position, or all that the other desk has cast at its position.
-use Rattle.std.proofs.Common.{◌≡◌, ◌≢◌, ◌⊎◌, ℕ, true≢false, Option, Some, None, List, [], ◌∷◌, ◌++◌, refl, sym, ap, ◌∙◌, subst, inl, inr, arith}
-use Rattle.std.specs.Prelude.{slice_get}
+use Rattle.std.proofs.Common.{◌≡◌, ◌≢◌, ◌⊎◌, true≢false, Option, Some, None, List, [], ◌∷◌, ◌++◌, refl, sym, ap, ◌∙◌, subst, inl, inr, arith}
 use Rattle.notation.specs.declared.entry.Entry.{Entry}
 use Rattle.agree_core.specs.declared.{messages.Ask.Ask, messages.Asker.Asker, messages.DeskId.DeskId, messages.Message.Message, messages.Vote.Vote, position.Position.Position, seat.Heard.Heard}
 use Rattle.agree_core.specs.declared.messages.DeskId.TheVariants.{A, B}
@@ -19,10 +18,10 @@ use Rattle.headline.specs.Steps.{Step}
 use Rattle.headline.proofs.Given.{given_there}
 use Rattle.headline.proofs.Keeping.{all_justified, node_fine, running}
 use Rattle.progress.specs.Calm.{IsUp, NotBack}
-use Rattle.progress.specs.Exchange.{Exchange, IsAnswered, Reaches}
+use Rattle.progress.specs.Exchange.{ComesTo, Exchange, IsAnswered, Reaches}
 use Rattle.progress.proofs.CalmSeats.{GoesOn, goes_on, before_trans, not_back, place_later, round_later}
 use Rattle.progress.proofs.CalmSteps.{one_process}
-use Rattle.progress.proofs.CalmRuns.{Around, CalmRun, Steady, around, ends, get_last, given_at, node_set, run_keeps_sent, seat_goes, sent_set, steady_votes, step_goes}
+use Rattle.progress.proofs.CalmRuns.{Around, CalmRun, Steady, around, ends, get_last, given_at, node_set, seat_goes, sent_set, steady_votes, step_goes}
 
 -- nothing is cast at this position
 abbrev pub NoVote : List Ballot → Position → Type 0
@@ -117,10 +116,9 @@ module _ {Disk Why : Type 0} (s : Setting Disk Why) where
     pub after : AfterReceive (s.view d (node w d).version) (node w d) told l out m.answer (node m.after d)
     pub sent : m.after.sent ≡ w.sent ++ out
 
-  pub given_to : (w : Configuration Disk) (m : Moment Disk Why) (d : DeskId) (n : ℕ) (k : DeskState Disk) (message : Message) → IsUp (node w d) k
-      → Step s w m.event m.answer m.after → m.event ≡ Event.Give n (Station.Desk d) → slice_get w.sent n ≡ Some message
-      → IsGivenTo w m d k message
-  given_to w m d n k message u p e get =
+  pub given_to : (w : Configuration Disk) (m : Moment Disk Why) (d : DeskId) (k : DeskState Disk) (message : Message) → IsUp (node w d) k
+      → Step s w m.event m.answer m.after → ComesTo w m (Station.Desk d) message → IsGivenTo w m d k message
+  given_to w m d k message u p (n, e, get) =
       let q = subst (λ (z : Event). Step s w z m.answer m.after) e p in
       let h = q.2 in
       let same : h.0 ≡ k = one_process (node w d) h.0 k h.4 u.runs in
@@ -174,10 +172,10 @@ module _ {Disk Why : Type 0} (s : Setting Disk Why) where
     -- the answer is heard
     returned : (c : Configuration Disk) (ns : List (Moment Disk Why)) → CalmRun s v c ns → last_of w ms ≡ last_of c ns
         → (k2 : DeskState Disk) → IsUp (node c d) k2 → GoesOn theirs k.seat k2.seat
-        → (n : ℕ) (x : Vote) → x.desk ≡ other d → position_of x ≡ k.seat.position → slice_get c.sent n ≡ Some (Message.Vote x)
-        → Reaches (Station.Desk d) n ns → Done theirs k.seat l.seat
-    returned c ns run last k2 u2 g n x desk at get given =
-        let h = given_at (Station.Desk d) n ns given in
+        → (x : Vote) → x.desk ≡ other d → position_of x ≡ k.seat.position
+        → Reaches c (Station.Desk d) (Message.Vote x) ns → Done theirs k.seat l.seat
+    returned c ns run last k2 u2 g x desk at given =
+        let h = given_at c (Station.Desk d) (Message.Vote x) ns given in
         let ar = around s v c ns run h.0 in
         let m = h.0.moment in
         let c3 = last_of c h.0.earlier in
@@ -187,8 +185,7 @@ module _ {Disk Why : Type 0} (s : Setting Disk Why) where
         let g4 = step_goes s v c3 m (ends s v c h.0.earlier ar.before) ar.calm ar.step d k3.0 k4.0 k3.1 k4.1 in
         let there : IsUp (node (last_of m.after h.0.later) d) l = subst (λ (z : Configuration Disk). IsUp (node z d) l) (last ∙ ar.last) u' in
         let g5 = seat_goes s v m.after h.0.later ar.after d k4.0 l k4.1 there in
-        let get3 = run_keeps_sent s c h.0.earlier n (Message.Vote x) ar.before.run get in
-        let to = given_to c3 m d n k3.0 (Message.Vote x) k3.1 ar.step h.1 get3 in
+        let to = given_to c3 m d k3.0 (Message.Vote x) k3.1 ar.step h.1 in
         let mine : k3.0.seat.desk ≡ d = (fine_at c3 v (ends s v c h.0.earlier ar.before) d k3.0 k3.1).seat.desk in
         let differ : x.desk ≢ k3.0.seat.desk = λ e. not_other d (sym desk ∙ e ∙ mine) in
         let heard : k3.0.seat.position ≡ k.seat.position → Done theirs k.seat l.seat = λ e.
@@ -201,7 +198,7 @@ module _ {Disk Why : Type 0} (s : Setting Disk Why) where
         ]
 
     -- the other desk is given the ask
-    module _ (from : Asker) (n : ℕ) (get : slice_get w.sent n ≡ Some (ask_for from k.seat.position)) (x : IsAnswered w (Station.Desk d) (other d) n ms) where
+    module _ (from : Asker) (x : IsAnswered w (Station.Desk d) (other d) (ask_for from k.seat.position) ms) where
       abbrev here : Message
       here = ask_for from k.seat.position
 
@@ -221,7 +218,7 @@ module _ {Disk Why : Type 0} (s : Setting Disk Why) where
       st = ends s v w x.at.earlier ar.before
 
       to : IsGivenTo c2 m (other d) (st.up (other d)).0 here
-      to = given_to c2 m (other d) n (st.up (other d)).0 here (st.up (other d)).1 ar.step x.given (run_keeps_sent s w x.at.earlier n here ar.before.run get)
+      to = given_to c2 m (other d) (st.up (other d)).0 here (st.up (other d)).1 ar.step x.given
 
       goes : GoesOn theirs k.seat (ar.after.begins.up d).0.seat
       goes =
@@ -240,7 +237,7 @@ module _ {Disk Why : Type 0} (s : Setting Disk Why) where
           let got = get_last c2.sent [] m.after.sent (Message.Vote vote) sent in
           let desk : o.0.seat.desk ≡ other d = (fine_at c2 v st (other d) o.0 o.1).seat.desk in
           let k3 = ar.after.begins.up d in
-          returned m.after x.at.later ar.after ar.last k3.0 k3.1 goes got.0 vote desk refl got.1 (x.heard got.0 (got.2, got.3))
+          returned m.after x.at.later ar.after ar.last k3.0 k3.1 goes vote desk refl (x.heard (Message.Vote vote) (got.0, got.2, got.1))
 
       pub asked : Done theirs k.seat l.seat
       asked = answered (replies c2 m (other d) (st.up (other d)).0 q (st.up (other d)).1 to)
@@ -302,7 +299,7 @@ module _ {Disk Why : Type 0} (s : Setting Disk Why) where
           let from = asker k1.0.seat.desk in
           let out : tick.0 ≡ own ++ (ask ∷ []) = subst (λ (z : Option Entry). tick.0 ≡ own ++ ask_other from p z) none h.2 in
           let got = get_last c1.sent own m.after.sent ask (tick.2 ∙ ap (λ (z : List Message). c1.sent ++ z) out) in
-          asked v m.after x.at.later ar.after d k1.0 l tick.3 there from got.0 got.1 (x.answered got.0 (got.2, got.3))
+          asked v m.after x.at.later ar.after d k1.0 l tick.3 there from (x.answered ask (got.0, got.2, got.1))
 
       turn : (o : Option Entry) → k1.0.seat.theirs ≡ o → Done theirs k1.0.seat l.seat
       turn (Some f) e = done_on theirs k1.0.seat k1.0.seat l.seat (inl refl) (inr (inl (f, e))) g2

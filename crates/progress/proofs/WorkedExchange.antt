@@ -1,7 +1,8 @@
 -- The worked exchange is one.
-use Rattle.std.proofs.Common.{◌≡◌, ◌≢◌, ℕ, zero, suc, Some, [], ◌∷◌, refl, sym, ap, subst, inl, inr, arith}
+use Rattle.std.proofs.Common.{◌≡◌, ◌≢◌, ◌≤◌, ℕ, zero, suc, Some, [], ◌∷◌, refl, sym, ap, subst, inl, inr, arith}
+use Rattle.std.specs.Prelude.{slice_get}
 use Rattle.notation.specs.declared.entry.Entry.{Entry}
-use Rattle.agree_core.specs.declared.messages.DeskId.{DeskId}
+use Rattle.agree_core.specs.declared.messages.{DeskId.DeskId, Message.Message}
 use Rattle.agree_core.specs.declared.messages.DeskId.TheVariants.{A, B}
 use Rattle.agree_core.specs.declared.seat.Heard.{Heard}
 use Rattle.agree_core.specs.Books.{Rules}
@@ -14,9 +15,9 @@ use Rattle.progress.proofs.CalmSteps.{one_process}
 use Rattle.agree_core.specs.Positions.{first}
 use Rattle.agree_core.specs.FileView.{Stays}
 use Rattle.agree_core.specs.WorkedSteps.{Shown, says, shows, waits}
-use Rattle.headline.specs.declared.event.{Event.Event, Station.Station}
+use Rattle.headline.specs.declared.event.{Station.Station}
 use Rattle.headline.specs.Runs.{Run}
-use Rattle.progress.specs.Exchange.{Exchange, HandsOut, IsAnswered}
+use Rattle.progress.specs.Exchange.{Exchange, HandsOut, IsAnswered, Reaches}
 use Rattle.progress.specs.Calm.{IsUp}
 use Rattle.progress.specs.InStep.{EachKnows}
 use Rattle.progress.specs.WorkedExchange.{WorkedExchange, a_answers, a_ticks, all_said, answer_given, ask_given, at, b_ticks, both_said, exchanged, heard, unheard, up, vote_given, worked}
@@ -46,31 +47,46 @@ module _ {Why : Type 0} (rules : Rules Why) (e : Entry) where
     (up (heard e), [], (heard e, heard e, _, ReceiveAnswer.Told Heard.Again, refl, inl refl, (refl, ((differ, refl), refl, refl), stays _, refl, refl), (refl, refl)), refl),
   )
 
+  none : (reply : Message) (n : ℕ) → 3 ≤ n → slice_get (both_said e) n ≡ Some reply → {Z : Type 0} → Z
+  none reply zero low get = absurd (omega (arith, low))
+  none reply (suc zero) low get = absurd (omega (arith, low))
+  none reply (suc (suc zero)) low get = absurd (omega (arith, low))
+  none reply (suc (suc (suc n))) low get = absurd (cc)
+
+  answer : (reply : Message) (n : ℕ) → 3 ≤ n → slice_get (all_said e) n ≡ Some reply
+      → Reaches (at e (heard e) (all_said e)) (Station.Desk B) reply (answer_given {Why = Why} e ∷ [])
+  answer reply zero low get = absurd (omega (arith, low))
+  answer reply (suc zero) low get = absurd (omega (arith, low))
+  answer reply (suc (suc zero)) low get = absurd (omega (arith, low))
+  answer reply (suc (suc (suc zero))) low get = inl (3, refl, get)
+  answer reply (suc (suc (suc (suc n)))) low get = absurd (cc)
+
   -- each message of A's tick is given to B, which has no answer
-  told_b : (n : ℕ) → HandsOut (at e unheard []) (a_ticks {Why = Why} e) n
-      → IsAnswered (at e unheard (says A 0 e ∷ ask_for Asker.A first ∷ [])) (Station.Desk A) B n (answer_given {Why = Why} e ∷ a_answers e ∷ ask_given e ∷ vote_given e ∷ b_ticks e ∷ [])
-  told_b zero h = record {
+  told_b : (message : Message) → HandsOut (at e unheard []) (a_ticks {Why = Why} e) message
+      → IsAnswered (at e unheard (says A 0 e ∷ ask_for Asker.A first ∷ [])) (Station.Desk A) B message (answer_given {Why = Why} e ∷ a_answers e ∷ ask_given e ∷ vote_given e ∷ b_ticks e ∷ [])
+  told_b message (zero, low, get) = record {
     at = record { later = answer_given e ∷ a_answers e ∷ ask_given e ∷ []; moment = vote_given e; earlier = b_ticks e ∷ []; whole = refl };
-    given = refl;
-    heard = λ r k. absurd (omega arith);
+    given = (0, refl, get);
+    heard = λ reply h. none reply h.0 h.1 h.2;
   }
-  told_b (suc zero) h = record {
+  told_b message (suc zero, low, get) = record {
     at = record { later = answer_given e ∷ a_answers e ∷ []; moment = ask_given e; earlier = vote_given e ∷ b_ticks e ∷ []; whole = refl };
-    given = refl;
-    heard = λ r k. absurd (omega arith);
+    given = (1, refl, get);
+    heard = λ reply h. none reply h.0 h.1 h.2;
   }
-  told_b (suc (suc n)) h = absurd (omega arith)
+  told_b message (suc (suc n), low, get) = absurd (cc)
 
   -- the ask of B's tick is given to A, and A's answer to B
-  told_a : (n : ℕ) → HandsOut (at e unheard (says A 0 e ∷ ask_for Asker.A first ∷ [])) (b_ticks {Why = Why} e) n
-      → IsAnswered (at e unheard (both_said e)) (Station.Desk B) A n (answer_given {Why = Why} e ∷ a_answers e ∷ ask_given e ∷ vote_given e ∷ [])
-  told_a n h =
-      let q : n ≡ 2 = omega arith in
-      record {
-        at = record { later = answer_given e ∷ []; moment = a_answers e; earlier = ask_given e ∷ vote_given e ∷ []; whole = refl };
-        given = ap (λ (z : ℕ). Event.Give z (Station.Desk A)) (sym q);
-        heard = λ r k. let p : 3 ≡ r = omega arith in inl (ap (λ (z : ℕ). Event.Give z (Station.Desk B)) p);
-      }
+  told_a : (message : Message) → HandsOut (at e unheard (says A 0 e ∷ ask_for Asker.A first ∷ [])) (b_ticks {Why = Why} e) message
+      → IsAnswered (at e unheard (both_said e)) (Station.Desk B) A message (answer_given {Why = Why} e ∷ a_answers e ∷ ask_given e ∷ vote_given e ∷ [])
+  told_a message (suc (suc zero), low, get) = record {
+    at = record { later = answer_given e ∷ []; moment = a_answers e; earlier = ask_given e ∷ vote_given e ∷ []; whole = refl };
+    given = (2, refl, get);
+    heard = λ reply h. answer reply h.0 h.1 h.2;
+  }
+  told_a message (zero, low, get) = absurd (omega arith)
+  told_a message (suc zero, low, get) = absurd (omega arith)
+  told_a message (suc (suc (suc n)), low, get) = absurd (cc)
 
   of_a : Exchange (at e unheard []) (Station.Desk A) B (exchanged {Why = Why} e)
   of_a = record {
