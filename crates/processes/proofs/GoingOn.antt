@@ -1,5 +1,5 @@
 -- What happens to processes, while no scorer types, is a calm run.
-use Rattle.std.proofs.Common.{arith, ◌≡◌, ℕ, Option, Some, None, Ok, Err, List, [], ◌∷◌, ◌++◌, length, refl, sym, ap, ◌∙◌, subst, append-nil}
+use Rattle.std.proofs.Common.{◌≡◌, ℕ, Some, Ok, Err, List, [], ◌∷◌, ◌++◌, length, refl, sym, ap, ◌∙◌, subst, append-nil}
 use Rattle.corrections.specs.Refusal.{book_refusal}
 use Rattle.corrections.specs.declared.refusal.Refusal.{Refusal}
 use Rattle.cards.specs.Sheet.{Sheet}
@@ -30,9 +30,10 @@ use Rattle.live.specs.Sights.{Sight}
 use Rattle.live.specs.Desks as desks
 use Rattle.live.specs.Desks.{DeskCall, DeskStep}
 use Rattle.processes.specs.Happenings.{BoardCalled, BoardCame, DeskCalled, DeskCame, Flow, Happening, Happens, after, after_one, with_process}
-use Rattle.processes.specs.Progress.{AllQuiet, ArePlayed, GoOn, IsQuiet, IsQuietCall, Plays, ProcessesGoOn}
+use Rattle.processes.specs.Progress.{AllQuiet, ArePlayed, IsQuiet, IsQuietCall, Plays, ProcessesGoOn}
 use Rattle.processes.proofs.BoardSteps.{same_board, with_it}
 use Rattle.processes.proofs.DeskSteps.{itself, runs_on, unmoved}
+use Rattle.processes.proofs.Exchanged.{after_both, as_sent, board_exchange, exchange}
 use Rattle.processes.proofs.FlowLaws.{begins_calm}
 use Rattle.processes.proofs.Flowing.{flow_runs}
 use Rattle.processes.proofs.Going.{last_on, run_on}
@@ -77,15 +78,15 @@ module _ {Disk : Type 0} (s : Setting Disk Refusal) (game innings : ℕ) (rules 
   desk_plays d sheet k l (desks.Given bytes What.Failed) out text at came h quiet = silent _ _ (same_desk v d k l out at h.1 h.2) refl
   desk_plays d sheet k l (desks.Given bytes (What.Bad fault)) out text at came h quiet = silent _ _ (same_desk v d k l out at h.2 h.3) refl
   desk_plays d sheet k l (desks.Given bytes (What.Heard x)) out text at came h quiet =
-      let found = came h.0 h.1 in
+      let found = as_sent v.sent h.0 (came h.0 h.1) in
       let y = runs_on (node v d) l (node v d).due in
       single (DeskCalled d sheet (desks.Given bytes (What.Heard x)) out l text) (Event.Give found.0 (Station.Desk d)) (answers.Told x) (with_node v d y out) tt
-      (y, out, (k, l, h.0, ReceiveAnswer.Told x, at, found.1, h.2, (refl, refl)), refl) (found.0, h.0, refl, h.1, found.1)
+      (y, out, (k, l, h.0, ReceiveAnswer.Told x, at, found.1.0, h.2, (refl, refl)), refl) (found.0, h.0, refl, h.1, found.1)
   desk_plays d sheet k l (desks.Given bytes What.Asked) out text at came h quiet =
-      let found = came h.0 h.1 in
+      let found = as_sent v.sent h.0 (came h.0 h.1) in
       let y = runs_on (node v d) l (node v d).due in
       single (DeskCalled d sheet (desks.Given bytes What.Asked) out l text) (Event.Give found.0 (Station.Desk d)) (answers.Asked (has_any out)) (with_node v d y out) tt
-      (y, out, (k, l, h.0, ReceiveAnswer.Asked, at, found.1, h.2, (refl, refl)), refl) (found.0, h.0, refl, h.1, found.1)
+      (y, out, (k, l, h.0, ReceiveAnswer.Asked, at, found.1.0, h.2, (refl, refl)), refl) (found.0, h.0, refl, h.1, found.1)
   desk_plays d sheet k l desks.Ticked out text at came h quiet =
       let e : (node v d).process ≡ Running l = at ∙ ap Running (sym h.1) in
       let y = runs_on (node v d) l (node v d).due in
@@ -97,18 +98,18 @@ module _ {Disk : Type 0} (s : Setting Disk Refusal) (game innings : ℕ) (rules 
       → BoardCame game v.sent call → BoardStep game innings k call out l → PlaysOut (BoardCalled n sheet call out l text seen) (with_it v n l out)
   board_plays n sheet k l (boards.Given bytes (Ok (What.Bad fault))) out text seen at came h = silent _ _ (same_it v n k l out at h.0.1 h.1) refl
   board_plays n sheet k l (boards.Given bytes (Ok (What.Heard x))) out text seen at came h =
-      let found = came h.0.0 h.0.1 in
+      let found = as_sent v.sent h.0.0 (came h.0.0 h.0.1) in
       single (BoardCalled n sheet (boards.Given bytes (Ok (What.Heard x))) out l text seen) (Event.Give found.0 (Station.Board n)) (board_told (BoardAnswer.Told x)) (with_it v n l out) tt
-      (k, l, out, at, (h.0.0, BoardAnswer.Told x, found.1, rw rules h.0.2, refl, h.1), refl) (found.0, h.0.0, refl, h.0.1, found.1)
+      (k, l, out, at, (h.0.0, BoardAnswer.Told x, found.1.0, rw rules h.0.2, refl, h.1), refl) (found.0, h.0.0, refl, h.0.1, found.1)
   board_plays n sheet k l (boards.Given bytes (Ok What.Asked)) out text seen at came h =
-      let found = came h.0.0 h.0.1 in
+      let found = as_sent v.sent h.0.0 (came h.0.0 h.0.1) in
       single (BoardCalled n sheet (boards.Given bytes (Ok What.Asked)) out l text seen) (Event.Give found.0 (Station.Board n)) (board_told BoardAnswer.Asked) (with_it v n l out) tt
-      (k, l, out, at, (h.0.0, BoardAnswer.Asked, found.1, rw rules h.0.2, refl, h.1), refl) (found.0, h.0.0, refl, h.0.1, found.1)
+      (k, l, out, at, (h.0.0, BoardAnswer.Asked, found.1.0, rw rules h.0.2, refl, h.1), refl) (found.0, h.0.0, refl, h.0.1, found.1)
   board_plays n sheet k l (boards.Given bytes (Ok _)) out text seen at came h = absurd h.0
   board_plays n sheet k l (boards.Given bytes (Err (BadVotes p))) out text seen at came h =
-      let found = came h.0.0 h.0.1 in
+      let found = as_sent v.sent h.0.0 (came h.0.0 h.0.1) in
       single (BoardCalled n sheet (boards.Given bytes (Err (BadVotes p))) out l text seen) (Event.Give found.0 (Station.Board n)) (board_told (BoardAnswer.BadVotes p)) (with_it v n l out) tt
-      (k, l, out, at, (h.0.0, BoardAnswer.BadVotes p, found.1, rw rules h.0.2, refl, h.1), refl) (found.0, h.0.0, refl, h.0.1, found.1)
+      (k, l, out, at, (h.0.0, BoardAnswer.BadVotes p, found.1.0, rw rules h.0.2, refl, h.1), refl) (found.0, h.0.0, refl, h.0.1, found.1)
   board_plays n sheet k l boards.Ticked out text seen at came h =
       single (BoardCalled n sheet boards.Ticked out l text seen) (Event.Tick (Station.Board n)) (answers.Ticked (length out)) (with_it v n l out) tt
       (k, l, out, at, (h.0, refl, h.1), refl) refl
@@ -133,19 +134,16 @@ module _ {Disk : Type 0} (s : Setting Disk Refusal) (game innings : ℕ) (rules 
   all_play (h ∷ hs) f quiet =
       let p = all_play hs f.0 quiet.0 in
       let q = plays s game innings rules (after v hs) h f.1 quiet.1 in
+      let ends = last_on v p.moments q.moments ∙ (ap (λ (z : Configuration Disk). last_of z q.moments) p.ends ∙ q.ends) in
       record {
         moments = q.moments ++ p.moments;
         run = run_on s v p.moments q.moments p.run (subst (λ (z : Configuration Disk). Run s z q.moments) (sym p.ends) q.run);
-        ends = last_on v p.moments q.moments ∙ (ap (λ (z : Configuration Disk). last_of z q.moments) p.ends ∙ q.ends);
+        ends = ends;
         calm = calm_both q.moments p.moments p.calm q.calm;
-        played = (q.moments, p.moments, refl, p.played, q.plays);
+        played = (q.moments, p.moments, refl, p.played, q.plays, ends);
       }
 
 module _ {Disk : Type 0} (w : Configuration Disk) (earlier : List (Happening Disk)) where
-  after_both : (later : List (Happening Disk)) → after w (later ++ earlier) ≡ after (after w earlier) later
-  after_both [] = refl
-  after_both (h ∷ hs) = ap (λ (z : Configuration Disk). after_one z h) (after_both hs)
-
   module _ (view : DeskId → FileVersion → FileView Disk) (game innings : ℕ) where
     flow_before : (later : List (Happening Disk)) → Flow view game innings w (later ++ earlier) → Flow view game innings w earlier
     flow_before [] f = f
@@ -153,7 +151,7 @@ module _ {Disk : Type 0} (w : Configuration Disk) (earlier : List (Happening Dis
 
     flow_after : (later : List (Happening Disk)) → Flow view game innings w (later ++ earlier) → Flow view game innings (after w earlier) later
     flow_after [] f = tt
-    flow_after (h ∷ hs) f = (flow_after hs f.0, subst (λ (z : Configuration Disk). Happens view game innings z h) (after_both hs) f.1)
+    flow_after (h ∷ hs) f = (flow_after hs f.0, subst (λ (z : Configuration Disk). Happens view game innings z h) (after_both w earlier hs) f.1)
 
 pub processes_go_on : {Disk : Type 0} (seen : Disk → List ℕ) (images : Disk → Images) → ProcessesGoOn seen images
 processes_go_on {Disk} seen images contents game innings version boards w earlier later f quiet =
@@ -168,6 +166,8 @@ processes_go_on {Disk} seen images contents game innings version boards w earlie
       ends = out.ends;
       calm = out.calm;
       played = out.played;
+      exchanges = exchange game v later out.moments out.played;
+      board_exchanges = board_exchange game v later out.moments out.played;
       holds = holds;
       settle = λ up exchanges. subst (λ (z : Configuration Disk). (p : Position) × (book : List Entry) × InStep z p book) out.ends
           (holds.progress.settles out.moments up (record { run = out.run; calm = out.calm; exchanges = exchanges }));

@@ -1,10 +1,12 @@
 -- What is claimed: Laws, of flows of Happenings, by the Headline for processes, with Printing and PublicScores; Weaving, of the Lives of
--- stations; Progress, of what goes on with them; Stations and Files, which tie lives to processes and to files; Worked, a life that is one.
+-- stations; Progress, of what goes on with them, by Exchanges; Stations and Files, which tie lives to processes and to files; Worked, a
+-- life that is one.
 pub mod Printing
 pub mod Happenings
 pub mod PublicScores
 pub mod Headline
 pub mod Laws
+pub mod Exchanges
 pub mod Progress
 pub mod Lives
 pub mod Files

@@ -1,6 +1,6 @@
 -- What goes on with processes: what happens to them is a run, tick by tick and message by message, and what goes on in every
 -- run goes on in it.
-use Rattle.std.specs.Prelude.{◌≡◌, ℕ, List, [], ◌∷◌, ◌++◌, Some, Ok}
+use Rattle.std.specs.Prelude.{◌≡◌, ℕ, List, [], ◌∷◌, ◌++◌, Some, Ok, slice_get}
 use Rattle.notation.specs.declared.entry.Entry.{Entry}
 use Rattle.corrections.specs.declared.refusal.Refusal.{Refusal}
 use Rattle.entry_log.specs.Disk.{Images}
@@ -25,7 +25,12 @@ use Rattle.live.specs.Boards.{BoardCall}
 use Rattle.live.specs.Desks as desks
 use Rattle.live.specs.Desks.{DeskCall}
 use Rattle.processes.specs.Happenings.{BoardCalled, DeskCalled, Happening, after}
+use Rattle.processes.specs.Exchanges.{HaveExchanged, ProcessExchange}
 use Rattle.processes.specs.Laws.{IsFlow}
+
+-- it is given by this number, and that is one that it was sent as, if it was
+abbrev pub IsGivenAsSent : List Message → ℕ → Message → Type 0
+IsGivenAsSent sent n m = IsGiven sent n m × ((i : ℕ) → slice_get sent i ≡ Some m → slice_get sent n ≡ Some m)
 
 -- no scorer types, no disk fails, and no process begins or ends
 abbrev pub IsQuietCall : DeskCall → Type 0
@@ -43,10 +48,11 @@ module _ {Disk : Type 0} where
   abbrev pub TicksAt : Station → Moment Disk Refusal → Type 0
   TicksAt t m = m.event ≡ Event.Tick t
 
-  -- in a moment the station is given the message that the bytes say, by a number by which it may be given
+  -- in a moment the station is given the message that the bytes say, by a number by which it may be given: one that it was
+  -- sent as, where it was
   abbrev pub GivesAt : ℕ → Configuration Disk → Station → List ℕ → Moment Disk Refusal → Type 0
   GivesAt game v t bytes m =
-      (n : ℕ) × (message : Message) × (m.event ≡ Event.Give n t) × Says game bytes message × IsGiven v.sent n message
+      (n : ℕ) × (message : Message) × (m.event ≡ Event.Give n t) × Says game bytes message × IsGivenAsSent v.sent n message
 
   -- What a call of a desk is in a run: a tick is a tick; a message that it is told of or answers is that message; and what
   -- leaves it as it is, is nothing.
@@ -68,12 +74,12 @@ module _ {Disk : Type 0} where
   Plays game v (BoardCalled n s call out l text seen) ms = PlaysBoard game v n call ms
   Plays game v what ms = ⊥
 
-  -- the moments play all that happened from that configuration on, one after the other
+  -- the moments play all that happened from that configuration on, one after the other, and come to the same configurations
   abbrev pub ArePlayed : ℕ → Configuration Disk → List (Happening Disk) → List (Moment Disk Refusal) → Type 0
   ArePlayed game v [] ms = ms ≡ []
   ArePlayed game v (h ∷ hs) ms =
       (more : List (Moment Disk Refusal)) × (rest : List (Moment Disk Refusal)) × (ms ≡ more ++ rest)
-      × ArePlayed game v hs rest × Plays game (after v hs) h more
+      × ArePlayed game v hs rest × Plays game (after v hs) h more × (last_of v ms ≡ after v (h ∷ hs))
 
   abbrev pub IsQuiet : Happening Disk → Type 0
   IsQuiet (DeskCalled d s call out l text) = IsQuietCall call
@@ -86,9 +92,9 @@ module _ {Disk : Type 0} where
 
 -- What goes on with processes after some time, `v` being what the stations were then, while no scorer types, no disk fails,
 -- and no process begins or ends: it is a calm run, in which the stations tick where their processes tick, and are given
--- what those are given. At `v` there holds what holds in every run. So where both desks were up then, and in this run each
--- has had an exchange with the other, both are in step; and a board that has had as many with both as it was behind has
--- their book.
+-- what those are given. So where processes have an exchange, so have the stations in this run. At `v` there holds what holds
+-- in every run. So where both desks were up then, and each has had an exchange with the other, both are in step; and a board
+-- that has had as many with both as it was behind has their book.
 pub record GoOn
     {Disk : Type 0} (s : Setting Disk Refusal) (game : ℕ) (v : Configuration Disk) (hs : List (Happening Disk)) : Type 0 where
   pub moments : List (Moment Disk Refusal)
@@ -96,6 +102,8 @@ pub record GoOn
   pub ends : last_of v moments ≡ after v hs
   pub calm : AllCalm moments
   pub played : ArePlayed game v hs moments
+  pub exchanges : (t : Station) (d : DeskId) → ProcessExchange game t d hs → Exchange v t d moments
+  pub board_exchanges : (n m : ℕ) → HaveExchanged game n m hs → HasExchanges v n m moments
   pub holds : HoldsAt s v
   pub settle : BothUp v → ((d : DeskId) → Exchange v (Station.Desk d) (other d) moments)
       → (p : Position) × (book : List Entry) × InStep (after v hs) p book

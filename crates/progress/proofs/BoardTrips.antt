@@ -107,7 +107,7 @@ none_there votes d r t n (inl b) = inl b
 none_there votes d r t n (inr b) = inr (inr (subst (NoVote votes) (sym b.0) n))
 
 -- a board in the list, once one was set there
-same_or_other : (n m : ℕ) → (n ≡ m) ⊎ (n ≢ m)
+pub same_or_other : (n m : ℕ) → (n ≡ m) ⊎ (n ≢ m)
 same_or_other n m = grind arith
 
 set_there : {X : Type 0} → (xs : List X) (n : ℕ) (x y : X) → slice_get xs n ≡ Some y → slice_get (slice_set xs n x) n ≡ Some x

@@ -98,7 +98,8 @@ get_less (z ∷ zs) zero x e = omega arith
 get_less (z ∷ zs) (suc n) x e = let less = get_less zs n x e in omega (arith, less)
 
 module _ {Disk Why : Type 0} where
-  given_more : (w : Configuration Disk) (t : Station) (message : Message) (xs ys : List (Moment Disk Why)) → Reaches w t message ys → Reaches w t message (xs ++ ys)
+  -- it reaches the station in more moments too
+  pub given_more : (w : Configuration Disk) (t : Station) (message : Message) (xs ys : List (Moment Disk Why)) → Reaches w t message ys → Reaches w t message (xs ++ ys)
   given_more w t message [] ys g = g
   given_more w t message (x ∷ xs) ys g = inr (given_more w t message xs ys g)
 
@@ -265,7 +266,7 @@ module _ {Disk Why : Type 0} (s : Setting Disk Why) (v : AllVotes) where
         so = λ message r a b get. elim (compare r last) [
           | inl lo ↦ inr (before.so message r a lo get)
           | inr (inl e) ↦ inl (last, m.1, run_keeps_sent s w before.ms last message before.run (subst (λ (z : ℕ). slice_get w.sent z ≡ Some message) e get))
-          | inr (inr hi) ↦ absurd (omega (arith, b, hi))
+          | inr (inr hi) ↦ absurd {A = Reaches w t message (m.0 ∷ before.ms)} (omega (arith, b, hi))
         ];
       }
 
@@ -299,7 +300,7 @@ module _ {Disk Why : Type 0} (s : Setting Disk Why) (v : AllVotes) where
             given = (last, m.1, run_keeps_sent s w before.ms last message before.run (subst (λ (z : ℕ). slice_get w.sent z ≡ Some message) e get));
             heard = λ reply h. replies.so reply h.0 h.1 (let less = get_less m.0.after.sent h.0 reply h.2 in omega (arith, less, more)) h.2;
           }
-          | inr (inr hi) ↦ absurd (omega (arith, b, hi))
+          | inr (inr hi) ↦ absurd {A = IsAnswered w t d message (replies.ms ++ (m.0 ∷ before.ms))} (omega (arith, b, hi))
         ];
       }
 
