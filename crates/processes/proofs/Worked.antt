@@ -43,10 +43,11 @@ use Rattle.live.specs.declared.said.Said.TheVariants.{Penned}
 use Rattle.headline.specs.Configurations.{board_at, fresh_boards, node}
 use Rattle.screen.specs.Words.{is_end, word_of}
 use Rattle.live.specs.Saying.{IsNoWord, SaysEntry}
-use Rattle.processes.specs.Lives.{Beginning, BoardProcess, BoardRuns, CallsMade, IsBoardLife, IsLife, ProcessEnd, RunsFrom, Stage, board_happens, fresh_turn, life_happens}
+use Rattle.processes.specs.Files.{NoneShowNone}
+use Rattle.processes.specs.Lives.{Beginning, BeginsFirst, BoardProcess, BoardRuns, CallsMade, IsBoardLife, IsLife, ProcessEnd, RunsFrom, Stage, board_happens, fresh_turn, life_happens}
 use Rattle.live.specs.Sights.{Sight, sight_of}
 use Rattle.processes.specs.Sealing.{IsAuthentic}
-use Rattle.processes.specs.Weaving.{is_at_board, is_at_desk, start}
+use Rattle.processes.specs.Weaving.{IsWoven, is_at_board, is_at_desk, start}
 use Rattle.processes.specs.Worked.{LivedIsWoven, a_again, a_bytes, a_penned, a_says, b_bytes, b_noted, b_penned, b_says}
 use Rattle.processes.specs.Worked.{board_agreed, board_asks, board_noted, disk_with, disk_without, lived, new_desk, no_faults, the_vote, toy}
 
@@ -269,10 +270,20 @@ module _ (s : Sheet) where
   no_others (suc zero) e = cc
   no_others (suc (suc n)) e = elsewhere n
 
-pub lived_is_woven : LivedIsWoven
-lived_is_woven s seal = record {
+none_shown : NoneShowNone toy 7
+unfolding file_votes votes_after
+none_shown version d = refl
+
+begins_first : (d : DeskId) → BeginsFirst (view d) (λ disk. disk) 1 d (new_desk d)
+begins_first d = (disk_without, ((λ none. absurd (omega (arith, none))), (λ some. (none_read d, tt, holds_none d, refl))), refl)
+
+woven : (s : Sheet) (seal : List ℕ) → IsWoven (λ disk. disk) only no_faults seal toy 7 1 (start New 1 (new_desk A) (new_desk B)) (lived s)
+woven s seal = record {
   order = (((((((((((((((((tt, tt), tt), tt), a_sealed seal []), tt), tt), tt), tt), tt), tt), a_sealed seal (b_says ∷ board_asks ∷ [])), b_sealed seal), tt), tt), tt), tt), tt);
   desks = desk_lives s;
   boards = board_lives s;
   no_others = no_others s;
 }
+
+pub lived_is_woven : LivedIsWoven
+lived_is_woven = (none_shown, (begins_first A, begins_first B), woven)

@@ -2,11 +2,12 @@
 -- that the other has written, and pens `void` too; a board shows its empty book, looks at its clock, asks, is given both
 -- votes, and shows the book. A disk is its bytes, all of them synced: one for the header, and one for the desk's vote. The
 -- texts were written by hand.
-use Rattle.std.specs.Prelude.{ℕ, List, [], ◌∷◌, Ok, codes, false}
+use Rattle.std.specs.Prelude.{ℕ, List, [], ◌∷◌, Ok, Err, codes, false}
 use Rattle.notation.specs.declared.entry.Entry.TheVariants.{Write}
 use Rattle.notation.specs.declared.entry.Plain.TheVariants.{Void}
 use Rattle.entry_log.specs.Disk.{Faults, Never, only}
 use Rattle.entry_log.specs.Slots.{FileContents}
+use Rattle.entry_log.specs.declared.refusal.Refusal.TheVariants.{Unfinished}
 use Rattle.agree_core.specs.declared.{messages.Asker.Asker, messages.DeskId.DeskId, messages.Message.Message, seat.Settled.Settled}
 use Rattle.agree_core.specs.declared.messages.DeskId.TheVariants.{A, B}
 use Rattle.agree_core.specs.declared.seat.Heard as hearing
@@ -30,14 +31,15 @@ use Rattle.live.specs.Sights.{sight_of}
 use Rattle.live.specs.declared.reminder.Reminder.TheVariants.{HasWritten}
 use Rattle.live.specs.declared.said.Said.TheVariants.{Penned}
 use Rattle.processes.specs.Happenings.{BoardBegun, BoardCalled, BoardGreeted, DeskBegun, DeskCalled, DeskEnded, DeskGreeted, Happening}
-use Rattle.processes.specs.Weaving.{IsWoven, start}
+use Rattle.processes.specs.Files.{NoneShowNone}
+use Rattle.processes.specs.Weaving.{BothBegin, IsWoven, start}
 
 -- what is on a disk: behind the header the desk's vote, or none
 abbrev pub the_vote : Ballot
 the_vote = ballot_at 0 0 (Write Void)
 
 abbrev pub toy : FileVersion → FileContents
-toy version desk game [] = Ok []
+toy version desk game [] = Err Unfinished
 toy version desk game (header ∷ []) = Ok []
 toy version desk game (header ∷ vote ∷ more) = Ok (record_of the_vote ∷ [])
 
@@ -122,8 +124,10 @@ lived s =
     ∷ DeskGreeted A s (codes "No play\n0 next\n")
     ∷ []
 
--- it is such as what happens to processes, with whatever sheet and seal, in a match of one innings a side
+-- all is so that the law of woven lives asks for: no bytes show no votes, both desks begin, and what happened is such as what
+-- happens to processes, with whatever sheet and seal, in a match of one innings a side
 abbrev pub LivedIsWoven : Type 0
 LivedIsWoven =
-    (s : Sheet) (seal : List ℕ)
-    → IsWoven (λ disk. disk) only no_faults seal toy 7 1 (start New 1 (new_desk A) (new_desk B)) (lived s)
+    NoneShowNone toy 7 × BothBegin (λ disk. disk) only no_faults (toy New) 7 1 (new_desk A) (new_desk B)
+    × ((s : Sheet) (seal : List ℕ)
+    → IsWoven (λ disk. disk) only no_faults seal toy 7 1 (start New 1 (new_desk A) (new_desk B)) (lived s))

@@ -66,8 +66,8 @@ pub fn empty_files_show_none()
     ensures { EmptyFilesShowNone }
 {}
 
-/// The definitions of lives are met: a desk that pens, is killed, begins in vain and begins, with another desk and a board
-/// that are given its vote, is what they speak of.
+/// The premises of the law of woven lives are met: a desk that pens, is killed, begins in vain and begins, with another desk
+/// and a board that are given its vote, is what it speaks of.
 pub fn a_worked_life_is_woven()
     ensures { LivedIsWoven }
 {}
