@@ -9,6 +9,7 @@ use std::process::Abort;
 use tests_support::{entry_in, vote_of};
 use wire::bytes_of;
 
+mod all_is_heard;
 mod behind;
 
 fn entry(rt: &impl Abort, line: &str) -> Entry

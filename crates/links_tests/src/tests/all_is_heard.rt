@@ -1,0 +1,300 @@
+//! A board behind a window hears both votes of each place, whatever the network loses, repeats and reorders: what came and
+//! wasn't given is asked for again.
+ghost use Rattle.std.specs.Prelude.{◌≡◌, ◌<◌};
+
+use super::*;
+use links::{Clock, ClockLog, Link, Log, PeerLink, Taken, Window};
+use std::cell::Cell;
+use tests_support::{entry_in, vote_of};
+use wire::message_of;
+
+/// For how many places both desks have votes.
+const LENGTH: usize = 192;
+
+/// How many votes that are.
+const VOTES: usize = 2 * LENGTH;
+
+/// What both desks answer to asks, and what of it is on its way: a bit for each vote, desk A's first.
+#[derive(Drop)]
+struct Network {
+    now: Cell<u64>,
+    random: Cell<u64>,
+    on_its_way: Cell<[u64; 6]>,
+    /// One datagram in so many is lost.
+    lost: Option<u64>,
+}
+
+impl Network {
+    fn new(seed: u64, lost: Option<u64>) -> Network {
+        Network {
+            now: Cell::new(0),
+            random: Cell::new(seed),
+            on_its_way: Cell::new([0; 6]),
+            lost,
+        }
+    }
+
+    /// The next number of Knuth's generator for MMIX, but for its lowest bits.
+    fn random(&self) -> u64 {
+        let next = self.random.get().wrapping_mul(6_364_136_223_846_793_005);
+        let next = next.wrapping_add(1_442_695_040_888_963_407);
+        self.random.set(next);
+        next >> 33
+    }
+
+    /// Whether this happens, one time in so many.
+    fn happens(&self, times: u64) -> bool {
+        self.random().checked_rem(times) == Some(0)
+    }
+
+    fn is_lost(&self) -> bool {
+        match self.lost {
+            Some(times) => self.happens(times),
+            None => false,
+        }
+    }
+
+    /// A vote is on its way, or no more.
+    fn set(&self, vote: usize, is_on_its_way: bool) {
+        let mut words = self.on_its_way.get();
+        if let Some(word) = words.get_mut(vote / 64) {
+            let bit = 1 << (vote % 64);
+            *word = if is_on_its_way {
+                *word | bit
+            } else {
+                *word & !bit
+            };
+        }
+        self.on_its_way.set(words);
+    }
+
+    fn is_on_its_way(&self, vote: usize) -> bool {
+        match self.on_its_way.get().get(vote / 64) {
+            Some(word) => *word >> (vote % 64) & 1 == 1,
+            None => false,
+        }
+    }
+
+    /// A desk answers an ask for a place: by its votes for this one and the 63 behind it.
+    fn answer(&self, desk: usize, place: u32) {
+        for behind in 0..64 {
+            let place = (place as usize).saturating_add(behind);
+            if place < LENGTH && !self.is_lost() {
+                self.set(desk.saturating_mul(LENGTH).saturating_add(place), true);
+            }
+        }
+    }
+
+    /// An ask comes to a desk, or is lost.
+    fn ask(&self, desk: usize, bytes: &[u8; 48]) {
+        if let Ok(Message::Ask(ask)) = message_of(7, bytes.as_slice())
+            && desk < 2
+            && !self.is_lost()
+        {
+            self.answer(desk, ask.place);
+        }
+    }
+
+    /// One of the votes on their way, of which one in eight comes once more.
+    fn next(&self) -> Option<usize> {
+        let from = self.random() as usize;
+        for behind in 0..VOTES {
+            let vote = from.wrapping_add(behind) % VOTES;
+            if self.is_on_its_way(vote) {
+                self.set(vote, self.happens(8));
+                return Some(vote);
+            }
+        }
+        None
+    }
+}
+
+#[derive(Drop)]
+struct Hand<'a> {
+    network: &'a Network,
+    log: ClockLog,
+}
+
+impl Clock for Hand<'_> {
+    ghost use Rattle.links.specs.Logs.{readings_of};
+
+    ghost readings = { λ hand. readings_of hand.log };
+
+    fn millis(&mut self) -> u64 {
+        let now = self.network.now.get();
+        self.log = self.log.read(now);
+        now
+    }
+}
+
+/// A link to both desks: peer 0 is desk A, peer 1 desk B.
+#[derive(Drop)]
+struct Line<'a> {
+    network: &'a Network,
+    peer: usize,
+    log: Log,
+}
+
+impl Line<'_> {
+    /// A vote as it comes, in the front of a buffer.
+    fn bring(&mut self, vote: usize, buffer: &mut [u8; 64]) -> bool
+        ensures { self.new.log ≡ self.old.log }
+    {
+        let (peer, desk) = if vote < LENGTH {
+            (0, DeskId::A)
+        } else {
+            (1, DeskId::B)
+        };
+        let place = (vote % LENGTH) as u32;
+        let Some(entry) = entry_in("over") else {
+            return false;
+        };
+        if place >= PLACES {
+            return false;
+        }
+        self.peer = peer;
+        buffer[..48].copy_from_slice(vote_of(desk, place, 0, entry).as_slice());
+        true
+    }
+}
+
+impl Link for Line<'_> {
+    ghost use Rattle.links.specs.Logs.{passed_of};
+
+    ghost log = { λ line. passed_of line.log };
+
+    fn send(&mut self, bytes: &[u8; 48]) {
+        self.network.ask(0, bytes);
+        self.network.ask(1, bytes);
+        self.log = self.log.sent(bytes);
+    }
+
+    fn reply(&mut self, bytes: &[u8; 48]) {
+        self.network.ask(self.peer, bytes);
+        self.log = self.log.sent(bytes);
+    }
+
+    fn take(&mut self, buffer: &mut [u8; 64], _wait: u64) -> Taken {
+        match self.network.next() {
+            Some(vote) if self.bring(vote, buffer) => {
+                self.log = self.log.came(buffer, 48);
+                Taken::Datagram(48)
+            }
+            _ => Taken::Nothing,
+        }
+    }
+}
+
+impl PeerLink for Line<'_> {
+    fn send_to(&mut self, peer: usize, bytes: &[u8; 48]) {
+        self.network.ask(peer, bytes);
+        self.log = self.log.sent(bytes);
+    }
+
+    fn last_peer(&self) -> usize {
+        self.peer
+    }
+}
+
+/// A board: the place that it is at, and of which desks it has the votes for it.
+#[derive(Drop)]
+struct Board {
+    place: u32,
+    has_a: bool,
+    has_b: bool,
+}
+
+impl Board {
+    fn ask(&self, window: &mut Window<Line<'_>, Hand<'_>>) {
+        if self.place < PLACES {
+            window.send(&ask_at(Asker::Board, self.place, 0));
+        }
+    }
+
+    /// A datagram came. With both votes of its place the board is at the next one, for which it asks.
+    fn hear(&mut self, bytes: &[u8; 64], window: &mut Window<Line<'_>, Hand<'_>>) {
+        if let Ok(Message::Vote(vote)) = message_of(7, &bytes[..48])
+            && vote.place == self.place
+        {
+            match vote.desk {
+                DeskId::A => self.has_a = true,
+                DeskId::B => self.has_b = true,
+            }
+        }
+        if self.has_a && self.has_b {
+            self.place = self.place.saturating_add(1);
+            self.has_a = false;
+            self.has_b = false;
+            self.ask(window);
+        }
+    }
+
+    /// A turn: at most eight datagrams.
+    fn turn(&mut self, window: &mut Window<Line<'_>, Hand<'_>>) {
+        for _ in 0..8 {
+            let mut buffer = [0; 64];
+            match window.take(&mut buffer, 0) {
+                Taken::Datagram(_) => self.hear(&buffer, window),
+                Taken::Lost => {}
+                Taken::Nothing | Taken::Unopened => break,
+            }
+        }
+    }
+}
+
+/// After how many turns of 10 ms a board has all, which asks every half second unasked; none where it hasn't after so many.
+fn turns(alloc: Global, seed: u64, lost: Option<u64>, most: u64) -> Option<u64> {
+    let network = Network::new(seed, lost);
+    let line = Line {
+        network: &network,
+        peer: 0,
+        log: Log::Empty,
+    };
+    let hand = Hand {
+        network: &network,
+        log: ClockLog::Empty,
+    };
+    let mut window = Window::new(alloc, line, hand, 7);
+    let mut board = Board {
+        place: 0,
+        has_a: false,
+        has_b: false,
+    };
+    for turn in 0..most {
+        network.now.set(turn.saturating_mul(10));
+        if turn % 50 == 0 {
+            board.ask(&mut window);
+        }
+        board.turn(&mut window);
+        if board.place as usize >= LENGTH {
+            return Some(turn);
+        }
+    }
+    None
+}
+
+// Each of 384 votes is one of the eight of a turn twice at most, as it comes early and as it is given, and one in eight comes
+// once more: 108 turns, beside what is waited for. By its own asks alone, one each half second, a board would take 9,600.
+#[test]
+fn all_is_heard_where_nothing_is_lost(rt: HostRuntime) {
+    for seed in 0..20 {
+        let turns = turns(rt.alloc(), seed, None, 250);
+        assert!(rt; turns.is_some(), "{seed}");
+    }
+}
+
+#[test]
+fn all_is_heard_where_a_quarter_is_lost(rt: HostRuntime) {
+    for seed in 0..20 {
+        let turns = turns(rt.alloc(), seed, Some(4), 500);
+        assert!(rt; turns.is_some(), "{seed}");
+    }
+}
+
+#[test]
+fn all_is_heard_where_half_is_lost(rt: HostRuntime) {
+    for seed in 0..20 {
+        let turns = turns(rt.alloc(), seed, Some(2), 2_000);
+        assert!(rt; turns.is_some(), "{seed}");
+    }
+}
