@@ -1,9 +1,10 @@
--- How a row is fitted to the columns of a screen: the team's name goes first, then fours of letters of the players' names.
+-- How a row is fitted to the columns of a screen: the team's name goes first, then letters of the players' names, down to four.
 use Rattle.std.specs.Prelude.{ℕ, ◌-◌, nat_le, nat_lt, if◌then◌else◌, Bool, true, false, ◌&&◌, List, ◌++◌, length, take, codes}
 use Rattle.std.specs.List.{list_all}
 use Rattle.cards.specs.Sheet.{is_printable, longest_name}
 use Rattle.screen.specs.declared.form.Form.{Form}
-use Rattle.screen.specs.declared.form.Form.TheVariants.{Whole, WithoutTeam, TwelveLetters, EightLetters, FourLetters}
+use Rattle.screen.specs.declared.form.Form.TheVariants.{Whole, WithoutTeam}
+use Rattle.screen.specs.declared.form.Form.TheVariants.{TwelveLetters, TenLetters, EightLetters, SevenLetters, SixLetters, FiveLetters, FourLetters}
 use Rattle.screen.specs.declared.room.Room.{Room}
 use Rattle.screen.specs.declared.room.Room.TheVariants.{Left, Full}
 
@@ -34,7 +35,11 @@ abbrev pub letters : Form → ℕ
 letters Whole = longest_name
 letters WithoutTeam = longest_name
 letters TwelveLetters = 12
+letters TenLetters = 10
 letters EightLetters = 8
+letters SevenLetters = 7
+letters SixLetters = 6
+letters FiveLetters = 5
 letters FourLetters = 4
 
 -- the first of these that fits, or else the last
@@ -43,7 +48,11 @@ first_fit is_fit =
     if is_fit Whole then Whole
     else if is_fit WithoutTeam then WithoutTeam
     else if is_fit TwelveLetters then TwelveLetters
+    else if is_fit TenLetters then TenLetters
     else if is_fit EightLetters then EightLetters
+    else if is_fit SevenLetters then SevenLetters
+    else if is_fit SixLetters then SixLetters
+    else if is_fit FiveLetters then FiveLetters
     else FourLetters
 
 abbrev pub is_long : ℕ → List ℕ → Bool

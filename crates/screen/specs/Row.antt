@@ -88,7 +88,7 @@ marks (b ∷ older) = marks older ++ spaced_mark b
 
 -- before marks, where older ones are left out
 abbrev pub left_out : Bool → List ℕ
-left_out is_all = if is_all then [] else codes " .."
+left_out is_all = if is_all then [] else codes " <"
 
 -- the marks of the open over: all of its deliveries, or these newest ones
 abbrev pub open_marks : List Ball → Bool → List Ball → List ℕ

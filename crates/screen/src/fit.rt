@@ -81,8 +81,16 @@ pub fn form_of<B: BookOf>(sheet: &MatchSheet, book: &B, innings: usize) -> Form
         Form::WithoutTeam
     } else if is_fit(Form::TwelveLetters, sheet, book, innings) {
         Form::TwelveLetters
+    } else if is_fit(Form::TenLetters, sheet, book, innings) {
+        Form::TenLetters
     } else if is_fit(Form::EightLetters, sheet, book, innings) {
         Form::EightLetters
+    } else if is_fit(Form::SevenLetters, sheet, book, innings) {
+        Form::SevenLetters
+    } else if is_fit(Form::SixLetters, sheet, book, innings) {
+        Form::SixLetters
+    } else if is_fit(Form::FiveLetters, sheet, book, innings) {
+        Form::FiveLetters
     } else {
         Form::FourLetters
     }

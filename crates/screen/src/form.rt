@@ -18,8 +18,16 @@ pub enum Form {
     WithoutTeam,
     /// Twelve letters of a player's name.
     TwelveLetters,
+    /// Ten letters of a player's name.
+    TenLetters,
     /// Eight letters of a player's name.
     EightLetters,
+    /// Seven letters of a player's name.
+    SevenLetters,
+    /// Six letters of a player's name.
+    SixLetters,
+    /// Five letters of a player's name.
+    FiveLetters,
     /// Four letters of a player's name.
     FourLetters,
 }
@@ -40,7 +48,11 @@ impl Form {
         match self {
             Form::Whole | Form::WithoutTeam => 16,
             Form::TwelveLetters => 12,
+            Form::TenLetters => 10,
             Form::EightLetters => 8,
+            Form::SevenLetters => 7,
+            Form::SixLetters => 6,
+            Form::FiveLetters => 5,
             Form::FourLetters => 4,
         }
     }

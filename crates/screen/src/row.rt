@@ -250,7 +250,7 @@ fn print_left_out<W: Write>(out: &mut Watched<W>, is_all: bool) -> Result<(), Wr
     ensures text { OnOk result (Prints W.contents out.old out.new (rows.left_out is_all)) }
     ensures failed { OnErr result (has_failed out.new ≡ true) }
 {
-    if is_all { Ok(()) } else { write!(out, " ..") }
+    if is_all { Ok(()) } else { write!(out, " <") }
 }
 
 /// Prints the marks of the open over: all, or these.
@@ -397,7 +397,7 @@ fn print_innings<W: Write, B: BookOf>(
 }
 
 /// Prints how the match of a book stands, in one row. Where it is longer than 80 columns the team's name is left out, then
-/// players' names are cut to twelve, eight and four letters, then the oldest marks of the over are left out. In a chase of
+/// players' names are cut, down to four letters, then the oldest marks of the over are left out. In a chase of
 /// limited overs a second row tells what is needed.
 pub fn print_row<W: Write, B: BookOf>(
     out: &mut Watched<W>,

@@ -76,7 +76,7 @@ pub fn open_marks_room(room: Room, over: &[Placed], is_all: bool, shown: &[Place
     if is_all {
         marks_room(room, shown)
     } else {
-        marks_room(room.text(" .."), shown)
+        marks_room(room.text(" <"), shown)
     }
 }
 
