@@ -23,7 +23,7 @@ use Rattle.cards.specs.Results.{result_text}
 use Rattle.cards.specs.Sheet.{Sheet}
 use Rattle.changes.specs.Before.{item_with}
 use Rattle.changes.specs.Text.{last_changes}
-use Rattle.screen.specs.Row.{aim, row}
+use Rattle.screen.specs.Row.{result_part, row}
 use Rattle.screen.specs.OverCheck.{over_check}
 use Rattle.screen.specs.Both.{both_cards, cards_number}
 use Rattle.screen.specs.Listing.{listing, range}
@@ -58,7 +58,7 @@ agreed_line place e = decimal place ++ codes " agreed: " ++ text_of e
 abbrev pub over_agreed : Sheet → ℕ → ℕ → History → Entry → List ℕ
 over_agreed sheet innings place h e =
     agreed_line place e ++ over_called h ++ over_note (counting (last_called_over h))
-    ++ aim (result_text sheet (outcome innings h)) None None ++ codes "\n" ++ over_check sheet h
+    ++ result_part sheet (outcome innings h) ++ codes "\n" ++ over_check sheet h
 
 abbrev pub play_agreed : Sheet → ℕ → ℕ → History → Entry → List ℕ
 play_agreed sheet innings place h e = agreed_line place e ++ codes "\n" ++ row sheet innings h
@@ -97,7 +97,7 @@ refused_entry book e why = refused_text why
 
 -- that the two scorers differ at a place, with the entry of each where it is known: it is, once both votes are stored
 abbrev pub both_lines : Entry → Entry → List ℕ
-both_lines own other = codes "differs: you " ++ text_of own ++ codes ", the other " ++ text_of other
+both_lines own other = codes "differs: you " ++ text_of own ++ codes ",\n  the other " ++ text_of other
 
 abbrev pub differs_text : ℕ → Option Entry → Option Entry → List ℕ
 differs_text place (Some own) (Some other) = at_place place (both_lines own other)

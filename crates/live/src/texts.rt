@@ -209,7 +209,7 @@ pub fn print_differs<W: Write>(
             let other_line = line_of(&other);
             let you = own_line.as_str();
             let they = other_line.as_str();
-            writeln!(out, "{place} differs: you {you}, the other {they}")
+            writeln!(out, "{place} differs: you {you},\n  the other {they}")
         }
         _ => print_at(out, place, "differs"),
     }

@@ -1,5 +1,5 @@
--- How a match stands, in one row of at most 80 columns. s is the sheet, n the innings a side, h the history, i the innings
--- and f what of it is shown.
+-- How a match stands: a row that is fitted to 80 columns, and one behind it of what is needed or of the result.
+-- s is the sheet, n the innings a side, h the history, i the innings and f what of it is shown.
 use Rattle.std.specs.Prelude.{ℕ, ◌==◌, nat_le, if◌then◌else◌, Bool, true, false, not, ◌&&◌, List, [], ◌∷◌, ◌++◌, Option, Some, None, codes, decimal}
 use Rattle.notation.specs.declared.entry.{Ball.Ball, Side.Side}
 use Rattle.ball_laws.specs.History.{History, open_over}
@@ -9,6 +9,8 @@ use Rattle.match_laws.specs.declared.rows.BowlingRow.{BowlingRow}
 use Rattle.match_laws.specs.History.{begun, side_of}
 use Rattle.match_laws.specs.Figures.{total, wickets, overs, balls, batter_runs, faced}
 use Rattle.match_laws.specs.Parts.{bowling_row_of}
+use Rattle.match_laws.specs.declared.outcome.Outcome.{Outcome}
+use Rattle.match_laws.specs.declared.outcome.Outcome.TheVariants.{Undecided}
 use Rattle.match_laws.specs.Result.{current, outcome}
 use Rattle.corrections.specs.Overs.{bowler_now, newest_bowler}
 use Rattle.limits.specs.Limits.{overs_for}
@@ -106,16 +108,31 @@ abbrev pub innings_win : Sheet → Side → ℕ → List ℕ
 innings_win s side n =
     codes "  " ++ name_of s side ++ codes " won by an innings and " ++ counted n (codes "run") (codes "runs")
 
--- what is needed, where nothing limits the deliveries, unless the match is decided; then the result
-abbrev pub aim : Option (List ℕ) → Option ℕ → Option ℕ → List ℕ
-aim (Some result) runs left = codes "  " ++ result
-aim None (Some runs) None = codes "  needs " ++ decimal runs
-aim None runs left = []
+-- the result of a match that is decided
+abbrev pub told : Option (List ℕ) → List ℕ
+told None = []
+told (Some result) = codes "  " ++ result
 
--- what is needed off so many deliveries, where they are limited, unless the match is decided: a row of its own
-abbrev pub needs_row : Option (List ℕ) → Option ℕ → Option ℕ → List ℕ
-needs_row None (Some runs) (Some left) = codes "  needs " ++ decimal runs ++ off_text runs left ++ codes "\n"
-needs_row result runs left = []
+abbrev pub result_part : Sheet → Outcome → List ℕ
+result_part s o = told (result_text s o)
+
+-- a row of its own
+abbrev pub told_row : Option (List ℕ) → List ℕ
+told_row None = []
+told_row (Some result) = codes "  " ++ result ++ codes "\n"
+
+abbrev pub result_row : Sheet → Outcome → List ℕ
+result_row s o = told_row (result_text s o)
+
+-- what is needed, where nothing limits the deliveries and the match isn't decided
+abbrev pub aim : Outcome → Option ℕ → Option ℕ → List ℕ
+aim Undecided (Some runs) None = codes "  needs " ++ decimal runs
+aim o runs left = []
+
+-- what is needed off so many deliveries, where they are limited and the match isn't decided: a row of its own
+abbrev pub needs_row : Outcome → Option ℕ → Option ℕ → List ℕ
+needs_row Undecided (Some runs) (Some left) = codes "  needs " ++ decimal runs ++ off_text runs left ++ codes "\n"
+needs_row o runs left = []
 
 -- the row to the batters, and behind them
 unfoldable pub front : Form → Sheet → History → ℕ → List ℕ
@@ -151,7 +168,7 @@ bowling f s h i = bowler f s h i (bowler_now h) ++ past s.limits.overs_a_bowler 
 unfoldable pub back : Form → Bool → List Ball → Sheet → ℕ → History → ℕ → List ℕ
 back f is_all shown s n h i =
     bowling f s h i ++ open_marks (open_over h) is_all shown ++ free_text s h
-    ++ aim (result_text s (outcome n h)) (runs_needed n h) (left_now s h i) ++ over_end (open_over h)
+    ++ aim (outcome n h) (runs_needed n h) (left_now s h i) ++ over_end (open_over h)
 
 -- the row of an innings, with all marks of the open over or with these
 abbrev pub line : Form → Bool → List Ball → Sheet → ℕ → History → ℕ → List ℕ
@@ -176,7 +193,7 @@ line_in f s n h i = if fits (whole_line f s n h i) then whole_line f s n h i els
 unfoldable pub innings_row : Sheet → ℕ → History → ℕ → List ℕ
 innings_row s n h i =
     line_in (form_of s n h i) s n h i ++ codes "\n"
-    ++ needs_row (result_text s (outcome n h)) (runs_needed n h) (left_now s h i)
+    ++ needs_row (outcome n h) (runs_needed n h) (left_now s h i) ++ result_row s (outcome n h)
 
 -- the innings begun last, or no play
 abbrev pub row : Sheet → ℕ → History → List ℕ

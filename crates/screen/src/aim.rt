@@ -1,10 +1,10 @@
 //! What a side needs, and how a match has ended.
 
-ghost use Rattle.std.specs.Prelude.{◌≡◌, ◌==◌, ◌++◌, None, OnErr, OnOk, Some, codes, decimal, if◌then◌else◌, true};
+ghost use Rattle.std.specs.Prelude.{◌≡◌, ◌==◌, ◌++◌, OnErr, OnOk, Some, codes, decimal, if◌then◌else◌, true};
 ghost use Rattle.match_laws.specs.Result.{outcome};
+ghost use Rattle.match_laws.specs.declared.outcome.Outcome.TheVariants.{Undecided};
 ghost use Rattle.match_laws.specs.Stands.{ForEachHistory};
 ghost use Rattle.limits.specs.Figures as figures;
-ghost use Rattle.cards.specs.Results.{result_text};
 ghost use Rattle.streams.specs.Watched.{Prints, has_failed};
 ghost use Rattle.screen.specs.Row as rows;
 
@@ -16,24 +16,9 @@ use notation::Side;
 use std::io::Write;
 use streams::{Watched, WriteFailed};
 
-/// Prints what is needed, where nothing limits the deliveries.
-fn print_needs<W: Write>(
-    out: &mut Watched<W>,
-    runs: Option<u32>,
-    left: Option<u32>,
-) -> Result<(), WriteFailed>
-    ensures text { OnOk result (Prints W.contents out.old out.new (rows.aim None runs left)) }
-    ensures failed { OnErr result (has_failed out.new ≡ true) }
-{
-    match (runs, left) {
-        (Some(runs), None) => write!(out, "  needs {runs}"),
-        _ => Ok(()),
-    }
-}
-
 /// Prints that so many runs are needed off so many deliveries, on a row of its own.
 fn print_needs_off<W: Write>(out: &mut Watched<W>, runs: u32, left: u32) -> Result<(), WriteFailed>
-    ensures text { OnOk result (Prints W.contents out.old out.new (rows.needs_row None (Some runs) (Some left))) }
+    ensures text { OnOk result (Prints W.contents out.old out.new (rows.needs_row Undecided (Some runs) (Some left))) }
     ensures failed { OnErr result (has_failed out.new ≡ true) }
 {
     write!(out, "  needs {runs}")?;
@@ -44,12 +29,11 @@ fn print_needs_off<W: Write>(out: &mut Watched<W>, runs: u32, left: u32) -> Resu
 /// Prints what is needed off how many deliveries, where they are limited and the match isn't decided.
 pub fn print_needs_row<W: Write>(
     out: &mut Watched<W>,
-    sheet: &MatchSheet,
     score: &Match,
     left: Option<u32>,
 ) -> Result<(), WriteFailed>
     ensures text { ForEachHistory score.now (λ n h. OnOk result (Prints W.contents out.old out.new
-        (rows.needs_row (result_text sheet.now (outcome n h)) (figures.runs_needed n h) left))) }
+        (rows.needs_row (outcome n h) (figures.runs_needed n h) left))) }
     ensures failed { OnErr result (has_failed out.new ≡ true) }
 {
     match (score.result(), runs_needed(score), left) {
@@ -121,20 +105,34 @@ fn print_innings_win<W: Write>(
     )
 }
 
-/// Prints the result of a match, or what is needed, if it is told.
-fn print_outcome<W: Write>(
+/// Prints what is needed, where nothing limits the deliveries and the match isn't decided.
+pub fn print_aim<W: Write>(
     out: &mut Watched<W>,
-    sheet: &MatchSheet,
     score: &Match,
-    needed: Option<u32>,
     left: Option<u32>,
 ) -> Result<(), WriteFailed>
     ensures text { ForEachHistory score.now (λ n h. OnOk result (Prints W.contents out.old out.new
-        (rows.aim (result_text sheet.now (outcome n h)) needed left))) }
+        (rows.aim (outcome n h) (figures.runs_needed n h) left))) }
+    ensures failed { OnErr result (has_failed out.new ≡ true) }
+{
+    match (score.result(), runs_needed(score), left) {
+        (Outcome::Undecided, Some(runs), None) => write!(out, "  needs {runs}"),
+        _ => Ok(()),
+    }
+}
+
+/// Prints the result of a match that is decided.
+pub fn print_result<W: Write>(
+    out: &mut Watched<W>,
+    sheet: &MatchSheet,
+    score: &Match,
+) -> Result<(), WriteFailed>
+    ensures text { ForEachHistory score.now (λ n h. OnOk result (Prints W.contents out.old out.new
+        (rows.result_part sheet.now (outcome n h)))) }
     ensures failed { OnErr result (has_failed out.new ≡ true) }
 {
     match score.result() {
-        Outcome::Undecided => print_needs(out, needed, left),
+        Outcome::Undecided => Ok(()),
         Outcome::Draw => write!(out, "  match drawn"),
         Outcome::Tie => write!(out, "  match tied"),
         Outcome::Runs(side, count) => {
@@ -151,29 +149,19 @@ fn print_outcome<W: Write>(
     }
 }
 
-/// Prints the result of a match, or what is needed.
-pub fn print_aim<W: Write>(
-    out: &mut Watched<W>,
-    sheet: &MatchSheet,
-    score: &Match,
-    left: Option<u32>,
-) -> Result<(), WriteFailed>
-    ensures text { ForEachHistory score.now (λ n h. OnOk result (Prints W.contents out.old out.new
-        (rows.aim (result_text sheet.now (outcome n h)) (figures.runs_needed n h) left))) }
-    ensures failed { OnErr result (has_failed out.new ≡ true) }
-{
-    print_outcome(out, sheet, score, runs_needed(score), left)
-}
-
-/// Prints the result of a match that is decided.
-pub fn print_result<W: Write>(
+/// Prints the result of a match that is decided, on a row of its own.
+pub fn print_result_row<W: Write>(
     out: &mut Watched<W>,
     sheet: &MatchSheet,
     score: &Match,
 ) -> Result<(), WriteFailed>
     ensures text { ForEachHistory score.now (λ n h. OnOk result (Prints W.contents out.old out.new
-        (rows.aim (result_text sheet.now (outcome n h)) None None))) }
+        (rows.result_row sheet.now (outcome n h)))) }
     ensures failed { OnErr result (has_failed out.new ≡ true) }
 {
-    print_outcome(out, sheet, score, None, None)
+    if score.result() == Outcome::Undecided {
+        return Ok(());
+    }
+    print_result(out, sheet, score)?;
+    writeln!(out)
 }

@@ -36,7 +36,7 @@ fn back_room<B: BookOf>(
     let room = bowling_room(room, form, sheet, book, innings);
     let room = open_marks_room(room, over, is_all, shown);
     let room = free_room(room, sheet, book);
-    let room = aim_room(room, sheet, score, left_now(score, sheet, innings));
+    let room = aim_room(room, score, left_now(score, sheet, innings));
     over_end_room(room, over)
 }
 

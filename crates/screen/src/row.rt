@@ -1,4 +1,4 @@
-//! How a match stands, in one row of at most 80 columns.
+//! How a match stands: a row that is fitted to 80 columns, and one behind it of what is needed or of the result.
 
 ghost use Rattle.std.specs.Prelude.{◌≡◌, ◌<◌, OnErr, OnOk, true};
 ghost use Rattle.match_laws.specs.History.{begun};
@@ -9,7 +9,7 @@ ghost use Rattle.cards.specs.Bowling.{overs_of};
 ghost use Rattle.streams.specs.Watched.{Prints, has_failed};
 ghost use Rattle.screen.specs.Row as rows;
 
-use crate::aim::{print_aim, print_needs_row};
+use crate::aim::{print_aim, print_needs_row, print_result_row};
 use crate::fit::{form_of, is_fit, shown_of};
 use crate::form::{Form, print_name};
 use crate::limited::{left_now, print_free, print_of, print_past};
@@ -311,7 +311,7 @@ fn print_back<W: Write, B: BookOf>(
     print_bowling(out, form, sheet, book, innings)?;
     print_open_marks(out, over, is_all, shown)?;
     print_free(out, sheet, book)?;
-    print_aim(out, sheet, score, left_now(score, sheet, innings))?;
+    print_aim(out, score, left_now(score, sheet, innings))?;
     print_over_end(out, over)
 }
 
@@ -377,7 +377,7 @@ fn print_line_in<W: Write, B: BookOf>(
     print_line(out, form, false, shown, sheet, book, innings)
 }
 
-/// Prints the row of an innings, and what is needed behind it.
+/// Prints the row of an innings, and behind it what is needed or the result.
 fn print_innings<W: Write, B: BookOf>(
     out: &mut Watched<W>,
     sheet: &MatchSheet,
@@ -393,12 +393,13 @@ fn print_innings<W: Write, B: BookOf>(
     print_line_in(out, form, sheet, book, innings)?;
     writeln!(out)?;
     let score = book.score();
-    print_needs_row(out, sheet, score, left_now(score, sheet, innings))
+    print_needs_row(out, score, left_now(score, sheet, innings))?;
+    print_result_row(out, sheet, score)
 }
 
 /// Prints how the match of a book stands, in one row. Where it is longer than 80 columns the team's name is left out, then
-/// players' names are cut, down to four letters, then the oldest marks of the over are left out. In a chase of
-/// limited overs a second row tells what is needed.
+/// players' names are cut, down to four letters, then the oldest marks of the over are left out. A second row
+/// tells what is needed in a chase of limited overs, and the result.
 pub fn print_row<W: Write, B: BookOf>(
     out: &mut Watched<W>,
     sheet: &MatchSheet,

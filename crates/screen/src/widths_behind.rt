@@ -2,7 +2,7 @@
 
 #![tactic(auto, using(crate::proofs::Rooms::behind_both, crate::proofs::Rooms::behind_nothing))]
 
-ghost use Rattle.std.specs.Prelude.{◌≡◌, ◌≤◌, ◌++◌, None, codes, decimal, length};
+ghost use Rattle.std.specs.Prelude.{◌≡◌, ◌≤◌, ◌++◌, codes, length};
 ghost use Rattle.notation.specs.declared.entry.TheConstants.{PLACES};
 ghost use Rattle.match_laws.specs.Result.{outcome};
 ghost use Rattle.match_laws.specs.Stands.{ForEachHistory};
@@ -10,13 +10,11 @@ ghost use Rattle.corrections.specs.CleanList.{history_of};
 ghost use Rattle.corrections.specs.Overs.{balls_of};
 ghost use Rattle.limits.specs.Figures as figures;
 ghost use Rattle.cards.specs.Marks.{mark_text};
-ghost use Rattle.cards.specs.Results.{result_text};
 ghost use Rattle.screen.specs.Fit as fit;
 ghost use Rattle.screen.specs.Limited as limited;
 ghost use Rattle.screen.specs.Row as rows;
 ghost use Rattle.screen.specs.inner.Items as items;
 
-use crate::aim::{run_word, wicket_word};
 use crate::marks::dead_mark;
 use crate::over_end::{counting_of, is_uncalled};
 use crate::room::Room;
@@ -108,69 +106,15 @@ pub fn free_room<B: BookOf>(room: Room, sheet: &MatchSheet, book: &B) -> Room
     }
 }
 
-/// Behind what is needed, where nothing limits the deliveries.
-fn needs_room(room: Room, runs: Option<u32>, left: Option<u32>) -> Room
-    ensures { result ≡ fit.behind room (rows.aim None runs left) }
+/// Behind what is needed, where nothing limits the deliveries and the match isn't decided.
+pub fn aim_room(room: Room, score: &Match, left: Option<u32>) -> Room
+    ensures { ForEachHistory score.now (λ n h.
+        result ≡ fit.behind room (rows.aim (outcome n h) (figures.runs_needed n h) left)) }
 {
-    match (runs, left) {
-        (Some(runs), None) => room.text("  needs ").number(runs),
+    match (score.result(), runs_needed(score), left) {
+        (Outcome::Undecided, Some(runs), None) => room.text("  needs ").number(runs),
         _ => room,
     }
-}
-
-/// Behind a win by so many of this.
-fn win_room(room: Room, side: &str, how: &str, count: u32, unit: &str) -> Room
-    ensures { result ≡ fit.behind room (codes "  " ++ side.now ++ how.now ++ (decimal count ++ codes " " ++ unit.now)) }
-{
-    let room = room.text("  ").text(side).text(how);
-    room.number(count).text(" ").text(unit)
-}
-
-/// Behind the result of a match, or what is needed.
-fn outcome_room(
-    room: Room,
-    sheet: &MatchSheet,
-    score: &Match,
-    needed: Option<u32>,
-    left: Option<u32>,
-) -> Room
-    ensures { ForEachHistory score.now (λ n h.
-        result ≡ fit.behind room (rows.aim (result_text sheet.now (outcome n h)) needed left)) }
-{
-    match score.result() {
-        Outcome::Undecided => needs_room(room, needed, left),
-        Outcome::Draw => room.text("  match drawn"),
-        Outcome::Tie => room.text("  match tied"),
-        Outcome::Runs(side, count) => {
-            win_room(room, sheet.name(side), " won by ", count, run_word(count))
-        }
-        Outcome::Wickets(side, count) => {
-            win_room(
-                room,
-                sheet.name(side),
-                " won by ",
-                count,
-                wicket_word(count),
-            )
-        }
-        Outcome::InningsAnd(side, count) => {
-            let how = " won by an innings and ";
-            win_room(room, sheet.name(side), how, count, run_word(count))
-        }
-        Outcome::PenaltyRuns(side) => {
-            room.text("  ")
-                .text(sheet.name(side))
-                .text(" won by penalty runs")
-        }
-    }
-}
-
-/// Behind the result of a match, or what is needed in an innings.
-pub fn aim_room(room: Room, sheet: &MatchSheet, score: &Match, left: Option<u32>) -> Room
-    ensures { ForEachHistory score.now (λ n h.
-        result ≡ fit.behind room (rows.aim (result_text sheet.now (outcome n h)) (figures.runs_needed n h) left)) }
-{
-    outcome_room(room, sheet, score, runs_needed(score), left)
 }
 
 /// Behind that an over isn't called, where a bowler began another one.

@@ -2,7 +2,7 @@
 
 /// What may be run and loaded in the page: its own style and script, and what it asks of its station.
 pub const POLICY: &[u8] =
-    b"default-src 'none'; script-src 'sha256-DSQmR6Sz1f5doi3Ksf0DBA2gRq4AJFGCOdXMKfuf7xU='; style-src 'sha256-TJJPdKyscPeFsFxnBDMw0VKlpaQlWwlCPIb52rVEc1E='; connect-src 'self'; img-src data:; base-uri 'none'; form-action 'none'; frame-ancestors 'none'";
+    b"default-src 'none'; script-src 'sha256-CbPfyArML7olOy+x/ldMWVIBKPF5tjT62pBGSCS/lCA='; style-src 'sha256-TJJPdKyscPeFsFxnBDMw0VKlpaQlWwlCPIb52rVEc1E='; connect-src 'self'; img-src data:; base-uri 'none'; form-action 'none'; frame-ancestors 'none'";
 
 /// The page.
 pub const PAGE: &[u8] = b"<!DOCTYPE html>
@@ -420,19 +420,24 @@ function agree(place, line) {
   if (word === \"innings\") { told.side = second; told.spells = []; told.bowls = null; told.check = []; }
 }
 
+// What the other scorer wrote where the two differ, behind the row of the own line.
+const THEIRS = /^ {2}the other (.*)$/;
+
 // What a row says of the place, of the other scorer and of the over.
 function follow(row) {
   const agreed = /^(\\d+) agreed: (.*)$/.exec(row);
-  const two = /^(\\d+) differs: you (.*), the other (.*)$/.exec(row);
+  const two = /^(\\d+) differs: you (.*),$/.exec(row);
+  const theirs = THEIRS.exec(row);
   const other = /^(\\d+) the other has written$/.exec(row);
   if (told.isChecking && row.startsWith(\"  \")) told.check.push(row.trim());
   else told.isChecking = false;
   if (agreed) agree(Number(agreed[1]), agreed[2].replace(/^over .*/, \"over\"));
-  else if (two) { told.differs = { place: Number(two[1]), you: two[2], other: two[3] }; told.other = null; }
+  else if (two) { told.differs = { place: Number(two[1]), you: two[2], other: null }; told.other = null; }
+  else if (theirs && told.differs && told.differs.other === null) told.differs.other = theirs[1];
   else if (other) told.other = Number(other[1]);
   else if (row === \"the other desk isn't heard\") told.isHeard = false;
   else if (row === \"the other desk is heard again\") told.isHeard = true;
-  else if (row.startsWith(\"dropped \") && / differs: you /.test(told.rows[told.rows.length - 2])) told.differs.dropped = row;
+  else if (row.startsWith(\"dropped \") && THEIRS.test(told.rows[told.rows.length - 2])) told.differs.dropped = row;
 }
 
 const WRONG = new RegExp(\"^(fault |refused |which one|no such player|who bowls|undo: |[wb]: |\\\\w+ has no fielder|\" +
@@ -443,7 +448,7 @@ const CHANGED = /^(now: |innings \\d+: |\\.\\. and )/;
 function heed(row) {
   if (!isLive && !sent) return;
   const isWrong = WRONG.test(row) && !(told.differs && told.differs.dropped === row);
-  const isMore = note && now() - note.since < 500 && (isWrong || row.startsWith(\"  \") || CHANGED.test(row));
+  const isMore = note && now() - note.since < 500 && (isWrong || row.startsWith(\"  \") && !THEIRS.test(row) || CHANGED.test(row));
   if (isMore) note.detail += \"\\n\" + row.trim();
   else if (isWrong) tell(\"bad\", sent ? \"Not written: \" + sent.label : \"The desk says\", row);
   else if (CHANGED.test(row) && (told.part === \"fix\" || told.part === \"late\")) tell(\"ask\", \"Put right. Read it first\", row);
@@ -1015,7 +1020,7 @@ function bothWords(line) {
 
 function differsView() {
   if (!differs() || amend) return null;
-  const two = told.differs && told.differs.place === state.place ? told.differs : null;
+  const two = told.differs && told.differs.place === state.place && told.differs.other !== null ? told.differs : null;
   const third = { innings: [\"Another side\", askInnings], batter: [\"Another\", askComer] }[state.wants];
   const lines = two ? [\"You: \" + bothWords(two.you), \"The other: \" + bothWords(two.other)] : [];
   const detail = [...lines, \"Talk, then both write what it was.\", two && two.dropped || \"\"].join(\"\\n\").trim();

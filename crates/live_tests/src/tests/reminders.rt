@@ -221,7 +221,7 @@ fn in_each_round(rt: HostRuntime) {
         (5900, GREETING),
         (6500, "0 the other has written\n"),
         (6900, ""),
-        (7500, "0 differs: you innings home, the other void\n"),
+        (7500, "0 differs: you innings home,\n  the other void\n"),
         (12_900, ""),
         (13_500, "0 the other has written\n"),
         (60_000, ""),
@@ -336,7 +336,7 @@ fn an_empty_line(rt: HostRuntime) {
         (7500, HEARD),
         (7900, ""),
         (8499, "No play\n0 next\n0 the other has written\n"),
-        (8999, "0 differs: you innings home, the other void\n"),
+        (8999, "0 differs: you innings home,\n  the other void\n"),
         (9499, "No play\n0 differs\n"),
         (9900, ""),
         (10_499, "No play\n0 differs\n0 the other has written\n"),
@@ -346,7 +346,7 @@ fn an_empty_line(rt: HostRuntime) {
             "0 the other has written\nthe other desk isn't heard\n",
         ),
         (15_100, ""),
-        (15_699, "0 differs: you innings home, the other void\n"),
+        (15_699, "0 differs: you innings home,\n  the other void\n"),
         (90_000, ""),
     ];
     is_told(&rt, alloc, &keys, &mut link, &world, &texts);
