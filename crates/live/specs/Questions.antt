@@ -5,7 +5,7 @@ use Rattle.notation.specs.LineFault.{number_of, name_of}
 use Rattle.ball_laws.specs.History.{History}
 use Rattle.cards.specs.Sheet.{Sheet, team_of}
 use Rattle.screen.specs.Sentences.{of_fault}
-use Rattle.screen.specs.Limited.{bowlers}
+use Rattle.score_rows.specs.Limited.{bowlers}
 use Rattle.screen.specs.Sides.{listed}
 use Rattle.screen.specs.Near.{unknown_text}
 use Rattle.shorthand.specs.declared.unclear.{Letter.Letter, Unaided.Unaided, Unclear.Unclear}

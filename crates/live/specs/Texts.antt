@@ -23,14 +23,14 @@ use Rattle.cards.specs.Results.{result_text}
 use Rattle.cards.specs.Sheet.{Sheet}
 use Rattle.changes.specs.Before.{item_with}
 use Rattle.changes.specs.Text.{last_changes}
-use Rattle.screen.specs.Row.{result_part, row}
-use Rattle.screen.specs.OverCheck.{over_check}
+use Rattle.score_rows.specs.Row.{result_part, row}
+use Rattle.score_rows.specs.OverCheck.{over_check}
 use Rattle.screen.specs.Both.{both_cards, cards_number}
-use Rattle.screen.specs.Listing.{listing, range}
-use Rattle.screen.specs.OverEntries.{over_by_side, over_last}
+use Rattle.score_rows.specs.Listing.{listing, range}
+use Rattle.score_rows.specs.OverEntries.{over_by_side, over_last}
 use Rattle.screen.specs.Waiting.{who_waits}
 use Rattle.screen.specs.Sides.{both_sides}
-use Rattle.screen.specs.Limited.{bowlers}
+use Rattle.score_rows.specs.Limited.{bowlers}
 use Rattle.screen.specs.Help.{help, help_on}
 use Rattle.screen.specs.Sentences.{of_desk, of_law}
 use Rattle.screen.specs.declared.word.Word.{Word}

@@ -20,10 +20,13 @@ use corrections::BookOf;
 use desk::Refusal;
 use match_laws::Match;
 use notation::{Entry, PLACES, Plain, line_of};
+use score_rows::{
+    print_bowlers, print_check, print_listing, print_over_by_side, print_over_last,
+    print_over_note, print_range, print_result, print_row,
+};
 use screen::{
-    HELP, Word, help_on, print_bowlers, print_cards, print_cards_of, print_check, print_listing,
-    print_over_by_side, print_over_last, print_over_note, print_range, print_result, print_row,
-    print_sides, print_waiting, refusal_sentence,
+    HELP, Word, help_on, print_cards, print_cards_of, print_sides, print_waiting,
+    refusal_sentence,
 };
 use std::io::Write;
 use streams::{Watched, WriteFailed};

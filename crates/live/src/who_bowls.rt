@@ -8,7 +8,7 @@ ghost use Rattle.live.specs.Questions as questions;
 use crate::questions::print_unclear;
 use cards::MatchSheet;
 use corrections::BookOf;
-use screen::print_bowlers;
+use score_rows::print_bowlers;
 use shorthand::Unclear;
 use std::io::Write;
 use streams::{Watched, WriteFailed};

@@ -1,12 +1,5 @@
--- What is claimed: Row and OverCheck, both with Limited and Fit; Both, Listing, OverEntries, Sides, Waiting, Sentences, Near, Words,
--- Help. inner: for private functions only.
-pub mod Limited
-pub mod Fit
-pub mod Row
-pub mod OverCheck
+-- What is claimed: Both, Sides, Waiting, Sentences, Near, Words, Help. inner: for private functions only.
 pub mod Both
-pub mod Listing
-pub mod OverEntries
 pub mod Sides
 pub mod Waiting
 pub mod Sentences

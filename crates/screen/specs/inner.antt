@@ -1,2 +1,2 @@
 -- What serves private functions only.
-pub mod Items
+pub mod Numbers

@@ -6,7 +6,7 @@ ghost use Rattle.ball_laws.specs.Over.{numbers};
 ghost use Rattle.cards.specs.Sheet.{team_of};
 ghost use Rattle.streams.specs.Watched.{Prints, has_failed};
 ghost use Rattle.screen.specs.Sides as sides;
-ghost use Rattle.screen.specs.inner.Items.{is_number};
+ghost use Rattle.screen.specs.inner.Numbers.{is_number};
 
 use cards::MatchSheet;
 use notation::{Player, Side};

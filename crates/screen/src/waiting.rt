@@ -9,7 +9,7 @@ ghost use Rattle.cards.specs.Sheet.{name_of, team_of};
 ghost use Rattle.streams.specs.Watched.{Prints, has_failed};
 ghost use Rattle.screen.specs.Sides.{player_text};
 ghost use Rattle.screen.specs.Waiting as waiting;
-ghost use Rattle.screen.specs.inner.Items.{is_number};
+ghost use Rattle.screen.specs.inner.Numbers.{is_number};
 
 use crate::sides::print_player;
 use cards::MatchSheet;

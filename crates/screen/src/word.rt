@@ -2,9 +2,10 @@
 
 ghost use Rattle.std.specs.Prelude.{◌≡◌, option_map};
 ghost use Rattle.notation.specs.Written.{found_number};
+ghost use Rattle.cards.specs.Sheet as sheets;
+ghost use Rattle.std.specs.List.{list_all};
 ghost use Rattle.screen.specs.Words as words;
 
-use crate::form::is_plain;
 use crate::topic::{Topic, topic_of};
 use notation::{Side, Tokens, number_in};
 use std::str;
@@ -188,6 +189,13 @@ fn trimmed(line: &[u8]) -> &[u8]
     ensures { result.now ≡ words.trimmed line.now }
 {
     line.trim_ascii_end()
+}
+
+/// Whether a line is printable ASCII.
+fn is_plain(line: &[u8]) -> bool
+    ensures { result ≡ list_all sheets.is_printable line.now }
+{
+    line.iter().all(|byte| *byte >= 32 && *byte <= 126)
 }
 
 /// What a line without blanks at its end asks for.

@@ -25,11 +25,10 @@ fn check_words<'a>(alloc: Global) -> Result<Command<'a>, AllocError> {
 
 /// The words of `replay`.
 fn replay_words<'a>(alloc: Global) -> Result<Command<'a>, AllocError> {
-    let boards = wanted(alloc, "boards").value_parser(value_parser!(u8).range(0..=4));
     Command::new(alloc, "replay")
         .arg(wanted(alloc, "sheet"))?
         .arg(wanted(alloc, "schedule"))?
-        .arg(boards)?
+        .arg(wanted(alloc, "boards").value_parser(value_parser!(u8).range(0..=4)))?
         .arg(flag(alloc, "old"))
 }
 
@@ -68,15 +67,16 @@ fn migrate_words<'a>(alloc: Global) -> Result<Command<'a>, AllocError> {
 
 /// The words of `match`.
 fn match_words<'a>(alloc: Global) -> Result<Command<'a>, AllocError> {
-    let drop = Arg::new(alloc, "drop")
-        .long("drop")
-        .value_parser(value_parser!(u16))
-        .default_value("0");
     Command::new(alloc, "match")
         .arg(wanted(alloc, "sheet"))?
         .arg(wanted(alloc, "book"))?
         .arg(wanted(alloc, "dir"))?
-        .arg(drop)
+        .arg(
+            Arg::new(alloc, "drop")
+                .long("drop")
+                .value_parser(value_parser!(u16))
+                .default_value("0"),
+        )
 }
 
 /// The words of `sheet`.
@@ -94,9 +94,13 @@ fn free<'a>(alloc: Global, name: &'a str) -> Arg<'a> {
     Arg::new(alloc, name).long(name)
 }
 
-/// An option of a station, which has to be given unless the sheet's table stands for it.
-fn of_station<'a>(alloc: Global, name: &'a str) -> Result<Arg<'a>, AllocError> {
-    free(alloc, name).required_unless_present("which")
+/// A station's words and one more option, which has to be given unless the sheet's table stands for it.
+fn with_option<'a>(
+    alloc: Global,
+    words: Command<'a>,
+    name: &'a str,
+) -> Result<Command<'a>, AllocError> {
+    words.arg(free(alloc, name).required_unless_present("which")?)
 }
 
 /// Which station of the sheet's table it is.
@@ -106,13 +110,12 @@ fn which<'a>(alloc: Global) -> Arg<'a> {
 
 /// The words of `desk`.
 fn desk_words<'a>(alloc: Global) -> Result<Command<'a>, AllocError> {
-    Command::new(alloc, "desk")
-        .arg(which(alloc))?
-        .arg(of_station(alloc, "sheet")?)?
-        .arg(of_station(alloc, "desk")?)?
-        .arg(of_station(alloc, "file")?)?
-        .arg(of_station(alloc, "at")?)?
-        .arg(of_station(alloc, "other")?)?
+    let words = Command::new(alloc, "desk").arg(which(alloc))?;
+    let words = with_option(alloc, words, "sheet")?;
+    let words = with_option(alloc, words, "desk")?;
+    let words = with_option(alloc, words, "file")?;
+    let words = with_option(alloc, words, "at")?;
+    with_option(alloc, words, "other")?
         .arg(free(alloc, "copy"))?
         .arg(free(alloc, "board").action(ArgAction::Append))?
         .arg(free(alloc, "serve"))?
@@ -121,12 +124,11 @@ fn desk_words<'a>(alloc: Global) -> Result<Command<'a>, AllocError> {
 
 /// The words of `board`.
 fn board_words<'a>(alloc: Global) -> Result<Command<'a>, AllocError> {
-    Command::new(alloc, "board")
-        .arg(which(alloc))?
-        .arg(of_station(alloc, "sheet")?)?
-        .arg(of_station(alloc, "at")?)?
-        .arg(of_station(alloc, "desk-a")?)?
-        .arg(of_station(alloc, "desk-b")?)?
+    let words = Command::new(alloc, "board").arg(which(alloc))?;
+    let words = with_option(alloc, words, "sheet")?;
+    let words = with_option(alloc, words, "at")?;
+    let words = with_option(alloc, words, "desk-a")?;
+    with_option(alloc, words, "desk-b")?
         .arg(free(alloc, "text"))?
         .arg(free(alloc, "json"))?
         .arg(free(alloc, "script"))?
@@ -134,20 +136,32 @@ fn board_words<'a>(alloc: Global) -> Result<Command<'a>, AllocError> {
         .arg(free(alloc, "key"))
 }
 
+/// The program's words and one more command.
+fn with_command<'a>(
+    program: Command<'a>,
+    words: Result<Command<'a>, AllocError>,
+) -> Result<Command<'a>, AllocError> {
+    program.subcommand(words?)
+}
+
+/// The commands of books and sheets.
+fn book_commands<'a>(alloc: Global, program: Command<'a>) -> Result<Command<'a>, AllocError> {
+    let program = with_command(program, book_words(alloc, "card"))?;
+    let program = with_command(program, export_words(alloc))?;
+    let program = with_command(program, book_words(alloc, "page"))?;
+    let program = with_command(program, book_words(alloc, "lines"))?;
+    let program = with_command(program, compare_words(alloc))?;
+    with_command(program, sheet_words(alloc))
+}
+
 /// All the program's words.
 pub fn program_words<'a>(alloc: Global) -> Result<Command<'a>, AllocError> {
-    Command::new(alloc, "ground")
-        .subcommand(check_words(alloc)?)?
-        .subcommand(replay_words(alloc)?)?
-        .subcommand(book_words(alloc, "card")?)?
-        .subcommand(export_words(alloc)?)?
-        .subcommand(book_words(alloc, "page")?)?
-        .subcommand(book_words(alloc, "lines")?)?
-        .subcommand(compare_words(alloc)?)?
-        .subcommand(migrate_words(alloc)?)?
-        .subcommand(match_words(alloc)?)?
-        .subcommand(sheet_words(alloc)?)?
-        .subcommand(key_words(alloc)?)?
-        .subcommand(desk_words(alloc)?)?
-        .subcommand(board_words(alloc)?)
+    let program = with_command(Command::new(alloc, "ground"), check_words(alloc))?;
+    let program = with_command(program, replay_words(alloc))?;
+    let program = book_commands(alloc, program)?;
+    let program = with_command(program, migrate_words(alloc))?;
+    let program = with_command(program, match_words(alloc))?;
+    let program = with_command(program, key_words(alloc))?;
+    let program = with_command(program, desk_words(alloc))?;
+    with_command(program, board_words(alloc))
 }

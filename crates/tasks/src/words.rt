@@ -52,41 +52,76 @@ pub fn desk_in(text: &str) -> Option<DeskId> {
     }
 }
 
+/// The task of `check`.
+fn check_task<'a>(words: &ArgMatches<'a>) -> Option<Task<'a>>
+    ensures { IfSome result IsTask }
+{
+    Some(Task::Check {
+        innings: innings_in(words)?,
+    })
+}
+
+/// The task of `replay`.
+fn replay_task<'a>(words: &ArgMatches<'a>) -> Option<Task<'a>>
+    ensures { IfSome result IsTask }
+{
+    Some(Task::Replay {
+        sheet: words.get_str("sheet")?,
+        schedule: words.get_str("schedule")?,
+        boards: boards_in(words)?,
+        is_old: words.get_flag("old"),
+    })
+}
+
+/// The task of `compare`.
+fn compare_task<'a>(words: &ArgMatches<'a>) -> Option<Task<'a>>
+    ensures { IfSome result IsTask }
+{
+    Some(Task::Compare {
+        sheet: words.get_str("sheet")?,
+        a: words.get_str("a")?,
+        b: words.get_str("b")?,
+    })
+}
+
+/// The task of `migrate`.
+fn migrate_task<'a>(words: &ArgMatches<'a>) -> Option<Task<'a>>
+    ensures { IfSome result IsTask }
+{
+    Some(Task::Migrate {
+        sheet: words.get_str("sheet")?,
+        desk: desk_in(words.get_str("desk")?)?,
+        from: words.get_str("from")?,
+        to: words.get_str("to")?,
+    })
+}
+
+/// The task of `match`.
+fn match_task<'a>(words: &ArgMatches<'a>) -> Option<Task<'a>>
+    ensures { IfSome result IsTask }
+{
+    Some(Task::Match {
+        sheet: words.get_str("sheet")?,
+        book: words.get_str("book")?,
+        folder: words.get_str("dir")?,
+        drop: number_in(words, "drop")?,
+    })
+}
+
 /// The task of a command's words.
 fn task_of<'a>(command: &str, words: &ArgMatches<'a>) -> Option<Task<'a>>
     ensures { IfSome result IsTask }
 {
     match command {
-        "check" => Some(Task::Check {
-            innings: innings_in(words)?,
-        }),
-        "replay" => Some(Task::Replay {
-            sheet: words.get_str("sheet")?,
-            schedule: words.get_str("schedule")?,
-            boards: boards_in(words)?,
-            is_old: words.get_flag("old"),
-        }),
+        "check" => check_task(words),
+        "replay" => replay_task(words),
         "card" => card_task(words),
         "export" => export_task(words),
         "page" => page_task(words),
         "lines" => lines_task(words),
-        "compare" => Some(Task::Compare {
-            sheet: words.get_str("sheet")?,
-            a: words.get_str("a")?,
-            b: words.get_str("b")?,
-        }),
-        "migrate" => Some(Task::Migrate {
-            sheet: words.get_str("sheet")?,
-            desk: desk_in(words.get_str("desk")?)?,
-            from: words.get_str("from")?,
-            to: words.get_str("to")?,
-        }),
-        "match" => Some(Task::Match {
-            sheet: words.get_str("sheet")?,
-            book: words.get_str("book")?,
-            folder: words.get_str("dir")?,
-            drop: number_in(words, "drop")?,
-        }),
+        "compare" => compare_task(words),
+        "migrate" => migrate_task(words),
+        "match" => match_task(words),
         "sheet" => Some(Task::Sheet {
             sheet: words.get_str("sheet")?,
         }),

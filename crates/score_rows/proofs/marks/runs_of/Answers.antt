@@ -1,0 +1,18 @@
+use Rattle.std.proofs.Common.{arith, ap, ◌∙◌}
+use Rattle.ball_laws.specs.Sums.{tally}
+use Rattle.match_laws.specs.Figures.{runs_of}
+use Rattle.corrections.proofs.OverLemmas.{balls_all}
+use Rattle.score_rows.proofs.MarkLemmas.{counted_one}
+use Rattle.score_rows.proofs.marks.runs_of.Goals as goal
+
+pub loop-placed-preserved : goal.loop-placed-preserved
+loop-placed-preserved c =
+    let more = c.item_runs-runs in
+    let m = c.loop-placed.invariant in record {
+      sum = counted_one c.args.over.now c.loop-placed.placed-index c.placed-item.result c.loop-placed-test.true c.placed-item.is _ _ m.sum more.ensures.value;
+      most = omega (arith, m.most, more.ensures.bound);
+    }
+
+pub returns : goal.returns
+returns c =
+    c.loop-placed.invariant.sum ∙ ap (tally runs_of) (balls_all c.args.over.now c.loop-placed.placed-index c.loop-placed-test.false)

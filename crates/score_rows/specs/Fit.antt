@@ -1,0 +1,63 @@
+-- How a row is fitted to the columns of a screen: the team's name goes first, then letters of the players' names, down to four.
+use Rattle.std.specs.Prelude.{ℕ, ◌-◌, nat_le, nat_lt, if◌then◌else◌, Bool, true, false, ◌&&◌, List, ◌++◌, length, take, codes}
+use Rattle.std.specs.List.{list_all}
+use Rattle.cards.specs.Sheet.{is_printable, longest_name}
+use Rattle.score_rows.specs.declared.form.Form.{Form}
+use Rattle.score_rows.specs.declared.form.Form.TheVariants.{Whole, WithoutTeam}
+use Rattle.score_rows.specs.declared.form.Form.TheVariants.{TwelveLetters, TenLetters, EightLetters, SevenLetters, SixLetters, FiveLetters, FourLetters}
+use Rattle.score_rows.specs.declared.room.Room.{Room}
+use Rattle.score_rows.specs.declared.room.Room.TheVariants.{Left, Full}
+
+abbrev pub columns : ℕ
+columns = 80
+
+abbrev pub fits : List ℕ → Bool
+fits text = nat_le (length text) columns
+
+abbrev pub all_columns : Room
+all_columns = Left columns
+
+abbrev pub is_left : Room → Bool
+is_left (Left room) = true
+is_left Full = false
+
+-- what is left behind a text
+abbrev pub behind : Room → List ℕ → Room
+behind (Left room) text = if nat_le (length text) room then Left (room - length text) else Full
+behind Full text = Full
+
+abbrev pub has_team : Form → Bool
+has_team Whole = true
+has_team form = false
+
+-- the most letters of a player's name
+abbrev pub letters : Form → ℕ
+letters Whole = longest_name
+letters WithoutTeam = longest_name
+letters TwelveLetters = 12
+letters TenLetters = 10
+letters EightLetters = 8
+letters SevenLetters = 7
+letters SixLetters = 6
+letters FiveLetters = 5
+letters FourLetters = 4
+
+-- the first of these that fits, or else the last
+abbrev pub first_fit : (Form → Bool) → Form
+first_fit is_fit =
+    if is_fit Whole then Whole
+    else if is_fit WithoutTeam then WithoutTeam
+    else if is_fit TwelveLetters then TwelveLetters
+    else if is_fit TenLetters then TenLetters
+    else if is_fit EightLetters then EightLetters
+    else if is_fit SevenLetters then SevenLetters
+    else if is_fit SixLetters then SixLetters
+    else if is_fit FiveLetters then FiveLetters
+    else FourLetters
+
+abbrev pub is_long : ℕ → List ℕ → Bool
+is_long most name = nat_lt most (length name) && list_all is_printable name
+
+-- a name of at most so many letters: a longer one ends in a point
+abbrev pub cut : ℕ → List ℕ → List ℕ
+cut most name = if is_long most name then take (most - 1) name ++ codes "." else name

@@ -1,0 +1,200 @@
+-- How a match stands: a row that is fitted to 80 columns, and one behind it of what is needed or of the result.
+-- s is the sheet, n the innings a side, h the history, i the innings and f what of it is shown.
+use Rattle.std.specs.Prelude.{ℕ, ◌==◌, nat_le, if◌then◌else◌, Bool, true, false, not, ◌&&◌, List, [], ◌∷◌, ◌++◌, Option, Some, None, codes, decimal}
+use Rattle.notation.specs.declared.entry.{Ball.Ball, Side.Side}
+use Rattle.ball_laws.specs.History.{History, open_over}
+use Rattle.ball_laws.specs.Laws.{state_after}
+use Rattle.ball_laws.specs.Over.{counting}
+use Rattle.match_laws.specs.declared.rows.BowlingRow.{BowlingRow}
+use Rattle.match_laws.specs.History.{begun, side_of}
+use Rattle.match_laws.specs.Figures.{total, wickets, overs, balls, batter_runs, faced}
+use Rattle.match_laws.specs.Parts.{bowling_row_of}
+use Rattle.match_laws.specs.declared.outcome.Outcome.{Outcome}
+use Rattle.match_laws.specs.declared.outcome.Outcome.TheVariants.{Undecided}
+use Rattle.match_laws.specs.Result.{current, outcome}
+use Rattle.corrections.specs.Overs.{bowler_now, newest_bowler}
+use Rattle.limits.specs.Limits.{overs_for}
+use Rattle.limits.specs.Figures.{runs_needed}
+use Rattle.cards.specs.Sheet.{Sheet, name_of, player_of}
+use Rattle.cards.specs.Bowling.{fielding, overs_of}
+use Rattle.cards.specs.Marks.{mark_of}
+use Rattle.cards.specs.Results.{counted, result_text}
+use Rattle.score_rows.specs.declared.form.Form.{Form}
+use Rattle.score_rows.specs.declared.room.Room.{Room}
+use Rattle.score_rows.specs.Fit.{all_columns, behind, cut, first_fit, fits, has_team, is_left, letters}
+use Rattle.score_rows.specs.Limited.{free_text, left_now, of_overs, off_text, past}
+
+-- the total and the wickets
+abbrev pub runs_text : History → ℕ → List ℕ
+runs_text h i = decimal (total h i) ++ codes " for " ++ decimal (wickets h i)
+
+-- the side, its total and its wickets
+abbrev pub total_text : Sheet → History → ℕ → List ℕ
+total_text s h i = name_of s (side_of h i) ++ codes " " ++ runs_text h i
+
+-- the side, where it is shown
+abbrev pub team_text : Form → Sheet → History → ℕ → List ℕ
+team_text f s h i = if has_team f then name_of s (side_of h i) ++ codes " " else []
+
+-- the overs called, and the counting deliveries since
+abbrev pub overs_front : History → ℕ → List ℕ
+overs_front h i = codes " (" ++ decimal (overs h i) ++ codes "." ++ decimal (balls h i)
+
+-- of so many, where they are limited
+abbrev pub overs_text : Sheet → History → ℕ → List ℕ
+overs_text s h i = overs_front h i ++ of_overs (overs_for s.limits i) ++ codes ")"
+
+-- runs and the balls faced, with this mark behind
+abbrev pub batter_figures : ℕ → ℕ → List ℕ → List ℕ
+batter_figures runs balls_faced mark =
+    codes " " ++ decimal runs ++ codes " (" ++ decimal balls_faced ++ codes ")" ++ mark
+
+-- who is at an end, with this mark behind
+abbrev pub batter : Form → Sheet → History → ℕ → List ℕ → Option ℕ → List ℕ
+batter f s h i mark None = codes "-"
+batter f s h i mark (Some p) =
+    cut (letters f) (player_of s (side_of h i) p) ++ batter_figures (batter_runs h i p) (faced h i p) mark
+
+-- the striker, and the batter at the other end
+abbrev pub batters : Form → Sheet → History → ℕ → List ℕ
+batters f s h i =
+    batter f s h i (codes "*") (state_after h).ends.striker ++ codes "  " ++ batter f s h i [] (state_after h).ends.other
+
+-- overs, maidens, runs and wickets
+abbrev pub behind_overs : BowlingRow → List ℕ
+behind_overs row = codes "-" ++ decimal row.maidens ++ codes "-" ++ decimal row.runs ++ codes "-" ++ decimal row.wickets
+
+abbrev pub figures : BowlingRow → List ℕ
+figures row = overs_of row ++ behind_overs row
+
+-- a bowler of the side, by his row
+abbrev pub bowler_text : Form → Sheet → Side → ℕ → BowlingRow → List ℕ
+bowler_text f s side p row = cut (letters f) (player_of s side p) ++ codes " " ++ figures row
+
+-- who bowled the last delivery, if there is one, behind two blanks
+abbrev pub bowler : Form → Sheet → History → ℕ → Option ℕ → List ℕ
+bowler f s h i None = []
+bowler f s h i (Some p) = codes "  " ++ bowler_text f s (fielding h i) p (bowling_row_of h i p)
+
+abbrev pub dead_mark : Bool → List ℕ
+dead_mark is_dead = if is_dead then codes "d" else []
+
+-- the mark of a delivery, behind a space, with `d` where it was ruled dead
+abbrev pub spaced_mark : Ball → List ℕ
+spaced_mark b = codes " " ++ mark_of b ++ dead_mark b.dead
+
+-- the marks of an over, of whose deliveries the newest is given first, in the order in which they were bowled
+abbrev pub marks : List Ball → List ℕ
+marks [] = []
+marks (b ∷ older) = marks older ++ spaced_mark b
+
+-- before marks, where older ones are left out
+abbrev pub left_out : Bool → List ℕ
+left_out is_all = if is_all then [] else codes " <"
+
+-- the marks of the open over: all of its deliveries, or these newest ones
+abbrev pub open_marks : List Ball → Bool → List Ball → List ℕ
+open_marks [] is_all shown = []
+open_marks (b ∷ older) is_all shown = codes " " ++ left_out is_all ++ marks shown
+
+-- as many of the newest deliveries, the newest first, as have room for their marks
+abbrev pub newest : Room → List Ball → List Ball
+newest room [] = []
+newest room (b ∷ older) =
+    if is_left (behind room (spaced_mark b)) then b ∷ newest (behind room (spaced_mark b)) older else []
+
+-- a win by an innings and so many runs
+abbrev pub innings_win : Sheet → Side → ℕ → List ℕ
+innings_win s side n =
+    codes "  " ++ name_of s side ++ codes " won by an innings and " ++ counted n (codes "run") (codes "runs")
+
+-- the result of a match that is decided
+abbrev pub told : Option (List ℕ) → List ℕ
+told None = []
+told (Some result) = codes "  " ++ result
+
+abbrev pub result_part : Sheet → Outcome → List ℕ
+result_part s o = told (result_text s o)
+
+abbrev pub is_decided : Outcome → Bool
+is_decided Undecided = false
+is_decided o = true
+
+-- on a row of its own
+abbrev pub result_row : Sheet → Outcome → List ℕ
+result_row s o = if is_decided o then result_part s o ++ codes "\n" else []
+
+-- what is needed, where nothing limits the deliveries and the match isn't decided
+abbrev pub aim : Outcome → Option ℕ → Option ℕ → List ℕ
+aim Undecided (Some runs) None = codes "  needs " ++ decimal runs
+aim o runs left = []
+
+-- what is needed off so many deliveries, where they are limited and the match isn't decided: a row of its own
+abbrev pub needs_row : Outcome → Option ℕ → Option ℕ → List ℕ
+needs_row Undecided (Some runs) (Some left) = codes "  needs " ++ decimal runs ++ off_text runs left ++ codes "\n"
+needs_row o runs left = []
+
+-- the row to the batters, and behind them
+unfoldable pub front : Form → Sheet → History → ℕ → List ℕ
+front f s h i = team_text f s h i ++ runs_text h i ++ overs_text s h i ++ codes "  " ++ batters f s h i
+
+-- an over without its last delivery
+abbrev pub older_of : List Ball → List Ball
+older_of [] = []
+older_of (b ∷ older) = older
+
+abbrev pub are_two : Option ℕ → Option ℕ → Bool
+are_two (Some p) (Some q) = not (p == q)
+are_two p q = false
+
+-- six counted before the over's last delivery, and another bowled that than the one before it
+abbrev pub is_uncalled : List Ball → Bool
+is_uncalled over =
+    nat_le 6 (counting (older_of over)) && are_two (newest_bowler over) (newest_bowler (older_of over))
+
+abbrev pub uncalled_text : List Ball → List ℕ
+uncalled_text over = if is_uncalled over then codes ", the over isn't called" else []
+
+-- from the sixth delivery of the open over that counts on, how many those are
+abbrev pub over_end : List Ball → List ℕ
+over_end over =
+    if nat_le 6 (counting over) then codes "  " ++ decimal (counting over) ++ codes " balls" ++ uncalled_text over
+    else []
+
+-- the bowler, and what is told of him
+abbrev pub bowling : Form → Sheet → History → ℕ → List ℕ
+bowling f s h i = bowler f s h i (bowler_now h) ++ past s.limits.overs_a_bowler h (bowler_now h)
+
+unfoldable pub back : Form → Bool → List Ball → Sheet → ℕ → History → ℕ → List ℕ
+back f is_all shown s n h i =
+    bowling f s h i ++ open_marks (open_over h) is_all shown ++ free_text s h
+    ++ aim (outcome n h) (runs_needed n h) (left_now s h i) ++ over_end (open_over h)
+
+-- the row of an innings, with all marks of the open over or with these
+abbrev pub line : Form → Bool → List Ball → Sheet → ℕ → History → ℕ → List ℕ
+line f is_all shown s n h i = front f s h i ++ back f is_all shown s n h i
+
+unfoldable pub whole_line : Form → Sheet → ℕ → History → ℕ → List ℕ
+whole_line f s n h i = line f true (open_over h) s n h i
+
+-- with as many marks as there is room for
+unfoldable pub short_line : Form → Sheet → ℕ → History → ℕ → List ℕ
+short_line f s n h i =
+    line f false (newest (behind all_columns (line f false [] s n h i)) (open_over h)) s n h i
+
+-- the first form in which the row fits
+unfoldable pub form_of : Sheet → ℕ → History → ℕ → Form
+form_of s n h i = first_fit (λ f. fits (whole_line f s n h i))
+
+-- the row of an innings in a form, all of it where it fits
+unfoldable pub line_in : Form → Sheet → ℕ → History → ℕ → List ℕ
+line_in f s n h i = if fits (whole_line f s n h i) then whole_line f s n h i else short_line f s n h i
+
+unfoldable pub innings_row : Sheet → ℕ → History → ℕ → List ℕ
+innings_row s n h i =
+    line_in (form_of s n h i) s n h i ++ codes "\n"
+    ++ needs_row (outcome n h) (runs_needed n h) (left_now s h i) ++ result_row s (outcome n h)
+
+-- the innings begun last, or no play
+abbrev pub row : Sheet → ℕ → History → List ℕ
+row s n h = if begun h == 0 then codes "No play\n" else innings_row s n h (current h)

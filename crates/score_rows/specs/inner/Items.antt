@@ -1,0 +1,35 @@
+-- The marks of what stands in a book.
+use Rattle.std.specs.Prelude.{ℕ, ◌-◌, List, [], Bool, true, false, nat_le, ◌&&◌, decimal, length}
+use Rattle.cards.specs.Columns.{spaces}
+use Rattle.notation.specs.declared.entry.Plain.{Plain}
+use Rattle.ball_laws.specs.Over.{counts}
+use Rattle.ball_laws.specs.Sums.{one_if}
+use Rattle.match_laws.specs.Figures.{runs_of}
+use Rattle.score_rows.specs.Row.{spaced_mark}
+
+-- nothing, but for a delivery
+abbrev pub item_mark : Plain → List ℕ
+item_mark (Plain.Ball b) = spaced_mark b
+item_mark _ = []
+
+abbrev pub is_ball : Plain → Bool
+is_ball (Plain.Ball b) = true
+is_ball _ = false
+
+-- its runs
+abbrev pub item_runs : Plain → ℕ
+item_runs (Plain.Ball b) = runs_of b
+item_runs _ = 0
+
+-- one, where it is a delivery that counts
+abbrev pub item_counts : Plain → ℕ
+item_counts (Plain.Ball b) = one_if (counts b)
+item_counts _ = 0
+
+-- what stands before a place, so that it ends in its fourth column
+abbrev pub place_columns : ℕ → List ℕ
+place_columns place = spaces (4 - length (decimal place))
+
+-- a player's number
+abbrev pub is_number : ℕ → Bool
+is_number n = nat_le 1 n && nat_le n 11

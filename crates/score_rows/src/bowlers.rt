@@ -1,0 +1,148 @@
+//! Who may bowl the next delivery.
+
+ghost use Rattle.std.specs.Prelude.{◌≡◌, ◌<◌, ◌++◌, OnErr, OnOk, codes, decimal, true};
+ghost use Rattle.std.specs.List.{list_all};
+ghost use Rattle.ball_laws.specs.Over.{numbers as all_numbers};
+ghost use Rattle.match_laws.specs.History.{begun};
+ghost use Rattle.corrections.specs.CleanList.{history_of};
+ghost use Rattle.streams.specs.Watched.{Prints, has_failed};
+ghost use Rattle.score_rows.specs.Limited as limited;
+ghost use Rattle.score_rows.specs.inner.Items.{is_number};
+
+use cards::MatchSheet;
+use corrections::BookOf;
+use limits::{may_bowl, overs_yet};
+use match_laws::opponent;
+use notation::Player;
+use std::io::Write;
+use streams::{Watched, WriteFailed};
+
+/// Prints how many overs a player has yet, where they are limited.
+fn print_yet<W: Write, B: BookOf>(
+    out: &mut Watched<W>,
+    book: &B,
+    most: Option<u16>,
+    player: Player,
+) -> Result<(), WriteFailed>
+    ensures text { OnOk result (Prints W.contents out.old out.new
+        (limited.yet_text most player (history_of (B.content book.now)))) }
+    ensures failed { OnErr result (has_failed out.new ≡ true) }
+{
+    match most {
+        None => Ok(()),
+        Some(most) => {
+            let left = overs_yet(book, most, player);
+            write!(out, ", {left} left")
+        }
+    }
+}
+
+/// Prints a player by number and name.
+fn print_name<W: Write>(out: &mut Watched<W>, number: u8, name: &str) -> Result<(), WriteFailed>
+    ensures text { OnOk result (Prints W.contents out.old out.new (decimal number ++ codes " " ++ name.now)) }
+    ensures failed { OnErr result (has_failed out.new ≡ true) }
+{
+    write!(out, "{number} {name}")
+}
+
+/// Prints the row of a player of the side that fields.
+fn print_bowler_row<W: Write, B: BookOf>(
+    out: &mut Watched<W>,
+    sheet: &MatchSheet,
+    book: &B,
+    innings: usize,
+    player: Player,
+) -> Result<(), WriteFailed>
+    requires { innings < begun (history_of (B.content book.now)) }
+    ensures text { OnOk result (Prints W.contents out.old out.new
+        (limited.bowler_row sheet.now (history_of (B.content book.now)) innings player)) }
+    ensures failed { OnErr result (has_failed out.new ≡ true) }
+{
+    let side = opponent(book.score().side(innings));
+    print_name(out, player.number(), sheet.player(side, player))?;
+    print_yet(out, book, sheet.limits().overs_a_bowler(), player)?;
+    writeln!(out)
+}
+
+/// The same, where he may bowl.
+fn print_if_may<W: Write, B: BookOf>(
+    out: &mut Watched<W>,
+    sheet: &MatchSheet,
+    book: &B,
+    innings: usize,
+    player: Player,
+) -> Result<(), WriteFailed>
+    requires { innings < begun (history_of (B.content book.now)) }
+    ensures text { OnOk result (Prints W.contents out.old out.new
+        (limited.row_if_may sheet.now (history_of (B.content book.now)) innings player)) }
+    ensures failed { OnErr result (has_failed out.new ≡ true) }
+{
+    if may_bowl(book, sheet.limits().overs_a_bowler(), player) {
+        print_bowler_row(out, sheet, book, innings, player)
+    } else {
+        Ok(())
+    }
+}
+
+/// Prints those of these numbers who may bowl.
+fn print_among<W: Write, B: BookOf>(
+    out: &mut Watched<W>,
+    sheet: &MatchSheet,
+    book: &B,
+    innings: usize,
+    numbers: &[u8],
+) -> Result<(), WriteFailed>
+    requires begun { innings < begun (history_of (B.content book.now)) }
+    requires numbers { list_all is_number numbers.now ≡ true }
+    ensures text { OnOk result (Prints W.contents out.old out.new
+        (limited.bowlers_among sheet.now (history_of (B.content book.now)) innings numbers.now)) }
+    ensures failed { OnErr result (has_failed out.new ≡ true) }
+{
+    let Some((number, more)) = numbers.split_first() else {
+        return Ok(());
+    };
+    let Some(player) = Player::new(*number) else {
+        return Ok(());
+    };
+    print_if_may(out, sheet, book, innings, player)?;
+    print_among(out, sheet, book, innings, more)
+}
+
+/// Prints those who may.
+fn print_all<W: Write, B: BookOf>(
+    out: &mut Watched<W>,
+    sheet: &MatchSheet,
+    book: &B,
+    innings: usize,
+) -> Result<(), WriteFailed>
+    requires { innings < begun (history_of (B.content book.now)) }
+    ensures text { OnOk result (Prints W.contents out.old out.new
+        (limited.bowlers_among sheet.now (history_of (B.content book.now)) innings all_numbers)) }
+    ensures failed { OnErr result (has_failed out.new ≡ true) }
+{
+    print_among(
+        out,
+        sheet,
+        book,
+        innings,
+        &[1, 2, 3, 4, 5, 6, 7, 8, 9, 10, 11],
+    )
+}
+
+/// Prints who may bowl the next delivery, in a row each, with the overs that he has yet where they are limited.
+pub fn print_bowlers<W: Write, B: BookOf>(
+    out: &mut Watched<W>,
+    sheet: &MatchSheet,
+    book: &B,
+) -> Result<(), WriteFailed>
+    ensures text { OnOk result (Prints W.contents out.old out.new
+        (limited.bowlers sheet.now (history_of (B.content book.now)))) }
+    ensures failed { OnErr result (has_failed out.new ≡ true) }
+{
+    let score = book.score();
+    let begun = score.begun();
+    if begun == 0 || !score.is_open() {
+        return writeln!(out, "No innings is open");
+    }
+    print_all(out, sheet, book, begun - 1)
+}

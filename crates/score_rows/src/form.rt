@@ -1,0 +1,100 @@
+//! What of a row is shown, so that it fits the columns of a screen.
+
+ghost use Rattle.std.specs.Prelude.{◌≡◌, ◌-◌, ◌<◌, OnErr, OnOk, take, true};
+ghost use Rattle.cards.specs.Sheet as sheets;
+ghost use Rattle.std.specs.List.{list_all};
+ghost use Rattle.streams.specs.Watched.{Prints, has_failed};
+ghost use Rattle.score_rows.specs.Fit as fit;
+
+use std::io::Write;
+use streams::{Watched, WriteFailed};
+
+/// What of a row is shown, the most first.
+#[derive(Clone, Copy, Debug, PartialEq, Eq)]
+pub enum Form {
+    /// The team's name and the players'.
+    Whole,
+    /// The players' names.
+    WithoutTeam,
+    /// Twelve letters of a player's name.
+    TwelveLetters,
+    /// Ten letters of a player's name.
+    TenLetters,
+    /// Eight letters of a player's name.
+    EightLetters,
+    /// Seven letters of a player's name.
+    SevenLetters,
+    /// Six letters of a player's name.
+    SixLetters,
+    /// Five letters of a player's name.
+    FiveLetters,
+    /// Four letters of a player's name.
+    FourLetters,
+}
+
+impl Form {
+    /// Whether the team's name is shown.
+    pub fn has_team(self) -> bool
+        ensures { result ≡ fit.has_team self }
+    {
+        matches!(self, Form::Whole)
+    }
+
+    /// The most letters of a player's name that are shown.
+    pub fn letters(self) -> usize
+        ensures value { result ≡ fit.letters self }
+        ensures some { 0 < result }
+    {
+        match self {
+            Form::Whole | Form::WithoutTeam => 16,
+            Form::TwelveLetters => 12,
+            Form::TenLetters => 10,
+            Form::EightLetters => 8,
+            Form::SevenLetters => 7,
+            Form::SixLetters => 6,
+            Form::FiveLetters => 5,
+            Form::FourLetters => 4,
+        }
+    }
+}
+
+/// Whether a text is printable ASCII.
+pub fn is_plain(text: &[u8]) -> bool
+    ensures { result ≡ list_all sheets.is_printable text.now }
+{
+    text.iter().all(|byte| *byte >= 32 && *byte <= 126)
+}
+
+/// Whether a name has more letters than are shown.
+pub fn is_long(name: &str, most: usize) -> bool
+    ensures { result ≡ fit.is_long most name.now }
+{
+    name.len() > most && is_plain(name.as_bytes())
+}
+
+/// The letters of a long name that are shown.
+pub fn front_of(name: &str, most: usize) -> &str
+    requires some { 0 < most }
+    requires long { fit.is_long most name.now ≡ true }
+    ensures { result.now ≡ take (most - 1) name.now }
+{
+    let (front, _) = name.split_at(most - 1);
+    front
+}
+
+/// Prints a name of at most so many letters.
+pub fn print_name<W: Write>(
+    out: &mut Watched<W>,
+    name: &str,
+    most: usize,
+) -> Result<(), WriteFailed>
+    requires { 0 < most }
+    ensures text { OnOk result (Prints W.contents out.old out.new (fit.cut most name.now)) }
+    ensures failed { OnErr result (has_failed out.new ≡ true) }
+{
+    if !is_long(name, most) {
+        return write!(out, "{name}");
+    }
+    let front = front_of(name, most);
+    write!(out, "{front}.")
+}

@@ -1,0 +1,347 @@
+//! What a desk tells of what the sheet limits.
+
+ghost use Rattle.std.specs.Prelude.{◌≡◌, ◌<◌, ◌++◌, OnErr, OnOk, codes, decimal, true};
+ghost use Rattle.std.specs.List.{list_all};
+ghost use Rattle.match_laws.specs.History.{begun, is_open};
+ghost use Rattle.match_laws.specs.Result.{current};
+ghost use Rattle.match_laws.specs.Stands.{ForEachHistory, begun_in};
+ghost use Rattle.corrections.specs.CleanList.{history_of};
+ghost use Rattle.corrections.specs.Overs.{bowler_now};
+ghost use Rattle.cards.specs.Bowling.{fielding};
+ghost use Rattle.streams.specs.Watched.{Prints, has_failed};
+ghost use Rattle.score_rows.specs.Limited as limited;
+ghost use Rattle.score_rows.specs.inner.Items.{is_number};
+
+use cards::MatchSheet;
+use corrections::{BookOf, overs_of};
+use limits::{
+    TwoPlaces, an_over, deliveries_left, is_free_hit, may_bowl, overs_bowled, overs_left, overs_yet,
+};
+use match_laws::{Match, opponent};
+use notation::{Player, Side};
+use std::io::Write;
+use streams::{Watched, WriteFailed};
+
+/// Prints of how many overs an innings is, where the sheet says it.
+pub fn print_of<W: Write>(out: &mut Watched<W>, overs: Option<u16>) -> Result<(), WriteFailed>
+    ensures text { OnOk result (Prints W.contents out.old out.new (limited.of_overs overs)) }
+    ensures failed { OnErr result (has_failed out.new ≡ true) }
+{
+    match overs {
+        None => Ok(()),
+        Some(overs) => write!(out, " of {overs}"),
+    }
+}
+
+/// Prints a rate, where there is one.
+fn print_rate<W: Write>(out: &mut Watched<W>, rate: Option<u64>) -> Result<(), WriteFailed>
+    ensures text { OnOk result (Prints W.contents out.old out.new (limited.rate_text rate)) }
+    ensures failed { OnErr result (has_failed out.new ≡ true) }
+{
+    match rate {
+        None => Ok(()),
+        Some(hundredths) => {
+            let rate = TwoPlaces { hundredths };
+            write!(out, " ({rate})")
+        }
+    }
+}
+
+/// Prints off how many deliveries so many runs are needed, and how many that is an over.
+pub fn print_off<W: Write>(out: &mut Watched<W>, runs: u32, left: u32) -> Result<(), WriteFailed>
+    ensures text { OnOk result (Prints W.contents out.old out.new (limited.off_text runs left)) }
+    ensures failed { OnErr result (has_failed out.new ≡ true) }
+{
+    write!(out, " off {left}")?;
+    print_rate(out, an_over(runs, left))
+}
+
+/// How many deliveries are left, where the sheet limits the overs.
+pub fn left_now(score: &Match, sheet: &MatchSheet, innings: usize) -> Option<u32>
+    requires { innings < begun_in score.now }
+    ensures { ForEachHistory score.now (λ n h. result ≡ limited.left_now sheet.now h innings) }
+{
+    match sheet.limits().overs_for(innings) {
+        None => None,
+        Some(overs) => Some(deliveries_left(score, innings, overs)),
+    }
+}
+
+/// Prints that the next delivery is a free hit, where it is.
+pub fn print_free<W: Write, B: BookOf>(
+    out: &mut Watched<W>,
+    sheet: &MatchSheet,
+    book: &B,
+) -> Result<(), WriteFailed>
+    ensures text { OnOk result (Prints W.contents out.old out.new
+        (limited.free_text sheet.now (history_of (B.content book.now)))) }
+    ensures failed { OnErr result (has_failed out.new ≡ true) }
+{
+    if sheet.limits().free_hits() && is_free_hit(book) {
+        write!(out, "  free hit")
+    } else {
+        Ok(())
+    }
+}
+
+/// Prints that a bowler is past his overs, where he is.
+fn print_past_of<W: Write>(out: &mut Watched<W>, most: u16, bowled: u32) -> Result<(), WriteFailed>
+    ensures text { OnOk result (Prints W.contents out.old out.new (limited.past_text most bowled)) }
+    ensures failed { OnErr result (has_failed out.new ≡ true) }
+{
+    if u32::from(most) < bowled {
+        write!(out, " past {most}")
+    } else {
+        Ok(())
+    }
+}
+
+/// The same of who bowls, if anybody does.
+pub fn print_past<W: Write, B: BookOf>(
+    out: &mut Watched<W>,
+    book: &B,
+    most: Option<u16>,
+    bowler: Option<Player>,
+) -> Result<(), WriteFailed>
+    ensures text { OnOk result (Prints W.contents out.old out.new
+        (limited.past most (history_of (B.content book.now)) bowler)) }
+    ensures failed { OnErr result (has_failed out.new ≡ true) }
+{
+    match most {
+        None => Ok(()),
+        Some(most) => match bowler {
+            None => Ok(()),
+            Some(player) => print_past_of(out, most, overs_bowled(book, player)),
+        },
+    }
+}
+
+/// Prints what is left of an over.
+fn print_rest<W: Write>(out: &mut Watched<W>, rest: u32) -> Result<(), WriteFailed>
+    ensures text { OnOk result (Prints W.contents out.old out.new (limited.rest_text rest)) }
+    ensures failed { OnErr result (has_failed out.new ≡ true) }
+{
+    if rest == 0 {
+        Ok(())
+    } else {
+        write!(out, ".{rest}")
+    }
+}
+
+fn overs_word(deliveries: u32) -> &'static str
+    ensures { result.now ≡ limited.overs_word deliveries }
+{
+    if deliveries == 6 {
+        " over left"
+    } else {
+        " overs left"
+    }
+}
+
+/// Prints how many overs so many deliveries are.
+fn print_left<W: Write>(out: &mut Watched<W>, deliveries: u32) -> Result<(), WriteFailed>
+    ensures text { OnOk result (Prints W.contents out.old out.new (limited.left_text deliveries)) }
+    ensures failed { OnErr result (has_failed out.new ≡ true) }
+{
+    let whole = deliveries / 6;
+    write!(out, "{whole}")?;
+    print_rest(out, deliveries % 6)?;
+    let word = overs_word(deliveries);
+    write!(out, "{word}")
+}
+
+/// Prints that all overs are bowled.
+fn print_all_bowled<W: Write>(out: &mut Watched<W>, overs: u16) -> Result<(), WriteFailed>
+    ensures text { OnOk result (Prints W.contents out.old out.new (limited.all_bowled overs)) }
+    ensures failed { OnErr result (has_failed out.new ≡ true) }
+{
+    if overs == 1 {
+        write!(out, "{overs} over: end overs")
+    } else {
+        write!(out, "{overs} overs: end overs")
+    }
+}
+
+/// Prints what is left of an innings of so many overs.
+fn print_innings_left<W: Write>(
+    out: &mut Watched<W>,
+    score: &Match,
+    innings: usize,
+    overs: u16,
+) -> Result<(), WriteFailed>
+    requires { innings < begun_in score.now }
+    ensures text { ForEachHistory score.now (λ n h.
+        OnOk result (Prints W.contents out.old out.new (limited.innings_left overs h innings))) }
+    ensures failed { OnErr result (has_failed out.new ≡ true) }
+{
+    if overs_left(score, innings, overs) == 0 {
+        print_all_bowled(out, overs)
+    } else {
+        print_left(out, deliveries_left(score, innings, overs))
+    }
+}
+
+/// Prints in how many overs a bowler of the side has bowled, of how many.
+fn print_bowled<W: Write>(
+    out: &mut Watched<W>,
+    name: &str,
+    bowled: u32,
+    most: u16,
+) -> Result<(), WriteFailed>
+    ensures text { OnOk result (Prints W.contents out.old out.new
+        (codes "  " ++ name.now ++ codes " " ++ decimal bowled ++ codes " of " ++ decimal most)) }
+    ensures failed { OnErr result (has_failed out.new ≡ true) }
+{
+    write!(out, "  {name} {bowled} of {most}")
+}
+
+/// The same of a player.
+fn print_bowled_of<W: Write, B: BookOf>(
+    out: &mut Watched<W>,
+    sheet: &MatchSheet,
+    book: &B,
+    innings: usize,
+    most: u16,
+    player: Player,
+) -> Result<(), WriteFailed>
+    requires { innings < begun (history_of (B.content book.now)) }
+    ensures text { OnOk result (Prints W.contents out.old out.new
+        (limited.bowled_of sheet.now (history_of (B.content book.now)) innings most player)) }
+    ensures failed { OnErr result (has_failed out.new ≡ true) }
+{
+    let side = opponent(book.score().side(innings));
+    print_bowled(
+        out,
+        sheet.player(side, player),
+        overs_bowled(book, player),
+        most,
+    )
+}
+
+/// The same of the bowler of the last delivery, where bowlers are limited and there is one.
+fn print_bowler_part<W: Write, B: BookOf>(
+    out: &mut Watched<W>,
+    sheet: &MatchSheet,
+    book: &B,
+    innings: usize,
+    most: Option<u16>,
+    bowler: Option<Player>,
+) -> Result<(), WriteFailed>
+    requires { innings < begun (history_of (B.content book.now)) }
+    ensures text { OnOk result (Prints W.contents out.old out.new
+        (limited.bowler_part sheet.now (history_of (B.content book.now)) innings most bowler)) }
+    ensures failed { OnErr result (has_failed out.new ≡ true) }
+{
+    match most {
+        None => Ok(()),
+        Some(most) => match bowler {
+            None => Ok(()),
+            Some(player) => print_bowled_of(out, sheet, book, innings, most, player),
+        },
+    }
+}
+
+/// A line of its own with it.
+fn print_bowled_line<W: Write, B: BookOf>(
+    out: &mut Watched<W>,
+    sheet: &MatchSheet,
+    book: &B,
+    innings: usize,
+    most: u16,
+    player: Player,
+) -> Result<(), WriteFailed>
+    requires { innings < begun (history_of (B.content book.now)) }
+    ensures text { OnOk result (Prints W.contents out.old out.new
+        (limited.bowled_of sheet.now (history_of (B.content book.now)) innings most player ++ codes "\n")) }
+    ensures failed { OnErr result (has_failed out.new ≡ true) }
+{
+    print_bowled_of(out, sheet, book, innings, most, player)?;
+    writeln!(out)
+}
+
+/// Prints the bowler of the last delivery in a line of its own, where bowlers are limited and there is one.
+fn print_bowler_line<W: Write, B: BookOf>(
+    out: &mut Watched<W>,
+    sheet: &MatchSheet,
+    book: &B,
+    innings: usize,
+    most: Option<u16>,
+    bowler: Option<Player>,
+) -> Result<(), WriteFailed>
+    requires { innings < begun (history_of (B.content book.now)) }
+    ensures text { OnOk result (Prints W.contents out.old out.new
+        (limited.bowler_line sheet.now (history_of (B.content book.now)) innings most bowler)) }
+    ensures failed { OnErr result (has_failed out.new ≡ true) }
+{
+    match most {
+        None => Ok(()),
+        Some(most) => match bowler {
+            None => Ok(()),
+            Some(player) => print_bowled_line(out, sheet, book, innings, most, player),
+        },
+    }
+}
+
+/// Prints the overs left of so many, and the bowler behind them.
+fn print_left_line<W: Write, B: BookOf>(
+    out: &mut Watched<W>,
+    sheet: &MatchSheet,
+    book: &B,
+    innings: usize,
+    overs: u16,
+) -> Result<(), WriteFailed>
+    requires { innings < begun (history_of (B.content book.now)) }
+    ensures text { OnOk result (Prints W.contents out.old out.new
+        (limited.left_line sheet.now (history_of (B.content book.now)) innings overs)) }
+    ensures failed { OnErr result (has_failed out.new ≡ true) }
+{
+    let most = sheet.limits().overs_a_bowler();
+    let bowler = overs_of(book).bowler();
+    write!(out, "  ")?;
+    print_innings_left(out, book.score(), innings, overs)?;
+    print_bowler_part(out, sheet, book, innings, most, bowler)?;
+    writeln!(out)
+}
+
+/// Prints what is left, of overs or of the bowler alone.
+fn print_line_for<W: Write, B: BookOf>(
+    out: &mut Watched<W>,
+    sheet: &MatchSheet,
+    book: &B,
+    innings: usize,
+    overs: Option<u16>,
+) -> Result<(), WriteFailed>
+    requires { innings < begun (history_of (B.content book.now)) }
+    ensures text { OnOk result (Prints W.contents out.old out.new
+        (limited.line_for sheet.now (history_of (B.content book.now)) innings overs)) }
+    ensures failed { OnErr result (has_failed out.new ≡ true) }
+{
+    match overs {
+        None => {
+            let most = sheet.limits().overs_a_bowler();
+            let bowler = overs_of(book).bowler();
+            print_bowler_line(out, sheet, book, innings, most, bowler)
+        }
+        Some(overs) => print_left_line(out, sheet, book, innings, overs),
+    }
+}
+
+/// Prints what is left of an innings and of the bowler's overs, in a line, where the sheet limits either and the innings is
+/// open.
+pub fn print_limits<W: Write, B: BookOf>(
+    out: &mut Watched<W>,
+    sheet: &MatchSheet,
+    book: &B,
+    innings: usize,
+) -> Result<(), WriteFailed>
+    requires { innings < begun (history_of (B.content book.now)) }
+    ensures text { OnOk result (Prints W.contents out.old out.new
+        (limited.limits_line sheet.now (history_of (B.content book.now)) innings)) }
+    ensures failed { OnErr result (has_failed out.new ≡ true) }
+{
+    if book.score().is_open() {
+        print_line_for(out, sheet, book, innings, sheet.limits().overs_for(innings))
+    } else {
+        Ok(())
+    }
+}

@@ -1,0 +1,133 @@
+//! What stands behind the row of an over that is over, and isn't called.
+
+ghost use Rattle.std.specs.Prelude.{◌≡◌, ◌≤◌, OnErr, OnOk, length, true};
+ghost use Rattle.notation.specs.declared.entry.TheConstants.{PLACES};
+ghost use Rattle.ball_laws.specs.Over.{counting};
+ghost use Rattle.corrections.specs.CleanList.{history_of};
+ghost use Rattle.corrections.specs.Overs.{balls_of};
+ghost use Rattle.ball_laws.specs.History.{last_called_over};
+ghost use Rattle.cards.specs.Page.{over_note};
+ghost use Rattle.streams.specs.Watched.{Prints, has_failed};
+ghost use Rattle.score_rows.specs.Row as rows;
+ghost use Rattle.score_rows.specs.inner.Items as items;
+
+use ball_laws::counts;
+use corrections::{BookOf, Placed, bowler_of, overs_of};
+use notation::{Plain, Player};
+use std::io::Write;
+use streams::{Watched, WriteFailed};
+
+/// One, where the item is a delivery that counts.
+fn item_counts(item: &Plain) -> u32
+    ensures value { result ≡ items.item_counts item.now }
+    ensures bound { result ≤ 1 }
+{
+    match item {
+        Plain::Ball(ball) => u32::from(counts(ball)),
+        _ => 0,
+    }
+}
+
+/// How many deliveries of an over count.
+pub fn counting_of(over: &[Placed]) -> u32
+    requires { length over.now ≤ PLACES }
+    ensures { result ≡ counting (balls_of over.now) }
+{
+    let mut count = 0;
+    for placed in over {
+        count += item_counts(&placed.item);
+    }
+    count
+}
+
+fn is_ball(item: &Plain) -> bool
+    ensures { result ≡ items.is_ball item.now }
+{
+    matches!(item, Plain::Ball(_))
+}
+
+/// An over without its last delivery.
+#[tactic(auto, using(crate::proofs::OverEnds::balls_push))]
+fn older_of(over: &[Placed]) -> &[Placed]
+    ensures older { balls_of result.now ≡ rows.older_of (balls_of over.now) }
+    ensures few { length result.now ≤ length over.now }
+{
+    let Some((last, front)) = over.split_last() else {
+        return over;
+    };
+    if is_ball(&last.item) {
+        front
+    } else {
+        older_of(front)
+    }
+}
+
+/// Whether these are two bowlers.
+fn are_two(bowler: Option<Player>, other: Option<Player>) -> bool
+    ensures { result ≡ rows.are_two bowler other }
+{
+    match (bowler, other) {
+        (Some(one), Some(another)) => one.number() != another.number(),
+        _ => false,
+    }
+}
+
+/// Whether six deliveries counted before the over's last one, and another bowled that than the one before it.
+pub fn is_uncalled(over: &[Placed]) -> bool
+    requires { length over.now ≤ PLACES }
+    ensures { result ≡ rows.is_uncalled (balls_of over.now) }
+{
+    let older = older_of(over);
+    counting_of(older) >= 6 && are_two(bowler_of(over), bowler_of(older))
+}
+
+/// Prints that over isn't called, where a bowler began another one.
+fn print_uncalled<W: Write>(out: &mut Watched<W>, over: &[Placed]) -> Result<(), WriteFailed>
+    requires { length over.now ≤ PLACES }
+    ensures text { OnOk result (Prints W.contents out.old out.new (rows.uncalled_text (balls_of over.now))) }
+    ensures failed { OnErr result (has_failed out.new ≡ true) }
+{
+    if is_uncalled(over) {
+        write!(out, ", the over isn't called")
+    } else {
+        Ok(())
+    }
+}
+
+/// Prints how many deliveries of the open over count, from the sixth on.
+pub fn print_over_end<W: Write>(out: &mut Watched<W>, over: &[Placed]) -> Result<(), WriteFailed>
+    requires { length over.now ≤ PLACES }
+    ensures text { OnOk result (Prints W.contents out.old out.new (rows.over_end (balls_of over.now))) }
+    ensures failed { OnErr result (has_failed out.new ≡ true) }
+{
+    let count = counting_of(over);
+    if count < 6 {
+        return Ok(());
+    }
+    write!(out, "  {count} balls")?;
+    print_uncalled(out, over)
+}
+
+/// Prints, of an over that was called with another number of deliveries that count than six, that number.
+fn print_note<W: Write>(out: &mut Watched<W>, count: u32) -> Result<(), WriteFailed>
+    ensures text { OnOk result (Prints W.contents out.old out.new (over_note count)) }
+    ensures failed { OnErr result (has_failed out.new ≡ true) }
+{
+    if count == 6 {
+        Ok(())
+    } else {
+        write!(out, " ({count} balls)")
+    }
+}
+
+/// Prints of the over of a book that was called last how many of its deliveries count, where they aren't six.
+pub fn print_over_note<W: Write, B: BookOf>(
+    out: &mut Watched<W>,
+    book: &B,
+) -> Result<(), WriteFailed>
+    ensures text { OnOk result (Prints W.contents out.old out.new
+        (over_note (counting (last_called_over (history_of (B.content book.now)))))) }
+    ensures failed { OnErr result (has_failed out.new ≡ true) }
+{
+    print_note(out, counting_of(overs_of(book).last))
+}

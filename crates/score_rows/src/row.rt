@@ -1,0 +1,417 @@
+//! How a match stands: a row that is fitted to 80 columns, and one behind it of what is needed or of the result.
+
+ghost use Rattle.std.specs.Prelude.{◌≡◌, ◌<◌, OnErr, OnOk, true};
+ghost use Rattle.match_laws.specs.History.{begun};
+ghost use Rattle.match_laws.specs.Stands.{ForEachHistory, begun_in};
+ghost use Rattle.corrections.specs.CleanList.{history_of};
+ghost use Rattle.corrections.specs.Overs.{balls_of};
+ghost use Rattle.cards.specs.Bowling.{overs_of};
+ghost use Rattle.streams.specs.Watched.{Prints, has_failed};
+ghost use Rattle.score_rows.specs.Row as rows;
+
+use crate::aim::{print_aim, print_needs_row, print_result_row};
+use crate::fit::{form_of, is_fit, shown_of};
+use crate::form::{Form, print_name};
+use crate::limited::{left_now, print_free, print_of, print_past};
+use crate::marks::print_marks;
+use crate::over_end::print_over_end;
+use cards::MatchSheet;
+use corrections::{BookOf, Placed, bowler_of, overs_of};
+use match_laws::{BattingRow, BowlingRow, Match, opponent};
+use notation::{Player, Side};
+use std::io::Write;
+use streams::{Watched, WriteFailed};
+
+/// Prints a total and its wickets.
+fn print_runs<W: Write>(
+    out: &mut Watched<W>,
+    score: &Match,
+    innings: usize,
+) -> Result<(), WriteFailed>
+    requires { innings < begun_in score.now }
+    ensures text { ForEachHistory score.now (λ n h.
+        OnOk result (Prints W.contents out.old out.new (rows.runs_text h innings))) }
+    ensures failed { OnErr result (has_failed out.new ≡ true) }
+{
+    let total = score.total(innings);
+    let wickets = score.wickets(innings);
+    write!(out, "{total} for {wickets}")
+}
+
+/// Prints the side, where it is shown.
+fn print_team<W: Write>(
+    out: &mut Watched<W>,
+    form: Form,
+    sheet: &MatchSheet,
+    score: &Match,
+    innings: usize,
+) -> Result<(), WriteFailed>
+    requires { innings < begun_in score.now }
+    ensures text { ForEachHistory score.now (λ n h.
+        OnOk result (Prints W.contents out.old out.new (rows.team_text form sheet.now h innings))) }
+    ensures failed { OnErr result (has_failed out.new ≡ true) }
+{
+    if !form.has_team() {
+        return Ok(());
+    }
+    let team = sheet.name(score.side(innings));
+    write!(out, "{team} ")
+}
+
+/// Prints the side, its total and its wickets.
+pub fn print_total<W: Write>(
+    out: &mut Watched<W>,
+    sheet: &MatchSheet,
+    score: &Match,
+    innings: usize,
+) -> Result<(), WriteFailed>
+    requires { innings < begun_in score.now }
+    ensures text { ForEachHistory score.now (λ n h.
+        OnOk result (Prints W.contents out.old out.new (rows.total_text sheet.now h innings))) }
+    ensures failed { OnErr result (has_failed out.new ≡ true) }
+{
+    let team = sheet.name(score.side(innings));
+    write!(out, "{team} ")?;
+    print_runs(out, score, innings)
+}
+
+fn print_overs_front<W: Write>(
+    out: &mut Watched<W>,
+    score: &Match,
+    innings: usize,
+) -> Result<(), WriteFailed>
+    requires { innings < begun_in score.now }
+    ensures text { ForEachHistory score.now (λ n h.
+        OnOk result (Prints W.contents out.old out.new (rows.overs_front h innings))) }
+    ensures failed { OnErr result (has_failed out.new ≡ true) }
+{
+    let (called, since) = score.overs(innings);
+    write!(out, " ({called}.{since}")
+}
+
+/// Prints the overs of an innings, of so many where they are limited.
+fn print_overs<W: Write>(
+    out: &mut Watched<W>,
+    sheet: &MatchSheet,
+    score: &Match,
+    innings: usize,
+) -> Result<(), WriteFailed>
+    requires { innings < begun_in score.now }
+    ensures text { ForEachHistory score.now (λ n h.
+        OnOk result (Prints W.contents out.old out.new (rows.overs_text sheet.now h innings))) }
+    ensures failed { OnErr result (has_failed out.new ≡ true) }
+{
+    print_overs_front(out, score, innings)?;
+    print_of(out, sheet.limits().overs_for(innings))?;
+    write!(out, ")")
+}
+
+/// Prints a batter's runs and the balls that he faced, with this mark behind.
+fn print_batter_figures<W: Write>(
+    out: &mut Watched<W>,
+    row: &BattingRow,
+    mark: &str,
+) -> Result<(), WriteFailed>
+    ensures text { OnOk result (Prints W.contents out.old out.new
+        (rows.batter_figures row.now.runs row.now.faced mark.now)) }
+    ensures failed { OnErr result (has_failed out.new ≡ true) }
+{
+    let runs = row.runs;
+    let faced = row.faced;
+    write!(out, " {runs} ({faced}){mark}")
+}
+
+/// Prints who is at an end, with this mark behind.
+fn print_batter<W: Write>(
+    out: &mut Watched<W>,
+    form: Form,
+    sheet: &MatchSheet,
+    score: &Match,
+    innings: usize,
+    mark: &str,
+    batter: Option<Player>,
+) -> Result<(), WriteFailed>
+    requires { innings < begun_in score.now }
+    ensures text { ForEachHistory score.now (λ n h.
+        OnOk result (Prints W.contents out.old out.new (rows.batter form sheet.now h innings mark.now batter))) }
+    ensures failed { OnErr result (has_failed out.new ≡ true) }
+{
+    match batter {
+        None => write!(out, "-"),
+        Some(player) => {
+            print_name(
+                out,
+                sheet.player(score.side(innings), player),
+                form.letters(),
+            )?;
+            let row = score.batting_row(innings, player);
+            print_batter_figures(out, &row, mark)
+        }
+    }
+}
+
+/// Prints the striker, and the batter at the other end.
+pub fn print_batters<W: Write>(
+    out: &mut Watched<W>,
+    form: Form,
+    sheet: &MatchSheet,
+    score: &Match,
+    innings: usize,
+) -> Result<(), WriteFailed>
+    requires { innings < begun_in score.now }
+    ensures text { ForEachHistory score.now (λ n h.
+        OnOk result (Prints W.contents out.old out.new (rows.batters form sheet.now h innings))) }
+    ensures failed { OnErr result (has_failed out.new ≡ true) }
+{
+    let ends = score.ends();
+    print_batter(out, form, sheet, score, innings, "*", ends.striker)?;
+    write!(out, "  ")?;
+    print_batter(out, form, sheet, score, innings, "", ends.other)
+}
+
+/// Prints the overs that a bowler bowled, and his balls of other overs.
+fn print_overs_of<W: Write>(out: &mut Watched<W>, row: &BowlingRow) -> Result<(), WriteFailed>
+    ensures text { OnOk result (Prints W.contents out.old out.new (overs_of row.now)) }
+    ensures failed { OnErr result (has_failed out.new ≡ true) }
+{
+    let overs = row.overs;
+    let balls = row.balls;
+    write!(out, "{overs}.{balls}")
+}
+
+/// Prints a bowler's maidens, runs and wickets.
+fn print_behind_overs<W: Write>(out: &mut Watched<W>, row: &BowlingRow) -> Result<(), WriteFailed>
+    ensures text { OnOk result (Prints W.contents out.old out.new (rows.behind_overs row.now)) }
+    ensures failed { OnErr result (has_failed out.new ≡ true) }
+{
+    let maidens = row.maidens;
+    let runs = row.runs;
+    let wickets = row.wickets;
+    write!(out, "-{maidens}-{runs}-{wickets}")
+}
+
+/// Prints a bowler's overs, maidens, runs and wickets.
+fn print_figures<W: Write>(out: &mut Watched<W>, row: &BowlingRow) -> Result<(), WriteFailed>
+    ensures text { OnOk result (Prints W.contents out.old out.new (rows.figures row.now)) }
+    ensures failed { OnErr result (has_failed out.new ≡ true) }
+{
+    print_overs_of(out, row)?;
+    print_behind_overs(out, row)
+}
+
+/// Prints a bowler of the side, by his row.
+fn print_bowler_row<W: Write>(
+    out: &mut Watched<W>,
+    form: Form,
+    sheet: &MatchSheet,
+    side: Side,
+    player: Player,
+    row: &BowlingRow,
+) -> Result<(), WriteFailed>
+    ensures text { OnOk result (Prints W.contents out.old out.new (rows.bowler_text form sheet.now side player row.now)) }
+    ensures failed { OnErr result (has_failed out.new ≡ true) }
+{
+    print_name(out, sheet.player(side, player), form.letters())?;
+    write!(out, " ")?;
+    print_figures(out, row)
+}
+
+/// Prints who bowled the last delivery, if there is one.
+pub fn print_bowler<W: Write>(
+    out: &mut Watched<W>,
+    form: Form,
+    sheet: &MatchSheet,
+    score: &Match,
+    innings: usize,
+    bowler: Option<Player>,
+) -> Result<(), WriteFailed>
+    requires { innings < begun_in score.now }
+    ensures text { ForEachHistory score.now (λ n h.
+        OnOk result (Prints W.contents out.old out.new (rows.bowler form sheet.now h innings bowler))) }
+    ensures failed { OnErr result (has_failed out.new ≡ true) }
+{
+    let Some(player) = bowler else {
+        return Ok(());
+    };
+    write!(out, "  ")?;
+    let row = score.bowling_row(innings, player);
+    print_bowler_row(
+        out,
+        form,
+        sheet,
+        opponent(score.side(innings)),
+        player,
+        &row,
+    )
+}
+
+/// Prints that older marks are left out, where they are.
+fn print_left_out<W: Write>(out: &mut Watched<W>, is_all: bool) -> Result<(), WriteFailed>
+    ensures text { OnOk result (Prints W.contents out.old out.new (rows.left_out is_all)) }
+    ensures failed { OnErr result (has_failed out.new ≡ true) }
+{
+    if is_all { Ok(()) } else { write!(out, " <") }
+}
+
+/// Prints the marks of the open over: all, or these.
+fn print_open_marks<W: Write>(
+    out: &mut Watched<W>,
+    over: &[Placed],
+    is_all: bool,
+    shown: &[Placed],
+) -> Result<(), WriteFailed>
+    ensures text { OnOk result (Prints W.contents out.old out.new
+        (rows.open_marks (balls_of over.now) is_all (balls_of shown.now))) }
+    ensures failed { OnErr result (has_failed out.new ≡ true) }
+{
+    if bowler_of(over).is_none() {
+        return Ok(());
+    }
+    write!(out, " ")?;
+    print_left_out(out, is_all)?;
+    print_marks(out, shown)
+}
+
+/// Prints the bowler of the last delivery, and whether he is past his overs.
+fn print_bowling<W: Write, B: BookOf>(
+    out: &mut Watched<W>,
+    form: Form,
+    sheet: &MatchSheet,
+    book: &B,
+    innings: usize,
+) -> Result<(), WriteFailed>
+    requires { innings < begun (history_of (B.content book.now)) }
+    ensures text { OnOk result (Prints W.contents out.old out.new
+        (rows.bowling form sheet.now (history_of (B.content book.now)) innings)) }
+    ensures failed { OnErr result (has_failed out.new ≡ true) }
+{
+    let overs = overs_of(book);
+    let most = sheet.limits().overs_a_bowler();
+    print_bowler(out, form, sheet, book.score(), innings, overs.bowler())?;
+    print_past(out, book, most, overs.bowler())
+}
+
+/// Prints the row of an innings, behind its batters.
+fn print_back<W: Write, B: BookOf>(
+    out: &mut Watched<W>,
+    form: Form,
+    is_all: bool,
+    shown: &[Placed],
+    sheet: &MatchSheet,
+    book: &B,
+    innings: usize,
+) -> Result<(), WriteFailed>
+    requires { innings < begun (history_of (B.content book.now)) }
+    ensures text { OnOk result (Prints W.contents out.old out.new (rows.back form is_all (balls_of shown.now)
+        sheet.now (B.innings_a_side book.now) (history_of (B.content book.now)) innings)) }
+    ensures failed { OnErr result (has_failed out.new ≡ true) }
+{
+    let score = book.score();
+    let over = overs_of(book).this;
+    print_bowling(out, form, sheet, book, innings)?;
+    print_open_marks(out, over, is_all, shown)?;
+    print_free(out, sheet, book)?;
+    print_aim(out, score, left_now(score, sheet, innings))?;
+    print_over_end(out, over)
+}
+
+/// Prints the row of an innings, to its batters.
+#[tactic(auto, unfolding(crate::specs::Row::front))]
+fn print_front<W: Write>(
+    out: &mut Watched<W>,
+    form: Form,
+    sheet: &MatchSheet,
+    score: &Match,
+    innings: usize,
+) -> Result<(), WriteFailed>
+    requires { innings < begun_in score.now }
+    ensures text { ForEachHistory score.now (λ n h.
+        OnOk result (Prints W.contents out.old out.new (rows.front form sheet.now h innings))) }
+    ensures failed { OnErr result (has_failed out.new ≡ true) }
+{
+    print_team(out, form, sheet, score, innings)?;
+    print_runs(out, score, innings)?;
+    print_overs(out, sheet, score, innings)?;
+    write!(out, "  ")?;
+    print_batters(out, form, sheet, score, innings)
+}
+
+/// Prints the row of an innings, with all marks of the open over or with these.
+fn print_line<W: Write, B: BookOf>(
+    out: &mut Watched<W>,
+    form: Form,
+    is_all: bool,
+    shown: &[Placed],
+    sheet: &MatchSheet,
+    book: &B,
+    innings: usize,
+) -> Result<(), WriteFailed>
+    requires { innings < begun (history_of (B.content book.now)) }
+    ensures text { OnOk result (Prints W.contents out.old out.new (rows.line form is_all (balls_of shown.now)
+        sheet.now (B.innings_a_side book.now) (history_of (B.content book.now)) innings)) }
+    ensures failed { OnErr result (has_failed out.new ≡ true) }
+{
+    print_front(out, form, sheet, book.score(), innings)?;
+    print_back(out, form, is_all, shown, sheet, book, innings)
+}
+
+/// Prints the row of an innings in a form: all of it, or with the marks that there is room for.
+#[tactic(auto, unfolding(crate::specs::Row::line_in, crate::specs::Row::whole_line, crate::specs::Row::short_line))]
+fn print_line_in<W: Write, B: BookOf>(
+    out: &mut Watched<W>,
+    form: Form,
+    sheet: &MatchSheet,
+    book: &B,
+    innings: usize,
+) -> Result<(), WriteFailed>
+    requires { innings < begun (history_of (B.content book.now)) }
+    ensures text { OnOk result (Prints W.contents out.old out.new
+        (rows.line_in form sheet.now (B.innings_a_side book.now) (history_of (B.content book.now)) innings)) }
+    ensures failed { OnErr result (has_failed out.new ≡ true) }
+{
+    if is_fit(form, sheet, book, innings) {
+        let over = overs_of(book).this;
+        return print_line(out, form, true, over, sheet, book, innings);
+    }
+    let shown = shown_of(form, sheet, book, innings);
+    print_line(out, form, false, shown, sheet, book, innings)
+}
+
+/// Prints the row of an innings, and behind it what is needed or the result.
+fn print_innings<W: Write, B: BookOf>(
+    out: &mut Watched<W>,
+    sheet: &MatchSheet,
+    book: &B,
+    innings: usize,
+) -> Result<(), WriteFailed>
+    requires { innings < begun (history_of (B.content book.now)) }
+    ensures text { OnOk result (Prints W.contents out.old out.new
+        (rows.innings_row sheet.now (B.innings_a_side book.now) (history_of (B.content book.now)) innings)) }
+    ensures failed { OnErr result (has_failed out.new ≡ true) }
+{
+    let form = form_of(sheet, book, innings);
+    print_line_in(out, form, sheet, book, innings)?;
+    writeln!(out)?;
+    let score = book.score();
+    print_needs_row(out, score, left_now(score, sheet, innings))?;
+    print_result_row(out, sheet, score)
+}
+
+/// Prints how the match of a book stands, in one row. Where it is longer than 80 columns the team's name is left out, then
+/// players' names are cut, down to four letters, then the oldest marks of the over are left out. A second row
+/// tells what is needed in a chase of limited overs, and the result.
+pub fn print_row<W: Write, B: BookOf>(
+    out: &mut Watched<W>,
+    sheet: &MatchSheet,
+    book: &B,
+) -> Result<(), WriteFailed>
+    ensures text { OnOk result (Prints W.contents out.old out.new
+        (rows.row sheet.now (B.innings_a_side book.now) (history_of (B.content book.now)))) }
+    ensures failed { OnErr result (has_failed out.new ≡ true) }
+{
+    let begun = book.score().begun();
+    if begun == 0 {
+        return writeln!(out, "No play");
+    }
+    print_innings(out, sheet, book, begun - 1)
+}

@@ -1,4 +1,0 @@
-use Rattle.screen.proofs.bowlers.print_all.Goals as goal
-
-pub returns-clause-text : goal.returns-clause-text
-returns-clause-text g c = c.print_among.ensures.text
