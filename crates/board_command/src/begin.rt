@@ -8,11 +8,9 @@ use crate::shown::Shown;
 use board::Board;
 use cards::MatchSheet;
 use corrections::CheckedBook;
+use files::{Cause, Name, StandardStream, TextFile, WholeText, WriteFault};
 use live::keep_board;
-use machine::{
-    Address, Cause, MOST_PEERS, MonotonicClock, Name, Pieces, StandardStream, TextFile, WholeText,
-    WriteFault,
-};
+use machine::{Address, MOST_PEERS, MonotonicClock, Pieces};
 use setup::{Sealing, StopFault, Stopped, short_sheet_at};
 use station_pages::Attended;
 use station_screens::{Errors, Shared, errors_at, output_at};

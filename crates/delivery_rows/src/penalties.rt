@@ -2,13 +2,14 @@
 
 ghost use Rattle.std.specs.Prelude.{◌≡◌};
 ghost use Rattle.match_laws.specs.Stands.{ForEachHistory};
-ghost use Rattle.export.specs.Notes.{begun_of};
+ghost use Rattle.deliveries.specs.Notes.{begun_of};
 ghost use Rattle.delivery_rows.specs.Cells.{PutsRows};
 ghost use Rattle.delivery_rows.specs.Penalties as rows;
 
 use crate::cells::Cells;
 use crate::deliveries::put_innings;
-use export::{Begun, NamedSheet, Noted, items_in, runs_after, runs_before};
+use deliveries::{Begun, NamedSheet, Noted, items_in};
+use export::{runs_after, runs_before};
 use match_laws::Match;
 use notation::Side;
 use std::alloc::{AllocError, Global};

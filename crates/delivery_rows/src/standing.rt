@@ -5,7 +5,7 @@ ghost use Rattle.ball_laws.specs.Sums.{one_if};
 ghost use Rattle.delivery_rows.specs.Standing as standings;
 
 use ball_laws::runs_of;
-use export::{Noted, plus, whole_total};
+use deliveries::{Noted, plus, whole_total};
 use notation::{Ball, Leave, Plain};
 use std::alloc::AllocError;
 

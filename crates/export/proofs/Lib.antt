@@ -1,4 +1,3 @@
-pub mod Noting
 pub mod Singles
 pub mod PointLemmas
 pub mod EntryLemmas

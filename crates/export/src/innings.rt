@@ -4,16 +4,15 @@ ghost use Rattle.std.specs.Prelude.{◌≡◌, ◌<◌, ◌≤◌, ◌∷◌, []
 ghost use Rattle.match_laws.specs.Stands.{ForEachHistory, begun_in};
 ghost use Rattle.json_fields.specs.Values.{PutsFields, PutsValues, array_of};
 ghost use Rattle.export.specs.Innings as laws;
-ghost use Rattle.export.specs.Notes.{begun_of, items_in};
+ghost use Rattle.deliveries.specs.Notes.{begun_of, items_in};
 
-use crate::begun::Begun;
-use crate::deliveries::{penalties, plus, put_awarded};
 use crate::info::put_overs_told;
-use crate::miscounts::put_miscounts;
-use crate::named::NamedSheet;
-use crate::notes::{Noted, carried, items_in, noted_at};
 use crate::overs::put_overs;
 use crate::powerplays::put_powerplays;
+use deliveries::{
+    Begun, NamedSheet, Noted, carried, items_in, noted_at, penalties, plus, put_awarded,
+    put_miscounts,
+};
 use json::Pretty;
 use json_fields::{
     begin_array, begin_field, begin_object, end_array, end_object, put_figure, put_flag, put_text,

@@ -3,7 +3,7 @@
 ghost use Rattle.std.specs.Prelude.{◌≡◌, ◌∷◌, [], List, codes, decimal, OnOk};
 ghost use Rattle.corrections.specs.CleanList.{clean, history_of};
 ghost use Rattle.match_laws.specs.Stands.{StandsFor};
-ghost use Rattle.export.specs.Notes.{begun_of, notes};
+ghost use Rattle.deliveries.specs.Notes.{begun_of, notes};
 ghost use Rattle.toml.specs.View.{table_view};
 ghost use Rattle.json_fields.specs.Values.{Field, PutsFields, text_field};
 ghost use Rattle.export.specs.Given.{AreFieldsOf, others};
@@ -11,7 +11,6 @@ ghost use Rattle.export.specs.Value as laws;
 ghost use Rattle.export.specs.Value.{own_field, sheet_fields, title_fields};
 ghost use Rattle.export.specs.inner.Putting.{PutsExport};
 
-use crate::begun::Begun;
 use crate::entries::put_entries;
 use crate::fall_values::put_falls;
 use crate::given::info_or;
@@ -19,9 +18,8 @@ use crate::info::{has_event, put_info};
 use crate::innings::put_all_innings;
 use crate::limited::put_limits;
 use crate::meta::put_meta;
-use crate::named::NamedSheet;
-use crate::notes::Noted;
 use corrections::BookOf;
+use deliveries::{Begun, NamedSheet, Noted};
 use falls::falls_at;
 use itoa::Buffer;
 use json::Pretty;

@@ -10,7 +10,7 @@ use Rattle.agree_core.specs.FileView.{FileView}
 use Rattle.live.specs.Ends.{Course, further}
 use Rattle.live.specs.Runs.{Moment, Run, last_of}
 use Rattle.live.specs.Desks.{DeskCall, DeskProcess, DeskStep, DiskView, Ended, course_after, desk_kind}
-use Rattle.live.specs.declared.{ends.DeskEnd.DeskEnd}
+use Rattle.live.specs.declared.ends.DeskEnd.{DeskEnd}
 use Rattle.live.proofs.DeskLemmas.{blameless}
 
 module _ {Disk : Type 0} (sheet : Sheet) (view : FileView Disk) (game innings : ℕ) (k l : DeskState Disk) (out : List Message) (runs : k.failed ≡ false) where

@@ -7,10 +7,10 @@ ghost use Rattle.live.specs.Asides as asides;
 ghost use Rattle.live.specs.Ends.{course_of, further, known_at};
 
 use crate::ends::{DeskEnd, told};
-use crate::texts::print_at;
 use links::{Aside, HeldLine};
 use std::io::Write;
 use streams::{Watched, WriteFailed};
+use telling::texts::print_at;
 
 /// Prints a line behind a comma.
 fn print_behind<W: Write>(out: &mut Watched<W>, line: &str) -> Result<(), WriteFailed>

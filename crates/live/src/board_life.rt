@@ -8,7 +8,6 @@ ghost use Rattle.board.specs.Board.{book_of};
 ghost use Rattle.live.specs.Boards.{BoardLives, sight_at};
 
 use crate::board_loop::run_board;
-use crate::notices::Notices;
 use crate::shows::Shows;
 use board::Board;
 use cards::MatchSheet;
@@ -16,6 +15,7 @@ use corrections::BookOf;
 use links::{Clock, Link};
 use std::io::Write;
 use streams::{Watched, WriteFailed};
+use telling::notices::Notices;
 
 /// Prints a board's six lines and hands its book over to be shown, as it begins at this time.
 fn begin<B: BookOf, W: Write, S: Shows<B>>(

@@ -7,17 +7,16 @@ ghost use Rattle.cards.specs.Sheet.{Sheet};
 ghost use Rattle.streams.specs.Watched.{Prints, has_failed, stream_of};
 ghost use Rattle.board.specs.Board.{book_of};
 ghost use Rattle.live.specs.Boards.{BoardGoes, BoardRuns, at_turn, grown, in_turn};
-ghost use Rattle.live.specs.Notices.{notices_unopened, telling_unopened, untold};
+ghost use Rattle.telling.specs.Notices.{notices_unopened, telling_unopened, untold};
 ghost use Rattle.live.specs.Paces.{ticking_of};
 ghost use Rattle.live.specs.Sights.{Sight};
 ghost use Rattle.live.specs.Ticks.{unticked};
 ghost use Rattle.links.specs.Passed.{Came, Passed};
 ghost use Rattle.links.specs.declared.link.TheConstants.{MOST_TAKEN};
-ghost use Rattle.live.specs.declared.notices.Notice.{Notice};
+ghost use Rattle.telling.specs.declared.notices.Notice.{Notice};
 
 use crate::board_calls::tick;
 use crate::hearing::promises_more;
-use crate::notices::{Notices, Telling};
 use crate::pace::Pace;
 use crate::shows::Shows;
 use board::Board;
@@ -26,6 +25,7 @@ use corrections::BookOf;
 use links::{Clock, Link, MOST_TAKEN, ROOM, Taken};
 use std::io::Write;
 use streams::{Watched, WriteFailed};
+use telling::notices::{Notices, Telling};
 
 /// What a board's process keeps between its calls.
 #[derive(Clone, Copy, Debug, PartialEq, Eq)]

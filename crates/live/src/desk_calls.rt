@@ -9,12 +9,12 @@ ghost use Rattle.live.specs.Desks.{Calls, Given, Ticked, Typed};
 ghost use Rattle.live.specs.LostLines.{position_in};
 ghost use Rattle.links.specs.Passed.{Passed, sent_bytes};
 
-use crate::said::{Said, entry_said};
 use cards::MatchSheet;
 use corrections::BookOf;
 use desk::{Desk, Received};
 use entry_log::SlotsOf;
 use links::{Link, send_each};
+use telling::said::{Said, entry_said};
 use wire::What;
 
 /// Has a desk pen the entry that a line says in full, by the desk's book and its sheet, and sends its vote.

@@ -15,23 +15,19 @@ ghost use Rattle.live.specs.Ends.{course_of, further, known_at, turns_after};
 ghost use Rattle.live.specs.Paces.{ticking_of};
 ghost use Rattle.live.specs.Ticks.{IsInTime, Ticking};
 ghost use Rattle.links.specs.Passed.{Came, Passed};
-ghost use Rattle.live.specs.Texts.{greeting, unopened_text, warned_unopened};
+ghost use Rattle.telling.specs.Texts.{greeting, unopened_text, warned_unopened};
 ghost use Rattle.links.specs.Typing.{Input};
 
 use crate::aside::tell_aside;
 use crate::between::Between;
-use crate::both::Both;
 use crate::desk_calls::{pen, receive, tick};
 use crate::ends::{DeskEnd, end_of, told};
 use crate::hearing::{entry_in, promises_more};
 use crate::lost_lines::{end_given, is_another, is_in_reach, is_passed_over, loss_of, position_in};
-use crate::news::{print_came, print_unopened};
 use crate::pace::Pace;
 use crate::peer::Peer;
 use crate::reminding::remind;
 use crate::shows_desk::ShowsDesk;
-use crate::texts::{print_greeting, print_said};
-use crate::warned::Warned;
 use agree_core::DeskId;
 use cards::MatchSheet;
 use corrections::BookOf;
@@ -41,6 +37,10 @@ use links::{Clock, Keys, LINE_ROOM, Link, MOST_TAKEN, ROOM, Stand, Taken, Typed}
 use notation::Entry;
 use std::io::Write;
 use streams::Watched;
+use telling::both::Both;
+use telling::news::{print_came, print_unopened};
+use telling::texts::{print_greeting, print_said};
+use telling::warned::Warned;
 
 /// A desk's vote of its position, where it is cast.
 fn own_line<S: SlotsOf, B: BookOf + Drop>(desk: &Desk<S, B>) -> Option<Entry>

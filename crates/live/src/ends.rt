@@ -3,9 +3,9 @@
 ghost use Rattle.std.specs.Prelude.{◌≡◌};
 ghost use Rattle.live.specs.Ends as ends;
 
-use crate::said::Said;
 use desk::Refusal;
 use streams::WriteFailed;
+use telling::said::Said;
 use wire::What;
 
 /// Why a desk's process ends before its turns are over.

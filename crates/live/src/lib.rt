@@ -8,7 +8,6 @@ mod between;
 pub mod board_calls;
 mod board_life;
 mod board_loop;
-mod both;
 pub mod desk_calls;
 mod desk_life;
 mod desk_loop;
@@ -16,22 +15,12 @@ mod ends;
 mod hearing;
 mod laws;
 mod lost_lines;
-mod news;
-mod notice_log;
-mod notices;
 mod pace;
 mod peer;
-mod questions;
-mod refusals;
-mod reminder;
 mod reminding;
-mod said;
 mod shows;
 mod shows_desk;
 mod sight_log;
-mod texts;
-mod warned;
-mod who_bowls;
 
 pub use begin::begin_desk;
 pub use board_life::keep_board;
@@ -43,8 +32,6 @@ pub use laws::{
     both_lines_are_told, nothing_is_asked_in_vain, reminders_come_once, stations_are_never_silent,
     the_other_is_hidden,
 };
-pub use notice_log::NoticeLog;
-pub use notices::{Notice, Notices, print_notice};
 pub use shows::Shows;
 pub use shows_desk::{RowsAlone, ShowsDesk};
 pub use sight_log::SightLog;

@@ -9,18 +9,18 @@ ghost use Rattle.live.specs.Desks.{DeskGoes, process_of};
 ghost use Rattle.live.specs.Ends.{course_of, further, known_at};
 ghost use Rattle.live.specs.Paces.{ticking_of};
 ghost use Rattle.links.specs.Passed.{Passed};
-ghost use Rattle.live.specs.Texts.{reminder_text, warned_reminded};
+ghost use Rattle.telling.specs.Texts.{reminder_text, warned_reminded};
 ghost use Rattle.links.specs.Typing.{Input};
 
 use crate::between::Between;
 use crate::ends::{DeskEnd, told};
-use crate::news::print_reminder;
-use crate::reminder::Reminder;
 use corrections::BookOf;
 use desk::Desk;
 use entry_log::SlotsOf;
 use std::io::Write;
 use streams::Watched;
+use telling::news::print_reminder;
+use telling::reminder::Reminder;
 
 /// Tells the scorer this of the other desk, at this place.
 fn tell<W: Write>(

@@ -1,7 +1,3 @@
--- Lemmas on the calls of a file, on what is certain of it after them, on two files that are kept alike, on a keyboard's lines, and
--- on what a screen has.
-mod CallLemmas
-mod ImageLemmas
+-- Lemmas on a keyboard's lines, and on what a screen has.
 mod KeyboardLemmas
-mod PairLemmas
 mod ScreenLemmas

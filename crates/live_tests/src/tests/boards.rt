@@ -6,10 +6,11 @@ use super::memory::{Notes, States};
 use super::*;
 use board::Board;
 use links::{Link, Log, Taken};
-use live::{Notice, run_board};
+use live::run_board;
 use notation::Plain;
 use std::io::Write;
 use streams::WriteFailed;
+use telling::Notice;
 use tests_support::Failing;
 use wire::{WireFault, message_of};
 

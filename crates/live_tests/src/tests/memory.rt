@@ -3,9 +3,10 @@ ghost use Rattle.std.specs.Prelude.{◌≡◌, ◌≤◌, IfSome};
 
 use super::*;
 use links::{Clock, ClockLog, InputLog, Keys, Link, Log, Stand, Taken, Typed};
-use live::{Notice, NoticeLog, Notices, Shows, SightLog};
+use live::{Shows, SightLog};
 use std::io::{self, Error, ErrorKind, Write};
 use streams::WriteFailed;
+use telling::{Notice, NoticeLog, Notices};
 
 /// A clock of which each reading is a millisecond later.
 #[derive(Drop)]
@@ -197,7 +198,7 @@ impl Notes {
 }
 
 impl Notices for Notes {
-    ghost use Rattle.live.specs.NoticeLogs.{notices_of};
+    ghost use Rattle.telling.specs.NoticeLogs.{notices_of};
 
     ghost told = { λ notes. notices_of notes.log };
 

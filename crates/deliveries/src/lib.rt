@@ -1,0 +1,17 @@
+//! The deliveries of an innings as an archive has them: what each carries of what happened between two of them, its runs and
+//! extras, who was out and how, and the players by names that tell them apart.
+#![tactic(auto, unfolding(json_fields::specs::Values::fields_tokens, json_fields::specs::Values::values_tokens))]
+
+mod begun;
+mod deliveries;
+mod miscounts;
+mod named;
+mod notes;
+mod wickets;
+
+pub use begun::Begun;
+pub use deliveries::{all_extras, is_run, penalties, plus, put_awarded, put_listed, whole_total};
+pub use miscounts::put_miscounts;
+pub use named::NamedSheet;
+pub use notes::{Noted, carried, is_ball, items_in, noted_at, notes_of};
+pub use wickets::{fielder_name, how_words, is_own, leave_words};

@@ -1,0 +1,17 @@
+//! What a desk and a board tell, and what a typed line comes to: the texts of the loops of `live`.
+#![tactic(auto)]
+
+pub mod both;
+pub mod news;
+mod notice_log;
+pub mod notices;
+pub mod questions;
+pub mod refusals;
+pub mod reminder;
+pub mod said;
+pub mod texts;
+pub mod warned;
+pub mod who_bowls;
+
+pub use notice_log::NoticeLog;
+pub use notices::{Notice, Notices, print_notice};
