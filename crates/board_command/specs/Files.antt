@@ -3,7 +3,7 @@ use Rattle.std.specs.Prelude.{◌≡◌, ◌⊎◌, ◌-◌, ℕ, Bool, true, fa
 use Rattle.corrections.specs.CleanList.{history_of}
 use Rattle.cards.specs.Board.{board as six_lines}
 use Rattle.live.specs.Sights.{Sight}
-use Rattle.files.specs.Texts.{IsGiven}
+use Rattle.machine_files.specs.Texts.{IsGiven}
 use Rattle.scoreboard.specs.Value.{board_text}
 use Rattle.board_command.specs.declared.files.{Files.Files, Kept.Kept, Tried.Tried}
 use Rattle.board_command.specs.declared.files.TheConstants.{AGAIN, FOREVER, LONGEST, SHORTEST}

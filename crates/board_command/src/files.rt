@@ -3,7 +3,7 @@
 ghost use Rattle.std.specs.Prelude.{◌≡◌, Some, is_err, false, length, IfOk};
 ghost use Rattle.corrections.specs.CleanList.{history_of};
 ghost use Rattle.cards.specs.Board as texts;
-ghost use Rattle.files.specs.Texts.{Takes};
+ghost use Rattle.machine_files.specs.Texts.{Takes};
 ghost use Rattle.scoreboard.specs.Value as laws;
 ghost use Rattle.board_command.specs.Files as given;
 ghost use Rattle.board_command.specs.Files.{AreKept};
@@ -11,8 +11,8 @@ ghost use Rattle.board_command.specs.declared.files.TheConstants.{FOREVER, LONGE
 
 use cards::{MatchSheet, board_lines};
 use corrections::BookOf;
-use files::Replaces;
 use live::{Shows, SightLog};
+use machine_files::Replaces;
 use scoreboard::board_text;
 use setup::{StopFault, print_fault, printable};
 use std::alloc::{AllocError, Global};

@@ -1,8 +1,8 @@
 //! What a board tells at standard error.
 
+use station_texts::{Notice, NoticeLog, Notices, print_notice};
 use std::io::Write;
 use streams::Watched;
-use telling::{Notice, NoticeLog, Notices, print_notice};
 
 /// A writer to which a board's notices are written, each at once.
 #[derive(Drop)]
@@ -22,7 +22,7 @@ impl<E: Write + Drop> Notes<E> {
 }
 
 impl<E: Write + Drop> Notices for Notes<E> {
-    ghost use Rattle.telling.specs.NoticeLogs.{notices_of};
+    ghost use Rattle.station_texts.specs.NoticeLogs.{notices_of};
 
     ghost told = { λ notes. notices_of notes.log };
 

@@ -3,7 +3,7 @@
 ghost use Rattle.std.specs.Prelude.{◌≡◌, ◌∷◌, ◌++◌, [], IfOk, Some};
 ghost use Rattle.board_command.specs.Served.{texts_in};
 
-use files::{Cause, Name, Replaces, WriteFault};
+use machine_files::{Cause, Name, Replaces, WriteFault};
 use std::alloc::{AllocError, Global};
 use std::cell::RefCell;
 use std::snapshot::Snapshot;

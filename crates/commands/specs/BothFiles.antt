@@ -12,7 +12,7 @@ use Rattle.books.specs.BothFiles.{IsBookOfBoth, WhyNoBookOfBoth, WhyNotOpened}
 use Rattle.books.specs.Card.{card_text}
 use Rattle.books.specs.Comparing.{IsComparison, comparison_text}
 use Rattle.books.specs.declared.{compare.Comparison.Comparison, fault.BothFault.BothFault}
-use Rattle.deliveries.specs.Names.{told_apart}
+use Rattle.archive_deliveries.specs.Names.{told_apart}
 use Rattle.export.specs.Value.{IsExport}
 use Rattle.setup.specs.declared.fault.StopFault.{StopFault}
 use Rattle.commands.specs.declared.both_files.BothPrintFault.{BothPrintFault}

@@ -7,7 +7,7 @@ use Rattle.streams.specs.declared.watched.Watched.{Watched}
 use Rattle.streams.specs.Watched.{Prints}
 use Rattle.books.specs.declared.source.Source.{Source}
 use Rattle.books.specs.CardBook.{IsBookFrom}
-use Rattle.deliveries.specs.Names.{told_apart}
+use Rattle.archive_deliveries.specs.Names.{told_apart}
 use Rattle.export.specs.Value.{IsExport}
 
 -- the export of the input's book is written, with the sides told apart, and a newline

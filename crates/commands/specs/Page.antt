@@ -8,7 +8,7 @@ use Rattle.streams.specs.Watched.{Prints}
 use Rattle.books.specs.declared.source.Source.{Source}
 use Rattle.books.specs.BothFiles.{IsBookOfBoth}
 use Rattle.books.specs.CardBook.{IsBookFrom}
-use Rattle.deliveries.specs.Names.{told_apart}
+use Rattle.archive_deliveries.specs.Names.{told_apart}
 use Rattle.export.specs.Value.{IsExport}
 use Rattle.page.specs.Page.{page_of}
 

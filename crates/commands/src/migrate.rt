@@ -13,7 +13,7 @@ ghost use Rattle.setup.specs.Ends.{EndsWriting};
 
 use agree_core::DeskId;
 use entry_log::Disk;
-use files::FileDisk;
+use machine_files::FileDisk;
 use setup::{StopFault, Stopped, VotesDisk, new_disk_at, old_votes_at, output, sheet_at};
 use std::alloc::Global;
 use std::fs::File;

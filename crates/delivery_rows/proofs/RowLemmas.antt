@@ -14,12 +14,12 @@ use Rattle.corrections.specs.Legal.{IsLegalBook}
 use Rattle.cards.specs.Sheet.{Sheet}
 use Rattle.json.specs.Json.{Json, null, Members}
 use Rattle.json_fields.specs.Values.{members_of, number_value}
-use Rattle.deliveries.specs.declared.{begun.Begun.Begun, notes.Noted.Noted}
-use Rattle.deliveries.specs.Notes.{begun_of, carried, is_ball, items_in}
-use Rattle.deliveries.specs.Deliveries.{delivery_of, extra_runs, extras_field, listed_of, penalties}
+use Rattle.archive_deliveries.specs.declared.{begun.Begun.Begun, notes.Noted.Noted}
+use Rattle.archive_deliveries.specs.Notes.{begun_of, carried, is_ball, items_in}
+use Rattle.archive_deliveries.specs.Deliveries.{delivery_of, extra_runs, extras_field, listed_of, penalties}
 use Rattle.export.specs.Innings.{overs_of, runs_after, runs_before}
 use Rattle.export.specs.Laws.{at, deliveries_in, innings_at, member_at, noted_items}
-use Rattle.deliveries.specs.Wickets.{batter_value, has_wickets}
+use Rattle.archive_deliveries.specs.Wickets.{batter_value, has_wickets}
 use Rattle.export.proofs.LawLemmas.{total_added}
 use Rattle.export.proofs.ReadLemmas.{all_listed, elements-of, in_over, overs_all, own_total, totals_of}
 use Rattle.delivery_rows.specs.declared.standing.Standing.{Standing}

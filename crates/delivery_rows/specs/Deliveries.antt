@@ -11,10 +11,10 @@ use Rattle.match_laws.specs.History.{begun, opponent, side_of}
 use Rattle.cards.specs.Sheet.{Sheet, name_of, player_of}
 use Rattle.cards.specs.Dismissals.{fielder_name}
 use Rattle.json_fields.specs.Values.{up_to}
-use Rattle.deliveries.specs.declared.{begun.Begun.Begun, notes.Noted.Noted}
-use Rattle.deliveries.specs.Notes.{begun_of, carried, is_ball, items_in}
-use Rattle.deliveries.specs.Wickets.{how_words, leave_words}
-use Rattle.deliveries.specs.Deliveries.{extra_runs, is_run, penalties}
+use Rattle.archive_deliveries.specs.declared.{begun.Begun.Begun, notes.Noted.Noted}
+use Rattle.archive_deliveries.specs.Notes.{begun_of, carried, is_ball, items_in}
+use Rattle.archive_deliveries.specs.Wickets.{how_words, leave_words}
+use Rattle.archive_deliveries.specs.Deliveries.{extra_runs, is_run, penalties}
 use Rattle.export.specs.Innings.{runs_before}
 use Rattle.delivery_rows.specs.declared.standing.Standing.{Standing}
 use Rattle.delivery_rows.specs.Cells.{cell}

@@ -6,8 +6,8 @@ use Rattle.ball_laws.specs.History.{History}
 use Rattle.match_laws.specs.History.{begun, side_of}
 use Rattle.cards.specs.Sheet.{Sheet}
 use Rattle.json_fields.specs.Values.{up_to}
-use Rattle.deliveries.specs.declared.{begun.Begun.Begun, notes.Noted.Noted}
-use Rattle.deliveries.specs.Notes.{begun_of}
+use Rattle.archive_deliveries.specs.declared.{begun.Begun.Begun, notes.Noted.Noted}
+use Rattle.archive_deliveries.specs.Notes.{begun_of}
 use Rattle.export.specs.Innings.{runs_after, runs_before}
 use Rattle.delivery_rows.specs.Deliveries.{innings_cells}
 

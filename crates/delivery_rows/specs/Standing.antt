@@ -3,7 +3,7 @@ use Rattle.std.specs.Prelude.{ℕ, ◌+◌, ◌==◌, Bool, true, false, if◌th
 use Rattle.notation.specs.declared.entry.{Ball.Ball, Leave.Leave, Plain.Plain}
 use Rattle.ball_laws.specs.Runs.{all_runs, split_of_ball}
 use Rattle.ball_laws.specs.Sums.{one_if}
-use Rattle.deliveries.specs.declared.notes.Noted.{Noted}
+use Rattle.archive_deliveries.specs.declared.notes.Noted.{Noted}
 use Rattle.delivery_rows.specs.declared.standing.Standing.{Standing}
 
 -- who went between deliveries is out, unless he retired hurt

@@ -5,7 +5,7 @@ use Rattle.ball_laws.specs.History.{History}
 use Rattle.corrections.specs.CleanList.{history_of}
 use Rattle.cards.specs.Sheet.{Sheet}
 use Rattle.toml.specs.Data.{Members}
-use Rattle.deliveries.specs.declared.notes.Noted.{Noted}
+use Rattle.archive_deliveries.specs.declared.notes.Noted.{Noted}
 use Rattle.export.specs.Laws.{noted_items}
 use Rattle.delivery_rows.specs.declared.table.Table.{Table}
 use Rattle.delivery_rows.specs.declared.table.Table.TheVariants.{Deliveries, Penalties}

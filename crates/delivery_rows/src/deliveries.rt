@@ -2,7 +2,7 @@
 
 ghost use Rattle.std.specs.Prelude.{◌≡◌, ◌++◌, ◌∷◌, [], IfOk};
 ghost use Rattle.ball_laws.specs.Runs.{split_of_ball};
-ghost use Rattle.deliveries.specs.Deliveries.{is_run};
+ghost use Rattle.archive_deliveries.specs.Deliveries.{is_run};
 ghost use Rattle.delivery_rows.specs.Cells.{PutsCells, rows_text};
 ghost use Rattle.delivery_rows.specs.Standing.{after};
 ghost use Rattle.delivery_rows.specs.Deliveries as rows;
@@ -10,11 +10,11 @@ ghost use Rattle.delivery_rows.specs.Deliveries as rows;
 use crate::cells::Cells;
 use crate::gone::put_others;
 use crate::standing::Standing;
-use ball_laws::{Ends, runs_of};
-use deliveries::{
+use archive_deliveries::{
     Begun, NamedSheet, Noted, all_extras, fielder_name, how_words, is_own, is_run, penalties, plus,
     whole_total,
 };
+use ball_laws::{Ends, runs_of};
 use match_laws::opponent;
 use notation::{Ball, Out, Plain, Player, Side};
 use std::alloc::{AllocError, Global};

@@ -6,7 +6,7 @@ ghost use Rattle.delivery_rows.specs.Cells.{PutsCells, cell};
 ghost use Rattle.delivery_rows.specs.Deliveries as rows;
 
 use crate::cells::Cells;
-use deliveries::{NamedSheet, Noted, leave_words, noted_at};
+use archive_deliveries::{NamedSheet, Noted, leave_words, noted_at};
 use notation::{Plain, Side};
 use std::alloc::{AllocError, Global};
 

@@ -2,14 +2,14 @@
 
 ghost use Rattle.std.specs.Prelude.{◌≡◌, ◌++◌, drop, IfOk};
 ghost use Rattle.match_laws.specs.Stands.{ForEachHistory};
-ghost use Rattle.deliveries.specs.Notes as notes;
-ghost use Rattle.deliveries.specs.Notes.{begun_of};
+ghost use Rattle.archive_deliveries.specs.Notes as notes;
+ghost use Rattle.archive_deliveries.specs.Notes.{begun_of};
 ghost use Rattle.delivery_rows.specs.Cells.{PutsRows, rows_text};
 ghost use Rattle.delivery_rows.specs.Deliveries as rows;
 
 use crate::deliveries::put_item;
 use crate::standing::Standing;
-use deliveries::{Begun, NamedSheet, Noted, carried, is_ball, items_in, noted_at};
+use archive_deliveries::{Begun, NamedSheet, Noted, carried, is_ball, items_in, noted_at};
 use export::runs_before;
 use match_laws::Match;
 use notation::Side;

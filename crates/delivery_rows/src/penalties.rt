@@ -2,13 +2,13 @@
 
 ghost use Rattle.std.specs.Prelude.{◌≡◌};
 ghost use Rattle.match_laws.specs.Stands.{ForEachHistory};
-ghost use Rattle.deliveries.specs.Notes.{begun_of};
+ghost use Rattle.archive_deliveries.specs.Notes.{begun_of};
 ghost use Rattle.delivery_rows.specs.Cells.{PutsRows};
 ghost use Rattle.delivery_rows.specs.Penalties as rows;
 
 use crate::cells::Cells;
 use crate::deliveries::put_innings;
-use deliveries::{Begun, NamedSheet, Noted, items_in};
+use archive_deliveries::{Begun, NamedSheet, Noted, items_in};
 use export::{runs_after, runs_before};
 use match_laws::Match;
 use notation::Side;

@@ -4,8 +4,8 @@ ghost use Rattle.std.specs.Prelude.{◌≡◌, IfOk, is_some};
 ghost use Rattle.ball_laws.specs.Sums.{one_if};
 ghost use Rattle.delivery_rows.specs.Standing as standings;
 
+use archive_deliveries::{Noted, plus, whole_total};
 use ball_laws::runs_of;
-use deliveries::{Noted, plus, whole_total};
 use notation::{Ball, Leave, Plain};
 use std::alloc::AllocError;
 

@@ -3,16 +3,16 @@
 ghost use Rattle.std.specs.Prelude.{◌≡◌, string_bytes, IfOk};
 ghost use Rattle.match_laws.specs.Stands.{ForEachHistory};
 ghost use Rattle.toml.specs.View.{table_view};
-ghost use Rattle.deliveries.specs.Names.{told_apart};
-ghost use Rattle.deliveries.specs.Notes.{begun_of};
+ghost use Rattle.archive_deliveries.specs.Names.{told_apart};
+ghost use Rattle.archive_deliveries.specs.Notes.{begun_of};
 ghost use Rattle.delivery_rows.specs.Cells.{PutsRows};
 ghost use Rattle.delivery_rows.specs.Table as tables;
 
 use crate::day::day_of;
 use crate::{innings, penalties};
+use archive_deliveries::{Begun, NamedSheet, Noted, notes_of};
 use cards::MatchSheet;
 use corrections::BookOf;
-use deliveries::{Begun, NamedSheet, Noted, notes_of};
 use match_laws::Match;
 use std::alloc::{AllocError, Global};
 use toml::Table as Document;

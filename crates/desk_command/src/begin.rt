@@ -9,10 +9,10 @@ use cards::MatchSheet;
 use corrections::CheckedBook;
 use desk::restore::Restoring;
 use entry_log::{Disk, Slots};
-use files::{FileDisk, LastFault, NoFile, WriteFault};
 use links::{Keys, Link};
 use live::{DeskEnd, LifeEnd, keep_desk};
 use machine::{Address, Keyboard, MOST_PEERS, MonotonicClock, Outlet};
+use machine_files::{FileDisk, LastFault, NoFile, WriteFault};
 use setup::{
     CopiedDisk, Kept, Sealing, StopFault, Stopped, VotesDisk, compared, empty_disk, kept_votes,
     paired_disk, renewed_disk, short_sheet_at, tell_copies, with_cause, with_copys_cause,

@@ -3,8 +3,8 @@
 ghost use Rattle.std.specs.Prelude.{◌≡◌};
 ghost use Rattle.setup.specs.Keys as keys;
 
-use files::{Name, WriteFault, cause_of, may_have};
 use hex::encode_to_slice;
+use machine_files::{Name, WriteFault, cause_of, may_have};
 use setup::{StopFault, Stopped};
 use std::fs::{self, File, OpenOptions};
 use std::io::{self, ErrorKind, Write};

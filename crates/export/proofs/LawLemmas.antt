@@ -21,16 +21,16 @@ use Rattle.corrections.specs.Legal.{IsLegalBook}
 use Rattle.corrections.proofs.LegalLemmas.{history_after-clean, scored_legal}
 use Rattle.corrections.proofs.ScoringLemmas.{first_refused-cons}
 use Rattle.cards.specs.Sheet.{Sheet}
-use Rattle.deliveries.specs.declared.{begun.Begun.Begun, notes.Noted.Noted}
-use Rattle.deliveries.specs.Notes.{note, notes, begun_of, awards_to, is_awarded, carried, items_in, earlier_of}
-use Rattle.deliveries.specs.Deliveries.{penalties}
+use Rattle.archive_deliveries.specs.declared.{begun.Begun.Begun, notes.Noted.Noted}
+use Rattle.archive_deliveries.specs.Notes.{note, notes, begun_of, awards_to, is_awarded, carried, items_in, earlier_of}
+use Rattle.archive_deliveries.specs.Deliveries.{penalties}
 use Rattle.json.specs.Json.{Json, null}
 use Rattle.json_fields.specs.Values.{Field, members_of, number_field, object_of, flag_if}
 use Rattle.limits.specs.declared.powerplay.Powerplay.{Powerplay}
 use Rattle.limits.specs.Limits.{overs_for}
 use Rattle.export.specs.Info.{overs_told}
 use Rattle.export.specs.Innings.{runs_before, runs_after, penalty_field, powerplay_fields, needed_in, overs_of, is_declared, is_forfeited}
-use Rattle.deliveries.specs.Miscounts.{is_miscounted, miscounts}
+use Rattle.archive_deliveries.specs.Miscounts.{is_miscounted, miscounts}
 use Rattle.export.specs.Laws.{IsCount, TotalsAddUp, at, noted_items, member_at, total_in}
 use Rattle.export.proofs.Weights.{ball_here, gone_here, in_innings, noted_weight, weights_in, weights_so_far}
 use Rattle.export.proofs.ReadLemmas.{elements-of, in_over, overs_all, totals_of, totals_read}

@@ -8,9 +8,9 @@ use Rattle.ball_laws.specs.Runs.{all_runs, split_of_ball}
 use Rattle.cards.specs.Sheet.{Sheet}
 use Rattle.json.specs.Json.{Json}
 use Rattle.json_fields.specs.Values.{items_of, number_value}
-use Rattle.deliveries.specs.declared.{begun.Begun.Begun, notes.Noted.Noted}
-use Rattle.deliveries.specs.Notes.{is_ball, carried}
-use Rattle.deliveries.specs.Deliveries.{listed, penalties}
+use Rattle.archive_deliveries.specs.declared.{begun.Begun.Begun, notes.Noted.Noted}
+use Rattle.archive_deliveries.specs.Notes.{is_ball, carried}
+use Rattle.archive_deliveries.specs.Deliveries.{listed, penalties}
 use Rattle.export.specs.Innings.{deliveries_from, overs_from, over_of}
 use Rattle.export.specs.Laws.{at, elements, values_of, total_in}
 

@@ -15,10 +15,10 @@ use Rattle.match_laws.proofs.Bounds.{ball-small}
 use Rattle.cards.specs.Sheet.{Sheet, player_of}
 use Rattle.json.specs.Json.{Json, null}
 use Rattle.json_fields.specs.Values.{flag_if, members_of, number_field, number_value}
-use Rattle.deliveries.specs.declared.notes.Noted.{Noted}
-use Rattle.deliveries.specs.Wickets as listing
-use Rattle.deliveries.specs.Wickets.{gone_of, has_wickets, how_words, is_gone, own_wickets}
-use Rattle.deliveries.specs.Deliveries.{delivery_of, extra_runs, extras_field, is_run}
+use Rattle.archive_deliveries.specs.declared.notes.Noted.{Noted}
+use Rattle.archive_deliveries.specs.Wickets as listing
+use Rattle.archive_deliveries.specs.Wickets.{gone_of, has_wickets, how_words, is_gone, own_wickets}
+use Rattle.archive_deliveries.specs.Deliveries.{delivery_of, extra_runs, extras_field, is_run}
 use Rattle.export.specs.Laws.{at, is_text, member_at}
 use Rattle.export.specs.Readers.{bat_runs, boundary_in, bowled_in, credited_in, credited_kinds, debited_in}
 use Rattle.export.specs.Readers.{faced_in, four_outrun, is_credited, is_set, noballs_in, number_in, six_outrun}

@@ -20,8 +20,8 @@ use Rattle.corrections.specs.CleanList.{history_of}
 use Rattle.corrections.specs.Legal.{IsLegalBook}
 use Rattle.cards.specs.Sheet.{Sheet, player_of}
 use Rattle.json.specs.Json.{Json}
-use Rattle.deliveries.specs.declared.notes.Noted.{Noted}
-use Rattle.deliveries.specs.Deliveries.{delivery_of, is_run}
+use Rattle.archive_deliveries.specs.declared.notes.Noted.{Noted}
+use Rattle.archive_deliveries.specs.Deliveries.{delivery_of, is_run}
 use Rattle.export.specs.Laws.{at, innings_at, is_text}
 use Rattle.export.specs.Readers.{BatterAddsUp, BowlerAddsUp, OversAreSixes, HasOwnName, NamesTellPlayers, bat_runs}
 use Rattle.export.specs.Readers.{boundary_in, bowled_in, credited_in, dead_ball, debited_in, faced_in, four_outrun}

@@ -17,9 +17,9 @@ use Rattle.corrections.specs.Legal.{IsLegalBook}
 use Rattle.corrections.proofs.LegalLemmas.{history_after-clean, scored_legal}
 use Rattle.cards.specs.Sheet.{Sheet}
 use Rattle.json.specs.Json.{Json}
-use Rattle.deliveries.specs.declared.{begun.Begun.Begun, notes.Noted.Noted}
-use Rattle.deliveries.specs.Notes.{begun_of, carried, items_in, notes}
-use Rattle.deliveries.specs.Deliveries.{delivery_of, listed_of, penalties}
+use Rattle.archive_deliveries.specs.declared.{begun.Begun.Begun, notes.Noted.Noted}
+use Rattle.archive_deliveries.specs.Notes.{begun_of, carried, items_in, notes}
+use Rattle.archive_deliveries.specs.Deliveries.{delivery_of, listed_of, penalties}
 use Rattle.export.specs.Innings.{overs_of}
 use Rattle.export.specs.Laws.{deliveries_in, innings_at, noted_items}
 use Rattle.export.proofs.ReadLemmas.{all_listed, elements-of, in_over, overs_all}

@@ -14,8 +14,8 @@ use Rattle.corrections.specs.declared.placed.Placed.{Placed}
 use Rattle.corrections.specs.inner.Scoring.{history_after}
 use Rattle.corrections.specs.Refusal.{first_refused}
 use Rattle.corrections.proofs.ScoringLemmas.{first_refused-cons}
-use Rattle.deliveries.specs.declared.notes.Noted.{Noted}
-use Rattle.deliveries.specs.Notes.{items_in, notes}
+use Rattle.archive_deliveries.specs.declared.notes.Noted.{Noted}
+use Rattle.archive_deliveries.specs.Notes.{items_in, notes}
 
 -- a delivery or a departure stands in the innings that is on
 same_number : (m c i : ℕ) → m ≡ c + 1 → (m == i + 1) ≡ (c == i)

@@ -13,11 +13,11 @@ use Rattle.corrections.specs.Legal.{IsLegalBook}
 use Rattle.cards.specs.Sheet.{Sheet}
 use Rattle.json.specs.Json.{Json}
 use Rattle.json_fields.specs.Values.{array_of, members_of}
-use Rattle.deliveries.specs.declared.{begun.Begun.Begun, notes.Noted.Noted}
-use Rattle.deliveries.specs.Notes.{begun_of, carried, is_ball, items_in}
-use Rattle.deliveries.specs.Wickets as listing
-use Rattle.deliveries.specs.Wickets.{departures, gone_of, has_gone, has_wickets, how_words, is_gone, own_wickets}
-use Rattle.deliveries.specs.Deliveries.{delivery_of, extra_runs, extras_field, penalties}
+use Rattle.archive_deliveries.specs.declared.{begun.Begun.Begun, notes.Noted.Noted}
+use Rattle.archive_deliveries.specs.Notes.{begun_of, carried, is_ball, items_in}
+use Rattle.archive_deliveries.specs.Wickets as listing
+use Rattle.archive_deliveries.specs.Wickets.{departures, gone_of, has_gone, has_wickets, how_words, is_gone, own_wickets}
+use Rattle.archive_deliveries.specs.Deliveries.{delivery_of, extra_runs, extras_field, penalties}
 use Rattle.export.specs.Innings.{overs_of}
 use Rattle.export.specs.Laws.{WicketsAddUp, deliveries_in, has_fallen, innings_at, noted_items, member_at, values_of, wickets_of}
 use Rattle.export.proofs.ReadLemmas.{all_listed, elements-of, in_over, overs_all}

@@ -12,11 +12,11 @@ use Rattle.limits.specs.declared.powerplay.Powerplay.{Powerplay}
 use Rattle.limits.specs.Limits.{overs_for}
 use Rattle.json.specs.Json.{Json, number}
 use Rattle.json_fields.specs.Values.{Field, array_of, object_of, text_field, number_field, count_field, flag_if, up_to}
-use Rattle.deliveries.specs.declared.{begun.Begun.Begun, notes.Noted.Noted}
-use Rattle.deliveries.specs.Notes.{begun_of, items_in, is_ball, carried}
+use Rattle.archive_deliveries.specs.declared.{begun.Begun.Begun, notes.Noted.Noted}
+use Rattle.archive_deliveries.specs.Notes.{begun_of, items_in, is_ball, carried}
 use Rattle.export.specs.Info.{overs_told}
-use Rattle.deliveries.specs.Miscounts.{miscounted_fields}
-use Rattle.deliveries.specs.Deliveries.{listed, penalties}
+use Rattle.archive_deliveries.specs.Miscounts.{miscounted_fields}
+use Rattle.archive_deliveries.specs.Deliveries.{listed, penalties}
 
 module _ (s : Sheet) (side : Side) (f : Begun) (i : ℕ) where
   -- the deliveries of over k, up to the first one of another over

@@ -12,8 +12,8 @@ use Rattle.json.specs.Json.{Json, null, string, array, object, Items, no_items, 
 use Rattle.toml_datetime.specs.declared.datetime.Date.{Date}
 use Rattle.toml_datetime.specs.Text.{date_text}
 use Rattle.json_fields.specs.Values.{Field, number_value}
-use Rattle.deliveries.specs.declared.notes.Noted.{Noted}
-use Rattle.deliveries.specs.Notes.{notes}
+use Rattle.archive_deliveries.specs.declared.notes.Noted.{Noted}
+use Rattle.archive_deliveries.specs.Notes.{notes}
 use Rattle.export.specs.Given.{IsValueOf, info_in, is_own}
 use Rattle.export.specs.Meta.{day_of, meta_at, meta_of}
 use Rattle.export.specs.Info.{info_of}

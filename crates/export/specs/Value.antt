@@ -9,7 +9,7 @@ use Rattle.json.specs.Json.{Json}
 use Rattle.json.specs.Tree.{json_tokens}
 use Rattle.json.specs.Layout.{pretty}
 use Rattle.json_fields.specs.Values.{Field, object_of, text_field, number_field}
-use Rattle.deliveries.specs.Notes.{notes}
+use Rattle.archive_deliveries.specs.Notes.{notes}
 use Rattle.export.specs.Given.{HandsOn, info_in}
 use Rattle.export.specs.Meta.{meta_field}
 use Rattle.export.specs.Info.{has_event, info_field}

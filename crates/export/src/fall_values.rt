@@ -8,7 +8,7 @@ ghost use Rattle.falls.specs.Falls.{falls_at};
 ghost use Rattle.json_fields.specs.Values.{PutsFields, PutsValues, number_field, up_to};
 ghost use Rattle.export.specs.Falls as laws;
 
-use deliveries::NamedSheet;
+use archive_deliveries::NamedSheet;
 use falls::{FallAt, falls_in, over_and_ball};
 use json::Pretty;
 use json_fields::{begin_array, begin_object, end_array, end_object, put_figure, put_text};

@@ -11,7 +11,7 @@ ghost use Rattle.export.specs.inner.Putting.{PutsInfo};
 ghost use Rattle.export.specs.Info as laws;
 
 use crate::given::{put_given, table_in};
-use deliveries::NamedSheet;
+use archive_deliveries::NamedSheet;
 use json::Pretty;
 use json_fields::{
     begin_array, begin_field, end_array, end_object, put_figure, put_string, put_text,

@@ -4,12 +4,12 @@ ghost use Rattle.std.specs.Prelude.{◌≡◌, ◌<◌, ◌≤◌, ◌∷◌, []
 ghost use Rattle.match_laws.specs.Stands.{ForEachHistory, begun_in};
 ghost use Rattle.json_fields.specs.Values.{PutsFields, PutsValues, array_of};
 ghost use Rattle.export.specs.Innings as laws;
-ghost use Rattle.deliveries.specs.Notes.{begun_of, items_in};
+ghost use Rattle.archive_deliveries.specs.Notes.{begun_of, items_in};
 
 use crate::info::put_overs_told;
 use crate::overs::put_overs;
 use crate::powerplays::put_powerplays;
-use deliveries::{
+use archive_deliveries::{
     Begun, NamedSheet, Noted, carried, items_in, noted_at, penalties, plus, put_awarded,
     put_miscounts,
 };

@@ -16,7 +16,7 @@ ghost use Rattle.export.specs.Document.{is_fine_document};
 ghost use Rattle.export.specs.Escapes.{IsPlain, IsReadBack, is_obeyed};
 ghost use Rattle.export.specs.Given.{HandsOn};
 ghost use Rattle.export.specs.Laws.{HasEachEntry, HasEachKey, LeavesOwn, TellsDay, TellsOfFile, TotalsAddUp, WicketsAddUp, in_meta};
-ghost use Rattle.deliveries.specs.Names.{NamesTwoSides};
+ghost use Rattle.archive_deliveries.specs.Names.{NamesTwoSides};
 ghost use Rattle.export.specs.WorkedDocuments.{WorkedDocuments};
 
 /// Looked up in the value of an innings, as it stands in an export: the totals of its deliveries and its penalty runs

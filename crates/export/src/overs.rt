@@ -3,11 +3,11 @@
 ghost use Rattle.std.specs.Prelude.{◌≡◌, ◌&&◌, ◌==◌, not, ◌∷◌, [], None, codes, drop};
 ghost use Rattle.match_laws.specs.History.{is_at};
 ghost use Rattle.json_fields.specs.Values.{PutsFields, PutsValues, array_of};
-ghost use Rattle.deliveries.specs.Deliveries.{listed};
+ghost use Rattle.archive_deliveries.specs.Deliveries.{listed};
 ghost use Rattle.export.specs.Innings as laws;
-ghost use Rattle.deliveries.specs.Notes as notes;
+ghost use Rattle.archive_deliveries.specs.Notes as notes;
 
-use deliveries::{Begun, NamedSheet, Noted, carried, is_ball, noted_at, put_listed};
+use archive_deliveries::{Begun, NamedSheet, Noted, carried, is_ball, noted_at, put_listed};
 use json::Pretty;
 use json_fields::{begin_array, begin_object, end_array, end_object, put_figure};
 use notation::Side;

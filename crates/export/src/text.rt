@@ -2,14 +2,14 @@
 
 ghost use Rattle.std.specs.Prelude.{◌≡◌, string_bytes, IfOk};
 ghost use Rattle.toml.specs.View.{table_view};
-ghost use Rattle.deliveries.specs.Names.{told_apart};
+ghost use Rattle.archive_deliveries.specs.Names.{told_apart};
 ghost use Rattle.export.specs.Value.{IsExport, IsLaidOut};
 
 use crate::escapes::shown;
 use crate::value::put_export;
+use archive_deliveries::{NamedSheet, notes_of};
 use cards::MatchSheet;
 use corrections::BookOf;
-use deliveries::{NamedSheet, notes_of};
 use json::Pretty;
 use std::alloc::{AllocError, Global};
 use toml::Table;

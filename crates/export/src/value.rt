@@ -3,7 +3,7 @@
 ghost use Rattle.std.specs.Prelude.{◌≡◌, ◌∷◌, [], List, codes, decimal, OnOk};
 ghost use Rattle.corrections.specs.CleanList.{clean, history_of};
 ghost use Rattle.match_laws.specs.Stands.{StandsFor};
-ghost use Rattle.deliveries.specs.Notes.{begun_of, notes};
+ghost use Rattle.archive_deliveries.specs.Notes.{begun_of, notes};
 ghost use Rattle.toml.specs.View.{table_view};
 ghost use Rattle.json_fields.specs.Values.{Field, PutsFields, text_field};
 ghost use Rattle.export.specs.Given.{AreFieldsOf, others};
@@ -18,8 +18,8 @@ use crate::info::{has_event, put_info};
 use crate::innings::put_all_innings;
 use crate::limited::put_limits;
 use crate::meta::put_meta;
+use archive_deliveries::{Begun, NamedSheet, Noted};
 use corrections::BookOf;
-use deliveries::{Begun, NamedSheet, Noted};
 use falls::falls_at;
 use itoa::Buffer;
 use json::Pretty;

@@ -15,8 +15,8 @@ use Rattle.ahead.proofs.OrderLemmas.{among_front, among_joined, among_through, c
 use Rattle.live.specs.Before.{VotesWereTyped, line_said, lines_said}
 use Rattle.live.specs.Desks.{DeskCall, DeskProcess, DiskView, ProcessStep, Typed, desk_kind, typed}
 use Rattle.live.specs.Runs.{Moment, Run, last_of, typed_in}
-use Rattle.telling.specs.Saying.{IsNoWord}
-use Rattle.telling.specs.declared.said.Said.{Said}
+use Rattle.station_texts.specs.Saying.{IsNoWord}
+use Rattle.station_texts.specs.declared.said.Said.{Said}
 
 -- what is no word may be an entry's line
 sort_casts : (undo quit again : Bool) (word : Option Word) → quit ≡ false → word ≡ None

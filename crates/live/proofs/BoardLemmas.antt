@@ -25,9 +25,9 @@ use Rattle.live.specs.Boards.{Asks, BoardCall, BoardGoes, BoardLives, BoardRuns,
 use Rattle.live.specs.Boards.{at_turn, beat_of, board_kind, given, grown, in_turn, shown, sight_at, unless_stopped}
 use Rattle.live.specs.Sights.{Sight}
 use Rattle.live.specs.Ticks.{IsInTime, Ticking, after_look, reads, unticked}
-use Rattle.telling.specs.Notices.{untold, notices_after, notices_unopened, telling_after, telling_unopened}
+use Rattle.station_texts.specs.Notices.{untold, notices_after, notices_unopened, telling_after, telling_unopened}
 use Rattle.links.specs.declared.link.TheConstants.{MOST_TAKEN}
-use Rattle.telling.specs.declared.{notices.Notice.Notice, notices.Telling.Telling}
+use Rattle.station_texts.specs.declared.{notices.Notice.Notice, notices.Telling.Telling}
 use Rattle.live.proofs.TellingLemmas.{told_first}
 use Rattle.live.proofs.RunLemmas.{both, one, stays, unsaid}
 

@@ -26,18 +26,18 @@ use Rattle.desk.specs.Desk.{SameOwner, disk_of, game_of, rules_of, state_of, vie
 use Rattle.desk.specs.Takes.{Takes}
 use Rattle.links.specs.Passed.{Passed, Came, Sent, sends, sent_bytes}
 use Rattle.live.specs.Runs.{Goes, Kind}
-use Rattle.telling.specs.Saying.{ComesTo, SaysEntry}
+use Rattle.station_texts.specs.Saying.{ComesTo, SaysEntry}
 use Rattle.links.specs.Typing.{Input, Line, End}
 use Rattle.links.specs.declared.aside.Aside.{Aside}
 use Rattle.live.specs.Asides.{aside_text}
-use Rattle.telling.specs.Texts.{came_text, reminder_text, said_text, unopened_text, warned_after, warned_reminded, warned_unopened}
+use Rattle.station_texts.specs.Texts.{came_text, reminder_text, said_text, unopened_text, warned_after, warned_reminded, warned_unopened}
 use Rattle.live.specs.LostLines.{end_given, end_here}
 use Rattle.live.specs.Ends.{Course, course_of, end_of, ending, further, known_at, known_to, turns_after}
 use Rattle.live.specs.Desks.{Blames, disks_of, Calls, DeskCall, DeskGoes, DeskProcess, DeskStep, Given, FitsLongest, MayCall, MayRemind, Looked, Read, Reminded, Ticked, ToldAside, TurnEnded, Typed}
 use Rattle.live.specs.Desks.{TypingEnded, Unopened, after_call, beat_of, course_after, desk_kind, entry_in, given, innings_of, kind_of, loss_in, own_line, process_of, told_of, typed}
 use Rattle.live.specs.Ticks.{IsInTime, MayBeat, Ticking, after_look, reads}
 use Rattle.live.specs.declared.ends.DeskEnd.{DeskEnd}
-use Rattle.telling.specs.declared.{reminder.Reminder.Reminder, said.Said.Said, warned.Warned.Warned}
+use Rattle.station_texts.specs.declared.{reminder.Reminder.Reminder, said.Said.Said, warned.Warned.Warned}
 use Rattle.live.proofs.LostLemmas.{heard_ends}
 use Rattle.live.proofs.RunLemmas.{both, one, stays, unsaid}
 use Rattle.live.proofs.TellingLemmas.{came_course, came_nothing, said_course, said_nothing}

@@ -19,7 +19,7 @@ use Rattle.live.specs.Desks.{DeskRuns, DiskView, FitsLongest, desk_kind, innings
 use Rattle.live.specs.Ends.{known_at}
 use Rattle.links.specs.Passed.{Passed}
 use Rattle.live.specs.Runs.{Goes, with_text}
-use Rattle.telling.specs.Texts.{greeting}
+use Rattle.station_texts.specs.Texts.{greeting}
 use Rattle.links.specs.Typing.{Input}
 use Rattle.live.specs.declared.ends.DeskEnd.{DeskEnd}
 

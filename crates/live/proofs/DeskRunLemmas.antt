@@ -13,12 +13,12 @@ use Rattle.desk.specs.Desk.{disk_of, game_of, state_of, view_of}
 use Rattle.links.specs.Passed.{Passed}
 use Rattle.live.specs.Runs.{with_text}
 use Rattle.links.specs.Typing.{Input}
-use Rattle.telling.specs.Texts.{greeting, unwarned}
+use Rattle.station_texts.specs.Texts.{greeting, unwarned}
 use Rattle.live.specs.Ticks.{Ticking, unticked}
 use Rattle.live.specs.Ends.{Course, end_told, ending, further, known_to, written}
 use Rattle.live.specs.Desks.{DeskGoes, DeskProcess, DeskRuns, Ended, FitsLongest, disks_of, innings_of, own_line, process_of}
 use Rattle.live.specs.declared.ends.DeskEnd.{DeskEnd}
-use Rattle.telling.specs.declared.warned.Warned.{Warned}
+use Rattle.station_texts.specs.declared.warned.Warned.{Warned}
 use Rattle.live.proofs.DeskLemmas.{kept, muted, rests, same_here, silent, then}
 use Rattle.live.proofs.EndLemmas.{answer_blames, run_blames}
 use Rattle.live.proofs.TellingLemmas.{told_first}

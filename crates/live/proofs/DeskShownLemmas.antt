@@ -9,12 +9,12 @@ use Rattle.desk.specs.declared.desk.Desk.{Desk}
 use Rattle.desk.specs.Desk.{state_of}
 use Rattle.links.specs.Passed.{Passed}
 use Rattle.links.specs.Typing.{Input}
-use Rattle.telling.specs.declared.warned.Warned.{Warned}
+use Rattle.station_texts.specs.declared.warned.Warned.{Warned}
 use Rattle.live.specs.DeskSights.{DeskSight, IsSeen, IsShown, desk_sight}
 use Rattle.live.specs.Desks.{DeskCall, DeskGoes, DeskProcess, innings_of, kind_of, process_of}
 use Rattle.live.specs.Ends.{Course, further}
 use Rattle.live.specs.Runs.{Kind}
-use Rattle.telling.specs.Texts.{unwarned}
+use Rattle.station_texts.specs.Texts.{unwarned}
 use Rattle.live.specs.Ticks.{Ticking, unticked}
 
 -- nothing yet

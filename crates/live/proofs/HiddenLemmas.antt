@@ -12,11 +12,11 @@ use Rattle.wire.specs.Layout.{Says}
 use Rattle.wire.proofs.MessageLemmas.{code_in}
 use Rattle.wire.specs.declared.what.What.{What}
 use Rattle.cards.specs.Sheet.{Sheet}
-use Rattle.telling.specs.declared.{reminder.Reminder.Reminder, warned.Warned.Warned}
+use Rattle.station_texts.specs.declared.{reminder.Reminder.Reminder, warned.Warned.Warned}
 use Rattle.live.specs.Desks.{DeskCall, DeskProcess, MayRemind, entry_in, own_line, told_of}
 use Rattle.live.specs.Hidden.{AsksWhere, HidesTheOther, IsPennedDiffering, TellsBoth, process_with}
 use Rattle.live.specs.LostLines.{shows_loss}
-use Rattle.telling.specs.Texts.{came_text, differs_text}
+use Rattle.station_texts.specs.Texts.{came_text, differs_text}
 
 not_before : (p q : Position) → p ≡ q → Before p q → ⊥
 not_before p q e b = grind arith

@@ -8,8 +8,8 @@ use Rattle.cards.specs.Sheet.{Sheet}
 use Rattle.live.specs.Desks.{DeskCall, DeskProcess, DiskView, MayCall, Reminded, desk_kind, warned_at}
 use Rattle.live.specs.Reminding.{BringsNone, IsNot, RemindsOnce, brings_news}
 use Rattle.live.specs.Runs.{Moment, Run, last_of}
-use Rattle.telling.specs.declared.{reminder.Reminder.Reminder, warned.Warned.Warned}
-use Rattle.telling.specs.declared.reminder.Reminder.TheVariants.{HasWritten, IsHeard, IsMissed}
+use Rattle.station_texts.specs.declared.{reminder.Reminder.Reminder, warned.Warned.Warned}
+use Rattle.station_texts.specs.declared.reminder.Reminder.TheVariants.{HasWritten, IsHeard, IsMissed}
 
 -- what was told stays told
 writing_stays : {Disk : Type 0} (k : DeskState Disk) (w : Warned) (call : DeskCall) → brings_news call ≡ false → w.of_writing ≡ true

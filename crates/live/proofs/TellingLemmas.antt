@@ -11,9 +11,9 @@ use Rattle.wire.specs.declared.what.What.{What}
 use Rattle.live.specs.Ends.{Course, course_of, ending, end_at, end_of, further, known_at, written}
 use Rattle.live.specs.LostLines.{end_given}
 use Rattle.live.specs.Runs.{with_text}
-use Rattle.telling.specs.Texts.{came_text, said_text}
+use Rattle.station_texts.specs.Texts.{came_text, said_text}
 use Rattle.live.specs.declared.ends.DeskEnd.{DeskEnd}
-use Rattle.telling.specs.declared.{said.Said.Said, warned.Warned.Warned}
+use Rattle.station_texts.specs.declared.{said.Said.Said, warned.Warned.Warned}
 
 -- a line at which the process ends
 pub said_course : (answer : Said) (end : DeskEnd) → end_of answer ≡ Err end → ending end ≡ end_of answer

@@ -2,7 +2,7 @@
 use Rattle.std.specs.Prelude.{ℕ, List, [], ◌∷◌, ◌++◌, codes, decimal, length}
 use Rattle.arrayvec.specs.ArrayString.{ArrayString}
 use Rattle.links.specs.declared.aside.Aside.{Aside}
-use Rattle.telling.specs.Texts.{at_place}
+use Rattle.station_texts.specs.Texts.{at_place}
 
 -- each line behind a comma
 abbrev pub more_lines : List ArrayString → List ℕ

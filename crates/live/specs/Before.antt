@@ -7,7 +7,7 @@ use Rattle.ahead.specs.Ahead.{given_of, kept_of}
 use Rattle.ahead.specs.Order.{AreAmong, CastsInOrder}
 use Rattle.live.specs.Desks.{DeskCall, DeskProcess, DiskView, Typed, desk_kind}
 use Rattle.live.specs.Runs.{Moment, Run, typed_in}
-use Rattle.telling.specs.declared.said.Said.{Said}
+use Rattle.station_texts.specs.declared.said.Said.{Said}
 
 -- the line of a call that says an entry, be its vote cast or refused
 abbrev pub line_said : DeskCall → List (List ℕ)

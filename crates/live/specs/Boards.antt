@@ -12,13 +12,13 @@ use Rattle.cards.specs.Board.{board as board_text}
 use Rattle.board.specs.declared.{refusal.BoardRefusal.BoardRefusal, board.Board.Board}
 use Rattle.board.specs.Board.{SameMatch, book_of, game_of, state_of}
 use Rattle.board.specs.Takes.{Takes}
-use Rattle.telling.specs.Notices.{notices_after, notices_unopened, telling_after, telling_unopened, untold}
+use Rattle.station_texts.specs.Notices.{notices_after, notices_unopened, telling_after, telling_unopened, untold}
 use Rattle.links.specs.Passed.{Passed, Came, sends}
 use Rattle.live.specs.Runs.{Goes, Kind, known, with_text}
 use Rattle.live.specs.Sights.{Sight, sight_of}
 use Rattle.live.specs.Ticks.{Beat, Look, MayBeat, Other, Reading, Tick, Ticking, TurnEnd, after_beat, unticked}
 use Rattle.links.specs.declared.link.TheConstants.{MOST_TAKEN}
-use Rattle.telling.specs.declared.{notices.Notice.Notice, notices.Telling.Telling}
+use Rattle.station_texts.specs.declared.{notices.Notice.Notice, notices.Telling.Telling}
 
 -- a call of a board: it is given bytes, bytes came that don't open, of which it is given nothing, a look at its clock,
 -- whether a tick is due, a tick, another reading of its clock, each with what it shows, or the end of a turn

@@ -14,7 +14,7 @@ use Rattle.live.specs.Desks.{DeskProcess, DiskView, Ended, desk_kind, own_line}
 use Rattle.live.specs.Ends.{further, known_at}
 use Rattle.links.specs.Passed.{Passed}
 use Rattle.live.specs.Runs.{Goes, with_text}
-use Rattle.telling.specs.Texts.{greeting, unwarned}
+use Rattle.station_texts.specs.Texts.{greeting, unwarned}
 use Rattle.live.specs.Ticks.{unticked}
 use Rattle.links.specs.Typing.{Input}
 

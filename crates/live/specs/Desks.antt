@@ -18,17 +18,17 @@ use Rattle.desk.specs.Desk.{SameOwner, book_of, disk_of, game_of, last_entry, st
 use Rattle.desk.specs.Takes.{Takes}
 use Rattle.links.specs.declared.aside.Aside.{Aside}
 use Rattle.live.specs.declared.ends.DeskEnd.{DeskEnd}
-use Rattle.telling.specs.declared.{reminder.Reminder.Reminder, said.Said.Said, warned.Warned.Warned}
+use Rattle.station_texts.specs.declared.{reminder.Reminder.Reminder, said.Said.Said, warned.Warned.Warned}
 use Rattle.live.specs.declared.ends.DeskEnd.TheVariants.{NoMoreLines, Device, Write}
-use Rattle.telling.specs.declared.reminder.Reminder.TheVariants.{HasWritten, IsHeard, IsMissed}
+use Rattle.station_texts.specs.declared.reminder.Reminder.TheVariants.{HasWritten, IsHeard, IsMissed}
 use Rattle.live.specs.Asides.{aside_text}
 use Rattle.live.specs.Ends.{Course, end_of, further, known_at}
 use Rattle.live.specs.LostLines.{end_here, shows_loss}
 use Rattle.links.specs.Passed.{Passed, Came, sends}
 use Rattle.live.specs.Runs.{Goes, Kind, with_text}
-use Rattle.telling.specs.Saying.{Types}
+use Rattle.station_texts.specs.Saying.{Types}
 use Rattle.live.specs.Ticks.{Beat, Look, MayBeat, Other, Reading, Tick, Ticking, TurnEnd, after_beat, unticked}
-use Rattle.telling.specs.Texts.{came_text, greeting, reminder_text, said_text, unopened_text, unwarned, warned_after, warned_reminded, warned_unopened}
+use Rattle.station_texts.specs.Texts.{came_text, greeting, reminder_text, said_text, unopened_text, unwarned, warned_after, warned_reminded, warned_unopened}
 use Rattle.links.specs.Typing.{Input, Line, End}
 
 -- a call of a desk: its scorer's line, the end of its scorer's lines, bytes that it is given, bytes that don't open, of

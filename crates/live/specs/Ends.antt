@@ -4,7 +4,7 @@ use Rattle.wire.specs.declared.what.What.{What}
 use Rattle.desk.specs.declared.refusal.Refusal.{Refusal}
 use Rattle.streams.specs.declared.watched.WriteFailed.{WriteFailed}
 use Rattle.live.specs.declared.ends.DeskEnd.{DeskEnd}
-use Rattle.telling.specs.declared.said.Said.{Said}
+use Rattle.station_texts.specs.declared.said.Said.{Said}
 use Rattle.live.specs.declared.ends.DeskEnd.TheVariants.{Quit, Device, Write}
 
 -- how a desk's process goes on: further, or to an end

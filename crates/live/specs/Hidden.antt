@@ -13,10 +13,10 @@ use Rattle.wire.specs.Layout.{Says}
 use Rattle.wire.specs.declared.what.What.{What}
 use Rattle.cards.specs.Sheet.{Sheet}
 use Rattle.screen.specs.declared.word.Word.{Word}
-use Rattle.telling.specs.declared.{reminder.Reminder.Reminder, said.Said.Said}
+use Rattle.station_texts.specs.declared.{reminder.Reminder.Reminder, said.Said.Said}
 use Rattle.live.specs.Desks.{DeskCall, DeskProcess, Given, MayRemind, Typed, loss_in, own_line, told_of}
 use Rattle.live.specs.DeskSights.{desk_sight}
-use Rattle.telling.specs.Texts.{at_place, both_lines}
+use Rattle.station_texts.specs.Texts.{at_place, both_lines}
 
 -- the same seat, desk and process, with another vote of the other desk noted, or none
 abbrev pub seat_with : SeatState → Option Entry → SeatState

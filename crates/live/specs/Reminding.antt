@@ -6,9 +6,9 @@ use Rattle.cards.specs.Sheet.{Sheet}
 use Rattle.wire.specs.declared.what.What.{What}
 use Rattle.live.specs.Desks.{DeskCall, DeskProcess, DiskView, Given, ProcessStep, Reminded, desk_kind}
 use Rattle.live.specs.Runs.{Moment, Run}
-use Rattle.telling.specs.Texts.{unwarned}
-use Rattle.telling.specs.declared.reminder.Reminder.{Reminder}
-use Rattle.telling.specs.declared.reminder.Reminder.TheVariants.{HasWritten, IsHeard, IsMissed}
+use Rattle.station_texts.specs.Texts.{unwarned}
+use Rattle.station_texts.specs.declared.reminder.Reminder.{Reminder}
+use Rattle.station_texts.specs.declared.reminder.Reminder.TheVariants.{HasWritten, IsHeard, IsMissed}
 
 -- a vote of the other desk that is news comes
 abbrev pub brings_news : DeskCall → Bool

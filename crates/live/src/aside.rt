@@ -8,9 +8,9 @@ ghost use Rattle.live.specs.Ends.{course_of, further, known_at};
 
 use crate::ends::{DeskEnd, told};
 use links::{Aside, HeldLine};
+use station_texts::texts::print_at;
 use std::io::Write;
 use streams::{Watched, WriteFailed};
-use telling::texts::print_at;
 
 /// Prints a line behind a comma.
 fn print_behind<W: Write>(out: &mut Watched<W>, line: &str) -> Result<(), WriteFailed>

@@ -2,7 +2,7 @@
 
 use crate::pace::Pace;
 use crate::peer::Peer;
-use telling::warned::Warned;
+use station_texts::warned::Warned;
 
 /// What a desk's process keeps between its calls.
 #[derive(Clone, Copy, Debug, PartialEq, Eq)]

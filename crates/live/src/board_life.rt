@@ -13,9 +13,9 @@ use board::Board;
 use cards::MatchSheet;
 use corrections::BookOf;
 use links::{Clock, Link};
+use station_texts::notices::Notices;
 use std::io::Write;
 use streams::{Watched, WriteFailed};
-use telling::notices::Notices;
 
 /// Prints a board's six lines and hands its book over to be shown, as it begins at this time.
 fn begin<B: BookOf, W: Write, S: Shows<B>>(

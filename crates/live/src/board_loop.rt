@@ -7,13 +7,13 @@ ghost use Rattle.cards.specs.Sheet.{Sheet};
 ghost use Rattle.streams.specs.Watched.{Prints, has_failed, stream_of};
 ghost use Rattle.board.specs.Board.{book_of};
 ghost use Rattle.live.specs.Boards.{BoardGoes, BoardRuns, at_turn, grown, in_turn};
-ghost use Rattle.telling.specs.Notices.{notices_unopened, telling_unopened, untold};
+ghost use Rattle.station_texts.specs.Notices.{notices_unopened, telling_unopened, untold};
 ghost use Rattle.live.specs.Paces.{ticking_of};
 ghost use Rattle.live.specs.Sights.{Sight};
 ghost use Rattle.live.specs.Ticks.{unticked};
 ghost use Rattle.links.specs.Passed.{Came, Passed};
 ghost use Rattle.links.specs.declared.link.TheConstants.{MOST_TAKEN};
-ghost use Rattle.telling.specs.declared.notices.Notice.{Notice};
+ghost use Rattle.station_texts.specs.declared.notices.Notice.{Notice};
 
 use crate::board_calls::tick;
 use crate::hearing::promises_more;
@@ -23,9 +23,9 @@ use board::Board;
 use cards::MatchSheet;
 use corrections::BookOf;
 use links::{Clock, Link, MOST_TAKEN, ROOM, Taken};
+use station_texts::notices::{Notices, Telling};
 use std::io::Write;
 use streams::{Watched, WriteFailed};
-use telling::notices::{Notices, Telling};
 
 /// What a board's process keeps between its calls.
 #[derive(Clone, Copy, Debug, PartialEq, Eq)]

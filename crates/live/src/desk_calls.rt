@@ -14,7 +14,7 @@ use corrections::BookOf;
 use desk::{Desk, Received};
 use entry_log::SlotsOf;
 use links::{Link, send_each};
-use telling::said::{Said, entry_said};
+use station_texts::said::{Said, entry_said};
 use wire::What;
 
 /// Has a desk pen the entry that a line says in full, by the desk's book and its sheet, and sends its vote.

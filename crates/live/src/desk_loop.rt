@@ -15,7 +15,7 @@ ghost use Rattle.live.specs.Ends.{course_of, further, known_at, turns_after};
 ghost use Rattle.live.specs.Paces.{ticking_of};
 ghost use Rattle.live.specs.Ticks.{IsInTime, Ticking};
 ghost use Rattle.links.specs.Passed.{Came, Passed};
-ghost use Rattle.telling.specs.Texts.{greeting, unopened_text, warned_unopened};
+ghost use Rattle.station_texts.specs.Texts.{greeting, unopened_text, warned_unopened};
 ghost use Rattle.links.specs.Typing.{Input};
 
 use crate::aside::tell_aside;
@@ -35,12 +35,12 @@ use desk::Desk;
 use entry_log::SlotsOf;
 use links::{Clock, Keys, LINE_ROOM, Link, MOST_TAKEN, ROOM, Stand, Taken, Typed};
 use notation::Entry;
+use station_texts::both::Both;
+use station_texts::news::{print_came, print_unopened};
+use station_texts::texts::{print_greeting, print_said};
+use station_texts::warned::Warned;
 use std::io::Write;
 use streams::Watched;
-use telling::both::Both;
-use telling::news::{print_came, print_unopened};
-use telling::texts::{print_greeting, print_said};
-use telling::warned::Warned;
 
 /// A desk's vote of its position, where it is cast.
 fn own_line<S: SlotsOf, B: BookOf + Drop>(desk: &Desk<S, B>) -> Option<Entry>

@@ -4,8 +4,8 @@ ghost use Rattle.std.specs.Prelude.{◌≡◌};
 ghost use Rattle.live.specs.Ends as ends;
 
 use desk::Refusal;
+use station_texts::said::Said;
 use streams::WriteFailed;
-use telling::said::Said;
 use wire::What;
 
 /// Why a desk's process ends before its turns are over.

@@ -14,7 +14,7 @@ ghost use Rattle.live.specs.Desks.{FitsLongest, desk_kind};
 ghost use Rattle.live.specs.Hidden.{HidesTheOther, TellsBoth};
 ghost use Rattle.live.specs.Reminding.{RemindsOnce};
 ghost use Rattle.live.specs.Silences.{IsNeverSilent};
-ghost use Rattle.telling.specs.Texts.{TellsWhyFull};
+ghost use Rattle.station_texts.specs.Texts.{TellsWhyFull};
 
 use entry_log::SlotsOf;
 

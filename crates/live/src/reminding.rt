@@ -9,7 +9,7 @@ ghost use Rattle.live.specs.Desks.{DeskGoes, process_of};
 ghost use Rattle.live.specs.Ends.{course_of, further, known_at};
 ghost use Rattle.live.specs.Paces.{ticking_of};
 ghost use Rattle.links.specs.Passed.{Passed};
-ghost use Rattle.telling.specs.Texts.{reminder_text, warned_reminded};
+ghost use Rattle.station_texts.specs.Texts.{reminder_text, warned_reminded};
 ghost use Rattle.links.specs.Typing.{Input};
 
 use crate::between::Between;
@@ -17,10 +17,10 @@ use crate::ends::{DeskEnd, told};
 use corrections::BookOf;
 use desk::Desk;
 use entry_log::SlotsOf;
+use station_texts::news::print_reminder;
+use station_texts::reminder::Reminder;
 use std::io::Write;
 use streams::Watched;
-use telling::news::print_reminder;
-use telling::reminder::Reminder;
 
 /// Tells the scorer this of the other desk, at this place.
 fn tell<W: Write>(

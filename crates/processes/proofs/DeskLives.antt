@@ -19,7 +19,7 @@ use Rattle.agree_core.specs.LostLines.{is_in_reach}
 use Rattle.agree_core.specs.declared.seat.Heard.{Heard}
 use Rattle.live.specs.LostLines.{end_ahead, position_in}
 use Rattle.live.specs.declared.ends.DeskEnd.TheVariants.{Device}
-use Rattle.telling.specs.declared.said.Said.{Said}
+use Rattle.station_texts.specs.declared.said.Said.{Said}
 use Rattle.processes.specs.Printing.{Tells, greeting_of}
 use Rattle.live.specs.Runs as own
 use Rattle.processes.specs.Happenings.{DeskBegun, DeskCalled, DeskEnded, DeskGreeted, FileMigrated, Happening, PowerLost, begun, migrated}

@@ -11,7 +11,7 @@ use Rattle.agree_core.specs.FileView.{FileView, Stays}
 use Rattle.wire.specs.declared.what.What.{What}
 use Rattle.wire.specs.Layout.{Says}
 use Rattle.desk.specs.Answers.{pen_answer}
-use Rattle.telling.specs.Saying.{SaysEntry}
+use Rattle.station_texts.specs.Saying.{SaysEntry}
 use Rattle.headline.specs.declared.{event.Event.Event, event.Station.Station, fault.Fault.Fault}
 use Rattle.headline.specs.declared.fault.Fault.TheVariants.{Fail}
 use Rattle.headline.specs.Setting.{Setting}
@@ -23,8 +23,8 @@ use Rattle.headline.specs.Events.{station_of}
 use Rattle.headline.specs.DeskAnswers.{AfterPen, AfterReceive, has_any}
 use Rattle.live.specs.Desks as desks
 use Rattle.live.specs.Desks.{DeskCall, DeskStep}
-use Rattle.telling.specs.declared.said.Said.TheVariants.{Refused, Penned}
-use Rattle.telling.specs.declared.said.Said.{Said}
+use Rattle.station_texts.specs.declared.said.Said.TheVariants.{Refused, Penned}
+use Rattle.station_texts.specs.declared.said.Said.{Said}
 use Rattle.processes.specs.Happenings.{WasSent, DeskCame, Happening, DeskCalled, with_process}
 use Rattle.processes.proofs.Going.{Fits, Leads, TypedAs, none, one, two}
 

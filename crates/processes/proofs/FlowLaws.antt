@@ -20,7 +20,7 @@ use Rattle.headline.specs.Configurations.{Configuration, all_votes}
 use Rattle.headline.specs.Kept.{NoneKeepsBoth}
 use Rattle.headline.specs.Setting.{Setting}
 use Rattle.corrections.specs.declared.refusal.Refusal.{Refusal}
-use Rattle.telling.specs.Saying.{SaysEntry}
+use Rattle.station_texts.specs.Saying.{SaysEntry}
 use Rattle.progress.specs.Progress.{AllAreEntries}
 use Rattle.processes.specs.Happenings.{Happening, after}
 use Rattle.processes.specs.Headline.{AtEachTime, TypesBallot, WasTyped}

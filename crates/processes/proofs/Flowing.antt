@@ -8,8 +8,8 @@ use Rattle.agree_core.specs.declared.messages.DeskId.TheVariants.{A, B}
 use Rattle.agree_core.specs.Ballots.{Ballot}
 use Rattle.agree_core.specs.Desks.{DeskState}
 use Rattle.live.specs.Desks as desks
-use Rattle.telling.specs.Saying.{SaysEntry}
-use Rattle.telling.specs.declared.said.Said.{Said}
+use Rattle.station_texts.specs.Saying.{SaysEntry}
+use Rattle.station_texts.specs.declared.said.Said.{Said}
 use Rattle.headline.specs.Besides.{AtEachEvent}
 use Rattle.headline.specs.Setting.{Setting}
 use Rattle.headline.specs.Configurations.{Running, Configuration, node}

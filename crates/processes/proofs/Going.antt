@@ -8,7 +8,7 @@ use Rattle.agree_core.specs.Desks.{DeskState}
 use Rattle.agree_core.specs.declared.messages.DeskId.{DeskId}
 use Rattle.notation.specs.declared.entry.Entry.{Entry}
 use Rattle.live.specs.Desks as desks
-use Rattle.telling.specs.Saying.{SaysEntry}
+use Rattle.station_texts.specs.Saying.{SaysEntry}
 use Rattle.processes.specs.Happenings.{Happening, DeskCalled}
 use Rattle.headline.specs.Answers.{Answer}
 use Rattle.headline.specs.Steps.{Step}

@@ -26,7 +26,7 @@ use Rattle.live.specs.Desks as desks
 use Rattle.live.specs.Ends.{end_of}
 use Rattle.live.specs.LostLines.{end_ahead, end_here, position_in, shows_loss}
 use Rattle.live.specs.declared.ends.DeskEnd.TheVariants.{LacksLines}
-use Rattle.telling.specs.declared.said.Said.{Said}
+use Rattle.station_texts.specs.declared.said.Said.{Said}
 use Rattle.live.proofs.LostLemmas.{position_of_message}
 use Rattle.processes.specs.Happenings.{DeskCalled, Flow, Happening, Happens, WasSent, after}
 use Rattle.processes.specs.LostLines.{LacksNoLines, ShowsNoLoss, WasHandedOut}

@@ -22,7 +22,7 @@ use Rattle.desk.specs.Desk.{disk_of}
 use Rattle.headline.specs.Configurations.{Running}
 use Rattle.live.specs.Boards as boards
 use Rattle.live.specs.Boards.{BoardTurn, board_kind}
-use Rattle.telling.specs.Notices.{untold}
+use Rattle.station_texts.specs.Notices.{untold}
 use Rattle.live.specs.Runs as own
 use Rattle.live.specs.Runs.{with_text}
 use Rattle.live.specs.Sights.{Sight, sight_of}

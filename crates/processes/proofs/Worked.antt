@@ -35,14 +35,14 @@ use Rattle.live.specs.Boards as boards
 use Rattle.live.specs.Desks as desks
 use Rattle.live.specs.DeskLife.{fresh}
 use Rattle.live.specs.Ends.{further}
-use Rattle.telling.specs.Notices.{untold}
+use Rattle.station_texts.specs.Notices.{untold}
 use Rattle.live.specs.Runs as own
 use Rattle.live.specs.declared.ends.DeskEnd.TheVariants.{Device}
-use Rattle.telling.specs.declared.reminder.Reminder.TheVariants.{HasWritten}
-use Rattle.telling.specs.declared.said.Said.TheVariants.{Penned}
+use Rattle.station_texts.specs.declared.reminder.Reminder.TheVariants.{HasWritten}
+use Rattle.station_texts.specs.declared.said.Said.TheVariants.{Penned}
 use Rattle.headline.specs.Configurations.{board_at, fresh_boards, node}
 use Rattle.screen.specs.Words.{is_end, word_of}
-use Rattle.telling.specs.Saying.{IsNoWord, SaysEntry}
+use Rattle.station_texts.specs.Saying.{IsNoWord, SaysEntry}
 use Rattle.processes.specs.Files.{NoneShowNone}
 use Rattle.processes.specs.Lives.{Beginning, BeginsFirst, BoardProcess, BoardRuns, CallsMade, IsBoardLife, IsLife, ProcessEnd, RunsFrom, Stage, board_happens, fresh_turn, life_happens}
 use Rattle.live.specs.Sights.{Sight, sight_of}

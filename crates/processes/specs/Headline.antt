@@ -13,7 +13,7 @@ use Rattle.headline.specs.Runs.{Shows}
 use Rattle.headline.specs.Headline.{ByBoth, AllHaveScores, ShowsScore}
 use Rattle.headline.specs.Kept.{NoneKeepsBoth}
 use Rattle.live.specs.Desks as desks
-use Rattle.telling.specs.Saying.{SaysEntry}
+use Rattle.station_texts.specs.Saying.{SaysEntry}
 use Rattle.processes.specs.Happenings.{BoardCalled, BoardGreeted, DeskCalled, DeskGreeted, Happening, after}
 use Rattle.processes.specs.LostLines.{LacksNoLines, ShowsNoLoss}
 use Rattle.processes.specs.Printing.{Greets, Hands, Prints, Tells, greeting_of}

@@ -19,12 +19,12 @@ use Rattle.live.specs.Boards as boards
 use Rattle.live.specs.Boards.{BoardCall, BoardTurn, board_kind, handed, shown}
 use Rattle.live.specs.DeskLife.{BeginsOn, fresh}
 use Rattle.live.specs.Desks.{DeskCall, DeskProcess, DeskStep, FitsLongest, course_after, desk_kind, told_of}
-use Rattle.telling.specs.Notices.{untold}
+use Rattle.station_texts.specs.Notices.{untold}
 use Rattle.live.specs.Runs as own
 use Rattle.live.specs.Sights.{Sight}
 use Rattle.live.specs.Ticks.{unticked}
 use Rattle.live.specs.declared.ends.DeskEnd.TheVariants.{Device}
-use Rattle.telling.specs.declared.notices.Notice.{Notice}
+use Rattle.station_texts.specs.declared.notices.Notice.{Notice}
 use Rattle.processes.specs.Happenings.{BoardBegun, BoardCalled, BoardGreeted, DeskBegun, DeskCalled, DeskEnded, DeskGreeted, FileMigrated, Happening, PowerLost, begun, migrated}
 use Rattle.processes.specs.Printing.{HandsBook, greeting_of}
 

@@ -11,7 +11,7 @@ use Rattle.live.specs.Boards as boards
 use Rattle.live.specs.Boards.{BoardCall}
 use Rattle.live.specs.Desks.{DeskCall, DeskProcess, MayCall, after_call, own_line, told_of}
 use Rattle.live.specs.Sights.{Sight, sight_of}
-use Rattle.telling.specs.Texts.{greeting}
+use Rattle.station_texts.specs.Texts.{greeting}
 
 -- what a desk's process prints first, by this sheet: how the match and the desk stand
 abbrev pub greeting_of : {Disk : Type 0} → Sheet → ℕ → DeskState Disk → List ℕ

@@ -16,7 +16,7 @@ use Rattle.live.specs.Boards as boards
 use Rattle.live.specs.Boards.{BoardCall}
 use Rattle.live.specs.Desks as desks
 use Rattle.live.specs.Desks.{DeskCall}
-use Rattle.telling.specs.declared.said.Said.TheVariants.{Penned}
+use Rattle.station_texts.specs.declared.said.Said.TheVariants.{Penned}
 use Rattle.processes.specs.Happenings.{BoardCalled, DeskCalled, Happening, after, after_one}
 
 -- the bytes that came say a desk's vote for this ballot

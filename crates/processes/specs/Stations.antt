@@ -33,7 +33,7 @@ use Rattle.live.specs.Runs.{with_text}
 use Rattle.live.specs.Sights.{Sight}
 use Rattle.links.specs.Typing.{Input}
 use Rattle.live.specs.declared.{desk_life.LifeEnd.LifeEnd, ends.DeskEnd.DeskEnd}
-use Rattle.telling.specs.declared.notices.Notice.{Notice}
+use Rattle.station_texts.specs.declared.notices.Notice.{Notice}
 use Rattle.live.specs.DeskLife.{BeginsOn, DeskLives, ended, fresh}
 use Rattle.processes.specs.Lives.{Beginning, BoardProcess, CallsMade, IsBoardProcess, IsLife, RunsFrom, Stage, after_calls, first_turn}
 use Rattle.processes.specs.Printing.{greeting_of}

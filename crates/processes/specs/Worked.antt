@@ -28,8 +28,8 @@ use Rattle.headline.specs.declared.version.FileVersion.TheVariants.{New}
 use Rattle.live.specs.Boards as boards
 use Rattle.live.specs.Desks as desks
 use Rattle.live.specs.Sights.{sight_of}
-use Rattle.telling.specs.declared.reminder.Reminder.TheVariants.{HasWritten}
-use Rattle.telling.specs.declared.said.Said.TheVariants.{Penned}
+use Rattle.station_texts.specs.declared.reminder.Reminder.TheVariants.{HasWritten}
+use Rattle.station_texts.specs.declared.said.Said.TheVariants.{Penned}
 use Rattle.processes.specs.Happenings.{BoardBegun, BoardCalled, BoardGreeted, DeskBegun, DeskCalled, DeskEnded, DeskGreeted, Happening}
 use Rattle.processes.specs.Files.{NoneShowNone}
 use Rattle.processes.specs.Weaving.{BothBegin, IsWoven, start}

@@ -12,9 +12,9 @@ use Rattle.desk.specs.declared.refusal.OpenRefusal.{OpenRefusal}
 use Rattle.books.specs.declared.fault.BookFault.{BookFault}
 use Rattle.books.specs.OneHistory.{torn_line}
 use Rattle.books.specs.Rejected.{rejection_line}
-use Rattle.files.specs.WriteFault.{ending_of, words_of}
-use Rattle.files.specs.declared.write_fault.{Cause.Cause, WriteFault.WriteFault}
-use Rattle.files.specs.declared.write_fault.Cause.TheVariants as causes
+use Rattle.machine_files.specs.WriteFault.{ending_of, words_of}
+use Rattle.machine_files.specs.declared.write_fault.{Cause.Cause, WriteFault.WriteFault}
+use Rattle.machine_files.specs.declared.write_fault.Cause.TheVariants as causes
 use Rattle.setup.specs.declared.key_fault.KeyFault.{KeyFault}
 use Rattle.setup.specs.declared.key_fault.KeyFault.TheVariants as keys
 use Rattle.setup.specs.declared.fault.{StopFault.StopFault, TheConstants.TURNS}

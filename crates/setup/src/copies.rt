@@ -1,13 +1,13 @@
 //! A desk's votes in two files, which begin as one and are written as one.
 
 ghost use Rattle.std.specs.Prelude.{◌≡◌, IfOk};
-ghost use Rattle.files.specs.Pairs.{file_of};
+ghost use Rattle.machine_files.specs.Pairs.{file_of};
 ghost use Rattle.setup.specs.Counting.{counting_bytes};
 
 use crate::counting::{Counting, place_of};
 use crate::fault::{StopFault, Stopped, printable};
 use crate::votes_file::renewed_disk;
-use files::{LastFault, NamedFile, Pair};
+use machine_files::{LastFault, NamedFile, Pair};
 use std::io::{self, Write};
 
 /// A disk on two files that votes are written to.

@@ -8,7 +8,7 @@ use crate::key_fault::KeyFault;
 use books::{BookFault, Rejected, print_rejected, print_torn};
 use cards::SheetFault;
 use desk::OpenRefusal;
-use files::WriteFault;
+use machine_files::WriteFault;
 use schedules::ScheduleFault;
 use std::alloc::AllocError;
 use std::io::Write;

@@ -2,14 +2,14 @@
 
 ghost use Rattle.std.specs.Prelude.{◌≡◌, IfOk};
 ghost use Rattle.entry_log.specs.Disk.{only};
-ghost use Rattle.files.specs.FileDisk.{file_of, images_of};
+ghost use Rattle.machine_files.specs.FileDisk.{file_of, images_of};
 ghost use Rattle.setup.specs.Fault as faults;
 ghost use Rattle.setup.specs.inner.Opening as texts;
 
 use crate::fault::{StopFault, Stopped};
 use crate::opening::fault_of_old;
 use entry_log::LONGEST_FILE;
-use files::{
+use machine_files::{
     Cause, FileDisk, LastFault, Name, NamedFile, OpenFault, WriteFault, bytes_of, renewed,
 };
 use vote_store::Refusal;

@@ -4,8 +4,8 @@
 ghost use Rattle.std.specs.Prelude.{Some};
 ghost use Rattle.machine.specs.Screens.{written_of};
 
-use files::StandardStream;
 use machine::{Outlet, Pieces, Screen};
+use machine_files::StandardStream;
 use setup::{StopFault, Stopped};
 use std::cell::RefCell;
 use std::io::{self, ErrorKind, Write};

@@ -8,9 +8,9 @@ use board::Board;
 use links::{Link, Log, Taken};
 use live::run_board;
 use notation::Plain;
+use station_texts::Notice;
 use std::io::Write;
 use streams::WriteFailed;
-use telling::Notice;
 use tests_support::Failing;
 use wire::{WireFault, message_of};
 

@@ -4,9 +4,9 @@ ghost use Rattle.std.specs.Prelude.{◌≡◌, ◌≤◌, IfSome};
 use super::*;
 use links::{Clock, ClockLog, InputLog, Keys, Link, Log, Stand, Taken, Typed};
 use live::{Shows, SightLog};
+use station_texts::{Notice, NoticeLog, Notices};
 use std::io::{self, Error, ErrorKind, Write};
 use streams::WriteFailed;
-use telling::{Notice, NoticeLog, Notices};
 
 /// A clock of which each reading is a millisecond later.
 #[derive(Drop)]
@@ -198,7 +198,7 @@ impl Notes {
 }
 
 impl Notices for Notes {
-    ghost use Rattle.telling.specs.NoticeLogs.{notices_of};
+    ghost use Rattle.station_texts.specs.NoticeLogs.{notices_of};
 
     ghost told = { λ notes. notices_of notes.log };
 

@@ -1,7 +1,7 @@
 -- The fault of a run over a file of which no disk is made.
 use Rattle.vote_store.specs.Refusal.{not_empty}
-use Rattle.files.specs.declared.file_disk.OpenFault.{OpenFault}
-use Rattle.files.specs.declared.file_disk.OpenFault.TheVariants.{NoMemory, Host, TooLong}
+use Rattle.machine_files.specs.declared.file_disk.OpenFault.{OpenFault}
+use Rattle.machine_files.specs.declared.file_disk.OpenFault.TheVariants.{NoMemory, Host, TooLong}
 use Rattle.setup.specs.declared.fault.StopFault.{StopFault}
 
 -- where the file is to be read

@@ -8,7 +8,7 @@ use Rattle.toml.specs.Data.{Members}
 use Rattle.toml.specs.View.{table_view}
 use Rattle.books.specs.CardBook.{IsBookFrom}
 use Rattle.books.specs.declared.source.Source.{Source}
-use Rattle.deliveries.specs.Names.{told_apart}
+use Rattle.archive_deliveries.specs.Names.{told_apart}
 use Rattle.export.specs.Value.{IsExport}
 use Rattle.page.specs.Page.{page_of}
 use Rattle.commands.specs.Page.{PrintsPage}

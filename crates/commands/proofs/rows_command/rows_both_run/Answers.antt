@@ -7,7 +7,7 @@ use Rattle.cards.specs.Sheet.{Sheet}
 use Rattle.toml.specs.Data.{Members}
 use Rattle.toml.specs.View.{table_view}
 use Rattle.books.specs.BothFiles.{IsBookOfBoth}
-use Rattle.deliveries.specs.Names.{told_apart}
+use Rattle.archive_deliveries.specs.Names.{told_apart}
 use Rattle.delivery_rows.specs.declared.table.Table.{Table}
 use Rattle.delivery_rows.specs.Table.{table_text}
 use Rattle.commands.specs.Rows.{PrintsRowsOfBoth}

@@ -8,7 +8,7 @@ use Rattle.toml.specs.Data.{Members}
 use Rattle.toml.specs.View.{table_view}
 use Rattle.books.specs.CardBook.{IsBookFrom}
 use Rattle.books.specs.declared.source.Source.{Source}
-use Rattle.deliveries.specs.Names.{told_apart}
+use Rattle.archive_deliveries.specs.Names.{told_apart}
 use Rattle.delivery_rows.specs.declared.table.Table.{Table}
 use Rattle.delivery_rows.specs.Table.{table_text}
 use Rattle.commands.specs.Rows.{PrintsRows}

@@ -1,7 +1,7 @@
 use Rattle.std.proofs.Common.{◌≡◌, ◌++◌}
 use Rattle.match_laws.specs.Stands.{ForEachHistory}
 use Rattle.json_fields.specs.Values.{up_to}
-use Rattle.deliveries.specs.Notes.{begun_of}
+use Rattle.archive_deliveries.specs.Notes.{begun_of}
 use Rattle.delivery_rows.specs.Cells.{rows_text}
 use Rattle.delivery_rows.specs.Deliveries.{innings_rows}
 use Rattle.delivery_rows.proofs.innings.put_all.Given as goal

@@ -2,7 +2,7 @@ use Rattle.std.proofs.Common.{◌≡◌, ◌++◌, ◌∷◌, []}
 use Rattle.match_laws.specs.Stands.{ForEachHistory}
 use Rattle.json_fields.specs.Values.{up_to, values_tokens}
 use Rattle.export.specs.Innings.{innings_of}
-use Rattle.deliveries.specs.Notes.{begun_of}
+use Rattle.archive_deliveries.specs.Notes.{begun_of}
 use Rattle.export.proofs.innings.put_each.Given as goal
 
 -- the innings so far are put

@@ -2,7 +2,7 @@ use Rattle.std.proofs.Common.{◌≡◌, ℕ, Ok, Result, ap, arith, subst}
 use Rattle.streams.specs.Watched.{stream_of}
 use Rattle.streams.specs.declared.watched.WriteFailed.{WriteFailed}
 use Rattle.live.specs.Boards.{BoardRuns}
-use Rattle.telling.specs.Notices.{untold}
+use Rattle.station_texts.specs.Notices.{untold}
 use Rattle.live.specs.Paces.{Paced}
 use Rattle.live.specs.Ticks.{unticked}
 use Rattle.live.proofs.BoardLemmas.{finished, silent, stopped, then, unread, whole_turns}

@@ -1,6 +1,6 @@
 use Rattle.streams.specs.Watched.{stream_of}
 use Rattle.live.specs.Boards.{BoardGoes, at_turn}
-use Rattle.telling.specs.Notices.{untold}
+use Rattle.station_texts.specs.Notices.{untold}
 use Rattle.live.specs.Paces.{ticking_of}
 use Rattle.live.specs.Ticks.{unticked}
 use Rattle.live.proofs.board_loop.run_board.Given as goal

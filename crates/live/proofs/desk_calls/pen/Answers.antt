@@ -1,5 +1,5 @@
 use Rattle.desk.specs.Desk.{state_of}
-use Rattle.telling.specs.Saying.{SaysEntry}
+use Rattle.station_texts.specs.Saying.{SaysEntry}
 use Rattle.live.proofs.DeskLemmas.{penned, refused, unpenned}
 use Rattle.live.proofs.desk_calls.pen.Given.{Over}
 use Rattle.live.proofs.desk_calls.pen.Goals as goal

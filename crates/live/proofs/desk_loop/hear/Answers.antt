@@ -2,7 +2,7 @@ use Rattle.std.proofs.Common.{Bool, not, ◌&&◌, ◌≡◌, ◌∙◌, ap, sym
 use Rattle.agree_core.specs.LostLines.{is_before}
 use Rattle.live.specs.LostLines.{end_given, loss_of}
 use Rattle.live.specs.Paces.{Paced, ticking_of}
-use Rattle.telling.specs.Texts.{came_text, warned_after}
+use Rattle.station_texts.specs.Texts.{came_text, warned_after}
 use Rattle.live.proofs.DeskLemmas.{hears, hears_last}
 use Rattle.live.proofs.LostLemmas.{ends_so, loses_so}
 use Rattle.live.proofs.TellingLemmas.{goes_further, tells_same}

@@ -1,5 +1,5 @@
 use Rattle.std.proofs.Common.{◌∙◌, ap, sym}
-use Rattle.telling.specs.Texts.{said_text}
+use Rattle.station_texts.specs.Texts.{said_text}
 use Rattle.live.proofs.DeskLemmas.{rests, says, says_last, tells_aside, typing_over}
 use Rattle.live.proofs.TellingLemmas.{goes_further, tells_same}
 use Rattle.live.proofs.desk_loop.take_line.Goals as goal

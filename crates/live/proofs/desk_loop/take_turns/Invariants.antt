@@ -4,7 +4,7 @@ use Rattle.live.specs.DeskSights.{IsShown}
 use Rattle.live.specs.Desks.{DeskGoes, innings_of, kind_of, process_of}
 use Rattle.live.specs.Ends.{further}
 use Rattle.live.specs.Paces.{ticking_of}
-use Rattle.telling.specs.Texts.{unwarned}
+use Rattle.station_texts.specs.Texts.{unwarned}
 use Rattle.live.specs.Ticks.{unticked}
 use Rattle.live.proofs.desk_loop.take_turns.Given as goal
 

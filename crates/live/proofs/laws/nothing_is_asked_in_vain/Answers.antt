@@ -1,7 +1,7 @@
 use Rattle.std.proofs.Common.{◌≡◌, ◌<◌, ◌≤◌, ◌↔◌, Some, None, arith}
 use Rattle.std.proofs.lemmas.Bool.Decides.{nat_tests}
 use Rattle.agree_core.specs.declared.position.Position.{Position}
-use Rattle.telling.specs.Texts.{TellsWhyFull}
+use Rattle.station_texts.specs.Texts.{TellsWhyFull}
 use Rattle.live.proofs.laws.nothing_is_asked_in_vain.Goals as goal
 
 tells_why_full : (at : Position) → TellsWhyFull at

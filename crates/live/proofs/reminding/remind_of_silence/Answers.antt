@@ -1,6 +1,6 @@
 use Rattle.std.proofs.Common.{ap}
 use Rattle.live.specs.Paces.{ticking_of}
-use Rattle.telling.specs.declared.reminder.Reminder.TheVariants.{IsHeard, IsMissed}
+use Rattle.station_texts.specs.declared.reminder.Reminder.TheVariants.{IsHeard, IsMissed}
 use Rattle.live.proofs.DeskLemmas.{reminds}
 use Rattle.live.proofs.reminding.remind_of_silence.Goals as goal
 

@@ -1,0 +1,228 @@
+//! Deliveries, each with what it carries.
+
+ghost use Rattle.std.specs.Prelude.{◌≡◌, ◌+◌, ◌*◌, ◌≤◌, ◌∷◌, [], IfOk, filter, length};
+ghost use Rattle.ball_laws.specs.Runs.{all_runs, is_six, split_of_ball};
+ghost use Rattle.match_laws.specs.Figures.{is_four};
+ghost use Rattle.json_fields.specs.Values.{PutsFields, PutsValues, count_field};
+ghost use Rattle.archive_deliveries.specs.Deliveries as deliveries;
+ghost use Rattle.archive_deliveries.specs.Notes as notes;
+
+use crate::begun::Begun;
+use crate::named::NamedSheet;
+use crate::notes::{Noted, is_awarded};
+use crate::wickets::{put_batter, put_wickets};
+use ball_laws::{Ends, Split, runs_of};
+use json::Pretty;
+use json_fields::{
+    begin_field, begin_object, end_object, put_count, put_figure, put_flag, put_number, put_text,
+};
+use match_laws::opponent;
+use notation::{Ball, Bound, Plain, Player, Side};
+use std::alloc::AllocError;
+
+/// How many of these items award penalty runs to an innings.
+fn awards(begun: &Begun, innings: usize, items: &[Noted]) -> usize
+    ensures { result ≡ length (filter (notes.is_awarded begun.now innings) items.now) }
+{
+    items
+        .iter()
+        .filter(|noted| is_awarded(begun, innings, noted))
+        .count()
+}
+
+/// The runs of so many awards. So many that 64 bits don't hold them would not have fitted into memory.
+pub fn award_runs(count: usize) -> Result<u64, AllocError>
+    ensures { IfOk result (λ runs. runs ≡ 5 * count) }
+{
+    match (count as u64).checked_mul(5) {
+        Some(runs) => Ok(runs),
+        None => Err(AllocError),
+    }
+}
+
+/// Both together, in 64 bits.
+pub fn plus(runs: u64, penalty: u64) -> Result<u64, AllocError>
+    ensures { IfOk result (λ sum. sum ≡ runs + penalty) }
+{
+    match runs.checked_add(penalty) {
+        Some(sum) => Ok(sum),
+        None => Err(AllocError),
+    }
+}
+
+/// The penalty runs that these items award to an innings.
+pub fn penalties(begun: &Begun, innings: usize, items: &[Noted]) -> Result<u64, AllocError>
+    ensures { IfOk result (λ runs. runs ≡ deliveries.penalties begun.now innings items.now) }
+{
+    award_runs(awards(begun, innings, items))
+}
+
+/// The extras of a delivery, but penalty runs.
+fn extra_runs(split: &Split) -> u32
+    requires { all_runs split.now ≤ 260 }
+    ensures { result ≡ deliveries.extra_runs split.now }
+{
+    split.byes + split.legs + split.wides + split.noballs
+}
+
+/// All runs of a delivery, but penalty runs.
+fn total_runs(split: &Split) -> u32
+    requires { all_runs split.now ≤ 260 }
+    ensures { result ≡ all_runs split.now }
+{
+    split.striker + split.byes + split.legs + split.wides + split.noballs
+}
+
+fn is_four(bound: Bound) -> bool
+    ensures { result ≡ is_four bound }
+{
+    bound == Bound::Four
+}
+
+fn is_six(bound: Bound) -> bool
+    ensures { result ≡ is_six bound }
+{
+    bound == Bound::Six
+}
+
+/// Whether a delivery has four or six runs off the bat, but is no boundary.
+pub fn is_run(ball: &Ball, split: &Split) -> bool
+    requires { split.now ≡ split_of_ball ball.now }
+    ensures { result ≡ deliveries.is_run ball.now }
+{
+    (split.striker == 4 && !is_four(ball.bound)) || (split.striker == 6 && !is_six(ball.bound))
+}
+
+/// All extras of a delivery.
+pub fn all_extras(split: &Split, penalty: u64) -> Result<u64, AllocError>
+    requires { all_runs split.now ≤ 260 }
+    ensures { IfOk result (λ runs. runs ≡ deliveries.extra_runs split.now + penalty) }
+{
+    plus(u64::from(extra_runs(split)), penalty)
+}
+
+/// All runs of a delivery.
+pub fn whole_total(split: &Split, penalty: u64) -> Result<u64, AllocError>
+    requires { all_runs split.now ≤ 260 }
+    ensures { IfOk result (λ runs. runs ≡ all_runs split.now + penalty) }
+{
+    plus(u64::from(total_runs(split)), penalty)
+}
+
+/// Puts the runs of a delivery, with the penalty runs that it carries.
+fn put_runs(out: &mut Pretty, split: &Split, run: bool, penalty: u64) -> Result<(), AllocError>
+    requires { all_runs split.now ≤ 260 }
+    ensures { PutsFields result out.old out.new (deliveries.runs_field split.now run penalty ∷ []) }
+{
+    let extras = all_extras(split, penalty)?;
+    let total = whole_total(split, penalty)?;
+    begin_field(out, "runs")?;
+    put_figure(out, "batter", split.striker)?;
+    put_number(out, "extras", extras)?;
+    put_number(out, "total", total)?;
+    put_flag(out, "non_boundary", run)?;
+    end_object(out)
+}
+
+/// Puts penalty runs, unless there are none.
+pub fn put_awarded(out: &mut Pretty, name: &str, runs: u64) -> Result<(), AllocError>
+    ensures { PutsFields result out.old out.new (count_field name.now runs) }
+{
+    if runs == 0 {
+        return Ok(());
+    }
+    put_number(out, name, runs)
+}
+
+/// Puts the extras of a delivery, each kind that it has.
+fn put_kinds(out: &mut Pretty, split: &Split, penalty: u64) -> Result<(), AllocError>
+    ensures { PutsFields result out.old out.new (deliveries.extras_field split.now penalty ∷ []) }
+{
+    begin_field(out, "extras")?;
+    put_count(out, "wides", split.wides)?;
+    put_count(out, "noballs", split.noballs)?;
+    put_count(out, "byes", split.byes)?;
+    put_count(out, "legbyes", split.legs)?;
+    put_awarded(out, "penalty", penalty)?;
+    end_object(out)
+}
+
+/// Puts the extras of a delivery, where there are any.
+fn put_extras(out: &mut Pretty, split: &Split, penalty: u64) -> Result<(), AllocError>
+    requires { all_runs split.now ≤ 260 }
+    ensures { PutsFields result out.old out.new (deliveries.extras_fields split.now penalty) }
+{
+    if all_extras(split, penalty)? == 0 {
+        return Ok(());
+    }
+    put_kinds(out, split, penalty)
+}
+
+/// Puts who bats and who bowls.
+fn put_players(
+    out: &mut Pretty,
+    sheet: &NamedSheet<'_>,
+    side: Side,
+    ends: &Ends,
+    bowler: Player,
+) -> Result<(), AllocError>
+    ensures { PutsFields result out.old out.new (deliveries.players_fields sheet.now side ends.now bowler) }
+{
+    put_batter(out, "batter", sheet, side, ends.striker)?;
+    put_text(out, "bowler", sheet.player(opponent(side), bowler))?;
+    put_batter(out, "non_striker", sheet, side, ends.other)
+}
+
+/// Puts a delivery, with what it carries: these penalty runs, and who went before it and behind it.
+fn put_delivery(
+    out: &mut Pretty,
+    sheet: &NamedSheet<'_>,
+    side: Side,
+    penalty: u64,
+    early: &[Noted],
+    ends: &Ends,
+    ball: &Ball,
+    late: &[Noted],
+) -> Result<(), AllocError>
+    ensures { PutsValues result out.old out.new
+        (deliveries.delivery_of sheet.now side penalty early.now ends.now ball.now late.now ∷ []) }
+{
+    let split = runs_of(ball);
+    begin_object(out)?;
+    put_players(out, sheet, side, ends, ball.bowler)?;
+    put_runs(out, &split, is_run(ball, &split), penalty)?;
+    put_wickets(out, sheet, side, early, ends, ball, late)?;
+    put_extras(out, &split, penalty)?;
+    end_object(out)
+}
+
+/// Puts what is listed of an item: a delivery.
+pub fn put_listed(
+    out: &mut Pretty,
+    sheet: &NamedSheet<'_>,
+    side: Side,
+    begun: &Begun,
+    innings: usize,
+    early: &[Noted],
+    noted: &Noted,
+    late: &[Noted],
+) -> Result<(), AllocError>
+    ensures { PutsValues result out.old out.new
+        (deliveries.listed sheet.now side begun.now innings early.now noted.now late.now) }
+{
+    match &noted.item {
+        Plain::Ball(ball) => {
+            let penalty = penalties(begun, innings, late)?;
+            put_delivery(out, sheet, side, penalty, early, &noted.ends, ball, late)
+        },
+        Plain::Innings(_)
+        | Plain::Come(_)
+        | Plain::Gone(..)
+        | Plain::Over
+        | Plain::Penalty(..)
+        | Plain::Swap
+        | Plain::End(_)
+        | Plain::Close
+        | Plain::Void => Ok(()),
+    }
+}

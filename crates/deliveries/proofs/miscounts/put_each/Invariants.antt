@@ -1,8 +1,0 @@
-use Rattle.std.proofs.Common.{◌≡◌, ◌++◌, drop}
-use Rattle.json_fields.specs.Values.{fields_tokens}
-use Rattle.deliveries.specs.Miscounts.{miscounts}
-use Rattle.deliveries.proofs.miscounts.put_each.Given as goal
-
--- what is put, with what is due from here on, is all that is due
-abbrev pub invariant-loop-index : goal.invariant-loop-index
-invariant-loop-index l = l.out ++ fields_tokens (miscounts (drop l.index l.items)) ≡ l.initial.out ++ fields_tokens (miscounts l.items)

@@ -1,7 +1,0 @@
-use Rattle.json_fields.proofs.Putting.{◌▸◌, begins, is_object}
-use Rattle.deliveries.proofs.wickets.put_fielder.Goals as goal
-
-pub returns : goal.returns
-returns c =
-    rw (← c.opponent.ensures, ← c.fielder_name.ensures)
-    (is_object c.end_object.result _ (begins c.in_ok-begin_object.ensures ▸ c.in_ok-put_text.ensures ▸ c.in_ok-put_flag.ensures) c.end_object.ensures)

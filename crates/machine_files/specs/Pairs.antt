@@ -1,0 +1,34 @@
+-- What a disk on two files shows: the first one's bytes, and what a power loss may leave of that one.
+use Rattle.std.specs.Prelude.{ℕ, List, Option}
+use Rattle.entry_log.specs.Disk.{Images, Faults}
+use Rattle.machine_files.specs.declared.pair.Pair.{Pair}
+use Rattle.machine_files.specs.Alike.{IsAmong}
+use Rattle.machine_files.specs.Calls.{Call}
+use Rattle.machine_files.specs.FileDisk as one
+use Rattle.machine_files.specs.History.{always_due}
+
+module _ {F G : Type 0} where
+  abbrev pub file_of : Pair F G → List ℕ
+  file_of pair = one.file_of pair.first
+
+  abbrev pub images_of : Pair F G → Images
+  images_of pair = one.images_of pair.first
+
+  abbrev pub cap_of : Pair F G → ℕ
+  cap_of pair = one.cap_of pair.first
+
+  abbrev pub faults_of : Pair F G → Faults
+  faults_of pair = always_due pair.failures
+
+  -- what each of both files was asked for
+  abbrev pub first_calls : (F → Option (List Call)) → Pair F G → Option (List Call)
+  first_calls calls pair = one.calls_of calls pair.first
+
+  abbrev pub second_calls : (G → Option (List Call)) → Pair F G → Option (List Call)
+  second_calls calls pair = one.calls_of calls pair.second
+
+  -- Either file suffices: whatever a power loss may leave of it is an image of the one disk. So to begin on one alone,
+  -- where the other is lost, is to begin after a power loss.
+  pub record EitherSuffices (pair : Pair F G) : Type 0 where
+    pub first : IsAmong (one.images_of pair.first) (images_of pair)
+    pub second : IsAmong (one.images_of pair.second) (images_of pair)

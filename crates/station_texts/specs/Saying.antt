@@ -1,0 +1,111 @@
+-- What a scorer's line comes to, by cases of the answer. Every line is first put in full, by the sheet that the desk has
+-- and by the book at which it stands.
+use Rattle.std.specs.Prelude.{◌≡◌, ◌≢◌, ◌⊎◌, ℕ, Bool, true, false, nat_lt, is_some, List, [], ◌++◌, Some, None, Ok, Err, codes}
+use Rattle.notation.specs.declared.entry.Entry.{Entry}
+use Rattle.notation.specs.Written.{IsEntry, text_of}
+use Rattle.notation.specs.Reading.{line_answer}
+use Rattle.agree_core.specs.declared.messages.Message.{Message}
+use Rattle.corrections.specs.declared.refusal.Refusal.{Refusal as BookRefusal}
+use Rattle.agree_core.specs.Ballots.{Ballot}
+use Rattle.agree_core.specs.Books.{Rules}
+use Rattle.agree_core.specs.Desks as desks
+use Rattle.agree_core.specs.Desks.{DeskState, Pens}
+use Rattle.agree_core.specs.FileView.{FileView}
+use Rattle.desk.specs.Answers.{pen_answer}
+use Rattle.desk.specs.Desk.{last_entry}
+use Rattle.cards.specs.Sheet.{Sheet}
+use Rattle.screen.specs.Words.{is_end, word_of}
+use Rattle.shorthand.specs.Full.{in_full}
+use Rattle.shorthand.specs.Lines.{reason_of}
+use Rattle.station_texts.specs.declared.said.Said.{Said}
+use Rattle.station_texts.specs.declared.said.Said.TheVariants.{Quit, Asks, Unclear, Fault, SayAgain, NoneDiffers, Waiting, Refused, Penned}
+
+-- a line of a round: behind `again ` in every round but the first
+abbrev pub says_again : Bool → List ℕ → List ℕ
+says_again true text = codes "again " ++ text
+says_again false text = text
+
+-- the text is in full the entry's
+abbrev pub MeansEntry : Sheet → List Entry → List ℕ → Entry → Type 0
+MeansEntry s book text e = IsEntry e × (in_full s book text ≡ Ok (text_of e))
+
+-- `again` alone, where the two scorers differed: what this scorer, who has cast these votes, wrote last
+abbrev pub SaysOnceMore : List Ballot → Bool → List ℕ → Entry → Type 0
+SaysOnceMore votes differs line e =
+    (differs ≡ true) × (line ≡ codes "again") × (last_entry votes ≡ Some e) × IsEntry e
+
+-- the line is none of the words that are no entry's
+abbrev pub IsNoWord : List ℕ → Type 0
+IsNoWord line = (is_end line ≡ false) × (word_of line ≡ None)
+
+-- no such word, but a text that is in full the entry's, behind `again ` where the two scorers differed; or, there, `again`
+-- alone
+abbrev pub LineMeans : Sheet → List Entry → List Ballot → Bool → List ℕ → Entry → Type 0
+LineMeans s book votes differs line e =
+    IsNoWord line
+    × (((text : List ℕ) × (line ≡ says_again differs text) × MeansEntry s book text e) ⊎ SaysOnceMore votes differs line e)
+
+-- the line says the entry in this round
+abbrev pub SaysEntry : Sheet → List Entry → List Ballot → ℕ → List ℕ → Entry → Type 0
+SaysEntry s book votes round line e = LineMeans s book votes (nat_lt 0 round) line e
+
+-- the text means no entry: something isn't clear in it, or in full it has a fault
+abbrev pub MeansNone : Sheet → List Entry → List ℕ → Said → Type 0
+MeansNone s book text (Unclear unclear) = in_full s book text ≡ Err (reason_of unclear)
+MeansNone s book text (Fault fault) =
+    (full : List ℕ) × (in_full s book text ≡ Ok full) × (line_answer full ≡ Err fault)
+MeansNone s book text said = ⊥
+
+-- the line doesn't begin with the word `again`
+abbrev pub IsNotAgain : List ℕ → Type 0
+IsNotAgain line = (line ≢ codes "again") × ((rest : List ℕ) → line ≢ codes "again " ++ rest)
+
+-- `again` stands where there is nothing to say again: the two scorers didn't differ here, or this one has cast no vote
+abbrev pub IsAgainInVain : List Ballot → Bool → List ℕ → Type 0
+IsAgainInVain votes differs line =
+    ((differs ≡ false) × ((text : List ℕ) × (line ≡ codes "again " ++ text)))
+    ⊎ ((line ≡ codes "again") × ((differs ≡ false) ⊎ (last_entry votes ≡ None)))
+
+-- the text of the line's entry, where the two scorers differed at this place and where they didn't
+abbrev pub IsTextOf : Bool → List ℕ → List ℕ → Type 0
+IsTextOf true line text = line ≡ codes "again " ++ text
+IsTextOf false line text = (text ≡ line) × IsNotAgain line
+
+-- the text that is looked at as an entry's; where they differed and the desk's vote of the new round is cast, that of a
+-- line without `again ` too
+abbrev pub IsReadAs : Bool → Bool → List ℕ → List ℕ → Type 0
+IsReadAs differs false line text = IsTextOf differs line text
+IsReadAs differs true line text = IsTextOf differs line text ⊎ IsTextOf false line text
+
+-- a text that is looked at as an entry's means none
+abbrev pub ReadsNone : Sheet → List Entry → Bool → Bool → List ℕ → Said → Type 0
+ReadsNone s book differs is_cast line said =
+    (text : List ℕ) × IsReadAs differs is_cast line text × MeansNone s book text said
+
+-- the line comes to this, and no entry is penned, by the sheet, the book and the votes that the desk has cast, at a place
+-- at which the two scorers differed or not, where the desk's vote of the round is cast or not
+abbrev pub ComesTo : Sheet → List Entry → List Ballot → Bool → Bool → List ℕ → Said → Type 0
+ComesTo s book votes differs is_cast line Quit = is_end line ≡ true
+ComesTo s book votes differs is_cast line (Asks word) = word_of line ≡ Some word
+ComesTo s book votes differs is_cast line (Unclear unclear) =
+    IsNoWord line × ReadsNone s book differs is_cast line (Unclear unclear)
+ComesTo s book votes differs is_cast line (Fault fault) =
+    IsNoWord line × ReadsNone s book differs is_cast line (Fault fault)
+ComesTo s book votes differs is_cast line SayAgain = IsNoWord line × (differs ≡ true) × (is_cast ≡ false) × IsNotAgain line
+ComesTo s book votes differs is_cast line NoneDiffers = IsAgainInVain votes differs line
+ComesTo s book votes differs is_cast line Waiting =
+    (differs ≡ true) × (is_cast ≡ true) × IsNotAgain line × ((e : Entry) × MeansEntry s book line e)
+ComesTo s book votes differs is_cast line (Refused e why) = ⊥
+ComesTo s book votes differs is_cast line (Penned e settled) = ⊥
+
+-- a desk that has this sheet is given a scorer's line: it answers, goes on as the second desk, and hands out these
+-- messages
+abbrev pub Types :
+    {Disk : Type 0} → Sheet → FileView Disk → Rules BookRefusal
+    → DeskState Disk → List ℕ → Said → DeskState Disk → List Message → Type 0
+Types s view rules k line (Penned e settled) l out =
+    SaysEntry s k.book k.votes k.seat.position.round line e × Pens view rules k e (desks.Penned settled) l out
+Types s view rules k line (Refused e why) l out =
+    SaysEntry s k.book k.votes k.seat.position.round line e × Pens view rules k e (pen_answer (Err why)) l out
+Types s view rules k line said l out =
+    ComesTo s k.book k.votes (nat_lt 0 k.seat.position.round) (is_some k.seat.mine) line said × (l ≡ k) × (out ≡ [])

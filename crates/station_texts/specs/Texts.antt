@@ -1,0 +1,290 @@
+-- What a desk's scorer is told.
+use Rattle.std.specs.Prelude.{◌≡◌, ◌<◌, ◌≤◌, ◌↔◌, ℕ, ◌==◌, ◌||◌, Bool, true, false, if◌then◌else◌, nat_le, nat_lt, is_some, Option, Some, None, List, [], ◌++◌, slice_get, codes, decimal}
+use Rattle.notation.specs.declared.entry.{Entry.Entry, Plain.Plain, TheConstants.PLACES}
+use Rattle.notation.specs.declared.entry.Entry.TheVariants.{Write}
+use Rattle.notation.specs.Written.{text_of}
+use Rattle.ball_laws.specs.History.{History, last_called_over}
+use Rattle.ball_laws.specs.Over.{counting}
+use Rattle.match_laws.specs.History.{begun}
+use Rattle.match_laws.specs.Figures.{overs}
+use Rattle.match_laws.specs.Result.{current, outcome}
+use Rattle.match_laws.specs.LawRefusal.{number_of as law_number}
+use Rattle.match_laws.specs.declared.refusals.LawRefusal.{LawRefusal}
+use Rattle.corrections.specs.declared.refusal.Refusal.TheVariants.{Later}
+use Rattle.corrections.specs.CleanList.{history_of}
+use Rattle.agree_core.specs.declared.{position.Position.Position, position.TheConstants.ROUNDS, seat.Settled.Settled, seat.Heard.Heard}
+use Rattle.agree_core.specs.Positions.{InRange}
+use Rattle.wire.specs.Fault.{number_of as wire_number, name_of as wire_name}
+use Rattle.wire.specs.declared.{fault.WireFault.WireFault, what.What.What}
+use Rattle.desk.specs.Refusal.{number_of, name_of}
+use Rattle.desk.specs.declared.refusal.Refusal.{Refusal}
+use Rattle.cards.specs.Page.{over_note}
+use Rattle.cards.specs.Results.{result_text}
+use Rattle.cards.specs.Sheet.{Sheet}
+use Rattle.changes.specs.Before.{item_with}
+use Rattle.changes.specs.Text.{last_changes}
+use Rattle.score_rows.specs.Row.{result_part, row}
+use Rattle.score_rows.specs.OverCheck.{over_check}
+use Rattle.screen.specs.Both.{both_cards, cards_number}
+use Rattle.score_rows.specs.Listing.{listing, range}
+use Rattle.score_rows.specs.OverEntries.{over_by_side, over_last}
+use Rattle.screen.specs.Waiting.{who_waits}
+use Rattle.screen.specs.Sides.{both_sides}
+use Rattle.score_rows.specs.Limited.{bowlers}
+use Rattle.screen.specs.Help.{help, help_on}
+use Rattle.screen.specs.Sentences.{of_desk, of_law}
+use Rattle.screen.specs.declared.word.Word.{Word}
+use Rattle.station_texts.specs.declared.{reminder.Reminder.Reminder, said.Said.Said, warned.Warned.Warned}
+use Rattle.station_texts.specs.Questions.{explained, fault_text, numbered, unclear_text, who_may}
+
+-- the umpire calls over
+abbrev pub is_over : Entry → Bool
+is_over (Write Plain.Over) = true
+is_over e = false
+
+-- a place and what is told of it
+abbrev pub at_place : ℕ → List ℕ → List ℕ
+at_place place words = decimal place ++ codes " " ++ words ++ codes "\n"
+
+-- an entry that was agreed at this place, with the book's history after it: how many overs were called then, and the
+-- check of the over, or how the match stands
+abbrev pub over_called : History → List ℕ
+over_called h = if begun h == 0 then [] else codes " " ++ decimal (overs h (current h))
+
+abbrev pub agreed_line : ℕ → Entry → List ℕ
+agreed_line place e = decimal place ++ codes " agreed: " ++ text_of e
+
+-- of an over that another number of deliveries than six counts in, that number; of a decided match, its result
+abbrev pub over_agreed : Sheet → ℕ → ℕ → History → Entry → List ℕ
+over_agreed sheet innings place h e =
+    agreed_line place e ++ over_called h ++ over_note (counting (last_called_over h))
+    ++ result_part sheet (outcome innings h) ++ codes "\n" ++ over_check sheet h
+
+abbrev pub play_agreed : Sheet → ℕ → ℕ → History → Entry → List ℕ
+play_agreed sheet innings place h e = agreed_line place e ++ codes "\n" ++ row sheet innings h
+
+abbrev pub agreed_entry : Sheet → ℕ → ℕ → History → Entry → List ℕ
+agreed_entry sheet innings place h e =
+    if is_over e then over_agreed sheet innings place h e else play_agreed sheet innings place h e
+
+-- that the place has its entry in the book
+abbrev pub agreed_at : Sheet → ℕ → ℕ → History → Option Entry → List ℕ
+agreed_at sheet innings place h None = []
+agreed_at sheet innings place h (Some e) = agreed_entry sheet innings place h e
+
+-- and, where it is a `fix` or a `late`, what it has changed
+abbrev pub agreed : Sheet → ℕ → ℕ → List Entry → List ℕ
+agreed sheet innings place book =
+    agreed_at sheet innings place (history_of book) (slice_get book place) ++ last_changes sheet innings book
+
+abbrev pub refused_text : Refusal → List ℕ
+refused_text Refusal.Failed = []
+refused_text Refusal.Device = []
+refused_text why = explained (codes "refused") (number_of why) (name_of why) (of_desk why)
+
+-- of a correction of the book, the first place that it leaves refused with what would stand there, and why
+abbrev pub later_numbers : ℕ → LawRefusal → List ℕ
+later_numbers place why = codes "refused 32 Later " ++ decimal place ++ codes " " ++ decimal (law_number why)
+
+abbrev pub later_words : ℕ → Plain → LawRefusal → List ℕ
+later_words place item why =
+    codes ": place " ++ decimal place ++ codes ", " ++ text_of (Write item) ++ codes ":\n  " ++ of_law why ++ codes "\n"
+
+abbrev pub refused_entry : List Entry → Entry → Refusal → List ℕ
+refused_entry book e (Refusal.Book (Later place why)) =
+    later_numbers place why ++ later_words place (item_with book e place) why
+refused_entry book e why = refused_text why
+
+-- that the two scorers differ at a place, with the entry of each where it is known: it is, once both votes are stored
+abbrev pub both_lines : Entry → Entry → List ℕ
+both_lines own other = codes "differs: you " ++ text_of own ++ codes ",\n  the other " ++ text_of other
+
+abbrev pub differs_text : ℕ → Option Entry → Option Entry → List ℕ
+differs_text place (Some own) (Some other) = at_place place (both_lines own other)
+differs_text place own other = at_place place (codes "differs")
+
+-- the entry that was penned stands in full behind `pending`
+abbrev pub pending : ℕ → Entry → List ℕ
+pending place e = at_place place (codes "pending: " ++ text_of e)
+
+-- of an entry that was penned, where this is the other scorer's that was noted before
+abbrev pub settled_text : Sheet → ℕ → ℕ → Option Entry → List Entry → Entry → Settled → List ℕ
+settled_text sheet innings place other book e Settled.Pending = pending place e
+settled_text sheet innings place other book e Settled.Agreed = agreed sheet innings place book
+settled_text sheet innings place other book e Settled.Differ = differs_text place (Some e) other
+
+-- why no vote can be cast at a position, whatever a scorer types: all places of the book are used up, or all rounds of
+-- this place
+abbrev pub why_full : Position → Option Refusal
+why_full at =
+    if nat_le PLACES at.place then Some Refusal.PlacesFull
+    else if nat_le ROUNDS at.round then Some Refusal.RoundsFull
+    else None
+
+-- it is told just where each entry that is penned is refused so, if the own vote isn't cast
+pub record TellsWhyFull (at : Position) : Type 0 where
+  pub places : (why_full at ≡ Some Refusal.PlacesFull) ↔ (PLACES ≤ at.place)
+  pub rounds : (why_full at ≡ Some Refusal.RoundsFull) ↔ ((at.place < PLACES) × (ROUNDS ≤ at.round))
+  pub room : (why_full at ≡ None) ↔ InRange at
+
+-- of a desk's position: its vote for this entry is cast, or none can be, or the scorers differed there, or nothing of these
+abbrev pub open_text : Position → Option Refusal → List ℕ
+open_text at (Some why) = at_place at.place (of_desk why)
+open_text at None = at_place at.place (if nat_lt 0 at.round then codes "differs" else codes "next")
+
+abbrev pub place_text : Position → Option Entry → List ℕ
+place_text at (Some e) = pending at.place e
+place_text at None = open_text at (why_full at)
+
+-- of a line without `again`, where the scorers differed: it is asked for, unless no vote can be cast
+abbrev pub again_text : Position → Option Refusal → List ℕ
+again_text at (Some why) = refused_text why
+again_text at None = at_place at.place (codes "differs: begin the line with again")
+
+-- where a desk stands, as it begins and where its scorer asks
+abbrev pub greeting : Sheet → ℕ → List Entry → Position → Option Entry → List ℕ
+greeting sheet innings book at own = row sheet innings (history_of book) ++ place_text at own
+
+-- that the other has written its vote of a place; that the other desk isn't heard; that it is again
+abbrev pub writing : ℕ → List ℕ
+writing place = at_place place (codes "the other has written")
+
+abbrev pub silence : List ℕ
+silence = codes "the other desk isn't heard\n"
+
+abbrev pub reminder_text : ℕ → Reminder → List ℕ
+reminder_text place Reminder.HasWritten = writing place
+reminder_text place Reminder.IsMissed = silence
+reminder_text place Reminder.IsHeard = codes "the other desk is heard again\n"
+
+-- what is known of the other desk where the scorer asks: that it has written, where its vote is noted and the own one
+-- isn't cast; that it isn't heard, where that was told and it wasn't heard since
+abbrev pub is_waited_for : Option Entry → Option Entry → Bool
+is_waited_for own other = if is_some own then false else is_some other
+
+abbrev pub other_text : ℕ → Bool → List ℕ
+other_text place waited = if waited then writing place else []
+
+abbrev pub silence_text : Bool → List ℕ
+silence_text silent = if silent then silence else []
+
+abbrev pub standing : Sheet → ℕ → List Entry → Position → Option Entry → Bool → Bool → List ℕ
+standing sheet innings book at own waited silent =
+    greeting sheet innings book at own ++ other_text at.place waited ++ silence_text silent
+
+-- what is shown of a word, where a desk stands so
+abbrev pub word_text : Sheet → ℕ → Position → Option Entry → Bool → Bool → List Entry → Word → List ℕ
+word_text sheet innings at own waited silent book Word.Where = standing sheet innings book at own waited silent
+word_text sheet innings at own waited silent book (Word.Entries most) = listing most book
+word_text sheet innings at own waited silent book (Word.Range first last) = range first last book
+word_text sheet innings at own waited silent book (Word.Over number) = over_last sheet book number
+word_text sheet innings at own waited silent book (Word.OverOf number side which) = over_by_side sheet book number side which
+word_text sheet innings at own waited silent book Word.Total = over_check sheet (history_of book)
+word_text sheet innings at own waited silent book Word.Cards = both_cards sheet (history_of book)
+word_text sheet innings at own waited silent book (Word.CardsOf number) = cards_number sheet (history_of book) number
+word_text sheet innings at own waited silent book Word.Sides = both_sides sheet
+word_text sheet innings at own waited silent book Word.Bowlers = bowlers sheet (history_of book)
+word_text sheet innings at own waited silent book Word.Waiting = who_waits sheet (history_of book)
+word_text sheet innings at own waited silent book Word.Forms = help
+word_text sheet innings at own waited silent book (Word.More topic) = help_on topic
+
+-- of a line at this position, with the desk's own vote there and the other desk's before it, where the scorer was told
+-- that the other desk isn't heard or not, and with the book after it
+abbrev pub said_text : Sheet → ℕ → Position → Option Entry → Option Entry → Bool → List Entry → Said → List ℕ
+said_text sheet innings at own other silent book Said.Quit = []
+said_text sheet innings at own other silent book (Said.Asks word) =
+    word_text sheet innings at own (is_waited_for own other) silent book word
+said_text sheet innings at own other silent book (Said.Unclear unclear) =
+    unclear_text sheet unclear ++ who_may sheet (history_of book) unclear
+said_text sheet innings at own other silent book (Said.Fault fault) = fault_text fault
+said_text sheet innings at own other silent book Said.SayAgain = again_text at (why_full at)
+said_text sheet innings at own other silent book Said.NoneDiffers =
+    at_place at.place (codes "doesn't differ: leave out again")
+said_text sheet innings at own other silent book Said.Waiting = refused_text Refusal.Waiting
+said_text sheet innings at own other silent book (Said.Refused e why) = refused_entry book e why
+said_text sheet innings at own other silent book (Said.Penned e settled) =
+    settled_text sheet innings at.place other book e settled
+
+-- of a peer, unless it was told
+abbrev pub warning : Bool → List ℕ → List ℕ
+warning false text = text
+warning true text = []
+
+-- why bytes are no message of the match
+abbrev pub bad_text : WireFault → List ℕ
+bad_text fault = numbered (codes "peer:") (wire_number fault) (wire_name fault)
+
+-- of bytes that came and don't open
+abbrev pub unopened_line : List ℕ
+unopened_line = codes "peer: another sheet or another key\n"
+
+abbrev pub unopened_text : Warned → List ℕ
+unopened_text warned = warning warned.of_seal unopened_line
+
+-- that the other desk's file lacks lines, where what came shows it
+abbrev pub loss_line : List ℕ
+loss_line = codes "the other desk's file lacks lines that this one has: have the right file put back\n"
+
+abbrev pub loss_text : Warned → Bool → List ℕ
+loss_text warned loss = if loss then warning warned.of_lines loss_line else []
+
+-- of a vote that came at this place, with the desk's own vote there before it, the entry that came, the book after it, and
+-- whether it shows that the other desk's file lacks lines
+abbrev pub heard_text : Sheet → ℕ → ℕ → Option Entry → Option Entry → List Entry → Warned → Bool → Heard → List ℕ
+heard_text sheet innings place own other book warned loss Heard.Noted = []
+heard_text sheet innings place own other book warned loss Heard.Agreed = agreed sheet innings place book
+heard_text sheet innings place own other book warned loss Heard.Differ = differs_text place own other
+heard_text sheet innings place own other book warned loss Heard.Mine = warning warned.of_desk (codes "peer: the same desk\n")
+heard_text sheet innings place own other book warned loss Heard.TwoVotes = warning warned.of_votes (codes "peer: two votes\n")
+heard_text sheet innings place own other book warned loss Heard.Old = loss_text warned loss
+heard_text sheet innings place own other book warned loss heard = []
+
+-- of what came at this place, likewise
+abbrev pub came_text : Sheet → ℕ → ℕ → Option Entry → Option Entry → List Entry → Warned → Bool → What → List ℕ
+came_text sheet innings place own other book warned loss (What.Bad fault) = warning warned.of_bytes (bad_text fault)
+came_text sheet innings place own other book warned loss (What.Heard heard) =
+    heard_text sheet innings place own other book warned loss heard
+came_text sheet innings place own other book warned loss What.Asked = loss_text warned loss
+came_text sheet innings place own other book warned loss what = []
+
+-- nothing was told of a peer
+abbrev pub unwarned : Warned
+unwarned = record {
+  of_bytes = false;
+  of_seal = false;
+  of_desk = false;
+  of_votes = false;
+  of_lines = false;
+  of_writing = false;
+  of_silence = false;
+}
+
+-- what was told of a peer since a vote that is news came, after the answer to what came; anyone's asks are as any
+-- desk's, and a vote is repeated until it is answered, so that they are no sign that all is right; that the other desk
+-- isn't heard stands until it is told that it is again
+abbrev pub unwarned_but : Warned → Warned
+unwarned_but warned = record unwarned { of_silence = warned.of_silence }
+
+abbrev pub warned_of_loss : Warned → Bool → Warned
+warned_of_loss warned loss = record warned { of_lines = warned.of_lines || loss }
+
+abbrev pub warned_after : Warned → Bool → What → Warned
+warned_after warned loss (What.Bad fault) = record warned { of_bytes = true }
+warned_after warned loss (What.Heard Heard.Mine) = record warned { of_desk = true }
+warned_after warned loss (What.Heard Heard.TwoVotes) = record warned { of_votes = true }
+warned_after warned loss (What.Heard Heard.Noted) = unwarned_but warned
+warned_after warned loss (What.Heard Heard.Agreed) = unwarned_but warned
+warned_after warned loss (What.Heard Heard.Differ) = unwarned_but warned
+warned_after warned loss (What.Heard Heard.Old) = warned_of_loss warned loss
+warned_after warned loss What.Asked = warned_of_loss warned loss
+warned_after warned loss what = warned
+
+-- once bytes came that don't open
+abbrev pub warned_unopened : Warned → Warned
+warned_unopened warned = record warned { of_seal = true }
+
+-- once this was told of the other desk
+abbrev pub warned_reminded : Warned → Reminder → Warned
+warned_reminded warned Reminder.HasWritten = record warned { of_writing = true }
+warned_reminded warned Reminder.IsMissed = record warned { of_silence = true }
+warned_reminded warned Reminder.IsHeard = record warned { of_silence = false }

@@ -1,0 +1,176 @@
+//! What a desk's scorer is told of what comes, and of the other desk.
+
+ghost use Rattle.std.specs.Prelude.{◌≡◌, true, IfSome, OnErr, OnOk};
+ghost use Rattle.streams.specs.Watched.{Prints, has_failed};
+ghost use Rattle.notation.specs.Written.{IsEntry};
+ghost use Rattle.station_texts.specs.Texts as texts;
+
+use crate::both::Both;
+use crate::reminder::Reminder;
+use crate::texts::{print_agreed, print_at, print_differs};
+use crate::warned::Warned;
+use agree_core::Heard;
+use cards::MatchSheet;
+use corrections::BookOf;
+use std::io::Write;
+use streams::{Watched, WriteFailed};
+use wire::What;
+
+/// Prints a text of a peer, unless it was told.
+fn print_warning<W: Write>(
+    out: &mut Watched<W>,
+    is_told: bool,
+    text: &str,
+) -> Result<(), WriteFailed>
+    ensures text { OnOk result (Prints W.contents out.old out.new (texts.warning is_told text.now)) }
+    ensures failed { OnErr result (has_failed out.new ≡ true) }
+{
+    if is_told {
+        return Ok(());
+    }
+    write!(out, "{text}")
+}
+
+/// Prints why bytes that came are no message of the match, unless it was told.
+fn print_bad<W: Write>(
+    out: &mut Watched<W>,
+    is_told: bool,
+    fault: wire::WireFault,
+) -> Result<(), WriteFailed>
+    ensures text { OnOk result (Prints W.contents out.old out.new
+        (texts.warning is_told (texts.bad_text fault))) }
+    ensures failed { OnErr result (has_failed out.new ≡ true) }
+{
+    if is_told {
+        return Ok(());
+    }
+    let code = fault.number();
+    writeln!(out, "peer: {code} {fault}")
+}
+
+/// Prints that the other desk's file lacks lines, where what came shows it, unless it was told.
+fn print_loss<W: Write>(out: &mut Watched<W>, warned: Warned, loss: bool) -> Result<(), WriteFailed>
+    ensures text { OnOk result (Prints W.contents out.old out.new (texts.loss_text warned loss)) }
+    ensures failed { OnErr result (has_failed out.new ≡ true) }
+{
+    if loss {
+        return print_warning(
+            out,
+            warned.of_lines,
+            "the other desk's file lacks lines that this one has: have the right file put back\n",
+        );
+    }
+    Ok(())
+}
+
+/// Prints what a vote that came at this place came to, where it is news: of both votes, the desk's own was there before.
+fn print_heard<B: BookOf, W: Write>(
+    out: &mut Watched<W>,
+    sheet: &MatchSheet,
+    place: u32,
+    warned: Warned,
+    both: Both,
+    loss: bool,
+    heard: Heard,
+    book: &B,
+) -> Result<(), WriteFailed>
+    requires own { IfSome both.own IsEntry }
+    requires other { IfSome both.other IsEntry }
+    ensures text { OnOk result (Prints W.contents out.old out.new
+        (texts.heard_text sheet.now (B.innings_a_side book.now) place both.own both.other (B.content book.now) warned loss heard)) }
+    ensures failed { OnErr result (has_failed out.new ≡ true) }
+{
+    match heard {
+        Heard::Agreed => print_agreed(out, sheet, place, book),
+        Heard::Differ => print_differs(out, place, both),
+        Heard::Mine => print_warning(out, warned.of_desk, "peer: the same desk\n"),
+        Heard::TwoVotes => print_warning(out, warned.of_votes, "peer: two votes\n"),
+        Heard::Old => print_loss(out, warned, loss),
+        Heard::Noted => Ok(()),
+        Heard::Ahead | Heard::Again => Ok(()),
+    }
+}
+
+/// Prints what came of bytes at this place, where it is news.
+fn print_news<B: BookOf, W: Write>(
+    out: &mut Watched<W>,
+    sheet: &MatchSheet,
+    place: u32,
+    warned: Warned,
+    both: Both,
+    loss: bool,
+    what: What,
+    book: &B,
+) -> Result<(), WriteFailed>
+    requires own { IfSome both.own IsEntry }
+    requires other { IfSome both.other IsEntry }
+    ensures text { OnOk result (Prints W.contents out.old out.new
+        (texts.came_text sheet.now (B.innings_a_side book.now) place both.own both.other (B.content book.now) warned loss what)) }
+    ensures failed { OnErr result (has_failed out.new ≡ true) }
+{
+    match what {
+        What::Bad(fault) => print_bad(out, warned.of_bytes, fault),
+        What::Heard(heard) => print_heard(out, sheet, place, warned, both, loss, heard, book),
+        What::Asked => print_loss(out, warned, loss),
+        What::Device | What::Failed => Ok(()),
+    }
+}
+
+/// Tells the scorer at once what came of bytes at this place, where it is news.
+pub fn print_came<B: BookOf, W: Write>(
+    out: &mut Watched<W>,
+    sheet: &MatchSheet,
+    place: u32,
+    warned: Warned,
+    both: Both,
+    loss: bool,
+    what: What,
+    book: &B,
+) -> Result<(), WriteFailed>
+    requires own { IfSome both.own IsEntry }
+    requires other { IfSome both.other IsEntry }
+    ensures text { OnOk result (Prints W.contents out.old out.new
+        (texts.came_text sheet.now (B.innings_a_side book.now) place both.own both.other (B.content book.now) warned loss what)) }
+    ensures failed { OnErr result (has_failed out.new ≡ true) }
+{
+    print_news(out, sheet, place, warned, both, loss, what, book)?;
+    out.flush()
+}
+
+/// Tells the scorer at once that bytes came that don't open, unless it was told.
+pub fn print_unopened<W: Write>(out: &mut Watched<W>, warned: Warned) -> Result<(), WriteFailed>
+    ensures text { OnOk result (Prints W.contents out.old out.new (texts.unopened_text warned)) }
+    ensures failed { OnErr result (has_failed out.new ≡ true) }
+{
+    print_warning(out, warned.of_seal, "peer: another sheet or another key\n")?;
+    out.flush()
+}
+
+/// Prints this of the other desk, at this place.
+fn print_of_other<W: Write>(
+    out: &mut Watched<W>,
+    place: u32,
+    reminder: Reminder,
+) -> Result<(), WriteFailed>
+    ensures text { OnOk result (Prints W.contents out.old out.new (texts.reminder_text place reminder)) }
+    ensures failed { OnErr result (has_failed out.new ≡ true) }
+{
+    match reminder {
+        Reminder::HasWritten => print_at(out, place, "the other has written"),
+        Reminder::IsMissed => writeln!(out, "the other desk isn't heard"),
+        Reminder::IsHeard => writeln!(out, "the other desk is heard again"),
+    }
+}
+
+/// Tells the scorer this of the other desk, at this place.
+pub fn print_reminder<W: Write>(
+    out: &mut Watched<W>,
+    place: u32,
+    reminder: Reminder,
+) -> Result<(), WriteFailed>
+    ensures text { OnOk result (Prints W.contents out.old out.new (texts.reminder_text place reminder)) }
+    ensures failed { OnErr result (has_failed out.new ≡ true) }
+{
+    print_of_other(out, place, reminder)?;
+    out.flush()
+}

@@ -1,0 +1,127 @@
+//! What a board tells of what it can't take.
+
+ghost use Rattle.std.specs.Prelude.{◌≡◌, ◌∷◌, ◌++◌, [], List, OnErr, OnOk, true};
+ghost use Rattle.streams.specs.Watched.{Prints, has_failed};
+ghost use Rattle.station_texts.specs.Notices as texts;
+
+use crate::warned::Warned;
+use agree_core::Heard;
+use board::BoardRefusal;
+use std::io::Write;
+use streams::{Watched, WriteFailed};
+use wire::{What, WireFault};
+
+/// What a board can't take.
+#[derive(Clone, Copy, Debug, PartialEq, Eq)]
+pub enum Notice {
+    /// Bytes that are no message of the match.
+    Bytes(WireFault),
+    /// Bytes that don't open.
+    Unopened,
+    /// Two votes of one desk for one position.
+    TwoVotes,
+    /// Both desks' votes of this place for an entry that its book refuses. What it has shown may be wrong.
+    BadVotes { place: u32 },
+}
+
+/// Takes what a board tells. Nothing is known of who reads it; what was handed to it is told.
+pub trait Notices {
+    ghost use Rattle.station_texts.specs.declared.notices.Notice.{Notice};
+
+    /// What was handed to it, the oldest first.
+    ghost told: { Self → List Notice };
+
+    /// Tells this. That it can't be told is no fault.
+    fn tell(&mut self, notice: Notice)
+        ensures { told self.new ≡ told self.old ++ notice ∷ [] };
+}
+
+/// Prints a notice, on a line of its own.
+pub fn print_notice<W: Write>(out: &mut Watched<W>, notice: Notice) -> Result<(), WriteFailed>
+    ensures text { OnOk result (Prints W.contents out.old out.new (texts.notice_text notice)) }
+    ensures failed { OnErr result (has_failed out.new ≡ true) }
+{
+    match notice {
+        Notice::Bytes(fault) => {
+            let code = fault.number();
+            writeln!(out, "peer: {code} {fault}")
+        }
+        Notice::Unopened => writeln!(out, "peer: another sheet or another key"),
+        Notice::TwoVotes => writeln!(out, "peer: two votes"),
+        Notice::BadVotes { place } => {
+            writeln!(
+                out,
+                "{place} refused 64 BadVotes: no score is shown from here on"
+            )
+        }
+    }
+}
+
+/// What a board has told since a vote that it takes came, and whether it has told that it refuses both desks' votes:
+/// from then on it shows no score.
+#[derive(Clone, Copy, Debug, PartialEq, Eq)]
+pub struct Telling {
+    pub warned: Warned,
+    pub is_stopped: bool,
+}
+
+/// Tells this, unless it was told.
+fn note<N: Notices>(notices: &mut N, is_told: bool, notice: Notice)
+    ensures { N.told notices.new ≡ texts.noted is_told (N.told notices.old) notice }
+{
+    if !is_told {
+        notices.tell(notice);
+    }
+}
+
+impl Telling {
+    /// Nothing was told.
+    pub const NOTHING: Telling = Telling {
+        warned: Warned::NOTHING,
+        is_stopped: false,
+    };
+
+    /// Tells what is news in the answer to bytes that came.
+    pub fn tell<N: Notices>(self, answer: Result<What, BoardRefusal>, notices: &mut N)
+        ensures { N.told notices.new ≡ texts.notices_after self (N.told notices.old) answer }
+    {
+        match answer {
+            Ok(What::Bad(fault)) => note(notices, self.warned.of_bytes, Notice::Bytes(fault)),
+            Ok(What::Heard(Heard::TwoVotes)) => {
+                note(notices, self.warned.of_votes, Notice::TwoVotes);
+            }
+            Ok(_) => {}
+            Err(BoardRefusal::BadVotes { place }) => {
+                note(notices, self.is_stopped, Notice::BadVotes { place });
+            }
+        }
+    }
+
+    /// Tells that bytes came that don't open, unless it was told, and answers what was told then.
+    pub fn unopened<N: Notices>(self, notices: &mut N) -> Telling
+        ensures told { N.told notices.new ≡ texts.notices_unopened self (N.told notices.old) }
+        ensures after { result ≡ texts.telling_unopened self }
+    {
+        note(notices, self.warned.of_seal, Notice::Unopened);
+        Telling {
+            warned: self.warned.after_unopened(),
+            ..self
+        }
+    }
+
+    /// What was told after that answer.
+    pub fn after(self, answer: Result<What, BoardRefusal>) -> Telling
+        ensures { result ≡ texts.telling_after self answer }
+    {
+        match answer {
+            Ok(what) => Telling {
+                warned: self.warned.after(false, what),
+                ..self
+            },
+            Err(_) => Telling {
+                is_stopped: true,
+                ..self
+            },
+        }
+    }
+}

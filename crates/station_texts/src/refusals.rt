@@ -1,0 +1,113 @@
+//! Why a desk refuses an entry, as its scorer is told.
+
+ghost use Rattle.std.specs.Prelude.{◌++◌, codes, OnErr, OnOk, ◌≡◌, true};
+ghost use Rattle.streams.specs.Watched.{Prints, has_failed};
+ghost use Rattle.notation.specs.Written.{IsEntry, IsPlain};
+ghost use Rattle.changes.specs.Before.{item_with};
+ghost use Rattle.desk.specs.Refusal.{name_of, number_of};
+ghost use Rattle.screen.specs.Sentences.{of_desk};
+ghost use Rattle.station_texts.specs.Questions.{explained};
+ghost use Rattle.station_texts.specs.Texts as texts;
+
+use changes::item_with;
+use corrections::BookOf;
+use desk::Refusal;
+use match_laws::LawRefusal;
+use notation::{Entry, Plain, line_of};
+use screen::refusal_sentence;
+use std::io::Write;
+use streams::{Watched, WriteFailed};
+
+/// Prints the number and the name of a refusal, and its sentence.
+fn print_explained<W: Write>(out: &mut Watched<W>, why: Refusal) -> Result<(), WriteFailed>
+    ensures text { OnOk result (Prints W.contents out.old out.new
+        (explained (codes "refused") (number_of why) (name_of why) (of_desk why))) }
+    ensures failed { OnErr result (has_failed out.new ≡ true) }
+{
+    let code = why.number();
+    let sentence = refusal_sentence(why);
+    writeln!(out, "refused {code} {why}: {sentence}")
+}
+
+/// Prints why an entry is refused. A failed disk isn't told here.
+pub fn print_refused<W: Write>(out: &mut Watched<W>, why: Refusal) -> Result<(), WriteFailed>
+    ensures text { OnOk result (Prints W.contents out.old out.new (texts.refused_text why)) }
+    ensures failed { OnErr result (has_failed out.new ≡ true) }
+{
+    match why {
+        Refusal::Failed | Refusal::Device => Ok(()),
+        Refusal::Waiting => print_explained(out, Refusal::Waiting),
+        Refusal::PlacesFull => print_explained(out, Refusal::PlacesFull),
+        Refusal::RoundsFull => print_explained(out, Refusal::RoundsFull),
+        Refusal::SlotsFull => print_explained(out, Refusal::SlotsFull),
+        Refusal::Book(_) => print_explained(out, why),
+    }
+}
+
+/// Prints the place that a correction leaves refused, and the cause, by their numbers.
+fn print_later_numbers<W: Write>(
+    out: &mut Watched<W>,
+    place: u32,
+    why: LawRefusal,
+) -> Result<(), WriteFailed>
+    ensures text { OnOk result (Prints W.contents out.old out.new (texts.later_numbers place why)) }
+    ensures failed { OnErr result (has_failed out.new ≡ true) }
+{
+    let cause = why.number();
+    write!(out, "refused 32 Later {place} {cause}")
+}
+
+/// Prints what would stand at the place, and why that is refused.
+fn print_later_words<W: Write>(
+    out: &mut Watched<W>,
+    place: u32,
+    item: Plain,
+    why: LawRefusal,
+) -> Result<(), WriteFailed>
+    requires { IsPlain item }
+    ensures text { OnOk result (Prints W.contents out.old out.new (texts.later_words place item why)) }
+    ensures failed { OnErr result (has_failed out.new ≡ true) }
+{
+    let line = line_of(&Entry::Write(item));
+    let words = line.as_str();
+    let sentence = refusal_sentence(Refusal::Book(corrections::Refusal::Law(why)));
+    writeln!(out, ": place {place}, {words}:\n  {sentence}")
+}
+
+/// Prints the place that a correction leaves refused, with what would stand there, and why.
+fn print_later<B: BookOf, W: Write>(
+    out: &mut Watched<W>,
+    book: &B,
+    entry: &Entry,
+    place: u32,
+    why: LawRefusal,
+) -> Result<(), WriteFailed>
+    requires { IsEntry entry.now }
+    ensures text { OnOk result (Prints W.contents out.old out.new (texts.later_numbers place why
+        ++ texts.later_words place (item_with (B.content book.now) entry.now place) why)) }
+    ensures failed { OnErr result (has_failed out.new ≡ true) }
+{
+    let item = item_with(book, entry, place);
+    print_later_numbers(out, place, why)?;
+    print_later_words(out, place, item, why)
+}
+
+/// Prints why an entry is refused; of a correction, the first place that it leaves refused, with what would stand there.
+pub fn print_refused_entry<B: BookOf, W: Write>(
+    out: &mut Watched<W>,
+    book: &B,
+    entry: &Entry,
+    why: Refusal,
+) -> Result<(), WriteFailed>
+    requires { IsEntry entry.now }
+    ensures text { OnOk result (Prints W.contents out.old out.new
+        (texts.refused_entry (B.content book.now) entry.now why)) }
+    ensures failed { OnErr result (has_failed out.new ≡ true) }
+{
+    match why {
+        Refusal::Book(corrections::Refusal::Later { place, why }) => {
+            print_later(out, book, entry, place, why)
+        }
+        _ => print_refused(out, why),
+    }
+}

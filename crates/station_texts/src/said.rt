@@ -1,0 +1,173 @@
+//! What a scorer's line comes to.
+
+ghost use Rattle.std.specs.Prelude.{◌≡◌, ◌≢◌, ◌⊎◌, ◌++◌, List, ℕ, codes, Some, None, MatchOption, IfErr, IfOk, IfSome, true, false};
+ghost use Rattle.notation.specs.declared.entry.Entry.{Entry};
+ghost use Rattle.notation.specs.Written.{IsEntry};
+ghost use Rattle.agree_core.specs.Ballots.{Ballot};
+ghost use Rattle.cards.specs.Sheet.{Sheet};
+ghost use Rattle.desk.specs.Desk.{last_entry};
+ghost use Rattle.station_texts.specs.Saying.{ComesTo, IsNoWord, IsNotAgain, IsTextOf, LineMeans, MeansEntry, MeansNone};
+
+use agree_core::Settled;
+use cards::MatchSheet;
+use corrections::BookOf;
+use desk::Refusal;
+use notation::{Entry, LineFault, read_line};
+use screen::{Word, is_end, word_of};
+use shorthand::{Unclear, in_full};
+
+/// What a scorer's line comes to.
+#[derive(Clone, Copy, Debug, PartialEq, Eq)]
+pub enum Said {
+    /// `quit` or `exit`: it ends the process.
+    Quit,
+    /// A word that asks to see something.
+    Asks(Word),
+    /// Something isn't clear in it, so that it has no full form.
+    Unclear(Unclear),
+    /// In full it is no entry's line.
+    Fault(LineFault),
+    /// The two scorers differed at this place, and the line doesn't begin with `again `.
+    SayAgain,
+    /// The line begins with `again`, and they didn't differ.
+    NoneDiffers,
+    /// They differed, the desk's vote of the new round is cast, and the line says an entry without `again `: it is
+    /// refused as one behind `again ` is.
+    Waiting,
+    /// The desk refuses the entry.
+    Refused(Entry, Refusal),
+    /// The vote for the entry is cast.
+    Penned(Entry, Settled),
+}
+
+/// What a line comes to that is one of the words that are no entry's.
+fn word(line: &[u8]) -> Option<Said>
+    ensures word { (s : Sheet) → (book : List Entry) → (votes : List Ballot) → (differs : _) → (is_cast : _)
+        → IfSome result (ComesTo s book votes differs is_cast line.now) }
+    ensures none { result ≡ None → IsNoWord line.now }
+{
+    if is_end(line) {
+        return Some(Said::Quit);
+    }
+    match word_of(line) {
+        Some(word) => Some(Said::Asks(word)),
+        None => None,
+    }
+}
+
+/// What stands behind `again `, where a line begins so.
+fn behind_again(line: &[u8]) -> Option<&[u8]>
+    requires { line.now ≢ codes "again" }
+    ensures { MatchOption result (IsNotAgain line.now) (λ text. line.now ≡ codes "again " ++ text.now) }
+{
+    line.strip_prefix(b"again ")
+}
+
+/// The entry that a text means in full, by the sheet and the book; or what isn't clear in it, or its fault.
+fn entry_meant<B: BookOf>(text: &[u8], book: &B, sheet: &MatchSheet) -> Result<Entry, Said>
+    ensures means { IfOk result (MeansEntry sheet.now (B.content book.now) text.now) }
+    ensures none { IfErr result (MeansNone sheet.now (B.content book.now) text.now) }
+{
+    let full = match in_full(text, book, sheet) {
+        Ok(full) => full,
+        Err(unclear) => return Err(Said::Unclear(unclear)),
+    };
+    match read_line(full.as_str().as_bytes()) {
+        Ok(entry) => Ok(entry),
+        Err(fault) => Err(Said::Fault(fault)),
+    }
+}
+
+/// What a line without `again ` comes to, where the two scorers differed.
+fn bare_said<B: BookOf>(line: &[u8], book: &B, sheet: &MatchSheet, is_cast: bool) -> Said
+    requires word { IsNoWord line.now }
+    requires bare { IsNotAgain line.now }
+    ensures { (votes : List Ballot) → ComesTo sheet.now (B.content book.now) votes true is_cast line.now result }
+{
+    if !is_cast {
+        return Said::SayAgain;
+    }
+    match entry_meant(line, book, sheet) {
+        Ok(_) => Said::Waiting,
+        Err(said) => said,
+    }
+}
+
+/// The text of an entry's line, in the first round of a place or in another one, in which the desk's vote is cast or
+/// not.
+fn entry_text<'a, B: BookOf>(
+    line: &'a [u8],
+    book: &B,
+    sheet: &MatchSheet,
+    differs: bool,
+    is_cast: bool,
+) -> Result<&'a [u8], Said>
+    requires word { IsNoWord line.now }
+    requires again { line.now ≢ codes "again" }
+    ensures text { IfOk result (λ text. IsTextOf differs line.now text.now) }
+    ensures none { (votes : List Ballot) → IfErr result (ComesTo sheet.now (B.content book.now) votes differs is_cast line.now) }
+{
+    match behind_again(line) {
+        Some(text) => {
+            if differs {
+                Ok(text)
+            } else {
+                Err(Said::NoneDiffers)
+            }
+        }
+        None => {
+            if differs {
+                Err(bare_said(line, book, sheet, is_cast))
+            } else {
+                Ok(line)
+            }
+        }
+    }
+}
+
+/// What `again` alone comes to: once more what this scorer wrote last, where the two scorers differed.
+fn once_more(last: Option<Entry>, differs: bool) -> Result<Entry, Said>
+    requires { IfSome last IsEntry }
+    ensures said { IfOk result (λ entry. (differs ≡ true) × (last ≡ Some entry) × IsEntry entry) }
+    ensures none { IfErr result (λ said. (said ≡ Said.NoneDiffers) × ((differs ≡ false) ⊎ (last ≡ None))) }
+{
+    match last {
+        Some(entry) => {
+            if differs {
+                Ok(entry)
+            } else {
+                Err(Said::NoneDiffers)
+            }
+        }
+        None => Err(Said::NoneDiffers),
+    }
+}
+
+/// The entry that a line says, put in full by the sheet and the book, or once more what this scorer wrote last; in the
+/// first round of a place or in another one, in which the desk's vote is cast or not.
+pub fn entry_said<B: BookOf>(
+    line: &[u8],
+    book: &B,
+    sheet: &MatchSheet,
+    last: Option<Entry>,
+    differs: bool,
+    is_cast: bool,
+) -> Result<Entry, Said>
+    requires { IfSome last IsEntry }
+    ensures said { (votes : List Ballot) → last ≡ last_entry votes
+        → IfOk result (LineMeans sheet.now (B.content book.now) votes differs line.now) }
+    ensures none { (votes : List Ballot) → last ≡ last_entry votes
+        → IfErr result (ComesTo sheet.now (B.content book.now) votes differs is_cast line.now) }
+{
+    if let Some(said) = word(line) {
+        return Err(said);
+    }
+    if line == b"again".as_slice() {
+        return once_more(last, differs);
+    }
+    let text = match entry_text(line, book, sheet, differs, is_cast) {
+        Ok(text) => text,
+        Err(said) => return Err(said),
+    };
+    entry_meant(text, book, sheet)
+}

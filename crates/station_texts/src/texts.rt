@@ -1,0 +1,477 @@
+//! What a desk's scorer is told.
+
+ghost use Rattle.std.specs.Prelude.{◌≡◌, true, slice_get, IfSome, OnErr, OnOk};
+ghost use Rattle.streams.specs.Watched.{Prints, has_failed};
+ghost use Rattle.notation.specs.Written.{IsEntry};
+ghost use Rattle.match_laws.specs.Stands.{ForEachHistory};
+ghost use Rattle.corrections.specs.CleanList.{history_of};
+ghost use Rattle.station_texts.specs.inner.Telling.{IsFine};
+ghost use Rattle.station_texts.specs.Texts as texts;
+
+use crate::both::Both;
+use crate::questions::print_fault;
+use crate::refusals::{print_refused, print_refused_entry};
+use crate::said::Said;
+use crate::who_bowls::print_question;
+use agree_core::{Position, ROUNDS, Settled};
+use cards::MatchSheet;
+use changes::print_last_changes;
+use corrections::BookOf;
+use desk::Refusal;
+use match_laws::Match;
+use notation::{Entry, PLACES, Plain, line_of};
+use score_rows::{
+    print_bowlers, print_check, print_listing, print_over_by_side, print_over_last,
+    print_over_note, print_range, print_result, print_row,
+};
+use screen::{
+    HELP, Word, help_on, print_cards, print_cards_of, print_sides, print_waiting, refusal_sentence,
+};
+use std::io::Write;
+use streams::{Watched, WriteFailed};
+
+/// Prints a place, and what is told of it.
+pub fn print_at<W: Write>(out: &mut Watched<W>, place: u32, words: &str) -> Result<(), WriteFailed>
+    ensures text { OnOk result (Prints W.contents out.old out.new (texts.at_place place words.now)) }
+    ensures failed { OnErr result (has_failed out.new ≡ true) }
+{
+    writeln!(out, "{place} {words}")
+}
+
+/// Whether the umpire calls over.
+fn is_over(entry: &Entry) -> bool
+    ensures { result ≡ texts.is_over entry.now }
+{
+    matches!(entry, Entry::Write(Plain::Over))
+}
+
+/// Prints how many overs were called in the innings begun last.
+fn print_called<W: Write>(out: &mut Watched<W>, score: &Match) -> Result<(), WriteFailed>
+    ensures text { ForEachHistory score.now (λ n h.
+        OnOk result (Prints W.contents out.old out.new (texts.over_called h))) }
+    ensures failed { OnErr result (has_failed out.new ≡ true) }
+{
+    let begun = score.begun();
+    if begun == 0 {
+        return Ok(());
+    }
+    let (called, _) = score.overs(begun - 1);
+    write!(out, " {called}")
+}
+
+/// Prints that an entry is agreed at this place.
+fn print_line<W: Write>(out: &mut Watched<W>, place: u32, entry: &Entry) -> Result<(), WriteFailed>
+    requires { IsEntry entry.now }
+    ensures text { OnOk result (Prints W.contents out.old out.new
+        (texts.agreed_line place entry.now)) }
+    ensures failed { OnErr result (has_failed out.new ≡ true) }
+{
+    let line = line_of(entry);
+    let words = line.as_str();
+    write!(out, "{place} agreed: {words}")
+}
+
+/// Prints that an over is agreed at this place, how many of its deliveries count where they aren't six, the result of a
+/// match that is decided, and the check of the over.
+fn print_over<B: BookOf, W: Write>(
+    out: &mut Watched<W>,
+    sheet: &MatchSheet,
+    place: u32,
+    entry: &Entry,
+    book: &B,
+) -> Result<(), WriteFailed>
+    requires { IsEntry entry.now }
+    ensures text { OnOk result (Prints W.contents out.old out.new
+        (texts.over_agreed sheet.now (B.innings_a_side book.now) place (history_of (B.content book.now)) entry.now)) }
+    ensures failed { OnErr result (has_failed out.new ≡ true) }
+{
+    let score = book.score();
+    print_line(out, place, entry)?;
+    print_called(out, score)?;
+    print_over_note(out, book)?;
+    print_result(out, sheet, score)?;
+    writeln!(out)?;
+    print_check(out, sheet, book)
+}
+
+/// Prints that an entry but `over` is agreed at this place, and how the match stands.
+fn print_play<B: BookOf, W: Write>(
+    out: &mut Watched<W>,
+    sheet: &MatchSheet,
+    place: u32,
+    entry: &Entry,
+    book: &B,
+) -> Result<(), WriteFailed>
+    requires { IsEntry entry.now }
+    ensures text { OnOk result (Prints W.contents out.old out.new
+        (texts.play_agreed sheet.now (B.innings_a_side book.now) place (history_of (B.content book.now)) entry.now)) }
+    ensures failed { OnErr result (has_failed out.new ≡ true) }
+{
+    print_line(out, place, entry)?;
+    writeln!(out)?;
+    print_row(out, sheet, book)
+}
+
+/// Prints that an entry is agreed at this place, and what it brought.
+fn print_entry<B: BookOf, W: Write>(
+    out: &mut Watched<W>,
+    sheet: &MatchSheet,
+    place: u32,
+    entry: &Entry,
+    book: &B,
+) -> Result<(), WriteFailed>
+    requires { IsEntry entry.now }
+    ensures text { OnOk result (Prints W.contents out.old out.new
+        (texts.agreed_entry sheet.now (B.innings_a_side book.now) place (history_of (B.content book.now)) entry.now)) }
+    ensures failed { OnErr result (has_failed out.new ≡ true) }
+{
+    if is_over(entry) {
+        print_over(out, sheet, place, entry, book)
+    } else {
+        print_play(out, sheet, place, entry, book)
+    }
+}
+
+/// The entry at a place of a book, if it has one there.
+#[tactic(auto, using(std::proofs::lemmas::Option::slice_get_past))]
+fn entry_at<B: BookOf>(book: &B, place: u32) -> Option<Entry>
+    ensures value { result ≡ slice_get (B.content book.now) place }
+    ensures entry { IfSome result IsEntry }
+{
+    if place < book.len() {
+        Some(book.entry(place))
+    } else {
+        None
+    }
+}
+
+/// Prints that a place is agreed, where the book has its entry, and what it brought.
+fn print_agreed_at<B: BookOf, W: Write>(
+    out: &mut Watched<W>,
+    sheet: &MatchSheet,
+    place: u32,
+    book: &B,
+) -> Result<(), WriteFailed>
+    ensures text { OnOk result (Prints W.contents out.old out.new
+        (texts.agreed_at sheet.now (B.innings_a_side book.now) place (history_of (B.content book.now))
+        (slice_get (B.content book.now) place))) }
+    ensures failed { OnErr result (has_failed out.new ≡ true) }
+{
+    match entry_at(book, place) {
+        None => Ok(()),
+        Some(entry) => print_entry(out, sheet, place, &entry, book),
+    }
+}
+
+/// Prints that a place is agreed, and what a `fix` or a `late` there has changed.
+pub fn print_agreed<B: BookOf, W: Write>(
+    out: &mut Watched<W>,
+    sheet: &MatchSheet,
+    place: u32,
+    book: &B,
+) -> Result<(), WriteFailed>
+    ensures text { OnOk result (Prints W.contents out.old out.new
+        (texts.agreed sheet.now (B.innings_a_side book.now) place (B.content book.now))) }
+    ensures failed { OnErr result (has_failed out.new ≡ true) }
+{
+    print_agreed_at(out, sheet, place, book)?;
+    print_last_changes(out, sheet, book)
+}
+
+/// Prints that the entry was penned at this place, in full.
+fn print_pending<W: Write>(
+    out: &mut Watched<W>,
+    place: u32,
+    entry: &Entry,
+) -> Result<(), WriteFailed>
+    requires { IsEntry entry.now }
+    ensures text { OnOk result (Prints W.contents out.old out.new (texts.pending place entry.now)) }
+    ensures failed { OnErr result (has_failed out.new ≡ true) }
+{
+    let line = line_of(entry);
+    let words = line.as_str();
+    writeln!(out, "{place} pending: {words}")
+}
+
+/// Prints that the two scorers differ at this place, with the entry of each where it is known.
+pub fn print_differs<W: Write>(
+    out: &mut Watched<W>,
+    place: u32,
+    both: Both,
+) -> Result<(), WriteFailed>
+    requires own { IfSome both.own IsEntry }
+    requires other { IfSome both.other IsEntry }
+    ensures text { OnOk result (Prints W.contents out.old out.new
+        (texts.differs_text place both.own both.other)) }
+    ensures failed { OnErr result (has_failed out.new ≡ true) }
+{
+    match (both.own, both.other) {
+        (Some(own), Some(other)) => {
+            let own_line = line_of(&own);
+            let other_line = line_of(&other);
+            let you = own_line.as_str();
+            let they = other_line.as_str();
+            writeln!(out, "{place} differs: you {you},\n  the other {they}")
+        }
+        _ => print_at(out, place, "differs"),
+    }
+}
+
+/// Prints what became of a vote for the entry that was cast at this place, where this is the other scorer's that was
+/// noted before.
+fn print_settled<B: BookOf, W: Write>(
+    out: &mut Watched<W>,
+    sheet: &MatchSheet,
+    place: u32,
+    other: Option<Entry>,
+    entry: &Entry,
+    settled: Settled,
+    book: &B,
+) -> Result<(), WriteFailed>
+    requires entry { IsEntry entry.now }
+    requires other { IfSome other IsEntry }
+    ensures text { OnOk result (Prints W.contents out.old out.new
+        (texts.settled_text sheet.now (B.innings_a_side book.now) place other (B.content book.now) entry.now settled)) }
+    ensures failed { OnErr result (has_failed out.new ≡ true) }
+{
+    match settled {
+        Settled::Pending => print_pending(out, place, entry),
+        Settled::Agreed => print_agreed(out, sheet, place, book),
+        Settled::Differ => {
+            let own = Some(*entry);
+            print_differs(out, place, Both { own, other })
+        }
+    }
+}
+
+/// Why no vote can be cast at a position, if none can.
+fn why_full(at: Position) -> Option<Refusal>
+    ensures { result ≡ texts.why_full at }
+{
+    if at.place >= PLACES {
+        Some(Refusal::PlacesFull)
+    } else if at.round >= ROUNDS {
+        Some(Refusal::RoundsFull)
+    } else {
+        None
+    }
+}
+
+/// Prints where a desk stands whose vote of this position isn't cast.
+fn print_open<W: Write>(out: &mut Watched<W>, at: Position) -> Result<(), WriteFailed>
+    ensures text { OnOk result (Prints W.contents out.old out.new (texts.open_text at (texts.why_full at))) }
+    ensures failed { OnErr result (has_failed out.new ≡ true) }
+{
+    match why_full(at) {
+        Some(why) => print_at(out, at.place, refusal_sentence(why)),
+        None => {
+            if at.round > 0 {
+                print_at(out, at.place, "differs")
+            } else {
+                print_at(out, at.place, "next")
+            }
+        }
+    }
+}
+
+/// Prints where a desk stands: at this position, with its own vote there or none.
+fn print_place<W: Write>(
+    out: &mut Watched<W>,
+    at: Position,
+    own: Option<Entry>,
+) -> Result<(), WriteFailed>
+    requires { IfSome own IsEntry }
+    ensures text { OnOk result (Prints W.contents out.old out.new (texts.place_text at own)) }
+    ensures failed { OnErr result (has_failed out.new ≡ true) }
+{
+    match own {
+        Some(entry) => print_pending(out, at.place, &entry),
+        None => print_open(out, at),
+    }
+}
+
+/// Prints how the match stands, and where the desk does.
+pub fn print_greeting<B: BookOf, W: Write>(
+    out: &mut Watched<W>,
+    sheet: &MatchSheet,
+    at: Position,
+    own: Option<Entry>,
+    book: &B,
+) -> Result<(), WriteFailed>
+    requires { IfSome own IsEntry }
+    ensures text { OnOk result (Prints W.contents out.old out.new
+        (texts.greeting sheet.now (B.innings_a_side book.now) (B.content book.now) at own)) }
+    ensures failed { OnErr result (has_failed out.new ≡ true) }
+{
+    print_row(out, sheet, book)?;
+    print_place(out, at, own)
+}
+
+/// Prints that the other scorer has written, where this one is waited for.
+fn print_other<W: Write>(
+    out: &mut Watched<W>,
+    place: u32,
+    is_waited_for: bool,
+) -> Result<(), WriteFailed>
+    ensures text { OnOk result (Prints W.contents out.old out.new (texts.other_text place is_waited_for)) }
+    ensures failed { OnErr result (has_failed out.new ≡ true) }
+{
+    if is_waited_for {
+        print_at(out, place, "the other has written")
+    } else {
+        Ok(())
+    }
+}
+
+/// Prints that the other desk isn't heard, where that was told and it wasn't heard since.
+fn print_silence<W: Write>(out: &mut Watched<W>, is_silent: bool) -> Result<(), WriteFailed>
+    ensures text { OnOk result (Prints W.contents out.old out.new (texts.silence_text is_silent)) }
+    ensures failed { OnErr result (has_failed out.new ≡ true) }
+{
+    if is_silent {
+        writeln!(out, "the other desk isn't heard")
+    } else {
+        Ok(())
+    }
+}
+
+/// Prints how the match stands, where the desk does, and what is known of the other desk.
+fn print_standing<B: BookOf, W: Write>(
+    out: &mut Watched<W>,
+    sheet: &MatchSheet,
+    at: Position,
+    own: Option<Entry>,
+    is_waited_for: bool,
+    is_silent: bool,
+    book: &B,
+) -> Result<(), WriteFailed>
+    requires { IfSome own IsEntry }
+    ensures text { OnOk result (Prints W.contents out.old out.new
+        (texts.standing sheet.now (B.innings_a_side book.now) (B.content book.now) at own is_waited_for is_silent)) }
+    ensures failed { OnErr result (has_failed out.new ≡ true) }
+{
+    let place = at.place;
+    print_greeting(out, sheet, at, own, book)?;
+    print_other(out, place, is_waited_for)?;
+    print_silence(out, is_silent)
+}
+
+/// Prints what a word asks to see.
+fn print_asked<B: BookOf, W: Write>(
+    out: &mut Watched<W>,
+    sheet: &MatchSheet,
+    at: Position,
+    own: Option<Entry>,
+    is_waited_for: bool,
+    is_silent: bool,
+    book: &B,
+    word: Word,
+) -> Result<(), WriteFailed>
+    requires { IfSome own IsEntry }
+    ensures text { OnOk result (Prints W.contents out.old out.new
+        (texts.word_text sheet.now (B.innings_a_side book.now) at own is_waited_for is_silent (B.content book.now) word)) }
+    ensures failed { OnErr result (has_failed out.new ≡ true) }
+{
+    match word {
+        Word::Where => print_standing(out, sheet, at, own, is_waited_for, is_silent, book),
+        Word::Entries(most) => print_listing(out, book, most),
+        Word::Range(first, last) => print_range(out, book, first, last),
+        Word::Over(number) => print_over_last(out, sheet, book, number),
+        Word::OverOf(number, side, which) => {
+            print_over_by_side(out, sheet, book, number, side, which)
+        }
+        Word::Total => print_check(out, sheet, book),
+        Word::Cards => print_cards(out, sheet, book),
+        Word::CardsOf(number) => print_cards_of(out, sheet, book, usize::from(number)),
+        Word::Sides => print_sides(out, sheet),
+        Word::Bowlers => print_bowlers(out, sheet, book),
+        Word::Waiting => print_waiting(out, sheet, book),
+        Word::Forms => write!(out, "{HELP}"),
+        Word::More(topic) => {
+            let text = help_on(topic);
+            write!(out, "{text}")
+        }
+    }
+}
+
+/// Prints that a line must begin with `again`, where the scorers differed at this position, or why that would be in vain.
+fn print_again<W: Write>(out: &mut Watched<W>, at: Position) -> Result<(), WriteFailed>
+    ensures text { OnOk result (Prints W.contents out.old out.new (texts.again_text at (texts.why_full at))) }
+    ensures failed { OnErr result (has_failed out.new ≡ true) }
+{
+    match why_full(at) {
+        Some(why) => print_refused(out, why),
+        None => print_at(out, at.place, "differs: begin the line with again"),
+    }
+}
+
+/// Prints what a line came to, at this position, where the desk had these votes before, and the scorer was told that the other
+/// desk isn't heard, or not.
+fn print_answer<B: BookOf, W: Write>(
+    out: &mut Watched<W>,
+    sheet: &MatchSheet,
+    at: Position,
+    both: Both,
+    is_silent: bool,
+    said: &Said,
+    book: &B,
+) -> Result<(), WriteFailed>
+    requires fine { IsFine said.now }
+    requires own { IfSome both.own IsEntry }
+    requires other { IfSome both.other IsEntry }
+    ensures text { OnOk result (Prints W.contents out.old out.new
+        (texts.said_text sheet.now (B.innings_a_side book.now) at both.own both.other is_silent (B.content book.now) said.now)) }
+    ensures failed { OnErr result (has_failed out.new ≡ true) }
+{
+    match said {
+        Said::Quit => Ok(()),
+        Said::Asks(word) => {
+            let is_waited_for = if both.own.is_some() {
+                false
+            } else {
+                both.other.is_some()
+            };
+            print_asked(
+                out,
+                sheet,
+                at,
+                both.own,
+                is_waited_for,
+                is_silent,
+                book,
+                *word,
+            )
+        }
+        Said::Unclear(unclear) => print_question(out, sheet, unclear, book),
+        Said::Fault(fault) => print_fault(out, *fault),
+        Said::SayAgain => print_again(out, at),
+        Said::NoneDiffers => print_at(out, at.place, "doesn't differ: leave out again"),
+        Said::Waiting => print_refused(out, Refusal::Waiting),
+        Said::Refused(entry, why) => print_refused_entry(out, book, entry, *why),
+        Said::Penned(entry, settled) => {
+            print_settled(out, sheet, at.place, both.other, entry, *settled, book)
+        }
+    }
+}
+
+/// Tells the scorer at once what a line came to, at this position, where the desk had these votes before, and the scorer was
+/// told that the other desk isn't heard, or not.
+pub fn print_said<B: BookOf, W: Write>(
+    out: &mut Watched<W>,
+    sheet: &MatchSheet,
+    at: Position,
+    both: Both,
+    is_silent: bool,
+    said: &Said,
+    book: &B,
+) -> Result<(), WriteFailed>
+    requires fine { IsFine said.now }
+    requires own { IfSome both.own IsEntry }
+    requires other { IfSome both.other IsEntry }
+    ensures text { OnOk result (Prints W.contents out.old out.new
+        (texts.said_text sheet.now (B.innings_a_side book.now) at both.own both.other is_silent (B.content book.now) said.now)) }
+    ensures failed { OnErr result (has_failed out.new ≡ true) }
+{
+    print_answer(out, sheet, at, both, is_silent, said, book)?;
+    out.flush()
+}

@@ -1,0 +1,71 @@
+//! What isn't clear in a line, and who may bowl where it doesn't say who does.
+
+ghost use Rattle.std.specs.Prelude.{◌≡◌, ◌++◌, OnErr, OnOk, true};
+ghost use Rattle.corrections.specs.CleanList.{history_of};
+ghost use Rattle.streams.specs.Watched.{Prints, has_failed};
+ghost use Rattle.station_texts.specs.Questions as questions;
+
+use crate::questions::print_unclear;
+use cards::MatchSheet;
+use corrections::BookOf;
+use score_rows::print_bowlers;
+use shorthand::Unclear;
+use std::io::Write;
+use streams::{Watched, WriteFailed};
+
+/// Prints who may bowl, where the sheet limits the overs of a bowler.
+fn print_limited_bowlers<B: BookOf, W: Write>(
+    out: &mut Watched<W>,
+    sheet: &MatchSheet,
+    book: &B,
+) -> Result<(), WriteFailed>
+    ensures text { OnOk result (Prints W.contents out.old out.new
+        (questions.limited_bowlers sheet.now (history_of (B.content book.now)))) }
+    ensures failed { OnErr result (has_failed out.new ≡ true) }
+{
+    if sheet.limits().overs_a_bowler().is_some() {
+        print_bowlers(out, sheet, book)
+    } else {
+        Ok(())
+    }
+}
+
+/// The same, where a line doesn't say who bowls.
+fn print_who_may<B: BookOf, W: Write>(
+    out: &mut Watched<W>,
+    sheet: &MatchSheet,
+    unclear: &Unclear,
+    book: &B,
+) -> Result<(), WriteFailed>
+    ensures text { OnOk result (Prints W.contents out.old out.new
+        (questions.who_may sheet.now (history_of (B.content book.now)) unclear.now)) }
+    ensures failed { OnErr result (has_failed out.new ≡ true) }
+{
+    match unclear {
+        Unclear::WhoBowls => print_limited_bowlers(out, sheet, book),
+        Unclear::Fault(_) => Ok(()),
+        Unclear::NoSuchPlayer(_) => Ok(()),
+        Unclear::WhichPlayer(_, _) => Ok(()),
+        Unclear::TwoMeanings(_) => Ok(()),
+        Unclear::NoFielder(_, _) => Ok(()),
+        Unclear::UnknownWord(_) => Ok(()),
+        Unclear::NoSuchBall(_) => Ok(()),
+        Unclear::NothingStands => Ok(()),
+    }
+}
+
+/// Prints what isn't clear in a line, and behind it who may bowl, where that isn't and overs are limited.
+pub fn print_question<B: BookOf, W: Write>(
+    out: &mut Watched<W>,
+    sheet: &MatchSheet,
+    unclear: &Unclear,
+    book: &B,
+) -> Result<(), WriteFailed>
+    ensures text { OnOk result (Prints W.contents out.old out.new
+        (questions.unclear_text sheet.now unclear.now
+        ++ questions.who_may sheet.now (history_of (B.content book.now)) unclear.now)) }
+    ensures failed { OnErr result (has_failed out.new ≡ true) }
+{
+    print_unclear(out, sheet, unclear)?;
+    print_who_may(out, sheet, unclear, book)
+}

@@ -1,9 +1,0 @@
--- What a log of notices tells.
-use Rattle.std.specs.Prelude.{List, [], ◌∷◌, ◌++◌}
-use Rattle.telling.specs.declared.notice_log.NoticeLog.{NoticeLog}
-use Rattle.telling.specs.declared.notice_log.NoticeLog as noticed
-use Rattle.telling.specs.declared.notices.Notice.{Notice}
-
-abbrev pub notices_of : NoticeLog → List Notice
-notices_of noticed.Empty = []
-notices_of (noticed.Told' marker before notice) = notices_of before ++ notice.value ∷ []
