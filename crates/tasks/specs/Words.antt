@@ -4,19 +4,25 @@ use Rattle.clap.specs.declared.error.kind.ErrorKind as clap
 use Rattle.clap.specs.declared.error.kind.ErrorKind.{ErrorKind}
 use Rattle.std.specs.declared.io.ErrorKind as host
 use Rattle.std.specs.declared.io.ErrorKind.TheVariants as hosts
-use Rattle.tasks.specs.declared.{task.Task.Task, words_fault.WordsFault.WordsFault}
-use Rattle.tasks.specs.declared.task.Task.TheVariants.{BoardOfSheet, Check, Replay}
+use Rattle.tasks.specs.declared.{task.BoardTask.BoardTask, task.Task.Task, words_fault.WordsFault.WordsFault}
+use Rattle.tasks.specs.declared.task.BoardTask.TheVariants.{OfSheet}
+use Rattle.tasks.specs.declared.task.Task.TheVariants.{Board, Check, Replay}
 use Rattle.tasks.specs.declared.words_fault.WordsFault.TheVariants.{NotUnderstood, NotText, WrongOption, NoMemory}
 
 -- what no words ask for: `check` in a match of two innings a side
 abbrev pub plain_task : Task
 plain_task = Check 2
 
--- the numbers of a task are in their ranges: 1 or 2 innings a side, at most 4 boards, one of four
+-- a board of a sheet's table is one of four
+abbrev pub IsBoardTask : BoardTask → Type 0
+IsBoardTask (OfSheet sheet index named text json script serve) = index ≤ 3
+IsBoardTask task = ⊤
+
+-- the numbers of a task are in their ranges: 1 or 2 innings a side, at most 4 boards
 abbrev pub IsTask : Task → Type 0
 IsTask (Check innings) = (1 ≤ innings) × (innings ≤ 2)
 IsTask (Replay sheet schedule boards is_old) = boards ≤ 4
-IsTask (BoardOfSheet sheet index named text json script serve) = index ≤ 3
+IsTask (Board task) = IsBoardTask task
 IsTask task = ⊤
 
 -- why the words can't be had from the host: out of memory, or one isn't UTF-8

@@ -3,7 +3,7 @@
 ghost use Rattle.std.specs.Prelude.{IfSome};
 ghost use Rattle.tasks.specs.Words.{IsTask};
 
-use crate::task::Task;
+use crate::task::{BookFiles, Printed, Task};
 use crate::words::desk_in;
 use books::Source;
 use clap::ArgMatches;
@@ -15,13 +15,6 @@ fn source_in(text: &str) -> Option<Source> {
         "book" => Some(Source::Lines),
         _ => Some(Source::Votes(desk_in(text)?)),
     }
-}
-
-/// What a book is made of: a file of one source, or both desks' votes files, A's and B's.
-#[derive(Clone, Copy)]
-enum BookFiles<'a> {
-    One { from: &'a str, source: Source },
-    Both { a: &'a str, b: &'a str },
 }
 
 /// What the words say that a book is made of: of both files where a second one is named, which only the kind `both` has.
@@ -37,50 +30,15 @@ fn book_files_in<'a>(words: &ArgMatches<'a>) -> Option<BookFiles<'a>> {
     }
 }
 
-/// The task of `card`.
-pub fn card_task<'a>(words: &ArgMatches<'a>) -> Option<Task<'a>>
+/// The task of printing so much of a book.
+pub fn book_task<'a>(printed: Printed, words: &ArgMatches<'a>) -> Option<Task<'a>>
     ensures { IfSome result IsTask }
 {
-    let sheet = words.get_str("sheet")?;
-    match book_files_in(words)? {
-        BookFiles::One { from, source } => Some(Task::Card {
-            sheet,
-            from,
-            source,
-        }),
-        BookFiles::Both { a, b } => Some(Task::CardOfBoth { sheet, a, b }),
-    }
-}
-
-/// The task of `export` with a table's word, likewise.
-fn rows_task<'a>(words: &ArgMatches<'a>, table: Table) -> Option<Task<'a>>
-    ensures { IfSome result IsTask }
-{
-    let sheet = words.get_str("sheet")?;
-    match book_files_in(words)? {
-        BookFiles::One { from, source } => Some(Task::Rows {
-            table,
-            sheet,
-            from,
-            source,
-        }),
-        BookFiles::Both { a, b } => Some(Task::RowsOfBoth { table, sheet, a, b }),
-    }
-}
-
-/// The task of `export` without one, likewise.
-fn json_task<'a>(words: &ArgMatches<'a>) -> Option<Task<'a>>
-    ensures { IfSome result IsTask }
-{
-    let sheet = words.get_str("sheet")?;
-    match book_files_in(words)? {
-        BookFiles::One { from, source } => Some(Task::Export {
-            sheet,
-            from,
-            source,
-        }),
-        BookFiles::Both { a, b } => Some(Task::ExportOfBoth { sheet, a, b }),
-    }
+    Some(Task::Book {
+        printed,
+        sheet: words.get_str("sheet")?,
+        files: book_files_in(words)?,
+    })
 }
 
 /// The task of `export`: one table, or the JSON.
@@ -89,38 +47,8 @@ pub fn export_task<'a>(words: &ArgMatches<'a>) -> Option<Task<'a>>
 {
     match (words.get_flag("rows"), words.get_flag("penalties")) {
         (true, true) => None,
-        (true, false) => rows_task(words, Table::Deliveries),
-        (false, true) => rows_task(words, Table::Penalties),
-        (false, false) => json_task(words),
-    }
-}
-
-/// The task of `page`, likewise.
-pub fn page_task<'a>(words: &ArgMatches<'a>) -> Option<Task<'a>>
-    ensures { IfSome result IsTask }
-{
-    let sheet = words.get_str("sheet")?;
-    match book_files_in(words)? {
-        BookFiles::One { from, source } => Some(Task::Page {
-            sheet,
-            from,
-            source,
-        }),
-        BookFiles::Both { a, b } => Some(Task::PageOfBoth { sheet, a, b }),
-    }
-}
-
-/// The task of `lines`, likewise.
-pub fn lines_task<'a>(words: &ArgMatches<'a>) -> Option<Task<'a>>
-    ensures { IfSome result IsTask }
-{
-    let sheet = words.get_str("sheet")?;
-    match book_files_in(words)? {
-        BookFiles::One { from, source } => Some(Task::Lines {
-            sheet,
-            from,
-            source,
-        }),
-        BookFiles::Both { a, b } => Some(Task::LinesOfBoth { sheet, a, b }),
+        (true, false) => book_task(Printed::Rows(Table::Deliveries), words),
+        (false, true) => book_task(Printed::Rows(Table::Penalties), words),
+        (false, false) => book_task(Printed::Json, words),
     }
 }

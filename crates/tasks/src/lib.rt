@@ -8,6 +8,6 @@ mod task;
 mod words;
 mod words_fault;
 
-pub use task::Task;
+pub use task::{BoardTask, BookFiles, DeskTask, Printed, Task};
 pub use words::task_in;
 pub use words_fault::{WordsFault, print_words_fault};

@@ -1,9 +1,9 @@
 //! What the words of `desk` and `board` ask for.
 
 ghost use Rattle.std.specs.Prelude.{◌≤◌, IfSome};
-ghost use Rattle.tasks.specs.Words.{IsTask};
+ghost use Rattle.tasks.specs.Words.{IsBoardTask};
 
-use crate::task::Task;
+use crate::task::{BoardTask, DeskTask};
 use crate::words::desk_in;
 use clap::ArgMatches;
 use machine::{Address, addresses_in};
@@ -38,16 +38,14 @@ fn served_in<'a>(words: &ArgMatches<'a>) -> Option<Option<Address<'a>>> {
 }
 
 /// The task of a desk whose options are all named.
-fn full_desk_task<'a>(words: &ArgMatches<'a>) -> Option<Task<'a>>
-    ensures { IfSome result IsTask }
-{
+fn full_desk_task<'a>(words: &ArgMatches<'a>) -> Option<DeskTask<'a>> {
     let at = words.get_str("at")?;
     let other = words.get_str("other")?;
     let (at, peers) = match words.get_strs("board") {
         Some(boards) => addresses_in(at, other, boards)?,
         None => addresses_in(at, other, &[])?,
     };
-    Some(Task::Desk {
+    Some(DeskTask::Named {
         sheet: words.get_str("sheet")?,
         desk: desk_in(words.get_str("desk")?)?,
         file: words.get_str("file")?,
@@ -60,12 +58,12 @@ fn full_desk_task<'a>(words: &ArgMatches<'a>) -> Option<Task<'a>>
 }
 
 /// The task of a board whose options are all named.
-fn full_board_task<'a>(words: &ArgMatches<'a>) -> Option<Task<'a>>
-    ensures { IfSome result IsTask }
+fn full_board_task<'a>(words: &ArgMatches<'a>) -> Option<BoardTask<'a>>
+    ensures { IfSome result IsBoardTask }
 {
     let other = words.get_str("desk-b")?;
     let (at, peers) = addresses_in(words.get_str("at")?, words.get_str("desk-a")?, &[other])?;
-    Some(Task::Board {
+    Some(BoardTask::Named {
         sheet: words.get_str("sheet")?,
         at,
         peers,
@@ -103,9 +101,7 @@ fn boards_in<'a>(words: &ArgMatches<'a>) -> Option<BoardNames<'a>> {
 }
 
 /// The task of a desk of the sheet's table, by its letter.
-fn desk_of_sheet<'a>(letter: &str, words: &ArgMatches<'a>) -> Option<Task<'a>>
-    ensures { IfSome result IsTask }
-{
+fn desk_of_sheet<'a>(letter: &str, words: &ArgMatches<'a>) -> Option<DeskTask<'a>> {
     let named = DeskOptions {
         file: words.get_str("file"),
         copy: words.get_str("copy"),
@@ -117,7 +113,7 @@ fn desk_of_sheet<'a>(letter: &str, words: &ArgMatches<'a>) -> Option<Task<'a>>
     if words.get_str("desk").is_some() || !is_address(named.at) || !is_address(named.other) {
         return None;
     }
-    Some(Task::DeskOfSheet {
+    Some(DeskTask::OfSheet {
         sheet: words.get_str("sheet").unwrap_or(SHEET),
         desk: desk_in(letter)?,
         named,
@@ -126,9 +122,7 @@ fn desk_of_sheet<'a>(letter: &str, words: &ArgMatches<'a>) -> Option<Task<'a>>
 }
 
 /// A desk's task.
-pub fn desk_task<'a>(words: &ArgMatches<'a>) -> Option<Task<'a>>
-    ensures { IfSome result IsTask }
-{
+pub fn desk_task<'a>(words: &ArgMatches<'a>) -> Option<DeskTask<'a>> {
     match words.get_str("which") {
         Some(letter) => desk_of_sheet(letter, words),
         None => full_desk_task(words),
@@ -149,8 +143,8 @@ fn index_in(number: &str) -> Option<u8>
 }
 
 /// The task of a board of the sheet's table, by its number.
-fn board_of_sheet<'a>(number: &str, words: &ArgMatches<'a>) -> Option<Task<'a>>
-    ensures { IfSome result IsTask }
+fn board_of_sheet<'a>(number: &str, words: &ArgMatches<'a>) -> Option<BoardTask<'a>>
+    ensures { IfSome result IsBoardTask }
 {
     let named = BoardOptions {
         at: words.get_str("at"),
@@ -161,7 +155,7 @@ fn board_of_sheet<'a>(number: &str, words: &ArgMatches<'a>) -> Option<Task<'a>>
     if !is_address(named.at) || !is_address(named.a) || !is_address(named.b) {
         return None;
     }
-    Some(Task::BoardOfSheet {
+    Some(BoardTask::OfSheet {
         sheet: words.get_str("sheet").unwrap_or(SHEET),
         index: index_in(number)?,
         named,
@@ -173,8 +167,8 @@ fn board_of_sheet<'a>(number: &str, words: &ArgMatches<'a>) -> Option<Task<'a>>
 }
 
 /// A board's task.
-pub fn board_task<'a>(words: &ArgMatches<'a>) -> Option<Task<'a>>
-    ensures { IfSome result IsTask }
+pub fn board_task<'a>(words: &ArgMatches<'a>) -> Option<BoardTask<'a>>
+    ensures { IfSome result IsBoardTask }
 {
     match words.get_str("which") {
         Some(number) => board_of_sheet(number, words),

@@ -7,6 +7,79 @@ use machine::{Address, MOST_PEERS};
 use station_table::{BoardOptions, DeskOptions};
 use std::net::SocketAddr;
 
+/// What is printed of a book.
+#[derive(Clone, Copy)]
+pub enum Printed {
+    /// The cards and the page.
+    Cards,
+    /// The book as JSON.
+    Json,
+    /// A table of its deliveries or penalties.
+    Rows(Table),
+    /// The HTML page.
+    Page,
+    /// The full lines.
+    Lines,
+}
+
+/// What a book is made of: a file of one source, or both desks' votes files, A's and B's, whose agreed list it is.
+#[derive(Clone, Copy)]
+pub enum BookFiles<'a> {
+    One { from: &'a str, source: Source },
+    Both { a: &'a str, b: &'a str },
+}
+
+/// A desk that is to be kept.
+#[derive(Clone, Copy)]
+pub enum DeskTask<'a> {
+    /// With its votes in a file, at an address. Its peers are the other desk and boards. A copy of its votes is kept in a file,
+    /// and the scorers' key is in one, where they are named. Its scorer has a page at an address, where it is given.
+    Named {
+        sheet: &'a str,
+        desk: DeskId,
+        file: &'a str,
+        copy: Option<&'a str>,
+        at: Address<'a>,
+        peers: [Option<SocketAddr>; MOST_PEERS],
+        serve: Option<Address<'a>>,
+        key: Option<&'a str>,
+    },
+    /// With what its words name, and what they don't from the sheet's table of stations.
+    OfSheet {
+        sheet: &'a str,
+        desk: DeskId,
+        named: DeskOptions<'a>,
+        serve: Option<Address<'a>>,
+    },
+}
+
+/// A board that is to be kept. Its text is put into a file, its state as JSON into another one, the same as a script into a
+/// third, where they are named. A page shows text and state at an address, where it is given.
+#[derive(Clone, Copy)]
+pub enum BoardTask<'a> {
+    /// At an address. Its peers are both desks. The scorers' key is in a file, where it is named.
+    Named {
+        sheet: &'a str,
+        at: Address<'a>,
+        peers: [Option<SocketAddr>; MOST_PEERS],
+        text: Option<&'a str>,
+        json: Option<&'a str>,
+        script: Option<&'a str>,
+        serve: Option<Address<'a>>,
+        key: Option<&'a str>,
+    },
+    /// One of the sheet's table, counted from 0, with what its words name, and what they don't from there.
+    OfSheet {
+        sheet: &'a str,
+        index: u8,
+        named: BoardOptions<'a>,
+        text: Option<&'a str>,
+        json: Option<&'a str>,
+        script: Option<&'a str>,
+        serve: Option<Address<'a>>,
+    },
+}
+
 /// What the program is asked to do.
 #[derive(Clone, Copy)]
 pub enum Task<'a> {
@@ -22,67 +95,11 @@ pub enum Task<'a> {
         boards: u8,
         is_old: bool,
     },
-    /// To print the cards and the page of a book.
-    Card {
+    /// To print a book.
+    Book {
+        printed: Printed,
         sheet: &'a str,
-        from: &'a str,
-        source: Source,
-    },
-    /// To print a book as JSON.
-    Export {
-        sheet: &'a str,
-        from: &'a str,
-        source: Source,
-    },
-    /// To print the cards and the page of the agreed list of both desks' votes files, A's and B's.
-    CardOfBoth {
-        sheet: &'a str,
-        a: &'a str,
-        b: &'a str,
-    },
-    /// To print the agreed list of both desks' votes files, A's and B's, as JSON.
-    ExportOfBoth {
-        sheet: &'a str,
-        a: &'a str,
-        b: &'a str,
-    },
-    /// To print a table of a book.
-    Rows {
-        table: Table,
-        sheet: &'a str,
-        from: &'a str,
-        source: Source,
-    },
-    /// To print a table of the agreed list of both desks' votes files, A's and B's.
-    RowsOfBoth {
-        table: Table,
-        sheet: &'a str,
-        a: &'a str,
-        b: &'a str,
-    },
-    /// To print the HTML page of a book.
-    Page {
-        sheet: &'a str,
-        from: &'a str,
-        source: Source,
-    },
-    /// To print the HTML page of the agreed list of both desks' votes files, A's and B's.
-    PageOfBoth {
-        sheet: &'a str,
-        a: &'a str,
-        b: &'a str,
-    },
-    /// To print the full lines of a book.
-    Lines {
-        sheet: &'a str,
-        from: &'a str,
-        source: Source,
-    },
-    /// To print the full lines of the agreed list of both desks' votes files, A's and B's.
-    LinesOfBoth {
-        sheet: &'a str,
-        a: &'a str,
-        b: &'a str,
+        files: BookFiles<'a>,
     },
     /// To tell where both desks' votes files, A's and B's, differ.
     Compare {
@@ -113,47 +130,8 @@ pub enum Task<'a> {
     Key {
         to: &'a str,
     },
-    /// To keep a scorer's desk, with its votes in a file, at an address. Its peers are the other desk and boards. A copy of
-    /// its votes is kept in a file, and the scorers' key is in one, where they are named. Its scorer has a page at an address,
-    /// where it is given.
-    Desk {
-        sheet: &'a str,
-        desk: DeskId,
-        file: &'a str,
-        copy: Option<&'a str>,
-        at: Address<'a>,
-        peers: [Option<SocketAddr>; MOST_PEERS],
-        serve: Option<Address<'a>>,
-        key: Option<&'a str>,
-    },
-    /// To keep a board at an address. Its peers are both desks. Its text is put into a file, its state as JSON into
-    /// another one, the same as a script into a third, and the scorers' key is in one, where they are named. A page shows text
-    /// and state at an address, where it is given.
-    Board {
-        sheet: &'a str,
-        at: Address<'a>,
-        peers: [Option<SocketAddr>; MOST_PEERS],
-        text: Option<&'a str>,
-        json: Option<&'a str>,
-        script: Option<&'a str>,
-        serve: Option<Address<'a>>,
-        key: Option<&'a str>,
-    },
-    /// To keep a scorer's desk with what its words name, and what they don't from the sheet's table of stations.
-    DeskOfSheet {
-        sheet: &'a str,
-        desk: DeskId,
-        named: DeskOptions<'a>,
-        serve: Option<Address<'a>>,
-    },
-    /// To keep a board of the sheet's table, counted from 0, likewise.
-    BoardOfSheet {
-        sheet: &'a str,
-        index: u8,
-        named: BoardOptions<'a>,
-        text: Option<&'a str>,
-        json: Option<&'a str>,
-        script: Option<&'a str>,
-        serve: Option<Address<'a>>,
-    },
+    /// To keep a scorer's desk.
+    Desk(DeskTask<'a>),
+    /// To keep a board.
+    Board(BoardTask<'a>),
 }

@@ -3,10 +3,10 @@
 ghost use Rattle.std.specs.Prelude.{◌≡◌, ◌≤◌, length, Ok, IfOk, IfSome};
 ghost use Rattle.tasks.specs.Words.{IsTask, plain_task};
 
-use crate::book_words::{card_task, export_task, lines_task, page_task};
+use crate::book_words::{book_task, export_task};
 use crate::forms::program_words;
 use crate::station_words::{board_task, desk_task};
-use crate::task::Task;
+use crate::task::{Printed, Task};
 use crate::words_fault::WordsFault;
 use agree_core::DeskId;
 use clap::{ArgMatches, Command};
@@ -115,10 +115,10 @@ fn task_of<'a>(command: &str, words: &ArgMatches<'a>) -> Option<Task<'a>>
     match command {
         "check" => check_task(words),
         "replay" => replay_task(words),
-        "card" => card_task(words),
+        "card" => book_task(Printed::Cards, words),
         "export" => export_task(words),
-        "page" => page_task(words),
-        "lines" => lines_task(words),
+        "page" => book_task(Printed::Page, words),
+        "lines" => book_task(Printed::Lines, words),
         "compare" => compare_task(words),
         "migrate" => migrate_task(words),
         "match" => match_task(words),
@@ -128,8 +128,8 @@ fn task_of<'a>(command: &str, words: &ArgMatches<'a>) -> Option<Task<'a>>
         "key" => Some(Task::Key {
             to: words.get_str("to")?,
         }),
-        "desk" => desk_task(words),
-        "board" => board_task(words),
+        "desk" => Some(Task::Desk(desk_task(words)?)),
+        "board" => Some(Task::Board(board_task(words)?)),
         _ => None,
     }
 }
