@@ -3,14 +3,35 @@ ghost use Rattle.std.specs.Prelude.{◌<◌};
 ghost use Rattle.notation.specs.Written.{IsEntry};
 
 use agree_core::{Ask, Asker, DeskId, Message, PLACES, ROUNDS};
+use links::{Clock, ClockLog};
 use notation::Entry;
 use std::alloc::Global;
+use std::cell::Cell;
 use std::process::Abort;
 use tests_support::{entry_in, vote_of};
 use wire::bytes_of;
 
 mod all_is_heard;
 mod behind;
+
+/// A clock of the test's.
+#[derive(Drop)]
+struct Hand<'a> {
+    now: &'a Cell<u64>,
+    log: ClockLog,
+}
+
+impl Clock for Hand<'_> {
+    ghost use Rattle.links.specs.Logs.{readings_of};
+
+    ghost readings = { λ hand. readings_of hand.log };
+
+    fn millis(&mut self) -> u64 {
+        let now = self.now.get();
+        self.log = self.log.read(now);
+        now
+    }
+}
 
 fn entry(rt: &impl Abort, line: &str) -> Entry
     ensures { IsEntry result }

@@ -3,8 +3,7 @@
 ghost use Rattle.std.specs.Prelude.{◌≡◌, ◌<◌};
 
 use super::*;
-use links::{Clock, ClockLog, Link, Log, PeerLink, Taken, Window};
-use std::cell::Cell;
+use links::{Link, Log, PeerLink, Taken, Window};
 use tests_support::{entry_in, vote_of};
 use wire::message_of;
 
@@ -14,40 +13,29 @@ const LENGTH: usize = 192;
 /// How many votes that are.
 const VOTES: usize = 2 * LENGTH;
 
-/// What both desks answer to asks, and what of it is on its way: a bit for each vote, desk A's first.
+/// What both desks answer to asks, and which votes are on their way, desk A's first.
 #[derive(Drop)]
 struct Network {
-    now: Cell<u64>,
-    random: Cell<u64>,
-    on_its_way: Cell<[u64; 6]>,
+    random: u64,
+    on_its_way: [bool; VOTES],
     /// One datagram in so many is lost.
     lost: Option<u64>,
 }
 
 impl Network {
-    fn new(seed: u64, lost: Option<u64>) -> Network {
-        Network {
-            now: Cell::new(0),
-            random: Cell::new(seed),
-            on_its_way: Cell::new([0; 6]),
-            lost,
-        }
-    }
-
     /// The next number of Knuth's generator for MMIX, but for its lowest bits.
-    fn random(&self) -> u64 {
-        let next = self.random.get().wrapping_mul(6_364_136_223_846_793_005);
-        let next = next.wrapping_add(1_442_695_040_888_963_407);
-        self.random.set(next);
-        next >> 33
+    fn random(&mut self) -> u64 {
+        let next = self.random.wrapping_mul(6_364_136_223_846_793_005);
+        self.random = next.wrapping_add(1_442_695_040_888_963_407);
+        self.random >> 33
     }
 
     /// Whether this happens, one time in so many.
-    fn happens(&self, times: u64) -> bool {
+    fn happens(&mut self, times: u64) -> bool {
         self.random().checked_rem(times) == Some(0)
     }
 
-    fn is_lost(&self) -> bool {
+    fn is_lost(&mut self) -> bool {
         match self.lost {
             Some(times) => self.happens(times),
             None => false,
@@ -55,28 +43,14 @@ impl Network {
     }
 
     /// A vote is on its way, or no more.
-    fn set(&self, vote: usize, is_on_its_way: bool) {
-        let mut words = self.on_its_way.get();
-        if let Some(word) = words.get_mut(vote / 64) {
-            let bit = 1 << (vote % 64);
-            *word = if is_on_its_way {
-                *word | bit
-            } else {
-                *word & !bit
-            };
-        }
-        self.on_its_way.set(words);
-    }
-
-    fn is_on_its_way(&self, vote: usize) -> bool {
-        match self.on_its_way.get().get(vote / 64) {
-            Some(word) => *word >> (vote % 64) & 1 == 1,
-            None => false,
+    fn set(&mut self, vote: usize, is_on_its_way: bool) {
+        if let Some(it) = self.on_its_way.get_mut(vote) {
+            *it = is_on_its_way;
         }
     }
 
     /// A desk answers an ask for a place: by its votes for this one and the 63 behind it.
-    fn answer(&self, desk: usize, place: u32) {
+    fn answer(&mut self, desk: usize, place: u32) {
         for behind in 0..64 {
             let place = (place as usize).saturating_add(behind);
             if place < LENGTH && !self.is_lost() {
@@ -86,7 +60,7 @@ impl Network {
     }
 
     /// An ask comes to a desk, or is lost.
-    fn ask(&self, desk: usize, bytes: &[u8; 48]) {
+    fn ask(&mut self, desk: usize, bytes: &[u8; 48]) {
         if let Ok(Message::Ask(ask)) = message_of(7, bytes.as_slice())
             && desk < 2
             && !self.is_lost()
@@ -96,12 +70,13 @@ impl Network {
     }
 
     /// One of the votes on their way, of which one in eight comes once more.
-    fn next(&self) -> Option<usize> {
+    fn next(&mut self) -> Option<usize> {
         let from = self.random() as usize;
         for behind in 0..VOTES {
             let vote = from.wrapping_add(behind) % VOTES;
-            if self.is_on_its_way(vote) {
-                self.set(vote, self.happens(8));
+            if self.on_its_way.get(vote) == Some(&true) {
+                let comes_again = self.happens(8);
+                self.set(vote, comes_again);
                 return Some(vote);
             }
         }
@@ -109,33 +84,15 @@ impl Network {
     }
 }
 
-#[derive(Drop)]
-struct Hand<'a> {
-    network: &'a Network,
-    log: ClockLog,
-}
-
-impl Clock for Hand<'_> {
-    ghost use Rattle.links.specs.Logs.{readings_of};
-
-    ghost readings = { λ hand. readings_of hand.log };
-
-    fn millis(&mut self) -> u64 {
-        let now = self.network.now.get();
-        self.log = self.log.read(now);
-        now
-    }
-}
-
 /// A link to both desks: peer 0 is desk A, peer 1 desk B.
 #[derive(Drop)]
-struct Line<'a> {
-    network: &'a Network,
+struct Line {
+    network: Network,
     peer: usize,
     log: Log,
 }
 
-impl Line<'_> {
+impl Line {
     /// A vote as it comes, in the front of a buffer.
     fn bring(&mut self, vote: usize, buffer: &mut [u8; 64]) -> bool
         ensures { self.new.log ≡ self.old.log }
@@ -158,7 +115,7 @@ impl Line<'_> {
     }
 }
 
-impl Link for Line<'_> {
+impl Link for Line {
     ghost use Rattle.links.specs.Logs.{passed_of};
 
     ghost log = { λ line. passed_of line.log };
@@ -185,7 +142,7 @@ impl Link for Line<'_> {
     }
 }
 
-impl PeerLink for Line<'_> {
+impl PeerLink for Line {
     fn send_to(&mut self, peer: usize, bytes: &[u8; 48]) {
         self.network.ask(peer, bytes);
         self.log = self.log.sent(bytes);
@@ -205,14 +162,14 @@ struct Board {
 }
 
 impl Board {
-    fn ask(&self, window: &mut Window<Line<'_>, Hand<'_>>) {
+    fn ask(&self, window: &mut Window<Line, Hand<'_>>) {
         if self.place < PLACES {
             window.send(&ask_at(Asker::Board, self.place, 0));
         }
     }
 
     /// A datagram came. With both votes of its place the board is at the next one, for which it asks.
-    fn hear(&mut self, bytes: &[u8; 64], window: &mut Window<Line<'_>, Hand<'_>>) {
+    fn hear(&mut self, bytes: &[u8; 64], window: &mut Window<Line, Hand<'_>>) {
         if let Ok(Message::Vote(vote)) = message_of(7, &bytes[..48])
             && vote.place == self.place
         {
@@ -230,7 +187,7 @@ impl Board {
     }
 
     /// A turn: at most eight datagrams.
-    fn turn(&mut self, window: &mut Window<Line<'_>, Hand<'_>>) {
+    fn turn(&mut self, window: &mut Window<Line, Hand<'_>>) {
         for _ in 0..8 {
             let mut buffer = [0; 64];
             match window.take(&mut buffer, 0) {
@@ -242,59 +199,56 @@ impl Board {
     }
 }
 
-/// After how many turns of 10 ms a board has all, which asks every half second unasked; none where it hasn't after so many.
-fn turns(alloc: Global, seed: u64, lost: Option<u64>, most: u64) -> Option<u64> {
-    let network = Network::new(seed, lost);
+/// Whether within so many turns of 10 ms a board has all, which asks every half second unasked.
+fn hears(alloc: Global, seed: u64, lost: Option<u64>, most: u64) -> bool {
+    let now = Cell::new(0);
+    let network = Network {
+        random: seed,
+        on_its_way: [false; VOTES],
+        lost,
+    };
     let line = Line {
-        network: &network,
+        network,
         peer: 0,
         log: Log::Empty,
     };
-    let hand = Hand {
-        network: &network,
-        log: ClockLog::Empty,
-    };
-    let mut window = Window::new(alloc, line, hand, 7);
+    let log = ClockLog::Empty;
+    let mut window = Window::new(alloc, line, Hand { now: &now, log }, 7);
     let mut board = Board {
         place: 0,
         has_a: false,
         has_b: false,
     };
     for turn in 0..most {
-        network.now.set(turn.saturating_mul(10));
+        now.set(turn.saturating_mul(10));
         if turn % 50 == 0 {
             board.ask(&mut window);
         }
         board.turn(&mut window);
-        if board.place as usize >= LENGTH {
-            return Some(turn);
-        }
     }
-    None
+    board.place as usize >= LENGTH
+}
+
+/// All is heard whatever the network does.
+fn all_is_heard(rt: &impl Abort, alloc: Global, lost: Option<u64>, most: u64) {
+    for seed in 0..20 {
+        assert!(rt; hears(alloc, seed, lost, most), "{seed}");
+    }
 }
 
 // Each of 384 votes is one of the eight of a turn twice at most, as it comes early and as it is given, and one in eight comes
 // once more: 108 turns, beside what is waited for. By its own asks alone, one each half second, a board would take 9,600.
 #[test]
 fn all_is_heard_where_nothing_is_lost(rt: HostRuntime) {
-    for seed in 0..20 {
-        let turns = turns(rt.alloc(), seed, None, 250);
-        assert!(rt; turns.is_some(), "{seed}");
-    }
+    all_is_heard(&rt, rt.alloc(), None, 250);
 }
 
 #[test]
 fn all_is_heard_where_a_quarter_is_lost(rt: HostRuntime) {
-    for seed in 0..20 {
-        let turns = turns(rt.alloc(), seed, Some(4), 500);
-        assert!(rt; turns.is_some(), "{seed}");
-    }
+    all_is_heard(&rt, rt.alloc(), Some(4), 500);
 }
 
 #[test]
 fn all_is_heard_where_half_is_lost(rt: HostRuntime) {
-    for seed in 0..20 {
-        let turns = turns(rt.alloc(), seed, Some(2), 2_000);
-        assert!(rt; turns.is_some(), "{seed}");
-    }
+    all_is_heard(&rt, rt.alloc(), Some(2), 2_000);
 }

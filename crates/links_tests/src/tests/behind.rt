@@ -2,9 +2,8 @@
 ghost use Rattle.std.specs.Prelude.{◌<◌};
 
 use super::*;
-use links::{CarriedLog, Clock, ClockLog, Link, Sealed, SealedCarrier, Taken, Window};
+use links::{CarriedLog, Link, Sealed, SealedCarrier, Taken, Window};
 use seal::Seal;
-use std::cell::Cell;
 
 const KEY: &[u8] = b"a key of sixteen";
 
@@ -38,24 +37,6 @@ impl World {
             last: Cell::new([0; 64]),
             waited: Cell::new(0),
         }
-    }
-}
-
-#[derive(Drop)]
-struct Hand<'a> {
-    world: &'a World,
-    log: ClockLog,
-}
-
-impl Clock for Hand<'_> {
-    ghost use Rattle.links.specs.Logs.{readings_of};
-
-    ghost readings = { λ hand. readings_of hand.log };
-
-    fn millis(&mut self) -> u64 {
-        let now = self.world.now.get();
-        self.log = self.log.read(now);
-        now
     }
 }
 
@@ -112,8 +93,11 @@ fn windowed(alloc: Global, world: &World) -> Windowed<'_> {
         world,
         log: CarriedLog::Empty,
     };
-    let log = ClockLog::Empty;
-    Window::new(alloc, Sealed::new(post, seal()), Hand { world, log }, 7)
+    let hand = Hand {
+        now: &world.now,
+        log: ClockLog::Empty,
+    };
+    Window::new(alloc, Sealed::new(post, seal()), hand, 7)
 }
 
 /// The match's seal.
@@ -130,9 +114,26 @@ fn over(rt: &impl Abort, desk: DeskId, place: u32, round: u32) -> [u8; 48]
 }
 
 /// What is given where this comes, sealed.
-fn given(window: &mut Windowed<'_>, world: &World, message: [u8; 48]) -> Taken {
-    world.brings.set(Some(seal().sealed(&message)));
+fn given(window: &mut Windowed<'_>, world: &World, message: &[u8; 48]) -> Taken {
+    world.brings.set(Some(seal().sealed(message)));
     window.take(&mut [0; 64], 0)
+}
+
+/// It is given as it comes.
+fn is_given(rt: &impl Abort, window: &mut Windowed<'_>, world: &World, message: &[u8; 48]) {
+    assert_eq!(rt; given(window, world, message), Taken::Datagram(48));
+}
+
+/// It isn't given as it comes.
+fn is_early(rt: &impl Abort, window: &mut Windowed<'_>, world: &World, message: &[u8; 48]) {
+    assert_eq!(rt; given(window, world, message), Taken::Lost);
+}
+
+/// A desk's first vote for a place comes, and is given.
+fn hears(rt: &impl Abort, window: &mut Windowed<'_>, world: &World, desk: DeskId, place: u32)
+    requires { place < PLACES }
+{
+    is_given(rt, window, world, &over(rt, desk, place, 0));
 }
 
 /// The message that is given where nothing comes.
@@ -148,34 +149,76 @@ fn kept(window: &mut Windowed<'_>) -> Option<[u8; 48]> {
     }
 }
 
+/// Where nothing comes, nothing is given.
+fn is_silent(rt: &impl Abort, window: &mut Windowed<'_>) {
+    assert!(rt; kept(window).is_none());
+}
+
+/// Where nothing comes, this is given.
+fn gives(rt: &impl Abort, window: &mut Windowed<'_>, message: &[u8; 48]) {
+    assert!(rt; kept(window).as_ref() == Some(message));
+}
+
+/// So many datagrams were sent to all.
+fn has_sent(rt: &impl Abort, world: &World, sent: usize) {
+    assert_eq!(rt; world.sent.get(), sent);
+}
+
+/// And so many back.
+fn has_sent_back(rt: &impl Abort, world: &World, back: usize) {
+    assert_eq!(rt; world.back.get(), back);
+}
+
+/// Where nothing comes at this time, nothing is given, and it was waited for so long.
+fn rests(rt: &impl Abort, window: &mut Windowed<'_>, world: &World, now: u64, waited: u64) {
+    world.now.set(now);
+    is_silent(rt, window);
+    assert_eq!(rt; world.waited.get(), waited, "{now}");
+}
+
+/// The last datagram was this one.
+fn has_said(rt: &impl Abort, world: &World, message: &[u8; 48]) {
+    assert!(rt; world.last.get() == seal().sealed(message));
+}
+
+/// A board's ask for a place is given, and desk A answers it.
+fn is_answered(rt: &impl Abort, window: &mut Windowed<'_>, world: &World, place: u32)
+    requires { place < PLACES }
+{
+    is_given(rt, window, world, &ask_at(Asker::Board, place, 0));
+    window.reply(&over(rt, DeskId::A, place, 0));
+}
+
+/// An ask for a place is given unasked, and desk A answers it to peer 2.
+fn goes_on(rt: &impl Abort, window: &mut Windowed<'_>, world: &World, place: u32)
+    requires { place < PLACES }
+{
+    world.peer.set(0);
+    gives(rt, window, &ask_at(Asker::Board, place, 0));
+    window.reply(&over(rt, DeskId::A, place, 0));
+    assert_eq!(rt; world.to.get(), 2);
+}
+
 #[test]
 fn an_ask_stands_for_those_behind_it(rt: HostRuntime) {
     let world = World::new();
     let mut window = windowed(rt.alloc(), &world);
     world.peer.set(2);
-    assert_eq!(rt;
-        given(&mut window, &world, ask_at(Asker::Board, 0, 0)),
-        Taken::Datagram(48)
-    );
-    window.reply(&over(&rt, DeskId::A, 0, 0));
+    is_answered(&rt, &mut window, &world, 0);
     for place in 1..64 {
-        world.peer.set(0);
-        assert!(rt; kept(&mut window) == Some(ask_at(Asker::Board, place, 0)));
-        window.reply(&over(&rt, DeskId::A, place, 0));
-        assert_eq!(rt; world.to.get(), 2);
+        goes_on(&rt, &mut window, &world, place);
     }
-    assert!(rt; kept(&mut window).is_none());
-    assert_eq!(rt; (world.sent.get(), world.back.get()), (0, 64));
+    is_silent(&rt, &mut window);
+    has_sent(&rt, &world, 0);
+    has_sent_back(&rt, &world, 64);
     // within what was asked for so the same peer's ask stands for itself alone, and behind it for others
     world.peer.set(2);
-    given(&mut window, &world, ask_at(Asker::Board, 5, 0));
-    window.reply(&over(&rt, DeskId::A, 5, 0));
-    assert!(rt; kept(&mut window).is_none());
-    given(&mut window, &world, ask_at(Asker::Board, 64, 0));
-    window.reply(&over(&rt, DeskId::A, 64, 0));
-    assert!(rt; kept(&mut window) == Some(ask_at(Asker::Board, 65, 0)));
+    is_answered(&rt, &mut window, &world, 5);
+    is_silent(&rt, &mut window);
+    is_answered(&rt, &mut window, &world, 64);
+    gives(&rt, &mut window, &ask_at(Asker::Board, 65, 0));
     // without an answer it ends
-    assert!(rt; kept(&mut window).is_none());
+    is_silent(&rt, &mut window);
 }
 
 // An ask every 10 ms, of which each may stand for those behind it: 130 do, and one more every 100 ms.
@@ -186,13 +229,9 @@ fn a_peer_has_so_many_windows(rt: HostRuntime) {
     let mut opened: u32 = 0;
     for turn in 0..600_u32 {
         world.now.set(u64::from(turn) * 10);
-        let place = turn * 2;
-        given(&mut window, &world, ask_at(Asker::Board, place, 0));
-        window.reply(&over(&rt, DeskId::A, place, 0));
-        if kept(&mut window).is_some() {
-            opened = opened.saturating_add(1);
-        }
-        assert!(rt; kept(&mut window).is_none());
+        is_answered(&rt, &mut window, &world, turn * 2);
+        opened = opened.saturating_add(u32::from(kept(&mut window).is_some()));
+        is_silent(&rt, &mut window);
     }
     assert_eq!(rt; opened, 189);
 }
@@ -205,25 +244,21 @@ fn early_votes_come_when_the_board_is_there(rt: HostRuntime) {
     let one = over(&rt, DeskId::A, 1, 0);
     let other = over(&rt, DeskId::B, 1, 0);
     for early in [one, one, other] {
-        assert_eq!(rt; given(&mut window, &world, early), Taken::Lost);
+        is_early(&rt, &mut window, &world, &early);
     }
-    for desk in [DeskId::A, DeskId::B] {
-        let now = over(&rt, desk, 0, 0);
-        assert_eq!(rt; given(&mut window, &world, now), Taken::Datagram(48));
-    }
-    assert!(rt; kept(&mut window).is_none());
+    hears(&rt, &mut window, &world, DeskId::A, 0);
+    hears(&rt, &mut window, &world, DeskId::B, 0);
+    is_silent(&rt, &mut window);
     window.send(&ask_at(Asker::Board, 1, 0));
-    assert_eq!(rt; world.sent.get(), 1);
-    assert!(rt; kept(&mut window) == Some(one) && kept(&mut window) == Some(other));
-    assert!(rt; kept(&mut window).is_none());
+    has_sent(&rt, &world, 1);
+    gives(&rt, &mut window, &one);
+    gives(&rt, &mut window, &other);
+    is_silent(&rt, &mut window);
     // what a board lacks is asked for
-    assert_eq!(rt;
-        given(&mut window, &world, over(&rt, DeskId::A, 2, 0)),
-        Taken::Lost
-    );
+    is_early(&rt, &mut window, &world, &over(&rt, DeskId::A, 2, 0));
     world.now.set(4);
     window.send(&ask_at(Asker::Board, 2, 0));
-    assert_eq!(rt; world.sent.get(), 2);
+    has_sent(&rt, &world, 2);
 }
 
 #[test]
@@ -233,21 +268,28 @@ fn a_second_round_comes_in_its_turn(rt: HostRuntime) {
     window.send(&over(&rt, DeskId::A, 3, 0));
     let second = over(&rt, DeskId::B, 3, 1);
     let next = over(&rt, DeskId::B, 4, 0);
-    for early in [next, second] {
-        assert_eq!(rt; given(&mut window, &world, early), Taken::Lost);
-    }
+    is_early(&rt, &mut window, &world, &next);
+    is_early(&rt, &mut window, &world, &second);
     window.send(&ask_at(Asker::A, 3, 1));
-    assert!(rt; kept(&mut window) == Some(second) && kept(&mut window).is_none());
+    gives(&rt, &mut window, &second);
+    is_silent(&rt, &mut window);
     window.send(&ask_at(Asker::A, 4, 0));
-    assert!(rt; kept(&mut window) == Some(next));
-    assert_eq!(rt; world.sent.get(), 1);
+    gives(&rt, &mut window, &next);
+    has_sent(&rt, &world, 1);
     // a desk is given what comes early at once too, and has no use for what it passed
-    assert_eq!(rt;
-        given(&mut window, &world, over(&rt, DeskId::B, 5, 0)),
-        Taken::Datagram(48)
-    );
+    hears(&rt, &mut window, &world, DeskId::B, 5);
     window.send(&over(&rt, DeskId::A, 6, 0));
-    assert!(rt; kept(&mut window).is_none());
+    is_silent(&rt, &mut window);
+}
+
+/// Bytes that don't open come at this time, in place of desk A's vote for a place.
+fn is_unopened(rt: &impl Abort, window: &mut Windowed<'_>, world: &World, place: u32)
+    requires { place < PLACES }
+{
+    let mut forged = seal().sealed(&over(rt, DeskId::A, place, 0));
+    forged[63] ^= 1;
+    world.brings.set(Some(forged));
+    assert_eq!(rt; window.take(&mut [0; 64], 0), Taken::Unopened);
 }
 
 #[test]
@@ -255,21 +297,15 @@ fn what_is_far_ahead_or_forged_is_not_kept(rt: HostRuntime) {
     let world = World::new();
     let mut window = windowed(rt.alloc(), &world);
     window.send(&ask_at(Asker::B, 0, 0));
-    let far = over(&rt, DeskId::A, 65, 0);
-    assert_eq!(rt; given(&mut window, &world, far), Taken::Datagram(48));
-    let near = over(&rt, DeskId::A, 64, 0);
-    assert_eq!(rt; given(&mut window, &world, near), Taken::Datagram(48));
+    hears(&rt, &mut window, &world, DeskId::A, 65);
+    hears(&rt, &mut window, &world, DeskId::A, 64);
     // bytes that don't open change nothing of when an ask is said
-    for place in [0, 1] {
-        let mut forged = seal().sealed(&over(&rt, DeskId::A, place, 0));
-        forged[63] ^= 1;
-        world.now.set(19);
-        world.brings.set(Some(forged));
-        assert_eq!(rt; window.take(&mut [0; 64], 0), Taken::Unopened);
-    }
+    world.now.set(19);
+    is_unopened(&rt, &mut window, &world, 0);
+    is_unopened(&rt, &mut window, &world, 1);
     world.now.set(20);
     window.send(&ask_at(Asker::B, 1, 0));
-    assert_eq!(rt; world.sent.get(), 2);
+    has_sent(&rt, &world, 2);
 }
 
 #[test]
@@ -278,23 +314,37 @@ fn an_ask_is_said_again_where_later_votes_are_here(rt: HostRuntime) {
     let mut window = windowed(rt.alloc(), &world);
     let ask = ask_at(Asker::B, 0, 0);
     window.send(&ask);
-    assert!(rt; kept(&mut window).is_none());
-    assert_eq!(rt; (world.sent.get(), world.waited.get()), (1, 250));
-    assert_eq!(rt;
-        given(&mut window, &world, over(&rt, DeskId::A, 1, 0)),
-        Taken::Datagram(48)
-    );
-    world.now.set(5);
-    assert!(rt; kept(&mut window).is_none());
-    assert_eq!(rt; (world.sent.get(), world.waited.get()), (1, 15));
+    rests(&rt, &mut window, &world, 0, 250);
+    has_sent(&rt, &world, 1);
+    hears(&rt, &mut window, &world, DeskId::A, 1);
+    rests(&rt, &mut window, &world, 5, 15);
     // to the desk whose vote it is, after twice as long each time
-    for (now, back) in [(20, 1), (59, 1), (60, 2), (139, 2), (140, 3)] {
-        world.now.set(now);
-        assert!(rt; kept(&mut window).is_none());
-        assert_eq!(rt; (world.sent.get(), world.back.get()), (1, back));
+    for (now, back, waited) in [
+        (20, 1, 40),
+        (59, 1, 1),
+        (60, 2, 80),
+        (139, 2, 1),
+        (140, 3, 160),
+    ] {
+        rests(&rt, &mut window, &world, now, waited);
+        has_sent_back(&rt, &world, back);
     }
-    assert!(rt; world.last.get() == seal().sealed(&ask));
-    assert_eq!(rt; world.waited.get(), 160);
+    has_sent(&rt, &world, 1);
+    has_said(&rt, &world, &ask);
+}
+
+/// Hands down an ask, or not, at this time.
+fn asks(
+    rt: &impl Abort,
+    window: &mut Windowed<'_>,
+    world: &World,
+    now: u64,
+    ask: &[u8; 48],
+    sent: usize,
+) {
+    world.now.set(now);
+    window.send(ask);
+    has_sent(rt, world, sent);
 }
 
 #[test]
@@ -303,17 +353,10 @@ fn an_answer_is_waited_for_two_round_trips(rt: HostRuntime) {
     let mut window = windowed(rt.alloc(), &world);
     window.send(&ask_at(Asker::B, 0, 0));
     world.now.set(30);
-    assert_eq!(rt;
-        given(&mut window, &world, over(&rt, DeskId::A, 0, 0)),
-        Taken::Datagram(48)
-    );
+    hears(&rt, &mut window, &world, DeskId::A, 0);
     let ask = ask_at(Asker::B, 64, 0);
-    window.send(&ask);
-    assert_eq!(rt; world.sent.get(), 2);
-    for (now, sent) in [(89, 2), (90, 3), (149, 3), (150, 4)] {
-        world.now.set(now);
-        window.send(&ask);
-        assert_eq!(rt; world.sent.get(), sent);
+    for (now, sent) in [(30, 2), (89, 2), (90, 3), (149, 3), (150, 4)] {
+        asks(&rt, &mut window, &world, now, &ask, sent);
     }
 }
 
@@ -324,40 +367,35 @@ fn an_ask_waits_for_what_was_asked_before(rt: HostRuntime) {
     let mut window = windowed(rt.alloc(), &world);
     window.send(&ask_at(Asker::B, 0, 0));
     world.now.set(30);
-    assert_eq!(rt;
-        given(&mut window, &world, over(&rt, DeskId::A, 0, 0)),
-        Taken::Datagram(48)
-    );
-    assert_eq!(rt;
-        given(&mut window, &world, over(&rt, DeskId::A, 2, 0)),
-        Taken::Datagram(48)
-    );
+    hears(&rt, &mut window, &world, DeskId::A, 0);
+    hears(&rt, &mut window, &world, DeskId::A, 2);
     let ask = ask_at(Asker::B, 1, 0);
-    world.now.set(50);
-    window.send(&ask);
-    assert_eq!(rt;
-        given(&mut window, &world, over(&rt, DeskId::A, 3, 0)),
-        Taken::Datagram(48)
-    );
+    asks(&rt, &mut window, &world, 50, &ask, 1);
+    hears(&rt, &mut window, &world, DeskId::A, 3);
     for (now, back, waited) in [(50, 0, 60), (109, 0, 1), (110, 1, 60), (111, 1, 59)] {
-        world.now.set(now);
-        assert!(rt; kept(&mut window).is_none());
-        assert_eq!(rt;
-            (world.back.get(), world.waited.get()),
-            (back, waited),
-            "{now}"
-        );
+        rests(&rt, &mut window, &world, now, waited);
+        has_sent_back(&rt, &world, back);
     }
-    assert!(rt; world.last.get() == seal().sealed(&ask));
+    has_said(&rt, &world, &ask);
     // the ask for 0 brings the votes of 0 to 63, that for 64 those of 64 to 127
-    window.send(&ask_at(Asker::B, 63, 0));
-    assert_eq!(rt; world.sent.get(), 1);
-    window.send(&ask_at(Asker::B, 64, 0));
-    assert_eq!(rt; world.sent.get(), 2);
-    window.send(&ask_at(Asker::B, 127, 0));
-    assert_eq!(rt; world.sent.get(), 2);
-    window.send(&ask_at(Asker::B, 128, 0));
-    assert_eq!(rt; world.sent.get(), 3);
+    asks(&rt, &mut window, &world, 111, &ask_at(Asker::B, 63, 0), 1);
+    asks(&rt, &mut window, &world, 111, &ask_at(Asker::B, 64, 0), 2);
+    asks(&rt, &mut window, &world, 111, &ask_at(Asker::B, 127, 0), 2);
+    asks(&rt, &mut window, &world, 111, &ask_at(Asker::B, 128, 0), 3);
+}
+
+/// Where nothing comes at this time, nothing is given, so many datagrams were sent to all, and this was the last.
+fn is_heard(
+    rt: &impl Abort,
+    window: &mut Windowed<'_>,
+    world: &World,
+    now: u64,
+    sent: usize,
+    last: &[u8; 48],
+) {
+    rests(rt, window, world, now, 250);
+    has_sent(rt, world, sent);
+    has_said(rt, world, last);
 }
 
 // Whoever has nothing to say unasked asks for its position every two seconds, and waits for datagrams as long as ever.
@@ -365,34 +403,18 @@ fn an_ask_waits_for_what_was_asked_before(rt: HostRuntime) {
 fn a_silent_station_asks(rt: HostRuntime) {
     let world = World::new();
     let mut window = windowed(rt.alloc(), &world);
-    let own = over(&rt, DeskId::A, 0, 0);
+    rests(&rt, &mut window, &world, 10_000, 250);
+    has_sent(&rt, &world, 0);
+    window.send(&over(&rt, DeskId::A, 0, 0));
     let ask = ask_at(Asker::A, 1, 0);
-    let next = over(&rt, DeskId::A, 1, 0);
-    world.now.set(10_000);
-    assert!(rt; kept(&mut window).is_none());
-    assert_eq!(rt; world.sent.get(), 0);
-    window.send(&own);
     window.send(&ask);
-    assert_eq!(rt;
-        given(&mut window, &world, over(&rt, DeskId::B, 1, 0)),
-        Taken::Datagram(48)
-    );
+    hears(&rt, &mut window, &world, DeskId::B, 1);
     for (now, sent) in [(11_999, 2), (12_000, 3), (13_999, 3), (14_000, 4)] {
-        world.now.set(now);
-        assert!(rt; kept(&mut window).is_none());
-        assert_eq!(rt;
-            (world.sent.get(), world.waited.get()),
-            (sent, 250),
-            "{now}"
-        );
-        assert!(rt; world.last.get() == seal().sealed(&ask));
+        is_heard(&rt, &mut window, &world, now, sent, &ask);
     }
-    world.now.set(15_500);
-    window.send(&next);
-    for (now, sent, last) in [(16_000, 5, next), (17_499, 5, next), (17_500, 6, ask)] {
-        world.now.set(now);
-        assert!(rt; kept(&mut window).is_none());
-        assert_eq!(rt; world.sent.get(), sent, "{now}");
-        assert!(rt; world.last.get() == seal().sealed(&last));
-    }
+    let next = over(&rt, DeskId::A, 1, 0);
+    asks(&rt, &mut window, &world, 15_500, &next, 5);
+    is_heard(&rt, &mut window, &world, 16_000, 5, &next);
+    is_heard(&rt, &mut window, &world, 17_499, 5, &next);
+    is_heard(&rt, &mut window, &world, 17_500, 6, &ask);
 }
