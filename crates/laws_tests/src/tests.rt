@@ -1,8 +1,22 @@
-//! One call of each public function over values whose answers are known; the rest is shown by `rows`.
+//! One call of what no program calls, the size of a match, and the whole text of a desk's state; the rest is in contracts, or
+//! shown by `rows`.
+
+use corrections::BookOf;
+use notation::read_line;
+use std::process::Abort;
 
 mod books;
 mod deliveries;
 mod desk_states;
-mod entries;
 mod matches;
-mod short_lines;
+
+/// Enters lines that the book takes.
+fn enter<B: BookOf>(rt: &impl Abort, book: &mut B, lines: &[&str]) {
+    for line in lines {
+        assert!(rt; book.len() < 8192);
+        match read_line(line.as_bytes()) {
+            Ok(entry) => assert!(rt; book.enter(&entry).is_ok(), "{line}"),
+            Err(_) => panic!(rt; "no entry: {line}"),
+        }
+    }
+}

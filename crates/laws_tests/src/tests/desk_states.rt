@@ -1,12 +1,13 @@
 //! The whole text of a desk's state, over a match with a late delivery, a correction, a batter who is hurt, and a result.
 //! What takes memory is done again where an allocation failed, so that the test passes with any one refused.
 
+use super::enter;
 use agree_core::{DeskId, Position};
 use arrayvec::ArrayString;
 use cards::{MatchSheet, read_sheet};
-use corrections::{Book, BookOf};
+use corrections::Book;
 use desk_state::state_text;
-use notation::{Entry, Plain, Side, read_line};
+use notation::{Entry, Plain, Side};
 use scoreboard::board_text;
 use std::alloc::{AllocError, Global};
 use std::process::Abort;
@@ -34,102 +35,73 @@ const SIDES: &str =
     ",\"sides\":{\"home\":{\"name\":\"Alder\",\"players\":[\"Ames\",\"Boyd\",\"Carr\",\"Dean\",\"Eves\",\"Ford\",\"Gray\",\"Hill\",\"Ives\",\"King\",\"Lund\"]},\"away\":{\"name\":\"Birch\",\"players\":[\"Moss\",\"Nash\",\"Orr\",\"Pike\",\"Quin\",\"Rowe\",\"Sage\",\"Tate\",\"Usher\",\"Vale\",\"Wade\"]}},\"board\":";
 
 /// Steps of a match: lines, and what the state says of what comes next.
-const STEPS: [(&[&str], &str); 16] = [
+const STEPS: [(&[&str], &str); 5] = [
     (
-        &[],
-        "\"wants\":\"innings\",\"may_come_in\":[],\"may_bowl\":[],\"over\":[]",
-    ),
-    (
-        &["innings home"],
-        "\"wants\":\"batter\",\"may_come_in\":[1,2,3,4,5,6,7,8,9,10,11],\"may_bowl\":[1,2,3,4,5,6,7,8,9,10,11],\"over\":[]",
-    ),
-    (
-        &["in 1"],
-        "\"wants\":\"batter\",\"may_come_in\":[2,3,4,5,6,7,8,9,10,11],\"may_bowl\":[1,2,3,4,5,6,7,8,9,10,11],\"over\":[]",
-    ),
-    (
-        &["in 2"],
-        "\"wants\":\"bowler\",\"may_come_in\":[],\"may_bowl\":[1,2,3,4,5,6,7,8,9,10,11],\"over\":[]",
-    ),
-    (
-        &["ball 7 bat 1"],
-        "\"wants\":\"ball\",\"may_come_in\":[],\"may_bowl\":[1,2,3,4,5,6,7,8,9,10,11],\"over\":[{\"place\":3,\"mark\":\"1\"}]",
-    ),
-    (
-        &["ball 7 wide 0", "late 3 ball 7 bat 0"],
+        &[
+            "innings home",
+            "in 1",
+            "in 2",
+            "ball 7 bat 1",
+            "ball 7 wide 0",
+            "late 3 ball 7 bat 0",
+        ],
         "\"wants\":\"ball\",\"may_come_in\":[],\"may_bowl\":[1,2,3,4,5,6,7,8,9,10,11],\"over\":[{\"place\":3,\"mark\":\"1\"},{\"place\":5,\"mark\":\".\"},{\"place\":4,\"mark\":\"1wd\"}]",
     ),
     (
-        &["ball 7 bat 0 four", "ball 7 bat 0 out caught striker 3"],
-        "\"wants\":\"batter\",\"may_come_in\":[3,4,5,6,7,8,9,10,11],\"may_bowl\":[1,2,3,4,5,6,7,8,9,10,11],\"over\":[{\"place\":3,\"mark\":\"1\"},{\"place\":5,\"mark\":\".\"},{\"place\":4,\"mark\":\"1wd\"},{\"place\":6,\"mark\":\"4\"},{\"place\":7,\"mark\":\"W\"}]",
-    ),
-    (
-        &["in 3", "ball 7 bat 0 six", "ball 7 bat 2"],
+        &[
+            "ball 7 bat 0 four",
+            "ball 7 bat 0 out caught striker 3",
+            "in 3",
+            "ball 7 bat 0 six",
+            "ball 7 bat 2",
+        ],
         "\"wants\":\"over\",\"may_come_in\":[],\"may_bowl\":[1,2,3,4,5,6,7,8,9,10,11],\"over\":[{\"place\":3,\"mark\":\"1\"},{\"place\":5,\"mark\":\".\"},{\"place\":4,\"mark\":\"1wd\"},{\"place\":6,\"mark\":\"4\"},{\"place\":7,\"mark\":\"W\"},{\"place\":9,\"mark\":\"6\"},{\"place\":10,\"mark\":\"2\"}]",
     ),
     (
-        &["over"],
-        "\"wants\":\"bowler\",\"may_come_in\":[],\"may_bowl\":[1,2,3,4,5,6,8,9,10,11],\"over\":[{\"place\":3,\"mark\":\"1\"},{\"place\":5,\"mark\":\".\"},{\"place\":4,\"mark\":\"1wd\"},{\"place\":6,\"mark\":\"4\"},{\"place\":7,\"mark\":\"W\"},{\"place\":9,\"mark\":\"6\"},{\"place\":10,\"mark\":\"2\"}]",
-    ),
-    (
-        &["fix 10 void", "fix 9 ball 7 bye 1"],
+        &["over", "fix 10 void", "fix 9 ball 7 bye 1"],
         "\"wants\":\"bowler\",\"may_come_in\":[],\"may_bowl\":[1,2,3,4,5,6,8,9,10,11],\"over\":[{\"place\":3,\"mark\":\"1\"},{\"place\":5,\"mark\":\".\"},{\"place\":4,\"mark\":\"1wd\"},{\"place\":6,\"mark\":\"4\"},{\"place\":7,\"mark\":\"W\"},{\"place\":9,\"mark\":\"1b\"}]",
     ),
     (
-        &["ball 8 bat 0", "over"],
-        "\"wants\":\"bowler\",\"may_come_in\":[],\"may_bowl\":[1,2,3,4,5,6,9,10,11],\"over\":[{\"place\":14,\"mark\":\".\"}]",
-    ),
-    (
-        &["gone retiredhurt 3"],
-        "\"wants\":\"batter\",\"may_come_in\":[4,5,6,7,8,9,10,11],\"may_bowl\":[1,2,3,4,5,6,9,10,11],\"over\":[{\"place\":14,\"mark\":\".\"}]",
-    ),
-    (
-        &["gone timedout 4"],
+        &[
+            "ball 8 bat 0",
+            "over",
+            "gone retiredhurt 3",
+            "gone timedout 4",
+        ],
         "\"wants\":\"batter\",\"may_come_in\":[3,5,6,7,8,9,10,11],\"may_bowl\":[1,2,3,4,5,6,9,10,11],\"over\":[{\"place\":14,\"mark\":\".\"}]",
     ),
     (
-        &["end declared"],
-        "\"wants\":\"innings\",\"may_come_in\":[],\"may_bowl\":[],\"over\":[]",
-    ),
-    (
-        &["innings away", "in 5", "in 6", "ball 1 bat 0 six"],
-        "\"wants\":\"ball\",\"may_come_in\":[],\"may_bowl\":[1,2,3,4,5,6,7,8,9,10,11],\"over\":[{\"place\":22,\"mark\":\"6\"}]",
-    ),
-    (
-        &["ball 1 bat 0 six"],
+        &[
+            "end declared",
+            "innings away",
+            "in 5",
+            "in 6",
+            "ball 1 bat 0 six",
+            "ball 1 bat 0 six",
+        ],
         "\"wants\":\"nothing\",\"may_come_in\":[],\"may_bowl\":[],\"over\":[{\"place\":22,\"mark\":\"6\"},{\"place\":23,\"mark\":\"6\"}]",
     ),
 ];
 
-/// Enters lines that the book takes.
-fn enter(rt: &impl Abort, book: &mut Book, lines: &[&str]) {
-    for line in lines {
-        assert!(rt; book.len() < 8192);
-        match read_line(line.as_bytes()) {
-            Ok(entry) => assert!(rt; book.enter(&entry).is_ok(), "{line}"),
-            Err(_) => panic!(rt; "no entry: {line}"),
-        }
+/// What is left of the text behind this.
+fn behind<'a>(rt: &impl Abort, text: &'a [u8], front: &str) -> &'a [u8] {
+    match text.strip_prefix(front.as_bytes()) {
+        Some(rest) => rest,
+        None => panic!(rt; "it doesn't go on so: {front}"),
     }
 }
 
-/// Whether the text begins so, says this of what comes next, and then has both sides and the board's state.
-fn is_state(
-    alloc: Global,
-    text: &[u8],
-    begin: &str,
-    next: &str,
-    sheet: &MatchSheet,
-    book: &Book,
-) -> Result<bool, AllocError> {
-    let mut board = board_text(alloc, sheet, book)?;
-    let _newline = board.pop();
-    let mut wanted = Vec::new(alloc);
-    wanted.extend_from_slice(begin.as_bytes())?;
-    wanted.extend_from_slice(next.as_bytes())?;
-    wanted.extend_from_slice(SIDES.as_bytes())?;
-    wanted.extend_from_slice(board.as_slice())?;
-    wanted.extend_from_slice(b"}\n")?;
-    Ok(text == wanted.as_slice())
+/// The text begins so, says this of what comes next, and then has both sides and the board's state.
+fn expect_state(rt: &impl Abort, text: &[u8], begin: &str, next: &str, board: &[u8]) {
+    let mut left = text;
+    for front in [begin, next, SIDES] {
+        left = behind(rt, left, front);
+    }
+    assert!(rt; left.ends_with(b"}\n"), "{next}");
+    assert!(rt;
+        left.strip_suffix(b"}\n") == board.strip_suffix(b"\n"),
+        "{next}"
+    );
 }
 
 /// Each step's state, at a desk that has cast no vote.
@@ -141,11 +113,9 @@ fn follow(rt: &impl Abort, alloc: Global, sheet: &MatchSheet) -> Result<(), Allo
             place: 18,
             round: 2,
         };
+        let board = board_text(alloc, sheet, &book)?;
         let text = state_text(alloc, sheet, &book, DeskId::B, at, None, &[])?;
-        assert!(rt;
-            is_state(alloc, text.as_slice(), BEGIN, next, sheet, &book)?,
-            "{next}"
-        );
+        expect_state(rt, text.as_slice(), BEGIN, next, board.as_slice());
     }
     Ok(())
 }
@@ -162,7 +132,8 @@ fn wait(rt: &impl Abort, alloc: Global, sheet: &MatchSheet) -> Result<(), AllocE
     let begin =
         "{\"format\":\"yermudosh desk 1\",\"match\":\"2026\",\"title\":\"A \\\"state\\\"\",\"desk\":\"a\",\"place\":0,\"round\":0,\"pending\":\"innings home\",\"held\":[\"in 1\",\"in \\\"2\\\"\",\"\\\\\"],";
     let next = "\"wants\":\"innings\",\"may_come_in\":[],\"may_bowl\":[],\"over\":[]";
-    assert!(rt; is_state(alloc, text.as_slice(), begin, next, sheet, &book)?);
+    let board = board_text(alloc, sheet, &book)?;
+    expect_state(rt, text.as_slice(), begin, next, board.as_slice());
     Ok(())
 }
 
