@@ -1,4 +1,4 @@
-//! Tests of desks on disks that fail, and of cards and boards on writers that fail.
+//! Tests of how many calls a desk makes of its disk.
 #![tactic(auto)]
 
 #[cfg(test)]

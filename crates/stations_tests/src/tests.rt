@@ -1,26 +1,25 @@
-//! Desks on disks that fail, and writers of cards that fail. Where one allocation fails, the call made again gives its answer.
+//! Desks on disks in memory. Where one allocation fails, the call made again gives its answer.
 ghost use Rattle.std.specs.Prelude.{◌≡◌, ◌<◌, []};
 ghost use Rattle.notation.specs.Written.{IsEntry};
 
-use agree_core::{Ask, Asker, DeskId, Message, PLACES, ROUNDS};
+use agree_core::{Ask, Asker, DeskId, Heard, Message, PLACES, ROUNDS};
 use corrections::Book;
+use desk::{Desk, OpenRefusal};
+use entry_log::{MemDisk, Slots};
 use notation::Entry;
 use std::alloc::Global;
 use std::process::Abort;
 use tests_support::{entry_in, vote_of};
-use wire::bytes_of;
+use vote_store::Refusal;
+use wire::{What, bytes_of};
 
-mod desks;
 mod device_calls;
-mod printing;
 
-const LINES: [&str; 4] = ["innings home", "in 1", "in 2", "ball 7 bat 1"];
+type Station = Desk<Slots<MemDisk>, Book>;
 
-/// Desk A's vote for the last of these lines at place 3, round 0, in match 7.
-const VOTE: [u8; 48] = [
-    0x43, 0x42, 2, 1, 0, 0, 0, 0, 0, 0, 0, 7, 1, 0, 0, 0, 3, 0, 0, 3, 0, 0, 0, 0, 0, 7, 1, 1, 0, 0,
-    0, 0, 0, 0, 0, 0, 0, 0, 0, 0, 0, 0, 0, 0, 0, 0, 0, 0,
-];
+type Made = Result<Station, (OpenRefusal, MemDisk)>;
+
+const NO_MEMORY: OpenRefusal = OpenRefusal::Votes(Refusal::NoMemory);
 
 fn empty_book(rt: &impl Abort, alloc: Global) -> Book
     ensures { result.entries ≡ [] }
@@ -29,6 +28,40 @@ fn empty_book(rt: &impl Abort, alloc: Global) -> Book
         Ok(book) => book,
         Err(_) => Book::new(alloc, 1).expect(rt, "room for a book"),
     }
+}
+
+fn empty_disk(rt: &impl Abort, alloc: Global) -> MemDisk {
+    match MemDisk::new(alloc, 9000) {
+        Ok(disk) => disk,
+        Err(_) => MemDisk::new(alloc, 9000).expect(rt, "room for a disk"),
+    }
+}
+
+/// Desk A of match 7 on this disk.
+fn create(rt: &impl Abort, alloc: Global, disk: MemDisk) -> Made {
+    match Desk::create(alloc, disk, DeskId::A, 7, empty_book(rt, alloc)) {
+        Err((NO_MEMORY, disk)) => Desk::create(alloc, disk, DeskId::A, 7, empty_book(rt, alloc)),
+        answer => answer,
+    }
+}
+
+/// Desk A of match 7, whose file this is.
+fn open(rt: &impl Abort, alloc: Global, disk: MemDisk) -> Made {
+    match Desk::open(alloc, disk, DeskId::A, 7, empty_book(rt, alloc)) {
+        Err((NO_MEMORY, disk)) => Desk::open(alloc, disk, DeskId::A, 7, empty_book(rt, alloc)),
+        answer => answer,
+    }
+}
+
+fn made(rt: &impl Abort, answer: Made) -> Station {
+    match answer {
+        Ok(desk) => desk,
+        Err((refusal, _)) => panic!(rt; "{refusal}"),
+    }
+}
+
+fn new_desk(rt: &impl Abort, alloc: Global) -> Station {
+    made(rt, create(rt, alloc, empty_disk(rt, alloc)))
 }
 
 fn entry(rt: &impl Abort, line: &str) -> Entry
@@ -40,18 +73,19 @@ fn entry(rt: &impl Abort, line: &str) -> Entry
     }
 }
 
-/// A desk's vote for a line in bytes.
-fn vote(rt: &impl Abort, desk: DeskId, place: u32, round: u32, line: &str) -> [u8; 48]
-    requires place { place < PLACES }
-    requires round { round < ROUNDS }
-{
-    vote_of(desk, place, round, entry(rt, line))
+/// The number of the refusal, where the line isn't penned.
+fn refused(rt: &impl Abort, desk: &mut Station, line: &str) -> Option<u8> {
+    match desk.pen(&entry(rt, line)) {
+        Ok(_) => None,
+        Err(refusal) => Some(refusal.number()),
+    }
 }
 
-/// An ask for the votes of a position, in bytes.
-fn ask(from: Asker, place: u32, round: u32) -> [u8; 48]
-    requires place { place < PLACES }
-    requires round { round < ROUNDS }
-{
-    bytes_of(7, &Message::Ask(Ask { from, place, round }))
+/// Desk A pens a line at its position, and hears desk B's vote there for this one.
+fn settle(rt: &impl Abort, desk: &mut Station, line: &str, other: &str) -> What {
+    let at = desk.position();
+    assert!(rt; at.place < PLACES && at.round < ROUNDS);
+    assert_eq!(rt; refused(rt, desk, line), None);
+    let vote = vote_of(DeskId::B, at.place, at.round, entry(rt, other));
+    desk.receive(&vote).what
 }
