@@ -1,34 +1,22 @@
-//! Desks and boards as processes, in memory.
+//! Desks and boards as processes, in memory, by a clock that goes on while a datagram is waited for.
 ghost use Rattle.std.specs.Prelude.{◌≡◌, ◌<◌, []};
-ghost use Rattle.notation.specs.Written.{IsEntry};
 
 use agree_core::{Ask, Asker, DeskId, Message, PLACES, ROUNDS};
 use cards::{MatchSheet, plain_sheet};
-use corrections::{Book, BookOf};
-use desk::{Desk, OpenRefusal};
+use corrections::Book;
+use desk::Desk;
 use entry_log::{MemDisk, Slots};
-use live::{DeskEnd, RowsAlone, begin_desk, run_desk};
-use memory::{Lines, Queue, Ticking};
-use notation::Entry;
+use live::{RowsAlone, run_desk};
 use std::alloc::Global;
 use std::process::Abort;
 use streams::Watched;
 use tests_support::{entry_in, vote_of};
 use wire::bytes_of;
+use world::{Bring, Hand, Key, Keyboard, Screen, Timed, World, each_second, once};
 
-mod begins;
-mod boards;
-mod desks;
-mod ends;
-mod memory;
 mod reminders;
 mod timing;
-
-type Station = Desk<Slots<MemDisk>, Book>;
-
-type Begun = Result<Station, (OpenRefusal, MemDisk)>;
-
-const NO_PLAY: &str = "No play\nOvers -\nStriker -\nOther -\nTarget -\nResult -\n";
+mod world;
 
 fn empty_book(rt: &impl Abort, alloc: Global) -> Book
     ensures { result.entries ≡ [] }
@@ -37,35 +25,18 @@ fn empty_book(rt: &impl Abort, alloc: Global) -> Book
 }
 
 fn sheet(rt: &impl Abort, alloc: Global) -> MatchSheet {
-    plain_sheet(alloc, 7, 1).expect(rt, "room for a sheet")
-}
-
-fn empty_disk(rt: &impl Abort, alloc: Global) -> MemDisk {
-    MemDisk::new(alloc, 20_000).expect(rt, "room for a disk")
-}
-
-/// The desk of match 7 on this disk.
-fn begin(rt: &impl Abort, alloc: Global, disk: MemDisk, desk: DeskId) -> Begun {
-    begin_desk(alloc, disk, desk, 7, empty_book(rt, alloc))
-}
-
-fn begun(rt: &impl Abort, answer: Begun) -> Station {
-    match answer {
-        Ok(desk) => desk,
-        Err((refusal, _)) => panic!(rt; "{refusal}"),
+    match plain_sheet(alloc, 7, 1) {
+        Ok(sheet) => sheet,
+        Err(_) => panic!(rt; "no room for a sheet"),
     }
 }
 
-fn new_desk(rt: &impl Abort, alloc: Global, desk: DeskId) -> Station {
-    begun(rt, begin(rt, alloc, empty_disk(rt, alloc), desk))
-}
-
-fn entry(rt: &impl Abort, line: &str) -> Entry
-    ensures { IsEntry result }
-{
-    match entry_in(line) {
-        Some(entry) => entry,
-        None => panic!(rt; "no entry: {line}"),
+/// Desk A of match 7, on a new file.
+fn new_desk(rt: &impl Abort, alloc: Global) -> Desk<Slots<MemDisk>, Book> {
+    let disk = MemDisk::new(alloc, 20_000).expect(rt, "room for a disk");
+    match Desk::create(alloc, disk, DeskId::A, 7, empty_book(rt, alloc)) {
+        Ok(desk) => desk,
+        Err((refusal, _)) => panic!(rt; "{refusal}"),
     }
 }
 
@@ -74,45 +45,52 @@ fn vote(rt: &impl Abort, desk: DeskId, place: u32, round: u32, line: &str) -> [u
     requires place { place < PLACES }
     requires round { round < ROUNDS }
 {
-    vote_of(desk, place, round, entry(rt, line))
+    match entry_in(line) {
+        Some(entry) => vote_of(desk, place, round, entry),
+        None => panic!(rt; "no entry: {line}"),
+    }
 }
 
-/// An ask for the votes of the first position.
-fn ask(from: Asker) -> [u8; 48] {
-    ask_at(from, 0, 0)
+/// Desk B's vote for `void`.
+fn void(rt: &impl Abort, place: u32, round: u32) -> [u8; 48]
+    requires place { place < PLACES }
+    requires round { round < ROUNDS }
+{
+    vote(rt, DeskId::B, place, round, "void")
 }
 
 /// An ask for the votes of a position.
-fn ask_at(from: Asker, place: u32, round: u32) -> [u8; 48]
+fn ask(from: Asker, place: u32, round: u32) -> [u8; 48]
     requires place { place < PLACES }
     requires round { round < ROUNDS }
 {
     bytes_of(7, &Message::Ask(Ask { from, place, round }))
 }
 
-/// How desk A's process ends over these lines and datagrams, and what its scorer is told.
-fn told(
+/// Turns of a new desk A, whose scorer types these lines, and what it tells.
+fn run<'a>(
     rt: &impl Abort,
     alloc: Global,
-    desk: &mut Station,
-    lines: &mut Lines,
-    link: &mut Queue,
+    world: &'a World,
+    link: &mut Timed<'_>,
+    keyboard: &mut Keyboard<'_>,
     turns: u64,
-) -> (Result<(), DeskEnd>, Vec<u8>) {
+) -> Screen<'a> {
     let sheet = sheet(rt, alloc);
-    let mut out = Watched::new(Vec::new(alloc));
-    let mut clock = Ticking::new();
-    let own = DeskId::A;
+    let mut desk = new_desk(rt, alloc);
+    let mut out = Watched::new(Screen::new(alloc, world));
+    let mut clock = Hand::new(world);
     let answer = run_desk(
-        desk,
-        own,
+        &mut desk,
+        DeskId::A,
         &sheet,
         link,
-        lines,
+        keyboard,
         &mut clock,
         &mut out,
         &mut RowsAlone,
         turns,
     );
-    (answer, out.into_inner())
+    assert!(rt; answer.is_ok());
+    out.into_inner()
 }
