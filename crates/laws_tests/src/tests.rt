@@ -1,5 +1,4 @@
-//! One call of what no program calls, the size of a match, and the whole text of a desk's state; the rest is in contracts, or
-//! shown by `rows`.
+//! What no program calls or no contract says: copies and steps of books, the size of a match, the whole text of a desk's state.
 
 use corrections::BookOf;
 use notation::read_line;
