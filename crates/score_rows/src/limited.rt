@@ -1,24 +1,17 @@
 //! What a desk tells of what the sheet limits.
 
 ghost use Rattle.std.specs.Prelude.{◌≡◌, ◌<◌, ◌++◌, OnErr, OnOk, codes, decimal, true};
-ghost use Rattle.std.specs.List.{list_all};
 ghost use Rattle.match_laws.specs.History.{begun, is_open};
-ghost use Rattle.match_laws.specs.Result.{current};
 ghost use Rattle.match_laws.specs.Stands.{ForEachHistory, begun_in};
 ghost use Rattle.corrections.specs.CleanList.{history_of};
-ghost use Rattle.corrections.specs.Overs.{bowler_now};
-ghost use Rattle.cards.specs.Bowling.{fielding};
 ghost use Rattle.streams.specs.Watched.{Prints, has_failed};
 ghost use Rattle.score_rows.specs.Limited as limited;
-ghost use Rattle.score_rows.specs.inner.Items.{is_number};
 
 use cards::MatchSheet;
 use corrections::{BookOf, overs_of};
-use limits::{
-    TwoPlaces, an_over, deliveries_left, is_free_hit, may_bowl, overs_bowled, overs_left, overs_yet,
-};
+use limits::{TwoPlaces, an_over, deliveries_left, is_free_hit, overs_bowled, overs_left};
 use match_laws::{Match, opponent};
-use notation::{Player, Side};
+use notation::Player;
 use std::io::Write;
 use streams::{Watched, WriteFailed};
 

@@ -19,7 +19,6 @@ use Rattle.wire.specs.declared.{fault.WireFault.WireFault, what.What.What}
 use Rattle.desk.specs.Refusal.{number_of, name_of}
 use Rattle.desk.specs.declared.refusal.Refusal.{Refusal}
 use Rattle.cards.specs.Page.{over_note}
-use Rattle.cards.specs.Results.{result_text}
 use Rattle.cards.specs.Sheet.{Sheet}
 use Rattle.changes.specs.Before.{item_with}
 use Rattle.changes.specs.Text.{last_changes}
