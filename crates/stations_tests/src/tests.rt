@@ -14,6 +14,7 @@ use vote_store::Refusal;
 use wire::{What, bytes_of};
 
 mod device_calls;
+mod printing;
 
 type Station = Desk<Slots<MemDisk>, Book>;
 

@@ -2,7 +2,7 @@
 
 /// What may be run and loaded in the page: its own style and script, and what it asks of its station.
 pub const POLICY: &[u8] =
-    b"default-src 'none'; script-src 'sha256-CbPfyArML7olOy+x/ldMWVIBKPF5tjT62pBGSCS/lCA='; style-src 'sha256-TJJPdKyscPeFsFxnBDMw0VKlpaQlWwlCPIb52rVEc1E='; connect-src 'self'; img-src data:; base-uri 'none'; form-action 'none'; frame-ancestors 'none'";
+    b"default-src 'none'; script-src 'sha256-5650qTmjlHL7c+S+55ZkEHXnx5FbssXqAtHmFst6MA8='; style-src 'sha256-TJJPdKyscPeFsFxnBDMw0VKlpaQlWwlCPIb52rVEc1E='; connect-src 'self'; img-src data:; base-uri 'none'; form-action 'none'; frame-ancestors 'none'";
 
 /// The page.
 pub const PAGE: &[u8] = b"<!DOCTYPE html>
@@ -1273,7 +1273,7 @@ function drawPads() {
 
 function rowKind(row) {
   if (/^\\d+ agreed: /.test(row)) return \"agreed\";
-  if (WRONG.test(row) || /^\\d+ differs/.test(row)) return \"wrong\";
+  if (WRONG.test(row) || /^\\d+ differs/.test(row) || THEIRS.test(row)) return \"wrong\";
   return /^\\d+ (pending|held|next)|^page/.test(row) ? \"stands\" : \"\";
 }
 
