@@ -1,10 +1,11 @@
--- How a row is fitted to the columns of a screen: the team's name goes first, then letters of the players' names, down to four.
-use Rattle.std.specs.Prelude.{ℕ, ◌-◌, nat_le, nat_lt, if◌then◌else◌, Bool, true, false, ◌&&◌, List, ◌++◌, length, take, codes}
+-- How a row is fitted to the columns of a screen: the team's name goes first, then letters of the players' names, down to four,
+-- then of how many overs the innings is, and then what is told of limits stands below.
+use Rattle.std.specs.Prelude.{ℕ, ◌-◌, nat_le, nat_lt, if◌then◌else◌, Bool, true, false, ◌&&◌, List, ◌++◌, length, take, Option, None, codes}
 use Rattle.std.specs.List.{list_all}
 use Rattle.cards.specs.Sheet.{is_printable, longest_name}
 use Rattle.score_rows.specs.declared.form.Form.{Form}
 use Rattle.score_rows.specs.declared.form.Form.TheVariants.{Whole, WithoutTeam}
-use Rattle.score_rows.specs.declared.form.Form.TheVariants.{TwelveLetters, TenLetters, EightLetters, SevenLetters, SixLetters, FiveLetters, FourLetters}
+use Rattle.score_rows.specs.declared.form.Form.TheVariants.{TwelveLetters, TenLetters, EightLetters, SevenLetters, SixLetters, FiveLetters, FourLetters, WithoutLimit, FiguresAlone}
 use Rattle.score_rows.specs.declared.room.Room.{Room}
 use Rattle.score_rows.specs.declared.room.Room.TheVariants.{Left, Full}
 
@@ -41,6 +42,26 @@ letters SevenLetters = 7
 letters SixLetters = 6
 letters FiveLetters = 5
 letters FourLetters = 4
+letters WithoutLimit = 4
+letters FiguresAlone = 4
+
+-- of how many overs the innings is, where that is shown
+abbrev pub limit_in : Form → Option ℕ → Option ℕ
+limit_in WithoutLimit overs = None
+limit_in FiguresAlone overs = None
+limit_in form overs = overs
+
+-- whether what is told of limits stands in the row, and not below it
+abbrev pub is_beside : Form → Bool
+is_beside FiguresAlone = false
+is_beside form = true
+
+-- of these overs of a bowler, what the row has, and what stands below
+abbrev pub beside : Form → Option ℕ → Option ℕ
+beside form most = if is_beside form then most else None
+
+abbrev pub below : Form → Option ℕ → Option ℕ
+below form most = if is_beside form then None else most
 
 -- the first of these that fits, or else the last
 abbrev pub first_fit : (Form → Bool) → Form
@@ -53,7 +74,9 @@ first_fit is_fit =
     else if is_fit SevenLetters then SevenLetters
     else if is_fit SixLetters then SixLetters
     else if is_fit FiveLetters then FiveLetters
-    else FourLetters
+    else if is_fit FourLetters then FourLetters
+    else if is_fit WithoutLimit then WithoutLimit
+    else FiguresAlone
 
 abbrev pub is_long : ℕ → List ℕ → Bool
 is_long most name = nat_lt most (length name) && list_all is_printable name

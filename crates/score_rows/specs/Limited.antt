@@ -1,5 +1,5 @@
 -- What a desk tells of what the sheet limits. s is the sheet, h the history and i the innings.
-use Rattle.std.specs.Prelude.{ℕ, ◌/◌, ◌%◌, ◌==◌, ◌&&◌, ◌||◌, not, nat_lt, if◌then◌else◌, List, [], ◌∷◌, ◌++◌, Option, Some, None, option_map, codes, decimal}
+use Rattle.std.specs.Prelude.{ℕ, ◌/◌, ◌%◌, ◌==◌, ◌&&◌, ◌||◌, not, nat_lt, if◌then◌else◌, Bool, List, [], ◌∷◌, ◌++◌, Option, Some, None, option_map, codes, decimal}
 use Rattle.ball_laws.specs.History.{History}
 use Rattle.ball_laws.specs.Over.{numbers}
 use Rattle.match_laws.specs.History.{begun, is_open}
@@ -32,8 +32,15 @@ abbrev pub left_now : Sheet → History → ℕ → Option ℕ
 left_now s h i = option_map (λ n. deliveries_left n h i) (overs_for s.limits i)
 
 -- the next delivery is a free hit
-abbrev pub free_text : Sheet → History → List ℕ
-free_text s h = if s.limits.free_hits && is_free_hit h then codes "  free hit" else []
+abbrev pub is_free : Sheet → History → Bool
+is_free s h = s.limits.free_hits && is_free_hit h
+
+-- behind the marks of the over, or below
+abbrev pub free_text : Bool → Sheet → History → List ℕ
+free_text is_here s h = if is_here && is_free s h then codes "  free hit" else []
+
+abbrev pub free_row : Bool → Sheet → History → List ℕ
+free_row is_here s h = if is_here && is_free s h then codes "  free hit\n" else []
 
 -- a bowler who bowled in more overs than he has is past them
 abbrev pub past_text : ℕ → ℕ → List ℕ
@@ -92,6 +99,17 @@ line_for s h i (Some n) = left_line s h i n
 -- while an innings is open
 abbrev pub limits_line : Sheet → History → ℕ → List ℕ
 limits_line s h i = if is_open h then line_for s h i (overs_for s.limits i) else []
+
+-- ---- below the row of a match, where it has no room there
+
+-- in how many overs a bowler who is past his overs has bowled
+abbrev pub past_line : Sheet → History → ℕ → ℕ → ℕ → List ℕ
+past_line s h i most p = if nat_lt most (overs_bowled p h) then bowled_of s h i most p ++ codes "\n" else []
+
+abbrev pub past_row : Sheet → History → ℕ → Option ℕ → Option ℕ → List ℕ
+past_row s h i None b = []
+past_row s h i (Some most) None = []
+past_row s h i (Some most) (Some p) = past_line s h i most p
 
 -- ---- who may bowl
 

@@ -1,4 +1,4 @@
--- How a match stands: a row that is fitted to 80 columns, and one behind it of what is needed or of the result.
+-- How a match stands: a row that is fitted to 80 columns, and those below it.
 -- s is the sheet, n the innings a side, h the history, i the innings and f what of it is shown.
 use Rattle.std.specs.Prelude.{ℕ, ◌==◌, nat_le, if◌then◌else◌, Bool, true, false, not, ◌&&◌, List, [], ◌∷◌, ◌++◌, Option, Some, None, codes, decimal}
 use Rattle.notation.specs.declared.entry.{Ball.Ball, Side.Side}
@@ -21,8 +21,8 @@ use Rattle.cards.specs.Marks.{mark_of}
 use Rattle.cards.specs.Results.{counted, result_text}
 use Rattle.score_rows.specs.declared.form.Form.{Form}
 use Rattle.score_rows.specs.declared.room.Room.{Room}
-use Rattle.score_rows.specs.Fit.{all_columns, behind, cut, first_fit, fits, has_team, is_left, letters}
-use Rattle.score_rows.specs.Limited.{free_text, left_now, of_overs, off_text, past}
+use Rattle.score_rows.specs.Fit.{all_columns, behind, below, beside, cut, first_fit, fits, has_team, is_beside, is_left, letters, limit_in}
+use Rattle.score_rows.specs.Limited.{free_row, free_text, left_now, of_overs, off_text, past, past_row}
 
 -- the total and the wickets
 abbrev pub runs_text : History → ℕ → List ℕ
@@ -41,8 +41,8 @@ abbrev pub overs_front : History → ℕ → List ℕ
 overs_front h i = codes " (" ++ decimal (overs h i) ++ codes "." ++ decimal (balls h i)
 
 -- of so many, where they are limited
-abbrev pub overs_text : Sheet → History → ℕ → List ℕ
-overs_text s h i = overs_front h i ++ of_overs (overs_for s.limits i) ++ codes ")"
+abbrev pub overs_text : Form → Sheet → History → ℕ → List ℕ
+overs_text f s h i = overs_front h i ++ of_overs (limit_in f (overs_for s.limits i)) ++ codes ")"
 
 -- runs and the balls faced, with this mark behind
 abbrev pub batter_figures : ℕ → ℕ → List ℕ → List ℕ
@@ -136,7 +136,7 @@ needs_row o runs left = []
 
 -- the row to the batters, and behind them
 unfoldable pub front : Form → Sheet → History → ℕ → List ℕ
-front f s h i = team_text f s h i ++ runs_text h i ++ overs_text s h i ++ codes "  " ++ batters f s h i
+front f s h i = team_text f s h i ++ runs_text h i ++ overs_text f s h i ++ codes "  " ++ batters f s h i
 
 -- an over without its last delivery
 abbrev pub older_of : List Ball → List Ball
@@ -163,11 +163,16 @@ over_end over =
 
 -- the bowler, and what is told of him
 abbrev pub bowling : Form → Sheet → History → ℕ → List ℕ
-bowling f s h i = bowler f s h i (bowler_now h) ++ past s.limits.overs_a_bowler h (bowler_now h)
+bowling f s h i = bowler f s h i (bowler_now h) ++ past (beside f s.limits.overs_a_bowler) h (bowler_now h)
+
+-- what is told of limits and has no room in the row
+abbrev pub limits_below : Form → Sheet → History → ℕ → List ℕ
+limits_below f s h i =
+    past_row s h i (below f s.limits.overs_a_bowler) (bowler_now h) ++ free_row (not (is_beside f)) s h
 
 unfoldable pub back : Form → Bool → List Ball → Sheet → ℕ → History → ℕ → List ℕ
 back f is_all shown s n h i =
-    bowling f s h i ++ open_marks (open_over h) is_all shown ++ free_text s h
+    bowling f s h i ++ open_marks (open_over h) is_all shown ++ free_text (is_beside f) s h
     ++ aim (outcome n h) (runs_needed n h) (left_now s h i) ++ over_end (open_over h)
 
 -- the row of an innings, with all marks of the open over or with these
@@ -192,7 +197,7 @@ line_in f s n h i = if fits (whole_line f s n h i) then whole_line f s n h i els
 
 unfoldable pub innings_row : Sheet → ℕ → History → ℕ → List ℕ
 innings_row s n h i =
-    line_in (form_of s n h i) s n h i ++ codes "\n"
+    line_in (form_of s n h i) s n h i ++ codes "\n" ++ limits_below (form_of s n h i) s h i
     ++ needs_row (outcome n h) (runs_needed n h) (left_now s h i) ++ result_row s (outcome n h)
 
 -- the innings begun last, or no play

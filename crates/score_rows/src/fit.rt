@@ -35,7 +35,7 @@ fn back_room<B: BookOf>(
     let over = overs_of(book).this;
     let room = bowling_room(room, form, sheet, book, innings);
     let room = open_marks_room(room, over, is_all, shown);
-    let room = free_room(room, sheet, book);
+    let room = free_room(room, form.is_beside(), sheet, book);
     let room = aim_room(room, score, left_now(score, sheet, innings));
     over_end_room(room, over)
 }
@@ -91,8 +91,12 @@ pub fn form_of<B: BookOf>(sheet: &MatchSheet, book: &B, innings: usize) -> Form
         Form::SixLetters
     } else if is_fit(Form::FiveLetters, sheet, book, innings) {
         Form::FiveLetters
-    } else {
+    } else if is_fit(Form::FourLetters, sheet, book, innings) {
         Form::FourLetters
+    } else if is_fit(Form::WithoutLimit, sheet, book, innings) {
+        Form::WithoutLimit
+    } else {
+        Form::FiguresAlone
     }
 }
 

@@ -30,6 +30,10 @@ pub enum Form {
     FiveLetters,
     /// Four letters of a player's name.
     FourLetters,
+    /// The same, without of how many overs the innings is.
+    WithoutLimit,
+    /// The same, and what is told of limits stands below the row.
+    FiguresAlone,
 }
 
 impl Form {
@@ -53,8 +57,39 @@ impl Form {
             Form::SevenLetters => 7,
             Form::SixLetters => 6,
             Form::FiveLetters => 5,
-            Form::FourLetters => 4,
+            Form::FourLetters | Form::WithoutLimit | Form::FiguresAlone => 4,
         }
+    }
+
+    /// Of how many overs an innings is, where that is shown.
+    pub fn limit_in(self, overs: Option<u16>) -> Option<u16>
+        ensures { result ≡ fit.limit_in self overs }
+    {
+        match self {
+            Form::WithoutLimit | Form::FiguresAlone => None,
+            _ => overs,
+        }
+    }
+
+    /// Whether what is told of limits stands in the row, and not below it.
+    pub fn is_beside(self) -> bool
+        ensures { result ≡ fit.is_beside self }
+    {
+        !matches!(self, Form::FiguresAlone)
+    }
+
+    /// A bowler's overs, where they stand in the row.
+    pub fn beside(self, most: Option<u16>) -> Option<u16>
+        ensures { result ≡ fit.beside self most }
+    {
+        if self.is_beside() { most } else { None }
+    }
+
+    /// A bowler's overs, where they stand below it.
+    pub fn below(self, most: Option<u16>) -> Option<u16>
+        ensures { result ≡ fit.below self most }
+    {
+        if self.is_beside() { None } else { most }
     }
 }
 

@@ -60,18 +60,44 @@ pub fn left_now(score: &Match, sheet: &MatchSheet, innings: usize) -> Option<u32
     }
 }
 
-/// Prints that the next delivery is a free hit, where it is.
+/// Whether the next delivery is a free hit.
+pub fn is_free<B: BookOf>(sheet: &MatchSheet, book: &B) -> bool
+    ensures { result ≡ limited.is_free sheet.now (history_of (B.content book.now)) }
+{
+    sheet.limits().free_hits() && is_free_hit(book)
+}
+
+/// Prints that the next delivery is a free hit, where it is and is told here.
 pub fn print_free<W: Write, B: BookOf>(
     out: &mut Watched<W>,
+    is_here: bool,
     sheet: &MatchSheet,
     book: &B,
 ) -> Result<(), WriteFailed>
     ensures text { OnOk result (Prints W.contents out.old out.new
-        (limited.free_text sheet.now (history_of (B.content book.now)))) }
+        (limited.free_text is_here sheet.now (history_of (B.content book.now)))) }
     ensures failed { OnErr result (has_failed out.new ≡ true) }
 {
-    if sheet.limits().free_hits() && is_free_hit(book) {
+    if is_here && is_free(sheet, book) {
         write!(out, "  free hit")
+    } else {
+        Ok(())
+    }
+}
+
+/// The same on a row of its own.
+pub fn print_free_row<W: Write, B: BookOf>(
+    out: &mut Watched<W>,
+    is_here: bool,
+    sheet: &MatchSheet,
+    book: &B,
+) -> Result<(), WriteFailed>
+    ensures text { OnOk result (Prints W.contents out.old out.new
+        (limited.free_row is_here sheet.now (history_of (B.content book.now)))) }
+    ensures failed { OnErr result (has_failed out.new ≡ true) }
+{
+    if is_here && is_free(sheet, book) {
+        writeln!(out, "  free hit")
     } else {
         Ok(())
     }
@@ -250,6 +276,50 @@ fn print_bowled_line<W: Write, B: BookOf>(
 {
     print_bowled_of(out, sheet, book, innings, most, player)?;
     writeln!(out)
+}
+
+/// A line of its own with it, where he is past his overs.
+fn print_past_line<W: Write, B: BookOf>(
+    out: &mut Watched<W>,
+    sheet: &MatchSheet,
+    book: &B,
+    innings: usize,
+    most: u16,
+    player: Player,
+) -> Result<(), WriteFailed>
+    requires { innings < begun (history_of (B.content book.now)) }
+    ensures text { OnOk result (Prints W.contents out.old out.new
+        (limited.past_line sheet.now (history_of (B.content book.now)) innings most player)) }
+    ensures failed { OnErr result (has_failed out.new ≡ true) }
+{
+    if u32::from(most) < overs_bowled(book, player) {
+        print_bowled_line(out, sheet, book, innings, most, player)
+    } else {
+        Ok(())
+    }
+}
+
+/// The same of the bowler of the last delivery, where bowlers are limited and there is one.
+pub fn print_past_row<W: Write, B: BookOf>(
+    out: &mut Watched<W>,
+    sheet: &MatchSheet,
+    book: &B,
+    innings: usize,
+    most: Option<u16>,
+    bowler: Option<Player>,
+) -> Result<(), WriteFailed>
+    requires { innings < begun (history_of (B.content book.now)) }
+    ensures text { OnOk result (Prints W.contents out.old out.new
+        (limited.past_row sheet.now (history_of (B.content book.now)) innings most bowler)) }
+    ensures failed { OnErr result (has_failed out.new ≡ true) }
+{
+    match most {
+        None => Ok(()),
+        Some(most) => match bowler {
+            None => Ok(()),
+            Some(player) => print_past_line(out, sheet, book, innings, most, player),
+        },
+    }
 }
 
 /// Prints the bowler of the last delivery in a line of its own, where bowlers are limited and there is one.

@@ -1,4 +1,4 @@
-//! How a match stands: a row that is fitted to 80 columns, and one behind it of what is needed or of the result.
+//! How a match stands: a row that is fitted to 80 columns, and those below it.
 
 ghost use Rattle.std.specs.Prelude.{◌≡◌, ◌<◌, OnErr, OnOk, true};
 ghost use Rattle.match_laws.specs.History.{begun};
@@ -12,7 +12,7 @@ ghost use Rattle.score_rows.specs.Row as rows;
 use crate::aim::{print_aim, print_needs_row, print_result_row};
 use crate::fit::{form_of, is_fit, shown_of};
 use crate::form::{Form, print_name};
-use crate::limited::{left_now, print_free, print_of, print_past};
+use crate::limited::{left_now, print_free, print_free_row, print_of, print_past, print_past_row};
 use crate::marks::print_marks;
 use crate::over_end::print_over_end;
 use cards::MatchSheet;
@@ -92,17 +92,18 @@ fn print_overs_front<W: Write>(
 /// Prints the overs of an innings, of so many where they are limited.
 fn print_overs<W: Write>(
     out: &mut Watched<W>,
+    form: Form,
     sheet: &MatchSheet,
     score: &Match,
     innings: usize,
 ) -> Result<(), WriteFailed>
     requires { innings < begun_in score.now }
     ensures text { ForEachHistory score.now (λ n h.
-        OnOk result (Prints W.contents out.old out.new (rows.overs_text sheet.now h innings))) }
+        OnOk result (Prints W.contents out.old out.new (rows.overs_text form sheet.now h innings))) }
     ensures failed { OnErr result (has_failed out.new ≡ true) }
 {
     print_overs_front(out, score, innings)?;
-    print_of(out, sheet.limits().overs_for(innings))?;
+    print_of(out, form.limit_in(sheet.limits().overs_for(innings)))?;
     write!(out, ")")
 }
 
@@ -288,7 +289,7 @@ fn print_bowling<W: Write, B: BookOf>(
     let overs = overs_of(book);
     let most = sheet.limits().overs_a_bowler();
     print_bowler(out, form, sheet, book.score(), innings, overs.bowler())?;
-    print_past(out, book, most, overs.bowler())
+    print_past(out, book, form.beside(most), overs.bowler())
 }
 
 /// Prints the row of an innings, behind its batters.
@@ -310,7 +311,7 @@ fn print_back<W: Write, B: BookOf>(
     let over = overs_of(book).this;
     print_bowling(out, form, sheet, book, innings)?;
     print_open_marks(out, over, is_all, shown)?;
-    print_free(out, sheet, book)?;
+    print_free(out, form.is_beside(), sheet, book)?;
     print_aim(out, score, left_now(score, sheet, innings))?;
     print_over_end(out, over)
 }
@@ -331,7 +332,7 @@ fn print_front<W: Write>(
 {
     print_team(out, form, sheet, score, innings)?;
     print_runs(out, score, innings)?;
-    print_overs(out, sheet, score, innings)?;
+    print_overs(out, form, sheet, score, innings)?;
     write!(out, "  ")?;
     print_batters(out, form, sheet, score, innings)
 }
@@ -377,7 +378,26 @@ fn print_line_in<W: Write, B: BookOf>(
     print_line(out, form, false, shown, sheet, book, innings)
 }
 
-/// Prints the row of an innings, and behind it what is needed or the result.
+/// Prints what is told of limits and has no room in a row.
+fn print_limits_below<W: Write, B: BookOf>(
+    out: &mut Watched<W>,
+    form: Form,
+    sheet: &MatchSheet,
+    book: &B,
+    innings: usize,
+) -> Result<(), WriteFailed>
+    requires { innings < begun (history_of (B.content book.now)) }
+    ensures text { OnOk result (Prints W.contents out.old out.new
+        (rows.limits_below form sheet.now (history_of (B.content book.now)) innings)) }
+    ensures failed { OnErr result (has_failed out.new ≡ true) }
+{
+    let most = form.below(sheet.limits().overs_a_bowler());
+    let bowler = overs_of(book).bowler();
+    print_past_row(out, sheet, book, innings, most, bowler)?;
+    print_free_row(out, !form.is_beside(), sheet, book)
+}
+
+/// Prints the row of an innings, and those below it.
 fn print_innings<W: Write, B: BookOf>(
     out: &mut Watched<W>,
     sheet: &MatchSheet,
@@ -392,14 +412,16 @@ fn print_innings<W: Write, B: BookOf>(
     let form = form_of(sheet, book, innings);
     print_line_in(out, form, sheet, book, innings)?;
     writeln!(out)?;
+    print_limits_below(out, form, sheet, book, innings)?;
     let score = book.score();
     print_needs_row(out, score, left_now(score, sheet, innings))?;
     print_result_row(out, sheet, score)
 }
 
 /// Prints how the match of a book stands, in one row. Where it is longer than 80 columns the team's name is left out, then
-/// players' names are cut, down to four letters, then the oldest marks of the over are left out. A second row
-/// tells what is needed in a chase of limited overs, and the result.
+/// players' names are cut, down to four letters, then of how many overs the innings is, then what is told of limits stands
+/// on rows below, then the oldest marks of the over are left out. Below stand too what is needed in a chase of limited
+/// overs, and the result.
 pub fn print_row<W: Write, B: BookOf>(
     out: &mut Watched<W>,
     sheet: &MatchSheet,

@@ -61,13 +61,13 @@ fn overs_front_room(room: Room, score: &Match, innings: usize) -> Room
 }
 
 /// Behind the overs of an innings.
-fn overs_room(room: Room, sheet: &MatchSheet, score: &Match, innings: usize) -> Room
+fn overs_room(room: Room, form: Form, sheet: &MatchSheet, score: &Match, innings: usize) -> Room
     requires { innings < begun_in score.now }
     ensures { ForEachHistory score.now (λ n h.
-        result ≡ fit.behind room (rows.overs_text sheet.now h innings)) }
+        result ≡ fit.behind room (rows.overs_text form sheet.now h innings)) }
 {
     let room = overs_front_room(room, score, innings);
-    of_room(room, sheet.limits().overs_for(innings)).text(")")
+    of_room(room, form.limit_in(sheet.limits().overs_for(innings))).text(")")
 }
 
 /// Behind who is at an end.
@@ -117,7 +117,7 @@ pub fn front_room(room: Room, form: Form, sheet: &MatchSheet, score: &Match, inn
 {
     let room = team_room(room, form, sheet, score, innings);
     let room = runs_room(room, score, innings);
-    let room = overs_room(room, sheet, score, innings).text("  ");
+    let room = overs_room(room, form, sheet, score, innings).text("  ");
     batters_room(room, form, sheet, score, innings)
 }
 
@@ -207,5 +207,5 @@ pub fn bowling_room<B: BookOf>(
     let overs = overs_of(book);
     let most = sheet.limits().overs_a_bowler();
     let room = bowler_room(room, form, sheet, book.score(), innings, overs.bowler());
-    past_room(room, book, most, overs.bowler())
+    past_room(room, book, form.beside(most), overs.bowler())
 }

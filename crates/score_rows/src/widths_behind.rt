@@ -15,12 +15,13 @@ ghost use Rattle.score_rows.specs.Limited as limited;
 ghost use Rattle.score_rows.specs.Row as rows;
 ghost use Rattle.score_rows.specs.inner.Items as items;
 
+use crate::limited::is_free;
 use crate::marks::dead_mark;
 use crate::over_end::{counting_of, is_uncalled};
 use crate::room::Room;
 use cards::{Mark, MatchSheet, mark_of};
 use corrections::{BookOf, Placed, bowler_of};
-use limits::{is_free_hit, runs_needed};
+use limits::runs_needed;
 use match_laws::{Match, Outcome};
 use notation::{Ball, Plain};
 
@@ -95,11 +96,11 @@ pub fn newest_of(over: &[Placed], room: Room) -> &[Placed]
     over
 }
 
-/// Behind that the next delivery is a free hit, where it is.
-pub fn free_room<B: BookOf>(room: Room, sheet: &MatchSheet, book: &B) -> Room
-    ensures { result ≡ fit.behind room (limited.free_text sheet.now (history_of (B.content book.now))) }
+/// Behind that the next delivery is a free hit, where it is and is told here.
+pub fn free_room<B: BookOf>(room: Room, is_here: bool, sheet: &MatchSheet, book: &B) -> Room
+    ensures { result ≡ fit.behind room (limited.free_text is_here sheet.now (history_of (B.content book.now))) }
 {
-    if sheet.limits().free_hits() && is_free_hit(book) {
+    if is_here && is_free(sheet, book) {
         room.text("  free hit")
     } else {
         room

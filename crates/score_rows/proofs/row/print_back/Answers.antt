@@ -11,5 +11,6 @@ returns-clause-text g c =
     let end = rw this at c.print_over_end.ensures.text in
     let aim = rw (c.left_now.ensures _ _ stands) at (c.in_ok-print_aim.ensures.text _ _ stands) in
     let two = appends_both _ _ _ _ _ c.in_ok-print_bowling.ensures.text marks in
-    let three = appends_both _ _ _ _ _ two c.in_ok-print_free.ensures.text in
+    let free = rw c.is_beside.ensures at c.in_ok-print_free.ensures.text in
+    let three = appends_both _ _ _ _ _ two free in
     appends_last c.print_over_end.result _ _ _ _ _ (appends_both _ _ _ _ _ three aim) end
