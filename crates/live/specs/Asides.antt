@@ -35,4 +35,4 @@ aside_text (Aside.Dropped lines) = dropped_text lines.items
 aside_text (Aside.Full line) = codes "24 lines are held, and not this: " ++ line.bytes ++ codes "\n"
 aside_text Aside.NoText = codes "not held: that line is no text\n"
 aside_text (Aside.IsCast place) =
-    at_place place (codes "is cast and stays: the other writes what is right, then type again and it")
+    at_place place (codes "is cast and stays: the other writes what is right, then you type it behind again")

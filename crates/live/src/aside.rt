@@ -151,7 +151,7 @@ fn print_of_lines<W: Write>(out: &mut Watched<W>, aside: &Aside) -> Result<(), W
         Aside::IsCast(place) => print_at(
             out,
             *place,
-            "is cast and stays: the other writes what is right, then type again and it",
+            "is cast and stays: the other writes what is right, then you type it behind again",
         ),
     }
 }

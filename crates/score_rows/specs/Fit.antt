@@ -1,6 +1,6 @@
 -- How a row is fitted to the columns of a screen: the team's name goes first, then letters of the players' names, down to four,
 -- then of how many overs the innings is, and then what is told of limits stands below.
-use Rattle.std.specs.Prelude.{ℕ, ◌-◌, nat_le, nat_lt, if◌then◌else◌, Bool, true, false, ◌&&◌, List, ◌++◌, length, take, Option, None, codes}
+use Rattle.std.specs.Prelude.{ℕ, ◌-◌, nat_le, nat_lt, if◌then◌else◌, Bool, true, false, ◌&&◌, List, ◌++◌, length, take, Option, None, bytes_eq, codes}
 use Rattle.std.specs.List.{list_all}
 use Rattle.cards.specs.Sheet.{is_printable, longest_name}
 use Rattle.score_rows.specs.declared.form.Form.{Form}
@@ -80,6 +80,11 @@ first_fit is_fit =
 
 abbrev pub is_long : ℕ → List ℕ → Bool
 is_long most name = nat_lt most (length name) && list_all is_printable name
+
+-- two names that look alike as they are cut
+abbrev pub are_alike : ℕ → List ℕ → List ℕ → Bool
+are_alike most one other =
+    is_long most one && is_long most other && bytes_eq (take (most - 1) one) (take (most - 1) other)
 
 -- a name of at most so many letters: a longer one ends in a point
 abbrev pub cut : ℕ → List ℕ → List ℕ

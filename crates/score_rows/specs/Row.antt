@@ -21,7 +21,7 @@ use Rattle.cards.specs.Marks.{mark_of}
 use Rattle.cards.specs.Results.{counted, result_text}
 use Rattle.score_rows.specs.declared.form.Form.{Form}
 use Rattle.score_rows.specs.declared.room.Room.{Room}
-use Rattle.score_rows.specs.Fit.{all_columns, behind, below, beside, cut, first_fit, fits, has_team, is_beside, is_left, letters, limit_in}
+use Rattle.score_rows.specs.Fit.{all_columns, are_alike, behind, below, beside, cut, first_fit, fits, has_team, is_beside, is_left, letters, limit_in}
 use Rattle.score_rows.specs.Limited.{free_row, free_text, left_now, of_overs, off_text, past, past_row}
 
 -- the total and the wickets
@@ -55,10 +55,32 @@ batter f s h i mark None = codes "-"
 batter f s h i mark (Some p) =
     cut (letters f) (player_of s (side_of h i) p) ++ batter_figures (batter_runs h i p) (faced h i p) mark
 
+-- whether the names at both ends look alike as they are cut
+abbrev pub are_both_alike : Form → Sheet → Side → Option ℕ → Option ℕ → Bool
+are_both_alike f s side None other = false
+are_both_alike f s side (Some p) None = false
+are_both_alike f s side (Some p) (Some q) = are_alike (letters f) (player_of s side p) (player_of s side q)
+
+abbrev pub are_ends_alike : Form → Sheet → History → ℕ → Bool
+are_ends_alike f s h i = are_both_alike f s (side_of h i) (state_after h).ends.striker (state_after h).ends.other
+
+-- so their numbers stand before them
+abbrev pub number_text : Bool → Option ℕ → List ℕ
+number_text is_alike None = []
+number_text is_alike (Some p) = if is_alike then decimal p ++ codes " " else []
+
+abbrev pub striker : Form → Sheet → History → ℕ → List ℕ
+striker f s h i =
+    number_text (are_ends_alike f s h i) (state_after h).ends.striker
+    ++ batter f s h i (codes "*") (state_after h).ends.striker
+
+abbrev pub other : Form → Sheet → History → ℕ → List ℕ
+other f s h i =
+    number_text (are_ends_alike f s h i) (state_after h).ends.other ++ batter f s h i [] (state_after h).ends.other
+
 -- the striker, and the batter at the other end
 abbrev pub batters : Form → Sheet → History → ℕ → List ℕ
-batters f s h i =
-    batter f s h i (codes "*") (state_after h).ends.striker ++ codes "  " ++ batter f s h i [] (state_after h).ends.other
+batters f s h i = striker f s h i ++ codes "  " ++ other f s h i
 
 -- overs, maidens, runs and wickets
 abbrev pub behind_overs : BowlingRow → List ℕ

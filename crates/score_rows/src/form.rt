@@ -107,6 +107,14 @@ pub fn is_long(name: &str, most: usize) -> bool
     name.len() > most && is_plain(name.as_bytes())
 }
 
+/// Whether two names look alike as they are cut.
+pub fn are_alike(one: &str, other: &str, most: usize) -> bool
+    requires { 0 < most }
+    ensures { result ≡ fit.are_alike most one.now other.now }
+{
+    is_long(one, most) && is_long(other, most) && front_of(one, most) == front_of(other, most)
+}
+
 /// The letters of a long name that are shown.
 pub fn front_of(name: &str, most: usize) -> &str
     requires some { 0 < most }

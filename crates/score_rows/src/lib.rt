@@ -3,6 +3,7 @@
 
 mod aim;
 mod bowlers;
+mod ends_alike;
 mod fit;
 mod form;
 mod limited;

@@ -10,6 +10,7 @@ ghost use Rattle.streams.specs.Watched.{Prints, has_failed};
 ghost use Rattle.score_rows.specs.Row as rows;
 
 use crate::aim::{print_aim, print_needs_row, print_result_row};
+use crate::ends_alike::{are_ends_alike, print_number};
 use crate::fit::{form_of, is_fit, shown_of};
 use crate::form::{Form, print_name};
 use crate::limited::{left_now, print_free, print_free_row, print_of, print_past, print_past_row};
@@ -151,6 +152,44 @@ fn print_batter<W: Write>(
     }
 }
 
+/// Prints the striker.
+fn print_striker<W: Write>(
+    out: &mut Watched<W>,
+    form: Form,
+    sheet: &MatchSheet,
+    score: &Match,
+    innings: usize,
+) -> Result<(), WriteFailed>
+    requires { innings < begun_in score.now }
+    ensures text { ForEachHistory score.now (λ n h.
+        OnOk result (Prints W.contents out.old out.new (rows.striker form sheet.now h innings))) }
+    ensures failed { OnErr result (has_failed out.new ≡ true) }
+{
+    let is_alike = are_ends_alike(form, sheet, score, innings);
+    let ends = score.ends();
+    print_number(out, is_alike, ends.striker)?;
+    print_batter(out, form, sheet, score, innings, "*", ends.striker)
+}
+
+/// Prints the batter at the other end.
+fn print_other<W: Write>(
+    out: &mut Watched<W>,
+    form: Form,
+    sheet: &MatchSheet,
+    score: &Match,
+    innings: usize,
+) -> Result<(), WriteFailed>
+    requires { innings < begun_in score.now }
+    ensures text { ForEachHistory score.now (λ n h.
+        OnOk result (Prints W.contents out.old out.new (rows.other form sheet.now h innings))) }
+    ensures failed { OnErr result (has_failed out.new ≡ true) }
+{
+    let is_alike = are_ends_alike(form, sheet, score, innings);
+    let ends = score.ends();
+    print_number(out, is_alike, ends.other)?;
+    print_batter(out, form, sheet, score, innings, "", ends.other)
+}
+
 /// Prints the striker, and the batter at the other end.
 pub fn print_batters<W: Write>(
     out: &mut Watched<W>,
@@ -164,10 +203,9 @@ pub fn print_batters<W: Write>(
         OnOk result (Prints W.contents out.old out.new (rows.batters form sheet.now h innings))) }
     ensures failed { OnErr result (has_failed out.new ≡ true) }
 {
-    let ends = score.ends();
-    print_batter(out, form, sheet, score, innings, "*", ends.striker)?;
+    print_striker(out, form, sheet, score, innings)?;
     write!(out, "  ")?;
-    print_batter(out, form, sheet, score, innings, "", ends.other)
+    print_other(out, form, sheet, score, innings)
 }
 
 /// Prints the overs that a bowler bowled, and his balls of other overs.
@@ -419,7 +457,7 @@ fn print_innings<W: Write, B: BookOf>(
 }
 
 /// Prints how the match of a book stands, in one row. Where it is longer than 80 columns the team's name is left out, then
-/// players' names are cut, down to four letters, then of how many overs the innings is, then what is told of limits stands
+/// players' names are cut, down to four letters (numbers tell apart two batters whose names then look alike), then of how many overs the innings is, then what is told of limits stands
 /// on rows below, then the oldest marks of the over are left out. Below stand too what is needed in a chase of limited
 /// overs, and the result.
 pub fn print_row<W: Write, B: BookOf>(

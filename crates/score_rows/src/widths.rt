@@ -10,6 +10,7 @@ ghost use Rattle.score_rows.specs.Fit as fit;
 ghost use Rattle.score_rows.specs.Limited as limited;
 ghost use Rattle.score_rows.specs.Row as rows;
 
+use crate::ends_alike::are_ends_alike;
 use crate::form::Form;
 use crate::room::Room;
 use cards::MatchSheet;
@@ -97,15 +98,53 @@ fn batter_room(
         .text(mark)
 }
 
+/// Behind the number of who is at an end, where the names look alike.
+fn number_room(room: Room, is_alike: bool, batter: Option<Player>) -> Room
+    ensures { result ≡ fit.behind room (rows.number_text is_alike batter) }
+{
+    match batter {
+        None => room,
+        Some(player) => {
+            if !is_alike {
+                return room;
+            }
+            room.number(u32::from(player.number())).text(" ")
+        }
+    }
+}
+
+/// Behind the striker.
+fn striker_room(room: Room, form: Form, sheet: &MatchSheet, score: &Match, innings: usize) -> Room
+    requires { innings < begun_in score.now }
+    ensures { ForEachHistory score.now (λ n h.
+        result ≡ fit.behind room (rows.striker form sheet.now h innings)) }
+{
+    let is_alike = are_ends_alike(form, sheet, score, innings);
+    let ends = score.ends();
+    let room = number_room(room, is_alike, ends.striker);
+    batter_room(room, form, sheet, score, innings, "*", ends.striker)
+}
+
+/// Behind the batter at the other end.
+fn other_room(room: Room, form: Form, sheet: &MatchSheet, score: &Match, innings: usize) -> Room
+    requires { innings < begun_in score.now }
+    ensures { ForEachHistory score.now (λ n h.
+        result ≡ fit.behind room (rows.other form sheet.now h innings)) }
+{
+    let is_alike = are_ends_alike(form, sheet, score, innings);
+    let ends = score.ends();
+    let room = number_room(room, is_alike, ends.other);
+    batter_room(room, form, sheet, score, innings, "", ends.other)
+}
+
 /// Behind the striker, and the batter at the other end.
 fn batters_room(room: Room, form: Form, sheet: &MatchSheet, score: &Match, innings: usize) -> Room
     requires { innings < begun_in score.now }
     ensures { ForEachHistory score.now (λ n h.
         result ≡ fit.behind room (rows.batters form sheet.now h innings)) }
 {
-    let ends = score.ends();
-    let room = batter_room(room, form, sheet, score, innings, "*", ends.striker).text("  ");
-    batter_room(room, form, sheet, score, innings, "", ends.other)
+    let room = striker_room(room, form, sheet, score, innings).text("  ");
+    other_room(room, form, sheet, score, innings)
 }
 
 /// Behind the row of an innings, to its batters.

@@ -1,5 +1,5 @@
 -- Both sides, with the players' numbers and names. s is the sheet.
-use Rattle.std.specs.Prelude.{ℕ, Bool, true, false, List, [], ◌∷◌, ◌++◌, codes, decimal}
+use Rattle.std.specs.Prelude.{ℕ, ◌+◌, ◌==◌, if◌then◌else◌, Bool, true, false, List, [], ◌∷◌, ◌++◌, codes, decimal}
 use Rattle.notation.specs.declared.entry.Side.TheVariants.{Home, Away}
 use Rattle.ball_laws.specs.Over.{numbers}
 use Rattle.cards.specs.Sheet.{Sheet, Team, player_in, team_of}
@@ -18,11 +18,20 @@ abbrev pub listed : Team → Bool → List ℕ → List ℕ
 listed team is_first [] = []
 listed team is_first (n ∷ ns) = comma is_first ++ player_text team n ++ listed team false ns
 
-abbrev pub team_head : Team → List ℕ
-team_head team = team.name ++ codes ": "
+-- before a player at this place of a row of three: the first of each row begins it
+abbrev pub before_player : ℕ → List ℕ
+before_player column = if column == 0 then codes "\n  " else codes ", "
 
-abbrev pub team_line : Team → List ℕ
-team_line team = team_head team ++ listed team true numbers ++ codes "\n"
+abbrev pub next_column : ℕ → ℕ
+next_column column = if column == 2 then 0 else column + 1
+
+-- three in a row
+abbrev pub in_rows : Team → ℕ → List ℕ → List ℕ
+in_rows team column [] = []
+in_rows team column (n ∷ ns) = before_player column ++ player_text team n ++ in_rows team (next_column column) ns
+
+abbrev pub team_rows : Team → List ℕ
+team_rows team = team.name ++ codes ":" ++ in_rows team 0 numbers ++ codes "\n"
 
 abbrev pub both_sides : Sheet → List ℕ
-both_sides s = team_line (team_of s Home) ++ team_line (team_of s Away)
+both_sides s = team_rows (team_of s Home) ++ team_rows (team_of s Away)

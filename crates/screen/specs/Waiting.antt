@@ -1,5 +1,5 @@
 -- Who of the side that bats isn't out and isn't in, three in a row. s is the sheet, h the history and i the innings.
-use Rattle.std.specs.Prelude.{ℕ, ◌+◌, ◌==◌, Bool, true, false, if◌then◌else◌, Option, Some, None, List, [], ◌∷◌, ◌++◌, codes}
+use Rattle.std.specs.Prelude.{ℕ, ◌==◌, Bool, true, false, if◌then◌else◌, Option, Some, None, List, [], ◌∷◌, ◌++◌, codes}
 use Rattle.ball_laws.specs.History.{History}
 use Rattle.ball_laws.specs.Over.{numbers}
 use Rattle.match_laws.specs.History.{begun, side_of}
@@ -7,20 +7,13 @@ use Rattle.match_laws.specs.Figures.{fate}
 use Rattle.match_laws.specs.Result.{current}
 use Rattle.match_laws.specs.declared.rows.Fate.{Fate}
 use Rattle.cards.specs.Sheet.{Sheet, name_of, team_of}
-use Rattle.screen.specs.Sides.{player_text}
+use Rattle.screen.specs.Sides.{before_player, next_column, player_text}
 
 -- he hasn't come in yet, or is retired hurt
 abbrev pub waits : Option Fate → Bool
 waits None = true
 waits (Some Fate.Hurt) = true
 waits (Some other) = false
-
--- before a player at this place of a row: the first of each row begins it
-abbrev pub before_player : ℕ → List ℕ
-before_player column = if column == 0 then codes "\n  " else codes ", "
-
-abbrev pub next_column : ℕ → ℕ
-next_column column = if column == 2 then 0 else column + 1
 
 abbrev pub waiting : Sheet → History → ℕ → ℕ → List ℕ → List ℕ
 waiting s h i column [] = []

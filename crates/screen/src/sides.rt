@@ -1,6 +1,6 @@
 //! Both sides.
 
-ghost use Rattle.std.specs.Prelude.{◌≡◌, ◌++◌, OnErr, OnOk, true};
+ghost use Rattle.std.specs.Prelude.{◌≡◌, ◌<◌, ◌++◌, OnErr, OnOk, true};
 ghost use Rattle.std.specs.List.{list_all};
 ghost use Rattle.ball_laws.specs.Over.{numbers};
 ghost use Rattle.cards.specs.Sheet.{team_of};
@@ -34,17 +34,50 @@ pub fn print_player<W: Write>(
     }
 }
 
-/// Prints the players of these numbers.
+/// The place in a row of three behind this one.
+pub fn next_column(column: u8) -> u8
+    requires { column < 3 }
+    ensures column { result ≡ sides.next_column column }
+    ensures bound { result < 3 }
+{
+    if column == 2 { 0 } else { column + 1 }
+}
+
+fn before_player(column: u8) -> &'static str
+    ensures { result.now ≡ sides.before_player column }
+{
+    if column == 0 { "\n  " } else { ", " }
+}
+
+/// Prints a player by number and name, at this place of a row of three.
+pub fn print_next<W: Write>(
+    out: &mut Watched<W>,
+    sheet: &MatchSheet,
+    side: Side,
+    column: u8,
+    player: Player,
+) -> Result<(), WriteFailed>
+    ensures text { OnOk result (Prints W.contents out.old out.new
+        (sides.before_player column ++ sides.player_text (team_of sheet.now side) player)) }
+    ensures failed { OnErr result (has_failed out.new ≡ true) }
+{
+    let before = before_player(column);
+    write!(out, "{before}")?;
+    print_player(out, sheet, side, player, true)
+}
+
+/// Prints the players of these numbers, three in a row.
 fn print_each<W: Write>(
     out: &mut Watched<W>,
     sheet: &MatchSheet,
     side: Side,
+    column: u8,
     numbers: &[u8],
-    is_first: bool,
 ) -> Result<(), WriteFailed>
-    requires { list_all is_number numbers.now ≡ true }
+    requires column { column < 3 }
+    requires numbers { list_all is_number numbers.now ≡ true }
     ensures text { OnOk result (Prints W.contents out.old out.new
-        (sides.listed (team_of sheet.now side) is_first numbers.now)) }
+        (sides.in_rows (team_of sheet.now side) column numbers.now)) }
     ensures failed { OnErr result (has_failed out.new ≡ true) }
 {
     let Some((number, more)) = numbers.split_first() else {
@@ -53,8 +86,8 @@ fn print_each<W: Write>(
     let Some(player) = Player::new(*number) else {
         return Ok(());
     };
-    print_player(out, sheet, side, player, is_first)?;
-    print_each(out, sheet, side, more, false)
+    print_next(out, sheet, side, column, player)?;
+    print_each(out, sheet, side, next_column(column), more)
 }
 
 /// Prints all players of a side.
@@ -64,10 +97,10 @@ fn print_all<W: Write>(
     side: Side,
 ) -> Result<(), WriteFailed>
     ensures text { OnOk result (Prints W.contents out.old out.new
-        (sides.listed (team_of sheet.now side) true numbers)) }
+        (sides.in_rows (team_of sheet.now side) 0 numbers)) }
     ensures failed { OnErr result (has_failed out.new ≡ true) }
 {
-    print_each(out, sheet, side, &[1, 2, 3, 4, 5, 6, 7, 8, 9, 10, 11], true)
+    print_each(out, sheet, side, 0, &[1, 2, 3, 4, 5, 6, 7, 8, 9, 10, 11])
 }
 
 fn print_side<W: Write>(
@@ -75,16 +108,16 @@ fn print_side<W: Write>(
     sheet: &MatchSheet,
     side: Side,
 ) -> Result<(), WriteFailed>
-    ensures text { OnOk result (Prints W.contents out.old out.new (sides.team_line (team_of sheet.now side))) }
+    ensures text { OnOk result (Prints W.contents out.old out.new (sides.team_rows (team_of sheet.now side))) }
     ensures failed { OnErr result (has_failed out.new ≡ true) }
 {
     let name = sheet.name(side);
-    write!(out, "{name}: ")?;
+    write!(out, "{name}:")?;
     print_all(out, sheet, side)?;
     writeln!(out)
 }
 
-/// Prints both sides, with the players' numbers and names.
+/// Prints both sides, with the players' numbers and names, three in a row.
 pub fn print_sides<W: Write>(out: &mut Watched<W>, sheet: &MatchSheet) -> Result<(), WriteFailed>
     ensures text { OnOk result (Prints W.contents out.old out.new (sides.both_sides sheet.now)) }
     ensures failed { OnErr result (has_failed out.new ≡ true) }

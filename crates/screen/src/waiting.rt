@@ -7,11 +7,10 @@ ghost use Rattle.match_laws.specs.Stands.{ForEachHistory, begun_in};
 ghost use Rattle.corrections.specs.CleanList.{history_of};
 ghost use Rattle.cards.specs.Sheet.{name_of, team_of};
 ghost use Rattle.streams.specs.Watched.{Prints, has_failed};
-ghost use Rattle.screen.specs.Sides.{player_text};
 ghost use Rattle.screen.specs.Waiting as waiting;
 ghost use Rattle.screen.specs.inner.Numbers.{is_number};
 
-use crate::sides::print_player;
+use crate::sides::{next_column, print_next};
 use cards::MatchSheet;
 use corrections::BookOf;
 use match_laws::{Fate, Match};
@@ -24,37 +23,6 @@ fn waits(fate: Option<Fate>) -> bool
     ensures { result ≡ waiting.waits fate }
 {
     matches!(fate, None | Some(Fate::Hurt))
-}
-
-fn next_column(column: u8) -> u8
-    requires { column < 3 }
-    ensures column { result ≡ waiting.next_column column }
-    ensures bound { result < 3 }
-{
-    if column == 2 { 0 } else { column + 1 }
-}
-
-fn before_player(column: u8) -> &'static str
-    ensures { result.now ≡ waiting.before_player column }
-{
-    if column == 0 { "\n  " } else { ", " }
-}
-
-/// Prints a player by number and name, at this place of a row.
-fn print_next<W: Write>(
-    out: &mut Watched<W>,
-    sheet: &MatchSheet,
-    side: Side,
-    column: u8,
-    player: Player,
-) -> Result<(), WriteFailed>
-    ensures text { OnOk result (Prints W.contents out.old out.new
-        (waiting.before_player column ++ player_text (team_of sheet.now side) player)) }
-    ensures failed { OnErr result (has_failed out.new ≡ true) }
-{
-    let before = before_player(column);
-    write!(out, "{before}")?;
-    print_player(out, sheet, side, player, true)
 }
 
 /// Prints those of the players of these numbers who wait.

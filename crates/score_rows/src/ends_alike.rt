@@ -1,0 +1,66 @@
+//! Batters whose names look alike as a row cuts them: their numbers stand before them.
+
+ghost use Rattle.std.specs.Prelude.{◌≡◌, ◌<◌, OnErr, OnOk, true};
+ghost use Rattle.match_laws.specs.Stands.{ForEachHistory, begun_in};
+ghost use Rattle.streams.specs.Watched.{Prints, has_failed};
+ghost use Rattle.score_rows.specs.Row as rows;
+
+use crate::form::{Form, are_alike};
+use cards::MatchSheet;
+use match_laws::Match;
+use notation::{Player, Side};
+use std::io::Write;
+use streams::{Watched, WriteFailed};
+
+/// Whether these players of a side have names that look alike in a form.
+fn are_both_alike(
+    form: Form,
+    sheet: &MatchSheet,
+    side: Side,
+    striker: Option<Player>,
+    other: Option<Player>,
+) -> bool
+    ensures { result ≡ rows.are_both_alike form sheet.now side striker other }
+{
+    match striker {
+        None => false,
+        Some(striker) => match other {
+            None => false,
+            Some(other) => are_alike(
+                sheet.player(side, striker),
+                sheet.player(side, other),
+                form.letters(),
+            ),
+        },
+    }
+}
+
+/// Whether the names of the batters at both ends look alike in a form.
+pub fn are_ends_alike(form: Form, sheet: &MatchSheet, score: &Match, innings: usize) -> bool
+    requires { innings < begun_in score.now }
+    ensures { ForEachHistory score.now (λ n h. result ≡ rows.are_ends_alike form sheet.now h innings) }
+{
+    let ends = score.ends();
+    are_both_alike(form, sheet, score.side(innings), ends.striker, ends.other)
+}
+
+/// Prints the number of who is at an end, where the names look alike.
+pub fn print_number<W: Write>(
+    out: &mut Watched<W>,
+    is_alike: bool,
+    batter: Option<Player>,
+) -> Result<(), WriteFailed>
+    ensures text { OnOk result (Prints W.contents out.old out.new (rows.number_text is_alike batter)) }
+    ensures failed { OnErr result (has_failed out.new ≡ true) }
+{
+    match batter {
+        None => Ok(()),
+        Some(player) => {
+            if !is_alike {
+                return Ok(());
+            }
+            let number = player.number();
+            write!(out, "{number} ")
+        }
+    }
+}
