@@ -7,11 +7,11 @@ use Rattle.streams.specs.Watched.{stream_of}
 use Rattle.cards.specs.Board.{board}
 use Rattle.books.specs.Table.{IsInStep, agreed_in, innings_in}
 use Rattle.books.specs.Taking.{answer_to, with_taken}
-use Rattle.commands.specs.Check.{printed, is_rejected, board_of_book, output_of, sheet}
+use Rattle.check_command.specs.Check.{printed, is_rejected, board_of_book, output_of, sheet}
 use Rattle.streams.proofs.Appending.{appends_none, appends_both, appends_kept}
 use Rattle.notation.proofs.Cuts.{length-lines_of}
-use Rattle.commands.proofs.check.check_lines.Invariants.{Midway}
-use Rattle.commands.proofs.check.check_lines.Goals as goal
+use Rattle.check_command.proofs.check.check_lines.Invariants.{Midway}
+use Rattle.check_command.proofs.check.check_lines.Goals as goal
 
 start : (input : List ℕ) (lines : List (List ℕ)) (table : Table) (o : Option (List ℕ)) → lines ≡ lines_of input → IsInStep table → agreed_in table ≡ [] →
     Midway (innings_in table) input lines 0 false table o o
