@@ -6,7 +6,8 @@ use Rattle.live.specs.Sights.{Sight}
 use Rattle.machine_files.specs.Texts.{IsGiven}
 use Rattle.scoreboard.specs.Value.{board_text}
 use Rattle.board_command.specs.declared.files.{Files.Files, Kept.Kept, Tried.Tried}
-use Rattle.board_command.specs.declared.files.TheConstants.{AGAIN, FOREVER, LONGEST, SHORTEST}
+use Rattle.board_command.specs.declared.files.TheConstants.{FOREVER}
+use Rattle.waits.specs.declared.times.TheConstants.{FILE_RETRY_WAIT, LONGEST_STATE_AGE, SHORTEST_FILE_AGE}
 
 -- the texts of what is handed over: its six lines, its state as JSON, and that as a script, for a page that was opened from a
 -- folder: a value of JSON in printable ASCII is one of JavaScript's
@@ -30,7 +31,7 @@ tried_at entries now failed = record { entries = entries; at = now; has_failed =
 -- book has another length, and otherwise so long at most
 abbrev pub wait_of : Tried → ℕ → ℕ → ℕ
 wait_of tried entries longest =
-    if tried.has_failed then AGAIN else (if nat_eq tried.entries entries then longest else SHORTEST)
+    if tried.has_failed then FILE_RETRY_WAIT else (if nat_eq tried.entries entries then longest else SHORTEST_FILE_AGE)
 
 -- whether the book is to be written at this time: at first, and once so long is over
 abbrev pub is_due : Option Tried → ℕ → ℕ → ℕ → Bool
@@ -62,5 +63,5 @@ pub record FilesGoOn
     {T E B : Type 0} (given : T → Option (List (List ℕ))) (old : Files T E B) (sight : Sight) (now : ℕ) (new : Files T E B)
     : Type 0 where
   pub lines : AreKept given FOREVER (length sight.book) now (lines_of sight) old.text new.text
-  pub state : AreKept given LONGEST (length sight.book) now (state_of sight) old.state new.state
-  pub script : AreKept given LONGEST (length sight.book) now (script_of sight) old.script new.script
+  pub state : AreKept given LONGEST_STATE_AGE (length sight.book) now (state_of sight) old.state new.state
+  pub script : AreKept given LONGEST_STATE_AGE (length sight.book) now (script_of sight) old.script new.script

@@ -7,7 +7,8 @@ ghost use Rattle.machine_files.specs.Texts.{Takes};
 ghost use Rattle.scoreboard.specs.Value as laws;
 ghost use Rattle.board_command.specs.Files as given;
 ghost use Rattle.board_command.specs.Files.{AreKept};
-ghost use Rattle.board_command.specs.declared.files.TheConstants.{FOREVER, LONGEST};
+ghost use Rattle.board_command.specs.declared.files.TheConstants.{FOREVER};
+ghost use Rattle.waits.specs.declared.times.TheConstants.{LONGEST_STATE_AGE};
 
 use cards::{MatchSheet, board_lines};
 use corrections::BookOf;
@@ -18,16 +19,7 @@ use setup::{StopFault, print_fault, printable};
 use std::alloc::{AllocError, Global};
 use std::io::Write;
 use streams::{Watched, WriteFailed};
-
-/// How long what was written stands at least before the next, in milliseconds: a board that catches up writes ten a second.
-const SHORTEST: u64 = 100;
-
-/// How long a file that couldn't be written is left alone.
-const AGAIN: u64 = 1_000;
-
-/// How long a state stands at most: less than ten seconds, by more than a turn takes. Whoever sees when the file was
-/// written knows whether its board lives.
-const LONGEST: u64 = 9_400;
+use waits::{FILE_RETRY_WAIT, LONGEST_STATE_AGE, SHORTEST_FILE_AGE};
 
 /// A text stands as long as its book does.
 const FOREVER: u64 = u64::MAX;
@@ -50,11 +42,11 @@ impl Tried {
         ensures { result ≡ nat_le (wait_of self entries longest) (now - self.at) }
     {
         let wait = if self.has_failed {
-            AGAIN
+            FILE_RETRY_WAIT
         } else if self.entries == entries {
             longest
         } else {
-            SHORTEST
+            SHORTEST_FILE_AGE
         };
         now.saturating_sub(self.at) >= wait
     }
@@ -218,14 +210,14 @@ fn show_state<B: BookOf, T: Replaces, E: Write>(
     now: u64,
     file: &mut Option<Kept<'_, T, E>>,
 )
-    ensures { AreKept T.given LONGEST (length (B.content book.now)) now
+    ensures { AreKept T.given LONGEST_STATE_AGE (length (B.content book.now)) now
         (laws.board_text sheet.now (B.innings_a_side book.now) (B.content book.now)) file.old file.new }
 {
     let entries = book.len();
     let Some(kept) = file else {
         return;
     };
-    if kept.is_due(entries, now, LONGEST) {
+    if kept.is_due(entries, now, LONGEST_STATE_AGE) {
         let put = put_state(alloc, sheet, book, &mut kept.file);
         kept.note(put, entries, now);
     }
@@ -239,14 +231,14 @@ fn show_script<B: BookOf, T: Replaces, E: Write>(
     now: u64,
     file: &mut Option<Kept<'_, T, E>>,
 )
-    ensures { AreKept T.given LONGEST (length (B.content book.now)) now
+    ensures { AreKept T.given LONGEST_STATE_AGE (length (B.content book.now)) now
         (given.script_with (laws.board_text sheet.now (B.innings_a_side book.now) (B.content book.now))) file.old file.new }
 {
     let entries = book.len();
     let Some(kept) = file else {
         return;
     };
-    if kept.is_due(entries, now, LONGEST) {
+    if kept.is_due(entries, now, LONGEST_STATE_AGE) {
         let put = put_script(alloc, sheet, book, &mut kept.file);
         kept.note(put, entries, now);
     }

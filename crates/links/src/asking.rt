@@ -4,15 +4,7 @@ ghost use Rattle.std.specs.Prelude.{◌≡◌, ◌⊎◌, None, Some};
 
 use agree_core::{DeskId, Position};
 use std::mem;
-
-/// How long an answer is waited for at least, in milliseconds.
-const LEAST_PAUSE: u64 = 4;
-
-/// How long as long as nothing is known of the network.
-const FIRST_PAUSE: u64 = 20;
-
-/// How long at most. What takes longer is no round trip: a scorer is thinking.
-const LONGEST_PAUSE: u64 = 250;
+use waits::{FIRST_ASK_PAUSE, LONGEST_ASK_PAUSE, SHORTEST_ASK_PAUSE};
 
 /// How often an ask is said again, beside what the station itself says.
 const MOST_TRIES: u32 = 8;
@@ -72,11 +64,11 @@ impl Asking {
     /// How long an answer is waited for: two round trips, and twice as long after each try.
     fn pause(&self) -> u64 {
         let first = match self.trip {
-            Some(trip) => LEAST_PAUSE.max(trip.saturating_mul(2)),
-            None => FIRST_PAUSE,
+            Some(trip) => SHORTEST_ASK_PAUSE.max(trip.saturating_mul(2)),
+            None => FIRST_ASK_PAUSE,
         };
         let tries = self.tries.min(MOST_DOUBLED);
-        LONGEST_PAUSE.min(first.saturating_mul(1 << tries))
+        LONGEST_ASK_PAUSE.min(first.saturating_mul(1 << tries))
     }
 
     /// A vote came early: more may come.
@@ -169,7 +161,7 @@ impl Asking {
         }
         self.is_open = false;
         let took = now.saturating_sub(self.first);
-        if took <= LONGEST_PAUSE {
+        if took <= LONGEST_ASK_PAUSE {
             self.trip = Some(self.trip_after(took));
         }
     }

@@ -1,18 +1,15 @@
 //! Places that a peer's ask stands for: those behind it.
 
+use waits::{WINDOW_PAUSE, WINDOW_REFILL};
+
 /// How many places behind an ask are asked for with it.
 const PLACES_BEHIND: u32 = 63;
-
-/// For how many milliseconds a place that was asked for so isn't so once more: then its ask stands for itself alone.
-const PAUSE: u64 = 500;
 
 /// How many peers are known apart.
 const PEERS: usize = 8;
 
-/// How many windows a peer may have opened at once, and after how many milliseconds one more: enough for a whole book.
+/// How many windows a peer may have opened at once: enough for a whole book.
 const MOST_WINDOWS: u32 = 130;
-
-const REFILL: u64 = 100;
 
 /// A peer's window: the next place that is asked for, and the first behind those that are.
 #[derive(Clone, Copy)]
@@ -41,7 +38,7 @@ impl Order {
             self.refilled = now;
             return;
         }
-        let more = (now - self.refilled) / REFILL;
+        let more = (now - self.refilled) / WINDOW_REFILL;
         if more > 0 {
             let more = more.min(u64::from(MOST_WINDOWS)) as u32;
             self.left = MOST_WINDOWS.min(self.left.saturating_add(more));
@@ -51,7 +48,7 @@ impl Order {
 
     /// Whether a window behind this place may be opened: there was none lately that went so far, and one is left.
     fn may_open(&self, place: u32, now: u64) -> bool {
-        self.left > 0 && (self.until <= place || now >= self.at.saturating_add(PAUSE))
+        self.left > 0 && (self.until <= place || now >= self.at.saturating_add(WINDOW_PAUSE))
     }
 }
 

@@ -1,7 +1,6 @@
 //! How long a station has been silent.
 
-/// After how many milliseconds without a word of the station's its window asks for the votes of its position.
-const LONGEST_SILENCE: u64 = 2_000;
+use waits::LONGEST_STATION_SILENCE;
 
 /// When something was said to all last, if anything was.
 #[derive(Clone, Copy)]
@@ -23,7 +22,7 @@ impl Silence {
     /// Whether nothing was said for so long, though something was before.
     pub fn is_long(&self, now: u64) -> bool {
         match self.last {
-            Some(last) => now.saturating_sub(last) >= LONGEST_SILENCE,
+            Some(last) => now.saturating_sub(last) >= LONGEST_STATION_SILENCE,
             None => false,
         }
     }

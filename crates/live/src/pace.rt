@@ -4,11 +4,7 @@ ghost use Rattle.std.specs.Prelude.{◌≡◌, ◌≤◌, ◌<◌, IfSome, false
 ghost use Rattle.std.proofs.Props.{props};
 ghost use Rattle.live.specs.Ticks.{recent_until};
 
-/// How long an answer is waited for at first, in milliseconds.
-const FIRST_WAIT: u64 = 20;
-
-/// How long at most, so that something is said twice a second.
-const LAST_WAIT: u64 = 500;
+use waits::{FIRST_REPEAT_WAIT, LONGEST_REPEAT_WAIT};
 
 /// When a station says next what it says unasked: at once where its position is new, then again after 20 ms, after
 /// twice that and so on, up to twice a second. Whatever its clock shows, what was said half a second before is due.
@@ -37,7 +33,7 @@ impl Pace {
     {
         Pace {
             due: 0,
-            wait: FIRST_WAIT,
+            wait: FIRST_REPEAT_WAIT,
             waits: false,
             ticked: None,
             looked: None,
@@ -66,7 +62,7 @@ impl Pace {
         let waits = self.waits;
         self.waits = false;
         if waits {
-            LAST_WAIT.min(self.due.saturating_sub(now))
+            LONGEST_REPEAT_WAIT.min(self.due.saturating_sub(now))
         } else {
             0
         }
@@ -84,7 +80,7 @@ impl Pace {
         }
         self.ticked = Some(now);
         self.due = now.saturating_add(self.wait);
-        self.wait = LAST_WAIT.min(self.wait * 2);
+        self.wait = LONGEST_REPEAT_WAIT.min(self.wait * 2);
         true
     }
 
@@ -95,10 +91,10 @@ impl Pace {
     {
         if is_new {
             self.due = 0;
-            self.wait = FIRST_WAIT;
+            self.wait = FIRST_REPEAT_WAIT;
         } else if may_come {
-            self.due = self.due.min(now.saturating_add(FIRST_WAIT));
-            self.wait = FIRST_WAIT;
+            self.due = self.due.min(now.saturating_add(FIRST_REPEAT_WAIT));
+            self.wait = FIRST_REPEAT_WAIT;
         }
     }
 }

@@ -8,10 +8,8 @@ ghost use Rattle.live.specs.Signs as signs;
 ghost use Rattle.live.specs.Signs.{IsSign};
 
 use agree_core::{Asker, DeskId, Heard, Message, Position};
+use waits::REMINDER_WAIT;
 use wire::{What, message_of};
-
-/// After how many milliseconds a scorer is told that the other has written, or isn't heard.
-const LATE: u64 = 5_000;
 
 /// A desk as one who asks.
 fn asker(desk: DeskId) -> Asker
@@ -92,12 +90,12 @@ impl Peer {
 
     /// Whether nothing of the other desk came for long.
     pub fn is_missed(&self, now: u64) -> bool {
-        now.saturating_sub(self.heard) >= LATE
+        now.saturating_sub(self.heard) >= REMINDER_WAIT
     }
 
     /// Whether it is long since the other's vote was noted.
     pub fn is_late(&self, now: u64) -> bool {
-        now.saturating_sub(self.noted) >= LATE
+        now.saturating_sub(self.noted) >= REMINDER_WAIT
     }
 
     /// Whether the bytes are a sign of the other desk.

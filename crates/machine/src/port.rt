@@ -8,9 +8,7 @@ use std::io::{self, ErrorKind};
 use std::net::{Net, SocketAddr, UdpSocket};
 use std::os::fd::AsRawFd;
 use std::time::Duration;
-
-/// How long a call of the socket waits at most, in milliseconds, and how long it is left alone after one that failed.
-const LIMIT: u64 = 10;
+use waits::SOCKET_CALL_WAIT;
 
 /// Whether a call failed only because it could wait no longer.
 pub fn is_late(error: &io::Error) -> bool {
@@ -31,7 +29,7 @@ impl Port {
     /// A socket at this address.
     pub fn new(net: &impl Net, at: SocketAddr) -> io::Result<Port> {
         let socket = UdpSocket::bind(net, at)?;
-        let limit = Some(Duration::from_millis(LIMIT));
+        let limit = Some(Duration::from_millis(SOCKET_CALL_WAIT));
         socket.set_read_timeout(limit)?;
         socket.set_write_timeout(limit)?;
         Ok(Port {
@@ -60,7 +58,7 @@ impl Port {
     /// failed is left alone for a moment: so one that always fails doesn't keep the processor busy.
     fn is_ready(&self, wait: u64) -> bool {
         if self.fails {
-            let _ = wait_at(NO_DESCRIPTOR, self.ends, LIMIT.min(wait));
+            let _ = wait_at(NO_DESCRIPTOR, self.ends, SOCKET_CALL_WAIT.min(wait));
             return true;
         }
         wait_at(self.socket.as_raw_fd(), self.ends, wait)

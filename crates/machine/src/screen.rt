@@ -7,6 +7,7 @@ use crate::outlet::Outlet;
 use crate::row_log::RowLog;
 use std::alloc::{AllocError, Global};
 use std::io::{self, Write};
+use waits::SCREEN_PIECE_WAIT;
 
 /// The most bytes that wait, and the most of rows whose writing has begun.
 const ROOM: usize = 32_768;
@@ -14,10 +15,7 @@ const ROOM: usize = 32_768;
 /// The row that stands in place of rows that are left out.
 const POINTS: [u8; 3] = [b'.', b'.', b'\n'];
 
-/// How long is waited for a piece to be taken, in milliseconds.
-const WAIT: u64 = 1;
-
-/// How often a screen that takes bytes may let that pass, before it is left alone.
+/// How often a screen that takes bytes may let a wait for a piece pass, before it is left alone.
 const PATIENCE: u8 = 50;
 
 /// The most pieces that are handed on at once.
@@ -109,7 +107,7 @@ impl<O: Outlet> Screen<O> {
     fn hand_patiently(&mut self, patience: &mut u8) -> io::Result<bool>
         ensures { written_of self.new ≡ written_of self.old }
     {
-        let wait = if *patience > 0 { WAIT } else { 0 };
+        let wait = if *patience > 0 { SCREEN_PIECE_WAIT } else { 0 };
         if self.hand_piece(wait)? > 0 {
             if !self.takes {
                 self.takes = true;

@@ -3,9 +3,7 @@
 use links::{Clock, Link, Taken};
 use std::cell::RefCell;
 use viewers::Viewers;
-
-/// How long a station waits at most that serves a page, in milliseconds: so often it sees whether something new is shown.
-const WAIT: u64 = 100;
+use waits::LONGEST_PAGE_WAIT;
 
 /// What is seen to in a station's waits.
 pub trait Attends {
@@ -31,7 +29,7 @@ impl<L: Link, C: Clock, P: Attends> Attended<'_, L, C, P> {
     /// How long is waited, where it is asked to wait so long.
     fn wait_of(&self, wait: u64) -> u64 {
         match self.page {
-            Some(_) => wait.min(WAIT),
+            Some(_) => wait.min(LONGEST_PAGE_WAIT),
             None => wait,
         }
     }

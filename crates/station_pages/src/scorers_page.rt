@@ -9,9 +9,7 @@ use links::{HeldLine, HeldLines};
 use std::alloc::Global;
 use std::os::fd::RawFd;
 use viewers::Viewers;
-
-/// How long who look at it aren't counted again, in milliseconds.
-const PAUSE: u64 = 5_000;
+use waits::WATCHERS_COUNT_PAUSE;
 
 /// The page of a desk: who looks at it, the newest rows that its scorer was told, and the lines that are held.
 #[derive(Drop)]
@@ -101,7 +99,7 @@ impl ScorersPage {
 
     /// Counts who look at it, once in a while: strangers who come and go fill no screen.
     fn count(&mut self, now: u64) {
-        if now.saturating_sub(self.counted) >= PAUSE {
+        if now.saturating_sub(self.counted) >= WATCHERS_COUNT_PAUSE {
             self.counted = now;
             self.watching = self.viewers.watching();
         }

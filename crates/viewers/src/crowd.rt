@@ -15,6 +15,7 @@ use std::io;
 use std::net::{Net, SocketAddr};
 use std::os::fd::{AsRawFd, RawFd};
 use std::time::Duration;
+use waits::VIEWER_BEAT;
 
 /// How many there are at most: of a board, and of a desk.
 const MOST_VIEWERS: usize = 256;
@@ -26,9 +27,6 @@ const MOST_EVENTS: usize = 64;
 
 /// What names the listener among what is waited for.
 const LISTENER: Token = Token(usize::MAX);
-
-/// How often a viewer hears that the board is there, in milliseconds.
-const BEAT: u64 = 2_000;
 
 /// Who looks at a page, and where others come in.
 #[derive(Drop)]
@@ -193,7 +191,7 @@ impl Crowd {
 
     /// Whether it is time for a beat.
     fn take_beat(&mut self, now: u64) -> bool {
-        let is_due = now.saturating_sub(self.beat) >= BEAT;
+        let is_due = now.saturating_sub(self.beat) >= VIEWER_BEAT;
         if is_due {
             self.beat = now;
         }

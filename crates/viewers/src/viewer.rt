@@ -18,9 +18,7 @@ use httparse::spans::{EMPTY_HEADER_SPAN, HeaderSpan, Span};
 use std::alloc::Global;
 use std::io;
 use std::net::SocketAddr;
-
-/// How long a request and its answer may take, and how long a viewer may take nothing, in milliseconds.
-const PATIENCE: u64 = 10_000;
+use waits::VIEWER_PATIENCE;
 
 /// How many pieces are read or written at once.
 const MOST_PIECES: u32 = 8;
@@ -108,7 +106,7 @@ impl<S: Stream> Viewer<S> {
     /// Whether it is to be let go: it has gone, or had time enough.
     pub fn is_over(&self, now: u64) -> bool {
         let is_idle = matches!(self.stage, Stage::Watching(_)) && !self.is_sending();
-        self.is_gone || (!is_idle && now.saturating_sub(self.since) > PATIENCE)
+        self.is_gone || (!is_idle && now.saturating_sub(self.since) > VIEWER_PATIENCE)
     }
 
     /// Whether it is told each new state.

@@ -34,9 +34,7 @@ use setup::TURNS;
 use std::alloc::{AllocError, Global};
 use std::io::Write;
 use streams::{Watched, WriteFailed};
-
-/// How long a datagram is waited for, in milliseconds.
-const LONGEST_WAIT: u64 = 10;
+use waits::MATCH_DATAGRAM_WAIT;
 
 /// Why no desk is made on an empty disk.
 fn creation_fault(why: OpenRefusal) -> MatchFault
@@ -153,7 +151,7 @@ fn take_next<S: SlotsOf, L: Link>(
     ensures calm { IsCalm desk.old → result ≢ Err MatchFault.Device }
 {
     let mut buffer = [0; ROOM];
-    match link.take(&mut buffer, LONGEST_WAIT) {
+    match link.take(&mut buffer, MATCH_DATAGRAM_WAIT) {
         Taken::Datagram(count) => match reply(desk, &buffer[..count], link) {
             Ok(()) => Ok(true),
             Err(fault) => Err(fault),
@@ -194,7 +192,7 @@ fn board_next<L: Link>(board: &mut Board<CheckedBook>, link: &mut L) -> bool
         IsOnline (boards.game_of board.old) start entries (L.log link.new) (board_at board.new) }
 {
     let mut buffer = [0; ROOM];
-    match link.take(&mut buffer, LONGEST_WAIT) {
+    match link.take(&mut buffer, MATCH_DATAGRAM_WAIT) {
         Taken::Datagram(count) => {
             let _ = board.receive(&buffer[..count]);
             true
