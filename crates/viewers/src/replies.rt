@@ -144,20 +144,86 @@ fn whole(
     Ok(out)
 }
 
-/// A whole text that tells why something isn't had.
-fn refusal(
+/// An answer of one line: its status, what that means, and the line.
+#[derive(Clone, Copy)]
+struct ShortAnswer {
+    status: u16,
+    reason: &'static [u8],
+    line: &'static [u8],
+}
+
+/// A line was taken.
+const TYPED: ShortAnswer = ShortAnswer {
+    status: 200,
+    reason: b"OK",
+    line: b"typed\n",
+};
+
+/// There is nothing to show yet.
+const UNREADY: ShortAnswer = ShortAnswer {
+    status: 503,
+    reason: b"Not Yet",
+    line: b"no score yet\n",
+};
+
+const MISSING: ShortAnswer = ShortAnswer {
+    status: 404,
+    reason: b"Not Found",
+    line: b"not here\n",
+};
+
+const METHOD: ShortAnswer = ShortAnswer {
+    status: 405,
+    reason: b"Not Allowed",
+    line: b"only GET\n",
+};
+
+const FOREIGN: ShortAnswer = ShortAnswer {
+    status: 403,
+    reason: b"Forbidden",
+    line: b"another host\n",
+};
+
+/// A short answer, as a whole text.
+fn short_answer(
+    alloc: Global,
+    server: &mut Server,
+    station: Station,
+    short: ShortAnswer,
+    is_head: bool,
+) -> Result<Vec<u8>, WriteError>
+    ensures { IfOk result (λ bytes. bytes.items ≡
+        texts.whole_text server.old station short.status short.reason.now texts.plain short.line.now is_head) }
+{
+    whole(
+        alloc,
+        server,
+        station,
+        short.status,
+        short.reason,
+        TEXT,
+        short.line,
+        is_head,
+    )
+}
+
+/// What can't be read is refused with this status.
+fn refused(
     alloc: Global,
     server: &mut Server,
     station: Station,
     status: u16,
-    reason: &[u8],
-    text: &[u8],
     is_head: bool,
 ) -> Result<Vec<u8>, WriteError>
-    ensures { IfOk result (λ bytes.
-        bytes.items ≡ texts.whole_text server.old station status reason.now texts.plain text.now is_head) }
+    ensures { IfOk result (λ bytes. bytes.items ≡
+        texts.whole_text server.old station status (codes "Refused") texts.plain (codes "refused\n") is_head) }
 {
-    whole(alloc, server, station, status, reason, TEXT, text, is_head)
+    let refused = ShortAnswer {
+        status,
+        reason: b"Refused",
+        line: b"refused\n",
+    };
+    short_answer(alloc, server, station, refused, is_head)
 }
 
 /// The page.
@@ -245,6 +311,25 @@ fn nonce_text(
     }
 }
 
+/// The lines that are shown: a board's six, or those that a desk told.
+fn lines_text(
+    alloc: Global,
+    server: &mut Server,
+    shown: &Shown,
+    is_head: bool,
+) -> Result<Vec<u8>, WriteError>
+    ensures { IfOk result (λ bytes. bytes.items ≡ texts.answer_text server.old Ask.Lines is_head shown.now) }
+{
+    shown_text(
+        alloc,
+        server,
+        shown.station,
+        lines_kind(shown.station),
+        shown.lines.as_slice(),
+        is_head,
+    )
+}
+
 /// The answer to what was asked for, while this is shown.
 pub fn reply(
     alloc: Global,
@@ -258,63 +343,16 @@ pub fn reply(
     let station = shown.station;
     match ask {
         Ask::Page => page(alloc, server, station, head),
-        Ask::Lines => shown_text(
-            alloc,
-            server,
-            station,
-            lines_kind(station),
-            shown.lines.as_slice(),
-            head,
-        ),
+        Ask::Lines => lines_text(alloc, server, shown, head),
         Ask::State => shown_text(alloc, server, station, JSON, shown.state.as_slice(), head),
         Ask::Events => stream(alloc, server, station),
         Ask::Given(nonce) => nonce_text(alloc, server, station, nonce),
-        Ask::Typed => refusal(alloc, server, station, 200, b"OK", b"typed\n", head),
-        Ask::Unready => refusal(
-            alloc,
-            server,
-            station,
-            503,
-            b"Not Yet",
-            b"no score yet\n",
-            head,
-        ),
-        Ask::Missing => refusal(
-            alloc,
-            server,
-            station,
-            404,
-            b"Not Found",
-            b"not here\n",
-            head,
-        ),
-        Ask::Method => refusal(
-            alloc,
-            server,
-            station,
-            405,
-            b"Not Allowed",
-            b"only GET\n",
-            head,
-        ),
-        Ask::Foreign => refusal(
-            alloc,
-            server,
-            station,
-            403,
-            b"Forbidden",
-            b"another host\n",
-            head,
-        ),
-        Ask::Faulty(status) => refusal(
-            alloc,
-            server,
-            station,
-            status,
-            b"Refused",
-            b"refused\n",
-            head,
-        ),
+        Ask::Typed => short_answer(alloc, server, station, TYPED, head),
+        Ask::Unready => short_answer(alloc, server, station, UNREADY, head),
+        Ask::Missing => short_answer(alloc, server, station, MISSING, head),
+        Ask::Method => short_answer(alloc, server, station, METHOD, head),
+        Ask::Foreign => short_answer(alloc, server, station, FOREIGN, head),
+        Ask::Faulty(status) => refused(alloc, server, station, status, head),
     }
 }
 
