@@ -127,9 +127,6 @@ enum DeskDisk<'r> {
     Two(CopiedDisk<'r>),
 }
 
-/// Closes a desk's votes.
-fn close(_disk: DeskDisk<'_>) {}
-
 /// The disk of a desk's votes, where one file's calls leave why they failed, and the other's.
 fn desk_disk_at<'r, 'a>(
     rt: &'r HostRuntime,
@@ -218,6 +215,28 @@ fn with_lasts<'a>(
     }
 }
 
+/// What a scorer types, at the keyboard and in a page, where there is one.
+fn keys_of<'p, K: Keys, E: Write>(
+    keyboard: K,
+    page: Option<&'p RefCell<ScorersPage>>,
+    errors: E,
+) -> HeldKeys<'p, PageKeys<'p, K, E>> {
+    HeldKeys::new(PageKeys::new(keyboard, page, errors), page)
+}
+
+/// A link in whose waits a page is seen to, where there is one.
+fn attended<'p, 'r, L>(
+    rt: &'r HostRuntime,
+    link: L,
+    page: Option<&'p RefCell<ScorersPage>>,
+) -> Attended<'p, L, MonotonicClock<'r>, ScorersPage> {
+    Attended {
+        link,
+        clock: MonotonicClock::new(rt),
+        page,
+    }
+}
+
 /// Keeps the desk's process on this disk, until it ends.
 #[inline(never)]
 fn keep<D: Disk + Drop, L: Link, K: Keys, W: Write>(
@@ -248,6 +267,26 @@ fn keep<D: Disk + Drop, L: Link, K: Keys, W: Write>(
         &mut sight,
         u64::MAX,
     )
+}
+
+/// The same, on a desk's file alone or on that and its copy.
+fn keep_on<L: Link, K: Keys, W: Write>(
+    rt: &HostRuntime,
+    disk: DeskDisk<'_>,
+    desk: DeskId,
+    book: CheckedBook,
+    sheet: &MatchSheet,
+    link: &mut L,
+    keys: &mut K,
+    out: &mut Watched<W>,
+    page: Option<&RefCell<ScorersPage>>,
+) -> Result<(), LifeEnd>
+    requires { book.entries ≡ [] }
+{
+    match disk {
+        DeskDisk::One(disk) => keep(rt, disk, desk, book, sheet, link, keys, out, page),
+        DeskDisk::Two(disk) => keep(rt, disk, desk, book, sheet, link, keys, out, page),
+    }
 }
 
 /// Waits until all that was written to a desk's screen is taken, and tells whether it is. Where a write of it failed, no other
@@ -299,32 +338,16 @@ pub fn start_desk<'a>(
     let mut writer = Watched::new(PageRows::new(screen, scorers));
     let keyboard = Keyboard::of_standard_input(rt);
     let ends = page.ends_with(keyboard.descriptor());
-    let mut keys = HeldKeys::new(
-        PageKeys::new(keyboard, scorers, Shared::of(&errors)),
-        scorers,
-    );
+    let mut keys = keys_of(keyboard, scorers, Shared::of(&errors));
     let lasts = [LastFault::new(None), LastFault::new(None)];
     let book = empty_book(rt, &sheet)?;
     let disk = desk_disk_at(rt, &sheet, desk, file, copy, &lasts)?;
-    let link = match sealing.link_at(rt, at, peers, ends, Shared::of(&errors)) {
-        Ok(link) => link,
-        Err(stopped) => {
-            close(disk);
-            return Err(stopped);
-        }
-    };
-    let mut link = Attended {
-        link,
-        clock: MonotonicClock::new(rt),
-        page: scorers,
-    };
+    let below = sealing.link_at(rt, at, peers, ends, Shared::of(&errors))?;
+    let mut link = attended(rt, below, scorers);
     let _ = sealing.tell_fingerprints(&mut Shared::of(&errors));
     page.tell(&mut Shared::of(&errors), rt.stderr().is_terminal());
     let (on, by, out) = (&mut link, &mut keys, &mut writer);
-    let ended = match disk {
-        DeskDisk::One(disk) => keep(rt, disk, desk, book, &sheet, on, by, out, scorers),
-        DeskDisk::Two(disk) => keep(rt, disk, desk, book, &sheet, on, by, out, scorers),
-    };
+    let ended = keep_on(rt, disk, desk, book, &sheet, on, by, out, scorers);
     drop(link);
     let is_seen = is_seen(writer);
     let keyboard_failed = keys.keys().keyboard().has_failed();
