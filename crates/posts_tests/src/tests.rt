@@ -111,40 +111,6 @@ fn what_is_no_post(rt: HostRuntime) {
         judged(&mut posts, four, [b'4'; 129].as_slice(), 0),
         Err(Refusal::TooLong)
     );
-    for at in [
-        "",
-        "18",
-        "18.",
-        ".0",
-        "18.00",
-        "018.0",
-        "18.0.0",
-        "+18.0",
-        "18.-0",
-        "18,0",
-        " 18.0",
-        "4294967296.0",
-    ] {
-        assert_eq!(rt;
-            judged(&mut posts, [at, "1", FOUR], b"4", 0),
-            Err(Refusal::Malformed),
-            "at {at}"
-        );
-    }
-    for nonce in ["", "01", "+1", "1 ", "one", "18446744073709551616"] {
-        assert_eq!(rt;
-            judged(&mut posts, ["18.0", nonce, FOUR], b"4", 0),
-            Err(Refusal::Malformed),
-            "nonce {nonce}"
-        );
-    }
-    for tag in ["", "9f", &FOUR[1..]] {
-        assert_eq!(rt;
-            judged(&mut posts, ["18.0", "1", tag], b"4", 0),
-            Err(Refusal::Malformed),
-            "tag {tag}"
-        );
-    }
     let foreign = Post {
         is_from_here: false,
         stamp: Stamp::read("18.0", "1", FOUR),
@@ -152,6 +118,42 @@ fn what_is_no_post(rt: HostRuntime) {
     };
     assert!(rt; matches!(posts.judge(&foreign, HERE, 0), Err(Refusal::Foreign)));
     assert_eq!(rt; judged(&mut posts, four, b"4", 0), Ok(1));
+}
+
+#[test]
+fn what_is_no_stamp(rt: HostRuntime) {
+    let mut posts = given(1);
+    for fields in [
+        ["", "1", FOUR],
+        ["18", "1", FOUR],
+        ["18.", "1", FOUR],
+        [".0", "1", FOUR],
+        ["18.00", "1", FOUR],
+        ["018.0", "1", FOUR],
+        ["18.0.0", "1", FOUR],
+        ["+18.0", "1", FOUR],
+        ["18.-0", "1", FOUR],
+        ["18,0", "1", FOUR],
+        [" 18.0", "1", FOUR],
+        ["4294967296.0", "1", FOUR],
+        ["18.0", "", FOUR],
+        ["18.0", "01", FOUR],
+        ["18.0", "+1", FOUR],
+        ["18.0", "1 ", FOUR],
+        ["18.0", "one", FOUR],
+        ["18.0", "18446744073709551616", FOUR],
+        ["18.0", "1", ""],
+        ["18.0", "1", "9f"],
+        ["18.0", "1", &FOUR[1..]],
+    ] {
+        let [at, nonce, tag] = fields;
+        assert_eq!(rt;
+            judged(&mut posts, fields, b"4", 0),
+            Err(Refusal::Malformed),
+            "{at} {nonce} {tag}"
+        );
+    }
+    assert_eq!(rt; judged(&mut posts, ["18.0", "1", FOUR], b"4", 0), Ok(1));
 }
 
 #[test]

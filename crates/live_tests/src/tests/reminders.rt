@@ -25,6 +25,12 @@ const MISSED: &str = "the other desk isn't heard\n";
 
 const HEARD: &str = "the other desk is heard again\n";
 
+const WRITTEN_AND_MISSED: &str = "0 the other has written\nthe other desk isn't heard\n";
+
+const ALL_OF_THESE: &str = "No play\n0 next\n0 the other has written\nthe other desk isn't heard\n";
+
+const DIFFERS: &str = "0 differs: you innings home,\n  the other void\n";
+
 // 5 seconds after the other's vote came, unless the own one is cast, and once a position.
 #[test]
 fn the_other_has_written(rt: HostRuntime) {
@@ -67,7 +73,7 @@ fn in_each_round(rt: HostRuntime) {
         (5900, GREETING),
         (6500, "0 the other has written\n"),
         (6900, ""),
-        (7500, "0 differs: you innings home,\n  the other void\n"),
+        (7500, DIFFERS),
         (12_900, ""),
         (13_500, "0 the other has written\n"),
         (60_000, ""),
@@ -120,10 +126,7 @@ fn the_other_desk_is_heard_again(rt: HostRuntime) {
         (12_900, ""),
         (13_000, HEARD),
         (17_900, ""),
-        (
-            18_500,
-            "0 the other has written\nthe other desk isn't heard\n",
-        ),
+        (18_500, WRITTEN_AND_MISSED),
         (18_900, ""),
         (19_000, HEARD),
         (23_900, ""),
@@ -157,28 +160,19 @@ fn an_empty_line(rt: HostRuntime) {
         (2000, ""),
         (2600, "No play\n0 next\n0 the other has written\n"),
         (6400, ""),
-        (
-            6999,
-            "0 the other has written\nthe other desk isn't heard\n",
-        ),
-        (
-            7499,
-            "No play\n0 next\n0 the other has written\nthe other desk isn't heard\n",
-        ),
+        (6999, WRITTEN_AND_MISSED),
+        (7499, ALL_OF_THESE),
         (7500, HEARD),
         (7900, ""),
         (8499, "No play\n0 next\n0 the other has written\n"),
-        (8999, "0 differs: you innings home,\n  the other void\n"),
+        (8999, DIFFERS),
         (9499, "No play\n0 differs\n"),
         (9900, ""),
         (10_499, "No play\n0 differs\n0 the other has written\n"),
         (14_400, ""),
-        (
-            14_999,
-            "0 the other has written\nthe other desk isn't heard\n",
-        ),
+        (14_999, WRITTEN_AND_MISSED),
         (15_100, ""),
-        (15_699, "0 differs: you innings home,\n  the other void\n"),
+        (15_699, DIFFERS),
         (90_000, ""),
     ];
     is_told(&rt, rt.alloc(), &keys, &brings, &texts);
