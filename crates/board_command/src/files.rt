@@ -17,8 +17,7 @@ use machine_files::Replaces;
 use scoreboard::board_text;
 use setup::{StopFault, print_fault, printable};
 use std::alloc::{AllocError, Global};
-use std::io::Write;
-use streams::{Watched, WriteFailed};
+use streams::{Sink, Watched, WriteFailed};
 use waits::{FILE_RETRY_WAIT, LONGEST_STATE_AGE, SHORTEST_FILE_AGE};
 
 /// A text stands as long as its book does.
@@ -62,7 +61,7 @@ pub struct Kept<'a, T, E> {
     tried: Option<Tried>,
 }
 
-impl<'a, T: Replaces, E: Write> Kept<'a, T, E> {
+impl<'a, T: Replaces, E: Sink> Kept<'a, T, E> {
     ghost use Rattle.board_command.specs.Files.{is_due, tried_at};
 
     /// This file of this path, which wasn't written yet.
@@ -182,7 +181,7 @@ fn put_script<B: BookOf, T: Replaces>(
 }
 
 /// Puts the six lines into a file, where there is one and that is due.
-fn show_lines<B: BookOf, T: Replaces, E: Write>(
+fn show_lines<B: BookOf, T: Replaces, E: Sink>(
     alloc: Global,
     sheet: &MatchSheet,
     book: &B,
@@ -203,7 +202,7 @@ fn show_lines<B: BookOf, T: Replaces, E: Write>(
 }
 
 /// Puts the state into a file, where there is one and that is due.
-fn show_state<B: BookOf, T: Replaces, E: Write>(
+fn show_state<B: BookOf, T: Replaces, E: Sink>(
     alloc: Global,
     sheet: &MatchSheet,
     book: &B,
@@ -224,7 +223,7 @@ fn show_state<B: BookOf, T: Replaces, E: Write>(
 }
 
 /// Puts the script into a file, where there is one and that is due.
-fn show_script<B: BookOf, T: Replaces, E: Write>(
+fn show_script<B: BookOf, T: Replaces, E: Sink>(
     alloc: Global,
     sheet: &MatchSheet,
     book: &B,
@@ -254,7 +253,7 @@ pub struct Files<'a, T, E, B> {
     log: SightLog<B>,
 }
 
-impl<'a, T: Replaces, E: Write, B: BookOf> Files<'a, T, E, B> {
+impl<'a, T: Replaces, E: Sink, B: BookOf> Files<'a, T, E, B> {
     /// These files, of which none was written yet.
     pub fn new(
         alloc: Global,
@@ -272,7 +271,7 @@ impl<'a, T: Replaces, E: Write, B: BookOf> Files<'a, T, E, B> {
     }
 }
 
-impl<T: Replaces, E: Write, B: BookOf + Drop> Shows<B> for Files<'_, T, E, B> {
+impl<T: Replaces, E: Sink, B: BookOf + Drop> Shows<B> for Files<'_, T, E, B> {
     ghost use Rattle.live.specs.SightLogs.{sights_of};
     ghost use Rattle.board_command.specs.Files.{FilesGoOn};
 

@@ -1,8 +1,7 @@
 //! What a board tells at standard error.
 
 use station_texts::{Notice, NoticeLog, Notices, print_notice};
-use std::io::Write;
-use streams::Watched;
+use streams::{Sink, Watched};
 
 /// A writer to which a board's notices are written, each at once.
 #[derive(Drop)]
@@ -11,7 +10,7 @@ pub struct Notes<E> {
     log: NoticeLog,
 }
 
-impl<E: Write + Drop> Notes<E> {
+impl<E: Sink + Drop> Notes<E> {
     /// Nothing was told yet.
     pub fn new(errors: E) -> Notes<E> {
         Notes {
@@ -21,7 +20,7 @@ impl<E: Write + Drop> Notes<E> {
     }
 }
 
-impl<E: Write + Drop> Notices for Notes<E> {
+impl<E: Sink + Drop> Notices for Notes<E> {
     ghost use Rattle.station_texts.specs.NoticeLogs.{notices_of};
 
     ghost told = { λ notes. notices_of notes.log };

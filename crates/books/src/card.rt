@@ -9,11 +9,10 @@ ghost use Rattle.books.specs.Card.{both_cards, card_text, cards_of};
 use cards::{MatchSheet, batting_card, book_page, bowling_card};
 use corrections::BookOf;
 use match_laws::Match;
-use std::io::Write;
-use streams::{Watched, WriteFailed};
+use streams::{Sink, Watched, WriteFailed};
 
 /// Prints both cards of an innings.
-fn print_both<W: Write>(
+fn print_both<W: Sink>(
     sheet: &MatchSheet,
     score: &Match,
     innings: usize,
@@ -29,7 +28,7 @@ fn print_both<W: Write>(
 }
 
 /// Prints both cards of each innings.
-fn print_innings<W: Write>(
+fn print_innings<W: Sink>(
     sheet: &MatchSheet,
     score: &Match,
     out: &mut Watched<W>,
@@ -46,14 +45,14 @@ fn print_innings<W: Write>(
 
 /// Prints both cards of each innings of a book, and then its page. It fails only where a write fails; how much
 /// was written then isn't said.
-pub fn print_card<W: Write, B: BookOf>(
+pub fn print_card<W: Sink, B: BookOf>(
     sheet: &MatchSheet,
     book: &B,
     out: &mut Watched<W>,
 ) -> Result<(), WriteFailed>
     ensures text { OnOk result (Prints W.contents out.old out.new
         (card_text sheet.now (B.content book.now))) }
-    ensures handed_on { OnOk result (IsHandedOn out.new) }
+    ensures handed_on { OnOk result (IsHandedOn W.calls out.new) }
     ensures failed { TellsFailure result out.old out.new }
 {
     print_innings(sheet, book.score(), out)?;

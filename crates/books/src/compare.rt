@@ -18,8 +18,7 @@ use crate::one_history::{first_torn, print_torn};
 use agree_core::ROUNDS;
 use notation::{Entry, PLACES, line_of};
 use std::alloc::{AllocError, Global};
-use std::io::Write;
-use streams::{Watched, WriteFailed};
+use streams::{Sink, Watched, WriteFailed};
 
 /// What both desks wrote in a round of a place, where it isn't the same: `None` where a desk has no vote there. `place`
 /// is below 8,192, `round` below 256.
@@ -156,7 +155,7 @@ pub fn compare_files(alloc: Global, game: u64, a: &[u8], b: &[u8]) -> Result<Com
 }
 
 /// Prints what a desk wrote, `nothing` where it has no vote.
-fn print_vote<W: Write>(out: &mut Watched<W>, vote: &Option<Entry>) -> Result<(), WriteFailed>
+fn print_vote<W: Sink>(out: &mut Watched<W>, vote: &Option<Entry>) -> Result<(), WriteFailed>
     requires { IfSome vote.now IsEntry }
     ensures text { OnOk result (Prints W.contents out.old out.new (texts.vote_text vote.now)) }
     ensures failed { TellsFailure result out.old out.new }
@@ -172,7 +171,7 @@ fn print_vote<W: Write>(out: &mut Watched<W>, vote: &Option<Entry>) -> Result<()
 }
 
 /// Prints a place and a round.
-fn print_position<W: Write>(out: &mut Watched<W>, place: u32, round: u32) -> Result<(), WriteFailed>
+fn print_position<W: Sink>(out: &mut Watched<W>, place: u32, round: u32) -> Result<(), WriteFailed>
     ensures text { OnOk result (Prints W.contents out.old out.new (texts.position_text place round)) }
     ensures failed { TellsFailure result out.old out.new }
 {
@@ -180,7 +179,7 @@ fn print_position<W: Write>(out: &mut Watched<W>, place: u32, round: u32) -> Res
 }
 
 /// Prints the line of a difference.
-fn print_difference<W: Write>(
+fn print_difference<W: Sink>(
     out: &mut Watched<W>,
     difference: &Difference,
 ) -> Result<(), WriteFailed>
@@ -197,7 +196,7 @@ fn print_difference<W: Write>(
 }
 
 /// Prints the lines of these differences.
-fn print_differences<W: Write>(
+fn print_differences<W: Sink>(
     out: &mut Watched<W>,
     differences: &[Difference],
 ) -> Result<(), WriteFailed>
@@ -238,7 +237,7 @@ fn tally_of(differences: &[Difference]) -> Tally
 }
 
 /// Prints how many entries are agreed, and how many differences there are of each kind.
-fn print_sum<W: Write>(
+fn print_sum<W: Sink>(
     out: &mut Watched<W>,
     agreed: usize,
     differences: &[Difference],
@@ -258,7 +257,7 @@ fn print_sum<W: Write>(
 }
 
 /// Prints from which place on the votes aren't of one history, if there is one.
-fn print_tear<W: Write>(out: &mut Watched<W>, torn: Option<u32>) -> Result<(), WriteFailed>
+fn print_tear<W: Sink>(out: &mut Watched<W>, torn: Option<u32>) -> Result<(), WriteFailed>
     ensures text { OnOk result (Prints W.contents out.old out.new (texts.torn_text torn)) }
     ensures failed { TellsFailure result out.old out.new }
 {
@@ -271,14 +270,14 @@ fn print_tear<W: Write>(out: &mut Watched<W>, torn: Option<u32>) -> Result<(), W
 /// Prints a line for each place and round at which the desks differ, and then how many entries are agreed, and how many
 /// such lines there are: of both desks, of A alone, of B alone; and where the votes aren't of one history, from which place
 /// on. It fails only where a write fails; how much was written then isn't said.
-pub fn print_comparison<W: Write>(
+pub fn print_comparison<W: Sink>(
     comparison: &Comparison,
     out: &mut Watched<W>,
 ) -> Result<(), WriteFailed>
     requires { All HasEntries comparison.now.differences.items }
     ensures text { OnOk result (Prints W.contents out.old out.new
         (texts.comparison_text comparison.now.agreed comparison.now.differences.items comparison.now.torn)) }
-    ensures handed_on { OnOk result (IsHandedOn out.new) }
+    ensures handed_on { OnOk result (IsHandedOn W.calls out.new) }
     ensures failed { TellsFailure result out.old out.new }
 {
     let differences = comparison.differences.as_slice();

@@ -11,8 +11,7 @@ use crate::compare::is_alike;
 use crate::desk_votes::DeskVotes;
 use agree_core::ROUNDS;
 use notation::PLACES;
-use std::io::Write;
-use streams::{Watched, WriteFailed};
+use streams::{Sink, Watched, WriteFailed};
 
 /// Whether a desk has a vote there.
 fn has_vote(votes: &DeskVotes, place: u32, round: u32) -> bool
@@ -79,7 +78,7 @@ pub fn first_torn(a: &DeskVotes, b: &DeskVotes) -> Option<u32>
 }
 
 /// Prints that the votes aren't of one history from this place on.
-pub fn print_torn<W: Write>(out: &mut Watched<W>, place: u32) -> Result<(), WriteFailed>
+pub fn print_torn<W: Sink>(out: &mut Watched<W>, place: u32) -> Result<(), WriteFailed>
     ensures text { OnOk result (Prints W.contents out.old out.new (history.torn_line place)) }
     ensures failed { TellsFailure result out.old out.new }
 {

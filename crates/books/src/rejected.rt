@@ -6,8 +6,7 @@ ghost use Rattle.books.specs.Rejected.{later_line, name_of, number_of, rejection
 
 use notation::LineFault;
 use std::fmt;
-use std::io::Write;
-use streams::{Watched, WriteFailed};
+use streams::{Sink, Watched, WriteFailed};
 use thiserror::Error;
 
 /// Why an entry is refused.
@@ -53,7 +52,7 @@ impl fmt::Display for Refusal {
 }
 
 /// Prints why line `number` isn't taken.
-pub fn print_rejected<W: Write>(
+pub fn print_rejected<W: Sink>(
     out: &mut Watched<W>,
     number: u64,
     why: Rejected,
@@ -71,7 +70,7 @@ pub fn print_rejected<W: Write>(
 }
 
 /// Prints why the entry of line `number` is refused.
-fn print_refused<W: Write>(
+fn print_refused<W: Sink>(
     out: &mut Watched<W>,
     number: u64,
     why: Refusal,
@@ -88,7 +87,7 @@ fn print_refused<W: Write>(
 }
 
 /// Prints, in these words, that the correction of line `number` leaves a place refused, and the number why.
-fn print_later<W: Write>(
+fn print_later<W: Sink>(
     out: &mut Watched<W>,
     number: u64,
     words: &str,

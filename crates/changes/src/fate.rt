@@ -10,8 +10,7 @@ ghost use Rattle.changes.specs.inner.Words.{words_in};
 use cards::MatchSheet;
 use match_laws::{BattingRow, Fate, opponent};
 use notation::{How, Leave, Out, Player, Side};
-use std::io::Write;
-use streams::{Watched, WriteFailed};
+use streams::{Sink, Watched, WriteFailed};
 
 /// What became of a batter: these texts, one behind the other.
 #[derive(Clone, Copy)]
@@ -102,7 +101,7 @@ fn fate_words(sheet: &MatchSheet, side: Side, fate: Fate) -> Words<'_>
     }
 }
 
-fn print_words<W: Write>(out: &mut Watched<W>, words: &Words<'_>) -> Result<(), WriteFailed>
+fn print_words<W: Sink>(out: &mut Watched<W>, words: &Words<'_>) -> Result<(), WriteFailed>
     ensures text { OnOk result (Prints W.contents out.old out.new (words_in words.now)) }
     ensures failed { OnErr result (has_failed out.new ≡ true) }
 {
@@ -114,7 +113,7 @@ fn print_words<W: Write>(out: &mut Watched<W>, words: &Words<'_>) -> Result<(), 
 }
 
 /// Prints runs and balls faced.
-pub fn print_figures<W: Write>(out: &mut Watched<W>, row: &BattingRow) -> Result<(), WriteFailed>
+pub fn print_figures<W: Sink>(out: &mut Watched<W>, row: &BattingRow) -> Result<(), WriteFailed>
     ensures text { OnOk result (Prints W.contents out.old out.new (rows.figures_text row.now)) }
     ensures failed { OnErr result (has_failed out.new ≡ true) }
 {
@@ -124,7 +123,7 @@ pub fn print_figures<W: Write>(out: &mut Watched<W>, row: &BattingRow) -> Result
 }
 
 /// Prints what became of a batter of the side, with his figures.
-fn print_fate<W: Write>(
+fn print_fate<W: Sink>(
     out: &mut Watched<W>,
     sheet: &MatchSheet,
     side: Side,
@@ -141,7 +140,7 @@ fn print_fate<W: Write>(
 }
 
 /// Prints what became of a batter of the side, with his figures, or that he isn't in.
-pub fn print_batting<W: Write>(
+pub fn print_batting<W: Sink>(
     out: &mut Watched<W>,
     sheet: &MatchSheet,
     side: Side,

@@ -6,8 +6,7 @@ ghost use Rattle.changes.specs.Rows as rows;
 
 use cards::MatchSheet;
 use match_laws::Outcome;
-use std::io::Write;
-use streams::{Watched, WriteFailed};
+use streams::{Sink, Watched, WriteFailed};
 
 /// The word for one, or for another number.
 fn unit(count: u32, one: &'static str, many: &'static str) -> &'static str
@@ -17,7 +16,7 @@ fn unit(count: u32, one: &'static str, many: &'static str) -> &'static str
 }
 
 /// Prints a side that has won by so many of this.
-fn print_win<W: Write>(
+fn print_win<W: Sink>(
     out: &mut Watched<W>,
     side: &str,
     how: &str,
@@ -33,7 +32,7 @@ fn print_win<W: Write>(
 }
 
 /// Prints a result, or that there is none.
-fn print_result<W: Write>(
+fn print_result<W: Sink>(
     out: &mut Watched<W>,
     sheet: &MatchSheet,
     outcome: Outcome,
@@ -76,7 +75,7 @@ fn print_result<W: Write>(
 }
 
 /// Prints a result, and the one that was, in two rows.
-pub fn print_results<W: Write>(
+pub fn print_results<W: Sink>(
     out: &mut Watched<W>,
     sheet: &MatchSheet,
     was: Outcome,

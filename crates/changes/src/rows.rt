@@ -15,8 +15,7 @@ use crate::stage::{Batter, Total, batting_in, bowling_in, striker, total_in};
 use cards::MatchSheet;
 use match_laws::{BattingRow, BowlingRow, Match};
 use notation::{Player, Side};
-use std::io::Write;
-use streams::{Watched, WriteFailed};
+use streams::{Sink, Watched, WriteFailed};
 
 /// What stands before what is of an innings.
 fn innings_lead(innings: usize) -> &'static str
@@ -45,7 +44,7 @@ fn lead(now: &Match, innings: usize) -> &'static str
 }
 
 /// Prints a text.
-fn print<W: Write>(out: &mut Watched<W>, text: &str) -> Result<(), WriteFailed>
+fn print<W: Sink>(out: &mut Watched<W>, text: &str) -> Result<(), WriteFailed>
     ensures text { OnOk result (Prints W.contents out.old out.new text.now) }
     ensures failed { OnErr result (has_failed out.new ≡ true) }
 {
@@ -53,7 +52,7 @@ fn print<W: Write>(out: &mut Watched<W>, text: &str) -> Result<(), WriteFailed>
 }
 
 /// Prints whom a row is of, behind what stands before him.
-fn print_name<W: Write>(out: &mut Watched<W>, first: &str, name: &str) -> Result<(), WriteFailed>
+fn print_name<W: Sink>(out: &mut Watched<W>, first: &str, name: &str) -> Result<(), WriteFailed>
     ensures text { OnOk result (Prints W.contents out.old out.new (rows.named first.now name.now)) }
     ensures failed { OnErr result (has_failed out.new ≡ true) }
 {
@@ -88,7 +87,7 @@ fn joint(
 }
 
 /// Prints what became of a batter of the side, and what had.
-fn print_fates<W: Write>(
+fn print_fates<W: Sink>(
     out: &mut Watched<W>,
     sheet: &MatchSheet,
     first: &str,
@@ -109,7 +108,7 @@ fn print_fates<W: Write>(
 }
 
 /// Prints a batter's figures, and those that were.
-fn print_batter<W: Write>(
+fn print_batter<W: Sink>(
     out: &mut Watched<W>,
     sheet: &MatchSheet,
     first: &str,
@@ -129,7 +128,7 @@ fn print_batter<W: Write>(
     print(out, "\n")
 }
 
-fn print_overs<W: Write>(out: &mut Watched<W>, row: &BowlingRow) -> Result<(), WriteFailed>
+fn print_overs<W: Sink>(out: &mut Watched<W>, row: &BowlingRow) -> Result<(), WriteFailed>
     ensures text { OnOk result (Prints W.contents out.old out.new (overs_of row.now)) }
     ensures failed { OnErr result (has_failed out.new ≡ true) }
 {
@@ -138,7 +137,7 @@ fn print_overs<W: Write>(out: &mut Watched<W>, row: &BowlingRow) -> Result<(), W
     write!(out, "{overs}.{balls}")
 }
 
-fn print_behind_overs<W: Write>(out: &mut Watched<W>, row: &BowlingRow) -> Result<(), WriteFailed>
+fn print_behind_overs<W: Sink>(out: &mut Watched<W>, row: &BowlingRow) -> Result<(), WriteFailed>
     ensures text { OnOk result (Prints W.contents out.old out.new (rows.behind_overs row.now)) }
     ensures failed { OnErr result (has_failed out.new ≡ true) }
 {
@@ -149,7 +148,7 @@ fn print_behind_overs<W: Write>(out: &mut Watched<W>, row: &BowlingRow) -> Resul
 }
 
 /// Prints a bowler's overs, maidens, runs and wickets.
-fn print_bowling<W: Write>(out: &mut Watched<W>, row: &BowlingRow) -> Result<(), WriteFailed>
+fn print_bowling<W: Sink>(out: &mut Watched<W>, row: &BowlingRow) -> Result<(), WriteFailed>
     ensures text { OnOk result (Prints W.contents out.old out.new (rows.bowling_text row.now)) }
     ensures failed { OnErr result (has_failed out.new ≡ true) }
 {
@@ -158,7 +157,7 @@ fn print_bowling<W: Write>(out: &mut Watched<W>, row: &BowlingRow) -> Result<(),
 }
 
 /// Prints a bowler's figures, and those that were.
-fn print_bowler<W: Write>(
+fn print_bowler<W: Sink>(
     out: &mut Watched<W>,
     sheet: &MatchSheet,
     first: &str,
@@ -179,7 +178,7 @@ fn print_bowler<W: Write>(
 }
 
 /// Prints how an innings stands, if it has begun.
-fn print_total<W: Write>(out: &mut Watched<W>, total: Option<Total>) -> Result<(), WriteFailed>
+fn print_total<W: Sink>(out: &mut Watched<W>, total: Option<Total>) -> Result<(), WriteFailed>
     ensures text { OnOk result (Prints W.contents out.old out.new (rows.total_text total)) }
     ensures failed { OnErr result (has_failed out.new ≡ true) }
 {
@@ -197,7 +196,7 @@ fn print_total<W: Write>(out: &mut Watched<W>, total: Option<Total>) -> Result<(
 }
 
 /// Prints how a side's innings stands, and how it stood.
-fn print_totals<W: Write>(
+fn print_totals<W: Sink>(
     out: &mut Watched<W>,
     sheet: &MatchSheet,
     first: &str,
@@ -227,7 +226,7 @@ fn batter_name(sheet: &MatchSheet, batter: Option<Batter>) -> &str
 }
 
 /// Prints who has the strike, and who had it.
-fn print_strike<W: Write>(
+fn print_strike<W: Sink>(
     out: &mut Watched<W>,
     sheet: &MatchSheet,
     was: Option<Batter>,
@@ -242,7 +241,7 @@ fn print_strike<W: Write>(
 }
 
 /// Prints what differs of a side's player in an innings.
-fn print_part<W: Write>(
+fn print_part<W: Sink>(
     out: &mut Watched<W>,
     sheet: &MatchSheet,
     part: Part,
@@ -277,7 +276,7 @@ fn print_part<W: Write>(
 }
 
 /// Prints the row of what differs.
-pub fn print_change<W: Write>(
+pub fn print_change<W: Sink>(
     out: &mut Watched<W>,
     sheet: &MatchSheet,
     was: &Match,

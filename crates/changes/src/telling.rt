@@ -18,14 +18,13 @@ use cards::MatchSheet;
 use corrections::BookOf;
 use match_laws::Match;
 use notation::{Player, Side};
-use std::io::Write;
-use streams::{Watched, WriteFailed};
+use streams::{Sink, Watched, WriteFailed};
 
 /// How many rows are told at most.
 const MOST: u32 = 6;
 
 /// Tells this change where it differs and fewer than six were told, and answers how many differ with it.
-fn tell<W: Write>(
+fn tell<W: Sink>(
     out: &mut Watched<W>,
     sheet: &MatchSheet,
     was: &Match,
@@ -49,7 +48,7 @@ fn tell<W: Write>(
 }
 
 /// The same of these players of a side, in an innings.
-fn tell_players<W: Write>(
+fn tell_players<W: Sink>(
     out: &mut Watched<W>,
     sheet: &MatchSheet,
     was: &Match,
@@ -79,7 +78,7 @@ fn tell_players<W: Write>(
 }
 
 /// The same of all players of a side.
-fn tell_side<W: Write>(
+fn tell_side<W: Sink>(
     out: &mut Watched<W>,
     sheet: &MatchSheet,
     was: &Match,
@@ -109,7 +108,7 @@ fn tell_side<W: Write>(
 }
 
 /// The same of all players of both sides.
-fn tell_sides<W: Write>(
+fn tell_sides<W: Sink>(
     out: &mut Watched<W>,
     sheet: &MatchSheet,
     was: &Match,
@@ -129,7 +128,7 @@ fn tell_sides<W: Write>(
 }
 
 /// The same in each innings that a match can have.
-fn tell_part<W: Write>(
+fn tell_part<W: Sink>(
     out: &mut Watched<W>,
     sheet: &MatchSheet,
     was: &Match,
@@ -150,7 +149,7 @@ fn tell_part<W: Write>(
 }
 
 /// Tells the totals of both sides in an innings that differ.
-fn tell_totals<W: Write>(
+fn tell_totals<W: Sink>(
     out: &mut Watched<W>,
     sheet: &MatchSheet,
     was: &Match,
@@ -183,7 +182,7 @@ fn tell_totals<W: Write>(
 }
 
 /// The same in each innings that a match can have.
-fn tell_all_totals<W: Write>(
+fn tell_all_totals<W: Sink>(
     out: &mut Watched<W>,
     sheet: &MatchSheet,
     was: &Match,
@@ -203,7 +202,7 @@ fn tell_all_totals<W: Write>(
 }
 
 /// Tells whether the result and the strike differ.
-fn tell_match<W: Write>(
+fn tell_match<W: Sink>(
     out: &mut Watched<W>,
     sheet: &MatchSheet,
     was: &Match,
@@ -221,7 +220,7 @@ fn tell_match<W: Write>(
 }
 
 /// Tells the first six of all that differs, and answers how much does.
-fn tell_all<W: Write>(
+fn tell_all<W: Sink>(
     out: &mut Watched<W>,
     sheet: &MatchSheet,
     was: &Match,
@@ -239,7 +238,7 @@ fn tell_all<W: Write>(
 }
 
 /// Prints how many more there are than the six that are told.
-fn print_more<W: Write>(out: &mut Watched<W>, count: u32) -> Result<(), WriteFailed>
+fn print_more<W: Sink>(out: &mut Watched<W>, count: u32) -> Result<(), WriteFailed>
     ensures text { OnOk result (Prints W.contents out.old out.new (texts.more_text count)) }
     ensures failed { OnErr result (has_failed out.new ≡ true) }
 {
@@ -251,7 +250,7 @@ fn print_more<W: Write>(out: &mut Watched<W>, count: u32) -> Result<(), WriteFai
 }
 
 /// Prints what differs between two stages of a match: a row for each of the first six, and how many more there are.
-pub fn print_changes<W: Write>(
+pub fn print_changes<W: Sink>(
     out: &mut Watched<W>,
     sheet: &MatchSheet,
     was: &Match,
@@ -266,7 +265,7 @@ pub fn print_changes<W: Write>(
 }
 
 /// Prints what the last entry of a book has changed, where that is a `fix` or a `late`.
-pub fn print_last_changes<W: Write, B: BookOf>(
+pub fn print_last_changes<W: Sink, B: BookOf>(
     out: &mut Watched<W>,
     sheet: &MatchSheet,
     book: &B,

@@ -16,8 +16,7 @@ use corrections::BookOf;
 use notation::Lines;
 use setup::{StopFault, Stopped, output};
 use std::alloc::{AllocError, Global};
-use std::io::{Read, Write};
-use streams::{InputFault, LONGEST_INPUT, Watched, WriteFailed, read_all};
+use streams::{Feed, InputFault, LONGEST_INPUT, Sink, Watched, WriteFailed, read_all};
 
 /// Why `check` ends before its end.
 #[derive(Clone, Copy, Debug, PartialEq, Eq)]
@@ -68,7 +67,7 @@ impl From<CheckFault> for StopFault {
 }
 
 /// Takes one line, or prints why it isn't taken. The answer is whether it was taken.
-fn take_line<W: Write>(
+fn take_line<W: Sink>(
     table: &mut Table,
     out: &mut Watched<W>,
     number: u64,
@@ -96,7 +95,7 @@ fn take_line<W: Write>(
 
 /// Takes the lines of an input, and prints what isn't taken and the board. The answer is whether a line
 /// wasn't taken.
-fn check_lines<W: Write>(
+fn check_lines<W: Sink>(
     table: &mut Table,
     sheet: &MatchSheet,
     out: &mut Watched<W>,
@@ -109,7 +108,7 @@ fn check_lines<W: Write>(
     ensures written { OnOk result (Prints W.contents out.old out.new (output_of (innings_in table.old) input.now)) }
     ensures rejected { IfOk result (λ rejected.
         rejected ≡ has_rejected (innings_in table.old) [] (lines_of input.now)) }
-    ensures handed_on { OnOk result (IsHandedOn out.new) }
+    ensures handed_on { OnOk result (IsHandedOn W.calls out.new) }
     ensures failed { TellsFailure result out.old out.new }
 {
     let mut lines = Lines::new(input);
@@ -128,7 +127,7 @@ fn check_lines<W: Write>(
 /// `ground check`: reads pen lines to the end, has two seats agree each that the book takes, in a match of so
 /// many innings a side, and writes a line for each that isn't taken and then the six board lines of the book.
 /// The answer is whether a line wasn't taken.
-pub fn check_run<R: Read, W: Write>(
+pub fn check_run<R: Feed, W: Sink>(
     alloc: Global,
     innings: u32,
     reader: &mut Watched<R>,
@@ -140,7 +139,7 @@ pub fn check_run<R: Read, W: Write>(
     ensures rejected { IfOk result (λ rejected. IfSome (R.remaining (stream_of reader.old)) (λ input.
         rejected ≡ has_rejected innings [] (lines_of input))) }
     ensures read { EndsReading R.remaining CheckFault.Read result reader.old reader.new }
-    ensures writes { EndsWriting CheckFault.Write result writer.old writer.new }
+    ensures writes { EndsWriting W.calls CheckFault.Write result writer.old writer.new }
 {
     let input = read_all(alloc, reader)?;
     let mut table = Table::new(alloc, innings)?;

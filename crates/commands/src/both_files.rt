@@ -17,8 +17,7 @@ use corrections::CheckedBook;
 use export::text_of;
 use setup::{StopFault, Stopped, output, short_sheet_at};
 use std::alloc::{AllocError, Global};
-use std::io::{Read, Write};
-use streams::{InputFault, Watched, read_all};
+use streams::{Feed, InputFault, Sink, Watched, read_all};
 use toml::Table;
 
 /// Why `card`, `export` and `compare` of both files end before their end.
@@ -109,7 +108,7 @@ impl From<BothPrintFault> for StopFault {
 }
 
 /// All bytes of both files, A's first.
-pub fn read_both<R: Read>(
+pub fn read_both<R: Feed>(
     alloc: Global,
     a: &mut Watched<R>,
     b: &mut Watched<R>,
@@ -132,7 +131,7 @@ pub fn read_both<R: Read>(
 }
 
 /// The book of both files, each read to its end, A's first.
-pub fn book_of_readers<R: Read>(
+pub fn book_of_readers<R: Feed>(
     alloc: Global,
     sheet: &MatchSheet,
     a: &mut Watched<R>,
@@ -155,7 +154,7 @@ pub fn book_of_readers<R: Read>(
 /// `ground card` of both files: reads both desks' votes files to the end, and prints both cards of each innings of the
 /// agreed list of their votes, the last entry too, and then its page. Where a file is refused, the votes aren't of one
 /// history, or the agreed list is no legal book, nothing is written.
-pub fn card_both_run<R: Read, W: Write>(
+pub fn card_both_run<R: Feed, W: Sink>(
     alloc: Global,
     sheet: &MatchSheet,
     a: &mut Watched<R>,
@@ -169,7 +168,7 @@ pub fn card_both_run<R: Read, W: Write>(
         IfSome (R.remaining (stream_of b.old)) (λ second. WhyNotBoth sheet.now first second fault))) }
     ensures read_first { EndsReading R.remaining (BothPrintFault.Read A) result a.old a.new }
     ensures read_second { EndsReading R.remaining (BothPrintFault.Read B) result b.old b.new }
-    ensures writes { EndsWriting BothPrintFault.Write result writer.old writer.new }
+    ensures writes { EndsWriting W.calls BothPrintFault.Write result writer.old writer.new }
 {
     let book = book_of_readers(alloc, sheet, a, b)?;
     match print_card(sheet, &book, writer) {
@@ -180,7 +179,7 @@ pub fn card_both_run<R: Read, W: Write>(
 
 /// `ground export` of both files: as `card_both_run`, but the agreed list as one JSON value, with what the sheet's document
 /// hands on.
-pub fn export_both_run<R: Read, W: Write>(
+pub fn export_both_run<R: Feed, W: Sink>(
     alloc: Global,
     sheet: &MatchSheet,
     document: &Table,
@@ -195,7 +194,7 @@ pub fn export_both_run<R: Read, W: Write>(
         IfSome (R.remaining (stream_of b.old)) (λ second. WhyNotBoth sheet.now first second fault))) }
     ensures read_first { EndsReading R.remaining (BothPrintFault.Read A) result a.old a.new }
     ensures read_second { EndsReading R.remaining (BothPrintFault.Read B) result b.old b.new }
-    ensures writes { EndsWriting BothPrintFault.Write result writer.old writer.new }
+    ensures writes { EndsWriting W.calls BothPrintFault.Write result writer.old writer.new }
 {
     let book = book_of_readers(alloc, sheet, a, b)?;
     let text = text_of(alloc, sheet, document, &book)?;

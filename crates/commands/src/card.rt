@@ -11,12 +11,11 @@ use books::{Source, book_from, print_card};
 use cards::MatchSheet;
 use setup::{StopFault, Stopped, open_input, output, told_sheet_at};
 use std::alloc::Global;
-use std::io::{Read, Write};
-use streams::{Watched, read_all};
+use streams::{Feed, Sink, Watched, read_all};
 
 /// `ground card`: reads pen lines or a votes file to the end, and prints both cards of each innings of their book
 /// and then its page. Where a line isn't taken, or the file or its votes are refused, nothing is written.
-pub fn card_run<R: Read, W: Write>(
+pub fn card_run<R: Feed, W: Sink>(
     alloc: Global,
     sheet: &MatchSheet,
     source: Source,
@@ -28,7 +27,7 @@ pub fn card_run<R: Read, W: Write>(
     ensures why { IfErr result (λ fault. IfSome (R.remaining (stream_of reader.old)) (λ input.
         WhyNotPrinted source sheet.now input fault)) }
     ensures read { EndsReading R.remaining PrintFault.Read result reader.old reader.new }
-    ensures writes { EndsWriting PrintFault.Write result writer.old writer.new }
+    ensures writes { EndsWriting W.calls PrintFault.Write result writer.old writer.new }
 {
     let input = read_all(alloc, reader)?;
     let book = book_from(alloc, sheet, source, input.as_slice())?;

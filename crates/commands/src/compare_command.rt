@@ -11,14 +11,13 @@ use books::{compare_files, print_comparison};
 use cards::MatchSheet;
 use setup::{Stopped, open_input, output, short_sheet_at};
 use std::alloc::Global;
-use std::io::{Read, Write};
-use streams::Watched;
+use streams::{Feed, Sink, Watched};
 
 /// `ground compare`: reads both desks' votes files to the end, and prints a line for each place and round at which the
 /// desks differ, and then how many entries are agreed, and how many such lines there are: of both desks, of A alone, of B
 /// alone; and where they aren't of one history, from which place on. It answers whether that is so. Where a file is refused,
 /// nothing is written.
-pub fn compare_run<R: Read, W: Write>(
+pub fn compare_run<R: Feed, W: Sink>(
     alloc: Global,
     sheet: &MatchSheet,
     a: &mut Watched<R>,
@@ -32,7 +31,7 @@ pub fn compare_run<R: Read, W: Write>(
         IfSome (R.remaining (stream_of b.old)) (λ second. WhyNotCompared sheet.now first second fault))) }
     ensures read_first { EndsReading R.remaining (BothPrintFault.Read A) result a.old a.new }
     ensures read_second { EndsReading R.remaining (BothPrintFault.Read B) result b.old b.new }
-    ensures writes { EndsWriting BothPrintFault.Write result writer.old writer.new }
+    ensures writes { EndsWriting W.calls BothPrintFault.Write result writer.old writer.new }
 {
     let (first, second) = read_both(alloc, a, b)?;
     let comparison = compare_files(alloc, sheet.game(), first.as_slice(), second.as_slice())?;

@@ -13,15 +13,14 @@ use cards::MatchSheet;
 use export::{document_of, text_of};
 use setup::{NoSheet, StopFault, Stopped, open_input, output, short_sheet_bytes, short_sheet_of};
 use std::alloc::Global;
-use std::io::{Read, Write};
-use streams::{Watched, WriteFailed, read_all};
+use streams::{Feed, Sink, Watched, WriteFailed, read_all};
 use toml::Table;
 
 /// Prints a book as one JSON value. It fails only where a write fails; how much was written then isn't said.
-pub fn print_text<W: Write>(text: &str, out: &mut Watched<W>) -> Result<(), WriteFailed>
+pub fn print_text<W: Sink>(text: &str, out: &mut Watched<W>) -> Result<(), WriteFailed>
     ensures text { OnOk result (Prints W.contents out.old out.new (text.now ++ codes "\n")) }
     ensures failed { TellsFailure result out.old out.new }
-    ensures handed_on { OnOk result (IsHandedOn out.new) }
+    ensures handed_on { OnOk result (IsHandedOn W.calls out.new) }
 {
     writeln!(out, "{text}")?;
     out.flush()
@@ -30,7 +29,7 @@ pub fn print_text<W: Write>(text: &str, out: &mut Watched<W>) -> Result<(), Writ
 /// `ground export`: reads pen lines or a votes file to the end, and prints their book as one JSON value: what happened
 /// ball by ball with the results of the Laws, each entry as it was penned, and what the sheet's document hands on. Where a
 /// line isn't taken, or the file or its votes are refused, nothing is written.
-pub fn export_run<R: Read, W: Write>(
+pub fn export_run<R: Feed, W: Sink>(
     alloc: Global,
     sheet: &MatchSheet,
     document: &Table,
@@ -43,7 +42,7 @@ pub fn export_run<R: Read, W: Write>(
     ensures why { IfErr result (λ fault. IfSome (R.remaining (stream_of reader.old)) (λ input.
         WhyNotPrinted source sheet.now input fault)) }
     ensures read { EndsReading R.remaining PrintFault.Read result reader.old reader.new }
-    ensures writes { EndsWriting PrintFault.Write result writer.old writer.new }
+    ensures writes { EndsWriting W.calls PrintFault.Write result writer.old writer.new }
 {
     let input = read_all(alloc, reader)?;
     let book = book_from(alloc, sheet, source, input.as_slice())?;

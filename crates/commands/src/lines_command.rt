@@ -19,11 +19,10 @@ use corrections::BookOf;
 use notation::{Entry, line_of};
 use setup::{StopFault, Stopped, open_input, output, short_sheet_at};
 use std::alloc::Global;
-use std::io::{Read, Write};
-use streams::{Watched, WriteFailed, read_all};
+use streams::{Feed, Sink, Watched, WriteFailed, read_all};
 
 /// Prints the full line of an entry.
-fn print_line<W: Write>(entry: &Entry, out: &mut Watched<W>) -> Result<(), WriteFailed>
+fn print_line<W: Sink>(entry: &Entry, out: &mut Watched<W>) -> Result<(), WriteFailed>
     requires { IsEntry entry.now }
     ensures text { (place : ℕ) → OnOk result (Prints W.contents out.old out.new (texts.full_line place entry.now)) }
     ensures failed { TellsFailure result out.old out.new }
@@ -34,7 +33,7 @@ fn print_line<W: Write>(entry: &Entry, out: &mut Watched<W>) -> Result<(), Write
 }
 
 /// Prints the full line of each entry of a book, in order.
-fn print_each<W: Write, B: BookOf>(book: &B, out: &mut Watched<W>) -> Result<(), WriteFailed>
+fn print_each<W: Sink, B: BookOf>(book: &B, out: &mut Watched<W>) -> Result<(), WriteFailed>
     ensures text { OnOk result (Prints W.contents out.old out.new (texts.lines_text (B.content book.now))) }
     ensures again { OnOk result (AreReadAgain (B.content book.now)) }
     ensures failed { TellsFailure result out.old out.new }
@@ -46,11 +45,11 @@ fn print_each<W: Write, B: BookOf>(book: &B, out: &mut Watched<W>) -> Result<(),
 }
 
 /// The same, and hands it on. It fails only where a write fails; how much was written then isn't said.
-fn print_lines<W: Write, B: BookOf>(book: &B, out: &mut Watched<W>) -> Result<(), WriteFailed>
+fn print_lines<W: Sink, B: BookOf>(book: &B, out: &mut Watched<W>) -> Result<(), WriteFailed>
     ensures text { OnOk result (Prints W.contents out.old out.new (texts.lines_text (B.content book.now))) }
     ensures again { OnOk result (AreReadAgain (B.content book.now)) }
     ensures failed { TellsFailure result out.old out.new }
-    ensures handed_on { OnOk result (IsHandedOn out.new) }
+    ensures handed_on { OnOk result (IsHandedOn W.calls out.new) }
 {
     print_each(book, out)?;
     out.flush()
@@ -59,7 +58,7 @@ fn print_lines<W: Write, B: BookOf>(book: &B, out: &mut Watched<W>) -> Result<()
 /// `ground lines`: reads pen lines or a votes file to the end, and prints the full line of each entry of their book, in
 /// order. As pen lines they are that same book. Where a line isn't taken, or the file or its votes are refused, nothing is
 /// written.
-pub fn lines_run<R: Read, W: Write>(
+pub fn lines_run<R: Feed, W: Sink>(
     alloc: Global,
     sheet: &MatchSheet,
     source: Source,
@@ -71,7 +70,7 @@ pub fn lines_run<R: Read, W: Write>(
     ensures why { IfErr result (λ fault. IfSome (R.remaining (stream_of reader.old)) (λ input.
         WhyNotPrinted source sheet.now input fault)) }
     ensures read { EndsReading R.remaining PrintFault.Read result reader.old reader.new }
-    ensures writes { EndsWriting PrintFault.Write result writer.old writer.new }
+    ensures writes { EndsWriting W.calls PrintFault.Write result writer.old writer.new }
 {
     let input = read_all(alloc, reader)?;
     let book = book_from(alloc, sheet, source, input.as_slice())?;
@@ -82,7 +81,7 @@ pub fn lines_run<R: Read, W: Write>(
 }
 
 /// `ground lines` of both files: as `lines_run`, but of the agreed list of both desks' votes files.
-pub fn lines_both_run<R: Read, W: Write>(
+pub fn lines_both_run<R: Feed, W: Sink>(
     alloc: Global,
     sheet: &MatchSheet,
     a: &mut Watched<R>,
@@ -96,7 +95,7 @@ pub fn lines_both_run<R: Read, W: Write>(
         IfSome (R.remaining (stream_of b.old)) (λ second. WhyNotBoth sheet.now first second fault))) }
     ensures read_first { EndsReading R.remaining (BothPrintFault.Read A) result a.old a.new }
     ensures read_second { EndsReading R.remaining (BothPrintFault.Read B) result b.old b.new }
-    ensures writes { EndsWriting BothPrintFault.Write result writer.old writer.new }
+    ensures writes { EndsWriting W.calls BothPrintFault.Write result writer.old writer.new }
 {
     let book = book_of_readers(alloc, sheet, a, b)?;
     match print_lines(&book, writer) {

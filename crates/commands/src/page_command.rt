@@ -19,13 +19,12 @@ use export::text_of;
 use page::print_page;
 use setup::{StopFault, Stopped, open_input, output};
 use std::alloc::Global;
-use std::io::{Read, Write};
-use streams::{Watched, read_all};
+use streams::{Feed, Sink, Watched, read_all};
 use toml::Table;
 
 /// `ground page`: reads pen lines or a votes file to the end, and prints the page of their book: a template with the value
 /// in it that `export` prints. Where a line isn't taken, or the file or its votes are refused, nothing is written.
-pub fn page_run<R: Read, W: Write>(
+pub fn page_run<R: Feed, W: Sink>(
     alloc: Global,
     sheet: &MatchSheet,
     document: &Table,
@@ -38,7 +37,7 @@ pub fn page_run<R: Read, W: Write>(
     ensures why { IfErr result (λ fault. IfSome (R.remaining (stream_of reader.old)) (λ input.
         WhyNotPrinted source sheet.now input fault)) }
     ensures read { EndsReading R.remaining PrintFault.Read result reader.old reader.new }
-    ensures writes { EndsWriting PrintFault.Write result writer.old writer.new }
+    ensures writes { EndsWriting W.calls PrintFault.Write result writer.old writer.new }
 {
     let input = read_all(alloc, reader)?;
     let book = book_from(alloc, sheet, source, input.as_slice())?;
@@ -50,7 +49,7 @@ pub fn page_run<R: Read, W: Write>(
 }
 
 /// `ground page` of both files: as `page_run`, but of the agreed list of both desks' votes files.
-pub fn page_both_run<R: Read, W: Write>(
+pub fn page_both_run<R: Feed, W: Sink>(
     alloc: Global,
     sheet: &MatchSheet,
     document: &Table,
@@ -65,7 +64,7 @@ pub fn page_both_run<R: Read, W: Write>(
         IfSome (R.remaining (stream_of b.old)) (λ second. WhyNotBoth sheet.now first second fault))) }
     ensures read_first { EndsReading R.remaining (BothPrintFault.Read A) result a.old a.new }
     ensures read_second { EndsReading R.remaining (BothPrintFault.Read B) result b.old b.new }
-    ensures writes { EndsWriting BothPrintFault.Write result writer.old writer.new }
+    ensures writes { EndsWriting W.calls BothPrintFault.Write result writer.old writer.new }
 {
     let book = book_of_readers(alloc, sheet, a, b)?;
     let text = text_of(alloc, sheet, document, &book)?;

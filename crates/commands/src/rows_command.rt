@@ -18,15 +18,14 @@ use cards::MatchSheet;
 use delivery_rows::{Table, table_of};
 use setup::{StopFault, Stopped, open_input, output};
 use std::alloc::Global;
-use std::io::{Read, Write};
-use streams::{Watched, WriteFailed, read_all};
+use streams::{Feed, Sink, Watched, WriteFailed, read_all};
 use toml::Table as Document;
 
 /// Prints a text. It fails only where a write fails; how much was written then isn't said.
-fn print_rows<W: Write>(text: &str, out: &mut Watched<W>) -> Result<(), WriteFailed>
+fn print_rows<W: Sink>(text: &str, out: &mut Watched<W>) -> Result<(), WriteFailed>
     ensures text { OnOk result (Prints W.contents out.old out.new text.now) }
     ensures failed { TellsFailure result out.old out.new }
-    ensures handed_on { OnOk result (IsHandedOn out.new) }
+    ensures handed_on { OnOk result (IsHandedOn W.calls out.new) }
 {
     write!(out, "{text}")?;
     out.flush()
@@ -34,7 +33,7 @@ fn print_rows<W: Write>(text: &str, out: &mut Watched<W>) -> Result<(), WriteFai
 
 /// `ground export` with a table's word: reads pen lines or a votes file to the end, and prints that table of their book. Where a
 /// line isn't taken, or the file or its votes are refused, nothing is written.
-pub fn rows_run<R: Read, W: Write>(
+pub fn rows_run<R: Feed, W: Sink>(
     alloc: Global,
     table: Table,
     sheet: &MatchSheet,
@@ -48,7 +47,7 @@ pub fn rows_run<R: Read, W: Write>(
     ensures why { IfErr result (λ fault. IfSome (R.remaining (stream_of reader.old)) (λ input.
         WhyNotPrinted source sheet.now input fault)) }
     ensures read { EndsReading R.remaining PrintFault.Read result reader.old reader.new }
-    ensures writes { EndsWriting PrintFault.Write result writer.old writer.new }
+    ensures writes { EndsWriting W.calls PrintFault.Write result writer.old writer.new }
 {
     let input = read_all(alloc, reader)?;
     let book = book_from(alloc, sheet, source, input.as_slice())?;
@@ -60,7 +59,7 @@ pub fn rows_run<R: Read, W: Write>(
 }
 
 /// `ground export` of both files with a table's word: as `rows_run`, but of the agreed list of both desks' votes files.
-pub fn rows_both_run<R: Read, W: Write>(
+pub fn rows_both_run<R: Feed, W: Sink>(
     alloc: Global,
     table: Table,
     sheet: &MatchSheet,
@@ -76,7 +75,7 @@ pub fn rows_both_run<R: Read, W: Write>(
         IfSome (R.remaining (stream_of b.old)) (λ second. WhyNotBoth sheet.now first second fault))) }
     ensures read_first { EndsReading R.remaining (BothPrintFault.Read A) result a.old a.new }
     ensures read_second { EndsReading R.remaining (BothPrintFault.Read B) result b.old b.new }
-    ensures writes { EndsWriting BothPrintFault.Write result writer.old writer.new }
+    ensures writes { EndsWriting W.calls BothPrintFault.Write result writer.old writer.new }
 {
     let book = book_of_readers(alloc, sheet, a, b)?;
     let text = table_of(alloc, table, sheet, document, &book)?;

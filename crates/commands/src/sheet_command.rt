@@ -11,23 +11,22 @@ use cards::{MatchSheet, SheetFault, read_sheet};
 use setup::{StopFault, Stopped, output, short_sheet_bytes, tell_twins};
 use sheet_check::{report_of, shown_sheet};
 use std::alloc::Global;
-use std::io::Write;
-use streams::{Watched, WriteFailed};
+use streams::{Sink, Watched, WriteFailed};
 
 /// Prints a text, and hands it on.
-fn print_whole<W: Write>(text: &str, out: &mut Watched<W>) -> Result<(), WriteFailed>
+fn print_whole<W: Sink>(text: &str, out: &mut Watched<W>) -> Result<(), WriteFailed>
     ensures text { OnOk result (Prints W.contents out.old out.new text.now) }
     ensures failed { TellsFailure result out.old out.new }
-    ensures handed_on { OnOk result (IsHandedOn out.new) }
+    ensures handed_on { OnOk result (IsHandedOn W.calls out.new) }
 {
     write!(out, "{text}")?;
     out.flush()
 }
 
 /// Prints a text, or answers that it can't be printed.
-fn printed<W: Write>(text: &str, writer: &mut Watched<W>) -> Result<(), PrintFault>
+fn printed<W: Sink>(text: &str, writer: &mut Watched<W>) -> Result<(), PrintFault>
     ensures text { OnOk result (Prints W.contents writer.old writer.new text.now) }
-    ensures writes { EndsWriting PrintFault.Write result writer.old writer.new }
+    ensures writes { EndsWriting W.calls PrintFault.Write result writer.old writer.new }
 {
     match print_whole(text, writer) {
         Ok(()) => Ok(()),
@@ -36,13 +35,13 @@ fn printed<W: Write>(text: &str, writer: &mut Watched<W>) -> Result<(), PrintFau
 }
 
 /// Prints a sheet as it was read.
-fn print_sheet<W: Write>(
+fn print_sheet<W: Sink>(
     alloc: Global,
     sheet: &MatchSheet,
     writer: &mut Watched<W>,
 ) -> Result<(), PrintFault>
     ensures text { OnOk result (Prints W.contents writer.old writer.new (shown_sheet sheet.now)) }
-    ensures writes { EndsWriting PrintFault.Write result writer.old writer.new }
+    ensures writes { EndsWriting W.calls PrintFault.Write result writer.old writer.new }
 {
     let text = shown_sheet(alloc, sheet)?;
     printed(text.as_str(), writer)
@@ -57,13 +56,13 @@ fn is_nothing(report: &str) -> bool
 
 /// `ground sheet`: prints the sheet of a file's bytes as it was read, or, where something is wrong with it, with its table of
 /// stations or with what it limits, all that is. It answers whether something is.
-pub fn sheet_run<W: Write>(
+pub fn sheet_run<W: Sink>(
     alloc: Global,
     text: &[u8],
     writer: &mut Watched<W>,
 ) -> Result<bool, PrintFault>
     ensures written { IfOk result (λ refused. PrintsSheet W.contents writer.old writer.new text.now refused) }
-    ensures writes { EndsWriting PrintFault.Write result writer.old writer.new }
+    ensures writes { EndsWriting W.calls PrintFault.Write result writer.old writer.new }
 {
     let report = report_of(alloc, text)?;
     let told = report.as_str();

@@ -9,8 +9,7 @@ ghost use Rattle.commands.specs.Ends as ends;
 use books::{BothFault, DeskVotes, open_both};
 use setup::{StopFault, Stopped, bytes_at, printable};
 use std::alloc::Global;
-use std::io::Write;
-use streams::{Watched, WriteFailed};
+use streams::{Sink, Watched, WriteFailed};
 
 /// How many places a desk's file has, up to that of its last vote.
 fn places_of(votes: &DeskVotes) -> u32
@@ -33,7 +32,7 @@ fn places_of_both(alloc: Global, game: u64, a: &[u8], b: &[u8]) -> Result<(u32, 
 }
 
 /// Prints that one file ends so many places before the other.
-fn print_line<W: Write>(
+fn print_line<W: Sink>(
     out: &mut Watched<W>,
     short: &str,
     long: &str,
@@ -46,7 +45,7 @@ fn print_line<W: Write>(
 }
 
 /// Prints which of two files with so many places ends before the other, where that is by two places or more.
-fn print_ends<W: Write>(
+fn print_ends<W: Sink>(
     out: &mut Watched<W>,
     a: &str,
     b: &str,

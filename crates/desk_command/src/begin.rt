@@ -20,10 +20,10 @@ use setup::{
 use station_pages::{Attended, HeldKeys, PageKeys, PageRows, PageSight, ScorersPage};
 use station_screens::{DeskScreen, Shared, errors_at, output_at};
 use std::cell::RefCell;
-use std::io::{IsTerminal, Write};
+use std::io::IsTerminal;
 use std::mem::drop;
 use std::net::SocketAddr;
-use streams::Watched;
+use streams::{Sink, Watched};
 use vote_store::Votes;
 
 /// An empty book of the sheet's match.
@@ -239,7 +239,7 @@ fn attended<'p, 'r, L>(
 
 /// Keeps the desk's process on this disk, until it ends.
 #[inline(never)]
-fn keep<D: Disk + Drop, L: Link, K: Keys, W: Write>(
+fn keep<D: Disk + Drop, L: Link, K: Keys, W: Sink>(
     rt: &HostRuntime,
     disk: D,
     desk: DeskId,
@@ -270,7 +270,7 @@ fn keep<D: Disk + Drop, L: Link, K: Keys, W: Write>(
 }
 
 /// The same, on a desk's file alone or on that and its copy.
-fn keep_on<L: Link, K: Keys, W: Write>(
+fn keep_on<L: Link, K: Keys, W: Sink>(
     rt: &HostRuntime,
     disk: DeskDisk<'_>,
     desk: DeskId,

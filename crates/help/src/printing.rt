@@ -6,13 +6,12 @@ ghost use Rattle.help.specs.Texts as texts;
 
 use crate::subject::Subject;
 use crate::texts::help_on;
-use std::io::Write;
-use streams::{Watched, WriteFailed};
+use streams::{Sink, Watched, WriteFailed};
 
 /// Prints what a word does, and hands it on.
-pub fn print_help<W: Write>(out: &mut Watched<W>, subject: Subject) -> Result<(), WriteFailed>
+pub fn print_help<W: Sink>(out: &mut Watched<W>, subject: Subject) -> Result<(), WriteFailed>
     ensures text { OnOk result (Prints W.contents out.old out.new (texts.help_on subject)) }
-    ensures handed_on { OnOk result (IsHandedOn out.new) }
+    ensures handed_on { OnOk result (IsHandedOn W.calls out.new) }
     ensures failed { TellsFailure result out.old out.new }
 {
     write!(out, "{}", help_on(subject))?;

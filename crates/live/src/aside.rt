@@ -9,11 +9,10 @@ ghost use Rattle.live.specs.Ends.{course_of, further, known_at};
 use crate::ends::{DeskEnd, told};
 use links::{Aside, HeldLine};
 use station_texts::texts::print_at;
-use std::io::Write;
-use streams::{Watched, WriteFailed};
+use streams::{Sink, Watched, WriteFailed};
 
 /// Prints a line behind a comma.
-fn print_behind<W: Write>(out: &mut Watched<W>, line: &str) -> Result<(), WriteFailed>
+fn print_behind<W: Sink>(out: &mut Watched<W>, line: &str) -> Result<(), WriteFailed>
     ensures text { OnOk result (Prints W.contents out.old out.new (codes ", " ++ line.now)) }
     ensures failed { OnErr result (has_failed out.new ≡ true) }
 {
@@ -21,7 +20,7 @@ fn print_behind<W: Write>(out: &mut Watched<W>, line: &str) -> Result<(), WriteF
 }
 
 /// Prints each line behind a comma.
-fn print_more<W: Write>(out: &mut Watched<W>, lines: &[HeldLine]) -> Result<(), WriteFailed>
+fn print_more<W: Sink>(out: &mut Watched<W>, lines: &[HeldLine]) -> Result<(), WriteFailed>
     ensures text { OnOk result (Prints W.contents out.old out.new (asides.more_lines lines.now)) }
     ensures failed { OnErr result (has_failed out.new ≡ true) }
 {
@@ -33,7 +32,7 @@ fn print_more<W: Write>(out: &mut Watched<W>, lines: &[HeldLine]) -> Result<(), 
 }
 
 /// Prints lines with a comma between two.
-fn print_lines<W: Write>(out: &mut Watched<W>, lines: &[HeldLine]) -> Result<(), WriteFailed>
+fn print_lines<W: Sink>(out: &mut Watched<W>, lines: &[HeldLine]) -> Result<(), WriteFailed>
     ensures text { OnOk result (Prints W.contents out.old out.new (asides.lines_text lines.now)) }
     ensures failed { OnErr result (has_failed out.new ≡ true) }
 {
@@ -46,7 +45,7 @@ fn print_lines<W: Write>(out: &mut Watched<W>, lines: &[HeldLine]) -> Result<(),
 }
 
 /// Prints lines with a comma between two, as a row.
-fn print_row<W: Write>(out: &mut Watched<W>, lines: &[HeldLine]) -> Result<(), WriteFailed>
+fn print_row<W: Sink>(out: &mut Watched<W>, lines: &[HeldLine]) -> Result<(), WriteFailed>
     ensures text { OnOk result (Prints W.contents out.old out.new (asides.lines_row lines.now)) }
     ensures failed { OnErr result (has_failed out.new ≡ true) }
 {
@@ -55,7 +54,7 @@ fn print_row<W: Write>(out: &mut Watched<W>, lines: &[HeldLine]) -> Result<(), W
 }
 
 /// Prints that lines are dropped, in one row; nothing of none.
-fn print_dropped<W: Write>(out: &mut Watched<W>, lines: &[HeldLine]) -> Result<(), WriteFailed>
+fn print_dropped<W: Sink>(out: &mut Watched<W>, lines: &[HeldLine]) -> Result<(), WriteFailed>
     ensures text { OnOk result (Prints W.contents out.old out.new (asides.dropped_text lines.now)) }
     ensures failed { OnErr result (has_failed out.new ≡ true) }
 {
@@ -68,7 +67,7 @@ fn print_dropped<W: Write>(out: &mut Watched<W>, lines: &[HeldLine]) -> Result<(
 }
 
 /// Prints that a line is held.
-fn print_held<W: Write>(out: &mut Watched<W>, place: u32, line: &str) -> Result<(), WriteFailed>
+fn print_held<W: Sink>(out: &mut Watched<W>, place: u32, line: &str) -> Result<(), WriteFailed>
     ensures text { OnOk result (Prints W.contents out.old out.new (asides.line_at place (codes " held: ") line.now)) }
     ensures failed { OnErr result (has_failed out.new ≡ true) }
 {
@@ -76,7 +75,7 @@ fn print_held<W: Write>(out: &mut Watched<W>, place: u32, line: &str) -> Result<
 }
 
 /// Prints which lines are held.
-fn print_holds<W: Write>(
+fn print_holds<W: Sink>(
     out: &mut Watched<W>,
     place: u32,
     lines: &[HeldLine],
@@ -90,7 +89,7 @@ fn print_holds<W: Write>(
 }
 
 /// Prints that one is taken back.
-fn print_taken_back<W: Write>(
+fn print_taken_back<W: Sink>(
     out: &mut Watched<W>,
     place: u32,
     line: &str,
@@ -102,7 +101,7 @@ fn print_taken_back<W: Write>(
 }
 
 /// Prints that one wasn't taken.
-fn print_untaken<W: Write>(out: &mut Watched<W>, place: u32, line: &str) -> Result<(), WriteFailed>
+fn print_untaken<W: Sink>(out: &mut Watched<W>, place: u32, line: &str) -> Result<(), WriteFailed>
     ensures text { OnOk result (Prints W.contents out.old out.new (asides.line_at place (codes " not taken: ") line.now)) }
     ensures failed { OnErr result (has_failed out.new ≡ true) }
 {
@@ -110,7 +109,7 @@ fn print_untaken<W: Write>(out: &mut Watched<W>, place: u32, line: &str) -> Resu
 }
 
 /// Prints that one wasn't taken, and that those behind it are dropped.
-fn print_not_taken<W: Write>(
+fn print_not_taken<W: Sink>(
     out: &mut Watched<W>,
     place: u32,
     line: &str,
@@ -125,7 +124,7 @@ fn print_not_taken<W: Write>(
 }
 
 /// Prints that one can't be held.
-fn print_full<W: Write>(out: &mut Watched<W>, line: &str) -> Result<(), WriteFailed>
+fn print_full<W: Sink>(out: &mut Watched<W>, line: &str) -> Result<(), WriteFailed>
     ensures text { OnOk result (Prints W.contents out.old out.new
         (codes "24 lines are held, and not this: " ++ line.now ++ codes "\n")) }
     ensures failed { OnErr result (has_failed out.new ≡ true) }
@@ -134,7 +133,7 @@ fn print_full<W: Write>(out: &mut Watched<W>, line: &str) -> Result<(), WriteFai
 }
 
 /// Prints what is told of lines that the desk isn't given.
-fn print_of_lines<W: Write>(out: &mut Watched<W>, aside: &Aside) -> Result<(), WriteFailed>
+fn print_of_lines<W: Sink>(out: &mut Watched<W>, aside: &Aside) -> Result<(), WriteFailed>
     ensures text { OnOk result (Prints W.contents out.old out.new (asides.aside_text aside.now)) }
     ensures failed { OnErr result (has_failed out.new ≡ true) }
 {
@@ -157,7 +156,7 @@ fn print_of_lines<W: Write>(out: &mut Watched<W>, aside: &Aside) -> Result<(), W
 }
 
 /// Prints it at once.
-fn print_aside<W: Write>(out: &mut Watched<W>, aside: &Aside) -> Result<(), WriteFailed>
+fn print_aside<W: Sink>(out: &mut Watched<W>, aside: &Aside) -> Result<(), WriteFailed>
     ensures text { OnOk result (Prints W.contents out.old out.new (asides.aside_text aside.now)) }
     ensures failed { OnErr result (has_failed out.new ≡ true) }
 {
@@ -166,7 +165,7 @@ fn print_aside<W: Write>(out: &mut Watched<W>, aside: &Aside) -> Result<(), Writ
 }
 
 /// Tells the scorer of lines that the desk isn't given.
-pub fn tell_aside<W: Write>(out: &mut Watched<W>, aside: &Aside) -> Result<(), DeskEnd>
+pub fn tell_aside<W: Sink>(out: &mut Watched<W>, aside: &Aside) -> Result<(), DeskEnd>
     ensures text { Appends (known_at result (W.contents (stream_of out.old)))
         (known_at result (W.contents (stream_of out.new))) (asides.aside_text aside.now) }
     ensures course { course_of result ≡ further }

@@ -14,11 +14,10 @@ use cards::MatchSheet;
 use corrections::BookOf;
 use links::{Clock, Link};
 use station_texts::notices::Notices;
-use std::io::Write;
-use streams::{Watched, WriteFailed};
+use streams::{Sink, Watched, WriteFailed};
 
 /// Prints a board's six lines and hands its book over to be shown, as it begins at this time.
-fn begin<B: BookOf, W: Write, S: Shows<B>>(
+fn begin<B: BookOf, W: Sink, S: Shows<B>>(
     board: &Board<B>,
     sheet: &MatchSheet,
     now: u64,
@@ -38,7 +37,7 @@ fn begin<B: BookOf, W: Write, S: Shows<B>>(
 
 /// A board's process: it prints its six lines and hands its book over to be shown at once, and then takes so many turns,
 /// as `run_board` does.
-pub fn keep_board<B: BookOf, L: Link, C: Clock, N: Notices, W: Write, S: Shows<B>>(
+pub fn keep_board<B: BookOf, L: Link, C: Clock, N: Notices, W: Sink, S: Shows<B>>(
     board: &mut Board<B>,
     sheet: &MatchSheet,
     link: &mut L,

@@ -24,8 +24,7 @@ use cards::MatchSheet;
 use corrections::BookOf;
 use links::{Clock, Link, MOST_TAKEN, ROOM, Taken};
 use station_texts::notices::{Notices, Telling};
-use std::io::Write;
-use streams::{Watched, WriteFailed};
+use streams::{Sink, Watched, WriteFailed};
 
 /// What a board's process keeps between its calls.
 #[derive(Clone, Copy, Debug, PartialEq, Eq)]
@@ -155,7 +154,7 @@ fn take_all<B: BookOf, L: Link, C: Clock, N: Notices>(
 }
 
 /// Prints a board's six lines, where its book isn't as long as it was.
-fn print_news<B: BookOf, W: Write>(
+fn print_news<B: BookOf, W: Sink>(
     board: &Board<B>,
     sheet: &MatchSheet,
     out: &mut Watched<W>,
@@ -175,7 +174,7 @@ fn print_news<B: BookOf, W: Write>(
 
 /// A board's turn: it looks at the clock and says what is due, takes what came, prints its six lines where its book has
 /// grown, and hands its book over to be shown; neither of these once it has refused both desks' votes.
-fn turn<B: BookOf, L: Link, C: Clock, N: Notices, W: Write, S: Shows<B>>(
+fn turn<B: BookOf, L: Link, C: Clock, N: Notices, W: Sink, S: Shows<B>>(
     board: &mut Board<B>,
     sheet: &MatchSheet,
     link: &mut L,
@@ -209,7 +208,7 @@ fn turn<B: BookOf, L: Link, C: Clock, N: Notices, W: Write, S: Shows<B>>(
 /// It is a run of the definitions of a board: its datagrams are just those that passed at the link, its times just those
 /// that its clock showed, its texts just those that were written, its notices just those that were handed on, and what was
 /// shown just what was handed over.
-pub fn run_board<B: BookOf, L: Link, C: Clock, N: Notices, W: Write, S: Shows<B>>(
+pub fn run_board<B: BookOf, L: Link, C: Clock, N: Notices, W: Sink, S: Shows<B>>(
     board: &mut Board<B>,
     sheet: &MatchSheet,
     link: &mut L,

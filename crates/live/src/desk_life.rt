@@ -21,8 +21,7 @@ use desk::OpenRefusal;
 use entry_log::SlotsOf;
 use links::{Clock, Keys, Link};
 use std::alloc::Global;
-use std::io::Write;
-use streams::Watched;
+use streams::{Sink, Watched};
 
 /// Why a desk's process didn't begin, or ended before its turns were over.
 #[derive(Clone, Copy, Debug, PartialEq, Eq)]
@@ -43,7 +42,7 @@ pub fn keep_desk<
     L: Link,
     K: Keys,
     C: Clock,
-    W: Write,
+    W: Sink,
     P: ShowsDesk<B>,
 >(
     alloc: Global,

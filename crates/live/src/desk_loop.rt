@@ -39,8 +39,7 @@ use station_texts::both::Both;
 use station_texts::news::{print_came, print_unopened};
 use station_texts::texts::{print_greeting, print_said};
 use station_texts::warned::Warned;
-use std::io::Write;
-use streams::Watched;
+use streams::{Sink, Watched};
 
 /// A desk's vote of its position, where it is cast.
 fn own_line<S: SlotsOf, B: BookOf + Drop>(desk: &Desk<S, B>) -> Option<Entry>
@@ -69,7 +68,7 @@ fn stand_of<S: SlotsOf, B: BookOf + Drop>(desk: &Desk<S, B>) -> Stand
 }
 
 /// Takes a line that was typed, if there is one, and tells the scorer, who was told this of a peer, what it came to.
-fn take_line<S: SlotsOf, B: BookOf + Drop, L: Link, K: Keys, W: Write>(
+fn take_line<S: SlotsOf, B: BookOf + Drop, L: Link, K: Keys, W: Sink>(
     desk: &mut Desk<S, B>,
     sheet: &MatchSheet,
     link: &mut L,
@@ -105,7 +104,7 @@ fn take_line<S: SlotsOf, B: BookOf + Drop, L: Link, K: Keys, W: Write>(
 }
 
 /// Takes bytes that came, and tells the scorer what is news.
-fn hear<S: SlotsOf, B: BookOf + Drop, L: Link, W: Write>(
+fn hear<S: SlotsOf, B: BookOf + Drop, L: Link, W: Sink>(
     desk: &mut Desk<S, B>,
     sheet: &MatchSheet,
     bytes: &[u8],
@@ -153,7 +152,7 @@ fn hear<S: SlotsOf, B: BookOf + Drop, L: Link, W: Write>(
 
 /// Tells the scorer that bytes came that don't open, unless it was told since a vote that is news came. Nothing else changes:
 /// what is said unasked and when, and when the other desk was heard.
-fn pass_over<W: Write>(out: &mut Watched<W>, between: &mut Between) -> Result<(), DeskEnd>
+fn pass_over<W: Sink>(out: &mut Watched<W>, between: &mut Between) -> Result<(), DeskEnd>
     ensures warned { between.new.warned ≡ warned_unopened between.old.warned }
     ensures pace { between.new.pace ≡ between.old.pace }
     ensures peer { between.new.peer ≡ between.old.peer }
@@ -194,7 +193,7 @@ fn say<S: SlotsOf, B: BookOf + Drop, L: Link, C: Clock>(
 
 /// Says what is due, and takes the next datagram. The first one of a turn is waited for, until something is due. It answers
 /// whether one was taken.
-fn take_next<S: SlotsOf, B: BookOf + Drop, L: Link, C: Clock, W: Write>(
+fn take_next<S: SlotsOf, B: BookOf + Drop, L: Link, C: Clock, W: Sink>(
     desk: &mut Desk<S, B>,
     sheet: &MatchSheet,
     link: &mut L,
@@ -227,7 +226,7 @@ fn take_next<S: SlotsOf, B: BookOf + Drop, L: Link, C: Clock, W: Write>(
 }
 
 /// Takes what came in a turn.
-fn take_all<S: SlotsOf, B: BookOf + Drop, L: Link, C: Clock, W: Write>(
+fn take_all<S: SlotsOf, B: BookOf + Drop, L: Link, C: Clock, W: Sink>(
     desk: &mut Desk<S, B>,
     sheet: &MatchSheet,
     link: &mut L,
@@ -252,7 +251,7 @@ fn take_all<S: SlotsOf, B: BookOf + Drop, L: Link, C: Clock, W: Write>(
 }
 
 /// Takes what came in a turn, and tells the scorer what is due of the other desk.
-fn listen<S: SlotsOf, B: BookOf + Drop, L: Link, C: Clock, W: Write>(
+fn listen<S: SlotsOf, B: BookOf + Drop, L: Link, C: Clock, W: Sink>(
     desk: &mut Desk<S, B>,
     sheet: &MatchSheet,
     link: &mut L,
@@ -273,7 +272,7 @@ fn listen<S: SlotsOf, B: BookOf + Drop, L: Link, C: Clock, W: Write>(
 }
 
 /// What a turn does before what it has told is handed on: it takes a line of the scorer, and then what came.
-fn act<S: SlotsOf, B: BookOf + Drop, L: Link, K: Keys, C: Clock, W: Write>(
+fn act<S: SlotsOf, B: BookOf + Drop, L: Link, K: Keys, C: Clock, W: Sink>(
     desk: &mut Desk<S, B>,
     sheet: &MatchSheet,
     link: &mut L,
@@ -303,7 +302,7 @@ fn act<S: SlotsOf, B: BookOf + Drop, L: Link, K: Keys, C: Clock, W: Write>(
 }
 
 /// A desk's turn: it takes a line of its scorer, looks at the clock and says what is due, and takes what came.
-fn turn<S: SlotsOf, B: BookOf + Drop, L: Link, K: Keys, C: Clock, W: Write>(
+fn turn<S: SlotsOf, B: BookOf + Drop, L: Link, K: Keys, C: Clock, W: Sink>(
     desk: &mut Desk<S, B>,
     sheet: &MatchSheet,
     link: &mut L,
@@ -327,7 +326,7 @@ fn turn<S: SlotsOf, B: BookOf + Drop, L: Link, K: Keys, C: Clock, W: Write>(
 }
 
 /// Tells the scorer where the desk stands.
-fn greet<S: SlotsOf, B: BookOf + Drop, W: Write>(
+fn greet<S: SlotsOf, B: BookOf + Drop, W: Sink>(
     desk: &Desk<S, B>,
     sheet: &MatchSheet,
     out: &mut Watched<W>,
@@ -354,7 +353,7 @@ fn show<S: SlotsOf, B: BookOf + Drop, P: ShowsDesk<B>>(
 }
 
 /// Tells the scorer where the desk of this letter stands, and takes so many turns.
-fn take_turns<S: SlotsOf, B: BookOf + Drop, L: Link, K: Keys, C: Clock, W: Write, P: ShowsDesk<B>>(
+fn take_turns<S: SlotsOf, B: BookOf + Drop, L: Link, K: Keys, C: Clock, W: Sink, P: ShowsDesk<B>>(
     desk: &mut Desk<S, B>,
     own: DeskId,
     sheet: &MatchSheet,
@@ -402,15 +401,7 @@ fn end_told(end: Result<(), DeskEnd>, flushed: Result<(), DeskEnd>) -> Result<()
 /// definitions of a desk: its datagrams are just those that passed at the link, its lines just those that were
 /// typed, its times just those that its clock showed, its texts just those that were written. And what is handed on to be
 /// shown, after each turn, is just what is seen of the desk then.
-pub fn run_desk<
-    S: SlotsOf,
-    B: BookOf + Drop,
-    L: Link,
-    K: Keys,
-    C: Clock,
-    W: Write,
-    P: ShowsDesk<B>,
->(
+pub fn run_desk<S: SlotsOf, B: BookOf + Drop, L: Link, K: Keys, C: Clock, W: Sink, P: ShowsDesk<B>>(
     desk: &mut Desk<S, B>,
     own: DeskId,
     sheet: &MatchSheet,

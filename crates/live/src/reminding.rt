@@ -19,11 +19,10 @@ use desk::Desk;
 use entry_log::SlotsOf;
 use station_texts::news::print_reminder;
 use station_texts::reminder::Reminder;
-use std::io::Write;
-use streams::Watched;
+use streams::{Sink, Watched};
 
 /// Tells the scorer this of the other desk, at this place.
-fn tell<W: Write>(
+fn tell<W: Sink>(
     out: &mut Watched<W>,
     place: u32,
     between: &mut Between,
@@ -53,7 +52,7 @@ fn is_waited_for<S: SlotsOf, B: BookOf + Drop>(desk: &Desk<S, B>) -> bool
 }
 
 /// Tells the scorer that the other has written, where that is due.
-fn remind_of_writing<S: SlotsOf, B: BookOf + Drop, W: Write>(
+fn remind_of_writing<S: SlotsOf, B: BookOf + Drop, W: Sink>(
     desk: &Desk<S, B>,
     out: &mut Watched<W>,
     between: &mut Between,
@@ -81,7 +80,7 @@ fn remind_of_writing<S: SlotsOf, B: BookOf + Drop, W: Write>(
 }
 
 /// Tells the scorer that the other desk isn't heard, or that it is again, where that is due.
-fn remind_of_silence<S: SlotsOf, B: BookOf + Drop, W: Write>(
+fn remind_of_silence<S: SlotsOf, B: BookOf + Drop, W: Sink>(
     desk: &Desk<S, B>,
     out: &mut Watched<W>,
     between: &mut Between,
@@ -111,7 +110,7 @@ fn remind_of_silence<S: SlotsOf, B: BookOf + Drop, W: Write>(
 }
 
 /// Tells the scorer what is due of the other desk.
-pub fn remind<S: SlotsOf, B: BookOf + Drop, W: Write>(
+pub fn remind<S: SlotsOf, B: BookOf + Drop, W: Sink>(
     desk: &Desk<S, B>,
     out: &mut Watched<W>,
     between: &mut Between,

@@ -26,8 +26,7 @@ use machine::Sockets;
 use notation::Lines;
 use setup::{Output, StopFault, Stopped, VotesDisk, bytes_at, output, sheet_at};
 use std::alloc::Global;
-use std::io::Write;
-use streams::{LONGEST_INPUT, Watched};
+use streams::{LONGEST_INPUT, Sink, Watched};
 use turns::{Stations, new_stations};
 
 /// Has the stations take the lines of an input, one after the other.
@@ -95,7 +94,7 @@ fn expect_both_empty<D: Disk>(a: &mut D, b: &mut D) -> Result<(), MatchFault>
 }
 
 /// Has the stations take the lines of an input, and prints the board's six lines.
-fn play<S: SlotsOf, L: SharedLink, W: Write>(
+fn play<S: SlotsOf, L: SharedLink, W: Sink>(
     stations: &mut Stations<S>,
     sheet: &MatchSheet,
     input: &[u8],
@@ -121,7 +120,7 @@ fn play<S: SlotsOf, L: SharedLink, W: Write>(
         (history_of (book_of stations.new.board).entries))) }
     ensures why { IfErr result (WhyNoMatch (innings_at stations.old.a) input.now [] []) }
     ensures calm { AreCalm stations.old.a stations.old.b → result ≢ Err MatchFault.Device }
-    ensures handed_on { OnOk result (IsHandedOn writer.new) }
+    ensures handed_on { OnOk result (IsHandedOn W.calls writer.new) }
     ensures write { result ≡ Err MatchFault.Write → MeetsFailure writer.old writer.new }
     ensures unwritten { IfErr result (λ fault. fault ≢ MatchFault.Write → writer.new ≡ writer.old) }
 {
@@ -140,7 +139,7 @@ fn play<S: SlotsOf, L: SharedLink, W: Write>(
 /// stay as they were. Both disks come back. At `Ok`, whatever the link loses, changes or makes up, they hold just the
 /// book of the lines, which a power loss doesn't take away; and where the link gives only what was sent, lost,
 /// repeated or in another order, the board's book is the same.
-pub fn run_match<D: Disk + Drop, L: SharedLink, W: Write>(
+pub fn run_match<D: Disk + Drop, L: SharedLink, W: Sink>(
     alloc: Global,
     sheet: &MatchSheet,
     input: &[u8],
@@ -165,7 +164,7 @@ pub fn run_match<D: Disk + Drop, L: SharedLink, W: Write>(
     // Where no fault is due at either disk, and both have room, none is met.
     ensures calm { IsQuiet D.faults D.cap a → IsQuiet D.faults D.cap b →
         answer_of result ≢ Err MatchFault.Device }
-    ensures handed_on { OnOk result (IsHandedOn writer.new) }
+    ensures handed_on { OnOk result (IsHandedOn W.calls writer.new) }
     ensures write { answer_of result ≡ Err MatchFault.Write → MeetsFailure writer.old writer.new }
     // With any other fault nothing was written.
     ensures unwritten { IfErr (answer_of result) (λ fault.

@@ -17,8 +17,7 @@ use machine_files::FileDisk;
 use setup::{StopFault, Stopped, VotesDisk, new_disk_at, old_votes_at, output, sheet_at};
 use std::alloc::Global;
 use std::fs::File;
-use std::io::Write;
-use streams::{Watched, WriteFailed};
+use streams::{Sink, Watched, WriteFailed};
 use vote_store::{Migrated, Refusal, migrate};
 
 /// Why `migrate` ends before its end.
@@ -63,9 +62,9 @@ impl From<MigrateFault> for StopFault {
 }
 
 /// Prints how many votes the new file has.
-fn print_migrated<W: Write>(out: &mut Watched<W>, votes: u32) -> Result<(), WriteFailed>
+fn print_migrated<W: Sink>(out: &mut Watched<W>, votes: u32) -> Result<(), WriteFailed>
     ensures text { OnOk result (Prints W.contents out.old out.new (migrated_line votes)) }
-    ensures handed_on { OnOk result (IsHandedOn out.new) }
+    ensures handed_on { OnOk result (IsHandedOn W.calls out.new) }
     ensures failed { TellsFailure result out.old out.new }
 {
     writeln!(out, "migrated {votes}")?;
@@ -76,7 +75,7 @@ fn print_migrated<W: Write>(out: &mut Watched<W>, votes: u32) -> Result<(), Writ
 /// disk that has none, and prints how many. It is refused as opening the old file is, and then where the new disk has a
 /// file. Both disks come back with either answer: the old one reads as it did, and a refused new one is as it was. After
 /// `Device` the new file isn't to be used; after `Write` it is whole, and only the line about it is missing.
-pub fn migrate_run<D: Disk + Drop, E: Disk + Drop, W: Write>(
+pub fn migrate_run<D: Disk + Drop, E: Disk + Drop, W: Sink>(
     alloc: Global,
     desk: DeskId,
     game: u64,
@@ -98,7 +97,7 @@ pub fn migrate_run<D: Disk + Drop, E: Disk + Drop, W: Write>(
     // Where no fault is due at either disk, and the new one has room, none is met.
     ensures calm { (D.faults old).due ≡ Never → (E.faults new).due ≡ Never
         → room version_2 MAX_SLOTS ≤ E.cap new → answer_of result ≢ Err MigrateFault.Device }
-    ensures writes { EndsWriting MigrateFault.Write (answer_of result) out.old out.new }
+    ensures writes { EndsWriting W.calls MigrateFault.Write (answer_of result) out.old out.new }
 {
     let migrated = match migrate(alloc, old, new, desk, game) {
         Ok(migrated) => migrated,

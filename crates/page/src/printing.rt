@@ -13,11 +13,10 @@ use crate::overs::OVERS;
 use crate::reading::READING;
 use crate::showing::{END, SCRIPT, SHOWING};
 use crate::style::STYLE;
-use std::io::Write;
-use streams::{Watched, WriteFailed};
+use streams::{Sink, Watched, WriteFailed};
 
 /// Prints what stands before the value.
-fn print_front<W: Write>(out: &mut Watched<W>) -> Result<(), WriteFailed>
+fn print_front<W: Sink>(out: &mut Watched<W>) -> Result<(), WriteFailed>
     ensures text { OnOk result (Prints W.contents out.old out.new page.front) }
     ensures failed { TellsFailure result out.old out.new }
 {
@@ -37,7 +36,7 @@ fn cut(text: &str) -> Option<(&str, &str)>
 }
 
 /// Prints a text with `\u003c` in the place of each `<`.
-fn print_escaped<W: Write>(text: &str, out: &mut Watched<W>) -> Result<(), WriteFailed>
+fn print_escaped<W: Sink>(text: &str, out: &mut Watched<W>) -> Result<(), WriteFailed>
     ensures text { OnOk result (Prints W.contents out.old out.new (page.escaped text.now)) }
     ensures failed { TellsFailure result out.old out.new }
 {
@@ -50,7 +49,7 @@ fn print_escaped<W: Write>(text: &str, out: &mut Watched<W>) -> Result<(), Write
 }
 
 /// Prints the first half of what stands behind the value.
-fn print_reading<W: Write>(out: &mut Watched<W>) -> Result<(), WriteFailed>
+fn print_reading<W: Sink>(out: &mut Watched<W>) -> Result<(), WriteFailed>
     ensures text { OnOk result (Prints W.contents out.old out.new page.reading) }
     ensures failed { TellsFailure result out.old out.new }
 {
@@ -60,7 +59,7 @@ fn print_reading<W: Write>(out: &mut Watched<W>) -> Result<(), WriteFailed>
 }
 
 /// Prints the second half.
-fn print_showing<W: Write>(out: &mut Watched<W>) -> Result<(), WriteFailed>
+fn print_showing<W: Sink>(out: &mut Watched<W>) -> Result<(), WriteFailed>
     ensures text { OnOk result (Prints W.contents out.old out.new page.showing) }
     ensures failed { TellsFailure result out.old out.new }
 {
@@ -73,10 +72,10 @@ fn print_showing<W: Write>(out: &mut Watched<W>) -> Result<(), WriteFailed>
 
 /// Prints the page of a book's value, which is the text of one JSON value. It fails only where a write fails; how much was
 /// written then isn't said.
-pub fn print_page<W: Write>(value: &str, out: &mut Watched<W>) -> Result<(), WriteFailed>
+pub fn print_page<W: Sink>(value: &str, out: &mut Watched<W>) -> Result<(), WriteFailed>
     ensures text { OnOk result (Prints W.contents out.old out.new (page.page_of value.now)) }
     ensures failed { TellsFailure result out.old out.new }
-    ensures handed_on { OnOk result (IsHandedOn out.new) }
+    ensures handed_on { OnOk result (IsHandedOn W.calls out.new) }
 {
     print_front(out)?;
     print_escaped(value, out)?;

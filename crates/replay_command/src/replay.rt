@@ -17,9 +17,8 @@ use schedule_replay::{Report, replay_in};
 use schedules::{ScheduleFault, read_schedule};
 use setup::{StopFault, Stopped, open_input, output, sheet_at};
 use std::alloc::{AllocError, Global};
-use std::io::{Read, Write};
 use step::{Stepped, begin, step_all};
-use streams::{InputFault, Watched, read_all};
+use streams::{Feed, InputFault, Sink, Watched, read_all};
 
 /// Why `replay` ends before its end.
 #[derive(Clone, Copy, Debug, PartialEq, Eq)]
@@ -106,7 +105,7 @@ fn report_of(
 }
 
 /// Runs these events in a world, and prints what came of them. The answer is whether the world refused one.
-fn print_run<W: Write>(
+fn print_run<W: Sink>(
     alloc: Global,
     sheet: &MatchSheet,
     version: FileVersion,
@@ -120,7 +119,7 @@ fn print_run<W: Write>(
     ensures only { IfErr result (λ fault. (fault ≡ ReplayFault.NoMemory) ⊎ (fault ≡ ReplayFault.Write)) }
     ensures write { result ≡ Err ReplayFault.Write → MeetsFailure out.old out.new }
     ensures sound { OnOk result (failures out.new ≡ failures out.old) }
-    ensures handed_on { OnOk result (IsHandedOn out.new) }
+    ensures handed_on { OnOk result (IsHandedOn W.calls out.new) }
     ensures unwritten { IfErr result (λ fault. fault ≢ ReplayFault.Write → out.new ≡ out.old) }
 {
     match step_all(alloc, sheet, version, boards, events)? {
@@ -144,7 +143,7 @@ fn print_run<W: Write>(
 /// of this version and so many boards. It writes what each event is answered, how many entries are agreed, and
 /// what each station shows; or, where the world refuses an event, what those before it are answered, and the
 /// refusal. The answer is whether the world refused one. A schedule that isn't understood is `Schedule`.
-pub fn replay_run<R: Read, W: Write>(
+pub fn replay_run<R: Feed, W: Sink>(
     alloc: Global,
     sheet: &MatchSheet,
     version: FileVersion,
@@ -158,7 +157,7 @@ pub fn replay_run<R: Read, W: Write>(
     ensures why { IfErr result (λ fault. IfSome (R.remaining (stream_of reader.old)) (λ input.
         WhyNoReplay input fault)) }
     ensures read { EndsReading R.remaining ReplayFault.Read result reader.old reader.new }
-    ensures writes { EndsWriting ReplayFault.Write result writer.old writer.new }
+    ensures writes { EndsWriting W.calls ReplayFault.Write result writer.old writer.new }
 {
     let input = read_all(alloc, reader)?;
     let events = read_schedule(alloc, input.as_slice())?;

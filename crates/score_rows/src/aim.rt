@@ -13,11 +13,10 @@ use cards::MatchSheet;
 use limits::runs_needed;
 use match_laws::{Match, Outcome};
 use notation::Side;
-use std::io::Write;
-use streams::{Watched, WriteFailed};
+use streams::{Sink, Watched, WriteFailed};
 
 /// Prints that so many runs are needed off so many deliveries, on a row of its own.
-fn print_needs_off<W: Write>(out: &mut Watched<W>, runs: u32, left: u32) -> Result<(), WriteFailed>
+fn print_needs_off<W: Sink>(out: &mut Watched<W>, runs: u32, left: u32) -> Result<(), WriteFailed>
     ensures text { OnOk result (Prints W.contents out.old out.new (rows.needs_row Undecided (Some runs) (Some left))) }
     ensures failed { OnErr result (has_failed out.new ≡ true) }
 {
@@ -27,7 +26,7 @@ fn print_needs_off<W: Write>(out: &mut Watched<W>, runs: u32, left: u32) -> Resu
 }
 
 /// Prints what is needed off how many deliveries, where they are limited and the match isn't decided.
-pub fn print_needs_row<W: Write>(
+pub fn print_needs_row<W: Sink>(
     out: &mut Watched<W>,
     score: &Match,
     left: Option<u32>,
@@ -55,7 +54,7 @@ pub fn wicket_word(count: u32) -> &'static str
 }
 
 /// Prints a side, and how it has won.
-fn print_winner<W: Write>(out: &mut Watched<W>, side: &str, how: &str) -> Result<(), WriteFailed>
+fn print_winner<W: Sink>(out: &mut Watched<W>, side: &str, how: &str) -> Result<(), WriteFailed>
     ensures text { OnOk result (Prints W.contents out.old out.new (codes "  " ++ side.now ++ how.now)) }
     ensures failed { OnErr result (has_failed out.new ≡ true) }
 {
@@ -63,7 +62,7 @@ fn print_winner<W: Write>(out: &mut Watched<W>, side: &str, how: &str) -> Result
 }
 
 /// Prints by how many of this.
-fn print_margin<W: Write>(out: &mut Watched<W>, count: u32, unit: &str) -> Result<(), WriteFailed>
+fn print_margin<W: Sink>(out: &mut Watched<W>, count: u32, unit: &str) -> Result<(), WriteFailed>
     ensures text { OnOk result (Prints W.contents out.old out.new (decimal count ++ codes " " ++ unit.now)) }
     ensures failed { OnErr result (has_failed out.new ≡ true) }
 {
@@ -71,7 +70,7 @@ fn print_margin<W: Write>(out: &mut Watched<W>, count: u32, unit: &str) -> Resul
 }
 
 /// Prints that a side has won by so many of this.
-fn print_win<W: Write>(
+fn print_win<W: Sink>(
     out: &mut Watched<W>,
     side: &str,
     how: &str,
@@ -87,7 +86,7 @@ fn print_win<W: Write>(
 }
 
 /// Prints that a side has won by an innings and so many runs.
-fn print_innings_win<W: Write>(
+fn print_innings_win<W: Sink>(
     out: &mut Watched<W>,
     sheet: &MatchSheet,
     side: Side,
@@ -106,7 +105,7 @@ fn print_innings_win<W: Write>(
 }
 
 /// Prints what is needed, where nothing limits the deliveries and the match isn't decided.
-pub fn print_aim<W: Write>(
+pub fn print_aim<W: Sink>(
     out: &mut Watched<W>,
     score: &Match,
     left: Option<u32>,
@@ -122,7 +121,7 @@ pub fn print_aim<W: Write>(
 }
 
 /// Prints how a match has ended, where it has.
-fn print_ended<W: Write>(
+fn print_ended<W: Sink>(
     out: &mut Watched<W>,
     sheet: &MatchSheet,
     outcome: Outcome,
@@ -149,7 +148,7 @@ fn print_ended<W: Write>(
 }
 
 /// Prints the result of a match that is decided.
-pub fn print_result<W: Write>(
+pub fn print_result<W: Sink>(
     out: &mut Watched<W>,
     sheet: &MatchSheet,
     score: &Match,
@@ -169,7 +168,7 @@ fn is_decided(outcome: Outcome) -> bool
 }
 
 /// Prints how a match has ended, where it has, on a row of its own.
-fn print_ended_row<W: Write>(
+fn print_ended_row<W: Sink>(
     out: &mut Watched<W>,
     sheet: &MatchSheet,
     outcome: Outcome,
@@ -185,7 +184,7 @@ fn print_ended_row<W: Write>(
 }
 
 /// Prints the result of a match that is decided, on a row of its own.
-pub fn print_result_row<W: Write>(
+pub fn print_result_row<W: Sink>(
     out: &mut Watched<W>,
     sheet: &MatchSheet,
     score: &Match,

@@ -14,11 +14,10 @@ use corrections::BookOf;
 use limits::{may_bowl, overs_yet};
 use match_laws::opponent;
 use notation::Player;
-use std::io::Write;
-use streams::{Watched, WriteFailed};
+use streams::{Sink, Watched, WriteFailed};
 
 /// Prints how many overs a player has yet, where they are limited.
-fn print_yet<W: Write, B: BookOf>(
+fn print_yet<W: Sink, B: BookOf>(
     out: &mut Watched<W>,
     book: &B,
     most: Option<u16>,
@@ -38,7 +37,7 @@ fn print_yet<W: Write, B: BookOf>(
 }
 
 /// Prints a player by number and name.
-fn print_name<W: Write>(out: &mut Watched<W>, number: u8, name: &str) -> Result<(), WriteFailed>
+fn print_name<W: Sink>(out: &mut Watched<W>, number: u8, name: &str) -> Result<(), WriteFailed>
     ensures text { OnOk result (Prints W.contents out.old out.new (decimal number ++ codes " " ++ name.now)) }
     ensures failed { OnErr result (has_failed out.new ≡ true) }
 {
@@ -46,7 +45,7 @@ fn print_name<W: Write>(out: &mut Watched<W>, number: u8, name: &str) -> Result<
 }
 
 /// Prints the row of a player of the side that fields.
-fn print_bowler_row<W: Write, B: BookOf>(
+fn print_bowler_row<W: Sink, B: BookOf>(
     out: &mut Watched<W>,
     sheet: &MatchSheet,
     book: &B,
@@ -65,7 +64,7 @@ fn print_bowler_row<W: Write, B: BookOf>(
 }
 
 /// The same, where he may bowl.
-fn print_if_may<W: Write, B: BookOf>(
+fn print_if_may<W: Sink, B: BookOf>(
     out: &mut Watched<W>,
     sheet: &MatchSheet,
     book: &B,
@@ -85,7 +84,7 @@ fn print_if_may<W: Write, B: BookOf>(
 }
 
 /// Prints those of these numbers who may bowl.
-fn print_among<W: Write, B: BookOf>(
+fn print_among<W: Sink, B: BookOf>(
     out: &mut Watched<W>,
     sheet: &MatchSheet,
     book: &B,
@@ -109,7 +108,7 @@ fn print_among<W: Write, B: BookOf>(
 }
 
 /// Prints those who may.
-fn print_all<W: Write, B: BookOf>(
+fn print_all<W: Sink, B: BookOf>(
     out: &mut Watched<W>,
     sheet: &MatchSheet,
     book: &B,
@@ -130,7 +129,7 @@ fn print_all<W: Write, B: BookOf>(
 }
 
 /// Prints who may bowl the next delivery, in a row each, with the overs that he has yet where they are limited.
-pub fn print_bowlers<W: Write, B: BookOf>(
+pub fn print_bowlers<W: Sink, B: BookOf>(
     out: &mut Watched<W>,
     sheet: &MatchSheet,
     book: &B,

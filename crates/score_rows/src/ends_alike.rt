@@ -9,8 +9,7 @@ use crate::form::{Form, are_alike};
 use cards::MatchSheet;
 use match_laws::Match;
 use notation::{Player, Side};
-use std::io::Write;
-use streams::{Watched, WriteFailed};
+use streams::{Sink, Watched, WriteFailed};
 
 /// Whether these players of a side have names that look alike in a form.
 fn are_both_alike(
@@ -45,7 +44,7 @@ pub fn are_ends_alike(form: Form, sheet: &MatchSheet, score: &Match, innings: us
 }
 
 /// Prints the number of who is at an end, where the names look alike.
-pub fn print_number<W: Write>(
+pub fn print_number<W: Sink>(
     out: &mut Watched<W>,
     is_alike: bool,
     batter: Option<Player>,

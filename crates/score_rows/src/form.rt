@@ -6,8 +6,7 @@ ghost use Rattle.std.specs.List.{list_all};
 ghost use Rattle.streams.specs.Watched.{Prints, has_failed};
 ghost use Rattle.score_rows.specs.Fit as fit;
 
-use std::io::Write;
-use streams::{Watched, WriteFailed};
+use streams::{Sink, Watched, WriteFailed};
 
 /// What of a row is shown, the most first.
 #[derive(Clone, Copy, Debug, PartialEq, Eq)]
@@ -126,11 +125,7 @@ pub fn front_of(name: &str, most: usize) -> &str
 }
 
 /// Prints a name of at most so many letters.
-pub fn print_name<W: Write>(
-    out: &mut Watched<W>,
-    name: &str,
-    most: usize,
-) -> Result<(), WriteFailed>
+pub fn print_name<W: Sink>(out: &mut Watched<W>, name: &str, most: usize) -> Result<(), WriteFailed>
     requires { 0 < most }
     ensures text { OnOk result (Prints W.contents out.old out.new (fit.cut most name.now)) }
     ensures failed { OnErr result (has_failed out.new ≡ true) }

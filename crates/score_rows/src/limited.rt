@@ -12,11 +12,10 @@ use corrections::{BookOf, overs_of};
 use limits::{TwoPlaces, an_over, deliveries_left, is_free_hit, overs_bowled, overs_left};
 use match_laws::{Match, opponent};
 use notation::Player;
-use std::io::Write;
-use streams::{Watched, WriteFailed};
+use streams::{Sink, Watched, WriteFailed};
 
 /// Prints of how many overs an innings is, where the sheet says it.
-pub fn print_of<W: Write>(out: &mut Watched<W>, overs: Option<u16>) -> Result<(), WriteFailed>
+pub fn print_of<W: Sink>(out: &mut Watched<W>, overs: Option<u16>) -> Result<(), WriteFailed>
     ensures text { OnOk result (Prints W.contents out.old out.new (limited.of_overs overs)) }
     ensures failed { OnErr result (has_failed out.new ≡ true) }
 {
@@ -27,7 +26,7 @@ pub fn print_of<W: Write>(out: &mut Watched<W>, overs: Option<u16>) -> Result<()
 }
 
 /// Prints a rate, where there is one.
-fn print_rate<W: Write>(out: &mut Watched<W>, rate: Option<u64>) -> Result<(), WriteFailed>
+fn print_rate<W: Sink>(out: &mut Watched<W>, rate: Option<u64>) -> Result<(), WriteFailed>
     ensures text { OnOk result (Prints W.contents out.old out.new (limited.rate_text rate)) }
     ensures failed { OnErr result (has_failed out.new ≡ true) }
 {
@@ -41,7 +40,7 @@ fn print_rate<W: Write>(out: &mut Watched<W>, rate: Option<u64>) -> Result<(), W
 }
 
 /// Prints off how many deliveries so many runs are needed, and how many that is an over.
-pub fn print_off<W: Write>(out: &mut Watched<W>, runs: u32, left: u32) -> Result<(), WriteFailed>
+pub fn print_off<W: Sink>(out: &mut Watched<W>, runs: u32, left: u32) -> Result<(), WriteFailed>
     ensures text { OnOk result (Prints W.contents out.old out.new (limited.off_text runs left)) }
     ensures failed { OnErr result (has_failed out.new ≡ true) }
 {
@@ -68,7 +67,7 @@ pub fn is_free<B: BookOf>(sheet: &MatchSheet, book: &B) -> bool
 }
 
 /// Prints that the next delivery is a free hit, where it is and is told here.
-pub fn print_free<W: Write, B: BookOf>(
+pub fn print_free<W: Sink, B: BookOf>(
     out: &mut Watched<W>,
     is_here: bool,
     sheet: &MatchSheet,
@@ -86,7 +85,7 @@ pub fn print_free<W: Write, B: BookOf>(
 }
 
 /// The same on a row of its own.
-pub fn print_free_row<W: Write, B: BookOf>(
+pub fn print_free_row<W: Sink, B: BookOf>(
     out: &mut Watched<W>,
     is_here: bool,
     sheet: &MatchSheet,
@@ -104,7 +103,7 @@ pub fn print_free_row<W: Write, B: BookOf>(
 }
 
 /// Prints that a bowler is past his overs, where he is.
-fn print_past_of<W: Write>(out: &mut Watched<W>, most: u16, bowled: u32) -> Result<(), WriteFailed>
+fn print_past_of<W: Sink>(out: &mut Watched<W>, most: u16, bowled: u32) -> Result<(), WriteFailed>
     ensures text { OnOk result (Prints W.contents out.old out.new (limited.past_text most bowled)) }
     ensures failed { OnErr result (has_failed out.new ≡ true) }
 {
@@ -116,7 +115,7 @@ fn print_past_of<W: Write>(out: &mut Watched<W>, most: u16, bowled: u32) -> Resu
 }
 
 /// The same of who bowls, if anybody does.
-pub fn print_past<W: Write, B: BookOf>(
+pub fn print_past<W: Sink, B: BookOf>(
     out: &mut Watched<W>,
     book: &B,
     most: Option<u16>,
@@ -136,7 +135,7 @@ pub fn print_past<W: Write, B: BookOf>(
 }
 
 /// Prints what is left of an over.
-fn print_rest<W: Write>(out: &mut Watched<W>, rest: u32) -> Result<(), WriteFailed>
+fn print_rest<W: Sink>(out: &mut Watched<W>, rest: u32) -> Result<(), WriteFailed>
     ensures text { OnOk result (Prints W.contents out.old out.new (limited.rest_text rest)) }
     ensures failed { OnErr result (has_failed out.new ≡ true) }
 {
@@ -158,7 +157,7 @@ fn overs_word(deliveries: u32) -> &'static str
 }
 
 /// Prints how many overs so many deliveries are.
-fn print_left<W: Write>(out: &mut Watched<W>, deliveries: u32) -> Result<(), WriteFailed>
+fn print_left<W: Sink>(out: &mut Watched<W>, deliveries: u32) -> Result<(), WriteFailed>
     ensures text { OnOk result (Prints W.contents out.old out.new (limited.left_text deliveries)) }
     ensures failed { OnErr result (has_failed out.new ≡ true) }
 {
@@ -170,7 +169,7 @@ fn print_left<W: Write>(out: &mut Watched<W>, deliveries: u32) -> Result<(), Wri
 }
 
 /// Prints that all overs are bowled.
-fn print_all_bowled<W: Write>(out: &mut Watched<W>, overs: u16) -> Result<(), WriteFailed>
+fn print_all_bowled<W: Sink>(out: &mut Watched<W>, overs: u16) -> Result<(), WriteFailed>
     ensures text { OnOk result (Prints W.contents out.old out.new (limited.all_bowled overs)) }
     ensures failed { OnErr result (has_failed out.new ≡ true) }
 {
@@ -182,7 +181,7 @@ fn print_all_bowled<W: Write>(out: &mut Watched<W>, overs: u16) -> Result<(), Wr
 }
 
 /// Prints what is left of an innings of so many overs.
-fn print_innings_left<W: Write>(
+fn print_innings_left<W: Sink>(
     out: &mut Watched<W>,
     score: &Match,
     innings: usize,
@@ -201,7 +200,7 @@ fn print_innings_left<W: Write>(
 }
 
 /// Prints in how many overs a bowler of the side has bowled, of how many.
-fn print_bowled<W: Write>(
+fn print_bowled<W: Sink>(
     out: &mut Watched<W>,
     name: &str,
     bowled: u32,
@@ -215,7 +214,7 @@ fn print_bowled<W: Write>(
 }
 
 /// The same of a player.
-fn print_bowled_of<W: Write, B: BookOf>(
+fn print_bowled_of<W: Sink, B: BookOf>(
     out: &mut Watched<W>,
     sheet: &MatchSheet,
     book: &B,
@@ -238,7 +237,7 @@ fn print_bowled_of<W: Write, B: BookOf>(
 }
 
 /// The same of the bowler of the last delivery, where bowlers are limited and there is one.
-fn print_bowler_part<W: Write, B: BookOf>(
+fn print_bowler_part<W: Sink, B: BookOf>(
     out: &mut Watched<W>,
     sheet: &MatchSheet,
     book: &B,
@@ -261,7 +260,7 @@ fn print_bowler_part<W: Write, B: BookOf>(
 }
 
 /// A line of its own with it.
-fn print_bowled_line<W: Write, B: BookOf>(
+fn print_bowled_line<W: Sink, B: BookOf>(
     out: &mut Watched<W>,
     sheet: &MatchSheet,
     book: &B,
@@ -279,7 +278,7 @@ fn print_bowled_line<W: Write, B: BookOf>(
 }
 
 /// A line of its own with it, where he is past his overs.
-fn print_past_line<W: Write, B: BookOf>(
+fn print_past_line<W: Sink, B: BookOf>(
     out: &mut Watched<W>,
     sheet: &MatchSheet,
     book: &B,
@@ -300,7 +299,7 @@ fn print_past_line<W: Write, B: BookOf>(
 }
 
 /// The same of the bowler of the last delivery, where bowlers are limited and there is one.
-pub fn print_past_row<W: Write, B: BookOf>(
+pub fn print_past_row<W: Sink, B: BookOf>(
     out: &mut Watched<W>,
     sheet: &MatchSheet,
     book: &B,
@@ -323,7 +322,7 @@ pub fn print_past_row<W: Write, B: BookOf>(
 }
 
 /// Prints the bowler of the last delivery in a line of its own, where bowlers are limited and there is one.
-fn print_bowler_line<W: Write, B: BookOf>(
+fn print_bowler_line<W: Sink, B: BookOf>(
     out: &mut Watched<W>,
     sheet: &MatchSheet,
     book: &B,
@@ -346,7 +345,7 @@ fn print_bowler_line<W: Write, B: BookOf>(
 }
 
 /// Prints the overs left of so many, and the bowler behind them.
-fn print_left_line<W: Write, B: BookOf>(
+fn print_left_line<W: Sink, B: BookOf>(
     out: &mut Watched<W>,
     sheet: &MatchSheet,
     book: &B,
@@ -367,7 +366,7 @@ fn print_left_line<W: Write, B: BookOf>(
 }
 
 /// Prints what is left, of overs or of the bowler alone.
-fn print_line_for<W: Write, B: BookOf>(
+fn print_line_for<W: Sink, B: BookOf>(
     out: &mut Watched<W>,
     sheet: &MatchSheet,
     book: &B,
@@ -391,7 +390,7 @@ fn print_line_for<W: Write, B: BookOf>(
 
 /// Prints what is left of an innings and of the bowler's overs, in a line, where the sheet limits either and the innings is
 /// open.
-pub fn print_limits<W: Write, B: BookOf>(
+pub fn print_limits<W: Sink, B: BookOf>(
     out: &mut Watched<W>,
     sheet: &MatchSheet,
     book: &B,

@@ -13,11 +13,10 @@ ghost use Rattle.score_rows.specs.inner.Items as items;
 use cards::{Mark, all_runs, mark_of};
 use corrections::Placed;
 use notation::{Ball, Plain};
-use std::io::Write;
-use streams::{Watched, WriteFailed};
+use streams::{Sink, Watched, WriteFailed};
 
 /// Prints a mark, behind a space.
-fn print_mark<W: Write>(out: &mut Watched<W>, mark: Mark) -> Result<(), WriteFailed>
+fn print_mark<W: Sink>(out: &mut Watched<W>, mark: Mark) -> Result<(), WriteFailed>
     ensures text { OnOk result (Prints W.contents out.old out.new (codes " " ++ mark_text mark)) }
     ensures failed { OnErr result (has_failed out.new ≡ true) }
 {
@@ -35,7 +34,7 @@ pub fn dead_mark(is_dead: bool) -> &'static str
 }
 
 /// Prints a delivery's mark, behind a space.
-pub fn print_ball<W: Write>(out: &mut Watched<W>, ball: &Ball) -> Result<(), WriteFailed>
+pub fn print_ball<W: Sink>(out: &mut Watched<W>, ball: &Ball) -> Result<(), WriteFailed>
     ensures text { OnOk result (Prints W.contents out.old out.new (rows.spaced_mark ball.now)) }
     ensures failed { OnErr result (has_failed out.new ≡ true) }
 {
@@ -45,7 +44,7 @@ pub fn print_ball<W: Write>(out: &mut Watched<W>, ball: &Ball) -> Result<(), Wri
 }
 
 /// Prints an item, where it is a delivery.
-fn print_item<W: Write>(out: &mut Watched<W>, item: &Plain) -> Result<(), WriteFailed>
+fn print_item<W: Sink>(out: &mut Watched<W>, item: &Plain) -> Result<(), WriteFailed>
     ensures text { OnOk result (Prints W.contents out.old out.new (items.item_mark item.now)) }
     ensures failed { OnErr result (has_failed out.new ≡ true) }
 {
@@ -56,7 +55,7 @@ fn print_item<W: Write>(out: &mut Watched<W>, item: &Plain) -> Result<(), WriteF
 }
 
 /// Prints the deliveries of an over.
-pub fn print_marks<W: Write>(out: &mut Watched<W>, over: &[Placed]) -> Result<(), WriteFailed>
+pub fn print_marks<W: Sink>(out: &mut Watched<W>, over: &[Placed]) -> Result<(), WriteFailed>
     ensures text { OnOk result (Prints W.contents out.old out.new (rows.marks (balls_of over.now))) }
     ensures failed { OnErr result (has_failed out.new ≡ true) }
 {

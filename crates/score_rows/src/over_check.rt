@@ -17,8 +17,7 @@ use crate::row::{print_batters, print_bowler, print_total};
 use cards::MatchSheet;
 use corrections::{BookOf, Placed, overs_of};
 use match_laws::{Extras, Match};
-use std::io::Write;
-use streams::{Watched, WriteFailed};
+use streams::{Sink, Watched, WriteFailed};
 
 /// All extras of an innings.
 fn all_extras(extras: &Extras) -> u64
@@ -29,7 +28,7 @@ fn all_extras(extras: &Extras) -> u64
 }
 
 /// Prints all extras, byes and leg byes.
-fn print_extras_front<W: Write>(out: &mut Watched<W>, extras: &Extras) -> Result<(), WriteFailed>
+fn print_extras_front<W: Sink>(out: &mut Watched<W>, extras: &Extras) -> Result<(), WriteFailed>
     ensures text { OnOk result (Prints W.contents out.old out.new (check.extras_front extras.now)) }
     ensures failed { OnErr result (has_failed out.new ≡ true) }
 {
@@ -40,7 +39,7 @@ fn print_extras_front<W: Write>(out: &mut Watched<W>, extras: &Extras) -> Result
 }
 
 /// Prints wides, no balls and penalty runs, to the end of the line.
-fn print_extras_back<W: Write>(out: &mut Watched<W>, extras: &Extras) -> Result<(), WriteFailed>
+fn print_extras_back<W: Sink>(out: &mut Watched<W>, extras: &Extras) -> Result<(), WriteFailed>
     ensures text { OnOk result (Prints W.contents out.old out.new (card.extras_back extras.now)) }
     ensures failed { OnErr result (has_failed out.new ≡ true) }
 {
@@ -51,7 +50,7 @@ fn print_extras_back<W: Write>(out: &mut Watched<W>, extras: &Extras) -> Result<
 }
 
 /// Prints the total and the extras.
-fn print_total_line<W: Write>(
+fn print_total_line<W: Sink>(
     out: &mut Watched<W>,
     sheet: &MatchSheet,
     score: &Match,
@@ -70,7 +69,7 @@ fn print_total_line<W: Write>(
 }
 
 /// Prints both batters.
-fn print_batters_line<W: Write>(
+fn print_batters_line<W: Sink>(
     out: &mut Watched<W>,
     sheet: &MatchSheet,
     score: &Match,
@@ -87,7 +86,7 @@ fn print_batters_line<W: Write>(
 }
 
 /// Prints the marks of an over, and all its runs.
-fn print_over<W: Write>(out: &mut Watched<W>, over: &[Placed]) -> Result<(), WriteFailed>
+fn print_over<W: Sink>(out: &mut Watched<W>, over: &[Placed]) -> Result<(), WriteFailed>
     requires { length over.now ≤ PLACES }
     ensures text { OnOk result (Prints W.contents out.old out.new (check.over_text (balls_of over.now))) }
     ensures failed { OnErr result (has_failed out.new ≡ true) }
@@ -99,7 +98,7 @@ fn print_over<W: Write>(out: &mut Watched<W>, over: &[Placed]) -> Result<(), Wri
 }
 
 /// Prints the bowler of the last delivery and its over, if there is one.
-fn print_over_line<W: Write, B: BookOf>(
+fn print_over_line<W: Sink, B: BookOf>(
     out: &mut Watched<W>,
     sheet: &MatchSheet,
     book: &B,
@@ -120,7 +119,7 @@ fn print_over_line<W: Write, B: BookOf>(
 }
 
 /// Prints the check of an over of an innings.
-fn print_lines<W: Write, B: BookOf>(
+fn print_lines<W: Sink, B: BookOf>(
     out: &mut Watched<W>,
     sheet: &MatchSheet,
     book: &B,
@@ -140,7 +139,7 @@ fn print_lines<W: Write, B: BookOf>(
 
 /// Prints what two scorers compare after an over: the total with the extras, both batters, and the bowler of the last
 /// delivery with its over.
-pub fn print_check<W: Write, B: BookOf>(
+pub fn print_check<W: Sink, B: BookOf>(
     out: &mut Watched<W>,
     sheet: &MatchSheet,
     book: &B,

@@ -14,8 +14,7 @@ ghost use Rattle.score_rows.specs.inner.Items as items;
 use ball_laws::counts;
 use corrections::{BookOf, Placed, bowler_of, overs_of};
 use notation::{Plain, Player};
-use std::io::Write;
-use streams::{Watched, WriteFailed};
+use streams::{Sink, Watched, WriteFailed};
 
 /// One, where the item is a delivery that counts.
 fn item_counts(item: &Plain) -> u32
@@ -82,7 +81,7 @@ pub fn is_uncalled(over: &[Placed]) -> bool
 }
 
 /// Prints that over isn't called, where a bowler began another one.
-fn print_uncalled<W: Write>(out: &mut Watched<W>, over: &[Placed]) -> Result<(), WriteFailed>
+fn print_uncalled<W: Sink>(out: &mut Watched<W>, over: &[Placed]) -> Result<(), WriteFailed>
     requires { length over.now ≤ PLACES }
     ensures text { OnOk result (Prints W.contents out.old out.new (rows.uncalled_text (balls_of over.now))) }
     ensures failed { OnErr result (has_failed out.new ≡ true) }
@@ -95,7 +94,7 @@ fn print_uncalled<W: Write>(out: &mut Watched<W>, over: &[Placed]) -> Result<(),
 }
 
 /// Prints how many deliveries of the open over count, from the sixth on.
-pub fn print_over_end<W: Write>(out: &mut Watched<W>, over: &[Placed]) -> Result<(), WriteFailed>
+pub fn print_over_end<W: Sink>(out: &mut Watched<W>, over: &[Placed]) -> Result<(), WriteFailed>
     requires { length over.now ≤ PLACES }
     ensures text { OnOk result (Prints W.contents out.old out.new (rows.over_end (balls_of over.now))) }
     ensures failed { OnErr result (has_failed out.new ≡ true) }
@@ -109,7 +108,7 @@ pub fn print_over_end<W: Write>(out: &mut Watched<W>, over: &[Placed]) -> Result
 }
 
 /// Prints, of an over that was called with another number of deliveries that count than six, that number.
-fn print_note<W: Write>(out: &mut Watched<W>, count: u32) -> Result<(), WriteFailed>
+fn print_note<W: Sink>(out: &mut Watched<W>, count: u32) -> Result<(), WriteFailed>
     ensures text { OnOk result (Prints W.contents out.old out.new (over_note count)) }
     ensures failed { OnErr result (has_failed out.new ≡ true) }
 {
@@ -121,7 +120,7 @@ fn print_note<W: Write>(out: &mut Watched<W>, count: u32) -> Result<(), WriteFai
 }
 
 /// Prints of the over of a book that was called last how many of its deliveries count, where they aren't six.
-pub fn print_over_note<W: Write, B: BookOf>(
+pub fn print_over_note<W: Sink, B: BookOf>(
     out: &mut Watched<W>,
     book: &B,
 ) -> Result<(), WriteFailed>

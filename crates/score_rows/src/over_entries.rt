@@ -19,11 +19,10 @@ use corrections::{BookOf, Placed};
 use match_laws::{Match, opponent};
 use notation::{Ball, Entry, Plain, Player, Side};
 use over_numbers::Count;
-use std::io::Write;
-use streams::{Watched, WriteFailed};
+use streams::{Sink, Watched, WriteFailed};
 
 /// Prints the over of the delivery that comes next, and its number there.
-fn print_number<W: Write>(out: &mut Watched<W>, count: Count) -> Result<(), WriteFailed>
+fn print_number<W: Sink>(out: &mut Watched<W>, count: Count) -> Result<(), WriteFailed>
     requires overs { count.overs ≤ PLACES }
     requires balls { count.balls ≤ PLACES }
     ensures text { OnOk result (Prints W.contents out.old out.new (over.ball_number count)) }
@@ -45,7 +44,7 @@ fn batter_name(sheet: &MatchSheet, side: Side, batter: Option<Player>) -> &str
 }
 
 /// Prints who bowls a delivery to whom.
-fn print_players<W: Write>(
+fn print_players<W: Sink>(
     out: &mut Watched<W>,
     sheet: &MatchSheet,
     side: Side,
@@ -61,7 +60,7 @@ fn print_players<W: Write>(
 }
 
 /// Prints a delivery, before which the innings had come so far, with this batter at the end that is bowled to.
-fn print_delivery<W: Write>(
+fn print_delivery<W: Sink>(
     out: &mut Watched<W>,
     sheet: &MatchSheet,
     side: Side,
@@ -80,7 +79,7 @@ fn print_delivery<W: Write>(
 }
 
 /// Prints an entry with its place, likewise.
-fn print_item<W: Write>(
+fn print_item<W: Sink>(
     out: &mut Watched<W>,
     sheet: &MatchSheet,
     side: Side,
@@ -106,7 +105,7 @@ fn print_item<W: Write>(
 }
 
 /// The same in a line, where it is of this over of an innings.
-fn print_if<W: Write>(
+fn print_if<W: Sink>(
     out: &mut Watched<W>,
     sheet: &MatchSheet,
     side: Side,
@@ -168,7 +167,7 @@ fn has_over(items: &[Placed], innings: usize, number: u32) -> bool
 }
 
 /// Prints the entries of an over of an innings.
-fn print_lines<W: Write, B: BookOf>(
+fn print_lines<W: Sink, B: BookOf>(
     out: &mut Watched<W>,
     sheet: &MatchSheet,
     book: &B,
@@ -196,7 +195,7 @@ fn print_lines<W: Write, B: BookOf>(
 }
 
 /// Prints the entries of an over of an innings, if it has any.
-fn print_over<W: Write, B: BookOf>(
+fn print_over<W: Sink, B: BookOf>(
     out: &mut Watched<W>,
     sheet: &MatchSheet,
     book: &B,
@@ -217,7 +216,7 @@ fn print_over<W: Write, B: BookOf>(
 }
 
 /// Prints the entries of an over of the innings begun last.
-pub fn print_over_last<W: Write, B: BookOf>(
+pub fn print_over_last<W: Sink, B: BookOf>(
     out: &mut Watched<W>,
     sheet: &MatchSheet,
     book: &B,
@@ -260,7 +259,7 @@ fn innings_among(score: &Match, side: Side, number: u8, innings: &[usize]) -> Op
 }
 
 /// Prints the entries of an over of a side's first or second innings.
-pub fn print_over_by_side<W: Write, B: BookOf>(
+pub fn print_over_by_side<W: Sink, B: BookOf>(
     out: &mut Watched<W>,
     sheet: &MatchSheet,
     book: &B,

@@ -20,11 +20,10 @@ use cards::MatchSheet;
 use corrections::{BookOf, Placed, bowler_of, overs_of};
 use match_laws::{BattingRow, BowlingRow, Match, opponent};
 use notation::{Player, Side};
-use std::io::Write;
-use streams::{Watched, WriteFailed};
+use streams::{Sink, Watched, WriteFailed};
 
 /// Prints a total and its wickets.
-fn print_runs<W: Write>(
+fn print_runs<W: Sink>(
     out: &mut Watched<W>,
     score: &Match,
     innings: usize,
@@ -40,7 +39,7 @@ fn print_runs<W: Write>(
 }
 
 /// Prints the side, where it is shown.
-fn print_team<W: Write>(
+fn print_team<W: Sink>(
     out: &mut Watched<W>,
     form: Form,
     sheet: &MatchSheet,
@@ -60,7 +59,7 @@ fn print_team<W: Write>(
 }
 
 /// Prints the side, its total and its wickets.
-pub fn print_total<W: Write>(
+pub fn print_total<W: Sink>(
     out: &mut Watched<W>,
     sheet: &MatchSheet,
     score: &Match,
@@ -76,7 +75,7 @@ pub fn print_total<W: Write>(
     print_runs(out, score, innings)
 }
 
-fn print_overs_front<W: Write>(
+fn print_overs_front<W: Sink>(
     out: &mut Watched<W>,
     score: &Match,
     innings: usize,
@@ -91,7 +90,7 @@ fn print_overs_front<W: Write>(
 }
 
 /// Prints the overs of an innings, of so many where they are limited.
-fn print_overs<W: Write>(
+fn print_overs<W: Sink>(
     out: &mut Watched<W>,
     form: Form,
     sheet: &MatchSheet,
@@ -109,7 +108,7 @@ fn print_overs<W: Write>(
 }
 
 /// Prints a batter's runs and the balls that he faced, with this mark behind.
-fn print_batter_figures<W: Write>(
+fn print_batter_figures<W: Sink>(
     out: &mut Watched<W>,
     row: &BattingRow,
     mark: &str,
@@ -124,7 +123,7 @@ fn print_batter_figures<W: Write>(
 }
 
 /// Prints who is at an end, with this mark behind.
-fn print_batter<W: Write>(
+fn print_batter<W: Sink>(
     out: &mut Watched<W>,
     form: Form,
     sheet: &MatchSheet,
@@ -153,7 +152,7 @@ fn print_batter<W: Write>(
 }
 
 /// Prints the striker.
-fn print_striker<W: Write>(
+fn print_striker<W: Sink>(
     out: &mut Watched<W>,
     form: Form,
     sheet: &MatchSheet,
@@ -172,7 +171,7 @@ fn print_striker<W: Write>(
 }
 
 /// Prints the batter at the other end.
-fn print_other<W: Write>(
+fn print_other<W: Sink>(
     out: &mut Watched<W>,
     form: Form,
     sheet: &MatchSheet,
@@ -191,7 +190,7 @@ fn print_other<W: Write>(
 }
 
 /// Prints the striker, and the batter at the other end.
-pub fn print_batters<W: Write>(
+pub fn print_batters<W: Sink>(
     out: &mut Watched<W>,
     form: Form,
     sheet: &MatchSheet,
@@ -209,7 +208,7 @@ pub fn print_batters<W: Write>(
 }
 
 /// Prints the overs that a bowler bowled, and his balls of other overs.
-fn print_overs_of<W: Write>(out: &mut Watched<W>, row: &BowlingRow) -> Result<(), WriteFailed>
+fn print_overs_of<W: Sink>(out: &mut Watched<W>, row: &BowlingRow) -> Result<(), WriteFailed>
     ensures text { OnOk result (Prints W.contents out.old out.new (overs_of row.now)) }
     ensures failed { OnErr result (has_failed out.new ≡ true) }
 {
@@ -219,7 +218,7 @@ fn print_overs_of<W: Write>(out: &mut Watched<W>, row: &BowlingRow) -> Result<()
 }
 
 /// Prints a bowler's maidens, runs and wickets.
-fn print_behind_overs<W: Write>(out: &mut Watched<W>, row: &BowlingRow) -> Result<(), WriteFailed>
+fn print_behind_overs<W: Sink>(out: &mut Watched<W>, row: &BowlingRow) -> Result<(), WriteFailed>
     ensures text { OnOk result (Prints W.contents out.old out.new (rows.behind_overs row.now)) }
     ensures failed { OnErr result (has_failed out.new ≡ true) }
 {
@@ -230,7 +229,7 @@ fn print_behind_overs<W: Write>(out: &mut Watched<W>, row: &BowlingRow) -> Resul
 }
 
 /// Prints a bowler's overs, maidens, runs and wickets.
-fn print_figures<W: Write>(out: &mut Watched<W>, row: &BowlingRow) -> Result<(), WriteFailed>
+fn print_figures<W: Sink>(out: &mut Watched<W>, row: &BowlingRow) -> Result<(), WriteFailed>
     ensures text { OnOk result (Prints W.contents out.old out.new (rows.figures row.now)) }
     ensures failed { OnErr result (has_failed out.new ≡ true) }
 {
@@ -239,7 +238,7 @@ fn print_figures<W: Write>(out: &mut Watched<W>, row: &BowlingRow) -> Result<(),
 }
 
 /// Prints a bowler of the side, by his row.
-fn print_bowler_row<W: Write>(
+fn print_bowler_row<W: Sink>(
     out: &mut Watched<W>,
     form: Form,
     sheet: &MatchSheet,
@@ -256,7 +255,7 @@ fn print_bowler_row<W: Write>(
 }
 
 /// Prints who bowled the last delivery, if there is one.
-pub fn print_bowler<W: Write>(
+pub fn print_bowler<W: Sink>(
     out: &mut Watched<W>,
     form: Form,
     sheet: &MatchSheet,
@@ -285,7 +284,7 @@ pub fn print_bowler<W: Write>(
 }
 
 /// Prints that older marks are left out, where they are.
-fn print_left_out<W: Write>(out: &mut Watched<W>, is_all: bool) -> Result<(), WriteFailed>
+fn print_left_out<W: Sink>(out: &mut Watched<W>, is_all: bool) -> Result<(), WriteFailed>
     ensures text { OnOk result (Prints W.contents out.old out.new (rows.left_out is_all)) }
     ensures failed { OnErr result (has_failed out.new ≡ true) }
 {
@@ -293,7 +292,7 @@ fn print_left_out<W: Write>(out: &mut Watched<W>, is_all: bool) -> Result<(), Wr
 }
 
 /// Prints the marks of the open over: all, or these.
-fn print_open_marks<W: Write>(
+fn print_open_marks<W: Sink>(
     out: &mut Watched<W>,
     over: &[Placed],
     is_all: bool,
@@ -312,7 +311,7 @@ fn print_open_marks<W: Write>(
 }
 
 /// Prints the bowler of the last delivery, and whether he is past his overs.
-fn print_bowling<W: Write, B: BookOf>(
+fn print_bowling<W: Sink, B: BookOf>(
     out: &mut Watched<W>,
     form: Form,
     sheet: &MatchSheet,
@@ -331,7 +330,7 @@ fn print_bowling<W: Write, B: BookOf>(
 }
 
 /// Prints the row of an innings, behind its batters.
-fn print_back<W: Write, B: BookOf>(
+fn print_back<W: Sink, B: BookOf>(
     out: &mut Watched<W>,
     form: Form,
     is_all: bool,
@@ -356,7 +355,7 @@ fn print_back<W: Write, B: BookOf>(
 
 /// Prints the row of an innings, to its batters.
 #[tactic(auto, unfolding(crate::specs::Row::front))]
-fn print_front<W: Write>(
+fn print_front<W: Sink>(
     out: &mut Watched<W>,
     form: Form,
     sheet: &MatchSheet,
@@ -376,7 +375,7 @@ fn print_front<W: Write>(
 }
 
 /// Prints the row of an innings, with all marks of the open over or with these.
-fn print_line<W: Write, B: BookOf>(
+fn print_line<W: Sink, B: BookOf>(
     out: &mut Watched<W>,
     form: Form,
     is_all: bool,
@@ -396,7 +395,7 @@ fn print_line<W: Write, B: BookOf>(
 
 /// Prints the row of an innings in a form: all of it, or with the marks that there is room for.
 #[tactic(auto, unfolding(crate::specs::Row::line_in, crate::specs::Row::whole_line, crate::specs::Row::short_line))]
-fn print_line_in<W: Write, B: BookOf>(
+fn print_line_in<W: Sink, B: BookOf>(
     out: &mut Watched<W>,
     form: Form,
     sheet: &MatchSheet,
@@ -417,7 +416,7 @@ fn print_line_in<W: Write, B: BookOf>(
 }
 
 /// Prints what is told of limits and has no room in a row.
-fn print_limits_below<W: Write, B: BookOf>(
+fn print_limits_below<W: Sink, B: BookOf>(
     out: &mut Watched<W>,
     form: Form,
     sheet: &MatchSheet,
@@ -436,7 +435,7 @@ fn print_limits_below<W: Write, B: BookOf>(
 }
 
 /// Prints the row of an innings, and those below it.
-fn print_innings<W: Write, B: BookOf>(
+fn print_innings<W: Sink, B: BookOf>(
     out: &mut Watched<W>,
     sheet: &MatchSheet,
     book: &B,
@@ -460,7 +459,7 @@ fn print_innings<W: Write, B: BookOf>(
 /// players' names are cut, down to four letters (numbers tell apart two batters whose names then look alike), then of how many overs the innings is, then what is told of limits stands
 /// on rows below, then the oldest marks of the over are left out. Below stand too what is needed in a chase of limited
 /// overs, and the result.
-pub fn print_row<W: Write, B: BookOf>(
+pub fn print_row<W: Sink, B: BookOf>(
     out: &mut Watched<W>,
     sheet: &MatchSheet,
     book: &B,

@@ -8,8 +8,7 @@ ghost use Rattle.screen.specs.Both.{both_cards, cards_number, cards_of, headed_c
 
 use cards::{MatchSheet, batting_card, bowling_card};
 use corrections::BookOf;
-use std::io::Write;
-use streams::{Watched, WriteFailed};
+use streams::{Sink, Watched, WriteFailed};
 
 /// What stands over the columns of the batting card.
 const BATTING_HEAD: &str =
@@ -19,7 +18,7 @@ const BATTING_HEAD: &str =
 const BOWLING_HEAD: &str = "bowling               O   M    R   W  Wd  Nb\n";
 
 /// Prints both cards of an innings.
-fn print_innings<W: Write, B: BookOf>(
+fn print_innings<W: Sink, B: BookOf>(
     out: &mut Watched<W>,
     sheet: &MatchSheet,
     book: &B,
@@ -36,7 +35,7 @@ fn print_innings<W: Write, B: BookOf>(
 }
 
 /// Prints both cards of an innings, with a line over their columns.
-fn print_headed<W: Write, B: BookOf>(
+fn print_headed<W: Sink, B: BookOf>(
     out: &mut Watched<W>,
     sheet: &MatchSheet,
     book: &B,
@@ -55,7 +54,7 @@ fn print_headed<W: Write, B: BookOf>(
 }
 
 /// Prints both cards of the innings with this number, from 1, if it has begun.
-pub fn print_cards_of<W: Write, B: BookOf>(
+pub fn print_cards_of<W: Sink, B: BookOf>(
     out: &mut Watched<W>,
     sheet: &MatchSheet,
     book: &B,
@@ -73,7 +72,7 @@ pub fn print_cards_of<W: Write, B: BookOf>(
 }
 
 /// Prints both cards of the innings begun last.
-pub fn print_cards<W: Write, B: BookOf>(
+pub fn print_cards<W: Sink, B: BookOf>(
     out: &mut Watched<W>,
     sheet: &MatchSheet,
     book: &B,

@@ -6,8 +6,7 @@ ghost use Rattle.streams.specs.Watched.{Prints, has_failed};
 ghost use Rattle.screen.specs.Near as near;
 
 use notation::Tokens;
-use std::io::Write;
-use streams::{Watched, WriteFailed};
+use streams::{Sink, Watched, WriteFailed};
 
 /// The words that a scorer may type, and the first of the marks.
 const VOCABULARY: &str =
@@ -85,7 +84,7 @@ fn is_near(token: &str, word: &str) -> bool
 }
 
 /// Prints a near word.
-fn print_word<W: Write>(out: &mut Watched<W>, is_first: bool, word: &str) -> Result<(), WriteFailed>
+fn print_word<W: Sink>(out: &mut Watched<W>, is_first: bool, word: &str) -> Result<(), WriteFailed>
     ensures text { OnOk result (Prints W.contents out.old out.new (near.before_near is_first ++ word.now)) }
     ensures failed { OnErr result (has_failed out.new ≡ true) }
 {
@@ -97,7 +96,7 @@ fn print_word<W: Write>(out: &mut Watched<W>, is_first: bool, word: &str) -> Res
 }
 
 /// Prints those of these words that are near, the first ones, so many at most.
-fn print_nearest<W: Write>(
+fn print_nearest<W: Sink>(
     out: &mut Watched<W>,
     token: &str,
     words: &mut Tokens<'_>,
@@ -130,7 +129,7 @@ fn vocabulary() -> &'static str
 }
 
 /// Prints all that are near, three at most.
-fn print_all_near<W: Write>(out: &mut Watched<W>, token: &str) -> Result<(), WriteFailed>
+fn print_all_near<W: Sink>(out: &mut Watched<W>, token: &str) -> Result<(), WriteFailed>
     ensures text { OnOk result (Prints W.contents out.old out.new
         (near.near_text true (near.nearest 3 token.now (tokens near.vocabulary)))) }
     ensures failed { OnErr result (has_failed out.new ≡ true) }
@@ -139,7 +138,7 @@ fn print_all_near<W: Write>(out: &mut Watched<W>, token: &str) -> Result<(), Wri
 }
 
 /// Prints that a word stands where another must, and up to three that are near it.
-pub fn print_unknown<W: Write>(out: &mut Watched<W>, token: &str) -> Result<(), WriteFailed>
+pub fn print_unknown<W: Sink>(out: &mut Watched<W>, token: &str) -> Result<(), WriteFailed>
     ensures text { OnOk result (Prints W.contents out.old out.new (near.unknown_text token.now)) }
     ensures failed { OnErr result (has_failed out.new ≡ true) }
 {

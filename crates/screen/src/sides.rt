@@ -10,11 +10,10 @@ ghost use Rattle.screen.specs.inner.Numbers.{is_number};
 
 use cards::MatchSheet;
 use notation::{Player, Side};
-use std::io::Write;
-use streams::{Watched, WriteFailed};
+use streams::{Sink, Watched, WriteFailed};
 
 /// Prints a player by number and name, behind a comma unless he is the first.
-pub fn print_player<W: Write>(
+pub fn print_player<W: Sink>(
     out: &mut Watched<W>,
     sheet: &MatchSheet,
     side: Side,
@@ -50,7 +49,7 @@ fn before_player(column: u8) -> &'static str
 }
 
 /// Prints a player by number and name, at this place of a row of three.
-pub fn print_next<W: Write>(
+pub fn print_next<W: Sink>(
     out: &mut Watched<W>,
     sheet: &MatchSheet,
     side: Side,
@@ -67,7 +66,7 @@ pub fn print_next<W: Write>(
 }
 
 /// Prints the players of these numbers, three in a row.
-fn print_each<W: Write>(
+fn print_each<W: Sink>(
     out: &mut Watched<W>,
     sheet: &MatchSheet,
     side: Side,
@@ -91,7 +90,7 @@ fn print_each<W: Write>(
 }
 
 /// Prints all players of a side.
-fn print_all<W: Write>(
+fn print_all<W: Sink>(
     out: &mut Watched<W>,
     sheet: &MatchSheet,
     side: Side,
@@ -103,7 +102,7 @@ fn print_all<W: Write>(
     print_each(out, sheet, side, 0, &[1, 2, 3, 4, 5, 6, 7, 8, 9, 10, 11])
 }
 
-fn print_side<W: Write>(
+fn print_side<W: Sink>(
     out: &mut Watched<W>,
     sheet: &MatchSheet,
     side: Side,
@@ -118,7 +117,7 @@ fn print_side<W: Write>(
 }
 
 /// Prints both sides, with the players' numbers and names, three in a row.
-pub fn print_sides<W: Write>(out: &mut Watched<W>, sheet: &MatchSheet) -> Result<(), WriteFailed>
+pub fn print_sides<W: Sink>(out: &mut Watched<W>, sheet: &MatchSheet) -> Result<(), WriteFailed>
     ensures text { OnOk result (Prints W.contents out.old out.new (sides.both_sides sheet.now)) }
     ensures failed { OnErr result (has_failed out.new ≡ true) }
 {

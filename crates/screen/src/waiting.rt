@@ -15,8 +15,7 @@ use cards::MatchSheet;
 use corrections::BookOf;
 use match_laws::{Fate, Match};
 use notation::{Player, Side};
-use std::io::Write;
-use streams::{Watched, WriteFailed};
+use streams::{Sink, Watched, WriteFailed};
 
 /// Whether he hasn't come in yet, or is retired hurt.
 fn waits(fate: Option<Fate>) -> bool
@@ -26,7 +25,7 @@ fn waits(fate: Option<Fate>) -> bool
 }
 
 /// Prints those of the players of these numbers who wait.
-fn print_those<W: Write>(
+fn print_those<W: Sink>(
     out: &mut Watched<W>,
     sheet: &MatchSheet,
     score: &Match,
@@ -56,7 +55,7 @@ fn print_those<W: Write>(
 
 /// Prints all of a side who wait.
 #[tactic(auto, unfolding(crate::specs::Waiting::all_waiting))]
-fn print_all<W: Write>(
+fn print_all<W: Sink>(
     out: &mut Watched<W>,
     sheet: &MatchSheet,
     score: &Match,
@@ -72,7 +71,7 @@ fn print_all<W: Write>(
 }
 
 /// Prints the name of a side, before those who wait.
-fn print_head<W: Write>(
+fn print_head<W: Sink>(
     out: &mut Watched<W>,
     sheet: &MatchSheet,
     side: Side,
@@ -85,7 +84,7 @@ fn print_head<W: Write>(
 }
 
 /// Prints the side that bats in an innings, and who of it waits.
-fn print_lines<W: Write, B: BookOf>(
+fn print_lines<W: Sink, B: BookOf>(
     out: &mut Watched<W>,
     sheet: &MatchSheet,
     book: &B,
@@ -103,7 +102,7 @@ fn print_lines<W: Write, B: BookOf>(
 }
 
 /// Prints who of the side that bats isn't out and isn't in, three in a row.
-pub fn print_waiting<W: Write, B: BookOf>(
+pub fn print_waiting<W: Sink, B: BookOf>(
     out: &mut Watched<W>,
     sheet: &MatchSheet,
     book: &B,

@@ -11,8 +11,7 @@ use desk::OpenRefusal;
 use machine_files::WriteFault;
 use schedules::ScheduleFault;
 use std::alloc::AllocError;
-use std::io::Write;
-use streams::{InputFault, Watched, WriteFailed};
+use streams::{InputFault, Sink, Watched, WriteFailed};
 
 /// How many turns each station of a match has for a place at most.
 pub const TURNS: usize = 50;
@@ -185,7 +184,7 @@ impl<'a> Stopped<'a> {
     }
 }
 
-fn print_sheet_fault<W: Write>(out: &mut Watched<W>, why: SheetFault) -> Result<(), WriteFailed>
+fn print_sheet_fault<W: Sink>(out: &mut Watched<W>, why: SheetFault) -> Result<(), WriteFailed>
     ensures text { OnOk result (Prints W.contents out.old out.new (texts.sheet_line why)) }
     ensures failed { TellsFailure result out.old out.new }
 {
@@ -195,7 +194,7 @@ fn print_sheet_fault<W: Write>(out: &mut Watched<W>, why: SheetFault) -> Result<
     }
 }
 
-fn print_schedule_fault<W: Write>(
+fn print_schedule_fault<W: Sink>(
     out: &mut Watched<W>,
     why: ScheduleFault,
 ) -> Result<(), WriteFailed>
@@ -208,7 +207,7 @@ fn print_schedule_fault<W: Write>(
     }
 }
 
-fn print_votes_fault<W: Write>(
+fn print_votes_fault<W: Sink>(
     out: &mut Watched<W>,
     why: vote_store::Refusal,
 ) -> Result<(), WriteFailed>
@@ -224,7 +223,7 @@ fn print_votes_fault<W: Write>(
     }
 }
 
-fn print_named_votes_fault<W: Write>(
+fn print_named_votes_fault<W: Sink>(
     out: &mut Watched<W>,
     path: &str,
     why: vote_store::Refusal,
@@ -241,7 +240,7 @@ fn print_named_votes_fault<W: Write>(
     }
 }
 
-fn print_not_agreed<W: Write>(
+fn print_not_agreed<W: Sink>(
     out: &mut Watched<W>,
     place: u32,
     turns: usize,
@@ -253,7 +252,7 @@ fn print_not_agreed<W: Write>(
 }
 
 /// Which file can't be written, and why.
-fn print_file_fault<W: Write>(
+fn print_file_fault<W: Sink>(
     out: &mut Watched<W>,
     path: &str,
     fault: WriteFault,
@@ -266,7 +265,7 @@ fn print_file_fault<W: Write>(
 }
 
 /// The same of a desk that ran, and what its scorer is to do.
-fn print_loss<W: Write>(
+fn print_loss<W: Sink>(
     out: &mut Watched<W>,
     path: &str,
     fault: WriteFault,
@@ -282,7 +281,7 @@ fn print_loss<W: Write>(
 }
 
 /// The same of its copy, and how it goes on without that.
-fn print_copy_loss<W: Write>(
+fn print_copy_loss<W: Sink>(
     out: &mut Watched<W>,
     path: &str,
     fault: WriteFault,
@@ -298,11 +297,7 @@ fn print_copy_loss<W: Write>(
 }
 
 /// Which file has no key, and why.
-fn print_no_key<W: Write>(
-    out: &mut Watched<W>,
-    path: &str,
-    why: KeyFault,
-) -> Result<(), WriteFailed>
+fn print_no_key<W: Sink>(out: &mut Watched<W>, path: &str, why: KeyFault) -> Result<(), WriteFailed>
     ensures text { OnOk result (Prints W.contents out.old out.new (texts.no_key_line path.now why)) }
     ensures failed { TellsFailure result out.old out.new }
 {
@@ -312,7 +307,7 @@ fn print_no_key<W: Write>(
 
 /// Prints what standard error has of a fault. `path` is the file or the address that was at work, `-` for a standard
 /// stream.
-pub fn print_fault<W: Write>(
+pub fn print_fault<W: Sink>(
     out: &mut Watched<W>,
     path: &str,
     fault: StopFault,

@@ -7,8 +7,7 @@ ghost use Rattle.setup.specs.SheetText.{IsSheetFault, Tells};
 use crate::fault::StopFault;
 use cards::{MatchSheet, SheetFault, read_sheet};
 use std::alloc::Global;
-use std::io::Read;
-use streams::{InputFault, LONGEST_INPUT, Watched, read_all};
+use streams::{Feed, InputFault, LONGEST_INPUT, Watched, read_all};
 
 /// Why no match sheet is read.
 #[derive(Clone, Copy, Debug, PartialEq, Eq)]
@@ -62,7 +61,7 @@ impl From<NoSheet> for StopFault {
 }
 
 /// Reads a match sheet to the end of its file. A sheet that is refused is so with its first fault.
-pub fn sheet_run<R: Read>(alloc: Global, reader: &mut Watched<R>) -> Result<MatchSheet, NoSheet>
+pub fn sheet_run<R: Feed>(alloc: Global, reader: &mut Watched<R>) -> Result<MatchSheet, NoSheet>
     ensures told { IfSome (R.remaining (stream_of reader.old)) (λ bytes. Tells bytes result) }
     ensures only { IfErr result IsSheetFault }
     ensures read { result ≡ Err NoSheet.Read → MeetsFailure reader.old reader.new

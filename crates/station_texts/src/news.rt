@@ -12,12 +12,11 @@ use crate::warned::Warned;
 use agree_core::Heard;
 use cards::MatchSheet;
 use corrections::BookOf;
-use std::io::Write;
-use streams::{Watched, WriteFailed};
+use streams::{Sink, Watched, WriteFailed};
 use wire::What;
 
 /// Prints a text of a peer, unless it was told.
-fn print_warning<W: Write>(
+fn print_warning<W: Sink>(
     out: &mut Watched<W>,
     is_told: bool,
     text: &str,
@@ -32,7 +31,7 @@ fn print_warning<W: Write>(
 }
 
 /// Prints why bytes that came are no message of the match, unless it was told.
-fn print_bad<W: Write>(
+fn print_bad<W: Sink>(
     out: &mut Watched<W>,
     is_told: bool,
     fault: wire::WireFault,
@@ -49,7 +48,7 @@ fn print_bad<W: Write>(
 }
 
 /// Prints that the other desk's file lacks lines, where what came shows it, unless it was told.
-fn print_loss<W: Write>(out: &mut Watched<W>, warned: Warned, loss: bool) -> Result<(), WriteFailed>
+fn print_loss<W: Sink>(out: &mut Watched<W>, warned: Warned, loss: bool) -> Result<(), WriteFailed>
     ensures text { OnOk result (Prints W.contents out.old out.new (texts.loss_text warned loss)) }
     ensures failed { OnErr result (has_failed out.new ≡ true) }
 {
@@ -64,7 +63,7 @@ fn print_loss<W: Write>(out: &mut Watched<W>, warned: Warned, loss: bool) -> Res
 }
 
 /// Prints what a vote that came at this place came to, where it is news: of both votes, the desk's own was there before.
-fn print_heard<B: BookOf, W: Write>(
+fn print_heard<B: BookOf, W: Sink>(
     out: &mut Watched<W>,
     sheet: &MatchSheet,
     place: u32,
@@ -92,7 +91,7 @@ fn print_heard<B: BookOf, W: Write>(
 }
 
 /// Prints what came of bytes at this place, where it is news.
-fn print_news<B: BookOf, W: Write>(
+fn print_news<B: BookOf, W: Sink>(
     out: &mut Watched<W>,
     sheet: &MatchSheet,
     place: u32,
@@ -117,7 +116,7 @@ fn print_news<B: BookOf, W: Write>(
 }
 
 /// Tells the scorer at once what came of bytes at this place, where it is news.
-pub fn print_came<B: BookOf, W: Write>(
+pub fn print_came<B: BookOf, W: Sink>(
     out: &mut Watched<W>,
     sheet: &MatchSheet,
     place: u32,
@@ -138,7 +137,7 @@ pub fn print_came<B: BookOf, W: Write>(
 }
 
 /// Tells the scorer at once that bytes came that don't open, unless it was told.
-pub fn print_unopened<W: Write>(out: &mut Watched<W>, warned: Warned) -> Result<(), WriteFailed>
+pub fn print_unopened<W: Sink>(out: &mut Watched<W>, warned: Warned) -> Result<(), WriteFailed>
     ensures text { OnOk result (Prints W.contents out.old out.new (texts.unopened_text warned)) }
     ensures failed { OnErr result (has_failed out.new ≡ true) }
 {
@@ -147,7 +146,7 @@ pub fn print_unopened<W: Write>(out: &mut Watched<W>, warned: Warned) -> Result<
 }
 
 /// Prints this of the other desk, at this place.
-fn print_of_other<W: Write>(
+fn print_of_other<W: Sink>(
     out: &mut Watched<W>,
     place: u32,
     reminder: Reminder,
@@ -163,7 +162,7 @@ fn print_of_other<W: Write>(
 }
 
 /// Tells the scorer this of the other desk, at this place.
-pub fn print_reminder<W: Write>(
+pub fn print_reminder<W: Sink>(
     out: &mut Watched<W>,
     place: u32,
     reminder: Reminder,

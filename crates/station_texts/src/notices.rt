@@ -7,8 +7,7 @@ ghost use Rattle.station_texts.specs.Notices as texts;
 use crate::warned::Warned;
 use agree_core::Heard;
 use board::BoardRefusal;
-use std::io::Write;
-use streams::{Watched, WriteFailed};
+use streams::{Sink, Watched, WriteFailed};
 use wire::{What, WireFault};
 
 /// What a board can't take.
@@ -37,7 +36,7 @@ pub trait Notices {
 }
 
 /// Prints a notice, on a line of its own.
-pub fn print_notice<W: Write>(out: &mut Watched<W>, notice: Notice) -> Result<(), WriteFailed>
+pub fn print_notice<W: Sink>(out: &mut Watched<W>, notice: Notice) -> Result<(), WriteFailed>
     ensures text { OnOk result (Prints W.contents out.old out.new (texts.notice_text notice)) }
     ensures failed { OnErr result (has_failed out.new ≡ true) }
 {

@@ -13,11 +13,10 @@ use cards::MatchSheet;
 use notation::{LineFault, Player, Side};
 use screen::{fault_sentence, print_player, print_unknown};
 use shorthand::{Letter, Unaided, Unclear, has_beginning};
-use std::io::Write;
-use streams::{Watched, WriteFailed};
+use streams::{Sink, Watched, WriteFailed};
 
 /// Prints a line's fault.
-pub fn print_fault<W: Write>(out: &mut Watched<W>, fault: LineFault) -> Result<(), WriteFailed>
+pub fn print_fault<W: Sink>(out: &mut Watched<W>, fault: LineFault) -> Result<(), WriteFailed>
     ensures text { OnOk result (Prints W.contents out.old out.new (questions.fault_text fault)) }
     ensures failed { OnErr result (has_failed out.new ≡ true) }
 {
@@ -27,7 +26,7 @@ pub fn print_fault<W: Write>(out: &mut Watched<W>, fault: LineFault) -> Result<(
 }
 
 /// Prints those of these players who have a word that begins so.
-fn print_those<W: Write>(
+fn print_those<W: Sink>(
     out: &mut Watched<W>,
     sheet: &MatchSheet,
     side: Side,
@@ -55,7 +54,7 @@ fn print_those<W: Write>(
 }
 
 /// Prints all players of a side who have a word that begins so.
-fn print_all<W: Write>(
+fn print_all<W: Sink>(
     out: &mut Watched<W>,
     sheet: &MatchSheet,
     side: Side,
@@ -70,7 +69,7 @@ fn print_all<W: Write>(
 }
 
 /// Prints whom of a side a name may mean.
-fn print_candidates<W: Write>(
+fn print_candidates<W: Sink>(
     out: &mut Watched<W>,
     sheet: &MatchSheet,
     side: Side,
@@ -88,7 +87,7 @@ fn print_candidates<W: Write>(
 }
 
 /// Prints that no player has such a name.
-fn print_no_such<W: Write>(out: &mut Watched<W>, name: &str) -> Result<(), WriteFailed>
+fn print_no_such<W: Sink>(out: &mut Watched<W>, name: &str) -> Result<(), WriteFailed>
     ensures text { OnOk result (Prints W.contents out.old out.new
         (codes "no such player: " ++ name.now ++ codes "\n")) }
     ensures failed { OnErr result (has_failed out.new ≡ true) }
@@ -97,7 +96,7 @@ fn print_no_such<W: Write>(out: &mut Watched<W>, name: &str) -> Result<(), Write
 }
 
 /// Prints that the innings begun last has no such delivery.
-fn print_no_such_ball<W: Write>(out: &mut Watched<W>, name: &str) -> Result<(), WriteFailed>
+fn print_no_such_ball<W: Sink>(out: &mut Watched<W>, name: &str) -> Result<(), WriteFailed>
     ensures text { OnOk result (Prints W.contents out.old out.new
         (codes "no such ball: " ++ name.now ++ codes "\n")) }
     ensures failed { OnErr result (has_failed out.new ≡ true) }
@@ -106,7 +105,7 @@ fn print_no_such_ball<W: Write>(out: &mut Watched<W>, name: &str) -> Result<(), 
 }
 
 /// Prints both meanings of a letter.
-fn print_meanings<W: Write>(out: &mut Watched<W>, letter: Letter) -> Result<(), WriteFailed>
+fn print_meanings<W: Sink>(out: &mut Watched<W>, letter: Letter) -> Result<(), WriteFailed>
     ensures text { OnOk result (Prints W.contents out.old out.new (questions.meanings letter)) }
     ensures failed { OnErr result (has_failed out.new ≡ true) }
 {
@@ -117,7 +116,7 @@ fn print_meanings<W: Write>(out: &mut Watched<W>, letter: Letter) -> Result<(), 
 }
 
 /// Prints that no fielder has a part in this way of being out.
-fn print_no_fielder<W: Write>(
+fn print_no_fielder<W: Sink>(
     out: &mut Watched<W>,
     how: Unaided,
     name: &str,
@@ -133,7 +132,7 @@ fn print_no_fielder<W: Write>(
 }
 
 /// Prints what isn't clear in a line.
-pub fn print_unclear<W: Write>(
+pub fn print_unclear<W: Sink>(
     out: &mut Watched<W>,
     sheet: &MatchSheet,
     unclear: &Unclear,

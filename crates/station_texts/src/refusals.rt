@@ -15,11 +15,10 @@ use desk::Refusal;
 use match_laws::LawRefusal;
 use notation::{Entry, Plain, line_of};
 use screen::refusal_sentence;
-use std::io::Write;
-use streams::{Watched, WriteFailed};
+use streams::{Sink, Watched, WriteFailed};
 
 /// Prints the number and the name of a refusal, and its sentence.
-fn print_explained<W: Write>(out: &mut Watched<W>, why: Refusal) -> Result<(), WriteFailed>
+fn print_explained<W: Sink>(out: &mut Watched<W>, why: Refusal) -> Result<(), WriteFailed>
     ensures text { OnOk result (Prints W.contents out.old out.new
         (explained (codes "refused") (number_of why) (name_of why) (of_desk why))) }
     ensures failed { OnErr result (has_failed out.new ≡ true) }
@@ -30,7 +29,7 @@ fn print_explained<W: Write>(out: &mut Watched<W>, why: Refusal) -> Result<(), W
 }
 
 /// Prints why an entry is refused. A failed disk isn't told here.
-pub fn print_refused<W: Write>(out: &mut Watched<W>, why: Refusal) -> Result<(), WriteFailed>
+pub fn print_refused<W: Sink>(out: &mut Watched<W>, why: Refusal) -> Result<(), WriteFailed>
     ensures text { OnOk result (Prints W.contents out.old out.new (texts.refused_text why)) }
     ensures failed { OnErr result (has_failed out.new ≡ true) }
 {
@@ -45,7 +44,7 @@ pub fn print_refused<W: Write>(out: &mut Watched<W>, why: Refusal) -> Result<(),
 }
 
 /// Prints the place that a correction leaves refused, and the cause, by their numbers.
-fn print_later_numbers<W: Write>(
+fn print_later_numbers<W: Sink>(
     out: &mut Watched<W>,
     place: u32,
     why: LawRefusal,
@@ -58,7 +57,7 @@ fn print_later_numbers<W: Write>(
 }
 
 /// Prints what would stand at the place, and why that is refused.
-fn print_later_words<W: Write>(
+fn print_later_words<W: Sink>(
     out: &mut Watched<W>,
     place: u32,
     item: Plain,
@@ -75,7 +74,7 @@ fn print_later_words<W: Write>(
 }
 
 /// Prints the place that a correction leaves refused, with what would stand there, and why.
-fn print_later<B: BookOf, W: Write>(
+fn print_later<B: BookOf, W: Sink>(
     out: &mut Watched<W>,
     book: &B,
     entry: &Entry,
@@ -93,7 +92,7 @@ fn print_later<B: BookOf, W: Write>(
 }
 
 /// Prints why an entry is refused; of a correction, the first place that it leaves refused, with what would stand there.
-pub fn print_refused_entry<B: BookOf, W: Write>(
+pub fn print_refused_entry<B: BookOf, W: Sink>(
     out: &mut Watched<W>,
     book: &B,
     entry: &Entry,

@@ -27,11 +27,10 @@ use score_rows::{
 use screen::{
     HELP, Word, help_on, print_cards, print_cards_of, print_sides, print_waiting, refusal_sentence,
 };
-use std::io::Write;
-use streams::{Watched, WriteFailed};
+use streams::{Sink, Watched, WriteFailed};
 
 /// Prints a place, and what is told of it.
-pub fn print_at<W: Write>(out: &mut Watched<W>, place: u32, words: &str) -> Result<(), WriteFailed>
+pub fn print_at<W: Sink>(out: &mut Watched<W>, place: u32, words: &str) -> Result<(), WriteFailed>
     ensures text { OnOk result (Prints W.contents out.old out.new (texts.at_place place words.now)) }
     ensures failed { OnErr result (has_failed out.new ≡ true) }
 {
@@ -46,7 +45,7 @@ fn is_over(entry: &Entry) -> bool
 }
 
 /// Prints how many overs were called in the innings begun last.
-fn print_called<W: Write>(out: &mut Watched<W>, score: &Match) -> Result<(), WriteFailed>
+fn print_called<W: Sink>(out: &mut Watched<W>, score: &Match) -> Result<(), WriteFailed>
     ensures text { ForEachHistory score.now (λ n h.
         OnOk result (Prints W.contents out.old out.new (texts.over_called h))) }
     ensures failed { OnErr result (has_failed out.new ≡ true) }
@@ -60,7 +59,7 @@ fn print_called<W: Write>(out: &mut Watched<W>, score: &Match) -> Result<(), Wri
 }
 
 /// Prints that an entry is agreed at this place.
-fn print_line<W: Write>(out: &mut Watched<W>, place: u32, entry: &Entry) -> Result<(), WriteFailed>
+fn print_line<W: Sink>(out: &mut Watched<W>, place: u32, entry: &Entry) -> Result<(), WriteFailed>
     requires { IsEntry entry.now }
     ensures text { OnOk result (Prints W.contents out.old out.new
         (texts.agreed_line place entry.now)) }
@@ -73,7 +72,7 @@ fn print_line<W: Write>(out: &mut Watched<W>, place: u32, entry: &Entry) -> Resu
 
 /// Prints that an over is agreed at this place, how many of its deliveries count where they aren't six, the result of a
 /// match that is decided, and the check of the over.
-fn print_over<B: BookOf, W: Write>(
+fn print_over<B: BookOf, W: Sink>(
     out: &mut Watched<W>,
     sheet: &MatchSheet,
     place: u32,
@@ -95,7 +94,7 @@ fn print_over<B: BookOf, W: Write>(
 }
 
 /// Prints that an entry but `over` is agreed at this place, and how the match stands.
-fn print_play<B: BookOf, W: Write>(
+fn print_play<B: BookOf, W: Sink>(
     out: &mut Watched<W>,
     sheet: &MatchSheet,
     place: u32,
@@ -113,7 +112,7 @@ fn print_play<B: BookOf, W: Write>(
 }
 
 /// Prints that an entry is agreed at this place, and what it brought.
-fn print_entry<B: BookOf, W: Write>(
+fn print_entry<B: BookOf, W: Sink>(
     out: &mut Watched<W>,
     sheet: &MatchSheet,
     place: u32,
@@ -146,7 +145,7 @@ fn entry_at<B: BookOf>(book: &B, place: u32) -> Option<Entry>
 }
 
 /// Prints that a place is agreed, where the book has its entry, and what it brought.
-fn print_agreed_at<B: BookOf, W: Write>(
+fn print_agreed_at<B: BookOf, W: Sink>(
     out: &mut Watched<W>,
     sheet: &MatchSheet,
     place: u32,
@@ -164,7 +163,7 @@ fn print_agreed_at<B: BookOf, W: Write>(
 }
 
 /// Prints that a place is agreed, and what a `fix` or a `late` there has changed.
-pub fn print_agreed<B: BookOf, W: Write>(
+pub fn print_agreed<B: BookOf, W: Sink>(
     out: &mut Watched<W>,
     sheet: &MatchSheet,
     place: u32,
@@ -179,7 +178,7 @@ pub fn print_agreed<B: BookOf, W: Write>(
 }
 
 /// Prints that the entry was penned at this place, in full.
-fn print_pending<W: Write>(
+fn print_pending<W: Sink>(
     out: &mut Watched<W>,
     place: u32,
     entry: &Entry,
@@ -194,7 +193,7 @@ fn print_pending<W: Write>(
 }
 
 /// Prints that the two scorers differ at this place, with the entry of each where it is known.
-pub fn print_differs<W: Write>(
+pub fn print_differs<W: Sink>(
     out: &mut Watched<W>,
     place: u32,
     both: Both,
@@ -219,7 +218,7 @@ pub fn print_differs<W: Write>(
 
 /// Prints what became of a vote for the entry that was cast at this place, where this is the other scorer's that was
 /// noted before.
-fn print_settled<B: BookOf, W: Write>(
+fn print_settled<B: BookOf, W: Sink>(
     out: &mut Watched<W>,
     sheet: &MatchSheet,
     place: u32,
@@ -258,7 +257,7 @@ fn why_full(at: Position) -> Option<Refusal>
 }
 
 /// Prints where a desk stands whose vote of this position isn't cast.
-fn print_open<W: Write>(out: &mut Watched<W>, at: Position) -> Result<(), WriteFailed>
+fn print_open<W: Sink>(out: &mut Watched<W>, at: Position) -> Result<(), WriteFailed>
     ensures text { OnOk result (Prints W.contents out.old out.new (texts.open_text at (texts.why_full at))) }
     ensures failed { OnErr result (has_failed out.new ≡ true) }
 {
@@ -275,7 +274,7 @@ fn print_open<W: Write>(out: &mut Watched<W>, at: Position) -> Result<(), WriteF
 }
 
 /// Prints where a desk stands: at this position, with its own vote there or none.
-fn print_place<W: Write>(
+fn print_place<W: Sink>(
     out: &mut Watched<W>,
     at: Position,
     own: Option<Entry>,
@@ -291,7 +290,7 @@ fn print_place<W: Write>(
 }
 
 /// Prints how the match stands, and where the desk does.
-pub fn print_greeting<B: BookOf, W: Write>(
+pub fn print_greeting<B: BookOf, W: Sink>(
     out: &mut Watched<W>,
     sheet: &MatchSheet,
     at: Position,
@@ -308,7 +307,7 @@ pub fn print_greeting<B: BookOf, W: Write>(
 }
 
 /// Prints that the other scorer has written, where this one is waited for.
-fn print_other<W: Write>(
+fn print_other<W: Sink>(
     out: &mut Watched<W>,
     place: u32,
     is_waited_for: bool,
@@ -324,7 +323,7 @@ fn print_other<W: Write>(
 }
 
 /// Prints that the other desk isn't heard, where that was told and it wasn't heard since.
-fn print_silence<W: Write>(out: &mut Watched<W>, is_silent: bool) -> Result<(), WriteFailed>
+fn print_silence<W: Sink>(out: &mut Watched<W>, is_silent: bool) -> Result<(), WriteFailed>
     ensures text { OnOk result (Prints W.contents out.old out.new (texts.silence_text is_silent)) }
     ensures failed { OnErr result (has_failed out.new ≡ true) }
 {
@@ -336,7 +335,7 @@ fn print_silence<W: Write>(out: &mut Watched<W>, is_silent: bool) -> Result<(), 
 }
 
 /// Prints how the match stands, where the desk does, and what is known of the other desk.
-fn print_standing<B: BookOf, W: Write>(
+fn print_standing<B: BookOf, W: Sink>(
     out: &mut Watched<W>,
     sheet: &MatchSheet,
     at: Position,
@@ -357,7 +356,7 @@ fn print_standing<B: BookOf, W: Write>(
 }
 
 /// Prints what a word asks to see.
-fn print_asked<B: BookOf, W: Write>(
+fn print_asked<B: BookOf, W: Sink>(
     out: &mut Watched<W>,
     sheet: &MatchSheet,
     at: Position,
@@ -395,7 +394,7 @@ fn print_asked<B: BookOf, W: Write>(
 }
 
 /// Prints that a line must begin with `again`, where the scorers differed at this position, or why that would be in vain.
-fn print_again<W: Write>(out: &mut Watched<W>, at: Position) -> Result<(), WriteFailed>
+fn print_again<W: Sink>(out: &mut Watched<W>, at: Position) -> Result<(), WriteFailed>
     ensures text { OnOk result (Prints W.contents out.old out.new (texts.again_text at (texts.why_full at))) }
     ensures failed { OnErr result (has_failed out.new ≡ true) }
 {
@@ -407,7 +406,7 @@ fn print_again<W: Write>(out: &mut Watched<W>, at: Position) -> Result<(), Write
 
 /// Prints what a line came to, at this position, where the desk had these votes before, and the scorer was told that the other
 /// desk isn't heard, or not.
-fn print_answer<B: BookOf, W: Write>(
+fn print_answer<B: BookOf, W: Sink>(
     out: &mut Watched<W>,
     sheet: &MatchSheet,
     at: Position,
@@ -456,7 +455,7 @@ fn print_answer<B: BookOf, W: Write>(
 
 /// Tells the scorer at once what a line came to, at this position, where the desk had these votes before, and the scorer was
 /// told that the other desk isn't heard, or not.
-pub fn print_said<B: BookOf, W: Write>(
+pub fn print_said<B: BookOf, W: Sink>(
     out: &mut Watched<W>,
     sheet: &MatchSheet,
     at: Position,

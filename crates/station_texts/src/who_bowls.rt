@@ -10,11 +10,10 @@ use cards::MatchSheet;
 use corrections::BookOf;
 use score_rows::print_bowlers;
 use shorthand::Unclear;
-use std::io::Write;
-use streams::{Watched, WriteFailed};
+use streams::{Sink, Watched, WriteFailed};
 
 /// Prints who may bowl, where the sheet limits the overs of a bowler.
-fn print_limited_bowlers<B: BookOf, W: Write>(
+fn print_limited_bowlers<B: BookOf, W: Sink>(
     out: &mut Watched<W>,
     sheet: &MatchSheet,
     book: &B,
@@ -31,7 +30,7 @@ fn print_limited_bowlers<B: BookOf, W: Write>(
 }
 
 /// The same, where a line doesn't say who bowls.
-fn print_who_may<B: BookOf, W: Write>(
+fn print_who_may<B: BookOf, W: Sink>(
     out: &mut Watched<W>,
     sheet: &MatchSheet,
     unclear: &Unclear,
@@ -55,7 +54,7 @@ fn print_who_may<B: BookOf, W: Write>(
 }
 
 /// Prints what isn't clear in a line, and behind it who may bowl, where that isn't and overs are limited.
-pub fn print_question<B: BookOf, W: Write>(
+pub fn print_question<B: BookOf, W: Sink>(
     out: &mut Watched<W>,
     sheet: &MatchSheet,
     unclear: &Unclear,

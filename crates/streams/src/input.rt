@@ -3,8 +3,8 @@
 ghost use Rattle.std.specs.Prelude.{◌≡◌, ◌≢◌, ◌≤◌, ◌<◌, ◌⊎◌, length, vec_len, IfOk, IfSome};
 ghost use Rattle.streams.specs.Watched.{MeetsFailure, stream_of};
 
+use crate::feed::Feed;
 use crate::limit::LONGEST_INPUT;
-use crate::source::Source;
 use crate::watched::Watched;
 use std::alloc::{AllocError, Global};
 use thiserror::Error;
@@ -31,7 +31,7 @@ impl From<AllocError> for InputFault {
 }
 
 /// All bytes of a reader that ends within the bound.
-pub fn read_all<R: Source>(alloc: Global, reader: &mut Watched<R>) -> Result<Vec<u8>, InputFault>
+pub fn read_all<R: Feed>(alloc: Global, reader: &mut Watched<R>) -> Result<Vec<u8>, InputFault>
     ensures whole { IfOk result (λ input.
         IfSome (R.remaining (stream_of reader.old)) (λ bytes. input.items ≡ bytes)) }
     ensures bound { IfOk result (λ input. vec_len input ≤ LONGEST_INPUT) }

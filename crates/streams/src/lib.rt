@@ -2,14 +2,14 @@
 #![tactic(auto)]
 
 mod failures;
+mod feed;
 mod input;
 mod limit;
 mod sink;
-mod source;
 mod watched;
 
+pub use feed::Feed;
 pub use input::{InputFault, read_all};
 pub use limit::LONGEST_INPUT;
 pub use sink::Sink;
-pub use source::Source;
 pub use watched::{ReadFailed, Watched, WriteFailed};

@@ -5,9 +5,8 @@ ghost use Rattle.streams.specs.Watched.{Prints, TellsFailure};
 ghost use Rattle.tasks.specs.Words.{words_line};
 
 use std::alloc::AllocError;
-use std::fmt;
-use std::io::{self, Write};
-use streams::{Watched, WriteFailed};
+use std::{fmt, io};
+use streams::{Sink, Watched, WriteFailed};
 use thiserror::Error;
 
 /// Why the words on the command line ask for nothing.
@@ -81,7 +80,7 @@ impl From<clap::Error> for WordsFault<'_> {
 }
 
 /// Prints the line that standard error has of a fault of the words.
-pub fn print_words_fault<W: Write>(
+pub fn print_words_fault<W: Sink>(
     out: &mut Watched<W>,
     fault: WordsFault<'_>,
 ) -> Result<(), WriteFailed>

@@ -32,8 +32,7 @@ use live::{board_calls, end_at};
 use notation::{Entry, read_line};
 use setup::TURNS;
 use std::alloc::{AllocError, Global};
-use std::io::Write;
-use streams::{Watched, WriteFailed};
+use streams::{Sink, Watched, WriteFailed};
 use waits::MATCH_DATAGRAM_WAIT;
 
 /// Why no desk is made on an empty disk.
@@ -360,7 +359,7 @@ impl<S: SlotsOf> Stations<S> {
     }
 
     /// Prints the six lines of the board.
-    pub fn print_board<W: Write>(
+    pub fn print_board<W: Sink>(
         &self,
         sheet: &MatchSheet,
         out: &mut Watched<W>,
@@ -368,7 +367,7 @@ impl<S: SlotsOf> Stations<S> {
         ensures text { OnOk result (Prints W.contents out.old out.new
             (board_text sheet.now (boards.book_of self.now.board).innings_a_side
             (history_of (boards.book_of self.now.board).entries))) }
-        ensures handed_on { OnOk result (IsHandedOn out.new) }
+        ensures handed_on { OnOk result (IsHandedOn W.calls out.new) }
         ensures failed { TellsFailure result out.old out.new }
     {
         self.board.lines(sheet, out)?;

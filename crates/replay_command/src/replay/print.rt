@@ -14,15 +14,10 @@ use board::Board;
 use corrections::{BookOf, CheckedBook};
 use match_laws::Match;
 use schedule_replay::{AnyDesk, Seen, World};
-use std::io::Write;
-use streams::{Watched, WriteFailed};
+use streams::{Sink, Watched, WriteFailed};
 
 /// Prints what the event of this number is answered.
-fn print_event<W: Write>(
-    out: &mut Watched<W>,
-    number: usize,
-    seen: &Seen,
-) -> Result<(), WriteFailed>
+fn print_event<W: Sink>(out: &mut Watched<W>, number: usize, seen: &Seen) -> Result<(), WriteFailed>
     ensures text { OnOk result (Prints W.contents out.old out.new (texts.event_line number seen.now)) }
     ensures failed { TellsFailure result out.old out.new }
 {
@@ -30,7 +25,7 @@ fn print_event<W: Write>(
 }
 
 /// Prints a line for what each event is answered, numbered from 1.
-fn print_events<W: Write>(out: &mut Watched<W>, outcomes: &[Seen]) -> Result<(), WriteFailed>
+fn print_events<W: Sink>(out: &mut Watched<W>, outcomes: &[Seen]) -> Result<(), WriteFailed>
     ensures text { OnOk result (Prints W.contents out.old out.new (texts.event_lines outcomes.now)) }
     ensures failed { TellsFailure result out.old out.new }
 {
@@ -41,11 +36,7 @@ fn print_events<W: Write>(out: &mut Watched<W>, outcomes: &[Seen]) -> Result<(),
 }
 
 /// Prints how many entries a book has, and the score of the innings begun last.
-fn print_book<W: Write>(
-    out: &mut Watched<W>,
-    entries: u32,
-    score: &Match,
-) -> Result<(), WriteFailed>
+fn print_book<W: Sink>(out: &mut Watched<W>, entries: u32, score: &Match) -> Result<(), WriteFailed>
     ensures text { ForEachHistory score.now (λ n h.
         OnOk result (Prints W.contents out.old out.new (texts.book_words entries h))) }
     ensures failed { TellsFailure result out.old out.new }
@@ -60,7 +51,7 @@ fn print_book<W: Write>(
 }
 
 /// Prints the line of a desk, which is there if it runs.
-fn print_desk<W: Write>(
+fn print_desk<W: Sink>(
     out: &mut Watched<W>,
     name: &str,
     desk: Option<AnyDesk<'_>>,
@@ -79,7 +70,7 @@ fn print_desk<W: Write>(
 }
 
 /// Prints the line of a board of this number.
-fn print_board<W: Write>(
+fn print_board<W: Sink>(
     out: &mut Watched<W>,
     number: usize,
     board: &Board<CheckedBook>,
@@ -93,7 +84,7 @@ fn print_board<W: Write>(
 }
 
 /// Prints the lines of the boards, numbered from 1.
-fn print_boards<W: Write>(
+fn print_boards<W: Sink>(
     out: &mut Watched<W>,
     boards: &[Board<CheckedBook>],
 ) -> Result<(), WriteFailed>
@@ -108,7 +99,7 @@ fn print_boards<W: Write>(
 }
 
 /// Prints the lines of both desks and the boards of a world.
-fn print_stations<W: Write>(out: &mut Watched<W>, world: &World) -> Result<(), WriteFailed>
+fn print_stations<W: Sink>(out: &mut Watched<W>, world: &World) -> Result<(), WriteFailed>
     ensures text { (w : Configuration MemDisk) → HasConfiguration world.now w →
         OnOk result (Prints W.contents out.old out.new (texts.station_lines w)) }
     ensures failed { TellsFailure result out.old out.new }
@@ -120,7 +111,7 @@ fn print_stations<W: Write>(out: &mut Watched<W>, world: &World) -> Result<(), W
 }
 
 /// Prints how many entries are agreed.
-fn print_agreed<W: Write>(out: &mut Watched<W>, entries: usize) -> Result<(), WriteFailed>
+fn print_agreed<W: Sink>(out: &mut Watched<W>, entries: usize) -> Result<(), WriteFailed>
     ensures text { OnOk result (Prints W.contents out.old out.new (texts.agreed_line entries)) }
     ensures failed { TellsFailure result out.old out.new }
 {
@@ -128,7 +119,7 @@ fn print_agreed<W: Write>(out: &mut Watched<W>, entries: usize) -> Result<(), Wr
 }
 
 /// Prints with which number a world refuses an event.
-fn print_refusal<W: Write>(out: &mut Watched<W>, event: u64, why: u8) -> Result<(), WriteFailed>
+fn print_refusal<W: Sink>(out: &mut Watched<W>, event: u64, why: u8) -> Result<(), WriteFailed>
     ensures text { OnOk result (Prints W.contents out.old out.new (texts.refusal_line event why)) }
     ensures failed { TellsFailure result out.old out.new }
 {
@@ -137,7 +128,7 @@ fn print_refusal<W: Write>(out: &mut Watched<W>, event: u64, why: u8) -> Result<
 
 /// Prints what a world answered the events of a whole schedule, how many entries are agreed, and the stations.
 /// It fails only where a write fails; how much was written then isn't said.
-pub fn print_whole<W: Write>(
+pub fn print_whole<W: Sink>(
     out: &mut Watched<W>,
     outcomes: &[Seen],
     agreed: usize,
@@ -146,7 +137,7 @@ pub fn print_whole<W: Write>(
     ensures text { (w : Configuration MemDisk) → HasConfiguration world.now w →
         OnOk result (Prints W.contents out.old out.new
         (texts.event_lines outcomes.now ++ texts.last_lines agreed w)) }
-    ensures handed_on { OnOk result (IsHandedOn out.new) }
+    ensures handed_on { OnOk result (IsHandedOn W.calls out.new) }
     ensures failed { TellsFailure result out.old out.new }
 {
     print_events(out, outcomes)?;
@@ -156,7 +147,7 @@ pub fn print_whole<W: Write>(
 }
 
 /// Prints what a world answered the first events of a schedule, and with which number it refuses the next event.
-pub fn print_refused<W: Write>(
+pub fn print_refused<W: Sink>(
     out: &mut Watched<W>,
     outcomes: &[Seen],
     event: u64,
@@ -164,7 +155,7 @@ pub fn print_refused<W: Write>(
 ) -> Result<(), WriteFailed>
     ensures text { OnOk result (Prints W.contents out.old out.new
         (texts.event_lines outcomes.now ++ texts.refusal_line event why)) }
-    ensures handed_on { OnOk result (IsHandedOn out.new) }
+    ensures handed_on { OnOk result (IsHandedOn W.calls out.new) }
     ensures failed { TellsFailure result out.old out.new }
 {
     print_events(out, outcomes)?;

@@ -7,9 +7,8 @@ use cards::{
 use corrections::{Book, BookOf};
 use notation::read_line;
 use std::alloc::{AllocError, Global};
-use std::io::Write;
 use std::process::Abort;
-use streams::{Watched, WriteFailed};
+use streams::{Sink, Watched, WriteFailed};
 use tests_support::Failing;
 
 const SHEET: &str = "title = \"T\"\nnumber = 7\ninnings = 2\nother = 1\n\
@@ -64,7 +63,7 @@ enum Call {
 const CALLS: [Call; 4] = [Call::Batting, Call::Bowling, Call::Page, Call::Board];
 
 /// Prints one text of a book in which an innings has begun.
-fn print<W: Write>(
+fn print<W: Sink>(
     rt: &impl Abort,
     call: Call,
     sheet: &MatchSheet,

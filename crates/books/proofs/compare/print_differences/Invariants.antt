@@ -8,6 +8,6 @@ use Rattle.books.proofs.compare.print_differences.Given as goal
 -- the lines of the differences so far are written
 abbrev pub invariant-loop-i : goal.invariant-loop-i
 invariant-loop-i g l = record {
-  written : Appends (g.W.Write.contents (stream_of l.initial.out)) (g.W.Write.contents (stream_of l.out)) (flat_map difference_line (take l.i l.differences));
+  written : Appends (g.W.Sink.contents (stream_of l.initial.out)) (g.W.Sink.contents (stream_of l.out)) (flat_map difference_line (take l.i l.differences));
   sound : failures l.out ≡ failures l.initial.out;
 }

@@ -5,4 +5,4 @@ use Rattle.cards.proofs.columns.print_spaces.Given as goal
 
 abbrev pub invariant-loop : goal.invariant-loop
 invariant-loop g l =
-    Prints g.W.Write.contents l.initial.out l.out (spaces l.counter) × (failures l.out ≡ failures l.initial.out)
+    Prints g.W.Sink.contents l.initial.out l.out (spaces l.counter) × (failures l.out ≡ failures l.initial.out)

@@ -9,7 +9,7 @@ pub returns-clause-text : goal.returns-clause-text
 returns-clause-text g t c = λ m old was n new now.
     let w : Stage = record { innings_a_side = m; history = old } in
     let v : Stage = record { innings_a_side = n; history = new } in
-    let known = g.W.Write.contents in
+    let known = g.W.Sink.contents in
     let start = c.args.out.now in
     let end = c.tell_players.new.out in
     let s = c.args.sheet.now in

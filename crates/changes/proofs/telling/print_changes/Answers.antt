@@ -16,7 +16,7 @@ returns-clause-text g c = λ m old was n new now.
     let w : Stage = record { innings_a_side = m; history = old } in
     let v : Stage = record { innings_a_side = n; history = new } in
     let told = c.in_ok-count.ensures.text m old was n new now in
-    let text = subst (Appends (g.W.Write.contents (stream_of c.args.out.now)) (g.W.Write.contents (stream_of c.tell_all.new.out)))
+    let text = subst (Appends (g.W.Sink.contents (stream_of c.args.out.now)) (g.W.Sink.contents (stream_of c.tell_all.new.out)))
     (rows-filter (differs w v) (row c.args.sheet.now w v) 0 all_changes) told.1 in
     let count : c.in_ok-count.count ≡ length (filter (differs w v) all_changes) =
     (let same = number-filter (differs w v) all_changes in omega (arith, told.0, same)) in

@@ -10,7 +10,7 @@ unfolding all_changes
 returns-clause-text g c = λ m old was n new now.
     let w : Stage = record { innings_a_side = m; history = old } in
     let v : Stage = record { innings_a_side = n; history = new } in
-    let known = g.W.Write.contents in
+    let known = g.W.Sink.contents in
     let s = c.args.sheet.now in
     let r = c.tell_part-3.result in
     let end = c.tell_part-3.new.out in

@@ -9,7 +9,7 @@ pub returns-clause-text : goal.returns-clause-text
 returns-clause-text g c = λ m old was n new now.
     let w : Stage = record { innings_a_side = m; history = old } in
     let v : Stage = record { innings_a_side = n; history = new } in
-    let known = g.W.Write.contents in
+    let known = g.W.Sink.contents in
     let s = c.args.sheet.now in
     let r = c.tell_side-2.result in
     let end = c.tell_side-2.new.out in

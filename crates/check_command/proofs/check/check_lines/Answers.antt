@@ -72,7 +72,7 @@ returns-clause-written g c =
     let m = c.loop-line.invariant.0 in
     let book = agreed_in c.loop-line.table in
     let says = c.in_ok-board_lines.ensures.text _ _ c.score.ensures.score in
-    let prints = Appends (g.W.Write.contents (stream_of c.loop-line.out)) (g.W.Write.contents (stream_of c.board_lines.new.out)) in
+    let prints = Appends (g.W.Sink.contents (stream_of c.loop-line.out)) (g.W.Sink.contents (stream_of c.board_lines.new.out)) in
     let plain = subst (λ s. prints (board s (innings_in c.loop-line.table) (history_of book))) c.requires.plain says in
     let shown = subst (λ n. prints (board (sheet (innings_in c.args.table.now)) n (history_of book))) m.same_match plain in
     appends_kept _ _ _ _ (finish m _ c.in_default.ensures.0 shown) c.flush.ensures.bytes

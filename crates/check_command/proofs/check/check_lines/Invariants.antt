@@ -22,7 +22,7 @@ pub record Midway (innings : ℕ) (input : List ℕ) (lines : List (List ℕ)) (
 
 abbrev pub invariant-loop-line : goal.invariant-loop-line
 invariant-loop-line g l =
-    Midway (innings_in l.initial.table) l.input l.lines l.number l.rejected l.table (g.W.Write.contents (stream_of l.initial.out)) (g.W.Write.contents (stream_of l.out))
+    Midway (innings_in l.initial.table) l.input l.lines l.number l.rejected l.table (g.W.Sink.contents (stream_of l.initial.out)) (g.W.Sink.contents (stream_of l.out))
     × (failures l.out ≡ failures l.initial.out)
 
 abbrev pub decreases-loop-line : goal.decreases-loop-line

@@ -21,6 +21,6 @@ module _
 pub returns-in-Ok-clause-written : goal.returns-in-Ok-clause-written
 returns-in-Ok-clause-written g c =
     let read = c.in_ok-first.ensures in
-    prints g.W.Write.contents c.args.writer.now c.print_comparison.new.out c.args.sheet.now c.game.ensures c.in_ok-comparison.ensures.comparison
-    c.in-Ok.ensures.text c.is_some.ensures (g.R.Read.remaining (stream_of c.args.a.now)) (g.R.Read.remaining (stream_of c.args.b.now))
+    prints g.W.Sink.contents c.args.writer.now c.print_comparison.new.out c.args.sheet.now c.game.ensures c.in_ok-comparison.ensures.comparison
+    c.in-Ok.ensures.text c.is_some.ensures (g.R.Feed.remaining (stream_of c.args.a.now)) (g.R.Feed.remaining (stream_of c.args.b.now))
     c.as_slice.ensures.value c.as_slice-2.ensures.value read.first read.second

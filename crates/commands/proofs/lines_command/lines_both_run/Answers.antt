@@ -21,5 +21,5 @@ module _
 
 pub returns-in-Ok-clause-written : goal.returns-in-Ok-clause-written
 returns-in-Ok-clause-written g c =
-    prints g.W.Write.contents c.args.writer.now c.print_lines.new.out c.args.sheet.now c.in-Ok.ensures.text c.in-Ok.ensures.again
-    (g.R.Read.remaining (stream_of c.args.a.now)) (g.R.Read.remaining (stream_of c.args.b.now)) c.in_ok-book.ensures.book
+    prints g.W.Sink.contents c.args.writer.now c.print_lines.new.out c.args.sheet.now c.in-Ok.ensures.text c.in-Ok.ensures.again
+    (g.R.Feed.remaining (stream_of c.args.a.now)) (g.R.Feed.remaining (stream_of c.args.b.now)) c.in_ok-book.ensures.book

@@ -22,5 +22,5 @@ module _
 
 pub returns-in-Ok-clause-written : goal.returns-in-Ok-clause-written
 returns-in-Ok-clause-written g c =
-    prints g.W.Write.contents c.args.writer.now c.print_lines.new.out c.args.sheet.now c.args.source c.in_ok-book.ensures.book c.in-Ok.ensures.text
-    c.in-Ok.ensures.again (g.R.Read.remaining (stream_of c.args.reader.now)) c.as_slice.ensures.value c.in_ok-input.ensures.whole
+    prints g.W.Sink.contents c.args.writer.now c.print_lines.new.out c.args.sheet.now c.args.source c.in_ok-book.ensures.book c.in-Ok.ensures.text
+    c.in-Ok.ensures.again (g.R.Feed.remaining (stream_of c.args.reader.now)) c.as_slice.ensures.value c.in_ok-input.ensures.whole

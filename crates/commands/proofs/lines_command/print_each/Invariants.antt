@@ -8,6 +8,6 @@ use Rattle.commands.proofs.lines_command.print_each.Given as goal
 abbrev pub invariant-loop-place : goal.invariant-loop-place
 invariant-loop-place g l =
     CopiedFrom full_line (g.B.BookOf.content l.book) 0 l.place
-    (g.W.Write.contents (stream_of l.initial.out)) (g.W.Write.contents (stream_of l.out))
+    (g.W.Sink.contents (stream_of l.initial.out)) (g.W.Sink.contents (stream_of l.out))
     × AllEntries (take l.place (g.B.BookOf.content l.book))
     × (failures l.out ≡ failures l.initial.out)

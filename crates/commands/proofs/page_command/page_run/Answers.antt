@@ -28,6 +28,6 @@ module _
 
 pub returns-in-Ok-clause-written : goal.returns-in-Ok-clause-written
 returns-in-Ok-clause-written g c =
-    prints g.W.Write.contents c.args.writer.now c.print_page.new.out c.args.sheet.now (table_view c.args.document.now) c.args.source
+    prints g.W.Sink.contents c.args.writer.now c.print_page.new.out c.args.sheet.now (table_view c.args.document.now) c.args.source
     c.in_ok-book.ensures.book c.in_ok-text.ensures (rw c.as_str.ensures.value at c.in-Ok.ensures.text)
-    (g.R.Read.remaining (stream_of c.args.reader.now)) c.as_slice.ensures.value c.in_ok-input.ensures.whole
+    (g.R.Feed.remaining (stream_of c.args.reader.now)) c.as_slice.ensures.value c.in_ok-input.ensures.whole

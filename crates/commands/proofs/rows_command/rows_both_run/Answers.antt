@@ -25,6 +25,6 @@ module _
 
 pub returns-in-Ok-clause-written : goal.returns-in-Ok-clause-written
 returns-in-Ok-clause-written g c =
-    prints g.W.Write.contents c.args.writer.now c.print_rows.new.out c.args.table c.args.sheet.now (table_view c.args.document.now) _
+    prints g.W.Sink.contents c.args.writer.now c.print_rows.new.out c.args.table c.args.sheet.now (table_view c.args.document.now) _
     c.in_ok-text.ensures (rw c.as_str.ensures.value at c.in-Ok.ensures.text)
-    (g.R.Read.remaining (stream_of c.args.a.now)) (g.R.Read.remaining (stream_of c.args.b.now)) c.in_ok-book.ensures.book
+    (g.R.Feed.remaining (stream_of c.args.a.now)) (g.R.Feed.remaining (stream_of c.args.b.now)) c.in_ok-book.ensures.book

@@ -28,6 +28,6 @@ returns-clause-runs g c =
     let done : Result (Unit {0}) WriteFailed = Ok tt in
     subst (λ (turns : ℕ). BoardRuns g.B.BookOf.content g.B.BookOf.innings_a_side c.args.sheet.now c.args.board.now c.loop-number.board
     (g.L.Link.log c.args.link.now) (g.L.Link.log c.loop-number.link) (g.C.Clock.readings c.args.clock.now) (g.C.Clock.readings c.loop-number.clock)
-    (g.W.Write.contents (stream_of c.args.out.now)) (g.W.Write.contents (stream_of c.loop-number.out)) 0 turns
+    (g.W.Sink.contents (stream_of c.args.out.now)) (g.W.Sink.contents (stream_of c.loop-number.out)) 0 turns
     untold unticked (g.N.Notices.told c.args.notices.now) (g.N.Notices.told c.loop-number.notices)
     (g.S.Shows.seen c.args.state.now) (g.S.Shows.seen c.loop-number.state) done) over (finished done c.loop-number.invariant).0

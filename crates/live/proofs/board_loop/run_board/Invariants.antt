@@ -11,4 +11,4 @@ invariant-loop-number g l =
     (at_turn g.B.BookOf.content l.initial.board 0 untold unticked (g.N.Notices.told l.initial.notices) (g.S.Shows.seen l.initial.state))
     (at_turn g.B.BookOf.content l.board l.number l.between.telling (ticking_of l.between.pace) (g.N.Notices.told l.notices) (g.S.Shows.seen l.state))
     (g.L.Link.log l.initial.link) (g.L.Link.log l.link) (g.C.Clock.readings l.initial.clock) (g.C.Clock.readings l.clock)
-    (g.W.Write.contents (stream_of l.initial.out)) (g.W.Write.contents (stream_of l.out))
+    (g.W.Sink.contents (stream_of l.initial.out)) (g.W.Sink.contents (stream_of l.out))

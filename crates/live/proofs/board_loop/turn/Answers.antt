@@ -8,7 +8,7 @@ use Rattle.live.proofs.board_loop.turn.Goals as goal
 
 pub returns-then-between-clause-runs : goal.returns-then-between-clause-runs
 returns-then-between-clause-runs g c = λ turns.
-    let told = g.W.Write.contents (stream_of c.args.out.now) in
+    let told = g.W.Sink.contents (stream_of c.args.out.now) in
     let seen = g.S.Shows.seen c.args.state.now in
     let pace = c.take_all.new.between.pace in
     let took = c.take_all.ensures.goes c.args.sheet.now told seen turns (length (g.B.BookOf.content (book_of c.args.board.now))) in
@@ -18,7 +18,7 @@ returns-then-between-clause-runs g c = λ turns.
 
 pub returns-in_err-print_news-clause-runs : goal.returns-in_err-print_news-clause-runs
 returns-in_err-print_news-clause-runs g c = λ turns.
-    let told = g.W.Write.contents (stream_of c.args.out.now) in
+    let told = g.W.Sink.contents (stream_of c.args.out.now) in
     let seen = g.S.Shows.seen c.args.state.now in
     let took = c.take_all.ensures.goes c.args.sheet.now told seen turns (length (g.B.BookOf.content (book_of c.args.board.now))) in
     stopped _ c.from_residual.result c.in_err-print_news.field-0.0 c.from_residual.ensures.1 refl refl refl (silent took.1)
@@ -27,7 +27,7 @@ pub returns-clause-runs : goal.returns-clause-runs
 returns-clause-runs g c = λ turns.
     let content = g.B.BookOf.content in
     let innings = g.B.BookOf.innings_a_side in
-    let told = g.W.Write.contents (stream_of c.args.out.now) in
+    let told = g.W.Sink.contents (stream_of c.args.out.now) in
     let seen = g.S.Shows.seen c.args.state.now in
     let sheet = c.args.sheet.now in
     let had = length (content (book_of c.args.board.now)) in

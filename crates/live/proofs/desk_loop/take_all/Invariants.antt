@@ -13,5 +13,5 @@ invariant-loop-taken g l =
     (process_of l.initial.desk l.initial.between.warned turns (ticking_of l.initial.between.pace) further)
     (process_of l.desk l.between.warned turns (ticking_of l.between.pace) further)
     (g.L.Link.log l.initial.link) (g.L.Link.log l.link) typed typed (g.C.Clock.readings l.initial.clock) (g.C.Clock.readings l.clock)
-    (g.W.Write.contents (stream_of l.initial.out)) (g.W.Write.contents (stream_of l.out)))
+    (g.W.Sink.contents (stream_of l.initial.out)) (g.W.Sink.contents (stream_of l.out)))
     × (0 < l.taken → IsSome (ticking_of l.between.pace).looked)

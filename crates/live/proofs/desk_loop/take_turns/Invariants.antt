@@ -14,5 +14,5 @@ invariant-loop-number g l =
     (process_of l.initial.desk unwarned 0 unticked further) (process_of l.desk l.between.warned l.number (ticking_of l.between.pace) further)
     (g.L.Link.log l.initial.link) (g.L.Link.log l.link) (g.K.Keys.inputs l.initial.keys) (g.K.Keys.inputs l.keys)
     (g.C.Clock.readings l.initial.clock) (g.C.Clock.readings l.clock)
-    (g.W.Write.contents (stream_of l.initial.out)) (g.W.Write.contents (stream_of l.out))
+    (g.W.Sink.contents (stream_of l.initial.out)) (g.W.Sink.contents (stream_of l.out))
     × IsShown (kind_of l.sheet l.initial.desk) l.sheet (innings_of l.initial.desk) g.P.ShowsDesk.goes_on (state_of l.initial.desk) l.initial.page l.page

@@ -11,14 +11,14 @@ pub returns-in_err-act-clause-goes : goal.returns-in_err-act-clause-goes
 returns-in_err-act-clause-goes g c =
     let old = c.args in
     let new = c.act.new in
-    let out = g.W.Write.contents (stream_of old.out.now) in
+    let out = g.W.Sink.contents (stream_of old.out.now) in
     λ turns. turn_passed_on c.from_residual.result c.in_err-act.field-0.0 turns
     (λ (after : ℕ) (course : Course) (known : Option (List ℕ) → Option (List ℕ)).
     DeskGoes old.sheet.now old.desk.now new.desk (process_of old.desk.now old.between.now.warned turns (ticking_of old.between.now.pace) further)
     (process_of new.desk new.between.warned after (ticking_of new.between.pace) course)
     (g.L.Link.log old.link.now) (g.L.Link.log new.link) (g.K.Keys.inputs old.keys.now) (g.K.Keys.inputs new.keys)
     (g.C.Clock.readings old.clock.now) (g.C.Clock.readings new.clock)
-    (known out) (known (g.W.Write.contents (stream_of new.out))))
+    (known out) (known (g.W.Sink.contents (stream_of new.out))))
     c.from_residual.ensures.1 (c.in_err-act.ensures.goes turns)
 
 pub returns-in_err-told-clause-goes : goal.returns-in_err-told-clause-goes

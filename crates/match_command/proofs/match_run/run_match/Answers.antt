@@ -33,7 +33,7 @@ returns-in-Ok-clause-agreed g c =
           (keeps_book at.b DeskId.B s.game book ended.level.is_b (ended.level.game ∙ game) (subst (λ es. DiskHolds at.b es) ended.level.book ended.level.level_b.held));
       shown = shown;
       long = ended.level.long;
-      written = subst (λ (n : ℕ). Prints g.W.Write.contents c.args.writer.now c.play-answer.new.writer (board s n (history_of shown))) made.innings ended.written;
+      written = subst (λ (n : ℕ). Prints g.W.Sink.contents c.args.writer.now c.play-answer.new.writer (board s n (history_of shown))) made.innings ended.written;
       passed = online.passed;
       since = online.since;
       same = λ gives. same_book book (board_at at.board) (online.follows gives) ended.level.long;

@@ -9,7 +9,7 @@ use Rattle.page.proofs.printing.print_escaped.Given as goal
 abbrev pub invariant-loop-part : goal.invariant-loop-part
 invariant-loop-part g l =
     shadow (Utf8 l.rest)
-    × ((done : List ℕ) × Prints g.W.Write.contents l.initial.out l.out done × (done ++ escaped l.rest ≡ escaped l.fn.text))
+    × ((done : List ℕ) × Prints g.W.Sink.contents l.initial.out l.out done × (done ++ escaped l.rest ≡ escaped l.fn.text))
     × (failures l.out ≡ failures l.initial.out)
 
 abbrev pub decreases-loop-part : goal.decreases-loop-part

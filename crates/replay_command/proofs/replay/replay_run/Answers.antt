@@ -25,7 +25,7 @@ module _
 
 pub returns-clause-written : goal.returns-clause-written
 returns-clause-written g c =
-    let contents = g.W.Write.contents in
+    let contents = g.W.Sink.contents in
     let old = c.args.writer.now in
     let new = c.print_run.new.out in
     let sheet = c.args.sheet.now in
@@ -34,4 +34,4 @@ returns-clause-written g c =
     let prints : List Event → Type 0 = λ es. IfOk c.print_run.result (PrintsRun contents old new sheet c.args.version c.args.boards es) in
     let written = subst prints c.as_slice-2.ensures.value c.print_run.ensures.written in
     of_input contents old new sheet c.args.version c.args.boards events c.in_ok-input.input.items
-    (g.R.Read.remaining (stream_of c.args.reader.now)) c.print_run.result c.in_ok-input.ensures.whole found written
+    (g.R.Feed.remaining (stream_of c.args.reader.now)) c.print_run.result c.in_ok-input.ensures.whole found written

@@ -7,4 +7,4 @@ use Rattle.score_rows.proofs.listing.print_between.Given as goal
 abbrev pub invariant-loop-place : goal.invariant-loop-place
 invariant-loop-place g l =
     CopiedFrom (entry_line (g.B.BookOf.content l.book)) (take l.stop (g.B.BookOf.content l.book)) l.first l.place
-    (g.W.Write.contents (stream_of l.initial.out)) (g.W.Write.contents (stream_of l.out))
+    (g.W.Sink.contents (stream_of l.initial.out)) (g.W.Sink.contents (stream_of l.out))

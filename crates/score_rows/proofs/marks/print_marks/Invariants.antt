@@ -7,4 +7,4 @@ use Rattle.score_rows.proofs.marks.print_marks.Given as goal
 
 abbrev pub invariant-loop-placed : goal.invariant-loop-placed
 invariant-loop-placed g l =
-    Appends (g.W.Write.contents (stream_of l.initial.out)) (g.W.Write.contents (stream_of l.out)) (marks (balls_of (take l.placed-index l.over)))
+    Appends (g.W.Sink.contents (stream_of l.initial.out)) (g.W.Sink.contents (stream_of l.out)) (marks (balls_of (take l.placed-index l.over)))

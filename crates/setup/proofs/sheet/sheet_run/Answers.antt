@@ -30,4 +30,4 @@ returns-clause-told g c =
     let items = c.in_ok-text.text.items in
     let read = subst (λ (i : List ℕ). IsRead i c.in-Err.why) c.as_slice.ensures.value c.in-Err.ensures in
     let told = subst (λ (f : NoSheet). Tells items (Err f)) (sym c.from.ensures) (tells items c.in-Err.why read) in
-    of_file (g.R.Read.remaining (stream_of c.args.reader.now)) items c.from.result told c.in_ok-text.ensures.whole
+    of_file (g.R.Feed.remaining (stream_of c.args.reader.now)) items c.from.result told c.in_ok-text.ensures.whole

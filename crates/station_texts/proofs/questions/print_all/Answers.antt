@@ -10,5 +10,5 @@ use Rattle.station_texts.proofs.questions.print_all.Goals as goal
 pub returns-clause-text : goal.returns-clause-text
 returns-clause-text g c =
     let team = team_of c.args.sheet.now c.args.side in
-    subst (λ (ns : List ℕ). OnOk c.print_those.result (Appends (g.W.Write.contents (stream_of c.args.out.now)) (g.W.Write.contents (stream_of c.print_those.new.out)) (listed team true ns)))
+    subst (λ (ns : List ℕ). OnOk c.print_those.result (Appends (g.W.Sink.contents (stream_of c.args.out.now)) (g.W.Sink.contents (stream_of c.print_those.new.out)) (listed team true ns)))
     (of_all team c.args.name.now _ refl) c.print_those.ensures.text

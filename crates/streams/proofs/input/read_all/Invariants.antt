@@ -10,7 +10,7 @@ pub record SoFar (before after : Option (List ℕ)) (items : List ℕ) (count : 
 
 abbrev pub invariant-loop-count : goal.invariant-loop-count
 invariant-loop-count g l =
-    SoFar (g.R.Source.remaining (stream_of l.initial.reader)) (g.R.Source.remaining (stream_of l.reader)) l.input.items (vec_len l.input)
+    SoFar (g.R.Feed.remaining (stream_of l.initial.reader)) (g.R.Feed.remaining (stream_of l.reader)) l.input.items (vec_len l.input)
     × (failures l.reader ≡ failures l.initial.reader)
 
 -- the bytes that may still come

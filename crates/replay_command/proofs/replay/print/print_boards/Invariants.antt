@@ -8,7 +8,7 @@ use Rattle.replay_command.proofs.replay.print.print_boards.Given as goal
 -- the lines of the boards so far are written
 abbrev pub invariant-loop-before : goal.invariant-loop-before
 invariant-loop-before g l = record {
-  written : Appends (g.W.Write.contents (stream_of l.initial.out)) (g.W.Write.contents (stream_of l.out))
+  written : Appends (g.W.Sink.contents (stream_of l.initial.out)) (g.W.Sink.contents (stream_of l.out))
       (numbered (λ n k. board_line n (board_state k)) 1 (take l.before l.boards));
   sound : failures l.out ≡ failures l.initial.out;
 }

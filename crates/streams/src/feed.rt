@@ -8,7 +8,7 @@ ghost use Rattle.streams.specs.Calls.{Answers, Call, ReadUpTo};
 use std::io::{self, Read};
 
 /// A reader, of which it may be known what it was asked for. Each `Read` is one.
-pub trait Source {
+pub trait Feed {
     /// The bytes that reads will give from here on, where they are known.
     ghost remaining: { Self → Option (List ℕ) };
 
@@ -22,7 +22,7 @@ pub trait Source {
         ensures asked { Answers result (ReadUpTo (length buffer.old)) (calls self.old) (calls self.new) };
 }
 
-impl<R: Read> Source for R {
+impl<R: Read> Feed for R {
     ghost remaining = { R.remaining };
 
     ghost calls = { λ _. None };
