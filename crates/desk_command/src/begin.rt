@@ -20,7 +20,7 @@ use setup::{
 use station_pages::{Attended, HeldKeys, PageKeys, PageRows, PageSight, ScorersPage};
 use station_screens::{DeskScreen, Shared, errors_at, output_at};
 use std::cell::RefCell;
-use std::io::IsTerminal;
+use std::io::{IsTerminal, Write};
 use std::mem::drop;
 use std::net::SocketAddr;
 use streams::{Sink, Watched};
@@ -229,7 +229,7 @@ fn attended<'p, 'r, L>(
     rt: &'r HostRuntime,
     link: L,
     page: Option<&'p RefCell<ScorersPage>>,
-) -> Attended<'p, L, MonotonicClock<'r>, ScorersPage> {
+) -> Attended<'p, L, MonotonicClock<'r, HostRuntime>, ScorersPage> {
     Attended {
         link,
         clock: MonotonicClock::new(rt),
