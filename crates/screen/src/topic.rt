@@ -85,6 +85,18 @@ Names, in any case, for n, b, B: and f: the whole name, the last word of one
 fix p, late p and again: short lines stand behind them too.
 ";
 
+/// What `help ball` shows.
+const HELP_BALL: &str = "\
+ball b K r [short s] [B] [dead] [out H W f [crossed]]: a delivery of bowler b
+  ball 10 bat 0 out caught striker 4
+";
+
+/// What `help undo` shows.
+const HELP_UNDO: &str = "\
+undo: takes back the line held last; none held: fix p void of the last entry
+  undo
+";
+
 /// The word of the language of lines.
 fn line_topic(word: &str) -> Option<Topic>
     ensures { result ≡ words.line_topic word.now }
@@ -139,9 +151,7 @@ pub fn help_on(topic: Topic) -> &'static str
     match topic {
         Topic::Innings => "innings S: an innings of side S begins, home or away\n  innings home\n",
         Topic::In => "in n: player n of the side that bats comes in, by number or name\n  in 3\n",
-        Topic::Ball => {
-            "ball b K r [short s] [B] [dead] [out H W f [crossed]]: a delivery of bowler b\n  ball 10 bat 0 out caught striker 4\n"
-        }
+        Topic::Ball => HELP_BALL,
         Topic::Gone => "gone L n: batter n leaves between deliveries\n  gone retiredhurt 3\n",
         Topic::Over =>
             "over: the umpire calls over; over n [S i]: the entries of over n\n  over 9 home 1\n",
@@ -157,9 +167,7 @@ pub fn help_on(topic: Topic) -> &'static str
         Topic::Again => {
             "again [E]: where you two differ, E, or what you wrote before\n  again ball 10 bat 2\n"
         }
-        Topic::Undo => {
-            "undo: takes back the line held last; none held: fix p void of the last entry\n  undo\n"
-        }
+        Topic::Undo => HELP_UNDO,
         Topic::Listing => {
             "list [n], list a b: the last n entries, or those of the places a to b\n  list 45 70\n"
         }
