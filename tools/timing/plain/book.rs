@@ -1,35 +1,8 @@
 //! A book: the entries that were taken, and the score of what stands after their corrections.
 
-use std::fmt;
-
-use crate::innings::Refusal;
-use crate::lines::{Entry, Play, MOST_PLACES};
+use crate::entry::{Entry, Play, MOST_PLACES};
 use crate::match_state::Match;
-
-/// Why the book doesn't take an entry.
-#[derive(Clone, Copy, Debug)]
-pub enum NotTaken {
-    Laws(Refusal),
-    NoSuchPlace,
-    NotFixable,
-    /// The first place at which what stands would be refused, and why.
-    Later(usize, Refusal),
-    NotAnchor,
-    PlacesFull,
-}
-
-impl fmt::Display for NotTaken {
-    fn fmt(&self, f: &mut fmt::Formatter) -> fmt::Result {
-        match self {
-            NotTaken::Laws(why) => write!(f, "{} {why:?}", *why as u8),
-            NotTaken::NoSuchPlace => write!(f, "30 NoSuchPlace"),
-            NotTaken::NotFixable => write!(f, "31 NotFixable"),
-            NotTaken::Later(place, why) => write!(f, "32 Later {place} {}", *why as u8),
-            NotTaken::NotAnchor => write!(f, "33 NotAnchor"),
-            NotTaken::PlacesFull => write!(f, "62 PlacesFull"),
-        }
-    }
-}
+use crate::rules::NotTaken;
 
 /// What stands of a place.
 #[derive(Clone, Copy, Debug)]

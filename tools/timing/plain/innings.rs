@@ -1,33 +1,10 @@
 //! An innings: who is at the ends, what counts, and what the Laws refuse in it.
 
-use crate::lines::{Ball, Boundary, Cause, How, Kind, Leave, Out, Side, Who};
+use crate::entry::{Ball, Cause, Kind, Leave, Side, Who};
+use crate::rules::{changes_ends, check_alone, counts, runs, Refusal};
 
 const MOST_DELIVERIES: u32 = 60;
 const ALL_OUT: u32 = 10;
-
-/// Why the Laws refuse an entry.
-#[derive(Clone, Copy, PartialEq, Eq, Debug)]
-pub enum Refusal {
-    NoBatter = 1,
-    BowlerTwoOvers = 2,
-    NotOutSoHere = 3,
-    WrongBatter = 4,
-    RunsWithOut = 5,
-    BoundaryAndOut = 6,
-    SixNotStruck = 7,
-    CrossedNotHere = 8,
-    OverLong = 9,
-    NoBall = 10,
-    NoVacancy = 11,
-    NotAvailable = 12,
-    NotIn = 13,
-    NotInPlay = 20,
-    WrongSide = 21,
-    InningsOpen = 22,
-    MatchWon = 23,
-    MatchClosed = 24,
-    EndNotSo = 25,
-}
 
 #[derive(Clone, Copy, PartialEq, Eq, Debug)]
 enum State {
@@ -233,18 +210,7 @@ impl Innings {
         if self.last_bowlers[ball.bowler] {
             return Err(Refusal::BowlerTwoOvers);
         }
-        if let Some(out) = &ball.out {
-            check_out(ball, out)?;
-        }
-        if ball.boundary == Some(Boundary::Six) && !matches!(ball.kind, Kind::Bat | Kind::NoBall) {
-            return Err(Refusal::SixNotStruck);
-        }
-        if ball
-            .out
-            .is_some_and(|out| out.crossed && !is_running(out.how))
-        {
-            return Err(Refusal::CrossedNotHere);
-        }
+        check_alone(ball)?;
         if self.deliveries >= MOST_DELIVERIES {
             return Err(Refusal::OverLong);
         }
@@ -271,70 +237,5 @@ impl Innings {
     pub fn end(&mut self) {
         self.striker = None;
         self.other = None;
-    }
-}
-
-/// Whether batters may run before one of them is out so.
-fn is_running(how: How) -> bool {
-    matches!(how, How::RunOut | How::Obstructing)
-}
-
-fn may_be_out(kind: Kind, how: How) -> bool {
-    match how {
-        How::Bowled | How::Caught | How::Lbw => kind == Kind::Bat,
-        How::Stumped | How::HitWicket => matches!(kind, Kind::Bat | Kind::Wide),
-        How::HitTwice => matches!(kind, Kind::Bat | Kind::NoBall),
-        How::Obstructing | How::RunOut => true,
-    }
-}
-
-fn check_out(ball: &Ball, out: &Out) -> Result<(), Refusal> {
-    if !may_be_out(ball.kind, out.how) {
-        return Err(Refusal::NotOutSoHere);
-    }
-    if !is_running(out.how) && out.who != Who::Striker {
-        return Err(Refusal::WrongBatter);
-    }
-    if !is_running(out.how) && (ball.ran > 0 || ball.short > 0) {
-        return Err(Refusal::RunsWithOut);
-    }
-    if ball.boundary.is_some() {
-        return Err(Refusal::BoundaryAndOut);
-    }
-    Ok(())
-}
-
-/// The runs off the bat, and the extras.
-fn runs(ball: &Ball) -> (u32, u32) {
-    let scored = match ball.boundary {
-        None => ball.ran,
-        Some(Boundary::Four) => ball.ran.max(4),
-        Some(Boundary::Six) => ball.ran.max(6),
-        Some(Boundary::Overthrow) => 4 + ball.ran,
-    };
-    match ball.kind {
-        Kind::Bat => (scored, 0),
-        Kind::Bye | Kind::Leg => (0, scored),
-        Kind::NoBall => (scored, 1),
-        Kind::Wide | Kind::NoBallBye | Kind::NoBallLeg => (0, 1 + scored),
-    }
-}
-
-/// Whether a delivery counts in the over.
-fn counts(ball: &Ball) -> bool {
-    !ball.dead && matches!(ball.kind, Kind::Bat | Kind::Bye | Kind::Leg)
-}
-
-fn changes_ends(ball: &Ball) -> bool {
-    let crossed = match ball.out {
-        Some(out) if !is_running(out.how) => return false,
-        Some(out) => u32::from(out.crossed),
-        None => 0,
-    };
-    let is_odd = (ball.ran + ball.short + crossed) % 2 == 1;
-    match ball.boundary {
-        Some(Boundary::Four) => is_odd && ball.ran > 4,
-        Some(Boundary::Six) => is_odd && ball.ran > 6,
-        _ => is_odd,
     }
 }

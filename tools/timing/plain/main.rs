@@ -1,11 +1,13 @@
 //! Reads pen lines, says which aren't taken, and prints the six lines of a board: `ground check` as a plain program, to be
-//! measured beside it (`measure`). It is ordinary Rust, not optimised, and written from docs/LINES.md, not from the crates.
+//! measured beside it (`tools/timing/goals`). It is ordinary Rust, not optimised, and written from docs/LINES.md, not from the crates.
 //! It keeps what the six lines tell, and no figures of cards; it has no votes; and it scores a correction from the start.
 
 mod book;
+mod entry;
 mod innings;
 mod lines;
 mod match_state;
+mod rules;
 
 use std::io::{self, BufWriter, Read, Write};
 use std::process::ExitCode;

@@ -2,8 +2,9 @@
 
 use std::fmt;
 
-use crate::innings::{Innings, Refusal};
-use crate::lines::{Cause, Play, Side};
+use crate::entry::{Cause, Play, Side};
+use crate::innings::Innings;
+use crate::rules::Refusal;
 
 const PENALTY: u32 = 5;
 
