@@ -9,6 +9,7 @@ use lib.Utf8.{scalars, low_scalar}
 use Rattle.json.specs.Print.{escape, escape_byte}
 use Rattle.json.specs.Text.{content, plain, prepend, short_escape}
 use Rattle.json.proofs.Printed.Strings.{escape_byte_plain}
+use Rattle.std.specs.List.{list_all}
 use Rattle.export.specs.Escapes.{IsReadBack, escape_of, is_obeyed, shown, shown_char}
 use Rattle.export.proofs.EscapeLemmas.{read_back, read_digits, read_unit}
 
@@ -30,8 +31,7 @@ seen c h = grind (arith, nat_tests)
 
 -- bytes below DEL stay
 abbrev are_below : List ℕ → Bool
-are_below [] = true
-are_below (x ∷ xs) = nat_lt x 127 && are_below xs
+are_below = list_all (λ x. nat_lt x 127)
 
 shown_below : (xs more : List ℕ) → are_below xs ≡ true → shown (xs ++ more) ≡ xs ++ shown more
 shown_below [] more h = refl
@@ -41,6 +41,11 @@ shown_below (x ∷ xs) more h =
     let one : encode_utf8 x ≡ x ∷ [] = encode_ascii x (omega arith) in
     let past : shown (x ∷ (xs ++ more)) ≡ x ∷ shown (xs ++ more) = rw (one, seen x low) at (shown_past x (xs ++ more) (low_scalar x (omega arith))) in
     past ∙ ap (λ (l : List ℕ). x ∷ l) (shown_below xs more p.1)
+
+-- so a text of such bytes stays
+pub shown_whole : (xs : List ℕ) → are_below xs ≡ true → shown xs ≡ xs
+shown_whole xs h =
+    ap shown (sym (append-nil xs)) ∙ shown_below xs [] h ∙ ap (λ (l : List ℕ). xs ++ flat_map shown_char l) chars-nil ∙ append-nil xs
 
 -- and so do the escapes of characters below it
 abbrev escapes_below : ℕ → Bool

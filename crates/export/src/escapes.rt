@@ -1,8 +1,9 @@
 //! The characters of an export's text that stand as JSON's escapes.
 
-ghost use Rattle.std.specs.Prelude.{◌≡◌, ◌<◌, ◌∷◌, [], ◌++◌, string_bytes, IfOk, OnOk};
+ghost use Rattle.std.specs.Prelude.{◌≡◌, ◌<◌, ◌∷◌, [], ◌++◌, string_bytes, IfOk, OnOk, nat_lt};
 ghost use Rattle.std.specs.Char.{digit_char};
 ghost use Rattle.std.specs.Int.{is_in_range};
+ghost use Rattle.std.specs.List.{list_all};
 ghost use Rattle.export.specs.Escapes as escapes;
 
 use std::alloc::{AllocError, Global};
@@ -56,13 +57,39 @@ fn push_shown(out: &mut String, letter: char) -> Result<(), AllocError>
     }
 }
 
+/// Whether each byte of a text stands before DEL: such a text stays as it is.
+fn is_below_del(text: &str) -> bool
+    ensures { result ≡ list_all (λ byte. nat_lt byte 0x7f) text.now }
+{
+    text.as_bytes().iter().all(|byte| *byte < 0x7f)
+}
+
+/// Puts a text behind another one, its characters one by one.
+fn push_letters(out: &mut String, text: &str) -> Result<(), AllocError>
+    ensures { OnOk result (string_bytes out.new ≡ string_bytes out.old ++ escapes.shown text.now) }
+{
+    for letter in text.chars() {
+        push_shown(out, letter)?;
+    }
+    Ok(())
+}
+
+/// Puts a text behind another one, at once where it stays as it is.
+fn push_text(out: &mut String, text: &str) -> Result<(), AllocError>
+    ensures { OnOk result (string_bytes out.new ≡ string_bytes out.old ++ escapes.shown text.now) }
+{
+    if is_below_del(text) {
+        out.push_str(text)
+    } else {
+        push_letters(out, text)
+    }
+}
+
 /// A text with its characters that a terminal obeys, or that turn or break a line, escaped.
 pub fn shown(alloc: Global, text: &str) -> Result<String, AllocError>
     ensures { IfOk result (λ shown. string_bytes shown ≡ escapes.shown text.now) }
 {
     let mut out = String::new(alloc);
-    for letter in text.chars() {
-        push_shown(&mut out, letter)?;
-    }
+    push_text(&mut out, text)?;
     Ok(out)
 }

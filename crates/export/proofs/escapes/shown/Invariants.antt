@@ -1,6 +1,0 @@
-use Rattle.std.proofs.Common.{◌≡◌, flat_map, string_bytes}
-use Rattle.export.specs.Escapes.{shown_char}
-use Rattle.export.proofs.escapes.shown.Given as goal
-
-abbrev pub invariant-loop-letter : goal.invariant-loop-letter
-invariant-loop-letter l = string_bytes l.out ≡ flat_map shown_char l.yielded
