@@ -8,13 +8,12 @@ use crate::shown::Shown;
 use board::Board;
 use cards::MatchSheet;
 use corrections::CheckedBook;
-use links::Link;
 use live::keep_board;
 use machine::{Address, MOST_PEERS, MonotonicClock, Pieces};
 use machine_files::{Cause, Name, StandardStream, TextFile, WholeText, WriteFault};
 use setup::{Sealing, StopFault, Stopped, short_sheet_at};
 use station_pages::Attended;
-use station_screens::{Errors, Output, Shared, errors_at, output_at};
+use station_screens::{Errors, Shared, errors_at, output_at};
 use std::cell::RefCell;
 use std::net::SocketAddr;
 use std::rt::Stderr;
@@ -111,45 +110,6 @@ fn board_of(rt: &HostRuntime, sheet: &MatchSheet) -> Result<Board<CheckedBook>, 
     }
 }
 
-/// Keeps a board's process on this link, until its screen fails.
-fn keep<'a, L: Link>(
-    rt: &'a HostRuntime,
-    board: &mut Board<CheckedBook>,
-    sheet: &MatchSheet,
-    link: &mut L,
-    files: BoardFiles<'_, 'a>,
-    page: &Page<'a>,
-    output: &RefCell<Output<'a>>,
-    errors: &RefCell<Errors<'a>>,
-) -> Result<bool, Stopped<'a>> {
-    let mut clock = MonotonicClock::new(rt);
-    let mut notes = Notes::new(Shared::of(errors));
-    let mut out = Watched::new(Shared::of(output));
-    let mut shown = Shown {
-        files: Both {
-            files,
-            page: page.panes(rt.alloc(), errors),
-        },
-        output,
-        errors,
-        viewers: page.viewers(),
-    };
-    let ended = keep_board(
-        board,
-        sheet,
-        link,
-        &mut clock,
-        &mut notes,
-        &mut out,
-        &mut shown,
-        u64::MAX,
-    );
-    match ended {
-        Ok(()) => Ok(false),
-        Err(_) => Err(Stopped::at("-", StopFault::Write)),
-    }
-}
-
 /// `ground board`: keeps a board that listens at an address, shows its six lines at the start and whenever they
 /// change, and tells standard error what it can't take. Its text is also put into a file, its state as JSON into another
 /// one, and the same as a script into a third, where they are named; a failed write of these ends no board. A page shows
@@ -188,7 +148,30 @@ pub fn start_board<'a>(
     };
     let _ = sealing.tell_fingerprints(&mut Shared::of(&errors));
     page.tell(&mut Shared::of(&errors));
-    keep(
-        rt, &mut board, &sheet, &mut link, files, &page, &output, &errors,
-    )
+    let mut clock = MonotonicClock::new(rt);
+    let mut notes = Notes::new(Shared::of(&errors));
+    let mut out = Watched::new(Shared::of(&output));
+    let mut shown = Shown {
+        files: Both {
+            files,
+            page: page.panes(rt.alloc(), &errors),
+        },
+        output: &output,
+        errors: &errors,
+        viewers: page.viewers(),
+    };
+    let ended = keep_board(
+        &mut board,
+        &sheet,
+        &mut link,
+        &mut clock,
+        &mut notes,
+        &mut out,
+        &mut shown,
+        u64::MAX,
+    );
+    match ended {
+        Ok(()) => Ok(false),
+        Err(_) => Err(Stopped::at("-", StopFault::Write)),
+    }
 }
