@@ -8,7 +8,8 @@ ghost use Rattle.changes.specs.declared.change.Change.TheVariants as kinds;
 ghost use Rattle.changes.specs.Changes as changes;
 ghost use Rattle.changes.specs.Stage.{ForBoth};
 ghost use Rattle.changes.specs.Text as texts;
-ghost use Rattle.changes.specs.inner.Telling.{Tells, is_number};
+ghost use Rattle.changes.specs.inner.Telling.{Tells};
+ghost use Rattle.notation.specs.Written.{is_player};
 
 use crate::before::score_before;
 use crate::change::{Change, Part};
@@ -59,7 +60,7 @@ fn tell_players<W: Sink>(
     side: Side,
     numbers: &[u8],
 ) -> Result<u32, WriteFailed>
-    requires numbers { list_all is_number numbers.now ≡ true }
+    requires numbers { list_all is_player numbers.now ≡ true }
     requires room { told + length numbers.now ≤ 1000 }
     ensures text { ForBoth was.now now.now (λ w n. Tells W.contents out.old out.new result sheet.now w n told
         (changes.of_players part innings side numbers.now)) }

@@ -7,7 +7,8 @@ ghost use Rattle.match_laws.specs.Refusals.{refusal};
 ghost use Rattle.corrections.specs.CleanList.{history_of};
 ghost use Rattle.json_fields.specs.Values.{PutsFields, PutsValues, number_value};
 ghost use Rattle.desk_state.specs.Players as laws;
-ghost use Rattle.desk_state.specs.inner.Items.{is_number, is_vacancy, number_if};
+ghost use Rattle.desk_state.specs.inner.Items.{is_vacancy, number_if};
+ghost use Rattle.notation.specs.Written.{is_player};
 
 use ball_laws::BallRefusal;
 use cards::MatchSheet;
@@ -76,7 +77,7 @@ fn put_if(out: &mut Compact, holds: bool, number: u8) -> Result<(), AllocError>
 
 /// Puts those of these numbers who may come in.
 fn put_batters<B: BookOf>(out: &mut Compact, book: &B, numbers: &[u8]) -> Result<(), AllocError>
-    requires { list_all is_number numbers.now ≡ true }
+    requires { list_all is_player numbers.now ≡ true }
     ensures { PutsValues result out.old out.new (map number_value
         (filter (laws.may_come_in (B.innings_a_side book.now) (history_of (B.content book.now))) numbers.now)) }
 {
@@ -97,7 +98,7 @@ fn put_bowlers<B: BookOf>(
     book: &B,
     numbers: &[u8],
 ) -> Result<(), AllocError>
-    requires { list_all is_number numbers.now ≡ true }
+    requires { list_all is_player numbers.now ≡ true }
     ensures { PutsValues result out.old out.new (map number_value
         (filter (laws.may_bowl sheet.now (B.innings_a_side book.now) (history_of (B.content book.now))) numbers.now)) }
 {

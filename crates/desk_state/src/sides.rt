@@ -5,7 +5,7 @@ ghost use Rattle.std.specs.List.{list_all};
 ghost use Rattle.ball_laws.specs.Over.{numbers as all_numbers};
 ghost use Rattle.json_fields.specs.Values.{PutsFields, PutsValues};
 ghost use Rattle.desk_state.specs.Sides as laws;
-ghost use Rattle.desk_state.specs.inner.Items.{is_number};
+ghost use Rattle.notation.specs.Written.{is_player};
 
 use cards::MatchSheet;
 use json_fields::{Compact, begin_array, begin_field, end_array, end_object, put_string, put_text};
@@ -19,7 +19,7 @@ fn put_names(
     side: Side,
     numbers: &[u8],
 ) -> Result<(), AllocError>
-    requires { list_all is_number numbers.now ≡ true }
+    requires { list_all is_player numbers.now ≡ true }
     ensures { PutsValues result out.old out.new (laws.names_of sheet.now side numbers.now) }
 {
     let Some((number, more)) = numbers.split_first() else {

@@ -1,5 +1,6 @@
 -- How a row is fitted to the columns of a screen: the team's name goes first, then letters of the players' names, down to four,
--- then of how many overs the innings is, and then what is told of limits stands below.
+-- then the marks of the over. A row that is too long with none goes without of how many overs the innings is, and where that
+-- isn't enough what is told of limits stands below.
 use Rattle.std.specs.Prelude.{ℕ, ◌-◌, nat_le, nat_lt, if◌then◌else◌, Bool, true, false, ◌&&◌, List, ◌++◌, length, take, Option, None, bytes_eq, codes}
 use Rattle.std.specs.List.{list_all}
 use Rattle.cards.specs.Sheet.{is_printable, longest_name}
@@ -63,9 +64,10 @@ beside form most = if is_beside form then most else None
 abbrev pub below : Form → Option ℕ → Option ℕ
 below form most = if is_beside form then None else most
 
--- the first of these that fits, or else the last
-abbrev pub first_fit : (Form → Bool) → Form
-first_fit is_fit =
+-- the first in which the row fits with all marks, or else the first of the last three that has room for it without them, or
+-- else the last
+abbrev pub first_fit : (Form → Bool) → (Form → Bool) → Form
+first_fit is_fit has_room =
     if is_fit Whole then Whole
     else if is_fit WithoutTeam then WithoutTeam
     else if is_fit TwelveLetters then TwelveLetters
@@ -74,8 +76,8 @@ first_fit is_fit =
     else if is_fit SevenLetters then SevenLetters
     else if is_fit SixLetters then SixLetters
     else if is_fit FiveLetters then FiveLetters
-    else if is_fit FourLetters then FourLetters
-    else if is_fit WithoutLimit then WithoutLimit
+    else if has_room FourLetters then FourLetters
+    else if has_room WithoutLimit then WithoutLimit
     else FiguresAlone
 
 abbrev pub is_long : ℕ → List ℕ → Bool

@@ -204,14 +204,18 @@ line f is_all shown s n h i = front f s h i ++ back f is_all shown s n h i
 unfoldable pub whole_line : Form → Sheet → ℕ → History → ℕ → List ℕ
 whole_line f s n h i = line f true (open_over h) s n h i
 
+-- with none of them
+unfoldable pub bare_line : Form → Sheet → ℕ → History → ℕ → List ℕ
+bare_line f s n h i = line f false [] s n h i
+
 -- with as many marks as there is room for
 unfoldable pub short_line : Form → Sheet → ℕ → History → ℕ → List ℕ
 short_line f s n h i =
-    line f false (newest (behind all_columns (line f false [] s n h i)) (open_over h)) s n h i
+    line f false (newest (behind all_columns (bare_line f s n h i)) (open_over h)) s n h i
 
 -- the first form in which the row fits
 unfoldable pub form_of : Sheet → ℕ → History → ℕ → Form
-form_of s n h i = first_fit (λ f. fits (whole_line f s n h i))
+form_of s n h i = first_fit (λ f. fits (whole_line f s n h i)) (λ f. fits (bare_line f s n h i))
 
 -- the row of an innings in a form, all of it where it fits
 unfoldable pub line_in : Form → Sheet → ℕ → History → ℕ → List ℕ

@@ -7,7 +7,7 @@ ghost use Rattle.match_laws.specs.History.{begun};
 ghost use Rattle.corrections.specs.CleanList.{history_of};
 ghost use Rattle.streams.specs.Watched.{Prints, has_failed};
 ghost use Rattle.score_rows.specs.Limited as limited;
-ghost use Rattle.score_rows.specs.inner.Items.{is_number};
+ghost use Rattle.notation.specs.Written.{is_player};
 
 use cards::MatchSheet;
 use corrections::BookOf;
@@ -92,7 +92,7 @@ fn print_among<W: Sink, B: BookOf>(
     numbers: &[u8],
 ) -> Result<(), WriteFailed>
     requires begun { innings < begun (history_of (B.content book.now)) }
-    requires numbers { list_all is_number numbers.now ≡ true }
+    requires numbers { list_all is_player numbers.now ≡ true }
     ensures text { OnOk result (Prints W.contents out.old out.new
         (limited.bowlers_among sheet.now (history_of (B.content book.now)) innings numbers.now)) }
     ensures failed { OnErr result (has_failed out.new ≡ true) }

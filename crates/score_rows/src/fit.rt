@@ -68,7 +68,18 @@ pub fn is_fit<B: BookOf>(form: Form, sheet: &MatchSheet, book: &B, innings: usiz
     line_room(form, true, over, sheet, book, innings).is_left()
 }
 
-/// The first form in which the row of an innings fits, or else the last.
+/// Whether a form has room for the row of an innings without the marks of the open over.
+#[tactic(auto, using(crate::proofs::Rooms::left_behind), unfolding(crate::specs::Row::bare_line))]
+fn has_room<B: BookOf>(form: Form, sheet: &MatchSheet, book: &B, innings: usize) -> bool
+    requires { innings < begun (history_of (B.content book.now)) }
+    ensures { result ≡ fit.fits (rows.bare_line form
+        sheet.now (B.innings_a_side book.now) (history_of (B.content book.now)) innings) }
+{
+    line_room(form, false, &[], sheet, book, innings).is_left()
+}
+
+/// The first form in which the row of an innings fits with all marks, or else the first of the last three that has room for
+/// it without them, or else the last.
 #[tactic(auto, unfolding(crate::specs::Row::form_of))]
 pub fn form_of<B: BookOf>(sheet: &MatchSheet, book: &B, innings: usize) -> Form
     requires { innings < begun (history_of (B.content book.now)) }
@@ -91,9 +102,9 @@ pub fn form_of<B: BookOf>(sheet: &MatchSheet, book: &B, innings: usize) -> Form
         Form::SixLetters
     } else if is_fit(Form::FiveLetters, sheet, book, innings) {
         Form::FiveLetters
-    } else if is_fit(Form::FourLetters, sheet, book, innings) {
+    } else if has_room(Form::FourLetters, sheet, book, innings) {
         Form::FourLetters
-    } else if is_fit(Form::WithoutLimit, sheet, book, innings) {
+    } else if has_room(Form::WithoutLimit, sheet, book, innings) {
         Form::WithoutLimit
     } else {
         Form::FiguresAlone
@@ -101,6 +112,7 @@ pub fn form_of<B: BookOf>(sheet: &MatchSheet, book: &B, innings: usize) -> Form
 }
 
 /// The newest items of the open over, as many as there is room for in a form.
+#[tactic(auto, unfolding(crate::specs::Row::bare_line))]
 pub fn shown_of<'b, B: BookOf>(
     form: Form,
     sheet: &MatchSheet,
@@ -109,7 +121,7 @@ pub fn shown_of<'b, B: BookOf>(
 ) -> &'b [Placed]
     requires { innings < begun (history_of (B.content book.now)) }
     ensures { balls_of result.now ≡ rows.newest
-        (fit.behind fit.all_columns (rows.line form false []
+        (fit.behind fit.all_columns (rows.bare_line form
         sheet.now (B.innings_a_side book.now) (history_of (B.content book.now)) innings))
         (open_over (history_of (B.content book.now))) }
 {

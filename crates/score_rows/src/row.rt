@@ -456,9 +456,10 @@ fn print_innings<W: Sink, B: BookOf>(
 }
 
 /// Prints how the match of a book stands, in one row. Where it is longer than 80 columns the team's name is left out, then
-/// players' names are cut, down to four letters (numbers tell apart two batters whose names then look alike), then of how many overs the innings is, then what is told of limits stands
-/// on rows below, then the oldest marks of the over are left out. Below stand too what is needed in a chase of limited
-/// overs, and the result.
+/// players' names are cut, down to four letters (numbers tell apart two batters whose names then look alike), then the oldest
+/// marks of the over are left out. Where the row is too long with no mark at all, it goes without of how many overs the
+/// innings is, and if need be what is told of limits stands on rows below. Below stand too what is needed in a chase of
+/// limited overs, and the result.
 pub fn print_row<W: Sink, B: BookOf>(
     out: &mut Watched<W>,
     sheet: &MatchSheet,

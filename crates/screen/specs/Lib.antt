@@ -1,4 +1,4 @@
--- What is claimed: Both, Sides, Waiting, Sentences, Near, Words, Help. inner: for private functions only.
+-- What is claimed: Both, Sides, Waiting, Sentences, Near, Words, Help.
 pub mod Both
 pub mod Sides
 pub mod Waiting
@@ -6,4 +6,3 @@ pub mod Sentences
 pub mod Near
 pub mod Words
 pub mod Help
-pub mod inner

@@ -6,7 +6,7 @@ ghost use Rattle.ball_laws.specs.Over.{numbers};
 ghost use Rattle.cards.specs.Sheet.{team_of};
 ghost use Rattle.streams.specs.Watched.{Prints, has_failed};
 ghost use Rattle.screen.specs.Sides as sides;
-ghost use Rattle.screen.specs.inner.Numbers.{is_number};
+ghost use Rattle.notation.specs.Written.{is_player};
 
 use cards::MatchSheet;
 use notation::{Player, Side};
@@ -74,7 +74,7 @@ fn print_each<W: Sink>(
     numbers: &[u8],
 ) -> Result<(), WriteFailed>
     requires column { column < 3 }
-    requires numbers { list_all is_number numbers.now ≡ true }
+    requires numbers { list_all is_player numbers.now ≡ true }
     ensures text { OnOk result (Prints W.contents out.old out.new
         (sides.in_rows (team_of sheet.now side) column numbers.now)) }
     ensures failed { OnErr result (has_failed out.new ≡ true) }

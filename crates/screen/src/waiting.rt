@@ -5,10 +5,10 @@ ghost use Rattle.std.specs.List.{list_all};
 ghost use Rattle.match_laws.specs.History.{begun};
 ghost use Rattle.match_laws.specs.Stands.{ForEachHistory, begun_in};
 ghost use Rattle.corrections.specs.CleanList.{history_of};
-ghost use Rattle.cards.specs.Sheet.{name_of, team_of};
+ghost use Rattle.cards.specs.Sheet.{name_of};
 ghost use Rattle.streams.specs.Watched.{Prints, has_failed};
 ghost use Rattle.screen.specs.Waiting as waiting;
-ghost use Rattle.screen.specs.inner.Numbers.{is_number};
+ghost use Rattle.notation.specs.Written.{is_player};
 
 use crate::sides::{next_column, print_next};
 use cards::MatchSheet;
@@ -35,7 +35,7 @@ fn print_those<W: Sink>(
 ) -> Result<(), WriteFailed>
     requires column { column < 3 }
     requires begun { innings < begun_in score.now }
-    requires numbers { list_all is_number numbers.now ≡ true }
+    requires numbers { list_all is_player numbers.now ≡ true }
     ensures text { ForEachHistory score.now (λ n h. OnOk result (Prints W.contents out.old out.new
         (waiting.waiting sheet.now h innings column numbers.now))) }
     ensures failed { OnErr result (has_failed out.new ≡ true) }

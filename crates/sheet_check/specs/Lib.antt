@@ -1,9 +1,8 @@
 -- What is claimed: what is wrong with a sheet, Faults; with its table of stations, Stations; with what it limits, Limits; how all are
--- told, Reports; how a sheet is shown, Shown. inner: for private functions only.
+-- told, Reports; how a sheet is shown, Shown.
 pub mod Faults
 pub mod Letters
 pub mod Stations
 pub mod Limits
 pub mod Reports
 pub mod Shown
-pub mod inner

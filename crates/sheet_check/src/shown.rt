@@ -3,7 +3,7 @@
 ghost use Rattle.std.specs.Prelude.{◌≡◌, ◌++◌, codes, decimal, string_bytes, true, IfOk, OnOk};
 ghost use Rattle.std.specs.List.{list_all};
 ghost use Rattle.sheet_check.specs.Shown as texts;
-ghost use Rattle.sheet_check.specs.inner.Numbers.{is_number};
+ghost use Rattle.notation.specs.Written.{is_player};
 
 use crate::putting::push_number;
 use cards::MatchSheet;
@@ -38,7 +38,7 @@ fn push_players(
     side: Side,
     numbers: &[u8],
 ) -> Result<(), AllocError>
-    requires { list_all is_number numbers.now ≡ true }
+    requires { list_all is_player numbers.now ≡ true }
     ensures { OnOk result (string_bytes out.new ≡ string_bytes out.old ++ texts.players sheet.now side numbers.now) }
 {
     let Some((number, more)) = numbers.split_first() else {

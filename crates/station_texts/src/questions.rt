@@ -5,9 +5,9 @@ ghost use Rattle.std.specs.List.{list_all};
 ghost use Rattle.cards.specs.Sheet.{team_of};
 ghost use Rattle.shorthand.specs.Candidates.{candidates, has_beginning};
 ghost use Rattle.streams.specs.Watched.{Prints, has_failed};
+ghost use Rattle.notation.specs.Written.{is_player};
 ghost use Rattle.screen.specs.Sides.{listed};
 ghost use Rattle.station_texts.specs.Questions as questions;
-ghost use Rattle.station_texts.specs.inner.Telling.{is_number};
 
 use cards::MatchSheet;
 use notation::{LineFault, Player, Side};
@@ -34,7 +34,7 @@ fn print_those<W: Sink>(
     numbers: &[u8],
     is_first: bool,
 ) -> Result<(), WriteFailed>
-    requires { list_all is_number numbers.now ≡ true }
+    requires { list_all is_player numbers.now ≡ true }
     ensures text { OnOk result (Prints W.contents out.old out.new
         (listed (team_of sheet.now side) is_first
         (filter (λ n. has_beginning (team_of sheet.now side) beginning.now n) numbers.now))) }

@@ -1,5 +1,5 @@
 -- The rows of what differs among some changes, where so many rows were told before.
-use Rattle.std.specs.Prelude.{◌≡◌, ⊤, ℕ, ◌+◌, ◌&&◌, nat_le, nat_lt, if◌then◌else◌, Bool, List, [], ◌∷◌, ◌++◌, Option, Result, Ok, Err}
+use Rattle.std.specs.Prelude.{◌≡◌, ⊤, ℕ, ◌+◌, ◌&&◌, nat_lt, if◌then◌else◌, Bool, List, [], ◌∷◌, ◌++◌, Option, Result, Ok, Err}
 use Rattle.std.specs.Io.KnownBytes.{Appends}
 use Rattle.match_laws.specs.History.{one_if}
 use Rattle.cards.specs.Sheet.{Sheet}
@@ -10,10 +10,6 @@ use Rattle.changes.specs.Stage.{Stage}
 use Rattle.changes.specs.Changes.{differs}
 use Rattle.changes.specs.Rows.{row}
 use Rattle.changes.specs.Text.{most}
-
--- a player's number
-abbrev pub is_number : ℕ → Bool
-is_number n = nat_le 1 n && nat_le n 11
 
 -- how many of these differ
 abbrev pub number_of : (Change → Bool) → List Change → ℕ

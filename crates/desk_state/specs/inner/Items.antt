@@ -1,5 +1,5 @@
 -- Items put one by one, and what a walk over them keeps.
-use Rattle.std.specs.Prelude.{ℕ, Bool, false, nat_le, ◌&&◌, if◌then◌else◌, Some, List, [], ◌∷◌}
+use Rattle.std.specs.Prelude.{ℕ, Bool, false, if◌then◌else◌, Some, List, [], ◌∷◌}
 use Rattle.corrections.specs.declared.{placed.Placed.Placed, refusal.Refusal.Refusal}
 use Rattle.corrections.specs.declared.refusal.Refusal.TheVariants.{Law}
 use Rattle.json.specs.Json.{Json}
@@ -7,10 +7,6 @@ use Rattle.json_fields.specs.Values.{number_value}
 use Rattle.desk_state.specs.declared.deliveries.Delivery.{Delivery}
 use Rattle.desk_state.specs.Players.{is_playable}
 use Rattle.desk_state.specs.Over.{last_over, last_with, over_with, this_over}
-
--- a player's number
-abbrev pub is_number : ℕ → Bool
-is_number n = nat_le 1 n && nat_le n 11
 
 -- a delivery is refused only since a place at the wicket is empty
 abbrev pub is_vacancy : Refusal → Bool

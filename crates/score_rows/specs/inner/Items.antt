@@ -1,5 +1,5 @@
 -- The marks of what stands in a book.
-use Rattle.std.specs.Prelude.{ℕ, ◌-◌, List, [], Bool, true, false, nat_le, ◌&&◌, decimal, length}
+use Rattle.std.specs.Prelude.{ℕ, ◌-◌, List, [], Bool, true, false, decimal, length}
 use Rattle.cards.specs.Columns.{spaces}
 use Rattle.notation.specs.declared.entry.Plain.{Plain}
 use Rattle.ball_laws.specs.Over.{counts}
@@ -29,7 +29,3 @@ item_counts _ = 0
 -- what stands before a place, so that it ends in its fourth column
 abbrev pub place_columns : ℕ → List ℕ
 place_columns place = spaces (4 - length (decimal place))
-
--- a player's number
-abbrev pub is_number : ℕ → Bool
-is_number n = nat_le 1 n && nat_le n 11

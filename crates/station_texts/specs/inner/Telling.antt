@@ -1,12 +1,7 @@
 -- What the code asks of what it tells.
-use Rattle.std.specs.Prelude.{ℕ, Bool, nat_le, ◌&&◌}
 use Rattle.notation.specs.Written.{IsEntry}
 use Rattle.station_texts.specs.declared.said.Said.{Said}
 use Rattle.station_texts.specs.declared.said.Said.TheVariants.{Penned, Refused}
-
--- a player's number
-abbrev pub is_number : ℕ → Bool
-is_number n = nat_le 1 n && nat_le n 11
 
 -- the entry that was penned or refused, where one was, has its numbers in their ranges
 abbrev pub IsFine : Said → Type 0
