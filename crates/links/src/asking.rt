@@ -12,8 +12,8 @@ const MOST_TRIES: u32 = 8;
 /// How often a pause is doubled at most.
 const MOST_DOUBLED: u32 = 3;
 
-/// Of how many places, from the one that is asked for on, the votes come with its answer.
-const PLACES_ANSWERED: u32 = 64;
+/// From how many milliseconds on a round trip is long.
+const LONG_TRIP: u64 = 8;
 
 /// A station's last ask, and how long a round trip takes.
 #[derive(Clone, Copy)]
@@ -29,8 +29,6 @@ pub struct Asking {
     is_held: bool,
     /// Whether no earlier ask brings its answer.
     is_first: bool,
-    /// The first place whose votes don't come with what was asked for.
-    unasked: u32,
     /// Whether no vote of its position came yet.
     is_open: bool,
     /// Whether the desks' votes of its position came.
@@ -53,7 +51,6 @@ impl Asking {
             tries: MOST_TRIES,
             is_held: false,
             is_first: true,
-            unasked: 0,
             is_open: false,
             has_a: false,
             has_b: false,
@@ -61,26 +58,32 @@ impl Asking {
         }
     }
 
-    /// How long an answer is waited for: two round trips, and twice as long after each try.
-    fn pause(&self) -> u64 {
+    /// Whether a round trip is long.
+    pub fn has_long_trip(&self) -> bool {
+        self.trip.is_some_and(|trip| trip >= LONG_TRIP)
+    }
+
+    /// How long an answer is waited for: a round trip and a half, and twice as long after each try that brought nothing.
+    pub fn pause(&self) -> u64 {
         let first = match self.trip {
-            Some(trip) => SHORTEST_ASK_PAUSE.max(trip.saturating_mul(2)),
+            Some(trip) => SHORTEST_ASK_PAUSE.max(trip.saturating_add(trip / 2)),
             None => FIRST_ASK_PAUSE,
         };
         let tries = self.tries.min(MOST_DOUBLED);
         LONGEST_ASK_PAUSE.min(first.saturating_mul(1 << tries))
     }
 
-    /// A vote came early: more may come.
+    /// A vote that was lacking came: more may come.
     pub fn follow(&mut self, now: u64)
         ensures { self.new.bytes ≡ self.old.bytes }
     {
         self.last = now;
+        self.tries = 0;
     }
 
     /// Notes an ask of the station's, and answers whether it is said: not while the answer to the same may be on its way,
-    /// or that to an earlier one, behind whose answer its own comes.
-    pub fn ask(&mut self, at: Position, bytes: &[u8; 48], now: u64) -> bool
+    /// or that to an earlier one, which stands for it, where it isn't the first.
+    pub fn ask(&mut self, at: Position, bytes: &[u8; 48], is_first: bool, now: u64) -> bool
         ensures { (self.new.bytes ≡ self.old.bytes) ⊎ (self.new.bytes ≡ Some bytes.now) }
     {
         if self.bytes != Some(*bytes) {
@@ -91,7 +94,7 @@ impl Asking {
             self.has_a = false;
             self.has_b = false;
             self.is_held = true;
-            self.is_first = at.place >= self.unasked;
+            self.is_first = is_first;
         }
         let is_due = (self.is_held && self.is_first) || self.left(now) == 0;
         if is_due {
@@ -110,15 +113,17 @@ impl Asking {
             self.is_held = false;
         }
         self.last = now;
-        if self.is_first {
-            self.unasked = self.at.place.saturating_add(PLACES_ANSWERED);
-        }
     }
 
-    /// Whether the ask for this position may be said once more: it wasn't said yet, or later votes are here, so that its
-    /// answer was lost.
+    /// Whether the ask for this position may be said without the station's doing: it wasn't said yet, or later votes are here,
+    /// so that votes were lost.
     pub fn may_say_again(&self, at: Position, has_later: bool) -> bool {
-        at == self.at && (self.is_held || (has_later && self.tries < MOST_TRIES))
+        let is_due = if has_later {
+            self.tries < MOST_TRIES
+        } else {
+            self.is_held
+        };
+        at == self.at && is_due
     }
 
     /// How long it is until then: nothing that was lacking came for so long.
@@ -126,15 +131,21 @@ impl Asking {
         self.last.saturating_add(self.pause()).saturating_sub(now)
     }
 
-    /// The ask, to be said once more.
+    /// The ask, to be said for all that it stands for.
     pub fn say_again(&mut self, now: u64) -> Option<[u8; 48]>
         ensures stays { self.new.bytes ≡ self.old.bytes }
         ensures value { result ≡ self.new.bytes }
     {
-        if !self.is_held {
-            self.tries = self.tries.saturating_add(1);
-        }
         self.say(now);
+        self.bytes
+    }
+
+    /// The ask, to be said where its answer was lost.
+    pub fn try_again(&mut self) -> Option<[u8; 48]>
+        ensures stays { self.new.bytes ≡ self.old.bytes }
+        ensures value { result ≡ self.new.bytes }
+    {
+        self.tries = self.tries.saturating_add(1);
         self.bytes
     }
 
@@ -155,7 +166,7 @@ impl Asking {
         if at != self.at || !self.is_news(desk) {
             return;
         }
-        self.last = now;
+        self.follow(now);
         if !self.is_open {
             return;
         }

@@ -1,9 +1,11 @@
-//! Places that a peer's ask stands for: those behind it.
+//! Places that a peer's ask stands for: those behind it in its block.
 
+use crate::catch_up::{BLOCK, end_of_block};
+use agree_core::PLACES;
 use waits::{WINDOW_PAUSE, WINDOW_REFILL};
 
-/// How many places behind an ask are asked for with it.
-const PLACES_BEHIND: u32 = 63;
+/// How many blocks a book has.
+const BLOCKS: usize = (PLACES / BLOCK) as usize;
 
 /// How many peers are known apart.
 const PEERS: usize = 8;
@@ -16,8 +18,8 @@ const MOST_WINDOWS: u32 = 130;
 struct Order {
     next: u32,
     until: u32,
-    /// When it was opened.
-    at: u64,
+    /// From when on each block may be asked for as one.
+    rests: [u64; BLOCKS],
     /// How many more may be opened, and when the last was added.
     left: u32,
     refilled: u64,
@@ -27,7 +29,7 @@ impl Order {
     const NONE: Order = Order {
         next: 0,
         until: 0,
-        at: 0,
+        rests: [0; BLOCKS],
         left: MOST_WINDOWS,
         refilled: 0,
     };
@@ -46,9 +48,17 @@ impl Order {
         }
     }
 
-    /// Whether a window behind this place may be opened: there was none lately that went so far, and one is left.
-    fn may_open(&self, place: u32, now: u64) -> bool {
-        self.left > 0 && (self.until <= place || now >= self.at.saturating_add(WINDOW_PAUSE))
+    /// An ask for this place was answered: those behind it in its block are asked for too, unless the block was lately.
+    fn open(&mut self, place: u32, now: u64) {
+        self.refill(now);
+        let block = (place / BLOCK) as usize;
+        if self.left == 0 || block >= BLOCKS || now < self.rests[block] {
+            return;
+        }
+        self.next = place.saturating_add(1);
+        self.until = end_of_block(place);
+        self.rests[block] = now.saturating_add(WINDOW_PAUSE);
+        self.left = self.left.saturating_sub(1);
     }
 }
 
@@ -68,37 +78,26 @@ impl Company {
 
     /// A peer's ask for this place was answered: those behind it are asked for too, where they may be.
     pub fn open(&mut self, peer: usize, place: u32, now: u64) {
-        if peer >= PEERS {
-            return;
+        if peer < PEERS {
+            self.orders[peer].open(place, now);
         }
-        let mut order = self.orders[peer];
-        order.refill(now);
-        if order.may_open(place, now) {
-            order.next = place.saturating_add(1);
-            order.until = place.saturating_add(1 + PLACES_BEHIND);
-            order.at = now;
-            order.left = order.left.saturating_sub(1);
-        }
-        self.orders[peer] = order;
     }
 
     /// A peer's window ends here: there was no answer.
     pub fn close(&mut self, peer: usize) {
         if peer < PEERS {
-            let mut order = self.orders[peer];
+            let order = &mut self.orders[peer];
             order.until = order.until.min(order.next);
-            self.orders[peer] = order;
         }
     }
 
     /// The next place of a window, and whose it is.
     pub fn next(&mut self) -> Option<(usize, u32)> {
         for peer in 0..PEERS {
-            let mut order = self.orders[peer];
+            let order = &mut self.orders[peer];
             if order.next < order.until {
                 let place = order.next;
                 order.next = place.saturating_add(1);
-                self.orders[peer] = order;
                 return Some((peer, place));
             }
         }

@@ -4,15 +4,16 @@ ghost use Rattle.std.specs.Prelude.{◌≡◌, [], IfSome};
 ghost use Rattle.std.specs.BTreeMap.{values};
 ghost use Rattle.links.specs.Windows.{AreOf, AreOfOr, Has};
 
+use crate::catch_up::PLACES_AHEAD;
 use agree_core::{Asker, DeskId, Position, Vote};
 use std::alloc::Global;
 use std::collections::BTreeMap;
 
-/// How many places ahead of the station's own a vote is kept.
-const PLACES_AHEAD: u32 = 64;
+/// How many votes are kept at most: both desks'.
+const MOST_KEPT: usize = 4_096;
 
-/// How many votes are kept at most.
-const MOST_KEPT: usize = 128;
+/// How many votes on end aren't lost one by one: what asked for them was lost, or they aren't cast.
+const MANY_LOST: u32 = 16;
 
 /// Whether a station has to hear this desk's votes: they aren't its own.
 pub fn hears(from: Asker, desk: DeskId) -> bool {
@@ -120,6 +121,19 @@ impl EarlyVotes {
         let at = Position { place, round: 0 };
         let desk = desk.number();
         self.votes.contains_key(&Ballot { at, desk })
+    }
+
+    /// Whether none of this desk is kept for many places on end, from this one on to before the other.
+    pub fn lacks_many(&self, desk: DeskId, from: u32, end: u32) -> bool {
+        if end.saturating_sub(from) < MANY_LOST {
+            return false;
+        }
+        for place in from..end.min(from.saturating_add(MANY_LOST)) {
+            if self.has_at(desk, place) {
+                return false;
+            }
+        }
+        true
     }
 
     fn has(&self, desk: DeskId) -> bool {

@@ -6,6 +6,7 @@ ghost use Rattle.links.specs.Windows.{AreOf, AreOfOr, Has};
 ghost use Rattle.links.specs.declared.link.Taken.{Taken};
 
 use crate::asking::Asking;
+use crate::catch_up::{CatchUp, PLACES_AHEAD};
 use crate::early::{EarlyVotes, hears};
 use crate::link::Taken;
 use agree_core::{Ask, Asker, DeskId, Message, Position, Vote};
@@ -62,6 +63,7 @@ pub enum Given {
 pub struct Known {
     pub early: EarlyVotes,
     pub asking: Asking,
+    catch_up: CatchUp,
     pub given: Given,
     /// As whom the station asks.
     pub from: Asker,
@@ -77,6 +79,7 @@ impl Known {
         Known {
             early: EarlyVotes::new(alloc),
             asking: Asking::new(),
+            catch_up: CatchUp::new(),
             given: Given::Other,
             from: Asker::Board,
             voters: Voters { a: None, b: None },
@@ -94,6 +97,50 @@ impl Known {
         self.asking.may_say_again(self.early.position(), has_later)
     }
 
+    /// How long it is until it is said.
+    pub fn left(&self, now: u64) -> u64 {
+        if self.early.is_empty() {
+            return self.asking.left(now);
+        }
+        self.catch_up.left(self.asking.pause(), now)
+    }
+
+    /// The station's ask, to be said now, or, where later votes are here, to be said for what was lost.
+    pub fn say_again(&mut self, now: u64) -> Option<[u8; 48]>
+        ensures votes { AreOf (values self.new.early.votes) (values self.old.early.votes) }
+        ensures stays { self.new.asking.bytes ≡ self.old.asking.bytes }
+        ensures value { result ≡ self.new.asking.bytes }
+    {
+        if self.early.is_empty() {
+            return self.asking.say_again(now);
+        }
+        self.catch_up.ask_again(now);
+        self.asking.try_again()
+    }
+
+    /// The first place of the next block that is asked for ahead, where one is.
+    pub fn next_block(&mut self) -> Option<u32>
+        ensures votes { self.new.early ≡ self.old.early }
+        ensures stays { self.new.asking ≡ self.old.asking }
+    {
+        let at = self.early.position().place;
+        let is_long = self.asking.has_long_trip();
+        self.catch_up.next_block(self.from, at, is_long)
+    }
+
+    /// Whether nothing that was lacking came for a pause.
+    pub fn is_silent(&self, now: u64) -> bool {
+        self.asking.left(now) == 0
+    }
+
+    /// The first place whose vote of this desk may be on its way. Where a round trip is long, answers are over after a pause
+    /// even if others still come.
+    pub fn lost_until(&self, desk: DeskId, is_silent: bool) -> u32 {
+        let end = self.early.position().place.saturating_add(PLACES_AHEAD);
+        let is_over = is_silent || self.asking.has_long_trip();
+        self.catch_up.lost_until(desk, is_over).min(end)
+    }
+
     /// Notes an ask of the station's, and answers whether it is handed down.
     fn note_ask(&mut self, ask: &Ask, bytes: &[u8; 48], now: u64) -> bool
         ensures votes { AreOf (values self.new.early.votes) (values self.old.early.votes) }
@@ -108,7 +155,12 @@ impl Known {
         if self.early.answers(ask.from) {
             return false;
         }
-        self.asking.ask(at, bytes, now)
+        let is_first = self.catch_up.is_first(at.place);
+        let is_said = self.asking.ask(at, bytes, is_first, now);
+        if is_said {
+            self.catch_up.ask(at.place);
+        }
+        is_said
     }
 
     /// Notes what the station says, in the match of this number, and answers whether it is handed down.
@@ -136,6 +188,7 @@ impl Known {
             return true;
         }
         self.voters.note(vote.desk, peer);
+        self.catch_up.hear(vote.desk, vote.place);
         if self.early.is_early(vote.position()) {
             if self.early.keep(vote, bytes) {
                 self.asking.follow(now);

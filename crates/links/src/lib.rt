@@ -5,6 +5,7 @@
 mod aside;
 mod asking;
 mod asks;
+mod catch_up;
 mod clock;
 mod company;
 mod early;

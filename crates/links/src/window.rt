@@ -4,6 +4,7 @@ ghost use Rattle.std.specs.Prelude.{◌≡◌, ◌≤◌, ℕ, List, [], IfSome,
 ghost use Rattle.links.specs.Windows.{IsAsk, IsBrought, IsFaithful, IsHanded, IsKept};
 
 use crate::asks::ask_for;
+use crate::catch_up::{BLOCK, PLACES_AHEAD, end_of_block};
 use crate::clock::Clock;
 use crate::company::Company;
 use crate::early::hears;
@@ -138,28 +139,45 @@ impl<L: PeerLink, C: Clock> Window<L, C> {
         }
     }
 
-    /// Asks a desk for what is lacking of it, where later votes of it are here, so that it was lost.
-    fn ask_desk(&mut self, desk: DeskId, bytes: &[u8; 48])
-        requires { IsHanded self.old.game self.old.above bytes.now }
+    /// Asks a desk for its votes that are lacking of the places from the one on to before the other, of one block. Where many on
+    /// end are, the first stands for them.
+    fn ask_block(&mut self, desk: DeskId, from: u32, end: u32)
         ensures kept { IsKept self.old self.new }
     {
-        if self.known.early.lacks(self.known.from, desk) {
-            self.send_to_voter(desk, bytes);
-        }
-        let end = self.known.early.position().place.saturating_add(64);
-        let mut has_later = false;
-        for behind in 0..64 {
-            let place = end.saturating_sub(behind);
+        let mut is_asked = false;
+        for place in from..end {
             if self.known.early.has_at(desk, place) {
-                has_later = true;
-            } else if has_later {
+                is_asked = false;
+            } else if !is_asked {
+                is_asked = self.known.early.lacks_many(desk, place, end);
                 self.ask_for_vote(desk, place);
             }
         }
     }
 
-    /// Hands the station's ask to all, or, where later votes are here, asks each desk for what is lacking of it.
-    fn ask(&mut self, bytes: &[u8; 48])
+    /// Asks a desk for what was lost of it: the vote of the station's position, and those of the places behind it.
+    fn ask_desk(&mut self, desk: DeskId, bytes: &[u8; 48], is_silent: bool)
+        requires { IsHanded self.old.game self.old.above bytes.now }
+        ensures kept { IsKept self.old self.new }
+    {
+        let end = self.known.lost_until(desk, is_silent);
+        let mut from = self.known.early.position().place;
+        if (is_silent || from < end) && self.known.early.lacks(self.known.from, desk) {
+            self.send_to_voter(desk, bytes);
+        }
+        from = from.saturating_add(1);
+        for _ in 0..=PLACES_AHEAD / BLOCK {
+            if from >= end {
+                break;
+            }
+            let behind = end_of_block(from).min(end);
+            self.ask_block(desk, from, behind);
+            from = behind;
+        }
+    }
+
+    /// Hands the station's ask to all, or, where later votes are here, asks each desk for what was lost of it.
+    fn ask(&mut self, bytes: &[u8; 48], is_silent: bool)
         requires { IsHanded self.old.game self.old.above bytes.now }
         ensures kept { IsKept self.old self.new }
     {
@@ -168,10 +186,10 @@ impl<L: PeerLink, C: Clock> Window<L, C> {
             return;
         }
         if hears(self.known.from, DeskId::A) {
-            self.ask_desk(DeskId::A, bytes);
+            self.ask_desk(DeskId::A, bytes, is_silent);
         }
         if hears(self.known.from, DeskId::B) {
-            self.ask_desk(DeskId::B, bytes);
+            self.ask_desk(DeskId::B, bytes, is_silent);
         }
     }
 
@@ -179,9 +197,10 @@ impl<L: PeerLink, C: Clock> Window<L, C> {
     fn say_again(&mut self, now: u64)
         ensures kept { IsKept self.old self.new }
     {
-        if let Some(bytes) = self.known.asking.say_again(now) {
+        let is_silent = self.known.is_silent(now);
+        if let Some(bytes) = self.known.say_again(now) {
             self.silence.end(now);
-            self.ask(&bytes);
+            self.ask(&bytes, is_silent);
         }
     }
 
@@ -189,13 +208,28 @@ impl<L: PeerLink, C: Clock> Window<L, C> {
     fn ask_again(&mut self, wait: u64, now: u64) -> u64
         ensures kept { IsKept self.old self.new }
     {
-        if self.known.may_ask_again() && self.known.asking.left(now) == 0 {
+        if self.known.may_ask_again() && self.known.left(now) == 0 {
             self.say_again(now);
         }
         if self.known.may_ask_again() {
-            wait.min(self.known.asking.left(now))
+            wait.min(self.known.left(now))
         } else {
             wait
+        }
+    }
+
+    /// Asks for the next block ahead, where it is time for it.
+    fn ask_ahead(&mut self)
+        ensures kept { IsKept self.old self.new }
+    {
+        let Some(place) = self.known.next_block() else {
+            return;
+        };
+        if hears(self.known.from, DeskId::A) {
+            self.ask_for_vote(DeskId::A, place);
+        }
+        if hears(self.known.from, DeskId::B) {
+            self.ask_for_vote(DeskId::B, place);
         }
     }
 
@@ -250,6 +284,7 @@ impl<L: PeerLink, C: Clock> Window<L, C> {
         }
         let now = self.clock.millis();
         let wait = self.ask_again(wait, now);
+        self.ask_ahead();
         self.break_silence(now);
         self.brought(buffer, wait)
     }

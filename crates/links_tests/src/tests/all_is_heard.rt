@@ -4,6 +4,7 @@ ghost use Rattle.std.specs.Prelude.{◌≡◌, ◌<◌};
 
 use super::*;
 use links::{Link, Log, PeerLink, Taken, Window};
+use std::mem;
 use tests_support::{entry_in, vote_of};
 use wire::message_of;
 
@@ -13,11 +14,16 @@ const LENGTH: usize = 192;
 /// How many votes that are.
 const VOTES: usize = 2 * LENGTH;
 
+/// How many blocks of 64 places they have.
+const BLOCKS: usize = VOTES / 64;
+
 /// What both desks answer to asks, and which votes are on their way, desk A's first.
 #[derive(Drop)]
 struct Network {
     random: u64,
     on_its_way: [bool; VOTES],
+    /// Which blocks were answered.
+    is_answered: [bool; BLOCKS],
     /// One datagram in so many is lost.
     lost: Option<u64>,
 }
@@ -49,12 +55,30 @@ impl Network {
         }
     }
 
-    /// A desk answers an ask for a place: by its votes for this one and the 63 behind it.
+    /// Whether this vote's block was answered before. From now on it was.
+    fn answers_again(&mut self, vote: usize) -> bool {
+        match self.is_answered.get_mut(vote / 64) {
+            Some(it) => mem::replace(it, true),
+            None => true,
+        }
+    }
+
+    /// A desk answers an ask for a place: by its votes for this one and those behind it in its block, or, where it did so
+    /// before, by this one alone.
     fn answer(&mut self, desk: usize, place: u32) {
-        for behind in 0..64 {
-            let place = (place as usize).saturating_add(behind);
-            if place < LENGTH && !self.is_lost() {
-                self.set(desk.saturating_mul(LENGTH).saturating_add(place), true);
+        let place = place as usize;
+        if place >= LENGTH {
+            return;
+        }
+        let vote = desk.saturating_mul(LENGTH).saturating_add(place);
+        let count = if self.answers_again(vote) {
+            1
+        } else {
+            64 - place % 64
+        };
+        for behind in 0..count {
+            if !self.is_lost() {
+                self.set(vote.saturating_add(behind), true);
             }
         }
     }
@@ -205,6 +229,7 @@ fn hears(alloc: Global, seed: u64, lost: Option<u64>, most: u64) -> bool {
     let network = Network {
         random: seed,
         on_its_way: [false; VOTES],
+        is_answered: [false; BLOCKS],
         lost,
     };
     let line = Line {

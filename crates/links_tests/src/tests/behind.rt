@@ -211,7 +211,7 @@ fn an_ask_stands_for_those_behind_it(rt: HostRuntime) {
     is_silent(&rt, &mut window);
     has_sent(&rt, &world, 0);
     has_sent_back(&rt, &world, 64);
-    // within what was asked for so the same peer's ask stands for itself alone, and behind it for others
+    // within a block that was asked for so the same peer's ask stands for itself alone, in the next for others
     world.peer.set(2);
     is_answered(&rt, &mut window, &world, 5);
     is_silent(&rt, &mut window);
@@ -219,9 +219,28 @@ fn an_ask_stands_for_those_behind_it(rt: HostRuntime) {
     gives(&rt, &mut window, &ask_at(Asker::Board, 65, 0));
     // without an answer it ends
     is_silent(&rt, &mut window);
+    // and it stands for no more than its block has
+    is_answered(&rt, &mut window, &world, 190);
+    goes_on(&rt, &mut window, &world, 191);
+    is_silent(&rt, &mut window);
 }
 
-// An ask every 10 ms, of which each may stand for those behind it: 130 do, and one more every 100 ms.
+#[test]
+fn a_block_may_be_asked_for_again_after_half_a_second(rt: HostRuntime) {
+    let world = World::new();
+    let mut window = windowed(rt.alloc(), &world);
+    world.now.set(1_000);
+    is_answered(&rt, &mut window, &world, 62);
+    gives(&rt, &mut window, &ask_at(Asker::Board, 63, 0));
+    world.now.set(1_499);
+    is_answered(&rt, &mut window, &world, 62);
+    is_silent(&rt, &mut window);
+    world.now.set(1_500);
+    is_answered(&rt, &mut window, &world, 62);
+    gives(&rt, &mut window, &ask_at(Asker::Board, 63, 0));
+}
+
+// An ask every 10 ms, each of another block, so that it may stand for those behind it: 130 do, and one more every 100 ms.
 #[test]
 fn a_peer_has_so_many_windows(rt: HostRuntime) {
     let world = World::new();
@@ -229,7 +248,7 @@ fn a_peer_has_so_many_windows(rt: HostRuntime) {
     let mut opened: u32 = 0;
     for turn in 0..600_u32 {
         world.now.set(u64::from(turn) * 10);
-        is_answered(&rt, &mut window, &world, turn * 2);
+        is_answered(&rt, &mut window, &world, turn % 128 * 64);
         opened = opened.saturating_add(u32::from(kept(&mut window).is_some()));
         is_silent(&rt, &mut window);
     }
@@ -297,8 +316,8 @@ fn what_is_far_ahead_or_forged_is_not_kept(rt: HostRuntime) {
     let world = World::new();
     let mut window = windowed(rt.alloc(), &world);
     window.send(&ask_at(Asker::B, 0, 0));
-    hears(&rt, &mut window, &world, DeskId::A, 65);
-    hears(&rt, &mut window, &world, DeskId::A, 64);
+    hears(&rt, &mut window, &world, DeskId::A, 2_049);
+    hears(&rt, &mut window, &world, DeskId::A, 2_048);
     // bytes that don't open change nothing of when an ask is said
     world.now.set(19);
     is_unopened(&rt, &mut window, &world, 0);
@@ -306,6 +325,10 @@ fn what_is_far_ahead_or_forged_is_not_kept(rt: HostRuntime) {
     world.now.set(20);
     window.send(&ask_at(Asker::B, 1, 0));
     has_sent(&rt, &world, 2);
+    window.send(&ask_at(Asker::B, 2_048, 0));
+    gives(&rt, &mut window, &over(&rt, DeskId::A, 2_048, 0));
+    window.send(&ask_at(Asker::B, 2_049, 0));
+    is_silent(&rt, &mut window);
 }
 
 #[test]
@@ -324,13 +347,14 @@ fn an_ask_is_said_again_where_later_votes_are_here(rt: HostRuntime) {
         (59, 1, 1),
         (60, 2, 80),
         (139, 2, 1),
-        (140, 3, 160),
+        (140, 4, 160),
     ] {
         rests(&rt, &mut window, &world, now, waited);
         has_sent_back(&rt, &world, back);
     }
     has_sent(&rt, &world, 1);
-    has_said(&rt, &world, &ask);
+    // at last for what may stand behind the later vote too
+    has_said(&rt, &world, &ask_at(Asker::B, 2, 0));
 }
 
 /// Hands down an ask, or not, at this time.
@@ -348,19 +372,20 @@ fn asks(
 }
 
 #[test]
-fn an_answer_is_waited_for_two_round_trips(rt: HostRuntime) {
+fn an_answer_is_waited_for_a_round_trip_and_a_half(rt: HostRuntime) {
     let world = World::new();
     let mut window = windowed(rt.alloc(), &world);
     window.send(&ask_at(Asker::B, 0, 0));
     world.now.set(30);
     hears(&rt, &mut window, &world, DeskId::A, 0);
     let ask = ask_at(Asker::B, 64, 0);
-    for (now, sent) in [(30, 2), (89, 2), (90, 3), (149, 3), (150, 4)] {
+    for (now, sent) in [(30, 2), (74, 2), (75, 3), (119, 3), (120, 4)] {
         asks(&rt, &mut window, &world, now, &ask, sent);
     }
 }
 
-// What is asked for brings the votes of 64 places: an ask for one of these waits until nothing that is lacking came for two round trips.
+// What is asked for brings the votes of its block: an ask for one of these waits until nothing that is lacking came for a pause,
+// or later votes show that its own were lost.
 #[test]
 fn an_ask_waits_for_what_was_asked_before(rt: HostRuntime) {
     let world = World::new();
@@ -368,20 +393,77 @@ fn an_ask_waits_for_what_was_asked_before(rt: HostRuntime) {
     window.send(&ask_at(Asker::B, 0, 0));
     world.now.set(30);
     hears(&rt, &mut window, &world, DeskId::A, 0);
-    hears(&rt, &mut window, &world, DeskId::A, 2);
     let ask = ask_at(Asker::B, 1, 0);
     asks(&rt, &mut window, &world, 50, &ask, 1);
     hears(&rt, &mut window, &world, DeskId::A, 3);
-    for (now, back, waited) in [(50, 0, 60), (109, 0, 1), (110, 1, 60), (111, 1, 59)] {
+    // places 1 and 2, and twice as long after
+    for (now, back, waited) in [(50, 2, 90), (139, 2, 1), (140, 4, 180), (141, 4, 179)] {
         rests(&rt, &mut window, &world, now, waited);
         has_sent_back(&rt, &world, back);
     }
-    has_said(&rt, &world, &ask);
+    has_said(&rt, &world, &ask_at(Asker::B, 2, 0));
+    hears(&rt, &mut window, &world, DeskId::A, 4);
     // the ask for 0 brings the votes of 0 to 63, that for 64 those of 64 to 127
-    asks(&rt, &mut window, &world, 111, &ask_at(Asker::B, 63, 0), 1);
-    asks(&rt, &mut window, &world, 111, &ask_at(Asker::B, 64, 0), 2);
-    asks(&rt, &mut window, &world, 111, &ask_at(Asker::B, 127, 0), 2);
-    asks(&rt, &mut window, &world, 111, &ask_at(Asker::B, 128, 0), 3);
+    asks(&rt, &mut window, &world, 141, &ask_at(Asker::B, 63, 0), 1);
+    asks(&rt, &mut window, &world, 141, &ask_at(Asker::B, 64, 0), 2);
+    asks(&rt, &mut window, &world, 141, &ask_at(Asker::B, 127, 0), 2);
+    asks(&rt, &mut window, &world, 141, &ask_at(Asker::B, 128, 0), 3);
+}
+
+/// A board has both votes of a place, and asks for the next.
+fn agrees(rt: &impl Abort, window: &mut Windowed<'_>, world: &World, place: u32)
+    requires { place + 1 < PLACES }
+{
+    hears(rt, window, world, DeskId::A, place);
+    hears(rt, window, world, DeskId::B, place);
+    window.send(&ask_at(Asker::Board, place + 1, 0));
+}
+
+// So many places are asked for ahead as came, and no more than a block behind them where a round trip is short.
+#[test]
+fn what_is_ahead_is_asked_for_as_votes_come(rt: HostRuntime) {
+    let world = World::new();
+    let mut window = windowed(rt.alloc(), &world);
+    window.send(&ask_at(Asker::Board, 0, 0));
+    for place in 0..33 {
+        agrees(&rt, &mut window, &world, place);
+    }
+    has_sent_back(&rt, &world, 0);
+    is_silent(&rt, &mut window);
+    has_sent_back(&rt, &world, 2);
+    has_said(&rt, &world, &ask_at(Asker::Board, 64, 0));
+    for place in 33..65 {
+        agrees(&rt, &mut window, &world, place);
+    }
+    is_silent(&rt, &mut window);
+    has_sent_back(&rt, &world, 4);
+    has_said(&rt, &world, &ask_at(Asker::Board, 128, 0));
+    is_silent(&rt, &mut window);
+    has_sent_back(&rt, &world, 4);
+    has_sent(&rt, &world, 1);
+}
+
+// Where many votes on end are lacking their ask was lost: it is said again for the first of them.
+#[test]
+fn a_lost_block_is_asked_for_as_one(rt: HostRuntime) {
+    let world = World::new();
+    let mut window = windowed(rt.alloc(), &world);
+    window.send(&ask_at(Asker::B, 0, 0));
+    for place in 0..34 {
+        hears(&rt, &mut window, &world, DeskId::A, place);
+        window.send(&ask_at(Asker::B, place + 1, 0));
+    }
+    for place in 35..48 {
+        hears(&rt, &mut window, &world, DeskId::A, place);
+    }
+    // of 48 to 127 nothing came: once they are late 48 and 64 are asked for
+    has_sent_back(&rt, &world, 1);
+    for (now, back) in [(4, 2), (12, 3), (28, 6)] {
+        world.now.set(now);
+        is_silent(&rt, &mut window);
+        has_sent_back(&rt, &world, back);
+    }
+    has_said(&rt, &world, &ask_at(Asker::B, 64, 0));
 }
 
 /// Where nothing comes at this time, nothing is given, so many datagrams were sent to all, and this was the last.

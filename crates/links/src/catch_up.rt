@@ -1,0 +1,133 @@
+//! How far a station that is behind asks, and how far each desk's votes came.
+
+use agree_core::{Asker, DeskId, PLACES};
+
+/// How many places a block has. An ask for one of them stands for those behind it in its block.
+pub const BLOCK: u32 = 64;
+
+/// How many places ahead of the station's own votes are kept.
+pub const PLACES_AHEAD: u32 = 2_048;
+
+/// How many places at most are asked for ahead of what came, so that no socket overflows.
+const FEW_ASKED: u32 = 64;
+
+/// How many where a round trip is long: most of them are on their way.
+const MANY_ASKED: u32 = 192;
+
+/// The first place behind the block of this place.
+pub fn end_of_block(place: u32) -> u32 {
+    (place / BLOCK).saturating_add(1).saturating_mul(BLOCK)
+}
+
+/// What a station that is behind has asked for, and what of it came.
+#[derive(Clone, Copy)]
+pub struct CatchUp {
+    /// Where it began.
+    from: u32,
+    /// The first place of the next block that isn't asked for.
+    unasked: u32,
+    /// The first places behind each desk's votes that came of what was asked for.
+    heard_a: u32,
+    heard_b: u32,
+    /// When what was lost was asked for last.
+    last: u64,
+    /// The first places that weren't asked for then, and the last two times before.
+    unasked_then: u32,
+    unasked_before: u32,
+    unasked_first: u32,
+}
+
+impl CatchUp {
+    /// Nothing was asked yet.
+    pub fn new() -> CatchUp {
+        CatchUp {
+            from: 0,
+            unasked: 0,
+            heard_a: 0,
+            heard_b: 0,
+            last: 0,
+            unasked_then: 0,
+            unasked_before: 0,
+            unasked_first: 0,
+        }
+    }
+
+    /// Whether no earlier ask stands for this place.
+    pub fn is_first(&self, place: u32) -> bool {
+        place >= self.unasked
+    }
+
+    /// The station asks for this place.
+    pub fn ask(&mut self, place: u32) {
+        if self.is_first(place) {
+            self.from = place;
+            self.unasked = end_of_block(place);
+        }
+    }
+
+    /// A vote of this desk came for this place.
+    pub fn hear(&mut self, desk: DeskId, place: u32) {
+        if self.is_first(place) {
+            return;
+        }
+        let behind = place.saturating_add(1);
+        match desk {
+            DeskId::A => self.heard_a = self.heard_a.max(behind),
+            DeskId::B => self.heard_b = self.heard_b.max(behind),
+        }
+    }
+
+    /// The first place behind all that came of the desks that this station hears.
+    fn heard_by(&self, from: Asker) -> u32 {
+        match from {
+            Asker::A => self.heard_b,
+            Asker::B => self.heard_a,
+            Asker::Board => self.heard_a.min(self.heard_b),
+        }
+    }
+
+    /// The next block that a station at this place asks for, where it may: at first as many places as came, and then no more
+    /// than may be on their way.
+    pub fn next_block(&mut self, from: Asker, at: u32, is_long: bool) -> Option<u32> {
+        let heard = self.heard_by(from);
+        let most = if is_long { MANY_ASKED } else { FEW_ASKED };
+        let ahead = most.min(heard.saturating_sub(self.from));
+        let place = self.unasked;
+        let behind = place.saturating_add(BLOCK);
+        if place <= at || place >= heard.saturating_add(ahead) || place >= PLACES {
+            return None;
+        }
+        if behind > at.saturating_add(PLACES_AHEAD) {
+            return None;
+        }
+        self.unasked = behind;
+        Some(place)
+    }
+
+    /// How long it is until what was lost is asked for, with this pause.
+    pub fn left(&self, pause: u64, now: u64) -> u64 {
+        self.last.saturating_add(pause).saturating_sub(now)
+    }
+
+    /// What was lost is asked for now.
+    pub fn ask_again(&mut self, now: u64) {
+        self.last = now;
+        self.unasked_first = self.unasked_before;
+        self.unasked_before = self.unasked_then;
+        self.unasked_then = self.unasked;
+    }
+
+    /// The first place whose vote of this desk may be on its way: those before it came, or were lost. A desk answers in order.
+    /// Where its answers are over, so is what was asked for two pauses ago.
+    pub fn lost_until(&self, desk: DeskId, is_over: bool) -> u32 {
+        let heard = match desk {
+            DeskId::A => self.heard_a,
+            DeskId::B => self.heard_b,
+        };
+        if is_over {
+            heard.max(self.unasked_first)
+        } else {
+            heard
+        }
+    }
+}
