@@ -77,6 +77,7 @@ impl<L: PeerLink, C: Clock> Window<L, C> {
         requires { L.log link ≡ [] }
         ensures game { result.game ≡ game }
         ensures above { result.above ≡ [] }
+        ensures below { result.below ≡ [] }
     {
         Window {
             link,
