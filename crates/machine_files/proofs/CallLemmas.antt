@@ -6,14 +6,14 @@ use Rattle.machine_files.specs.Calls.{Call, Asked, Done, Failed, Adds, AddsUntil
 pub first_failed : (old new : Option (List Call)) (first : Asked) (rest : List Asked)
     → Adds old new (Failed first) → AddsUntilFailed old new (first ∷ rest)
 unfolding FailsAmid
-first_failed None new first rest added = tt
+first_failed None new first rest added = added
 first_failed (Some old) new first rest added = inl added
 
 -- the first was done, and one of the others failed
 pub later_failed : (old mid new : Option (List Call)) (first : Asked) (rest : List Asked)
     → Adds old mid (Done first) → AddsUntilFailed mid new rest → AddsUntilFailed old new (first ∷ rest)
 unfolding FailsAmid
-later_failed None mid new first rest added later = tt
+later_failed None mid new first rest added later = rw added at later
 later_failed (Some old) mid new first rest added later = inr (rw added at later)
 
 -- what holds in any case holds after a failure

@@ -1,25 +1,25 @@
--- What a file was asked to change or to keep, and what it answered.
-use Rattle.std.specs.Prelude.{◌≡◌, ◌⊎◌, ⊤, ℕ, List, [], ◌∷◌, ◌++◌, map, Option, Some, None, Result, OnErr, OnOk}
+-- What a file was asked to change, to keep or to show, and what it answered.
+use Rattle.std.specs.Prelude.{◌≡◌, ◌⊎◌, ℕ, List, [], ◌∷◌, ◌++◌, map, Option, Some, None, option_map, Result, OnErr, OnOk}
 use Rattle.machine_files.specs.declared.file_disk.OpenFault.{OpenFault}
 use Rattle.machine_files.specs.declared.file_disk.OpenFault.TheVariants.{NoMemory, Host, TooLong}
 
--- what a file is asked for: these bytes at this offset, its end at this length, all to be kept, or to take the name
--- of another
+-- what a file is asked for: these bytes at this offset, its end at this length, all to be kept, to take the name of
+-- another, or to fill a buffer from its front, which then has these bytes
 pub data Asked : Type 0 where
   WriteAt : ℕ → List ℕ → Asked
   CutTo : ℕ → Asked
   Sync : Asked
   TakeName : Asked
+  ReadFront : List ℕ → Asked
 
 -- a call that was done, or that failed
 pub data Call : Type 0 where
   Done : Asked → Call
   Failed : Asked → Call
 
--- the calls of a file, where they are known, are the old ones and then this one
+-- the calls of a file are the old ones and then this one, and known where those were
 abbrev pub Adds : Option (List Call) → Option (List Call) → Call → Type 0
-Adds None new call = ⊤
-Adds (Some old) new call = new ≡ Some (old ++ call ∷ [])
+Adds old new call = new ≡ option_map (λ before. before ++ call ∷ []) old
 
 -- the file was asked for this, and answers so
 abbrev pub Answers : {T E : Type 0} → Result T E → Asked → Option (List Call) → Option (List Call) → Type 0
@@ -42,8 +42,7 @@ renewal bytes = CutTo 0 ∷ WriteAt 0 bytes ∷ Sync ∷ TakeName ∷ []
 
 -- it was asked for all of these, in this order, and each was done
 abbrev pub AddsDone : Option (List Call) → Option (List Call) → List Asked → Type 0
-AddsDone None new asked = ⊤
-AddsDone (Some old) new asked = new ≡ Some (old ++ map Done asked)
+AddsDone old new asked = new ≡ option_map (λ before. before ++ map Done asked) old
 
 -- some of these were done, then one failed, and no other was asked for
 unfoldable pub FailsAmid : List Call → Option (List Call) → List Asked → Type 0
@@ -53,7 +52,7 @@ FailsAmid old new (first ∷ rest) =
 
 -- the same, where the calls are known
 abbrev pub AddsUntilFailed : Option (List Call) → Option (List Call) → List Asked → Type 0
-AddsUntilFailed None new asked = ⊤
+AddsUntilFailed None new asked = new ≡ None
 AddsUntilFailed (Some old) new asked = FailsAmid old new asked
 
 -- what is left where memory was refused: nothing was asked for; and where a call failed
@@ -61,3 +60,10 @@ abbrev pub IsLeft : Option (List Call) → Option (List Call) → OpenFault → 
 IsLeft old new NoMemory asked = new ≡ old
 IsLeft old new TooLong asked = ⊥
 IsLeft old new Host asked = AddsUntilFailed old new asked
+
+-- what a read of all bytes leaves that isn't answered: where memory was refused, or where it is too long, it was asked for
+-- nothing; else for nothing, or for one read, which failed
+abbrev pub IsUnread : Option (List Call) → Option (List Call) → OpenFault → Type 0
+IsUnread old new NoMemory = new ≡ old
+IsUnread old new TooLong = new ≡ old
+IsUnread old new Host = (new ≡ old) ⊎ ((bytes : List ℕ) × Adds old new (Failed (ReadFront bytes)))

@@ -1,7 +1,7 @@
 //! A file of the host.
 
 ghost use Rattle.std.specs.Prelude.{◌≡◌, List, None, Option};
-ghost use Rattle.machine_files.specs.Calls.{Answers, Call, CutTo, Sync, TakeName, WriteAt};
+ghost use Rattle.machine_files.specs.Calls.{Answers, Call, CutTo, ReadFront, Sync, TakeName, WriteAt};
 
 use std::fs::{File, OpenFile};
 use std::io::{self, Read, Seek, SeekFrom, Write};
@@ -17,7 +17,7 @@ pub trait Host {
 
     /// Fills the buffer from the beginning of the file.
     fn read_front(&mut self, buffer: &mut [u8]) -> io::Result<()>
-        ensures { calls self.new ≡ calls self.old };
+        ensures { Answers result (ReadFront buffer.new) (calls self.old) (calls self.new) };
 
     /// Writes at an offset, in place and past the end.
     fn write_at(&mut self, at: u64, bytes: &[u8]) -> io::Result<()>

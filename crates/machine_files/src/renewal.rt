@@ -2,7 +2,7 @@
 
 ghost use Rattle.std.specs.Prelude.{◌≡◌, ◌≤◌, IfErr, IfOk, OnErr, OnOk, length, vec_len};
 ghost use Rattle.entry_log.specs.Disk.{only};
-ghost use Rattle.machine_files.specs.Calls.{AddsDone, AddsUntilFailed, IsLeft, renewal};
+ghost use Rattle.machine_files.specs.Calls.{Adds, AddsDone, AddsUntilFailed, Done, IsLeft, IsUnread, ReadFront, renewal};
 ghost use Rattle.machine_files.specs.FileDisk.{calls_of, cap_of, file_of, images_of};
 ghost use Rattle.streams.specs.declared.limit.TheConstants.{LONGEST_INPUT};
 
@@ -24,10 +24,11 @@ pub fn length_of<F: Host>(file: &mut F) -> Result<usize, OpenFault>
     }
 }
 
-/// All bytes of a file, which is only read. It is refused as a disk on it is.
+/// All bytes of a file, which is only read, and once. It is refused as a disk on it is.
 pub fn bytes_of<F: Host>(alloc: Global, file: &mut F) -> Result<Vec<u8>, OpenFault>
     ensures most { IfOk result (λ bytes. vec_len bytes ≤ LONGEST_INPUT) }
-    ensures only_read { F.calls file.new ≡ F.calls file.old }
+    ensures read { IfOk result (λ bytes. Adds (F.calls file.old) (F.calls file.new) (Done (ReadFront bytes.items))) }
+    ensures unread { IfErr result (λ why. IsUnread (F.calls file.old) (F.calls file.new) why) }
 {
     let len = length_of(file)?;
     let mut bytes = vec![in alloc; 0; len]?;
