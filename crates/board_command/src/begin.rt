@@ -140,7 +140,8 @@ pub fn start_board<'a>(
     let files = paths.files(rt, &errors)?;
     let page = Page::at(rt, serve)?;
     let mut board = board_of(rt, &sheet)?;
-    let below = sealing.link_at(rt, at, peers, page.wait_ends(), Shared::of(&errors))?;
+    let sealed = sealing.sealed_at(rt, at, peers, page.wait_ends(), Shared::of(&errors))?;
+    let below = sealing.link_over(rt.alloc(), MonotonicClock::new(rt), sealed);
     let mut link = Attended {
         link: below,
         clock: MonotonicClock::new(rt),

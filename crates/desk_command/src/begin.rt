@@ -342,7 +342,8 @@ pub fn start_desk<'a>(
     let lasts = [LastFault::new(None), LastFault::new(None)];
     let book = empty_book(rt, &sheet)?;
     let disk = desk_disk_at(rt, &sheet, desk, file, copy, &lasts)?;
-    let below = sealing.link_at(rt, at, peers, ends, Shared::of(&errors))?;
+    let sealed = sealing.sealed_at(rt, at, peers, ends, Shared::of(&errors))?;
+    let below = sealing.link_over(rt.alloc(), MonotonicClock::new(rt), sealed);
     let mut link = attended(rt, below, scorers);
     let _ = sealing.tell_fingerprints(&mut Shared::of(&errors));
     page.tell(&mut Shared::of(&errors), rt.stderr().is_terminal());

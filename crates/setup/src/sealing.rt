@@ -4,21 +4,24 @@ ghost use Rattle.std.specs.Prelude.{◌≡◌, ◌≤◌, [], None, IfOk, IfSome
 ghost use Rattle.cards.specs.Digest.{sheet_digest};
 ghost use Rattle.links.specs.Logs.{carried_of};
 ghost use Rattle.seal.specs.Sealed.{seal_of};
+ghost use Rattle.streams.specs.Watched.{stream_of};
 ghost use Rattle.setup.specs.Keys as keys;
 
 use crate::fault::{StopFault, Stopped, printable};
 use crate::key_fault::KeyFault;
-use crate::opening::{bytes_at, peers_at};
+use crate::opening::{open_input, peers_at};
 use cards::{MatchSheet, digest_of};
 use hex::encode_to_slice;
 use links::{Sealed, Window};
 use machine::{Address, MOST_PEERS, MonotonicClock, Peers, WaitEnds};
 use machine_files::is_same_file;
 use seal::Seal;
+use std::alloc::Global;
 use std::fs;
 use std::io::{self, Write};
 use std::net::SocketAddr;
 use std::os::unix::fs::MetadataExt;
+use streams::{Feed, Watched, read_all};
 
 /// A station's link: in a window, over sealed datagrams, at a socket.
 pub type StationLink<'r, E> = Window<Sealed<Peers<E>>, MonotonicClock<'r, HostRuntime>>;
@@ -83,6 +86,16 @@ fn key_of(bytes: Vec<u8>) -> Result<Vec<u8>, KeyFault>
     Ok(bytes)
 }
 
+/// The key in a file, which is read to its end.
+fn key_run<R: Feed>(alloc: Global, reader: &mut Watched<R>) -> Result<Vec<u8>, StopFault>
+    ensures key { IfOk result (λ key. keys.IsSomeKey key.items) }
+    ensures read { IfSome (R.remaining (stream_of reader.old)) (λ bytes.
+        IfOk result (λ key. keys.IsKey bytes key.items)) }
+{
+    let bytes = read_all(alloc, reader)?;
+    key_of(bytes).map_err(|why| StopFault::Key(why))
+}
+
 /// Asks that a key's file is a plain one, so that no read of it waits, and isn't the sheet. Standard error is told where
 /// others may read it; that it can't be told is no fault.
 fn expect_key_file<'a>(rt: &HostRuntime, path: &'a str, sheet: &str) -> Result<(), Stopped<'a>> {
@@ -107,7 +120,8 @@ fn key_at<'a>(rt: &HostRuntime, path: &'a str, sheet: &str) -> Result<Vec<u8>, S
     ensures { IfOk result (λ key. keys.IsSomeKey key.items) }
 {
     expect_key_file(rt, path, sheet)?;
-    key_of(bytes_at(rt, path)?).map_err(|why| Stopped::at(path, StopFault::Key(why)))
+    let mut reader = open_input(rt, path)?;
+    key_run(rt.alloc(), &mut reader).map_err(|fault| Stopped::at(path, fault))
 }
 
 /// Asks the system to leave this process's memory out of what it keeps of one that crashed. Where it doesn't, that is no
@@ -125,6 +139,19 @@ pub struct Sealing {
 }
 
 impl Sealing {
+    /// Of this sheet and this key, without a byte where there is none.
+    fn with_key(sheet: &MatchSheet, key: Vec<u8>) -> Sealing
+        ensures key { result.key.items ≡ key.items }
+        ensures digest { result.digest ≡ sheet_digest sheet.now }
+        ensures game { result.game ≡ sheet.now.game }
+    {
+        Sealing {
+            key,
+            digest: digest_of(sheet),
+            game: sheet.game(),
+        }
+    }
+
     /// Of this sheet, which was read from a file of this path, and the key in a file, where one is named.
     pub fn of<'a>(
         rt: &HostRuntime,
@@ -137,7 +164,6 @@ impl Sealing {
         ensures none { key.entry ≡ None → IfOk result (λ sealing. sealing.key.items ≡ []) }
         ensures key { IfSome key.entry (λ path. IfOk result (λ sealing. keys.IsSomeKey sealing.key.items)) }
     {
-        let digest = digest_of(sheet);
         let key = match key {
             Some(path) => {
                 keep_out_of_dumps(rt);
@@ -145,11 +171,7 @@ impl Sealing {
             }
             None => Vec::new(rt.alloc()),
         };
-        Ok(Sealing {
-            key,
-            digest,
-            game: sheet.game(),
-        })
+        Ok(Sealing::with_key(sheet, key))
     }
 
     /// What the match's datagrams are sealed with.
@@ -172,8 +194,8 @@ impl Sealing {
         errors.write_all(&text[..])
     }
 
-    /// A station's sealed datagrams at its address, of which none passed yet.
-    fn sealed_at<'a, E: Write + Drop>(
+    /// A station's sealed datagrams at its address, of which none passed yet. Its waits end for these too.
+    pub fn sealed_at<'a, E: Write + Drop>(
         &self,
         rt: &HostRuntime,
         at: Address<'a>,
@@ -188,20 +210,19 @@ impl Sealing {
         Ok(Sealed::new(peers, self.seal()))
     }
 
-    /// A station's link at its address. Its waits end for these too.
-    pub fn link_at<'r, 'a, E: Write + Drop>(
+    /// A station's link over its sealed datagrams, of which none passed yet. It has no socket but theirs.
+    pub fn link_over<'r, E: Write + Drop>(
         &self,
-        rt: &'r HostRuntime,
-        at: Address<'a>,
-        peers: [Option<SocketAddr>; MOST_PEERS],
-        ends: WaitEnds,
-        errors: E,
-    ) -> Result<StationLink<'r, E>, Stopped<'a>>
-        ensures { IfOk result (λ link. (link.game ≡ self.now.game) × (link.above ≡ [])) }
+        alloc: Global,
+        clock: MonotonicClock<'r, HostRuntime>,
+        sealed: Sealed<Peers<E>>,
+    ) -> StationLink<'r, E>
+        requires { carried_of sealed.carrier.log ≡ [] }
+        ensures game { result.game ≡ self.now.game }
+        ensures above { result.above ≡ [] }
+        ensures below { result.below ≡ [] }
     {
-        let link = self.sealed_at(rt, at, peers, ends, errors)?;
-        let clock = MonotonicClock::new(rt);
-        Ok(Window::new(rt.alloc(), link, clock, self.game))
+        Window::new(alloc, sealed, clock, self.game)
     }
 }
 
