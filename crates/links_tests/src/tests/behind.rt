@@ -1,5 +1,5 @@
 //! A window over a carrier in memory, by a clock of the test's.
-ghost use Rattle.std.specs.Prelude.{◌<◌};
+ghost use Rattle.std.specs.Prelude.{◌+◌, ◌<◌};
 
 use super::*;
 use links::{CarriedLog, Link, Sealed, SealedCarrier, Taken, Window};
