@@ -1,4 +1,4 @@
-//! How a match stands, in a row that is fitted to a screen; the check of an over; the entries of a book, in rows.
+//! How a match stands, in a row that is fitted to a screen; the check of an over; who may bowl.
 #![tactic(auto)]
 
 mod aim;
@@ -7,11 +7,9 @@ mod ends_alike;
 mod fit;
 mod form;
 mod limited;
-mod listing;
 mod marks;
 mod over_check;
 mod over_end;
-mod over_entries;
 mod room;
 mod row;
 mod widths;
@@ -19,8 +17,7 @@ mod widths_behind;
 
 pub use aim::print_result;
 pub use bowlers::print_bowlers;
-pub use listing::{print_listing, print_range};
+pub use marks::print_ball;
 pub use over_check::print_check;
 pub use over_end::print_over_note;
-pub use over_entries::{print_over_by_side, print_over_last};
 pub use row::print_row;

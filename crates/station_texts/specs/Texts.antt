@@ -25,8 +25,8 @@ use Rattle.changes.specs.Text.{last_changes}
 use Rattle.score_rows.specs.Row.{result_part, row}
 use Rattle.score_rows.specs.OverCheck.{over_check}
 use Rattle.screen.specs.Both.{both_cards, cards_number}
-use Rattle.score_rows.specs.Listing.{listing, range}
-use Rattle.score_rows.specs.OverEntries.{over_by_side, over_last}
+use Rattle.book_rows.specs.Listing.{listing, range}
+use Rattle.book_rows.specs.OverEntries.{over_by_side, over_last}
 use Rattle.screen.specs.Waiting.{who_waits}
 use Rattle.screen.specs.Sides.{both_sides}
 use Rattle.score_rows.specs.Limited.{bowlers}

@@ -14,16 +14,14 @@ use crate::refusals::{print_refused, print_refused_entry};
 use crate::said::Said;
 use crate::who_bowls::print_question;
 use agree_core::{Position, ROUNDS, Settled};
+use book_rows::{print_listing, print_over_by_side, print_over_last, print_range};
 use cards::MatchSheet;
 use changes::print_last_changes;
 use corrections::BookOf;
 use desk::Refusal;
 use match_laws::Match;
 use notation::{Entry, PLACES, Plain, line_of};
-use score_rows::{
-    print_bowlers, print_check, print_listing, print_over_by_side, print_over_last,
-    print_over_note, print_range, print_result, print_row,
-};
+use score_rows::{print_bowlers, print_check, print_over_note, print_result, print_row};
 use screen::{
     HELP, Word, help_on, print_cards, print_cards_of, print_sides, print_waiting, refusal_sentence,
 };

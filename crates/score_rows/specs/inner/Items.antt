@@ -1,6 +1,5 @@
 -- The marks of what stands in a book.
-use Rattle.std.specs.Prelude.{ℕ, ◌-◌, List, [], Bool, true, false, decimal, length}
-use Rattle.cards.specs.Columns.{spaces}
+use Rattle.std.specs.Prelude.{ℕ, List, [], Bool, true, false}
 use Rattle.notation.specs.declared.entry.Plain.{Plain}
 use Rattle.ball_laws.specs.Over.{counts}
 use Rattle.ball_laws.specs.Sums.{one_if}
@@ -25,7 +24,3 @@ item_runs _ = 0
 abbrev pub item_counts : Plain → ℕ
 item_counts (Plain.Ball b) = one_if (counts b)
 item_counts _ = 0
-
--- what stands before a place, so that it ends in its fourth column
-abbrev pub place_columns : ℕ → List ℕ
-place_columns place = spaces (4 - length (decimal place))
