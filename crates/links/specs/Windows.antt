@@ -2,7 +2,8 @@
 use Rattle.std.specs.Prelude.{◌≡◌, ◌⊎◌, ℕ, List, [], ◌∷◌, Option, IfSome}
 use Rattle.agree_core.specs.declared.messages.Ask.{Ask}
 use Rattle.agree_core.specs.declared.messages.Message.{Message}
-use Rattle.wire.specs.Layout.{written}
+use Rattle.agree_core.specs.declared.messages.Vote.{Vote}
+use Rattle.wire.specs.Layout.{Says, written}
 use Rattle.links.specs.Passed.{Passed, Sent, Came}
 
 -- it is in the list
@@ -21,6 +22,10 @@ AreOfOr y xs ys = (x : _) → Has xs x → Has ys x ⊎ (y ≡ x)
 -- the message is an ask of this match, which anybody may make up
 abbrev pub IsAsk : ℕ → List ℕ → Type 0
 IsAsk game m = (q : Ask) × (m ≡ written game (Message.Ask q))
+
+-- the message is a vote of this match
+abbrev pub IsVote : ℕ → List ℕ → Type 0
+IsVote game m = (v : Vote) × Says game m (Message.Vote v)
 
 -- what was handed to the window, or is an ask
 abbrev pub IsHanded : ℕ → List Passed → List ℕ → Type 0

@@ -1,6 +1,7 @@
 //! When a station's ask is said, and said again.
 
-ghost use Rattle.std.specs.Prelude.{◌≡◌, ◌⊎◌, None, Some};
+ghost use Rattle.std.specs.Prelude.{◌≡◌, ◌≤◌, ◌+◌, ◌⊎◌, None, Some, true};
+ghost use Rattle.waits.specs.declared.times.TheConstants.{LONGEST_ASK_PAUSE};
 
 use agree_core::{DeskId, Position};
 use std::mem;
@@ -64,7 +65,9 @@ impl Asking {
     }
 
     /// How long an answer is waited for: a round trip and a half, and twice as long after each try that brought nothing.
-    pub fn pause(&self) -> u64 {
+    pub fn pause(&self) -> u64
+        ensures { result ≤ LONGEST_ASK_PAUSE }
+    {
         let first = match self.trip {
             Some(trip) => SHORTEST_ASK_PAUSE.max(trip.saturating_add(trip / 2)),
             None => FIRST_ASK_PAUSE,
@@ -84,7 +87,9 @@ impl Asking {
     /// Notes an ask of the station's, and answers whether it is said: not while the answer to the same may be on its way,
     /// or that to an earlier one, which stands for it, where it isn't the first.
     pub fn ask(&mut self, at: Position, bytes: &[u8; 48], is_first: bool, now: u64) -> bool
-        ensures { (self.new.bytes ≡ self.old.bytes) ⊎ (self.new.bytes ≡ Some bytes.now) }
+        ensures asked { (self.new.bytes ≡ self.old.bytes) ⊎ (self.new.bytes ≡ Some bytes.now) }
+        // none is held back for more than a quarter of a second, once nothing that was lacking comes
+        ensures said { self.old.last + LONGEST_ASK_PAUSE ≤ now → result ≡ true }
     {
         if self.bytes != Some(*bytes) {
             self.at = at;
@@ -127,7 +132,9 @@ impl Asking {
     }
 
     /// How long it is until then: nothing that was lacking came for so long.
-    pub fn left(&self, now: u64) -> u64 {
+    pub fn left(&self, now: u64) -> u64
+        ensures { self.now.last + LONGEST_ASK_PAUSE ≤ now → result ≡ 0 }
+    {
         self.last.saturating_add(self.pause()).saturating_sub(now)
     }
 

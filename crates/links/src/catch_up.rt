@@ -1,5 +1,7 @@
 //! How far a station that is behind asks, and how far each desk's votes came.
 
+ghost use Rattle.std.specs.Prelude.{◌≡◌, ◌≤◌, ◌<◌, ◌+◌, IfSome, nat_le, true};
+
 use agree_core::{Asker, DeskId, PLACES};
 
 /// How many places a block has. An ask for one of them stands for those behind it in its block.
@@ -53,7 +55,9 @@ impl CatchUp {
     }
 
     /// Whether no earlier ask stands for this place.
-    pub fn is_first(&self, place: u32) -> bool {
+    pub fn is_first(&self, place: u32) -> bool
+        ensures { result ≡ nat_le self.now.unasked place }
+    {
         place >= self.unasked
     }
 
@@ -88,7 +92,10 @@ impl CatchUp {
 
     /// The next block that a station at this place asks for, where it may: at first as many places as came, and then no more
     /// than may be on their way.
-    pub fn next_block(&mut self, from: Asker, at: u32, is_long: bool) -> Option<u32> {
+    pub fn next_block(&mut self, from: Asker, at: u32, is_long: bool) -> Option<u32>
+        ensures next { IfSome result (λ place. place ≡ self.old.unasked) }
+        ensures ahead { IfSome result (λ place. at < place) }
+    {
         let heard = self.heard_by(from);
         let most = if is_long { MANY_ASKED } else { FEW_ASKED };
         let ahead = most.min(heard.saturating_sub(self.from));
@@ -105,7 +112,9 @@ impl CatchUp {
     }
 
     /// How long it is until what was lost is asked for, with this pause.
-    pub fn left(&self, pause: u64, now: u64) -> u64 {
+    pub fn left(&self, pause: u64, now: u64) -> u64
+        ensures { self.now.last + pause ≤ now → result ≡ 0 }
+    {
         self.last.saturating_add(pause).saturating_sub(now)
     }
 
@@ -119,7 +128,9 @@ impl CatchUp {
 
     /// The first place whose vote of this desk may be on its way: those before it came, or were lost. A desk answers in order.
     /// Where its answers are over, so is what was asked for two pauses ago.
-    pub fn lost_until(&self, desk: DeskId, is_over: bool) -> u32 {
+    pub fn lost_until(&self, desk: DeskId, is_over: bool) -> u32
+        ensures { is_over ≡ true → self.now.unasked_first ≤ result }
+    {
         let heard = match desk {
             DeskId::A => self.heard_a,
             DeskId::B => self.heard_b,

@@ -1,8 +1,8 @@
 //! What a window knows by what came and what its station said.
 
-ghost use Rattle.std.specs.Prelude.{◌≡◌, ◌⊎◌, ℕ, List, None, Some, [], take};
+ghost use Rattle.std.specs.Prelude.{◌≡◌, ◌⊎◌, ℕ, List, None, Some, [], take, true};
 ghost use Rattle.std.specs.BTreeMap.{values};
-ghost use Rattle.links.specs.Windows.{AreOf, AreOfOr, Has};
+ghost use Rattle.links.specs.Windows.{AreOf, AreOfOr, Has, IsVote};
 ghost use Rattle.links.specs.declared.link.Taken.{Taken};
 
 use crate::asking::Asking;
@@ -165,6 +165,7 @@ impl Known {
 
     /// Notes what the station says, in the match of this number, and answers whether it is handed down.
     pub fn note(&mut self, game: u64, bytes: &[u8; 48], now: u64) -> bool
+        ensures handed { IsVote game bytes.now → result ≡ true }
         ensures votes { AreOf (values self.new.early.votes) (values self.old.early.votes) }
         ensures asked { (self.new.asking.bytes ≡ self.old.asking.bytes) ⊎ (self.new.asking.bytes ≡ Some bytes.now) }
     {

@@ -1,6 +1,6 @@
 //! A window over a link.
 
-ghost use Rattle.std.specs.Prelude.{◌≡◌, ◌≤◌, ℕ, List, [], IfSome, take};
+ghost use Rattle.std.specs.Prelude.{◌≡◌, ◌≤◌, ℕ, List, [], IfSome, take, true};
 ghost use Rattle.links.specs.Windows.{IsAsk, IsBrought, IsFaithful, IsHanded, IsKept};
 
 use crate::asks::ask_for;
@@ -69,8 +69,9 @@ impl<L: PeerLink, C: Clock> Model for Window<L, C> {
 }
 
 impl<L: PeerLink, C: Clock> Window<L, C> {
-    ghost use Rattle.std.specs.Prelude.{◌≡◌, ◌≤◌, ℕ, List, [], IfSome, take};
-    ghost use Rattle.links.specs.Windows.{IsAsk, IsBrought, IsHanded, IsKept};
+    ghost use Rattle.std.specs.Prelude.{◌≡◌, ◌≤◌, ℕ, List, [], IfSome, take, true};
+    ghost use Rattle.links.specs.Passed.{Sent};
+    ghost use Rattle.links.specs.Windows.{Has, IsAsk, IsBrought, IsHanded, IsKept, IsVote};
 
     /// A window over a link, in the match of this number.
     pub fn new(alloc: Global, link: L, clock: C, game: u64) -> Window<L, C>
@@ -94,6 +95,7 @@ impl<L: PeerLink, C: Clock> Window<L, C> {
     fn note(&mut self, bytes: &[u8; 48], now: u64) -> bool
         requires { IsHanded self.old.game self.old.above bytes.now }
         ensures kept { IsKept self.old self.new }
+        ensures handed { IsVote self.old.game bytes.now → result ≡ true }
     {
         self.known.note(self.game, bytes, now)
     }
@@ -102,6 +104,7 @@ impl<L: PeerLink, C: Clock> Window<L, C> {
     fn say(&mut self, bytes: &[u8; 48], now: u64)
         requires { IsHanded self.old.game self.old.above bytes.now }
         ensures kept { IsKept self.old self.new }
+        ensures said { Has self.new.below (Sent bytes.now) }
     {
         self.link.send(bytes);
         self.silence.end(now);
@@ -320,9 +323,17 @@ impl<L: PeerLink, C: Clock> Window<L, C> {
 }
 
 impl<L: PeerLink, C: Clock> Link for Window<L, C> {
+    ghost use Rattle.std.specs.Prelude.{◌≡◌, ◌∷◌, ◌++◌, []};
+    ghost use Rattle.links.specs.Passed.{Sent};
+    ghost use Rattle.links.specs.Windows.{Has, IsVote};
+
     ghost log = { λ window. window.above };
 
-    fn send(&mut self, bytes: &[u8; 48]) {
+    // a vote is handed down at once
+    fn send(&mut self, bytes: &[u8; 48])
+        ensures log { self.new.above ≡ self.old.above ++ Sent bytes.now ∷ [] }
+        ensures handed { IsVote self.old.game bytes.now → Has self.new.below (Sent bytes.now) }
+    {
         self.log = self.log.sent(bytes);
         let now = self.clock.millis();
         if self.note(bytes, now) {
