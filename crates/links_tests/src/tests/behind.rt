@@ -1,9 +1,11 @@
 //! A window over a carrier in memory, by a clock of the test's.
-ghost use Rattle.std.specs.Prelude.{◌+◌, ◌<◌};
+ghost use Rattle.std.specs.Prelude.{◌<◌};
 
 use super::*;
 use links::{CarriedLog, Link, Sealed, SealedCarrier, Taken, Window};
 use seal::Seal;
+
+mod catching_up;
 
 const KEY: &[u8] = b"a key of sixteen";
 
@@ -408,62 +410,6 @@ fn an_ask_waits_for_what_was_asked_before(rt: HostRuntime) {
     asks(&rt, &mut window, &world, 141, &ask_at(Asker::B, 64, 0), 2);
     asks(&rt, &mut window, &world, 141, &ask_at(Asker::B, 127, 0), 2);
     asks(&rt, &mut window, &world, 141, &ask_at(Asker::B, 128, 0), 3);
-}
-
-/// A board has both votes of a place, and asks for the next.
-fn agrees(rt: &impl Abort, window: &mut Windowed<'_>, world: &World, place: u32)
-    requires { place + 1 < PLACES }
-{
-    hears(rt, window, world, DeskId::A, place);
-    hears(rt, window, world, DeskId::B, place);
-    window.send(&ask_at(Asker::Board, place + 1, 0));
-}
-
-// So many places are asked for ahead as came, and no more than a block behind them where a round trip is short.
-#[test]
-fn what_is_ahead_is_asked_for_as_votes_come(rt: HostRuntime) {
-    let world = World::new();
-    let mut window = windowed(rt.alloc(), &world);
-    window.send(&ask_at(Asker::Board, 0, 0));
-    for place in 0..33 {
-        agrees(&rt, &mut window, &world, place);
-    }
-    has_sent_back(&rt, &world, 0);
-    is_silent(&rt, &mut window);
-    has_sent_back(&rt, &world, 2);
-    has_said(&rt, &world, &ask_at(Asker::Board, 64, 0));
-    for place in 33..65 {
-        agrees(&rt, &mut window, &world, place);
-    }
-    is_silent(&rt, &mut window);
-    has_sent_back(&rt, &world, 4);
-    has_said(&rt, &world, &ask_at(Asker::Board, 128, 0));
-    is_silent(&rt, &mut window);
-    has_sent_back(&rt, &world, 4);
-    has_sent(&rt, &world, 1);
-}
-
-// Where many votes on end are lacking their ask was lost: it is said again for the first of them.
-#[test]
-fn a_lost_block_is_asked_for_as_one(rt: HostRuntime) {
-    let world = World::new();
-    let mut window = windowed(rt.alloc(), &world);
-    window.send(&ask_at(Asker::B, 0, 0));
-    for place in 0..34 {
-        hears(&rt, &mut window, &world, DeskId::A, place);
-        window.send(&ask_at(Asker::B, place + 1, 0));
-    }
-    for place in 35..48 {
-        hears(&rt, &mut window, &world, DeskId::A, place);
-    }
-    // of 48 to 127 nothing came: once they are late 48 and 64 are asked for
-    has_sent_back(&rt, &world, 1);
-    for (now, back) in [(4, 2), (12, 3), (28, 6)] {
-        world.now.set(now);
-        is_silent(&rt, &mut window);
-        has_sent_back(&rt, &world, back);
-    }
-    has_said(&rt, &world, &ask_at(Asker::B, 64, 0));
 }
 
 /// Where nothing comes at this time, nothing is given, so many datagrams were sent to all, and this was the last.
