@@ -1,5 +1,5 @@
 -- Where two desks' votes differ, one position more at a time.
-use Rattle.std.proofs.Common.{◌≡◌, ℕ, ◌+◌, ◌<◌, ◌≤◌, zero, suc, List, ◌++◌, append-nil, append_assoc, Bool, None, refl, sym, ap, ◌∙◌, arith, add-one, inl, inr}
+use Rattle.std.proofs.Common.{◌≡◌, ℕ, ◌+◌, ◌<◌, ◌≤◌, zero, suc, List, [], ◌++◌, append-nil, append_assoc, Bool, None, refl, sym, ap, ◌∙◌, arith, add-one, inl, inr}
 use Rattle.std.specs.Prelude.{IsTrue, ◌↔◌}
 use Rattle.std.specs.Str.{bytes_eq}
 use Rattle.std.proofs.lemmas.Bool.{cases_lt}
@@ -8,12 +8,13 @@ use Rattle.std.proofs.lemmas.Slice.Eq.{bytes_eq-Decides}
 use Rattle.notation.specs.declared.entry.Entry.{Entry}
 use Rattle.notation.specs.Written.{IsEntry, text_of}
 use Rattle.notation.proofs.Texts.{text_once}
+use Rattle.notation.specs.declared.entry.TheConstants.{PLACES}
 use Rattle.agree_core.specs.declared.position.TheConstants.{ROUNDS}
 use Rattle.agree_core.specs.Ballots.{AllVotes, IsSequence}
 use Rattle.books.specs.Comparing.{difference_at, in_places, in_rounds}
 use Rattle.books.specs.DeskVotes.{entry_at}
 use Rattle.books.specs.declared.compare.Difference.{Difference}
-use Rattle.books.proofs.EntriesAt.{none_from}
+use Rattle.books.proofs.EntriesAt.{none_after, none_from}
 
 -- the test of two entries is that of their lines
 pub alike : (r : Bool) (x y : Entry) → IsEntry x → IsEntry y → IsTrue r ↔ (x ≡ y) → r ≡ bytes_eq (text_of x) (text_of y)
@@ -54,3 +55,25 @@ module _ (v : AllVotes) (place : ℕ) where
 pub placed_next : (v : AllVotes) (n : ℕ) (mid new : List Difference) → mid ≡ in_places v n → new ≡ mid ++ in_rounds v n ROUNDS → new ≡ in_places v (n + 1)
 unfolding in_places
 placed_next v n mid new m e = rw (add-one) (rw (← m) e)
+
+module _ (v : AllVotes) (s : IsSequence v.a) (t : IsSequence v.b) where
+  -- where neither desk has a vote at a place, the places up to it are all
+  none_in : (n : ℕ) → entry_at v.a n 0 ≡ None → entry_at v.b n 0 ≡ None → in_rounds v n ROUNDS ≡ []
+  unfolding in_rounds
+  none_in n a b = no_more_rounds v n s t 0 a b ROUNDS (omega arith)
+
+  no_more_places : (place : ℕ) → entry_at v.a place 0 ≡ None → entry_at v.b place 0 ≡ None → (n : ℕ) → place ≤ n → in_places v n ≡ in_places v place
+  unfolding in_places
+  no_more_places place a b zero le = let same : place ≡ zero = omega arith in rw same refl
+  no_more_places place a b (suc n) le = elim (cases_lt n place) [
+    | inl last ↦ let same : place ≡ suc n = omega (arith, last) in rw same refl
+    | inr more ↦
+        rw (none_in n (none_after v.a s place n more a) (none_after v.b t place n more b)) (append-nil (in_places v n) ∙ no_more_places place a b n more)
+  ]
+
+  -- and what was placed up to it is all
+  pub placed_all : (place : ℕ) (mid new : List Difference) → place < PLACES → entry_at v.a place 0 ≡ None → entry_at v.b place 0 ≡ None
+      → mid ≡ in_places v place → new ≡ mid ++ in_rounds v place ROUNDS → new ≡ in_places v PLACES
+  placed_all place mid new less a b m e =
+      placed_next v place mid new m e ∙ no_more_places place a b (place + 1) (omega arith)
+      ∙ sym (no_more_places place a b PLACES (omega arith))

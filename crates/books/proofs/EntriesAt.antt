@@ -82,3 +82,27 @@ none_behind votes s place round n =
 pub none_from : (votes : List Ballot) → IsSequence votes → (place round n : ℕ) → round ≤ n → entry_at votes place round ≡ None → entry_at votes place n ≡ None
 none_from votes s place round zero le none = grind arith
 none_from votes s place round (suc n) le none = grind (arith, none_from votes s place round n, none_behind votes s place n)
+
+-- a vote at a later place follows one at the place before it
+at_place_before : (votes : List Ballot) → IsSequence votes → (place round : ℕ) (e : Entry) → In (ballot_at (suc place) round e) votes →
+    (r : ℕ) × (f : Entry) × In (ballot_at place r f) votes
+at_place_before [] s place round e i = absurd i
+at_place_before (b ∷ bs) s place round e (inr i) = let p = at_place_before bs s.2 place round e i in (p.0, p.1, inr p.2)
+at_place_before (b ∷ []) s place round e (inl p) = absurd (grind arith)
+at_place_before (b ∷ c ∷ cs) (r, inl n, t) place round e (inl p) =
+    let same : suc place ≡ c.at.place = grind arith in
+    let there = at_place_before (c ∷ cs) t place c.at.round c.entry (inl (rw same refl)) in
+    (there.0, there.1, inr there.2)
+at_place_before (b ∷ c ∷ cs) (r, inr n, t) place round e (inl p) =
+    let same : place ≡ c.at.place = grind arith in
+    (c.at.round, c.entry, inr (inl (rw same refl)))
+
+-- so behind a place without a vote there is none
+none_next : (votes : List Ballot) → IsSequence votes → (place : ℕ) → entry_at votes place 0 ≡ None → entry_at votes (suc place) 0 ≡ None
+none_next votes s place none = none_at votes (suc place) 0 (λ e i.
+    let p = at_place_before votes s place 0 e i in
+    missed votes place p.0 p.1 p.2 (none_from votes s place 0 p.0 (omega arith) none))
+
+pub none_after : (votes : List Ballot) → IsSequence votes → (place n : ℕ) → place ≤ n → entry_at votes place 0 ≡ None → entry_at votes n 0 ≡ None
+none_after votes s place zero le none = grind arith
+none_after votes s place (suc n) le none = grind (arith, none_after votes s place n, none_next votes s n)

@@ -105,34 +105,38 @@ fn compare_round(
 }
 
 /// Adds what both desks wrote in each round of a place, unless it is alike. Behind the first round without a vote there
-/// is none.
+/// is none. It answers whether either wrote anything.
 fn compare_place(
     found: &mut Vec<Difference>,
     a: &DeskVotes,
     b: &DeskVotes,
     place: u32,
-) -> Result<(), AllocError>
+) -> Result<bool, AllocError>
     requires { All HasEntries found.old.items }
     ensures found { OnOk result (found.new.items
         ≡ found.old.items ++ in_rounds (votes_of_both a.now b.now) place ROUNDS) }
     ensures all_entries { OnOk result (All HasEntries found.new.items) }
+    ensures no_first { IfOk result (λ any. any ≡ false → entry_at (read_votes a.now) place 0 ≡ None) }
+    ensures no_second { IfOk result (λ any. any ≡ false → entry_at (read_votes b.now) place 0 ≡ None) }
 {
     for round in 0..ROUNDS {
         if !compare_round(found, a, b, place, round)? {
-            return Ok(());
+            return Ok(round > 0);
         }
     }
-    Ok(())
+    Ok(true)
 }
 
-/// Where both desks' votes differ, in the order of places and rounds.
+/// Where both desks' votes differ, in the order of places and rounds. Behind the first place without a vote there is none.
 fn differences(alloc: Global, a: &DeskVotes, b: &DeskVotes) -> Result<Vec<Difference>, AllocError>
     ensures found { IfOk result (λ found. found.items ≡ differences (votes_of_both a.now b.now)) }
     ensures all_entries { IfOk result (λ found. All HasEntries found.items) }
 {
     let mut found = Vec::new(alloc);
     for place in 0..PLACES {
-        compare_place(&mut found, a, b, place)?;
+        if !compare_place(&mut found, a, b, place)? {
+            return Ok(found);
+        }
     }
     Ok(found)
 }

@@ -54,22 +54,26 @@ fn is_torn_at(a: &DeskVotes, b: &DeskVotes, place: u32) -> bool
     ensures whole { result ≡ false → history.IsWholeAt (votes_of_both a.now b.now) place ROUNDS }
 {
     for round in 0..ROUNDS {
-        if is_torn(a, b, place, round) {
-            return true;
-        }
         if !has_vote(a, place, round) {
             return false;
+        }
+        if is_torn(a, b, place, round) {
+            return true;
         }
     }
     false
 }
 
 /// The first place at which both desks' votes aren't of one history: both voted alike there, and one voted in the next
-/// round, or otherwise, and one went on to the next place. `None` where they are.
+/// round, or otherwise, and one went on to the next place. `None` where they are. Behind the first place without a vote of
+/// A there is none.
 pub fn first_torn(a: &DeskVotes, b: &DeskVotes) -> Option<u32>
     ensures { history.Tears (votes_of_both a.now b.now) result }
 {
     for place in 0..PLACES {
+        if !has_vote(a, place, 0) {
+            return None;
+        }
         if is_torn_at(a, b, place) {
             return Some(place);
         }
