@@ -207,10 +207,10 @@ impl Site {
         ensures same { SameSite self.old self.new }
         ensures whole { IsWhole self.new }
     {
-        let mut desk = self.desk.take().unwrap();
-        let penned = desk.pen(entry);
-        self.desk = Some(desk);
-        match penned {
+        let Some(desk) = &mut self.desk else {
+            unreachable!()
+        };
+        match desk.pen(entry) {
             Ok(penned) => {
                 let bytes = penned.send;
                 sent.push(Datagram { bytes }).unwrap();
@@ -233,9 +233,10 @@ impl Site {
         ensures whole { IsWhole self.new }
     {
         let datagram = sent[message];
-        let mut desk = self.desk.take().unwrap();
+        let Some(desk) = &mut self.desk else {
+            unreachable!()
+        };
         let received = desk.receive(&datagram.bytes);
-        self.desk = Some(desk);
         if is_fault(received.what) {
             return self.fail(Cause::Desk(Refusal::Device));
         }

@@ -10,8 +10,8 @@ use Rattle.schedule_replay.proofs.DueLemmas.{breaks_none, keeps_none, keeps_runn
 
 pub returns-then-is_fault-clause-step : goal.returns-then-is_fault-clause-step
 returns-then-is_fault-clause-step c = λ t.
-    give_breaks c.args.self.now c.fail.new.self c.unwrap-desk.result c.receive-received.new.self c.args.message t c.index.result.now c.receive-received.result c.fail.result
-    c.args.sent.now.items (sym c.take.ensures.value ∙ c.unwrap-desk.ensures)
+    give_breaks c.args.self.now c.fail.new.self c.in-Some.desk c.receive-received.new.self c.args.message t c.index.result.now c.receive-received.result c.fail.result
+    c.args.sent.now.items c.in-Some.is
     (stands_at c.args.sent.now.items c.args.message c.index.result.now c.requires.sent c.index.ensures) c.receive-received.ensures.step
     c.receive-received.ensures.owner c.receive-received.ensures.blame
     (fault_is c.receive-received.result.what (sym c.is_fault.ensures ∙ c.if-is_fault.true)) c.fail.ensures.broken
@@ -25,8 +25,8 @@ returns-clause-step c = λ t.
     let calm = fault_not c.receive-received.result.what (sym c.is_fault.ensures ∙ c.if-is_fault.false) in
     subst (λ (seen : Seen). SiteSteps (Event.Give c.args.message t) c.args.self.now c.args.sent.now.items seen
     (record c.args.self.now { desk = Some c.receive-received.new.self }) c.hand_out.new.sent.items) (sym c.given.ensures)
-    (give_runs_on c.args.self.now c.unwrap-desk.result c.receive-received.new.self c.args.message t c.index.result.now c.receive-received.result c.args.sent.now.items c.hand_out.new.sent.items
-    (sym c.take.ensures.value ∙ c.unwrap-desk.ensures) (stands_at c.args.sent.now.items c.args.message c.index.result.now c.requires.sent
+    (give_runs_on c.args.self.now c.in-Some.desk c.receive-received.new.self c.args.message t c.index.result.now c.receive-received.result c.args.sent.now.items c.hand_out.new.sent.items
+    c.in-Some.is (stands_at c.args.sent.now.items c.args.message c.index.result.now c.requires.sent
     c.index.ensures) c.receive-received.ensures.step c.receive-received.ensures.owner
     (c.receive-received.ensures.blame.same (calm_answer c.receive-received.result.what calm)) calm c.hand_out.ensures)
 
@@ -36,5 +36,5 @@ returns-then-is_fault-clause-counted c = keeps_none c.args.self.now c.fail.new.s
 pub returns-clause-counted : goal.returns-clause-counted
 returns-clause-counted c =
     let calm = fault_not c.receive-received.result.what (sym c.is_fault.ensures ∙ c.if-is_fault.false) in
-    keeps_running c.args.self.now c.unwrap-desk.result c.receive-received.new.self (sym c.take.ensures.value ∙ c.unwrap-desk.ensures)
+    keeps_running c.args.self.now c.in-Some.desk c.receive-received.new.self c.in-Some.is
     (c.receive-received.ensures.blame.same (calm_answer c.receive-received.result.what calm))

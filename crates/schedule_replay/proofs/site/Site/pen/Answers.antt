@@ -1,4 +1,4 @@
-use Rattle.std.proofs.Common.{arith, refl, sym, ◌∙◌, Ok}
+use Rattle.std.proofs.Common.{arith, refl, Ok}
 use Rattle.schedule_replay.specs.Answers.{is_device}
 use Rattle.schedule_replay.specs.declared.seen.Seen.{Seen}
 use Rattle.schedule_replay.proofs.PenLemmas.{pen_refused, pen_runs_on, refused_same}
@@ -8,24 +8,24 @@ use Rattle.schedule_replay.proofs.DueLemmas.{keeps_refused, keeps_running}
 
 pub returns-in-Ok-clause-step : goal.returns-in-Ok-clause-step
 returns-in-Ok-clause-step c =
-    pen_runs_on c.args.self.now c.unwrap-desk.result c.pen-penned.new.self c.args.entry.now (Ok c.in-Ok.penned) (Seen.Penned c.in-Ok.penned.settled)
-    c.args.sent.now.items c.push.new.self.items (sym c.take.ensures.value ∙ c.unwrap-desk.ensures)
+    pen_runs_on c.args.self.now c.in-Some.desk c.pen.new.self c.args.entry.now (Ok c.in-Ok.penned) (Seen.Penned c.in-Ok.penned.settled)
+    c.args.sent.now.items c.push.new.self.items c.in-Some.is
     c.in-Ok.ensures.step c.in-Ok.ensures.owner (c.in-Ok.ensures.blame.same (λ e. (cc))) (λ e. (cc)) refl
     (pushed c.args.sent.now.items c.push.new.self.items _ (rw c.unwrap.ensures at c.push.ensures.items))
 
 pub returns-in-Err-clause-step : goal.returns-in-Err-clause-step
 returns-in-Err-clause-step c =
-    pen_refused c.args.self.now c.refuse.new.self c.unwrap-desk.result c.pen-penned.new.self c.args.entry.now c.in-Err.why c.refuse.result c.args.sent.now.items
-    (sym c.take.ensures.value ∙ c.unwrap-desk.ensures) c.in-Err.ensures.step c.in-Err.ensures.owner c.in-Err.ensures.blame c.refuse.ensures.refused
+    pen_refused c.args.self.now c.refuse.new.self c.in-Some.desk c.pen.new.self c.args.entry.now c.in-Err.why c.refuse.result c.args.sent.now.items
+    c.in-Some.is c.in-Err.ensures.step c.in-Err.ensures.owner c.in-Err.ensures.blame c.refuse.ensures.refused
 
 pub returns-in-Err-clause-same : goal.returns-in-Err-clause-same
 returns-in-Err-clause-same c =
     grind (arith, refused_same (is_device c.in-Err.why) c.in-Err.why _ c.refuse.new.self c.refuse.result c.refuse.ensures.refused)
 
 pub returns-in-Ok-clause-counted : goal.returns-in-Ok-clause-counted
-returns-in-Ok-clause-counted c = keeps_running c.args.self.now c.unwrap-desk.result c.pen-penned.new.self (sym c.take.ensures.value ∙ c.unwrap-desk.ensures) (c.in-Ok.ensures.blame.same (λ e. (cc)))
+returns-in-Ok-clause-counted c = keeps_running c.args.self.now c.in-Some.desk c.pen.new.self c.in-Some.is (c.in-Ok.ensures.blame.same (λ e. (cc)))
 
 pub returns-in-Err-clause-counted : goal.returns-in-Err-clause-counted
 returns-in-Err-clause-counted c =
-    keeps_refused c.in-Err.why c.args.self.now c.refuse.new.self c.unwrap-desk.result c.pen-penned.new.self c.refuse.result (sym c.take.ensures.value ∙ c.unwrap-desk.ensures)
+    keeps_refused c.in-Err.why c.args.self.now c.refuse.new.self c.in-Some.desk c.pen.new.self c.refuse.result c.in-Some.is
     (λ n. c.in-Err.ensures.blame.same (λ e. n (cc))) c.refuse.ensures.refused
