@@ -18,3 +18,4 @@ pub mod DayLemmas
 pub mod MetaLemmas
 pub mod EscapeLemmas
 pub mod EscapedStrings
+pub mod BelowDel

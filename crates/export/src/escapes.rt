@@ -6,6 +6,7 @@ ghost use Rattle.std.specs.Int.{is_in_range};
 ghost use Rattle.std.specs.List.{list_all};
 ghost use Rattle.export.specs.Escapes as escapes;
 
+use memchr::memchr;
 use std::alloc::{AllocError, Global};
 
 /// Whether a character's number is one of these.
@@ -61,7 +62,11 @@ fn push_shown(out: &mut String, letter: char) -> Result<(), AllocError>
 fn is_below_del(text: &str) -> bool
     ensures { result ≡ list_all (λ byte. nat_lt byte 0x7f) text.now }
 {
-    text.as_bytes().iter().all(|byte| *byte < 0x7f)
+    let bytes = text.as_bytes();
+    match memchr(0x7f, bytes) {
+        Some(_) => false,
+        None => bytes.is_ascii(),
+    }
 }
 
 /// Puts a text behind another one, its characters one by one.
