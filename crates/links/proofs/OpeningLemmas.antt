@@ -8,16 +8,17 @@ use Rattle.seal.specs.Sealed.{sealed, tag}
 use Rattle.seal.proofs.SealedForms.{front, length-tag}
 use Rattle.links.specs.Opening.{GivenWasBrought, WasBrought, came_open, opening, opening_of, opens}
 use Rattle.links.specs.Passed.{Passed, Sent, Came}
+use Rattle.links.specs.declared.link.Receivers.{Receivers}
 
 -- one more
 pub opening_more : (seal : List ℕ) (carried : List Passed) (p : Passed) → opening seal (carried ++ p ∷ []) ≡ opening seal carried ++ opening_of seal p
 opening_more seal carried p = flat_map-append (opening_of seal) carried (p ∷ []) ∙ ap (λ (l : List Passed). opening seal carried ++ l) (append-nil (opening_of seal p))
 
 -- a message that was sent
-pub sent_more : (seal : List ℕ) (old new : List Passed) (m bytes : List ℕ) → length m ≡ 48 → bytes ≡ sealed seal m → new ≡ old ++ Sent bytes ∷ []
-    → opening seal new ≡ opening seal old ++ Sent m ∷ []
-sent_more seal old new m bytes h e is =
-    ap (opening seal) is ∙ opening_more seal old (Sent bytes) ∙ ap (λ (l : List ℕ). opening seal old ++ Sent l ∷ []) (front seal m bytes h e)
+pub sent_more : (to : Receivers) (seal : List ℕ) (old new : List Passed) (m bytes : List ℕ) → length m ≡ 48 → bytes ≡ sealed seal m → new ≡ old ++ Sent to bytes ∷ []
+    → opening seal new ≡ opening seal old ++ Sent to m ∷ []
+sent_more to seal old new m bytes h e is =
+    ap (opening seal) is ∙ opening_more seal old (Sent to bytes) ∙ ap (λ (l : List ℕ). opening seal old ++ Sent to l ∷ []) (front seal m bytes h e)
 
 -- bytes that are a message's sealed form open as it
 pub opens_as : (seal m bytes : List ℕ) → length m ≡ 48 → bytes ≡ sealed seal m → opening_of seal (Came bytes) ≡ Came m ∷ []
@@ -70,7 +71,7 @@ came_first seal bytes carried m rest false t i e = later seal (Came bytes) carri
 
 pub given_was_brought : GivenWasBrought
 given_was_brought seal [] i m e = absurd (cc)
-given_was_brought seal (Sent bytes ∷ carried) zero m e = absurd (cc)
-given_was_brought seal (Sent bytes ∷ carried) (suc i) m e = later seal (Sent bytes) carried m (given_was_brought seal carried i m e)
+given_was_brought seal (Sent to bytes ∷ carried) zero m e = absurd (cc)
+given_was_brought seal (Sent to bytes ∷ carried) (suc i) m e = later seal (Sent to bytes) carried m (given_was_brought seal carried i m e)
 given_was_brought seal (Came bytes ∷ carried) i m e =
     came_first seal bytes carried m (λ k f. given_was_brought seal carried k m f) (opens seal bytes) refl i e

@@ -1,8 +1,8 @@
 -- What passes at a window.
-use Rattle.std.proofs.Common.{◌≡◌, ◌⊎◌, ℕ, Option, Some, None, List, [], ◌∷◌, ◌++◌, refl, sym, subst, inl, inr, ⊎_elim}
+use Rattle.std.proofs.Common.{◌≡◌, ◌⊎◌, ℕ, Option, Some, List, [], ◌∷◌, ◌++◌, refl, sym, subst, inl, inr, ⊎_elim}
 use Rattle.std.specs.Prelude.{IfSome, ◌≤◌, take}
 use Rattle.links.specs.Passed.{Passed, Sent, Came, IsTaken}
-use Rattle.links.specs.declared.link.Taken.{Taken}
+use Rattle.links.specs.declared.link.{Receivers.Receivers, Taken.Taken}
 use Rattle.links.specs.Windows.{AreOf, Has, IsAsk, IsBrought, IsFaithful, IsHanded, IsWindow, Windowed}
 
 pub has_more : {X : Type 0} (log more : List X) (p : X) → Has log p → Has (log ++ more) p
@@ -21,68 +21,73 @@ has_split [] q p (inr h) = absurd h
 has_split (x ∷ log) q p (inl e) = inl (inl e)
 has_split (x ∷ log) q p (inr h) = ⊎_elim (λ k. inl (inr k)) (λ e. inr e) (has_split log q p h)
 
-handed_more : (game : ℕ) (above more : List Passed) (m : List ℕ) → IsHanded game above m → IsHanded game (above ++ more) m
-handed_more game above more m (inl h) = inl (has_more above more (Sent m) h)
-handed_more game above more m (inr q) = inr q
+handed_more : (game : ℕ) (above more : List Passed) (to : Receivers) (m : List ℕ) → IsHanded game above to m → IsHanded game (above ++ more) to m
+handed_more game above more to m (inl h) = inl (has_more above more (Sent to m) h)
+handed_more game above more to m (inr q) = inr q
 
 brought_more : (game : ℕ) (below more : List Passed) (m : List ℕ) → IsBrought game below m → IsBrought game (below ++ more) m
 brought_more game below more m (inl h) = inl (has_more below more (Came m) h)
 brought_more game below more m (inr q) = inr q
 
-came_isn't_sent : (m n : List ℕ) → Came m ≡ Sent n → ⊥
-came_isn't_sent m n e = cc
+came_isn't_sent : (m : List ℕ) (to : Receivers) (n : List ℕ) → Came m ≡ Sent to n → ⊥
+came_isn't_sent m to n e = cc
 
-sent_isn't_came : (m n : List ℕ) → Sent m ≡ Came n → ⊥
-sent_isn't_came m n e = cc
+sent_isn't_came : (to : Receivers) (m n : List ℕ) → Sent to m ≡ Came n → ⊥
+sent_isn't_came to m n e = cc
 
 came_is : (m n : List ℕ) → Came m ≡ Came n → m ≡ n
 came_is m n e = cc
 
-sent_is : (m n : List ℕ) → Sent m ≡ Sent n → m ≡ n
-sent_is m n e = cc
+sent_is : (to one : Receivers) (m n : List ℕ) → Sent to m ≡ Sent one n → m ≡ n
+sent_is to one m n e = cc
+
+sent_to_is : (to one : Receivers) (m n : List ℕ) → Sent to m ≡ Sent one n → to ≡ one
+sent_to_is to one m n e = cc
+
+-- what was handed is the same, and for the same
+same_handed : (game : ℕ) (above : List Passed) (to one : Receivers) (m n : List ℕ) → Sent to m ≡ Sent one n → IsHanded game above to m → IsHanded game above one n
+same_handed game above to one m n e h =
+    subst (λ (l : List ℕ). IsHanded game above one l) (sent_is to one m n e)
+    (subst (λ (r : Receivers). IsHanded game above r m) (sent_to_is to one m n e) h)
 
 -- one is handed to the window; one is given by it; one is handed to its link; one is given by that
-pub sent_above : (game : ℕ) (above below : List Passed) (m : List ℕ) → IsFaithful game above below → IsFaithful game (above ++ Sent m ∷ []) below
-sent_above game above below m f = record {
-  given = λ n h. ⊎_elim (f.given n) (λ e. absurd (sent_isn't_came m n e)) (has_split above (Sent m) (Came n) h);
-  handed = λ n h. handed_more game above (Sent m ∷ []) n (f.handed n h);
+pub sent_above : (game : ℕ) (above below : List Passed) (to : Receivers) (m : List ℕ) → IsFaithful game above below → IsFaithful game (above ++ Sent to m ∷ []) below
+sent_above game above below to m f = record {
+  given = λ n h. ⊎_elim (f.given n) (λ e. absurd (sent_isn't_came to m n e)) (has_split above (Sent to m) (Came n) h);
+  handed = λ one n h. handed_more game above (Sent to m ∷ []) one n (f.handed one n h);
 }
 
 pub came_above : (game : ℕ) (above below : List Passed) (m : List ℕ) → IsBrought game below m → IsFaithful game above below
     → IsFaithful game (above ++ Came m ∷ []) below
 came_above game above below m b f = record {
   given = λ n h. ⊎_elim (f.given n) (λ e. subst (λ (l : List ℕ). IsBrought game below l) (came_is m n e) b) (has_split above (Came m) (Came n) h);
-  handed = λ n h. handed_more game above (Came m ∷ []) n (f.handed n h);
+  handed = λ one n h. handed_more game above (Came m ∷ []) one n (f.handed one n h);
 }
 
-pub sent_below : (game : ℕ) (above below : List Passed) (m : List ℕ) → IsHanded game above m → IsFaithful game above below
-    → IsFaithful game above (below ++ Sent m ∷ [])
-sent_below game above below m b f = record {
-  given = λ n h. brought_more game below (Sent m ∷ []) n (f.given n h);
-  handed = λ n h. ⊎_elim (f.handed n) (λ e. subst (λ (l : List ℕ). IsHanded game above l) (sent_is m n e) b) (has_split below (Sent m) (Sent n) h);
+pub sent_below : (game : ℕ) (above below : List Passed) (to : Receivers) (m : List ℕ) → IsHanded game above to m → IsFaithful game above below
+    → IsFaithful game above (below ++ Sent to m ∷ [])
+sent_below game above below to m b f = record {
+  given = λ n h. brought_more game below (Sent to m ∷ []) n (f.given n h);
+  handed = λ one n h. ⊎_elim (f.handed one n) (λ e. same_handed game above to one m n e b) (has_split below (Sent to m) (Sent one n) h);
 }
 
 pub came_below : (game : ℕ) (above below : List Passed) (m : List ℕ) → IsFaithful game above below → IsFaithful game above (below ++ Came m ∷ [])
 came_below game above below m f = record {
   given = λ n h. brought_more game below (Came m ∷ []) n (f.given n h);
-  handed = λ n h. ⊎_elim (f.handed n) (λ e. absurd (came_isn't_sent m n e)) (has_split below (Came m) (Sent n) h);
+  handed = λ one n h. ⊎_elim (f.handed one n) (λ e. absurd (came_isn't_sent m one n e)) (has_split below (Came m) (Sent one n) h);
 }
-
-some_weaker : (P Q : List ℕ → Type 0) → ((m : List ℕ) → P m → Q m) → (o : Option (List ℕ)) → IfSome o P → IfSome o Q
-some_weaker P Q f None h = h
-some_weaker P Q f (Some m) h = f m h
 
 pub some_of : (P : List ℕ → Type 0) (o : Option (List ℕ)) (m : List ℕ) → IfSome o P → o ≡ Some m → P m
 some_of P o m h e = subst (λ (x : Option (List ℕ)). IfSome x P) e h
 
 -- so for a window that keeps what it keeps
-pub above_sent : (game : ℕ) (above below : List Passed) (early : List (List ℕ)) (ask : Option (List ℕ)) (m : List ℕ)
+pub above_sent : (game : ℕ) (above below : List Passed) (early : List (List ℕ)) (ask : Option (List ℕ)) (to : Receivers) (m : List ℕ)
     → IsWindow (record { game = game; above = above; below = below }) early ask
-    → IsWindow (record { game = game; above = above ++ Sent m ∷ []; below = below }) early ask
-above_sent game above below early ask m w = record {
-  faithful = sent_above game above below m w.faithful;
+    → IsWindow (record { game = game; above = above ++ Sent to m ∷ []; below = below }) early ask
+above_sent game above below early ask to m w = record {
+  faithful = sent_above game above below to m w.faithful;
   kept = w.kept;
-  ask = some_weaker _ _ (handed_more game above (Sent m ∷ [])) ask w.ask;
+  ask = w.ask;
 }
 
 pub above_came : (game : ℕ) (above below : List Passed) (early : List (List ℕ)) (ask : Option (List ℕ)) (m : List ℕ) → IsBrought game below m
@@ -91,15 +96,15 @@ pub above_came : (game : ℕ) (above below : List Passed) (early : List (List �
 above_came game above below early ask m b w = record {
   faithful = came_above game above below m b w.faithful;
   kept = w.kept;
-  ask = some_weaker _ _ (handed_more game above (Came m ∷ [])) ask w.ask;
+  ask = w.ask;
 }
 
-pub below_sent : (game : ℕ) (above below : List Passed) (early : List (List ℕ)) (ask : Option (List ℕ)) (m : List ℕ) → IsHanded game above m
+pub below_sent : (game : ℕ) (above below : List Passed) (early : List (List ℕ)) (ask : Option (List ℕ)) (to : Receivers) (m : List ℕ) → IsHanded game above to m
     → IsWindow (record { game = game; above = above; below = below }) early ask
-    → IsWindow (record { game = game; above = above; below = below ++ Sent m ∷ [] }) early ask
-below_sent game above below early ask m b w = record {
-  faithful = sent_below game above below m b w.faithful;
-  kept = λ n h. brought_more game below (Sent m ∷ []) n (w.kept n h);
+    → IsWindow (record { game = game; above = above; below = below ++ Sent to m ∷ [] }) early ask
+below_sent game above below early ask to m b w = record {
+  faithful = sent_below game above below to m b w.faithful;
+  kept = λ n h. brought_more game below (Sent to m ∷ []) n (w.kept n h);
   ask = w.ask;
 }
 
@@ -113,13 +118,13 @@ below_came game above below early ask m w = record {
 }
 
 -- by what the calls ensure: one is handed to the link, one comes from it, one is handed to the window, one is given by it
-pub hands : {game : ℕ} {above below new : List Passed} {votes : List (List ℕ)} {asked : Option (List ℕ)} {m : List ℕ}
-    → new ≡ below ++ Sent m ∷ [] → IsHanded game above m
+pub hands : {game : ℕ} {above below new : List Passed} {votes : List (List ℕ)} {asked : Option (List ℕ)} {m : List ℕ} (to : Receivers)
+    → new ≡ below ++ Sent to m ∷ [] → IsHanded game above to m
     → IsWindow (record { game = game; above = above; below = below }) votes asked
     → IsWindow (record { game = game; above = above; below = new }) votes asked
-hands {game} {above} {below} {new} {votes} {asked} {m} e h w =
+hands {game} {above} {below} {new} {votes} {asked} {m} to e h w =
     subst (λ (l : List Passed). IsWindow (record { game = game; above = above; below = l }) votes asked) (sym e)
-    (below_sent game above below votes asked m h w)
+    (below_sent game above below votes asked to m h w)
 
 pub brings : {game : ℕ} {above below new : List Passed} {votes : List (List ℕ)} {asked : Option (List ℕ)} (m : List ℕ)
     → new ≡ below ++ Came m ∷ []
@@ -136,13 +141,13 @@ pub stays_below : {game : ℕ} {above below new : List Passed} {votes : List (Li
 stays_below {game} {above} {below} {new} {votes} {asked} e w =
     subst (λ (l : List Passed). IsWindow (record { game = game; above = above; below = l }) votes asked) (sym e) w
 
-pub is_handed : {game : ℕ} {above new below : List Passed} {votes : List (List ℕ)} {asked : Option (List ℕ)} (m : List ℕ)
-    → new ≡ above ++ Sent m ∷ []
+pub is_handed : {game : ℕ} {above new below : List Passed} {votes : List (List ℕ)} {asked : Option (List ℕ)} (to : Receivers) (m : List ℕ)
+    → new ≡ above ++ Sent to m ∷ []
     → IsWindow (record { game = game; above = above; below = below }) votes asked
     → IsWindow (record { game = game; above = new; below = below }) votes asked
-is_handed {game} {above} {new} {below} {votes} {asked} m e w =
+is_handed {game} {above} {new} {below} {votes} {asked} to m e w =
     subst (λ (l : List Passed). IsWindow (record { game = game; above = l; below = below }) votes asked) (sym e)
-    (above_sent game above below votes asked m w)
+    (above_sent game above below votes asked to m w)
 
 pub gives : {game : ℕ} {above new below : List Passed} {votes : List (List ℕ)} {asked : Option (List ℕ)} {m : List ℕ}
     → new ≡ above ++ Came m ∷ [] → IsBrought game below m
@@ -154,16 +159,16 @@ gives {game} {above} {new} {below} {votes} {asked} {m} e b w =
 
 -- what is kept changes
 pub with_asked : {w : Windowed} {votes : List (List ℕ)} {asked new : Option (List ℕ)} {m : List ℕ}
-    → (new ≡ asked) ⊎ (new ≡ Some m) → IsHanded w.game w.above m → IsWindow w votes asked → IsWindow w votes new
-with_asked {w} (inl e) h k = record {
+    → (new ≡ asked) ⊎ ((new ≡ Some m) × IsAsk w.game m) → IsWindow w votes asked → IsWindow w votes new
+with_asked {w} (inl e) k = record {
   faithful = k.faithful;
   kept = k.kept;
-  ask = subst (λ (o : Option (List ℕ)). IfSome o (IsHanded w.game w.above)) (sym e) k.ask;
+  ask = subst (λ (o : Option (List ℕ)). IfSome o (IsAsk w.game)) (sym e) k.ask;
 }
-with_asked {w} (inr e) h k = record {
+with_asked {w} (inr q) k = record {
   faithful = k.faithful;
   kept = k.kept;
-  ask = subst (λ (o : Option (List ℕ)). IfSome o (IsHanded w.game w.above)) (sym e) h;
+  ask = subst (λ (o : Option (List ℕ)). IfSome o (IsAsk w.game)) (sym q.0) q.1;
 }
 
 pub with_votes : {w : Windowed} {votes new : List (List ℕ)} {asked : Option (List ℕ)}
@@ -171,17 +176,20 @@ pub with_votes : {w : Windowed} {votes new : List (List ℕ)} {asked : Option (L
 with_votes e k = record { faithful = k.faithful; kept = λ m h. k.kept m (e m h); ask = k.ask }
 
 -- read through a value that is open
-pub handed_in : {w v : Windowed} {m : List ℕ} → v ≡ w → IsHanded w.game w.above m → IsHanded v.game v.above m
-handed_in {w} {v} {m} e h = subst (λ (x : Windowed). IsHanded x.game x.above m) (sym e) h
+pub handed_in : {w v : Windowed} {m : List ℕ} (to : Receivers) → v ≡ w → IsHanded w.game w.above to m → IsHanded v.game v.above to m
+handed_in {w} {v} {m} to e h = subst (λ (x : Windowed). IsHanded x.game x.above to m) (sym e) h
 
 pub brought_in : {w v : Windowed} {m : List ℕ} → v ≡ w → IsBrought w.game w.below m → IsBrought v.game v.below m
 brought_in {w} {v} {m} e h = subst (λ (x : Windowed). IsBrought x.game x.below m) (sym e) h
 
-pub ask_in : {w v : Windowed} {o : Option (List ℕ)} {m : List ℕ} → v ≡ w → IfSome o (IsAsk v.game) → o ≡ Some m → IsHanded w.game w.above m
-ask_in {w} {v} {o} {m} e h s = inr (subst (λ (x : Windowed). IsAsk x.game m) e (some_of (IsAsk v.game) o m h s))
+pub asked_in : {w v : Windowed} {m : List ℕ} (to : Receivers) → v ≡ w → IsAsk w.game m → IsHanded v.game v.above to m
+asked_in {w} {v} {m} to e q = inr (subst (λ (x : Windowed). IsAsk x.game m) (sym e) q)
 
-pub now_handed : (game : ℕ) (above : List Passed) {new : List Passed} {m : List ℕ} → new ≡ above ++ Sent m ∷ [] → IsHanded game new m
-now_handed game above {new} {m} e = inl (subst (λ (l : List Passed). Has l (Sent m)) (sym e) (has_last above (Sent m)))
+pub ask_in : {w v : Windowed} {o : Option (List ℕ)} {m : List ℕ} → v ≡ w → IfSome o (IsAsk v.game) → o ≡ Some m → IsAsk w.game m
+ask_in {w} {v} {o} {m} e h s = subst (λ (x : Windowed). IsAsk x.game m) e (some_of (IsAsk v.game) o m h s)
+
+pub now_sent : (old : List Passed) {new : List Passed} (to : Receivers) (m : List ℕ) → new ≡ old ++ Sent to m ∷ [] → Has new (Sent to m)
+now_sent old {new} to m e = subst (λ (l : List Passed). Has l (Sent to m)) (sym e) (has_last old (Sent to m))
 
 pub same_asked : {w : Windowed} {votes : List (List ℕ)} {asked new : Option (List ℕ)}
     → new ≡ asked → IsWindow w votes asked → IsWindow w votes new
@@ -203,9 +211,8 @@ taken_brought game below new taken buffer h count e =
     let k : IsTaken (Taken.Datagram count) buffer below new = subst (λ (t : Taken). IsTaken t buffer below new) e h in
     (k.0, inl (subst (λ (l : List Passed). Has l (Came (take count buffer))) (sym k.1) (has_last below (Came (take count buffer)))))
 
-pub kept_handed : {game new : ℕ} {above now : List Passed} {m : List ℕ} → now ≡ above → new ≡ game → IsHanded game above m → IsHanded new now m
-kept_handed {game} {new} {above} {now} {m} e n h =
-    subst (λ (l : List Passed). IsHanded new l m) (sym e) (subst (λ (k : ℕ). IsHanded k above m) (sym n) h)
+pub kept_handed : (game : ℕ) {above now : List Passed} (to : Receivers) {m : List ℕ} → now ≡ above → Has above (Sent to m) → IsHanded game now to m
+kept_handed game {above} {now} to {m} e h = inl (subst (λ (l : List Passed). Has l (Sent to m)) (sym e) h)
 
 -- what the link gave is noted: what is kept back besides was brought
 pub hears : {game : ℕ} {above below new : List Passed} {votes kept : List (List ℕ)} {asked : Option (List ℕ)} (taken : Taken) (buffer : List ℕ)

@@ -14,7 +14,7 @@ came_open true bytes = Came (take 48 bytes) ∷ []
 came_open false bytes = []
 
 abbrev pub opening_of : List ℕ → Passed → List Passed
-opening_of seal (Sent bytes) = Sent (take 48 bytes) ∷ []
+opening_of seal (Sent to bytes) = Sent to (take 48 bytes) ∷ []
 opening_of seal (Came bytes) = came_open (opens seal bytes) bytes
 
 abbrev pub opening : List ℕ → List Passed → List Passed

@@ -2,19 +2,20 @@
 use Rattle.std.specs.Prelude.{◌≡◌, ◌≤◌, ℕ, List, [], ◌∷◌, ◌++◌, map, take}
 use Rattle.agree_core.specs.declared.messages.Message.{Message}
 use Rattle.wire.specs.Layout.{written}
-use Rattle.links.specs.declared.link.Taken.{Taken}
+use Rattle.links.specs.declared.link.{Receivers.Receivers, Taken.Taken}
 
--- a datagram that was handed to the link, or that it gave
+-- a datagram that was handed to the link for these, or that it gave
 pub data Passed : Type 0 where
-  Sent : List ℕ → Passed
+  Sent : Receivers → List ℕ → Passed
   Came : List ℕ → Passed
 
-abbrev pub sent_bytes : List (List ℕ) → List Passed
-sent_bytes out = map Sent out
+-- these datagrams were handed to the link for these
+abbrev pub sent_to : Receivers → List (List ℕ) → List Passed
+sent_to to out = map (Sent to) out
 
--- these messages of a match were handed to the link
-abbrev pub sends : ℕ → List Message → List Passed
-sends game out = sent_bytes (map (written game) out)
+-- these messages of a match were handed to the link for these
+abbrev pub sends : Receivers → ℕ → List Message → List Passed
+sends to game out = sent_to to (map (written game) out)
 
 -- what was taken: the front of the buffer as a datagram of at most so many bytes, nothing, one that was lost, or one that
 -- doesn't open

@@ -2,7 +2,7 @@
 
 ghost use Rattle.std.specs.Prelude.{◌≡◌, ◌⊎◌, ℕ, List, None, Some, [], take, true};
 ghost use Rattle.std.specs.BTreeMap.{values};
-ghost use Rattle.links.specs.Windows.{AreOf, AreOfOr, Has, IsVote};
+ghost use Rattle.links.specs.Windows.{AreOf, AreOfOr, Has, IsAsk, IsVote};
 ghost use Rattle.links.specs.declared.link.Taken.{Taken};
 
 use crate::asking::Asking;
@@ -167,7 +167,8 @@ impl Known {
     pub fn note(&mut self, game: u64, bytes: &[u8; 48], now: u64) -> bool
         ensures handed { IsVote game bytes.now → result ≡ true }
         ensures votes { AreOf (values self.new.early.votes) (values self.old.early.votes) }
-        ensures asked { (self.new.asking.bytes ≡ self.old.asking.bytes) ⊎ (self.new.asking.bytes ≡ Some bytes.now) }
+        ensures asked { (self.new.asking.bytes ≡ self.old.asking.bytes)
+            ⊎ ((self.new.asking.bytes ≡ Some bytes.now) × IsAsk game bytes.now) }
     {
         match message_of(game, bytes.as_slice()) {
             Ok(Message::Vote(vote)) => {

@@ -22,7 +22,9 @@ mod window;
 pub use aside::{Aside, HeldLine, HeldLines};
 pub use clock::Clock;
 pub use keys::{Keys, LINE_ROOM, Typed};
-pub use link::{Link, MOST_TAKEN, PeerLink, ROOM, SEALED_ROOM, SealedCarrier, SharedLink, Taken};
+pub use link::{
+    Link, MOST_TAKEN, PeerLink, ROOM, Receivers, SEALED_ROOM, SealedCarrier, SharedLink, Taken,
+};
 pub use log::{CarriedLog, ClockLog, InputLog, Log};
 pub use sealed::{Sealed, what_is_given_was_brought};
 pub use sending::send_each;

@@ -2,6 +2,7 @@
 
 ghost use Rattle.std.specs.Prelude.{◌≡◌, ◌∷◌, ◌++◌, List, []};
 ghost use Rattle.links.specs.Passed.{Passed, Sent, IsTaken, IsTakenUpTo};
+ghost use Rattle.links.specs.declared.link.Receivers.TheVariants.{ToAll, ToOne};
 
 use agree_core::Asker;
 
@@ -13,6 +14,15 @@ pub const SEALED_ROOM: usize = 65;
 
 /// How many datagrams a station takes in a turn at most.
 pub const MOST_TAKEN: usize = 8;
+
+/// For whom a datagram is handed to a link.
+#[derive(Clone, Copy, Debug, PartialEq, Eq)]
+pub enum Receivers {
+    /// Every peer.
+    ToAll,
+    /// One of them.
+    ToOne,
+}
 
 /// What was taken: a datagram of so many bytes, none that came in time, one that was lost, or one that doesn't open: it
 /// wasn't sealed with this match's key and sheet, or was damaged on its way, and nothing of it is handed on.
@@ -32,11 +42,11 @@ pub trait Link {
 
     /// Sends bytes to every peer. What can't be sent is lost.
     fn send(&mut self, bytes: &[u8; 48])
-        ensures { log self.new ≡ log self.old ++ Sent bytes.now ∷ [] };
+        ensures { log self.new ≡ log self.old ++ Sent ToAll bytes.now ∷ [] };
 
     /// Sends bytes to the peer whose datagram was taken last, if to no other. What can't be sent is lost.
     fn reply(&mut self, bytes: &[u8; 48])
-        ensures { log self.new ≡ log self.old ++ Sent bytes.now ∷ [] };
+        ensures { log self.new ≡ log self.old ++ Sent ToOne bytes.now ∷ [] };
 
     /// Takes the next datagram that came from a peer: the front of the buffer. One is waited for, so many milliseconds at
     /// most, and no longer than until a scorer may have typed. Others' datagrams, and those whose taking fails, are lost.
@@ -48,7 +58,7 @@ pub trait Link {
 pub trait PeerLink: Link {
     /// Sends bytes to the peer of this number, if there is one. What can't be sent is lost.
     fn send_to(&mut self, peer: usize, bytes: &[u8; 48])
-        ensures { Self.log self.new ≡ Self.log self.old ++ Sent bytes.now ∷ [] };
+        ensures { Self.log self.new ≡ Self.log self.old ++ Sent ToOne bytes.now ∷ [] };
 
     /// Which peer's datagram was taken last, as a number of its own.
     fn last_peer(&self) -> usize;
@@ -62,15 +72,15 @@ pub trait SealedCarrier {
 
     /// Sends a sealed datagram to every peer. What can't be sent is lost.
     fn carry(&mut self, bytes: &[u8; 64])
-        ensures { carried self.new ≡ carried self.old ++ Sent bytes.now ∷ [] };
+        ensures { carried self.new ≡ carried self.old ++ Sent ToAll bytes.now ∷ [] };
 
     /// Sends a sealed datagram to the peer whose datagram was taken last, if to no other. What can't be sent is lost.
     fn carry_back(&mut self, bytes: &[u8; 64])
-        ensures { carried self.new ≡ carried self.old ++ Sent bytes.now ∷ [] };
+        ensures { carried self.new ≡ carried self.old ++ Sent ToOne bytes.now ∷ [] };
 
     /// Sends a sealed datagram to the peer of this number, if there is one. What can't be sent is lost.
     fn carry_to(&mut self, peer: usize, bytes: &[u8; 64])
-        ensures { carried self.new ≡ carried self.old ++ Sent bytes.now ∷ [] };
+        ensures { carried self.new ≡ carried self.old ++ Sent ToOne bytes.now ∷ [] };
 
     /// Which peer's datagram was taken last, as a number of its own.
     fn last_peer(&self) -> usize;

@@ -1,14 +1,15 @@
 //! Handing datagrams to a link.
 
 ghost use Rattle.std.specs.Prelude.{◌≡◌, ◌++◌, map};
-ghost use Rattle.links.specs.Passed.{sent_bytes};
+ghost use Rattle.links.specs.Passed.{sent_to};
+ghost use Rattle.links.specs.declared.link.Receivers.TheVariants.{ToAll};
 
 use crate::link::Link;
 use wire::Datagram;
 
-/// Hands datagrams to the link.
+/// Hands datagrams to the link for all.
 pub fn send_each<L: Link>(link: &mut L, datagrams: &[Datagram])
-    ensures { L.log link.new ≡ L.log link.old ++ sent_bytes (map (λ d. d.bytes) datagrams.now) }
+    ensures { L.log link.new ≡ L.log link.old ++ sent_to ToAll (map (λ d. d.bytes) datagrams.now) }
 {
     for datagram in datagrams {
         link.send(&datagram.bytes);

@@ -9,7 +9,7 @@ use crate::clock::Clock;
 use crate::company::Company;
 use crate::early::hears;
 use crate::known::{Given, Known};
-use crate::link::{Link, PeerLink, Taken};
+use crate::link::{Link, PeerLink, Receivers, Taken};
 use crate::log::Log;
 use crate::silence::Silence;
 use agree_core::{Asker, DeskId, Message, Position};
@@ -70,8 +70,8 @@ impl<L: PeerLink, C: Clock> Model for Window<L, C> {
 
 impl<L: PeerLink, C: Clock> Window<L, C> {
     ghost use Rattle.std.specs.Prelude.{◌≡◌, ◌≤◌, ℕ, List, [], IfSome, take, true};
-    ghost use Rattle.links.specs.Passed.{Sent};
-    ghost use Rattle.links.specs.Windows.{Has, IsAsk, IsBrought, IsHanded, IsKept, IsVote};
+    ghost use Rattle.links.specs.Windows.{HandsDown, IsAsk, IsBrought, IsHanded, IsKept, IsVote};
+    ghost use Rattle.links.specs.declared.link.Receivers.TheVariants.{ToAll, ToOne};
 
     /// A window over a link, in the match of this number.
     pub fn new(alloc: Global, link: L, clock: C, game: u64) -> Window<L, C>
@@ -93,8 +93,8 @@ impl<L: PeerLink, C: Clock> Window<L, C> {
 
     /// Notes what the station says, and answers whether it is handed down.
     fn note(&mut self, bytes: &[u8; 48], now: u64) -> bool
-        requires { IsHanded self.old.game self.old.above bytes.now }
         ensures kept { IsKept self.old self.new }
+        ensures below { self.new.below ≡ self.old.below }
         ensures handed { IsVote self.old.game bytes.now → result ≡ true }
     {
         self.known.note(self.game, bytes, now)
@@ -102,9 +102,9 @@ impl<L: PeerLink, C: Clock> Window<L, C> {
 
     /// Hands a message to all.
     fn say(&mut self, bytes: &[u8; 48], now: u64)
-        requires { IsHanded self.old.game self.old.above bytes.now }
+        requires { IsHanded self.old.game self.old.above ToAll bytes.now }
         ensures kept { IsKept self.old self.new }
-        ensures said { Has self.new.below (Sent bytes.now) }
+        ensures said { HandsDown ToAll bytes.now self.old self.new }
     {
         self.link.send(bytes);
         self.silence.end(now);
@@ -123,9 +123,9 @@ impl<L: PeerLink, C: Clock> Window<L, C> {
         }
     }
 
-    /// Sends a message to who sent this desk's votes last, or to all.
+    /// Sends an ask to who sent this desk's votes last, or to all.
     fn send_to_voter(&mut self, desk: DeskId, bytes: &[u8; 48])
-        requires { IsHanded self.old.game self.old.above bytes.now }
+        requires { IsAsk self.old.game bytes.now }
         ensures kept { IsKept self.old self.new }
     {
         match self.known.voter(desk) {
@@ -161,7 +161,7 @@ impl<L: PeerLink, C: Clock> Window<L, C> {
 
     /// Asks a desk for what was lost of it: the vote of the station's position, and those of the places behind it.
     fn ask_desk(&mut self, desk: DeskId, bytes: &[u8; 48], is_silent: bool)
-        requires { IsHanded self.old.game self.old.above bytes.now }
+        requires { IsAsk self.old.game bytes.now }
         ensures kept { IsKept self.old self.new }
     {
         let end = self.known.lost_until(desk, is_silent);
@@ -182,7 +182,7 @@ impl<L: PeerLink, C: Clock> Window<L, C> {
 
     /// Hands the station's ask to all, or, where later votes are here, asks each desk for what was lost of it.
     fn ask(&mut self, bytes: &[u8; 48], is_silent: bool)
-        requires { IsHanded self.old.game self.old.above bytes.now }
+        requires { IsAsk self.old.game bytes.now }
         ensures kept { IsKept self.old self.new }
     {
         if self.known.early.is_empty() {
@@ -295,8 +295,9 @@ impl<L: PeerLink, C: Clock> Window<L, C> {
 
     /// Hands a reply to who asked.
     fn hand_back(&mut self, bytes: &[u8; 48])
-        requires { IsHanded self.old.game self.old.above bytes.now }
+        requires { IsHanded self.old.game self.old.above ToOne bytes.now }
         ensures kept { IsKept self.old self.new }
+        ensures said { HandsDown ToOne bytes.now self.old self.new }
     {
         match self.known.given {
             Given::MadeUp(peer) | Given::Answered(peer) => {
@@ -310,6 +311,7 @@ impl<L: PeerLink, C: Clock> Window<L, C> {
     /// Notes that an ask that came was answered: the places behind it are asked for too.
     fn note_reply(&mut self, bytes: &[u8; 48])
         ensures kept { IsKept self.old self.new }
+        ensures below { self.new.below ≡ self.old.below }
     {
         let is_asked = matches!(self.known.given, Given::Ask);
         if let Ok(Message::Vote(vote)) = message_of(self.game, bytes.as_slice())
@@ -325,24 +327,29 @@ impl<L: PeerLink, C: Clock> Window<L, C> {
 impl<L: PeerLink, C: Clock> Link for Window<L, C> {
     ghost use Rattle.std.specs.Prelude.{◌≡◌, ◌∷◌, ◌++◌, []};
     ghost use Rattle.links.specs.Passed.{Sent};
-    ghost use Rattle.links.specs.Windows.{Has, IsVote};
+    ghost use Rattle.links.specs.Windows.{HandsDown, IsVote};
+    ghost use Rattle.links.specs.declared.link.Receivers.TheVariants.{ToAll, ToOne};
 
     ghost log = { λ window. window.above };
 
-    // a vote is handed down at once
+    // a vote is handed down at once, to all
     fn send(&mut self, bytes: &[u8; 48])
-        ensures log { self.new.above ≡ self.old.above ++ Sent bytes.now ∷ [] }
-        ensures handed { IsVote self.old.game bytes.now → Has self.new.below (Sent bytes.now) }
+        ensures log { self.new.above ≡ self.old.above ++ Sent ToAll bytes.now ∷ [] }
+        ensures handed { IsVote self.old.game bytes.now → HandsDown ToAll bytes.now self.old self.new }
     {
-        self.log = self.log.sent(bytes);
+        self.log = self.log.sent(Receivers::ToAll, bytes);
         let now = self.clock.millis();
         if self.note(bytes, now) {
             self.say(bytes, now);
         }
     }
 
-    fn reply(&mut self, bytes: &[u8; 48]) {
-        self.log = self.log.sent(bytes);
+    // an answer is handed down at once, to one
+    fn reply(&mut self, bytes: &[u8; 48])
+        ensures log { self.new.above ≡ self.old.above ++ Sent ToOne bytes.now ∷ [] }
+        ensures handed { HandsDown ToOne bytes.now self.old self.new }
+    {
+        self.log = self.log.sent(Receivers::ToOne, bytes);
         self.hand_back(bytes);
         self.note_reply(bytes);
     }
@@ -358,8 +365,8 @@ impl<L: PeerLink, C: Clock> Link for Window<L, C> {
     }
 }
 
-/// What a window gave its link had given, and what its link was handed it had been handed, but for asks: votes are neither
-/// made up nor changed.
+/// What a window gave its link had given, and what its link was handed for all, or for one, it had been handed so, but for
+/// asks: votes are neither made up nor changed.
 pub fn what_passes_is_kept<L: PeerLink, C: Clock>(window: &Window<L, C>)
     ensures { IsFaithful window.now.game window.now.above window.now.below }
 {
