@@ -5,7 +5,7 @@ ghost use Rattle.std.specs.Prelude.{◌≡◌, ◌≤◌, ℕ, [], IfOk};
 use crate::address::MOST_PEERS;
 use crate::port::{Port, is_late, missed};
 use crate::waiting::WaitEnds;
-use links::{CarriedLog, SealedCarrier, Taken};
+use links::{CarriedLog, Receivers, SealedCarrier, Taken};
 use seal::Seal;
 use std::io::{self, ErrorKind, Write};
 use std::net::{Net, SocketAddr};
@@ -166,17 +166,17 @@ impl<E: Write + Drop> SealedCarrier for Peers<E> {
 
     fn carry(&mut self, bytes: &[u8; 64]) {
         self.mail.send(bytes, None);
-        self.log = self.log.sent(bytes);
+        self.log = self.log.sent(Receivers::ToAll, bytes);
     }
 
     fn carry_back(&mut self, bytes: &[u8; 64]) {
         self.mail.send_back(bytes);
-        self.log = self.log.sent(bytes);
+        self.log = self.log.sent(Receivers::ToOne, bytes);
     }
 
     fn carry_to(&mut self, peer: usize, bytes: &[u8; 64]) {
         self.mail.send_one(peer, bytes);
-        self.log = self.log.sent(bytes);
+        self.log = self.log.sent(Receivers::ToOne, bytes);
     }
 
     fn last_peer(&self) -> usize {

@@ -4,7 +4,7 @@ ghost use Rattle.std.specs.Prelude.{◌≤◌, length, IfOk, IfSome};
 
 use crate::port::{Port, is_late, missed};
 use agree_core::Asker;
-use links::{Link, Log, SharedLink, Taken};
+use links::{Link, Log, Receivers, SharedLink, Taken};
 use std::io;
 use std::net::{Ipv4Addr, Net, SocketAddr, SocketAddrV4};
 
@@ -174,12 +174,13 @@ impl Link for Sockets {
 
     fn send(&mut self, bytes: &[u8; 48]) {
         self.ports.send(self.turn, bytes);
-        self.log = self.log.sent(bytes);
+        self.log = self.log.sent(Receivers::ToAll, bytes);
     }
 
     /// It goes to both others, as what is sent does.
     fn reply(&mut self, bytes: &[u8; 48]) {
-        self.send(bytes);
+        self.ports.send(self.turn, bytes);
+        self.log = self.log.sent(Receivers::ToOne, bytes);
     }
 
     fn take(&mut self, buffer: &mut [u8; 64], wait: u64) -> Taken {
