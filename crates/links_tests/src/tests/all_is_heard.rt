@@ -3,7 +3,7 @@
 ghost use Rattle.std.specs.Prelude.{◌≡◌, ◌<◌};
 
 use super::*;
-use links::{Link, Log, PeerLink, Taken, Window};
+use links::{Link, Log, PeerLink, Receivers, Taken, Window};
 use std::mem;
 use tests_support::{entry_in, vote_of};
 use wire::message_of;
@@ -147,12 +147,12 @@ impl Link for Line {
     fn send(&mut self, bytes: &[u8; 48]) {
         self.network.ask(0, bytes);
         self.network.ask(1, bytes);
-        self.log = self.log.sent(bytes);
+        self.log = self.log.sent(Receivers::ToAll, bytes);
     }
 
     fn reply(&mut self, bytes: &[u8; 48]) {
         self.network.ask(self.peer, bytes);
-        self.log = self.log.sent(bytes);
+        self.log = self.log.sent(Receivers::ToOne, bytes);
     }
 
     fn take(&mut self, buffer: &mut [u8; 64], _wait: u64) -> Taken {
@@ -169,7 +169,7 @@ impl Link for Line {
 impl PeerLink for Line {
     fn send_to(&mut self, peer: usize, bytes: &[u8; 48]) {
         self.network.ask(peer, bytes);
-        self.log = self.log.sent(bytes);
+        self.log = self.log.sent(Receivers::ToOne, bytes);
     }
 
     fn last_peer(&self) -> usize {

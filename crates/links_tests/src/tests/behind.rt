@@ -2,7 +2,7 @@
 ghost use Rattle.std.specs.Prelude.{◌<◌};
 
 use super::*;
-use links::{CarriedLog, Link, Sealed, SealedCarrier, Taken, Window};
+use links::{CarriedLog, Link, Receivers, Sealed, SealedCarrier, Taken, Window};
 use seal::Seal;
 
 mod catching_up;
@@ -57,13 +57,13 @@ impl SealedCarrier for Post<'_> {
     fn carry(&mut self, bytes: &[u8; 64]) {
         self.world.sent.set(self.world.sent.get().saturating_add(1));
         self.world.last.set(*bytes);
-        self.log = self.log.sent(bytes);
+        self.log = self.log.sent(Receivers::ToAll, bytes);
     }
 
     fn carry_back(&mut self, bytes: &[u8; 64]) {
         self.world.back.set(self.world.back.get().saturating_add(1));
         self.world.last.set(*bytes);
-        self.log = self.log.sent(bytes);
+        self.log = self.log.sent(Receivers::ToOne, bytes);
     }
 
     fn carry_to(&mut self, peer: usize, bytes: &[u8; 64]) {
