@@ -1,6 +1,7 @@
 -- What a map keeps.
-use Rattle.std.proofs.Common.{◌≡◌, ◌⊎◌, List, [], ◌∷◌, Result, Ok, Err, OnOk, Ordering, Less, Equal, Greater, sym, subst, inl, inr, ⊎_elim}
+use Rattle.std.proofs.Common.{◌≡◌, ◌⊎◌, ◌<◌, ℕ, zero, suc, List, [], ◌∷◌, length, slice_index_or, Result, Ok, Err, OnOk, Ordering, Less, Equal, Greater, arith, sym, subst, inl, inr, ⊎_elim}
 use Rattle.std.specs.Prelude.{OnErr}
+use Rattle.std.specs.List.{IsAmong}
 use Rattle.std.specs.Ordering.{match_ordering}
 use Rattle.std.specs.Map.{values_of}
 use Rattle.std.specs.BTreeMap.{insert_entry}
@@ -26,3 +27,12 @@ pub keeps : {K X A E : Type 0} (cmp : K → K → Ordering) (k : K) (v : X) (old
     → OnOk r (new ≡ insert_entry cmp old k v) → OnErr r (new ≡ old) → AreOfOr v (values_of new) (values_of old)
 keeps cmp k v old new (Ok a) o n = subst (λ (l : List _). AreOfOr v (values_of l) (values_of old)) (sym o) (inserted cmp k v old)
 keeps cmp k v old new (Err a) o n = subst (λ (l : List _). AreOfOr v (values_of l) (values_of old)) (sym n) (λ x h. inl h)
+
+-- what is among them is one of them
+at_index : {X : Type 0} (xs : List X) (x : X) (i : ℕ) → i < length xs → x ≡ slice_index_or xs i x → Has xs x
+at_index [] x i lt e = absurd (omega (arith, lt))
+at_index (y ∷ ys) x zero lt e = inl (sym e)
+at_index (y ∷ ys) x (suc i) lt e = inr (at_index ys x i (omega (arith, lt)) e)
+
+pub is_one : {X : Type 0} (xs : List X) (x : X) → IsAmong xs x → Has xs x
+is_one xs x among = at_index xs x among.0 among.1.0 among.1.1

@@ -82,8 +82,8 @@ some_of P o m h e = subst (λ (x : Option (List ℕ)). IfSome x P) e h
 
 -- so for a window that keeps what it keeps
 pub above_sent : (game : ℕ) (above below : List Passed) (early : List (List ℕ)) (ask : Option (List ℕ)) (to : Receivers) (m : List ℕ)
-    → IsWindow (record { game = game; above = above; below = below }) early ask
-    → IsWindow (record { game = game; above = above ++ Sent to m ∷ []; below = below }) early ask
+    → IsWindow game above below early ask
+    → IsWindow game (above ++ Sent to m ∷ []) below early ask
 above_sent game above below early ask to m w = record {
   faithful = sent_above game above below to m w.faithful;
   kept = w.kept;
@@ -91,8 +91,8 @@ above_sent game above below early ask to m w = record {
 }
 
 pub above_came : (game : ℕ) (above below : List Passed) (early : List (List ℕ)) (ask : Option (List ℕ)) (m : List ℕ) → IsBrought game below m
-    → IsWindow (record { game = game; above = above; below = below }) early ask
-    → IsWindow (record { game = game; above = above ++ Came m ∷ []; below = below }) early ask
+    → IsWindow game above below early ask
+    → IsWindow game (above ++ Came m ∷ []) below early ask
 above_came game above below early ask m b w = record {
   faithful = came_above game above below m b w.faithful;
   kept = w.kept;
@@ -100,8 +100,8 @@ above_came game above below early ask m b w = record {
 }
 
 pub below_sent : (game : ℕ) (above below : List Passed) (early : List (List ℕ)) (ask : Option (List ℕ)) (to : Receivers) (m : List ℕ) → IsHanded game above to m
-    → IsWindow (record { game = game; above = above; below = below }) early ask
-    → IsWindow (record { game = game; above = above; below = below ++ Sent to m ∷ [] }) early ask
+    → IsWindow game above below early ask
+    → IsWindow game above (below ++ Sent to m ∷ []) early ask
 below_sent game above below early ask to m b w = record {
   faithful = sent_below game above below to m b w.faithful;
   kept = λ n h. brought_more game below (Sent to m ∷ []) n (w.kept n h);
@@ -109,8 +109,8 @@ below_sent game above below early ask to m b w = record {
 }
 
 pub below_came : (game : ℕ) (above below : List Passed) (early : List (List ℕ)) (ask : Option (List ℕ)) (m : List ℕ)
-    → IsWindow (record { game = game; above = above; below = below }) early ask
-    → IsWindow (record { game = game; above = above; below = below ++ Came m ∷ [] }) early ask
+    → IsWindow game above below early ask
+    → IsWindow game above (below ++ Came m ∷ []) early ask
 below_came game above below early ask m w = record {
   faithful = came_below game above below m w.faithful;
   kept = λ n h. brought_more game below (Came m ∷ []) n (w.kept n h);
@@ -120,59 +120,59 @@ below_came game above below early ask m w = record {
 -- by what the calls ensure: one is handed to the link, one comes from it, one is handed to the window, one is given by it
 pub hands : {game : ℕ} {above below new : List Passed} {votes : List (List ℕ)} {asked : Option (List ℕ)} {m : List ℕ} (to : Receivers)
     → new ≡ below ++ Sent to m ∷ [] → IsHanded game above to m
-    → IsWindow (record { game = game; above = above; below = below }) votes asked
-    → IsWindow (record { game = game; above = above; below = new }) votes asked
+    → IsWindow game above below votes asked
+    → IsWindow game above new votes asked
 hands {game} {above} {below} {new} {votes} {asked} {m} to e h w =
-    subst (λ (l : List Passed). IsWindow (record { game = game; above = above; below = l }) votes asked) (sym e)
+    subst (λ (l : List Passed). IsWindow game above l votes asked) (sym e)
     (below_sent game above below votes asked to m h w)
 
 pub brings : {game : ℕ} {above below new : List Passed} {votes : List (List ℕ)} {asked : Option (List ℕ)} (m : List ℕ)
     → new ≡ below ++ Came m ∷ []
-    → IsWindow (record { game = game; above = above; below = below }) votes asked
-    → IsWindow (record { game = game; above = above; below = new }) votes asked
+    → IsWindow game above below votes asked
+    → IsWindow game above new votes asked
 brings {game} {above} {below} {new} {votes} {asked} m e w =
-    subst (λ (l : List Passed). IsWindow (record { game = game; above = above; below = l }) votes asked) (sym e)
+    subst (λ (l : List Passed). IsWindow game above l votes asked) (sym e)
     (below_came game above below votes asked m w)
 
 pub stays_below : {game : ℕ} {above below new : List Passed} {votes : List (List ℕ)} {asked : Option (List ℕ)}
     → new ≡ below
-    → IsWindow (record { game = game; above = above; below = below }) votes asked
-    → IsWindow (record { game = game; above = above; below = new }) votes asked
+    → IsWindow game above below votes asked
+    → IsWindow game above new votes asked
 stays_below {game} {above} {below} {new} {votes} {asked} e w =
-    subst (λ (l : List Passed). IsWindow (record { game = game; above = above; below = l }) votes asked) (sym e) w
+    subst (λ (l : List Passed). IsWindow game above l votes asked) (sym e) w
 
 pub is_handed : {game : ℕ} {above new below : List Passed} {votes : List (List ℕ)} {asked : Option (List ℕ)} (to : Receivers) (m : List ℕ)
     → new ≡ above ++ Sent to m ∷ []
-    → IsWindow (record { game = game; above = above; below = below }) votes asked
-    → IsWindow (record { game = game; above = new; below = below }) votes asked
+    → IsWindow game above below votes asked
+    → IsWindow game new below votes asked
 is_handed {game} {above} {new} {below} {votes} {asked} to m e w =
-    subst (λ (l : List Passed). IsWindow (record { game = game; above = l; below = below }) votes asked) (sym e)
+    subst (λ (l : List Passed). IsWindow game l below votes asked) (sym e)
     (above_sent game above below votes asked to m w)
 
 pub gives : {game : ℕ} {above new below : List Passed} {votes : List (List ℕ)} {asked : Option (List ℕ)} {m : List ℕ}
     → new ≡ above ++ Came m ∷ [] → IsBrought game below m
-    → IsWindow (record { game = game; above = above; below = below }) votes asked
-    → IsWindow (record { game = game; above = new; below = below }) votes asked
+    → IsWindow game above below votes asked
+    → IsWindow game new below votes asked
 gives {game} {above} {new} {below} {votes} {asked} {m} e b w =
-    subst (λ (l : List Passed). IsWindow (record { game = game; above = l; below = below }) votes asked) (sym e)
+    subst (λ (l : List Passed). IsWindow game l below votes asked) (sym e)
     (above_came game above below votes asked m b w)
 
 -- what is kept changes
-pub with_asked : {w : Windowed} {votes : List (List ℕ)} {asked new : Option (List ℕ)} {m : List ℕ}
-    → (new ≡ asked) ⊎ ((new ≡ Some m) × IsAsk w.game m) → IsWindow w votes asked → IsWindow w votes new
-with_asked {w} (inl e) k = record {
+pub with_asked : {game : ℕ} {above below : List Passed} {votes : List (List ℕ)} {asked new : Option (List ℕ)} {m : List ℕ}
+    → (new ≡ asked) ⊎ ((new ≡ Some m) × IsAsk game m) → IsWindow game above below votes asked → IsWindow game above below votes new
+with_asked {game} (inl e) k = record {
   faithful = k.faithful;
   kept = k.kept;
-  ask = subst (λ (o : Option (List ℕ)). IfSome o (IsAsk w.game)) (sym e) k.ask;
+  ask = subst (λ (o : Option (List ℕ)). IfSome o (IsAsk game)) (sym e) k.ask;
 }
-with_asked {w} (inr q) k = record {
+with_asked {game} (inr q) k = record {
   faithful = k.faithful;
   kept = k.kept;
-  ask = subst (λ (o : Option (List ℕ)). IfSome o (IsAsk w.game)) (sym q.0) q.1;
+  ask = subst (λ (o : Option (List ℕ)). IfSome o (IsAsk game)) (sym q.0) q.1;
 }
 
-pub with_votes : {w : Windowed} {votes new : List (List ℕ)} {asked : Option (List ℕ)}
-    → AreOf new votes → IsWindow w votes asked → IsWindow w new asked
+pub with_votes : {game : ℕ} {above below : List Passed} {votes new : List (List ℕ)} {asked : Option (List ℕ)}
+    → AreOf new votes → IsWindow game above below votes asked → IsWindow game above below new asked
 with_votes e k = record { faithful = k.faithful; kept = λ m h. k.kept m (e m h); ask = k.ask }
 
 -- read through a value that is open
@@ -191,15 +191,15 @@ ask_in {w} {v} {o} {m} e h s = subst (λ (x : Windowed). IsAsk x.game m) e (some
 pub now_sent : (old : List Passed) {new : List Passed} (to : Receivers) (m : List ℕ) → new ≡ old ++ Sent to m ∷ [] → Has new (Sent to m)
 now_sent old {new} to m e = subst (λ (l : List Passed). Has l (Sent to m)) (sym e) (has_last old (Sent to m))
 
-pub same_asked : {w : Windowed} {votes : List (List ℕ)} {asked new : Option (List ℕ)}
-    → new ≡ asked → IsWindow w votes asked → IsWindow w votes new
-same_asked {w} {votes} {asked} e k = subst (λ (o : Option (List ℕ)). IsWindow w votes o) (sym e) k
+pub same_asked : {game : ℕ} {above below : List Passed} {votes : List (List ℕ)} {asked new : Option (List ℕ)}
+    → new ≡ asked → IsWindow game above below votes asked → IsWindow game above below votes new
+same_asked {game} {above} {below} {votes} {asked} e k = subst (λ (o : Option (List ℕ)). IsWindow game above below votes o) (sym e) k
 
 -- what the link gives
 pub takes : {game : ℕ} {above below new : List Passed} {votes : List (List ℕ)} {asked : Option (List ℕ)}
     → (taken : Taken) (buffer : List ℕ) → IsTaken taken buffer below new
-    → IsWindow (record { game = game; above = above; below = below }) votes asked
-    → IsWindow (record { game = game; above = above; below = new }) votes asked
+    → IsWindow game above below votes asked
+    → IsWindow game above new votes asked
 takes (Taken.Datagram count) buffer h w = brings _ h.1 w
 takes Taken.Nothing buffer h w = stays_below h w
 takes Taken.Lost buffer h w = stays_below h w
@@ -218,10 +218,10 @@ kept_handed game {above} {now} to {m} e h = inl (subst (λ (l : List Passed). Ha
 pub hears : {game : ℕ} {above below new : List Passed} {votes kept : List (List ℕ)} {asked : Option (List ℕ)} (taken : Taken) (buffer : List ℕ)
     → IsTaken taken buffer below new
     → ((m : List ℕ) → Has kept m → Has votes m ⊎ ((taken ≡ Taken.Datagram 48) × (take 48 buffer ≡ m)))
-    → IsWindow (record { game = game; above = above; below = below }) votes asked
-    → IsWindow (record { game = game; above = above; below = new }) kept asked
+    → IsWindow game above below votes asked
+    → IsWindow game above new kept asked
 hears {game} {above} {below} {new} {votes} {kept} {asked} taken buffer t v w =
-    let k : IsWindow (record { game = game; above = above; below = new }) votes asked = takes taken buffer t w in
+    let k : IsWindow game above new votes asked = takes taken buffer t w in
     record {
       faithful = k.faithful;
       ask = k.ask;

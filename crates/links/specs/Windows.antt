@@ -1,11 +1,14 @@
--- What a window gives and hands down: what its link gave and what it was handed, and asks that it makes up.
-use Rattle.std.specs.Prelude.{◌≡◌, ◌⊎◌, ℕ, List, [], ◌∷◌, ◌++◌, Option, IfSome}
-use Rattle.agree_core.specs.declared.messages.Ask.{Ask}
-use Rattle.agree_core.specs.declared.messages.Message.{Message}
-use Rattle.agree_core.specs.declared.messages.Vote.{Vote}
-use Rattle.wire.specs.Layout.{Says, written}
+-- What a window gives and hands down: what its link gave and what it was handed, and asks that it makes up; and when it
+-- hands an ask of its station's down.
+use Rattle.std.specs.Prelude.{◌≡◌, ◌⊎◌, ◌≤◌, ◌+◌, ℕ, Bool, true, false, List, [], ◌∷◌, ◌++◌, Option, IfSome}
+use Rattle.agree_core.specs.declared.messages.{Ask.Ask, Asker.Asker, DeskId.DeskId, Message.Message, Vote.Vote}
+use Rattle.agree_core.specs.declared.position.Position.{Position}
+use Rattle.agree_core.specs.Positions.{position_of}
+use Rattle.waits.specs.declared.times.TheConstants.{LONGEST_ASK_PAUSE}
+use Rattle.wire.specs.Layout.{Says, is_at, written}
 use Rattle.links.specs.Passed.{Passed, Sent, Came}
 use Rattle.links.specs.declared.link.Receivers.{Receivers}
+use Rattle.links.specs.declared.link.Receivers.TheVariants.{ToAll}
 
 -- it is in the list
 abbrev pub Has : {X : Type 0} → List X → X → Type 0
@@ -42,22 +45,65 @@ pub record IsFaithful (game : ℕ) (above below : List Passed) : Type 0 where
   pub given : (m : List ℕ) → Has above (Came m) → IsBrought game below m
   pub handed : (to : Receivers) (m : List ℕ) → Has below (Sent to m) → IsHanded game above to m
 
--- a window: the number of its match, what passed at it, and what passed at the link below it
+-- a window: the number of its match, what passed at it, and what passed at the link below it; the votes that it keeps
+-- back; what its clock showed; and since when it is quiet: when its station's ask was said to all last, or a vote came that
+-- was lacking
 pub record Windowed : Type 0 where
   pub game : ℕ
   pub above : List Passed
   pub below : List Passed
+  pub kept : List (List ℕ)
+  pub readings : List ℕ
+  pub quiet_since : ℕ
 
 -- the window hands its link this message, for these, and nothing else
 abbrev pub HandsDown : Receivers → List ℕ → Windowed → Windowed → Type 0
 HandsDown to m w v = v.below ≡ w.below ++ Sent to m ∷ []
 
+-- an asker hears this desk: it isn't the desk itself
+abbrev pub hears : Asker → DeskId → Bool
+hears Asker.A DeskId.A = false
+hears Asker.B DeskId.B = false
+hears asker desk = true
+
+-- among these messages of a match is a vote of this desk for this position
+abbrev pub HasVote : ℕ → List (List ℕ) → DeskId → Position → Type 0
+HasVote game messages desk at =
+    (m : List ℕ) × Has messages m
+    × ((v : Vote) × Says game m (Message.Vote v) × (v.desk ≡ desk) × (position_of v ≡ at))
+
+-- among them are the votes that answer an ask: for its position, of each desk that its asker hears
+abbrev pub HasAnswers : ℕ → List (List ℕ) → Ask → Type 0
+HasAnswers game messages q =
+    (desk : DeskId) → hears q.from desk ≡ true → HasVote game messages desk (is_at (Message.Ask q))
+
+-- at this time a window has been quiet for a quarter of a second
+abbrev pub IsQuietAt : ℕ → Windowed → Type 0
+IsQuietAt now w = w.quiet_since + LONGEST_ASK_PAUSE ≤ now
+
+-- a window is as quiet as it was, or hands an ask of the match down to all now
+abbrev pub IsQuietOrAsks : ℕ → Windowed → Windowed → Type 0
+IsQuietOrAsks now w v =
+    (v.quiet_since ≡ w.quiet_since)
+    ⊎ ((v.quiet_since ≡ now) × ((m : List ℕ) × IsAsk w.game m × HandsDown ToAll m w v))
+
+-- A window is handed a message, and reads its clock once. An ask of its match it hands down to all at once where it has
+-- been quiet for a quarter of a second, unless it keeps the votes that answer it.
+pub record AsksInTime (m : List ℕ) (w v : Windowed) : Type 0 where
+  pub now : ℕ
+  pub read : v.readings ≡ w.readings ++ now ∷ []
+  pub asked : (q : Ask) → Says w.game m (Message.Ask q) → IsQuietAt now w
+      → HandsDown ToAll m w v ⊎ HasAnswers w.game v.kept q
+  pub quiet : IsQuietOrAsks now w v
+
 -- the match and what passed at the window stay
 abbrev pub IsKept : Windowed → Windowed → Type 0
 IsKept w v = (v.game ≡ w.game) × (v.above ≡ w.above)
 
--- a faithful window, with the votes that it keeps back and the ask that it says again
-pub record IsWindow (w : Windowed) (votes : List (List ℕ)) (asked : Option (List ℕ)) : Type 0 where
-  pub faithful : IsFaithful w.game w.above w.below
-  pub kept : (m : List ℕ) → Has votes m → IsBrought w.game w.below m
-  pub ask : IfSome asked (IsAsk w.game)
+-- a faithful window: of a match, what passed at it and at the link below it, the votes that it keeps back and the ask that
+-- it says again
+pub record IsWindow
+    (game : ℕ) (above below : List Passed) (votes : List (List ℕ)) (asked : Option (List ℕ)) : Type 0 where
+  pub faithful : IsFaithful game above below
+  pub kept : (m : List ℕ) → Has votes m → IsBrought game below m
+  pub ask : IfSome asked (IsAsk game)

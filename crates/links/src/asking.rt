@@ -42,7 +42,8 @@ pub struct Asking {
 impl Asking {
     /// Nothing was asked yet.
     pub fn new() -> Asking
-        ensures { result.bytes ≡ None }
+        ensures bytes { result.bytes ≡ None }
+        ensures last { result.last ≡ 0 }
     {
         Asking {
             at: Position::FIRST,
@@ -88,8 +89,9 @@ impl Asking {
     /// or that to an earlier one, which stands for it, where it isn't the first.
     pub fn ask(&mut self, at: Position, bytes: &[u8; 48], is_first: bool, now: u64) -> bool
         ensures asked { (self.new.bytes ≡ self.old.bytes) ⊎ (self.new.bytes ≡ Some bytes.now) }
-        // none is held back for more than a quarter of a second, once nothing that was lacking comes
+        // it is said where for a quarter of a second no ask was said, and no vote came that was lacking
         ensures said { self.old.last + LONGEST_ASK_PAUSE ≤ now → result ≡ true }
+        ensures last { (self.new.last ≡ self.old.last) ⊎ ((self.new.last ≡ now) × (result ≡ true)) }
     {
         if self.bytes != Some(*bytes) {
             self.at = at;
@@ -110,7 +112,8 @@ impl Asking {
 
     /// The ask is said.
     fn say(&mut self, now: u64)
-        ensures { self.new.bytes ≡ self.old.bytes }
+        ensures bytes { self.new.bytes ≡ self.old.bytes }
+        ensures last { self.new.last ≡ now }
     {
         if self.is_held {
             self.first = now;

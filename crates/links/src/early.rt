@@ -1,13 +1,15 @@
 //! Votes that came before the station was there.
 
-ghost use Rattle.std.specs.Prelude.{◌≡◌, [], IfSome};
+ghost use Rattle.std.specs.Prelude.{◌≡◌, [], IfSome, true};
 ghost use Rattle.std.specs.BTreeMap.{values};
-ghost use Rattle.links.specs.Windows.{AreOf, AreOfOr, Has};
+ghost use Rattle.agree_core.specs.declared.messages.DeskId.{DeskId as ADesk};
+ghost use Rattle.links.specs.Windows.{AreOf, AreOfOr, Has, HasVote, hears as is_heard};
 
 use crate::catch_up::PLACES_AHEAD;
-use agree_core::{Asker, DeskId, Position, Vote};
+use agree_core::{Asker, DeskId, Message, Position, Vote};
 use std::alloc::Global;
 use std::collections::BTreeMap;
+use wire::message_of;
 
 /// How many votes are kept at most: both desks'.
 const MOST_KEPT: usize = 4_096;
@@ -16,7 +18,9 @@ const MOST_KEPT: usize = 4_096;
 const MANY_LOST: u32 = 16;
 
 /// Whether a station has to hear this desk's votes: they aren't its own.
-pub fn hears(from: Asker, desk: DeskId) -> bool {
+pub fn hears(from: Asker, desk: DeskId) -> bool
+    ensures { result ≡ is_heard from desk }
+{
     !matches!((from, desk), (Asker::A, DeskId::A) | (Asker::B, DeskId::B))
 }
 
@@ -147,8 +151,32 @@ impl EarlyVotes {
         hears(from, desk) && !self.has(desk)
     }
 
-    /// Whether all is kept that such a station lacks.
-    pub fn answers(&self, from: Asker) -> bool {
-        !self.lacks(from, DeskId::A) && !self.lacks(from, DeskId::B)
+    /// Whether this desk's vote for this position is kept, in the match of this number.
+    fn has_vote(&self, game: u64, desk: DeskId, at: Position) -> bool
+        ensures { result ≡ true → HasVote game (values self.now.votes) desk at }
+    {
+        let number = desk.number();
+        let Some(bytes) = self.votes.get(&Ballot { at, desk: number }) else {
+            return false;
+        };
+        match message_of(game, bytes.as_slice()) {
+            Ok(Message::Vote(vote)) => vote.desk == desk && vote.position() == at,
+            _ => false,
+        }
+    }
+
+    /// Whether an ask for this position lacks nothing of this desk.
+    fn lacks_none(&self, game: u64, from: Asker, desk: DeskId, at: Position) -> bool
+        ensures { result ≡ true → is_heard from desk ≡ true → HasVote game (values self.now.votes) desk at }
+    {
+        !hears(from, desk) || self.has_vote(game, desk, at)
+    }
+
+    /// Whether all is kept that answers an ask for this position, in the match of this number.
+    pub fn answers(&self, game: u64, from: Asker, at: Position) -> bool
+        ensures { result ≡ true → (d : ADesk) → is_heard from d ≡ true
+            → HasVote game (values self.now.votes) d at }
+    {
+        self.lacks_none(game, from, DeskId::A, at) && self.lacks_none(game, from, DeskId::B, at)
     }
 }

@@ -1,8 +1,11 @@
 //! What a window knows by what came and what its station said.
 
-ghost use Rattle.std.specs.Prelude.{◌≡◌, ◌⊎◌, ℕ, List, None, Some, [], take, true};
+ghost use Rattle.std.specs.Prelude.{◌≡◌, ◌⊎◌, ◌≤◌, ◌+◌, ℕ, List, None, Some, [], take, true};
 ghost use Rattle.std.specs.BTreeMap.{values};
-ghost use Rattle.links.specs.Windows.{AreOf, AreOfOr, Has, IsAsk, IsVote};
+ghost use Rattle.agree_core.specs.declared.messages.Ask.{Ask as AnAsk};
+ghost use Rattle.waits.specs.declared.times.TheConstants.{LONGEST_ASK_PAUSE};
+ghost use Rattle.wire.specs.Layout.{Says};
+ghost use Rattle.links.specs.Windows.{AreOf, AreOfOr, Has, HasAnswers, IsAsk, IsVote};
 ghost use Rattle.links.specs.declared.link.Taken.{Taken};
 
 use crate::asking::Asking;
@@ -75,6 +78,7 @@ impl Known {
     pub fn new(alloc: Global) -> Known
         ensures votes { values result.early.votes ≡ [] }
         ensures asked { result.asking.bytes ≡ None }
+        ensures last { result.asking.last ≡ 0 }
     {
         Known {
             early: EarlyVotes::new(alloc),
@@ -142,9 +146,13 @@ impl Known {
     }
 
     /// Notes an ask of the station's, and answers whether it is handed down.
-    fn note_ask(&mut self, ask: &Ask, bytes: &[u8; 48], now: u64) -> bool
+    fn note_ask(&mut self, game: u64, ask: &Ask, bytes: &[u8; 48], now: u64) -> bool
         ensures votes { AreOf (values self.new.early.votes) (values self.old.early.votes) }
         ensures asked { (self.new.asking.bytes ≡ self.old.asking.bytes) ⊎ (self.new.asking.bytes ≡ Some bytes.now) }
+        ensures said { self.old.asking.last + LONGEST_ASK_PAUSE ≤ now
+            → (result ≡ true) ⊎ HasAnswers game (values self.new.early.votes) ask.now }
+        ensures last { (self.new.asking.last ≡ self.old.asking.last)
+            ⊎ ((self.new.asking.last ≡ now) × (result ≡ true)) }
     {
         let at = Position {
             place: ask.place,
@@ -152,7 +160,7 @@ impl Known {
         };
         self.from = ask.from;
         self.early.reach(at);
-        if self.early.answers(ask.from) {
+        if self.early.answers(game, ask.from, at) {
             return false;
         }
         let is_first = self.catch_up.is_first(at.place);
@@ -169,13 +177,18 @@ impl Known {
         ensures votes { AreOf (values self.new.early.votes) (values self.old.early.votes) }
         ensures asked { (self.new.asking.bytes ≡ self.old.asking.bytes)
             ⊎ ((self.new.asking.bytes ≡ Some bytes.now) × IsAsk game bytes.now) }
+        ensures said { (q : AnAsk) → Says game bytes.now (Message.Ask q)
+            → self.old.asking.last + LONGEST_ASK_PAUSE ≤ now
+            → (result ≡ true) ⊎ HasAnswers game (values self.new.early.votes) q }
+        ensures last { (self.new.asking.last ≡ self.old.asking.last)
+            ⊎ ((self.new.asking.last ≡ now) × IsAsk game bytes.now × (result ≡ true)) }
     {
         match message_of(game, bytes.as_slice()) {
             Ok(Message::Vote(vote)) => {
                 self.early.reach(vote.position());
                 true
             }
-            Ok(Message::Ask(ask)) => self.note_ask(&ask, bytes, now),
+            Ok(Message::Ask(ask)) => self.note_ask(game, &ask, bytes, now),
             Err(_) => true,
         }
     }

@@ -27,8 +27,8 @@ fn put(message: &[u8; 48], buffer: &mut [u8; 64])
 /// A link as another is, which saves a station that is behind most of its round trips. It does what a network may: it
 /// keeps back votes that came early until the station is there, says an ask later or once more, and leaves out asks whose
 /// answers are here. And it makes asks up, as anybody may: an ask that came stands for those for the places behind it, and
-/// the station's for those for the places whose votes were lost; and a station that is silent asks for the votes of its
-/// position, so that others hear it.
+/// the station's for those for the places whose votes were lost; a station that is behind asks ahead for blocks of places;
+/// and one that is silent asks for the votes of its position, so that others hear it.
 pub struct Window<L: PeerLink, C: Clock> {
     link: L,
     clock: C,
@@ -62,15 +62,24 @@ impl<L: PeerLink, C: Clock> Model for Window<L, C> {
 
     ghost Value = { Windowed };
 
-    ghost view = { λ w. record { game = w.game; above = passed_of w.log; below = L.log w.link } };
+    ghost view = { λ w. record {
+      game = w.game;
+      above = passed_of w.log;
+      below = L.log w.link;
+      kept = values w.known.early.votes;
+      readings = C.readings w.clock;
+      quiet_since = w.known.asking.last;
+    } };
 
-    ghost invariant = { λ w. IsWindow (record { game = w.game; above = passed_of w.log; below = L.log w.link })
+    ghost invariant = { λ w. IsWindow w.game (passed_of w.log) (L.log w.link)
         (values w.known.early.votes) w.known.asking.bytes };
 }
 
 impl<L: PeerLink, C: Clock> Window<L, C> {
-    ghost use Rattle.std.specs.Prelude.{◌≡◌, ◌≤◌, ℕ, List, [], IfSome, take, true};
-    ghost use Rattle.links.specs.Windows.{HandsDown, IsAsk, IsBrought, IsHanded, IsKept, IsVote};
+    ghost use Rattle.std.specs.Prelude.{◌≡◌, ◌≤◌, ◌⊎◌, ℕ, List, [], IfSome, take, true};
+    ghost use Rattle.agree_core.specs.declared.messages.Ask.{Ask as AnAsk};
+    ghost use Rattle.wire.specs.Layout.{Says};
+    ghost use Rattle.links.specs.Windows.{HandsDown, HasAnswers, IsAsk, IsBrought, IsHanded, IsKept, IsQuietAt, IsVote};
     ghost use Rattle.links.specs.declared.link.Receivers.TheVariants.{ToAll, ToOne};
 
     /// A window over a link, in the match of this number.
@@ -79,6 +88,8 @@ impl<L: PeerLink, C: Clock> Window<L, C> {
         ensures game { result.game ≡ game }
         ensures above { result.above ≡ [] }
         ensures below { result.below ≡ [] }
+        ensures kept { result.kept ≡ [] }
+        ensures quiet { result.quiet_since ≡ 0 }
     {
         Window {
             link,
@@ -95,7 +106,12 @@ impl<L: PeerLink, C: Clock> Window<L, C> {
     fn note(&mut self, bytes: &[u8; 48], now: u64) -> bool
         ensures kept { IsKept self.old self.new }
         ensures below { self.new.below ≡ self.old.below }
+        ensures readings { self.new.readings ≡ self.old.readings }
         ensures handed { IsVote self.old.game bytes.now → result ≡ true }
+        ensures asked { (q : AnAsk) → Says self.old.game bytes.now (Message.Ask q) → IsQuietAt now self.old
+            → (result ≡ true) ⊎ HasAnswers self.old.game self.new.kept q }
+        ensures quiet { (self.new.quiet_since ≡ self.old.quiet_since)
+            ⊎ ((self.new.quiet_since ≡ now) × IsAsk self.old.game bytes.now × (result ≡ true)) }
     {
         self.known.note(self.game, bytes, now)
     }
@@ -105,6 +121,8 @@ impl<L: PeerLink, C: Clock> Window<L, C> {
         requires { IsHanded self.old.game self.old.above ToAll bytes.now }
         ensures kept { IsKept self.old self.new }
         ensures said { HandsDown ToAll bytes.now self.old self.new }
+        ensures readings { self.new.readings ≡ self.old.readings }
+        ensures quiet { self.new.quiet_since ≡ self.old.quiet_since }
     {
         self.link.send(bytes);
         self.silence.end(now);
@@ -298,6 +316,7 @@ impl<L: PeerLink, C: Clock> Window<L, C> {
         requires { IsHanded self.old.game self.old.above ToOne bytes.now }
         ensures kept { IsKept self.old self.new }
         ensures said { HandsDown ToOne bytes.now self.old self.new }
+        ensures quiet { self.new.quiet_since ≡ self.old.quiet_since }
     {
         match self.known.given {
             Given::MadeUp(peer) | Given::Answered(peer) => {
@@ -312,6 +331,7 @@ impl<L: PeerLink, C: Clock> Window<L, C> {
     fn note_reply(&mut self, bytes: &[u8; 48])
         ensures kept { IsKept self.old self.new }
         ensures below { self.new.below ≡ self.old.below }
+        ensures quiet { self.new.quiet_since ≡ self.old.quiet_since }
     {
         let is_asked = matches!(self.known.given, Given::Ask);
         if let Ok(Message::Vote(vote)) = message_of(self.game, bytes.as_slice())
@@ -327,15 +347,16 @@ impl<L: PeerLink, C: Clock> Window<L, C> {
 impl<L: PeerLink, C: Clock> Link for Window<L, C> {
     ghost use Rattle.std.specs.Prelude.{◌≡◌, ◌∷◌, ◌++◌, []};
     ghost use Rattle.links.specs.Passed.{Sent};
-    ghost use Rattle.links.specs.Windows.{HandsDown, IsVote};
+    ghost use Rattle.links.specs.Windows.{AsksInTime, HandsDown, IsVote};
     ghost use Rattle.links.specs.declared.link.Receivers.TheVariants.{ToAll, ToOne};
 
     ghost log = { λ window. window.above };
 
-    // a vote is handed down at once, to all
+    // a vote is handed down at once, to all, and an ask in time
     fn send(&mut self, bytes: &[u8; 48])
         ensures log { self.new.above ≡ self.old.above ++ Sent ToAll bytes.now ∷ [] }
         ensures handed { IsVote self.old.game bytes.now → HandsDown ToAll bytes.now self.old self.new }
+        ensures asked { AsksInTime bytes.now self.old self.new }
     {
         self.log = self.log.sent(Receivers::ToAll, bytes);
         let now = self.clock.millis();
@@ -348,6 +369,7 @@ impl<L: PeerLink, C: Clock> Link for Window<L, C> {
     fn reply(&mut self, bytes: &[u8; 48])
         ensures log { self.new.above ≡ self.old.above ++ Sent ToOne bytes.now ∷ [] }
         ensures handed { HandsDown ToOne bytes.now self.old self.new }
+        ensures quiet { self.new.quiet_since ≡ self.old.quiet_since }
     {
         self.log = self.log.sent(Receivers::ToOne, bytes);
         self.hand_back(bytes);
