@@ -19,7 +19,8 @@ use Rattle.cards.specs.Sheet.{Sheet}
 use Rattle.board.specs.declared.{refusal.BoardRefusal.BoardRefusal, board.Board.Board}
 use Rattle.board.specs.Board.{SameMatch, book_of, game_of, state_of}
 use Rattle.board.specs.Takes.{Takes}
-use Rattle.links.specs.Passed.{Passed, Came, sends, sent_bytes}
+use Rattle.links.specs.Passed.{Passed, Came, sends, sent_to}
+use Rattle.links.specs.declared.link.Receivers.TheVariants.{ToAll}
 use Rattle.live.specs.Runs.{Goes, known, with_text}
 use Rattle.live.specs.Boards.{Asks, BoardCall, BoardGoes, BoardLives, BoardRuns, BoardTurn, Given, Looked, Read, Ticked, TurnEnded, TurnStep, Unopened}
 use Rattle.live.specs.Boards.{at_turn, beat_of, board_kind, given, grown, in_turn, shown, sight_at, unless_stopped}
@@ -64,9 +65,9 @@ more_seen seen more b e is = rw e is
 
 -- what it says unasked
 pub asks : {B : Type 0} {g : _} (content : B → List Entry) (k : Board B g) (bytes : List (List ℕ)) (log after : List Passed)
-    → AreSent (game_of k) bytes (BoardTicks (state_of content k)) → after ≡ log ++ sent_bytes bytes → Asks content k log after
+    → AreSent (game_of k) bytes (BoardTicks (state_of content k)) → after ≡ log ++ sent_to ToAll bytes → Asks content k log after
 asks content k bytes log after ticks passed =
-    record { out = ticks.0; fine = ticks.1; passed = passed ∙ ap (λ (xs : List (List ℕ)). log ++ sent_bytes xs) ticks.2; step = ticks.3 }
+    record { out = ticks.0; fine = ticks.1; passed = passed ∙ ap (λ (xs : List (List ℕ)). log ++ sent_to ToAll xs) ticks.2; step = ticks.3 }
 
 same_here : {B : Type 0} {g : _} {innings_of : B → ℕ} {k : Board B g} → SameMatch innings_of k k
 same_here = record { game = refl; innings_a_side = refl }
@@ -97,7 +98,7 @@ module _ {B : Type 0} {g : _} {content : B → List Entry} {innings_of : B → �
   called : {l : Board B g} {p q : BoardTurn} {log : List Passed} {m n : List ℕ} {s t : Option (List ℕ)} (call : BoardCall) (out : List Message) → SameMatch innings_of k l
       → All IsMessage out → TurnStep sheet (game_of k) (innings_of (book_of k)) p call out q → n ≡ m ++ reads (beat_of call)
       → Appends s t (shown sheet (innings_of (book_of k)) p call q)
-      → BoardGoes content innings_of sheet k l p q log (log ++ (given call ++ sends (game_of k) out)) m n s t
+      → BoardGoes content innings_of sheet k l p q log (log ++ (given call ++ sends ToAll (game_of k) out)) m n s t
   called call out same fine step times text = record { same = same; goes = rw times (one call out fine step text) }
 
   module _ {turns had taken : ℕ} {telling : Telling} {ticking : Ticking} {noted : List Notice} {seen : List Sight} {log : List Passed} {m : List ℕ} {s : Option (List ℕ)} where

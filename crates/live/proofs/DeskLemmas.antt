@@ -24,7 +24,8 @@ use Rattle.desk.specs.Answers.{device_answer, pen_answer, replied, sent}
 use Rattle.desk.specs.declared.{desk.Desk.Desk, desk.Penned.Penned, refusal.Refusal.Refusal}
 use Rattle.desk.specs.Desk.{SameOwner, disk_of, game_of, rules_of, state_of, view_of, own_votes}
 use Rattle.desk.specs.Takes.{Takes}
-use Rattle.links.specs.Passed.{Passed, Came, Sent, sends, sent_bytes}
+use Rattle.links.specs.Passed.{Passed, Came, Sent, sends, sent_to}
+use Rattle.links.specs.declared.link.Receivers.TheVariants.{ToAll, ToOne}
 use Rattle.live.specs.Runs.{Goes, Kind}
 use Rattle.station_texts.specs.Saying.{ComesTo, SaysEntry}
 use Rattle.links.specs.Typing.{Input, Line, End}
@@ -34,7 +35,7 @@ use Rattle.station_texts.specs.Texts.{came_text, reminder_text, said_text, unope
 use Rattle.live.specs.LostLines.{end_given, end_here}
 use Rattle.live.specs.Ends.{Course, course_of, end_of, ending, further, known_at, known_to, turns_after}
 use Rattle.live.specs.Desks.{Blames, disks_of, Calls, DeskCall, DeskGoes, DeskProcess, DeskStep, Given, FitsLongest, MayCall, MayRemind, Looked, Read, Reminded, Ticked, ToldAside, TurnEnded, Typed}
-use Rattle.live.specs.Desks.{TypingEnded, Unopened, after_call, beat_of, course_after, desk_kind, entry_in, given, innings_of, kind_of, loss_in, own_line, process_of, told_of, typed}
+use Rattle.live.specs.Desks.{TypingEnded, Unopened, after_call, beat_of, course_after, desk_kind, entry_in, given, innings_of, kind_of, loss_in, own_line, process_of, receivers_of, told_of, typed}
 use Rattle.live.specs.Ticks.{IsInTime, MayBeat, Ticking, after_look, reads}
 use Rattle.live.specs.declared.ends.DeskEnd.{DeskEnd}
 use Rattle.station_texts.specs.declared.{reminder.Reminder.Reminder, said.Said.Said, warned.Warned.Warned}
@@ -121,9 +122,10 @@ module _ {S B D : Type 0} {g : Files S D} {h : Disks D} {b : Books B} where
       may beats c came types times is text =
       let kind = kind_of sheet k in
       let p = process_of k warned turns ticking further in
-      let all : Goes kind p q log (log ++ (given call ++ sends (game_of k) c.out)) x (x ++ typed call) m (m ++ reads (beat_of call)) s t =
+      let out = sends (receivers_of call) (game_of k) c.out in
+      let all : Goes kind p q log (log ++ (given call ++ out)) x (x ++ typed call) m (m ++ reads (beat_of call)) s t =
       rw is (one call c.out c.fine (refl, c.step, c.blame, refl, may, beats) (rw is at text)) in
-      let path : after ≡ log ++ (given call ++ sends (game_of k) c.out) = c.passed ∙ (ap (λ (xs : List Passed). xs ++ sends (game_of k) c.out) came ∙ append_assoc log (given call) _) in
+      let path : after ≡ log ++ (given call ++ out) = c.passed ∙ (ap (λ (xs : List Passed). xs ++ out) came ∙ append_assoc log (given call) _) in
       record { same = c.same; goes = rw (types, times, path) all }
 
   module _ {sheet : Sheet} {k l : Desk S B D g h b} {warned : Warned} {turns : ℕ} {ticking : Ticking} {x : List Input} {m : List ℕ} {s : Option (List ℕ)} where
@@ -261,14 +263,14 @@ module _ {S B D : Type 0} {g : Files S D} {h : Disks D} {b : Books B} where
 
   -- a call that handed out these messages as these bytes
   calls_with : {sheet : Sheet} {k l : Desk S B D g h b} (call : DeskCall) (bytes : List (List ℕ)) (out : List Message) {before after : List Passed} → SameOwner k l
-      → All IsMessage out → bytes ≡ map (written (game_of k)) out → after ≡ before ++ sent_bytes bytes
+      → All IsMessage out → bytes ≡ map (written (game_of k)) out → after ≡ before ++ sent_to (receivers_of call) bytes
       → DeskStep sheet (view_of k) (game_of k) (innings_of k) (state_of k) call out (state_of l) → Blames (disks_of k) (state_of k) call (state_of l)
       → Calls sheet k l call before after
   calls_with call bytes out {before = before} same fine e passed step blame = record {
     same = same;
     out = out;
     fine = fine;
-    passed = passed ∙ ap (λ (xs : List (List ℕ)). before ++ sent_bytes xs) e;
+    passed = passed ∙ ap (λ (xs : List (List ℕ)). before ++ sent_to (receivers_of call) xs) e;
     step = step;
     blame = blame;
   }
@@ -276,7 +278,7 @@ module _ {S B D : Type 0} {g : Files S D} {h : Disks D} {b : Books B} where
   -- the entry is penned
   pub penned : (sheet : Sheet) (k l : Desk S B D g h b) (line : List ℕ) (e : Entry) (p : Penned) (before after : List Passed) → SameOwner k l
       → SaysEntry sheet (state_of k).book (state_of k).votes (state_of k).seat.position.round line e
-      → PenStep k e (Ok p) l → PenBlame k (Ok p) l → after ≡ before ++ Sent p.send ∷ [] → Calls sheet k l (Typed line (Said.Penned e p.settled)) before after
+      → PenStep k e (Ok p) l → PenBlame k (Ok p) l → after ≡ before ++ Sent ToAll p.send ∷ [] → Calls sheet k l (Typed line (Said.Penned e p.settled)) before after
   penned sheet k l line e p before after same says step blame sent' =
       calls_with (Typed line (Said.Penned e p.settled)) (p.send ∷ []) step.0 same step.1 step.2 sent' (says, step.3)
       (λ runs. blameless (end_of (Said.Penned e p.settled)) _ _ (λ q. (cc)) (blame.same (λ q. (cc))))
@@ -309,13 +311,13 @@ module _ {S B D : Type 0} {g : Files S D} {h : Disks D} {b : Books B} where
 
   pub taken : (sheet : Sheet) (k l : Desk S B D g h b) (bytes : List ℕ) (what : What) (reply : Option (List ℕ)) (before after : List Passed) → SameOwner k l
       → AreSent (game_of k) (replied reply) (λ out. Takes (view_of k) (game_of k) (state_of k) bytes what (state_of l) out)
-      → BlamesDisk What.Device ⊤ (device_answer what) (h.faults (disk_of k)) (h.faults (disk_of l)) → after ≡ before ++ sent_bytes (replied reply)
+      → BlamesDisk What.Device ⊤ (device_answer what) (h.faults (disk_of k)) (h.faults (disk_of l)) → after ≡ before ++ sent_to ToOne (replied reply)
       → Calls sheet k l (Given bytes what) before after
   taken sheet k l bytes what reply before after same step blame sent' =
       calls_with (Given bytes what) (replied reply) step.0 same step.1 step.2 sent' step.3 (λ runs. answers k l bytes what step.0 runs step.3 blame)
 
   pub ticked : (sheet : Sheet) (k : Desk S B D g h b) (bytes : List (List ℕ)) (before after : List Passed) → AreSent (game_of k) bytes (Ticks (state_of k))
-      → after ≡ before ++ sent_bytes bytes → Calls sheet k k Ticked before after
+      → after ≡ before ++ sent_to ToAll bytes → Calls sheet k k Ticked before after
   ticked sheet k bytes before after step sent' =
       calls_with Ticked bytes step.0 (same_here k) step.1 step.2 sent' (step.3, refl) (λ runs. blameless further _ _ (λ q. (cc)) refl)
 

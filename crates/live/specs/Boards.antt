@@ -14,6 +14,7 @@ use Rattle.board.specs.Board.{SameMatch, book_of, game_of, state_of}
 use Rattle.board.specs.Takes.{Takes}
 use Rattle.station_texts.specs.Notices.{notices_after, notices_unopened, telling_after, telling_unopened, untold}
 use Rattle.links.specs.Passed.{Passed, Came, sends}
+use Rattle.links.specs.declared.link.Receivers.TheVariants.{ToAll}
 use Rattle.live.specs.Runs.{Goes, Kind, known, with_text}
 use Rattle.live.specs.Sights.{Sight, sight_of}
 use Rattle.live.specs.Ticks.{Beat, Look, MayBeat, Other, Reading, Tick, Ticking, TurnEnd, after_beat, unticked}
@@ -127,23 +128,25 @@ shown sheet innings k TurnEnded l =
     (grown (nat_eq (length k.board.book) k.had) (board_text sheet innings (history_of k.board.book)))
 shown sheet innings k call l = []
 
+-- all that a board says goes to all
 abbrev pub board_kind : Sheet → ℕ → ℕ → Kind BoardTurn BoardCall
 board_kind sheet game innings = record {
   game = game;
   Step = TurnStep sheet game innings;
   given = given;
   typed = λ call. [];
+  receivers = λ call. ToAll;
   beat = beat_of;
   ticking = λ k. k.ticking;
   prints = shown sheet innings;
 }
 
 module _ {B : Type 0} {g : _} (content : B → List Entry) where
-  -- what a board says unasked is what the link's log grew by
+  -- what a board says unasked, to all, is what the link's log grew by
   pub record Asks (k : Board B g) (before after : List Passed) : Type 0 where
     pub out : List Message
     pub fine : All IsMessage out
-    pub passed : after ≡ before ++ sends (game_of k) out
+    pub passed : after ≡ before ++ sends ToAll (game_of k) out
     pub step : BoardTicks (state_of content k) out
 
   -- a board in a turn

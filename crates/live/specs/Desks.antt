@@ -25,6 +25,8 @@ use Rattle.live.specs.Asides.{aside_text}
 use Rattle.live.specs.Ends.{Course, end_of, further, known_at}
 use Rattle.live.specs.LostLines.{end_here, shows_loss}
 use Rattle.links.specs.Passed.{Passed, Came, sends}
+use Rattle.links.specs.declared.link.Receivers.{Receivers}
+use Rattle.links.specs.declared.link.Receivers.TheVariants.{ToAll, ToOne}
 use Rattle.live.specs.Runs.{Goes, Kind, with_text}
 use Rattle.station_texts.specs.Saying.{Types}
 use Rattle.live.specs.Ticks.{Beat, Look, MayBeat, Other, Reading, Tick, Ticking, TurnEnd, after_beat, unticked}
@@ -139,6 +141,11 @@ abbrev pub given : DeskCall → List Passed
 given (Given bytes what) = Came bytes ∷ []
 given call = []
 
+-- a desk's answer to bytes goes to the one that sent them; its vote, and all that it says unasked, goes to all
+abbrev pub receivers_of : DeskCall → Receivers
+receivers_of (Given bytes what) = ToOne
+receivers_of call = ToAll
+
 abbrev pub typed : DeskCall → List Input
 typed (Typed line said) = Line line ∷ []
 typed TypingEnded = End ∷ []
@@ -174,6 +181,7 @@ desk_kind sheet view disks game innings = record {
   Step = ProcessStep sheet view disks game innings;
   given = given;
   typed = typed;
+  receivers = receivers_of;
   beat = beat_of;
   ticking = λ k. k.ticking;
   prints = told_of sheet innings;
@@ -204,13 +212,14 @@ module _ {S B D : Type 0} {g : Files S D} {h : Disks D} {b : Books B} where
   process_of desk warned turns ticking course =
       record { desk = state_of desk; warned = warned; turns = turns; ticking = ticking; course = course }
 
-  -- a call of a desk that has this sheet, with its answer: what it handed out is what the link's log grew by
+  -- a call of a desk that has this sheet, with its answer: what it handed out, with its receivers, is what the link's log
+  -- grew by
   pub record Calls
       (sheet : Sheet) (old new : Desk S B D g h b) (call : DeskCall) (before after : List Passed) : Type 0 where
     pub same : SameOwner old new
     pub out : List Message
     pub fine : All IsMessage out
-    pub passed : after ≡ before ++ sends (game_of old) out
+    pub passed : after ≡ before ++ sends (receivers_of call) (game_of old) out
     pub step : DeskStep sheet (view_of old) (game_of old) (innings_of old) (state_of old) call out (state_of new)
     pub blame : Blames (disks_of old) (state_of old) call (state_of new)
 

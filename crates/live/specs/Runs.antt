@@ -4,6 +4,7 @@ use Rattle.std.specs.Io.KnownBytes.{Appends}
 use Rattle.agree_core.specs.declared.messages.Message.{Message}
 use Rattle.wire.specs.Layout.{IsMessage}
 use Rattle.links.specs.Passed.{Passed, sends}
+use Rattle.links.specs.declared.link.Receivers.{Receivers}
 use Rattle.links.specs.Typing.{Input}
 use Rattle.live.specs.Ticks.{Beat, Ticking, reads}
 
@@ -23,13 +24,14 @@ pub record Moment (State Call : Type 0) : Type 0 where
   pub out : List Message
   pub after : State
 
--- a kind of station in a match: what its calls do, the datagrams and the lines that are given to it with a call, what a
--- call is to its clock, what it saw of that, and what is printed of a call
+-- a kind of station in a match: what its calls do, the datagrams and the lines that are given to it with a call, to whom
+-- goes what a call hands out, what a call is to its clock, what it saw of that, and what is printed of a call
 pub record Kind (State Call : Type 0) : Type 1 where
   pub game : ℕ
   pub Step : State → Call → List Message → State → Type 0
   pub given : Call → List Passed
   pub typed : Call → List Input
+  pub receivers : Call → Receivers
   pub beat : Call → Beat
   pub ticking : State → Ticking
   pub prints : State → Call → State → List ℕ
@@ -46,9 +48,9 @@ module _ {State Call : Type 0} where
   Run kind k (m ∷ ms) =
       Run kind k ms × All IsMessage m.out × kind.Step (last_of k ms) m.call m.out m.after
 
-  -- what passed in a call: what it was given, and then what it handed out
+  -- what passed in a call: what it was given, and then what it handed out, with its receivers
   abbrev pub passed_at : Kind State Call → Call → List Message → List Passed
-  passed_at kind call out = kind.given call ++ sends kind.game out
+  passed_at kind call out = kind.given call ++ sends (kind.receivers call) kind.game out
 
   -- what passed in these moments, the oldest first
   abbrev pub passed_in : Kind State Call → List (Moment State Call) → List Passed

@@ -7,7 +7,8 @@ ghost use Rattle.desk.specs.Answers.{replied};
 ghost use Rattle.desk.specs.Desk.{disk_of, state_of};
 ghost use Rattle.live.specs.Desks.{Calls, Given, Ticked, Typed};
 ghost use Rattle.live.specs.LostLines.{position_in};
-ghost use Rattle.links.specs.Passed.{Passed, sent_bytes};
+ghost use Rattle.links.specs.Passed.{Passed, sent_to};
+ghost use Rattle.links.specs.declared.link.Receivers.TheVariants.{ToOne};
 
 use cards::MatchSheet;
 use corrections::BookOf;
@@ -17,7 +18,7 @@ use links::{Link, send_each};
 use station_texts::said::{Said, entry_said};
 use wire::What;
 
-/// Has a desk pen the entry that a line says in full, by the desk's book and its sheet, and sends its vote.
+/// Has a desk pen the entry that a line says in full, by the desk's book and its sheet, and sends its vote to all.
 pub fn pen<S: SlotsOf, B: BookOf + Drop, L: Link>(
     desk: &mut Desk<S, B>,
     sheet: &MatchSheet,
@@ -43,7 +44,7 @@ pub fn pen<S: SlotsOf, B: BookOf + Drop, L: Link>(
 
 /// Sends a reply to who asked, if there is one.
 fn hand_back<L: Link>(link: &mut L, reply: Option<[u8; 48]>)
-    ensures { L.log link.new ≡ L.log link.old ++ sent_bytes (replied reply) }
+    ensures { L.log link.new ≡ L.log link.old ++ sent_to ToOne (replied reply) }
 {
     if let Some(reply) = reply {
         link.reply(&reply);
@@ -83,7 +84,7 @@ pub fn give<S: SlotsOf, B: BookOf + Drop, L: Link>(
     receive(desk, bytes, link).what
 }
 
-/// Has a desk say what it says unasked.
+/// Has a desk say what it says unasked, to all.
 pub fn tick<S: SlotsOf, B: BookOf + Drop, L: Link>(desk: &Desk<S, B>, link: &mut L)
     ensures { (s : Sheet) → Calls s desk.now desk.now Ticked (L.log link.old) (L.log link.new) }
 {
