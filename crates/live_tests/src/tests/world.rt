@@ -1,7 +1,7 @@
 //! Clocks, links, keyboards and screens of one world.
 ghost use Rattle.std.specs.Prelude.{◌≡◌};
 
-use links::{Clock, ClockLog, InputLog, Keys, Link, Log, Stand, Taken, Typed};
+use links::{Clock, ClockLog, InputLog, Keys, Link, Log, Receivers, Stand, Taken, Typed};
 use std::alloc::Global;
 use std::cell::Cell;
 use std::io::{self, Write};
@@ -191,11 +191,12 @@ impl Link for Timed<'_> {
 
     fn send(&mut self, bytes: &[u8; 48]) {
         let _ = self.sends.push(self.world.now.get());
-        self.log = self.log.sent(bytes);
+        self.log = self.log.sent(Receivers::ToAll, bytes);
     }
 
     fn reply(&mut self, bytes: &[u8; 48]) {
-        self.send(bytes);
+        let _ = self.sends.push(self.world.now.get());
+        self.log = self.log.sent(Receivers::ToOne, bytes);
     }
 
     fn take(&mut self, buffer: &mut [u8; 64], wait: u64) -> Taken {
