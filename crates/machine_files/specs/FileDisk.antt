@@ -15,6 +15,10 @@ images_of disk = left_of disk.history
 abbrev pub calls_of : {F : Type 0} → (F → Option (List Call)) → FileDisk F → Option (List Call)
 calls_of calls disk = calls disk.file
 
+-- the name of its file
+abbrev pub name_of : {F : Type 0} → (F → Option (List ℕ)) → FileDisk F → Option (List ℕ)
+name_of name disk = name disk.file
+
 abbrev pub cap_of : {F : Type 0} → FileDisk F → ℕ
 cap_of disk = disk.cap
 

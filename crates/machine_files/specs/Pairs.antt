@@ -1,13 +1,20 @@
 -- What a disk on two files shows: the first one's bytes, and what a power loss may leave of that one.
-use Rattle.std.specs.Prelude.{ℕ, List, Option}
+use Rattle.std.specs.Prelude.{◌≡◌, ℕ, List, Option}
 use Rattle.entry_log.specs.Disk.{Images, Faults}
-use Rattle.machine_files.specs.declared.pair.Pair.{Pair}
+use Rattle.machine_files.specs.declared.{file_disk.FileDisk.FileDisk, pair.Pair.Pair}
 use Rattle.machine_files.specs.Alike.{IsAmong}
 use Rattle.machine_files.specs.Calls.{Call}
 use Rattle.machine_files.specs.FileDisk as one
 use Rattle.machine_files.specs.History.{always_due}
 
 module _ {F G : Type 0} where
+  -- the disk on each of both files
+  abbrev pub first_of : Pair F G → FileDisk F
+  first_of pair = pair.first
+
+  abbrev pub second_of : Pair F G → FileDisk G
+  second_of pair = pair.second
+
   abbrev pub file_of : Pair F G → List ℕ
   file_of pair = one.file_of pair.first
 
@@ -26,6 +33,12 @@ module _ {F G : Type 0} where
 
   abbrev pub second_calls : (G → Option (List Call)) → Pair F G → Option (List Call)
   second_calls calls pair = one.calls_of calls pair.second
+
+  -- both files keep their names
+  abbrev pub SameNames : (F → Option (List ℕ)) → (G → Option (List ℕ)) → Pair F G → Pair F G → Type 0
+  SameNames first second old new =
+      (one.name_of first new.first ≡ one.name_of first old.first)
+      × (one.name_of second new.second ≡ one.name_of second old.second)
 
   -- Either file suffices: whatever a power loss may leave of it is an image of the one disk. So to begin on one alone,
   -- where the other is lost, is to begin after a power loss.

@@ -1,6 +1,6 @@
 //! A file of the host.
 
-ghost use Rattle.std.specs.Prelude.{◌≡◌, List, None, Option};
+ghost use Rattle.std.specs.Prelude.{◌≡◌, ℕ, List, None, Option};
 ghost use Rattle.machine_files.specs.Calls.{Answers, Call, CutTo, ReadFront, Sync, TakeName, WriteAt};
 
 use std::fs::{File, OpenFile};
@@ -11,36 +11,47 @@ pub trait Host {
     /// What it was asked for and what it answered, the oldest first; `None` where that isn't known.
     ghost calls: { Self → Option (List Call) };
 
+    /// The name that it has, or that it is to take; `None` where it has none.
+    ghost name: { Self → Option (List ℕ) };
+
     /// How many bytes it has.
     fn len(&mut self) -> io::Result<u64>
-        ensures { calls self.new ≡ calls self.old };
+        ensures asked { calls self.new ≡ calls self.old }
+        ensures name { name self.new ≡ name self.old };
 
     /// Fills the buffer from the beginning of the file.
     fn read_front(&mut self, buffer: &mut [u8]) -> io::Result<()>
-        ensures { Answers result (ReadFront buffer.new) (calls self.old) (calls self.new) };
+        ensures asked { Answers result (ReadFront buffer.new) (calls self.old) (calls self.new) }
+        ensures name { name self.new ≡ name self.old };
 
     /// Writes at an offset, in place and past the end.
     fn write_at(&mut self, at: u64, bytes: &[u8]) -> io::Result<()>
-        ensures { Answers result (WriteAt at bytes.now) (calls self.old) (calls self.new) };
+        ensures asked { Answers result (WriteAt at bytes.now) (calls self.old) (calls self.new) }
+        ensures name { name self.new ≡ name self.old };
 
     /// Ends the file at this length.
     fn cut(&mut self, len: u64) -> io::Result<()>
-        ensures { Answers result (CutTo len) (calls self.old) (calls self.new) };
+        ensures asked { Answers result (CutTo len) (calls self.old) (calls self.new) }
+        ensures name { name self.new ≡ name self.old };
 
     /// Waits until all that was written is kept.
     fn sync(&mut self) -> io::Result<()>
-        ensures { Answers result Sync (calls self.old) (calls self.new) };
+        ensures asked { Answers result Sync (calls self.old) (calls self.new) }
+        ensures name { name self.new ≡ name self.old };
 }
 
 /// A new file that is to take the name of another.
 pub trait Successor: Host {
     /// Takes the name, and waits until the folder keeps that.
     fn take_name(&mut self) -> io::Result<()>
-        ensures { Answers result TakeName (Self.calls self.old) (Self.calls self.new) };
+        ensures asked { Answers result TakeName (Self.calls self.old) (Self.calls self.new) }
+        ensures name { Self.name self.new ≡ Self.name self.old };
 }
 
 impl Host for File {
     ghost calls = { λ _. None };
+
+    ghost name = { λ _. None };
 
     fn len(&mut self) -> io::Result<u64> {
         Ok(self.metadata()?.len())
@@ -71,6 +82,8 @@ pub struct NoFile;
 
 impl Host for NoFile {
     ghost calls = { λ _. None };
+
+    ghost name = { λ _. None };
 
     fn len(&mut self) -> io::Result<u64> {
         Ok(0)

@@ -2,6 +2,7 @@
 //! streams. Nothing is known of what the machine does with what it is given; it stands behind traits.
 #![tactic(auto)]
 
+mod call_log;
 mod file_disk;
 mod file_limit;
 mod history;

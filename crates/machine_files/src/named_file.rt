@@ -1,7 +1,8 @@
 //! A file of the host that is held by its name, and a new one beside it that is to take that name.
 
-ghost use Rattle.std.specs.Prelude.{None};
+ghost use Rattle.std.specs.Prelude.{◌≡◌, [], IfOk, Some};
 
+use crate::call_log::{AskedLog, CallLog};
 use crate::file_limit::may_have;
 use crate::host_file::{Host, Successor};
 use crate::write_fault::{Cause, Name, WriteFault, cause_of};
@@ -27,6 +28,7 @@ pub struct NamedFile<'a> {
     /// How long it was left, where that is known.
     len: Option<u64>,
     last_fault: Option<&'a LastFault>,
+    log: CallLog,
 }
 
 // one step for whoever lets it go, in place of one a part
@@ -40,6 +42,7 @@ impl Drop for NamedFile<'_> {
             before: _,
             len: _,
             last_fault: _,
+            log: _,
         } = self;
     }
 }
@@ -137,9 +140,14 @@ fn made(rt: &HostRuntime, name: &str) -> Result<File, Cause> {
 }
 
 impl<'a> NamedFile<'a> {
+    ghost use Rattle.machine_files.specs.Named as named;
+
     /// Opens a file for this process alone, and makes it where there is none, for its owner alone. One that another process
     /// has is left alone, and so is one that lost its name before it was locked.
-    pub fn open(rt: &'a HostRuntime, name: &str) -> Result<NamedFile<'a>, Cause> {
+    pub fn open(rt: &'a HostRuntime, name: &str) -> Result<NamedFile<'a>, Cause>
+        ensures name { IfOk result (λ file. named.name file ≡ Some name.now) }
+        ensures calls { IfOk result (λ file. named.calls file ≡ Some []) }
+    {
         let file = OpenOptions::new()
             .read(true)
             .write(true)
@@ -158,11 +166,15 @@ impl<'a> NamedFile<'a> {
             before: None,
             len: None,
             last_fault: None,
+            log: CallLog::Empty,
         })
     }
 
     /// It leaves there from now on why a call failed.
-    pub fn telling(self, last_fault: &'a LastFault) -> NamedFile<'a> {
+    pub fn telling(self, last_fault: &'a LastFault) -> NamedFile<'a>
+        ensures name { named.name result ≡ named.name self.entry }
+        ensures calls { named.calls result ≡ named.calls self.entry }
+    {
         let mut file = self;
         file.last_fault = Some(last_fault);
         file
@@ -170,7 +182,10 @@ impl<'a> NamedFile<'a> {
 
     /// A new file without a byte beside this one, which is to take its name. Until then its own is that name without
     /// links, and `.unfinished` behind it; what a start that was cut off left there is removed. Both stay locked.
-    pub fn beside(self) -> Result<NamedFile<'a>, Cause> {
+    pub fn beside(self) -> Result<NamedFile<'a>, Cause>
+        ensures name { IfOk result (λ file. named.name file ≡ named.name self.entry) }
+        ensures calls { IfOk result (λ file. named.calls file ≡ named.calls self.entry) }
+    {
         let rt = self.rt;
         let whole = match fs::canonicalize(rt, self.name.as_str()) {
             Ok(whole) => whole.into_string(),
@@ -187,6 +202,7 @@ impl<'a> NamedFile<'a> {
             before: _,
             len: _,
             last_fault,
+            log,
         } = self;
         Ok(NamedFile {
             rt,
@@ -196,6 +212,7 @@ impl<'a> NamedFile<'a> {
             before: Some(before),
             len: Some(0),
             last_fault,
+            log,
         })
     }
 
@@ -253,7 +270,10 @@ impl<'a> NamedFile<'a> {
     }
 
     /// Has this file take the name that it is to have.
-    fn rename(&mut self) -> Result<(), Cause> {
+    fn rename(&mut self) -> Result<(), Cause>
+        ensures name { self.new.name ≡ self.old.name }
+        ensures log { self.new.log ≡ self.old.log }
+    {
         let (Some(beside), Some(before)) = (&self.beside, &self.before) else {
             return Err(Cause::System);
         };
@@ -264,6 +284,43 @@ impl<'a> NamedFile<'a> {
         self.beside = None;
         sync_folder(self.rt, whole.as_str()).map_err(|why| cause_of(&why))?;
         self.expect_kept()
+    }
+
+    /// Writes while its name names it, and notes how long it is then.
+    fn write(&mut self, at: u64, bytes: &[u8]) -> io::Result<()>
+        ensures name { self.new.name ≡ self.old.name }
+        ensures log { self.new.log ≡ self.old.log }
+    {
+        let end = at.saturating_add(bytes.len() as u64);
+        self.note(self.expect_room(end))?;
+        let before = self.len.take();
+        let written = self.file.write_at(at, bytes);
+        self.noted(written)?;
+        self.len = before.map(|len| len.max(end));
+        Ok(())
+    }
+
+    /// Ends it at this length, in the same way.
+    fn end_at(&mut self, len: u64) -> io::Result<()>
+        ensures name { self.new.name ≡ self.old.name }
+        ensures log { self.new.log ≡ self.old.log }
+    {
+        self.note(self.expect_kept())?;
+        self.len = None;
+        let cut = self.file.cut(len);
+        self.noted(cut)?;
+        self.len = Some(len);
+        Ok(())
+    }
+
+    /// Syncs it, and asks then that its name names it still.
+    fn keep(&mut self) -> io::Result<()>
+        ensures name { self.new.name ≡ self.old.name }
+        ensures log { self.new.log ≡ self.old.log }
+    {
+        let synced = self.file.sync();
+        self.noted(synced)?;
+        self.note(self.expect_kept())
     }
 
     /// Lets it go. Where it didn't take its name, it is removed.
@@ -277,7 +334,11 @@ impl<'a> NamedFile<'a> {
 }
 
 impl Host for NamedFile<'_> {
-    ghost calls = { λ _. None };
+    ghost use Rattle.machine_files.specs.Named as named;
+
+    ghost calls = { named.calls };
+
+    ghost name = { named.name };
 
     /// What it has from here on, nobody else is to change.
     fn len(&mut self) -> io::Result<u64> {
@@ -287,39 +348,36 @@ impl Host for NamedFile<'_> {
     }
 
     fn read_front(&mut self, buffer: &mut [u8]) -> io::Result<()> {
-        self.file.read_front(buffer)
+        let read = self.file.read_front(buffer);
+        self.log = self.log.answered(&AskedLog::read_front(buffer), &read);
+        read
     }
 
     fn write_at(&mut self, at: u64, bytes: &[u8]) -> io::Result<()> {
-        let end = at.saturating_add(bytes.len() as u64);
-        self.note(self.expect_room(end))?;
-        let before = self.len.take();
-        let written = self.file.write_at(at, bytes);
-        self.noted(written)?;
-        self.len = before.map(|len| len.max(end));
-        Ok(())
+        let written = self.write(at, bytes);
+        self.log = self.log.answered(&AskedLog::write_at(at, bytes), &written);
+        written
     }
 
     fn cut(&mut self, len: u64) -> io::Result<()> {
-        self.note(self.expect_kept())?;
-        self.len = None;
-        let cut = self.file.cut(len);
-        self.noted(cut)?;
-        self.len = Some(len);
-        Ok(())
+        let cut = self.end_at(len);
+        self.log = self.log.answered(&AskedLog::cut(len), &cut);
+        cut
     }
 
     /// What was written is kept in the file that has the name still when all of it is.
     fn sync(&mut self) -> io::Result<()> {
-        let synced = self.file.sync();
-        self.noted(synced)?;
-        self.note(self.expect_kept())
+        let synced = self.keep();
+        self.log = self.log.answered(&AskedLog::Sync, &synced);
+        synced
     }
 }
 
 impl Successor for NamedFile<'_> {
     fn take_name(&mut self) -> io::Result<()> {
         let renamed = self.rename();
-        self.note(renamed)
+        let taken = self.note(renamed);
+        self.log = self.log.answered(&AskedLog::TakeName, &taken);
+        taken
     }
 }

@@ -3,7 +3,7 @@
 ghost use Rattle.std.specs.Prelude.{◌≡◌, ◌≤◌, IfErr, IfOk, OnErr, OnOk, length, vec_len};
 ghost use Rattle.entry_log.specs.Disk.{only};
 ghost use Rattle.machine_files.specs.Calls.{Adds, AddsDone, AddsUntilFailed, Done, IsLeft, IsUnread, ReadFront, renewal};
-ghost use Rattle.machine_files.specs.FileDisk.{calls_of, cap_of, file_of, images_of};
+ghost use Rattle.machine_files.specs.FileDisk.{calls_of, cap_of, file_of, images_of, name_of};
 ghost use Rattle.streams.specs.declared.limit.TheConstants.{LONGEST_INPUT};
 
 use crate::file_disk::{FileDisk, OpenFault, with_room};
@@ -16,6 +16,7 @@ use streams::LONGEST_INPUT;
 pub fn length_of<F: Host>(file: &mut F) -> Result<usize, OpenFault>
     ensures most { IfOk result (λ len. len ≤ LONGEST_INPUT) }
     ensures only_read { F.calls file.new ≡ F.calls file.old }
+    ensures name { F.name file.new ≡ F.name file.old }
 {
     match file.len() {
         Ok(len) if len <= LONGEST_INPUT as u64 => Ok(len as usize),
@@ -29,6 +30,7 @@ pub fn bytes_of<F: Host>(alloc: Global, file: &mut F) -> Result<Vec<u8>, OpenFau
     ensures most { IfOk result (λ bytes. vec_len bytes ≤ LONGEST_INPUT) }
     ensures read { IfOk result (λ bytes. Adds (F.calls file.old) (F.calls file.new) (Done (ReadFront bytes.items))) }
     ensures unread { IfErr result (λ why. IsUnread (F.calls file.old) (F.calls file.new) why) }
+    ensures name { F.name file.new ≡ F.name file.old }
 {
     let len = length_of(file)?;
     let mut bytes = vec![in alloc; 0; len]?;
@@ -43,6 +45,7 @@ pub fn bytes_of<F: Host>(alloc: Global, file: &mut F) -> Result<Vec<u8>, OpenFau
 fn renew<F: Successor>(file: &mut F, bytes: &[u8]) -> io::Result<()>
     ensures done { OnOk result (AddsDone (F.calls file.old) (F.calls file.new) (renewal bytes.now)) }
     ensures failed { OnErr result (AddsUntilFailed (F.calls file.old) (F.calls file.new) (renewal bytes.now)) }
+    ensures name { F.name file.new ≡ F.name file.old }
 {
     file.cut(0)?;
     file.write_at(0, bytes)?;
@@ -64,6 +67,8 @@ pub fn renewed<F: Successor + Drop>(
     ensures room { IfOk result (λ disk. cap_of disk ≡ room) }
     ensures asked { IfOk result (λ disk. AddsDone (F.calls file) (calls_of F.calls disk) (renewal bytes.now)) }
     ensures left { IfErr result (λ left. IsLeft (F.calls file) (F.calls left.1) left.0 (renewal bytes.now)) }
+    ensures name { IfOk result (λ disk. name_of F.name disk ≡ F.name file) }
+    ensures name_left { IfErr result (λ left. F.name left.1 ≡ F.name file) }
 {
     let mut file = file;
     let Ok(held) = with_room(alloc, bytes, room) else {
