@@ -1,8 +1,9 @@
--- What the public calls claim: Fault; SheetText; Keys; which of two files counts, Counting; and how a run over readers and a
--- writer ends, Ends. inner: for private functions only.
+-- What the public calls claim: Fault; SheetText; Keys; what was asked of a desk's file, Files; which of two files counts,
+-- Counting; and how a run over readers and a writer ends, Ends. inner: for private functions only.
 pub mod Counting
 pub mod Ends
 pub mod Fault
+pub mod Files
 pub mod Keys
 pub mod SheetText
 pub mod inner

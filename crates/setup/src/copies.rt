@@ -1,8 +1,9 @@
 //! A desk's votes in two files, which begin as one and are written as one.
 
 ghost use Rattle.std.specs.Prelude.{◌≡◌, IfOk};
-ghost use Rattle.machine_files.specs.Pairs.{file_of};
+ghost use Rattle.machine_files.specs.Pairs.{file_of, first_of, second_of};
 ghost use Rattle.setup.specs.Counting.{counting_bytes};
+ghost use Rattle.setup.specs.Files.{IsRenewed};
 
 use crate::counting::{Counting, place_of};
 use crate::fault::{StopFault, Stopped, printable};
@@ -68,6 +69,10 @@ pub fn paired_disk<'r, 'a>(
     counting: Counting,
 ) -> Result<CopiedDisk<'r>, Stopped<'a>>
     ensures held { IfOk result (λ pair. file_of pair ≡ counting_bytes counting first.entry.bytes.items second.entry.bytes.items) }
+    ensures first { IfOk result (λ pair. IsRenewed first.entry.file
+        (counting_bytes counting first.entry.bytes.items second.entry.bytes.items) (first_of pair)) }
+    ensures second { IfOk result (λ pair. IsRenewed second.entry.file
+        (counting_bytes counting first.entry.bytes.items second.entry.bytes.items) (second_of pair)) }
 {
     let Kept {
         path,

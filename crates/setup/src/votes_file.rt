@@ -4,6 +4,7 @@ ghost use Rattle.std.specs.Prelude.{◌≡◌, IfOk};
 ghost use Rattle.entry_log.specs.Disk.{only};
 ghost use Rattle.machine_files.specs.FileDisk.{file_of, images_of};
 ghost use Rattle.setup.specs.Fault as faults;
+ghost use Rattle.setup.specs.Files.{IsReadAgain, IsRenewed, WasRead};
 ghost use Rattle.setup.specs.inner.Opening as texts;
 
 use crate::fault::{StopFault, Stopped};
@@ -98,7 +99,9 @@ pub fn kept_votes<'r, 'a>(
     rt: &'r HostRuntime,
     path: &'a str,
     last: &'r LastFault,
-) -> Result<(NamedFile<'r>, Vec<u8>), Stopped<'a>> {
+) -> Result<(NamedFile<'r>, Vec<u8>), Stopped<'a>>
+    ensures { IfOk result (λ kept. WasRead path.now kept.1.items kept.0) }
+{
     let mut file = match NamedFile::open(rt, path) {
         Ok(file) => file.telling(last),
         Err(why) => return Err(file_fault(path, Name::Own, why)),
@@ -114,7 +117,9 @@ pub fn empty_disk<'r, 'a>(
     rt: &HostRuntime,
     path: &'a str,
     file: NamedFile<'r>,
-) -> Result<VotesDisk<'r>, Stopped<'a>> {
+) -> Result<VotesDisk<'r>, Stopped<'a>>
+    ensures { IfOk result (λ disk. IsReadAgain file.entry disk) }
+{
     FileDisk::new(rt.alloc(), file, LONGEST_FILE).map_err(|fault| Stopped::at(
         path,
         fault_of_old(fault),
@@ -132,6 +137,7 @@ pub fn renewed_disk<'r, 'a>(
 ) -> Result<VotesDisk<'r>, Stopped<'a>>
     ensures held { IfOk result (λ disk. file_of disk ≡ bytes.now) }
     ensures kept { IfOk result (λ disk. images_of disk ≡ only bytes.now) }
+    ensures renewed { IfOk result (λ disk. IsRenewed file.entry bytes.now disk) }
 {
     let beside = match file.beside() {
         Ok(beside) => beside,
