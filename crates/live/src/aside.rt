@@ -1,6 +1,6 @@
 //! What a desk's scorer is told of lines that the desk isn't given yet, or never will be.
 
-ghost use Rattle.std.specs.Prelude.{◌≡◌, ◌++◌, codes, decimal, true, Err, OnErr, OnOk};
+ghost use Rattle.std.specs.Prelude.{◌≡◌, ◌≤◌, ◌++◌, codes, decimal, true, Err, OnErr, OnOk};
 ghost use Rattle.std.specs.Io.KnownBytes.{Appends};
 ghost use Rattle.streams.specs.Watched.{Prints, has_failed, stream_of};
 ghost use Rattle.live.specs.Asides as asides;
@@ -11,27 +11,43 @@ use links::{Aside, HeldLine};
 use station_texts::texts::print_at;
 use streams::{Sink, Watched, WriteFailed};
 
-/// Prints a line behind a comma.
-fn print_behind<W: Sink>(out: &mut Watched<W>, line: &str) -> Result<(), WriteFailed>
-    ensures text { OnOk result (Prints W.contents out.old out.new (codes ", " ++ line.now)) }
+/// Prints a line behind a comma, in a new row where there is no room in this one.
+fn print_behind<W: Sink>(
+    out: &mut Watched<W>,
+    line: &str,
+    has_room: bool,
+) -> Result<(), WriteFailed>
+    ensures text { OnOk result (Prints W.contents out.old out.new (asides.comma has_room ++ line.now)) }
     ensures failed { OnErr result (has_failed out.new ≡ true) }
 {
-    write!(out, ", {line}")
+    if has_room {
+        write!(out, ", {line}")
+    } else {
+        write!(out, ",\n  {line}")
+    }
 }
 
-/// Prints each line behind a comma.
-fn print_more<W: Sink>(out: &mut Watched<W>, lines: &[HeldLine]) -> Result<(), WriteFailed>
-    ensures text { OnOk result (Prints W.contents out.old out.new (asides.more_lines lines.now)) }
+/// Prints each line behind a comma, in a row that has so many columns: a new one begins where it would have more than 80.
+fn print_more<W: Sink>(
+    out: &mut Watched<W>,
+    at: usize,
+    lines: &[HeldLine],
+) -> Result<(), WriteFailed>
+    requires { at ≤ 140 }
+    ensures text { OnOk result (Prints W.contents out.old out.new (asides.more_lines at lines.now)) }
     ensures failed { OnErr result (has_failed out.new ≡ true) }
 {
     let Some((line, more)) = lines.split_first() else {
         return Ok(());
     };
-    print_behind(out, line.as_str())?;
-    print_more(out, more)
+    let columns = line.len() + 2;
+    let has_room = at + columns < 80;
+    print_behind(out, line.as_str(), has_room)?;
+    let before = if has_room { at } else { 0 };
+    print_more(out, before + columns, more)
 }
 
-/// Prints lines with a comma between two.
+/// Prints lines with a comma between two, behind words that count as 12 columns.
 fn print_lines<W: Sink>(out: &mut Watched<W>, lines: &[HeldLine]) -> Result<(), WriteFailed>
     ensures text { OnOk result (Prints W.contents out.old out.new (asides.lines_text lines.now)) }
     ensures failed { OnErr result (has_failed out.new ≡ true) }
@@ -41,19 +57,19 @@ fn print_lines<W: Sink>(out: &mut Watched<W>, lines: &[HeldLine]) -> Result<(), 
     };
     let words = line.as_str();
     write!(out, "{words}")?;
-    print_more(out, more)
+    print_more(out, words.len() + 12, more)
 }
 
-/// Prints lines with a comma between two, as a row.
-fn print_row<W: Sink>(out: &mut Watched<W>, lines: &[HeldLine]) -> Result<(), WriteFailed>
-    ensures text { OnOk result (Prints W.contents out.old out.new (asides.lines_row lines.now)) }
+/// Prints lines with a comma between two, as rows.
+fn print_rows<W: Sink>(out: &mut Watched<W>, lines: &[HeldLine]) -> Result<(), WriteFailed>
+    ensures text { OnOk result (Prints W.contents out.old out.new (asides.lines_rows lines.now)) }
     ensures failed { OnErr result (has_failed out.new ≡ true) }
 {
     print_lines(out, lines)?;
     writeln!(out)
 }
 
-/// Prints that lines are dropped, in one row; nothing of none.
+/// Prints that lines are dropped; nothing of none.
 fn print_dropped<W: Sink>(out: &mut Watched<W>, lines: &[HeldLine]) -> Result<(), WriteFailed>
     ensures text { OnOk result (Prints W.contents out.old out.new (asides.dropped_text lines.now)) }
     ensures failed { OnErr result (has_failed out.new ≡ true) }
@@ -63,7 +79,7 @@ fn print_dropped<W: Sink>(out: &mut Watched<W>, lines: &[HeldLine]) -> Result<()
     }
     let count = lines.len();
     write!(out, "dropped {count}: ")?;
-    print_row(out, lines)
+    print_rows(out, lines)
 }
 
 /// Prints that a line is held.
@@ -81,11 +97,11 @@ fn print_holds<W: Sink>(
     lines: &[HeldLine],
 ) -> Result<(), WriteFailed>
     ensures text { OnOk result (Prints W.contents out.old out.new
-        (decimal place ++ codes " held: " ++ asides.lines_row lines.now)) }
+        (decimal place ++ codes " held: " ++ asides.lines_rows lines.now)) }
     ensures failed { OnErr result (has_failed out.new ≡ true) }
 {
     write!(out, "{place} held: ")?;
-    print_row(out, lines)
+    print_rows(out, lines)
 }
 
 /// Prints that one is taken back.
