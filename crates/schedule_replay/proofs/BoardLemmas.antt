@@ -20,7 +20,8 @@ use Rattle.wire.specs.Sent.{AreSent}
 use Rattle.wire.proofs.FaultLemmas.{reads_once}
 use Rattle.wire.proofs.MessageLemmas.{says_once}
 use Rattle.headline.specs.declared.{event.Event.Event, event.Station.Station, version.FileVersion.FileVersion}
-use Rattle.schedule_replay.specs.declared.{seen.Seen.Seen, seen.WorldRefusal.WorldRefusal, site.Site.Site, world_desk.WorldDesk.WorldDesk, world.World.World}
+use Rattle.schedule_replay.specs.declared.{seen.Seen.Seen, seen.WorldRefusal.WorldRefusal, site.Site.Site, world.World.World}
+use Rattle.world_desks.specs.declared.world_desk.WorldDesk.{WorldDesk}
 use Rattle.headline.specs.Configurations.{Running, Node, Configuration, board_at, fresh_boards, with_board}
 use Rattle.headline.specs.Events.{station_of}
 use Rattle.headline.specs.Answers.{Answer, board_told}
@@ -31,7 +32,7 @@ use Rattle.headline.specs.Match.{match_of}
 use Rattle.schedule_replay.specs.Answers.{AreBytesOf, answer_of}
 use Rattle.headline.specs.Runs.{Begins, BeginsAt}
 use Rattle.schedule_replay.specs.inner.Sites.{BeginsSite, IsProcess, HasNode}
-use Rattle.schedule_replay.specs.WorldDesks.{state_of}
+use Rattle.world_desks.specs.WorldDesks.{state_of}
 use Rattle.schedule_replay.specs.CodeWorlds.{BeginsWorld, boards_of, match_version, IsBoardOf, HasConfiguration, MatchBoard}
 use Rattle.schedule_replay.specs.CodeWorlds.{RefusesTo, StepsTo, board_game, board_innings, board_seen, board_state, code_site}
 use Rattle.schedule_replay.specs.inner.WorldBoards.{AreFresh, BoardSteps, SameBoard}

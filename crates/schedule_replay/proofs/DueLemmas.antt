@@ -6,11 +6,12 @@ use Rattle.entry_log.specs.declared.{mem_disk.MemDisk.MemDisk, refusal.Refusal.R
 use Rattle.desk.specs.declared.refusal.Refusal.{Refusal as DeskRefusal}
 use Rattle.vote_store.specs.declared.refusal.Refusal.{Refusal as VotesRefusal}
 use Rattle.headline.specs.declared.fault.Fault.{Fault}
-use Rattle.schedule_replay.specs.declared.{seen.Cause.Cause, seen.Seen.Seen, seen.WorldRefusal.WorldRefusal, site.Site.Site, world_desk.WorldDesk.WorldDesk}
+use Rattle.schedule_replay.specs.declared.{seen.Cause.Cause, seen.Seen.Seen, seen.WorldRefusal.WorldRefusal, site.Site.Site}
+use Rattle.world_desks.specs.declared.world_desk.WorldDesk.{WorldDesk}
 use Rattle.schedule_replay.specs.Answers.{is_failing}
 use Rattle.schedule_replay.specs.Plans.{due_on}
 use Rattle.schedule_replay.specs.inner.Sites.{AfterRefusal, BreaksDown, KeepsDue, NotFoundBy, disk_at}
-use Rattle.schedule_replay.specs.WorldDesks.{disk_of}
+use Rattle.world_desks.specs.WorldDesks.{disk_of}
 
 -- from one disk to another, on which the same is due
 pub keeps_from : (old new : Site) (before after : MemDisk) → disk_at old.desk old.disk ≡ Some before → disk_at new.desk new.disk ≡ Some after

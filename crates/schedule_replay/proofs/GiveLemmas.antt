@@ -21,14 +21,15 @@ use Rattle.desk.specs.declared.refusal.Refusal.TheVariants as refusals
 use Rattle.desk.specs.Answers.{device_answer, replied}
 use Rattle.desk.specs.Takes.{Takes}
 use Rattle.headline.specs.declared.event.{Event.Event, Station.Station}
-use Rattle.schedule_replay.specs.declared.{seen.Cause.Cause, seen.Seen.Seen, site.Site.Site, world_desk.WorldDesk.WorldDesk}
+use Rattle.schedule_replay.specs.declared.{seen.Cause.Cause, seen.Seen.Seen, site.Site.Site}
+use Rattle.world_desks.specs.declared.world_desk.WorldDesk.{WorldDesk}
 use Rattle.headline.specs.Configurations.{Running, Node}
 use Rattle.headline.specs.Answers.{Answer}
 use Rattle.headline.specs.DeskAnswers.{AfterReceive, has_any}
 use Rattle.headline.specs.Match.{match_of}
 use Rattle.schedule_replay.specs.Answers.{AreBytesOf, answer_of, given_seen, is_fault}
 use Rattle.schedule_replay.specs.inner.Sites.{BreaksDown, SiteSteps}
-use Rattle.schedule_replay.specs.WorldDesks.{SameOwner, disk_of, game_of, state_of, view_of}
+use Rattle.world_desks.specs.WorldDesks.{SameOwner, disk_of, game_of, state_of, view_of}
 use Rattle.schedule_replay.proofs.SiteLemmas.{Runs, broken_site, more_bytes, no_bytes, of_match, running_is, runs_on}
 
 -- what is received of bytes that say a message; they have no fault

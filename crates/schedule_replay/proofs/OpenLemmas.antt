@@ -21,7 +21,8 @@ use Rattle.desk.specs.Answers.{device, open_cause}
 use Rattle.desk.specs.declared.refusal.OpenRefusal.{OpenRefusal}
 use Rattle.desk.specs.declared.refusal.OpenRefusal.TheVariants.{BadVotes, Votes}
 use Rattle.headline.specs.declared.{event.Event.Event, fault.Fault.Fault, version.FileVersion.FileVersion}
-use Rattle.schedule_replay.specs.declared.{seen.Cause.Cause, seen.Seen.Seen, seen.WorldRefusal.WorldRefusal, site.Site.Site, world_desk.WorldDesk.WorldDesk}
+use Rattle.schedule_replay.specs.declared.{seen.Cause.Cause, seen.Seen.Seen, seen.WorldRefusal.WorldRefusal, site.Site.Site}
+use Rattle.world_desks.specs.declared.world_desk.WorldDesk.{WorldDesk}
 use Rattle.headline.specs.Configurations.{Process, Running, Down, Node, process_disk, with_disk}
 use Rattle.headline.specs.Answers.{Answer}
 use Rattle.headline.specs.DeskFaults.{StaysDown, StaysDownBy}
@@ -30,7 +31,7 @@ use Rattle.headline.specs.Match.{match_of}
 use Rattle.headline.specs.Setting.{Setting}
 use Rattle.schedule_replay.specs.Answers.{answer_of, is_failing, wants_memory}
 use Rattle.schedule_replay.specs.inner.Sites.{BreaksDown, IsDue, IsProcess, HasNode, IsWorldDisk, NotFoundBy, SameSite, SiteSteps, SyncsSite, disk_at, votes_at}
-use Rattle.schedule_replay.specs.WorldDesks.{IsWorldDeskOf, disk_of, state_of}
+use Rattle.world_desks.specs.WorldDesks.{IsWorldDeskOf, disk_of, state_of}
 use Rattle.schedule_replay.proofs.SiteLemmas.{HasDisk, broken, broken_same, down_is, no_bytes}
 
 -- a site whose desk is down

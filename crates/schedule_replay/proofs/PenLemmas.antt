@@ -13,13 +13,14 @@ use Rattle.wire.specs.Sent.{AreSent}
 use Rattle.desk.specs.declared.{desk.Penned.Penned, refusal.Refusal.Refusal as DeskRefusal}
 use Rattle.desk.specs.Answers.{pen_answer, sent}
 use Rattle.headline.specs.declared.event.Event.{Event}
-use Rattle.schedule_replay.specs.declared.{seen.Cause.Cause, seen.Seen.Seen, site.Site.Site, world_desk.WorldDesk.WorldDesk}
+use Rattle.schedule_replay.specs.declared.{seen.Cause.Cause, seen.Seen.Seen, site.Site.Site}
+use Rattle.world_desks.specs.declared.world_desk.WorldDesk.{WorldDesk}
 use Rattle.headline.specs.Configurations.{Running, Node}
 use Rattle.headline.specs.DeskAnswers.{AfterPen}
 use Rattle.headline.specs.Match.{match_of}
 use Rattle.schedule_replay.specs.Answers.{AreBytesOf, answer_of, told_to_pen}
 use Rattle.schedule_replay.specs.inner.Sites.{AfterRefusal, RefusedBy, SameSite, SiteSteps}
-use Rattle.schedule_replay.specs.WorldDesks.{FitsOneMore, SameOwner, disk_of, game_of, rules_of, state_of, view_of}
+use Rattle.world_desks.specs.WorldDesks.{FitsOneMore, SameOwner, disk_of, game_of, rules_of, state_of, view_of}
 use Rattle.schedule_replay.proofs.SiteLemmas.{broken_same, broken_site, has_room, more_bytes, no_bytes, of_match, running_is, runs_on, own_votes}
 
 abbrev pub PenSteps : WorldDesk → Entry → Result Penned DeskRefusal → WorldDesk → Type 0
@@ -63,7 +64,7 @@ pen_breaks old new k l e seen before here step owner blame broke x messages h b 
     let s = match_of old.game old.innings_a_side in
     let pens = of_match old.name x.version old.game old.innings_a_side k own (λ view rules. Pens view rules (state_of k) e PenAnswer.DeviceFailed (state_of l) step.0) step.3 in
     let cap : cap_of (disk_of k) ≡ _ = disk.cap ∙ ap Rattle.headline.specs.Match.most_bytes (sym (own.same_version ∙ h.version)) in
-    let within : FitsOneMore k = has_room (Rattle.schedule_replay.specs.WorldDesks.version_of k) (length (own_votes k)) (cap_of (disk_of k)) pens.0.1.1 cap in
+    let within : FitsOneMore k = has_room (Rattle.world_desks.specs.WorldDesks.version_of k) (length (own_votes k)) (cap_of (disk_of k)) pens.0.1.1 cap in
     let broken = broken_site old new k l x (Cause.Desk DeskRefusal.Device) seen here h owner (λ n. blame.calm n within refl) (λ o. blame.spent o within refl) refl broke in
     let bytes : AreBytesOf old.game before (messages ++ step.0) = rw pens.3 (no_bytes old.game before messages b) in
     (broken.0, step.0, broken.1, broken.2, (state_of k, state_of l, PenAnswer.DeviceFailed, r.process, pens, broken.3), broken.4, bytes)

@@ -18,18 +18,6 @@ use Rattle.agree_core.specs.Keeping.{ShowsMore}
 use Rattle.headline.proofs.Keeping.{Fine, fine_disk, node_fine}
 use Rattle.schedule_replay.proofs.SiteLemmas.{site_disk}
 
-one_left : (b : Ballot) (bs : List Ballot) → (c : Ballot) × (drop (length bs) (b ∷ bs) ≡ c ∷ [])
-one_left b [] = (b, refl)
-one_left b (c ∷ cs) = one_left c cs
-
--- the first vote alone leaves no book
-pub first_leaves_none : (votes : List Ballot) → book_of (oldest 1 votes) ≡ []
-first_leaves_none [] = refl
-first_leaves_none (b ∷ bs) =
-    let size : length (b ∷ bs) - 1 ≡ length bs = omega arith in
-    let left = one_left b bs in
-    ap (λ (n : ℕ). book_of (drop n (b ∷ bs))) size ∙ ap book_of left.1
-
 drop_front : (later votes : List Ballot) → drop (length later) (later ++ votes) ≡ votes
 drop_front [] votes = refl
 drop_front (b ∷ later) votes = drop_front later votes

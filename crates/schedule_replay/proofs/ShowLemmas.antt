@@ -12,7 +12,8 @@ use Rattle.entry_log.specs.declared.mem_disk.MemDisk.{MemDisk}
 use Rattle.agree_core.specs.declared.messages.DeskId.{DeskId}
 use Rattle.agree_core.specs.Boards.{BoardState}
 use Rattle.headline.specs.declared.event.Station.{Station}
-use Rattle.schedule_replay.specs.declared.{site.Site.Site, world.World.World, world_desk.WorldDesk.WorldDesk}
+use Rattle.schedule_replay.specs.declared.{site.Site.Site, world.World.World}
+use Rattle.world_desks.specs.declared.world_desk.WorldDesk.{WorldDesk}
 use Rattle.headline.specs.Configurations.{Process, Configuration, node}
 use Rattle.headline.specs.Runs.{Shows, process_shows}
 use Rattle.schedule_replay.specs.inner.Sites.{IsProcess}

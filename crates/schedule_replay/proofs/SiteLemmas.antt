@@ -21,14 +21,15 @@ use Rattle.wire.specs.Layout.{IsMessage, written}
 use Rattle.wire.specs.Sent.{AreSent}
 use Rattle.headline.specs.declared.{fault.Fault.Fault, version.FileVersion.FileVersion}
 use Rattle.headline.specs.declared.fault.Fault.TheVariants.{Fail, Stop}
-use Rattle.schedule_replay.specs.declared.{seen.Cause.Cause, seen.Seen.Seen, site.Site.Site, world_desk.WorldDesk.WorldDesk}
+use Rattle.schedule_replay.specs.declared.{seen.Cause.Cause, seen.Seen.Seen, site.Site.Site}
+use Rattle.world_desks.specs.declared.world_desk.WorldDesk.{WorldDesk}
 use Rattle.headline.specs.Configurations.{Process, Running, Down, Node, process_disk, process_votes}
 use Rattle.headline.specs.Answers.{Answer}
 use Rattle.headline.specs.DeskFaults.{Breaks, BreaksBy}
 use Rattle.headline.specs.Match.{format_of, match_of, most_bytes}
 use Rattle.schedule_replay.specs.Answers.{AreBytesOf, answer_of}
 use Rattle.schedule_replay.specs.inner.Sites.{BreaksDown, IsDue, IsProcess, HasNode, IsWorldDisk, PutsDown, SameSite, disk_at, votes_at}
-use Rattle.schedule_replay.specs.WorldDesks.{IsWorldDeskOf, SameOwner, disk_of, rules_of, state_of, view_of}
+use Rattle.world_desks.specs.WorldDesks.{IsWorldDeskOf, SameOwner, disk_of, rules_of, state_of, view_of}
 
 abbrev pub own_votes : WorldDesk → List Ballot
 own_votes k = (λ (s : DeskState MemDisk). s.votes) (state_of k)

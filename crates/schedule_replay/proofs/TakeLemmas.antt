@@ -5,7 +5,8 @@ use Rattle.std.proofs.Math.Bool.{not}
 use Rattle.std.specs.Option.{is_none, is_some}
 use Rattle.wire.specs.declared.datagram.Datagram.{Datagram}
 use Rattle.headline.specs.declared.event.Event.{Event}
-use Rattle.schedule_replay.specs.declared.{seen.Seen.Seen, seen.WorldRefusal.WorldRefusal, site.Site.Site, world_desk.WorldDesk.WorldDesk}
+use Rattle.schedule_replay.specs.declared.{seen.Seen.Seen, seen.WorldRefusal.WorldRefusal, site.Site.Site}
+use Rattle.world_desks.specs.declared.world_desk.WorldDesk.{WorldDesk}
 use Rattle.schedule_replay.specs.Refusals.{may_grow, may_send}
 use Rattle.schedule_replay.specs.inner.Sites.{SiteLeft, SiteSteps, SiteTakes, site_cause}
 use Rattle.schedule_replay.proofs.OpenLemmas.{stays_so}

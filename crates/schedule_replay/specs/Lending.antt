@@ -2,15 +2,12 @@
 use Rattle.std.specs.Prelude.{◌≡◌, ℕ, List, map, All, IfSome, option_map, Option, Some, None}
 use Rattle.entry_log.specs.declared.mem_disk.MemDisk.{MemDisk}
 use Rattle.agree_core.specs.Desks.{DeskState}
-use Rattle.schedule_replay.specs.declared.{any_desk.AnyDesk.AnyDesk, world.World.World, world_desk.WorldDesk.WorldDesk}
+use Rattle.world_desks.specs.declared.any_desk.AnyDesk.{AnyDesk}
+use Rattle.world_desks.specs.Lent.{lent_desk}
+use Rattle.schedule_replay.specs.declared.world.World.{World}
 use Rattle.headline.specs.Configurations.{Process, Running, Down, Configuration}
-use Rattle.schedule_replay.specs.WorldDesks.{game_of, innings_of, state_of}
+use Rattle.world_desks.specs.WorldDesks.{game_of, innings_of, state_of}
 use Rattle.schedule_replay.specs.CodeWorlds.{IsBoardOf, HasConfiguration, MatchBoard, board_state}
-
--- the desk itself
-abbrev pub lent_desk : AnyDesk → WorldDesk
-lent_desk (AnyDesk.Old k) = WorldDesk.Old k.now
-lent_desk (AnyDesk.New k) = WorldDesk.New k.now
 
 -- the desk that runs, where one does
 abbrev pub running_of : Process MemDisk → Option (DeskState MemDisk)

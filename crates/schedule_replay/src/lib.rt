@@ -2,21 +2,17 @@
 #![tactic(auto)]
 
 mod admission;
-mod any_desk;
 mod boards;
 mod report;
 mod seen;
 mod seen_words;
 mod shown_scores;
 mod site;
-mod versions;
-mod votes_file;
 mod world;
-mod world_desk;
 
-pub use any_desk::AnyDesk;
 pub use headline::{Event, Fault, FileVersion, Station, every_run_is_sound};
 pub use report::{Report, replay, replay_in, replay_old};
 pub use schedules::{ScheduleFault, read_schedule};
 pub use seen::{Cause, Seen, WorldRefusal};
 pub use world::World;
+pub use world_desks::AnyDesk;

@@ -18,9 +18,7 @@ ghost use Rattle.headline.specs.declared.version.FileVersion.TheVariants as vers
 mod reporting;
 
 use crate::admission::admit;
-use crate::any_desk::AnyDesk;
 use crate::seen::{Cause, Seen, WorldRefusal};
-use crate::world_desk::{WorldDesk, most_bytes};
 use agree_core::DeskId;
 use desk::{OpenRefusal, Refusal};
 use entry_log::{Choice, MemDisk};
@@ -29,6 +27,7 @@ use notation::Entry;
 use std::alloc::{AllocError, Global};
 use vote_store::migrate;
 use wire::{Datagram, What};
+use world_desks::{AnyDesk, WorldDesk, most_bytes};
 
 /// A desk's place in the world: the desk while it runs, otherwise its disk alone.
 pub struct Site {
@@ -127,7 +126,7 @@ fn lose_power(disk: &mut MemDisk, choice: Choice)
 
 impl Site {
     ghost use Rattle.std.specs.Prelude.{option_map};
-    ghost use Rattle.schedule_replay.specs.Lending.{lent_desk};
+    ghost use Rattle.world_desks.specs.Lent.{lent_desk};
     ghost use Rattle.schedule_replay.specs.Plans.{HasPlan, asks_fault};
     ghost use Rattle.schedule_replay.specs.inner.Sites.{AfterRefusal, BeginsSite, BreaksDown, IsWhole, KeepsDue, NotFoundBy, PutsDown, SameSite, SiteSteps, SiteTakes, SyncsSite, disk_at};
 

@@ -10,7 +10,6 @@ ghost use Rattle.headline.specs.declared.version.FileVersion.TheVariants as vers
 mod reporting;
 
 use crate::admission::admit;
-use crate::any_desk::AnyDesk;
 use crate::boards::{empty_boards, give_board, no_board, tick_board, wipe_board};
 use crate::seen::{Seen, WorldRefusal};
 use crate::site::Site;
@@ -20,6 +19,7 @@ use corrections::CheckedBook;
 use headline::{Event, FileVersion, Station};
 use std::alloc::{AllocError, Global};
 use wire::Datagram;
+use world_desks::AnyDesk;
 
 /// Two desks with a file each, boards, and all that they have sent.
 #[derive(Drop)]

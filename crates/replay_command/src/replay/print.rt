@@ -5,8 +5,8 @@ ghost use Rattle.entry_log.specs.declared.mem_disk.MemDisk.{MemDisk};
 ghost use Rattle.match_laws.specs.Stands.{ForEachHistory};
 ghost use Rattle.streams.specs.Watched.{IsHandedOn, Prints, TellsFailure};
 ghost use Rattle.schedule_replay.specs.CodeWorlds.{HasConfiguration, board_state};
-ghost use Rattle.schedule_replay.specs.Lending.{lent_desk};
-ghost use Rattle.schedule_replay.specs.WorldDesks.{state_of};
+ghost use Rattle.world_desks.specs.Lent.{lent_desk};
+ghost use Rattle.world_desks.specs.WorldDesks.{state_of};
 ghost use Rattle.headline.specs.Configurations.{Configuration};
 ghost use Rattle.replay_command.specs.Replay as texts;
 

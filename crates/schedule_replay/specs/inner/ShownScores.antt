@@ -8,11 +8,12 @@ use Rattle.agree_core.specs.declared.messages.DeskId.TheVariants.{A, B}
 use Rattle.agree_core.specs.Boards.{BoardState}
 use Rattle.agree_core.specs.Desks.{DeskState}
 use Rattle.headline.specs.declared.event.Station.{Station}
-use Rattle.schedule_replay.specs.declared.{shown_scores.ShownScores.ShownScores, world.World.World, world_desk.WorldDesk.WorldDesk}
+use Rattle.schedule_replay.specs.declared.{shown_scores.ShownScores.ShownScores, world.World.World}
+use Rattle.world_desks.specs.declared.world_desk.WorldDesk.{WorldDesk}
 use Rattle.schedule_replay.specs.CodeWorlds.{HasConfiguration, MatchBoard, board_innings, board_state, code_site}
 use Rattle.headline.specs.Headline.{ShowsScore}
 use Rattle.schedule_replay.specs.Replays.{StandOnce}
-use Rattle.schedule_replay.specs.WorldDesks.{innings_of, state_of}
+use Rattle.world_desks.specs.WorldDesks.{innings_of, state_of}
 use Rattle.headline.specs.Configurations.{Configuration}
 use Rattle.entry_log.specs.declared.mem_disk.MemDisk.{MemDisk}
 

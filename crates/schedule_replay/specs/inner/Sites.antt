@@ -13,7 +13,8 @@ use Rattle.agree_core.specs.FileView.{MaySync}
 use Rattle.agree_core.specs.Openings.{Creates}
 use Rattle.wire.specs.declared.datagram.Datagram.{Datagram}
 use Rattle.desk.specs.declared.refusal.Refusal.{Refusal as DeskRefusal}
-use Rattle.schedule_replay.specs.declared.{seen.Cause.Cause, seen.Seen.Seen, seen.WorldRefusal.WorldRefusal, world_desk.WorldDesk.WorldDesk, site.Site.Site}
+use Rattle.schedule_replay.specs.declared.{seen.Cause.Cause, seen.Seen.Seen, seen.WorldRefusal.WorldRefusal, site.Site.Site}
+use Rattle.world_desks.specs.declared.world_desk.WorldDesk.{WorldDesk}
 use Rattle.headline.specs.declared.{event.Event.Event, fault.Fault.Fault, version.FileVersion.FileVersion}
 use Rattle.headline.specs.declared.fault.Fault.TheVariants.{Fail, Stop}
 use Rattle.headline.specs.Configurations.{Process, Running, Down, Node, process_disk, with_disk}
@@ -23,7 +24,7 @@ use Rattle.schedule_replay.specs.Refusals.{first_cause, may_grow}
 use Rattle.headline.specs.Match.{match_of, most_bytes}
 use Rattle.schedule_replay.specs.Plans.{StaysDue}
 use Rattle.schedule_replay.specs.Answers.{AreBytesOf, answer_of, is_device}
-use Rattle.schedule_replay.specs.WorldDesks.{IsWorldDeskOf, disk_of, state_of}
+use Rattle.world_desks.specs.WorldDesks.{IsWorldDeskOf, disk_of, state_of}
 
 -- what is due on a disk, by what was asked for
 abbrev pub IsDue : Option Fault → Due → Type 0

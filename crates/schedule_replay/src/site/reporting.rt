@@ -7,14 +7,15 @@ ghost use Rattle.match_laws.specs.declared.standing.Standing.{Standing};
 ghost use Rattle.headline.specs.declared.event.Station.TheVariants as stations;
 ghost use Rattle.schedule_replay.specs.inner.ShownScores.{Adds, DeskHasScore, DeskShows, IsKept};
 ghost use Rattle.schedule_replay.specs.inner.Sites.{HasNode, IsWhole};
-ghost use Rattle.schedule_replay.specs.inner.VotesFiles.{SiteReads, read_votes};
+ghost use Rattle.schedule_replay.specs.inner.VotesFiles.{SiteReads};
+ghost use Rattle.world_desks.specs.VotesFiles.{read_votes};
 ghost use Rattle.headline.specs.Configurations.{Node, process_votes};
 
 use crate::shown_scores::ShownScores;
 use crate::site::Site;
-use crate::votes_file::VotesFile;
 use headline::Station;
 use std::alloc::AllocError;
+use world_desks::VotesFile;
 
 impl Site {
     /// Notes the score of the desk's book, if the desk runs.

@@ -9,12 +9,12 @@ ghost use Rattle.headline.specs.Configurations.{Configuration, all_votes};
 ghost use Rattle.entry_log.specs.declared.mem_disk.MemDisk.{MemDisk};
 
 use crate::shown_scores::ShownScores;
-use crate::votes_file::agreed_list;
 use crate::world::World;
 use corrections::BookOf;
 use headline::Station;
 use notation::Entry;
 use std::alloc::AllocError;
+use world_desks::agreed_list;
 
 impl World {
     /// Notes the score of each station that isn't down.

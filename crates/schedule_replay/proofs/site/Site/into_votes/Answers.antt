@@ -1,5 +1,5 @@
 use Rattle.std.proofs.Common.{◌∙◌, sym}
-use Rattle.schedule_replay.specs.inner.VotesFiles.{read_votes}
+use Rattle.world_desks.specs.VotesFiles.{read_votes}
 use Rattle.schedule_replay.proofs.ReadLemmas.{put_down_reads, put_down_votes}
 use Rattle.schedule_replay.proofs.site.Site.into_votes.Goals as goal
 

@@ -1,5 +1,5 @@
 use Rattle.std.proofs.Common.{Option, sym, subst, Result, Ok, Err, OnOk}
-use Rattle.schedule_replay.specs.declared.world_desk.WorldDesk.{WorldDesk}
+use Rattle.world_desks.specs.declared.world_desk.WorldDesk.{WorldDesk}
 use Rattle.schedule_replay.specs.inner.ShownScores.{DeskHasScore, DeskShows}
 use Rattle.schedule_replay.proofs.ShowLemmas.{adds_book}
 use Rattle.schedule_replay.proofs.site.Site.note.Goals as goal

@@ -2,9 +2,9 @@ use Rattle.std.proofs.Common.{refl, sym, ap, ◌∙◌, subst, ◌≡◌, Option
 use Rattle.entry_log.specs.MemDisk.{SetsPlan}
 use Rattle.entry_log.specs.declared.mem_disk.MemDisk.{MemDisk}
 use Rattle.entry_log.specs.declared.mem_disk.plan.Plan.TheVariants.{Calm}
-use Rattle.schedule_replay.specs.declared.world_desk.WorldDesk.{WorldDesk}
+use Rattle.world_desks.specs.declared.world_desk.WorldDesk.{WorldDesk}
 use Rattle.schedule_replay.specs.inner.Sites.{disk_at, votes_at}
-use Rattle.schedule_replay.specs.WorldDesks.{disk_of}
+use Rattle.world_desks.specs.WorldDesks.{disk_of}
 use Rattle.schedule_replay.proofs.EventLemmas.{nowhere}
 use Rattle.schedule_replay.proofs.site.Site.put_down.Goals as goal
 

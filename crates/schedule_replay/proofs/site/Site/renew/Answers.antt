@@ -1,6 +1,7 @@
 use Rattle.std.proofs.Common.{arith, sym, refl, ◌∙◌, ℕ, subst, [], Option, Some}
 use Rattle.entry_log.specs.MemDisk.{IsFresh}
-use Rattle.schedule_replay.specs.declared.{seen.Cause.Cause, world_desk.WorldDesk.WorldDesk, seen.WorldRefusal.WorldRefusal}
+use Rattle.schedule_replay.specs.declared.{seen.Cause.Cause, seen.WorldRefusal.WorldRefusal}
+use Rattle.world_desks.specs.declared.world_desk.WorldDesk.{WorldDesk}
 use Rattle.schedule_replay.specs.Answers.{is_failing, wants_memory}
 use Rattle.headline.specs.declared.version.FileVersion.TheVariants.{New}
 use Rattle.schedule_replay.specs.inner.Sites.{disk_at}

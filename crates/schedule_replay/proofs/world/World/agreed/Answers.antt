@@ -3,7 +3,7 @@ use Rattle.std.proofs.lemmas.Result.{IfOk-weaker}
 use Rattle.agree_core.specs.declared.messages.DeskId.TheVariants.{A, B}
 use Rattle.agree_core.specs.Ballots.{Ballot, oldest}
 use Rattle.agree_core.specs.Books.{IsAgreedByFiles}
-use Rattle.schedule_replay.specs.inner.VotesFiles.{read_votes}
+use Rattle.world_desks.specs.VotesFiles.{read_votes}
 use Rattle.headline.specs.Configurations.{process_votes}
 use Rattle.schedule_replay.proofs.ReadLemmas.{of_names}
 use Rattle.schedule_replay.proofs.world.World.agreed.Goals as goal

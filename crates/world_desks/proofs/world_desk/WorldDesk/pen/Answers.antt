@@ -1,4 +1,4 @@
-use Rattle.schedule_replay.proofs.world_desk.WorldDesk.pen.Goals as goal
+use Rattle.world_desks.proofs.world_desk.WorldDesk.pen.Goals as goal
 
 pub returns-in-Old-clause-blame : goal.returns-in-Old-clause-blame
 returns-in-Old-clause-blame c = rw c.in-Old.is c.pen.ensures.blame

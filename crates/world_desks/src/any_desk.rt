@@ -2,7 +2,7 @@
 
 ghost use Rattle.std.specs.Prelude.{◌≡◌};
 ghost use Rattle.corrections.specs.Legal.{IsScoreOf};
-ghost use Rattle.schedule_replay.specs.WorldDesks.{book_of, innings_of, state_of};
+ghost use Rattle.world_desks.specs.WorldDesks.{book_of, innings_of, state_of};
 
 use crate::versions::whichever;
 use corrections::CheckedBook;
@@ -18,7 +18,7 @@ pub enum AnyDesk<'a> {
 }
 
 impl<'a> AnyDesk<'a> {
-    ghost use Rattle.schedule_replay.specs.Lending.{lent_desk};
+    ghost use Rattle.world_desks.specs.Lent.{lent_desk};
 
     /// Its book: the entries that are agreed.
     pub fn book(self) -> &'a CheckedBook

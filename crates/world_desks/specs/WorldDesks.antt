@@ -14,8 +14,8 @@ use Rattle.desk.specs.Answers.{open_cause}
 use Rattle.desk.specs.Desk as desk
 use Rattle.desk.specs.declared.refusal.OpenRefusal.{OpenRefusal}
 use Rattle.headline.specs.declared.version.FileVersion.{FileVersion}
-use Rattle.schedule_replay.specs.declared.world_desk.WorldDesk.{WorldDesk}
-use Rattle.schedule_replay.specs.declared.world_desk.WorldDesk.TheVariants.{Old, New}
+use Rattle.world_desks.specs.declared.world_desk.WorldDesk.{WorldDesk}
+use Rattle.world_desks.specs.declared.world_desk.WorldDesk.TheVariants.{Old, New}
 use Rattle.headline.specs.Match.{format_of, match_of}
 use Rattle.headline.specs.Setting.{Setting}
 
