@@ -1,146 +1,25 @@
 //! `ground desk`: a scorer's desk.
 
-ghost use Rattle.std.specs.Prelude.{◌≡◌, [], false, IfErr, IfOk, None, Some};
+ghost use Rattle.std.specs.Prelude.{◌≡◌, false, option_copied, IfErr, IfOk, None, Some};
 ghost use Rattle.desk_command.specs.Ends as ends;
+ghost use Rattle.desk_command.specs.Lives.{copy_of, desk_of, path_of};
 
+use crate::desk_disk::{desk_disk_at, empty_book};
+use crate::life::{Life, keep_on};
 use crate::page::Page;
 use agree_core::DeskId;
-use cards::MatchSheet;
-use corrections::CheckedBook;
-use desk::restore::Restoring;
-use entry_log::{Disk, Slots};
-use links::{Keys, Link};
-use live::{DeskEnd, LifeEnd, keep_desk};
+use links::Keys;
+use live::{DeskEnd, LifeEnd};
 use machine::{Address, Keyboard, MOST_PEERS, MonotonicClock, Outlet};
-use machine_files::{FileDisk, LastFault, NoFile, WriteFault};
-use setup::{
-    CopiedDisk, Kept, Sealing, StopFault, Stopped, VotesDisk, compared, empty_disk, kept_votes,
-    paired_disk, renewed_disk, short_sheet_at, tell_copies, with_cause, with_copys_cause,
-};
-use station_pages::{Attended, HeldKeys, PageKeys, PageRows, PageSight, ScorersPage};
+use machine_files::{LastFault, WriteFault};
+use setup::{Sealing, StopFault, Stopped, short_sheet_at, with_cause, with_copys_cause};
+use station_pages::{Attended, HeldKeys, PageKeys, PageRows, ScorersPage};
 use station_screens::{DeskScreen, Shared, errors_at, output_at};
 use std::cell::RefCell;
 use std::io::{IsTerminal, Write};
 use std::mem::drop;
 use std::net::SocketAddr;
-use streams::{Sink, Watched};
-use vote_store::Votes;
-
-/// An empty book of the sheet's match.
-fn empty_book(rt: &HostRuntime, sheet: &MatchSheet) -> Result<CheckedBook, Stopped<'static>>
-    ensures { IfOk result (λ book. (book.entries ≡ []) × (book.innings_a_side ≡ sheet.now.innings)) }
-{
-    CheckedBook::new(rt.alloc(), sheet.innings()).map_err(|why| Stopped::at(
-        "-",
-        StopFault::from(why),
-    ))
-}
-
-/// These bytes, unless they aren't the desk's votes, or are no legal book: they are refused as the desk would refuse them
-/// that begins on them. No disk is asked, and the bytes aren't copied.
-fn judged<'a>(
-    rt: &HostRuntime,
-    sheet: &MatchSheet,
-    desk: DeskId,
-    bytes: Vec<u8>,
-    path: &'a str,
-) -> Result<Vec<u8>, Stopped<'a>>
-    ensures same { IfOk result (λ judged. judged.items ≡ bytes.items) }
-{
-    let disk = FileDisk::in_memory(bytes);
-    let restoring = Restoring::new(empty_book(rt, sheet)?);
-    match Votes::<Slots<FileDisk<NoFile>>>::open_with(
-        rt.alloc(),
-        disk,
-        desk,
-        sheet.game(),
-        restoring,
-    ) {
-        Ok((votes, restoring)) => match restoring.end(desk) {
-            Ok(_) => Ok(votes.into_disk().into_bytes()),
-            Err(why) => Err(Stopped::at(path, StopFault::from(why))),
-        },
-        Err((why, _disk)) => Err(Stopped::at(path, StopFault::from(why))),
-    }
-}
-
-/// A disk on this file of the desk's votes, or on a new one. One that has votes is written anew first, so that they are on
-/// the disk whatever became of what was written before; one that is refused stays as it was.
-fn disk_at<'r, 'a>(
-    rt: &'r HostRuntime,
-    sheet: &MatchSheet,
-    desk: DeskId,
-    path: &'a str,
-    last: &'r LastFault,
-) -> Result<VotesDisk<'r>, Stopped<'a>> {
-    let (file, bytes) = kept_votes(rt, path, last)?;
-    if bytes.is_empty() {
-        return empty_disk(rt, path, file);
-    }
-    let bytes = judged(rt, sheet, desk, bytes, path)?;
-    renewed_disk(rt, path, file, bytes.as_slice(), last)
-}
-
-/// One of two files of the desk's votes, which may have no byte, for this process alone. It is refused as one alone is, and
-/// named.
-fn kept_at<'r, 'a>(
-    rt: &'r HostRuntime,
-    sheet: &MatchSheet,
-    desk: DeskId,
-    path: &'a str,
-    last: &'r LastFault,
-) -> Result<Kept<'r, 'a>, Stopped<'a>> {
-    let (file, bytes) = kept_votes(rt, path, last)?;
-    let bytes = if bytes.is_empty() {
-        bytes
-    } else {
-        judged(rt, sheet, desk, bytes, path).map_err(|stopped| stopped.named())?
-    };
-    Ok(Kept {
-        path,
-        file,
-        bytes,
-        last,
-    })
-}
-
-/// A disk on both files of the desk's votes, of which the one that has more counts. Where one of them is refused, or neither
-/// has all votes of the other, both stay as they were.
-fn copied_disk_at<'r, 'a>(
-    rt: &'r HostRuntime,
-    sheet: &MatchSheet,
-    desk: DeskId,
-    paths: [&'a str; 2],
-    lasts: &'r [LastFault; 2],
-) -> Result<CopiedDisk<'r>, Stopped<'a>> {
-    let first = kept_at(rt, sheet, desk, paths[0], &lasts[0])?;
-    let second = kept_at(rt, sheet, desk, paths[1], &lasts[1])?;
-    let counting = compared(first.bytes.as_slice(), second.bytes.as_slice());
-    let _ = tell_copies(&mut rt.stderr(), &first, &second, counting);
-    paired_disk(rt, first, second, counting)
-}
-
-/// The disk of a desk's votes: on its file alone, or on that and its copy.
-#[derive(Drop)]
-enum DeskDisk<'r> {
-    One(VotesDisk<'r>),
-    Two(CopiedDisk<'r>),
-}
-
-/// The disk of a desk's votes, where one file's calls leave why they failed, and the other's.
-fn desk_disk_at<'r, 'a>(
-    rt: &'r HostRuntime,
-    sheet: &MatchSheet,
-    desk: DeskId,
-    file: &'a str,
-    copy: Option<&'a str>,
-    lasts: &'r [LastFault; 2],
-) -> Result<DeskDisk<'r>, Stopped<'a>> {
-    match copy {
-        None => Ok(DeskDisk::One(disk_at(rt, sheet, desk, file, &lasts[0])?)),
-        Some(copy) => Ok(DeskDisk::Two(copied_disk_at(rt, sheet, desk, [file, copy], lasts)?)),
-    }
-}
+use streams::Watched;
 
 /// Why the command ends with a fault, by how its desk's process ended and whether its keyboard failed. Where its scorer
 /// stopped, there is none.
@@ -237,58 +116,6 @@ fn attended<'p, 'r, L>(
     }
 }
 
-/// Keeps the desk's process on this disk, until it ends.
-#[inline(never)]
-fn keep<D: Disk + Drop, L: Link, K: Keys, W: Sink>(
-    rt: &HostRuntime,
-    disk: D,
-    desk: DeskId,
-    book: CheckedBook,
-    sheet: &MatchSheet,
-    link: &mut L,
-    keys: &mut K,
-    out: &mut Watched<W>,
-    page: Option<&RefCell<ScorersPage>>,
-) -> Result<(), LifeEnd>
-    requires { book.entries ≡ [] }
-{
-    let mut clock = MonotonicClock::new(rt);
-    let mut sight = PageSight::new(rt.alloc(), desk, page);
-    keep_desk::<Slots<D>, CheckedBook, _, _, _, _, _>(
-        rt.alloc(),
-        disk,
-        desk,
-        book,
-        sheet,
-        link,
-        keys,
-        &mut clock,
-        out,
-        &mut sight,
-        u64::MAX,
-    )
-}
-
-/// The same, on a desk's file alone or on that and its copy.
-fn keep_on<L: Link, K: Keys, W: Sink>(
-    rt: &HostRuntime,
-    disk: DeskDisk<'_>,
-    desk: DeskId,
-    book: CheckedBook,
-    sheet: &MatchSheet,
-    link: &mut L,
-    keys: &mut K,
-    out: &mut Watched<W>,
-    page: Option<&RefCell<ScorersPage>>,
-) -> Result<(), LifeEnd>
-    requires { book.entries ≡ [] }
-{
-    match disk {
-        DeskDisk::One(disk) => keep(rt, disk, desk, book, sheet, link, keys, out, page),
-        DeskDisk::Two(disk) => keep(rt, disk, desk, book, sheet, link, keys, out, page),
-    }
-}
-
 /// Waits until all that was written to a desk's screen is taken, and tells whether it is. Where a write of it failed, no other
 /// one is made.
 fn is_seen<'s, O: Outlet + Drop, E: Outlet>(
@@ -328,7 +155,11 @@ pub fn start_desk<'a>(
     peers: [Option<SocketAddr>; MOST_PEERS],
     serve: Option<Address<'a>>,
     key: Option<&'a str>,
-) -> Result<bool, Stopped<'a>> {
+) -> Result<Life<'a>, Stopped<'a>>
+    ensures desk { IfOk result (λ life. desk_of life ≡ desk) }
+    ensures file { IfOk result (λ life. path_of life ≡ file.now) }
+    ensures copy { IfOk result (λ life. copy_of life ≡ option_copied copy.entry) }
+{
     let sheet = short_sheet_at(rt, sheet_path)?;
     let sealing = Sealing::of(rt, &sheet, sheet_path, key)?;
     let errors = RefCell::new(errors_at(rt)?);
@@ -348,11 +179,14 @@ pub fn start_desk<'a>(
     let _ = sealing.tell_fingerprints(&mut Shared::of(&errors));
     page.tell(&mut Shared::of(&errors), rt.stderr().is_terminal());
     let (on, by, out) = (&mut link, &mut keys, &mut writer);
-    let ended = keep_on(rt, disk, desk, book, &sheet, on, by, out, scorers);
+    let (ended, life) = keep_on(
+        rt, disk, desk, book, &sheet, on, by, out, scorers, file, copy,
+    );
     drop(link);
     let is_seen = is_seen(writer);
     let keyboard_failed = keys.keys().keyboard().has_failed();
     drop(keys);
     let _ = errors.into_inner().end();
-    answer_of(ended, keyboard_failed, is_seen, file, copy, &lasts)
+    let _ = answer_of(ended, keyboard_failed, is_seen, file, copy, &lasts)?;
+    Ok(life)
 }

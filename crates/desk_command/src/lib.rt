@@ -2,8 +2,11 @@
 #![tactic(auto)]
 
 mod begin;
+mod desk_disk;
 mod key;
+mod life;
 mod page;
 
 pub use crate::begin::start_desk;
 pub use crate::key::{key_text, start_key};
+pub use crate::life::Life;

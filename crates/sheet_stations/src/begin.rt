@@ -1,9 +1,14 @@
 //! A desk or a board that begins with its sheet's table of stations.
 
+ghost use Rattle.std.specs.Prelude.{◌≡◌, IfOk, Some, option_copied};
+ghost use Rattle.desk_command.specs.Lives.{copy_of, desk_of, path_of};
+ghost use Rattle.station_table.specs.Begun as begun;
+ghost use Rattle.toml.specs.View.{table_view};
+
 use agree_core::DeskId;
 use board_command::start_board;
 use cards::SheetFault;
-use desk_command::start_desk;
+use desk_command::{Life, start_desk};
 use machine::{Address, MOST_PEERS, addresses_in};
 use setup::{Stopped, tell_station};
 use station_table::{BoardNames, BoardOptions, DeskOptions, board_begun, desk_begun};
@@ -41,7 +46,9 @@ fn present<'a>(
     sheet: &'a str,
     place: &str,
     text: Option<&'a str>,
-) -> Result<&'a str, Stopped<'a>> {
+) -> Result<&'a str, Stopped<'a>>
+    ensures { IfOk result (λ found. option_copied text.entry ≡ Some found.now) }
+{
     match text {
         Some(text) => Ok(text),
         None => Err(tell_station(rt, sheet, SheetFault::MissingKey, place, "isn't there")),
@@ -132,7 +139,13 @@ pub fn start_desk_of<'a>(
     named: DeskOptions<'a>,
     serve: Option<Address<'a>>,
     table: &'a Table,
-) -> Result<bool, Stopped<'a>> {
+) -> Result<Life<'a>, Stopped<'a>>
+    ensures desk { IfOk result (λ life. desk_of life ≡ desk) }
+    ensures file { IfOk result (λ life.
+        Some (path_of life) ≡ (begun.begun_with desk (begun.desk_of named.entry) (table_view table.now)).file) }
+    ensures copy { IfOk result (λ life.
+        copy_of life ≡ (begun.begun_with desk (begun.desk_of named.entry) (table_view table.now)).copy) }
+{
     let begun = desk_begun(desk, named, table);
     let (at, peers) = addresses_of(rt, sheet, desk, begun)?;
     let file = present(rt, sheet, "stations, votes", begun.file)?;

@@ -1,5 +1,5 @@
 use Rattle.vote_store.proofs.FileLemmas.{file_votes-votes}
-use Rattle.desk_command.proofs.begin.judged.Goals as goal
+use Rattle.desk_command.proofs.desk_disk.judged.Goals as goal
 
 pub end-requires : goal.end-requires
 end-requires c =

@@ -1,0 +1,2 @@
+-- Lemmas on a desk's process.
+mod KeepingLemmas

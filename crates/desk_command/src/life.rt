@@ -1,0 +1,93 @@
+//! The process of a desk on this machine: there is a life of a desk only where its process was kept.
+
+ghost use Rattle.std.specs.Prelude.{◌≡◌, [], option_copied};
+ghost use Rattle.desk_command.specs.Keeping.{LivesOn, WasKept};
+ghost use Rattle.desk_command.specs.OnFiles.{IsOnFiles};
+
+use crate::desk_disk::DeskDisk;
+use agree_core::DeskId;
+use cards::MatchSheet;
+use corrections::CheckedBook;
+use entry_log::{Disk, Slots};
+use links::{Keys, Link};
+use live::{LifeEnd, keep_desk};
+use machine::MonotonicClock;
+use station_pages::{PageSight, ScorersPage};
+use std::cell::RefCell;
+use streams::{Sink, Watched};
+
+/// The life of a desk: its letter, and the paths of its votes file and of its copy, where it has one.
+#[derive(Drop)]
+pub struct Life<'a> {
+    desk: DeskId,
+    file: &'a str,
+    copy: Option<&'a str>,
+    pub ghost kept: { ∥ WasKept desk file.now (option_copied copy) ∥₁ },
+}
+
+/// Keeps the desk's process on this disk, until it ends.
+#[inline(never)]
+fn keep<D: Disk + Drop, L: Link, K: Keys, W: Sink>(
+    rt: &HostRuntime,
+    disk: D,
+    desk: DeskId,
+    book: CheckedBook,
+    sheet: &MatchSheet,
+    link: &mut L,
+    keys: &mut K,
+    out: &mut Watched<W>,
+    page: Option<&RefCell<ScorersPage>>,
+) -> Result<(), LifeEnd>
+    requires empty { book.entries ≡ [] }
+    requires innings { book.innings_a_side ≡ sheet.now.innings }
+    ensures { LivesOn D.seen D.images D.faults D.cap sheet.now desk disk }
+{
+    let mut clock = MonotonicClock::new(rt);
+    let mut sight = PageSight::new(rt.alloc(), desk, page);
+    keep_desk::<Slots<D>, CheckedBook, _, _, _, _, _>(
+        rt.alloc(),
+        disk,
+        desk,
+        book,
+        sheet,
+        link,
+        keys,
+        &mut clock,
+        out,
+        &mut sight,
+        u64::MAX,
+    )
+}
+
+/// The same, on the disk of a desk's file alone or on that of it and its copy.
+pub fn keep_on<'a, L: Link, K: Keys, W: Sink>(
+    rt: &HostRuntime,
+    disk: DeskDisk<'_>,
+    desk: DeskId,
+    book: CheckedBook,
+    sheet: &MatchSheet,
+    link: &mut L,
+    keys: &mut K,
+    out: &mut Watched<W>,
+    page: Option<&RefCell<ScorersPage>>,
+    file: &'a str,
+    copy: Option<&'a str>,
+) -> (Result<(), LifeEnd>, Life<'a>)
+    requires empty { book.entries ≡ [] }
+    requires innings { book.innings_a_side ≡ sheet.now.innings }
+    requires on { IsOnFiles file.now (option_copied copy) disk }
+    ensures desk { result.1.desk ≡ desk }
+    ensures file { result.1.file.now ≡ file.now }
+    ensures copy { option_copied result.1.copy ≡ option_copied copy.entry }
+{
+    match disk {
+        DeskDisk::One(disk) => {
+            let ended = keep(rt, disk, desk, book, sheet, link, keys, out, page);
+            (ended, Life { desk, file, copy })
+        }
+        DeskDisk::Two(disk) => {
+            let ended = keep(rt, disk, desk, book, sheet, link, keys, out, page);
+            (ended, Life { desk, file, copy })
+        }
+    }
+}
