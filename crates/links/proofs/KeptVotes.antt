@@ -1,11 +1,13 @@
 -- What a map keeps.
-use Rattle.std.proofs.Common.{◌≡◌, ◌⊎◌, ◌<◌, ℕ, zero, suc, List, [], ◌∷◌, length, slice_index_or, Result, Ok, Err, OnOk, Ordering, Less, Equal, Greater, arith, sym, subst, inl, inr, ⊎_elim}
-use Rattle.std.specs.Prelude.{OnErr}
+use Rattle.std.proofs.Common.{◌≡◌, ◌⊎◌, ◌<◌, ◌+◌, ℕ, zero, suc, true, false, List, [], ◌∷◌, length, slice_index_or, Option, Some, None, Result, Ok, Err, OnOk, IfOk}
+use Rattle.std.proofs.Common.{Ordering, Less, Equal, Greater, arith, sym, subst, ap, ◌∙◌, inl, inr, ⊎_elim}
+use Rattle.std.specs.Prelude.{OnErr, if◌then◌else◌, is_ok, is_some}
 use Rattle.std.specs.List.{IsAmong}
+use Rattle.std.proofs.lemmas.List.{length-map}
 use Rattle.std.specs.Ordering.{match_ordering}
 use Rattle.std.specs.Map.{values_of}
 use Rattle.std.specs.BTreeMap.{insert_entry}
-use Rattle.links.specs.Windows.{AreOfOr, Has}
+use Rattle.links.specs.Windows.{AreOfOr, Has, HasMore}
 
 by_order : {K X : Type 0} (k : K) (v : X) (e : K × X) (es rest : List (K × X)) (x : X)
     → (Has (values_of rest) x → Has (values_of es) x ⊎ (v ≡ x))
@@ -36,3 +38,10 @@ at_index (y ∷ ys) x (suc i) lt e = inr (at_index ys x i (omega (arith, lt)) e)
 
 pub is_one : {X : Type 0} (xs : List X) (x : X) → IsAmong xs x → Has xs x
 is_one xs x among = at_index xs x among.0 among.1.0 among.1.1
+
+-- a new key is one more
+pub one_more : {K X Y : Type 0} (old new : List (K × X)) (r : Result (Option X) Y) (was : Option X) → IfOk r (λ o. o ≡ was)
+    → IfOk r (λ o. length new ≡ length old + (if is_some o then 0 else 1)) → is_some was ≡ false → is_ok r ≡ true → HasMore (values_of old) (values_of new)
+one_more old new (Ok (Some x)) was same len none ok = let e : is_some (Some x) ≡ false = ap is_some same ∙ none in absurd (cc)
+one_more old new (Ok None) was same len none ok = omega (arith, len, length-map old (λ e. e.1), length-map new (λ e. e.1))
+one_more old new (Err y) was same len none ok = absurd (cc)

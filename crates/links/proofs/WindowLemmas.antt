@@ -1,9 +1,9 @@
 -- What passes at a window.
-use Rattle.std.proofs.Common.{◌≡◌, ◌⊎◌, ℕ, Option, Some, List, [], ◌∷◌, ◌++◌, refl, sym, subst, inl, inr, ⊎_elim}
+use Rattle.std.proofs.Common.{◌≡◌, ◌⊎◌, ℕ, Option, Some, List, [], ◌∷◌, ◌++◌, append-nil, append_assoc, refl, sym, ap, ◌∙◌, subst, inl, inr, ⊎_elim}
 use Rattle.std.specs.Prelude.{IfSome, ◌≤◌, take}
 use Rattle.links.specs.Passed.{Passed, Sent, Came, IsTaken}
 use Rattle.links.specs.declared.link.{Receivers.Receivers, Taken.Taken}
-use Rattle.links.specs.Windows.{AreOf, Has, IsAsk, IsBrought, IsFaithful, IsHanded, IsWindow, Windowed}
+use Rattle.links.specs.Windows.{AreOf, BringsVote, Has, HasAsked, HasSince, IsAsk, IsBrought, IsFaithful, IsGrown, IsHanded, IsQuietOrAsks, IsQuietUntilNews, IsStill, IsWindow, Windowed}
 
 pub has_more : {X : Type 0} (log more : List X) (p : X) → Has log p → Has (log ++ more) p
 has_more [] more p h = absurd h
@@ -228,3 +228,72 @@ hears {game} {above} {below} {new} {votes} {kept} {asked} taken buffer t v w =
       kept = λ m h. ⊎_elim (k.kept m)
           (λ d. subst (λ (l : List ℕ). IsBrought game new l) d.1 (taken_brought game below new taken buffer t 48 d.0).1) (v m h);
     }
+
+-- what comes behind
+pub grown_none : {X : Type 0} {old new : List X} → new ≡ old → IsGrown old new
+grown_none {X} {old} e = record { more = []; is = e ∙ sym (append-nil old) }
+
+pub grown_by : {X : Type 0} (old : List X) {new : List X} (more : List X) → new ≡ old ++ more → IsGrown old new
+grown_by old more e = record { more = more; is = e }
+
+pub grown_twice : {X : Type 0} {old mid new : List X} → IsGrown old mid → IsGrown mid new → IsGrown old new
+grown_twice {X} {old} g h = record {
+  more = g.more ++ h.more;
+  is = h.is ∙ (ap (λ (l : List X). l ++ h.more) g.is ∙ append_assoc old g.more h.more);
+}
+
+pub grown_taken : (taken : Taken) (buffer : List ℕ) (below : List Passed) {new : List Passed} → IsTaken taken buffer below new → IsGrown below new
+grown_taken (Taken.Datagram count) buffer below h = grown_by below _ h.1
+grown_taken Taken.Nothing buffer below h = grown_none h
+grown_taken Taken.Lost buffer below h = grown_none h
+grown_taken Taken.Unopened buffer below h = grown_none h
+
+pub since_now : {X : Type 0} (old : List X) {new : List X} (x : X) → new ≡ old ++ x ∷ [] → HasSince old new x
+since_now old x e = record { more = x ∷ []; is = e; has = inl refl }
+
+since_more : {X : Type 0} {old mid new : List X} {x : X} → HasSince old mid x → IsGrown mid new → HasSince old new x
+since_more {X} {old} {mid} {new} {x} h g = record {
+  more = h.more ++ g.more;
+  is = g.is ∙ (ap (λ (l : List X). l ++ g.more) h.is ∙ append_assoc old h.more g.more);
+  has = has_more h.more g.more x h.has;
+}
+
+has_behind : {X : Type 0} (front log : List X) (x : X) → Has log x → Has (front ++ log) x
+has_behind [] log x h = h
+has_behind (y ∷ front) log x h = inr (has_behind front log x h)
+
+since_before : {X : Type 0} {old mid new : List X} {x : X} → IsGrown old mid → HasSince mid new x → HasSince old new x
+since_before {X} {old} {mid} {new} {x} g h = record {
+  more = g.more ++ h.more;
+  is = h.is ∙ (ap (λ (l : List X). l ++ h.more) g.is ∙ append_assoc old g.more h.more);
+  has = has_behind g.more h.more x h.has;
+}
+
+-- what is sent through a value that is open
+pub grown_in : {w v : Windowed} {new : List Passed} → v ≡ w → IsGrown v.below new → IsGrown w.below new
+grown_in {w} {v} {new} e g = subst (λ (x : Windowed). IsGrown x.below new) e g
+
+-- a window that stays is the same
+pub same_window : (w v : Windowed) → IsStill w v → v.below ≡ w.below → v ≡ w
+same_window w v s b = λ i. record { game = s.0.0 i; above = s.0.1 i; below = b i; kept = s.1 i; readings = s.2 i; quiet_since = s.3 i }
+
+-- an ask was said, and more was asked for
+pub asked_more : (now : ℕ) (w a v : Windowed) → IsQuietOrAsks now w a → v.quiet_since ≡ a.quiet_since → IsGrown a.below v.below
+    → (v.quiet_since ≡ w.quiet_since) ⊎ ((v.quiet_since ≡ now) × HasAsked w v)
+asked_more now w a v (inl e) s g = inl (s ∙ e)
+asked_more now w a v (inr q) s g = inr (s ∙ q.0, (q.1.0, q.1.1, since_more (since_now w.below _ q.1.2) g))
+
+-- a window at a time, once it has asked for what is due, and then with what its link brings
+module _ (taken : Taken) (buffer : List ℕ) (now : ℕ) (w d v : Windowed) (read : d.readings ≡ w.readings ++ now ∷ []) where
+  pub until_news : (d.game ≡ w.game) → (d.kept ≡ w.kept) → (d.quiet_since ≡ w.quiet_since) ⊎ ((d.quiet_since ≡ now) × HasAsked w d)
+      → IsGrown d.below v.below → IsGrown d.readings v.readings
+      → (v.quiet_since ≡ d.quiet_since) ⊎ (HasSince d.readings v.readings v.quiet_since × BringsVote taken buffer d v)
+      → IsQuietUntilNews taken buffer w v
+  until_news game kept (inl e) g r (inl s) = inl (s ∙ e)
+  until_news game kept (inr q) g r (inl s) =
+      inr (subst (HasSince w.readings v.readings) (sym (s ∙ q.0)) (since_more (since_now w.readings now read) r), inl (q.1.0, q.1.1, since_more q.1.2 g))
+  until_news game kept due g r (inr n) =
+      inr (
+        since_before (grown_by w.readings _ read) n.0,
+        inr (subst (λ (k : ℕ). BringsVote taken buffer (record w { game = k }) v) game (subst (λ (l : List (List ℕ)). BringsVote taken buffer (record d { kept = l }) v) kept n.1)),
+      )

@@ -1,19 +1,34 @@
 -- What a window gives and hands down: what its link gave and what it was handed, and asks that it makes up; and when it
 -- hands an ask of its station's down.
-use Rattle.std.specs.Prelude.{◌≡◌, ◌⊎◌, ◌≤◌, ◌+◌, ℕ, Bool, true, false, List, [], ◌∷◌, ◌++◌, Option, IfSome}
+use Rattle.std.specs.Prelude.{◌≡◌, ◌⊎◌, ◌≤◌, ◌<◌, ◌+◌, ℕ, Bool, true, false, List, [], ◌∷◌, ◌++◌, length, take, Option, IfSome}
 use Rattle.agree_core.specs.declared.messages.{Ask.Ask, Asker.Asker, DeskId.DeskId, Message.Message, Vote.Vote}
 use Rattle.agree_core.specs.declared.position.Position.{Position}
 use Rattle.agree_core.specs.Positions.{position_of}
 use Rattle.waits.specs.declared.times.TheConstants.{LONGEST_ASK_PAUSE}
 use Rattle.wire.specs.Layout.{Says, is_at, written}
 use Rattle.links.specs.Passed.{Passed, Sent, Came}
-use Rattle.links.specs.declared.link.Receivers.{Receivers}
+use Rattle.links.specs.declared.link.{Receivers.Receivers, Taken.Taken}
 use Rattle.links.specs.declared.link.Receivers.TheVariants.{ToAll}
 
 -- it is in the list
 abbrev pub Has : {X : Type 0} → List X → X → Type 0
 Has [] x = ⊥
 Has (y ∷ ys) x = (y ≡ x) ⊎ Has ys x
+
+-- the new list is the old one and what came behind it
+pub record IsGrown {X : Type 0} (old new : List X) : Type 0 where
+  pub more : List X
+  pub is : new ≡ old ++ more
+
+-- it is in the new list behind the old one
+pub record HasSince {X : Type 0} (old new : List X) (x : X) : Type 0 where
+  pub more : List X
+  pub is : new ≡ old ++ more
+  pub has : Has more x
+
+-- there are more of these than there were
+abbrev pub HasMore : {X : Type 0} → List X → List X → Type 0
+HasMore old new = length old < length new
 
 -- each of these is one of those
 abbrev pub AreOf : {X : Type 0} → List X → List X → Type 0
@@ -96,9 +111,36 @@ pub record AsksInTime (m : List ℕ) (w v : Windowed) : Type 0 where
       → HandsDown ToAll m w v ⊎ HasAnswers w.game v.kept q
   pub quiet : IsQuietOrAsks now w v
 
+-- what is taken is a vote of this match
+abbrev pub GivesVote : ℕ → Taken → List ℕ → Type 0
+GivesVote game taken buffer = (taken ≡ Taken.Datagram 48) × IsVote game (take 48 buffer)
+
+-- in a call a window gave a vote of the match, or keeps more votes back
+abbrev pub BringsVote : Taken → List ℕ → Windowed → Windowed → Type 0
+BringsVote taken buffer w v = GivesVote w.game taken buffer ⊎ HasMore w.kept v.kept
+
+-- in a call a window handed an ask of the match down to all
+abbrev pub HasAsked : Windowed → Windowed → Type 0
+HasAsked w v = (m : List ℕ) × IsAsk w.game m × HasSince w.below v.below (Sent ToAll m)
+
+-- what ends a window's quiet in a call: it handed an ask of the match down to all, or such a vote came
+abbrev pub BringsNews : Taken → List ℕ → Windowed → Windowed → Type 0
+BringsNews taken buffer w v = HasAsked w v ⊎ BringsVote taken buffer w v
+
+-- a window is as quiet as it was, but in a call in which something new came, when its clock showed this
+abbrev pub IsQuietUntilNews : Taken → List ℕ → Windowed → Windowed → Type 0
+IsQuietUntilNews taken buffer w v =
+    (v.quiet_since ≡ w.quiet_since)
+    ⊎ (HasSince w.readings v.readings v.quiet_since × BringsNews taken buffer w v)
+
 -- the match and what passed at the window stay
 abbrev pub IsKept : Windowed → Windowed → Type 0
 IsKept w v = (v.game ≡ w.game) × (v.above ≡ w.above)
+
+-- all stays but what passed at the link
+abbrev pub IsStill : Windowed → Windowed → Type 0
+IsStill w v =
+    IsKept w v × (v.kept ≡ w.kept) × (v.readings ≡ w.readings) × (v.quiet_since ≡ w.quiet_since)
 
 -- a faithful window: of a match, what passed at it and at the link below it, the votes that it keeps back and the ask that
 -- it says again

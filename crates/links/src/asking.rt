@@ -1,6 +1,6 @@
 //! When a station's ask is said, and said again.
 
-ghost use Rattle.std.specs.Prelude.{◌≡◌, ◌≤◌, ◌+◌, ◌⊎◌, None, Some, true};
+ghost use Rattle.std.specs.Prelude.{◌≡◌, ◌≤◌, ◌+◌, ◌⊎◌, IsSome, None, Some, true};
 ghost use Rattle.waits.specs.declared.times.TheConstants.{LONGEST_ASK_PAUSE};
 
 use agree_core::{DeskId, Position};
@@ -79,7 +79,8 @@ impl Asking {
 
     /// A vote that was lacking came: more may come.
     pub fn follow(&mut self, now: u64)
-        ensures { self.new.bytes ≡ self.old.bytes }
+        ensures bytes { self.new.bytes ≡ self.old.bytes }
+        ensures last { self.new.last ≡ now }
     {
         self.last = now;
         self.tries = 0;
@@ -145,15 +146,18 @@ impl Asking {
     pub fn say_again(&mut self, now: u64) -> Option<[u8; 48]>
         ensures stays { self.new.bytes ≡ self.old.bytes }
         ensures value { result ≡ self.new.bytes }
+        ensures last { (self.new.last ≡ self.old.last) ⊎ ((self.new.last ≡ now) × IsSome result) }
     {
+        let bytes = self.bytes?;
         self.say(now);
-        self.bytes
+        Some(bytes)
     }
 
     /// The ask, to be said where its answer was lost.
     pub fn try_again(&mut self) -> Option<[u8; 48]>
         ensures stays { self.new.bytes ≡ self.old.bytes }
         ensures value { result ≡ self.new.bytes }
+        ensures last { self.new.last ≡ self.old.last }
     {
         self.tries = self.tries.saturating_add(1);
         self.bytes
@@ -161,7 +165,8 @@ impl Asking {
 
     /// Notes that this desk's vote of the position came, and answers whether it is the first of it.
     fn is_news(&mut self, desk: DeskId) -> bool
-        ensures { self.new.bytes ≡ self.old.bytes }
+        ensures bytes { self.new.bytes ≡ self.old.bytes }
+        ensures last { self.new.last ≡ self.old.last }
     {
         match desk {
             DeskId::A => !mem::replace(&mut self.has_a, true),
@@ -171,7 +176,8 @@ impl Asking {
 
     /// A vote of this desk for this position came: an answer, if it was asked for.
     pub fn hear(&mut self, desk: DeskId, at: Position, now: u64)
-        ensures { self.new.bytes ≡ self.old.bytes }
+        ensures bytes { self.new.bytes ≡ self.old.bytes }
+        ensures last { (self.new.last ≡ self.old.last) ⊎ (self.new.last ≡ now) }
     {
         if at != self.at || !self.is_news(desk) {
             return;

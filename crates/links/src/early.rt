@@ -1,9 +1,9 @@
 //! Votes that came before the station was there.
 
-ghost use Rattle.std.specs.Prelude.{◌≡◌, [], IfSome, true};
+ghost use Rattle.std.specs.Prelude.{◌≡◌, ◌↔◌, [], IfNone, IfSome, IsTrue, true};
 ghost use Rattle.std.specs.BTreeMap.{values};
 ghost use Rattle.agree_core.specs.declared.messages.DeskId.{DeskId as ADesk};
-ghost use Rattle.links.specs.Windows.{AreOf, AreOfOr, Has, HasVote, hears as is_heard};
+ghost use Rattle.links.specs.Windows.{AreOf, AreOfOr, Has, HasMore, HasVote, hears as is_heard};
 
 use crate::catch_up::PLACES_AHEAD;
 use agree_core::{Asker, DeskId, Message, Position, Vote};
@@ -50,7 +50,9 @@ impl EarlyVotes {
     }
 
     /// Whether there is none.
-    pub fn is_empty(&self) -> bool {
+    pub fn is_empty(&self) -> bool
+        ensures { IsTrue result ↔ (values self.now.votes ≡ []) }
+    {
         self.votes.is_empty()
     }
 
@@ -92,10 +94,11 @@ impl EarlyVotes {
         self.at.is_before(at) && at.place.saturating_sub(self.at.place) <= PLACES_AHEAD
     }
 
-    /// Keeps a vote that came early, unless it is here, and answers whether it was lacking. Where there is no room for it, it
-    /// is lost.
+    /// Keeps a vote that came early, unless it is here, and answers whether it is kept now and wasn't. Where there is no room
+    /// for it, it is lost.
     pub fn keep(&mut self, vote: &Vote, bytes: &[u8; 48]) -> bool
-        ensures { AreOfOr bytes.now (values self.new.votes) (values self.old.votes) }
+        ensures kept { AreOfOr bytes.now (values self.new.votes) (values self.old.votes) }
+        ensures more { result ≡ true → HasMore (values self.old.votes) (values self.new.votes) }
     {
         let at = vote.position();
         let desk = vote.desk.number();
@@ -103,14 +106,14 @@ impl EarlyVotes {
         if self.votes.len() >= MOST_KEPT || self.votes.contains_key(&ballot) {
             return false;
         }
-        let _ = self.votes.insert(ballot, *bytes);
-        true
+        self.votes.insert(ballot, *bytes).is_ok()
     }
 
     /// Takes a vote that was kept for the station's position.
     pub fn take(&mut self) -> Option<[u8; 48]>
         ensures given { IfSome result (Has (values self.old.votes)) }
         ensures kept { AreOf (values self.new.votes) (values self.old.votes) }
+        ensures none { IfNone result (values self.new.votes ≡ values self.old.votes) }
     {
         let (ballot, _) = self.votes.first_key_value()?;
         if self.at.is_before(ballot.at) {

@@ -1,11 +1,11 @@
 //! What a window knows by what came and what its station said.
 
-ghost use Rattle.std.specs.Prelude.{◌≡◌, ◌⊎◌, ◌≤◌, ◌+◌, ℕ, List, None, Some, [], take, true};
+ghost use Rattle.std.specs.Prelude.{◌≡◌, ◌⊎◌, ◌≤◌, ◌+◌, ℕ, List, IsSome, None, Some, [], take, true};
 ghost use Rattle.std.specs.BTreeMap.{values};
 ghost use Rattle.agree_core.specs.declared.messages.Ask.{Ask as AnAsk};
 ghost use Rattle.waits.specs.declared.times.TheConstants.{LONGEST_ASK_PAUSE};
 ghost use Rattle.wire.specs.Layout.{Says};
-ghost use Rattle.links.specs.Windows.{AreOf, AreOfOr, Has, HasAnswers, IsAsk, IsVote};
+ghost use Rattle.links.specs.Windows.{AreOf, AreOfOr, Has, GivesVote, HasAnswers, HasMore, IsAsk, IsVote};
 ghost use Rattle.links.specs.declared.link.Taken.{Taken};
 
 use crate::asking::Asking;
@@ -111,9 +111,11 @@ impl Known {
 
     /// The station's ask, to be said now, or, where later votes are here, to be said for what was lost.
     pub fn say_again(&mut self, now: u64) -> Option<[u8; 48]>
-        ensures votes { AreOf (values self.new.early.votes) (values self.old.early.votes) }
+        ensures votes { self.new.early ≡ self.old.early }
         ensures stays { self.new.asking.bytes ≡ self.old.asking.bytes }
         ensures value { result ≡ self.new.asking.bytes }
+        ensures last { (self.new.asking.last ≡ self.old.asking.last)
+            ⊎ ((self.new.asking.last ≡ now) × IsSome result × (values self.old.early.votes ≡ [])) }
     {
         if self.early.is_empty() {
             return self.asking.say_again(now);
@@ -198,6 +200,8 @@ impl Known {
     fn is_for_now(&mut self, vote: &Vote, bytes: &[u8; 48], peer: usize, now: u64) -> bool
         ensures votes { AreOfOr bytes.now (values self.new.early.votes) (values self.old.early.votes) }
         ensures asked { self.new.asking.bytes ≡ self.old.asking.bytes }
+        ensures last { (self.new.asking.last ≡ self.old.asking.last) ⊎ ((self.new.asking.last ≡ now)
+            × ((result ≡ true) ⊎ HasMore (values self.old.early.votes) (values self.new.early.votes))) }
     {
         if !hears(self.from, vote.desk) {
             return true;
@@ -218,6 +222,8 @@ impl Known {
     fn hear_message(&mut self, game: u64, bytes: &[u8; 48], peer: usize, now: u64) -> bool
         ensures votes { AreOfOr bytes.now (values self.new.early.votes) (values self.old.early.votes) }
         ensures asked { self.new.asking.bytes ≡ self.old.asking.bytes }
+        ensures last { (self.new.asking.last ≡ self.old.asking.last) ⊎ ((self.new.asking.last ≡ now)
+            × (((result ≡ true) × IsVote game bytes.now) ⊎ HasMore (values self.old.early.votes) (values self.new.early.votes))) }
     {
         match message_of(game, bytes.as_slice()) {
             Ok(Message::Vote(vote)) => self.is_for_now(&vote, bytes, peer, now),
@@ -245,6 +251,8 @@ impl Known {
         ensures votes { (m : List ℕ) → Has (values self.new.early.votes) m
             → Has (values self.old.early.votes) m ⊎ ((taken ≡ Taken.Datagram 48) × (take 48 buffer.now ≡ m)) }
         ensures asked { self.new.asking.bytes ≡ self.old.asking.bytes }
+        ensures last { (self.new.asking.last ≡ self.old.asking.last) ⊎ ((self.new.asking.last ≡ now)
+            × (GivesVote game result buffer.now ⊎ HasMore (values self.old.early.votes) (values self.new.early.votes))) }
     {
         if taken != Taken::Datagram(SIZE) {
             return taken;

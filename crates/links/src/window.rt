@@ -79,7 +79,8 @@ impl<L: PeerLink, C: Clock> Window<L, C> {
     ghost use Rattle.std.specs.Prelude.{◌≡◌, ◌≤◌, ◌⊎◌, ℕ, List, [], IfSome, take, true};
     ghost use Rattle.agree_core.specs.declared.messages.Ask.{Ask as AnAsk};
     ghost use Rattle.wire.specs.Layout.{Says};
-    ghost use Rattle.links.specs.Windows.{HandsDown, HasAnswers, IsAsk, IsBrought, IsHanded, IsKept, IsQuietAt, IsVote};
+    ghost use Rattle.links.specs.Windows.{BringsVote, HandsDown, HasAnswers, HasAsked, HasSince, IsAsk, IsBrought, IsGrown, IsHanded, IsKept, IsQuietAt};
+    ghost use Rattle.links.specs.Windows.{IsQuietOrAsks, IsQuietUntilNews, IsStill, IsVote};
     ghost use Rattle.links.specs.declared.link.Receivers.TheVariants.{ToAll, ToOne};
 
     /// A window over a link, in the match of this number.
@@ -119,10 +120,8 @@ impl<L: PeerLink, C: Clock> Window<L, C> {
     /// Hands a message to all.
     fn say(&mut self, bytes: &[u8; 48], now: u64)
         requires { IsHanded self.old.game self.old.above ToAll bytes.now }
-        ensures kept { IsKept self.old self.new }
+        ensures still { IsStill self.old self.new }
         ensures said { HandsDown ToAll bytes.now self.old self.new }
-        ensures readings { self.new.readings ≡ self.old.readings }
-        ensures quiet { self.new.quiet_since ≡ self.old.quiet_since }
     {
         self.link.send(bytes);
         self.silence.end(now);
@@ -131,7 +130,8 @@ impl<L: PeerLink, C: Clock> Window<L, C> {
     /// Asks for the votes of the station's position, where it has said nothing for two seconds: so others hear that it is
     /// there, also while it has nothing to say unasked.
     fn break_silence(&mut self, now: u64)
-        ensures kept { IsKept self.old self.new }
+        ensures still { IsStill self.old self.new }
+        ensures grown { IsGrown self.old.below self.new.below }
     {
         if self.silence.is_long(now) {
             let at = self.known.early.position();
@@ -144,7 +144,8 @@ impl<L: PeerLink, C: Clock> Window<L, C> {
     /// Sends an ask to who sent this desk's votes last, or to all.
     fn send_to_voter(&mut self, desk: DeskId, bytes: &[u8; 48])
         requires { IsAsk self.old.game bytes.now }
-        ensures kept { IsKept self.old self.new }
+        ensures still { IsStill self.old self.new }
+        ensures grown { IsGrown self.old.below self.new.below }
     {
         match self.known.voter(desk) {
             Some(peer) => self.link.send_to(peer, bytes),
@@ -154,7 +155,8 @@ impl<L: PeerLink, C: Clock> Window<L, C> {
 
     /// Asks a desk for its vote of a place, in its first round.
     fn ask_for_vote(&mut self, desk: DeskId, place: u32)
-        ensures kept { IsKept self.old self.new }
+        ensures still { IsStill self.old self.new }
+        ensures grown { IsGrown self.old.below self.new.below }
     {
         if let Some(bytes) = ask_for(self.game, self.known.from, Position { place, round: 0 }) {
             self.send_to_voter(desk, &bytes);
@@ -164,7 +166,7 @@ impl<L: PeerLink, C: Clock> Window<L, C> {
     /// Asks a desk for its votes that are lacking of the places from the one on to before the other, of one block. Where many on
     /// end are, the first stands for them.
     fn ask_block(&mut self, desk: DeskId, from: u32, end: u32)
-        ensures kept { IsKept self.old self.new }
+        ensures still { IsStill self.old self.new }
     {
         let mut is_asked = false;
         for place in from..end {
@@ -180,7 +182,7 @@ impl<L: PeerLink, C: Clock> Window<L, C> {
     /// Asks a desk for what was lost of it: the vote of the station's position, and those of the places behind it.
     fn ask_desk(&mut self, desk: DeskId, bytes: &[u8; 48], is_silent: bool)
         requires { IsAsk self.old.game bytes.now }
-        ensures kept { IsKept self.old self.new }
+        ensures still { IsStill self.old self.new }
     {
         let end = self.known.lost_until(desk, is_silent);
         let mut from = self.known.early.position().place;
@@ -201,7 +203,8 @@ impl<L: PeerLink, C: Clock> Window<L, C> {
     /// Hands the station's ask to all, or, where later votes are here, asks each desk for what was lost of it.
     fn ask(&mut self, bytes: &[u8; 48], is_silent: bool)
         requires { IsAsk self.old.game bytes.now }
-        ensures kept { IsKept self.old self.new }
+        ensures still { IsStill self.old self.new }
+        ensures said { self.old.kept ≡ [] → HandsDown ToAll bytes.now self.old self.new }
     {
         if self.known.early.is_empty() {
             self.link.send(bytes);
@@ -218,6 +221,9 @@ impl<L: PeerLink, C: Clock> Window<L, C> {
     /// Says the station's ask once more.
     fn say_again(&mut self, now: u64)
         ensures kept { IsKept self.old self.new }
+        ensures votes { self.new.kept ≡ self.old.kept }
+        ensures readings { self.new.readings ≡ self.old.readings }
+        ensures quiet { IsQuietOrAsks now self.old self.new }
     {
         let is_silent = self.known.is_silent(now);
         if let Some(bytes) = self.known.say_again(now) {
@@ -229,6 +235,9 @@ impl<L: PeerLink, C: Clock> Window<L, C> {
     /// Says the station's ask, where that is due. It answers how long a datagram is waited for.
     fn ask_again(&mut self, wait: u64, now: u64) -> u64
         ensures kept { IsKept self.old self.new }
+        ensures votes { self.new.kept ≡ self.old.kept }
+        ensures readings { self.new.readings ≡ self.old.readings }
+        ensures quiet { IsQuietOrAsks now self.old self.new }
     {
         if self.known.may_ask_again() && self.known.left(now) == 0 {
             self.say_again(now);
@@ -240,25 +249,32 @@ impl<L: PeerLink, C: Clock> Window<L, C> {
         }
     }
 
+    /// Asks a desk for its vote of a place, in its first round, where the station hears it.
+    fn ask_where_heard(&mut self, desk: DeskId, place: u32)
+        ensures still { IsStill self.old self.new }
+        ensures grown { IsGrown self.old.below self.new.below }
+    {
+        if hears(self.known.from, desk) {
+            self.ask_for_vote(desk, place);
+        }
+    }
+
     /// Asks for the next block ahead, where it is time for it.
     fn ask_ahead(&mut self)
-        ensures kept { IsKept self.old self.new }
+        ensures still { IsStill self.old self.new }
+        ensures grown { IsGrown self.old.below self.new.below }
     {
-        let Some(place) = self.known.next_block() else {
-            return;
-        };
-        if hears(self.known.from, DeskId::A) {
-            self.ask_for_vote(DeskId::A, place);
-        }
-        if hears(self.known.from, DeskId::B) {
-            self.ask_for_vote(DeskId::B, place);
+        if let Some(place) = self.known.next_block() {
+            self.ask_where_heard(DeskId::A, place);
+            self.ask_where_heard(DeskId::B, place);
         }
     }
 
     /// The next datagram is to be given. Where the last one was an ask that was made up and brought no reply, its peer's
     /// window ends.
     fn begin_take(&mut self)
-        ensures kept { IsKept self.old self.new }
+        ensures still { IsStill self.old self.new }
+        ensures below { self.new.below ≡ self.old.below }
     {
         if let Given::MadeUp(peer) = self.known.given {
             self.company.close(peer);
@@ -269,7 +285,8 @@ impl<L: PeerLink, C: Clock> Window<L, C> {
     /// The next ask that is made up, where one is. It is as of a board, whoever the peer is, so that no desk passes for heard
     /// by it.
     fn made_up(&mut self) -> Option<[u8; 48]>
-        ensures kept { IsKept self.old self.new }
+        ensures still { IsStill self.old self.new }
+        ensures below { self.new.below ≡ self.old.below }
         ensures ask { IfSome result (IsAsk self.new.game) }
     {
         let (peer, place) = self.company.next()?;
@@ -280,6 +297,11 @@ impl<L: PeerLink, C: Clock> Window<L, C> {
     /// What the link gives. A vote that comes early is lost for now.
     fn brought(&mut self, buffer: &mut [u8; 64], wait: u64) -> Taken
         ensures kept { IsKept self.old self.new }
+        ensures grown { IsGrown self.old.below self.new.below }
+        ensures read { IsGrown self.old.readings self.new.readings }
+        ensures quiet { (self.new.quiet_since ≡ self.old.quiet_since)
+            ⊎ (HasSince self.old.readings self.new.readings self.new.quiet_since
+            × BringsVote result buffer.new self.old self.new) }
         ensures brought { (count : ℕ) → result ≡ Taken.Datagram count
             → (count ≤ 64) × IsBrought self.new.game self.new.below (take count buffer.new) }
     {
@@ -289,9 +311,36 @@ impl<L: PeerLink, C: Clock> Window<L, C> {
         self.known.hear(self.game, taken, buffer, peer, now)
     }
 
+    /// Asks for what it is time for. It answers how long a datagram is waited for.
+    fn ask_what_is_due(&mut self, wait: u64, now: u64) -> u64
+        ensures kept { IsKept self.old self.new }
+        ensures votes { self.new.kept ≡ self.old.kept }
+        ensures readings { self.new.readings ≡ self.old.readings }
+        ensures quiet { (self.new.quiet_since ≡ self.old.quiet_since)
+            ⊎ ((self.new.quiet_since ≡ now) × HasAsked self.old self.new) }
+    {
+        let wait = self.ask_again(wait, now);
+        self.ask_ahead();
+        self.break_silence(now);
+        wait
+    }
+
+    /// What the link brings, once what it is time for is asked for.
+    fn fetch(&mut self, buffer: &mut [u8; 64], wait: u64) -> Taken
+        ensures kept { IsKept self.old self.new }
+        ensures brought { (count : ℕ) → result ≡ Taken.Datagram count
+            → (count ≤ 64) × IsBrought self.new.game self.new.below (take count buffer.new) }
+        ensures quiet { IsQuietUntilNews result buffer.new self.old self.new }
+    {
+        let now = self.clock.millis();
+        let wait = self.ask_what_is_due(wait, now);
+        self.brought(buffer, wait)
+    }
+
     /// The next datagram: a vote that was kept for the station's position, an ask that is made up, or what the link brings.
     fn next(&mut self, buffer: &mut [u8; 64], wait: u64) -> Taken
         ensures kept { IsKept self.old self.new }
+        ensures quiet { IsQuietUntilNews result buffer.new self.old self.new }
         ensures brought { (count : ℕ) → result ≡ Taken.Datagram count
             → (count ≤ 64) × IsBrought self.new.game self.new.below (take count buffer.new) }
     {
@@ -304,11 +353,7 @@ impl<L: PeerLink, C: Clock> Window<L, C> {
             put(&bytes, buffer);
             return Taken::Datagram(48);
         }
-        let now = self.clock.millis();
-        let wait = self.ask_again(wait, now);
-        self.ask_ahead();
-        self.break_silence(now);
-        self.brought(buffer, wait)
+        self.fetch(buffer, wait)
     }
 
     /// Hands a reply to who asked.
@@ -346,8 +391,8 @@ impl<L: PeerLink, C: Clock> Window<L, C> {
 
 impl<L: PeerLink, C: Clock> Link for Window<L, C> {
     ghost use Rattle.std.specs.Prelude.{◌≡◌, ◌∷◌, ◌++◌, []};
-    ghost use Rattle.links.specs.Passed.{Sent};
-    ghost use Rattle.links.specs.Windows.{AsksInTime, HandsDown, IsVote};
+    ghost use Rattle.links.specs.Passed.{IsTaken, Sent};
+    ghost use Rattle.links.specs.Windows.{AsksInTime, HandsDown, IsQuietUntilNews, IsVote};
     ghost use Rattle.links.specs.declared.link.Receivers.TheVariants.{ToAll, ToOne};
 
     ghost log = { λ window. window.above };
@@ -376,7 +421,11 @@ impl<L: PeerLink, C: Clock> Link for Window<L, C> {
         self.note_reply(bytes);
     }
 
-    fn take(&mut self, buffer: &mut [u8; 64], wait: u64) -> Taken {
+    // it is quiet until something new comes
+    fn take(&mut self, buffer: &mut [u8; 64], wait: u64) -> Taken
+        ensures log { IsTaken result buffer.new self.old.above self.new.above }
+        ensures quiet { IsQuietUntilNews result buffer.new self.old self.new }
+    {
         match self.next(buffer, wait) {
             Taken::Datagram(count) => {
                 self.log = self.log.came(buffer, count);

@@ -18,7 +18,7 @@ returns-then-note-clause-asked g c =
     let down : HandsDown ToAll c.args.bytes.now c.args.self.now c.say.new.self = cc in
     let quiet : IsQuietOrAsks c.millis-now.result c.args.self.now c.say.new.self =
     ⊎_elim (λ e. inl (cc))
-    (λ q. inr (c.say.ensures.quiet ∙ q.0, (_, subst (λ (w : Windowed). IsAsk w.game c.args.bytes.now) c.self.view_is q.1, down)))
+    (λ q. inr (c.say.ensures.still.3 ∙ q.0, (_, subst (λ (w : Windowed). IsAsk w.game c.args.bytes.now) c.self.view_is q.1, down)))
     c.note.ensures.quiet in
     record { now = c.millis-now.result; read = read; asked = λ q s h. inl down; quiet = quiet }
 
