@@ -26,6 +26,8 @@ use Rattle.board.specs.Board.{game_of, state_of}
 use Rattle.board.specs.Takes.{Takes}
 use Rattle.live.specs.Boards.{Asks}
 use Rattle.links.specs.Passed.{Passed, Came, Sent, sends}
+use Rattle.links.specs.declared.link.Receivers.{Receivers}
+use Rattle.links.specs.declared.link.Receivers.TheVariants.{ToAll}
 use Rattle.match_command.specs.MatchRun.{GivesOnlySent}
 use Rattle.match_command.specs.inner.Online.{Follows, IsOnline, IsSaid, SpeaksOf, StaysOnline}
 
@@ -113,7 +115,7 @@ module _ (entries : List Entry) where
 -- one entry more
 said_more : (game : ℕ) (entries : List Entry) (e : Entry) (p : Passed) → IsSaid game entries p → IsSaid game (entries ++ e ∷ []) p
 said_more game entries e (Came bytes) s = tt
-said_more game entries e (Sent bytes) s = (s.0, s.1, speaks_more entries e s.0 s.2)
+said_more game entries e (Sent to bytes) s = (s.0, s.1, speaks_more entries e s.0 s.2)
 
 follows_more : (entries : List Entry) (e : Entry) (k : BoardState) → Follows entries k → Follows (entries ++ e ∷ []) k
 follows_more entries e k f = record {
@@ -150,14 +152,15 @@ module _ (game : ℕ) (start : List Passed) where
     since = is ∙ (ap (λ (ps : List Passed). ps ++ Came bytes ∷ []) o.since ∙ append_assoc start o.passed (Came bytes ∷ []));
     said = All-append (IsSaid game entries) o.passed (Came bytes ∷ []) o.said (All-cons (IsSaid game entries) (Came bytes) [] tt (All-nil (IsSaid game entries)));
     follows = λ g.
-        let sent = All-contains (IsSaid game entries) o.passed (Sent bytes) o.said (g o.passed [] bytes refl) in
+        let before = g o.passed [] bytes refl in
+        let sent = All-contains (IsSaid game entries) o.passed (Sent before.0 bytes) o.said before.1 in
         board_takes entries rules game k l bytes answer sent.0 sent.1 sent.2 (o.follows (gave_before o.passed (Came bytes ∷ []) g)) t;
   }
 
 -- these messages are handed out
-pub out_said : (game : ℕ) (entries : List Entry) (out : List Message) → All IsMessage out → All (SpeaksOf entries) out → All (IsSaid game entries) (sends game out)
-out_said game entries out fine speak =
-    All-map (IsSaid game entries) Sent (map (written game) out) (All-map (λ bs. IsSaid game entries (Sent bs)) (written game) out (λ k d lt. (_, (fine k d lt, refl), speak k d lt)))
+pub out_said : (to : Receivers) (game : ℕ) (entries : List Entry) (out : List Message) → All IsMessage out → All (SpeaksOf entries) out → All (IsSaid game entries) (sends to game out)
+out_said to game entries out fine speak =
+    All-map (IsSaid game entries) (Sent to) (map (written game) out) (All-map (λ bs. IsSaid game entries (Sent to bs)) (written game) out (λ k d lt. (_, (fine k d lt, refl), speak k d lt)))
 
 asks_speak : (entries : List Entry) (k : BoardState) (out : List Message) → boards.BoardTicks k out → All (SpeaksOf entries) out
 asks_speak entries k out (inl t) =
@@ -178,8 +181,8 @@ same_book entries k f long =
 pub asked_online : {B : Type 0} {g : _} (content : B → List Entry) (board : Board B g) (start : List Passed) (entries : List Entry) (log new : List Passed) → Asks content board log new →
     IsOnline (game_of board) start entries log (state_of content board) → IsOnline (game_of board) start entries new (state_of content board)
 asked_online content board start entries log new asks o =
-    let said = out_said (game_of board) entries asks.out asks.fine (asks_speak entries (state_of content board) asks.out asks.step) in
-    says_more (game_of board) start entries (sends (game_of board) asks.out) log new (state_of content board) said asks.passed o
+    let said = out_said ToAll (game_of board) entries asks.out asks.fine (asks_speak entries (state_of content board) asks.out asks.step) in
+    says_more (game_of board) start entries (sends ToAll (game_of board) asks.out) log new (state_of content board) said asks.passed o
 
 none_noted : (d : DeskId) (e : Entry) → noted_of (reading first) d ≡ Some e → slice_get [] 0 ≡ Some e
 none_noted d e m = grind arith

@@ -29,7 +29,7 @@ use Rattle.match_command.specs.MatchRun.{HoldsBook, HoldsEither, votes_for}
 use Rattle.cards.specs.Sheet.{Sheet, plain_sheet}
 use Rattle.books.specs.Taking.{answer_to, is_full, taking, with_taken}
 use Rattle.match_command.specs.declared.match_run.fault.MatchFault.{MatchFault}
-use Rattle.live.specs.Desks.{Calls, DeskCall, Given, Ticked}
+use Rattle.live.specs.Desks.{Calls, DeskCall, Given, Ticked, receivers_of}
 use Rattle.live.specs.Ends.{end_at, further}
 use Rattle.live.specs.LostLines.{end_given}
 use Rattle.links.specs.Passed.{Passed, sends}
@@ -222,7 +222,8 @@ module _ {S B D : Type 0} {g : Files S D} {h : Disks D} {b : Books B} where
   called_online : (s : Sheet) (old new : Desk S B D g h b) (call : DeskCall) (entries : List Entry) (before after : List Passed)
       (c : Calls s old new call before after) → All (SpeaksOf entries) c.out → StaysOnline (game_of old) entries before after
   called_online s old new call entries before after c speak start k o =
-      says_more (game_of old) start entries (sends (game_of old) c.out) before after k (out_said (game_of old) entries c.out c.fine speak) c.passed o
+      let to = receivers_of call in
+      says_more (game_of old) start entries (sends to (game_of old) c.out) before after k (out_said to (game_of old) entries c.out c.fine speak) c.passed o
 
   -- it was given bytes, and goes on; what it replied is of its entries
   pub given : (old new : Desk S B D g h b) (bytes : List ℕ) (what : What) (before after : List Passed)

@@ -23,6 +23,7 @@ use Rattle.books.specs.declared.fault.BookFault.{BookFault}
 use Rattle.books.specs.CardBook.{IsBookOfLines, NamesFirstRejected}
 use Rattle.books.specs.Taking.{book_after}
 use Rattle.links.specs.Passed.{Passed, Sent, Came}
+use Rattle.links.specs.declared.link.Receivers.{Receivers}
 use Rattle.setup.specs.declared.fault.StopFault.{StopFault}
 use Rattle.match_command.specs.declared.match_run.fault.MatchFault.{MatchFault}
 use Rattle.match_command.specs.declared.match_run.fault.MatchFault.TheVariants.{NoMemory, Write, Device, NotEmpty, Line, NotAgreed}
@@ -51,11 +52,11 @@ pub record HoldsEither {Disk : Type 0} (view : FileView Disk) (disk : Disk) (boo
 abbrev pub IsQuiet : {D : Type 0} → (D → Faults) → (D → ℕ) → D → Type 0
 IsQuiet faults cap disk = ((faults disk).due ≡ Never) × (room version_2 MAX_SLOTS ≤ cap disk)
 
--- each datagram that came is one that was sent before
+-- each datagram that came is one that was sent before, to all or to one
 abbrev pub GivesOnlySent : List Passed → Type 0
 GivesOnlySent passed =
     (before after : List Passed) (bytes : List ℕ)
-    → passed ≡ before ++ Came bytes ∷ after → Contains before (Sent bytes)
+    → passed ≡ before ++ Came bytes ∷ after → (to : Receivers) × Contains before (Sent to bytes)
 
 -- the entries of the first n lines of an input
 abbrev pub entries_of_first : ℕ → ℕ → List ℕ → List Entry

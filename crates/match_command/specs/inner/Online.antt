@@ -16,7 +16,7 @@ SpeaksOf entries (Ask q) = Unit {0}
 
 -- a datagram that was sent is such a message of the match
 abbrev pub IsSaid : ℕ → List Entry → Passed → Type 0
-IsSaid game entries (Sent bytes) = (m : Message) × Says game bytes m × SpeaksOf entries m
+IsSaid game entries (Sent to bytes) = (m : Message) × Says game bytes m × SpeaksOf entries m
 IsSaid game entries (Came bytes) = Unit {0}
 
 -- a board's book is the first of these entries, and the votes that it has noted are for the next one
