@@ -4,7 +4,8 @@ ghost use Rattle.std.specs.Prelude.{◌≡◌, ℕ, List, None, Option};
 ghost use Rattle.machine_files.specs.Calls.{Answers, Call, CutTo, ReadFront, Sync, TakeName, WriteAt};
 
 use std::fs::{File, OpenFile};
-use std::io::{self, Read, Seek, SeekFrom, Write};
+use std::io::{self, Read, Seek, SeekFrom};
+use std::os::unix::fs::FileExt;
 
 /// A file that is written in place. Nothing is known of what it holds, only of what it was asked for.
 pub trait Host {
@@ -63,8 +64,7 @@ impl Host for File {
     }
 
     fn write_at(&mut self, at: u64, bytes: &[u8]) -> io::Result<()> {
-        self.seek(SeekFrom::Start(at))?;
-        self.write_all(bytes)
+        self.write_all_at(bytes, at)
     }
 
     fn cut(&mut self, len: u64) -> io::Result<()> {

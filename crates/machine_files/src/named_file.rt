@@ -25,6 +25,8 @@ pub struct NamedFile<'a> {
     beside: Option<String>,
     /// The file whose name it takes, which stays locked.
     before: Option<File>,
+    /// Its device, and its number there: they stay while it is open.
+    known: (u64, u64),
     /// How long it was left, where that is known.
     len: Option<u64>,
     last_fault: Option<&'a LastFault>,
@@ -40,6 +42,7 @@ impl Drop for NamedFile<'_> {
             name: _,
             beside: _,
             before: _,
+            known: _,
             len: _,
             last_fault: _,
             log: _,
@@ -47,16 +50,26 @@ impl Drop for NamedFile<'_> {
     }
 }
 
-/// Asks that this is the name of this open file, the same device and there the same number, and tells what is known of it.
-fn named(rt: &HostRuntime, name: &str, file: &File) -> Result<Metadata, Cause> {
-    let found = match fs::metadata(rt, name) {
-        Ok(found) => found,
-        Err(why) if why.kind() == ErrorKind::NotFound => return Err(Cause::Lost),
-        Err(why) => return Err(cause_of(&why)),
-    };
+/// What is known of the file that has this name.
+fn found(rt: &HostRuntime, name: &str) -> Result<Metadata, Cause> {
+    match fs::metadata(rt, name) {
+        Ok(found) => Ok(found),
+        Err(why) if why.kind() == ErrorKind::NotFound => Err(Cause::Lost),
+        Err(why) => Err(cause_of(&why)),
+    }
+}
+
+/// The device of an open file, and its number there.
+fn known_of(file: &File) -> Result<(u64, u64), Cause> {
     let open = file.metadata().map_err(|why| cause_of(&why))?;
-    if found.dev() == open.dev() && found.ino() == open.ino() {
-        Ok(open)
+    Ok((open.dev(), open.ino()))
+}
+
+/// Asks that this is the name of the file of this device and number, and tells what is known of it.
+fn named(rt: &HostRuntime, name: &str, known: (u64, u64)) -> Result<Metadata, Cause> {
+    let found = found(rt, name)?;
+    if (found.dev(), found.ino()) == known {
+        Ok(found)
     } else {
         Err(Cause::Lost)
     }
@@ -85,7 +98,7 @@ fn cause_of_lock(why: TryLockError) -> Cause {
 /// Locks a file for this process, and then asks that this is its name. A file that another process has is left alone.
 fn locked(rt: &HostRuntime, name: &str, file: File) -> Result<File, Cause> {
     file.try_lock().map_err(cause_of_lock)?;
-    let _known = named(rt, name, &file)?;
+    let _found = named(rt, name, known_of(&file)?)?;
     Ok(file)
 }
 
@@ -156,6 +169,7 @@ impl<'a> NamedFile<'a> {
             .open(rt, name)
             .map_err(|why| cause_of(&why))?;
         let file = locked(rt, name, file)?;
+        let known = known_of(&file)?;
         sync_folder(rt, name).map_err(|why| cause_of(&why))?;
         let name = String::from_str(rt.alloc(), name).map_err(|_| Cause::NoMemory)?;
         Ok(NamedFile {
@@ -164,6 +178,7 @@ impl<'a> NamedFile<'a> {
             name,
             beside: None,
             before: None,
+            known,
             len: None,
             last_fault: None,
             log: CallLog::Empty,
@@ -193,6 +208,7 @@ impl<'a> NamedFile<'a> {
         };
         let beside = format!(in rt.alloc(); "{whole}.unfinished").map_err(|_| Cause::NoMemory)?;
         let file = made(rt, beside.as_str())?;
+        let known = known_of(&file)?;
         give_access(&self.file, &file).map_err(|why| cause_of(&why))?;
         let NamedFile {
             rt: _,
@@ -200,6 +216,7 @@ impl<'a> NamedFile<'a> {
             name,
             beside: _,
             before: _,
+            known: _,
             len: _,
             last_fault,
             log,
@@ -210,6 +227,7 @@ impl<'a> NamedFile<'a> {
             name,
             beside: Some(beside),
             before: Some(before),
+            known,
             len: Some(0),
             last_fault,
             log,
@@ -230,7 +248,7 @@ impl<'a> NamedFile<'a> {
             Some(beside) => beside,
             None => &self.name,
         };
-        let found = named(self.rt, name.as_str(), &self.file)?;
+        let found = named(self.rt, name.as_str(), self.known)?;
         match self.len {
             Some(len) if found.len() != len => Err(Cause::Lost),
             _ => Ok(()),
@@ -278,8 +296,8 @@ impl<'a> NamedFile<'a> {
             return Err(Cause::System);
         };
         let whole = fs::canonicalize(self.rt, self.name.as_str()).map_err(|_| Cause::Lost)?;
-        let _known = named(self.rt, whole.as_str(), before)?;
-        let _known = named(self.rt, beside.as_str(), &self.file)?;
+        let _found = named(self.rt, whole.as_str(), known_of(before)?)?;
+        let _found = named(self.rt, beside.as_str(), self.known)?;
         fs::rename(self.rt, beside.as_str(), whole.as_str()).map_err(|why| cause_of(&why))?;
         self.beside = None;
         sync_folder(self.rt, whole.as_str()).map_err(|why| cause_of(&why))?;
@@ -326,7 +344,7 @@ impl<'a> NamedFile<'a> {
     /// Lets it go. Where it didn't take its name, it is removed.
     pub fn give_up(self) {
         if let Some(beside) = &self.beside {
-            if named(self.rt, beside.as_str(), &self.file).is_ok() {
+            if named(self.rt, beside.as_str(), self.known).is_ok() {
                 let _ = fs::remove_file(self.rt, beside.as_str());
             }
         }
