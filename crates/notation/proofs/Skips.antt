@@ -1,0 +1,101 @@
+-- A word that stands first in the bytes of a line, or doesn't.
+use Rattle.std.proofs.Common.{◌≡◌, ◌≢◌, ◌∙◌, ℕ, ◌<◌, List, [], ◌∷◌, ◌++◌, length, take, drop, get_or, true, false, refl, sym, ap, arith, append-nil, take-append-drop, codes, Ok}
+use Rattle.std.specs.List.{join_with_byte}
+use Rattle.std.specs.Str.{bytes_eq}
+use Rattle.std.proofs.lemmas.List.{take_at, drop_at}
+use Rattle.std.proofs.lemmas.List.Splits.{join_with_byte-slice_split}
+use Rattle.std.proofs.lemmas.Slice.Eq.{bytes_eq-Decides}
+use Rattle.notation.specs.declared.{entry.Kind.Kind, words.First.First}
+use Rattle.notation.specs.Written.{Token, tokens, is_token, kind_text, all_kinds}
+use Rattle.notation.specs.inner.TokenReading.{skip, word_at, first_text, all_firsts}
+use Rattle.notation.proofs.SpacedLines.{at_space, one_token}
+
+same : (word : Token) → bytes_eq word word ≡ true
+same word = (bytes_eq-Decides word word).1 refl
+
+-- the word begins the bytes
+stripped : (word left : List ℕ) → bytes_eq (take (length word) left) word ≡ true → word ++ drop (length word) left ≡ left
+stripped word left h =
+    ap (λ w. w ++ drop (length word) left) (sym ((bytes_eq-Decides (take (length word) left) word).0 h)) ∙ take-append-drop (length word) left
+
+last : (word : Token) (rest : List ℕ) → is_token word ≡ true → length rest ≡ 0 → (true, []) ≡ skip word (tokens (word ++ rest))
+unfolding skip
+last word [] h none = rw (append-nil word) (grind (arith, one_token word, same word))
+last word (b ∷ bs) h none = absurd (omega (arith, none))
+
+at_next : (word : Token) (rest : List ℕ) → is_token word ≡ true → (true, tokens rest) ≡ skip word (tokens (word ++ (32 ∷ rest)))
+unfolding skip
+at_next word rest h = grind (arith, at_space word rest, same word)
+
+next : (word : Token) (rest : List ℕ) → is_token word ≡ true → 0 < length rest → get_or rest 0 0 ≡ 32
+    → (true, tokens (drop 1 rest)) ≡ skip word (tokens (word ++ rest))
+next word [] h some space = absurd (omega (arith, some))
+next word (b ∷ bs) h some space = let e : b ≡ 32 = space in rw e (at_next word bs h)
+
+-- the word is all that is left
+pub skips_last : (word left : List ℕ) → is_token word ≡ true → bytes_eq (take (length word) left) word ≡ true
+    → length (drop (length word) left) ≡ 0 → (true, []) ≡ skip word (tokens left)
+skips_last word left h begins none =
+    last word (drop (length word) left) h none ∙ ap (λ l. skip word (tokens l)) (stripped word left begins)
+
+-- a space stands behind it
+pub skips_next : (word left : List ℕ) → is_token word ≡ true → bytes_eq (take (length word) left) word ≡ true
+    → 0 < length (drop (length word) left) → get_or (drop (length word) left) 0 0 ≡ 32
+    → (true, tokens (drop 1 (drop (length word) left))) ≡ skip word (tokens left)
+skips_next word left h begins some space =
+    next word (drop (length word) left) h some space ∙ ap (λ l. skip word (tokens l)) (stripped word left begins)
+
+-- what stands behind the first token
+record Behind (word left : List ℕ) : Type 0 where
+  whole : left ≡ word ++ drop (length word) left
+  space : 0 < length (drop (length word) left) → get_or (drop (length word) left) 0 0 ≡ 32
+
+behind : (word left : List ℕ) (ts : List Token) → tokens left ≡ word ∷ ts → Behind word left
+behind word left [] h =
+    let e : left ≡ word ++ [] = sym (join_with_byte-slice_split 32 left) ∙ (ap (join_with_byte 32) h ∙ sym (append-nil word)) in
+    let d : drop (length word) left ≡ [] = ap (drop (length word)) e ∙ drop_at word [] (length word) refl in
+    record { whole = rw d e; space = rw d (λ some. absurd (omega (arith, some))) }
+behind word left (t ∷ ts) h =
+    let e : left ≡ word ++ (32 ∷ join_with_byte 32 (t ∷ ts)) = sym (join_with_byte-slice_split 32 left) ∙ ap (join_with_byte 32) h in
+    let d : drop (length word) left ≡ 32 ∷ join_with_byte 32 (t ∷ ts) = ap (drop (length word)) e ∙ drop_at word (32 ∷ join_with_byte 32 (t ∷ ts)) (length word) refl in
+    record { whole = rw d e; space = rw d (λ some. refl) }
+
+another : (word : Token) (ts : List Token) → ((us : List Token) → ts ≡ word ∷ us → ⊥) → (false, ts) ≡ skip word ts
+unfolding skip
+another word [] h = refl
+another word (t ∷ ts) h = grind (arith, bytes_eq-Decides t word, h ts)
+
+-- the token goes on behind it
+pub stays_longer : (word left : List ℕ) → 0 < length (drop (length word) left) → get_or (drop (length word) left) 0 0 ≢ 32
+    → (false, tokens left) ≡ skip word (tokens left)
+stays_longer word left some other = another word (tokens left) (λ ts e. other ((behind word left ts e).space some))
+
+-- the bytes begin with another word
+pub stays_other : (word left : List ℕ) → bytes_eq (take (length word) left) word ≡ false → (false, tokens left) ≡ skip word (tokens left)
+stays_other word left h = another word (tokens left) (λ ts e.
+    let front : take (length word) left ≡ word = ap (take (length word)) (behind word left ts e).whole ∙ take_at word (drop (length word) left) (length word) refl in
+    grind (arith, bytes_eq-Decides (take (length word) left) word, front))
+
+-- nothing is left
+pub stays_empty : (word : Token) → (false, []) ≡ skip word []
+unfolding skip
+stays_empty word = refl
+
+skipped : (word : Token) (ts us : List Token) → (true, us) ≡ skip word ts → ts ≡ word ∷ us
+unfolding skip
+skipped word [] us h = grind arith
+skipped word (t ∷ ts) us h = grind (arith, bytes_eq-Decides t word)
+
+-- the words that are tried first
+pub ball_first : (ts us : List Token) → (true, us) ≡ skip (codes "ball") ts → word_at first_text all_firsts ts ≡ Ok (First.Ball, us)
+unfolding word_at
+ball_first ts us h = rw (skipped (codes "ball") ts us h) refl
+
+pub bat_first : (ts us : List Token) → (true, us) ≡ skip (codes "bat") ts → word_at kind_text all_kinds ts ≡ Ok (Kind.Bat, us)
+unfolding word_at
+bat_first ts us h = rw (skipped (codes "bat") ts us h) refl
+
+pub kept : (word : Token) (ts us : List Token) → (false, us) ≡ skip word ts → us ≡ ts
+unfolding skip
+kept word [] us h = grind arith
+kept word (t ∷ ts) us h = grind (arith, bytes_eq-Decides t word)
