@@ -1,13 +1,14 @@
 -- A word that stands first in the bytes of a line, or doesn't.
-use Rattle.std.proofs.Common.{◌≡◌, ◌≢◌, ◌∙◌, ℕ, ◌<◌, List, [], ◌∷◌, ◌++◌, length, take, drop, get_or, true, false, refl, sym, ap, arith, append-nil, take-append-drop, codes, Ok}
+use Rattle.std.proofs.Common.{◌≡◌, ◌≢◌, ◌∙◌, ℕ, ◌<◌, List, [], ◌∷◌, ◌++◌, length, take, drop, get_or, true, false, refl, sym, ap, arith, append-nil, take-append-drop, codes, Ok, ◌==◌, None}
 use Rattle.std.specs.List.{join_with_byte}
 use Rattle.std.specs.Str.{bytes_eq}
+use Rattle.std.proofs.lemmas.Bool.{eqb-true}
 use Rattle.std.proofs.lemmas.List.{take_at, drop_at}
 use Rattle.std.proofs.lemmas.List.Splits.{join_with_byte-slice_split}
 use Rattle.std.proofs.lemmas.Slice.Eq.{bytes_eq-Decides}
-use Rattle.notation.specs.declared.{entry.Kind.Kind, words.First.First}
+use Rattle.notation.specs.declared.{entry.Kind.Kind, entry.Bound.Bound, words.First.First}
 use Rattle.notation.specs.Written.{Token, tokens, is_token, kind_text, all_kinds}
-use Rattle.notation.specs.inner.TokenReading.{skip, word_at, first_text, all_firsts}
+use Rattle.notation.specs.inner.TokenReading.{skip, word_at, first_text, all_firsts, short_at, bound_at, out_at}
 use Rattle.notation.proofs.SpacedLines.{at_space, one_token}
 
 same : (word : Token) → bytes_eq word word ≡ true
@@ -99,3 +100,10 @@ pub kept : (word : Token) (ts us : List Token) → (false, us) ≡ skip word ts 
 unfolding skip
 kept word [] us h = grind arith
 kept word (t ∷ ts) us h = grind (arith, bytes_eq-Decides t word)
+
+-- nothing stands behind the runs of a delivery
+pub bare : (ts : List Token) → true ≡ (length ts == 0)
+    → (short_at ts ≡ Ok (0, ts)) × (bound_at ts ≡ (Bound.Run, ts)) × (skip (codes "dead") ts ≡ (false, ts)) × (out_at ts ≡ Ok (None, ts))
+unfolding skip short_at bound_at out_at
+bare [] h = (refl, refl, refl, refl)
+bare (t ∷ ts) h = absurd (let e = eqb-true _ 0 (sym h) in omega (arith, e))
