@@ -80,6 +80,7 @@ impl Seat {
 
     /// Casts the desk's vote of this position: `Pending` until the other desk's vote is there.
     /// A desk votes once at a position, and not at a full one (`Position::is_full`).
+    #[inline(always)]
     pub fn cast(&mut self, entry: Entry) -> Settled
         requires not_cast { self.old.mine ≡ None }
         requires not_full { InRange self.old.position }
@@ -111,6 +112,7 @@ impl Seat {
 
     /// Takes a vote that came, for a position that isn't full. Of the answers the first that holds is given,
     /// in their order; only `Noted`, `Agreed` and `Differ` change the seat.
+    #[inline(always)]
     pub fn hear(&mut self, vote: &Vote) -> Heard
         requires { InRange (position_of vote.now) }
         ensures step { Hears self.old vote.now result self.new }
