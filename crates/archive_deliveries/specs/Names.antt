@@ -22,6 +22,7 @@ told_apart s = record {
   home = record { name = name_in s Home; players = s.home.players };
   away = record { name = name_in s Away; players = s.away.players };
   limits = s.limits;
+  columns = s.columns;
 }
 
 -- no two sides of an export have one name

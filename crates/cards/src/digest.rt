@@ -1,7 +1,7 @@
 //! The digest of a match sheet.
 
 ghost use Rattle.std.specs.Prelude.{◌≡◌, ◌<◌, ◌+◌, ◌++◌, ◌∷◌, ℕ, List, length};
-ghost use Rattle.cards.specs.Sheet.{Sheet};
+ghost use Rattle.cards.specs.Sheet.{Sheet, in_columns};
 ghost use Rattle.cards.specs.Digest.{IsSheet, written};
 ghost use Rattle.sha2.specs.Hashers.{Holds256};
 ghost use Rattle.cards.specs.Digest as specs;
@@ -129,7 +129,9 @@ pub fn digest_of(sheet: &MatchSheet) -> [u8; 32]
     hasher.finalize()
 }
 
-/// Sheets of one written form are one sheet. This function does nothing: it stands for the law that it ensures.
+/// Sheets of one written form are one sheet, for rows of whatever width, and that is no part of the form. This function does
+/// nothing: it stands for the laws that it ensures.
 pub fn sheets_share_no_form()
-    ensures { (s t : Sheet) → IsSheet s → IsSheet t → written s ≡ written t → s ≡ t }
+    ensures one { (s t : Sheet) → IsSheet s → IsSheet t → written s ≡ written t → in_columns t.columns s ≡ t }
+    ensures width { (s : Sheet) (n : ℕ) → written (in_columns n s) ≡ written s }
 {}
