@@ -1,23 +1,20 @@
--- How a row is fitted to the columns of a screen: the team's name goes first, then letters of the players' names, down to four,
--- then the marks of the over. A row that is too long with none goes without of how many overs the innings is, and where that
--- isn't enough what is told of limits stands below.
+-- How a row is fitted to the columns that the sheet s has for it: the team's name goes first, then letters of the players'
+-- names, down to four, then the marks of the over. A row that is too long with none goes without of how many overs the
+-- innings is; where that isn't enough what is told of limits stands below, and at last the bowler too, in a row of his own.
 use Rattle.std.specs.Prelude.{ℕ, ◌-◌, nat_le, nat_lt, if◌then◌else◌, Bool, true, false, ◌&&◌, List, ◌++◌, length, take, Option, None, bytes_eq, codes}
 use Rattle.std.specs.List.{list_all}
-use Rattle.cards.specs.Sheet.{is_printable, longest_name}
+use Rattle.cards.specs.Sheet.{Sheet, is_printable, longest_name}
 use Rattle.score_rows.specs.declared.form.Form.{Form}
 use Rattle.score_rows.specs.declared.form.Form.TheVariants.{Whole, WithoutTeam}
-use Rattle.score_rows.specs.declared.form.Form.TheVariants.{TwelveLetters, TenLetters, EightLetters, SevenLetters, SixLetters, FiveLetters, FourLetters, WithoutLimit, FiguresAlone}
+use Rattle.score_rows.specs.declared.form.Form.TheVariants.{TwelveLetters, TenLetters, EightLetters, SevenLetters, SixLetters, FiveLetters, FourLetters, WithoutLimit, FiguresAlone, TwoRows}
 use Rattle.score_rows.specs.declared.room.Room.{Room}
 use Rattle.score_rows.specs.declared.room.Room.TheVariants.{Left, Full}
 
-abbrev pub columns : ℕ
-columns = 80
+abbrev pub fits : Sheet → List ℕ → Bool
+fits s text = nat_le (length text) s.columns
 
-abbrev pub fits : List ℕ → Bool
-fits text = nat_le (length text) columns
-
-abbrev pub all_columns : Room
-all_columns = Left columns
+abbrev pub all_columns : Sheet → Room
+all_columns s = Left s.columns
 
 abbrev pub is_left : Room → Bool
 is_left (Left room) = true
@@ -45,17 +42,25 @@ letters FiveLetters = 5
 letters FourLetters = 4
 letters WithoutLimit = 4
 letters FiguresAlone = 4
+letters TwoRows = 8
 
 -- of how many overs the innings is, where that is shown
 abbrev pub limit_in : Form → Option ℕ → Option ℕ
 limit_in WithoutLimit overs = None
 limit_in FiguresAlone overs = None
+limit_in TwoRows overs = None
 limit_in form overs = overs
 
 -- whether what is told of limits stands in the row, and not below it
 abbrev pub is_beside : Form → Bool
 is_beside FiguresAlone = false
+is_beside TwoRows = false
 is_beside form = true
+
+-- whether the bowler has a row of his own
+abbrev pub is_two : Form → Bool
+is_two TwoRows = true
+is_two form = false
 
 -- of these overs of a bowler, what the row has, and what stands below
 abbrev pub beside : Form → Option ℕ → Option ℕ
@@ -64,7 +69,7 @@ beside form most = if is_beside form then most else None
 abbrev pub below : Form → Option ℕ → Option ℕ
 below form most = if is_beside form then None else most
 
--- the first in which the row fits with all marks, or else the first of the last three that has room for it without them, or
+-- the first in which the row fits with all marks, or else the first of the last four that has room for it without them, or
 -- else the last
 abbrev pub first_fit : (Form → Bool) → (Form → Bool) → Form
 first_fit is_fit has_room =
@@ -78,7 +83,8 @@ first_fit is_fit has_room =
     else if is_fit FiveLetters then FiveLetters
     else if has_room FourLetters then FourLetters
     else if has_room WithoutLimit then WithoutLimit
-    else FiguresAlone
+    else if has_room FiguresAlone then FiguresAlone
+    else TwoRows
 
 abbrev pub is_long : ℕ → List ℕ → Bool
 is_long most name = nat_lt most (length name) && list_all is_printable name

@@ -1,4 +1,4 @@
--- How a match stands: a row that is fitted to 80 columns, and those below it.
+-- How a match stands: a row that is fitted to its columns, and those below it.
 -- s is the sheet, n the innings a side, h the history, i the innings and f what of it is shown.
 use Rattle.std.specs.Prelude.{ℕ, ◌==◌, nat_le, if◌then◌else◌, Bool, true, false, not, ◌&&◌, List, [], ◌∷◌, ◌++◌, Option, Some, None, codes, decimal}
 use Rattle.notation.specs.declared.entry.{Ball.Ball, Side.Side}
@@ -21,7 +21,7 @@ use Rattle.cards.specs.Marks.{mark_of}
 use Rattle.cards.specs.Results.{counted, result_text}
 use Rattle.score_rows.specs.declared.form.Form.{Form}
 use Rattle.score_rows.specs.declared.room.Room.{Room}
-use Rattle.score_rows.specs.Fit.{all_columns, are_alike, behind, below, beside, cut, first_fit, fits, has_team, is_beside, is_left, letters, limit_in}
+use Rattle.score_rows.specs.Fit.{all_columns, are_alike, behind, below, beside, cut, first_fit, fits, has_team, is_beside, is_left, is_two, letters, limit_in}
 use Rattle.score_rows.specs.Limited.{free_row, free_text, left_now, of_overs, off_text, past, past_row}
 
 -- the total and the wickets
@@ -197,9 +197,17 @@ back f is_all shown s n h i =
     bowling f s h i ++ open_marks (open_over h) is_all shown ++ free_text (is_beside f) s h
     ++ aim (outcome n h) (runs_needed n h) (left_now s h i) ++ over_end (open_over h)
 
--- the row of an innings, with all marks of the open over or with these
+-- the batters' row, where the bowler has his own below it
+abbrev pub above : Form → Sheet → History → ℕ → List ℕ
+above f s h i = if is_two f then front f s h i ++ codes "\n" else []
+
+-- before the bowler in his row
+abbrev pub ahead : Form → Sheet → History → ℕ → List ℕ
+ahead f s h i = if is_two f then [] else front f s h i
+
+-- the bowler's row of an innings, with all marks of the open over or with these
 abbrev pub line : Form → Bool → List Ball → Sheet → ℕ → History → ℕ → List ℕ
-line f is_all shown s n h i = front f s h i ++ back f is_all shown s n h i
+line f is_all shown s n h i = ahead f s h i ++ back f is_all shown s n h i
 
 unfoldable pub whole_line : Form → Sheet → ℕ → History → ℕ → List ℕ
 whole_line f s n h i = line f true (open_over h) s n h i
@@ -211,19 +219,19 @@ bare_line f s n h i = line f false [] s n h i
 -- with as many marks as there is room for
 unfoldable pub short_line : Form → Sheet → ℕ → History → ℕ → List ℕ
 short_line f s n h i =
-    line f false (newest (behind all_columns (bare_line f s n h i)) (open_over h)) s n h i
+    line f false (newest (behind (all_columns s) (bare_line f s n h i)) (open_over h)) s n h i
 
 -- the first form in which the row fits
 unfoldable pub form_of : Sheet → ℕ → History → ℕ → Form
-form_of s n h i = first_fit (λ f. fits (whole_line f s n h i)) (λ f. fits (bare_line f s n h i))
+form_of s n h i = first_fit (λ f. fits s (whole_line f s n h i)) (λ f. fits s (bare_line f s n h i))
 
--- the row of an innings in a form, all of it where it fits
+-- the same in a form, all of it where it fits
 unfoldable pub line_in : Form → Sheet → ℕ → History → ℕ → List ℕ
-line_in f s n h i = if fits (whole_line f s n h i) then whole_line f s n h i else short_line f s n h i
+line_in f s n h i = if fits s (whole_line f s n h i) then whole_line f s n h i else short_line f s n h i
 
 unfoldable pub innings_row : Sheet → ℕ → History → ℕ → List ℕ
 innings_row s n h i =
-    line_in (form_of s n h i) s n h i ++ codes "\n" ++ limits_below (form_of s n h i) s h i
+    above (form_of s n h i) s h i ++ line_in (form_of s n h i) s n h i ++ codes "\n" ++ limits_below (form_of s n h i) s h i
     ++ needs_row (outcome n h) (runs_needed n h) (left_now s h i) ++ result_row s (outcome n h)
 
 -- the innings begun last, or no play

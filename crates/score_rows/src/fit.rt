@@ -11,7 +11,8 @@ ghost use Rattle.ball_laws.specs.History.{open_over};
 use crate::form::Form;
 use crate::limited::left_now;
 use crate::room::Room;
-use crate::widths::{bowling_room, front_room};
+use crate::two_rows::ahead_room;
+use crate::widths::bowling_room;
 use crate::widths_behind::{aim_room, free_room, newest_of, open_marks_room, over_end_room};
 use cards::MatchSheet;
 use corrections::{BookOf, Placed, overs_of};
@@ -40,7 +41,7 @@ fn back_room<B: BookOf>(
     over_end_room(room, over)
 }
 
-/// What is left of a row behind that of an innings.
+/// What is left of a row behind the bowler's of an innings.
 fn line_room<B: BookOf>(
     form: Form,
     is_all: bool,
@@ -50,10 +51,10 @@ fn line_room<B: BookOf>(
     innings: usize,
 ) -> Room
     requires { innings < begun (history_of (B.content book.now)) }
-    ensures { result ≡ fit.behind fit.all_columns (rows.line form is_all (balls_of shown.now)
+    ensures { result ≡ fit.behind (fit.all_columns sheet.now) (rows.line form is_all (balls_of shown.now)
         sheet.now (B.innings_a_side book.now) (history_of (B.content book.now)) innings) }
 {
-    let room = front_room(Room::row(), form, sheet, book.score(), innings);
+    let room = ahead_room(Room::row(sheet), form, sheet, book.score(), innings);
     back_room(room, form, is_all, shown, sheet, book, innings)
 }
 
@@ -61,7 +62,7 @@ fn line_room<B: BookOf>(
 #[tactic(auto, using(crate::proofs::Rooms::left_behind), unfolding(crate::specs::Row::whole_line))]
 pub fn is_fit<B: BookOf>(form: Form, sheet: &MatchSheet, book: &B, innings: usize) -> bool
     requires { innings < begun (history_of (B.content book.now)) }
-    ensures { result ≡ fit.fits (rows.whole_line form
+    ensures { result ≡ fit.fits sheet.now (rows.whole_line form
         sheet.now (B.innings_a_side book.now) (history_of (B.content book.now)) innings) }
 {
     let over = overs_of(book).this;
@@ -72,13 +73,13 @@ pub fn is_fit<B: BookOf>(form: Form, sheet: &MatchSheet, book: &B, innings: usiz
 #[tactic(auto, using(crate::proofs::Rooms::left_behind), unfolding(crate::specs::Row::bare_line))]
 fn has_room<B: BookOf>(form: Form, sheet: &MatchSheet, book: &B, innings: usize) -> bool
     requires { innings < begun (history_of (B.content book.now)) }
-    ensures { result ≡ fit.fits (rows.bare_line form
+    ensures { result ≡ fit.fits sheet.now (rows.bare_line form
         sheet.now (B.innings_a_side book.now) (history_of (B.content book.now)) innings) }
 {
     line_room(form, false, &[], sheet, book, innings).is_left()
 }
 
-/// The first form in which the row of an innings fits with all marks, or else the first of the last three that has room for
+/// The first form in which the row of an innings fits with all marks, or else the first of the last four that has room for
 /// it without them, or else the last.
 #[tactic(auto, unfolding(crate::specs::Row::form_of))]
 pub fn form_of<B: BookOf>(sheet: &MatchSheet, book: &B, innings: usize) -> Form
@@ -106,8 +107,10 @@ pub fn form_of<B: BookOf>(sheet: &MatchSheet, book: &B, innings: usize) -> Form
         Form::FourLetters
     } else if has_room(Form::WithoutLimit, sheet, book, innings) {
         Form::WithoutLimit
-    } else {
+    } else if has_room(Form::FiguresAlone, sheet, book, innings) {
         Form::FiguresAlone
+    } else {
+        Form::TwoRows
     }
 }
 
@@ -121,7 +124,7 @@ pub fn shown_of<'b, B: BookOf>(
 ) -> &'b [Placed]
     requires { innings < begun (history_of (B.content book.now)) }
     ensures { balls_of result.now ≡ rows.newest
-        (fit.behind fit.all_columns (rows.bare_line form
+        (fit.behind (fit.all_columns sheet.now) (rows.bare_line form
         sheet.now (B.innings_a_side book.now) (history_of (B.content book.now)) innings))
         (open_over (history_of (B.content book.now))) }
 {

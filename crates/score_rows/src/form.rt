@@ -33,6 +33,8 @@ pub enum Form {
     WithoutLimit,
     /// The same, and what is told of limits stands below the row.
     FiguresAlone,
+    /// Eight letters of a player's name, and the bowler has a row of his own, below which stands what is told of limits.
+    TwoRows,
 }
 
 impl Form {
@@ -52,7 +54,7 @@ impl Form {
             Form::Whole | Form::WithoutTeam => 16,
             Form::TwelveLetters => 12,
             Form::TenLetters => 10,
-            Form::EightLetters => 8,
+            Form::EightLetters | Form::TwoRows => 8,
             Form::SevenLetters => 7,
             Form::SixLetters => 6,
             Form::FiveLetters => 5,
@@ -65,7 +67,7 @@ impl Form {
         ensures { result ≡ fit.limit_in self overs }
     {
         match self {
-            Form::WithoutLimit | Form::FiguresAlone => None,
+            Form::WithoutLimit | Form::FiguresAlone | Form::TwoRows => None,
             _ => overs,
         }
     }
@@ -74,7 +76,14 @@ impl Form {
     pub fn is_beside(self) -> bool
         ensures { result ≡ fit.is_beside self }
     {
-        !matches!(self, Form::FiguresAlone)
+        !matches!(self, Form::FiguresAlone | Form::TwoRows)
+    }
+
+    /// Whether the bowler has a row of his own.
+    pub fn is_two(self) -> bool
+        ensures { result ≡ fit.is_two self }
+    {
+        matches!(self, Form::TwoRows)
     }
 
     /// A bowler's overs, where they stand in the row.

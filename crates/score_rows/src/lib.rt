@@ -12,6 +12,7 @@ mod over_check;
 mod over_end;
 mod room;
 mod row;
+mod two_rows;
 mod widths;
 mod widths_behind;
 

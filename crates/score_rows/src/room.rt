@@ -6,10 +6,8 @@ ghost use Rattle.std.specs.Prelude.{◌≡◌, ◌<◌, decimal};
 ghost use Rattle.score_rows.specs.Fit as fit;
 
 use crate::form::{front_of, is_long};
+use cards::MatchSheet;
 use itoa::Buffer;
-
-/// The columns of a row.
-pub const COLUMNS: usize = 80;
 
 /// What is left of a row.
 #[derive(Clone, Copy, Debug, PartialEq, Eq)]
@@ -22,10 +20,10 @@ pub enum Room {
 
 impl Room {
     /// A row with nothing in it.
-    pub fn row() -> Room
-        ensures { result ≡ fit.all_columns }
+    pub fn row(sheet: &MatchSheet) -> Room
+        ensures { result ≡ fit.all_columns sheet.now }
     {
-        Room::Left(COLUMNS)
+        Room::Left(sheet.columns())
     }
 
     /// Whether all fitted that was put there.

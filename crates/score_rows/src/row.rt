@@ -1,4 +1,4 @@
-//! How a match stands: a row that is fitted to 80 columns, and those below it.
+//! How a match stands: a row that is fitted to its columns, and those below it.
 
 ghost use Rattle.std.specs.Prelude.{◌≡◌, ◌<◌, OnErr, OnOk, true};
 ghost use Rattle.match_laws.specs.History.{begun};
@@ -16,6 +16,7 @@ use crate::form::{Form, print_name};
 use crate::limited::{left_now, print_free, print_free_row, print_of, print_past, print_past_row};
 use crate::marks::print_marks;
 use crate::over_end::print_over_end;
+use crate::two_rows::{print_above, print_ahead};
 use cards::MatchSheet;
 use corrections::{BookOf, Placed, bowler_of, overs_of};
 use match_laws::{BattingRow, BowlingRow, Match, opponent};
@@ -355,7 +356,7 @@ fn print_back<W: Sink, B: BookOf>(
 
 /// Prints the row of an innings, to its batters.
 #[tactic(auto, unfolding(crate::specs::Row::front))]
-fn print_front<W: Sink>(
+pub fn print_front<W: Sink>(
     out: &mut Watched<W>,
     form: Form,
     sheet: &MatchSheet,
@@ -374,7 +375,7 @@ fn print_front<W: Sink>(
     print_batters(out, form, sheet, score, innings)
 }
 
-/// Prints the row of an innings, with all marks of the open over or with these.
+/// Prints the bowler's row of an innings, with all marks of the open over or with these.
 fn print_line<W: Sink, B: BookOf>(
     out: &mut Watched<W>,
     form: Form,
@@ -389,11 +390,11 @@ fn print_line<W: Sink, B: BookOf>(
         sheet.now (B.innings_a_side book.now) (history_of (B.content book.now)) innings)) }
     ensures failed { OnErr result (has_failed out.new ≡ true) }
 {
-    print_front(out, form, sheet, book.score(), innings)?;
+    print_ahead(out, form, sheet, book.score(), innings)?;
     print_back(out, form, is_all, shown, sheet, book, innings)
 }
 
-/// Prints the row of an innings in a form: all of it, or with the marks that there is room for.
+/// The same in a form: all of it, or with the marks that there is room for.
 #[tactic(auto, unfolding(crate::specs::Row::line_in, crate::specs::Row::whole_line, crate::specs::Row::short_line))]
 fn print_line_in<W: Sink, B: BookOf>(
     out: &mut Watched<W>,
@@ -447,19 +448,20 @@ fn print_innings<W: Sink, B: BookOf>(
     ensures failed { OnErr result (has_failed out.new ≡ true) }
 {
     let form = form_of(sheet, book, innings);
+    let score = book.score();
+    print_above(out, form, sheet, score, innings)?;
     print_line_in(out, form, sheet, book, innings)?;
     writeln!(out)?;
     print_limits_below(out, form, sheet, book, innings)?;
-    let score = book.score();
     print_needs_row(out, score, left_now(score, sheet, innings))?;
     print_result_row(out, sheet, score)
 }
 
-/// Prints how the match of a book stands, in one row. Where it is longer than 80 columns the team's name is left out, then
-/// players' names are cut, down to four letters (numbers tell apart two batters whose names then look alike), then the oldest
-/// marks of the over are left out. Where the row is too long with no mark at all, it goes without of how many overs the
-/// innings is, and if need be what is told of limits stands on rows below. Below stand too what is needed in a chase of
-/// limited overs, and the result.
+/// Prints how the match of a book stands, in one row. Where it has more columns than the sheet takes the team's name is left
+/// out, then players' names are cut, down to four letters (numbers tell apart two batters whose names then look alike), then
+/// the oldest marks of the over are left out. Where the row is too long with no mark at all, it goes without of how many overs
+/// the innings is, and if need be what is told of limits stands on rows below, and at last the bowler on one of his own. Below
+/// stand too what is needed in a chase of limited overs, and the result.
 pub fn print_row<W: Sink, B: BookOf>(
     out: &mut Watched<W>,
     sheet: &MatchSheet,
