@@ -41,19 +41,19 @@ fate_figures s side (Some fate) row = fate_text s (opponent side) (Some fate) ++
 abbrev pub batting_text : Sheet → Side → BattingRow → List ℕ
 batting_text s side row = fate_figures s side row.fate row
 
--- behind a row that would have more than 80 columns what was stands in a second one
+-- behind a row that would have too many columns what was stands in a second one
 abbrev pub joint : Bool → List ℕ
 joint fits = if fits then codes ", was " else codes ",\n  was "
 
-abbrev pub fits : List ℕ → List ℕ → Bool
-fits now was = nat_le (length now + (6 + length was)) 80
+abbrev pub fits : Sheet → List ℕ → List ℕ → Bool
+fits s now was = nat_le (length now + (6 + length was)) s.columns
 
-abbrev pub joined : List ℕ → List ℕ → List ℕ
-joined now was = now ++ (joint (fits now was) ++ (was ++ codes "\n"))
+abbrev pub joined : Sheet → List ℕ → List ℕ → List ℕ
+joined s now was = now ++ (joint (fits s now was) ++ (was ++ codes "\n"))
 
 abbrev pub fate_row : Sheet → List ℕ → Side → ℕ → BattingRow → BattingRow → List ℕ
 fate_row s first side p was now =
-    joined (named first (player_of s side p) ++ batting_text s side now) (batting_text s side was)
+    joined s (named first (player_of s side p) ++ batting_text s side now) (batting_text s side was)
 
 abbrev pub figures_row : Sheet → List ℕ → Side → ℕ → BattingRow → BattingRow → List ℕ
 figures_row s first side p was now =

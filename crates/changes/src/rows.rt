@@ -59,7 +59,7 @@ fn print_name<W: Sink>(out: &mut Watched<W>, first: &str, name: &str) -> Result<
     write!(out, "{first}{name} ")
 }
 
-/// What stands between what is and what was: where a row would have more than 80 columns it ends there.
+/// What stands between what is and what was: where a row would have too many columns it ends there.
 fn joint(
     sheet: &MatchSheet,
     first: &str,
@@ -68,13 +68,14 @@ fn joint(
     was: &BattingRow,
     now: &BattingRow,
 ) -> &'static str
-    ensures { result.now ≡ rows.joint (rows.fits
+    ensures { result.now ≡ rows.joint (rows.fits sheet.now
         (rows.named first.now (player_of sheet.now side player) ++ rows.batting_text sheet.now side now.now)
         (rows.batting_text sheet.now side was.now)) }
 {
     let name = sheet.player(side, player);
     // One more than a row has, so that one is left where all of it fits.
-    let behind_name = 81usize
+    let all = sheet.columns() + 1;
+    let behind_name = all
         .saturating_sub(first.len())
         .saturating_sub(name.len())
         .saturating_sub(1);
