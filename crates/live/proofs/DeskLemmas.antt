@@ -191,7 +191,7 @@ module _ {S B D : Type 0} {g : Files S D} {h : Disks D} {b : Books B} where
         (rw (tells, same, is)) text
 
     -- its scorer is told of lines that it isn't given
-    pub tells_aside : (aside : Aside) {course : Course} {y : List Input} {t : Option (List ℕ)} → IsInTime ticking → y ≡ x → course ≡ further → Appends s t (aside_text aside)
+    pub tells_aside : (aside : Aside) {course : Course} {y : List Input} {t : Option (List ℕ)} → IsInTime ticking → y ≡ x → course ≡ further → Appends s t (aside_text sheet.columns aside)
         → DeskGoes sheet k k (process_of k warned turns ticking further) (process_of k warned turns ticking course) log log x y m m s t
     tells_aside aside beats types is text =
         called (ToldAside aside) {ticking = ticking} tt beats (unmoved (ToldAside aside) (refl, refl) (λ e. (cc))) (rw append-nil) (rw (append-nil, types)) (rw append-nil) (rw is) text

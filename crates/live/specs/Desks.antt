@@ -172,7 +172,7 @@ told_of sheet innings k (Given bytes what) l =
     (loss_in k.desk bytes what) what
 told_of sheet innings k Unopened l = unopened_text k.warned
 told_of sheet innings k (Reminded reminder) l = reminder_text k.desk.seat.position.place reminder
-told_of sheet innings k (ToldAside aside) l = aside_text aside
+told_of sheet innings k (ToldAside aside) l = aside_text sheet.columns aside
 told_of sheet innings k call l = []
 
 abbrev pub desk_kind : {Disk : Type 0} → Sheet → FileView Disk → DiskView Disk → ℕ → ℕ → Kind (DeskProcess Disk) DeskCall

@@ -2,11 +2,13 @@
 
 ghost use Rattle.std.specs.Prelude.{◌≡◌, ◌≤◌, ◌++◌, codes, decimal, true, Err, OnErr, OnOk};
 ghost use Rattle.std.specs.Io.KnownBytes.{Appends};
+ghost use Rattle.cards.specs.Sheet.{most_columns};
 ghost use Rattle.streams.specs.Watched.{Prints, has_failed, stream_of};
 ghost use Rattle.live.specs.Asides as asides;
 ghost use Rattle.live.specs.Ends.{course_of, further, known_at};
 
 use crate::ends::{DeskEnd, told};
+use cards::MatchSheet;
 use links::{Aside, HeldLine};
 use station_texts::texts::print_at;
 use streams::{Sink, Watched, WriteFailed};
@@ -27,29 +29,35 @@ fn print_behind<W: Sink>(
     }
 }
 
-/// Prints each line behind a comma, in a row that has so many columns: a new one begins where it would have more than 80.
+/// Prints each line behind a comma, in a row that has so many of its columns: a new one begins where it would have more.
 fn print_more<W: Sink>(
     out: &mut Watched<W>,
+    columns: usize,
     at: usize,
     lines: &[HeldLine],
 ) -> Result<(), WriteFailed>
-    requires { at ≤ 140 }
-    ensures text { OnOk result (Prints W.contents out.old out.new (asides.more_lines at lines.now)) }
+    requires { (columns ≤ most_columns) × (at ≤ most_columns) }
+    ensures text { OnOk result (Prints W.contents out.old out.new (asides.more_lines columns at lines.now)) }
     ensures failed { OnErr result (has_failed out.new ≡ true) }
 {
     let Some((line, more)) = lines.split_first() else {
         return Ok(());
     };
-    let columns = line.len() + 2;
-    let has_room = at + columns < 80;
+    let own = line.len() + 2;
+    let has_room = at + own < columns;
     print_behind(out, line.as_str(), has_room)?;
     let before = if has_room { at } else { 0 };
-    print_more(out, before + columns, more)
+    print_more(out, columns, before + own, more)
 }
 
 /// Prints lines with a comma between two, behind words that count as 12 columns.
-fn print_lines<W: Sink>(out: &mut Watched<W>, lines: &[HeldLine]) -> Result<(), WriteFailed>
-    ensures text { OnOk result (Prints W.contents out.old out.new (asides.lines_text lines.now)) }
+fn print_lines<W: Sink>(
+    out: &mut Watched<W>,
+    columns: usize,
+    lines: &[HeldLine],
+) -> Result<(), WriteFailed>
+    requires { columns ≤ most_columns }
+    ensures text { OnOk result (Prints W.contents out.old out.new (asides.lines_text columns lines.now)) }
     ensures failed { OnErr result (has_failed out.new ≡ true) }
 {
     let Some((line, more)) = lines.split_first() else {
@@ -57,21 +65,31 @@ fn print_lines<W: Sink>(out: &mut Watched<W>, lines: &[HeldLine]) -> Result<(), 
     };
     let words = line.as_str();
     write!(out, "{words}")?;
-    print_more(out, words.len() + 12, more)
+    print_more(out, columns, words.len() + 12, more)
 }
 
 /// Prints lines with a comma between two, as rows.
-fn print_rows<W: Sink>(out: &mut Watched<W>, lines: &[HeldLine]) -> Result<(), WriteFailed>
-    ensures text { OnOk result (Prints W.contents out.old out.new (asides.lines_rows lines.now)) }
+fn print_rows<W: Sink>(
+    out: &mut Watched<W>,
+    columns: usize,
+    lines: &[HeldLine],
+) -> Result<(), WriteFailed>
+    requires { columns ≤ most_columns }
+    ensures text { OnOk result (Prints W.contents out.old out.new (asides.lines_rows columns lines.now)) }
     ensures failed { OnErr result (has_failed out.new ≡ true) }
 {
-    print_lines(out, lines)?;
+    print_lines(out, columns, lines)?;
     writeln!(out)
 }
 
 /// Prints that lines are dropped; nothing of none.
-fn print_dropped<W: Sink>(out: &mut Watched<W>, lines: &[HeldLine]) -> Result<(), WriteFailed>
-    ensures text { OnOk result (Prints W.contents out.old out.new (asides.dropped_text lines.now)) }
+fn print_dropped<W: Sink>(
+    out: &mut Watched<W>,
+    columns: usize,
+    lines: &[HeldLine],
+) -> Result<(), WriteFailed>
+    requires { columns ≤ most_columns }
+    ensures text { OnOk result (Prints W.contents out.old out.new (asides.dropped_text columns lines.now)) }
     ensures failed { OnErr result (has_failed out.new ≡ true) }
 {
     if lines.is_empty() {
@@ -79,7 +97,7 @@ fn print_dropped<W: Sink>(out: &mut Watched<W>, lines: &[HeldLine]) -> Result<()
     }
     let count = lines.len();
     write!(out, "dropped {count}: ")?;
-    print_rows(out, lines)
+    print_rows(out, columns, lines)
 }
 
 /// Prints that a line is held.
@@ -93,15 +111,17 @@ fn print_held<W: Sink>(out: &mut Watched<W>, place: u32, line: &str) -> Result<(
 /// Prints which lines are held.
 fn print_holds<W: Sink>(
     out: &mut Watched<W>,
+    columns: usize,
     place: u32,
     lines: &[HeldLine],
 ) -> Result<(), WriteFailed>
+    requires { columns ≤ most_columns }
     ensures text { OnOk result (Prints W.contents out.old out.new
-        (decimal place ++ codes " held: " ++ asides.lines_rows lines.now)) }
+        (decimal place ++ codes " held: " ++ asides.lines_rows columns lines.now)) }
     ensures failed { OnErr result (has_failed out.new ≡ true) }
 {
     write!(out, "{place} held: ")?;
-    print_rows(out, lines)
+    print_rows(out, columns, lines)
 }
 
 /// Prints that one is taken back.
@@ -127,16 +147,18 @@ fn print_untaken<W: Sink>(out: &mut Watched<W>, place: u32, line: &str) -> Resul
 /// Prints that one wasn't taken, and that those behind it are dropped.
 fn print_not_taken<W: Sink>(
     out: &mut Watched<W>,
+    columns: usize,
     place: u32,
     line: &str,
     behind: &[HeldLine],
 ) -> Result<(), WriteFailed>
+    requires { columns ≤ most_columns }
     ensures text { OnOk result (Prints W.contents out.old out.new
-        (asides.line_at place (codes " not taken: ") line.now ++ asides.dropped_text behind.now)) }
+        (asides.line_at place (codes " not taken: ") line.now ++ asides.dropped_text columns behind.now)) }
     ensures failed { OnErr result (has_failed out.new ≡ true) }
 {
     print_untaken(out, place, line)?;
-    print_dropped(out, behind)
+    print_dropped(out, columns, behind)
 }
 
 /// Prints that one can't be held.
@@ -148,19 +170,24 @@ fn print_full<W: Sink>(out: &mut Watched<W>, line: &str) -> Result<(), WriteFail
     writeln!(out, "24 lines are held, and not this: {line}")
 }
 
-/// Prints what is told of lines that the desk isn't given.
-fn print_of_lines<W: Sink>(out: &mut Watched<W>, aside: &Aside) -> Result<(), WriteFailed>
-    ensures text { OnOk result (Prints W.contents out.old out.new (asides.aside_text aside.now)) }
+/// Prints what is told of lines that the desk isn't given, in rows of so many columns.
+fn print_of_lines<W: Sink>(
+    out: &mut Watched<W>,
+    columns: usize,
+    aside: &Aside,
+) -> Result<(), WriteFailed>
+    requires { columns ≤ most_columns }
+    ensures text { OnOk result (Prints W.contents out.old out.new (asides.aside_text columns aside.now)) }
     ensures failed { OnErr result (has_failed out.new ≡ true) }
 {
     match aside {
         Aside::Held(place, line) => print_held(out, *place, line.as_str()),
-        Aside::Holds(place, lines) => print_holds(out, *place, lines.as_slice()),
+        Aside::Holds(place, lines) => print_holds(out, columns, *place, lines.as_slice()),
         Aside::TakenBack(place, line) => print_taken_back(out, *place, line.as_str()),
         Aside::NotTaken(place, line, behind) => {
-            print_not_taken(out, *place, line.as_str(), behind.as_slice())
+            print_not_taken(out, columns, *place, line.as_str(), behind.as_slice())
         }
-        Aside::Dropped(lines) => print_dropped(out, lines.as_slice()),
+        Aside::Dropped(lines) => print_dropped(out, columns, lines.as_slice()),
         Aside::Full(line) => print_full(out, line.as_str()),
         Aside::NoText => writeln!(out, "not held: that line is no text"),
         Aside::IsCast(place) => print_at(
@@ -172,20 +199,29 @@ fn print_of_lines<W: Sink>(out: &mut Watched<W>, aside: &Aside) -> Result<(), Wr
 }
 
 /// Prints it at once.
-fn print_aside<W: Sink>(out: &mut Watched<W>, aside: &Aside) -> Result<(), WriteFailed>
-    ensures text { OnOk result (Prints W.contents out.old out.new (asides.aside_text aside.now)) }
+fn print_aside<W: Sink>(
+    out: &mut Watched<W>,
+    columns: usize,
+    aside: &Aside,
+) -> Result<(), WriteFailed>
+    requires { columns ≤ most_columns }
+    ensures text { OnOk result (Prints W.contents out.old out.new (asides.aside_text columns aside.now)) }
     ensures failed { OnErr result (has_failed out.new ≡ true) }
 {
-    print_of_lines(out, aside)?;
+    print_of_lines(out, columns, aside)?;
     out.flush()
 }
 
 /// Tells the scorer of lines that the desk isn't given.
-pub fn tell_aside<W: Sink>(out: &mut Watched<W>, aside: &Aside) -> Result<(), DeskEnd>
+pub fn tell_aside<W: Sink>(
+    out: &mut Watched<W>,
+    sheet: &MatchSheet,
+    aside: &Aside,
+) -> Result<(), DeskEnd>
     ensures text { Appends (known_at result (W.contents (stream_of out.old)))
-        (known_at result (W.contents (stream_of out.new))) (asides.aside_text aside.now) }
+        (known_at result (W.contents (stream_of out.new))) (asides.aside_text sheet.now.columns aside.now) }
     ensures course { course_of result ≡ further }
     ensures failed { result ≡ Err DeskEnd.Write → has_failed out.new ≡ true }
 {
-    told(print_aside(out, aside))
+    told(print_aside(out, sheet.columns(), aside))
 }

@@ -88,7 +88,7 @@ fn take_line<S: SlotsOf, B: BookOf + Drop, L: Link, K: Keys, W: Sink>(
         Typed::Nothing => return Ok(()),
         Typed::Ended => return Err(DeskEnd::NoMoreLines),
         Typed::Line(count) => count,
-        Typed::Aside(aside) => return tell_aside(out, &aside),
+        Typed::Aside(aside) => return tell_aside(out, sheet, &aside),
     };
     let at = desk.position();
     let both = Both {
