@@ -8,6 +8,7 @@ use crate::desk_disk::{desk_disk_at, empty_book};
 use crate::life::{Life, keep_on};
 use crate::page::Page;
 use agree_core::DeskId;
+use cards::{Columns, MatchSheet};
 use links::Keys;
 use live::{DeskEnd, LifeEnd};
 use machine::{Address, Keyboard, MOST_PEERS, MonotonicClock, Outlet};
@@ -16,6 +17,7 @@ use setup::{Sealing, StopFault, Stopped, short_sheet_at, with_cause, with_copys_
 use station_pages::{Attended, HeldKeys, PageKeys, PageRows, ScorersPage};
 use station_screens::{DeskScreen, Shared, errors_at, output_at};
 use std::cell::RefCell;
+use std::env::Env;
 use std::io::{IsTerminal, Write};
 use std::mem::drop;
 use std::net::SocketAddr;
@@ -140,10 +142,31 @@ fn answer_of<'a>(
     }
 }
 
+/// How many columns the terminal has, where the variable `COLUMNS` says it and rows can have them.
+fn terminals_columns(rt: &HostRuntime) -> Option<Columns> {
+    let mut digits = [0; 3];
+    let count = rt.var("COLUMNS", &mut digits).ok()?;
+    let text = str::from_utf8(&digits[..count]).ok()?;
+    Columns::new(text.parse::<usize>().ok()?)
+}
+
+/// The sheet of a file, for rows of so many columns, or else of the terminal's.
+fn wide_sheet_at<'a>(
+    rt: &HostRuntime,
+    path: &'a str,
+    columns: Option<Columns>,
+) -> Result<MatchSheet, Stopped<'a>> {
+    let mut sheet = short_sheet_at(rt, path)?;
+    if let Some(columns) = columns.or(terminals_columns(rt)) {
+        sheet.set_columns(columns);
+    }
+    Ok(sheet)
+}
+
 /// `ground desk`: keeps a scorer's desk with its votes in a file, and in a copy, where one is named, listening at an address,
 /// until the scorer types `quit` or no more. Then, with its files and its address free, it waits until its screen is read. Its
 /// datagrams are sealed with the sheet and the key in a file, where one is named. The scorer has a page at an address, where
-/// one is given.
+/// one is given, and rows of so many columns, or else of the terminal's, or of 80.
 #[inline(never)]
 pub fn start_desk<'a>(
     rt: &HostRuntime,
@@ -155,12 +178,13 @@ pub fn start_desk<'a>(
     peers: [Option<SocketAddr>; MOST_PEERS],
     serve: Option<Address<'a>>,
     key: Option<&'a str>,
+    columns: Option<Columns>,
 ) -> Result<Life<'a>, Stopped<'a>>
     ensures desk { IfOk result (λ life. desk_of life ≡ desk) }
     ensures file { IfOk result (λ life. path_of life ≡ file.now) }
     ensures copy { IfOk result (λ life. copy_of life ≡ option_copied copy.entry) }
 {
-    let sheet = short_sheet_at(rt, sheet_path)?;
+    let sheet = wide_sheet_at(rt, sheet_path, columns)?;
     let sealing = Sealing::of(rt, &sheet, sheet_path, key)?;
     let errors = RefCell::new(errors_at(rt)?);
     let page = Page::at(rt, serve)?;

@@ -50,6 +50,7 @@ rows Desk =
     codes "  --board ADDR:PORT  a board's address; up to four times, or left out" ∷
     codes "  --serve ADDR:PORT  where its scorer finds its page; or left out" ∷
     codes "  --key K            the file of the key, the same everywhere; or left out" ∷
+    codes "  --columns N        how wide rows are, 60 to 200; 80 where it is left out" ∷
     codes "" ∷
     codes "Where sheet.toml has a table [stations], ./ground desk a begins desk A with it." ∷
     codes "An option behind that wins." ∷ []

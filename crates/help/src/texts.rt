@@ -43,6 +43,7 @@ the same command goes on where it was.
   --board ADDR:PORT  a board's address; up to four times, or left out
   --serve ADDR:PORT  where its scorer finds its page; or left out
   --key K            the file of the key, the same everywhere; or left out
+  --columns N        how wide rows are, 60 to 200; 80 where it is left out
 
 Where sheet.toml has a table [stations], ./ground desk a begins desk A with it.
 An option behind that wins.

@@ -2,8 +2,9 @@
 use Rattle.std.specs.Prelude.{ℕ, ◌||◌, nat_le, ◌&&◌, Bool, true, if◌then◌else◌, List, [], ◌∷◌, ◌++◌, Option, Some, None, is_some, codes, bytes_eq}
 use Rattle.toml.specs.Data.{Data, Items, no_items, item, Members, no_members, member, get_member, as_str, as_array, as_table}
 use Rattle.cards.specs.Reading.{count_of}
+use Rattle.cards.specs.Sheet.{least_columns, most_columns}
 use Rattle.cards.specs.declared.fault.SheetFault.TheVariants.{WrongKind}
-use Rattle.sheet_check.specs.Faults.{Fault, at, unless}
+use Rattle.sheet_check.specs.Faults.{Fault, at, number_at, unless}
 use Rattle.sheet_check.specs.Letters.{quoted}
 
 -- the keys whose values are texts: both desks' addresses, and the files of the key, of the votes and of their copy
@@ -31,12 +32,18 @@ boards_faults (Some ds) =
     unless (are_texts ds) (at WrongKind (place (codes "boards")) (codes "isn't a list of texts in quotes"))
     ++ unless (nat_le (count_of ds) 4) (at WrongKind (place (codes "boards")) (codes "are more than 4"))
 
+-- how wide a scorer's rows are
+abbrev pub columns_faults : Data → List Fault
+columns_faults d =
+    number_at least_columns most_columns (place (codes "columns")) (codes "isn't from 60 to 200") (Some d)
+
 -- a key and its value
 abbrev pub key_faults : List ℕ → Data → List Fault
 key_faults key d =
     if bytes_eq key (codes "boards") then boards_faults (as_array d)
+    else if bytes_eq key (codes "columns") then columns_faults d
     else if is_text_key key then text_key_faults key (as_str d)
-    else at WrongKind (codes "stations") (quoted key ++ codes " isn't one of a, b, boards, key, votes, copy") ∷ []
+    else at WrongKind (codes "stations") (quoted key ++ codes " isn't one of a, b, boards, key, votes, copy, columns") ∷ []
 
 abbrev pub members_faults : Members → List Fault
 members_faults no_members = []

@@ -102,7 +102,7 @@ fn is_from(low: u64, high: u64, number: i64) -> bool
 }
 
 /// Puts what is wrong with the number there.
-fn put_number(
+pub fn put_number(
     alloc: Global,
     out: &mut Vec<Fault>,
     low: u64,

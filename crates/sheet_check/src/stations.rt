@@ -7,7 +7,7 @@ ghost use Rattle.sheet_check.specs.Letters as letters;
 ghost use Rattle.sheet_check.specs.Reports.{Puts};
 ghost use Rattle.sheet_check.specs.Stations as stations;
 
-use crate::faults::value_in;
+use crate::faults::{put_number, value_in};
 use crate::letters::push_quoted;
 use crate::putting::{Fault, joined, put_kind, put_unless};
 use crate::sides::count_of;
@@ -85,14 +85,22 @@ fn put_boards(alloc: Global, out: &mut Vec<Fault>, value: &Value) -> Result<(), 
     }
 }
 
+/// Puts what is wrong with how wide a scorer's rows are.
+fn put_columns(alloc: Global, out: &mut Vec<Fault>, value: &Value) -> Result<(), AllocError>
+    ensures { Puts result out.old out.new (stations.columns_faults (view value.now)) }
+{
+    let words = "isn't from 60 to 200";
+    put_number(alloc, out, 60, 200, "stations, columns", words, Some(value))
+}
+
 /// What is told of a key that the table doesn't have.
 fn unknown_words(alloc: Global, key: &str) -> Result<String, AllocError>
     ensures { IfOk result (λ words. string_bytes words
-        ≡ letters.quoted key.now ++ codes " isn't one of a, b, boards, key, votes, copy") }
+        ≡ letters.quoted key.now ++ codes " isn't one of a, b, boards, key, votes, copy, columns") }
 {
     let mut words = String::new(alloc);
     push_quoted(alloc, &mut words, key)?;
-    words.push_str(" isn't one of a, b, boards, key, votes, copy")?;
+    words.push_str(" isn't one of a, b, boards, key, votes, copy, columns")?;
     Ok(words)
 }
 
@@ -102,6 +110,9 @@ fn put_key(alloc: Global, out: &mut Vec<Fault>, key: &str, value: &Value) -> Res
 {
     if key == "boards" {
         return put_boards(alloc, out, value);
+    }
+    if key == "columns" {
+        return put_columns(alloc, out, value);
     }
     if is_text_key(key) {
         return put_text_key(alloc, out, key, value);

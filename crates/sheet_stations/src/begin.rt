@@ -150,7 +150,16 @@ pub fn start_desk_of<'a>(
     let (at, peers) = addresses_of(rt, sheet, desk, begun)?;
     let file = present(rt, sheet, "stations, votes", begun.file)?;
     start_desk(
-        rt, sheet, desk, file, begun.copy, at, peers, serve, begun.key,
+        rt,
+        sheet,
+        desk,
+        file,
+        begun.copy,
+        at,
+        peers,
+        serve,
+        begun.key,
+        begun.columns,
     )
 }
 

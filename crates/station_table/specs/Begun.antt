@@ -4,7 +4,7 @@ use Rattle.std.specs.Prelude.{ℕ, List, [], ◌∷◌, Option, Some, None, opti
 use Rattle.agree_core.specs.declared.messages.DeskId.{DeskId}
 use Rattle.agree_core.specs.declared.messages.DeskId.TheVariants.{A, B}
 use Rattle.toml.specs.Data.{Members}
-use Rattle.station_table.specs.Stations.{board_in, text_in}
+use Rattle.station_table.specs.Stations.{board_in, columns_in, text_in}
 use Rattle.station_table.specs.declared.{board_options.BoardOptions.BoardOptions, desk_options.BoardNames.BoardNames, desk_options.DeskOptions.DeskOptions}
 
 -- what is named first, or else the other
@@ -23,6 +23,8 @@ pub record Desk : Type 0 where
   pub at : Option (List ℕ)
   pub other : Option (List ℕ)
   pub boards : List (Option (List ℕ))
+  -- how wide its scorer's rows are
+  pub columns : Option ℕ
 
 -- the key of a desk's address, and of the other's; the file of its votes, where nothing else is named
 abbrev pub own : DeskId → List ℕ
@@ -45,6 +47,10 @@ boards_or named others = others
 abbrev pub boards_in : Members → List (Option (List ℕ))
 boards_in ms = board_in 0 ms ∷ board_in 1 ms ∷ board_in 2 ms ∷ board_in 3 ms ∷ []
 
+abbrev pub columns_or : Option ℕ → Option ℕ → Option ℕ
+columns_or None other = other
+columns_or (Some columns) other = Some columns
+
 abbrev pub begun_with : DeskId → Desk → Members → Desk
 begun_with desk named ms = record {
   file = or_else named.file (or_else (text_in (codes "votes") ms) (Some (own_file desk)));
@@ -53,6 +59,7 @@ begun_with desk named ms = record {
   at = or_else named.at (text_in (own desk) ms);
   other = or_else named.other (text_in (others desk) ms);
   boards = boards_or named.boards (boards_in ms);
+  columns = columns_or named.columns (columns_in ms);
 }
 
 -- ---- a board
@@ -88,6 +95,7 @@ desk_of o = record {
   at = option_map (λ text. text.now) o.at;
   other = option_map (λ text. text.now) o.other;
   boards = boards_of o.boards;
+  columns = o.columns;
 }
 
 abbrev pub board_of : BoardOptions → Board

@@ -4,8 +4,9 @@ ghost use Rattle.std.specs.Prelude.{◌≡◌};
 ghost use Rattle.toml.specs.View.{table_view};
 ghost use Rattle.station_table.specs.Begun as begun;
 
-use crate::lookup::{board_in, or_else, text_in};
+use crate::lookup::{board_in, columns_in, columns_or, or_else, text_in};
 use agree_core::DeskId;
+use cards::Columns;
 use toml::Table;
 
 /// How many boards a desk has at most.
@@ -21,7 +22,7 @@ pub struct BoardNames<'a> {
 }
 
 /// What a desk's words name, or what it begins with: the files of its votes, of their copy and of the key; its address, the
-/// other desk's, and the boards'.
+/// other desk's, and the boards'; and how wide its scorer's rows are.
 #[derive(Clone, Copy, Debug, PartialEq, Eq)]
 pub struct DeskOptions<'a> {
     pub file: Option<&'a str>,
@@ -30,6 +31,7 @@ pub struct DeskOptions<'a> {
     pub at: Option<&'a str>,
     pub other: Option<&'a str>,
     pub boards: BoardNames<'a>,
+    pub columns: Option<Columns>,
 }
 
 /// The key of a desk's address.
@@ -90,5 +92,6 @@ pub fn desk_begun<'a>(desk: DeskId, named: DeskOptions<'a>, sheet: &'a Table) ->
         at: or_else(named.at, text_in(sheet, own(desk))),
         other: or_else(named.other, text_in(sheet, others(desk))),
         boards: boards_or(named.boards, sheet),
+        columns: columns_or(named.columns, columns_in(sheet)),
     }
 }

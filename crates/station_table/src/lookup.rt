@@ -4,8 +4,10 @@ ghost use Rattle.std.specs.Prelude.{◌≡◌, option_map};
 ghost use Rattle.toml.specs.Data.{as_table, get_member};
 ghost use Rattle.toml.specs.View.{table_view, view};
 ghost use Rattle.station_table.specs.Stations as stations;
+ghost use Rattle.station_table.specs.Begun as begun;
 ghost use Rattle.station_table.specs.Begun.{or_else};
 
+use cards::Columns;
 use toml::{Table, Value};
 
 /// The value at a key of a table.
@@ -38,6 +40,27 @@ pub fn board_in(sheet: &Table, index: usize) -> Option<&str>
     ensures { option_map (λ text. text.now) result ≡ stations.board_in index (table_view sheet.now) }
 {
     value_in(sheet, "boards")?.get(index)?.as_str()
+}
+
+/// How wide a scorer's rows are by it.
+pub fn columns_in(sheet: &Table) -> Option<Columns>
+    ensures { result ≡ stations.columns_in (table_view sheet.now) }
+{
+    let number = value_in(sheet, "columns")?.as_integer()?;
+    match usize::try_from(number) {
+        Ok(number) => Columns::new(number),
+        Err(_) => None,
+    }
+}
+
+/// The width that is named, or else the other.
+pub fn columns_or(named: Option<Columns>, other: Option<Columns>) -> Option<Columns>
+    ensures { result ≡ begun.columns_or named other }
+{
+    match named {
+        Some(columns) => Some(columns),
+        None => other,
+    }
 }
 
 /// What is named first, or else the other.

@@ -108,6 +108,11 @@ fn which<'a>(alloc: Global) -> Arg<'a> {
     Arg::new(alloc, "which").index(1)
 }
 
+/// How wide a scorer's rows are.
+fn columns<'a>(alloc: Global) -> Arg<'a> {
+    free(alloc, "columns").value_parser(value_parser!(u16).range(60..=200))
+}
+
 /// The words of `desk`.
 fn desk_words<'a>(alloc: Global) -> Result<Command<'a>, AllocError> {
     let words = Command::new(alloc, "desk").arg(which(alloc))?;
@@ -118,6 +123,7 @@ fn desk_words<'a>(alloc: Global) -> Result<Command<'a>, AllocError> {
     with_option(alloc, words, "other")?
         .arg(free(alloc, "copy"))?
         .arg(free(alloc, "board").action(ArgAction::Append))?
+        .arg(columns(alloc))?
         .arg(free(alloc, "serve"))?
         .arg(free(alloc, "key"))
 }

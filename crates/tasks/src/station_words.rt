@@ -4,7 +4,8 @@ ghost use Rattle.std.specs.Prelude.{◌≤◌, IfSome};
 ghost use Rattle.tasks.specs.Words.{IsBoardTask};
 
 use crate::task::{BoardTask, DeskTask};
-use crate::words::desk_in;
+use crate::words::{desk_in, number_in};
+use cards::Columns;
 use clap::ArgMatches;
 use machine::{Address, addresses_in};
 use station_table::{BoardNames, BoardOptions, DeskOptions, MOST_BOARDS};
@@ -37,6 +38,14 @@ fn served_in<'a>(words: &ArgMatches<'a>) -> Option<Option<Address<'a>>> {
     }
 }
 
+/// How wide the words say that a scorer's rows are, if they do.
+fn columns_in(words: &ArgMatches<'_>) -> Option<Option<Columns>> {
+    match words.get_str("columns") {
+        Some(_) => Some(Some(Columns::new(usize::from(number_in::<u16>(words, "columns")?))?)),
+        None => Some(None),
+    }
+}
+
 /// The task of a desk whose options are all named.
 fn full_desk_task<'a>(words: &ArgMatches<'a>) -> Option<DeskTask<'a>> {
     let at = words.get_str("at")?;
@@ -54,6 +63,7 @@ fn full_desk_task<'a>(words: &ArgMatches<'a>) -> Option<DeskTask<'a>> {
         peers,
         serve: served_in(words)?,
         key: words.get_str("key"),
+        columns: columns_in(words)?,
     })
 }
 
@@ -109,6 +119,7 @@ fn desk_of_sheet<'a>(letter: &str, words: &ArgMatches<'a>) -> Option<DeskTask<'a
         at: words.get_str("at"),
         other: words.get_str("other"),
         boards: boards_in(words)?,
+        columns: columns_in(words)?,
     };
     if words.get_str("desk").is_some() || !is_address(named.at) || !is_address(named.other) {
         return None;

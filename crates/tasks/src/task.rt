@@ -2,6 +2,7 @@
 
 use agree_core::DeskId;
 use books::Source;
+use cards::Columns;
 use delivery_rows::Table;
 use machine::{Address, MOST_PEERS};
 use station_table::{BoardOptions, DeskOptions};
@@ -33,7 +34,8 @@ pub enum BookFiles<'a> {
 #[derive(Clone, Copy)]
 pub enum DeskTask<'a> {
     /// With its votes in a file, at an address. Its peers are the other desk and boards. A copy of its votes is kept in a file,
-    /// and the scorers' key is in one, where they are named. Its scorer has a page at an address, where it is given.
+    /// and the scorers' key is in one, where they are named. Its scorer has a page at an address, where it is given, and rows
+    /// so wide.
     Named {
         sheet: &'a str,
         desk: DeskId,
@@ -43,6 +45,7 @@ pub enum DeskTask<'a> {
         peers: [Option<SocketAddr>; MOST_PEERS],
         serve: Option<Address<'a>>,
         key: Option<&'a str>,
+        columns: Option<Columns>,
     },
     /// With what its words name, and what they don't from the sheet's table of stations.
     OfSheet {

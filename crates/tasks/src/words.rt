@@ -15,7 +15,7 @@ use std::alloc::Global;
 use std::str::FromStr;
 
 /// The number of an option, without a sign or a needless zero.
-fn number_in<T: FromStr>(words: &ArgMatches<'_>, name: &str) -> Option<T>
+pub fn number_in<T: FromStr>(words: &ArgMatches<'_>, name: &str) -> Option<T>
 where
     T::Err: Drop,
 {

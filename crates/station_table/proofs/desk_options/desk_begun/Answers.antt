@@ -19,4 +19,6 @@ returns c =
       c.text_in-5.ensures,
       c.others.ensures,
       c.boards_or.ensures,
+      c.columns_or.ensures,
+      c.columns_in.ensures,
     ) refl
