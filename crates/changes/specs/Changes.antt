@@ -33,9 +33,14 @@ abbrev pub is_same_batting : BattingRow → BattingRow → Bool
 is_same_batting a b = (a.runs == b.runs) && (a.faced == b.faced)
 
 -- overs, maidens, runs and wickets
+-- wide runs, and no balls
+abbrev pub is_same_wides : BowlingRow → BowlingRow → Bool
+is_same_wides a b = (a.wides == b.wides) && (a.noballs == b.noballs)
+
 abbrev pub is_same_bowling : BowlingRow → BowlingRow → Bool
 is_same_bowling a b =
-    (a.overs == b.overs) && ((a.balls == b.balls) && ((a.maidens == b.maidens) && ((a.runs == b.runs) && (a.wickets == b.wickets))))
+    (a.overs == b.overs) && ((a.balls == b.balls) && ((a.maidens == b.maidens) && ((a.runs == b.runs) && ((a.wickets == b.wickets)
+    && is_same_wides a b))))
 
 abbrev pub is_same_total : Total → Total → Bool
 is_same_total a b =

@@ -1,5 +1,5 @@
 -- The rows of what differs. s is the sheet, `was` and `now` are the stages, or what they show.
-use Rattle.std.specs.Prelude.{ℕ, ◌+◌, ◌==◌, nat_le, if◌then◌else◌, Bool, Option, Some, None, List, ◌++◌, length, codes, decimal}
+use Rattle.std.specs.Prelude.{ℕ, ◌+◌, ◌==◌, nat_le, if◌then◌else◌, Bool, Option, Some, None, List, [], ◌++◌, length, codes, decimal}
 use Rattle.notation.specs.declared.entry.Side.{Side}
 use Rattle.ball_laws.specs.History.{History}
 use Rattle.match_laws.specs.declared.rows.{Fate.Fate, BattingRow.BattingRow, BowlingRow.BowlingRow}
@@ -12,6 +12,7 @@ use Rattle.cards.specs.Bowling.{overs_of}
 use Rattle.cards.specs.Results.{result_text}
 use Rattle.changes.specs.declared.stage.{Total.Total, Batter.Batter}
 use Rattle.changes.specs.declared.change.{Part.Part, Change.Change}
+use Rattle.changes.specs.Changes.{is_same_wides}
 use Rattle.changes.specs.Stage.{Stage, batting_in, bowling_in, total_in, striker}
 
 -- before what is of innings i: of the last one `now`, of another its number
@@ -64,12 +65,18 @@ figures_row s first side p was now =
 abbrev pub behind_overs : BowlingRow → List ℕ
 behind_overs row = codes "-" ++ decimal row.maidens ++ codes "-" ++ decimal row.runs ++ codes "-" ++ decimal row.wickets
 
-abbrev pub bowling_text : BowlingRow → List ℕ
-bowling_text row = overs_of row ++ behind_overs row
+-- wide runs and no balls, as a card has them
+abbrev pub wides_text : BowlingRow → List ℕ
+wides_text row = codes ", w " ++ decimal row.wides ++ codes ", nb " ++ decimal row.noballs
 
+abbrev pub bowling_text : Bool → BowlingRow → List ℕ
+bowling_text same row = overs_of row ++ (behind_overs row ++ (if same then [] else wides_text row))
+
+-- where wide runs or no balls differ they are told too, and what was stands in a second row
 abbrev pub bowling_row : Sheet → List ℕ → Side → ℕ → BowlingRow → BowlingRow → List ℕ
 bowling_row s first side p was now =
-    named first (player_of s side p) ++ (bowling_text now ++ (codes ", was " ++ (bowling_text was ++ codes "\n")))
+    let same = is_same_wides was now in
+    named first (player_of s side p) ++ (bowling_text same now ++ (joint same ++ (bowling_text same was ++ codes "\n")))
 
 -- ---- of a match
 

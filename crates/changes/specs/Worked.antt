@@ -4,7 +4,7 @@
 --   so corrected that place 3 is two runs: 1 faces place 4 as well, and is out. 1 b 10 2 (2), 2 not out 0 (0), 2 for 1
 use Rattle.std.specs.Prelude.{◌≡◌, ℕ, false, None, Some, List, [], ◌∷◌, ◌++◌, codes}
 use Rattle.notation.specs.declared.entry.Side.TheVariants.{Home, Away}
-use Rattle.notation.specs.declared.entry.Kind.TheVariants.{Bat}
+use Rattle.notation.specs.declared.entry.Kind.TheVariants.{Bat, Nb, Wide}
 use Rattle.notation.specs.declared.entry.How.TheVariants.{Bowled}
 use Rattle.notation.specs.declared.entry.Who.TheVariants.{Striker}
 use Rattle.notation.specs.declared.entry.{Plain.Plain, Entry.Entry}
@@ -66,6 +66,13 @@ WorkedLate =
     codes "now: home 1 for 0 (0.1), was 1 for 0 (0.2)\n"
     ++ (codes "now: 2 0 (0), was 0 (1)\n"
     ++ codes "now: 10 0.1-0-1-0, was 0.2-0-1-0\n"))
+
+-- a Wide that was a No ball: 1 has faced it
+abbrev pub WorkedWides : Type 0
+WorkedWides =
+    told (opened ++ Write (Bowl (ball 10 Wide 0)) ∷ Fix 3 (Bowl (ball 10 Nb 0)) ∷ []) ≡
+    codes "now: 1 0 (1), was 0 (0)\n"
+    ++ codes "now: 10 0.0-0-1-0, w 0, nb 1,\n  was 0.0-0-1-0, w 1, nb 0\n"
 
 -- a correction that changes nothing, and an entry that is none
 abbrev pub WorkedNothing : Type 0

@@ -60,6 +60,13 @@ fn is_same_batting(one: &BattingRow, other: &BattingRow) -> bool
     one.runs == other.runs && one.faced == other.faced
 }
 
+/// Whether two bowlers have as many wide runs, and as many no balls.
+pub fn is_same_wides(one: &BowlingRow, other: &BowlingRow) -> bool
+    ensures { result ≡ changes.is_same_wides one.now other.now }
+{
+    one.wides == other.wides && one.noballs == other.noballs
+}
+
 fn is_same_bowling(one: &BowlingRow, other: &BowlingRow) -> bool
     ensures { result ≡ changes.is_same_bowling one.now other.now }
 {
@@ -68,6 +75,7 @@ fn is_same_bowling(one: &BowlingRow, other: &BowlingRow) -> bool
         && one.maidens == other.maidens
         && one.runs == other.runs
         && one.wickets == other.wickets
+        && is_same_wides(one, other)
 }
 
 fn is_same_total(one: &Total, other: &Total) -> bool

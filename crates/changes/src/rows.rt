@@ -9,6 +9,7 @@ ghost use Rattle.changes.specs.Stage.{ForBoth};
 ghost use Rattle.changes.specs.Rows as rows;
 
 use crate::change::{Change, Part};
+use crate::differs::is_same_wides;
 use crate::fate::{behind_batting, print_batting, print_figures};
 use crate::results::print_results;
 use crate::stage::{Batter, Total, batting_in, bowling_in, striker, total_in};
@@ -59,7 +60,14 @@ fn print_name<W: Sink>(out: &mut Watched<W>, first: &str, name: &str) -> Result<
     write!(out, "{first}{name} ")
 }
 
-/// What stands between what is and what was: where a row would have too many columns it ends there.
+/// What stands between what is and what was: in one row, or in two.
+fn joint_of(one_row: bool) -> &'static str
+    ensures { result.now ≡ rows.joint one_row }
+{
+    if one_row { ", was " } else { ",\n  was " }
+}
+
+/// The same where a row would have too many columns.
 fn joint(
     sheet: &MatchSheet,
     first: &str,
@@ -80,11 +88,7 @@ fn joint(
         .saturating_sub(name.len())
         .saturating_sub(1);
     let behind_now = behind_batting(behind_name, sheet, side, now).saturating_sub(6);
-    if behind_batting(behind_now, sheet, side, was) > 0 {
-        ", was "
-    } else {
-        ",\n  was "
-    }
+    joint_of(behind_batting(behind_now, sheet, side, was) > 0)
 }
 
 /// Prints what became of a batter of the side, and what had.
@@ -148,13 +152,28 @@ fn print_behind_overs<W: Sink>(out: &mut Watched<W>, row: &BowlingRow) -> Result
     write!(out, "-{maidens}-{runs}-{wickets}")
 }
 
-/// Prints a bowler's overs, maidens, runs and wickets.
-fn print_bowling<W: Sink>(out: &mut Watched<W>, row: &BowlingRow) -> Result<(), WriteFailed>
-    ensures text { OnOk result (Prints W.contents out.old out.new (rows.bowling_text row.now)) }
+/// Prints a bowler's wide runs and no balls, as a card has them.
+fn print_wides<W: Sink>(out: &mut Watched<W>, row: &BowlingRow) -> Result<(), WriteFailed>
+    ensures text { OnOk result (Prints W.contents out.old out.new (rows.wides_text row.now)) }
+    ensures failed { OnErr result (has_failed out.new ≡ true) }
+{
+    let wides = row.wides;
+    let noballs = row.noballs;
+    write!(out, ", w {wides}, nb {noballs}")
+}
+
+/// Prints a bowler's overs, maidens, runs and wickets, and wide runs and no balls unless these are the same.
+fn print_bowling<W: Sink>(
+    out: &mut Watched<W>,
+    same: bool,
+    row: &BowlingRow,
+) -> Result<(), WriteFailed>
+    ensures text { OnOk result (Prints W.contents out.old out.new (rows.bowling_text same row.now)) }
     ensures failed { OnErr result (has_failed out.new ≡ true) }
 {
     print_overs(out, row)?;
-    print_behind_overs(out, row)
+    print_behind_overs(out, row)?;
+    if same { Ok(()) } else { print_wides(out, row) }
 }
 
 /// Prints a bowler's figures, and those that were.
@@ -171,10 +190,11 @@ fn print_bowler<W: Sink>(
         (rows.bowling_row sheet.now first.now side player was.now now.now)) }
     ensures failed { OnErr result (has_failed out.new ≡ true) }
 {
+    let same = is_same_wides(was, now);
     print_name(out, first, sheet.player(side, player))?;
-    print_bowling(out, now)?;
-    print(out, ", was ")?;
-    print_bowling(out, was)?;
+    print_bowling(out, same, now)?;
+    print(out, joint_of(same))?;
+    print_bowling(out, same, was)?;
     print(out, "\n")
 }
 
