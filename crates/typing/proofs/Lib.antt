@@ -1,0 +1,2 @@
+pub mod CourseLemmas
+pub mod KeepingLemmas
