@@ -1,5 +1,6 @@
 """The words that end by themselves, each as it is run where a call of it fails (tests/machine), and without standard
-streams and with little stack (tests/edges). A word that comes has its line here."""
+streams and with little stack (tests/edges). A word that comes has its line here, but for
+`typing`: what that writes goes by what comes first (tests/typing)."""
 import os
 
 TOP = os.path.dirname(os.path.dirname(os.path.dirname(os.path.realpath(__file__))))

@@ -1,7 +1,7 @@
 -- What the words of the program do, with one filled-in command each, as a scorer types it.
 use Rattle.std.specs.Prelude.{ℕ, ◌≤◌, List, [], ◌∷◌, ◌++◌, length, All, codes}
 use Rattle.help.specs.declared.subject.Subject.{Subject}
-use Rattle.help.specs.declared.subject.Subject.TheVariants.{Help, Desk, Board, Key, Check, Card, Export, Page, Lines, Compare, Match, Replay, Migrate, Sheet}
+use Rattle.help.specs.declared.subject.Subject.TheVariants.{Help, Desk, Board, Key, Check, Card, Export, Page, Lines, Compare, Match, Replay, Migrate, Sheet, Typing}
 
 -- rows that a plain terminal shows at once: 24 of 80 columns at most
 abbrev pub FitsAScreen : List (List ℕ) → Type 0
@@ -30,6 +30,7 @@ rows Help =
     codes "  match    has two desks and a board agree a book, all on this machine" ∷
     codes "  replay   plays a schedule of what desks and boards write, send and lose" ∷
     codes "  migrate  moves a desk's votes from a file of version 1 to a new one" ∷
+    codes "  typing   a desk's terminal, at which the line that is typed is edited" ∷
     codes "  help     this; or what one of these words does, as: ./ground help desk" ∷
     codes "" ∷
     codes "With no word at all it does what check does." ∷ []
@@ -182,6 +183,16 @@ rows Sheet =
     codes "  ./ground sheet --sheet sheet.toml" ∷
     codes "" ∷
     codes "  --sheet S  the sheet of the match" ∷ []
+rows Typing =
+    codes "typing: the terminal of a desk, which ./ground begins with it: it edits what is" ∷
+    codes "typed, hands each line to the desk, and shows what that tells above it." ∷
+    codes "" ∷
+    codes "  ./ground typing --lines lines.txt --told told.txt --columns 80 <keys.txt \\" ∷
+    codes "    >shown.txt" ∷
+    codes "" ∷
+    codes "  --lines L    where each line goes, a file or a pipe that is there" ∷
+    codes "  --told T     where the desk's rows come from, likewise" ∷
+    codes "  --columns N  the width of the terminal, 20 to 1000" ∷ []
 
 -- what is told of a word
 abbrev pub help_on : Subject → List ℕ

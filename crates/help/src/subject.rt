@@ -21,6 +21,7 @@ pub enum Subject {
     Replay,
     Migrate,
     Sheet,
+    Typing,
 }
 
 /// The word of the program that a text is.
@@ -42,6 +43,7 @@ pub fn subject_of(word: &str) -> Option<Subject>
         "replay" => Some(Subject::Replay),
         "migrate" => Some(Subject::Migrate),
         "sheet" => Some(Subject::Sheet),
+        "typing" => Some(Subject::Typing),
         _ => None,
     }
 }

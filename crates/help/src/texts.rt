@@ -21,6 +21,7 @@ ground: the book of a cricket match, kept by two scorers. Its words:
   match    has two desks and a board agree a book, all on this machine
   replay   plays a schedule of what desks and boards write, send and lose
   migrate  moves a desk's votes from a file of version 1 to a new one
+  typing   a desk's terminal, at which the line that is typed is edited
   help     this; or what one of these words does, as: ./ground help desk
 
 With no word at all it does what check does.
@@ -201,6 +202,18 @@ each: where, and what. Look at it before the match.
   --sheet S  the sheet of the match
 ";
 
+const TYPING: &str = "\
+typing: the terminal of a desk, which ./ground begins with it: it edits what is
+typed, hands each line to the desk, and shows what that tells above it.
+
+  ./ground typing --lines lines.txt --told told.txt --columns 80 <keys.txt \\
+    >shown.txt
+
+  --lines L    where each line goes, a file or a pipe that is there
+  --told T     where the desk's rows come from, likewise
+  --columns N  the width of the terminal, 20 to 1000
+";
+
 /// What is told of a word.
 pub fn help_on(subject: Subject) -> &'static str
     ensures { result.now ≡ texts.help_on subject }
@@ -220,5 +233,6 @@ pub fn help_on(subject: Subject) -> &'static str
         Subject::Replay => REPLAY,
         Subject::Migrate => MIGRATE,
         Subject::Sheet => SHEET,
+        Subject::Typing => TYPING,
     }
 }

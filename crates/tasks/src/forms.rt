@@ -89,6 +89,14 @@ fn key_words<'a>(alloc: Global) -> Result<Command<'a>, AllocError> {
     Command::new(alloc, "key").arg(wanted(alloc, "to"))
 }
 
+/// The words of `typing`.
+fn typing_words<'a>(alloc: Global) -> Result<Command<'a>, AllocError> {
+    Command::new(alloc, "typing")
+        .arg(wanted(alloc, "lines"))?
+        .arg(wanted(alloc, "told"))?
+        .arg(wanted(alloc, "columns").value_parser(value_parser!(u16).range(20..=1000)))
+}
+
 /// An option that may be left out, with any value.
 fn free<'a>(alloc: Global, name: &'a str) -> Arg<'a> {
     Arg::new(alloc, name).long(name)
@@ -168,6 +176,7 @@ pub fn program_words<'a>(alloc: Global) -> Result<Command<'a>, AllocError> {
     let program = with_command(program, migrate_words(alloc))?;
     let program = with_command(program, match_words(alloc))?;
     let program = with_command(program, key_words(alloc))?;
+    let program = with_command(program, typing_words(alloc))?;
     let program = with_command(program, desk_words(alloc))?;
     with_command(program, board_words(alloc))
 }

@@ -133,6 +133,12 @@ pub enum Task<'a> {
     Key {
         to: &'a str,
     },
+    /// To keep a desk's terminal of so many columns: lines go to a file or a pipe, and what the desk tells comes from another.
+    Typing {
+        lines: &'a str,
+        told: &'a str,
+        columns: u16,
+    },
     /// To keep a scorer's desk.
     Desk(DeskTask<'a>),
     /// To keep a board.

@@ -108,6 +108,17 @@ fn match_task<'a>(words: &ArgMatches<'a>) -> Option<Task<'a>>
     })
 }
 
+/// The task of `typing`.
+fn typing_task<'a>(words: &ArgMatches<'a>) -> Option<Task<'a>>
+    ensures { IfSome result IsTask }
+{
+    Some(Task::Typing {
+        lines: words.get_str("lines")?,
+        told: words.get_str("told")?,
+        columns: number_in(words, "columns")?,
+    })
+}
+
 /// The task of a command's words.
 fn task_of<'a>(command: &str, words: &ArgMatches<'a>) -> Option<Task<'a>>
     ensures { IfSome result IsTask }
@@ -128,6 +139,7 @@ fn task_of<'a>(command: &str, words: &ArgMatches<'a>) -> Option<Task<'a>>
         "key" => Some(Task::Key {
             to: words.get_str("to")?,
         }),
+        "typing" => typing_task(words),
         "desk" => Some(Task::Desk(desk_task(words)?)),
         "board" => Some(Task::Board(board_task(words)?)),
         _ => None,
