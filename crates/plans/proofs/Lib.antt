@@ -1,0 +1,3 @@
+pub mod StandingLemmas
+pub mod DraftLemmas
+pub mod BowlerLemmas

@@ -1,0 +1,5 @@
+-- What the public calls claim: Plans, Answers, Bowlers. inner: for private functions only.
+pub mod Plans
+pub mod Answers
+pub mod Bowlers
+pub mod inner

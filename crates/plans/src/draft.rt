@@ -1,0 +1,107 @@
+//! A draft of a plan: lines that a book takes one after another.
+
+ghost use Rattle.std.specs.Prelude.{◌≡◌, ◌≤◌, ◌+◌, ◌++◌, ◌∷◌, [], ℕ, IfOk, OnOk, length};
+ghost use Rattle.notation.specs.declared.entry.TheConstants.{PLACES};
+ghost use Rattle.notation.specs.Written.{IsEntry};
+ghost use Rattle.plans.specs.inner.Standing.{IsDraft};
+
+use crate::naming::names;
+use crate::scoring::first_refused;
+use crate::standing::stand;
+use crate::target::items_of;
+use corrections::{BookOf, Placed};
+use notation::{Entry, PLACES, Plain};
+use std::alloc::{AllocError, Global};
+
+/// Lines that a book takes one after another, and what stands behind them.
+#[derive(Drop)]
+pub struct Draft {
+    pub lines: Vec<Entry>,
+    pub items: Vec<Placed>,
+}
+
+/// What came of a line.
+#[derive(Clone, Copy, Debug, PartialEq, Eq)]
+pub enum Trial {
+    /// The book takes it.
+    Taken,
+    /// The Laws would then refuse what stands at this place.
+    InTheWay(u32),
+    /// It is no correction of the book, or the book has no place for it.
+    NoRoom,
+}
+
+/// No line yet.
+pub fn draft_of<B: BookOf>(alloc: Global, book: &B) -> Result<Draft, AllocError>
+    ensures { (n : ℕ) → IfOk result (λ draft. IsDraft n (B.content book.now) draft.lines.items draft.items.items) }
+{
+    // A book has room for all its entries.
+    let _len = book.len();
+    Ok(Draft {
+        lines: Vec::new(alloc),
+        items: items_of(alloc, book)?,
+    })
+}
+
+/// These items, once more.
+fn copy_of(alloc: Global, items: &[Placed]) -> Result<Vec<Placed>, AllocError>
+    ensures { IfOk result (λ copy. copy.items ≡ items.now) }
+{
+    let mut copy = Vec::new(alloc);
+    copy.extend_from_slice(items)?;
+    Ok(copy)
+}
+
+impl Draft {
+    /// The place of its next line.
+    fn place<B: BookOf>(&self, book: &B) -> u32
+        requires { length (B.content book.now) + length self.now.lines.items ≤ PLACES }
+        ensures { result ≡ length (B.content book.now) + length self.now.lines.items }
+    {
+        book.len() + self.lines.len() as u32
+    }
+
+    /// Adds a line behind which this stands.
+    fn add(&mut self, entry: &Entry, items: Vec<Placed>) -> Result<Trial, AllocError>
+        ensures { OnOk result ((self.new.lines.items ≡ self.old.lines.items ++ entry.now ∷ []) × (self.new.items ≡ items)) }
+    {
+        // The prover asks which crate holds `Plain`, which `Placed` names: a local of the type tells it.
+        let _item: Option<Plain> = None;
+        self.lines.push(*entry)?;
+        self.items = items;
+        Ok(Trial::Taken)
+    }
+
+    /// Adds a line, if the book takes it behind those before it.
+    pub fn enter<B: BookOf>(
+        &mut self,
+        alloc: Global,
+        innings_a_side: u32,
+        book: &B,
+        entry: &Entry,
+    ) -> Result<Trial, AllocError>
+        requires innings { (1 ≤ innings_a_side) × (innings_a_side ≤ 2) }
+        requires entry { IsEntry entry.now }
+        requires draft { IsDraft innings_a_side (B.content book.now) self.old.lines.items self.old.items.items }
+        ensures { OnOk result (IsDraft innings_a_side (B.content book.now) self.new.lines.items self.new.items.items) }
+    {
+        let place = self.place(book);
+        if place >= PLACES || !names(book, entry) {
+            return Ok(Trial::NoRoom);
+        }
+        let mut items = copy_of(alloc, &self.items)?;
+        stand(&mut items, place, entry)?;
+        match first_refused(innings_a_side, &items) {
+            Some((placed, _)) => Ok(Trial::InTheWay(placed.place)),
+            None => self.add(entry, items),
+        }
+    }
+
+    /// Its lines.
+    pub fn into_lines(self) -> Vec<Entry>
+        ensures { result ≡ self.lines }
+    {
+        let Draft { lines, items: _ } = self;
+        lines
+    }
+}
