@@ -1,0 +1,3 @@
+-- What the public call claims: Planning. inner: for private functions only.
+pub mod Planning
+pub mod inner
