@@ -16,10 +16,13 @@ use desk::{Desk, Received};
 use entry_log::SlotsOf;
 use links::{Link, send_each};
 use station_texts::said::{Said, entry_said};
+use std::alloc::Global;
 use wire::What;
 
-/// Has a desk pen the entry that a line says in full, by the desk's book and its sheet, and sends its vote to all.
+/// Has a desk pen the entry that a line says in full, by the desk's book and its sheet, and sends its vote to all. Memory is
+/// taken for a plan alone.
 pub fn pen<S: SlotsOf, B: BookOf + Drop, L: Link>(
+    alloc: Global,
     desk: &mut Desk<S, B>,
     sheet: &MatchSheet,
     line: &[u8],
@@ -29,7 +32,15 @@ pub fn pen<S: SlotsOf, B: BookOf + Drop, L: Link>(
 {
     let differs = desk.position().round > 0;
     let last = desk.last_entry();
-    let entry = match entry_said(line, desk.book(), sheet, last, differs, desk.has_voted()) {
+    let entry = match entry_said(
+        alloc,
+        line,
+        desk.book(),
+        sheet,
+        last,
+        differs,
+        desk.has_voted(),
+    ) {
         Ok(entry) => entry,
         Err(said) => return said,
     };

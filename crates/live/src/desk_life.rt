@@ -75,7 +75,7 @@ where
 {
     match begin_desk::<S, B>(alloc, disk, desk, sheet.game(), book) {
         Ok(mut begun) => match run_desk(
-            &mut begun, desk, sheet, link, keys, clock, out, page, turns,
+            alloc, &mut begun, desk, sheet, link, keys, clock, out, page, turns,
         ) {
             Ok(()) => Ok(()),
             Err(end) => Err(LifeEnd::Ended(end)),

@@ -39,6 +39,7 @@ use station_texts::both::Both;
 use station_texts::news::{print_came, print_unopened};
 use station_texts::texts::{print_greeting, print_said};
 use station_texts::warned::Warned;
+use std::alloc::Global;
 use streams::{Sink, Watched};
 
 /// A desk's vote of its position, where it is cast.
@@ -69,6 +70,7 @@ fn stand_of<S: SlotsOf, B: BookOf + Drop>(desk: &Desk<S, B>) -> Stand
 
 /// Takes a line that was typed, if there is one, and tells the scorer, who was told this of a peer, what it came to.
 fn take_line<S: SlotsOf, B: BookOf + Drop, L: Link, K: Keys, W: Sink>(
+    alloc: Global,
     desk: &mut Desk<S, B>,
     sheet: &MatchSheet,
     link: &mut L,
@@ -95,7 +97,7 @@ fn take_line<S: SlotsOf, B: BookOf + Drop, L: Link, K: Keys, W: Sink>(
         own: own_line(desk),
         other: desk.noted(),
     };
-    let said = pen(desk, sheet, &buffer[..count], link);
+    let said = pen(alloc, desk, sheet, &buffer[..count], link);
     if let Err(end) = end_of(&said) {
         return Err(end);
     }
@@ -273,6 +275,7 @@ fn listen<S: SlotsOf, B: BookOf + Drop, L: Link, C: Clock, W: Sink>(
 
 /// What a turn does before what it has told is handed on: it takes a line of the scorer, and then what came.
 fn act<S: SlotsOf, B: BookOf + Drop, L: Link, K: Keys, C: Clock, W: Sink>(
+    alloc: Global,
     desk: &mut Desk<S, B>,
     sheet: &MatchSheet,
     link: &mut L,
@@ -292,7 +295,7 @@ fn act<S: SlotsOf, B: BookOf + Drop, L: Link, K: Keys, C: Clock, W: Sink>(
 {
     let at = desk.position();
     let votes = desk.votes();
-    take_line(desk, sheet, link, keys, out, between.warned)?;
+    take_line(alloc, desk, sheet, link, keys, out, between.warned)?;
     let has_voted = desk.votes() != votes;
     between
         .pace
@@ -303,6 +306,7 @@ fn act<S: SlotsOf, B: BookOf + Drop, L: Link, K: Keys, C: Clock, W: Sink>(
 
 /// A desk's turn: it takes a line of its scorer, looks at the clock and says what is due, and takes what came.
 fn turn<S: SlotsOf, B: BookOf + Drop, L: Link, K: Keys, C: Clock, W: Sink>(
+    alloc: Global,
     desk: &mut Desk<S, B>,
     sheet: &MatchSheet,
     link: &mut L,
@@ -319,7 +323,7 @@ fn turn<S: SlotsOf, B: BookOf + Drop, L: Link, K: Keys, C: Clock, W: Sink>(
         (known_at result (W.contents (stream_of out.old))) (known_at result (W.contents (stream_of out.new))) }
     ensures failed { result ≡ Err DeskEnd.Write → has_failed out.new ≡ true }
 {
-    act(desk, sheet, link, keys, clock, out, between)?;
+    act(alloc, desk, sheet, link, keys, clock, out, between)?;
     told(out.flush())?;
     between.pace.end_turn();
     Ok(())
@@ -354,6 +358,7 @@ fn show<S: SlotsOf, B: BookOf + Drop, P: ShowsDesk<B>>(
 
 /// Tells the scorer where the desk of this letter stands, and takes so many turns.
 fn take_turns<S: SlotsOf, B: BookOf + Drop, L: Link, K: Keys, C: Clock, W: Sink, P: ShowsDesk<B>>(
+    alloc: Global,
     desk: &mut Desk<S, B>,
     own: DeskId,
     sheet: &MatchSheet,
@@ -378,7 +383,7 @@ fn take_turns<S: SlotsOf, B: BookOf + Drop, L: Link, K: Keys, C: Clock, W: Sink,
         warned: Warned::NOTHING,
     };
     for number in 0..turns {
-        turn(desk, sheet, link, keys, clock, out, &mut between)?;
+        turn(alloc, desk, sheet, link, keys, clock, out, &mut between)?;
         show(desk, sheet, page);
     }
     Ok(())
@@ -402,6 +407,7 @@ fn end_told(end: Result<(), DeskEnd>, flushed: Result<(), DeskEnd>) -> Result<()
 /// typed, its times just those that its clock showed, its texts just those that were written. And what is handed on to be
 /// shown, after each turn, is just what is seen of the desk then.
 pub fn run_desk<S: SlotsOf, B: BookOf + Drop, L: Link, K: Keys, C: Clock, W: Sink, P: ShowsDesk<B>>(
+    alloc: Global,
     desk: &mut Desk<S, B>,
     own: DeskId,
     sheet: &MatchSheet,
@@ -423,6 +429,6 @@ pub fn run_desk<S: SlotsOf, B: BookOf + Drop, L: Link, K: Keys, C: Clock, W: Sin
         (S.Disk.faults (disk_of desk.old)) (S.Disk.faults (disk_of desk.new)) }
     ensures failed { result ≡ Err DeskEnd.Write → has_failed out.new ≡ true }
 {
-    let end = take_turns(desk, own, sheet, link, keys, clock, out, page, turns);
+    let end = take_turns(alloc, desk, own, sheet, link, keys, clock, out, page, turns);
     end_told(end, told(out.flush()))
 }

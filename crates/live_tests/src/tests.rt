@@ -81,6 +81,7 @@ fn run<'a>(
     let mut out = Watched::new(Screen::new(alloc, world));
     let mut clock = Hand::new(world);
     let answer = run_desk(
+        alloc,
         &mut desk,
         DeskId::A,
         &sheet,

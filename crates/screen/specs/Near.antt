@@ -6,7 +6,7 @@ use Rattle.notation.specs.Written.{Token, tokens}
 
 -- the words that a scorer may type, and the first of the marks
 unfoldable pub vocabulary : List ℕ
-vocabulary = codes "wide wd nb lbw bowled caught stumped runout hitwicket hittwice obstructing striker other crossed b1 lb1 wd1 nb1 bat bye leg nbbye nbleg four six dot overthrow short dead over in innings home away gone retiredhurt retiredout timedout penalty swap end allout nobatter declared forfeited overs close void fix late again undo list score card players bowlers who help quit exit"
+vocabulary = codes "wide wd nb lbw bowled caught stumped runout hitwicket hittwice obstructing striker other crossed b1 lb1 wd1 nb1 bat bye leg nbbye nbleg four six dot overthrow short dead over in innings home away gone retiredhurt retiredout timedout penalty swap end allout nobatter declared forfeited overs close void fix late again undo list score card players bowlers who plan help quit exit"
 
 -- the same letters, in either case
 abbrev pub is_same : Token → Token → Bool

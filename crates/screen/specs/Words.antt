@@ -1,5 +1,5 @@
 -- The words that are no entry's, as a scorer types them.
-use Rattle.std.specs.Prelude.{ℕ, ◌-◌, ◌==◌, Bool, ◌||◌, length, take, Option, Some, None, if◌then◌else◌, List, [], ◌∷◌, codes, bytes_eq, option_map}
+use Rattle.std.specs.Prelude.{ℕ, ◌-◌, ◌==◌, Bool, true, false, ◌||◌, length, take, drop, Option, Some, None, if◌then◌else◌, List, [], ◌∷◌, codes, bytes_eq, option_map}
 use Rattle.std.specs.Char.{is_ascii_whitespace}
 use Rattle.std.specs.List.{list_all, suffix_len}
 use Rattle.notation.specs.declared.entry.Side.{Side}
@@ -8,7 +8,7 @@ use Rattle.notation.specs.Written.{Token, tokens, found_number}
 use Rattle.match_laws.specs.History.{or_else}
 use Rattle.cards.specs.Sheet.{is_printable}
 use Rattle.screen.specs.declared.{topic.Topic.Topic, word.Word.Word}
-use Rattle.screen.specs.declared.topic.Topic.TheVariants.{Innings, In, Ball, Gone, Over, Penalty, Swap, End, Close, Void, Fix, Late, Again, Undo, Listing, Score, Card, Players, Bowlers, Who, Quit, Short}
+use Rattle.screen.specs.declared.topic.Topic.TheVariants.{Innings, In, Ball, Gone, Over, Penalty, Swap, End, Close, Void, Fix, Late, Again, Undo, Listing, Score, Card, Players, Bowlers, Who, Plan, Quit, Short}
 
 -- the words that begin a line of an entry, but marks
 abbrev pub line_topic : Token → Option Topic
@@ -38,6 +38,7 @@ desk_topic t =
     else if bytes_eq t (codes "players") then Some Players
     else if bytes_eq t (codes "bowlers") then Some Bowlers
     else if bytes_eq t (codes "who") then Some Who
+    else if bytes_eq t (codes "plan") then Some Plan
     else if bytes_eq t (codes "quit") then Some Quit
     else if bytes_eq t (codes "short") then Some Short
     else None
@@ -57,6 +58,7 @@ single t =
     else if bytes_eq t (codes "bowlers") then Some Word.Bowlers
     else if bytes_eq t (codes "who") then Some Word.Waiting
     else if bytes_eq t (codes "help") then Some Word.Forms
+    else if bytes_eq t (codes "plan") then Some (Word.More Plan)
     else None
 
 -- two tokens
@@ -89,13 +91,23 @@ abbrev pub quadruple : Token → Token → Token → Token → Option Word
 quadruple t u v w =
     if bytes_eq t (codes "over") then over_of (found_number 1 8191 u) (side_in v) (found_number 1 2 w) else None
 
+-- two tokens and more
+abbrev pub several : Token → Token → List Token → Option Word
+several t u [] = pair t u
+several t u (v ∷ []) = triple t u v
+several t u (v ∷ w ∷ []) = quadruple t u v w
+several t u (v ∷ w ∷ x ∷ ts) = None
+
+-- `plan` with anything behind it is one
 abbrev pub word_from : List Token → Option Word
 word_from [] = None
 word_from (t ∷ []) = single t
-word_from (t ∷ u ∷ []) = pair t u
-word_from (t ∷ u ∷ v ∷ []) = triple t u v
-word_from (t ∷ u ∷ v ∷ w ∷ []) = quadruple t u v w
-word_from (t ∷ u ∷ v ∷ w ∷ x ∷ ts) = None
+word_from (t ∷ u ∷ ts) = if bytes_eq t (codes "plan") then Some Word.Plan else several t u ts
+
+-- of `plan` the line alone doesn't say what is shown
+abbrev pub is_plan : Word → Bool
+is_plan Word.Plan = true
+is_plan word = false
 
 -- a line without the blanks at its end
 abbrev pub trimmed : List ℕ → List ℕ
@@ -107,6 +119,13 @@ asked line = if list_all is_printable line then word_from (tokens line) else Non
 -- what a line asks for, if it is such a word
 unfoldable pub word_of : List ℕ → Option Word
 word_of line = asked (trimmed line)
+
+-- what stands behind `plan `, of a printable line
+abbrev pub plain : List ℕ → List ℕ
+plain text = if list_all is_printable text then text else []
+
+abbrev pub behind_plan : List ℕ → List ℕ
+behind_plan line = plain (drop 5 (trimmed line))
 
 -- the line ends the desk: `quit` or `exit`
 abbrev pub ends_desk : List ℕ → Bool

@@ -16,4 +16,4 @@ pub use sentences::{fault_sentence, refusal_sentence};
 pub use sides::{print_player, print_sides};
 pub use topic::{HELP, Topic, help_on};
 pub use waiting::print_waiting;
-pub use word::{Word, is_end, word_of};
+pub use word::{Word, behind_plan, is_end, word_of};

@@ -10,7 +10,7 @@ use streams::{Sink, Watched, WriteFailed};
 
 /// The words that a scorer may type, and the first of the marks.
 const VOCABULARY: &str =
-    "wide wd nb lbw bowled caught stumped runout hitwicket hittwice obstructing striker other crossed b1 lb1 wd1 nb1 bat bye leg nbbye nbleg four six dot overthrow short dead over in innings home away gone retiredhurt retiredout timedout penalty swap end allout nobatter declared forfeited overs close void fix late again undo list score card players bowlers who help quit exit";
+    "wide wd nb lbw bowled caught stumped runout hitwicket hittwice obstructing striker other crossed b1 lb1 wd1 nb1 bat bye leg nbbye nbleg four six dot overthrow short dead over in innings home away gone retiredhurt retiredout timedout penalty swap end allout nobatter declared forfeited overs close void fix late again undo list score card players bowlers who plan help quit exit";
 
 /// How many near words are told at most.
 const MOST_NEAR: usize = 3;

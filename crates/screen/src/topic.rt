@@ -27,6 +27,7 @@ pub enum Topic {
     Players,
     Bowlers,
     Who,
+    Plan,
     Quit,
     /// Short lines.
     Short,
@@ -45,8 +46,7 @@ over            ends the over; over n [S i]: the entries of the n-th one
 penalty S x y   by Law x.y
 swap
 end C           C: allout nobatter declared forfeited overs
-close
-void
+close, void     the match is over; nothing, in place of what is struck out
 fix p E         place p, or the ball 9.2, is to read E, any line above
 late p E        E, any line above, belongs after place p
 again [E]       E, or what you wrote before, where you two differ
@@ -55,6 +55,7 @@ list [n], a b   the last n entries, 12 left out; those of the places a to b
 score, card [n] this over and the total; both cards of this innings or the n-th
 players, who    both sides; who isn't out or in; an empty line: where you stand
 bowlers         who may bowl the next ball
+plan E, E ..    how to enter fix and late lines that are legal only together
 help [word]     this, or more on one of these words; short: short lines
 quit, exit      ends; the same command goes on
 ";
@@ -97,6 +98,14 @@ undo: takes back the line held last; none held: fix p void of the last entry
   undo
 ";
 
+/// What `help plan` shows.
+const HELP_PLAN: &str = "\
+plan E, E ..: the lines, one after another, by which fix and late lines E hold
+  plan fix 3 2, fix 4 1
+plan bowler n b: those by which b bowled over n of the innings begun last
+  plan bowler 8 usher
+";
+
 /// The word of the language of lines.
 fn line_topic(word: &str) -> Option<Topic>
     ensures { result ≡ words.line_topic word.now }
@@ -131,6 +140,7 @@ fn desk_topic(word: &str) -> Option<Topic>
         "players" => Some(Topic::Players),
         "bowlers" => Some(Topic::Bowlers),
         "who" => Some(Topic::Who),
+        "plan" => Some(Topic::Plan),
         "quit" => Some(Topic::Quit),
         "short" => Some(Topic::Short),
         _ => None,
@@ -180,6 +190,7 @@ pub fn help_on(topic: Topic) -> &'static str
             "bowlers: who may bowl the next ball; how many overs he has left\n  bowlers\n"
         }
         Topic::Who => "who: who of the side that bats isn't out and isn't in\n  who\n",
+        Topic::Plan => HELP_PLAN,
         Topic::Quit => "quit: ends the desk; the same command goes on\n  quit\n",
         Topic::Short => HELP_SHORT,
     }

@@ -1,6 +1,6 @@
 //! The words that are no entry's, as a scorer types them.
 
-ghost use Rattle.std.specs.Prelude.{◌≡◌, option_map};
+ghost use Rattle.std.specs.Prelude.{◌≡◌, drop, option_map};
 ghost use Rattle.notation.specs.Written.{found_number};
 ghost use Rattle.cards.specs.Sheet as sheets;
 ghost use Rattle.std.specs.List.{list_all};
@@ -44,6 +44,8 @@ pub enum Word {
     Bowlers,
     /// `who`: who isn't out and isn't in.
     Waiting,
+    /// `plan` with corrections behind it: lines by which the book comes to have them.
+    Plan,
     /// `help`: the forms of all lines.
     Forms,
     /// `help` with a word: what this word does.
@@ -65,6 +67,7 @@ fn single(token: &str) -> Option<Word>
         "bowlers" => Some(Word::Bowlers),
         "who" => Some(Word::Waiting),
         "help" => Some(Word::Forms),
+        "plan" => Some(Word::More(Topic::Plan)),
         _ => None,
     }
 }
@@ -163,14 +166,10 @@ fn pair(token: &str, next: &str) -> Option<Word>
     }
 }
 
-/// What tokens ask for.
-fn word_from(tokens: &mut Tokens<'_>) -> Option<Word>
-    ensures { result ≡ words.word_from tokens.old }
+/// What two tokens and more ask for.
+fn several(token: &str, next: &str, tokens: &mut Tokens<'_>) -> Option<Word>
+    ensures { result ≡ words.several token.now next.now tokens.old }
 {
-    let token = tokens.next()?;
-    let Some(next) = tokens.next() else {
-        return single(token);
-    };
     let Some(third) = tokens.next() else {
         return pair(token, next);
     };
@@ -182,6 +181,20 @@ fn word_from(tokens: &mut Tokens<'_>) -> Option<Word>
     } else {
         None
     }
+}
+
+/// What tokens ask for.
+fn word_from(tokens: &mut Tokens<'_>) -> Option<Word>
+    ensures { result ≡ words.word_from tokens.old }
+{
+    let token = tokens.next()?;
+    let Some(next) = tokens.next() else {
+        return single(token);
+    };
+    if token == "plan" {
+        return Some(Word::Plan);
+    }
+    several(token, next, tokens)
 }
 
 /// A line without the blanks at its end.
@@ -196,6 +209,36 @@ fn is_plain(line: &[u8]) -> bool
     ensures { result ≡ list_all sheets.is_printable line.now }
 {
     line.iter().all(|byte| *byte >= 32 && *byte <= 126)
+}
+
+/// All but the first bytes, so many.
+fn behind(text: &[u8], count: usize) -> &[u8]
+    ensures { result.now ≡ drop count text.now }
+{
+    if text.len() < count {
+        return &text[text.len()..];
+    }
+    &text[count..]
+}
+
+/// A text, if it is printable ASCII.
+fn plain(text: &[u8]) -> &str
+    ensures { result.now ≡ words.plain text.now }
+{
+    if !is_plain(text) {
+        return "";
+    }
+    match str::from_utf8(text) {
+        Ok(text) => text,
+        Err(_) => "",
+    }
+}
+
+/// What stands behind `plan ` in a line that begins so.
+pub fn behind_plan(line: &[u8]) -> &str
+    ensures { result.now ≡ words.behind_plan line.now }
+{
+    plain(behind(trimmed(line), 5))
 }
 
 /// What a line without blanks at its end asks for.

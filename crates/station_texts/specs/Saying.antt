@@ -14,11 +14,13 @@ use Rattle.agree_core.specs.FileView.{FileView}
 use Rattle.desk.specs.Answers.{pen_answer}
 use Rattle.desk.specs.Desk.{last_entry}
 use Rattle.cards.specs.Sheet.{Sheet}
-use Rattle.screen.specs.Words.{is_end, word_of}
+use Rattle.screen.specs.Words.{behind_plan, is_end, is_plan, word_of}
+use Rattle.screen.specs.declared.word.Word.{Word}
 use Rattle.shorthand.specs.Full.{in_full}
 use Rattle.shorthand.specs.Lines.{reason_of}
+use Rattle.plan_words.specs.Planning.{IsPlanned}
 use Rattle.station_texts.specs.declared.said.Said.{Said}
-use Rattle.station_texts.specs.declared.said.Said.TheVariants.{Quit, Asks, Unclear, Fault, SayAgain, NoneDiffers, Waiting, Refused, Penned}
+use Rattle.station_texts.specs.declared.said.Said.TheVariants.{Quit, Asks, Plan, Unclear, Fault, SayAgain, NoneDiffers, Waiting, Refused, Penned}
 
 -- a line of a round: behind `again ` in every round but the first
 abbrev pub says_again : Bool → List ℕ → List ℕ
@@ -86,7 +88,8 @@ ReadsNone s book differs is_cast line said =
 -- at which the two scorers differed or not, where the desk's vote of the round is cast or not
 abbrev pub ComesTo : Sheet → List Entry → List Ballot → Bool → Bool → List ℕ → Said → Type 0
 ComesTo s book votes differs is_cast line Quit = is_end line ≡ true
-ComesTo s book votes differs is_cast line (Asks word) = word_of line ≡ Some word
+ComesTo s book votes differs is_cast line (Asks word) = (word_of line ≡ Some word) × (is_plan word ≡ false)
+ComesTo s book votes differs is_cast line (Plan planned) = (word_of line ≡ Some Word.Plan) × IsPlanned s book (behind_plan line) planned
 ComesTo s book votes differs is_cast line (Unclear unclear) =
     IsNoWord line × ReadsNone s book differs is_cast line (Unclear unclear)
 ComesTo s book votes differs is_cast line (Fault fault) =

@@ -8,8 +8,6 @@ use Rattle.ball_laws.specs.Over.{counting}
 use Rattle.match_laws.specs.History.{begun}
 use Rattle.match_laws.specs.Figures.{overs}
 use Rattle.match_laws.specs.Result.{current, outcome}
-use Rattle.match_laws.specs.LawRefusal.{number_of as law_number}
-use Rattle.match_laws.specs.declared.refusals.LawRefusal.{LawRefusal}
 use Rattle.corrections.specs.declared.refusal.Refusal.TheVariants.{Later}
 use Rattle.corrections.specs.CleanList.{history_of}
 use Rattle.agree_core.specs.declared.{position.Position.Position, position.TheConstants.ROUNDS, seat.Settled.Settled, seat.Heard.Heard}
@@ -31,9 +29,11 @@ use Rattle.screen.specs.Waiting.{who_waits}
 use Rattle.screen.specs.Sides.{both_sides}
 use Rattle.score_rows.specs.Limited.{bowlers}
 use Rattle.screen.specs.Help.{help, help_on}
-use Rattle.screen.specs.Sentences.{of_desk, of_law}
+use Rattle.screen.specs.Sentences.{of_desk}
 use Rattle.screen.specs.declared.word.Word.{Word}
 use Rattle.station_texts.specs.declared.{reminder.Reminder.Reminder, said.Said.Said, warned.Warned.Warned}
+use Rattle.station_texts.specs.Laters.{later_numbers, later_words}
+use Rattle.station_texts.specs.Planning.{planned_text}
 use Rattle.station_texts.specs.Questions.{explained, fault_text, numbered, unclear_text, who_may}
 
 -- the umpire calls over
@@ -80,14 +80,6 @@ abbrev pub refused_text : Refusal → List ℕ
 refused_text Refusal.Failed = []
 refused_text Refusal.Device = []
 refused_text why = explained (codes "refused") (number_of why) (name_of why) (of_desk why)
-
--- of a correction of the book, the first place that it leaves refused with what would stand there, and why
-abbrev pub later_numbers : ℕ → LawRefusal → List ℕ
-later_numbers place why = codes "refused 32 Later " ++ decimal place ++ codes " " ++ decimal (law_number why)
-
-abbrev pub later_words : ℕ → Plain → LawRefusal → List ℕ
-later_words place item why =
-    codes ": place " ++ decimal place ++ codes ", " ++ text_of (Write item) ++ codes ":\n  " ++ of_law why ++ codes "\n"
 
 abbrev pub refused_entry : List Entry → Entry → Refusal → List ℕ
 refused_entry book e (Refusal.Book (Later place why)) =
@@ -171,7 +163,7 @@ abbrev pub standing : Sheet → ℕ → List Entry → Position → Option Entry
 standing sheet innings book at own waited silent =
     greeting sheet innings book at own ++ other_text at.place waited ++ silence_text silent
 
--- what is shown of a word, where a desk stands so
+-- what is shown of a word, where a desk stands so; of `plan` what `Planning` has
 abbrev pub word_text : Sheet → ℕ → Position → Option Entry → Bool → Bool → List Entry → Word → List ℕ
 word_text sheet innings at own waited silent book Word.Where = standing sheet innings book at own waited silent
 word_text sheet innings at own waited silent book (Word.Entries most) = listing most book
@@ -184,6 +176,7 @@ word_text sheet innings at own waited silent book (Word.CardsOf number) = cards_
 word_text sheet innings at own waited silent book Word.Sides = both_sides sheet
 word_text sheet innings at own waited silent book Word.Bowlers = bowlers sheet (history_of book)
 word_text sheet innings at own waited silent book Word.Waiting = who_waits sheet (history_of book)
+word_text sheet innings at own waited silent book Word.Plan = []
 word_text sheet innings at own waited silent book Word.Forms = help
 word_text sheet innings at own waited silent book (Word.More topic) = help_on topic
 
@@ -193,6 +186,7 @@ abbrev pub said_text : Sheet → ℕ → Position → Option Entry → Option En
 said_text sheet innings at own other silent book Said.Quit = []
 said_text sheet innings at own other silent book (Said.Asks word) =
     word_text sheet innings at own (is_waited_for own other) silent book word
+said_text sheet innings at own other silent book (Said.Plan planned) = planned_text sheet book planned
 said_text sheet innings at own other silent book (Said.Unclear unclear) =
     unclear_text sheet unclear ++ who_may sheet (history_of book) unclear
 said_text sheet innings at own other silent book (Said.Fault fault) = fault_text fault

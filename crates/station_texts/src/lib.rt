@@ -5,6 +5,7 @@ pub mod both;
 pub mod news;
 mod notice_log;
 pub mod notices;
+mod plan_text;
 pub mod questions;
 pub mod refusals;
 pub mod reminder;

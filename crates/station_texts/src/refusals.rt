@@ -7,6 +7,7 @@ ghost use Rattle.changes.specs.Before.{item_with};
 ghost use Rattle.desk.specs.Refusal.{name_of, number_of};
 ghost use Rattle.screen.specs.Sentences.{of_desk};
 ghost use Rattle.station_texts.specs.Questions.{explained};
+ghost use Rattle.station_texts.specs.Laters as laters;
 ghost use Rattle.station_texts.specs.Texts as texts;
 
 use changes::item_with;
@@ -49,7 +50,7 @@ fn print_later_numbers<W: Sink>(
     place: u32,
     why: LawRefusal,
 ) -> Result<(), WriteFailed>
-    ensures text { OnOk result (Prints W.contents out.old out.new (texts.later_numbers place why)) }
+    ensures text { OnOk result (Prints W.contents out.old out.new (laters.later_numbers place why)) }
     ensures failed { OnErr result (has_failed out.new ≡ true) }
 {
     let cause = why.number();
@@ -57,14 +58,14 @@ fn print_later_numbers<W: Sink>(
 }
 
 /// Prints what would stand at the place, and why that is refused.
-fn print_later_words<W: Sink>(
+pub fn print_later_words<W: Sink>(
     out: &mut Watched<W>,
     place: u32,
     item: Plain,
     why: LawRefusal,
 ) -> Result<(), WriteFailed>
     requires { IsPlain item }
-    ensures text { OnOk result (Prints W.contents out.old out.new (texts.later_words place item why)) }
+    ensures text { OnOk result (Prints W.contents out.old out.new (laters.later_words place item why)) }
     ensures failed { OnErr result (has_failed out.new ≡ true) }
 {
     let line = line_of(&Entry::Write(item));
@@ -82,8 +83,8 @@ fn print_later<B: BookOf, W: Sink>(
     why: LawRefusal,
 ) -> Result<(), WriteFailed>
     requires { IsEntry entry.now }
-    ensures text { OnOk result (Prints W.contents out.old out.new (texts.later_numbers place why
-        ++ texts.later_words place (item_with (B.content book.now) entry.now place) why)) }
+    ensures text { OnOk result (Prints W.contents out.old out.new (laters.later_numbers place why
+        ++ laters.later_words place (item_with (B.content book.now) entry.now place) why)) }
     ensures failed { OnErr result (has_failed out.new ≡ true) }
 {
     let item = item_with(book, entry, place);

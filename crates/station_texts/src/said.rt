@@ -4,8 +4,8 @@ ghost use Rattle.std.specs.Prelude.{◌≡◌, ◌≢◌, ◌⊎◌, ◌++◌, L
 ghost use Rattle.notation.specs.declared.entry.Entry.{Entry};
 ghost use Rattle.notation.specs.Written.{IsEntry};
 ghost use Rattle.agree_core.specs.Ballots.{Ballot};
-ghost use Rattle.cards.specs.Sheet.{Sheet};
 ghost use Rattle.desk.specs.Desk.{last_entry};
+ghost use Rattle.screen.specs.Words as words;
 ghost use Rattle.station_texts.specs.Saying.{ComesTo, IsNoWord, IsNotAgain, IsTextOf, LineMeans, MeansEntry, MeansNone};
 
 use agree_core::Settled;
@@ -13,16 +13,20 @@ use cards::MatchSheet;
 use corrections::BookOf;
 use desk::Refusal;
 use notation::{Entry, LineFault, read_line};
-use screen::{Word, is_end, word_of};
+use plan_words::{Planned, plan_asked};
+use screen::{Word, behind_plan, is_end, word_of};
 use shorthand::{Unclear, in_full};
+use std::alloc::Global;
 
 /// What a scorer's line comes to.
-#[derive(Clone, Copy, Debug, PartialEq, Eq)]
+#[derive(Drop)]
 pub enum Said {
     /// `quit` or `exit`: it ends the process.
     Quit,
     /// A word that asks to see something.
     Asks(Word),
+    /// `plan`, with what is answered.
+    Plan(Planned),
     /// Something isn't clear in it, so that it has no full form.
     Unclear(Unclear),
     /// In full it is no entry's line.
@@ -40,17 +44,36 @@ pub enum Said {
     Penned(Entry, Settled),
 }
 
+/// What a line comes to that is this word.
+fn word_said<B: BookOf>(
+    alloc: Global,
+    line: &[u8],
+    book: &B,
+    sheet: &MatchSheet,
+    word: Word,
+) -> Said
+    requires { words.word_of line.now ≡ Some word }
+    ensures { (votes : List Ballot) → (differs : _) → (is_cast : _)
+        → ComesTo sheet.now (B.content book.now) votes differs is_cast line.now result }
+{
+    if word == Word::Plan {
+        Said::Plan(plan_asked(alloc, behind_plan(line), book, sheet))
+    } else {
+        Said::Asks(word)
+    }
+}
+
 /// What a line comes to that is one of the words that are no entry's.
-fn word(line: &[u8]) -> Option<Said>
-    ensures word { (s : Sheet) → (book : List Entry) → (votes : List Ballot) → (differs : _) → (is_cast : _)
-        → IfSome result (ComesTo s book votes differs is_cast line.now) }
+fn word<B: BookOf>(alloc: Global, line: &[u8], book: &B, sheet: &MatchSheet) -> Option<Said>
+    ensures word { (votes : List Ballot) → (differs : _) → (is_cast : _)
+        → IfSome result (ComesTo sheet.now (B.content book.now) votes differs is_cast line.now) }
     ensures none { result ≡ None → IsNoWord line.now }
 {
     if is_end(line) {
         return Some(Said::Quit);
     }
     match word_of(line) {
-        Some(word) => Some(Said::Asks(word)),
+        Some(word) => Some(word_said(alloc, line, book, sheet, word)),
         None => None,
     }
 }
@@ -146,6 +169,7 @@ fn once_more(last: Option<Entry>, differs: bool) -> Result<Entry, Said>
 /// The entry that a line says, put in full by the sheet and the book, or once more what this scorer wrote last; in the
 /// first round of a place or in another one, in which the desk's vote is cast or not.
 pub fn entry_said<B: BookOf>(
+    alloc: Global,
     line: &[u8],
     book: &B,
     sheet: &MatchSheet,
@@ -159,7 +183,7 @@ pub fn entry_said<B: BookOf>(
     ensures none { (votes : List Ballot) → last ≡ last_entry votes
         → IfErr result (ComesTo sheet.now (B.content book.now) votes differs is_cast line.now) }
 {
-    if let Some(said) = word(line) {
+    if let Some(said) = word(alloc, line, book, sheet) {
         return Err(said);
     }
     if line == b"again".as_slice() {

@@ -9,6 +9,7 @@ ghost use Rattle.station_texts.specs.inner.Telling.{IsFine};
 ghost use Rattle.station_texts.specs.Texts as texts;
 
 use crate::both::Both;
+use crate::plan_text::print_planned;
 use crate::questions::print_fault;
 use crate::refusals::{print_refused, print_refused_entry};
 use crate::said::Said;
@@ -353,7 +354,7 @@ fn print_standing<B: BookOf, W: Sink>(
     print_silence(out, is_silent)
 }
 
-/// Prints what a word asks to see.
+/// Prints what a word asks to see; of `plan` nothing.
 fn print_asked<B: BookOf, W: Sink>(
     out: &mut Watched<W>,
     sheet: &MatchSheet,
@@ -383,6 +384,7 @@ fn print_asked<B: BookOf, W: Sink>(
         Word::Sides => print_sides(out, sheet),
         Word::Bowlers => print_bowlers(out, sheet, book),
         Word::Waiting => print_waiting(out, sheet, book),
+        Word::Plan => Ok(()),
         Word::Forms => write!(out, "{HELP}"),
         Word::More(topic) => {
             let text = help_on(topic);
@@ -439,6 +441,7 @@ fn print_answer<B: BookOf, W: Sink>(
                 *word,
             )
         }
+        Said::Plan(planned) => print_planned(out, sheet, planned, book),
         Said::Unclear(unclear) => print_question(out, sheet, unclear, book),
         Said::Fault(fault) => print_fault(out, *fault),
         Said::SayAgain => print_again(out, at),

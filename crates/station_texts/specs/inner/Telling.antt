@@ -1,10 +1,12 @@
 -- What the code asks of what it tells.
 use Rattle.notation.specs.Written.{IsEntry}
 use Rattle.station_texts.specs.declared.said.Said.{Said}
-use Rattle.station_texts.specs.declared.said.Said.TheVariants.{Penned, Refused}
+use Rattle.station_texts.specs.declared.said.Said.TheVariants.{Penned, Plan, Refused}
+use Rattle.plan_words.specs.Planning.{IsFinePlanned}
 
--- the entry that was penned or refused, where one was, has its numbers in their ranges
+-- the entry that was penned or refused, where one was, and those of a plan have their numbers in their ranges
 abbrev pub IsFine : Said → Type 0
 IsFine (Penned e settled) = IsEntry e
 IsFine (Refused e why) = IsEntry e
+IsFine (Plan planned) = IsFinePlanned planned
 IsFine said = Unit {0}

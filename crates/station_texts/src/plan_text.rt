@@ -1,0 +1,119 @@
+//! What is told of a plan.
+
+ghost use Rattle.std.specs.Prelude.{◌≡◌, ◌++◌, codes, true, All, OnErr, OnOk};
+ghost use Rattle.notation.specs.Written.{IsEntry, text_of};
+ghost use Rattle.streams.specs.Watched.{Prints, has_failed};
+ghost use Rattle.plan_words.specs.Planning.{IsFinePlan, IsFinePlanned};
+ghost use Rattle.station_texts.specs.Planning as planning;
+
+use crate::refusals::print_later_words;
+use crate::who_bowls::print_question;
+use cards::MatchSheet;
+use corrections::BookOf;
+use notation::{Entry, line_of};
+use plan_words::Planned;
+use plans::Plan;
+use streams::{Sink, Watched, WriteFailed};
+
+/// Prints the line of an entry.
+fn print_row<W: Sink>(out: &mut Watched<W>, entry: &Entry) -> Result<(), WriteFailed>
+    requires { IsEntry entry.now }
+    ensures text { OnOk result (Prints W.contents out.old out.new (text_of entry.now ++ codes "\n")) }
+    ensures failed { OnErr result (has_failed out.new ≡ true) }
+{
+    let line = line_of(entry);
+    let words = line.as_str();
+    writeln!(out, "{words}")
+}
+
+/// Prints the lines of entries, each in a row.
+fn print_rows<W: Sink>(out: &mut Watched<W>, entries: &[Entry]) -> Result<(), WriteFailed>
+    requires { All IsEntry entries.now }
+    ensures text { OnOk result (Prints W.contents out.old out.new (planning.rows entries.now)) }
+    ensures failed { OnErr result (has_failed out.new ≡ true) }
+{
+    let Some((entry, more)) = entries.split_first() else {
+        return Ok(());
+    };
+    print_row(out, entry)?;
+    print_rows(out, more)
+}
+
+/// Prints how many lines they are, of more than a desk holds.
+fn print_many<W: Sink>(out: &mut Watched<W>, count: usize) -> Result<(), WriteFailed>
+    ensures text { OnOk result (Prints W.contents out.old out.new (planning.many_text count)) }
+    ensures failed { OnErr result (has_failed out.new ≡ true) }
+{
+    if count > 24 {
+        writeln!(out, "{count} lines: paste 24 at most at once")
+    } else {
+        Ok(())
+    }
+}
+
+/// Prints the lines of a plan.
+fn print_lines<W: Sink>(out: &mut Watched<W>, lines: &[Entry]) -> Result<(), WriteFailed>
+    requires { All IsEntry lines.now }
+    ensures text { OnOk result (Prints W.contents out.old out.new (planning.lines_text lines.now)) }
+    ensures failed { OnErr result (has_failed out.new ≡ true) }
+{
+    if lines.is_empty() {
+        return writeln!(out, "nothing is to be corrected");
+    }
+    print_rows(out, lines)?;
+    print_many(out, lines.len())
+}
+
+/// Prints that this names no entry of its kind.
+fn print_unnamed<W: Sink>(out: &mut Watched<W>, entry: &Entry) -> Result<(), WriteFailed>
+    requires { IsEntry entry.now }
+    ensures text { OnOk result (Prints W.contents out.old out.new
+        (codes "no plan: this corrects and follows no entry of the book:\n  " ++ text_of entry.now ++ codes "\n")) }
+    ensures failed { OnErr result (has_failed out.new ≡ true) }
+{
+    let line = line_of(entry);
+    let words = line.as_str();
+    writeln!(
+        out,
+        "no plan: this corrects and follows no entry of the book:\n  {words}"
+    )
+}
+
+/// Prints a plan, or why there is none.
+fn print_plan<W: Sink>(out: &mut Watched<W>, plan: &Plan) -> Result<(), WriteFailed>
+    requires { IsFinePlan plan.now }
+    ensures text { OnOk result (Prints W.contents out.old out.new (planning.plan_text plan.now)) }
+    ensures failed { OnErr result (has_failed out.new ≡ true) }
+{
+    match plan {
+        Plan::Lines(lines) => print_lines(out, lines),
+        Plan::Unnamed(entry) => print_unnamed(out, entry),
+        Plan::Against(placed, why) => {
+            write!(out, "no plan")?;
+            print_later_words(out, placed.place, placed.item, *why)
+        }
+        Plan::TooLong => writeln!(
+            out,
+            "no plan found: void the later entries, the last first; correct; put them back"
+        ),
+    }
+}
+
+/// Prints what is answered to a line that begins with `plan`.
+pub fn print_planned<B: BookOf, W: Sink>(
+    out: &mut Watched<W>,
+    sheet: &MatchSheet,
+    planned: &Planned,
+    book: &B,
+) -> Result<(), WriteFailed>
+    requires { IsFinePlanned planned.now }
+    ensures text { OnOk result (Prints W.contents out.old out.new
+        (planning.planned_text sheet.now (B.content book.now) planned.now)) }
+    ensures failed { OnErr result (has_failed out.new ≡ true) }
+{
+    match planned {
+        Planned::Plan(plan) => print_plan(out, plan),
+        Planned::Unclear(unclear) => print_question(out, sheet, unclear, book),
+        Planned::NoMemory => writeln!(out, "no memory for a plan"),
+    }
+}
