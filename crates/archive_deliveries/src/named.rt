@@ -41,6 +41,7 @@ impl<'a> Model for NamedSheet<'a> {
       home = record { name = string_bytes s.home; players = s.sheet.now.home.players };
       away = record { name = string_bytes s.away; players = s.sheet.now.away.players };
       limits = s.sheet.now.limits;
+      columns = s.sheet.now.columns;
     } };
 }
 
