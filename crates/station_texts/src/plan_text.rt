@@ -1,15 +1,17 @@
 //! What is told of a plan.
 
 ghost use Rattle.std.specs.Prelude.{◌≡◌, ◌++◌, codes, true, All, OnErr, OnOk};
-ghost use Rattle.notation.specs.Written.{IsEntry, text_of};
+ghost use Rattle.notation.specs.Written.{IsEntry, IsPlain, text_of};
 ghost use Rattle.streams.specs.Watched.{Prints, has_failed};
 ghost use Rattle.plan_words.specs.Planning.{IsFinePlan, IsFinePlanned};
+ghost use Rattle.station_texts.specs.Laters.{later_words};
 ghost use Rattle.station_texts.specs.Planning as planning;
 
 use crate::refusals::print_later_words;
 use crate::who_bowls::print_question;
 use cards::MatchSheet;
-use corrections::BookOf;
+use corrections::{BookOf, Placed};
+use match_laws::LawRefusal;
 use notation::{Entry, line_of};
 use plan_words::Planned;
 use plans::Plan;
@@ -64,6 +66,14 @@ fn print_lines<W: Sink>(out: &mut Watched<W>, lines: &[Entry]) -> Result<(), Wri
     print_many(out, lines.len())
 }
 
+/// Prints words.
+fn print_words<W: Sink>(out: &mut Watched<W>, words: &str) -> Result<(), WriteFailed>
+    ensures text { OnOk result (Prints W.contents out.old out.new words.now) }
+    ensures failed { OnErr result (has_failed out.new ≡ true) }
+{
+    write!(out, "{words}")
+}
+
 /// Prints that this names no entry of its kind.
 fn print_unnamed<W: Sink>(out: &mut Watched<W>, entry: &Entry) -> Result<(), WriteFailed>
     requires { IsEntry entry.now }
@@ -71,12 +81,26 @@ fn print_unnamed<W: Sink>(out: &mut Watched<W>, entry: &Entry) -> Result<(), Wri
         (codes "no plan: this corrects and follows no entry of the book:\n  " ++ text_of entry.now ++ codes "\n")) }
     ensures failed { OnErr result (has_failed out.new ≡ true) }
 {
-    let line = line_of(entry);
-    let words = line.as_str();
-    writeln!(
+    print_words(
         out,
-        "no plan: this corrects and follows no entry of the book:\n  {words}"
-    )
+        "no plan: this corrects and follows no entry of the book:\n  ",
+    )?;
+    print_row(out, entry)
+}
+
+/// Prints what the Laws refuse with all that is wanted, and why.
+fn print_against<W: Sink>(
+    out: &mut Watched<W>,
+    placed: &Placed,
+    why: LawRefusal,
+) -> Result<(), WriteFailed>
+    requires { IsPlain placed.now.item }
+    ensures text { OnOk result (Prints W.contents out.old out.new
+        (codes "no plan" ++ later_words placed.now.place placed.now.item why)) }
+    ensures failed { OnErr result (has_failed out.new ≡ true) }
+{
+    print_words(out, "no plan")?;
+    print_later_words(out, placed.place, placed.item, why)
 }
 
 /// Prints a plan, or why there is none.
@@ -88,13 +112,10 @@ fn print_plan<W: Sink>(out: &mut Watched<W>, plan: &Plan) -> Result<(), WriteFai
     match plan {
         Plan::Lines(lines) => print_lines(out, lines),
         Plan::Unnamed(entry) => print_unnamed(out, entry),
-        Plan::Against(placed, why) => {
-            write!(out, "no plan")?;
-            print_later_words(out, placed.place, placed.item, *why)
-        }
-        Plan::TooLong => writeln!(
+        Plan::Against(placed, why) => print_against(out, placed, *why),
+        Plan::TooLong => print_words(
             out,
-            "no plan found: void the later entries, the last first; correct; put them back"
+            "no plan found: void the later entries, the last first; correct; put them back\n",
         ),
     }
 }

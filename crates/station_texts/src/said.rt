@@ -56,10 +56,9 @@ fn word_said<B: BookOf>(
     ensures { (votes : List Ballot) → (differs : _) → (is_cast : _)
         → ComesTo sheet.now (B.content book.now) votes differs is_cast line.now result }
 {
-    if word == Word::Plan {
-        Said::Plan(plan_asked(alloc, behind_plan(line), book, sheet))
-    } else {
-        Said::Asks(word)
+    match word {
+        Word::Plan => Said::Plan(plan_asked(alloc, behind_plan(line), book, sheet)),
+        word => Said::Asks(word),
     }
 }
 
