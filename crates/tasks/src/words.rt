@@ -140,7 +140,10 @@ fn task_of<'a>(command: &str, words: &ArgMatches<'a>) -> Option<Task<'a>>
             to: words.get_str("to")?,
         }),
         "typing" => typing_task(words),
-        "desk" => Some(Task::Desk(desk_task(words)?)),
+        "desk" => match desk_task(words) {
+            Some(task) => Some(Task::Desk(task)),
+            None => None,
+        },
         "board" => Some(Task::Board(board_task(words)?)),
         _ => None,
     }
