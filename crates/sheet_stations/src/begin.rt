@@ -7,7 +7,7 @@ ghost use Rattle.toml.specs.View.{table_view};
 
 use agree_core::DeskId;
 use board_command::start_board;
-use cards::SheetFault;
+use cards::{Columns, SheetFault};
 use desk_command::{Life, start_desk};
 use machine::{Address, MOST_PEERS, addresses_in};
 use setup::{Stopped, tell_station};
@@ -112,12 +112,14 @@ fn addresses_of<'a>(
     rt: &HostRuntime,
     sheet: &'a str,
     desk: DeskId,
-    begun: DeskOptions<'a>,
+    at: Option<&'a str>,
+    other: Option<&'a str>,
+    boards: BoardNames<'a>,
 ) -> Result<Addresses<'a>, Stopped<'a>> {
     let (own, others) = places(desk);
-    let at = address(rt, sheet, own, begun.at)?;
-    let other = address(rt, sheet, others, begun.other)?;
-    if !are_addresses(begun.boards) {
+    let at = address(rt, sheet, own, at)?;
+    let other = address(rt, sheet, others, other)?;
+    if !are_addresses(boards) {
         return Err(tell_station(
             rt,
             sheet,
@@ -126,7 +128,30 @@ fn addresses_of<'a>(
             NO_ADDRESS,
         ));
     }
-    found(rt, sheet, desk_addresses(at, other, begun.boards))
+    found(rt, sheet, desk_addresses(at, other, boards))
+}
+
+/// Keeps a desk with these.
+fn start_begun<'a>(
+    rt: &HostRuntime,
+    sheet: &'a str,
+    desk: DeskId,
+    at: Option<&'a str>,
+    other: Option<&'a str>,
+    boards: BoardNames<'a>,
+    file: Option<&'a str>,
+    copy: Option<&'a str>,
+    key: Option<&'a str>,
+    serve: Option<Address<'a>>,
+    columns: Option<Columns>,
+) -> Result<Life<'a>, Stopped<'a>>
+    ensures desk { IfOk result (λ life. desk_of life ≡ desk) }
+    ensures file { IfOk result (λ life. Some (path_of life) ≡ option_copied file.entry) }
+    ensures copy { IfOk result (λ life. copy_of life ≡ option_copied copy.entry) }
+{
+    let (at, peers) = addresses_of(rt, sheet, desk, at, other, boards)?;
+    let file = present(rt, sheet, "stations, votes", file)?;
+    start_desk(rt, sheet, desk, file, copy, at, peers, serve, key, columns)
 }
 
 /// `ground desk` with a letter: keeps that desk with what its words name, and for what they don't with what its sheet's
@@ -147,18 +172,17 @@ pub fn start_desk_of<'a>(
         copy_of life ≡ (begun.begun_with desk (begun.desk_of named.entry) (table_view table.now)).copy) }
 {
     let begun = desk_begun(desk, named, table);
-    let (at, peers) = addresses_of(rt, sheet, desk, begun)?;
-    let file = present(rt, sheet, "stations, votes", begun.file)?;
-    start_desk(
+    start_begun(
         rt,
         sheet,
         desk,
-        file,
+        begun.at,
+        begun.other,
+        begun.boards,
+        begun.file,
         begun.copy,
-        at,
-        peers,
-        serve,
         begun.key,
+        serve,
         begun.columns,
     )
 }
