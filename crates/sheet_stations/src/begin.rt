@@ -171,7 +171,17 @@ pub fn start_desk_of<'a>(
     ensures copy { IfOk result (λ life.
         copy_of life ≡ (begun.begun_with desk (begun.desk_of named.entry) (table_view table.now)).copy) }
 {
-    let begun = desk_begun(desk, named, table);
+    // Each field by itself: the prover doesn't know the whole to be `Copy`.
+    let words = DeskOptions {
+        file: named.file,
+        copy: named.copy,
+        key: named.key,
+        at: named.at,
+        other: named.other,
+        boards: named.boards,
+        columns: named.columns,
+    };
+    let begun = desk_begun(desk, words, table);
     start_begun(
         rt,
         sheet,
