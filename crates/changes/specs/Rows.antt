@@ -1,5 +1,5 @@
 -- The rows of what differs. s is the sheet, `was` and `now` are the stages, or what they show.
-use Rattle.std.specs.Prelude.{ℕ, ◌+◌, ◌==◌, nat_le, if◌then◌else◌, Bool, Option, Some, None, List, [], ◌++◌, length, codes, decimal}
+use Rattle.std.specs.Prelude.{ℕ, ◌+◌, ◌==◌, ◌&&◌, nat_le, if◌then◌else◌, Bool, true, false, Option, Some, None, List, [], ◌++◌, length, codes, decimal}
 use Rattle.notation.specs.declared.entry.Side.{Side}
 use Rattle.ball_laws.specs.History.{History}
 use Rattle.match_laws.specs.declared.rows.{Fate.Fate, BattingRow.BattingRow, BowlingRow.BowlingRow}
@@ -28,6 +28,16 @@ lead h i = if i == current h then codes "now: " else innings_lead i
 abbrev pub named : List ℕ → List ℕ → List ℕ
 named first name = first ++ name ++ codes " "
 
+-- what was stands behind what is, in one row where they may share one and it hasn't too many columns, or else in a second one
+abbrev pub joint : Bool → List ℕ
+joint is_one = if is_one then codes ", was " else codes ",\n  was "
+
+abbrev pub fits : Sheet → List ℕ → List ℕ → Bool
+fits s now was = nat_le (length now + (6 + length was)) s.columns
+
+abbrev pub joined : Sheet → Bool → List ℕ → List ℕ → List ℕ
+joined s may_share now was = now ++ (joint (may_share && fits s now was) ++ (was ++ codes "\n"))
+
 -- ---- batters
 
 -- runs, and balls faced
@@ -42,23 +52,13 @@ fate_figures s side (Some fate) row = fate_text s (opponent side) (Some fate) ++
 abbrev pub batting_text : Sheet → Side → BattingRow → List ℕ
 batting_text s side row = fate_figures s side row.fate row
 
--- behind a row that would have too many columns what was stands in a second one
-abbrev pub joint : Bool → List ℕ
-joint fits = if fits then codes ", was " else codes ",\n  was "
-
-abbrev pub fits : Sheet → List ℕ → List ℕ → Bool
-fits s now was = nat_le (length now + (6 + length was)) s.columns
-
-abbrev pub joined : Sheet → List ℕ → List ℕ → List ℕ
-joined s now was = now ++ (joint (fits s now was) ++ (was ++ codes "\n"))
-
 abbrev pub fate_row : Sheet → List ℕ → Side → ℕ → BattingRow → BattingRow → List ℕ
 fate_row s first side p was now =
-    joined s (named first (player_of s side p) ++ batting_text s side now) (batting_text s side was)
+    joined s true (named first (player_of s side p) ++ batting_text s side now) (batting_text s side was)
 
 abbrev pub figures_row : Sheet → List ℕ → Side → ℕ → BattingRow → BattingRow → List ℕ
 figures_row s first side p was now =
-    named first (player_of s side p) ++ (figures_text now ++ (codes ", was " ++ (figures_text was ++ codes "\n")))
+    joined s true (named first (player_of s side p) ++ figures_text now) (figures_text was)
 
 -- ---- bowlers: overs, maidens, runs and wickets
 
@@ -76,7 +76,7 @@ bowling_text same row = overs_of row ++ (behind_overs row ++ (if same then [] el
 abbrev pub bowling_row : Sheet → List ℕ → Side → ℕ → BowlingRow → BowlingRow → List ℕ
 bowling_row s first side p was now =
     let same = is_same_wides was now in
-    named first (player_of s side p) ++ (bowling_text same now ++ (joint same ++ (bowling_text same was ++ codes "\n")))
+    joined s same (named first (player_of s side p) ++ bowling_text same now) (bowling_text same was)
 
 -- ---- of a match
 
@@ -88,7 +88,7 @@ total_text (Some t) =
 
 abbrev pub total_row : Sheet → List ℕ → Side → Option Total → Option Total → List ℕ
 total_row s first side was now =
-    named first (name_of s side) ++ (total_text now ++ (codes ", was " ++ (total_text was ++ codes "\n")))
+    joined s true (named first (name_of s side) ++ total_text now) (total_text was)
 
 abbrev pub words_or_none : Option (List ℕ) → List ℕ
 words_or_none None = codes "no result"
@@ -99,8 +99,7 @@ result_words s result = words_or_none (result_text s result)
 
 -- in two rows
 abbrev pub result_row : Sheet → Outcome → Outcome → List ℕ
-result_row s was now =
-    codes "now: " ++ (result_words s now ++ (codes ",\n  was " ++ (result_words s was ++ codes "\n")))
+result_row s was now = joined s false (codes "now: " ++ result_words s now) (result_words s was)
 
 abbrev pub batter_name : Sheet → Option Batter → List ℕ
 batter_name s None = codes "nobody"
@@ -108,7 +107,7 @@ batter_name s (Some b) = player_of s b.side b.player
 
 abbrev pub strike_row : Sheet → Option Batter → Option Batter → List ℕ
 strike_row s was now =
-    codes "now: " ++ (batter_name s now ++ (codes " on strike, was " ++ (batter_name s was ++ codes "\n")))
+    joined s true (named (codes "now: ") (batter_name s now) ++ codes "on strike") (batter_name s was)
 
 -- ---- the row of each
 

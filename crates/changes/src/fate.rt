@@ -1,12 +1,13 @@
 //! What became of a batter, with his figures.
 
-ghost use Rattle.std.specs.Prelude.{◌≡◌, ◌≤◌, ◌-◌, ◌++◌, true, codes, decimal, length, OnErr, OnOk, Some};
+ghost use Rattle.std.specs.Prelude.{◌≡◌, ◌-◌, ◌++◌, true, length, OnErr, OnOk, Some};
 ghost use Rattle.match_laws.specs.declared.rows.Fate.TheVariants as Fates;
 ghost use Rattle.cards.specs.Dismissals as words;
 ghost use Rattle.streams.specs.Watched.{Prints, has_failed};
 ghost use Rattle.changes.specs.Rows as rows;
 ghost use Rattle.changes.specs.inner.Words.{words_in};
 
+use crate::figures::{behind_figures, print_figures};
 use cards::MatchSheet;
 use match_laws::{BattingRow, Fate, opponent};
 use notation::{How, Leave, Out, Player, Side};
@@ -112,16 +113,6 @@ fn print_words<W: Sink>(out: &mut Watched<W>, words: &Words<'_>) -> Result<(), W
     write!(out, "{how}{fielder}{joint}{bowler}")
 }
 
-/// Prints runs and balls faced.
-pub fn print_figures<W: Sink>(out: &mut Watched<W>, row: &BattingRow) -> Result<(), WriteFailed>
-    ensures text { OnOk result (Prints W.contents out.old out.new (rows.figures_text row.now)) }
-    ensures failed { OnErr result (has_failed out.new ≡ true) }
-{
-    let runs = row.runs;
-    let faced = row.faced;
-    write!(out, "{runs} ({faced})")
-}
-
 /// Prints what became of a batter of the side, with his figures.
 fn print_fate<W: Sink>(
     out: &mut Watched<W>,
@@ -156,19 +147,6 @@ pub fn print_batting<W: Sink>(
     }
 }
 
-/// How many digits a number has.
-#[tactic(auto, using(cards::proofs::Digits::short, cards::proofs::Digits::longer, cards::proofs::Digits::most))]
-fn digits(number: u32) -> usize
-    ensures count { result ≡ length (decimal number) }
-    ensures most { result ≤ 10 }
-{
-    if number < 10 {
-        1
-    } else {
-        1 + digits(number / 10)
-    }
-}
-
 /// How many columns of these are left behind the words.
 fn behind_words(columns: usize, words: &Words<'_>) -> usize
     ensures { result ≡ columns - length (words_in words.now) }
@@ -178,16 +156,6 @@ fn behind_words(columns: usize, words: &Words<'_>) -> usize
         .saturating_sub(words.fielder.len())
         .saturating_sub(words.joint.len())
         .saturating_sub(words.bowler.len())
-}
-
-/// How many are left behind runs and balls faced.
-fn behind_figures(columns: usize, row: &BattingRow) -> usize
-    ensures { result ≡ columns - length (rows.figures_text row.now) }
-{
-    columns
-        .saturating_sub(digits(row.runs))
-        .saturating_sub(3)
-        .saturating_sub(digits(row.faced))
 }
 
 /// How many are left behind what became of a batter of the side, with his figures.

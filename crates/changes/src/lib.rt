@@ -5,10 +5,12 @@ mod before;
 mod change;
 mod differs;
 mod fate;
+mod figures;
 mod results;
 mod rows;
 mod stage;
 mod telling;
+mod told;
 mod worked;
 
 pub use before::{item_with, score_before};

@@ -1,8 +1,6 @@
 //! The rows of what differs.
 
-ghost use Rattle.std.specs.Prelude.{◌≡◌, ◌++◌, true, OnErr, OnOk};
-ghost use Rattle.cards.specs.Bowling.{overs_of};
-ghost use Rattle.cards.specs.Sheet.{player_of};
+ghost use Rattle.std.specs.Prelude.{◌≡◌, true, OnErr, OnOk};
 ghost use Rattle.match_laws.specs.Stands.{ForEachHistory};
 ghost use Rattle.streams.specs.Watched.{Prints, has_failed};
 ghost use Rattle.changes.specs.Stage.{ForBoth};
@@ -10,9 +8,9 @@ ghost use Rattle.changes.specs.Rows as rows;
 
 use crate::change::{Change, Part};
 use crate::differs::is_same_wides;
-use crate::fate::{behind_batting, print_batting, print_figures};
 use crate::results::print_results;
 use crate::stage::{Batter, Total, batting_in, bowling_in, striker, total_in};
+use crate::told::{Told, print_joined};
 use cards::MatchSheet;
 use match_laws::{BattingRow, BowlingRow, Match};
 use notation::{Player, Side};
@@ -44,53 +42,6 @@ fn lead(now: &Match, innings: usize) -> &'static str
     }
 }
 
-/// Prints a text.
-fn print<W: Sink>(out: &mut Watched<W>, text: &str) -> Result<(), WriteFailed>
-    ensures text { OnOk result (Prints W.contents out.old out.new text.now) }
-    ensures failed { OnErr result (has_failed out.new ≡ true) }
-{
-    write!(out, "{text}")
-}
-
-/// Prints whom a row is of, behind what stands before him.
-fn print_name<W: Sink>(out: &mut Watched<W>, first: &str, name: &str) -> Result<(), WriteFailed>
-    ensures text { OnOk result (Prints W.contents out.old out.new (rows.named first.now name.now)) }
-    ensures failed { OnErr result (has_failed out.new ≡ true) }
-{
-    write!(out, "{first}{name} ")
-}
-
-/// What stands between what is and what was: in one row, or in two.
-fn joint_of(one_row: bool) -> &'static str
-    ensures { result.now ≡ rows.joint one_row }
-{
-    if one_row { ", was " } else { ",\n  was " }
-}
-
-/// The same where a row would have too many columns.
-fn joint(
-    sheet: &MatchSheet,
-    first: &str,
-    side: Side,
-    player: Player,
-    was: &BattingRow,
-    now: &BattingRow,
-) -> &'static str
-    ensures { result.now ≡ rows.joint (rows.fits sheet.now
-        (rows.named first.now (player_of sheet.now side player) ++ rows.batting_text sheet.now side now.now)
-        (rows.batting_text sheet.now side was.now)) }
-{
-    let name = sheet.player(side, player);
-    // One more than a row has, so that one is left where all of it fits.
-    let all = sheet.columns() + 1;
-    let behind_name = all
-        .saturating_sub(first.len())
-        .saturating_sub(name.len())
-        .saturating_sub(1);
-    let behind_now = behind_batting(behind_name, sheet, side, now).saturating_sub(6);
-    joint_of(behind_batting(behind_now, sheet, side, was) > 0)
-}
-
 /// Prints what became of a batter of the side, and what had.
 fn print_fates<W: Sink>(
     out: &mut Watched<W>,
@@ -105,11 +56,16 @@ fn print_fates<W: Sink>(
         (rows.fate_row sheet.now first.now side player was.now now.now)) }
     ensures failed { OnErr result (has_failed out.new ≡ true) }
 {
-    print_name(out, first, sheet.player(side, player))?;
-    print_batting(out, sheet, side, now)?;
-    print(out, joint(sheet, first, side, player, was, now))?;
-    print_batting(out, sheet, side, was)?;
-    print(out, "\n")
+    let name = sheet.player(side, player);
+    print_joined(
+        out,
+        sheet,
+        true,
+        first,
+        name,
+        &Told::Batting(side, *now),
+        &Told::Batting(side, *was),
+    )
 }
 
 /// Prints a batter's figures, and those that were.
@@ -126,54 +82,16 @@ fn print_batter<W: Sink>(
         (rows.figures_row sheet.now first.now side player was.now now.now)) }
     ensures failed { OnErr result (has_failed out.new ≡ true) }
 {
-    print_name(out, first, sheet.player(side, player))?;
-    print_figures(out, now)?;
-    print(out, ", was ")?;
-    print_figures(out, was)?;
-    print(out, "\n")
-}
-
-fn print_overs<W: Sink>(out: &mut Watched<W>, row: &BowlingRow) -> Result<(), WriteFailed>
-    ensures text { OnOk result (Prints W.contents out.old out.new (overs_of row.now)) }
-    ensures failed { OnErr result (has_failed out.new ≡ true) }
-{
-    let overs = row.overs;
-    let balls = row.balls;
-    write!(out, "{overs}.{balls}")
-}
-
-fn print_behind_overs<W: Sink>(out: &mut Watched<W>, row: &BowlingRow) -> Result<(), WriteFailed>
-    ensures text { OnOk result (Prints W.contents out.old out.new (rows.behind_overs row.now)) }
-    ensures failed { OnErr result (has_failed out.new ≡ true) }
-{
-    let maidens = row.maidens;
-    let runs = row.runs;
-    let wickets = row.wickets;
-    write!(out, "-{maidens}-{runs}-{wickets}")
-}
-
-/// Prints a bowler's wide runs and no balls, as a card has them.
-fn print_wides<W: Sink>(out: &mut Watched<W>, row: &BowlingRow) -> Result<(), WriteFailed>
-    ensures text { OnOk result (Prints W.contents out.old out.new (rows.wides_text row.now)) }
-    ensures failed { OnErr result (has_failed out.new ≡ true) }
-{
-    let wides = row.wides;
-    let noballs = row.noballs;
-    write!(out, ", w {wides}, nb {noballs}")
-}
-
-/// Prints a bowler's overs, maidens, runs and wickets, and wide runs and no balls unless these are the same.
-fn print_bowling<W: Sink>(
-    out: &mut Watched<W>,
-    same: bool,
-    row: &BowlingRow,
-) -> Result<(), WriteFailed>
-    ensures text { OnOk result (Prints W.contents out.old out.new (rows.bowling_text same row.now)) }
-    ensures failed { OnErr result (has_failed out.new ≡ true) }
-{
-    print_overs(out, row)?;
-    print_behind_overs(out, row)?;
-    if same { Ok(()) } else { print_wides(out, row) }
+    let name = sheet.player(side, player);
+    print_joined(
+        out,
+        sheet,
+        true,
+        first,
+        name,
+        &Told::Figures(*now),
+        &Told::Figures(*was),
+    )
 }
 
 /// Prints a bowler's figures, and those that were.
@@ -191,29 +109,16 @@ fn print_bowler<W: Sink>(
     ensures failed { OnErr result (has_failed out.new ≡ true) }
 {
     let same = is_same_wides(was, now);
-    print_name(out, first, sheet.player(side, player))?;
-    print_bowling(out, same, now)?;
-    print(out, joint_of(same))?;
-    print_bowling(out, same, was)?;
-    print(out, "\n")
-}
-
-/// Prints how an innings stands, if it has begun.
-fn print_total<W: Sink>(out: &mut Watched<W>, total: Option<Total>) -> Result<(), WriteFailed>
-    ensures text { OnOk result (Prints W.contents out.old out.new (rows.total_text total)) }
-    ensures failed { OnErr result (has_failed out.new ≡ true) }
-{
-    match total {
-        None => write!(out, "not begun"),
-        Some(
-            Total {
-                total,
-                wickets,
-                overs,
-                balls,
-            },
-        ) => write!(out, "{total} for {wickets} ({overs}.{balls})"),
-    }
+    let name = sheet.player(side, player);
+    print_joined(
+        out,
+        sheet,
+        same,
+        first,
+        name,
+        &Told::Bowling(same, *now),
+        &Told::Bowling(same, *was),
+    )
 }
 
 /// Prints how a side's innings stands, and how it stood.
@@ -229,11 +134,15 @@ fn print_totals<W: Sink>(
         (rows.total_row sheet.now first.now side was now)) }
     ensures failed { OnErr result (has_failed out.new ≡ true) }
 {
-    print_name(out, first, sheet.name(side))?;
-    print_total(out, now)?;
-    print(out, ", was ")?;
-    print_total(out, was)?;
-    print(out, "\n")
+    print_joined(
+        out,
+        sheet,
+        true,
+        first,
+        sheet.name(side),
+        &Told::Total(now),
+        &Told::Total(was),
+    )
 }
 
 /// The name of who has the strike, if somebody has.
@@ -258,7 +167,15 @@ fn print_strike<W: Sink>(
 {
     let name = batter_name(sheet, now);
     let other = batter_name(sheet, was);
-    writeln!(out, "now: {name} on strike, was {other}")
+    print_joined(
+        out,
+        sheet,
+        true,
+        "now: ",
+        name,
+        &Told::Words("on strike"),
+        &Told::Words(other),
+    )
 }
 
 /// Prints what differs of a side's player in an innings.
