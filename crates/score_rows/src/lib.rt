@@ -3,6 +3,7 @@
 
 mod aim;
 mod bowlers;
+mod check_widths;
 mod ends_alike;
 mod fit;
 mod form;

@@ -1,30 +1,40 @@
 //! What two scorers compare after an over.
 
-ghost use Rattle.std.specs.Prelude.{◌≡◌, ◌≤◌, ◌<◌, OnErr, OnOk, length, true};
+ghost use Rattle.std.specs.Prelude.{◌≡◌, ◌≤◌, ◌<◌, [], OnErr, OnOk, Some, codes, length, true};
 ghost use Rattle.notation.specs.declared.entry.TheConstants.{PLACES};
 ghost use Rattle.match_laws.specs.History.{begun};
 ghost use Rattle.match_laws.specs.Stands.{ForEachHistory, begun_in};
 ghost use Rattle.corrections.specs.CleanList.{history_of};
 ghost use Rattle.corrections.specs.Overs.{balls_of, over_now};
-ghost use Rattle.cards.specs.Batting as card;
 ghost use Rattle.streams.specs.Watched.{Prints, has_failed};
+ghost use Rattle.score_rows.specs.declared.form.Form.TheVariants.{Whole};
 ghost use Rattle.score_rows.specs.OverCheck as check;
+ghost use Rattle.score_rows.specs.Row as rows;
 
+use crate::check_widths::{all_extras, batters_fit, marks_fit, marks_shown, over_fits, total_fits};
 use crate::form::Form;
 use crate::limited::print_limits;
-use crate::marks::{print_marks, runs_of};
-use crate::row::{print_batters, print_bowler, print_total};
+use crate::marks::runs_of;
+use crate::row::{print_bowler, print_open_marks, print_other, print_striker, print_total};
 use cards::MatchSheet;
 use corrections::{BookOf, Placed, overs_of};
 use match_laws::{Extras, Match};
+use notation::Player;
 use streams::{Sink, Watched, WriteFailed};
 
-/// All extras of an innings.
-fn all_extras(extras: &Extras) -> u64
-    ensures { result ≡ card.all_extras extras.now }
+/// What stands between two parts: in one row, or in two.
+fn between(is_one: bool, joint: &'static str, beyond: &'static str) -> &'static str
+    ensures { result.now ≡ check.between is_one joint.now beyond.now }
 {
-    let off_deliveries = u64::from(extras.byes) + u64::from(extras.legs) + u64::from(extras.wides);
-    off_deliveries + u64::from(extras.noballs) + u64::from(extras.penalty)
+    if is_one { joint } else { beyond }
+}
+
+/// Prints a text.
+fn print<W: Sink>(out: &mut Watched<W>, text: &str) -> Result<(), WriteFailed>
+    ensures text { OnOk result (Prints W.contents out.old out.new text.now) }
+    ensures failed { OnErr result (has_failed out.new ≡ true) }
+{
+    write!(out, "{text}")
 }
 
 /// Prints all extras, byes and leg byes.
@@ -35,18 +45,27 @@ fn print_extras_front<W: Sink>(out: &mut Watched<W>, extras: &Extras) -> Result<
     let all = all_extras(extras);
     let byes = extras.byes;
     let legs = extras.legs;
-    write!(out, ", extras {all} (b {byes}, lb {legs}")
+    write!(out, "extras {all} (b {byes}, lb {legs}")
 }
 
-/// Prints wides, no balls and penalty runs, to the end of the line.
+/// Prints wides, no balls and penalty runs.
 fn print_extras_back<W: Sink>(out: &mut Watched<W>, extras: &Extras) -> Result<(), WriteFailed>
-    ensures text { OnOk result (Prints W.contents out.old out.new (card.extras_back extras.now)) }
+    ensures text { OnOk result (Prints W.contents out.old out.new (check.extras_back extras.now)) }
     ensures failed { OnErr result (has_failed out.new ≡ true) }
 {
     let wides = extras.wides;
     let noballs = extras.noballs;
     let penalty = extras.penalty;
-    writeln!(out, ", w {wides}, nb {noballs}, p {penalty})")
+    write!(out, ", w {wides}, nb {noballs}, p {penalty})")
+}
+
+/// Prints all extras, and of which kinds they are.
+fn print_extras<W: Sink>(out: &mut Watched<W>, extras: &Extras) -> Result<(), WriteFailed>
+    ensures text { OnOk result (Prints W.contents out.old out.new (check.extras_text extras.now)) }
+    ensures failed { OnErr result (has_failed out.new ≡ true) }
+{
+    print_extras_front(out, extras)?;
+    print_extras_back(out, extras)
 }
 
 /// Prints the total and the extras.
@@ -61,11 +80,12 @@ fn print_total_line<W: Sink>(
         OnOk result (Prints W.contents out.old out.new (check.total_line sheet.now h innings))) }
     ensures failed { OnErr result (has_failed out.new ≡ true) }
 {
-    let extras = score.extras(innings);
-    write!(out, "  ")?;
+    let fits = total_fits(sheet, score, innings);
+    print(out, "  ")?;
     print_total(out, sheet, score, innings)?;
-    print_extras_front(out, &extras)?;
-    print_extras_back(out, &extras)
+    print(out, between(fits, ", ", ",\n    "))?;
+    print_extras(out, &score.extras(innings))?;
+    print(out, "\n")
 }
 
 /// Prints both batters.
@@ -80,21 +100,79 @@ fn print_batters_line<W: Sink>(
         OnOk result (Prints W.contents out.old out.new (check.batters_line sheet.now h innings))) }
     ensures failed { OnErr result (has_failed out.new ≡ true) }
 {
-    write!(out, "  ")?;
-    print_batters(out, Form::Whole, sheet, score, innings)?;
-    writeln!(out)
+    let fits = batters_fit(sheet, score, innings);
+    print(out, "  ")?;
+    print_striker(out, Form::Whole, sheet, score, innings)?;
+    print(out, between(fits, "  ", "\n    "))?;
+    print_other(out, Form::Whole, sheet, score, innings)?;
+    print(out, "\n")
 }
 
-/// Prints the marks of an over, and all its runs.
-fn print_over<W: Sink>(out: &mut Watched<W>, over: &[Placed]) -> Result<(), WriteFailed>
+/// Prints the marks of an over, all or these, and all its runs.
+fn print_marked<W: Sink>(
+    out: &mut Watched<W>,
+    over: &[Placed],
+    is_all: bool,
+    shown: &[Placed],
+) -> Result<(), WriteFailed>
     requires { length over.now ≤ PLACES }
-    ensures text { OnOk result (Prints W.contents out.old out.new (check.over_text (balls_of over.now))) }
+    ensures text { OnOk result (Prints W.contents out.old out.new
+        (check.marked (balls_of over.now) is_all (balls_of shown.now))) }
     ensures failed { OnErr result (has_failed out.new ≡ true) }
 {
-    write!(out, " ")?;
-    print_marks(out, over)?;
+    print_open_marks(out, over, is_all, shown)?;
     let runs = runs_of(over);
-    writeln!(out, " = {runs}")
+    write!(out, " = {runs}")
+}
+
+/// Prints a bowler and the marks of an over, all or these, and all its runs.
+fn print_bowled<W: Sink>(
+    out: &mut Watched<W>,
+    sheet: &MatchSheet,
+    score: &Match,
+    innings: usize,
+    bowler: Player,
+    over: &[Placed],
+    is_all: bool,
+    shown: &[Placed],
+) -> Result<(), WriteFailed>
+    requires innings { innings < begun_in score.now }
+    requires few { length over.now ≤ PLACES }
+    ensures text { ForEachHistory score.now (λ n h.
+        OnOk result (Prints W.contents out.old out.new (check.in_rows sheet.now
+        (rows.bowler Whole sheet.now h innings (Some bowler)) [] (codes "\n  ")
+        (check.marked (balls_of over.now) is_all (balls_of shown.now))))) }
+    ensures failed { OnErr result (has_failed out.new ≡ true) }
+{
+    let fits = over_fits(sheet, score, innings, bowler, over, is_all, shown);
+    print_bowler(out, Form::Whole, sheet, score, innings, Some(bowler))?;
+    print(out, between(fits, "", "\n  "))?;
+    print_marked(out, over, is_all, shown)?;
+    print(out, "\n")
+}
+
+/// Prints a bowler and an over, with all marks that have room in a row of their own, or else the newest.
+fn print_bowler_over<W: Sink>(
+    out: &mut Watched<W>,
+    sheet: &MatchSheet,
+    score: &Match,
+    innings: usize,
+    bowler: Player,
+    over: &[Placed],
+) -> Result<(), WriteFailed>
+    requires innings { innings < begun_in score.now }
+    requires few { length over.now ≤ PLACES }
+    ensures text { ForEachHistory score.now (λ n h.
+        OnOk result (Prints W.contents out.old out.new (check.in_rows sheet.now
+        (rows.bowler Whole sheet.now h innings (Some bowler)) [] (codes "\n  ")
+        (check.over_text sheet.now (balls_of over.now))))) }
+    ensures failed { OnErr result (has_failed out.new ≡ true) }
+{
+    if marks_fit(sheet, over) {
+        return print_bowled(out, sheet, score, innings, bowler, over, true, over);
+    }
+    let shown = marks_shown(sheet, over);
+    print_bowled(out, sheet, score, innings, bowler, over, false, shown)
 }
 
 /// Prints the bowler of the last delivery and its over, if there is one.
@@ -110,12 +188,10 @@ fn print_over_line<W: Sink, B: BookOf>(
     ensures failed { OnErr result (has_failed out.new ≡ true) }
 {
     let overs = overs_of(book);
-    let bowler = overs.bowler();
-    if bowler.is_none() {
+    let Some(bowler) = overs.bowler() else {
         return Ok(());
-    }
-    print_bowler(out, Form::Whole, sheet, book.score(), innings, bowler)?;
-    print_over(out, overs.newest())
+    };
+    print_bowler_over(out, sheet, book.score(), innings, bowler, overs.newest())
 }
 
 /// Prints the check of an over of an innings.
@@ -138,7 +214,8 @@ fn print_lines<W: Sink, B: BookOf>(
 }
 
 /// Prints what two scorers compare after an over: the total with the extras, both batters, and the bowler of the last
-/// delivery with its over.
+/// delivery with its over. A row that has more columns than the sheet takes is broken in two, and of an over that is too long
+/// even so the oldest marks are left out.
 pub fn print_check<W: Sink, B: BookOf>(
     out: &mut Watched<W>,
     sheet: &MatchSheet,

@@ -51,6 +51,14 @@ impl Room {
         self.text(digits.format(number))
     }
 
+    /// The same of a large one.
+    pub fn large_number(self, number: u64) -> Room
+        ensures { result ≡ fit.behind self (decimal number) }
+    {
+        let mut digits = Buffer::new();
+        self.text(digits.format(number))
+    }
+
     /// What is left behind a name of at most so many letters.
     pub fn name(self, name: &str, most: usize) -> Room
         requires { 0 < most }

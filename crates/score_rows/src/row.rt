@@ -153,7 +153,7 @@ fn print_batter<W: Sink>(
 }
 
 /// Prints the striker.
-fn print_striker<W: Sink>(
+pub fn print_striker<W: Sink>(
     out: &mut Watched<W>,
     form: Form,
     sheet: &MatchSheet,
@@ -172,7 +172,7 @@ fn print_striker<W: Sink>(
 }
 
 /// Prints the batter at the other end.
-fn print_other<W: Sink>(
+pub fn print_other<W: Sink>(
     out: &mut Watched<W>,
     form: Form,
     sheet: &MatchSheet,
@@ -191,7 +191,7 @@ fn print_other<W: Sink>(
 }
 
 /// Prints the striker, and the batter at the other end.
-pub fn print_batters<W: Sink>(
+fn print_batters<W: Sink>(
     out: &mut Watched<W>,
     form: Form,
     sheet: &MatchSheet,
@@ -293,7 +293,7 @@ fn print_left_out<W: Sink>(out: &mut Watched<W>, is_all: bool) -> Result<(), Wri
 }
 
 /// Prints the marks of the open over: all, or these.
-fn print_open_marks<W: Sink>(
+pub fn print_open_marks<W: Sink>(
     out: &mut Watched<W>,
     over: &[Placed],
     is_all: bool,

@@ -32,7 +32,7 @@ fn team_room(room: Room, form: Form, sheet: &MatchSheet, score: &Match, innings:
 }
 
 /// Behind a total and its wickets.
-fn runs_room(room: Room, score: &Match, innings: usize) -> Room
+pub fn runs_room(room: Room, score: &Match, innings: usize) -> Room
     requires { innings < begun_in score.now }
     ensures { ForEachHistory score.now (λ n h.
         result ≡ fit.behind room (rows.runs_text h innings)) }
@@ -114,7 +114,13 @@ fn number_room(room: Room, is_alike: bool, batter: Option<Player>) -> Room
 }
 
 /// Behind the striker.
-fn striker_room(room: Room, form: Form, sheet: &MatchSheet, score: &Match, innings: usize) -> Room
+pub fn striker_room(
+    room: Room,
+    form: Form,
+    sheet: &MatchSheet,
+    score: &Match,
+    innings: usize,
+) -> Room
     requires { innings < begun_in score.now }
     ensures { ForEachHistory score.now (λ n h.
         result ≡ fit.behind room (rows.striker form sheet.now h innings)) }
@@ -126,7 +132,7 @@ fn striker_room(room: Room, form: Form, sheet: &MatchSheet, score: &Match, innin
 }
 
 /// Behind the batter at the other end.
-fn other_room(room: Room, form: Form, sheet: &MatchSheet, score: &Match, innings: usize) -> Room
+pub fn other_room(room: Room, form: Form, sheet: &MatchSheet, score: &Match, innings: usize) -> Room
     requires { innings < begun_in score.now }
     ensures { ForEachHistory score.now (λ n h.
         result ≡ fit.behind room (rows.other form sheet.now h innings)) }
@@ -191,7 +197,7 @@ fn bowler_row_room(
 }
 
 /// Behind who bowled the last delivery, if there is one.
-fn bowler_room(
+pub fn bowler_room(
     room: Room,
     form: Form,
     sheet: &MatchSheet,

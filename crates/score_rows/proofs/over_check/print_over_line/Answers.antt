@@ -1,14 +1,14 @@
-use Rattle.std.proofs.Common.{◌≡◌, ℕ, List, [], ◌∷◌, ◌++◌, true, arith, refl, sym}
-use Rattle.std.specs.Prelude.{is_some}
+use Rattle.std.proofs.Common.{◌≡◌, ℕ, Some, List, [], ◌∷◌, true, arith, refl, ap, sym, subst, ◌∙◌}
+use Rattle.std.specs.Prelude.{is_some, codes, OnOk}
 use Rattle.notation.specs.declared.entry.Ball.{Ball}
 use Rattle.ball_laws.specs.History.{History, open_over, last_called_over}
 use Rattle.match_laws.specs.History.{or_else}
 use Rattle.corrections.specs.CleanList.{history_of}
-use Rattle.corrections.specs.Overs.{bowler_now, newest_bowler, over_now, this_or_last}
+use Rattle.corrections.specs.Overs.{balls_of, bowler_now, newest_bowler, over_now, this_or_last}
 use Rattle.cards.specs.Sheet.{Sheet}
-use Rattle.streams.proofs.Appending.{appends_last}
+use Rattle.streams.specs.Watched.{Prints}
 use Rattle.score_rows.specs.declared.form.Form.TheVariants.{Whole}
-use Rattle.score_rows.specs.OverCheck.{over_line, over_text}
+use Rattle.score_rows.specs.OverCheck.{in_rows, over_line, over_text}
 use Rattle.score_rows.specs.Row.{bowler}
 use Rattle.score_rows.proofs.over_check.print_over_line.Goals as goal
 
@@ -16,17 +16,23 @@ use Rattle.score_rows.proofs.over_check.print_over_line.Goals as goal
 newest_of : (this last : List Ball) → newest_bowler (this_or_last this last) ≡ or_else (newest_bowler this) (newest_bowler last)
 newest_of this last = grind arith
 
--- an over with a delivery has a line
+-- an over with a delivery is told
 has_line : (s : Sheet) (h : History) (i : ℕ) (over : List Ball) → bowler_now h ≡ newest_bowler over → is_some (bowler_now h) ≡ true
-    → bowler Whole s h i (bowler_now h) ++ over_text over ≡ over_line s h i over
+    → in_rows s (bowler Whole s h i (bowler_now h)) [] (codes "\n  ") (over_text s over) ≡ over_line s h i over
 has_line s h i [] by some = absurd (cc)
 has_line s h i (b ∷ older) by some = refl
+
+told_line : (s : Sheet) (h : History) (i p : ℕ) (over : List Ball) → Some p ≡ bowler_now h → over ≡ over_now h
+    → in_rows s (bowler Whole s h i (Some p)) [] (codes "\n  ") (over_text s over) ≡ over_line s h i (over_now h)
+told_line s h i p over by is =
+    ap (λ o. in_rows s (bowler Whole s h i o) [] (codes "\n  ") (over_text s over)) by
+    ∙ (ap (λ b. in_rows s (bowler Whole s h i (bowler_now h)) [] (codes "\n  ") (over_text s b)) is
+    ∙ has_line s h i (over_now h) (sym (newest_of (open_over h) (last_called_over h))) (ap is_some (sym by)))
 
 pub returns-clause-text : goal.returns-clause-text
 returns-clause-text g c =
     let h = history_of (g.B.BookOf.content c.args.book.now) in
     let over = c.newest.ensures.over h c.overs_of-overs.ensures.overs in
-    let by = c.bowler-bowler.ensures h c.overs_of-overs.ensures.overs in
-    let text = appends_last c.print_over.result _ _ _ _ _ (c.in_ok-print_bowler.ensures.text _ _ c.score.ensures.score) c.print_over.ensures.text in
-    let some : is_some (bowler_now h) ≡ true = rw (← by) c.if-is_none.ensures in
-    rw (← has_line c.args.sheet.now h c.args.innings (over_now h) (sym (newest_of (open_over h) (last_called_over h))) some) (rw (by, over) at text)
+    let by = sym c.in-Some.is ∙ c.bowler.ensures h c.overs_of-overs.ensures.overs in
+    subst (λ t. OnOk c.print_bowler_over.result (Prints g.W.Sink.contents c.args.out.now c.print_bowler_over.new.out t))
+    (told_line c.args.sheet.now h c.args.innings c.in-Some.bowler (balls_of c.newest.result.now) by over) (c.print_bowler_over.ensures.text _ _ c.score.ensures.score)
