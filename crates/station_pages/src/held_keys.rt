@@ -28,7 +28,9 @@ impl<'p, K: Keys> HeldKeys<'p, K> {
     }
 
     /// The keys.
-    pub fn keys(&self) -> &K {
+    pub fn keys(&self) -> &K
+        ensures { result.now ≡ (self.now.ahead).keys }
+    {
         self.ahead.keys()
     }
 }

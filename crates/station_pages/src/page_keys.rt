@@ -41,6 +41,13 @@ impl<'p, K: Keys, E: Write> PageKeys<'p, K, E> {
         &self.keys
     }
 
+    /// What was typed, at the keyboard and in the page.
+    pub fn given(&self) -> &InputLog
+        ensures { result.now ≡ self.now.given }
+    {
+        &self.given
+    }
+
     /// Tells how many look at the page, where others did before.
     fn tell_change(&mut self)
         ensures { self.new.given ≡ self.old.given }
