@@ -1,5 +1,5 @@
 -- A desk's process that was kept.
-use Rattle.std.proofs.Common.{◌≡◌, ℕ, List, Option, Result, subst}
+use Rattle.std.proofs.Common.{◌≡◌, ℕ, List, [], Option, Result}
 use Rattle.entry_log.specs.Disk.{Faults, Images}
 use Rattle.entry_log.specs.Format.{contents, room}
 use Rattle.entry_log.specs.Version2.{version_2}
@@ -13,26 +13,22 @@ use Rattle.live.specs.DeskLife.{DeskLives}
 use Rattle.live.specs.Desks.{FitsLongest}
 use Rattle.desk_command.specs.Keeping.{LivesOn}
 
--- it began with a book of the sheet's match
+-- it began with a book of the sheet's match, and before anything was typed
 pub lived : {Disk : Type 0} (seen : Disk → List ℕ) (images : Disk → Images) (faults : Disk → Faults) (cap : Disk → ℕ) (sheet : Sheet)
-    (innings : ℕ) (desk : DeskId) (disk : Disk) (before after : List Passed) (typed types : List Input) (times later : List ℕ)
-    (told tells : Option (List ℕ)) (turns : ℕ) (result : Result (Unit {0}) LifeEnd) → innings ≡ sheet.innings
+    (innings : ℕ) (desk : DeskId) (disk : Disk) (before after : List Passed) (typed given : List Input) (times later : List ℕ)
+    (told tells : Option (List ℕ)) (turns : ℕ) (result : Result (Unit {0}) LifeEnd) → innings ≡ sheet.innings → typed ≡ []
     → DeskLives (file_view (contents version_2) seen images desk sheet.game) seen
     (record { faults = faults; FitsLongest = FitsLongest (room version_2) (cap disk) })
-    sheet innings desk disk before after typed types times later told tells turns result
-    → LivesOn seen images faults cap sheet desk disk
-lived seen images faults cap sheet innings desk disk before after typed types times later told tells turns result same lives = record {
+    sheet innings desk disk before after typed given times later told tells turns result
+    → LivesOn seen images faults cap sheet desk disk given
+lived seen images faults cap sheet innings desk disk before after typed given times later told tells turns result same none lives = record {
   before = before;
   after = after;
-  typed = typed;
-  types = types;
   times = times;
   later = later;
   told = told;
   tells = tells;
   turns = turns;
   result = result;
-  lives = subst (λ n. DeskLives (file_view (contents version_2) seen images desk sheet.game) seen
-      (record { faults = faults; FitsLongest = FitsLongest (room version_2) (cap disk) })
-      sheet n desk disk before after typed types times later told tells turns result) same lives;
+  lives = rw (same, none) at lives;
 }

@@ -1,6 +1,7 @@
 //! `ground desk`: a scorer's desk.
 
-ghost use Rattle.std.specs.Prelude.{◌≡◌, false, option_copied, IfErr, IfOk, None, Some};
+ghost use Rattle.std.specs.Prelude.{◌≡◌, [], false, option_copied, IfErr, IfOk, None, Some};
+ghost use Rattle.ahead.specs.Ahead.{given_of};
 ghost use Rattle.desk_command.specs.Ends as ends;
 ghost use Rattle.desk_command.specs.Lives.{copy_of, desk_of, path_of};
 
@@ -101,7 +102,9 @@ fn keys_of<'p, K: Keys, E: Write>(
     keyboard: K,
     page: Option<&'p RefCell<ScorersPage>>,
     errors: E,
-) -> HeldKeys<'p, PageKeys<'p, K, E>> {
+) -> HeldKeys<'p, PageKeys<'p, K, E>>
+    ensures { given_of ((result.ahead).queue).log ≡ [] }
+{
     HeldKeys::new(PageKeys::new(keyboard, page, errors), page)
 }
 

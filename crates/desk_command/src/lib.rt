@@ -4,9 +4,11 @@
 mod begin;
 mod desk_disk;
 mod key;
+mod laws;
 mod life;
 mod page;
 
 pub use crate::begin::start_desk;
 pub use crate::key::{key_text, start_key};
+pub use crate::laws::{a_life_is_a_process, every_vote_of_a_life_was_typed};
 pub use crate::life::Life;

@@ -1,7 +1,9 @@
 //! The process of a desk on this machine: there is a life of a desk only where its process was kept.
 
 ghost use Rattle.std.specs.Prelude.{◌≡◌, [], option_copied};
-ghost use Rattle.desk_command.specs.Keeping.{LivesOn, WasKept};
+ghost use Rattle.links.specs.Logs.{inputs_of};
+ghost use Rattle.ahead.specs.Ahead.{given_of};
+ghost use Rattle.desk_command.specs.Keeping.{LivesOn, LivesOnDisk, WasKept};
 ghost use Rattle.desk_command.specs.OnFiles.{IsOnFiles};
 
 use crate::desk_disk::DeskDisk;
@@ -9,20 +11,24 @@ use agree_core::DeskId;
 use cards::MatchSheet;
 use corrections::CheckedBook;
 use entry_log::{Disk, Slots};
-use links::{Keys, Link};
+use links::{InputLog, Keys, Link};
 use live::{LifeEnd, keep_desk};
 use machine::MonotonicClock;
-use station_pages::{PageSight, ScorersPage};
+use station_pages::{HeldKeys, PageKeys, PageSight, ScorersPage};
 use std::cell::RefCell;
+use std::io::Write;
+use std::snapshot::Snapshot;
 use streams::{Sink, Watched};
 
-/// The life of a desk: its letter, and the paths of its votes file and of its copy, where it has one.
+/// The life of a desk: its letter, the paths of its votes file and of its copy, where it has one, and what was typed at its
+/// keyboard and in its page, which clauses alone read.
 #[derive(Drop)]
 pub struct Life<'a> {
     desk: DeskId,
     file: &'a str,
     copy: Option<&'a str>,
-    pub ghost kept: { ∥ WasKept desk file.now (option_copied copy) ∥₁ },
+    typed: Snapshot<InputLog>,
+    pub ghost kept: { ∥ WasKept desk file.now (option_copied copy) (inputs_of typed.value) ∥₁ },
 }
 
 /// Keeps the desk's process on this disk, until it ends.
@@ -40,7 +46,8 @@ fn keep<D: Disk + Drop, L: Link, K: Keys, W: Sink>(
 ) -> Result<(), LifeEnd>
     requires empty { book.entries ≡ [] }
     requires innings { book.innings_a_side ≡ sheet.now.innings }
-    ensures { LivesOn D.seen D.images D.faults D.cap sheet.now desk disk }
+    requires untyped { K.inputs keys.old ≡ [] }
+    ensures { LivesOn D.seen D.images D.faults D.cap sheet.now desk disk (K.inputs keys.new) }
 {
     let mut clock = MonotonicClock::new(rt);
     let mut sight = PageSight::new(rt.alloc(), desk, page);
@@ -60,7 +67,7 @@ fn keep<D: Disk + Drop, L: Link, K: Keys, W: Sink>(
 }
 
 /// The same, on the disk of a desk's file alone or on that of it and its copy.
-pub fn keep_on<'a, L: Link, K: Keys, W: Sink>(
+fn keep_on_disk<L: Link, K: Keys, W: Sink>(
     rt: &HostRuntime,
     disk: DeskDisk<'_>,
     desk: DeskId,
@@ -70,24 +77,48 @@ pub fn keep_on<'a, L: Link, K: Keys, W: Sink>(
     keys: &mut K,
     out: &mut Watched<W>,
     page: Option<&RefCell<ScorersPage>>,
+) -> Result<(), LifeEnd>
+    requires empty { book.entries ≡ [] }
+    requires innings { book.innings_a_side ≡ sheet.now.innings }
+    requires untyped { K.inputs keys.old ≡ [] }
+    ensures { LivesOnDisk sheet.now desk disk.entry (K.inputs keys.new) }
+{
+    match disk {
+        DeskDisk::One(disk) => keep(rt, disk, desk, book, sheet, link, keys, out, page),
+        DeskDisk::Two(disk) => keep(rt, disk, desk, book, sheet, link, keys, out, page),
+    }
+}
+
+/// The same, of a scorer who types at a keyboard and in a page, and nothing yet: with the life that the desk had.
+pub fn keep_on<'a, L: Link, K: Keys, E: Write, W: Sink>(
+    rt: &HostRuntime,
+    disk: DeskDisk<'_>,
+    desk: DeskId,
+    book: CheckedBook,
+    sheet: &MatchSheet,
+    link: &mut L,
+    keys: &mut HeldKeys<'_, PageKeys<'_, K, E>>,
+    out: &mut Watched<W>,
+    page: Option<&RefCell<ScorersPage>>,
     file: &'a str,
     copy: Option<&'a str>,
 ) -> (Result<(), LifeEnd>, Life<'a>)
     requires empty { book.entries ≡ [] }
     requires innings { book.innings_a_side ≡ sheet.now.innings }
+    requires untyped { given_of ((keys.old.ahead).queue).log ≡ [] }
     requires on { IsOnFiles file.now (option_copied copy) disk }
     ensures desk { result.1.desk ≡ desk }
     ensures file { result.1.file.now ≡ file.now }
     ensures copy { option_copied result.1.copy ≡ option_copied copy.entry }
+    ensures typed { (result.1.typed).value ≡ ((keys.new.ahead).keys).given }
 {
-    match disk {
-        DeskDisk::One(disk) => {
-            let ended = keep(rt, disk, desk, book, sheet, link, keys, out, page);
-            (ended, Life { desk, file, copy })
-        }
-        DeskDisk::Two(disk) => {
-            let ended = keep(rt, disk, desk, book, sheet, link, keys, out, page);
-            (ended, Life { desk, file, copy })
-        }
-    }
+    let ended = keep_on_disk(rt, disk, desk, book, sheet, link, keys, out, page);
+    let typed = Snapshot::of(keys.keys().given());
+    let life = Life {
+        desk,
+        file,
+        copy,
+        typed,
+    };
+    (ended, life)
 }

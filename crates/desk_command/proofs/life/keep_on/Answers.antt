@@ -1,23 +1,17 @@
-use Rattle.std.proofs.Common.{subst, sym}
-use Rattle.desk_command.specs.Keeping.{LivesOnDisk}
+use Rattle.ahead.proofs.OrderLemmas.{casts_in_order}
 use Rattle.desk_command.proofs.life.keep_on.Goals as goal
 
-pub invariant_of-result : goal.invariant_of-result
-invariant_of-result g c = record {
-  kept = ∣ record {
-    sheet = c.args.sheet.now;
-    disk = c.args.disk;
-    on = c.requires.on;
-    lives = subst (LivesOnDisk c.args.sheet.now c.args.desk) (sym c.in-One.is) c.keep-ended.ensures;
-  } ∣₁;
-}
-
-pub invariant_of-result-in-Two : goal.invariant_of-result-in-Two
-invariant_of-result-in-Two g c = record {
-  kept = ∣ record {
-    sheet = c.args.sheet.now;
-    disk = c.args.disk;
-    on = c.requires.on;
-    lives = subst (LivesOnDisk c.args.sheet.now c.args.desk) (sym c.in-Two.is) c.keep-ended-in-Two.ensures;
-  } ∣₁;
-}
+pub invariant_of-life : goal.invariant_of-life
+invariant_of-life g c =
+    let ahead = (c.keep_on_disk-ended.new.keys).ahead in
+    record {
+      kept = ∣ record {
+        sheet = c.args.sheet.now;
+        disk = c.args.disk;
+        log = (ahead.queue).log;
+        on = c.requires.on;
+        of_typed = rw (c.of-typed.ensures, c.given.ensures, c.keys.ensures) ahead.typed;
+        in_order = casts_in_order _ (ahead.queue).ordered;
+        lives = c.keep_on_disk-ended.ensures;
+      } ∣₁;
+    }

@@ -1,0 +1,67 @@
+-- The votes of a desk's whole life are for lines that its scorer typed.
+use Rattle.std.specs.Prelude.{ℕ, List, [], Option, Result, flat_map}
+use Rattle.agree_core.specs.declared.messages.DeskId.{DeskId}
+use Rattle.agree_core.specs.FileView.{FileView}
+use Rattle.agree_core.specs.Openings.{NotOpened, Opened}
+use Rattle.cards.specs.Sheet.{Sheet}
+use Rattle.links.specs.Passed.{Passed}
+use Rattle.links.specs.Typing.{Input}
+use Rattle.ahead.specs.Ahead.{given_of, kept_of}
+use Rattle.ahead.specs.Order.{AreAmong, lines_of}
+use Rattle.live.specs.declared.desk_life.LifeEnd.{LifeEnd}
+use Rattle.live.specs.Before.{lines_said}
+use Rattle.live.specs.DeskLife.{DeskLives, Follows}
+use Rattle.live.specs.Desks.{DeskCall, DeskProcess, DiskView}
+use Rattle.live.specs.Runs.{Moment}
+use Rattle.desk_command.specs.declared.desk_disk.DeskDisk.{DeskDisk}
+use Rattle.desk_command.specs.declared.desk_disk.DeskDisk.TheVariants.{One, Two}
+use Rattle.desk_command.specs.Keeping.{LivesOnDisk, WasKept}
+
+module _
+    {Disk : Type 0} {view : FileView Disk} {seen : Disk → List ℕ} {disks : DiskView Disk} {sheet : Sheet} {innings : ℕ}
+    {d : DeskId} {disk : Disk} {before after : List Passed} {typed types : List Input} {times later : List ℕ}
+    {told tells : Option (List ℕ)} {turns : ℕ} {result : Result (Unit {0}) LifeEnd} where
+  -- the calls of a process, the newest first: those of its run, and none where its desk wasn't opened
+  abbrev pub calls_of :
+      DeskLives view seen disks sheet innings d disk before after typed types times later told tells turns result
+      → List (Moment (DeskProcess Disk) DeskCall)
+  calls_of lives =
+      (elim (lives.opening) as (λ opening.
+      Follows sheet view disks innings opening before after typed types times later told tells turns result
+      → List (Moment (DeskProcess Disk) DeskCall)) [
+        | Opened k ↦ λ run. (run.3).moments
+        | NotOpened cause left ↦ λ follows. []
+      ]) lives.follows
+
+-- the lines for which votes were cast or refused in a process that was given these lines
+abbrev pub said_on :
+    (sheet : Sheet) (desk : DeskId) (disk : DeskDisk) (given : List Input) → LivesOnDisk sheet desk disk given
+    → List (List ℕ)
+said_on sheet desk (One disk) given process = lines_said (calls_of process.lives)
+said_on sheet desk (Two disk) given process = lines_said (calls_of process.lives)
+
+-- a process of this desk: what was typed in it, and on which files it was kept
+pub record Process (desk : DeskId) : Type 0 where
+  pub path : List ℕ
+  pub copy : Option (List ℕ)
+  pub typed : List Input
+  pub kept : WasKept desk path copy typed
+
+module _ {desk : DeskId} where
+  -- the lines for which votes were cast or refused in a process
+  abbrev pub said_in : Process desk → List (List ℕ)
+  said_in p = said_on (p.kept).sheet desk (p.kept).disk (given_of (p.kept).log) (p.kept).lives
+
+  -- those for which one may be cast, that were typed and weren't taken back
+  abbrev pub kept_in : Process desk → List (List ℕ)
+  kept_in p = kept_of (p.kept).log
+
+  -- all that were typed
+  abbrev pub typed_in : Process desk → List (List ℕ)
+  typed_in p = lines_of p.typed
+
+  -- In a desk's processes, one after the other, the lines for which votes were cast or refused are among those that weren't
+  -- taken back, and these among all that were typed, each at most once, in their order: so none is used in two of them.
+  pub record VotesWereTyped (life : List (Process desk)) : Type 0 where
+    pub said : AreAmong (flat_map said_in life) (flat_map kept_in life)
+    pub kept : AreAmong (flat_map kept_in life) (flat_map typed_in life)
