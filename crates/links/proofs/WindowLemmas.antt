@@ -1,8 +1,8 @@
 -- What passes at a window.
 use Rattle.std.proofs.Common.{◌≡◌, ◌⊎◌, ℕ, Option, Some, List, [], ◌∷◌, ◌++◌, append-nil, append_assoc, refl, sym, ap, ◌∙◌, subst, inl, inr, ⊎_elim}
 use Rattle.std.specs.Prelude.{IfSome, ◌≤◌, take}
-use Rattle.links.specs.Passed.{Passed, Sent, Came, IsTaken}
-use Rattle.links.specs.declared.link.{Receivers.Receivers, Taken.Taken}
+use Rattle.links.specs.Passed.{Passed, Sent, Came, IsRead, IsTaken, taken_of}
+use Rattle.links.specs.declared.link.{Arrival.Arrival, Receivers.Receivers, Taken.Taken}
 use Rattle.links.specs.Windows.{AreOf, BringsVote, Has, HasAsked, HasSince, IsAsk, IsBrought, IsFaithful, IsGrown, IsHanded, IsQuietOrAsks, IsQuietUntilNews, IsStill, IsWindow, Windowed}
 
 pub has_more : {X : Type 0} (log more : List X) (p : X) → Has log p → Has (log ++ more) p
@@ -204,6 +204,12 @@ takes (Taken.Datagram count) buffer h w = brings _ h.1 w
 takes Taken.Nothing buffer h w = stays_below h w
 takes Taken.Lost buffer h w = stays_below h w
 takes Taken.Unopened buffer h w = stays_below h w
+
+-- what is read was taken
+pub is_taken : (game : ℕ) (arrival : Arrival) (buffer : List ℕ) (before after : List Passed) → IsRead game arrival buffer before after
+    → IsTaken (taken_of arrival) buffer before after
+is_taken game (Arrival.Datagram count read) buffer before after h = h.0
+is_taken game arrival buffer before after h = h
 
 pub taken_brought : (game : ℕ) (below new : List Passed) → (taken : Taken) (buffer : List ℕ) → IsTaken taken buffer below new
     → (count : ℕ) → taken ≡ Taken.Datagram count → (count ≤ 64) × IsBrought game new (take count buffer)

@@ -2,7 +2,8 @@
 use Rattle.std.specs.Prelude.{◌≡◌, ◌≤◌, ℕ, List, [], ◌∷◌, ◌++◌, map, take}
 use Rattle.agree_core.specs.declared.messages.Message.{Message}
 use Rattle.wire.specs.Layout.{written}
-use Rattle.links.specs.declared.link.{Receivers.Receivers, Taken.Taken}
+use Rattle.wire.specs.Reading.{Reads}
+use Rattle.links.specs.declared.link.{Arrival.Arrival, Receivers.Receivers, Taken.Taken}
 
 -- a datagram that was handed to the link for these, or that it gave
 pub data Passed : Type 0 where
@@ -28,3 +29,16 @@ IsTakenUpTo most Taken.Unopened buffer before after = after ≡ before
 
 abbrev pub IsTaken : Taken → List ℕ → List Passed → List Passed → Type 0
 IsTaken = IsTakenUpTo 64
+
+-- what was taken, however it is read
+abbrev pub taken_of : Arrival → Taken
+taken_of (Arrival.Datagram count read) = Taken.Datagram count
+taken_of Arrival.Nothing = Taken.Nothing
+taken_of Arrival.Lost = Taken.Lost
+taken_of Arrival.Unopened = Taken.Unopened
+
+-- what was taken, and a datagram is read in the match of this number
+abbrev pub IsRead : ℕ → Arrival → List ℕ → List Passed → List Passed → Type 0
+IsRead game (Arrival.Datagram count read) buffer before after =
+    IsTaken (Taken.Datagram count) buffer before after × Reads game (take count buffer) read
+IsRead game arrival buffer before after = IsTaken (taken_of arrival) buffer before after

@@ -1,6 +1,7 @@
 -- What a window gives and hands down: what its link gave and what it was handed, and asks that it makes up; and when it
 -- hands an ask of its station's down.
 use Rattle.std.specs.Prelude.{◌≡◌, ◌⊎◌, ◌≤◌, ◌<◌, ◌+◌, ℕ, Bool, true, false, List, [], ◌∷◌, ◌++◌, length, take, Option, IfSome}
+use Rattle.std.specs.Option.{ForSome}
 use Rattle.agree_core.specs.declared.messages.{Ask.Ask, Asker.Asker, DeskId.DeskId, Message.Message, Vote.Vote}
 use Rattle.agree_core.specs.declared.position.Position.{Position}
 use Rattle.agree_core.specs.Positions.{position_of}
@@ -114,6 +115,11 @@ pub record AsksInTime (m : List ℕ) (w v : Windowed) : Type 0 where
 -- what is taken is a vote of this match
 abbrev pub GivesVote : ℕ → Taken → List ℕ → Type 0
 GivesVote game taken buffer = (taken ≡ Taken.Datagram 48) × IsVote game (take 48 buffer)
+
+-- where a datagram is taken, and the message is known that it says in this match, it says that one
+abbrev pub IsSaid : ℕ → Taken → Option Message → List ℕ → Type 0
+IsSaid game taken said buffer =
+    (count : ℕ) → taken ≡ Taken.Datagram count → ForSome said (Says game (take count buffer))
 
 -- in a call a window gave a vote of the match, or keeps more votes back
 abbrev pub BringsVote : Taken → List ℕ → Windowed → Windowed → Type 0

@@ -3,9 +3,10 @@
 ghost use Rattle.std.specs.Prelude.{◌≡◌, ◌⊎◌, ◌≤◌, ◌+◌, ℕ, List, IsSome, None, Some, [], take, true};
 ghost use Rattle.std.specs.BTreeMap.{values};
 ghost use Rattle.agree_core.specs.declared.messages.Ask.{Ask as AnAsk};
+ghost use Rattle.agree_core.specs.declared.messages.Vote.{Vote as AVote};
 ghost use Rattle.waits.specs.declared.times.TheConstants.{LONGEST_ASK_PAUSE};
 ghost use Rattle.wire.specs.Layout.{Says};
-ghost use Rattle.links.specs.Windows.{AreOf, AreOfOr, Has, GivesVote, HasAnswers, HasMore, IsAsk, IsVote};
+ghost use Rattle.links.specs.Windows.{AreOf, AreOfOr, Has, GivesVote, HasAnswers, HasMore, IsAsk, IsSaid, IsVote};
 ghost use Rattle.links.specs.declared.link.Taken.{Taken};
 
 use crate::asking::Asking;
@@ -218,26 +219,26 @@ impl Known {
         true
     }
 
-    /// Notes a message that came from this peer, and answers whether it is for now.
-    fn hear_message(&mut self, game: u64, bytes: &[u8; 48], peer: usize, now: u64) -> bool
+    /// Notes a message that came from this peer in these bytes, and answers whether it is for now.
+    fn hear_message(&mut self, message: &Message, bytes: &[u8; 48], peer: usize, now: u64) -> bool
         ensures votes { AreOfOr bytes.now (values self.new.early.votes) (values self.old.early.votes) }
         ensures asked { self.new.asking.bytes ≡ self.old.asking.bytes }
         ensures last { (self.new.asking.last ≡ self.old.asking.last) ⊎ ((self.new.asking.last ≡ now)
-            × (((result ≡ true) × IsVote game bytes.now) ⊎ HasMore (values self.old.early.votes) (values self.new.early.votes))) }
+            × (((result ≡ true) × ((v : AVote) × (message.now ≡ Message.Vote v)))
+            ⊎ HasMore (values self.old.early.votes) (values self.new.early.votes))) }
     {
-        match message_of(game, bytes.as_slice()) {
-            Ok(Message::Vote(vote)) => self.is_for_now(&vote, bytes, peer, now),
-            Ok(Message::Ask(_)) => {
+        match message {
+            Message::Vote(vote) => self.is_for_now(vote, bytes, peer, now),
+            Message::Ask(_) => {
                 self.given = Given::Ask;
                 true
             }
-            Err(_) => true,
         }
     }
 
-    /// Notes what the link gave, from this peer in the match of this number, and answers what of it is for now: a vote that
-    /// comes early is lost for now, but at a desk, which sees by it whether its own file lacks lines. What doesn't open changes
-    /// nothing.
+    /// Notes what the link gave, from this peer in the match of this number, and answers what of it is for now, with the
+    /// message that it says, where it says one: a vote that comes early is lost for now, but at a desk, which sees by it
+    /// whether its own file lacks lines. What doesn't open changes nothing.
     pub fn hear(
         &mut self,
         game: u64,
@@ -245,21 +246,26 @@ impl Known {
         buffer: &[u8; 64],
         peer: usize,
         now: u64,
-    ) -> Taken
-        ensures unopened { taken ≡ Taken.Unopened → (result ≡ Taken.Unopened) × (self.new ≡ self.old) }
-        ensures given { (count : ℕ) → result ≡ Taken.Datagram count → taken ≡ Taken.Datagram count }
+    ) -> (Taken, Option<Message>)
+        ensures unopened { taken ≡ Taken.Unopened → (result.0 ≡ Taken.Unopened) × (self.new ≡ self.old) }
+        ensures given { (count : ℕ) → result.0 ≡ Taken.Datagram count → taken ≡ Taken.Datagram count }
+        ensures says { IsSaid game result.0 result.1 buffer.now }
         ensures votes { (m : List ℕ) → Has (values self.new.early.votes) m
             → Has (values self.old.early.votes) m ⊎ ((taken ≡ Taken.Datagram 48) × (take 48 buffer.now ≡ m)) }
         ensures asked { self.new.asking.bytes ≡ self.old.asking.bytes }
         ensures last { (self.new.asking.last ≡ self.old.asking.last) ⊎ ((self.new.asking.last ≡ now)
-            × (GivesVote game result buffer.now ⊎ HasMore (values self.old.early.votes) (values self.new.early.votes))) }
+            × (GivesVote game result.0 buffer.now ⊎ HasMore (values self.old.early.votes) (values self.new.early.votes))) }
     {
         if taken != Taken::Datagram(SIZE) {
-            return taken;
+            return (taken, None);
         }
-        if self.hear_message(game, &front(buffer), peer, now) || self.from != Asker::Board {
-            return taken;
+        let bytes = front(buffer);
+        let Ok(message) = message_of(game, bytes.as_slice()) else {
+            return (taken, None);
+        };
+        if self.hear_message(&message, &bytes, peer, now) || self.from != Asker::Board {
+            return (taken, Some(message));
         }
-        Taken::Lost
+        (Taken::Lost, None)
     }
 }

@@ -23,7 +23,8 @@ pub use aside::{Aside, HeldLine, HeldLines};
 pub use clock::Clock;
 pub use keys::{Keys, LINE_ROOM, Typed};
 pub use link::{
-    Link, MOST_TAKEN, PeerLink, ROOM, Receivers, SEALED_ROOM, SealedCarrier, SharedLink, Taken,
+    Arrival, Link, MOST_TAKEN, PeerLink, ROOM, Receivers, SEALED_ROOM, SealedCarrier, SharedLink,
+    Taken,
 };
 pub use log::{CarriedLog, ClockLog, InputLog, Log};
 pub use sealed::{Sealed, what_is_given_was_brought};

@@ -1,10 +1,11 @@
 //! What carries datagrams between stations.
 
 ghost use Rattle.std.specs.Prelude.{◌≡◌, ◌∷◌, ◌++◌, List, []};
-ghost use Rattle.links.specs.Passed.{Passed, Sent, IsTaken, IsTakenUpTo};
+ghost use Rattle.links.specs.Passed.{Passed, Sent, IsRead, IsTaken, IsTakenUpTo, taken_of};
 ghost use Rattle.links.specs.declared.link.Receivers.TheVariants.{ToAll, ToOne};
 
-use agree_core::Asker;
+use agree_core::{Asker, Message};
+use wire::{WireFault, message_of};
 
 /// How many bytes of a datagram are taken at most: more than a message has, so that a longer one is seen as such.
 pub const ROOM: usize = 64;
@@ -34,6 +35,29 @@ pub enum Taken {
     Unopened,
 }
 
+/// What was taken, where a datagram is read: as the message of a match that it says, or as the first fault of its bytes.
+#[derive(Clone, Copy, Debug, PartialEq, Eq)]
+pub enum Arrival {
+    Datagram(usize, Result<Message, WireFault>),
+    Nothing,
+    Lost,
+    Unopened,
+}
+
+impl Arrival {
+    /// What was taken, however it is read.
+    pub fn taken(self) -> Taken
+        ensures { result ≡ taken_of self }
+    {
+        match self {
+            Arrival::Datagram(count, _) => Taken::Datagram(count),
+            Arrival::Nothing => Taken::Nothing,
+            Arrival::Lost => Taken::Lost,
+            Arrival::Unopened => Taken::Unopened,
+        }
+    }
+}
+
 /// Carries datagrams between a station and its peers. Nothing is known of what it loses, changes or makes up;
 /// only what was handed to it and what it gave is told.
 pub trait Link {
@@ -52,6 +76,21 @@ pub trait Link {
     /// most, and no longer than until a scorer may have typed. Others' datagrams, and those whose taking fails, are lost.
     fn take(&mut self, buffer: &mut [u8; 64], wait: u64) -> Taken
         ensures { IsTaken result buffer.new (log self.old) (log self.new) };
+
+    /// Takes the next datagram likewise, and reads it in the match of this number.
+    fn take_message(&mut self, game: u64, buffer: &mut [u8; 64], wait: u64) -> Arrival
+        ensures { IsRead game result buffer.new (log self.old) (log self.new) }
+    {
+        match self.take(buffer, wait) {
+            Taken::Datagram(count) => {
+                let read = message_of(game, &buffer[..count]);
+                Arrival::Datagram(count, read)
+            }
+            Taken::Nothing => Arrival::Nothing,
+            Taken::Lost => Arrival::Lost,
+            Taken::Unopened => Arrival::Unopened,
+        }
+    }
 }
 
 /// A link that knows its peers apart.

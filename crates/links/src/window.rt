@@ -1,6 +1,9 @@
 //! A window over a link.
 
 ghost use Rattle.std.specs.Prelude.{◌≡◌, ◌≤◌, ℕ, List, [], IfSome, take, true};
+ghost use Rattle.std.specs.Option.{ForSome};
+ghost use Rattle.wire.specs.Layout.{Says};
+ghost use Rattle.wire.specs.Reading.{Reads};
 ghost use Rattle.links.specs.Windows.{IsAsk, IsBrought, IsFaithful, IsHanded, IsKept};
 
 use crate::asks::ask_for;
@@ -9,19 +12,30 @@ use crate::clock::Clock;
 use crate::company::Company;
 use crate::early::hears;
 use crate::known::{Given, Known};
-use crate::link::{Link, PeerLink, Receivers, Taken};
+use crate::link::{Arrival, Link, PeerLink, Receivers, Taken};
 use crate::log::Log;
 use crate::silence::Silence;
 use agree_core::{Asker, DeskId, Message, Position};
 use std::alloc::Global;
 use std::marker::Model;
-use wire::message_of;
+use wire::{WireFault, message_of};
 
 /// Puts a message into the front of a buffer.
 fn put(message: &[u8; 48], buffer: &mut [u8; 64])
     ensures { take 48 buffer.new ≡ message.now }
 {
     buffer[..48].copy_from_slice(message.as_slice());
+}
+
+/// How bytes are read in a match, of which it may be known what they say in this one.
+fn read_in(game: u64, bytes: &[u8], said: Option<Message>, own: u64) -> Result<Message, WireFault>
+    requires { ForSome said (Says own bytes.now) }
+    ensures { Reads game bytes.now result }
+{
+    match said {
+        Some(message) if game == own => Ok(message),
+        _ => message_of(game, bytes),
+    }
 }
 
 /// A link as another is, which saves a station that is behind most of its round trips. It does what a network may: it
@@ -80,7 +94,7 @@ impl<L: PeerLink, C: Clock> Window<L, C> {
     ghost use Rattle.agree_core.specs.declared.messages.Ask.{Ask as AnAsk};
     ghost use Rattle.wire.specs.Layout.{Says};
     ghost use Rattle.links.specs.Windows.{BringsVote, HandsDown, HasAnswers, HasAsked, HasSince, IsAsk, IsBrought, IsGrown, IsHanded, IsKept, IsQuietAt};
-    ghost use Rattle.links.specs.Windows.{IsQuietOrAsks, IsQuietUntilNews, IsStill, IsVote};
+    ghost use Rattle.links.specs.Windows.{IsQuietOrAsks, IsQuietUntilNews, IsSaid, IsStill, IsVote};
     ghost use Rattle.links.specs.declared.link.Receivers.TheVariants.{ToAll, ToOne};
 
     /// A window over a link, in the match of this number.
@@ -294,16 +308,17 @@ impl<L: PeerLink, C: Clock> Window<L, C> {
         ask_for(self.game, Asker::Board, Position { place, round: 0 })
     }
 
-    /// What the link gives. A vote that comes early is lost for now.
-    fn brought(&mut self, buffer: &mut [u8; 64], wait: u64) -> Taken
+    /// What the link gives, and the message that it says, where it says one. A vote that comes early is lost for now.
+    fn brought(&mut self, buffer: &mut [u8; 64], wait: u64) -> (Taken, Option<Message>)
         ensures kept { IsKept self.old self.new }
         ensures grown { IsGrown self.old.below self.new.below }
         ensures read { IsGrown self.old.readings self.new.readings }
         ensures quiet { (self.new.quiet_since ≡ self.old.quiet_since)
             ⊎ (HasSince self.old.readings self.new.readings self.new.quiet_since
-            × BringsVote result buffer.new self.old self.new) }
-        ensures brought { (count : ℕ) → result ≡ Taken.Datagram count
+            × BringsVote result.0 buffer.new self.old self.new) }
+        ensures brought { (count : ℕ) → result.0 ≡ Taken.Datagram count
             → (count ≤ 64) × IsBrought self.new.game self.new.below (take count buffer.new) }
+        ensures says { IsSaid self.new.game result.0 result.1 buffer.new }
     {
         let taken = self.link.take(buffer, wait);
         let peer = self.link.last_peer();
@@ -326,32 +341,35 @@ impl<L: PeerLink, C: Clock> Window<L, C> {
     }
 
     /// What the link brings, once what it is time for is asked for.
-    fn fetch(&mut self, buffer: &mut [u8; 64], wait: u64) -> Taken
+    fn fetch(&mut self, buffer: &mut [u8; 64], wait: u64) -> (Taken, Option<Message>)
         ensures kept { IsKept self.old self.new }
-        ensures brought { (count : ℕ) → result ≡ Taken.Datagram count
+        ensures brought { (count : ℕ) → result.0 ≡ Taken.Datagram count
             → (count ≤ 64) × IsBrought self.new.game self.new.below (take count buffer.new) }
-        ensures quiet { IsQuietUntilNews result buffer.new self.old self.new }
+        ensures says { IsSaid self.new.game result.0 result.1 buffer.new }
+        ensures quiet { IsQuietUntilNews result.0 buffer.new self.old self.new }
     {
         let now = self.clock.millis();
         let wait = self.ask_what_is_due(wait, now);
         self.brought(buffer, wait)
     }
 
-    /// The next datagram: a vote that was kept for the station's position, an ask that is made up, or what the link brings.
-    fn next(&mut self, buffer: &mut [u8; 64], wait: u64) -> Taken
+    /// The next datagram, and the message that was read of it, if one was: a vote that was kept for the station's position, an
+    /// ask that is made up, or what the link brings.
+    fn next(&mut self, buffer: &mut [u8; 64], wait: u64) -> (Taken, Option<Message>)
         ensures kept { IsKept self.old self.new }
-        ensures quiet { IsQuietUntilNews result buffer.new self.old self.new }
-        ensures brought { (count : ℕ) → result ≡ Taken.Datagram count
+        ensures quiet { IsQuietUntilNews result.0 buffer.new self.old self.new }
+        ensures brought { (count : ℕ) → result.0 ≡ Taken.Datagram count
             → (count ≤ 64) × IsBrought self.new.game self.new.below (take count buffer.new) }
+        ensures says { IsSaid self.new.game result.0 result.1 buffer.new }
     {
         self.begin_take();
         if let Some(bytes) = self.known.early.take() {
             put(&bytes, buffer);
-            return Taken::Datagram(48);
+            return (Taken::Datagram(48), None);
         }
         if let Some(bytes) = self.made_up() {
             put(&bytes, buffer);
-            return Taken::Datagram(48);
+            return (Taken::Datagram(48), None);
         }
         self.fetch(buffer, wait)
     }
@@ -391,7 +409,7 @@ impl<L: PeerLink, C: Clock> Window<L, C> {
 
 impl<L: PeerLink, C: Clock> Link for Window<L, C> {
     ghost use Rattle.std.specs.Prelude.{◌≡◌, ◌∷◌, ◌++◌, []};
-    ghost use Rattle.links.specs.Passed.{IsTaken, Sent};
+    ghost use Rattle.links.specs.Passed.{IsRead, IsTaken, Sent, taken_of};
     ghost use Rattle.links.specs.Windows.{AsksInTime, HandsDown, IsQuietUntilNews, IsVote};
     ghost use Rattle.links.specs.declared.link.Receivers.TheVariants.{ToAll, ToOne};
 
@@ -426,12 +444,25 @@ impl<L: PeerLink, C: Clock> Link for Window<L, C> {
         ensures log { IsTaken result buffer.new self.old.above self.new.above }
         ensures quiet { IsQuietUntilNews result buffer.new self.old self.new }
     {
-        match self.next(buffer, wait) {
+        let game = self.game;
+        self.take_message(game, buffer, wait).taken()
+    }
+
+    // likewise; what its link brings is read once
+    fn take_message(&mut self, game: u64, buffer: &mut [u8; 64], wait: u64) -> Arrival
+        ensures log { IsRead game result buffer.new self.old.above self.new.above }
+        ensures quiet { IsQuietUntilNews (taken_of result) buffer.new self.old self.new }
+    {
+        let (taken, said) = self.next(buffer, wait);
+        match taken {
             Taken::Datagram(count) => {
                 self.log = self.log.came(buffer, count);
-                Taken::Datagram(count)
+                let read = read_in(game, &buffer[..count], said, self.game);
+                Arrival::Datagram(count, read)
             }
-            missed => missed,
+            Taken::Nothing => Arrival::Nothing,
+            Taken::Lost => Arrival::Lost,
+            Taken::Unopened => Arrival::Unopened,
         }
     }
 }

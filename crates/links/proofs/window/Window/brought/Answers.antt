@@ -23,6 +23,6 @@ returns-clause-quiet g c =
     let last = c.hear.new.self.asking.last in
     let now = since_now (g.C.Clock.readings c.self.inside.clock) c.millis-now.result c.millis-now.ensures in
     subst (λ (w : Windowed). (last ≡ w.quiet_since) ⊎ (HasSince w.readings (g.C.Clock.readings c.millis-now.new.self) last
-    × (GivesVote w.game c.hear.result c.take-taken.new.buffer ⊎ HasMore w.kept (values c.hear.new.self.early.votes)))) c.self.view_is
+    × (GivesVote w.game c.hear.result.0 c.take-taken.new.buffer ⊎ HasMore w.kept (values c.hear.new.self.early.votes)))) c.self.view_is
     (⊎_elim (λ e. inl e) (λ n. inr (subst (HasSince (g.C.Clock.readings c.self.inside.clock) (g.C.Clock.readings c.millis-now.new.self)) (sym n.0) now, n.1))
     c.hear.ensures.last)

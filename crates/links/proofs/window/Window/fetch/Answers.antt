@@ -12,5 +12,5 @@ returns-clause-quiet g c =
     let kept = c.ask_what_is_due-wait.ensures.votes ∙ ap (λ (w : Windowed). w.kept) c.self.view_is in
     let quiet = subst (λ (w : Windowed). (due.quiet_since ≡ w.quiet_since) ⊎ ((due.quiet_since ≡ now) × HasAsked w due)) c.self.view_is
     c.ask_what_is_due-wait.ensures.quiet in
-    until_news c.brought.result c.brought.new.buffer now c.args.self.now due c.brought.new.self read game kept quiet
+    until_news c.brought.result.0 c.brought.new.buffer now c.args.self.now due c.brought.new.self read game kept quiet
     c.brought.ensures.grown c.brought.ensures.read c.brought.ensures.quiet
