@@ -44,21 +44,6 @@ fn is_closed(score: &Match, innings: usize) -> bool
     !(score.is_open() && begun == innings + 1)
 }
 
-/// Puts the overs of an innings.
-fn put_overs_of(
-    out: &mut Compact,
-    alloc: Global,
-    score: &Match,
-    innings: usize,
-) -> Result<(), AllocError>
-    requires { innings < begun_in score.now }
-    ensures { ForEachHistory score.now (λ n h.
-        PutsFields result out.old out.new (laws.overs_field h innings ∷ [])) }
-{
-    let (called, since) = score.overs(innings);
-    put_overs(out, alloc, called, since)
-}
-
 /// Puts the side with its score.
 fn put_score(
     out: &mut Compact,
@@ -71,10 +56,11 @@ fn put_score(
     ensures { ForEachHistory score.now (λ n h.
         PutsFields result out.old out.new (laws.score_fields sheet.now h innings)) }
 {
+    let (called, since) = score.overs(innings);
     put_text(out, "team", sheet.name(score.side(innings)))?;
     put_figure(out, "runs", score.total(innings))?;
     put_figure(out, "wickets", score.wickets(innings))?;
-    put_overs_of(out, alloc, score, innings)?;
+    put_overs(out, alloc, called, since)?;
     put_bool(out, "closed", is_closed(score, innings))?;
     put_extras(out, &score.extras(innings))
 }

@@ -17,4 +17,5 @@ mod told;
 mod value;
 
 pub use laws::boards_add_up;
-pub use text::{board_text, put_board_value};
+pub use text::board_text;
+pub use value::put_board_value;
