@@ -68,7 +68,7 @@ hides_the_other view = record {
 }
 
 -- the entry of a vote is in the bytes that say it
-entry_of_vote : (game : ℕ) (bytes : List ℕ) (v : Vote) → Says game bytes (Message.Vote v) → entry_in bytes ≡ Some v.entry
+pub entry_of_vote : (game : ℕ) (bytes : List ℕ) (v : Vote) → Says game bytes (Message.Vote v) → entry_in bytes ≡ Some v.entry
 entry_of_vote game bytes v s = ap entry_coded (code_in game bytes v s) ∙ entry_coded-code v.entry s.0.1
 
 pub tells_both : (Disk : Type 0) → TellsBoth Disk

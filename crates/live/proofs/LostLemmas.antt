@@ -1,6 +1,7 @@
 -- How a desk's process goes on where bytes come for a later position, and what they show of the other desk's file.
-use Rattle.std.proofs.Common.{arith, ◌≡◌, ℕ, Bool, true, false, List, [], ◌∷◌, Option, Some, None, refl, sym, ap, ◌∙◌, inl, inr, length, length-append, map, not, ◌&&◌, ◌||◌, replicate, IsTrue, ◌↔◌}
+use Rattle.std.proofs.Common.{arith, ◌≡◌, ℕ, Bool, true, false, List, [], ◌∷◌, Option, Some, None, Result, Ok, refl, sym, ap, ◌∙◌, subst, inl, inr, map, not, ◌&&◌, ◌||◌, IsTrue, ◌↔◌}
 use Rattle.std.specs.Prelude.{IsErrOf, is_some, if◌then◌else◌}
+use Rattle.std.specs.Result.{ForOk}
 use Rattle.std.specs.Str.{bytes_eq}
 use Rattle.std.proofs.lemmas.Bool.{cases_Bool}
 use Rattle.std.proofs.lemmas.Bool.Decides.{Decides-like, nat_tests, same_from_decides}
@@ -14,16 +15,18 @@ use Rattle.agree_core.specs.Ballots.{Ballot, In, vote_of}
 use Rattle.agree_core.specs.Positions.{next_place, next_round, position_of}
 use Rattle.vote_store.specs.VoteList.{last_vote}
 use Rattle.agree_core.specs.declared.{messages.Message.Message, position.Position.Position, seat.Heard.Heard}
-use Rattle.agree_core.specs.Desks.{Asked, DeskState, Receives, Replies}
+use Rattle.agree_core.specs.Desks.{Asked, DeskState, Receives, Replies, Told}
 use Rattle.agree_core.specs.FileView.{FileView}
 use Rattle.agree_core.specs.LostLines.{is_another, is_at, is_before, is_in_reach, is_voted}
 use Rattle.agree_core.specs.Seats.{SeatState}
 use Rattle.desk.specs.Answers.{replied}
 use Rattle.desk.specs.Takes.{Takes}
-use Rattle.wire.specs.Layout.{Says, body, body_in, is_at as message_at, written}
+use Rattle.wire.specs.Layout.{IsMessage, Says, body_in, is_at as message_at, written}
+use Rattle.wire.specs.Reading.{Reads}
 use Rattle.wire.specs.Sent.{AreSent}
-use Rattle.wire.specs.declared.what.What.{What}
-use Rattle.wire.proofs.MessageLemmas.{message_body_length, place_of, round_of}
+use Rattle.wire.specs.declared.{fault.WireFault.WireFault, what.What.What}
+use Rattle.wire.proofs.FaultLemmas.{reads_once}
+use Rattle.wire.proofs.MessageLemmas.{code_in, place_of, round_of}
 use Rattle.live.specs.LostLines.{end_ahead, end_given, end_here, loss_of, position_in, shows_loss}
 use Rattle.live.specs.declared.ends.DeskEnd.{DeskEnd}
 
@@ -31,23 +34,29 @@ use Rattle.live.specs.declared.ends.DeskEnd.{DeskEnd}
 pub heard_ends : (reach : Bool) (h : Heard) → IsErrOf (end_given reach (What.Heard h)) DeskEnd.Device → ⊥
 heard_ends reach h e = grind arith
 
-size : (game : ℕ) (m : Message) → length (written game m) ≡ 48
-size game m =
-    let middle = message_body_length m in
-    let both = length-append (body m) (replicate 5 0) in
-    omega (arith, middle, both)
+-- the position that bytes say is that of their message
+pub position_of_message : (game : ℕ) (bytes : List ℕ) (m : Message) → Says game bytes m → position_in bytes ≡ message_at m
+position_of_message game bytes m says = λ i. record { place = place_of game bytes m says i; round = round_of game bytes m says i }
 
-heard_size : {Disk : Type 0} (view : FileView Disk) (game : ℕ) (k l : DeskState Disk) (bytes : List ℕ) (h : Heard) (out : List Message)
-    → Takes view game k bytes (What.Heard h) l out → length bytes ≡ 48
-heard_size view game k l bytes h out t = ap length t.1.1 ∙ size game t.0
+-- what was read of bytes is the message that they say
+pub read_once : (game : ℕ) (bytes : List ℕ) (read : Result Message WireFault) (m : Message) → Reads game bytes read → Says game bytes m → read ≡ Ok m
+read_once game bytes read m reads says = reads_once game bytes read (Ok m) reads says
 
--- the position that was read is that of the bytes, where the answer goes by it
-pub ends_so : {Disk : Type 0} (view : FileView Disk) (game : ℕ) (k l : DeskState Disk) (bytes : List ℕ) (what : What) (out : List Message) (at : Position)
-    → Takes view game k bytes what l out → (length bytes ≡ 48 → at ≡ position_in bytes)
+-- and has its numbers in their ranges
+pub is_message : (game : ℕ) (bytes : List ℕ) (read : Result Message WireFault) → Reads game bytes read → ForOk read IsMessage
+is_message game bytes read reads m is = let says : Says game bytes m = subst (Reads game bytes) is reads in says.0
+
+-- its position is that of the bytes
+read_at : (game : ℕ) (bytes : List ℕ) (read : Result Message WireFault) (at : Position) (m : Message) → Says game bytes m → Reads game bytes read
+    → ForOk read (λ n. at ≡ message_at n) → at ≡ position_in bytes
+read_at game bytes read at m says reads e = e m (read_once game bytes read m reads says) ∙ sym (position_of_message game bytes m says)
+
+pub ends_so : {Disk : Type 0} (view : FileView Disk) (game : ℕ) (k l : DeskState Disk) (bytes : List ℕ) (read : Result Message WireFault) (what : What)
+    (out : List Message) (at : Position) → Takes view game k bytes what l out → Reads game bytes read → ForOk read (λ m. at ≡ message_at m)
     → end_given (is_in_reach k.seat at) what ≡ end_here k.seat bytes what
-ends_so view game k l bytes (What.Heard Heard.Ahead) out at t e =
-    ap (λ (p : Position). end_ahead (is_in_reach k.seat p)) (e (heard_size view game k l bytes Heard.Ahead out t))
-ends_so view game k l bytes what out at t e = refl
+ends_so view game k l bytes read (What.Heard Heard.Ahead) out at t reads e =
+    ap (λ (p : Position). end_ahead (is_in_reach k.seat p)) (read_at game bytes read at t.0 t.1 reads e)
+ends_so view game k l bytes read what out at t reads e = refl
 
 -- ---- of the other desk's file
 
@@ -82,17 +91,11 @@ module _ (s : SeatState) (at : Position) (entry : List ℕ) where
       ≡ is_at (if bytes_eq entry (code v.entry) then next_round p else next_place p) s.position = rw here refl in
       e ∙ ap (λ (q : Position). is_at q s.position) after ∙ sym (by_last desk votes v last ∙ taken)
 
--- a test of an entry is that of the code that bytes have
-pub is_coded : (r : Bool) (bytes : List ℕ) (e f : Entry) → IsEntry e → IsEntry f → bytes ≡ code e → IsTrue r ↔ (e ≡ f) → r ≡ bytes_eq bytes (code f)
-is_coded r bytes e f h k c same =
-    same_from_decides r (bytes_eq bytes (code f)) same
-    (Decides-like (bytes_eq bytes (code f)) (λ x. code_once e f h k (sym c ∙ x)) (λ x. c ∙ ap code x) (bytes_eq-Decides bytes (code f)))
-
-pub not_coded : (bytes : List ℕ) (f : Entry) → (bytes ≡ code f → ⊥) → false ≡ bytes_eq bytes (code f)
-not_coded bytes f n = elim (cases_Bool (bytes_eq bytes (code f))) [
-  | inl same ↦ absurd (n ((bytes_eq-Decides bytes (code f)).0 same))
-  | inr other ↦ sym other
-]
+-- a test of two entries is that of their codes
+pub is_coded : (r : Bool) (e f : Entry) → IsEntry e → IsEntry f → IsTrue r ↔ (e ≡ f) → r ≡ bytes_eq (code e) (code f)
+is_coded r e f h k same =
+    same_from_decides r (bytes_eq (code e) (code f)) same
+    (Decides-like (bytes_eq (code e) (code f)) (λ x. code_once e f h k x) (λ x. ap code x) (bytes_eq-Decides (code e) (code f)))
 
 -- one of a desk's votes is for a position exactly where its replies to an ask for that have one
 at_self : (p : Position) → is_at p p ≡ true
@@ -116,10 +119,6 @@ not_voted (b ∷ bs) at n = elim (cases_Bool (is_at b.at at)) [
   | inl here ↦ absurd (n b.entry (inl (λ i. record { at = sym (at_once b.at at here) i; entry = b.entry })))
   | inr other ↦ rw other (not_voted bs at (λ e i. n e (inr i)))
 ]
-
--- the position that bytes say is that of their message
-pub position_of_message : (game : ℕ) (bytes : List ℕ) (m : Message) → Says game bytes m → position_in bytes ≡ message_at m
-position_of_message game bytes m says = λ i. record { place = place_of game bytes m says i; round = round_of game bytes m says i }
 
 none_sent : {x : List ℕ} {xs : List (List ℕ)} → [] ≡ x ∷ xs → ⊥
 none_sent e = (cc)
@@ -148,17 +147,25 @@ module _ {Disk : Type 0} (view : FileView Disk) (game : ℕ) (k l : DeskState Di
       let t : Takes view game k bytes What.Asked l s.0 = rw e at s.3 in
       by_message bytes reply s.0 t.0 t.1 s.2 t.2
 
-  -- what was read of the bytes and of the reply is what they show
-  asked_size : (bytes : List ℕ) (out : List Message) → Takes view game k bytes What.Asked l out → length bytes ≡ 48
-  asked_size bytes out t = ap length t.1.1 ∙ size game t.0
+  -- what was read, and the reply, show what the bytes do
+  another_so_read : (bytes : List ℕ) (read : Result Message WireFault) (h : Heard) (out : List Message) (another : Bool) (m : Message) → Says game bytes m
+      → Receives view k m (Told h) l out → Reads game bytes read
+      → ((v : Vote) → read ≡ Ok (Message.Vote v) → another ≡ is_another k.seat k.votes (position_of v) (code v.entry))
+      → another ≡ is_another k.seat k.votes (position_in bytes) (body_in bytes)
+  another_so_read bytes read h out another (Message.Vote v) says r reads a =
+      a v (read_once game bytes read (Message.Vote v) reads says)
+      ∙ sym (λ i. is_another k.seat k.votes (position_of_message game bytes (Message.Vote v) says i) (code_in game bytes v says i))
+  another_so_read bytes read h out another (Message.Ask q) says r reads a = absurd r
 
-  pub loses_so : (bytes : List ℕ) (what : What) (out : List Message) (at : Position) (has_reply : Bool) → Takes view game k bytes what l out
-      → (length bytes ≡ 48 → at ≡ position_in bytes) → (what ≡ What.Asked → has_reply ≡ is_voted k.votes (position_in bytes))
-      → loss_of (is_another k.seat k.votes at (body_in bytes)) (is_before at k.seat.position && not has_reply) what ≡ shows_loss k.seat k.votes bytes what
-  loses_so bytes (What.Heard Heard.Old) out at has_reply t e replied =
-      ap (λ (p : Position). is_another k.seat k.votes p (body_in bytes)) (e (heard_size view game k l bytes Heard.Old out t))
-  loses_so bytes What.Asked out at has_reply t e replied =
-      let same = e (asked_size bytes out t) in
+  pub loses_so : (bytes : List ℕ) (read : Result Message WireFault) (what : What) (out : List Message) (at : Position) (another has_reply : Bool)
+      → Takes view game k bytes what l out → Reads game bytes read → ForOk read (λ m. at ≡ message_at m)
+      → ((v : Vote) → read ≡ Ok (Message.Vote v) → another ≡ is_another k.seat k.votes (position_of v) (code v.entry))
+      → (what ≡ What.Asked → has_reply ≡ is_voted k.votes (position_in bytes))
+      → loss_of another (is_before at k.seat.position && not has_reply) what ≡ shows_loss k.seat k.votes bytes what
+  loses_so bytes read (What.Heard Heard.Old) out at another has_reply t reads e a replied =
+      another_so_read bytes read Heard.Old out another t.0 t.1 t.2 reads a
+  loses_so bytes read What.Asked out at another has_reply t reads e a replied =
+      let same = read_at game bytes read at t.0 t.1 reads e in
       let has = replied refl in
       λ i. is_before (same i) k.seat.position && not (has i)
-  loses_so bytes what out at has_reply t e replied = refl
+  loses_so bytes read what out at another has_reply t reads e a replied = refl

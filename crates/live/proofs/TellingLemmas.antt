@@ -8,7 +8,7 @@ use Rattle.streams.specs.declared.watched.WriteFailed.{WriteFailed}
 use Rattle.notation.specs.declared.entry.Entry.{Entry}
 use Rattle.agree_core.specs.declared.position.Position.{Position}
 use Rattle.wire.specs.declared.what.What.{What}
-use Rattle.live.specs.Ends.{Course, course_of, ending, end_at, end_of, further, known_at, written}
+use Rattle.live.specs.Ends.{Course, course_of, ending, end_of, further, known_at, written}
 use Rattle.live.specs.LostLines.{end_given}
 use Rattle.live.specs.Runs.{with_text}
 use Rattle.station_texts.specs.Texts.{came_text, said_text}

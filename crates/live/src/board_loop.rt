@@ -1,11 +1,12 @@
 //! A board's process.
 
 ghost use Rattle.std.specs.Prelude.{◌≡◌, ◌<◌, ◌+◌, ℕ, true, false, Option, List, [], ◌∷◌, ◌++◌, ◌⊎◌, IsSome, OnErr, OnOk, length, nat_eq};
+ghost use Rattle.std.specs.Result.{ForOk};
 ghost use Rattle.corrections.specs.CleanList.{history_of};
 ghost use Rattle.cards.specs.Board.{board as board_text};
 ghost use Rattle.cards.specs.Sheet.{Sheet};
 ghost use Rattle.streams.specs.Watched.{Prints, has_failed, stream_of};
-ghost use Rattle.board.specs.Board.{book_of};
+ghost use Rattle.board.specs.Board.{book_of, game_of};
 ghost use Rattle.live.specs.Boards.{BoardGoes, BoardRuns, at_turn, grown, in_turn};
 ghost use Rattle.station_texts.specs.Notices.{notices_unopened, telling_unopened, untold};
 ghost use Rattle.live.specs.Paces.{ticking_of};
@@ -14,17 +15,21 @@ ghost use Rattle.live.specs.Ticks.{unticked};
 ghost use Rattle.links.specs.Passed.{Came, Passed};
 ghost use Rattle.links.specs.declared.link.TheConstants.{MOST_TAKEN};
 ghost use Rattle.station_texts.specs.declared.notices.Notice.{Notice};
+ghost use Rattle.wire.specs.Layout.{IsMessage};
+ghost use Rattle.wire.specs.Reading.{Reads};
 
 use crate::board_calls::tick;
 use crate::hearing::promises_more;
 use crate::pace::Pace;
 use crate::shows::Shows;
+use agree_core::Message;
 use board::Board;
 use cards::MatchSheet;
 use corrections::BookOf;
-use links::{Clock, Link, MOST_TAKEN, ROOM, Taken};
+use links::{Arrival, Clock, Link, MOST_TAKEN, ROOM};
 use station_texts::notices::{Notices, Telling};
 use streams::{Sink, Watched, WriteFailed};
+use wire::WireFault;
 
 /// What a board's process keeps between its calls.
 #[derive(Clone, Copy, Debug, PartialEq, Eq)]
@@ -58,23 +63,25 @@ fn say<B: BookOf, L: Link, C: Clock>(
     wait
 }
 
-/// A board takes bytes that came at its position, and tells what it can't take.
+/// A board takes what came at its position, as it was read, and tells what it can't take.
 fn give<B: BookOf, N: Notices>(
     board: &mut Board<B>,
-    bytes: &[u8],
+    read: Result<Message, WireFault>,
     notices: &mut N,
     between: &mut Between,
     now: u64,
 )
-    ensures goes { (sheet : Sheet) (shown : Option (List ℕ)) (seen : List Sight) (log : List Passed) (times : List ℕ) (turns had taken : ℕ) → taken < MOST_TAKEN →
+    requires { ForOk read IsMessage }
+    ensures goes { (bytes : List ℕ) (sheet : Sheet) (shown : Option (List ℕ)) (seen : List Sight) (log : List Passed) (times : List ℕ) (turns had taken : ℕ) →
+        Reads (game_of board.old) bytes read → taken < MOST_TAKEN →
         BoardGoes B.content B.innings_a_side sheet board.old board.new
         (in_turn B.content board.old turns had taken between.old.telling (ticking_of between.old.pace) (N.told notices.old) seen)
         (in_turn B.content board.new turns had (taken + 1) between.new.telling (ticking_of between.new.pace) (N.told notices.new) seen)
-        log (log ++ Came bytes.now ∷ []) times times shown shown }
+        log (log ++ Came bytes ∷ []) times times shown shown }
     ensures ticking { ticking_of between.new.pace ≡ ticking_of between.old.pace }
 {
     let at = board.position();
-    let answer = board.receive(bytes);
+    let answer = board.take(read);
     let telling = between.telling;
     telling.tell(answer, notices);
     between.telling = telling.after(answer);
@@ -116,17 +123,17 @@ fn take_next<B: BookOf, L: Link, C: Clock, N: Notices>(
 {
     let wait = say(board, link, clock, &mut between.pace);
     let mut buffer = [0; ROOM];
-    match link.take(&mut buffer, wait) {
-        Taken::Datagram(count) => {
+    match link.take_message(board.game(), &mut buffer, wait) {
+        Arrival::Datagram(_, read) => {
             let now = clock.millis();
-            give(board, &buffer[..count], notices, between, now);
+            give(board, read, notices, between, now);
             true
         }
-        Taken::Unopened => {
+        Arrival::Unopened => {
             pass_over(notices, between);
             true
         }
-        Taken::Nothing | Taken::Lost => false,
+        Arrival::Nothing | Arrival::Lost => false,
     }
 }
 

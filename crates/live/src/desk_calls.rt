@@ -1,15 +1,19 @@
 //! The calls of a desk at its link.
 
-ghost use Rattle.std.specs.Prelude.{◌≡◌, ◌++◌, ◌∷◌, [], List, is_some};
+ghost use Rattle.std.specs.Prelude.{◌≡◌, ◌++◌, ◌∷◌, [], ℕ, List, is_some};
+ghost use Rattle.std.specs.Result.{ForOk};
 ghost use Rattle.agree_core.specs.LostLines.{is_voted};
 ghost use Rattle.cards.specs.Sheet.{Sheet};
 ghost use Rattle.desk.specs.Answers.{replied};
-ghost use Rattle.desk.specs.Desk.{disk_of, state_of};
+ghost use Rattle.desk.specs.Desk.{disk_of, game_of, state_of};
 ghost use Rattle.live.specs.Desks.{Calls, Given, Ticked, Typed};
 ghost use Rattle.live.specs.LostLines.{position_in};
 ghost use Rattle.links.specs.Passed.{Passed, sent_to};
 ghost use Rattle.links.specs.declared.link.Receivers.TheVariants.{ToOne};
+ghost use Rattle.wire.specs.Layout.{IsMessage};
+ghost use Rattle.wire.specs.Reading.{Reads};
 
+use agree_core::Message;
 use cards::MatchSheet;
 use corrections::BookOf;
 use desk::{Desk, Received};
@@ -17,7 +21,7 @@ use entry_log::SlotsOf;
 use links::{Link, send_each};
 use station_texts::said::{Said, entry_said};
 use std::alloc::Global;
-use wire::What;
+use wire::{What, WireFault};
 
 /// Has a desk pen the entry that a line says in full, by the desk's book and its sheet, and sends its vote to all. Memory is
 /// taken for a plan alone.
@@ -62,21 +66,23 @@ fn hand_back<L: Link>(link: &mut L, reply: Option<[u8; 48]>)
     }
 }
 
-/// A desk takes bytes that came, and sends its reply to who sent them. It answers what it came to, and the reply.
-pub fn receive<S: SlotsOf, B: BookOf + Drop, L: Link>(
+/// A desk takes what came, as it was read, and sends its reply to who sent it. It answers what it came to, and the reply.
+pub fn take<S: SlotsOf, B: BookOf + Drop, L: Link>(
     desk: &mut Desk<S, B>,
-    bytes: &[u8],
+    read: Result<Message, WireFault>,
     link: &mut L,
 ) -> Received
-    ensures calls { (s : Sheet) → Calls s desk.old desk.new (Given bytes.now result.what) (L.log link.old) (L.log link.new) }
+    requires { ForOk read IsMessage }
+    ensures calls { (s : Sheet) (bytes : List ℕ) → Reads (game_of desk.old) bytes read →
+        Calls s desk.old desk.new (Given bytes result.what) (L.log link.old) (L.log link.new) }
     // There is a reply to an ask exactly where the desk has voted at its position.
-    ensures replied { result.what ≡ What.Asked
-        → is_some result.reply ≡ is_voted (state_of desk.old).votes (position_in bytes.now) }
+    ensures replied { (bytes : List ℕ) → Reads (game_of desk.old) bytes read → result.what ≡ What.Asked
+        → is_some result.reply ≡ is_voted (state_of desk.old).votes (position_in bytes) }
     // Nothing is written.
     ensures reads { (S.Disk.seen (disk_of desk.new) ≡ S.Disk.seen (disk_of desk.old))
         × (S.Disk.images (disk_of desk.new) ≡ S.Disk.images (disk_of desk.old)) }
 {
-    let received = desk.receive(bytes);
+    let received = desk.take(read);
     hand_back(link, received.reply);
     received
 }
@@ -92,7 +98,9 @@ pub fn give<S: SlotsOf, B: BookOf + Drop, L: Link>(
     ensures reads { (S.Disk.seen (disk_of desk.new) ≡ S.Disk.seen (disk_of desk.old))
         × (S.Disk.images (disk_of desk.new) ≡ S.Disk.images (disk_of desk.old)) }
 {
-    receive(desk, bytes, link).what
+    let received = desk.receive(bytes);
+    hand_back(link, received.reply);
+    received.what
 }
 
 /// Has a desk say what it says unasked, to all.

@@ -2,11 +2,12 @@
 
 ghost use Rattle.std.specs.Prelude.{◌≡◌, ◌++◌, ◌∷◌, [], ℕ, List, Option, true, false, Err, IfErr, IfSome, IsSome, OnErr, OnOk, is_some};
 ghost use Rattle.std.specs.Io.KnownBytes.{Appends};
+ghost use Rattle.std.specs.Result.{ForOk};
 ghost use Rattle.notation.specs.Written.{IsEntry};
 ghost use Rattle.entry_log.specs.Blame.{BlamesDisk};
 ghost use Rattle.cards.specs.Sheet.{Sheet};
 ghost use Rattle.streams.specs.Watched.{Prints, has_failed, stream_of};
-ghost use Rattle.desk.specs.Desk.{disk_of, state_of};
+ghost use Rattle.desk.specs.Desk.{disk_of, game_of, state_of};
 ghost use Rattle.live.specs.Desks as desks;
 ghost use Rattle.live.specs.Desks.{DeskGoes, DeskRuns, FitsLongest, innings_of, process_of};
 ghost use Rattle.live.specs.DeskSights.{IsShown, desk_sight};
@@ -17,23 +18,25 @@ ghost use Rattle.live.specs.Ticks.{IsInTime, Ticking};
 ghost use Rattle.links.specs.Passed.{Came, Passed};
 ghost use Rattle.station_texts.specs.Texts.{greeting, unopened_text, warned_unopened};
 ghost use Rattle.links.specs.Typing.{Input};
+ghost use Rattle.wire.specs.Layout.{IsMessage};
+ghost use Rattle.wire.specs.Reading.{Reads};
 
 use crate::aside::tell_aside;
 use crate::between::Between;
-use crate::desk_calls::{pen, receive, tick};
+use crate::desk_calls::{pen, take, tick};
 use crate::ends::{DeskEnd, end_of, told};
-use crate::hearing::{entry_in, promises_more};
-use crate::lost_lines::{end_given, is_another, is_in_reach, is_passed_over, loss_of, position_in};
+use crate::hearing::{entry_in, position_in, promises_more};
+use crate::lost_lines::{end_given, is_another, is_in_reach, is_passed_over, loss_of};
 use crate::pace::Pace;
 use crate::peer::Peer;
 use crate::reminding::remind;
 use crate::shows_desk::ShowsDesk;
-use agree_core::DeskId;
+use agree_core::{DeskId, Message};
 use cards::MatchSheet;
 use corrections::BookOf;
 use desk::Desk;
 use entry_log::SlotsOf;
-use links::{Clock, Keys, LINE_ROOM, Link, MOST_TAKEN, ROOM, Stand, Taken, Typed};
+use links::{Arrival, Clock, Keys, LINE_ROOM, Link, MOST_TAKEN, ROOM, Stand, Typed};
 use notation::Entry;
 use station_texts::both::Both;
 use station_texts::news::{print_came, print_unopened};
@@ -41,6 +44,7 @@ use station_texts::texts::{print_greeting, print_said};
 use station_texts::warned::Warned;
 use std::alloc::Global;
 use streams::{Sink, Watched};
+use wire::WireFault;
 
 /// A desk's vote of its position, where it is cast.
 fn own_line<S: SlotsOf, B: BookOf + Drop>(desk: &Desk<S, B>) -> Option<Entry>
@@ -105,18 +109,19 @@ fn take_line<S: SlotsOf, B: BookOf + Drop, L: Link, K: Keys, W: Sink>(
     told(print_said(out, sheet, at, both, is_silent, &said, desk.book()))
 }
 
-/// Takes bytes that came, and tells the scorer what is news.
+/// Takes what came, as it was read, and tells the scorer what is news.
 fn hear<S: SlotsOf, B: BookOf + Drop, L: Link, W: Sink>(
     desk: &mut Desk<S, B>,
     sheet: &MatchSheet,
-    bytes: &[u8],
+    read: &Result<Message, WireFault>,
     link: &mut L,
     out: &mut Watched<W>,
     between: &mut Between,
     now: u64,
 ) -> Result<(), DeskEnd>
-    ensures goes { (log : List Passed) (typed : List Input) (times : List ℕ) (turns : ℕ) →
-        L.log link.old ≡ log ++ Came bytes.now ∷ [] → DeskGoes sheet.now desk.old desk.new
+    requires { ForOk read.now IsMessage }
+    ensures goes { (bytes : List ℕ) (log : List Passed) (typed : List Input) (times : List ℕ) (turns : ℕ) →
+        Reads (game_of desk.old) bytes read.now → L.log link.old ≡ log ++ Came bytes ∷ [] → DeskGoes sheet.now desk.old desk.new
         (process_of desk.old between.old.warned turns (ticking_of between.old.pace) further)
         (process_of desk.new between.new.warned turns (ticking_of between.new.pace) (course_of result))
         log (L.log link.new) typed typed times times
@@ -127,12 +132,12 @@ fn hear<S: SlotsOf, B: BookOf + Drop, L: Link, W: Sink>(
     let at = desk.position();
     let both = Both {
         own: own_line(desk),
-        other: entry_in(bytes),
+        other: entry_in(*read),
     };
-    let of = position_in(bytes);
+    let of = position_in(*read);
     let in_reach = is_in_reach(desk, of);
-    let another = is_another(desk, of, bytes);
-    let received = receive(desk, bytes, link);
+    let another = is_another(desk, *read);
+    let received = take(desk, *read, link);
     let what = received.what;
     let loss = loss_of(
         another,
@@ -142,7 +147,7 @@ fn hear<S: SlotsOf, B: BookOf + Drop, L: Link, W: Sink>(
     between
         .pace
         .note(desk.position() != at, promises_more(what), now);
-    between.peer.note(at, sheet.game(), bytes, what, now);
+    between.peer.note(at, *read, what, now);
     let warned = between.warned;
     between.warned = warned.after(loss, what);
     if let Err(end) = end_given(in_reach, what) {
@@ -213,17 +218,17 @@ fn take_next<S: SlotsOf, B: BookOf + Drop, L: Link, C: Clock, W: Sink>(
 {
     let wait = say(desk, link, clock, &mut between.pace);
     let mut buffer = [0; ROOM];
-    match link.take(&mut buffer, wait) {
-        Taken::Datagram(count) => {
+    match link.take_message(desk.game(), &mut buffer, wait) {
+        Arrival::Datagram(_, read) => {
             let now = clock.millis();
-            hear(desk, sheet, &buffer[..count], link, out, between, now)?;
+            hear(desk, sheet, &read, link, out, between, now)?;
             Ok(true)
         }
-        Taken::Unopened => {
+        Arrival::Unopened => {
             pass_over(out, between)?;
             Ok(true)
         }
-        Taken::Nothing | Taken::Lost => Ok(false),
+        Arrival::Nothing | Arrival::Lost => Ok(false),
     }
 }
 

@@ -1,36 +1,24 @@
-//! What bytes that came show of lines that one of both desks' files lacks.
+//! What came shows of lines that one of both desks' files lacks.
 
-ghost use Rattle.std.specs.Prelude.{◌≡◌, ◌==◌, ◌+◌, ◌&&◌, not, length, if◌then◌else◌};
+ghost use Rattle.std.specs.Prelude.{◌≡◌, ◌==◌, ◌+◌, ◌&&◌, not, if◌then◌else◌};
+ghost use Rattle.std.specs.Result.{ForOk};
 ghost use Rattle.std.specs.Str.{bytes_eq};
 ghost use Rattle.agree_core.specs.LostLines as votes;
-ghost use Rattle.agree_core.specs.Positions.{InRange, next_place, next_round};
+ghost use Rattle.agree_core.specs.Positions.{InRange, next_place, next_round, position_of};
+ghost use Rattle.agree_core.specs.declared.messages.Vote.{Vote as AVote};
 ghost use Rattle.desk.specs.Desk.{state_of};
 ghost use Rattle.live.specs.LostLines as lost;
 ghost use Rattle.notation.specs.Code.{code};
 ghost use Rattle.notation.specs.Written.{IsEntry};
-ghost use Rattle.wire.specs.Layout.{body_in};
-ghost use Rattle.wire.specs.declared.writing.TheConstants.{SIZE};
+ghost use Rattle.wire.specs.Layout.{IsMessage};
 
 use crate::ends::{DeskEnd, end_at};
-use agree_core::{Heard, Position};
+use agree_core::{Heard, Message, Position};
 use corrections::BookOf;
 use desk::Desk;
 use entry_log::SlotsOf;
 use notation::Entry;
-use wire::{SIZE, What};
-
-/// The position of the message that bytes say; of bytes that are none, any.
-pub fn position_in(bytes: &[u8]) -> Position
-    ensures { length bytes.now ≡ SIZE → result ≡ lost.position_in bytes.now }
-{
-    if bytes.len() != SIZE {
-        return Position::FIRST;
-    }
-    Position {
-        place: u32::from_be_bytes([bytes[13], bytes[14], bytes[15], bytes[16]]),
-        round: u32::from(u16::from_be_bytes([bytes[17], bytes[18]])),
-    }
-}
+use wire::{What, WireFault};
 
 /// Whether two positions are one.
 fn is_at(at: Position, other: Position) -> bool
@@ -87,26 +75,24 @@ pub fn is_in_reach<S: SlotsOf, B: BookOf + Drop>(desk: &Desk<S, B>, at: Position
     !is_before(own, at) || (desk.has_voted() && is_next(own, at))
 }
 
-/// Whether the vote that bytes say is for this entry.
-fn is_for(bytes: &[u8], entry: &Entry) -> bool
-    requires { IsEntry entry.now }
-    ensures { result ≡ bytes_eq (body_in bytes.now) (code entry.now) }
+/// Whether two entries are one.
+fn is_alike(entry: &Entry, other: &Entry) -> bool
+    requires entry { IsEntry entry.now }
+    requires other { IsEntry other.now }
+    ensures { result ≡ bytes_eq (code entry.now) (code other.now) }
 {
-    match wire::entry_in(bytes) {
-        Some(other) => other.is_same(entry),
-        None => false,
-    }
+    entry.is_same(other)
 }
 
-/// Whether the other desk's vote for this earlier position, in these bytes, is another than the one by which this desk went
-/// on.
+/// Whether the other desk's vote for this earlier position, for this entry, is another than the one by which this desk went on.
 #[tactic(auto, using(crate::proofs::LostLemmas::none_cast, crate::proofs::LostLemmas::by_last))]
-pub fn is_another<S: SlotsOf, B: BookOf + Drop>(
+fn is_another_vote<S: SlotsOf, B: BookOf + Drop>(
     desk: &Desk<S, B>,
     at: Position,
-    bytes: &[u8],
+    entry: &Entry,
 ) -> bool
-    ensures { result ≡ votes.is_another (state_of desk.now).seat (state_of desk.now).votes at (body_in bytes.now) }
+    requires { IsEntry entry.now }
+    ensures { result ≡ votes.is_another (state_of desk.now).seat (state_of desk.now).votes at (code entry.now) }
 {
     let Some(last) = desk.last_vote() else {
         return false;
@@ -115,9 +101,24 @@ pub fn is_another<S: SlotsOf, B: BookOf + Drop>(
         return is_before(last.position(), at);
     }
     is_at(
-        next_of(last.position(), !is_for(bytes, &last.entry)),
+        next_of(last.position(), !is_alike(entry, &last.entry)),
         desk.position(),
     )
+}
+
+/// Whether a vote came that is another one, as it is for an earlier position.
+pub fn is_another<S: SlotsOf, B: BookOf + Drop>(
+    desk: &Desk<S, B>,
+    read: Result<Message, WireFault>,
+) -> bool
+    requires { ForOk read IsMessage }
+    ensures { (v : AVote) → read ≡ Ok (Message.Vote v) →
+        result ≡ votes.is_another (state_of desk.now).seat (state_of desk.now).votes (position_of v) (code v.entry) }
+{
+    match read {
+        Ok(Message::Vote(vote)) => is_another_vote(desk, vote.position(), &vote.entry),
+        Ok(Message::Ask(_)) | Err(_) => false,
+    }
 }
 
 /// Whether a position comes before this desk's, and the desk didn't reply to an ask for it.

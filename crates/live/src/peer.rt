@@ -3,13 +3,14 @@
 ghost use Rattle.std.specs.Prelude.{◌≡◌, ◌⊎◌, true};
 ghost use Rattle.agree_core.specs.Desks as desks;
 ghost use Rattle.agree_core.specs.Readers as readers;
-ghost use Rattle.wire.specs.Layout.{is_at};
+ghost use Rattle.agree_core.specs.declared.messages.Message.{Message as AMessage};
 ghost use Rattle.live.specs.Signs as signs;
 ghost use Rattle.live.specs.Signs.{IsSign};
 
+use crate::hearing::position_of;
 use agree_core::{Asker, DeskId, Heard, Message, Position};
 use waits::REMINDER_WAIT;
-use wire::{What, message_of};
+use wire::{What, WireFault};
 
 /// A desk as one who asks.
 fn asker(desk: DeskId) -> Asker
@@ -41,19 +42,6 @@ fn sender_of(message: &Message) -> Asker
     }
 }
 
-/// The position that a message is for.
-fn position_of(message: &Message) -> Position
-    ensures { result ≡ is_at message.now }
-{
-    match message {
-        Message::Vote(vote) => vote.position(),
-        Message::Ask(ask) => Position {
-            place: ask.place,
-            round: ask.round,
-        },
-    }
-}
-
 /// When something of the other desk came.
 #[derive(Clone, Copy, Debug, PartialEq, Eq)]
 pub struct Peer {
@@ -75,12 +63,13 @@ impl Peer {
         }
     }
 
-    /// Bytes came while the desk was at this position, in a match of this number, and this was answered. Only a sign of the
-    /// other desk has it heard: what was said at an earlier position may be a repeat by whoever keeps datagrams.
-    pub fn note(&mut self, at: Position, game: u64, bytes: &[u8], what: What, now: u64)
-        ensures heard { self.new.heard ≡ self.old.heard ⊎ IsSign self.old.own game at bytes.now }
+    /// This came while the desk was at this position, and this was answered. Only a sign of the other desk has it heard:
+    /// what was said at an earlier position may be a repeat by whoever keeps datagrams.
+    pub fn note(&mut self, at: Position, read: Result<Message, WireFault>, what: What, now: u64)
+        ensures heard { self.new.heard ≡ self.old.heard
+            ⊎ ((m : AMessage) × (read ≡ Ok m) × IsSign self.old.own at m) }
     {
-        if self.is_sign(at, game, bytes) {
+        if self.is_sign(at, read) {
             self.heard = now;
         }
         if matches!(what, What::Heard(Heard::Noted)) {
@@ -98,11 +87,11 @@ impl Peer {
         now.saturating_sub(self.noted) >= REMINDER_WAIT
     }
 
-    /// Whether the bytes are a sign of the other desk.
-    fn is_sign(&self, at: Position, game: u64, bytes: &[u8]) -> bool
-        ensures { result ≡ true → IsSign self.now.own game at bytes.now }
+    /// Whether what came is a sign of the other desk.
+    fn is_sign(&self, at: Position, read: Result<Message, WireFault>) -> bool
+        ensures { result ≡ true → (m : AMessage) × (read ≡ Ok m) × IsSign self.now.own at m }
     {
-        match message_of(game, bytes) {
+        match read {
             Ok(message) => {
                 sender_of(&message) == asker(other(self.own))
                     && (position_of(&message) == at || at.is_full())

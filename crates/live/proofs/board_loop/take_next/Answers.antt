@@ -1,14 +1,19 @@
-use Rattle.std.proofs.Common.{ap, sym}
+use Rattle.std.proofs.Common.{ap, sym, take}
 use Rattle.live.specs.Paces.{ticking_of}
 use Rattle.live.proofs.BoardLemmas.{logged, passed_over, reads_clock, then}
+use Rattle.live.proofs.LostLemmas.{is_message}
 use Rattle.live.proofs.board_loop.take_next.Goals as goal
+
+pub give-requires : goal.give-requires
+give-requires g c = is_message c.game.result (take c.in-Datagram.field-0 c.take_message.new.buffer) c.in-Datagram.read c.in-Datagram.ensures.1
 
 pub returns-in-Datagram-clause-taken : goal.returns-in-Datagram-clause-taken
 returns-in-Datagram-clause-taken g c = λ is sheet shown seen turns had taken few.
     let said = c.say-wait in
     then (said.ensures.goes sheet shown seen turns had taken _ _)
     (then (reads_clock {ticking = ticking_of said.new.pace} c.millis-now.result said.new.pace.in_time c.millis-now.ensures)
-    (logged (sym c.in-Datagram.ensures.1) (c.give.ensures.goes sheet shown seen (g.L.Link.log said.new.link) _ turns had taken few)))
+    (logged (sym c.in-Datagram.ensures.0.1)
+    (c.give.ensures.goes _ sheet shown seen (g.L.Link.log said.new.link) _ turns had taken (rw c.game.ensures at c.in-Datagram.ensures.1) few)))
 
 pub returns-in-Unopened-clause-taken : goal.returns-in-Unopened-clause-taken
 returns-in-Unopened-clause-taken g c = λ is sheet shown seen turns had taken few.

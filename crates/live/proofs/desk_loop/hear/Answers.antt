@@ -1,8 +1,11 @@
-use Rattle.std.proofs.Common.{Bool, not, ◌&&◌, ◌≡◌, ◌∙◌, ap, sym}
+use Rattle.std.proofs.Common.{not, ◌&&◌, ◌∙◌, ap, sym}
 use Rattle.agree_core.specs.LostLines.{is_before}
+use Rattle.desk.specs.Desk.{state_of}
+use Rattle.live.specs.Desks.{innings_of, loss_in, own_line}
 use Rattle.live.specs.LostLines.{end_given, loss_of}
 use Rattle.live.specs.Paces.{Paced, ticking_of}
 use Rattle.station_texts.specs.Texts.{came_text, warned_after}
+use Rattle.live.proofs.CameLemmas.{came_so}
 use Rattle.live.proofs.DeskLemmas.{hears, hears_last}
 use Rattle.live.proofs.LostLemmas.{ends_so, loses_so}
 use Rattle.live.proofs.TellingLemmas.{goes_further, tells_same}
@@ -15,38 +18,42 @@ pub returns-clause-ticking : goal.returns-clause-ticking
 returns-clause-ticking g c = ap (λ (p : Paced). p.ticking) c.note.ensures
 
 pub returns-in-Err-clause-goes : goal.returns-in-Err-clause-goes
-returns-in-Err-clause-goes g c =
-    let what = c.receive-received.result.what in
-    let calls = c.receive-received.ensures.calls c.args.sheet.now in
-    let read = c.position_in-of in
+returns-in-Err-clause-goes g c = λ bytes log typed times turns reads came.
+    let what = c.take-received.result.what in
+    let calls = c.take-received.ensures.calls c.args.sheet.now bytes reads in
+    let of = c.position_in-of in
     let ends = ap (λ reach. end_given reach what) c.is_in_reach-in_reach.ensures
-    ∙ ends_so _ _ _ _ c.args.bytes.now what calls.out read.result calls.step read.ensures in
-    let passed = c.is_passed_over.ensures ∙ ap (λ p. is_before read.result p && not c.is_some.result) c.position-at.ensures in
-    let loses = c.loss_of-loss.ensures ∙ (λ i. loss_of (c.is_another-another.ensures i) (passed i) what)
-    ∙ loses_so _ _ _ _ c.args.bytes.now what calls.out read.result c.is_some.result calls.step read.ensures
-    (λ asked. c.is_some.ensures ∙ c.receive-received.ensures.replied asked) in
-    λ log typed times turns came. hears_last {ticking = ticking_of c.args.between.now.pace} what c.in-Err.end c.args.between.now.pace.in_time (returns-in-Err-clause-ticking g c) calls came
+    ∙ ends_so _ _ _ _ bytes c.args.read.now what calls.out of.result calls.step reads of.ensures in
+    let passed = c.is_passed_over.ensures ∙ ap (λ p. is_before of.result p && not c.is_some.result) c.position-at.ensures in
+    let loses = c.loss_of-loss.ensures ∙ (λ i. loss_of c.is_another-another.result (passed i) what)
+    ∙ loses_so _ _ _ _ bytes c.args.read.now what calls.out of.result c.is_another-another.result c.is_some.result calls.step reads of.ensures
+    c.is_another-another.ensures (λ asked. c.is_some.ensures ∙ c.take-received.ensures.replied bytes reads asked) in
+    hears_last {ticking = ticking_of c.args.between.now.pace} what c.in-Err.end c.args.between.now.pace.in_time (returns-in-Err-clause-ticking g c) calls came
     (c.after-between.ensures ∙ ap (λ loss. warned_after c.args.between.now.warned loss what) loses)
     (sym ends ∙ sym c.end_given.ensures ∙ c.in-Err.is)
 
 pub returns-clause-goes : goal.returns-clause-goes
-returns-clause-goes g c =
-    let what = c.receive-received.result.what in
+returns-clause-goes g c = λ bytes log typed times turns reads came.
+    let what = c.take-received.result.what in
     let sheet = c.args.sheet.now in
-    let calls = c.receive-received.ensures.calls sheet in
+    let desk = c.args.desk.now in
+    let calls = c.take-received.ensures.calls sheet bytes reads in
     let innings = ap g.B.BookOf.innings_a_side c.book.ensures ∙ calls.same.innings_a_side in
-    let read = c.position_in-of in
+    let of = c.position_in-of in
     let ends = ap (λ reach. end_given reach what) c.is_in_reach-in_reach.ensures
-    ∙ ends_so _ _ _ _ c.args.bytes.now what calls.out read.result calls.step read.ensures in
-    let passed = c.is_passed_over.ensures ∙ ap (λ p. is_before read.result p && not c.is_some.result) c.position-at.ensures in
-    let loses = c.loss_of-loss.ensures ∙ (λ i. loss_of (c.is_another-another.ensures i) (passed i) what)
-    ∙ loses_so _ _ _ _ c.args.bytes.now what calls.out read.result c.is_some.result calls.step read.ensures
-    (λ asked. c.is_some.ensures ∙ c.receive-received.ensures.replied asked) in
+    ∙ ends_so _ _ _ _ bytes c.args.read.now what calls.out of.result calls.step reads of.ensures in
+    let passed = c.is_passed_over.ensures ∙ ap (λ p. is_before of.result p && not c.is_some.result) c.position-at.ensures in
+    let loses = c.loss_of-loss.ensures ∙ (λ i. loss_of c.is_another-another.result (passed i) what)
+    ∙ loses_so _ _ _ _ bytes c.args.read.now what calls.out of.result c.is_another-another.result c.is_some.result calls.step reads of.ensures
+    c.is_another-another.ensures (λ asked. c.is_some.ensures ∙ c.take-received.ensures.replied bytes reads asked) in
     let further = sym ends ∙ sym c.end_given.ensures ∙ c.in_default.is in
-    λ log typed times turns came. hears {ticking = ticking_of c.args.between.now.pace} what c.args.between.now.pace.in_time (returns-clause-ticking g c) calls came
+    hears {ticking = ticking_of c.args.between.now.pace} what c.args.between.now.pace.in_time (returns-clause-ticking g c) calls came
     (c.after-between.ensures ∙ ap (λ loss. warned_after c.args.between.now.warned loss what) loses)
     (goes_further c.print_came.result c.told.result c.told.ensures ∙ sym further)
     (tells_same c.print_came.result c.told.result _ _ c.told.ensures
-    (λ i. came_text sheet (innings i) (c.position-at.ensures i).place (c.own_line.ensures.value i) (c.entry_in.ensures.value i)
+    ((λ i. came_text sheet (innings i) (c.position-at.ensures i).place (c.own_line.ensures.value i) c.entry_in.result
     (g.B.BookOf.content (c.book.ensures i)) c.args.between.now.warned (loses i) what)
+    ∙ came_so _ _ _ _ bytes c.args.read.now what calls.out c.entry_in.result calls.step reads c.entry_in.ensures.vote sheet (innings_of desk)
+    (state_of desk).seat.position.place (own_line (state_of desk)) (state_of c.take-received.new.desk).book c.args.between.now.warned
+    (loss_in (state_of desk) bytes what))
     c.print_came.ensures.text)

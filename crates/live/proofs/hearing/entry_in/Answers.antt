@@ -1,7 +1,9 @@
-use Rattle.vote_store.proofs.RecordLemmas.{entry_coded-is}
-use Rattle.wire.specs.Layout.{body_in}
+use Rattle.std.proofs.Common.{subst}
+use Rattle.agree_core.specs.declared.messages.Message.{Message}
+use Rattle.wire.specs.Layout.{IsMessage}
 use Rattle.live.proofs.hearing.entry_in.Goals as goal
 
-pub returns-clause-value : goal.returns-clause-value
-returns-clause-value c =
-    entry_coded-is (body_in c.args.bytes.now) c.entry_in.result c.entry_in.ensures.found c.entry_in.ensures.only
+pub returns-in-Ok-Vote-clause-entry : goal.returns-in-Ok-Vote-clause-entry
+returns-in-Ok-Vote-clause-entry c =
+    let fine : IsMessage (Message.Vote c.in-Ok-Vote.vote) = subst IsMessage c.in-Ok-Vote.field-0-is (c.requires c.in-Ok-Vote.field-0 c.in-Ok-Vote.is) in
+    fine.1

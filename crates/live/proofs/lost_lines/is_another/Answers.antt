@@ -1,13 +1,19 @@
-use Rattle.std.proofs.Common.{◌∙◌, sym}
-use Rattle.desk.specs.Desk.{desk_of, own_votes, state_of}
-use Rattle.wire.specs.Layout.{body_in}
-use Rattle.live.proofs.LostLemmas.{another_so}
+use Rattle.std.proofs.Common.{◌≡◌, ◌∙◌, ap, subst}
+use Rattle.notation.specs.Code.{code}
+use Rattle.agree_core.specs.declared.messages.{Message.Message, Vote.Vote}
+use Rattle.agree_core.specs.LostLines.{is_another}
+use Rattle.agree_core.specs.Positions.{position_of}
+use Rattle.desk.specs.Desk.{state_of}
+use Rattle.wire.specs.Layout.{IsMessage}
 use Rattle.live.proofs.lost_lines.is_another.Goals as goal
 
-pub returns : goal.returns
-returns g c =
-    let desk = c.args.desk.now in
-    another_so (state_of desk).seat c.args.at (body_in c.args.bytes.now) (desk_of desk) (own_votes desk) c.in-Some.last
-    (sym c.last_vote.ensures.last ∙ c.in-Some.is) (rw c.position.ensures at (sym c.is_at.ensures ∙ c.if-not-is_at.false))
-    c.is_for.result c.is_for.ensures c.next_of.result (rw c.position-2.ensures at c.next_of.ensures)
-    c.is_at-2.result (rw c.position-3.ensures at c.is_at-2.ensures)
+pub is_another_vote-requires : goal.is_another_vote-requires
+is_another_vote-requires g c =
+    let fine : IsMessage (Message.Vote c.in-Ok-Vote.vote) = subst IsMessage c.in-Ok-Vote.field-0-is (c.requires c.in-Ok-Vote.field-0 c.in-Ok-Vote.is) in
+    fine.1
+
+pub returns-in-Ok-Vote : goal.returns-in-Ok-Vote
+returns-in-Ok-Vote g c = λ v is.
+    let same : c.in-Ok-Vote.vote ≡ v = cc in
+    let k = state_of c.args.desk.now in
+    (rw c.position.ensures at c.is_another_vote.ensures) ∙ ap (λ (w : Vote). is_another k.seat k.votes (position_of w) (code w.entry)) same
