@@ -1,6 +1,6 @@
 //! A link in whose waits a page is seen to.
 
-use links::{Clock, Link, Taken};
+use links::{Arrival, Clock, Link, Taken};
 use std::cell::RefCell;
 use viewers::Viewers;
 use waits::LONGEST_PAGE_WAIT;
@@ -62,5 +62,12 @@ impl<L: Link, C: Clock, P: Attends> Link for Attended<'_, L, C, P> {
         let taken = self.link.take(buffer, wait);
         attend(self.page, &mut self.clock);
         taken
+    }
+
+    fn take_message(&mut self, game: u64, buffer: &mut [u8; 64], wait: u64) -> Arrival {
+        let wait = self.wait_of(wait);
+        let arrival = self.link.take_message(game, buffer, wait);
+        attend(self.page, &mut self.clock);
+        arrival
     }
 }
