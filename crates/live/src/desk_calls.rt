@@ -1,11 +1,12 @@
 //! The calls of a desk at its link.
 
-ghost use Rattle.std.specs.Prelude.{◌≡◌, ◌++◌, ◌∷◌, [], ℕ, List, is_some};
+ghost use Rattle.std.specs.Prelude.{◌≡◌, ◌++◌, ◌∷◌, [], ℕ, IfSome, List, is_some};
 ghost use Rattle.std.specs.Result.{ForOk};
+ghost use Rattle.notation.specs.Written.{IsEntry};
 ghost use Rattle.agree_core.specs.LostLines.{is_voted};
 ghost use Rattle.cards.specs.Sheet.{Sheet};
 ghost use Rattle.desk.specs.Answers.{replied};
-ghost use Rattle.desk.specs.Desk.{disk_of, game_of, state_of};
+ghost use Rattle.desk.specs.Desk.{disk_of, game_of, last_entry, own_votes, state_of};
 ghost use Rattle.live.specs.Desks.{Calls, Given, Ticked, Typed};
 ghost use Rattle.live.specs.LostLines.{position_in};
 ghost use Rattle.links.specs.Passed.{Passed, sent_to};
@@ -18,33 +19,31 @@ use cards::MatchSheet;
 use corrections::BookOf;
 use desk::{Desk, Received};
 use entry_log::SlotsOf;
-use links::{Link, send_each};
+use links::{Link, Stand, send_each};
+use notation::Entry;
 use station_texts::said::{Said, entry_said};
 use std::alloc::Global;
 use wire::{What, WireFault};
 
-/// Has a desk pen the entry that a line says in full, by the desk's book and its sheet, and sends its vote to all. Memory is
-/// taken for a plan alone.
+/// Has a desk that stands so pen the entry that a line says in full, by the desk's book and its sheet, or the one that its
+/// scorer wrote last, and sends its vote to all. Memory is taken for a plan alone.
 pub fn pen<S: SlotsOf, B: BookOf + Drop, L: Link>(
     alloc: Global,
     desk: &mut Desk<S, B>,
     sheet: &MatchSheet,
     line: &[u8],
+    at: Stand,
+    last: Option<Entry>,
     link: &mut L,
 ) -> Said
+    requires round { at.round ≡ (state_of desk.old).seat.position.round }
+    requires vote { at.has_voted ≡ is_some (state_of desk.old).seat.mine }
+    requires last { last ≡ last_entry (own_votes desk.old) }
+    requires entry { IfSome last IsEntry }
     ensures { Calls sheet.now desk.old desk.new (Typed line.now result) (L.log link.old) (L.log link.new) }
 {
-    let differs = desk.position().round > 0;
-    let last = desk.last_entry();
-    let entry = match entry_said(
-        alloc,
-        line,
-        desk.book(),
-        sheet,
-        last,
-        differs,
-        desk.has_voted(),
-    ) {
+    let differs = at.round > 0;
+    let entry = match entry_said(alloc, line, desk.book(), sheet, last, differs, at.has_voted) {
         Ok(entry) => entry,
         Err(said) => return said,
     };

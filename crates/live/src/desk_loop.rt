@@ -90,18 +90,21 @@ fn take_line<S: SlotsOf, B: BookOf + Drop, L: Link, K: Keys, W: Sink>(
     ensures failed { result ≡ Err DeskEnd.Write → has_failed out.new ≡ true }
 {
     let mut buffer = [0; LINE_ROOM];
-    let count = match keys.line(stand_of(desk), &mut buffer) {
+    let stand = stand_of(desk);
+    let count = match keys.line(stand, &mut buffer) {
         Typed::Nothing => return Ok(()),
         Typed::Ended => return Err(DeskEnd::NoMoreLines),
         Typed::Line(count) => count,
         Typed::Aside(aside) => return tell_aside(out, sheet, &aside),
     };
     let at = desk.position();
+    let last = desk.last_entry();
     let both = Both {
         own: own_line(desk),
         other: desk.noted(),
     };
-    let said = pen(alloc, desk, sheet, &buffer[..count], link);
+    let line = &buffer[..count];
+    let said = pen(alloc, desk, sheet, line, stand, last, link);
     if let Err(end) = end_of(&said) {
         return Err(end);
     }

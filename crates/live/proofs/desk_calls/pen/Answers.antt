@@ -7,15 +7,15 @@ use Rattle.live.proofs.desk_calls.pen.Goals.{In-Ok}
 
 pub returns-in-Err : goal.returns-in-Err
 returns-in-Err g c =
-    let none = c.in-Err.ensures.none (state_of c.args.desk.now).votes c.last_entry-last.ensures.last in
+    let none = c.in-Err.ensures.none (state_of c.args.desk.now).votes c.requires.last in
     unpenned c.args.sheet.now c.args.desk.now c.args.line.now c.in-Err.said _
-    (rw (c.book.ensures, c.has_voted.ensures, c.position-differs.ensures) at none)
+    (rw (c.book.ensures, c.requires.vote, c.requires.round) at none)
 
 -- the entry that is penned is what the line says
 says : (g : Over) (c : In-Ok g)
     → SaysEntry c.args.sheet.now (state_of c.args.desk.now).book (state_of c.args.desk.now).votes (state_of c.args.desk.now).seat.position.round
     c.args.line.now c.in-Ok.entry
-says g c = rw (c.book.ensures, c.position-differs.ensures) at (c.in-Ok.ensures.said (state_of c.args.desk.now).votes c.last_entry-last.ensures.last)
+says g c = rw (c.book.ensures, c.requires.round) at (c.in-Ok.ensures.said (state_of c.args.desk.now).votes c.requires.last)
 
 pub returns-in-Ok-pen : goal.returns-in-Ok-pen
 returns-in-Ok-pen g c =
