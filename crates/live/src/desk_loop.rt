@@ -25,8 +25,10 @@ use crate::aside::tell_aside;
 use crate::between::Between;
 use crate::desk_calls::{pen, take, tick};
 use crate::ends::{DeskEnd, end_of, told};
-use crate::hearing::{entry_in, position_in, promises_more};
-use crate::lost_lines::{end_given, is_another, is_in_reach, is_passed_over, loss_of};
+use crate::hearing::{
+    end_given, entry_in, is_another, is_in_reach, is_passed_over, loss_of, position_in,
+    promises_more,
+};
 use crate::pace::Pace;
 use crate::peer::Peer;
 use crate::reminding::remind;

@@ -14,7 +14,6 @@ mod desk_loop;
 mod ends;
 mod hearing;
 mod laws;
-mod lost_lines;
 mod pace;
 mod peer;
 mod reminding;

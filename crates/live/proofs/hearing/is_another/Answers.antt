@@ -5,7 +5,7 @@ use Rattle.agree_core.specs.LostLines.{is_another}
 use Rattle.agree_core.specs.Positions.{position_of}
 use Rattle.desk.specs.Desk.{state_of}
 use Rattle.wire.specs.Layout.{IsMessage}
-use Rattle.live.proofs.lost_lines.is_another.Goals as goal
+use Rattle.live.proofs.hearing.is_another.Goals as goal
 
 pub is_another_vote-requires : goal.is_another_vote-requires
 is_another_vote-requires g c =

@@ -2,7 +2,7 @@ use Rattle.std.proofs.Common.{◌∙◌, sym}
 use Rattle.notation.specs.Code.{code}
 use Rattle.desk.specs.Desk.{desk_of, own_votes, state_of}
 use Rattle.live.proofs.LostLemmas.{another_so}
-use Rattle.live.proofs.lost_lines.is_another_vote.Goals as goal
+use Rattle.live.proofs.hearing.is_another_vote.Goals as goal
 
 pub returns : goal.returns
 returns g c =
