@@ -24,7 +24,7 @@ ghost use Rattle.wire.specs.Reading.{Reads};
 use crate::aside::tell_aside;
 use crate::between::Between;
 use crate::desk_calls::{pen, take, tick};
-use crate::ends::{DeskEnd, end_of, told};
+use crate::ends::{DeskEnd, told};
 use crate::hearing::{
     end_given, entry_in, is_another, is_in_reach, is_passed_over, loss_of, position_in,
     promises_more,
@@ -36,12 +36,13 @@ use crate::shows_desk::ShowsDesk;
 use agree_core::{DeskId, Message};
 use cards::MatchSheet;
 use corrections::BookOf;
-use desk::Desk;
+use desk::{Desk, Refusal};
 use entry_log::SlotsOf;
 use links::{Arrival, Clock, Keys, LINE_ROOM, Link, MOST_TAKEN, ROOM, Stand, Typed};
 use notation::Entry;
 use station_texts::both::Both;
 use station_texts::news::{print_came, print_unopened};
+use station_texts::said::Said;
 use station_texts::texts::{print_greeting, print_said};
 use station_texts::warned::Warned;
 use std::alloc::Global;
@@ -71,6 +72,17 @@ fn stand_of<S: SlotsOf, B: BookOf + Drop>(desk: &Desk<S, B>) -> Stand
         place: at.place,
         round: at.round,
         has_voted: desk.has_voted(),
+    }
+}
+
+/// How the process goes on after what a line came to.
+fn end_of(said: &Said) -> Result<(), DeskEnd>
+    ensures { result ≡ ends.end_of said.now }
+{
+    match said {
+        Said::Quit => Err(DeskEnd::Quit),
+        Said::Refused(_, Refusal::Device | Refusal::Failed) => Err(DeskEnd::Device),
+        _ => Ok(()),
     }
 }
 

@@ -3,8 +3,6 @@
 ghost use Rattle.std.specs.Prelude.{◌≡◌};
 ghost use Rattle.live.specs.Ends as ends;
 
-use desk::Refusal;
-use station_texts::said::Said;
 use streams::WriteFailed;
 use wire::What;
 
@@ -21,17 +19,6 @@ pub enum DeskEnd {
     Write,
     /// Its file lacks lines that the other desk has.
     LacksLines,
-}
-
-/// How the process goes on after what a line came to.
-pub fn end_of(said: &Said) -> Result<(), DeskEnd>
-    ensures { result ≡ ends.end_of said.now }
-{
-    match said {
-        Said::Quit => Err(DeskEnd::Quit),
-        Said::Refused(_, Refusal::Device | Refusal::Failed) => Err(DeskEnd::Device),
-        _ => Ok(()),
-    }
 }
 
 /// How the process goes on after the answer to bytes that came.
