@@ -1,25 +1,34 @@
 //! A desk's process, from its beginning on a disk to its end.
 
-ghost use Rattle.std.specs.Prelude.{◌≡◌, [], true, Err};
+ghost use Rattle.std.specs.Prelude.{◌≡◌, [], true, false, Err, IfErr, OnErr, OnOk};
+ghost use Rattle.entry_log.specs.Blame.{BlamesDisk};
 ghost use Rattle.agree_core.specs.Openings.{Opening};
 ghost use Rattle.vote_store.specs.View.{file_view};
-ghost use Rattle.streams.specs.Watched.{has_failed, stream_of};
+ghost use Rattle.streams.specs.Watched.{Prints, has_failed, stream_of};
+ghost use Rattle.desk.specs.Desk.{disk_of, state_of};
 ghost use Rattle.live.specs.declared.desk_life.LifeEnd.TheVariants.{Ended};
-ghost use Rattle.live.specs.declared.ends.DeskEnd.TheVariants as ends;
 ghost use Rattle.live.specs.DeskLife.{BeginsOn, DeskLives};
-ghost use Rattle.live.specs.DeskSights.{IsShownFrom};
-ghost use Rattle.live.specs.Desks.{FitsLongest, desk_kind};
+ghost use Rattle.live.specs.DeskSights.{IsShown, IsShownFrom, desk_sight};
+ghost use Rattle.live.specs.Desks as desks;
+ghost use Rattle.live.specs.Desks.{DeskRuns, FitsLongest, desk_kind, innings_of, kind_of};
+ghost use Rattle.live.specs.Ends.{end_told};
+ghost use Rattle.station_texts.specs.Texts.{greeting};
 
 use crate::begin::begin_desk;
-use crate::desk_loop::run_desk;
-use crate::ends::DeskEnd;
+use crate::between::Between;
+use crate::desk_loop::{own_line, turn};
+use crate::ends::{DeskEnd, told};
+use crate::pace::Pace;
+use crate::peer::Peer;
 use crate::shows_desk::ShowsDesk;
 use agree_core::DeskId;
 use cards::MatchSheet;
 use corrections::BookOf;
-use desk::OpenRefusal;
+use desk::{Desk, OpenRefusal};
 use entry_log::SlotsOf;
 use links::{Clock, Keys, Link};
+use station_texts::texts::print_greeting;
+use station_texts::warned::Warned;
 use std::alloc::Global;
 use streams::{Sink, Watched};
 
@@ -30,6 +39,110 @@ pub enum LifeEnd {
     NotBegun(OpenRefusal),
     /// It began, and came to this end.
     Ended(DeskEnd),
+}
+
+/// Tells the scorer where the desk stands.
+fn greet<S: SlotsOf, B: BookOf + Drop, W: Sink>(
+    desk: &Desk<S, B>,
+    sheet: &MatchSheet,
+    out: &mut Watched<W>,
+) -> Result<(), DeskEnd>
+    ensures text { OnOk result (Prints W.contents out.old out.new
+        (greeting sheet.now (innings_of desk.now) (state_of desk.now).book
+        (state_of desk.now).seat.position (desks.own_line (state_of desk.now)))) }
+    ensures only { IfErr result (λ end. end ≡ DeskEnd.Write) }
+    ensures failed { OnErr result (has_failed out.new ≡ true) }
+{
+    told(print_greeting(out, sheet, desk.position(), own_line(desk), desk.book()))?;
+    told(out.flush())
+}
+
+/// Hands on what is seen of a desk.
+fn show<S: SlotsOf, B: BookOf + Drop, P: ShowsDesk<B>>(
+    desk: &Desk<S, B>,
+    sheet: &MatchSheet,
+    page: &mut P,
+)
+    ensures { P.goes_on page.old (desk_sight sheet.now (innings_of desk.now) (state_of desk.now)) page.new }
+{
+    page.show(sheet, desk.book(), desk.position(), own_line(desk));
+}
+
+/// Tells the scorer where the desk of this letter stands, and takes so many turns.
+fn take_turns<S: SlotsOf, B: BookOf + Drop, L: Link, K: Keys, C: Clock, W: Sink, P: ShowsDesk<B>>(
+    alloc: Global,
+    desk: &mut Desk<S, B>,
+    own: DeskId,
+    sheet: &MatchSheet,
+    link: &mut L,
+    keys: &mut K,
+    clock: &mut C,
+    out: &mut Watched<W>,
+    page: &mut P,
+    turns: u64,
+) -> Result<(), DeskEnd>
+    ensures runs { DeskRuns sheet.now desk.old desk.new (L.log link.old) (L.log link.new)
+        (K.inputs keys.old) (K.inputs keys.new) (C.readings clock.old) (C.readings clock.new)
+        (W.contents (stream_of out.old)) (W.contents (stream_of out.new)) turns result }
+    ensures shown { IsShown (kind_of sheet.now desk.old) sheet.now (innings_of desk.old) P.goes_on
+        (state_of desk.old) page.old page.new }
+    ensures failed { result ≡ Err DeskEnd.Write → has_failed out.new ≡ true }
+{
+    greet(desk, sheet, out)?;
+    let mut between = Between {
+        pace: Pace::new(),
+        peer: Peer::new(own, clock.millis()),
+        warned: Warned::NOTHING,
+    };
+    for number in 0..turns {
+        turn(alloc, desk, sheet, link, keys, clock, out, &mut between)?;
+        show(desk, sheet, page);
+    }
+    Ok(())
+}
+
+/// An end with its last flush: a failed flush is told, unless the disk failed.
+fn end_told(end: Result<(), DeskEnd>, flushed: Result<(), DeskEnd>) -> Result<(), DeskEnd>
+    ensures { result ≡ end_told end flushed }
+{
+    match (end, flushed) {
+        (Err(DeskEnd::Device), _) => Err(DeskEnd::Device),
+        (_, Err(fault)) => Err(fault),
+        (end, Ok(())) => end,
+    }
+}
+
+/// The process of the desk of this letter, for so many turns: it tells its scorer where the desk stands, takes the scorer's
+/// lines, tells what comes of them, sends its votes and replies, asks for what it lacks, and tells by its clock that the other
+/// has written, that the other desk isn't heard, and that it is again. However it ends, it is a run of the
+/// definitions of a desk: its datagrams are just those that passed at the link, its lines just those that were
+/// typed, its times just those that its clock showed, its texts just those that were written. And what is handed on to be
+/// shown, after each turn, is just what is seen of the desk then.
+pub fn run_desk<S: SlotsOf, B: BookOf + Drop, L: Link, K: Keys, C: Clock, W: Sink, P: ShowsDesk<B>>(
+    alloc: Global,
+    desk: &mut Desk<S, B>,
+    own: DeskId,
+    sheet: &MatchSheet,
+    link: &mut L,
+    keys: &mut K,
+    clock: &mut C,
+    out: &mut Watched<W>,
+    page: &mut P,
+    turns: u64,
+) -> Result<(), DeskEnd>
+    ensures runs { DeskRuns sheet.now desk.old desk.new (L.log link.old) (L.log link.new)
+        (K.inputs keys.old) (K.inputs keys.new) (C.readings clock.old) (C.readings clock.new)
+        (W.contents (stream_of out.old)) (W.contents (stream_of out.new)) turns result }
+    ensures shown { IsShown (kind_of sheet.now desk.old) sheet.now (innings_of desk.old) P.goes_on
+        (state_of desk.old) page.old page.new }
+    // `Device` is answered exactly where the disk failed in this run.
+    ensures blame { (state_of desk.old).failed ≡ false →
+        BlamesDisk DeskEnd.Device (FitsLongest S.room (S.Disk.cap (disk_of desk.old))) result
+        (S.Disk.faults (disk_of desk.old)) (S.Disk.faults (disk_of desk.new)) }
+    ensures failed { result ≡ Err DeskEnd.Write → has_failed out.new ≡ true }
+{
+    let end = take_turns(alloc, desk, own, sheet, link, keys, clock, out, page, turns);
+    end_told(end, told(out.flush()))
 }
 
 /// A desk's process: it begins on this disk, on a new file where that has no byte, and runs for so many turns, with an
@@ -71,7 +184,7 @@ where
         × IsShownFrom (desk_kind sheet.now (file_view S.contents S.Disk.seen S.Disk.images desk sheet.now.game)
         (record { faults = S.Disk.faults; FitsLongest = FitsLongest S.room (S.Disk.cap disk) }) sheet.now.game
         (B.innings_a_side book)) sheet.now (B.innings_a_side book) P.goes_on opening page.old page.new }
-    ensures failed { result ≡ Err (Ended ends.Write) → has_failed out.new ≡ true }
+    ensures failed { result ≡ Err (Ended DeskEnd.Write) → has_failed out.new ≡ true }
 {
     match begin_desk::<S, B>(alloc, disk, desk, sheet.game(), book) {
         Ok(mut begun) => match run_desk(

@@ -1,56 +1,53 @@
-//! A desk's process.
+//! A desk's turn: its calls, and what its scorer is told of them.
 
-ghost use Rattle.std.specs.Prelude.{◌≡◌, ◌++◌, ◌∷◌, [], ℕ, List, Option, true, false, Err, IfErr, IfSome, IsSome, OnErr, OnOk, is_some};
+ghost use Rattle.std.specs.Prelude.{◌≡◌, ◌++◌, ◌∷◌, [], ℕ, List, Option, true, Err, IfSome, IsSome, OnOk, is_some};
 ghost use Rattle.std.specs.Io.KnownBytes.{Appends};
 ghost use Rattle.std.specs.Result.{ForOk};
 ghost use Rattle.notation.specs.Written.{IsEntry};
-ghost use Rattle.entry_log.specs.Blame.{BlamesDisk};
 ghost use Rattle.cards.specs.Sheet.{Sheet};
-ghost use Rattle.streams.specs.Watched.{Prints, has_failed, stream_of};
-ghost use Rattle.desk.specs.Desk.{disk_of, game_of, state_of};
+ghost use Rattle.streams.specs.Watched.{has_failed, stream_of};
+ghost use Rattle.desk.specs.Answers.{replied};
+ghost use Rattle.desk.specs.Desk.{disk_of, game_of, last_entry, own_votes, state_of};
 ghost use Rattle.live.specs.Desks as desks;
-ghost use Rattle.live.specs.Desks.{DeskGoes, DeskRuns, FitsLongest, innings_of, process_of};
-ghost use Rattle.live.specs.DeskSights.{IsShown, desk_sight};
+ghost use Rattle.live.specs.Desks.{Calls, DeskGoes, Given, Ticked, process_of};
 ghost use Rattle.live.specs.Ends as ends;
 ghost use Rattle.live.specs.Ends.{course_of, further, known_at, turns_after};
 ghost use Rattle.live.specs.Paces.{ticking_of};
 ghost use Rattle.live.specs.Ticks.{IsInTime, Ticking};
-ghost use Rattle.links.specs.Passed.{Came, Passed};
-ghost use Rattle.station_texts.specs.Texts.{greeting, unopened_text, warned_unopened};
+ghost use Rattle.links.specs.Passed.{Came, Passed, sent_to};
+ghost use Rattle.links.specs.declared.link.Receivers.TheVariants.{ToOne};
+ghost use Rattle.station_texts.specs.Texts.{unopened_text, warned_unopened};
 ghost use Rattle.links.specs.Typing.{Input};
 ghost use Rattle.wire.specs.Layout.{IsMessage};
 ghost use Rattle.wire.specs.Reading.{Reads};
 
 use crate::aside::tell_aside;
 use crate::between::Between;
-use crate::desk_calls::{pen, take, tick};
 use crate::ends::{DeskEnd, told};
 use crate::hearing::{
     end_given, entry_in, is_another, is_in_reach, is_passed_over, loss_of, position_in,
     promises_more,
 };
 use crate::pace::Pace;
-use crate::peer::Peer;
 use crate::reminding::remind;
-use crate::shows_desk::ShowsDesk;
-use agree_core::{DeskId, Message};
+use agree_core::Message;
 use cards::MatchSheet;
 use corrections::BookOf;
 use desk::{Desk, Refusal};
 use entry_log::SlotsOf;
-use links::{Arrival, Clock, Keys, LINE_ROOM, Link, MOST_TAKEN, ROOM, Stand, Typed};
+use links::{Arrival, Clock, Keys, LINE_ROOM, Link, MOST_TAKEN, ROOM, Stand, Typed, send_each};
 use notation::Entry;
 use station_texts::both::Both;
 use station_texts::news::{print_came, print_unopened};
-use station_texts::said::Said;
-use station_texts::texts::{print_greeting, print_said};
+use station_texts::said::{Said, entry_said};
+use station_texts::texts::print_said;
 use station_texts::warned::Warned;
 use std::alloc::Global;
 use streams::{Sink, Watched};
-use wire::WireFault;
+use wire::{What, WireFault};
 
 /// A desk's vote of its position, where it is cast.
-fn own_line<S: SlotsOf, B: BookOf + Drop>(desk: &Desk<S, B>) -> Option<Entry>
+pub(crate) fn own_line<S: SlotsOf, B: BookOf + Drop>(desk: &Desk<S, B>) -> Option<Entry>
     ensures value { result ≡ desks.own_line (state_of desk.now) }
     ensures entry { IfSome result IsEntry }
 {
@@ -72,6 +69,37 @@ fn stand_of<S: SlotsOf, B: BookOf + Drop>(desk: &Desk<S, B>) -> Stand
         place: at.place,
         round: at.round,
         has_voted: desk.has_voted(),
+    }
+}
+
+/// Has a desk that stands so pen the entry that a line says in full, by the desk's book and its sheet, or the one that its
+/// scorer wrote last, and sends its vote to all. Memory is taken for a plan alone.
+fn pen<S: SlotsOf, B: BookOf + Drop, L: Link>(
+    alloc: Global,
+    desk: &mut Desk<S, B>,
+    sheet: &MatchSheet,
+    line: &[u8],
+    at: Stand,
+    last: Option<Entry>,
+    link: &mut L,
+) -> Said
+    requires round { at.round ≡ (state_of desk.old).seat.position.round }
+    requires vote { at.has_voted ≡ is_some (state_of desk.old).seat.mine }
+    requires last { last ≡ last_entry (own_votes desk.old) }
+    requires entry { IfSome last IsEntry }
+    ensures { Calls sheet.now desk.old desk.new (desks.Typed line.now result) (L.log link.old) (L.log link.new) }
+{
+    let differs = at.round > 0;
+    let entry = match entry_said(alloc, line, desk.book(), sheet, last, differs, at.has_voted) {
+        Ok(entry) => entry,
+        Err(said) => return said,
+    };
+    match desk.pen(&entry) {
+        Ok(penned) => {
+            link.send(&penned.send);
+            Said::Penned(entry, penned.settled)
+        }
+        Err(why) => Said::Refused(entry, why),
     }
 }
 
@@ -126,6 +154,31 @@ fn take_line<S: SlotsOf, B: BookOf + Drop, L: Link, K: Keys, W: Sink>(
     told(print_said(out, sheet, at, both, is_silent, &said, desk.book()))
 }
 
+/// Sends a reply to who asked, if there is one.
+fn hand_back<L: Link>(link: &mut L, reply: Option<[u8; 48]>)
+    ensures { L.log link.new ≡ L.log link.old ++ sent_to ToOne (replied reply) }
+{
+    if let Some(reply) = reply {
+        link.reply(&reply);
+    }
+}
+
+/// A desk takes bytes that came, and sends its reply to who sent them.
+pub fn give<S: SlotsOf, B: BookOf + Drop, L: Link>(
+    desk: &mut Desk<S, B>,
+    bytes: &[u8],
+    link: &mut L,
+) -> What
+    ensures calls { (s : Sheet) → Calls s desk.old desk.new (Given bytes.now result) (L.log link.old) (L.log link.new) }
+    // Nothing is written.
+    ensures reads { (S.Disk.seen (disk_of desk.new) ≡ S.Disk.seen (disk_of desk.old))
+        × (S.Disk.images (disk_of desk.new) ≡ S.Disk.images (disk_of desk.old)) }
+{
+    let received = desk.receive(bytes);
+    hand_back(link, received.reply);
+    received.what
+}
+
 /// Takes what came, as it was read, and tells the scorer what is news.
 fn hear<S: SlotsOf, B: BookOf + Drop, L: Link, W: Sink>(
     desk: &mut Desk<S, B>,
@@ -154,7 +207,8 @@ fn hear<S: SlotsOf, B: BookOf + Drop, L: Link, W: Sink>(
     let of = position_in(*read);
     let in_reach = is_in_reach(desk, of);
     let another = is_another(desk, *read);
-    let received = take(desk, *read, link);
+    let received = desk.take(*read);
+    hand_back(link, received.reply);
     let what = received.what;
     let loss = loss_of(
         another,
@@ -188,6 +242,13 @@ fn pass_over<W: Sink>(out: &mut Watched<W>, between: &mut Between) -> Result<(),
     let warned = between.warned;
     between.warned = warned.after_unopened();
     told(print_unopened(out, warned))
+}
+
+/// Has a desk say what it says unasked, to all.
+pub fn tick<S: SlotsOf, B: BookOf + Drop, L: Link>(desk: &Desk<S, B>, link: &mut L)
+    ensures { (s : Sheet) → Calls s desk.now desk.now Ticked (L.log link.old) (L.log link.new) }
+{
+    send_each(link, desk.tick().as_slice());
 }
 
 /// Looks at the clock, and has a desk say what it says unasked, where that is due. It answers how long the next datagram
@@ -327,7 +388,7 @@ fn act<S: SlotsOf, B: BookOf + Drop, L: Link, K: Keys, C: Clock, W: Sink>(
 }
 
 /// A desk's turn: it takes a line of its scorer, looks at the clock and says what is due, and takes what came.
-fn turn<S: SlotsOf, B: BookOf + Drop, L: Link, K: Keys, C: Clock, W: Sink>(
+pub(crate) fn turn<S: SlotsOf, B: BookOf + Drop, L: Link, K: Keys, C: Clock, W: Sink>(
     alloc: Global,
     desk: &mut Desk<S, B>,
     sheet: &MatchSheet,
@@ -349,108 +410,4 @@ fn turn<S: SlotsOf, B: BookOf + Drop, L: Link, K: Keys, C: Clock, W: Sink>(
     told(out.flush())?;
     between.pace.end_turn();
     Ok(())
-}
-
-/// Tells the scorer where the desk stands.
-fn greet<S: SlotsOf, B: BookOf + Drop, W: Sink>(
-    desk: &Desk<S, B>,
-    sheet: &MatchSheet,
-    out: &mut Watched<W>,
-) -> Result<(), DeskEnd>
-    ensures text { OnOk result (Prints W.contents out.old out.new
-        (greeting sheet.now (innings_of desk.now) (state_of desk.now).book
-        (state_of desk.now).seat.position (desks.own_line (state_of desk.now)))) }
-    ensures only { IfErr result (λ end. end ≡ DeskEnd.Write) }
-    ensures failed { OnErr result (has_failed out.new ≡ true) }
-{
-    told(print_greeting(out, sheet, desk.position(), own_line(desk), desk.book()))?;
-    told(out.flush())
-}
-
-/// Hands on what is seen of a desk.
-fn show<S: SlotsOf, B: BookOf + Drop, P: ShowsDesk<B>>(
-    desk: &Desk<S, B>,
-    sheet: &MatchSheet,
-    page: &mut P,
-)
-    ensures { P.goes_on page.old (desk_sight sheet.now (innings_of desk.now) (state_of desk.now)) page.new }
-{
-    page.show(sheet, desk.book(), desk.position(), own_line(desk));
-}
-
-/// Tells the scorer where the desk of this letter stands, and takes so many turns.
-fn take_turns<S: SlotsOf, B: BookOf + Drop, L: Link, K: Keys, C: Clock, W: Sink, P: ShowsDesk<B>>(
-    alloc: Global,
-    desk: &mut Desk<S, B>,
-    own: DeskId,
-    sheet: &MatchSheet,
-    link: &mut L,
-    keys: &mut K,
-    clock: &mut C,
-    out: &mut Watched<W>,
-    page: &mut P,
-    turns: u64,
-) -> Result<(), DeskEnd>
-    ensures runs { DeskRuns sheet.now desk.old desk.new (L.log link.old) (L.log link.new)
-        (K.inputs keys.old) (K.inputs keys.new) (C.readings clock.old) (C.readings clock.new)
-        (W.contents (stream_of out.old)) (W.contents (stream_of out.new)) turns result }
-    ensures shown { IsShown (desks.kind_of sheet.now desk.old) sheet.now (innings_of desk.old) P.goes_on
-        (state_of desk.old) page.old page.new }
-    ensures failed { result ≡ Err DeskEnd.Write → has_failed out.new ≡ true }
-{
-    greet(desk, sheet, out)?;
-    let mut between = Between {
-        pace: Pace::new(),
-        peer: Peer::new(own, clock.millis()),
-        warned: Warned::NOTHING,
-    };
-    for number in 0..turns {
-        turn(alloc, desk, sheet, link, keys, clock, out, &mut between)?;
-        show(desk, sheet, page);
-    }
-    Ok(())
-}
-
-/// An end with its last flush: a failed flush is told, unless the disk failed.
-fn end_told(end: Result<(), DeskEnd>, flushed: Result<(), DeskEnd>) -> Result<(), DeskEnd>
-    ensures { result ≡ ends.end_told end flushed }
-{
-    match (end, flushed) {
-        (Err(DeskEnd::Device), _) => Err(DeskEnd::Device),
-        (_, Err(fault)) => Err(fault),
-        (end, Ok(())) => end,
-    }
-}
-
-/// The process of the desk of this letter, for so many turns: it tells its scorer where the desk stands, takes the scorer's
-/// lines, tells what comes of them, sends its votes and replies, asks for what it lacks, and tells by its clock that the other
-/// has written, that the other desk isn't heard, and that it is again. However it ends, it is a run of the
-/// definitions of a desk: its datagrams are just those that passed at the link, its lines just those that were
-/// typed, its times just those that its clock showed, its texts just those that were written. And what is handed on to be
-/// shown, after each turn, is just what is seen of the desk then.
-pub fn run_desk<S: SlotsOf, B: BookOf + Drop, L: Link, K: Keys, C: Clock, W: Sink, P: ShowsDesk<B>>(
-    alloc: Global,
-    desk: &mut Desk<S, B>,
-    own: DeskId,
-    sheet: &MatchSheet,
-    link: &mut L,
-    keys: &mut K,
-    clock: &mut C,
-    out: &mut Watched<W>,
-    page: &mut P,
-    turns: u64,
-) -> Result<(), DeskEnd>
-    ensures runs { DeskRuns sheet.now desk.old desk.new (L.log link.old) (L.log link.new)
-        (K.inputs keys.old) (K.inputs keys.new) (C.readings clock.old) (C.readings clock.new)
-        (W.contents (stream_of out.old)) (W.contents (stream_of out.new)) turns result }
-    ensures shown { IsShown (desks.kind_of sheet.now desk.old) sheet.now (innings_of desk.old) P.goes_on
-        (state_of desk.old) page.old page.new }
-    // `Device` is answered exactly where the disk failed in this run.
-    ensures blame { (state_of desk.old).failed ≡ false →
-        BlamesDisk DeskEnd.Device (FitsLongest S.room (S.Disk.cap (disk_of desk.old))) result
-        (S.Disk.faults (disk_of desk.old)) (S.Disk.faults (disk_of desk.new)) }
-    ensures failed { result ≡ Err DeskEnd.Write → has_failed out.new ≡ true }
-{
-    let end = take_turns(alloc, desk, own, sheet, link, keys, clock, out, page, turns);
-    end_told(end, told(out.flush()))
 }

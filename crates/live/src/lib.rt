@@ -8,9 +8,8 @@ mod between;
 pub mod board_calls;
 mod board_life;
 mod board_loop;
-pub mod desk_calls;
 mod desk_life;
-mod desk_loop;
+pub mod desk_loop;
 mod ends;
 mod hearing;
 mod laws;
@@ -24,8 +23,7 @@ mod sight_log;
 pub use begin::begin_desk;
 pub use board_life::keep_board;
 pub use board_loop::run_board;
-pub use desk_life::{LifeEnd, keep_desk};
-pub use desk_loop::run_desk;
+pub use desk_life::{LifeEnd, keep_desk, run_desk};
 pub use ends::{DeskEnd, end_at};
 pub use laws::{
     both_lines_are_told, nothing_is_asked_in_vain, reminders_come_once, stations_are_never_silent,

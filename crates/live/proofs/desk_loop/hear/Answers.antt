@@ -6,8 +6,8 @@ use Rattle.live.specs.LostLines.{end_given, loss_of}
 use Rattle.live.specs.Paces.{Paced, ticking_of}
 use Rattle.station_texts.specs.Texts.{came_text, warned_after}
 use Rattle.live.proofs.CameLemmas.{came_so}
-use Rattle.live.proofs.DeskLemmas.{hears, hears_last}
-use Rattle.live.proofs.LostLemmas.{ends_so, loses_so}
+use Rattle.live.proofs.DeskLemmas.{hears, hears_last, taken}
+use Rattle.live.proofs.LostLemmas.{ends_so, loses_so, replies_so}
 use Rattle.live.proofs.TellingLemmas.{goes_further, tells_same}
 use Rattle.live.proofs.desk_loop.hear.Goals as goal
 
@@ -20,14 +20,16 @@ returns-clause-ticking g c = ap (λ (p : Paced). p.ticking) c.note.ensures
 pub returns-in-Err-clause-goes : goal.returns-in-Err-clause-goes
 returns-in-Err-clause-goes g c = λ bytes log typed times turns reads came.
     let what = c.take-received.result.what in
-    let calls = c.take-received.ensures.calls c.args.sheet.now bytes reads in
+    let answer = c.take-received.ensures in
+    let calls = taken c.args.sheet.now c.args.desk.now c.take-received.new.self bytes what c.take-received.result.reply _ _
+    answer.owner (answer.step bytes reads) answer.blame c.hand_back.ensures in
     let of = c.position_in-of in
     let ends = ap (λ reach. end_given reach what) c.is_in_reach-in_reach.ensures
     ∙ ends_so _ _ _ _ bytes c.args.read.now what calls.out of.result calls.step reads of.ensures in
     let passed = c.is_passed_over.ensures ∙ ap (λ p. is_before of.result p && not c.is_some.result) c.position-at.ensures in
     let loses = c.loss_of-loss.ensures ∙ (λ i. loss_of c.is_another-another.result (passed i) what)
     ∙ loses_so _ _ _ _ bytes c.args.read.now what calls.out of.result c.is_another-another.result c.is_some.result calls.step reads of.ensures
-    c.is_another-another.ensures (λ asked. c.is_some.ensures ∙ c.take-received.ensures.replied bytes reads asked) in
+    c.is_another-another.ensures (λ asked. c.is_some.ensures ∙ replies_so _ _ _ _ bytes what c.take-received.result.reply (answer.step bytes reads) asked) in
     hears_last {ticking = ticking_of c.args.between.now.pace} what c.in-Err.end c.args.between.now.pace.in_time (returns-in-Err-clause-ticking g c) calls came
     (c.after-between.ensures ∙ ap (λ loss. warned_after c.args.between.now.warned loss what) loses)
     (sym ends ∙ sym c.end_given.ensures ∙ c.in-Err.is)
@@ -37,7 +39,9 @@ returns-clause-goes g c = λ bytes log typed times turns reads came.
     let what = c.take-received.result.what in
     let sheet = c.args.sheet.now in
     let desk = c.args.desk.now in
-    let calls = c.take-received.ensures.calls sheet bytes reads in
+    let answer = c.take-received.ensures in
+    let calls = taken sheet desk c.take-received.new.self bytes what c.take-received.result.reply _ _
+    answer.owner (answer.step bytes reads) answer.blame c.hand_back.ensures in
     let innings = ap g.B.BookOf.innings_a_side c.book.ensures ∙ calls.same.innings_a_side in
     let of = c.position_in-of in
     let ends = ap (λ reach. end_given reach what) c.is_in_reach-in_reach.ensures
@@ -45,7 +49,7 @@ returns-clause-goes g c = λ bytes log typed times turns reads came.
     let passed = c.is_passed_over.ensures ∙ ap (λ p. is_before of.result p && not c.is_some.result) c.position-at.ensures in
     let loses = c.loss_of-loss.ensures ∙ (λ i. loss_of c.is_another-another.result (passed i) what)
     ∙ loses_so _ _ _ _ bytes c.args.read.now what calls.out of.result c.is_another-another.result c.is_some.result calls.step reads of.ensures
-    c.is_another-another.ensures (λ asked. c.is_some.ensures ∙ c.take-received.ensures.replied bytes reads asked) in
+    c.is_another-another.ensures (λ asked. c.is_some.ensures ∙ replies_so _ _ _ _ bytes what c.take-received.result.reply (answer.step bytes reads) asked) in
     let further = sym ends ∙ sym c.end_given.ensures ∙ c.in_default.is in
     hears {ticking = ticking_of c.args.between.now.pace} what c.args.between.now.pace.in_time (returns-clause-ticking g c) calls came
     (c.after-between.ensures ∙ ap (λ loss. warned_after c.args.between.now.warned loss what) loses)
@@ -54,6 +58,6 @@ returns-clause-goes g c = λ bytes log typed times turns reads came.
     ((λ i. came_text sheet (innings i) (c.position-at.ensures i).place (c.own_line.ensures.value i) c.entry_in.result
     (g.B.BookOf.content (c.book.ensures i)) c.args.between.now.warned (loses i) what)
     ∙ came_so _ _ _ _ bytes c.args.read.now what calls.out c.entry_in.result calls.step reads c.entry_in.ensures.vote sheet (innings_of desk)
-    (state_of desk).seat.position.place (own_line (state_of desk)) (state_of c.take-received.new.desk).book c.args.between.now.warned
+    (state_of desk).seat.position.place (own_line (state_of desk)) (state_of c.take-received.new.self).book c.args.between.now.warned
     (loss_in (state_of desk) bytes what))
     c.print_came.ensures.text)

@@ -6,7 +6,7 @@ use Rattle.live.specs.Ends.{further}
 use Rattle.live.specs.Paces.{ticking_of}
 use Rattle.station_texts.specs.Texts.{unwarned}
 use Rattle.live.specs.Ticks.{unticked}
-use Rattle.live.proofs.desk_loop.take_turns.Given as goal
+use Rattle.live.proofs.desk_life.take_turns.Given as goal
 
 abbrev pub invariant-loop-number : goal.invariant-loop-number
 invariant-loop-number g l =

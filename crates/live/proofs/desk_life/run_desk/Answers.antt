@@ -1,7 +1,7 @@
 use Rattle.std.proofs.Common.{◌∙◌, ap}
 use Rattle.live.specs.Ends.{Course, end_told}
 use Rattle.live.proofs.DeskRunLemmas.{blames, told_last}
-use Rattle.live.proofs.desk_loop.run_desk.Goals as goal
+use Rattle.live.proofs.desk_life.run_desk.Goals as goal
 
 pub returns-clause-runs : goal.returns-clause-runs
 returns-clause-runs g c =

@@ -6,7 +6,7 @@ use Rattle.live.specs.Ticks.{unticked}
 use Rattle.live.proofs.DeskLemmas.{reads_clock, then, unread}
 use Rattle.live.proofs.DeskShownLemmas.{none_shown, then_shown}
 use Rattle.live.proofs.DeskRunLemmas.{all_over, cut_short, not_greeted}
-use Rattle.live.proofs.desk_loop.take_turns.Goals as goal
+use Rattle.live.proofs.desk_life.take_turns.Goals as goal
 
 pub loop-number-init : goal.loop-number-init
 loop-number-init g c = (unread {ticking = unticked} (ap (λ (p : Paced). p.ticking) c.new.ensures), none_shown (kind_of c.args.sheet.now c.args.desk.now) c.args.sheet.now (innings_of c.args.desk.now) g.P.ShowsDesk.goes_on (state_of c.args.desk.now) c.args.page.now)

@@ -1,9 +1,9 @@
 use Rattle.desk.specs.Desk.{state_of}
 use Rattle.station_texts.specs.Saying.{SaysEntry}
 use Rattle.live.proofs.DeskLemmas.{penned, refused, unpenned}
-use Rattle.live.proofs.desk_calls.pen.Given.{Over}
-use Rattle.live.proofs.desk_calls.pen.Goals as goal
-use Rattle.live.proofs.desk_calls.pen.Goals.{In-Ok}
+use Rattle.live.proofs.desk_loop.pen.Given.{Over}
+use Rattle.live.proofs.desk_loop.pen.Goals as goal
+use Rattle.live.proofs.desk_loop.pen.Goals.{In-Ok}
 
 pub returns-in-Err : goal.returns-in-Err
 returns-in-Err g c =
