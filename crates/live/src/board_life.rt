@@ -10,7 +10,7 @@ ghost use Rattle.live.specs.Boards.{BoardLives, sight_at};
 use crate::board_loop::run_board;
 use crate::shows::Shows;
 use board::Board;
-use cards::MatchSheet;
+use cards::{MatchSheet, board_lines};
 use corrections::BookOf;
 use links::{Clock, Link};
 use station_texts::notices::Notices;
@@ -30,7 +30,7 @@ fn begin<B: BookOf, W: Sink, S: Shows<B>>(
         ⊎ ((S.seen state.new ≡ S.seen state.old) × IsErr result) }
     ensures failed { OnErr result (has_failed out.new ≡ true ⊎ S.failed state.new ≡ true) }
 {
-    board.lines(sheet, out)?;
+    board_lines(sheet, board.shown(), out)?;
     out.flush()?;
     state.show(sheet, board.book(), now)
 }

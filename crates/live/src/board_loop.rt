@@ -24,7 +24,7 @@ use crate::pace::Pace;
 use crate::shows::Shows;
 use agree_core::Message;
 use board::Board;
-use cards::MatchSheet;
+use cards::{MatchSheet, board_lines};
 use corrections::BookOf;
 use links::{Arrival, Clock, Link, MOST_TAKEN, ROOM};
 use station_texts::notices::{Notices, Telling};
@@ -175,7 +175,7 @@ fn print_news<B: BookOf, W: Sink>(
     if board.book().len() == before {
         return Ok(());
     }
-    board.lines(sheet, out)?;
+    board_lines(sheet, board.shown(), out)?;
     out.flush()
 }
 

@@ -10,4 +10,4 @@ returns-then-len-before-clause-text g c =
 pub returns-clause-text : goal.returns-clause-text
 returns-clause-text g c =
     let now = c.len.ensures.entries ∙ ap (λ b. length (g.B.BookOf.content b)) c.book.ensures in
-    printed_more c.flush.result _ _ _ _ _ _ (λ e. c.if-len-before.false (now ∙ e)) c.in_ok-lines.ensures.text c.flush.ensures.bytes
+    printed_more c.flush.result _ _ _ _ _ _ (λ e. c.if-len-before.false (now ∙ e)) (c.in_ok-board_lines.ensures.text _ _ c.shown.ensures.score) c.flush.ensures.bytes
