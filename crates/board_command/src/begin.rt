@@ -1,10 +1,8 @@
 //! `ground board`: a scoreboard.
 
-use crate::files::{Files, Kept};
+use crate::files::{Files, Kept, Shown};
 use crate::notes::Notes;
 use crate::page::Page;
-use crate::served::Both;
-use crate::shown::Shown;
 use board::Board;
 use cards::MatchSheet;
 use corrections::CheckedBook;
@@ -153,10 +151,8 @@ pub fn start_board<'a>(
     let mut notes = Notes::new(Shared::of(&errors));
     let mut out = Watched::new(Shared::of(&output));
     let mut shown = Shown {
-        files: Both {
-            files,
-            page: page.panes(rt.alloc(), &errors),
-        },
+        files,
+        page: page.panes(rt.alloc(), &errors),
         output: &output,
         errors: &errors,
         viewers: page.viewers(),

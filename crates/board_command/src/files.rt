@@ -1,4 +1,4 @@
-//! The files of a board, which others read: its text, its state, and that as a script.
+//! What a board shows: its files, which others read, with its text, its state, and that as a script; and its page.
 
 ghost use Rattle.std.specs.Prelude.{◌≡◌, Some, is_err, false, length, IfOk};
 ghost use Rattle.corrections.specs.CleanList.{history_of};
@@ -16,8 +16,11 @@ use live::{Shows, SightLog};
 use machine_files::Replaces;
 use scoreboard::board_text;
 use setup::{StopFault, print_fault, printable};
+use station_screens::{Errors, Output, retry};
 use std::alloc::{AllocError, Global};
+use std::cell::RefCell;
 use streams::{Sink, Watched, WriteFailed};
+use viewers::Viewers;
 use waits::{FILE_RETRY_WAIT, LONGEST_STATE_AGE, SHORTEST_FILE_AGE};
 
 /// A text stands as long as its book does.
@@ -290,5 +293,43 @@ impl<T: Replaces, E: Sink, B: BookOf + Drop> Shows<B> for Files<'_, T, E, B> {
         show_script(self.alloc, sheet, book, now, &mut self.script);
         self.log = self.log.handed(sheet, book);
         Ok(())
+    }
+}
+
+/// All that a board shows at the end of a turn: its files and its page, each handed the same books, of which neither keeps the
+/// other from being written. What waits for its screens and for who looks at its page is handed on, as far as it is taken.
+#[derive(Drop)]
+pub struct Shown<'o, 'e, 'v, 'a, F, P> {
+    pub files: F,
+    pub page: P,
+    pub output: &'o RefCell<Output<'a>>,
+    pub errors: &'e RefCell<Errors<'a>>,
+    pub viewers: Option<&'v RefCell<Viewers>>,
+}
+
+/// Tells those who look at a page what it shows now, where there is one.
+fn tell(viewers: Option<&RefCell<Viewers>>, now: u64) {
+    if let Some(viewers) = viewers
+        && let Ok(mut viewers) = viewers.try_borrow_mut()
+    {
+        viewers.tell(now);
+    }
+}
+
+impl<B: BookOf, F: Shows<B>, P: Shows<B>> Shows<B> for Shown<'_, '_, '_, '_, F, P> {
+    ghost seen = { λ shown. F.seen shown.files };
+
+    ghost goes_on = { λ old sight now new.
+        F.goes_on old.files sight now new.files × P.goes_on old.page sight now new.page };
+
+    ghost failed = { λ shown. F.failed shown.files };
+
+    fn show(&mut self, sheet: &MatchSheet, book: &B, now: u64) -> Result<(), WriteFailed> {
+        retry(self.output);
+        retry(self.errors);
+        let _ = self.page.show(sheet, book, now);
+        let shown = self.files.show(sheet, book, now);
+        tell(self.viewers, now);
+        shown
     }
 }

@@ -6,7 +6,5 @@ mod files;
 mod notes;
 mod page;
 mod pane;
-mod served;
-mod shown;
 
 pub use crate::begin::start_board;
