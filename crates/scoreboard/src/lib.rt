@@ -12,10 +12,8 @@ mod over_runs;
 mod recent;
 mod shares;
 mod stand;
-mod text;
 mod told;
 mod value;
 
 pub use laws::boards_add_up;
-pub use text::board_text;
-pub use value::put_board_value;
+pub use value::{board_text, put_board_value};

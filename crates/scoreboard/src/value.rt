@@ -1,6 +1,6 @@
-//! The state of a board as one JSON value.
+//! The state of a board as one JSON value, and its text.
 
-ghost use Rattle.std.specs.Prelude.{◌∷◌, []};
+ghost use Rattle.std.specs.Prelude.{◌≡◌, ◌∷◌, [], IfOk};
 ghost use Rattle.json_fields.specs.Values.{PutsFields, PutsValues};
 ghost use Rattle.scoreboard.specs.Value as laws;
 
@@ -59,4 +59,20 @@ pub fn put_board_value<B: BookOf>(
     )?;
     put_over_runs(out, runs.as_slice())?;
     end_object(out)
+}
+
+/// The state of a board with this book as JSON on one line, and a newline.
+pub fn board_text<B: BookOf>(
+    alloc: Global,
+    sheet: &MatchSheet,
+    book: &B,
+) -> Result<Vec<u8>, AllocError>
+    ensures { IfOk result (λ text.
+        text.items ≡ laws.board_text sheet.now (B.innings_a_side book.now) (B.content book.now)) }
+{
+    let mut out = Compact::new(alloc);
+    put_board_value(&mut out, alloc, sheet, book)?;
+    let mut text = out.into_inner();
+    text.push(b'\n')?;
+    Ok(text)
 }

@@ -4,7 +4,7 @@ use Rattle.json.specs.Print.{print}
 use Rattle.json_fields.specs.Values.{values_tokens}
 use Rattle.json_fields.proofs.Putting.{one_value}
 use Rattle.scoreboard.specs.Value.{board_value}
-use Rattle.scoreboard.proofs.text.board_text.Goals as goal
+use Rattle.scoreboard.proofs.value.board_text.Goals as goal
 
 pub returns : goal.returns
 returns g c =
