@@ -6,17 +6,18 @@ ghost use Rattle.desk_command.specs.Ends as ends;
 ghost use Rattle.desk_command.specs.Lives.{copy_of, desk_of, path_of};
 
 use crate::desk_disk::{desk_disk_at, empty_book};
+use crate::desk_screen::DeskScreen;
 use crate::life::{Life, keep_on};
 use crate::page::Page;
 use agree_core::DeskId;
 use cards::{Columns, MatchSheet};
 use links::Keys;
 use live::{DeskEnd, LifeEnd};
-use machine::{Address, Keyboard, MOST_PEERS, MonotonicClock, Outlet};
+use machine::{Address, Keyboard, MOST_PEERS, MonotonicClock};
 use machine_files::{LastFault, WriteFault};
 use setup::{Sealing, StopFault, Stopped, short_sheet_at, with_cause, with_copys_cause};
-use station_pages::{Attended, HeldKeys, PageKeys, PageRows, ScorersPage};
-use station_screens::{DeskScreen, Shared, errors_at, output_at};
+use station_pages::{Attended, HeldKeys, PageKeys, ScorersPage};
+use station_screens::{Shared, errors_at, output_at};
 use std::cell::RefCell;
 use std::env::Env;
 use std::io::{IsTerminal, Write};
@@ -123,10 +124,8 @@ fn attended<'p, 'r, L>(
 
 /// Waits until all that was written to a desk's screen is taken, and tells whether it is. Where a write of it failed, no other
 /// one is made.
-fn is_seen<'s, O: Outlet + Drop, E: Outlet>(
-    rows: Watched<PageRows<'s, DeskScreen<'s, O, E>>>,
-) -> bool {
-    !rows.has_failed() && rows.into_inner().into_screen().into_output().end().is_ok()
+fn is_seen(screen: Watched<DeskScreen<'_, '_>>) -> bool {
+    !screen.has_failed() && screen.into_inner().output.end().is_ok()
 }
 
 /// The command's answer, where its screen was read whole or wasn't.
@@ -192,8 +191,11 @@ pub fn start_desk<'a>(
     let errors = RefCell::new(errors_at(rt)?);
     let page = Page::at(rt, serve)?;
     let scorers = page.scorers();
-    let screen = DeskScreen::new(output_at(rt)?, &errors);
-    let mut writer = Watched::new(PageRows::new(screen, scorers));
+    let mut writer = Watched::new(DeskScreen {
+        output: output_at(rt)?,
+        errors: &errors,
+        page: scorers,
+    });
     let keyboard = Keyboard::of_standard_input(rt);
     let ends = page.ends_with(keyboard.descriptor());
     let mut keys = keys_of(keyboard, scorers, Shared::of(&errors));

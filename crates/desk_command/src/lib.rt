@@ -3,6 +3,7 @@
 
 mod begin;
 mod desk_disk;
+mod desk_screen;
 mod key;
 mod laws;
 mod life;

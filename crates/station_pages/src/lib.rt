@@ -5,7 +5,6 @@
 mod attended;
 mod held_keys;
 mod page_keys;
-mod page_rows;
 mod rows;
 mod scorers_page;
 mod sight;
@@ -13,6 +12,5 @@ mod sight;
 pub use attended::{Attended, Attends};
 pub use held_keys::HeldKeys;
 pub use page_keys::PageKeys;
-pub use page_rows::PageRows;
 pub use scorers_page::ScorersPage;
 pub use sight::PageSight;

@@ -1,9 +1,6 @@
 //! What a station tells: standard output and standard error, which may not be read for long.
 #![tactic(auto)]
 
-ghost use Rattle.std.specs.Prelude.{Some};
-ghost use Rattle.machine.specs.Screens.{written_of};
-
 use machine::{Outlet, Pieces, Screen};
 use machine_files::StandardStream;
 use setup::{StopFault, Stopped};
@@ -68,37 +65,5 @@ impl<O: Outlet> Write for Shared<'_, O> {
             Ok(mut screen) => screen.flush(),
             Err(_) => Err(io::Error::from(ErrorKind::WouldBlock)),
         }
-    }
-}
-
-/// A desk's screen. With each flush of it what waits for standard error is handed on too.
-#[derive(Drop)]
-pub struct DeskScreen<'s, O: Outlet, E: Outlet> {
-    output: Screen<O>,
-    errors: &'s RefCell<Screen<E>>,
-}
-
-impl<'s, O: Outlet, E: Outlet> DeskScreen<'s, O, E> {
-    /// A screen over these two.
-    pub fn new(output: Screen<O>, errors: &'s RefCell<Screen<E>>) -> DeskScreen<'s, O, E> {
-        DeskScreen { output, errors }
-    }
-
-    /// Standard output, which isn't seen to from then on.
-    pub fn into_output(self) -> Screen<O> {
-        self.output
-    }
-}
-
-impl<O: Outlet, E: Outlet> Write for DeskScreen<'_, O, E> {
-    ghost contents = { λ screen. Some (written_of screen.output) };
-
-    fn write(&mut self, bytes: &[u8]) -> io::Result<usize> {
-        self.output.write(bytes)
-    }
-
-    fn flush(&mut self) -> io::Result<()> {
-        retry(self.errors);
-        self.output.flush()
     }
 }
