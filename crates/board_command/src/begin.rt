@@ -139,15 +139,13 @@ pub fn start_board<'a>(
     let page = Page::at(rt, serve)?;
     let mut board = board_of(rt, &sheet)?;
     let sealed = sealing.sealed_at(rt, at, peers, page.wait_ends(), Shared::of(&errors))?;
-    let below = sealing.link_over(rt.alloc(), MonotonicClock::new(rt), sealed);
-    let mut link = Attended {
-        link: below,
+    let mut link = sealing.link_over(rt.alloc(), MonotonicClock::new(rt), sealed);
+    let _ = sealing.tell_fingerprints(&mut Shared::of(&errors));
+    page.tell(&mut Shared::of(&errors));
+    let mut clock = Attended {
         clock: MonotonicClock::new(rt),
         page: page.viewers(),
     };
-    let _ = sealing.tell_fingerprints(&mut Shared::of(&errors));
-    page.tell(&mut Shared::of(&errors));
-    let mut clock = MonotonicClock::new(rt);
     let mut notes = Notes::new(Shared::of(&errors));
     let mut out = Watched::new(Shared::of(&output));
     let mut shown = Shown {

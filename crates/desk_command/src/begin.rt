@@ -16,7 +16,7 @@ use live::{DeskEnd, LifeEnd};
 use machine::{Address, Keyboard, MOST_PEERS, MonotonicClock};
 use machine_files::{LastFault, WriteFault};
 use setup::{Sealing, StopFault, Stopped, short_sheet_at, with_cause, with_copys_cause};
-use station_pages::{Attended, HeldKeys, PageKeys, ScorersPage};
+use station_pages::{HeldKeys, PageKeys, ScorersPage};
 use station_screens::{Shared, errors_at, output_at};
 use std::cell::RefCell;
 use std::env::Env;
@@ -109,19 +109,6 @@ fn keys_of<'p, K: Keys, E: Write>(
     HeldKeys::new(PageKeys::new(keyboard, page, errors), page)
 }
 
-/// A link in whose waits a page is seen to, where there is one.
-fn attended<'p, 'r, L>(
-    rt: &'r HostRuntime,
-    link: L,
-    page: Option<&'p RefCell<ScorersPage>>,
-) -> Attended<'p, L, MonotonicClock<'r, HostRuntime>, ScorersPage> {
-    Attended {
-        link,
-        clock: MonotonicClock::new(rt),
-        page,
-    }
-}
-
 /// Waits until all that was written to a desk's screen is taken, and tells whether it is. Where a write of it failed, no other
 /// one is made.
 fn is_seen(screen: Watched<DeskScreen<'_, '_>>) -> bool {
@@ -203,8 +190,7 @@ pub fn start_desk<'a>(
     let book = empty_book(rt, &sheet)?;
     let disk = desk_disk_at(rt, &sheet, desk, file, copy, &lasts)?;
     let sealed = sealing.sealed_at(rt, at, peers, ends, Shared::of(&errors))?;
-    let below = sealing.link_over(rt.alloc(), MonotonicClock::new(rt), sealed);
-    let mut link = attended(rt, below, scorers);
+    let mut link = sealing.link_over(rt.alloc(), MonotonicClock::new(rt), sealed);
     let _ = sealing.tell_fingerprints(&mut Shared::of(&errors));
     page.tell(&mut Shared::of(&errors), rt.stderr().is_terminal());
     let (on, by, out) = (&mut link, &mut keys, &mut writer);

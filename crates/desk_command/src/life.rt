@@ -14,7 +14,7 @@ use entry_log::{Disk, Slots};
 use links::{InputLog, Keys, Link};
 use live::{LifeEnd, keep_desk};
 use machine::MonotonicClock;
-use station_pages::{HeldKeys, PageKeys, PageSight, ScorersPage};
+use station_pages::{Attended, HeldKeys, PageKeys, PageSight, ScorersPage};
 use std::cell::RefCell;
 use std::io::Write;
 use std::snapshot::Snapshot;
@@ -49,7 +49,10 @@ fn keep<D: Disk + Drop, L: Link, K: Keys, W: Sink>(
     requires untyped { K.inputs keys.old ≡ [] }
     ensures { LivesOn D.seen D.images D.faults D.cap sheet.now desk disk (K.inputs keys.new) }
 {
-    let mut clock = MonotonicClock::new(rt);
+    let mut clock = Attended {
+        clock: MonotonicClock::new(rt),
+        page,
+    };
     let mut sight = PageSight::new(rt.alloc(), desk, page);
     keep_desk::<Slots<D>, CheckedBook, _, _, _, _, _>(
         rt.alloc(),

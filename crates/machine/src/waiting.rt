@@ -3,6 +3,7 @@
 use libc::net::{POLLIN, POLLOUT, poll};
 use libc::types::pollfd;
 use std::os::fd::RawFd;
+use waits::LONGEST_PAGE_WAIT;
 
 /// What is passed over by a wait.
 pub const NO_DESCRIPTOR: RawFd = -1;
@@ -47,11 +48,14 @@ pub fn can_write(descriptor: RawFd, limit: u64) -> bool {
     poll(&mut [asked], limit) > 0
 }
 
-/// Waits until a socket or one of these can be read, so many milliseconds at most, and tells whether the socket may be. A
-/// wait that fails says that it may: so whoever waits reads it, and no call ends at once for ever.
+/// Waits until a socket or one of these can be read, so many milliseconds at most, fewer where a page is one of them, and tells
+/// whether the socket may be. A wait that fails says that it may: so whoever waits reads it, and no call ends at once for ever.
 pub fn wait_at(socket: RawFd, ends: WaitEnds, limit: u64) -> bool {
     let keyboard = ends.keyboard.unwrap_or(NO_DESCRIPTOR);
-    let page = ends.page.unwrap_or(NO_DESCRIPTOR);
+    let (page, limit) = match ends.page {
+        Some(page) => (page, limit.min(LONGEST_PAGE_WAIT)),
+        None => (NO_DESCRIPTOR, limit),
+    };
     let mut asked = [reads_of(socket), reads_of(keyboard), reads_of(page)];
     let limit = i32::try_from(limit).unwrap_or(i32::MAX);
     poll(&mut asked, limit) < 0 || asked[0].revents != 0

@@ -1,4 +1,4 @@
-//! A station and its page: waits in which it is seen to, and of a desk what is typed in it, the rows that it shows, and the
+//! A station and its page: a clock by which it is seen to, and of a desk what is typed in it, the rows that it shows, and the
 //! state.
 #![tactic(auto)]
 
