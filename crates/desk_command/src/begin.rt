@@ -1,7 +1,6 @@
 //! `ground desk`: a scorer's desk.
 
-ghost use Rattle.std.specs.Prelude.{◌≡◌, [], false, option_copied, IfErr, IfOk, None, Some};
-ghost use Rattle.ahead.specs.Ahead.{given_of};
+ghost use Rattle.std.specs.Prelude.{◌≡◌, false, option_copied, IfErr, IfOk, None, Some};
 ghost use Rattle.desk_command.specs.Ends as ends;
 ghost use Rattle.desk_command.specs.Lives.{copy_of, desk_of, path_of};
 
@@ -10,17 +9,17 @@ use crate::desk_screen::DeskScreen;
 use crate::life::{Life, keep_on};
 use crate::page::Page;
 use agree_core::DeskId;
+use ahead::Ahead;
 use cards::{Columns, MatchSheet};
-use links::Keys;
 use live::{DeskEnd, LifeEnd};
 use machine::{Address, Keyboard, MOST_PEERS, MonotonicClock};
 use machine_files::{LastFault, WriteFault};
 use setup::{Sealing, StopFault, Stopped, short_sheet_at, with_cause, with_copys_cause};
-use station_pages::{HeldKeys, PageKeys, ScorersPage};
+use station_pages::PageKeys;
 use station_screens::{Shared, errors_at, output_at};
 use std::cell::RefCell;
 use std::env::Env;
-use std::io::{IsTerminal, Write};
+use std::io::IsTerminal;
 use std::mem::drop;
 use std::net::SocketAddr;
 use streams::Watched;
@@ -96,17 +95,6 @@ fn with_lasts<'a>(
         }
         _ => with_last(stopped, file, last),
     }
-}
-
-/// What a scorer types, at the keyboard and in a page, where there is one.
-fn keys_of<'p, K: Keys, E: Write>(
-    keyboard: K,
-    page: Option<&'p RefCell<ScorersPage>>,
-    errors: E,
-) -> HeldKeys<'p, PageKeys<'p, K, E>>
-    ensures { given_of ((result.ahead).queue).log ≡ [] }
-{
-    HeldKeys::new(PageKeys::new(keyboard, page, errors), page)
 }
 
 /// Waits until all that was written to a desk's screen is taken, and tells whether it is. Where a write of it failed, no other
@@ -185,7 +173,7 @@ pub fn start_desk<'a>(
     });
     let keyboard = Keyboard::of_standard_input(rt);
     let ends = page.ends_with(keyboard.descriptor());
-    let mut keys = keys_of(keyboard, scorers, Shared::of(&errors));
+    let mut keys = Ahead::new(PageKeys::new(keyboard, scorers, Shared::of(&errors)));
     let lasts = [LastFault::new(None), LastFault::new(None)];
     let book = empty_book(rt, &sheet)?;
     let disk = desk_disk_at(rt, &sheet, desk, file, copy, &lasts)?;

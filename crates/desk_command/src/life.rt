@@ -8,13 +8,14 @@ ghost use Rattle.desk_command.specs.OnFiles.{IsOnFiles};
 
 use crate::desk_disk::DeskDisk;
 use agree_core::DeskId;
+use ahead::Ahead;
 use cards::MatchSheet;
 use corrections::CheckedBook;
 use entry_log::{Disk, Slots};
 use links::{InputLog, Keys, Link};
 use live::{LifeEnd, keep_desk};
 use machine::MonotonicClock;
-use station_pages::{Attended, HeldKeys, PageKeys, PageSight, ScorersPage};
+use station_pages::{Attended, PageKeys, PageSight, ScorersPage};
 use std::cell::RefCell;
 use std::io::Write;
 use std::snapshot::Snapshot;
@@ -100,7 +101,7 @@ pub fn keep_on<'a, L: Link, K: Keys, E: Write, W: Sink>(
     book: CheckedBook,
     sheet: &MatchSheet,
     link: &mut L,
-    keys: &mut HeldKeys<'_, PageKeys<'_, K, E>>,
+    keys: &mut Ahead<PageKeys<'_, K, E>>,
     out: &mut Watched<W>,
     page: Option<&RefCell<ScorersPage>>,
     file: &'a str,
@@ -108,12 +109,12 @@ pub fn keep_on<'a, L: Link, K: Keys, E: Write, W: Sink>(
 ) -> (Result<(), LifeEnd>, Life<'a>)
     requires empty { book.entries ≡ [] }
     requires innings { book.innings_a_side ≡ sheet.now.innings }
-    requires untyped { given_of ((keys.old.ahead).queue).log ≡ [] }
+    requires untyped { given_of (keys.old.queue).log ≡ [] }
     requires on { IsOnFiles file.now (option_copied copy) disk }
     ensures desk { result.1.desk ≡ desk }
     ensures file { result.1.file.now ≡ file.now }
     ensures copy { option_copied result.1.copy ≡ option_copied copy.entry }
-    ensures typed { (result.1.typed).value ≡ ((keys.new.ahead).keys).given }
+    ensures typed { (result.1.typed).value ≡ (keys.new.keys).given }
 {
     let ended = keep_on_disk(rt, disk, desk, book, sheet, link, keys, out, page);
     let typed = Snapshot::of(keys.keys().given());

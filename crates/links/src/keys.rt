@@ -3,7 +3,7 @@
 ghost use Rattle.std.specs.Prelude.{List};
 ghost use Rattle.links.specs.Typing.{Input, IsTyped};
 
-use crate::aside::Aside;
+use crate::aside::{Aside, HeldLine};
 use crate::stand::Stand;
 
 /// How many bytes of a line are taken at most: more than an entry has, so that a longer one is seen as such.
@@ -30,4 +30,9 @@ pub trait Keys {
 
     /// Whether `line` has more to give at once, so that nothing else is waited for.
     fn has_more(&self) -> bool;
+
+    /// The lines that are held, the oldest first: `line` gives them later.
+    fn held(&self) -> &[HeldLine] {
+        &[]
+    }
 }

@@ -96,7 +96,8 @@ fn pen<S: SlotsOf, B: BookOf + Drop, L: Link>(
     };
     match desk.pen(&entry) {
         Ok(penned) => {
-            link.send(&penned.send);
+            let vote = Message::Vote(penned.vote);
+            link.send_message(desk.game(), &vote, &penned.send);
             Said::Penned(entry, penned.settled)
         }
         Err(why) => Said::Refused(entry, why),

@@ -6,10 +6,11 @@ ghost use Rattle.notation.specs.Written.{IsEntry};
 use agree_core::Position;
 use cards::MatchSheet;
 use corrections::BookOf;
+use links::HeldLine;
 use notation::Entry;
 
-/// Shows where a desk stands, as a page does. It is handed what its scorer may see: the book, the position, and the own vote
-/// there, and nothing of the other desk's.
+/// Shows where a desk stands, as a page does. It is handed what its scorer may see: the book, the position, the own vote there
+/// and the lines that are held, and nothing of the other desk's.
 pub trait ShowsDesk<B: BookOf> {
     ghost use Rattle.live.specs.DeskSights.{DeskSight, sight_at};
 
@@ -17,7 +18,14 @@ pub trait ShowsDesk<B: BookOf> {
     ghost goes_on: { Self → DeskSight → Self → Type 0 };
 
     /// Shows this, where that is new.
-    fn show(&mut self, sheet: &MatchSheet, book: &B, at: Position, own: Option<Entry>)
+    fn show(
+        &mut self,
+        sheet: &MatchSheet,
+        book: &B,
+        at: Position,
+        own: Option<Entry>,
+        held: &[HeldLine],
+    )
         requires { IfSome own IsEntry }
         ensures { goes_on self.old (sight_at sheet.now (B.innings_a_side book.now) (B.content book.now) at own) self.new };
 }
@@ -29,5 +37,12 @@ pub struct RowsAlone;
 impl<B: BookOf> ShowsDesk<B> for RowsAlone {
     ghost goes_on = { λ old sight new. new ≡ old };
 
-    fn show(&mut self, _sheet: &MatchSheet, _book: &B, _at: Position, _own: Option<Entry>) {}
+    fn show(
+        &mut self,
+        _sheet: &MatchSheet,
+        _book: &B,
+        _at: Position,
+        _own: Option<Entry>,
+        _held: &[HeldLine],
+    ) {}
 }

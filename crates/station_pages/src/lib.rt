@@ -3,14 +3,12 @@
 #![tactic(auto)]
 
 mod attended;
-mod held_keys;
 mod page_keys;
 mod rows;
 mod scorers_page;
 mod sight;
 
 pub use attended::{Attended, Attends};
-pub use held_keys::HeldKeys;
 pub use page_keys::PageKeys;
 pub use scorers_page::ScorersPage;
 pub use sight::PageSight;

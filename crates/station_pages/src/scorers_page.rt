@@ -5,24 +5,20 @@ ghost use Rattle.std.specs.Prelude.{◌≤◌, IfSome};
 use crate::attended::Attends;
 use crate::rows::Rows;
 use agree_core::Position;
-use links::{HeldLine, HeldLines};
 use std::alloc::Global;
 use std::os::fd::RawFd;
 use viewers::Viewers;
 use waits::WATCHERS_COUNT_PAUSE;
 
-/// The page of a desk: who looks at it, the newest rows that its scorer was told, and the lines that are held.
+/// The page of a desk: who looks at it, and the newest rows that its scorer was told.
 #[derive(Drop)]
 pub struct ScorersPage {
     viewers: Viewers,
     rows: Rows,
-    held: HeldLines,
     /// How many look at it, as was counted last, and when; and how many that was when it was told last.
     watching: usize,
     counted: u64,
     told: usize,
-    /// How often other lines were held.
-    number: u64,
 }
 
 impl ScorersPage {
@@ -31,11 +27,9 @@ impl ScorersPage {
         ScorersPage {
             viewers,
             rows: Rows::new(alloc),
-            held: HeldLines::new(),
             watching: 0,
             counted: 0,
             told: 0,
-            number: 0,
         }
     }
 
@@ -59,26 +53,6 @@ impl ScorersPage {
     /// This state is shown from here on.
     pub fn show_state(&mut self, text: Vec<u8>) {
         self.viewers.put_state(text);
-    }
-
-    /// These lines are held from here on.
-    pub fn hold(&mut self, held: &[HeldLine]) {
-        if self.held.as_slice() == held {
-            return;
-        }
-        self.held.clear();
-        let _fits = self.held.try_extend_from_slice(held);
-        self.number = self.number.saturating_add(1);
-    }
-
-    /// The lines that are held.
-    pub fn held(&self) -> &[HeldLine] {
-        self.held.as_slice()
-    }
-
-    /// How often other lines were held.
-    pub fn held_number(&self) -> u64 {
-        self.number
     }
 
     /// The desk is at this position from here on. Lines that were typed here for another one are dropped, and told.

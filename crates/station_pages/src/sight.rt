@@ -10,6 +10,7 @@ use agree_core::{DeskId, Position};
 use cards::MatchSheet;
 use corrections::BookOf;
 use desk_state::state_text;
+use links::{HeldLine, HeldLines};
 use live::ShowsDesk;
 use notation::Entry;
 use std::alloc::Global;
@@ -30,7 +31,6 @@ struct Seen {
     place: u32,
     round: u32,
     has_voted: bool,
-    held: u64,
 }
 
 /// What a page shows of a desk: its state, whenever it is another one.
@@ -40,6 +40,8 @@ pub struct PageSight<'p> {
     desk: DeskId,
     page: Option<&'p RefCell<ScorersPage>>,
     seen: Option<Seen>,
+    /// The lines that were held then.
+    held: HeldLines,
     log: TextLog,
 }
 
@@ -63,6 +65,7 @@ impl<'p> PageSight<'p> {
             desk,
             page,
             seen: None,
+            held: HeldLines::new(),
             log: TextLog::Empty,
         }
     }
@@ -75,6 +78,7 @@ impl<'p> PageSight<'p> {
         book: &B,
         at: Position,
         own: Option<Entry>,
+        held: &[HeldLine],
     )
         requires { IfSome own IsEntry }
         ensures shows { ShowsState self.old.desk (texts_in self.old.log) (texts_in self.new.log)
@@ -86,15 +90,16 @@ impl<'p> PageSight<'p> {
             place: at.place,
             round: at.round,
             has_voted: own.is_some(),
-            held: page.held_number(),
         };
-        if self.seen == Some(seen) {
+        if self.seen == Some(seen) && self.held.as_slice() == held {
             return;
         }
-        let made = state_text(self.alloc, sheet, book, self.desk, at, own, page.held());
+        let made = state_text(self.alloc, sheet, book, self.desk, at, own, held);
         if let Ok(text) = made {
             self.log = self.log.given(&text);
             self.seen = Some(seen);
+            self.held.clear();
+            let _fits = self.held.try_extend_from_slice(held);
             page.show_state(text);
         }
     }
@@ -104,12 +109,19 @@ impl<B: BookOf> ShowsDesk<B> for PageSight<'_> {
     ghost goes_on = { λ old sight new.
         ShowsState old.desk (texts_in old.log) (texts_in new.log) sight × (new.desk ≡ old.desk) };
 
-    fn show(&mut self, sheet: &MatchSheet, book: &B, at: Position, own: Option<Entry>) {
+    fn show(
+        &mut self,
+        sheet: &MatchSheet,
+        book: &B,
+        at: Position,
+        own: Option<Entry>,
+        held: &[HeldLine],
+    ) {
         let Some(page) = self.page else {
             return;
         };
         if let Ok(mut page) = page.try_borrow_mut() {
-            self.put(&mut page, sheet, book, at, own);
+            self.put(&mut page, sheet, book, at, own, held);
         }
     }
 }

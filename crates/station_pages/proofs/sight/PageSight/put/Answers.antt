@@ -4,4 +4,4 @@ use Rattle.station_pages.proofs.sight.PageSight.put.Goals as goal
 
 pub returns-in-Ok-clause-shows : goal.returns-in-Ok-clause-shows
 returns-in-Ok-clause-shows g c =
-    inr (c.held.result.now, c.given.ensures ∙ ap (λ text. texts_in c.args.self.now.log ++ text ∷ []) c.in-Ok.ensures)
+    inr (c.args.held.now, c.given.ensures ∙ ap (λ text. texts_in c.args.self.now.log ++ text ∷ []) c.in-Ok.ensures)
