@@ -4,12 +4,13 @@ ghost use Rattle.std.specs.Prelude.{◌≡◌, ◌<◌};
 ghost use Rattle.match_laws.specs.History.{begun};
 ghost use Rattle.match_laws.specs.Stands.{ForEachHistory, begun_in};
 ghost use Rattle.corrections.specs.CleanList.{history_of};
+ghost use Rattle.corrections.specs.Overs.{AreOversOf};
 ghost use Rattle.limits.specs.Rates as rates;
 ghost use Rattle.scoreboard.specs.Limited as laws;
 
 use crate::recent::last_rate;
 use cards::MatchSheet;
-use corrections::{BookOf, overs_of};
+use corrections::{BookOf, Overs};
 use limits::{
     a_ball, an_over, deliveries_left, is_free_hit, overs_bowled, overs_left, powerplay_now,
     run_rate, runs_needed,
@@ -112,18 +113,19 @@ fn is_free_now<B: BookOf>(sheet: &MatchSheet, book: &B) -> bool
     sheet.limits().free_hits() && is_free_hit(book)
 }
 
-/// What follows for an innings.
-fn told_in<B: BookOf>(sheet: &MatchSheet, book: &B, innings: usize) -> Told
+/// What follows for an innings, of a book with these overs.
+fn told_in<B: BookOf>(sheet: &MatchSheet, book: &B, overs: &Overs<'_>, innings: usize) -> Told
     requires { innings < begun (history_of (B.content book.now)) }
-    ensures { result ≡ laws.told_in sheet.now (B.innings_a_side book.now) (history_of (B.content book.now)) innings }
+    ensures { AreOversOf overs.now (history_of (B.content book.now))
+        → result ≡ laws.told_in sheet.now (B.innings_a_side book.now) (history_of (B.content book.now)) innings }
 {
     let score = book.score();
-    let overs = overs_open(sheet, score, innings);
-    let left = balls_in(score, innings, overs);
+    let most = overs_open(sheet, score, innings);
+    let left = balls_in(score, innings, most);
     let needed = runs_needed(score);
     Told {
-        overs,
-        overs_left: overs_in(score, innings, overs),
+        overs: most,
+        overs_left: overs_in(score, innings, most),
         balls_left: left,
         needed_an_over: needed_an_over(needed, left),
         needed_a_ball: needed_a_ball(needed, left),
@@ -131,7 +133,7 @@ fn told_in<B: BookOf>(sheet: &MatchSheet, book: &B, innings: usize) -> Told
         last_rate: last_rate(book),
         free_hit: is_free_now(sheet, book),
         powerplay: powerplay_now(score, sheet.limits(), innings),
-        bowler_overs: bowled_by(book, overs_of(book).bowler()),
+        bowler_overs: bowled_by(book, overs.bowler()),
     }
 }
 
@@ -152,13 +154,14 @@ fn nothing_told() -> Told
     }
 }
 
-/// What follows for the innings that began last.
-pub fn told_of<B: BookOf>(sheet: &MatchSheet, book: &B) -> Told
-    ensures { result ≡ laws.told_of sheet.now (B.innings_a_side book.now) (history_of (B.content book.now)) }
+/// What follows for the innings that began last, of a book with these overs.
+pub fn told_of<B: BookOf>(sheet: &MatchSheet, book: &B, overs: &Overs<'_>) -> Told
+    ensures { AreOversOf overs.now (history_of (B.content book.now))
+        → result ≡ laws.told_of sheet.now (B.innings_a_side book.now) (history_of (B.content book.now)) }
 {
     let begun = book.score().begun();
     if begun == 0 {
         return nothing_told();
     }
-    told_in(sheet, book, begun - 1)
+    told_in(sheet, book, overs, begun - 1)
 }

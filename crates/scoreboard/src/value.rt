@@ -43,7 +43,7 @@ pub fn put_board_value<B: BookOf>(
     let overs = overs_of(book);
     let runs = runs_by_over(alloc, book)?;
     let falls = falls_at(alloc, book)?;
-    let told = told_of(sheet, book);
+    let told = told_of(sheet, book, &overs);
     begin_object(out)?;
     put_head(out, sheet, book.len())?;
     put_limits(out, sheet.limits())?;

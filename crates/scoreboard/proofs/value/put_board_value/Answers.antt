@@ -11,5 +11,5 @@ returns g c =
     (is_object c.end_object.result _
     (begins c.in_ok-begin_object.ensures ▸ c.in_ok-put_head.ensures ▸ (rw c.limits.ensures at c.in_ok-put_limits.ensures)
     ▸ (c.in_ok-put_all_innings.ensures _ _ stands falls)
-    ▸ (c.in_ok-put_now.ensures _ _ stands c.overs_of-overs.ensures.overs c.told_of-told.ensures c.partnership_now.ensures)
+    ▸ (c.in_ok-put_now.ensures _ _ stands c.overs_of-overs.ensures.overs (c.told_of-told.ensures c.overs_of-overs.ensures.overs) c.partnership_now.ensures)
     ▸ (rw runs at c.in_ok-put_over_runs.ensures)) c.end_object.ensures)
