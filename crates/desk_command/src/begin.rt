@@ -15,7 +15,7 @@ use live::{DeskEnd, LifeEnd};
 use machine::{Address, Keyboard, MOST_PEERS, MonotonicClock};
 use machine_files::{LastFault, WriteFault};
 use setup::{Sealing, StopFault, Stopped, short_sheet_at, with_cause, with_copys_cause};
-use station_pages::PageKeys;
+use station_pages::PageLines;
 use station_screens::{Shared, errors_at, output_at};
 use std::cell::RefCell;
 use std::env::Env;
@@ -171,9 +171,12 @@ pub fn start_desk<'a>(
         errors: &errors,
         page: scorers,
     });
-    let keyboard = Keyboard::of_standard_input(rt);
-    let ends = page.ends_with(keyboard.descriptor());
-    let mut keys = Ahead::new(PageKeys::new(keyboard, scorers, Shared::of(&errors)));
+    let lines = PageLines {
+        page: scorers,
+        errors: Shared::of(&errors),
+    };
+    let mut keys = Ahead::new(Keyboard::of_standard_input(rt, lines));
+    let ends = page.ends_with(keys.keys().descriptor());
     let lasts = [LastFault::new(None), LastFault::new(None)];
     let book = empty_book(rt, &sheet)?;
     let disk = desk_disk_at(rt, &sheet, desk, file, copy, &lasts)?;
@@ -187,7 +190,7 @@ pub fn start_desk<'a>(
     );
     drop(link);
     let is_seen = is_seen(writer);
-    let keyboard_failed = keys.keys().keyboard().has_failed();
+    let keyboard_failed = keys.keys().has_failed();
     drop(keys);
     let _ = errors.into_inner().end();
     let _ = answer_of(ended, keyboard_failed, is_seen, file, copy, &lasts)?;

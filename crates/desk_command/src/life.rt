@@ -12,12 +12,12 @@ use ahead::Ahead;
 use cards::MatchSheet;
 use corrections::CheckedBook;
 use entry_log::{Disk, Slots};
-use links::{InputLog, Keys, Link};
+use links::{InputLog, Keys, Link, MoreLines};
 use live::{LifeEnd, keep_desk};
-use machine::MonotonicClock;
-use station_pages::{Attended, PageKeys, PageSight, ScorersPage};
+use machine::{Keyboard, MonotonicClock};
+use station_pages::{Attended, PageSight, ScorersPage};
 use std::cell::RefCell;
-use std::io::Write;
+use std::io::Read;
 use std::snapshot::Snapshot;
 use streams::{Sink, Watched};
 
@@ -94,14 +94,14 @@ fn keep_on_disk<L: Link, K: Keys, W: Sink>(
 }
 
 /// The same, of a scorer who types at a keyboard and in a page, and nothing yet: with the life that the desk had.
-pub fn keep_on<'a, L: Link, K: Keys, E: Write, W: Sink>(
+pub fn keep_on<'a, L: Link, R: Read, M: MoreLines, W: Sink>(
     rt: &HostRuntime,
     disk: DeskDisk<'_>,
     desk: DeskId,
     book: CheckedBook,
     sheet: &MatchSheet,
     link: &mut L,
-    keys: &mut Ahead<PageKeys<'_, K, E>>,
+    keys: &mut Ahead<Keyboard<R, M>>,
     out: &mut Watched<W>,
     page: Option<&RefCell<ScorersPage>>,
     file: &'a str,

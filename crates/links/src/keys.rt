@@ -1,6 +1,6 @@
 //! What a scorer types.
 
-ghost use Rattle.std.specs.Prelude.{List};
+ghost use Rattle.std.specs.Prelude.{◌≤◌, IfSome, List};
 ghost use Rattle.links.specs.Typing.{Input, IsTyped};
 
 use crate::aside::{Aside, HeldLine};
@@ -35,4 +35,14 @@ pub trait Keys {
     fn held(&self) -> &[HeldLine] {
         &[]
     }
+}
+
+/// A scorer's lines from elsewhere than a keyboard, as from a page.
+pub trait MoreLines {
+    /// The next line for a desk that stands so, if there is one: the front of the buffer.
+    fn next_line(&mut self, at: Stand, buffer: &mut [u8; 128]) -> Option<usize>
+        ensures { IfSome result (λ count. count ≤ 128) };
+
+    /// Whether there is one.
+    fn has_lines(&self) -> bool;
 }

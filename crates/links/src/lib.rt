@@ -21,7 +21,7 @@ mod window;
 
 pub use aside::{Aside, HeldLine, HeldLines};
 pub use clock::Clock;
-pub use keys::{Keys, LINE_ROOM, Typed};
+pub use keys::{Keys, LINE_ROOM, MoreLines, Typed};
 pub use link::{
     Arrival, Link, MOST_TAKEN, PeerLink, ROOM, Receivers, SEALED_ROOM, SealedCarrier, SharedLink,
     Taken,

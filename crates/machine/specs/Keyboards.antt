@@ -26,7 +26,7 @@ abbrev pub left_of : Bool → List ℕ → Option (List ℕ) → Option (List (L
 left_of skips held known = option_map (λ bytes. lines_from skips [] (held ++ bytes)) known
 
 -- the lines that a keyboard gives from here on, where what its reader gives is known
-abbrev pub lines_left : {R : Type 0} {g : _} → (R → Option (List ℕ)) → Keyboard R g → Option (List (List ℕ))
+abbrev pub lines_left : {R M : Type 0} {g : _} → (R → Option (List ℕ)) → Keyboard R M g → Option (List (List ℕ))
 lines_left remaining k = left_of k.skips k.held.items (remaining k.reader)
 
 -- known lines stay

@@ -1,20 +1,22 @@
-//! A scorer's keyboard: standard input, read without waiting.
+//! A scorer's keyboard: standard input, read without waiting, and lines from elsewhere.
 
 ghost use Rattle.std.specs.Prelude.{◌≡◌, ◌≤◌, ◌<◌, ℕ, List, [], None, Some, IfSome, IsTrue, drop, false, length, take, true};
 ghost use Rattle.links.specs.Logs.{inputs_of};
 
 use crate::waiting::can_read;
 use arrayvec::ArrayVec;
-use links::{InputLog, Keys, LINE_ROOM, Stand, Typed};
+use links::{InputLog, Keys, LINE_ROOM, MoreLines, Stand, Typed};
 use std::io::{self, ErrorKind, Read};
 use std::os::fd::{AsRawFd, RawFd};
 use std::rt::Stdin;
 
 /// A scorer's lines, from a reader that answers `WouldBlock` where nothing was typed. A line ends with its newline:
-/// what stands behind the last one is none. Of a line that is too long the front is given, and the rest passed over.
+/// what stands behind the last one is none. Of a line that is too long the front is given, and the rest passed over. Where
+/// none was typed, the next one from elsewhere is given, as if it were typed.
 #[derive(Drop)]
-pub struct Keyboard<R: Read> {
+pub struct Keyboard<R: Read, M> {
     reader: R,
+    more: M,
     /// What was read and not given yet.
     held: ArrayVec<u8, 128>,
     /// Whether the rest of a line that was too long is passed over.
@@ -42,13 +44,13 @@ impl Read for StandardInput {
     }
 }
 
-impl Keyboard<StandardInput> {
+impl<M> Keyboard<StandardInput, M> {
     /// Standard input, from where it stands. It isn't opened anew and none of its flags is changed: so it may be a file, a
     /// pipe, a terminal or a socket of whomever, and stays as it is for other programs.
-    pub fn of_standard_input(rt: &HostRuntime) -> Keyboard<StandardInput>
+    pub fn of_standard_input(rt: &HostRuntime, more: M) -> Keyboard<StandardInput, M>
         ensures { inputs_of result.given ≡ [] }
     {
-        Keyboard::new(StandardInput { stream: rt.stdin() })
+        Keyboard::new(StandardInput { stream: rt.stdin() }, more)
     }
 
     /// Its descriptor, at which it can be waited for.
@@ -76,16 +78,17 @@ fn put(line: &[u8], buffer: &mut [u8; 128])
     buffer[..line.len()].copy_from_slice(line);
 }
 
-impl<R: Read> Keyboard<R> {
+impl<R: Read, M> Keyboard<R, M> {
     ghost use Rattle.machine.specs.Keyboards.{GivesLine, HasNoLines, KeepsLines, first_newline, left_of, lines_left};
 
-    /// The lines of this reader.
-    pub fn new(reader: R) -> Keyboard<R>
+    /// The lines of this reader, and these.
+    pub fn new(reader: R, more: M) -> Keyboard<R, M>
         ensures lines { lines_left R.remaining result ≡ left_of false [] (R.remaining reader) }
         ensures given { inputs_of result.given ≡ [] }
     {
         Keyboard {
             reader,
+            more,
             held: ArrayVec::new(),
             skips: false,
             ended: false,
@@ -165,8 +168,8 @@ impl<R: Read> Keyboard<R> {
         }
     }
 
-    /// The length of the next line, which is put into the front of the buffer, if there is one: each is the next line of what
-    /// is read, and none is left out or given twice.
+    /// The length of the next line that was typed, which is put into the front of the buffer, if there is one: each is the next
+    /// line of what is read, and none is left out or given twice.
     fn next(&mut self, buffer: &mut [u8; 128]) -> Option<usize>
         ensures count { IfSome result (λ count. count ≤ 128) }
         ensures lines { GivesLine result buffer.new (lines_left R.remaining self.old) (lines_left R.remaining self.new) }
@@ -176,6 +179,13 @@ impl<R: Read> Keyboard<R> {
             self.fill();
         }
         self.take_held(buffer)
+    }
+
+    /// What was given.
+    pub fn given(&self) -> &InputLog
+        ensures { result.now ≡ self.now.given }
+    {
+        &self.given
     }
 
     /// Whether a read failed.
@@ -196,12 +206,12 @@ impl<R: Read> Keyboard<R> {
     }
 }
 
-impl<R: Read> Keys for Keyboard<R> {
+impl<R: Read, M: MoreLines> Keys for Keyboard<R, M> {
     ghost use Rattle.links.specs.Logs.{inputs_of};
 
     ghost inputs = { λ keyboard. inputs_of keyboard.given };
 
-    fn line(&mut self, _at: Stand, buffer: &mut [u8; 128]) -> Typed {
+    fn line(&mut self, at: Stand, buffer: &mut [u8; 128]) -> Typed {
         if let Some(count) = self.next(buffer) {
             self.given = self.given.line(buffer, count);
             return Typed::Line(count);
@@ -210,10 +220,14 @@ impl<R: Read> Keys for Keyboard<R> {
             self.given = self.given.end();
             return Typed::Ended;
         }
+        if let Some(count) = self.more.next_line(at, buffer) {
+            self.given = self.given.line(buffer, count);
+            return Typed::Line(count);
+        }
         Typed::Nothing
     }
 
     fn has_more(&self) -> bool {
-        self.ended || self.first_line().is_some()
+        self.ended || self.first_line().is_some() || self.more.has_lines()
     }
 }

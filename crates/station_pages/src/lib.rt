@@ -3,12 +3,12 @@
 #![tactic(auto)]
 
 mod attended;
-mod page_keys;
+mod page_lines;
 mod rows;
 mod scorers_page;
 mod sight;
 
 pub use attended::{Attended, Attends};
-pub use page_keys::PageKeys;
+pub use page_lines::PageLines;
 pub use scorers_page::ScorersPage;
 pub use sight::PageSight;
