@@ -2,33 +2,20 @@
 use Rattle.std.specs.Prelude.{◌≡◌, ℕ, zero, suc, ◌==◌, ◌&&◌, Bool, nat_le, nat_lt, if◌then◌else◌, Option, Some, None, List, [], ◌∷◌, ◌++◌, All, codes, drop, length, bytes_eq, Result, Ok, Err}
 use Rattle.std.specs.Char.{is_ascii_whitespace}
 use Rattle.std.specs.List.{after_first, before_first, position_or_len, prefix_len}
-use Rattle.notation.specs.declared.{entry.Entry.Entry, entry.Plain.Plain, fault.LineFault.LineFault}
+use Rattle.notation.specs.declared.entry.{Entry.Entry, Plain.Plain}
 use Rattle.notation.specs.declared.entry.Entry.TheVariants.{Write}
 use Rattle.notation.specs.declared.fault.LineFault.TheVariants.{BadNumber, Missing, TooLong, UnknownWord}
-use Rattle.notation.specs.Reading.{line_answer}
 use Rattle.notation.specs.Written.{IsEntry, IsPlain, found_number}
 use Rattle.cards.specs.Sheet.{Sheet}
 use Rattle.plans.specs.Answers.{IsAnswer}
 use Rattle.plans.specs.Bowlers.{over_by}
 use Rattle.plans.specs.declared.plan.Plan.{Plan}
 use Rattle.plans.specs.declared.plan.Plan.TheVariants.{Lines, Unnamed, Against, TooLong as LongPlan}
-use Rattle.shorthand.specs.Full.{in_full}
+use Rattle.shorthand.specs.Full.{entry_in_full}
 use Rattle.shorthand.specs.Lines.{Reason, Fault, reason_of}
 use Rattle.plan_words.specs.declared.planning.Planned.{Planned}
 
 -- ---- what is asked
-
--- a correction, put in full by the sheet and the book; or what isn't clear in it
-abbrev pub read : Result Entry LineFault → Result Entry Reason
-read (Ok e) = Ok e
-read (Err f) = Err (Fault f)
-
-abbrev pub read_full : Result (List ℕ) Reason → Result Entry Reason
-read_full (Ok full) = read (line_answer full)
-read_full (Err why) = Err why
-
-abbrev pub meant : Sheet → List Entry → List ℕ → Result Entry Reason
-meant s book text = read_full (in_full s book text)
 
 -- corrections with a comma between two, so many behind the first at most
 abbrev pub is_comma : ℕ → Bool
@@ -53,7 +40,7 @@ with_part (Err why) part = Err why
 
 abbrev pub with_parts : Sheet → List Entry → Result (List Entry) Reason → List (List ℕ) → Result (List Entry) Reason
 with_parts s book wanted [] = wanted
-with_parts s book wanted (t ∷ ts) = with_parts s book (with_part wanted (meant s book t)) ts
+with_parts s book wanted (t ∷ ts) = with_parts s book (with_part wanted (entry_in_full s book t)) ts
 
 -- `bowler n b`: the deliveries of over n of the innings begun last, each by who is so named
 abbrev pub is_space : ℕ → Bool
@@ -69,7 +56,7 @@ bowler_of (Err why) = Err why
 
 abbrev pub bowler_named : Sheet → List Entry → List ℕ → Result ℕ Reason
 bowler_named s book name =
-    if nat_le (length name) 80 then bowler_of (meant s book (codes "ball " ++ name ++ codes " bat 0"))
+    if nat_le (length name) 80 then bowler_of (entry_in_full s book (codes "ball " ++ name ++ codes " bat 0"))
     else Err (Fault TooLong)
 
 abbrev pub bowled : List Entry → ℕ → Result ℕ Reason → Result (List Entry) Reason

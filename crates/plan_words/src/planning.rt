@@ -3,6 +3,7 @@
 ghost use Rattle.std.specs.Prelude.{◌≡◌, ◌≤◌, ◌+◌, [], false, length, true, All, Ok, Err, IfOk, MatchOption, MatchResult, OnOk};
 ghost use Rattle.notation.specs.declared.entry.TheConstants.{PLACES};
 ghost use Rattle.notation.specs.Written.{IsEntry};
+ghost use Rattle.shorthand.specs.Full.{entry_in_full};
 ghost use Rattle.shorthand.specs.Lines.{reason_of};
 ghost use Rattle.std.specs.List.{after_first, before_first};
 ghost use Rattle.plan_words.specs.Planning as planning;
@@ -11,9 +12,9 @@ ghost use Rattle.plan_words.specs.inner.Reading.{IsUnread};
 use arrayvec::ArrayString;
 use cards::MatchSheet;
 use corrections::BookOf;
-use notation::{Entry, LineFault, Plain, Player, number_in, read_line};
+use notation::{Entry, LineFault, Plain, Player, number_in};
 use plans::{Plan, over_by, plan_of};
-use shorthand::{Unclear, in_full};
+use shorthand::{Unclear, entry_in_full};
 use std::alloc::Global;
 
 /// How many corrections are read behind the first at most.
@@ -46,19 +47,6 @@ fn unspaced(text: &str) -> &str
     text.trim_ascii_start()
 }
 
-/// The entry that a text means, put in full by the sheet and the book.
-fn meant<B: BookOf>(text: &[u8], book: &B, sheet: &MatchSheet) -> Result<Entry, Unclear>
-    ensures value { MatchResult result (λ entry. planning.meant sheet.now (B.content book.now) text.now ≡ Ok entry)
-        (λ unclear. planning.meant sheet.now (B.content book.now) text.now ≡ Err (reason_of unclear)) }
-    ensures in_range { IfOk result IsEntry }
-{
-    let full = in_full(text, book, sheet)?;
-    match read_line(full.as_str().as_bytes()) {
-        Ok(entry) => Ok(entry),
-        Err(fault) => Err(Unclear::Fault(fault)),
-    }
-}
-
 /// Adds the correction that a text means.
 fn add_part<B: BookOf>(
     wanted: &mut Vec<Entry>,
@@ -67,13 +55,13 @@ fn add_part<B: BookOf>(
     sheet: &MatchSheet,
 ) -> Result<(), Unread>
     ensures value { MatchResult result
-        (λ done. planning.with_part (Ok wanted.old.items) (planning.meant sheet.now (B.content book.now) text.now)
+        (λ done. planning.with_part (Ok wanted.old.items) (entry_in_full sheet.now (B.content book.now) text.now)
         ≡ Ok wanted.new.items)
-        (IsUnread (planning.with_part (Ok wanted.old.items) (planning.meant sheet.now (B.content book.now) text.now))) }
+        (IsUnread (planning.with_part (Ok wanted.old.items) (entry_in_full sheet.now (B.content book.now) text.now))) }
     ensures in_range { All IsEntry wanted.old.items → OnOk result (All IsEntry wanted.new.items) }
     ensures few { OnOk result (length wanted.new.items ≤ length wanted.old.items + 1) }
 {
-    match meant(text.as_bytes(), book, sheet) {
+    match entry_in_full(text.as_bytes(), book, sheet) {
         Ok(entry) => match wanted.push(entry) {
             Ok(()) => Ok(()),
             Err(_) => Err(Unread::NoMemory),
@@ -161,7 +149,7 @@ fn bowler_named<B: BookOf>(name: &str, book: &B, sheet: &MatchSheet) -> Result<P
     line.push_str("ball ");
     line.push_str(name);
     line.push_str(" bat 0");
-    bowler_of(meant(line.as_str().as_bytes(), book, sheet)?)
+    bowler_of(entry_in_full(line.as_str().as_bytes(), book, sheet)?)
 }
 
 /// The deliveries of an over of the innings begun last, each by who is so named.

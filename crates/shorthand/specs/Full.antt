@@ -304,19 +304,28 @@ is_of_line _ = false
 
 -- by what a line says of itself: an entry's line is in full; one that is too long, or that isn't tokens with one space
 -- between them, has no full form; any other is put in full word by word
+abbrev pub by_word : Sheet → List Entry → List ℕ → Result (List ℕ) Reason
+by_word s book line = with_words (joined (words_in_full s book (tokens line)))
+
 abbrev pub put_in_full : Sheet → List Entry → List ℕ → Result Entry LineFault → Result (List ℕ) Reason
 put_in_full s book line (Ok e) = Ok line
-put_in_full s book line (Err f) =
-    if is_of_line f then Err (Fault f) else with_words (joined (words_in_full s book (tokens line)))
+put_in_full s book line (Err f) = if is_of_line f then Err (Fault f) else by_word s book line
 
 abbrev pub by_answer : Sheet → List Entry → List ℕ → Result (List ℕ) Reason
 by_answer s book line = put_in_full s book line (line_answer line)
 
--- the blanks at the end of a line that is no entry's are no part of it
-abbrev pub without_blanks : List ℕ → Result Entry LineFault → List ℕ
-without_blanks line (Ok e) = line
-without_blanks line (Err f) = trimmed line
-
--- a line in full, or what isn't clear in it
+-- a line in full, or what isn't clear in it: the blanks at its end are no part of it
 unfoldable pub in_full : Sheet → List Entry → List ℕ → Result (List ℕ) Reason
-in_full s book line = by_answer s book (without_blanks line (line_answer line))
+in_full s book line = by_answer s book (trimmed line)
+
+-- the entry that a line means: what is read in full
+abbrev pub or_fault : Result Entry LineFault → Result Entry Reason
+or_fault (Ok e) = Ok e
+or_fault (Err f) = Err (Fault f)
+
+abbrev pub read_full : Result (List ℕ) Reason → Result Entry Reason
+read_full (Ok full) = or_fault (line_answer full)
+read_full (Err reason) = Err reason
+
+abbrev pub entry_in_full : Sheet → List Entry → List ℕ → Result Entry Reason
+entry_in_full s book line = read_full (in_full s book line)

@@ -1,9 +1,8 @@
 //! Lines in full.
 
-ghost use Rattle.std.specs.Prelude.{◌≡◌, ◌&&◌, [], ◌∷◌, nat_le, length, true, false, Ok, Err, IfOk, OnErr, MatchResult};
+ghost use Rattle.std.specs.Prelude.{◌≡◌, [], ◌∷◌, false, Ok, Err, IfOk, OnErr, MatchResult};
 ghost use Rattle.cards.specs.Sheet.{team_of};
-ghost use Rattle.notation.specs.Reading.{line_answer};
-ghost use Rattle.notation.specs.Written.{found_number, is_spaced, tokens};
+ghost use Rattle.notation.specs.Written.{IsEntry, found_number, is_spaced, text_of};
 ghost use Rattle.over_numbers.specs.Balls as balls;
 ghost use Rattle.shorthand.specs.Lines as lines;
 ghost use Rattle.shorthand.specs.Lines.{plus, plus_all, reason_of};
@@ -24,12 +23,11 @@ use crate::point::{Belongs, Point, batters_at, point_at};
 use crate::rest::Rest;
 use crate::unclear::Unclear;
 use crate::undo::last_standing;
-use crate::unknown::{is_line_word, with_words};
-use arrayvec::ArrayString;
+use crate::unknown::is_line_word;
 use cards::MatchSheet;
 use corrections::BookOf;
 use match_laws::opponent;
-use notation::{LineFault, Player, Side, number_in, read_line};
+use notation::{Entry, LineFault, Player, Side, number_in, read_line};
 use over_numbers::{Named, named_ball, place_of};
 use std::str;
 
@@ -414,52 +412,17 @@ fn text_of(line: &[u8]) -> Result<&str, Unclear>
     }
 }
 
-/// The line as it stands, where it is tokens with one space between them and not too long.
-fn as_it_stands(line: &[u8]) -> Result<ArrayString<96>, Unclear>
-    ensures text { IfOk result (λ text. text.bytes ≡ line.now) }
-    ensures none { OnErr result (is_spaced line.now && nat_le (length line.now) 96 ≡ false) }
-{
-    let text = text_of(line)?;
-    let mut full = Line::new();
-    full.word(text);
-    full.done()
-}
-
-/// A line that is put in full word by word, or why not.
-fn word_by_word<B: BookOf>(
-    text: &str,
-    book: &B,
-    sheet: &MatchSheet,
-) -> Result<ArrayString<96>, Unclear>
-    ensures { MatchResult result
-        (λ line. full.with_words (lines.joined (full.words_in_full sheet.now (B.content book.now) (tokens text.now))) ≡ Ok line.bytes)
-        (λ unclear. full.with_words (lines.joined (full.words_in_full sheet.now (B.content book.now) (tokens text.now))) ≡ Err (reason_of unclear)) }
+/// The entry of a line that is put in full word by word, or why it means none.
+fn word_by_word<B: BookOf>(text: &str, book: &B, sheet: &MatchSheet) -> Result<Entry, Unclear>
+    ensures value { MatchResult result
+        (λ entry. full.read_full (full.by_word sheet.now (B.content book.now) text.now) ≡ Ok entry)
+        (λ unclear. full.read_full (full.by_word sheet.now (B.content book.now) text.now) ≡ Err (reason_of unclear)) }
+    ensures entry { IfOk result (λ entry. IsEntry entry
+        × (full.by_word sheet.now (B.content book.now) text.now ≡ Ok (text_of entry))) }
 {
     let mut line = Line::new();
     words_in_full(&mut line, sheet, book, &mut Rest::of(text));
-    with_words(line)
-}
-
-/// A line without blanks at its end in full, or what isn't clear in it.
-fn put_in_full<B: BookOf>(
-    line: &[u8],
-    book: &B,
-    sheet: &MatchSheet,
-) -> Result<ArrayString<96>, Unclear>
-    ensures { MatchResult result
-        (λ text. full.by_answer sheet.now (B.content book.now) line.now ≡ Ok text.bytes)
-        (λ unclear. full.by_answer sheet.now (B.content book.now) line.now ≡ Err (reason_of unclear)) }
-{
-    match read_line(line) {
-        Ok(_) => as_it_stands(line),
-        Err(fault) => {
-            if is_of_line(fault) {
-                return Err(Unclear::Fault(fault));
-            }
-            let text = text_of(line)?;
-            word_by_word(text, book, sheet)
-        }
-    }
+    line.entry()
 }
 
 /// A line without the blanks at its end.
@@ -469,29 +432,27 @@ fn trimmed(line: &[u8]) -> &[u8]
     line.trim_ascii_end()
 }
 
-/// The same, unless the line is an entry's as it stands.
-fn without_blanks(line: &[u8]) -> &[u8]
-    ensures { result.now ≡ full.without_blanks line.now (line_answer line.now) }
-{
-    match read_line(line) {
-        Ok(_) => line,
-        Err(_) => trimmed(line),
-    }
-}
-
-/// A scorer's line in full, by the names of the sheet and by who bowls and bats where it belongs in the book; or
-/// what isn't clear in it. A line that is an entry's is in full as it stands; of any other the blanks at its end are
-/// no part. A line that is no short form stays as it was typed: where a word of it is none that may stand there, that
-/// word is told, and `read_line` finds any other fault.
+/// The entry that a scorer's line means, put in full by the names of the sheet and by who bowls and bats where it belongs
+/// in the book; or what isn't clear in it, or its fault. The blanks at its end are no part of it. A line that is an
+/// entry's is in full as it stands. One that is no short form stays as it was typed: where a word of it is none that may
+/// stand there, that word is told.
 #[tactic(auto, unfolding(crate::specs::Full::in_full))]
-pub fn in_full<B: BookOf>(
-    line: &[u8],
-    book: &B,
-    sheet: &MatchSheet,
-) -> Result<ArrayString<96>, Unclear>
-    ensures { MatchResult result
-        (λ text. full.in_full sheet.now (B.content book.now) line.now ≡ Ok text.bytes)
-        (λ unclear. full.in_full sheet.now (B.content book.now) line.now ≡ Err (reason_of unclear)) }
+pub fn entry_in_full<B: BookOf>(line: &[u8], book: &B, sheet: &MatchSheet) -> Result<Entry, Unclear>
+    ensures value { MatchResult result
+        (λ entry. full.entry_in_full sheet.now (B.content book.now) line.now ≡ Ok entry)
+        (λ unclear. full.entry_in_full sheet.now (B.content book.now) line.now ≡ Err (reason_of unclear)) }
+    ensures entry { IfOk result (λ entry. IsEntry entry
+        × (full.in_full sheet.now (B.content book.now) line.now ≡ Ok (text_of entry))) }
 {
-    put_in_full(without_blanks(line), book, sheet)
+    let line = trimmed(line);
+    match read_line(line) {
+        Ok(entry) => Ok(entry),
+        Err(fault) => {
+            if is_of_line(fault) {
+                return Err(Unclear::Fault(fault));
+            }
+            let text = text_of(line)?;
+            word_by_word(text, book, sheet)
+        }
+    }
 }

@@ -15,7 +15,7 @@ mod undo;
 mod unknown;
 mod worked;
 
-pub use full::in_full;
+pub use full::entry_in_full;
 pub use laws::{
     bowler_left_out_is_the_last, full_lines_stand, names_mean_one, taken_lines_are_read,
 };

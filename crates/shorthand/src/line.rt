@@ -1,13 +1,16 @@
 //! A line that is written word by word.
 
-ghost use Rattle.std.specs.Prelude.{◌≡◌, ◌≤◌, [], decimal, Ok, Err, IsErr, MatchOption, MatchResult};
+ghost use Rattle.std.specs.Prelude.{◌≡◌, ◌≤◌, [], decimal, Ok, Err, IfOk, IsErr, MatchOption, MatchResult};
+ghost use Rattle.notation.specs.Written.{IsEntry, text_of};
 ghost use Rattle.shorthand.specs.Lines.{as_typed, plus, plus_all, reason_of};
+ghost use Rattle.shorthand.specs.Full as full;
 
 use crate::rest::Rest;
 use crate::unclear::Unclear;
+use crate::unknown::why_refused;
 use arrayvec::ArrayString;
 use itoa::Buffer;
-use notation::LineFault;
+use notation::{Entry, LineFault, read_line};
 use std::marker::Model;
 
 /// A line of at most 96 bytes, or why there is none.
@@ -145,14 +148,27 @@ impl Line {
         }
     }
 
-    /// The line, or why there is none.
-    pub fn done(self) -> Result<ArrayString<96>, Unclear>
+    /// The text, or why there is none.
+    fn done(self) -> Result<ArrayString<96>, Unclear>
         ensures { MatchResult result (λ text. self ≡ Ok text.bytes)
             (λ unclear. self ≡ Err (reason_of unclear)) }
     {
         match self.unclear {
             Some(unclear) => Err(unclear),
             None => Ok(self.text),
+        }
+    }
+
+    /// The entry of the line, or why it means none.
+    pub fn entry(self) -> Result<Entry, Unclear>
+        ensures value { MatchResult result (λ entry. full.read_full (full.with_words self) ≡ Ok entry)
+            (λ unclear. full.read_full (full.with_words self) ≡ Err (reason_of unclear)) }
+        ensures entry { IfOk result (λ entry. IsEntry entry × (full.with_words self ≡ Ok (text_of entry))) }
+    {
+        let text = self.done()?;
+        match read_line(text.as_str().as_bytes()) {
+            Ok(entry) => Ok(entry),
+            Err(fault) => Err(why_refused(text.as_str(), fault)),
         }
     }
 }

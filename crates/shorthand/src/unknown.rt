@@ -1,6 +1,6 @@
 //! The word of a line that is none.
 
-ghost use Rattle.std.specs.Prelude.{◌≡◌, Ok, Err, None, Some, MatchOption, MatchResult};
+ghost use Rattle.std.specs.Prelude.{◌≡◌, Err, None, Some, MatchOption};
 ghost use Rattle.notation.specs.Reading.{line_answer};
 ghost use Rattle.shorthand.specs.Lines.{reason_of};
 ghost use Rattle.shorthand.specs.Full as full;
@@ -10,22 +10,14 @@ use crate::line::Line;
 use crate::names::unknown_word;
 use crate::rest::Rest;
 use crate::unclear::Unclear;
-use arrayvec::ArrayString;
 use notation::{LineFault, read_line};
 
-/// Whether a text is refused for a word that stands where another must.
-fn lacks_word(text: &str) -> bool
-    ensures { result ≡ full.lacks_word (line_answer text.now) }
-{
-    matches!(read_line(text.as_bytes()), Err(LineFault::UnknownWord))
-}
-
-/// Whether the line, cut here, is refused so.
+/// Whether the line, cut here, is refused for a word that stands where another must.
 fn is_cut_there(front: &Line) -> bool
     ensures { result ≡ full.is_cut_there front.now }
 {
     match front.text() {
-        Some(text) => lacks_word(text),
+        Some(text) => matches!(read_line(text.as_bytes()), Err(LineFault::UnknownWord)),
         None => false,
     }
 }
@@ -91,11 +83,12 @@ fn asked_for<'a>(rest: &Rest<'a>) -> Option<&'a str>
     }
 }
 
-/// The word for which a text is refused, if it is.
-fn lacking(text: &str) -> Option<&str>
+/// The word for which a text with this fault is refused, if it is for one.
+fn lacking(text: &str, fault: LineFault) -> Option<&str>
+    requires { line_answer text.now ≡ Err fault }
     ensures { MatchOption result (full.lacking text.now ≡ None) (λ word. full.lacking text.now ≡ Some word.now) }
 {
-    if !lacks_word(text) {
+    if !matches!(fault, LineFault::UnknownWord) {
         return None;
     }
     let words = Rest::of(text);
@@ -105,14 +98,13 @@ fn lacking(text: &str) -> Option<&str>
     }
 }
 
-/// The line, or why there is none: where it is refused for a word that stands where another must, that word.
-pub fn with_words(line: Line) -> Result<ArrayString<96>, Unclear>
-    ensures { MatchResult result (λ text. full.with_words line ≡ Ok text.bytes)
-        (λ unclear. full.with_words line ≡ Err (reason_of unclear)) }
+/// Why a text with this fault is no entry's: where it is refused for a word that stands where another must, that word.
+pub fn why_refused(text: &str, fault: LineFault) -> Unclear
+    requires { line_answer text.now ≡ Err fault }
+    ensures { full.read_full (full.or_word text.now (full.lacking text.now)) ≡ Err (reason_of result) }
 {
-    let text = line.done()?;
-    match lacking(text.as_str()) {
-        Some(word) => Err(unknown_word(word)),
-        None => Ok(text),
+    match lacking(text, fault) {
+        Some(word) => unknown_word(word),
+        None => Unclear::Fault(fault),
     }
 }

@@ -3,7 +3,6 @@
 use Rattle.std.specs.Prelude.{◌≡◌, ◌≢◌, ◌⊎◌, ℕ, Bool, true, false, nat_lt, is_some, List, [], ◌++◌, Some, None, Ok, Err, codes}
 use Rattle.notation.specs.declared.entry.Entry.{Entry}
 use Rattle.notation.specs.Written.{IsEntry, text_of}
-use Rattle.notation.specs.Reading.{line_answer}
 use Rattle.agree_core.specs.declared.messages.Message.{Message}
 use Rattle.corrections.specs.declared.refusal.Refusal.{Refusal as BookRefusal}
 use Rattle.agree_core.specs.Ballots.{Ballot}
@@ -16,11 +15,11 @@ use Rattle.desk.specs.Desk.{last_entry}
 use Rattle.cards.specs.Sheet.{Sheet}
 use Rattle.screen.specs.Words.{behind_plan, is_end, is_plan, word_of}
 use Rattle.screen.specs.declared.word.Word.{Word}
-use Rattle.shorthand.specs.Full.{in_full}
-use Rattle.shorthand.specs.Lines.{reason_of}
+use Rattle.shorthand.specs.Full.{entry_in_full, in_full}
+use Rattle.shorthand.specs.Lines.{Reason, reason_of}
 use Rattle.plan_words.specs.Planning.{IsPlanned}
 use Rattle.station_texts.specs.declared.said.Said.{Said}
-use Rattle.station_texts.specs.declared.said.Said.TheVariants.{Quit, Asks, Plan, Unclear, Fault, SayAgain, NoneDiffers, Waiting, Refused, Penned}
+use Rattle.station_texts.specs.declared.said.Said.TheVariants.{Quit, Asks, Plan, Unclear, SayAgain, NoneDiffers, Waiting, Refused, Penned}
 
 -- a line of a round: behind `again ` in every round but the first
 abbrev pub says_again : Bool → List ℕ → List ℕ
@@ -51,13 +50,6 @@ LineMeans s book votes differs line e =
 abbrev pub SaysEntry : Sheet → List Entry → List Ballot → ℕ → List ℕ → Entry → Type 0
 SaysEntry s book votes round line e = LineMeans s book votes (nat_lt 0 round) line e
 
--- the text means no entry: something isn't clear in it, or in full it has a fault
-abbrev pub MeansNone : Sheet → List Entry → List ℕ → Said → Type 0
-MeansNone s book text (Unclear unclear) = in_full s book text ≡ Err (reason_of unclear)
-MeansNone s book text (Fault fault) =
-    (full : List ℕ) × (in_full s book text ≡ Ok full) × (line_answer full ≡ Err fault)
-MeansNone s book text said = ⊥
-
 -- the line doesn't begin with the word `again`
 abbrev pub IsNotAgain : List ℕ → Type 0
 IsNotAgain line = (line ≢ codes "again") × ((rest : List ℕ) → line ≢ codes "again " ++ rest)
@@ -79,10 +71,10 @@ abbrev pub IsReadAs : Bool → Bool → List ℕ → List ℕ → Type 0
 IsReadAs differs false line text = IsTextOf differs line text
 IsReadAs differs true line text = IsTextOf differs line text ⊎ IsTextOf false line text
 
--- a text that is looked at as an entry's means none
-abbrev pub ReadsNone : Sheet → List Entry → Bool → Bool → List ℕ → Said → Type 0
-ReadsNone s book differs is_cast line said =
-    (text : List ℕ) × IsReadAs differs is_cast line text × MeansNone s book text said
+-- a text that is looked at as an entry's means none: something isn't clear in it, or in full it has a fault
+abbrev pub MeansNone : Sheet → List Entry → Bool → Bool → List ℕ → Reason → Type 0
+MeansNone s book differs is_cast line why =
+    (text : List ℕ) × IsReadAs differs is_cast line text × (entry_in_full s book text ≡ Err why)
 
 -- the line comes to this, and no entry is penned, by the sheet, the book and the votes that the desk has cast, at a place
 -- at which the two scorers differed or not, where the desk's vote of the round is cast or not
@@ -91,9 +83,7 @@ ComesTo s book votes differs is_cast line Quit = is_end line ≡ true
 ComesTo s book votes differs is_cast line (Asks word) = (word_of line ≡ Some word) × (is_plan word ≡ false)
 ComesTo s book votes differs is_cast line (Plan planned) = (word_of line ≡ Some Word.Plan) × IsPlanned s book (behind_plan line) planned
 ComesTo s book votes differs is_cast line (Unclear unclear) =
-    IsNoWord line × ReadsNone s book differs is_cast line (Unclear unclear)
-ComesTo s book votes differs is_cast line (Fault fault) =
-    IsNoWord line × ReadsNone s book differs is_cast line (Fault fault)
+    IsNoWord line × MeansNone s book differs is_cast line (reason_of unclear)
 ComesTo s book votes differs is_cast line SayAgain = IsNoWord line × (differs ≡ true) × (is_cast ≡ false) × IsNotAgain line
 ComesTo s book votes differs is_cast line NoneDiffers = IsAgainInVain votes differs line
 ComesTo s book votes differs is_cast line Waiting =

@@ -34,7 +34,7 @@ use Rattle.screen.specs.declared.word.Word.{Word}
 use Rattle.station_texts.specs.declared.{reminder.Reminder.Reminder, said.Said.Said, warned.Warned.Warned}
 use Rattle.station_texts.specs.Laters.{later_numbers, later_words}
 use Rattle.station_texts.specs.Planning.{planned_text}
-use Rattle.station_texts.specs.Questions.{explained, fault_text, numbered, unclear_text, who_may}
+use Rattle.station_texts.specs.Questions.{explained, numbered, unclear_text, who_may}
 
 -- the umpire calls over
 abbrev pub is_over : Entry → Bool
@@ -189,7 +189,6 @@ said_text sheet innings at own other silent book (Said.Asks word) =
 said_text sheet innings at own other silent book (Said.Plan planned) = planned_text sheet book planned
 said_text sheet innings at own other silent book (Said.Unclear unclear) =
     unclear_text sheet unclear ++ who_may sheet (history_of book) unclear
-said_text sheet innings at own other silent book (Said.Fault fault) = fault_text fault
 said_text sheet innings at own other silent book Said.SayAgain = again_text at (why_full at)
 said_text sheet innings at own other silent book Said.NoneDiffers =
     at_place at.place (codes "doesn't differ: leave out again")

@@ -16,7 +16,7 @@ use shorthand::{Letter, Unaided, Unclear, has_beginning};
 use streams::{Sink, Watched, WriteFailed};
 
 /// Prints a line's fault.
-pub fn print_fault<W: Sink>(out: &mut Watched<W>, fault: LineFault) -> Result<(), WriteFailed>
+fn print_fault<W: Sink>(out: &mut Watched<W>, fault: LineFault) -> Result<(), WriteFailed>
     ensures text { OnOk result (Prints W.contents out.old out.new (questions.fault_text fault)) }
     ensures failed { OnErr result (has_failed out.new ≡ true) }
 {

@@ -6,16 +6,16 @@ ghost use Rattle.notation.specs.Written.{IsEntry};
 ghost use Rattle.agree_core.specs.Ballots.{Ballot};
 ghost use Rattle.desk.specs.Desk.{last_entry};
 ghost use Rattle.screen.specs.Words as words;
-ghost use Rattle.station_texts.specs.Saying.{ComesTo, IsNoWord, IsNotAgain, IsTextOf, LineMeans, MeansEntry, MeansNone};
+ghost use Rattle.station_texts.specs.Saying.{ComesTo, IsNoWord, IsNotAgain, IsTextOf, LineMeans};
 
 use agree_core::Settled;
 use cards::MatchSheet;
 use corrections::BookOf;
 use desk::Refusal;
-use notation::{Entry, LineFault, read_line};
+use notation::Entry;
 use plan_words::{Planned, plan_asked};
 use screen::{Word, behind_plan, is_end, word_of};
-use shorthand::{Unclear, in_full};
+use shorthand::{Unclear, entry_in_full};
 use std::alloc::Global;
 
 /// What a scorer's line comes to.
@@ -27,10 +27,8 @@ pub enum Said {
     Asks(Word),
     /// `plan`, with what is answered.
     Plan(Planned),
-    /// Something isn't clear in it, so that it has no full form.
+    /// It means no entry: something isn't clear in it, or in full it has a fault.
     Unclear(Unclear),
-    /// In full it is no entry's line.
-    Fault(LineFault),
     /// The two scorers differed at this place, and the line doesn't begin with `again `.
     SayAgain,
     /// The line begins with `again`, and they didn't differ.
@@ -85,21 +83,6 @@ fn behind_again(line: &[u8]) -> Option<&[u8]>
     line.strip_prefix(b"again ")
 }
 
-/// The entry that a text means in full, by the sheet and the book; or what isn't clear in it, or its fault.
-fn entry_meant<B: BookOf>(text: &[u8], book: &B, sheet: &MatchSheet) -> Result<Entry, Said>
-    ensures means { IfOk result (MeansEntry sheet.now (B.content book.now) text.now) }
-    ensures none { IfErr result (MeansNone sheet.now (B.content book.now) text.now) }
-{
-    let full = match in_full(text, book, sheet) {
-        Ok(full) => full,
-        Err(unclear) => return Err(Said::Unclear(unclear)),
-    };
-    match read_line(full.as_str().as_bytes()) {
-        Ok(entry) => Ok(entry),
-        Err(fault) => Err(Said::Fault(fault)),
-    }
-}
-
 /// What a line without `again ` comes to, where the two scorers differed.
 fn bare_said<B: BookOf>(line: &[u8], book: &B, sheet: &MatchSheet, is_cast: bool) -> Said
     requires word { IsNoWord line.now }
@@ -109,9 +92,9 @@ fn bare_said<B: BookOf>(line: &[u8], book: &B, sheet: &MatchSheet, is_cast: bool
     if !is_cast {
         return Said::SayAgain;
     }
-    match entry_meant(line, book, sheet) {
+    match entry_in_full(line, book, sheet) {
         Ok(_) => Said::Waiting,
-        Err(said) => said,
+        Err(unclear) => Said::Unclear(unclear),
     }
 }
 
@@ -192,5 +175,8 @@ pub fn entry_said<B: BookOf>(
         Ok(text) => text,
         Err(said) => return Err(said),
     };
-    entry_meant(text, book, sheet)
+    match entry_in_full(text, book, sheet) {
+        Ok(entry) => Ok(entry),
+        Err(unclear) => Err(Said::Unclear(unclear)),
+    }
 }

@@ -10,7 +10,6 @@ ghost use Rattle.station_texts.specs.Texts as texts;
 
 use crate::both::Both;
 use crate::plan_text::print_planned;
-use crate::questions::print_fault;
 use crate::refusals::{print_refused, print_refused_entry};
 use crate::said::Said;
 use crate::who_bowls::print_question;
@@ -443,7 +442,6 @@ fn print_answer<B: BookOf, W: Sink>(
         }
         Said::Plan(planned) => print_planned(out, sheet, planned, book),
         Said::Unclear(unclear) => print_question(out, sheet, unclear, book),
-        Said::Fault(fault) => print_fault(out, *fault),
         Said::SayAgain => print_again(out, at),
         Said::NoneDiffers => print_at(out, at.place, "doesn't differ: leave out again"),
         Said::Waiting => print_refused(out, Refusal::Waiting),

@@ -1,7 +1,8 @@
 use Rattle.std.proofs.Common.{◌≡◌, ◌-◌, List, Ok, MatchResult, Result, arith, subst, sym}
 use Rattle.notation.specs.declared.entry.Entry.{Entry}
 use Rattle.shorthand.specs.Lines.{Reason}
-use Rattle.plan_words.specs.Planning.{meant, parts_of, with_part, with_parts}
+use Rattle.shorthand.specs.Full.{entry_in_full}
+use Rattle.plan_words.specs.Planning.{parts_of, with_part, with_parts}
 use Rattle.plan_words.specs.inner.Reading.{IsUnread}
 use Rattle.plan_words.proofs.PlanLemmas.{parts_more, parts_one, unread_stays}
 use Rattle.plan_words.proofs.planning.+add_parts.Goals as goal
@@ -34,4 +35,4 @@ returns-in-Err-clause-value g t c =
     let is = c.in-Some.ensures in
     let parts = parts_more c.args.more c.args.text.now c.in-Some.first.now c.in-Some.rest.now (omega arith) is.0 is.1 is.2 in
     subst (λ ps. IsUnread (with_parts s book old ps) c.in-Err.why) (sym parts)
-    (unread_stays s book (with_part old (meant s book c.in-Some.first.now)) (parts_of (c.args.more - 1) c.in-Some.rest.now) c.in-Err.why c.in-Err.ensures.value)
+    (unread_stays s book (with_part old (entry_in_full s book c.in-Some.first.now)) (parts_of (c.args.more - 1) c.in-Some.rest.now) c.in-Err.why c.in-Err.ensures.value)
