@@ -13,7 +13,7 @@ use Rattle.ahead.specs.declared.log.AheadLog as logs
 use Rattle.ahead.specs.Ahead.{but_newest, bytes_of, casting, given_of, held_of, is_ordered, kept_of, oldest, typed_of}
 use Rattle.ahead.specs.Order.{AreAmong, CastsInOrder, lines_of}
 use Rattle.ahead.specs.Sorts.{casts, is_entry, is_entrys, may_cast, sort_of}
-use Rattle.ahead.specs.declared.sorts.Sort.{Sort}
+use Rattle.ahead.specs.declared.taking.Sort.{Sort}
 
 and_left : (a b : Bool) → (a && b) ≡ true → a ≡ true
 and_left true b e = refl

@@ -2,7 +2,7 @@
 use Rattle.std.specs.Prelude.{◌||◌, ℕ, Bool, true, false, List, Option, None, Some, bytes_eq, codes, if◌then◌else◌, take}
 use Rattle.screen.specs.Words.{is_end, trimmed, word_of}
 use Rattle.screen.specs.declared.word.Word.{Word}
-use Rattle.ahead.specs.declared.sorts.Sort.{Sort}
+use Rattle.ahead.specs.declared.taking.Sort.{Sort}
 
 abbrev pub says_again : List ℕ → Bool
 says_again line = bytes_eq line (codes "again") || bytes_eq (codes "again ") (take 6 line)

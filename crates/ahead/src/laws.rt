@@ -4,7 +4,7 @@ ghost use Rattle.std.specs.Prelude.{◌≡◌};
 ghost use Rattle.ahead.specs.Ahead.{typed_of};
 ghost use Rattle.ahead.specs.Order.{CastsInOrder};
 
-use crate::ahead::Ahead;
+use crate::taking::Ahead;
 use links::Keys;
 
 /// The lines that the desk was given and for which it may cast a vote are lines that the keyboard gave and that weren't taken

@@ -2,15 +2,13 @@
 //! one after the other, each once the place of the one before it is agreed.
 #![tactic(auto)]
 
-mod ahead;
 mod laws;
 mod lines;
 mod log;
 mod queue;
-mod sorts;
 mod taking;
 mod tried;
 
-pub use ahead::Ahead;
 pub use laws::what_is_cast_was_typed;
 pub use log::AheadLog;
+pub use taking::Ahead;

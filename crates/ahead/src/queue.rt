@@ -9,7 +9,7 @@ use crate::lines::{copied, place_behind, put};
 use crate::log::AheadLog;
 use crate::tried::{Tried, differs_since, is_not_taken};
 use arrayvec::ArrayVec;
-use links::{Aside, HeldLine, HeldLines, Stand, Typed};
+use links::{Aside, HeldLines, Stand, Typed};
 
 /// What the desk is given once all that is dropped is told.
 #[derive(Clone, Copy, Debug, PartialEq, Eq)]

@@ -1,16 +1,91 @@
-//! What becomes of a line that is typed.
+//! A scorer's lines, of which some are held, and what becomes of one that is typed.
 
-ghost use Rattle.std.specs.Prelude.{◌≡◌, ◌≤◌, ◌<◌, ◌∷◌, ◌++◌, [], IsUtf8, false, length, take, true};
+ghost use Rattle.std.specs.Prelude.{◌≡◌, ◌≤◌, ◌<◌, ◌∷◌, ◌++◌, [], IfSome, IsSome, IsUtf8, false, length, take, true};
 ghost use Rattle.links.specs.Typing.{End, IsTyped, Line};
+ghost use Rattle.screen.specs.Words as words;
 ghost use Rattle.ahead.specs.Ahead.{bytes_of, dropped_of, given_of, held_of, lost_of, typed_of};
 ghost use Rattle.ahead.specs.Dropping.{held_by, taken_back_by};
+ghost use Rattle.ahead.specs.Sorts as sorts;
 ghost use Rattle.ahead.specs.Sorts.{is_entry, is_undo, may_cast};
 
 use crate::lines::place_behind;
 use crate::queue::{Last, Queue};
-use crate::sorts::{Sort, sort_of, text_of};
 use crate::tried::Tried;
-use links::{Aside, HeldLine, Stand, Typed};
+use links::{Aside, HeldLine, Keys, Stand, Typed};
+use screen::{Word, is_end, word_of};
+use std::str;
+
+/// What a line that was typed is to those that are held.
+#[derive(Clone, Copy, Debug, PartialEq, Eq)]
+pub enum Sort {
+    /// Any other line: it may be an entry's.
+    Entry,
+    /// `undo`.
+    Undo,
+    /// `quit` or `exit`.
+    Quit,
+    /// `again`, or a line behind it.
+    Again,
+    /// An empty line.
+    Lists,
+    /// Another word that writes nothing.
+    Asks,
+}
+
+/// Whether a line says `again`.
+fn says_again(line: &[u8]) -> bool
+    ensures { result ≡ sorts.says_again line.now }
+{
+    if line == b"again".as_slice() {
+        return true;
+    }
+    line.starts_with(b"again ")
+}
+
+/// What a word is that writes nothing, and any other line.
+fn by_word(word: Option<Word>) -> Sort
+    ensures { result ≡ sorts.by_word word }
+{
+    match word {
+        None => Sort::Entry,
+        Some(Word::Where) => Sort::Lists,
+        Some(_) => Sort::Asks,
+    }
+}
+
+/// A line without the blanks at its end.
+fn trimmed(line: &[u8]) -> &[u8]
+    ensures { result.now ≡ words.trimmed line.now }
+{
+    line.trim_ascii_end()
+}
+
+/// What a line is.
+pub fn sort_of(line: &[u8]) -> Sort
+    ensures { result ≡ sorts.sort_of line.now }
+{
+    if trimmed(line) == b"undo".as_slice() {
+        return Sort::Undo;
+    }
+    if is_end(line) {
+        return Sort::Quit;
+    }
+    if says_again(line) {
+        return Sort::Again;
+    }
+    by_word(word_of(line))
+}
+
+/// The text of a line, if it is text.
+pub fn text_of(line: &[u8]) -> Option<HeldLine>
+    ensures same { IfSome result (λ text. text.bytes ≡ line.now) }
+    ensures some { IsUtf8 line.now → length line.now ≤ 128 → IsSome result }
+{
+    match str::from_utf8(line) {
+        Ok(text) => HeldLine::from(text).ok(),
+        Err(_) => None,
+    }
+}
 
 impl Queue {
     /// Gives the desk a line that was typed, at once.
@@ -278,5 +353,79 @@ impl Queue {
         self.log = self.log.stopped();
         self.is_deaf = false;
         self.last = Some(Last::End);
+    }
+}
+
+/// A scorer's lines, of which some are held: the desk is given what was typed, and when.
+#[derive(Drop)]
+pub struct Ahead<K: Keys> {
+    keys: K,
+    queue: Queue,
+    ghost typed: { K.inputs keys ≡ typed_of queue.log },
+}
+
+impl<K: Keys> Ahead<K> {
+    /// Of a keyboard that gave nothing yet.
+    pub fn new(keys: K) -> Ahead<K>
+        requires { K.inputs keys ≡ [] }
+        ensures given { given_of (result.queue).log ≡ [] }
+        ensures keys { result.keys ≡ keys }
+    {
+        Ahead {
+            keys,
+            queue: Queue::new(),
+        }
+    }
+
+    /// The lines that are held, the oldest first.
+    pub fn held(&self) -> &[HeldLine]
+        ensures { result.now ≡ held_of (self.now.queue).log }
+    {
+        self.queue.held.as_slice()
+    }
+
+    /// The keyboard.
+    pub fn keys(&self) -> &K
+        ensures { result.now ≡ self.now.keys }
+    {
+        &self.keys
+    }
+}
+
+impl<K: Keys> Keys for Ahead<K> {
+    ghost use Rattle.ahead.specs.Dropping.{differs_since, dropped_by, is_not_taken};
+
+    ghost inputs = { λ ahead. given_of (ahead.queue).log };
+
+    fn line(&mut self, at: Stand, buffer: &mut [u8; 128]) -> Typed
+        ensures given { IsTyped result buffer.new (given_of (self.old.queue).log) (given_of (self.new.queue).log) }
+        ensures differs { differs_since (self.old.queue).seen at ≡ true
+            → (held_of (self.new.queue).log ≡ []) × (dropped_by result ≡ held_of (self.old.queue).log) }
+        ensures not_taken { is_not_taken (self.old.queue).tried at ≡ true
+            → (held_of (self.new.queue).log ≡ []) × (dropped_by result ≡ held_of (self.old.queue).log) }
+        ensures hands_on { result ≡ Typed.Nothing → at.has_voted ≡ false → held_of (self.new.queue).log ≡ [] }
+    {
+        match self.queue.due(at, buffer) {
+            Typed::Nothing => {}
+            due => return due,
+        }
+        match self.keys.line(at, buffer) {
+            Typed::Line(count) => self.queue.take(at, buffer, count),
+            Typed::Ended => {
+                self.queue.stop();
+                Typed::Nothing
+            }
+            Typed::Nothing => {
+                if !self.keys.has_more() {
+                    self.queue.rest();
+                }
+                Typed::Nothing
+            }
+            Typed::Aside(aside) => Typed::Aside(aside),
+        }
+    }
+
+    fn has_more(&self) -> bool {
+        self.queue.is_busy() || self.keys.has_more()
     }
 }

@@ -7,7 +7,7 @@ use Rattle.cards.specs.Sheet.{Sheet}
 use Rattle.links.specs.Typing.{Line}
 use Rattle.screen.specs.Words.{is_end, trimmed, word_of}
 use Rattle.screen.specs.declared.word.Word.{Word}
-use Rattle.ahead.specs.declared.sorts.Sort.{Sort}
+use Rattle.ahead.specs.declared.taking.Sort.{Sort}
 use Rattle.ahead.specs.Ahead.{bytes_of, casting, given_of, held_of, kept_of}
 use Rattle.ahead.specs.Order.{AreAmong}
 use Rattle.ahead.specs.Sorts.{by_word, casts, may_cast, says_again}
