@@ -1,19 +1,115 @@
-//! What a delivery brought, in full.
+//! A delivery in full: its marks, what it brought, and who bowls.
 
-ghost use Rattle.std.specs.Prelude.{◌≡◌, ◌∷◌, None};
-ghost use Rattle.shorthand.specs.Lines.{plus_all};
+ghost use Rattle.std.specs.Prelude.{◌≡◌, ◌∷◌, [], None, Some, Ok, MatchOption};
+ghost use Rattle.cards.specs.Sheet.{team_of};
+ghost use Rattle.shorthand.specs.Lines as lines;
+ghost use Rattle.shorthand.specs.Lines.{plus, plus_all};
+ghost use Rattle.shorthand.specs.declared.names.Among.TheVariants.{Anyone};
 ghost use Rattle.shorthand.specs.Full as full;
-ghost use Rattle.shorthand.specs.Marks.{mark};
+ghost use Rattle.shorthand.specs.Marks as marks;
+ghost use Rattle.shorthand.specs.Names as names;
 ghost use Rattle.shorthand.specs.Words as words;
+ghost use Rattle.shorthand.specs.Words.{in_row};
 
 use crate::line::Line;
-use crate::marks::mark;
-use crate::names::is_digit_first;
+use crate::names::{
+    Among, Found, colon_name, is_digit_first, named, named_bowler, number_word, player,
+};
 use crate::outs::{behind_runs, behind_runs_from, is_behind_runs};
+use crate::point::Point;
 use crate::rest::Rest;
 use crate::unclear::{Letter, Unclear};
+use crate::unknown::is_line_word;
 use cards::MatchSheet;
-use notation::Side;
+use match_laws::opponent;
+use notation::{Player, Side};
+
+/// The kind that the letters of a mark stand for.
+fn kind_of(letters: &[u8]) -> Option<&'static str>
+    ensures { MatchOption result (in_row marks.letters letters.now ≡ None)
+        (λ kind. in_row marks.letters letters.now ≡ Some kind.now) }
+{
+    if letters == b"".as_slice() {
+        Some("bat")
+    } else if letters == b"b".as_slice() {
+        Some("bye")
+    } else if letters == b"lb".as_slice() {
+        Some("leg")
+    } else if letters == b"wd".as_slice() {
+        Some("wide")
+    } else if letters == b"nb".as_slice() {
+        Some("nb")
+    } else if letters == b"nbb".as_slice() {
+        Some("nbbye")
+    } else if letters == b"nblb".as_slice() {
+        Some("nbleg")
+    } else {
+        None
+    }
+}
+
+/// The runs that the figure of a mark stands for.
+fn runs_of(figure: u8) -> Option<&'static str>
+    ensures { MatchOption result (in_row marks.figures (figure ∷ []) ≡ None)
+        (λ runs. in_row marks.figures (figure ∷ []) ≡ Some runs.now) }
+{
+    match figure {
+        b'.' | b'0' => Some("0"),
+        b'1' => Some("1"),
+        b'2' => Some("2"),
+        b'3' => Some("3"),
+        b'4' => Some("0 four"),
+        b'5' => Some("5"),
+        b'6' => Some("0 six"),
+        _ => None,
+    }
+}
+
+/// The kind and the runs that letters and a figure stand for, where the token is these.
+#[tactic(auto, using(crate::proofs::Cuts::cut_append))]
+fn written_mark(token: &str) -> Option<(&'static str, &'static str)>
+    ensures { MatchOption result (marks.written_mark token.now ≡ None)
+        (λ m. marks.written_mark token.now ≡ Some (m.0.now, m.1.now)) }
+{
+    let (figure, letters) = token.as_bytes().split_last()?;
+    let kind = kind_of(letters)?;
+    let runs = runs_of(*figure)?;
+    Some((kind, runs))
+}
+
+/// The kind and the runs that one word says. Of a Wide and a No ball the one run is their own.
+fn said_runs(token: &str) -> Option<(&'static str, &'static str)>
+    ensures { MatchOption result (words.said_runs token.now ≡ None)
+        (λ m. words.said_runs token.now ≡ Some (m.0.now, m.1.now)) }
+{
+    match token {
+        "dot" => Some(("bat", "0")),
+        "four" => Some(("bat", "0 four")),
+        "six" => Some(("bat", "0 six")),
+        "1b" => Some(("bye", "1")),
+        "2b" => Some(("bye", "2")),
+        "3b" => Some(("bye", "3")),
+        "4b" => Some(("bye", "0 four")),
+        "1lb" => Some(("leg", "1")),
+        "2lb" => Some(("leg", "2")),
+        "3lb" => Some(("leg", "3")),
+        "4lb" => Some(("leg", "0 four")),
+        "1wd" => Some(("wide", "0")),
+        "1nb" => Some(("nb", "0")),
+        _ => None,
+    }
+}
+
+/// The kind and the runs that a mark stands for, said in a word or written, where the token is one.
+fn mark(token: &str) -> Option<(&'static str, &'static str)>
+    ensures { MatchOption result (marks.mark token.now ≡ None)
+        (λ m. marks.mark token.now ≡ Some (m.0.now, m.1.now)) }
+{
+    match said_runs(token) {
+        Some(mark) => Some(mark),
+        None => written_mark(token),
+    }
+}
 
 /// Whether a number stands next.
 fn has_number(rest: &Rest<'_>) -> bool
@@ -82,7 +178,7 @@ fn by_kind(line: &mut Line, sheet: &MatchSheet, side: Side, token: &str, rest: &
 
 /// Writes what a delivery brought, where the token is no letter that means two things.
 fn marked_from(line: &mut Line, sheet: &MatchSheet, side: Side, token: &str, rest: &mut Rest<'_>)
-    ensures { line.new ≡ plus_all line.old (full.marked sheet.now side (mark token.now) token.now rest.old) }
+    ensures { line.new ≡ plus_all line.old (full.marked sheet.now side (marks.mark token.now) token.now rest.old) }
 {
     match mark(token) {
         Some((kind, runs)) => {
@@ -95,7 +191,7 @@ fn marked_from(line: &mut Line, sheet: &MatchSheet, side: Side, token: &str, res
 }
 
 /// The letter that the token is, where it means two things to scorers.
-pub fn two_meanings(token: &str) -> Option<Letter>
+fn two_meanings(token: &str) -> Option<Letter>
     ensures { result ≡ words.two_meanings token.now }
 {
     match token {
@@ -107,7 +203,7 @@ pub fn two_meanings(token: &str) -> Option<Letter>
 
 /// Writes what a delivery brought, from a token on.
 #[tactic(auto, unfolding(crate::specs::Full::runs_from))]
-pub fn runs_from(line: &mut Line, sheet: &MatchSheet, side: Side, token: &str, rest: &mut Rest<'_>)
+fn runs_from(line: &mut Line, sheet: &MatchSheet, side: Side, token: &str, rest: &mut Rest<'_>)
     ensures { line.new ≡ plus_all line.old (full.runs_from sheet.now side token.now rest.old) }
 {
     match two_meanings(token) {
@@ -126,7 +222,7 @@ pub fn runs(line: &mut Line, sheet: &MatchSheet, side: Side, rest: &mut Rest<'_>
 }
 
 /// Writes what a delivery brought, whose first word may stand behind the bowler's colon.
-pub fn runs_behind_colon(
+fn runs_behind_colon(
     line: &mut Line,
     sheet: &MatchSheet,
     side: Side,
@@ -154,7 +250,7 @@ fn is_kind(token: &str) -> bool
 
 /// Whether the tokens begin what a delivery brought.
 #[tactic(auto, unfolding(crate::specs::Full::begins_delivery))]
-pub fn begins_delivery(token: &str, rest: &Rest<'_>) -> bool
+fn begins_delivery(token: &str, rest: &Rest<'_>) -> bool
     ensures { result ≡ full.begins_delivery token.now rest.now }
 {
     mark(token).is_some()
@@ -164,12 +260,150 @@ pub fn begins_delivery(token: &str, rest: &Rest<'_>) -> bool
 }
 
 /// Whether what a delivery brought is next, or a letter that means two things.
-pub fn has_delivery(rest: &Rest<'_>) -> bool
+fn has_delivery(rest: &Rest<'_>) -> bool
     ensures { result ≡ full.has_delivery rest.now }
 {
     let mut ahead = rest.ahead();
     match ahead.next() {
         Some(token) => begins_delivery(token, &ahead) || two_meanings(token).is_some(),
         None => false,
+    }
+}
+
+/// Writes the number of the bowler of the last delivery.
+fn same_bowler(line: &mut Line, bowler: Option<Player>)
+    ensures { line.new ≡ plus line.old (full.same_bowler bowler) }
+{
+    match bowler {
+        Some(player) => line.number(player.number()),
+        None => line.fail(Unclear::WhoBowls),
+    }
+}
+
+/// Writes a line as it was typed.
+fn as_typed(line: &mut Line, token: &str, rest: &mut Rest<'_>)
+    ensures { line.new ≡ plus_all line.old (lines.as_typed (token.now ∷ rest.old)) }
+{
+    line.word(token);
+    line.rest(rest);
+}
+
+/// Whether a name means someone.
+fn is_someone(found: &Found) -> bool
+    ensures { result ≡ full.is_someone found.now }
+{
+    !matches!(found, Found::NoOne)
+}
+
+/// Writes a delivery, where a bowler's name stands with no colon behind it, or another line.
+fn spoken(line: &mut Line, sheet: &MatchSheet, side: Side, token: &str, rest: &mut Rest<'_>)
+    ensures { line.new ≡ plus_all line.old (full.spoken sheet.now side token.now rest.old
+        (names.named (team_of sheet.now side) Anyone token.now rest.old)) }
+{
+    let mut behind = rest.ahead();
+    let found = named(sheet, side, &Among::Anyone, token, &mut behind);
+    if has_delivery(&behind) && is_someone(&found) {
+        line.word("ball");
+        number_word(line, side, token, found);
+        runs(line, sheet, side, &mut behind);
+    } else {
+        as_typed(line, token, rest);
+    }
+}
+
+/// Writes a delivery, where a bowler's whole name stands before a colon or his name with none, or another line.
+fn by_colon(line: &mut Line, sheet: &MatchSheet, side: Side, token: &str, rest: &mut Rest<'_>)
+    ensures { line.new ≡ plus_all line.old (full.by_colon sheet.now side token.now rest.old
+        (names.colon_name (team_of sheet.now side) (plus (Ok []) (Ok token.now)) rest.old)) }
+{
+    match colon_name(sheet, side, &Line::of(token), rest) {
+        Some((player, more, mut behind)) => {
+            line.word("ball");
+            line.number(player.number());
+            runs_behind_colon(line, sheet, side, more, &mut behind);
+        }
+        None => spoken(line, sheet, side, token, rest),
+    }
+}
+
+/// Whether a token begins no line and is no number, so that it may be a bowler's name.
+fn may_name(token: &str) -> bool
+    ensures { result ≡ full.may_name token.now }
+{
+    !(is_line_word(token) || is_digit_first(token))
+}
+
+/// Writes a delivery, where its bowler's name is next, or another line.
+#[tactic(auto, unfolding(crate::specs::Full::by_bowler))]
+fn by_bowler(line: &mut Line, sheet: &MatchSheet, side: Side, token: &str, rest: &mut Rest<'_>)
+    ensures { line.new ≡ plus_all line.old (full.by_bowler sheet.now side token.now rest.old) }
+{
+    if may_name(token) {
+        by_colon(line, sheet, side, token, rest);
+    } else {
+        as_typed(line, token, rest);
+    }
+}
+
+/// Writes a delivery of the bowler of the last one, or one of which he is named, or another line.
+#[tactic(auto, unfolding(crate::specs::Full::by_same_bowler))]
+fn by_same_bowler(line: &mut Line, sheet: &MatchSheet, at: Point, token: &str, rest: &mut Rest<'_>)
+    ensures { line.new ≡ plus_all line.old (full.by_same_bowler sheet.now at token.now rest.old) }
+{
+    let side = opponent(at.batting);
+    if begins_delivery(token, rest) {
+        line.word("ball");
+        same_bowler(line, at.bowler);
+        runs_from(line, sheet, side, token, rest);
+    } else {
+        by_bowler(line, sheet, side, token, rest);
+    }
+}
+
+/// The same, unless the token is a letter that means two things.
+#[tactic(auto, unfolding(crate::specs::Full::by_letter))]
+fn by_letter(line: &mut Line, sheet: &MatchSheet, at: Point, token: &str, rest: &mut Rest<'_>)
+    ensures { line.new ≡ plus_all line.old (full.by_letter sheet.now at token.now rest.old) }
+{
+    match two_meanings(token) {
+        Some(letter) => line.fail(Unclear::TwoMeanings(letter)),
+        None => by_same_bowler(line, sheet, at, token, rest),
+    }
+}
+
+/// Writes a delivery of the bowler who is named before a colon, with this behind it.
+#[tactic(auto, unfolding(crate::specs::Full::colon_delivery))]
+fn colon_delivery(
+    line: &mut Line,
+    sheet: &MatchSheet,
+    side: Side,
+    name: &str,
+    more: &str,
+    rest: &mut Rest<'_>,
+)
+    ensures { line.new ≡ plus_all line.old (full.colon_delivery sheet.now side name.now more.now rest.old) }
+{
+    line.word("ball");
+    player(
+        line,
+        sheet,
+        side,
+        &Among::Anyone,
+        name,
+        &mut Rest::nothing(),
+    );
+    runs_behind_colon(line, sheet, side, more, rest);
+}
+
+/// Writes a delivery that isn't begun by `ball`, or another line.
+#[tactic(auto, unfolding(crate::specs::Full::unnamed))]
+pub fn unnamed(line: &mut Line, sheet: &MatchSheet, at: Point, token: &str, rest: &mut Rest<'_>)
+    ensures { line.new ≡ plus_all line.old (full.unnamed sheet.now at token.now rest.old) }
+{
+    match named_bowler(token) {
+        Some((name, more)) => {
+            colon_delivery(line, sheet, opponent(at.batting), name, more, rest);
+        }
+        None => by_letter(line, sheet, at, token, rest),
     }
 }

@@ -1,33 +1,24 @@
 //! Lines in full.
 
-ghost use Rattle.std.specs.Prelude.{◌≡◌, [], ◌∷◌, false, Ok, Err, IfOk, OnErr, MatchResult};
-ghost use Rattle.cards.specs.Sheet.{team_of};
+ghost use Rattle.std.specs.Prelude.{◌≡◌, false, Ok, Err, IfOk, OnErr, MatchResult};
 ghost use Rattle.notation.specs.Written.{IsEntry, found_number, is_spaced, text_of};
 ghost use Rattle.over_numbers.specs.Balls as balls;
-ghost use Rattle.shorthand.specs.Lines as lines;
-ghost use Rattle.shorthand.specs.Lines.{plus, plus_all, reason_of};
+ghost use Rattle.shorthand.specs.Lines.{plus_all, reason_of};
 ghost use Rattle.shorthand.specs.declared.names.Among.TheVariants.{Anyone};
 ghost use Rattle.shorthand.specs.Full as full;
-ghost use Rattle.shorthand.specs.Names as names;
 ghost use Rattle.shorthand.specs.Words as words;
 
-use crate::delivery::{
-    begins_delivery, has_delivery, runs, runs_behind_colon, runs_from, two_meanings,
-};
+use crate::delivery::{runs, unnamed};
 use crate::line::Line;
-use crate::names::{
-    Among, Found, colon_name, is_digit_first, named, named_bowler, no_such_ball, number_word,
-    player,
-};
+use crate::names::{Among, no_such_ball, player};
 use crate::point::{Belongs, Point, batters_at, point_at};
 use crate::rest::Rest;
 use crate::unclear::Unclear;
 use crate::undo::last_standing;
-use crate::unknown::is_line_word;
 use cards::MatchSheet;
 use corrections::BookOf;
 use match_laws::opponent;
-use notation::{Entry, LineFault, Player, Side, number_in, read_line};
+use notation::{Entry, LineFault, Side, number_in, read_line};
 use over_numbers::{Named, named_ball, place_of};
 use std::str;
 
@@ -77,144 +68,6 @@ fn left_so(line: &mut Line, sheet: &MatchSheet, side: Side, among: &Among, rest:
     if let Some(token) = rest.next() {
         line.word(token);
         leaver(line, sheet, side, among, token, rest);
-    }
-}
-
-/// Writes the number of the bowler of the last delivery.
-fn same_bowler(line: &mut Line, bowler: Option<Player>)
-    ensures { line.new ≡ plus line.old (full.same_bowler bowler) }
-{
-    match bowler {
-        Some(player) => line.number(player.number()),
-        None => line.fail(Unclear::WhoBowls),
-    }
-}
-
-/// Writes a line as it was typed.
-fn as_typed(line: &mut Line, token: &str, rest: &mut Rest<'_>)
-    ensures { line.new ≡ plus_all line.old (lines.as_typed (token.now ∷ rest.old)) }
-{
-    line.word(token);
-    line.rest(rest);
-}
-
-/// Whether a name means someone.
-fn is_someone(found: &Found) -> bool
-    ensures { result ≡ full.is_someone found.now }
-{
-    !matches!(found, Found::NoOne)
-}
-
-/// Writes a delivery, where a bowler's name stands with no colon behind it, or another line.
-fn spoken(line: &mut Line, sheet: &MatchSheet, side: Side, token: &str, rest: &mut Rest<'_>)
-    ensures { line.new ≡ plus_all line.old (full.spoken sheet.now side token.now rest.old
-        (names.named (team_of sheet.now side) Anyone token.now rest.old)) }
-{
-    let mut behind = rest.ahead();
-    let found = named(sheet, side, &Among::Anyone, token, &mut behind);
-    if has_delivery(&behind) && is_someone(&found) {
-        line.word("ball");
-        number_word(line, side, token, found);
-        runs(line, sheet, side, &mut behind);
-    } else {
-        as_typed(line, token, rest);
-    }
-}
-
-/// Writes a delivery, where a bowler's whole name stands before a colon or his name with none, or another line.
-fn by_colon(line: &mut Line, sheet: &MatchSheet, side: Side, token: &str, rest: &mut Rest<'_>)
-    ensures { line.new ≡ plus_all line.old (full.by_colon sheet.now side token.now rest.old
-        (names.colon_name (team_of sheet.now side) (plus (Ok []) (Ok token.now)) rest.old)) }
-{
-    match colon_name(sheet, side, &Line::of(token), rest) {
-        Some((player, more, mut behind)) => {
-            line.word("ball");
-            line.number(player.number());
-            runs_behind_colon(line, sheet, side, more, &mut behind);
-        }
-        None => spoken(line, sheet, side, token, rest),
-    }
-}
-
-/// Whether a token begins no line and is no number, so that it may be a bowler's name.
-fn may_name(token: &str) -> bool
-    ensures { result ≡ full.may_name token.now }
-{
-    !(is_line_word(token) || is_digit_first(token))
-}
-
-/// Writes a delivery, where its bowler's name is next, or another line.
-#[tactic(auto, unfolding(crate::specs::Full::by_bowler))]
-fn by_bowler(line: &mut Line, sheet: &MatchSheet, side: Side, token: &str, rest: &mut Rest<'_>)
-    ensures { line.new ≡ plus_all line.old (full.by_bowler sheet.now side token.now rest.old) }
-{
-    if may_name(token) {
-        by_colon(line, sheet, side, token, rest);
-    } else {
-        as_typed(line, token, rest);
-    }
-}
-
-/// Writes a delivery of the bowler of the last one, or one of which he is named, or another line.
-#[tactic(auto, unfolding(crate::specs::Full::by_same_bowler))]
-fn by_same_bowler(line: &mut Line, sheet: &MatchSheet, at: Point, token: &str, rest: &mut Rest<'_>)
-    ensures { line.new ≡ plus_all line.old (full.by_same_bowler sheet.now at token.now rest.old) }
-{
-    let side = opponent(at.batting);
-    if begins_delivery(token, rest) {
-        line.word("ball");
-        same_bowler(line, at.bowler);
-        runs_from(line, sheet, side, token, rest);
-    } else {
-        by_bowler(line, sheet, side, token, rest);
-    }
-}
-
-/// Writes a delivery of the bowler who is named before a colon, with this behind it.
-#[tactic(auto, unfolding(crate::specs::Full::colon_delivery))]
-fn colon_delivery(
-    line: &mut Line,
-    sheet: &MatchSheet,
-    side: Side,
-    name: &str,
-    more: &str,
-    rest: &mut Rest<'_>,
-)
-    ensures { line.new ≡ plus_all line.old (full.colon_delivery sheet.now side name.now more.now rest.old) }
-{
-    line.word("ball");
-    player(
-        line,
-        sheet,
-        side,
-        &Among::Anyone,
-        name,
-        &mut Rest::nothing(),
-    );
-    runs_behind_colon(line, sheet, side, more, rest);
-}
-
-/// The same, unless the token is a letter that means two things.
-#[tactic(auto, unfolding(crate::specs::Full::by_letter))]
-fn by_letter(line: &mut Line, sheet: &MatchSheet, at: Point, token: &str, rest: &mut Rest<'_>)
-    ensures { line.new ≡ plus_all line.old (full.by_letter sheet.now at token.now rest.old) }
-{
-    match two_meanings(token) {
-        Some(letter) => line.fail(Unclear::TwoMeanings(letter)),
-        None => by_same_bowler(line, sheet, at, token, rest),
-    }
-}
-
-/// Writes a delivery that isn't begun by `ball`, or another line.
-#[tactic(auto, unfolding(crate::specs::Full::unnamed))]
-fn unnamed(line: &mut Line, sheet: &MatchSheet, at: Point, token: &str, rest: &mut Rest<'_>)
-    ensures { line.new ≡ plus_all line.old (full.unnamed sheet.now at token.now rest.old) }
-{
-    match named_bowler(token) {
-        Some((name, more)) => {
-            colon_delivery(line, sheet, opponent(at.batting), name, more, rest);
-        }
-        None => by_letter(line, sheet, at, token, rest),
     }
 }
 

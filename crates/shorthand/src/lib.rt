@@ -5,7 +5,6 @@ mod delivery;
 mod full;
 mod laws;
 mod line;
-mod marks;
 mod names;
 mod outs;
 mod point;
