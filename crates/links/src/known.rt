@@ -2,11 +2,9 @@
 
 ghost use Rattle.std.specs.Prelude.{◌≡◌, ◌⊎◌, ◌≤◌, ◌+◌, ℕ, List, IsSome, None, Some, [], take, true};
 ghost use Rattle.std.specs.BTreeMap.{values};
-ghost use Rattle.agree_core.specs.declared.messages.Ask.{Ask as AnAsk};
 ghost use Rattle.agree_core.specs.declared.messages.Vote.{Vote as AVote};
 ghost use Rattle.waits.specs.declared.times.TheConstants.{LONGEST_ASK_PAUSE};
-ghost use Rattle.wire.specs.Layout.{Says};
-ghost use Rattle.links.specs.Windows.{AreOf, AreOfOr, Has, GivesVote, HasAnswers, HasMore, IsAsk, IsSaid, IsVote};
+ghost use Rattle.links.specs.Windows.{AreOf, AreOfOr, Has, GivesVote, HasAnswers, HasMore, IsSaid};
 ghost use Rattle.links.specs.declared.link.Taken.{Taken};
 
 use crate::asking::Asking;
@@ -149,7 +147,7 @@ impl Known {
     }
 
     /// Notes an ask of the station's, and answers whether it is handed down.
-    fn note_ask(&mut self, game: u64, ask: &Ask, bytes: &[u8; 48], now: u64) -> bool
+    pub fn note_ask(&mut self, game: u64, ask: &Ask, bytes: &[u8; 48], now: u64) -> bool
         ensures votes { AreOf (values self.new.early.votes) (values self.old.early.votes) }
         ensures asked { (self.new.asking.bytes ≡ self.old.asking.bytes) ⊎ (self.new.asking.bytes ≡ Some bytes.now) }
         ensures said { self.old.asking.last + LONGEST_ASK_PAUSE ≤ now
@@ -172,28 +170,6 @@ impl Known {
             self.catch_up.ask(at.place);
         }
         is_said
-    }
-
-    /// Notes what the station says, in the match of this number, and answers whether it is handed down.
-    pub fn note(&mut self, game: u64, bytes: &[u8; 48], now: u64) -> bool
-        ensures handed { IsVote game bytes.now → result ≡ true }
-        ensures votes { AreOf (values self.new.early.votes) (values self.old.early.votes) }
-        ensures asked { (self.new.asking.bytes ≡ self.old.asking.bytes)
-            ⊎ ((self.new.asking.bytes ≡ Some bytes.now) × IsAsk game bytes.now) }
-        ensures said { (q : AnAsk) → Says game bytes.now (Message.Ask q)
-            → self.old.asking.last + LONGEST_ASK_PAUSE ≤ now
-            → (result ≡ true) ⊎ HasAnswers game (values self.new.early.votes) q }
-        ensures last { (self.new.asking.last ≡ self.old.asking.last)
-            ⊎ ((self.new.asking.last ≡ now) × IsAsk game bytes.now × (result ≡ true)) }
-    {
-        match message_of(game, bytes.as_slice()) {
-            Ok(Message::Vote(vote)) => {
-                self.early.reach(vote.position());
-                true
-            }
-            Ok(Message::Ask(ask)) => self.note_ask(game, &ask, bytes, now),
-            Err(_) => true,
-        }
     }
 
     /// Notes a vote that came from this peer, and answers whether it is for now: not one that is kept for later. A repeat, and

@@ -1,6 +1,7 @@
 //! What carries datagrams between stations.
 
 ghost use Rattle.std.specs.Prelude.{◌≡◌, ◌∷◌, ◌++◌, List, []};
+ghost use Rattle.wire.specs.Layout.{Says};
 ghost use Rattle.links.specs.Passed.{Passed, Sent, IsRead, IsTaken, IsTakenUpTo, taken_of};
 ghost use Rattle.links.specs.declared.link.Receivers.TheVariants.{ToAll, ToOne};
 
@@ -67,6 +68,14 @@ pub trait Link {
     /// Sends bytes to every peer. What can't be sent is lost.
     fn send(&mut self, bytes: &[u8; 48])
         ensures { log self.new ≡ log self.old ++ Sent ToAll bytes.now ∷ [] };
+
+    /// Sends a message likewise: its bytes, in the match of this number.
+    fn send_message(&mut self, game: u64, message: &Message, bytes: &[u8; 48])
+        requires { Says game bytes.now message.now }
+        ensures { log self.new ≡ log self.old ++ Sent ToAll bytes.now ∷ [] }
+    {
+        self.send(bytes);
+    }
 
     /// Sends bytes to the peer whose datagram was taken last, if to no other. What can't be sent is lost.
     fn reply(&mut self, bytes: &[u8; 48])

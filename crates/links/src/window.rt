@@ -90,10 +90,12 @@ impl<L: PeerLink, C: Clock> Model for Window<L, C> {
 }
 
 impl<L: PeerLink, C: Clock> Window<L, C> {
-    ghost use Rattle.std.specs.Prelude.{◌≡◌, ◌≤◌, ◌⊎◌, ℕ, List, [], IfSome, take, true};
+    ghost use Rattle.std.specs.Prelude.{◌≡◌, ◌≤◌, ◌⊎◌, ◌∷◌, ◌++◌, ℕ, List, [], IfSome, take, true};
     ghost use Rattle.agree_core.specs.declared.messages.Ask.{Ask as AnAsk};
     ghost use Rattle.wire.specs.Layout.{Says};
-    ghost use Rattle.links.specs.Windows.{BringsVote, HandsDown, HasAnswers, HasAsked, HasSince, IsAsk, IsBrought, IsGrown, IsHanded, IsKept, IsQuietAt};
+    ghost use Rattle.wire.specs.Reading.{Reads};
+    ghost use Rattle.links.specs.Passed.{Sent};
+    ghost use Rattle.links.specs.Windows.{AsksInTime, BringsVote, HandsDown, HasAnswers, HasAsked, HasSince, IsAsk, IsBrought, IsGrown, IsHanded, IsKept, IsQuietAt};
     ghost use Rattle.links.specs.Windows.{IsQuietOrAsks, IsQuietUntilNews, IsSaid, IsStill, IsVote};
     ghost use Rattle.links.specs.declared.link.Receivers.TheVariants.{ToAll, ToOne};
 
@@ -117,8 +119,9 @@ impl<L: PeerLink, C: Clock> Window<L, C> {
         }
     }
 
-    /// Notes what the station says, and answers whether it is handed down.
-    fn note(&mut self, bytes: &[u8; 48], now: u64) -> bool
+    /// Notes what the station says, as it is read, and answers whether it is handed down.
+    fn note(&mut self, read: Result<Message, WireFault>, bytes: &[u8; 48], now: u64) -> bool
+        requires { Reads self.old.game bytes.now read }
         ensures kept { IsKept self.old self.new }
         ensures below { self.new.below ≡ self.old.below }
         ensures readings { self.new.readings ≡ self.old.readings }
@@ -128,7 +131,14 @@ impl<L: PeerLink, C: Clock> Window<L, C> {
         ensures quiet { (self.new.quiet_since ≡ self.old.quiet_since)
             ⊎ ((self.new.quiet_since ≡ now) × IsAsk self.old.game bytes.now × (result ≡ true)) }
     {
-        self.known.note(self.game, bytes, now)
+        match read {
+            Ok(Message::Vote(vote)) => {
+                self.known.early.reach(vote.position());
+                true
+            }
+            Ok(Message::Ask(ask)) => self.known.note_ask(self.game, &ask, bytes, now),
+            Err(_) => true,
+        }
     }
 
     /// Hands a message to all.
@@ -139,6 +149,20 @@ impl<L: PeerLink, C: Clock> Window<L, C> {
     {
         self.link.send(bytes);
         self.silence.end(now);
+    }
+
+    /// Takes what the station says to all, as it is read. A vote is handed down at once, and an ask in time.
+    fn send_read(&mut self, read: Result<Message, WireFault>, bytes: &[u8; 48])
+        requires { Reads self.old.game bytes.now read }
+        ensures log { self.new.above ≡ self.old.above ++ Sent ToAll bytes.now ∷ [] }
+        ensures handed { IsVote self.old.game bytes.now → HandsDown ToAll bytes.now self.old self.new }
+        ensures asked { AsksInTime bytes.now self.old self.new }
+    {
+        self.log = self.log.sent(Receivers::ToAll, bytes);
+        let now = self.clock.millis();
+        if self.note(read, bytes, now) {
+            self.say(bytes, now);
+        }
     }
 
     /// Asks for the votes of the station's position, where it has said nothing for two seconds: so others hear that it is
@@ -409,23 +433,31 @@ impl<L: PeerLink, C: Clock> Window<L, C> {
 
 impl<L: PeerLink, C: Clock> Link for Window<L, C> {
     ghost use Rattle.std.specs.Prelude.{◌≡◌, ◌∷◌, ◌++◌, []};
+    ghost use Rattle.wire.specs.Layout.{Says};
     ghost use Rattle.links.specs.Passed.{IsRead, IsTaken, Sent, taken_of};
     ghost use Rattle.links.specs.Windows.{AsksInTime, HandsDown, IsQuietUntilNews, IsVote};
     ghost use Rattle.links.specs.declared.link.Receivers.TheVariants.{ToAll, ToOne};
 
     ghost log = { λ window. window.above };
 
-    // a vote is handed down at once, to all, and an ask in time
     fn send(&mut self, bytes: &[u8; 48])
         ensures log { self.new.above ≡ self.old.above ++ Sent ToAll bytes.now ∷ [] }
         ensures handed { IsVote self.old.game bytes.now → HandsDown ToAll bytes.now self.old self.new }
         ensures asked { AsksInTime bytes.now self.old self.new }
     {
-        self.log = self.log.sent(Receivers::ToAll, bytes);
-        let now = self.clock.millis();
-        if self.note(bytes, now) {
-            self.say(bytes, now);
-        }
+        let read = message_of(self.game, bytes.as_slice());
+        self.send_read(read, bytes);
+    }
+
+    // what its bytes say isn't read
+    fn send_message(&mut self, game: u64, message: &Message, bytes: &[u8; 48])
+        requires { Says game bytes.now message.now }
+        ensures log { self.new.above ≡ self.old.above ++ Sent ToAll bytes.now ∷ [] }
+        ensures handed { IsVote self.old.game bytes.now → HandsDown ToAll bytes.now self.old self.new }
+        ensures asked { AsksInTime bytes.now self.old self.new }
+    {
+        let read = read_in(self.game, bytes.as_slice(), Some(*message), game);
+        self.send_read(read, bytes);
     }
 
     // an answer is handed down at once, to one

@@ -21,7 +21,7 @@ pub returns-in-Ok-pen : goal.returns-in-Ok-pen
 returns-in-Ok-pen g c =
     let answer = c.in-Ok-pen.ensures in
     penned c.args.sheet.now c.args.desk.now c.pen.new.self c.args.line.now c.in-Ok.entry c.in-Ok-pen.penned _ _ answer.owner
-    (says g (goal.at.returns-in-Ok-pen g c).In-Ok) answer.step answer.blame c.send.ensures
+    (says g (goal.at.returns-in-Ok-pen g c).In-Ok) answer.step answer.blame c.send_message.ensures
 
 pub returns-in-Err-pen : goal.returns-in-Err-pen
 returns-in-Err-pen g c =

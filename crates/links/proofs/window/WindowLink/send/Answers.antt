@@ -1,38 +1,8 @@
-use Rattle.std.proofs.Common.{◌≡◌, ◌⊎◌, ◌∷◌, ◌++◌, [], true, ◌∙◌, subst, inl, inr, ⊎_elim}
-use Rattle.agree_core.specs.declared.messages.{Ask.Ask, Message.Message}
-use Rattle.wire.specs.Layout.{Says}
-use Rattle.links.specs.Windows.{HandsDown, HasAnswers, IsAsk, IsQuietAt, IsQuietOrAsks, Windowed}
-use Rattle.links.specs.declared.link.Receivers.TheVariants.{ToAll}
-use Rattle.links.proofs.WindowLemmas.{is_handed, kept_handed, now_sent}
+use Rattle.std.proofs.Common.{subst}
+use Rattle.wire.specs.Reading.{Reads}
+use Rattle.links.specs.Windows.{Windowed}
 use Rattle.links.proofs.window.WindowLink.send.Goals as goal
 
-pub invariant_of-self : goal.invariant_of-self
-invariant_of-self g c = is_handed _ _ c.sent.ensures c.self.invariant
-
-pub say-requires : goal.say-requires
-say-requires g c = kept_handed _ _ c.note.ensures.kept.1 (now_sent _ _ _ c.sent.ensures)
-
-pub returns-then-note-clause-asked : goal.returns-then-note-clause-asked
-returns-then-note-clause-asked g c =
-    let read : c.say.new.self.readings ≡ c.args.self.now.readings ++ c.millis-now.result ∷ [] = cc in
-    let down : HandsDown ToAll c.args.bytes.now c.args.self.now c.say.new.self = cc in
-    let quiet : IsQuietOrAsks c.millis-now.result c.args.self.now c.say.new.self =
-    ⊎_elim (λ e. inl (cc))
-    (λ q. inr (c.say.ensures.still.3 ∙ q.0, (_, subst (λ (w : Windowed). IsAsk w.game c.args.bytes.now) c.self.view_is q.1, down)))
-    c.note.ensures.quiet in
-    record { now = c.millis-now.result; read = read; asked = λ q s h. inl down; quiet = quiet }
-
-pub returns-else-note-clause-asked : goal.returns-else-note-clause-asked
-returns-else-note-clause-asked g c =
-    let read : c.note.new.self.readings ≡ c.args.self.now.readings ++ c.millis-now.result ∷ [] = cc in
-    let asked = subst (λ (w : Windowed). (q : Ask) → Says w.game c.args.bytes.now (Message.Ask q) → IsQuietAt c.millis-now.result w
-    → (c.note.result ≡ true) ⊎ HasAnswers w.game c.note.new.self.kept q) c.self.view_is c.note.ensures.asked in
-    let quiet : IsQuietOrAsks c.millis-now.result c.args.self.now c.note.new.self =
-    ⊎_elim (λ e. inl (cc)) (λ q. let e = q.2 in absurd (cc)) c.note.ensures.quiet in
-    record {
-      now = c.millis-now.result;
-      read = read;
-      asked = λ q s h. ⊎_elim {C = HandsDown ToAll c.args.bytes.now c.args.self.now c.note.new.self ⊎ HasAnswers c.args.self.now.game c.note.new.self.kept q}
-          (λ e. absurd (cc)) (λ a. inr a) (asked q s h);
-      quiet = quiet;
-    }
+pub send_read-requires : goal.send_read-requires
+send_read-requires g c =
+    subst (λ (w : Windowed). Reads w.game c.args.bytes.now c.message_of-read.result) c.self.view_is (subst (λ b. Reads c.self.inside.game b c.message_of-read.result) c.as_slice.ensures c.message_of-read.ensures.reads)
