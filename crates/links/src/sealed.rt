@@ -1,10 +1,11 @@
 //! A link whose datagrams are sealed.
 
-ghost use Rattle.std.specs.Prelude.{◌≡◌, take};
+ghost use Rattle.std.specs.Prelude.{◌≡◌};
 ghost use Rattle.links.specs.Opening.{GivenWasBrought};
 
 use crate::link::{Link, PeerLink, SEALED_ROOM, SealedCarrier, Taken};
 use seal::Seal;
+use wire::SIZE;
 
 /// A link that seals what is sent, and opens what comes, with a match's seal. What doesn't open is told as such, and
 /// nothing of it is handed on: so what is taken was opened, whatever the carrier brings.
@@ -12,13 +13,6 @@ use seal::Seal;
 pub struct Sealed<R> {
     carrier: R,
     seal: Seal,
-}
-
-/// Puts a message into the front of a buffer.
-fn put(message: &[u8; 48], buffer: &mut [u8; 64])
-    ensures { take 48 buffer.new ≡ message.now }
-{
-    buffer[..48].copy_from_slice(message.as_slice());
 }
 
 impl<R: SealedCarrier> Sealed<R> {
@@ -50,12 +44,10 @@ impl<R: SealedCarrier> Link for Sealed<R> {
             Taken::Datagram(count) => count,
             missed => return missed,
         };
-        match self.seal.opened(&sealed[..count]) {
-            Some(message) => {
-                put(&message, buffer);
-                Taken::Datagram(message.len())
-            }
-            None => Taken::Unopened,
+        if self.seal.opened(&sealed[..count], buffer) {
+            Taken::Datagram(SIZE)
+        } else {
+            Taken::Unopened
         }
     }
 }

@@ -5,7 +5,7 @@ ghost use Rattle.std.specs.Prelude.{◌≡◌, ◌≤◌, ℕ, [], IfOk};
 use crate::address::MOST_PEERS;
 use crate::port::{Port, is_late, missed};
 use crate::waiting::WaitEnds;
-use links::{CarriedLog, Receivers, SealedCarrier, Taken};
+use links::{CarriedLog, ROOM, Receivers, SealedCarrier, Taken};
 use seal::Seal;
 use std::io::{self, ErrorKind, Write};
 use std::net::{Net, SocketAddr};
@@ -90,7 +90,7 @@ impl<E: Write + Drop> Mail<E> {
 
     /// Tells once that a datagram of the match, which opens, came from an address that isn't a peer's.
     fn pass_over(&mut self, bytes: &[u8], from: SocketAddr) {
-        if !self.is_stranger_told && self.seal.opened(bytes).is_some() {
+        if !self.is_stranger_told && self.seal.opened(bytes, &mut [0; ROOM]) {
             let _ = writeln!(self.errors, "not a peer: {from}");
             self.is_stranger_told = true;
         }
