@@ -7,7 +7,6 @@ mod keyboard;
 mod monotonic_clock;
 mod outlet;
 mod peers;
-mod port;
 mod row_log;
 mod screen;
 mod sockets;

@@ -2,7 +2,7 @@
 
 ghost use Rattle.std.specs.Prelude.{◌≤◌, length, IfOk, IfSome};
 
-use crate::port::{Port, is_late, missed};
+use crate::peers::{Port, is_late, missed};
 use agree_core::Asker;
 use links::{Link, Log, Receivers, SharedLink, Taken};
 use std::io;
