@@ -1,11 +1,10 @@
-//! The machine: sockets, a scorer's keyboard and screen, a clock. Nothing is known of what the machine does with what it is
+//! The machine: sockets, a scorer's keyboard and screen, the standard streams, a clock. Nothing is known of what the machine does with what it is
 //! given; it stands behind traits.
 #![tactic(auto)]
 
 mod address;
 mod keyboard;
 mod monotonic_clock;
-mod outlet;
 mod peers;
 mod row_log;
 mod screen;
@@ -15,8 +14,7 @@ mod waiting;
 pub use address::{Address, MOST_PEERS, addresses_in};
 pub use keyboard::Keyboard;
 pub use monotonic_clock::MonotonicClock;
-pub use outlet::{Outlet, Pieces};
 pub use peers::Peers;
-pub use screen::Screen;
+pub use screen::{Outlet, Pieces, Screen, StandardStream};
 pub use sockets::Sockets;
 pub use waiting::WaitEnds;

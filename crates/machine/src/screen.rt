@@ -1,13 +1,20 @@
-//! A screen that keeps nobody waiting.
+//! A screen that keeps nobody waiting, and the standard streams.
 
-ghost use Rattle.std.specs.Prelude.{◌≡◌, ◌++◌, ◌-◌, ◌≤◌, if◌then◌else◌, IfOk, Some, [], true, drop, length, take, vec_len};
+ghost use Rattle.std.specs.Prelude.{◌≡◌, ◌++◌, ◌+◌, ◌-◌, ◌≤◌, ℕ, List, MatchResult, OnOk, if◌then◌else◌, IfOk, Some, [], true, drop, length, take, vec_len};
 ghost use Rattle.machine.specs.Rows.{are_whole, ends_row, lacks_last, shown_in};
 
-use crate::outlet::Outlet;
-use crate::row_log::RowLog;
+use crate::row_log::{RowLog, TakenLog};
+use crate::waiting::can_write;
+use machine_files::may_have;
 use std::alloc::{AllocError, Global};
-use std::io::{self, Write};
+use std::fs;
+use std::io::{self, ErrorKind, Write};
+use std::os::fd::{AsRawFd, RawFd};
+use std::rt::{Stderr, Stdout};
 use waits::SCREEN_PIECE_WAIT;
+
+/// The most bytes of one write: a terminal or a pipe that says that it can be written has room for as many.
+const PIECE: usize = 128;
 
 /// The most bytes that wait, and the most of rows whose writing has begun.
 const ROOM: usize = 32_768;
@@ -20,6 +27,142 @@ const PATIENCE: u8 = 50;
 
 /// The most pieces that are handed on at once.
 const MOST_PIECES: u32 = 400;
+
+/// Standard output or standard error. It isn't opened anew, and none of its flags is changed: so it stays as it is for
+/// other programs. Where it is a file, a write past the limit on this user's files isn't made, but fails.
+#[derive(Drop)]
+pub struct StandardStream<'a, S> {
+    rt: &'a HostRuntime,
+    stream: S,
+    /// What names it among this process's open files.
+    path: &'static str,
+}
+
+impl<'a> StandardStream<'a, Stdout> {
+    /// Standard output.
+    pub fn output(rt: &'a HostRuntime) -> StandardStream<'a, Stdout> {
+        StandardStream {
+            rt,
+            stream: rt.stdout(),
+            path: "/proc/self/fd/1",
+        }
+    }
+}
+
+impl<'a> StandardStream<'a, Stderr> {
+    /// Standard error.
+    pub fn errors(rt: &'a HostRuntime) -> StandardStream<'a, Stderr> {
+        StandardStream {
+            rt,
+            stream: rt.stderr(),
+            path: "/proc/self/fd/2",
+        }
+    }
+}
+
+impl<S> StandardStream<'_, S> {
+    /// Whether there is room for so many more bytes, where it is a file.
+    fn has_room(&self, count: usize) -> bool {
+        if may_have(u64::MAX) {
+            return true;
+        }
+        match fs::metadata(self.rt, self.path) {
+            Ok(found) if found.is_file() => may_have(found.len().saturating_add(count as u64)),
+            _ => true,
+        }
+    }
+}
+
+impl<S: AsRawFd> AsRawFd for StandardStream<'_, S> {
+    fn as_raw_fd(&self) -> RawFd {
+        self.stream.as_raw_fd()
+    }
+}
+
+impl<S: Write> Write for StandardStream<'_, S> {
+    fn write(&mut self, bytes: &[u8]) -> io::Result<usize> {
+        if !self.has_room(bytes.len()) {
+            return Err(io::Error::from(ErrorKind::FileTooLarge));
+        }
+        self.stream.write(bytes)
+    }
+
+    fn flush(&mut self) -> io::Result<()> {
+        self.stream.flush()
+    }
+}
+
+/// A stream that takes bytes, or takes none for the present.
+pub trait Outlet {
+    /// What it has taken, the oldest first.
+    ghost taken: { Self → List ℕ };
+
+    /// Hands it a piece of these bytes, from one on, and tells how many it took: none where it takes none within so many
+    /// milliseconds.
+    fn hand(&mut self, bytes: &Vec<u8>, from: usize, wait: u64) -> io::Result<usize>
+        requires { from ≤ vec_len bytes.now }
+        ensures bound { IfOk result (λ count. from + count ≤ vec_len bytes.now) }
+        ensures took { MatchResult result
+            (λ count. taken self.new ≡ taken self.old ++ take count (drop from bytes.now.items))
+            (λ _. taken self.new ≡ taken self.old) };
+
+    /// Hands it all of these bytes from one on, however long it takes.
+    fn hand_all(&mut self, bytes: &Vec<u8>, from: usize) -> io::Result<()>
+        requires { from ≤ vec_len bytes.now }
+        ensures { OnOk result (taken self.new ≡ taken self.old ++ drop from bytes.now.items) };
+}
+
+/// Whether a write failed only for the present.
+fn is_passing(error: &io::Error) -> bool {
+    matches!(error.kind(), ErrorKind::WouldBlock | ErrorKind::Interrupted)
+}
+
+/// A stream that is handed a piece at a time, where it takes one.
+#[derive(Drop)]
+pub struct Pieces<S> {
+    stream: S,
+    taken: TakenLog,
+}
+
+impl<S> Pieces<S> {
+    ghost use Rattle.machine.specs.Outlets.{taken_by};
+
+    /// This stream, which has taken nothing yet.
+    pub fn of(stream: S) -> Pieces<S>
+        ensures { taken_by result ≡ [] }
+    {
+        Pieces {
+            stream,
+            taken: TakenLog::Empty,
+        }
+    }
+}
+
+impl<S: Write + AsRawFd> Outlet for Pieces<S> {
+    ghost use Rattle.machine.specs.Outlets.{taken_by};
+
+    ghost taken = { taken_by };
+
+    fn hand(&mut self, bytes: &Vec<u8>, from: usize, wait: u64) -> io::Result<usize> {
+        if !can_write(self.stream.as_raw_fd(), wait) {
+            return Ok(0);
+        }
+        let end = bytes.len().min(from.saturating_add(PIECE));
+        let count = match self.stream.write(&bytes[from..end]) {
+            Ok(count) => count,
+            Err(why) if is_passing(&why) => 0,
+            Err(why) => return Err(why),
+        };
+        self.taken = self.taken.more(bytes, from, count);
+        Ok(count)
+    }
+
+    fn hand_all(&mut self, bytes: &Vec<u8>, from: usize) -> io::Result<()> {
+        self.stream.write_all(&bytes[from..])?;
+        self.taken = self.taken.more(bytes, from, bytes.len() - from);
+        Ok(())
+    }
+}
 
 /// The length of the whole rows at the front of these bytes.
 fn rows_len(bytes: &[u8]) -> usize

@@ -1,5 +1,5 @@
-//! The machine's files: disks on real files, alone and as two that are kept alike, texts that others read, and the standard
-//! streams. Nothing is known of what the machine does with what it is given; it stands behind traits.
+//! The machine's files: disks on real files, alone and as two that are kept alike, and texts that others read. Nothing is known
+//! of what the machine does with what it is given; it stands behind traits.
 #![tactic(auto)]
 
 mod call_log;
@@ -10,7 +10,6 @@ mod host_file;
 mod named_file;
 mod pair;
 mod renewal;
-mod standard_stream;
 mod text_file;
 mod whole_text;
 mod write_fault;
@@ -21,7 +20,6 @@ pub use host_file::{Host, NoFile};
 pub use named_file::{LastFault, NamedFile};
 pub use pair::Pair;
 pub use renewal::{bytes_of, renewed};
-pub use standard_stream::StandardStream;
 pub use text_file::{TextFile, is_same_file};
 pub use whole_text::{Replaces, TwoNames, WholeText};
 pub use write_fault::{Cause, Name, WriteFault, cause_of};

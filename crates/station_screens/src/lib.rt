@@ -1,8 +1,7 @@
 //! What a station tells: standard output and standard error, which may not be read for long.
 #![tactic(auto)]
 
-use machine::{Outlet, Pieces, Screen};
-use machine_files::StandardStream;
+use machine::{Outlet, Pieces, Screen, StandardStream};
 use setup::{StopFault, Stopped};
 use std::cell::RefCell;
 use std::io::{self, ErrorKind, Write};

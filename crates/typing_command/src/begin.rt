@@ -1,7 +1,7 @@
 //! `ground typing`: a desk's terminal.
 
 use crate::keys_and_rows::KeysAndRows;
-use machine_files::StandardStream;
+use machine::StandardStream;
 use setup::{StopFault, Stopped};
 use std::fs::{File, OpenOptions};
 use std::io::Write;
