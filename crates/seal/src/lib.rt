@@ -1,10 +1,8 @@
 //! Datagrams that only those make who have the match's key and its sheet.
 #![tactic(auto)]
 
-mod authentic;
 mod datagram;
 mod laws;
 
-pub use authentic::hmac;
-pub use datagram::{SEALED, Seal};
+pub use datagram::{SEALED, Seal, hmac};
 pub use laws::{sealed_share_no_bytes, what_opens_was_sent, worked_tags};
