@@ -1,32 +1,19 @@
-//! What a window knows by what came and what its station said.
+//! What a window knows by what it heard and what its station said.
 
-ghost use Rattle.std.specs.Prelude.{◌≡◌, ◌⊎◌, ◌≤◌, ◌+◌, ℕ, List, IsSome, None, Some, [], take, true};
+ghost use Rattle.std.specs.Prelude.{◌≡◌, ◌⊎◌, ◌≤◌, ◌+◌, IsSome, None, Some, [], true};
 ghost use Rattle.std.specs.BTreeMap.{values};
-ghost use Rattle.agree_core.specs.declared.messages.Vote.{Vote as AVote};
 ghost use Rattle.waits.specs.declared.times.TheConstants.{LONGEST_ASK_PAUSE};
-ghost use Rattle.links.specs.Windows.{AreOf, AreOfOr, Has, GivesVote, HasAnswers, HasMore, IsSaid};
-ghost use Rattle.links.specs.declared.link.Taken.{Taken};
+ghost use Rattle.links.specs.Windows.{AreOf, HasAnswers};
 
 use crate::asking::Asking;
 use crate::catch_up::{CatchUp, PLACES_AHEAD};
-use crate::early::{EarlyVotes, hears};
-use crate::link::Taken;
-use agree_core::{Ask, Asker, DeskId, Message, Position, Vote};
+use crate::early::EarlyVotes;
+use agree_core::{Ask, Asker, DeskId, Position};
 use std::alloc::Global;
-use wire::{SIZE, message_of};
-
-/// The front of a buffer.
-fn front(buffer: &[u8; 64]) -> [u8; 48]
-    ensures { result ≡ take 48 buffer.now }
-{
-    let mut message = [0; 48];
-    message.copy_from_slice(&buffer[..48]);
-    message
-}
 
 /// Which peers sent votes of the desks last.
 #[derive(Clone, Copy)]
-struct Voters {
+pub struct Voters {
     a: Option<usize>,
     b: Option<usize>,
 }
@@ -39,7 +26,8 @@ impl Voters {
         }
     }
 
-    fn note(&mut self, desk: DeskId, peer: usize) {
+    /// This one sent a vote of the desk.
+    pub fn note(&mut self, desk: DeskId, peer: usize) {
         match desk {
             DeskId::A => self.a = Some(peer),
             DeskId::B => self.b = Some(peer),
@@ -65,11 +53,11 @@ pub enum Given {
 pub struct Known {
     pub early: EarlyVotes,
     pub asking: Asking,
-    catch_up: CatchUp,
+    pub catch_up: CatchUp,
     pub given: Given,
     /// As whom the station asks.
     pub from: Asker,
-    voters: Voters,
+    pub voters: Voters,
 }
 
 impl Known {
@@ -170,78 +158,5 @@ impl Known {
             self.catch_up.ask(at.place);
         }
         is_said
-    }
-
-    /// Notes a vote that came from this peer, and answers whether it is for now: not one that is kept for later. A repeat, and
-    /// the station's own, change nothing of when it asks.
-    fn is_for_now(&mut self, vote: &Vote, bytes: &[u8; 48], peer: usize, now: u64) -> bool
-        ensures votes { AreOfOr bytes.now (values self.new.early.votes) (values self.old.early.votes) }
-        ensures asked { self.new.asking.bytes ≡ self.old.asking.bytes }
-        ensures last { (self.new.asking.last ≡ self.old.asking.last) ⊎ ((self.new.asking.last ≡ now)
-            × ((result ≡ true) ⊎ HasMore (values self.old.early.votes) (values self.new.early.votes))) }
-    {
-        if !hears(self.from, vote.desk) {
-            return true;
-        }
-        self.voters.note(vote.desk, peer);
-        self.catch_up.hear(vote.desk, vote.place);
-        if self.early.is_early(vote.position()) {
-            if self.early.keep(vote, bytes) {
-                self.asking.follow(now);
-            }
-            return false;
-        }
-        self.asking.hear(vote.desk, vote.position(), now);
-        true
-    }
-
-    /// Notes a message that came from this peer in these bytes, and answers whether it is for now.
-    fn hear_message(&mut self, message: &Message, bytes: &[u8; 48], peer: usize, now: u64) -> bool
-        ensures votes { AreOfOr bytes.now (values self.new.early.votes) (values self.old.early.votes) }
-        ensures asked { self.new.asking.bytes ≡ self.old.asking.bytes }
-        ensures last { (self.new.asking.last ≡ self.old.asking.last) ⊎ ((self.new.asking.last ≡ now)
-            × (((result ≡ true) × ((v : AVote) × (message.now ≡ Message.Vote v)))
-            ⊎ HasMore (values self.old.early.votes) (values self.new.early.votes))) }
-    {
-        match message {
-            Message::Vote(vote) => self.is_for_now(vote, bytes, peer, now),
-            Message::Ask(_) => {
-                self.given = Given::Ask;
-                true
-            }
-        }
-    }
-
-    /// Notes what the link gave, from this peer in the match of this number, and answers what of it is for now, with the
-    /// message that it says, where it says one: a vote that comes early is lost for now, but at a desk, which sees by it
-    /// whether its own file lacks lines. What doesn't open changes nothing.
-    pub fn hear(
-        &mut self,
-        game: u64,
-        taken: Taken,
-        buffer: &[u8; 64],
-        peer: usize,
-        now: u64,
-    ) -> (Taken, Option<Message>)
-        ensures unopened { taken ≡ Taken.Unopened → (result.0 ≡ Taken.Unopened) × (self.new ≡ self.old) }
-        ensures given { (count : ℕ) → result.0 ≡ Taken.Datagram count → taken ≡ Taken.Datagram count }
-        ensures says { IsSaid game result.0 result.1 buffer.now }
-        ensures votes { (m : List ℕ) → Has (values self.new.early.votes) m
-            → Has (values self.old.early.votes) m ⊎ ((taken ≡ Taken.Datagram 48) × (take 48 buffer.now ≡ m)) }
-        ensures asked { self.new.asking.bytes ≡ self.old.asking.bytes }
-        ensures last { (self.new.asking.last ≡ self.old.asking.last) ⊎ ((self.new.asking.last ≡ now)
-            × (GivesVote game result.0 buffer.now ⊎ HasMore (values self.old.early.votes) (values self.new.early.votes))) }
-    {
-        if taken != Taken::Datagram(SIZE) {
-            return (taken, None);
-        }
-        let bytes = front(buffer);
-        let Ok(message) = message_of(game, bytes.as_slice()) else {
-            return (taken, None);
-        };
-        if self.hear_message(&message, &bytes, peer, now) || self.from != Asker::Board {
-            return (taken, Some(message));
-        }
-        (Taken::Lost, None)
     }
 }

@@ -4,7 +4,6 @@
 
 mod aside;
 mod asking;
-mod asks;
 mod catch_up;
 mod clock;
 mod company;

@@ -1,4 +1,4 @@
-//! A window over a link.
+//! A window over a link: what is said and heard through it.
 
 ghost use Rattle.std.specs.Prelude.{◌≡◌, ◌≤◌, ℕ, List, [], IfSome, take, true};
 ghost use Rattle.std.specs.Option.{ForSome};
@@ -6,8 +6,8 @@ ghost use Rattle.wire.specs.Layout.{Says};
 ghost use Rattle.wire.specs.Reading.{Reads};
 ghost use Rattle.links.specs.Windows.{IsAsk, IsBrought, IsFaithful, IsHanded, IsKept};
 
-use crate::asks::ask_for;
-use crate::catch_up::{BLOCK, PLACES_AHEAD, end_of_block};
+mod asks;
+
 use crate::clock::Clock;
 use crate::company::Company;
 use crate::early::hears;
@@ -15,16 +15,26 @@ use crate::known::{Given, Known};
 use crate::link::{Arrival, Link, PeerLink, Receivers, Taken};
 use crate::log::Log;
 use crate::silence::Silence;
-use agree_core::{Asker, DeskId, Message, Position};
+use agree_core::{Asker, Message, Position, Vote};
+use asks::ask_for;
 use std::alloc::Global;
 use std::marker::Model;
-use wire::{WireFault, message_of};
+use wire::{SIZE, WireFault, message_of};
 
 /// Puts a message into the front of a buffer.
 fn put(message: &[u8; 48], buffer: &mut [u8; 64])
     ensures { take 48 buffer.new ≡ message.now }
 {
     buffer[..48].copy_from_slice(message.as_slice());
+}
+
+/// The front of a buffer.
+fn front(buffer: &[u8; 64]) -> [u8; 48]
+    ensures { result ≡ take 48 buffer.now }
+{
+    let mut message = [0; 48];
+    message.copy_from_slice(&buffer[..48]);
+    message
 }
 
 /// How bytes are read in a match, of which it may be known what they say in this one.
@@ -95,8 +105,8 @@ impl<L: PeerLink, C: Clock> Window<L, C> {
     ghost use Rattle.wire.specs.Layout.{Says};
     ghost use Rattle.wire.specs.Reading.{Reads};
     ghost use Rattle.links.specs.Passed.{Sent};
-    ghost use Rattle.links.specs.Windows.{AsksInTime, BringsVote, HandsDown, HasAnswers, HasAsked, HasSince, IsAsk, IsBrought, IsGrown, IsHanded, IsKept, IsQuietAt};
-    ghost use Rattle.links.specs.Windows.{IsQuietOrAsks, IsQuietUntilNews, IsSaid, IsStill, IsVote};
+    ghost use Rattle.links.specs.Windows.{AsksInTime, BringsVote, HandsDown, HasAnswers, HasSince, IsAsk, IsBrought, IsGrown, IsHanded, IsKept, IsQuietAt};
+    ghost use Rattle.links.specs.Windows.{IsQuietUntilNews, IsSaid, IsStill, IsVote};
     ghost use Rattle.links.specs.declared.link.Receivers.TheVariants.{ToAll, ToOne};
 
     /// A window over a link, in the match of this number.
@@ -165,149 +175,6 @@ impl<L: PeerLink, C: Clock> Window<L, C> {
         }
     }
 
-    /// Asks for the votes of the station's position, where it has said nothing for two seconds: so others hear that it is
-    /// there, also while it has nothing to say unasked.
-    fn break_silence(&mut self, now: u64)
-        ensures still { IsStill self.old self.new }
-        ensures grown { IsGrown self.old.below self.new.below }
-    {
-        if self.silence.is_long(now) {
-            let at = self.known.early.position();
-            if let Some(bytes) = ask_for(self.game, self.known.from, at) {
-                self.say(&bytes, now);
-            }
-        }
-    }
-
-    /// Sends an ask to who sent this desk's votes last, or to all.
-    fn send_to_voter(&mut self, desk: DeskId, bytes: &[u8; 48])
-        requires { IsAsk self.old.game bytes.now }
-        ensures still { IsStill self.old self.new }
-        ensures grown { IsGrown self.old.below self.new.below }
-    {
-        match self.known.voter(desk) {
-            Some(peer) => self.link.send_to(peer, bytes),
-            None => self.link.send(bytes),
-        }
-    }
-
-    /// Asks a desk for its vote of a place, in its first round.
-    fn ask_for_vote(&mut self, desk: DeskId, place: u32)
-        ensures still { IsStill self.old self.new }
-        ensures grown { IsGrown self.old.below self.new.below }
-    {
-        if let Some(bytes) = ask_for(self.game, self.known.from, Position { place, round: 0 }) {
-            self.send_to_voter(desk, &bytes);
-        }
-    }
-
-    /// Asks a desk for its votes that are lacking of the places from the one on to before the other, of one block. Where many on
-    /// end are, the first stands for them.
-    fn ask_block(&mut self, desk: DeskId, from: u32, end: u32)
-        ensures still { IsStill self.old self.new }
-    {
-        let mut is_asked = false;
-        for place in from..end {
-            if self.known.early.has_at(desk, place) {
-                is_asked = false;
-            } else if !is_asked {
-                is_asked = self.known.early.lacks_many(desk, place, end);
-                self.ask_for_vote(desk, place);
-            }
-        }
-    }
-
-    /// Asks a desk for what was lost of it: the vote of the station's position, and those of the places behind it.
-    fn ask_desk(&mut self, desk: DeskId, bytes: &[u8; 48], is_silent: bool)
-        requires { IsAsk self.old.game bytes.now }
-        ensures still { IsStill self.old self.new }
-    {
-        let end = self.known.lost_until(desk, is_silent);
-        let mut from = self.known.early.position().place;
-        if (is_silent || from < end) && self.known.early.lacks(self.known.from, desk) {
-            self.send_to_voter(desk, bytes);
-        }
-        from = from.saturating_add(1);
-        for _ in 0..=PLACES_AHEAD / BLOCK {
-            if from >= end {
-                break;
-            }
-            let behind = end_of_block(from).min(end);
-            self.ask_block(desk, from, behind);
-            from = behind;
-        }
-    }
-
-    /// Hands the station's ask to all, or, where later votes are here, asks each desk for what was lost of it.
-    fn ask(&mut self, bytes: &[u8; 48], is_silent: bool)
-        requires { IsAsk self.old.game bytes.now }
-        ensures still { IsStill self.old self.new }
-        ensures said { self.old.kept ≡ [] → HandsDown ToAll bytes.now self.old self.new }
-    {
-        if self.known.early.is_empty() {
-            self.link.send(bytes);
-            return;
-        }
-        if hears(self.known.from, DeskId::A) {
-            self.ask_desk(DeskId::A, bytes, is_silent);
-        }
-        if hears(self.known.from, DeskId::B) {
-            self.ask_desk(DeskId::B, bytes, is_silent);
-        }
-    }
-
-    /// Says the station's ask once more.
-    fn say_again(&mut self, now: u64)
-        ensures kept { IsKept self.old self.new }
-        ensures votes { self.new.kept ≡ self.old.kept }
-        ensures readings { self.new.readings ≡ self.old.readings }
-        ensures quiet { IsQuietOrAsks now self.old self.new }
-    {
-        let is_silent = self.known.is_silent(now);
-        if let Some(bytes) = self.known.say_again(now) {
-            self.silence.end(now);
-            self.ask(&bytes, is_silent);
-        }
-    }
-
-    /// Says the station's ask, where that is due. It answers how long a datagram is waited for.
-    fn ask_again(&mut self, wait: u64, now: u64) -> u64
-        ensures kept { IsKept self.old self.new }
-        ensures votes { self.new.kept ≡ self.old.kept }
-        ensures readings { self.new.readings ≡ self.old.readings }
-        ensures quiet { IsQuietOrAsks now self.old self.new }
-    {
-        if self.known.may_ask_again() && self.known.left(now) == 0 {
-            self.say_again(now);
-        }
-        if self.known.may_ask_again() {
-            wait.min(self.known.left(now))
-        } else {
-            wait
-        }
-    }
-
-    /// Asks a desk for its vote of a place, in its first round, where the station hears it.
-    fn ask_where_heard(&mut self, desk: DeskId, place: u32)
-        ensures still { IsStill self.old self.new }
-        ensures grown { IsGrown self.old.below self.new.below }
-    {
-        if hears(self.known.from, desk) {
-            self.ask_for_vote(desk, place);
-        }
-    }
-
-    /// Asks for the next block ahead, where it is time for it.
-    fn ask_ahead(&mut self)
-        ensures still { IsStill self.old self.new }
-        ensures grown { IsGrown self.old.below self.new.below }
-    {
-        if let Some(place) = self.known.next_block() {
-            self.ask_where_heard(DeskId::A, place);
-            self.ask_where_heard(DeskId::B, place);
-        }
-    }
-
     /// The next datagram is to be given. Where the last one was an ask that was made up and brought no reply, its peer's
     /// window ends.
     fn begin_take(&mut self)
@@ -348,20 +215,6 @@ impl<L: PeerLink, C: Clock> Window<L, C> {
         let peer = self.link.last_peer();
         let now = self.clock.millis();
         self.known.hear(self.game, taken, buffer, peer, now)
-    }
-
-    /// Asks for what it is time for. It answers how long a datagram is waited for.
-    fn ask_what_is_due(&mut self, wait: u64, now: u64) -> u64
-        ensures kept { IsKept self.old self.new }
-        ensures votes { self.new.kept ≡ self.old.kept }
-        ensures readings { self.new.readings ≡ self.old.readings }
-        ensures quiet { (self.new.quiet_since ≡ self.old.quiet_since)
-            ⊎ ((self.new.quiet_since ≡ now) × HasAsked self.old self.new) }
-    {
-        let wait = self.ask_again(wait, now);
-        self.ask_ahead();
-        self.break_silence(now);
-        wait
     }
 
     /// What the link brings, once what it is time for is asked for.
@@ -428,6 +281,86 @@ impl<L: PeerLink, C: Clock> Window<L, C> {
             let now = self.clock.millis();
             self.company.open(peer, vote.place, now);
         }
+    }
+}
+
+impl Known {
+    ghost use Rattle.std.specs.Prelude.{◌≡◌, ◌⊎◌, ℕ, List, take, true};
+    ghost use Rattle.std.specs.BTreeMap.{values};
+    ghost use Rattle.agree_core.specs.declared.messages.Vote.{Vote as AVote};
+    ghost use Rattle.links.specs.Windows.{AreOfOr, GivesVote, Has, HasMore, IsSaid};
+
+    /// Notes a vote that came from this peer, and answers whether it is for now: not one that is kept for later. A repeat, and
+    /// the station's own, change nothing of when it asks.
+    fn is_for_now(&mut self, vote: &Vote, bytes: &[u8; 48], peer: usize, now: u64) -> bool
+        ensures votes { AreOfOr bytes.now (values self.new.early.votes) (values self.old.early.votes) }
+        ensures asked { self.new.asking.bytes ≡ self.old.asking.bytes }
+        ensures last { (self.new.asking.last ≡ self.old.asking.last) ⊎ ((self.new.asking.last ≡ now)
+            × ((result ≡ true) ⊎ HasMore (values self.old.early.votes) (values self.new.early.votes))) }
+    {
+        if !hears(self.from, vote.desk) {
+            return true;
+        }
+        self.voters.note(vote.desk, peer);
+        self.catch_up.hear(vote.desk, vote.place);
+        if self.early.is_early(vote.position()) {
+            if self.early.keep(vote, bytes) {
+                self.asking.follow(now);
+            }
+            return false;
+        }
+        self.asking.hear(vote.desk, vote.position(), now);
+        true
+    }
+
+    /// Notes a message that came from this peer in these bytes, and answers whether it is for now.
+    fn hear_message(&mut self, message: &Message, bytes: &[u8; 48], peer: usize, now: u64) -> bool
+        ensures votes { AreOfOr bytes.now (values self.new.early.votes) (values self.old.early.votes) }
+        ensures asked { self.new.asking.bytes ≡ self.old.asking.bytes }
+        ensures last { (self.new.asking.last ≡ self.old.asking.last) ⊎ ((self.new.asking.last ≡ now)
+            × (((result ≡ true) × ((v : AVote) × (message.now ≡ Message.Vote v)))
+            ⊎ HasMore (values self.old.early.votes) (values self.new.early.votes))) }
+    {
+        match message {
+            Message::Vote(vote) => self.is_for_now(vote, bytes, peer, now),
+            Message::Ask(_) => {
+                self.given = Given::Ask;
+                true
+            }
+        }
+    }
+
+    /// Notes what the link gave, from this peer in the match of this number, and answers what of it is for now, with the
+    /// message that it says, where it says one: a vote that comes early is lost for now, but at a desk, which sees by it
+    /// whether its own file lacks lines. What doesn't open changes nothing.
+    fn hear(
+        &mut self,
+        game: u64,
+        taken: Taken,
+        buffer: &[u8; 64],
+        peer: usize,
+        now: u64,
+    ) -> (Taken, Option<Message>)
+        ensures unopened { taken ≡ Taken.Unopened → (result.0 ≡ Taken.Unopened) × (self.new ≡ self.old) }
+        ensures given { (count : ℕ) → result.0 ≡ Taken.Datagram count → taken ≡ Taken.Datagram count }
+        ensures says { IsSaid game result.0 result.1 buffer.now }
+        ensures votes { (m : List ℕ) → Has (values self.new.early.votes) m
+            → Has (values self.old.early.votes) m ⊎ ((taken ≡ Taken.Datagram 48) × (take 48 buffer.now ≡ m)) }
+        ensures asked { self.new.asking.bytes ≡ self.old.asking.bytes }
+        ensures last { (self.new.asking.last ≡ self.old.asking.last) ⊎ ((self.new.asking.last ≡ now)
+            × (GivesVote game result.0 buffer.now ⊎ HasMore (values self.old.early.votes) (values self.new.early.votes))) }
+    {
+        if taken != Taken::Datagram(SIZE) {
+            return (taken, None);
+        }
+        let bytes = front(buffer);
+        let Ok(message) = message_of(game, bytes.as_slice()) else {
+            return (taken, None);
+        };
+        if self.hear_message(&message, &bytes, peer, now) || self.from != Asker::Board {
+            return (taken, Some(message));
+        }
+        (Taken::Lost, None)
     }
 }
 

@@ -1,0 +1,187 @@
+//! What a window asks: what its station asked once more, what was lost, and what comes next. It makes asks up, as anybody may:
+//! a desk answers with its own votes, whoever asks.
+
+ghost use Rattle.std.specs.Prelude.{IfSome};
+ghost use Rattle.links.specs.Windows.{IsAsk};
+
+use crate::catch_up::{BLOCK, PLACES_AHEAD, end_of_block};
+use crate::clock::Clock;
+use crate::early::hears;
+use crate::link::PeerLink;
+use crate::window::Window;
+use agree_core::{Ask, Asker, DeskId, Message, Position};
+use wire::bytes_of;
+
+/// An ask for the votes of a position, in the match of this number, unless the position is full.
+pub fn ask_for(game: u64, from: Asker, at: Position) -> Option<[u8; 48]>
+    ensures { IfSome result (IsAsk game) }
+{
+    if at.is_full() {
+        return None;
+    }
+    let Position { place, round } = at;
+    Some(bytes_of(game, &Message::Ask(Ask { from, place, round })))
+}
+
+impl<L: PeerLink, C: Clock> Window<L, C> {
+    ghost use Rattle.std.specs.Prelude.{◌≡◌, ◌⊎◌, []};
+    ghost use Rattle.links.specs.Windows.{HandsDown, HasAsked, IsAsk, IsGrown, IsKept, IsQuietOrAsks, IsStill};
+    ghost use Rattle.links.specs.declared.link.Receivers.TheVariants.{ToAll};
+
+    /// Sends an ask to who sent this desk's votes last, or to all.
+    fn send_to_voter(&mut self, desk: DeskId, bytes: &[u8; 48])
+        requires { IsAsk self.old.game bytes.now }
+        ensures still { IsStill self.old self.new }
+        ensures grown { IsGrown self.old.below self.new.below }
+    {
+        match self.known.voter(desk) {
+            Some(peer) => self.link.send_to(peer, bytes),
+            None => self.link.send(bytes),
+        }
+    }
+
+    /// Asks a desk for its vote of a place, in its first round.
+    fn ask_for_vote(&mut self, desk: DeskId, place: u32)
+        ensures still { IsStill self.old self.new }
+        ensures grown { IsGrown self.old.below self.new.below }
+    {
+        if let Some(bytes) = ask_for(self.game, self.known.from, Position { place, round: 0 }) {
+            self.send_to_voter(desk, &bytes);
+        }
+    }
+
+    /// Asks a desk for its votes that are lacking of the places from the one on to before the other, of one block. Where many on
+    /// end are, the first stands for them.
+    fn ask_block(&mut self, desk: DeskId, from: u32, end: u32)
+        ensures still { IsStill self.old self.new }
+    {
+        let mut is_asked = false;
+        for place in from..end {
+            if self.known.early.has_at(desk, place) {
+                is_asked = false;
+            } else if !is_asked {
+                is_asked = self.known.early.lacks_many(desk, place, end);
+                self.ask_for_vote(desk, place);
+            }
+        }
+    }
+
+    /// Asks a desk for what was lost of it: the vote of the station's position, and those of the places behind it.
+    fn ask_desk(&mut self, desk: DeskId, bytes: &[u8; 48], is_silent: bool)
+        requires { IsAsk self.old.game bytes.now }
+        ensures still { IsStill self.old self.new }
+    {
+        let end = self.known.lost_until(desk, is_silent);
+        let mut from = self.known.early.position().place;
+        if (is_silent || from < end) && self.known.early.lacks(self.known.from, desk) {
+            self.send_to_voter(desk, bytes);
+        }
+        from = from.saturating_add(1);
+        for _ in 0..=PLACES_AHEAD / BLOCK {
+            if from >= end {
+                break;
+            }
+            let behind = end_of_block(from).min(end);
+            self.ask_block(desk, from, behind);
+            from = behind;
+        }
+    }
+
+    /// Hands the station's ask to all, or, where later votes are here, asks each desk for what was lost of it.
+    fn ask(&mut self, bytes: &[u8; 48], is_silent: bool)
+        requires { IsAsk self.old.game bytes.now }
+        ensures still { IsStill self.old self.new }
+        ensures said { self.old.kept ≡ [] → HandsDown ToAll bytes.now self.old self.new }
+    {
+        if self.known.early.is_empty() {
+            self.link.send(bytes);
+            return;
+        }
+        if hears(self.known.from, DeskId::A) {
+            self.ask_desk(DeskId::A, bytes, is_silent);
+        }
+        if hears(self.known.from, DeskId::B) {
+            self.ask_desk(DeskId::B, bytes, is_silent);
+        }
+    }
+
+    /// Says the station's ask once more.
+    fn say_again(&mut self, now: u64)
+        ensures kept { IsKept self.old self.new }
+        ensures votes { self.new.kept ≡ self.old.kept }
+        ensures readings { self.new.readings ≡ self.old.readings }
+        ensures quiet { IsQuietOrAsks now self.old self.new }
+    {
+        let is_silent = self.known.is_silent(now);
+        if let Some(bytes) = self.known.say_again(now) {
+            self.silence.end(now);
+            self.ask(&bytes, is_silent);
+        }
+    }
+
+    /// Says the station's ask, where that is due. It answers how long a datagram is waited for.
+    fn ask_again(&mut self, wait: u64, now: u64) -> u64
+        ensures kept { IsKept self.old self.new }
+        ensures votes { self.new.kept ≡ self.old.kept }
+        ensures readings { self.new.readings ≡ self.old.readings }
+        ensures quiet { IsQuietOrAsks now self.old self.new }
+    {
+        if self.known.may_ask_again() && self.known.left(now) == 0 {
+            self.say_again(now);
+        }
+        if self.known.may_ask_again() {
+            wait.min(self.known.left(now))
+        } else {
+            wait
+        }
+    }
+
+    /// Asks a desk for its vote of a place, in its first round, where the station hears it.
+    fn ask_where_heard(&mut self, desk: DeskId, place: u32)
+        ensures still { IsStill self.old self.new }
+        ensures grown { IsGrown self.old.below self.new.below }
+    {
+        if hears(self.known.from, desk) {
+            self.ask_for_vote(desk, place);
+        }
+    }
+
+    /// Asks for the next block ahead, where it is time for it.
+    fn ask_ahead(&mut self)
+        ensures still { IsStill self.old self.new }
+        ensures grown { IsGrown self.old.below self.new.below }
+    {
+        if let Some(place) = self.known.next_block() {
+            self.ask_where_heard(DeskId::A, place);
+            self.ask_where_heard(DeskId::B, place);
+        }
+    }
+
+    /// Asks for the votes of the station's position, where it has said nothing for two seconds: so others hear that it is
+    /// there, also while it has nothing to say unasked.
+    fn break_silence(&mut self, now: u64)
+        ensures still { IsStill self.old self.new }
+        ensures grown { IsGrown self.old.below self.new.below }
+    {
+        if self.silence.is_long(now) {
+            let at = self.known.early.position();
+            if let Some(bytes) = ask_for(self.game, self.known.from, at) {
+                self.say(&bytes, now);
+            }
+        }
+    }
+
+    /// Asks for what it is time for. It answers how long a datagram is waited for.
+    pub(super) fn ask_what_is_due(&mut self, wait: u64, now: u64) -> u64
+        ensures kept { IsKept self.old self.new }
+        ensures votes { self.new.kept ≡ self.old.kept }
+        ensures readings { self.new.readings ≡ self.old.readings }
+        ensures quiet { (self.new.quiet_since ≡ self.old.quiet_since)
+            ⊎ ((self.new.quiet_since ≡ now) × HasAsked self.old self.new) }
+    {
+        let wait = self.ask_again(wait, now);
+        self.ask_ahead();
+        self.break_silence(now);
+        wait
+    }
+}
