@@ -11,7 +11,6 @@ mod named_file;
 mod pair;
 mod renewal;
 mod text_file;
-mod whole_text;
 mod write_fault;
 
 pub use file_disk::{FileDisk, OpenFault};
@@ -20,6 +19,5 @@ pub use host_file::{Host, NoFile};
 pub use named_file::{LastFault, NamedFile};
 pub use pair::Pair;
 pub use renewal::{bytes_of, renewed};
-pub use text_file::{TextFile, is_same_file};
-pub use whole_text::{Replaces, TwoNames, WholeText};
+pub use text_file::{Replaces, TextFile, TwoNames, WholeText, is_same_file};
 pub use write_fault::{Cause, Name, WriteFault, cause_of};

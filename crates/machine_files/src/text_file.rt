@@ -1,11 +1,11 @@
-//! A file that others read while it is replaced.
+//! A file that others read while it is replaced: it always holds a whole text.
 
-ghost use Rattle.std.specs.Prelude.{None};
+ghost use Rattle.std.specs.Prelude.{◌≡◌, IfSome, List, None, OnOk, Option, Some, ℕ};
+ghost use Rattle.machine_files.specs.Texts.{Takes, TakesBeside};
 
 mod front;
 
 use crate::file_limit::may_have;
-use crate::whole_text::TwoNames;
 use crate::write_fault::{Cause, Name, WriteFault, cause_of};
 use front::{Front, front_of};
 use std::alloc::AllocError;
@@ -13,6 +13,63 @@ use std::fs::{self, File, Metadata, TryLockError};
 use std::io::{self, ErrorKind, Write};
 use std::os::unix::fs::MetadataExt;
 use std::path::Path;
+
+/// What a text is put into. Nothing is known of what it holds, only of what it was given.
+pub trait Replaces {
+    /// The texts that it was given whole, the oldest first; `None` where they aren't known.
+    ghost given: { Self → Option (List (List ℕ)) };
+
+    /// Has it hold this text and nothing else.
+    fn replace(&mut self, text: &[u8]) -> Result<(), WriteFault>
+        ensures { Takes result (given self.old) (given self.new) text.now };
+}
+
+/// The two names of a text: its own, and that of the new file beside it, which takes it. Nothing is known of what stands
+/// there, only of what was put there.
+pub trait TwoNames {
+    /// The whole texts that took its own name, the oldest first; `None` where they aren't known.
+    ghost given: { Self → Option (List (List ℕ)) };
+
+    /// The whole text that the new file has, where it has one and that is known.
+    ghost beside: { Self → Option (List ℕ) };
+
+    /// Asks that what is there may give way, and takes away what a board left beside it whose process was killed.
+    fn make_room(&mut self) -> Result<(), WriteFault>
+        ensures { given self.new ≡ given self.old };
+
+    /// Writes a text to a new file beside it.
+    fn put(&mut self, text: &[u8]) -> Result<(), WriteFault>
+        ensures given { given self.new ≡ given self.old }
+        ensures beside { OnOk result (IfSome (given self.old) (λ _. beside self.new ≡ Some text.now)) };
+
+    /// Has the new file take its own name.
+    fn rename(&mut self) -> Result<(), WriteFault>
+        ensures { TakesBeside result (given self.old) (given self.new) (beside self.old) };
+}
+
+/// A file that always holds a whole text: each is written to a new file beside it, which then takes its name.
+#[derive(Drop)]
+pub struct WholeText<F> {
+    names: F,
+}
+
+impl<F> WholeText<F> {
+    /// The file of these two names.
+    pub fn new(names: F) -> WholeText<F> {
+        WholeText { names }
+    }
+}
+
+impl<F: TwoNames> Replaces for WholeText<F> {
+    ghost given = { λ file. F.given file.names };
+
+    /// It isn't synced: a board that begins again writes it anew.
+    fn replace(&mut self, text: &[u8]) -> Result<(), WriteFault> {
+        self.names.make_room()?;
+        self.names.put(text)?;
+        self.names.rename()
+    }
+}
 
 /// The name of a file of text on this machine, and that of the file beside it that the next one is written to. Neither is
 /// put in the place of anything but a text.
