@@ -3,8 +3,9 @@
 ghost use Rattle.std.specs.Prelude.{◌≡◌, ◌≤◌, ◌<◌, ℕ, List, [], None, Some, IfSome, IsTrue, drop, false, length, take, true};
 ghost use Rattle.links.specs.Logs.{inputs_of};
 
-use crate::waiting::can_read;
 use arrayvec::ArrayVec;
+use libc::net::{POLLIN, poll};
+use libc::types::pollfd;
 use links::{InputLog, Keys, LINE_ROOM, MoreLines, Stand, Typed};
 use std::io::{self, ErrorKind, Read};
 use std::os::fd::{AsRawFd, RawFd};
@@ -32,6 +33,16 @@ pub struct Keyboard<R: Read, M> {
 #[derive(Drop)]
 pub struct StandardInput {
     stream: Stdin,
+}
+
+/// Whether a read of a descriptor answers at once.
+fn can_read(descriptor: RawFd) -> bool {
+    let asked = pollfd {
+        fd: descriptor,
+        events: POLLIN,
+        revents: 0,
+    };
+    poll(&mut [asked], 0) > 0
 }
 
 impl Read for StandardInput {

@@ -4,7 +4,8 @@ ghost use Rattle.std.specs.Prelude.{◌≡◌, ◌++◌, ◌+◌, ◌-◌, ◌�
 ghost use Rattle.machine.specs.Rows.{are_whole, ends_row, lacks_last, shown_in};
 
 use crate::row_log::{RowLog, TakenLog};
-use crate::waiting::can_write;
+use libc::net::{POLLOUT, poll};
+use libc::types::pollfd;
 use machine_files::may_have;
 use std::alloc::{AllocError, Global};
 use std::fs;
@@ -110,6 +111,17 @@ pub trait Outlet {
     fn hand_all(&mut self, bytes: &Vec<u8>, from: usize) -> io::Result<()>
         requires { from ≤ vec_len bytes.now }
         ensures { OnOk result (taken self.new ≡ taken self.old ++ drop from bytes.now.items) };
+}
+
+/// Whether a write of a few bytes to a descriptor answers at once, or comes to that within so many milliseconds.
+fn can_write(descriptor: RawFd, limit: u64) -> bool {
+    let asked = pollfd {
+        fd: descriptor,
+        events: POLLOUT,
+        revents: 0,
+    };
+    let limit = i32::try_from(limit).unwrap_or(i32::MAX);
+    poll(&mut [asked], limit) > 0
 }
 
 /// Whether a write failed only for the present.

@@ -1,6 +1,6 @@
-//! Waiting until something can be read or written.
+//! Waiting until something can be read.
 
-use libc::net::{POLLIN, POLLOUT, poll};
+use libc::net::{POLLIN, poll};
 use libc::types::pollfd;
 use std::os::fd::RawFd;
 use waits::LONGEST_PAGE_WAIT;
@@ -30,22 +30,6 @@ fn reads_of(descriptor: RawFd) -> pollfd {
         events: POLLIN,
         revents: 0,
     }
-}
-
-/// Whether a read of a descriptor answers at once.
-pub fn can_read(descriptor: RawFd) -> bool {
-    poll(&mut [reads_of(descriptor)], 0) > 0
-}
-
-/// Whether a write of a few bytes to a descriptor answers at once, or comes to that within so many milliseconds.
-pub fn can_write(descriptor: RawFd, limit: u64) -> bool {
-    let asked = pollfd {
-        fd: descriptor,
-        events: POLLOUT,
-        revents: 0,
-    };
-    let limit = i32::try_from(limit).unwrap_or(i32::MAX);
-    poll(&mut [asked], limit) > 0
 }
 
 /// Waits until a socket or one of these can be read, so many milliseconds at most, fewer where a page is one of them, and tells
