@@ -377,13 +377,6 @@ impl<K: Keys> Ahead<K> {
         }
     }
 
-    /// The lines that are held, the oldest first.
-    pub fn held(&self) -> &[HeldLine]
-        ensures { result.now ≡ held_of (self.now.queue).log }
-    {
-        self.queue.held.as_slice()
-    }
-
     /// The keyboard.
     pub fn keys(&self) -> &K
         ensures { result.now ≡ self.now.keys }
@@ -427,5 +420,11 @@ impl<K: Keys> Keys for Ahead<K> {
 
     fn has_more(&self) -> bool {
         self.queue.is_busy() || self.keys.has_more()
+    }
+
+    fn held(&self) -> &[HeldLine]
+        ensures { result.now ≡ held_of (self.now.queue).log }
+    {
+        self.queue.held.as_slice()
     }
 }

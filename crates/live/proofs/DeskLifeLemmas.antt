@@ -14,7 +14,8 @@ use Rattle.cards.specs.Sheet.{Sheet}
 use Rattle.desk.specs.Desk.{IsDeskOf, disk_of, game_of, state_of}
 use Rattle.live.specs.DeskLife.{BeginsOn, DeskLives, Follows, ended, fresh}
 use Rattle.live.specs.declared.desk_life.LifeEnd.TheVariants.{NotBegun}
-use Rattle.live.specs.DeskSights.{DeskSight, IsShown, IsShownFrom}
+use Rattle.screen.specs.Sights.{DeskSight}
+use Rattle.live.specs.DeskSights.{IsShown, IsShownFrom}
 use Rattle.live.specs.Desks.{DeskRuns, DiskView, FitsLongest, desk_kind, innings_of, kind_of, own_line}
 use Rattle.live.specs.Ends.{known_at}
 use Rattle.links.specs.Passed.{Passed}

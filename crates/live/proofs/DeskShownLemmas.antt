@@ -10,7 +10,8 @@ use Rattle.desk.specs.Desk.{state_of}
 use Rattle.links.specs.Passed.{Passed}
 use Rattle.links.specs.Typing.{Input}
 use Rattle.station_texts.specs.declared.warned.Warned.{Warned}
-use Rattle.live.specs.DeskSights.{DeskSight, IsSeen, IsShown, desk_sight}
+use Rattle.screen.specs.Sights.{DeskSight}
+use Rattle.live.specs.DeskSights.{IsSeen, IsShown, desk_sight}
 use Rattle.live.specs.Desks.{DeskCall, DeskGoes, DeskProcess, innings_of, kind_of, process_of}
 use Rattle.live.specs.Ends.{Course, further}
 use Rattle.live.specs.Runs.{Kind}

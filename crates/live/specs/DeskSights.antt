@@ -1,26 +1,14 @@
 -- What is shown of a desk beside the rows that it tells.
-use Rattle.std.specs.Prelude.{◌≡◌, ℕ, List, [], ◌∷◌, All, Option}
-use Rattle.notation.specs.declared.entry.Entry.{Entry}
-use Rattle.agree_core.specs.declared.position.Position.{Position}
+use Rattle.std.specs.Prelude.{◌≡◌, ℕ, List, [], ◌∷◌, All}
 use Rattle.agree_core.specs.Desks.{DeskState}
 use Rattle.agree_core.specs.Openings.{NotOpened, Opened, Opening}
 use Rattle.cards.specs.Sheet.{Sheet}
+use Rattle.screen.specs.Sights.{DeskSight, sight_at}
 use Rattle.live.specs.DeskLife.{fresh}
 use Rattle.live.specs.Desks.{DeskCall, DeskProcess, own_line}
 use Rattle.live.specs.Runs.{Kind, Moment, Run, last_of}
 
--- what a scorer may see of a desk: its book, its position and its own vote there, with the sheet and the innings a side of
--- its match. Nothing is in it of the other desk's vote.
-pub record DeskSight : Type 0 where
-  pub sheet : Sheet
-  pub innings : ℕ
-  pub book : List Entry
-  pub at : Position
-  pub own : Option Entry
-
-abbrev pub sight_at : Sheet → ℕ → List Entry → Position → Option Entry → DeskSight
-sight_at s n book at own = record { sheet = s; innings = n; book = book; at = at; own = own }
-
+-- what a scorer may see of a desk that stands so
 abbrev pub desk_sight : {Disk : Type 0} → Sheet → ℕ → DeskState Disk → DeskSight
 desk_sight s n k = sight_at s n k.book k.seat.position (own_line k)
 

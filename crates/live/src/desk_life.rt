@@ -20,13 +20,13 @@ use crate::desk_loop::{own_line, turn};
 use crate::ends::{DeskEnd, told};
 use crate::pace::Pace;
 use crate::peer::Peer;
-use crate::shows_desk::ShowsDesk;
 use agree_core::DeskId;
 use cards::MatchSheet;
 use corrections::BookOf;
 use desk::{Desk, OpenRefusal};
 use entry_log::SlotsOf;
 use links::{Clock, Keys, Link};
+use screen::ShowsDesk;
 use station_texts::texts::print_greeting;
 use station_texts::warned::Warned;
 use std::alloc::Global;
@@ -57,15 +57,17 @@ fn greet<S: SlotsOf, B: BookOf + Drop, W: Sink>(
     told(out.flush())
 }
 
-/// Hands on what is seen of a desk.
-fn show<S: SlotsOf, B: BookOf + Drop, P: ShowsDesk<B>>(
+/// Hands on what is seen of a desk, and the lines that are held.
+fn show<S: SlotsOf, B: BookOf + Drop, K: Keys, P: ShowsDesk<B>>(
     desk: &Desk<S, B>,
     sheet: &MatchSheet,
+    keys: &K,
     page: &mut P,
 )
     ensures { P.goes_on page.old (desk_sight sheet.now (innings_of desk.now) (state_of desk.now)) page.new }
 {
-    page.show(sheet, desk.book(), desk.position(), own_line(desk));
+    let own = own_line(desk);
+    page.show(sheet, desk.book(), desk.position(), own, keys.held());
 }
 
 /// Tells the scorer where the desk of this letter stands, and takes so many turns.
@@ -96,7 +98,7 @@ fn take_turns<S: SlotsOf, B: BookOf + Drop, L: Link, K: Keys, C: Clock, W: Sink,
     };
     for number in 0..turns {
         turn(alloc, desk, sheet, link, keys, clock, out, &mut between)?;
-        show(desk, sheet, page);
+        show(desk, sheet, keys, page);
     }
     Ok(())
 }

@@ -17,7 +17,6 @@ mod pace;
 mod peer;
 mod reminding;
 mod shows;
-mod shows_desk;
 mod sight_log;
 
 pub use begin::begin_desk;
@@ -30,5 +29,4 @@ pub use laws::{
     the_other_is_hidden,
 };
 pub use shows::Shows;
-pub use shows_desk::{RowsAlone, ShowsDesk};
 pub use sight_log::SightLog;

@@ -1,7 +1,8 @@
--- What is claimed: Both, Sides, Waiting, Sentences, Near, Words, Help.
+-- What is claimed: Both, Sides, Waiting, Sentences, Near, Words, Help. Sights has what else is shown of a desk.
 pub mod Both
 pub mod Sides
 pub mod Waiting
+pub mod Sights
 pub mod Sentences
 pub mod Near
 pub mod Words

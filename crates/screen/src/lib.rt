@@ -5,6 +5,7 @@
 mod both;
 mod near;
 mod sentences;
+mod shows_desk;
 mod sides;
 mod topic;
 mod waiting;
@@ -13,6 +14,7 @@ mod word;
 pub use both::{print_cards, print_cards_of};
 pub use near::print_unknown;
 pub use sentences::{fault_sentence, refusal_sentence};
+pub use shows_desk::{RowsAlone, ShowsDesk};
 pub use sides::{print_player, print_sides};
 pub use topic::{HELP, Topic, help_on};
 pub use waiting::print_waiting;

@@ -2,7 +2,7 @@
 use Rattle.std.specs.Prelude.{◌≡◌, ◌⊎◌, ℕ, List, [], ◌∷◌, ◌++◌}
 use Rattle.agree_core.specs.declared.messages.DeskId.{DeskId}
 use Rattle.desk_state.specs.Value.{state_text}
-use Rattle.live.specs.DeskSights.{DeskSight}
+use Rattle.screen.specs.Sights.{DeskSight}
 use Rattle.station_pages.specs.declared.sight.{TextLog.TextLog, TextLog.Empty, TextLog.Given'}
 
 -- the texts that it was given, the oldest first

@@ -2,7 +2,7 @@
 
 ghost use Rattle.std.specs.Prelude.{◌≡◌, ◌∷◌, ◌++◌, [], IfSome};
 ghost use Rattle.notation.specs.Written.{IsEntry};
-ghost use Rattle.live.specs.DeskSights.{sight_at};
+ghost use Rattle.screen.specs.Sights.{sight_at};
 ghost use Rattle.station_pages.specs.Sights.{ShowsState, texts_in};
 
 use crate::scorers_page::ScorersPage;
@@ -11,8 +11,8 @@ use cards::MatchSheet;
 use corrections::BookOf;
 use desk_state::state_text;
 use links::{HeldLine, HeldLines};
-use live::ShowsDesk;
 use notation::Entry;
+use screen::ShowsDesk;
 use std::alloc::Global;
 use std::cell::RefCell;
 use std::snapshot::Snapshot;

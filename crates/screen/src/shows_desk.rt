@@ -12,7 +12,7 @@ use notation::Entry;
 /// Shows where a desk stands, as a page does. It is handed what its scorer may see: the book, the position, the own vote there
 /// and the lines that are held, and nothing of the other desk's.
 pub trait ShowsDesk<B: BookOf> {
-    ghost use Rattle.live.specs.DeskSights.{DeskSight, sight_at};
+    ghost use Rattle.screen.specs.Sights.{DeskSight, sight_at};
 
     /// How it goes on once this was handed to it.
     ghost goes_on: { Self → DeskSight → Self → Type 0 };
