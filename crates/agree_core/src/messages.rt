@@ -49,7 +49,7 @@ impl Vote {
 }
 
 /// Who asks for votes. A board asks, and never votes.
-#[derive(Clone, Copy, Debug, PartialEq, Eq)]
+#[derive(Clone, Copy)]
 pub enum Asker {
     A,
     B,
@@ -57,7 +57,7 @@ pub enum Asker {
 }
 
 /// A station asks the desks for their votes of its position.
-#[derive(Clone, Copy, Debug, PartialEq, Eq)]
+#[derive(Clone, Copy)]
 pub struct Ask {
     pub from: Asker,
     pub place: u32,
@@ -65,7 +65,7 @@ pub struct Ask {
 }
 
 /// All that is ever sent.
-#[derive(Clone, Copy, Debug, PartialEq, Eq)]
+#[derive(Clone, Copy)]
 pub enum Message {
     Vote(Vote),
     Ask(Ask),

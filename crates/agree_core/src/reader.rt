@@ -11,7 +11,7 @@ use notation::Entry;
 use std::marker::Model;
 
 /// A board's view of the current round: the position and each desk's vote there.
-#[derive(Clone, Copy, Debug)]
+#[derive(Clone, Copy)]
 pub struct Reader {
     position: Position,
     a: Option<Entry>,

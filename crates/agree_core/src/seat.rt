@@ -10,7 +10,7 @@ use notation::Entry;
 use std::marker::Model;
 
 /// What has become of a round after a vote was cast.
-#[derive(Clone, Copy, Debug, PartialEq, Eq)]
+#[derive(Clone, Copy, PartialEq, Eq)]
 pub enum Settled {
     /// The other desk's vote isn't there yet.
     Pending,
@@ -21,7 +21,7 @@ pub enum Settled {
 }
 
 /// What became of a vote that came.
-#[derive(Clone, Copy, Debug, PartialEq, Eq)]
+#[derive(Clone, Copy, PartialEq, Eq)]
 pub enum Heard {
     /// It is a vote of the desk itself.
     Mine,
@@ -42,7 +42,7 @@ pub enum Heard {
 }
 
 /// A desk's part in the current round: the position, its own vote there and the other desk's.
-#[derive(Clone, Copy, Debug)]
+#[derive(Clone, Copy)]
 pub struct Seat {
     desk: DeskId,
     position: Position,

@@ -5,16 +5,18 @@ use Rattle.links.specs.declared.{aside.Aside.Aside, keys.Typed.Typed, stand.Stan
 use Rattle.ahead.specs.declared.log.AheadLog.{AheadLog}
 use Rattle.ahead.specs.declared.tried.Tried.{Tried}
 use Rattle.ahead.specs.Ahead.{given_of, held_of, oldest}
+use Rattle.ahead.specs.Sorts.{may_cast}
 
 -- the two scorers differed since the desk was seen last: it stands at the same place in a later round
 abbrev pub differs_since : Option Stand → Stand → Bool
 differs_since None at = false
 differs_since (Some seen) at = (at.place == seen.place) && nat_lt seen.round at.round
 
--- the desk was given an entry's line, and stands where it stood without a vote: it cast none for it
+-- the desk was given a line for which it may cast a vote, and stands where it stood without one: it cast none for it
 abbrev pub is_not_taken : Option Tried → Stand → Bool
 is_not_taken None at = false
-is_not_taken (Some tried) at = (at.place == tried.place) && ((at.round == tried.round) && not at.has_voted)
+is_not_taken (Some tried) at =
+    (at.place == tried.place) && ((at.round == tried.round) && (not at.has_voted && may_cast tried.line.bytes))
 
 -- the lines of which a row tells that they are dropped
 abbrev pub dropped : Aside → List ArrayString

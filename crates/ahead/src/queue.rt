@@ -12,7 +12,7 @@ use arrayvec::ArrayVec;
 use links::{Aside, HeldLines, Stand, Typed};
 
 /// What the desk is given once all that is dropped is told.
-#[derive(Clone, Copy, Debug, PartialEq, Eq)]
+#[derive(Clone, Copy)]
 pub enum Last {
     /// `quit`.
     Quit,
@@ -26,7 +26,7 @@ pub struct Queue {
     pub(crate) held: HeldLines,
     /// Those that were dropped as they were typed, and weren't told yet.
     pub(crate) lost: HeldLines,
-    /// The entry's line that the desk was given last, until it is seen what that came to.
+    /// The line that the desk was given last, until it is seen what that came to.
     pub(crate) tried: Option<Tried>,
     /// Where the desk stood last.
     pub(crate) seen: Option<Stand>,

@@ -16,7 +16,7 @@ use screen::{Word, is_end, word_of};
 use std::str;
 
 /// What a line that was typed is to those that are held.
-#[derive(Clone, Copy, Debug, PartialEq, Eq)]
+#[derive(Clone, Copy)]
 pub enum Sort {
     /// Any other line: it may be an entry's.
     Entry,
@@ -74,6 +74,16 @@ pub fn sort_of(line: &[u8]) -> Sort
         return Sort::Again;
     }
     by_word(word_of(line))
+}
+
+/// Whether the desk may cast a vote for a line.
+pub fn may_cast(line: &[u8]) -> bool
+    ensures { result ≡ may_cast line.now }
+{
+    match sort_of(line) {
+        Sort::Entry | Sort::Undo | Sort::Again => true,
+        Sort::Quit | Sort::Lists | Sort::Asks => false,
+    }
 }
 
 /// The text of a line, if it is text.
@@ -151,7 +161,7 @@ impl Queue {
         }
     }
 
-    /// Gives the desk an entry's line that was typed, and sees what it comes to.
+    /// Gives the desk a line that was typed, and sees what it comes to.
     fn try_line(&mut self, at: Stand, line: HeldLine, buffer: &[u8; 128], count: usize) -> Typed
         requires count { count ≤ 128 }
         requires held { held_of self.old.log ≡ [] }
@@ -170,7 +180,8 @@ impl Queue {
         self.pass(buffer, count)
     }
 
-    /// Gives the desk a line that was typed, and sees what it comes to where it is text.
+    /// Gives the desk a line that was typed, and sees what it comes to. Where it is no text the desk tells its fault, and what
+    /// is typed behind it is dropped, unless it says `again`.
     fn try_text(&mut self, at: Stand, buffer: &[u8; 128], count: usize) -> Typed
         requires count { count ≤ 128 }
         requires held { held_of self.old.log ≡ [] }
@@ -182,7 +193,10 @@ impl Queue {
     {
         match text_of(&buffer[..count]) {
             Some(line) => self.try_line(at, line, buffer, count),
-            None => self.pass(buffer, count),
+            None => {
+                self.is_deaf = !says_again(&buffer[..count]);
+                self.pass(buffer, count)
+            }
         }
     }
 
@@ -190,7 +204,6 @@ impl Queue {
     /// dropped.
     fn take_no_text(&mut self, buffer: &[u8; 128], count: usize) -> Typed
         requires count { count ≤ 128 }
-        ensures line { held_of self.old.log ≡ [] → result ≡ Typed.Line count }
         ensures given { IsTyped result buffer.now (given_of self.old.log) (given_of self.new.log) }
         ensures typed { typed_of self.new.log ≡ typed_of self.old.log ++ Line (take count buffer.now) ∷ [] }
         ensures held { held_of self.new.log ++ taken_back_by result ≡ held_of self.old.log ++ held_by result }
@@ -203,17 +216,15 @@ impl Queue {
         self.put_by(buffer, count, Aside::NoText)
     }
 
-    /// What becomes of a line that may be an entry's.
+    /// What becomes of a line that may be an entry's, and isn't given at once.
     fn take_entry(&mut self, at: Stand, buffer: &[u8; 128], count: usize) -> Typed
         requires count { count ≤ 128 }
         requires entry { is_entry (take count buffer.now) ≡ true }
         requires room { length (lost_of self.old.log) < 24 }
         ensures given { IsTyped result buffer.now (given_of self.old.log) (given_of self.new.log) }
         ensures typed { typed_of self.new.log ≡ typed_of self.old.log ++ Line (take count buffer.now) ∷ [] }
-        ensures holds { self.old.is_deaf ≡ false → at.has_voted ≡ true → length (held_of self.old.log) < 24
+        ensures holds { self.old.is_deaf ≡ false → length (held_of self.old.log) < 24
             → IsUtf8 (take count buffer.now) → bytes_of (held_by result) ≡ take count buffer.now ∷ [] }
-        ensures passes { self.old.is_deaf ≡ false → at.has_voted ≡ false → held_of self.old.log ≡ []
-            → result ≡ Typed.Line count }
         ensures held { held_of self.new.log ++ taken_back_by result ≡ held_of self.old.log ++ held_by result }
         ensures told { dropped_of self.new.log ≡ dropped_of self.old.log }
     {
@@ -223,30 +234,11 @@ impl Queue {
         if self.is_deaf {
             return self.lose(line);
         }
-        if at.has_voted || !self.held.is_empty() {
-            return self.hold(at, line, buffer, count);
-        }
-        self.try_line(at, line, buffer, count)
+        self.hold(at, line, buffer, count)
     }
 
-    /// What becomes of `undo` where no line is held.
-    fn undo_none(&mut self, at: Stand, buffer: &[u8; 128], count: usize) -> Typed
-        requires count { count ≤ 128 }
-        requires held { held_of self.old.log ≡ [] }
-        ensures given { IsTyped result buffer.now (given_of self.old.log) (given_of self.new.log) }
-        ensures typed { typed_of self.new.log ≡ typed_of self.old.log ++ Line (take count buffer.now) ∷ [] }
-        ensures held { held_of self.new.log ++ taken_back_by result ≡ held_of self.old.log ++ held_by result }
-        ensures told { dropped_of self.new.log ≡ dropped_of self.old.log }
-    {
-        if at.has_voted {
-            return self.put_by(buffer, count, Aside::IsCast(at.place));
-        }
-        self.try_text(at, buffer, count)
-    }
-
-    /// What becomes of `undo`: it takes the newest line held back.
+    /// What becomes of `undo` that isn't given at once: it takes the newest line held back.
     fn undo(&mut self, at: Stand, buffer: &[u8; 128], count: usize) -> Typed
-        requires count { count ≤ 128 }
         requires undo { is_undo (take count buffer.now) ≡ true }
         ensures given { IsTyped result buffer.now (given_of self.old.log) (given_of self.new.log) }
         ensures typed { typed_of self.new.log ≡ typed_of self.old.log ++ Line (take count buffer.now) ∷ [] }
@@ -259,7 +251,7 @@ impl Queue {
                 let place = place_behind(at, self.held.len());
                 Typed::Aside(Aside::TakenBack(place, line))
             }
-            None => self.undo_none(at, buffer, count),
+            None => self.put_by(buffer, count, Aside::IsCast(at.place)),
         }
     }
 
@@ -309,7 +301,7 @@ impl Queue {
         Typed::Nothing
     }
 
-    /// What becomes of a line that was typed.
+    /// What becomes of a line that was typed. Where the desk's vote isn't cast and no line is held, it is given any at once.
     pub fn take(&mut self, at: Stand, buffer: &[u8; 128], count: usize) -> Typed
         requires count { count ≤ 128 }
         requires room { length (lost_of self.old.log) < 24 }
@@ -318,11 +310,14 @@ impl Queue {
         ensures holds { is_entry (take count buffer.now) ≡ true → self.old.is_deaf ≡ false → at.has_voted ≡ true
             → length (held_of self.old.log) < 24 → IsUtf8 (take count buffer.now)
             → bytes_of (held_by result) ≡ take count buffer.now ∷ [] }
-        ensures passes { is_entry (take count buffer.now) ≡ true → self.old.is_deaf ≡ false → at.has_voted ≡ false
-            → held_of self.old.log ≡ [] → result ≡ Typed.Line count }
+        ensures passes { self.old.is_deaf ≡ false → at.has_voted ≡ false → held_of self.old.log ≡ []
+            → result ≡ Typed.Line count }
         ensures held { held_of self.new.log ++ taken_back_by result ≡ held_of self.old.log ++ held_by result }
         ensures told { dropped_of self.new.log ≡ dropped_of self.old.log }
     {
+        if !at.has_voted && !self.is_deaf && self.held.is_empty() {
+            return self.try_text(at, buffer, count);
+        }
         match sort_of(&buffer[..count]) {
             Sort::Entry => self.take_entry(at, buffer, count),
             Sort::Undo => self.take_undo(at, buffer, count),

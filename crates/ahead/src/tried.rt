@@ -3,10 +3,11 @@
 ghost use Rattle.std.specs.Prelude.{◌≡◌};
 ghost use Rattle.ahead.specs.Dropping.{differs_since, is_not_taken};
 
+use crate::taking::may_cast;
 use links::{HeldLine, Stand};
 
-/// An entry's line that the desk was given at this position, and whether it was held before.
-#[derive(Clone, Copy, Debug, PartialEq, Eq)]
+/// A line that the desk was given at this position, and whether it was held before.
+#[derive(Clone, Copy)]
 pub struct Tried {
     pub line: HeldLine,
     pub place: u32,
@@ -24,12 +25,17 @@ pub fn differs_since(seen: Option<Stand>, at: Stand) -> bool
     }
 }
 
-/// Whether the desk cast no vote for the line that it was given last.
+/// Whether the desk cast no vote for the line that it was given last, and may cast one for such a line.
 pub fn is_not_taken(tried: Option<Tried>, at: Stand) -> bool
     ensures { result ≡ is_not_taken tried at }
 {
     match tried {
         None => false,
-        Some(tried) => at.place == tried.place && at.round == tried.round && !at.has_voted,
+        Some(tried) => {
+            at.place == tried.place
+                && at.round == tried.round
+                && !at.has_voted
+                && may_cast(tried.line.as_str().as_bytes())
+        }
     }
 }

@@ -9,7 +9,7 @@ ghost use Rattle.archive_deliveries.specs.Notes as laws;
 use notation::Side;
 
 /// The innings that each side began first and last, numbered from 0, where it has begun one.
-#[derive(Clone, Copy, Debug, PartialEq, Eq)]
+#[derive(Clone, Copy)]
 pub struct Begun {
     pub home_first: Option<usize>,
     pub home_latest: Option<usize>,

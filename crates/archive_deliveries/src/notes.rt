@@ -15,7 +15,7 @@ use notation::Plain;
 use std::alloc::{AllocError, Global};
 
 /// An item of the clean list, with what those before it say.
-#[derive(Clone, Copy, Debug, PartialEq, Eq)]
+#[derive(Clone, Copy)]
 pub struct Noted {
     /// The innings that began last, numbered from 0; 0 before the first.
     pub innings: usize,

@@ -126,7 +126,7 @@ pub fn start_board<'a>(
 ) -> Result<bool, Stopped<'a>> {
     let sheet = short_sheet_at(rt, sheet_path)?;
     let sealing = Sealing::of(rt, &sheet, sheet_path, key)?;
-    let output = RefCell::new(output_at(rt)?);
+    let mut out = Watched::new(output_at(rt)?);
     let errors = RefCell::new(errors_at(rt)?);
     let paths = Paths {
         sheet: sheet_path,
@@ -147,11 +147,9 @@ pub fn start_board<'a>(
         page: page.viewers(),
     };
     let mut notes = Notes::new(Shared::of(&errors));
-    let mut out = Watched::new(Shared::of(&output));
     let mut shown = Shown {
         files,
         page: page.panes(rt.alloc(), &errors),
-        output: &output,
         errors: &errors,
         viewers: page.viewers(),
     };

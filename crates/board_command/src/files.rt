@@ -16,7 +16,7 @@ use live::{Shows, SightLog};
 use machine_files::Replaces;
 use scoreboard::board_text;
 use setup::{StopFault, print_fault, printable};
-use station_screens::{Errors, Output, retry};
+use station_screens::{Errors, retry};
 use std::alloc::{AllocError, Global};
 use std::cell::RefCell;
 use streams::{Sink, Watched, WriteFailed};
@@ -27,7 +27,7 @@ use waits::{FILE_RETRY_WAIT, LONGEST_STATE_AGE, SHORTEST_FILE_AGE};
 const FOREVER: u64 = u64::MAX;
 
 /// When a file was written, or couldn't be, and how many entries the book had.
-#[derive(Clone, Copy, Debug, PartialEq, Eq)]
+#[derive(Clone, Copy)]
 struct Tried {
     entries: u32,
     at: u64,
@@ -297,12 +297,11 @@ impl<T: Replaces, E: Sink, B: BookOf + Drop> Shows<B> for Files<'_, T, E, B> {
 }
 
 /// All that a board shows at the end of a turn: its files and its page, each handed the same books, of which neither keeps the
-/// other from being written. What waits for its screens and for who looks at its page is handed on, as far as it is taken.
+/// other from being written. What waits for standard error and for who looks at its page is handed on, as far as it is taken.
 #[derive(Drop)]
-pub struct Shown<'o, 'e, 'v, 'a, F, P> {
+pub struct Shown<'e, 'v, 'a, F, P> {
     pub files: F,
     pub page: P,
-    pub output: &'o RefCell<Output<'a>>,
     pub errors: &'e RefCell<Errors<'a>>,
     pub viewers: Option<&'v RefCell<Viewers>>,
 }
@@ -316,7 +315,7 @@ fn tell(viewers: Option<&RefCell<Viewers>>, now: u64) {
     }
 }
 
-impl<B: BookOf, F: Shows<B>, P: Shows<B>> Shows<B> for Shown<'_, '_, '_, '_, F, P> {
+impl<B: BookOf, F: Shows<B>, P: Shows<B>> Shows<B> for Shown<'_, '_, '_, F, P> {
     ghost seen = { λ shown. F.seen shown.files };
 
     ghost goes_on = { λ old sight now new.
@@ -325,7 +324,6 @@ impl<B: BookOf, F: Shows<B>, P: Shows<B>> Shows<B> for Shown<'_, '_, '_, '_, F, 
     ghost failed = { λ shown. F.failed shown.files };
 
     fn show(&mut self, sheet: &MatchSheet, book: &B, now: u64) -> Result<(), WriteFailed> {
-        retry(self.output);
         retry(self.errors);
         let _ = self.page.show(sheet, book, now);
         let shown = self.files.show(sheet, book, now);

@@ -26,7 +26,7 @@ impl TextLog {
 }
 
 /// Which of a board's texts it is.
-#[derive(Clone, Copy, Debug, PartialEq, Eq)]
+#[derive(Clone, Copy)]
 pub enum Kind {
     Lines,
     State,

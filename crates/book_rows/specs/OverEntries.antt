@@ -14,7 +14,7 @@ use Rattle.cards.specs.Page.{placed_entry}
 use Rattle.cards.specs.Sheet.{Sheet, player_of}
 use Rattle.over_numbers.specs.declared.count.Count.{Count}
 use Rattle.over_numbers.specs.Counts.{counted, is_in_over}
-use Rattle.score_rows.specs.Row.{spaced_mark}
+use Rattle.cards.specs.Marks.{spaced_mark}
 
 -- ---- an entry, before which the innings had come so far, with this player at the end that is bowled to
 

@@ -13,12 +13,11 @@ ghost use Rattle.book_rows.specs.OverEntries as over;
 
 use crate::listing::{print_entry, print_place};
 use ball_laws::Crease;
-use cards::MatchSheet;
+use cards::{MatchSheet, print_ball};
 use corrections::{BookOf, Placed};
 use match_laws::{Match, opponent};
 use notation::{Ball, Entry, Plain, Player, Side};
 use over_numbers::Count;
-use score_rows::print_ball;
 use streams::{Sink, Watched, WriteFailed};
 
 /// Prints the over of the delivery that comes next, and its number there.

@@ -22,7 +22,7 @@ use streams::{Sink, Watched, WriteFailed};
 
 /// What both desks wrote in a round of a place, where it isn't the same: `None` where a desk has no vote there. `place`
 /// is below 8,192, `round` below 256.
-#[derive(Clone, Copy, Debug)]
+#[derive(Clone, Copy)]
 pub struct Difference {
     pub place: u32,
     pub round: u32,

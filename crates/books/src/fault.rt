@@ -8,7 +8,7 @@ use desk::OpenRefusal;
 use std::alloc::AllocError;
 
 /// Why an input has no book.
-#[derive(Clone, Copy, Debug, PartialEq, Eq)]
+#[derive(Clone, Copy)]
 pub enum BookFault {
     /// Memory was refused.
     NoMemory,
@@ -57,7 +57,7 @@ impl From<OpenRefusal> for BookFault {
 }
 
 /// Why both desks' votes files have no book.
-#[derive(Clone, Copy, Debug, PartialEq, Eq)]
+#[derive(Clone, Copy)]
 pub enum BothFault {
     /// Memory was refused.
     NoMemory,

@@ -10,7 +10,7 @@ use streams::{Sink, Watched, WriteFailed};
 use thiserror::Error;
 
 /// Why an entry is refused.
-#[derive(Clone, Copy, Debug, PartialEq, Eq, Error)]
+#[derive(Clone, Copy, Debug, Error)]
 pub enum Refusal {
     /// 8,192 entries were taken.
     PlacesFull,
@@ -19,7 +19,7 @@ pub enum Refusal {
 }
 
 /// Why a line isn't taken.
-#[derive(Clone, Copy, Debug, PartialEq, Eq)]
+#[derive(Clone, Copy)]
 pub enum Rejected {
     /// It is no entry line.
     Fault(LineFault),

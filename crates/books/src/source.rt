@@ -16,7 +16,7 @@ use streams::LONGEST_INPUT;
 use votes_file::book_of_file;
 
 /// What a book is made of.
-#[derive(Clone, Copy, Debug, PartialEq, Eq)]
+#[derive(Clone, Copy)]
 pub enum Source {
     /// Pen lines.
     Lines,

@@ -31,6 +31,13 @@ mark runs kind is_out =
 abbrev pub mark_of : Ball → List ℕ
 mark_of b = mark (runs_of b) b.kind (is_some b.out)
 
+abbrev pub dead_mark : Bool → List ℕ
+dead_mark is_dead = if is_dead then codes "d" else []
+
+-- the mark of a delivery, behind a space, with `d` where it was ruled dead
+abbrev pub spaced_mark : Ball → List ℕ
+spaced_mark b = codes " " ++ mark_of b ++ dead_mark b.dead
+
 -- the text of a mark
 abbrev pub mark_text : Mark → List ℕ
 mark_text (Mark.Dot text) = text.now

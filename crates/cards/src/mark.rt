@@ -1,15 +1,17 @@
 //! Deliveries as an over's row shows them.
 
-ghost use Rattle.std.specs.Prelude.{◌≡◌, ◌≤◌};
+ghost use Rattle.std.specs.Prelude.{◌≡◌, ◌≤◌, ◌++◌, OnErr, OnOk, codes, true};
 ghost use Rattle.match_laws.specs.Figures.{runs_of};
 ghost use Rattle.cards.specs.Marks as laws;
 ghost use Rattle.cards.specs.Marks.{mark_text};
+ghost use Rattle.streams.specs.Watched.{Prints, has_failed};
 
 use ball_laws::runs_of;
 use notation::{Ball, Kind};
+use streams::{Sink, Watched, WriteFailed};
 
 /// A delivery, as an over's row shows it: these texts, one behind the other.
-#[derive(Clone, Copy, Debug, PartialEq, Eq)]
+#[derive(Clone, Copy)]
 pub enum Mark {
     /// One with no runs.
     Dot(&'static str),
@@ -66,4 +68,32 @@ pub fn mark_of(ball: &Ball) -> Mark
     ensures { mark_text result ≡ laws.mark_of ball.now }
 {
     mark_with(all_runs(ball), ball.kind, ball.out.is_some())
+}
+
+/// Prints a mark, behind a space.
+fn print_mark<W: Sink>(out: &mut Watched<W>, mark: Mark) -> Result<(), WriteFailed>
+    ensures text { OnOk result (Prints W.contents out.old out.new (codes " " ++ mark_text mark)) }
+    ensures failed { OnErr result (has_failed out.new ≡ true) }
+{
+    match mark {
+        Mark::Dot(text) => write!(out, " {text}"),
+        Mark::Runs(count, kind, wicket) => write!(out, " {count}{kind}{wicket}"),
+    }
+}
+
+/// The letter behind the mark of a delivery that was ruled dead.
+pub fn dead_mark(is_dead: bool) -> &'static str
+    ensures { result.now ≡ laws.dead_mark is_dead }
+{
+    if is_dead { "d" } else { "" }
+}
+
+/// Prints a delivery's mark, behind a space.
+pub fn print_ball<W: Sink>(out: &mut Watched<W>, ball: &Ball) -> Result<(), WriteFailed>
+    ensures text { OnOk result (Prints W.contents out.old out.new (laws.spaced_mark ball.now)) }
+    ensures failed { OnErr result (has_failed out.new ≡ true) }
+{
+    print_mark(out, mark_of(ball))?;
+    let dead = dead_mark(ball.dead);
+    write!(out, "{dead}")
 }

@@ -9,7 +9,7 @@ use std::marker::Model;
 const USUAL: usize = 80;
 
 /// How many columns a scorer's rows have, 60 to 200.
-#[derive(Clone, Copy, Debug, PartialEq, Eq)]
+#[derive(Clone, Copy)]
 pub struct Columns {
     number: usize,
 }

@@ -3,7 +3,7 @@
 use notation::{Player, Side};
 
 /// What of a player.
-#[derive(Clone, Copy, Debug, PartialEq, Eq)]
+#[derive(Clone, Copy)]
 pub enum Part {
     /// What became of him as a batter.
     Fate,
@@ -14,7 +14,7 @@ pub enum Part {
 }
 
 /// What can differ; innings are numbered from 0.
-#[derive(Clone, Copy, Debug, PartialEq, Eq)]
+#[derive(Clone, Copy)]
 pub enum Change {
     /// Of an innings and a player of a side.
     Player(Part, usize, Side, Player),

@@ -9,7 +9,7 @@ use match_laws::{BattingRow, BowlingRow, Match, opponent};
 use notation::{Player, Side};
 
 /// How a side's innings stands: its total, wickets, called overs and counting deliveries since.
-#[derive(Clone, Copy, Debug, PartialEq, Eq)]
+#[derive(Clone, Copy)]
 pub struct Total {
     pub total: u32,
     pub wickets: u32,
@@ -18,7 +18,7 @@ pub struct Total {
 }
 
 /// A player of the side that bats.
-#[derive(Clone, Copy, Debug, PartialEq, Eq)]
+#[derive(Clone, Copy)]
 pub struct Batter {
     pub side: Side,
     pub player: Player,

@@ -19,7 +19,7 @@ use std::alloc::{AllocError, Global};
 use streams::{Feed, InputFault, LONGEST_INPUT, Sink, Watched, WriteFailed, read_all};
 
 /// Why `check` ends before its end.
-#[derive(Clone, Copy, Debug, PartialEq, Eq)]
+#[derive(Clone, Copy)]
 pub enum CheckFault {
     /// Memory was refused.
     NoMemory,

@@ -21,7 +21,7 @@ use streams::{Feed, InputFault, Sink, Watched, read_all};
 use toml::Table;
 
 /// Why `card`, `export` and `compare` of both files end before their end.
-#[derive(Clone, Copy, Debug, PartialEq, Eq)]
+#[derive(Clone, Copy)]
 pub enum BothPrintFault {
     /// Memory was refused.
     NoMemory,

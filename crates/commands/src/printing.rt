@@ -8,7 +8,7 @@ use std::alloc::AllocError;
 use streams::InputFault;
 
 /// Why `card`, `export`, `lines` and `page` end before their end.
-#[derive(Clone, Copy, Debug, PartialEq, Eq)]
+#[derive(Clone, Copy)]
 pub enum PrintFault {
     /// Memory was refused.
     NoMemory,

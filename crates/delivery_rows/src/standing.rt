@@ -10,7 +10,7 @@ use notation::{Ball, Leave, Plain};
 use std::alloc::AllocError;
 
 /// How an innings stands after a delivery: its over from 0, its number in it from 1, and runs and wickets.
-#[derive(Clone, Copy, Debug, PartialEq, Eq)]
+#[derive(Clone, Copy)]
 pub struct Standing {
     pub over: u32,
     pub ball: u64,

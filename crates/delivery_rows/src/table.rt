@@ -18,7 +18,7 @@ use std::alloc::{AllocError, Global};
 use toml::Table as Document;
 
 /// What the rows of a table are of.
-#[derive(Clone, Copy, Debug, PartialEq, Eq)]
+#[derive(Clone, Copy)]
 pub enum Table {
     /// Deliveries.
     Deliveries,

@@ -11,7 +11,7 @@ use std::marker::Model;
 use std::mem;
 
 /// A delivery with the place at which it was entered.
-#[derive(Clone, Copy, Debug, PartialEq, Eq)]
+#[derive(Clone, Copy)]
 pub struct Delivery {
     pub place: u32,
     pub ball: Ball,

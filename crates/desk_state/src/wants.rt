@@ -10,7 +10,7 @@ use match_laws::Outcome;
 use notation::Player;
 
 /// What a scorer is about to write.
-#[derive(Clone, Copy, Debug, PartialEq, Eq)]
+#[derive(Clone, Copy)]
 pub enum Wants {
     /// That an innings begins.
     Innings,

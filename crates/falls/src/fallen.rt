@@ -15,7 +15,7 @@ use notation::{Leave, Plain};
 use std::alloc::{AllocError, Global};
 
 /// Where a wicket fell.
-#[derive(Clone, Copy, Debug, PartialEq, Eq)]
+#[derive(Clone, Copy)]
 pub struct FallAt {
     /// The number of its innings, from 1.
     pub innings: usize,

@@ -5,14 +5,14 @@ use entry_log::Choice;
 use notation::Entry;
 
 /// A desk or a board. Boards are numbered from 1.
-#[derive(Clone, Copy, Debug, PartialEq, Eq)]
+#[derive(Clone, Copy)]
 pub enum Station {
     Desk(DeskId),
     Board(u8),
 }
 
 /// One event of a schedule.
-#[derive(Clone, Copy, Debug, PartialEq, Eq)]
+#[derive(Clone, Copy)]
 pub enum Event {
     /// The desk's scorer pens an entry.
     Pen(DeskId, Entry),

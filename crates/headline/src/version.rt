@@ -1,7 +1,7 @@
 //! The versions of a desk's file.
 
 /// The version of a desk's file.
-#[derive(Clone, Copy, Debug, PartialEq, Eq)]
+#[derive(Clone, Copy)]
 pub enum FileVersion {
     /// Version 1: slots of 32 bytes.
     Old,

@@ -4,7 +4,7 @@ ghost use Rattle.std.specs.Prelude.{◌≡◌};
 ghost use Rattle.help.specs.Words as words;
 
 /// A word of the program, of which `help` tells what it does.
-#[derive(Clone, Copy, Debug, PartialEq, Eq)]
+#[derive(Clone, Copy)]
 pub enum Subject {
     /// `help` itself, or no word: a line for each of them.
     Help,

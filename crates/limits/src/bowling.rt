@@ -14,7 +14,7 @@ use corrections::{BookOf, Placed, overs_of};
 use notation::{Plain, Player};
 
 /// In how many called overs of an innings a player bowled, and whether in the open one.
-#[derive(Clone, Copy, Debug, PartialEq, Eq)]
+#[derive(Clone, Copy)]
 struct Bowled {
     called: u32,
     this: bool,

@@ -1,7 +1,7 @@
 //! Powerplays.
 
 /// Overs in which the field is restricted, from the first to the last one, numbered from 1.
-#[derive(Clone, Copy, Debug, PartialEq, Eq)]
+#[derive(Clone, Copy)]
 pub struct Powerplay {
     pub first: u16,
     pub last: u16,

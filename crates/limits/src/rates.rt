@@ -10,7 +10,7 @@ use match_laws::Match;
 use std::fmt;
 
 /// A number of hundredths, which shows with two places.
-#[derive(Clone, Copy, Debug, PartialEq, Eq)]
+#[derive(Clone, Copy)]
 pub struct TwoPlaces {
     pub hundredths: u64,
 }

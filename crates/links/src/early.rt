@@ -25,7 +25,7 @@ pub fn hears(from: Asker, desk: DeskId) -> bool
 }
 
 /// Whose vote, and for which position.
-#[derive(Clone, Copy, Debug, PartialEq, Eq, PartialOrd, Ord)]
+#[derive(Clone, Copy, PartialEq, Eq, PartialOrd, Ord)]
 struct Ballot {
     at: Position,
     desk: u8,

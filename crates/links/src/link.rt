@@ -18,7 +18,7 @@ pub const SEALED_ROOM: usize = 65;
 pub const MOST_TAKEN: usize = 8;
 
 /// For whom a datagram is handed to a link.
-#[derive(Clone, Copy, Debug, PartialEq, Eq)]
+#[derive(Clone, Copy)]
 pub enum Receivers {
     /// Every peer.
     ToAll,
@@ -37,7 +37,7 @@ pub enum Taken {
 }
 
 /// What was taken, where a datagram is read: as the message of a match that it says, or as the first fault of its bytes.
-#[derive(Clone, Copy, Debug, PartialEq, Eq)]
+#[derive(Clone, Copy)]
 pub enum Arrival {
     Datagram(usize, Result<Message, WireFault>),
     Nothing,

@@ -40,10 +40,9 @@ pub some_more : (text : List ℕ) (m n : ℕ) (s t : Option (List ℕ)) → (m �
 some_more text m n s t e a = grind (arith, nat_tests)
 
 -- and handed on
-pub printed_more : {E : Type 0} (r : Result (Unit {0}) E) (text : List ℕ) (m n : ℕ) (s t u : Option (List ℕ)) → (m ≡ n → ⊥) → Appends s t text → Keeps t u
-    → OnOk r (Appends s u (grown (nat_eq m n) text))
-printed_more (Ok done) text m n s t u e a k = some_more text m n s u e (appends_kept s t u text a k)
-printed_more (Err fault) text m n s t u e a k = tt
+pub handed_on : {E : Type 0} (r : Result (Unit {0}) E) (text : List ℕ) (s t u : Option (List ℕ)) → Appends s t text → Keeps t u → OnOk r (Appends s u text)
+handed_on (Ok done) text s t u a k = appends_kept s t u text a k
+handed_on (Err fault) text s t u a k = tt
 
 -- the same, by a length that is as told
 pub printed_by : (text : List ℕ) (m : ℕ) {n had : ℕ} (s t : Option (List ℕ)) → n ≡ had → Appends s t (grown (nat_eq m n) text) → Appends s t (grown (nat_eq m had) text)

@@ -5,7 +5,7 @@ use crate::peer::Peer;
 use station_texts::warned::Warned;
 
 /// What a desk's process keeps between its calls.
-#[derive(Clone, Copy, Debug, PartialEq, Eq)]
+#[derive(Clone, Copy)]
 pub struct Between {
     pub pace: Pace,
     pub peer: Peer,

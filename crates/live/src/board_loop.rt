@@ -32,7 +32,7 @@ use streams::{Sink, Watched, WriteFailed};
 use wire::WireFault;
 
 /// What a board's process keeps between its calls.
-#[derive(Clone, Copy, Debug, PartialEq, Eq)]
+#[derive(Clone, Copy, Debug)]
 struct Between {
     pace: Pace,
     telling: Telling,
@@ -160,7 +160,7 @@ fn take_all<B: BookOf, L: Link, C: Clock, N: Notices>(
     }
 }
 
-/// Prints a board's six lines, where its book isn't as long as it was.
+/// Prints a board's six lines, where its book isn't as long as it was, and hands on what waits for its screen.
 fn print_news<B: BookOf, W: Sink>(
     board: &Board<B>,
     sheet: &MatchSheet,
@@ -172,10 +172,9 @@ fn print_news<B: BookOf, W: Sink>(
         (board_text sheet.now (B.innings_a_side (book_of board.now)) (history_of (B.content (book_of board.now)))))) }
     ensures failed { OnErr result (has_failed out.new ≡ true) }
 {
-    if board.book().len() == before {
-        return Ok(());
+    if board.book().len() != before {
+        board_lines(sheet, board.shown(), out)?;
     }
-    board_lines(sheet, board.shown(), out)?;
     out.flush()
 }
 

@@ -33,7 +33,7 @@ use std::alloc::Global;
 use streams::{Sink, Watched};
 
 /// Why a desk's process didn't begin, or ended before its turns were over.
-#[derive(Clone, Copy, Debug, PartialEq, Eq)]
+#[derive(Clone, Copy)]
 pub enum LifeEnd {
     /// The votes on its disk are refused, or the disk failed, or it was out of memory.
     NotBegun(OpenRefusal),

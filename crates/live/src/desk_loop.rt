@@ -134,17 +134,17 @@ fn take_line<S: SlotsOf, B: BookOf + Drop, L: Link, K: Keys, W: Sink>(
 {
     let mut buffer = [0; LINE_ROOM];
     let stand = stand_of(desk);
-    let count = match keys.line(stand, &mut buffer) {
-        Typed::Nothing => return Ok(()),
-        Typed::Ended => return Err(DeskEnd::NoMoreLines),
-        Typed::Line(count) => count,
-        Typed::Aside(aside) => return tell_aside(out, sheet, &aside),
-    };
     let at = desk.position();
     let last = desk.last_entry();
     let both = Both {
         own: own_line(desk),
         other: desk.noted(),
+    };
+    let count = match keys.line(stand, &mut buffer) {
+        Typed::Nothing => return Ok(()),
+        Typed::Ended => return Err(DeskEnd::NoMoreLines),
+        Typed::Line(count) => count,
+        Typed::Aside(aside) => return tell_aside(out, sheet, &aside),
     };
     let line = &buffer[..count];
     let said = pen(alloc, desk, sheet, line, stand, last, link);

@@ -7,7 +7,7 @@ use streams::WriteFailed;
 use wire::What;
 
 /// Why a desk's process ends before its turns are over.
-#[derive(Clone, Copy, Debug, PartialEq, Eq)]
+#[derive(Clone, Copy)]
 pub enum DeskEnd {
     /// The scorer said `quit`.
     Quit,

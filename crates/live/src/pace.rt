@@ -8,7 +8,7 @@ use waits::{FIRST_REPEAT_WAIT, LONGEST_REPEAT_WAIT};
 
 /// When a station says next what it says unasked: at once where its position is new, then again after 20 ms, after
 /// twice that and so on, up to twice a second. Whatever its clock shows, what was said half a second before is due.
-#[derive(Clone, Copy, Debug, PartialEq, Eq)]
+#[derive(Clone, Copy, Debug)]
 pub struct Pace {
     due: u64,
     wait: u64,

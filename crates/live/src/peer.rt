@@ -43,7 +43,7 @@ fn sender_of(message: &Message) -> Asker
 }
 
 /// When something of the other desk came.
-#[derive(Clone, Copy, Debug, PartialEq, Eq)]
+#[derive(Clone, Copy)]
 pub struct Peer {
     /// The letter of this desk.
     own: DeskId,

@@ -6,7 +6,7 @@ use std::net::{IpAddr, SocketAddr};
 pub const MOST_PEERS: usize = 5;
 
 /// Where a station listens, and the text that says so.
-#[derive(Clone, Copy, Debug, PartialEq, Eq)]
+#[derive(Clone, Copy)]
 pub struct Address<'a> {
     pub text: &'a str,
     pub socket: SocketAddr,

@@ -9,7 +9,7 @@ use waits::LONGEST_PAGE_WAIT;
 pub const NO_DESCRIPTOR: RawFd = -1;
 
 /// What ends a wait for datagrams besides: a keyboard at which something was typed, and a page at which somebody came or asks.
-#[derive(Clone, Copy, Debug)]
+#[derive(Clone, Copy)]
 pub struct WaitEnds {
     pub keyboard: Option<RawFd>,
     pub page: Option<RawFd>,

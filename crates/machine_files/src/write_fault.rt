@@ -6,7 +6,7 @@ ghost use Rattle.machine_files.specs.WriteFault as texts;
 use std::io::{self, ErrorKind};
 
 /// Which of a file's two names is meant: its own, or that of the new file beside it that is to take it.
-#[derive(Clone, Copy, Debug, PartialEq, Eq)]
+#[derive(Clone, Copy)]
 pub enum Name {
     Own,
     /// `.unfinished` behind its own: a votes file that is written anew.
@@ -16,7 +16,7 @@ pub enum Name {
 }
 
 /// Why nothing is written there.
-#[derive(Clone, Copy, Debug, PartialEq, Eq)]
+#[derive(Clone, Copy)]
 pub enum Cause {
     /// Another process has it to itself, as a desk has its votes file.
     InUse,
@@ -59,7 +59,7 @@ pub enum Cause {
 }
 
 /// Which file it is, and why nothing is written there.
-#[derive(Clone, Copy, Debug, PartialEq, Eq)]
+#[derive(Clone, Copy)]
 pub struct WriteFault {
     pub name: Name,
     pub why: Cause,

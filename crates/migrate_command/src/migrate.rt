@@ -21,7 +21,7 @@ use streams::{Sink, Watched, WriteFailed};
 use vote_store::{Migrated, Refusal, migrate};
 
 /// Why `migrate` ends before its end.
-#[derive(Clone, Copy, Debug, PartialEq, Eq)]
+#[derive(Clone, Copy)]
 pub enum MigrateFault {
     /// Memory was refused.
     NoMemory,

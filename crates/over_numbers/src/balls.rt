@@ -9,7 +9,7 @@ use corrections::{BookOf, Placed};
 use notation::{Plain, number_in};
 
 /// A delivery of an innings: its over, as they were called, and its number there, both from 1.
-#[derive(Clone, Copy, Debug, PartialEq, Eq)]
+#[derive(Clone, Copy)]
 pub struct Named {
     pub over: u32,
     pub ball: u32,

@@ -8,7 +8,7 @@ ghost use Rattle.over_numbers.specs.Counts as counts;
 use notation::Plain;
 
 /// How far an innings has come, before the item that comes next.
-#[derive(Clone, Copy, Debug, PartialEq, Eq)]
+#[derive(Clone, Copy)]
 pub struct Count {
     /// How many innings have begun.
     pub begun: usize,

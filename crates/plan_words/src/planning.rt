@@ -32,7 +32,7 @@ pub enum Planned {
 }
 
 /// Why it isn't known what is wanted.
-#[derive(Clone, Copy, Debug, PartialEq, Eq)]
+#[derive(Clone, Copy)]
 enum Unread {
     /// Something isn't clear.
     Unclear(Unclear),

@@ -21,7 +21,7 @@ pub struct Draft {
 }
 
 /// What came of a line.
-#[derive(Clone, Copy, Debug, PartialEq, Eq)]
+#[derive(Clone, Copy)]
 pub enum Trial {
     /// The book takes it.
     Taken,

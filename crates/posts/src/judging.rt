@@ -22,7 +22,7 @@ const MOST_BYTES: usize = 128;
 pub type PostedLine = ArrayVec<u8, 128>;
 
 /// A post of a page.
-#[derive(Clone, Copy, Debug)]
+#[derive(Clone, Copy)]
 pub struct Post<'p> {
     /// Whether it names this host, and comes from a page of it or from none.
     pub is_from_here: bool,

@@ -10,7 +10,7 @@ use hex::FromHex;
 use itoa::Buffer;
 
 /// What a post says of its line.
-#[derive(Clone, Copy, Debug, PartialEq, Eq)]
+#[derive(Clone, Copy)]
 pub struct Stamp {
     /// The position that the line is meant for.
     pub at: Position,

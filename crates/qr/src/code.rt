@@ -10,7 +10,7 @@ use crate::placing::placed;
 
 /// A QR code. It prints as 19 rows of 41 half blocks, black on white, with the margin of four modules that readers ask for at both sides, and
 /// half of it above and below.
-#[derive(Clone, Copy, Debug, PartialEq, Eq)]
+#[derive(Clone, Copy)]
 pub struct Code {
     modules: [bool; 1089],
 }

@@ -21,7 +21,7 @@ use step::{Stepped, begin, step_all};
 use streams::{Feed, InputFault, Sink, Watched, read_all};
 
 /// Why `replay` ends before its end.
-#[derive(Clone, Copy, Debug, PartialEq, Eq)]
+#[derive(Clone, Copy)]
 pub enum ReplayFault {
     /// Memory was refused.
     NoMemory,

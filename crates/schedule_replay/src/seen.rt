@@ -7,7 +7,7 @@ use std::alloc::AllocError;
 use wire::WireFault;
 
 /// Why a desk doesn't do what it is told.
-#[derive(Clone, Copy, Debug, PartialEq, Eq)]
+#[derive(Clone, Copy, PartialEq, Eq)]
 pub enum Cause {
     /// It doesn't pen the entry; or its disk failed as it answered an ask.
     Desk(desk::Refusal),
@@ -18,7 +18,7 @@ pub enum Cause {
 }
 
 /// What an event is answered.
-#[derive(Clone, Copy, Debug, PartialEq, Eq)]
+#[derive(Clone, Copy, PartialEq, Eq)]
 pub enum Seen {
     Penned(Settled),
     /// The desk refuses.
@@ -45,7 +45,7 @@ pub enum Seen {
 
 /// Why a world doesn't take an event. It stays as it was; after `NoMemory` of an `Open` or a `Migrate` the
 /// desk's disk may be synced.
-#[derive(Clone, Copy, Debug, PartialEq, Eq)]
+#[derive(Clone, Copy, PartialEq, Eq)]
 pub enum WorldRefusal {
     /// 80: no message of this number was handed out yet.
     NoMessage,

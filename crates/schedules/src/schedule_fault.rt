@@ -9,7 +9,7 @@ use std::error::Error;
 use std::fmt;
 
 /// Why a text is no schedule: the first line at fault, counted from 1.
-#[derive(Clone, Copy, Debug, PartialEq, Eq)]
+#[derive(Clone, Copy, Debug)]
 pub enum ScheduleFault {
     /// An allocation failed.
     NoMemory,

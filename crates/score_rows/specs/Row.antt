@@ -17,7 +17,7 @@ use Rattle.limits.specs.Limits.{overs_for}
 use Rattle.limits.specs.Figures.{runs_needed}
 use Rattle.cards.specs.Sheet.{Sheet, name_of, player_of}
 use Rattle.cards.specs.Bowling.{fielding, overs_of}
-use Rattle.cards.specs.Marks.{mark_of}
+use Rattle.cards.specs.Marks.{spaced_mark}
 use Rattle.cards.specs.Results.{counted, result_text}
 use Rattle.score_rows.specs.declared.form.Form.{Form}
 use Rattle.score_rows.specs.declared.room.Room.{Room}
@@ -97,13 +97,6 @@ bowler_text f s side p row = cut (letters f) (player_of s side p) ++ codes " " +
 abbrev pub bowler : Form → Sheet → History → ℕ → Option ℕ → List ℕ
 bowler f s h i None = []
 bowler f s h i (Some p) = codes "  " ++ bowler_text f s (fielding h i) p (bowling_row_of h i p)
-
-abbrev pub dead_mark : Bool → List ℕ
-dead_mark is_dead = if is_dead then codes "d" else []
-
--- the mark of a delivery, behind a space, with `d` where it was ruled dead
-abbrev pub spaced_mark : Ball → List ℕ
-spaced_mark b = codes " " ++ mark_of b ++ dead_mark b.dead
 
 -- the marks of an over, of whose deliveries the newest is given first, in the order in which they were bowled
 abbrev pub marks : List Ball → List ℕ

@@ -9,7 +9,7 @@ ghost use Rattle.score_rows.specs.Fit as fit;
 use streams::{Sink, Watched, WriteFailed};
 
 /// What of a row is shown, the most first.
-#[derive(Clone, Copy, Debug, PartialEq, Eq)]
+#[derive(Clone, Copy)]
 pub enum Form {
     /// The team's name and the players'.
     Whole,

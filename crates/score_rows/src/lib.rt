@@ -19,7 +19,6 @@ mod widths_behind;
 
 pub use aim::print_result;
 pub use bowlers::print_bowlers;
-pub use marks::print_ball;
 pub use over_check::print_check;
 pub use over_end::print_over_note;
 pub use row::print_row;

@@ -10,7 +10,7 @@ use cards::MatchSheet;
 use itoa::Buffer;
 
 /// What is left of a row.
-#[derive(Clone, Copy, Debug, PartialEq, Eq)]
+#[derive(Clone, Copy)]
 pub enum Room {
     /// So many columns.
     Left(usize),

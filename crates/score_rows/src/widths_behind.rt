@@ -9,17 +9,16 @@ ghost use Rattle.match_laws.specs.Stands.{ForEachHistory};
 ghost use Rattle.corrections.specs.CleanList.{history_of};
 ghost use Rattle.corrections.specs.Overs.{balls_of};
 ghost use Rattle.limits.specs.Figures as figures;
-ghost use Rattle.cards.specs.Marks.{mark_text};
+ghost use Rattle.cards.specs.Marks.{mark_text, spaced_mark};
 ghost use Rattle.score_rows.specs.Fit as fit;
 ghost use Rattle.score_rows.specs.Limited as limited;
 ghost use Rattle.score_rows.specs.Row as rows;
 ghost use Rattle.score_rows.specs.inner.Items as items;
 
 use crate::limited::is_free;
-use crate::marks::dead_mark;
 use crate::over_end::{counting_of, is_uncalled};
 use crate::room::Room;
-use cards::{Mark, MatchSheet, mark_of};
+use cards::{Mark, MatchSheet, dead_mark, mark_of};
 use corrections::{BookOf, Placed, bowler_of};
 use limits::runs_needed;
 use match_laws::{Match, Outcome};
@@ -38,7 +37,7 @@ fn mark_room(room: Room, mark: Mark) -> Room
 
 /// Behind a delivery's mark.
 fn ball_room(room: Room, ball: &Ball) -> Room
-    ensures { result ≡ fit.behind room (rows.spaced_mark ball.now) }
+    ensures { result ≡ fit.behind room (spaced_mark ball.now) }
 {
     mark_room(room, mark_of(ball)).text(dead_mark(ball.dead))
 }

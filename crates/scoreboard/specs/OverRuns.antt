@@ -7,7 +7,7 @@ use Rattle.match_laws.specs.History.{begun}
 use Rattle.match_laws.specs.Figures.{runs_of}
 use Rattle.json.specs.Json.{Json}
 use Rattle.json_fields.specs.Values.{Field, array_of, object_of, number_field}
-use Rattle.scoreboard.specs.declared.over_runs.OverRuns.{OverRuns}
+use Rattle.scoreboard.specs.declared.value.OverRuns.{OverRuns}
 
 -- each with the number of its innings, from 1
 abbrev pub over_runs : History → List OverRuns

@@ -8,7 +8,6 @@ mod laws;
 mod limited;
 mod marks;
 mod now;
-mod over_runs;
 mod recent;
 mod shares;
 mod stand;

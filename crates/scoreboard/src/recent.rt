@@ -15,7 +15,7 @@ use notation::Plain;
 
 /// The runs off the last overs that were called, the newest first, none for one that there wasn't; and how many there were, of
 /// five.
-#[derive(Clone, Copy, Debug, PartialEq, Eq)]
+#[derive(Clone, Copy)]
 struct Five {
     first: u32,
     second: u32,
@@ -26,7 +26,7 @@ struct Five {
 }
 
 /// These, and the runs off the open over.
-#[derive(Clone, Copy, Debug, PartialEq, Eq)]
+#[derive(Clone, Copy)]
 struct Recent {
     this: u32,
     called: Five,

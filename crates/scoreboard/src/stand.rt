@@ -19,14 +19,14 @@ use notation::{Ball, Kind, Leave, Plain, Player};
 use std::alloc::AllocError;
 
 /// What came since a wicket fell: runs, and balls that were faced.
-#[derive(Clone, Copy, Debug, PartialEq, Eq)]
+#[derive(Clone, Copy)]
 pub struct Stand {
     pub runs: u32,
     pub balls: u32,
 }
 
 /// What came of both, and what each who is in made of it.
-#[derive(Clone, Copy, Debug, PartialEq, Eq)]
+#[derive(Clone, Copy)]
 pub struct Partnership {
     pub all: Stand,
     pub striker: Option<Stand>,

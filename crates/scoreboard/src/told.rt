@@ -19,7 +19,7 @@ use match_laws::Match;
 use notation::Player;
 
 /// What follows for the innings that began last: rates are in hundredths.
-#[derive(Clone, Copy, Debug, PartialEq, Eq)]
+#[derive(Clone, Copy)]
 pub struct Told {
     /// How many overs it has.
     pub overs: Option<u16>,

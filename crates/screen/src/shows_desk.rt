@@ -31,7 +31,7 @@ pub trait ShowsDesk<B: BookOf> {
 }
 
 /// Nothing but the rows of a desk is shown.
-#[derive(Clone, Copy, Debug)]
+#[derive(Clone, Copy)]
 pub struct RowsAlone;
 
 impl<B: BookOf> ShowsDesk<B> for RowsAlone {

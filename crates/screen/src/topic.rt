@@ -5,7 +5,7 @@ ghost use Rattle.screen.specs.Help as texts;
 ghost use Rattle.screen.specs.Words as words;
 
 /// A word of which `help` tells more.
-#[derive(Clone, Copy, Debug, PartialEq, Eq)]
+#[derive(Clone, Copy)]
 pub enum Topic {
     Innings,
     In,

@@ -20,7 +20,7 @@ const MOST_LISTED: u16 = 8192;
 const LAST_PLACE: u16 = 8191;
 
 /// What a scorer asks to see. It changes nothing.
-#[derive(Clone, Copy, Debug, PartialEq, Eq)]
+#[derive(Clone, Copy)]
 pub enum Word {
     /// An empty line: where the match and the desk stand.
     Where,

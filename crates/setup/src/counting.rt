@@ -10,7 +10,7 @@ const BLOCK: usize = 64;
 pub const OPEN_GATE: u8 = 0xa5;
 
 /// Which of two files counts.
-#[derive(Clone, Copy, Debug, PartialEq, Eq)]
+#[derive(Clone, Copy)]
 pub enum Counting {
     /// The first: it has all blocks of the second, and as many more as that lacks.
     First { lacking: usize },

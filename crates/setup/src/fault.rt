@@ -18,7 +18,7 @@ pub const TURNS: usize = 50;
 
 /// Why a command ends before its end, whichever it is. Each command has a fault of its own, which says what it can meet;
 /// what standard error is told, and the status, go by this one.
-#[derive(Clone, Copy, Debug, PartialEq, Eq)]
+#[derive(Clone, Copy)]
 pub enum StopFault {
     /// Memory was refused.
     NoMemory,
@@ -159,7 +159,7 @@ impl From<BookFault> for StopFault {
 }
 
 /// Why a command ended, and the file or address that was at work, `-` where it was a standard stream.
-#[derive(Clone, Copy, Debug)]
+#[derive(Clone, Copy)]
 pub struct Stopped<'a> {
     pub path: &'a str,
     pub fault: StopFault,

@@ -4,7 +4,7 @@ ghost use Rattle.std.specs.Prelude.{◌≡◌};
 ghost use Rattle.setup.specs.Fault as texts;
 
 /// Why there is no key in a file that can be read.
-#[derive(Clone, Copy, Debug, PartialEq, Eq)]
+#[derive(Clone, Copy)]
 pub enum KeyFault {
     /// It is a folder, a pipe, a device or the like.
     NotAFile,

@@ -10,7 +10,7 @@ use std::alloc::Global;
 use streams::{Feed, InputFault, LONGEST_INPUT, Watched, read_all};
 
 /// Why no match sheet is read.
-#[derive(Clone, Copy, Debug, PartialEq, Eq)]
+#[derive(Clone, Copy)]
 pub enum NoSheet {
     /// Memory was refused.
     NoMemory,

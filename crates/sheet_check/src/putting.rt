@@ -9,7 +9,7 @@ use itoa::Buffer;
 use std::alloc::{AllocError, Global};
 
 /// One thing that is wrong with a sheet: by which number it is told, and in which words.
-#[derive(Debug, Drop)]
+#[derive(Drop)]
 pub struct Fault {
     pub why: SheetFault,
     pub words: String,

@@ -7,7 +7,7 @@ use Rattle.corrections.specs.CleanList.{clean, clean_items_of, history, history_
 use Rattle.corrections.specs.inner.Scoring.{history_after}
 use Rattle.corrections.proofs.LegalLemmas.{history_after-history}
 use Rattle.corrections.proofs.OverLemmas.{AreAlike, alike-kept}
-use Rattle.shorthand.specs.declared.point.Belongs.TheVariants.{Last}
+use Rattle.shorthand.specs.declared.full.Belongs.TheVariants.{Last}
 use Rattle.shorthand.specs.Points.{history_to, point_at, point_of}
 
 to_last : (h : History) (xs : List Placed) → history_to Last h xs ≡ history_after h xs

@@ -12,10 +12,10 @@ use Rattle.match_laws.specs.History.{opponent, or_else}
 use Rattle.cards.specs.Sheet.{Sheet, team_of}
 use Rattle.over_numbers.specs.declared.balls.Named.{Named}
 use Rattle.over_numbers.specs.Balls.{named_ball, place_of}
-use Rattle.shorthand.specs.declared.{names.Among.Among, names.Found.Found, point.Belongs.Belongs, point.Point.Point, unclear.Letter.Letter, unclear.Unaided.Unaided}
+use Rattle.shorthand.specs.declared.{names.Among.Among, names.Found.Found, full.Belongs.Belongs, delivery.Point.Point, unclear.Letter.Letter, unclear.Unaided.Unaided}
 use Rattle.shorthand.specs.declared.names.Among.TheVariants.{Anyone}
 use Rattle.shorthand.specs.declared.names.Found.TheVariants.{NoOne}
-use Rattle.shorthand.specs.declared.point.Belongs.TheVariants.{Last, At, After}
+use Rattle.shorthand.specs.declared.full.Belongs.TheVariants.{Last, At, After}
 use Rattle.shorthand.specs.Words.{behind_one, is_desk_word, is_how, is_line_word, is_no_ball, is_one_of, is_run_out, trimmed, two_meanings, way_of, without_fielder}
 use Rattle.shorthand.specs.Lines.{NothingStands, Reason, Fault, WhoBowls, TwoMeanings, Word, as_typed, joined, plus}
 use Rattle.shorthand.specs.Names.{player, fielder, named, number_word, colon_name, names_bowler, no_fielder, no_such_ball, unknown_word, is_colon, is_digit_first}

@@ -9,7 +9,7 @@ use Rattle.cards.specs.Sheet.{Sheet, Team}
 use Rattle.shorthand.specs.declared.names.Among.TheVariants.{Anyone}
 use Rattle.shorthand.specs.declared.names.Fit.TheVariants.{LastWord, Beginning}
 use Rattle.shorthand.specs.declared.names.Found.TheVariants.{One}
-use Rattle.shorthand.specs.declared.point.Belongs.TheVariants.{Last}
+use Rattle.shorthand.specs.declared.full.Belongs.TheVariants.{Last}
 use Rattle.shorthand.specs.Names.{fitting, meant_by}
 use Rattle.shorthand.specs.Points.{point_of, point_at}
 use Rattle.shorthand.specs.Full.{in_full}

@@ -8,9 +8,9 @@ use Rattle.match_laws.specs.History.{last_side}
 use Rattle.corrections.specs.declared.placed.Placed.{Placed}
 use Rattle.corrections.specs.CleanList.{clean_items_of, history_of}
 use Rattle.corrections.specs.Overs.{newest_bowler}
-use Rattle.shorthand.specs.declared.{names.Among.Among, point.Belongs.Belongs, point.Point.Point}
+use Rattle.shorthand.specs.declared.{names.Among.Among, full.Belongs.Belongs, delivery.Point.Point}
 use Rattle.shorthand.specs.declared.names.Among.TheVariants.{Anyone, AnEnd}
-use Rattle.shorthand.specs.declared.point.Belongs.TheVariants.{Last, At, After}
+use Rattle.shorthand.specs.declared.full.Belongs.TheVariants.{Last, At, After}
 
 -- the bowler of the last delivery of the open over, and the side that began to bat last (home, before any)
 abbrev pub point_of : History → Point

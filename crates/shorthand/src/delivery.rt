@@ -16,13 +16,21 @@ use crate::names::{
     Among, Found, colon_name, is_digit_first, named, named_bowler, number_word, player,
 };
 use crate::outs::{behind_runs, behind_runs_from, is_behind_runs};
-use crate::point::Point;
 use crate::rest::Rest;
 use crate::unclear::{Letter, Unclear};
 use crate::unknown::is_line_word;
 use cards::MatchSheet;
 use match_laws::opponent;
 use notation::{Player, Side};
+
+/// Who bowls and who bats at a point of a match.
+#[derive(Clone, Copy)]
+pub struct Point {
+    /// The bowler of the last delivery of the open over, if it has one.
+    pub bowler: Option<Player>,
+    /// The side whose innings began last; home, before any.
+    pub batting: Side,
+}
 
 /// The kind that the letters of a mark stand for.
 fn kind_of(letters: &[u8]) -> Option<&'static str>

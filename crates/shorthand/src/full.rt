@@ -1,26 +1,62 @@
-//! Lines in full.
+//! Lines in full, by who bowls and bats where they belong.
 
-ghost use Rattle.std.specs.Prelude.{◌≡◌, false, Ok, Err, IfOk, OnErr, MatchResult};
+ghost use Rattle.std.specs.Prelude.{◌≡◌, [], false, Ok, Err, IfOk, OnErr, MatchResult, unwrap_or};
 ghost use Rattle.notation.specs.Written.{IsEntry, found_number, is_spaced, text_of};
+ghost use Rattle.notation.specs.declared.entry.Side.TheVariants.{Home};
+ghost use Rattle.match_laws.specs.History.{last_side};
+ghost use Rattle.corrections.specs.CleanList.{history};
 ghost use Rattle.over_numbers.specs.Balls as balls;
 ghost use Rattle.shorthand.specs.Lines.{plus_all, reason_of};
 ghost use Rattle.shorthand.specs.declared.names.Among.TheVariants.{Anyone};
 ghost use Rattle.shorthand.specs.Full as full;
+ghost use Rattle.shorthand.specs.Points.{history_to, is_beyond, is_corrected, batters_at, point_at};
 ghost use Rattle.shorthand.specs.Words as words;
 
-use crate::delivery::{runs, unnamed};
+use crate::delivery::{Point, runs, unnamed};
 use crate::line::Line;
 use crate::names::{Among, no_such_ball, player};
-use crate::point::{Belongs, Point, batters_at, point_at};
 use crate::rest::Rest;
 use crate::unclear::Unclear;
 use crate::undo::last_standing;
 use cards::MatchSheet;
-use corrections::BookOf;
+use corrections::{BookOf, Placed, bowler_of, overs_among};
 use match_laws::opponent;
-use notation::{Entry, LineFault, Side, number_in, read_line};
+use notation::{Entry, LineFault, Plain, Side, number_in, read_line};
 use over_numbers::{Named, named_ball, place_of};
 use std::str;
+
+/// Where a line belongs among what stands in a book.
+#[derive(Clone, Copy)]
+pub enum Belongs {
+    /// Behind all of it.
+    Last,
+    /// In the stead of what was entered at the place: `fix`.
+    At(u32),
+    /// Behind what belongs to the place: `late`.
+    After(u32),
+}
+
+impl Belongs {
+    /// Whether the line corrects the item.
+    fn is_corrected(self, item: &Placed) -> bool
+        ensures { result ≡ is_corrected self item.now }
+    {
+        match self {
+            Belongs::At(place) => item.place == place,
+            Belongs::Last | Belongs::After(_) => false,
+        }
+    }
+
+    /// Whether the item stands behind all that belongs to the place that the line names.
+    fn is_beyond(self, item: &Placed) -> bool
+        ensures { result ≡ is_beyond self item.now }
+    {
+        match self {
+            Belongs::After(place) => place < item.anchor,
+            Belongs::Last | Belongs::At(_) => false,
+        }
+    }
+}
 
 /// Writes a batter's number, and the rest.
 fn batter_first(line: &mut Line, sheet: &MatchSheet, side: Side, among: &Among, rest: &mut Rest<'_>)
@@ -101,6 +137,58 @@ fn item_from(
             bowler_first(line, sheet, opponent(at.batting), rest);
         }
         _ => unnamed(line, sheet, at, token, rest),
+    }
+}
+
+/// What stands up to where a line belongs.
+fn items_to(items: &[Placed], belongs: Belongs) -> &[Placed]
+    ensures { history result.now ≡ history_to belongs [] items.now }
+{
+    if matches!(belongs, Belongs::Last) {
+        return items;
+    }
+    for index in 0..items.len() {
+        let item = &items[index];
+        if belongs.is_beyond(item) {
+            return &items[..index];
+        }
+        if belongs.is_corrected(item) {
+            return &items[..index + 1];
+        }
+    }
+    items
+}
+
+/// The side whose innings began last among some items; home, before any.
+fn batting_of(items: &[Placed]) -> Side
+    ensures { result ≡ unwrap_or (last_side (history items.now)) Home }
+{
+    for behind in 0..items.len() {
+        if let Plain::Innings(side) = items[items.len() - 1 - behind].item {
+            return side;
+        }
+    }
+    Side::Home
+}
+
+/// Who bowls and who bats where a line belongs.
+fn point_at<B: BookOf>(book: &B, belongs: Belongs) -> Point
+    ensures { result ≡ point_at (B.content book.now) belongs }
+{
+    let before = items_to(book.clean_items(), belongs);
+    Point {
+        bowler: bowler_of(overs_among(before).this),
+        batting: batting_of(before),
+    }
+}
+
+/// Who is looked for where a batter leaves: behind all that stands, who is in.
+fn batters_at<B: BookOf>(book: &B, belongs: Belongs) -> Among
+    ensures { result ≡ batters_at (B.content book.now) belongs }
+{
+    match belongs {
+        Belongs::Last => Among::AnEnd(book.score().ends()),
+        Belongs::At(_) | Belongs::After(_) => Among::Anyone,
     }
 }
 

@@ -7,7 +7,6 @@ mod laws;
 mod line;
 mod names;
 mod outs;
-mod point;
 mod rest;
 mod unclear;
 mod undo;

@@ -18,7 +18,7 @@ use cards::MatchSheet;
 use notation::{LineFault, Player, Side, Tokens};
 
 /// How a text fits a name.
-#[derive(Clone, Copy, Debug, PartialEq, Eq)]
+#[derive(Clone, Copy)]
 pub enum Fit {
     /// It is the name.
     Whole,
@@ -29,7 +29,7 @@ pub enum Fit {
 }
 
 /// How many players a text fits.
-#[derive(Clone, Copy, Debug, PartialEq, Eq)]
+#[derive(Clone, Copy)]
 pub enum Found {
     NoOne,
     One(Player),
@@ -37,7 +37,7 @@ pub enum Found {
 }
 
 /// Who of a side is looked at.
-#[derive(Clone, Copy, Debug, PartialEq, Eq)]
+#[derive(Clone, Copy)]
 pub enum Among {
     Anyone,
     /// Who is at one of these ends.

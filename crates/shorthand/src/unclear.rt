@@ -4,7 +4,7 @@ use arrayvec::ArrayString;
 use notation::{LineFault, Side};
 
 /// A letter that means two things to scorers.
-#[derive(Clone, Copy, Debug, PartialEq, Eq)]
+#[derive(Clone, Copy)]
 pub enum Letter {
     /// Byes, or bowled.
     B,
@@ -13,14 +13,14 @@ pub enum Letter {
 }
 
 /// A way of being out in which no fielder has a part.
-#[derive(Clone, Copy, Debug, PartialEq, Eq)]
+#[derive(Clone, Copy)]
 pub enum Unaided {
     Bowled,
     Lbw,
 }
 
 /// Why a line has no full form.
-#[derive(Clone, Copy, Debug, PartialEq, Eq)]
+#[derive(Clone, Copy)]
 pub enum Unclear {
     /// It is too long, as typed or in full, or its words don't stand with one space between them.
     Fault(LineFault),

@@ -25,7 +25,7 @@ enum TextLog {
 }
 
 /// What was shown last: it is shown again once something of it is another.
-#[derive(Clone, Copy, Debug, PartialEq, Eq)]
+#[derive(Clone, Copy, PartialEq, Eq)]
 struct Seen {
     entries: u32,
     place: u32,

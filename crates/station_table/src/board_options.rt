@@ -8,7 +8,7 @@ use crate::lookup::{board_in, or_else, text_in};
 use toml::Table;
 
 /// What a board's words name, or what it begins with: its address, both desks', and the file of the key.
-#[derive(Clone, Copy, Debug, PartialEq, Eq)]
+#[derive(Clone, Copy)]
 pub struct BoardOptions<'a> {
     pub at: Option<&'a str>,
     pub a: Option<&'a str>,

@@ -13,7 +13,7 @@ use toml::Table;
 pub const MOST_BOARDS: usize = 4;
 
 /// The addresses of a desk's boards, the first ones first.
-#[derive(Clone, Copy, Debug, PartialEq, Eq)]
+#[derive(Clone, Copy)]
 pub struct BoardNames<'a> {
     pub first: Option<&'a str>,
     pub second: Option<&'a str>,
@@ -23,7 +23,7 @@ pub struct BoardNames<'a> {
 
 /// What a desk's words name, or what it begins with: the files of its votes, of their copy and of the key; its address, the
 /// other desk's, and the boards'; and how wide its scorer's rows are.
-#[derive(Clone, Copy, Debug, PartialEq, Eq)]
+#[derive(Clone, Copy)]
 pub struct DeskOptions<'a> {
     pub file: Option<&'a str>,
     pub copy: Option<&'a str>,

@@ -3,7 +3,7 @@
 use notation::Entry;
 
 /// The votes of one position, where they are known: the desk's own, and the other desk's.
-#[derive(Clone, Copy, Debug, PartialEq, Eq)]
+#[derive(Clone, Copy)]
 pub struct Both {
     pub own: Option<Entry>,
     pub other: Option<Entry>,

@@ -11,7 +11,7 @@ use streams::{Sink, Watched, WriteFailed};
 use wire::{What, WireFault};
 
 /// What a board can't take.
-#[derive(Clone, Copy, Debug, PartialEq, Eq)]
+#[derive(Clone, Copy)]
 pub enum Notice {
     /// Bytes that are no message of the match.
     Bytes(WireFault),
@@ -58,7 +58,7 @@ pub fn print_notice<W: Sink>(out: &mut Watched<W>, notice: Notice) -> Result<(),
 
 /// What a board has told since a vote that it takes came, and whether it has told that it refuses both desks' votes:
 /// from then on it shows no score.
-#[derive(Clone, Copy, Debug, PartialEq, Eq)]
+#[derive(Clone, Copy, Debug)]
 pub struct Telling {
     pub warned: Warned,
     pub is_stopped: bool,

@@ -10,7 +10,7 @@ use wire::What;
 /// What a desk's scorer was told of a peer since a vote that is news came. Anyone's asks are as any desk's, and a desk
 /// that waits repeats its vote twice a second, so that only a vote that is news is a sign that all is right. That the other
 /// desk isn't heard stands until it is heard.
-#[derive(Clone, Copy, Debug, PartialEq, Eq)]
+#[derive(Clone, Copy, Debug)]
 pub struct Warned {
     /// That bytes came that are no message of the match.
     pub of_bytes: bool,

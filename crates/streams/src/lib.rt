@@ -5,11 +5,9 @@ mod failures;
 mod feed;
 mod input;
 mod limit;
-mod sink;
 mod watched;
 
 pub use feed::Feed;
 pub use input::{InputFault, read_all};
 pub use limit::LONGEST_INPUT;
-pub use sink::Sink;
-pub use watched::{ReadFailed, Watched, WriteFailed};
+pub use watched::{ReadFailed, Sink, Watched, WriteFailed};

@@ -10,7 +10,7 @@ use streams::{Sink, Watched, WriteFailed};
 use thiserror::Error;
 
 /// Why the words on the command line ask for nothing.
-#[derive(Clone, Copy, Debug, PartialEq, Eq, Error)]
+#[derive(Clone, Copy, Debug, Error)]
 pub enum WordsFault<'a> {
     /// They are none of the program's forms.
     NotUnderstood,

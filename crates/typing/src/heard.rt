@@ -7,7 +7,7 @@ use std::snapshot::Snapshot;
 
 /// What came: nothing yet, a byte that was typed, so many bytes of the desk's rows, that there are no more rows, or that no
 /// more can be read.
-#[derive(Clone, Copy, Debug, PartialEq, Eq)]
+#[derive(Clone, Copy)]
 pub enum Came {
     Nothing,
     Key(u8),

@@ -10,7 +10,7 @@ use crate::terminal::{ROWS_ROOM, Terminal};
 use std::io::Write;
 
 /// Why a terminal isn't kept to the desk's end.
-#[derive(Clone, Copy, Debug, PartialEq, Eq)]
+#[derive(Clone, Copy)]
 pub enum Fault {
     /// The desk's rows can't be read.
     Read,

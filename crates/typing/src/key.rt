@@ -1,7 +1,7 @@
 //! The keys.
 
 /// What a scorer presses at a terminal.
-#[derive(Clone, Copy, Debug, PartialEq, Eq)]
+#[derive(Clone, Copy)]
 pub enum Key {
     /// A letter, a figure, a blank or another sign.
     Sign(u8),

@@ -6,7 +6,7 @@ ghost use Rattle.typing.specs.Keys as keys;
 use crate::key::Key;
 
 /// How much is read of a key that has several bytes.
-#[derive(Clone, Copy, Debug, PartialEq, Eq)]
+#[derive(Clone, Copy)]
 pub enum Reading {
     /// Nothing.
     Begun,

@@ -10,7 +10,7 @@ use std::net::SocketAddr;
 use std::str;
 
 /// What is asked for, as far as its head tells, or why it isn't had.
-#[derive(Clone, Copy, Debug, PartialEq, Eq)]
+#[derive(Clone, Copy, PartialEq, Eq)]
 pub enum Ask {
     /// The page itself.
     Page,
@@ -37,14 +37,14 @@ pub enum Ask {
 }
 
 /// What is asked for, and whether the head of its answer alone is.
-#[derive(Clone, Copy, Debug, PartialEq, Eq)]
+#[derive(Clone, Copy)]
 pub struct Asked {
     pub ask: Ask,
     pub is_head: bool,
 }
 
 /// What a head wishes.
-#[derive(Clone, Copy, Debug)]
+#[derive(Clone, Copy)]
 pub enum Wish {
     /// An answer.
     Answer(Asked),
@@ -55,7 +55,7 @@ pub enum Wish {
 }
 
 /// What the head of a post says of its line.
-#[derive(Clone, Copy, Debug)]
+#[derive(Clone, Copy)]
 pub struct Heading {
     /// Whether it comes from this page, or from none.
     pub is_from_here: bool,

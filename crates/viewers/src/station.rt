@@ -6,7 +6,7 @@ ghost use Rattle.viewers.specs.Replies as texts;
 use crate::{desk_page, page};
 
 /// Whose page it is: a board's, at which anybody looks, or a desk's, in which its scorer types.
-#[derive(Clone, Copy, Debug, PartialEq, Eq)]
+#[derive(Clone, Copy)]
 pub enum Station {
     Board,
     Desk,

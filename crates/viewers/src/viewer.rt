@@ -34,7 +34,7 @@ const LIMITS: Limits = Limits {
 };
 
 /// What a connection is about.
-#[derive(Clone, Copy, Debug)]
+#[derive(Clone, Copy)]
 enum Stage {
     /// A head is read.
     Head,

@@ -138,7 +138,7 @@ struct Course {
 }
 
 /// What a command is, by its number.
-#[derive(Clone, Copy, PartialEq, Eq)]
+#[derive(Clone, Copy)]
 enum Aim {
     Item,
     /// A correction or a late entry of place 63, 64 or 65.
@@ -239,7 +239,7 @@ fn enter_in_both(rt: &impl Abort, book: &mut Book, checked: &mut CheckedBook, li
 }
 
 /// How many commands were taken: all, and corrections and late entries of the places 63 to 65.
-#[derive(Clone, Copy, PartialEq, Eq)]
+#[derive(Clone, Copy)]
 struct Taken {
     all: u32,
     fixes_near: u32,

@@ -19,7 +19,7 @@ const LINES: [&[u8]; 5] = [b"Overs ", b"Striker ", b"Other ", b"Target ", b"Resu
 const ROOM: usize = 1024;
 
 /// What a file begins as.
-#[derive(Clone, Copy, Debug, PartialEq, Eq)]
+#[derive(Clone, Copy)]
 pub enum Front {
     /// It has no byte.
     Nothing,

@@ -9,7 +9,7 @@ use std::alloc::AllocError;
 use vote_store::Refusal;
 
 /// Why `match` ends before its end.
-#[derive(Clone, Copy, Debug, PartialEq, Eq)]
+#[derive(Clone, Copy)]
 pub enum MatchFault {
     /// Memory was refused.
     NoMemory,

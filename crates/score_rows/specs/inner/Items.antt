@@ -4,7 +4,7 @@ use Rattle.notation.specs.declared.entry.Plain.{Plain}
 use Rattle.ball_laws.specs.Over.{counts}
 use Rattle.ball_laws.specs.Sums.{one_if}
 use Rattle.match_laws.specs.Figures.{runs_of}
-use Rattle.score_rows.specs.Row.{spaced_mark}
+use Rattle.cards.specs.Marks.{spaced_mark}
 
 -- nothing, but for a delivery
 abbrev pub item_mark : Plain → List ℕ

@@ -5,7 +5,7 @@ use Rattle.ball_laws.specs.History.{History, open_over}
 use Rattle.ball_laws.specs.Sums.{tally}
 use Rattle.match_laws.specs.History.{begun}
 use Rattle.match_laws.specs.Figures.{runs_of}
-use Rattle.scoreboard.specs.declared.over_runs.OverRuns.{OverRuns}
+use Rattle.scoreboard.specs.declared.value.OverRuns.{OverRuns}
 use Rattle.scoreboard.specs.OverRuns.{over_runs}
 
 -- how many innings have begun, the runs of the open over, and the overs called

@@ -1,7 +1,7 @@
 use Rattle.std.proofs.Common.{◌≡◌, [], take, drop}
 use Rattle.corrections.specs.CleanList.{history}
 use Rattle.shorthand.specs.Points.{history_to}
-use Rattle.shorthand.proofs.point.items_to.Given as goal
+use Rattle.shorthand.proofs.full.items_to.Given as goal
 
 abbrev pub invariant-loop-index : goal.invariant-loop-index
 invariant-loop-index l =

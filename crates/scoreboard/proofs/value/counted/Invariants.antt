@@ -1,7 +1,7 @@
 use Rattle.std.proofs.Common.{◌≡◌, ◌≤◌, ◌*◌, drop}
 use Rattle.limits.specs.inner.Walks.{walk}
 use Rattle.scoreboard.specs.inner.Counting.{counted_after, nothing}
-use Rattle.scoreboard.proofs.over_runs.counted.Given as goal
+use Rattle.scoreboard.proofs.value.counted.Given as goal
 
 -- the walk over all goes on from here with what is left; each item has 260 runs at most
 abbrev pub invariant-loop-placed : goal.invariant-loop-placed

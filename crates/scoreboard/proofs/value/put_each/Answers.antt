@@ -3,7 +3,7 @@ use Rattle.std.proofs.lemmas.Option.{slice_get-get_or}
 use Rattle.json_fields.proofs.Putting.{adds_each, ends_each, no_values}
 use Rattle.scoreboard.specs.OverRuns.{over_value}
 use Rattle.scoreboard.proofs.Singles.{singles}
-use Rattle.scoreboard.proofs.over_runs.put_each.Goals as goal
+use Rattle.scoreboard.proofs.value.put_each.Goals as goal
 
 pub loop-over-init : goal.loop-over-init
 loop-over-init c = no_values _

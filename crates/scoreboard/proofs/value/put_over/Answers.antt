@@ -1,5 +1,5 @@
 use Rattle.json_fields.proofs.Putting.{◌▸◌, begins, is_object}
-use Rattle.scoreboard.proofs.over_runs.put_over.Goals as goal
+use Rattle.scoreboard.proofs.value.put_over.Goals as goal
 
 pub returns : goal.returns
 returns c =

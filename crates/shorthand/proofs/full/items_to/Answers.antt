@@ -1,7 +1,7 @@
 use Rattle.std.proofs.Common.{sym}
 use Rattle.shorthand.proofs.Bowlers.{all_to_last}
-use Rattle.shorthand.proofs.point.items_to.Goals as goal
-use Rattle.shorthand.proofs.point.items_to.Goals.{in-Last, in_default}
+use Rattle.shorthand.proofs.full.items_to.Goals as goal
+use Rattle.shorthand.proofs.full.items_to.Goals.{in-Last, in_default}
 
 pub returns-then-matches : goal.returns-then-matches
 returns-then-matches c = elim c.match-matches.branch [

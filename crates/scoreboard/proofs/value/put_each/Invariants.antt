@@ -2,7 +2,7 @@ use Rattle.std.proofs.Common.{◌≡◌, ◌++◌, ◌∷◌, [], take}
 use Rattle.std.specs.List.{flat_map}
 use Rattle.json_fields.specs.Values.{values_tokens}
 use Rattle.scoreboard.specs.OverRuns.{over_value}
-use Rattle.scoreboard.proofs.over_runs.put_each.Given as goal
+use Rattle.scoreboard.proofs.value.put_each.Given as goal
 
 -- those so far are put
 abbrev pub invariant-loop-over : goal.invariant-loop-over
