@@ -1,3 +1,2 @@
 pub mod KeptVotes
-pub mod OpeningLemmas
 pub mod WindowLemmas

@@ -1,5 +1,5 @@
 //! What carries datagrams between stations, and what tells them the time and what was typed: the seams to the machine. With
-//! them the two carriers that stand over others: a link over sealed datagrams, and a window for stations that are behind.
+//! them a link that stands over others: a window for stations that are behind.
 #![tactic(auto)]
 
 mod aside;
@@ -12,7 +12,6 @@ mod keys;
 mod known;
 mod link;
 mod log;
-mod sealed;
 mod sending;
 mod silence;
 mod stand;
@@ -26,7 +25,6 @@ pub use link::{
     Taken,
 };
 pub use log::{CarriedLog, ClockLog, InputLog, Log};
-pub use sealed::{Sealed, what_is_given_was_brought};
 pub use sending::send_each;
 pub use stand::Stand;
 pub use window::{Window, what_passes_is_kept};

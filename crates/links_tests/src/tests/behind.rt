@@ -2,8 +2,8 @@
 ghost use Rattle.std.specs.Prelude.{◌<◌};
 
 use super::*;
-use links::{CarriedLog, Link, Receivers, Sealed, SealedCarrier, Taken, Window};
-use seal::Seal;
+use links::{CarriedLog, Link, Receivers, SealedCarrier, Taken, Window};
+use seal::{Seal, Sealed};
 
 mod catching_up;
 

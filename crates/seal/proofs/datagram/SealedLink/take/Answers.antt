@@ -1,7 +1,7 @@
 use Rattle.std.proofs.Common.{arith}
 use Rattle.std.proofs.lemmas.List.{length-take-le}
-use Rattle.links.proofs.OpeningLemmas.{came_more, came_none}
-use Rattle.links.proofs.sealed.SealedLink.take.Goals as goal
+use Rattle.seal.proofs.OpeningLemmas.{came_more, came_none}
+use Rattle.seal.proofs.datagram.SealedLink.take.Goals as goal
 
 pub returns-then-opened : goal.returns-then-opened
 returns-then-opened g c = (

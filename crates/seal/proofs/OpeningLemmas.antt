@@ -6,7 +6,7 @@ use Rattle.std.proofs.lemmas.List.Concat.{flat_map-append}
 use Rattle.std.proofs.lemmas.Slice.Eq.{bytes_eq-Decides}
 use Rattle.seal.specs.Sealed.{sealed, tag}
 use Rattle.seal.proofs.SealedForms.{front, length-tag}
-use Rattle.links.specs.Opening.{GivenWasBrought, WasBrought, came_open, opening, opening_of, opens}
+use Rattle.seal.specs.Opening.{GivenWasBrought, WasBrought, came_open, opening, opening_of, opens}
 use Rattle.links.specs.Passed.{Passed, Sent, Came}
 use Rattle.links.specs.declared.link.Receivers.{Receivers}
 
