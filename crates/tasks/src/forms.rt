@@ -13,6 +13,50 @@ fn flag<'a>(alloc: Global, name: &'a str) -> Arg<'a> {
     Arg::new(alloc, name).long(name).action(ArgAction::SetTrue)
 }
 
+/// An option that may be left out, with any value.
+fn free<'a>(alloc: Global, name: &'a str) -> Arg<'a> {
+    Arg::new(alloc, name).long(name)
+}
+
+/// A command with options that have to be given, of these names.
+fn command<'a>(
+    alloc: Global,
+    name: &'a str,
+    options: &[&'a str],
+) -> Result<Command<'a>, AllocError> {
+    let mut words = Command::new(alloc, name);
+    for option in options {
+        words = words.arg(wanted(alloc, option))?;
+    }
+    Ok(words)
+}
+
+/// A command's words and options that may be left out, of these names.
+fn with_free<'a>(
+    alloc: Global,
+    words: Command<'a>,
+    options: &[&'a str],
+) -> Result<Command<'a>, AllocError> {
+    let mut words = words;
+    for option in options {
+        words = words.arg(free(alloc, option))?;
+    }
+    Ok(words)
+}
+
+/// A station's words and options that have to be given unless the sheet's table stands for them.
+fn with_options<'a>(
+    alloc: Global,
+    words: Command<'a>,
+    options: &[&'a str],
+) -> Result<Command<'a>, AllocError> {
+    let mut words = words;
+    for option in options {
+        words = words.arg(free(alloc, option).required_unless_present("which")?)?;
+    }
+    Ok(words)
+}
+
 /// The words of `check`.
 fn check_words<'a>(alloc: Global) -> Result<Command<'a>, AllocError> {
     Command::new(alloc, "check").arg(
@@ -25,20 +69,14 @@ fn check_words<'a>(alloc: Global) -> Result<Command<'a>, AllocError> {
 
 /// The words of `replay`.
 fn replay_words<'a>(alloc: Global) -> Result<Command<'a>, AllocError> {
-    Command::new(alloc, "replay")
-        .arg(wanted(alloc, "sheet"))?
-        .arg(wanted(alloc, "schedule"))?
+    command(alloc, "replay", &["sheet", "schedule"])?
         .arg(wanted(alloc, "boards").value_parser(value_parser!(u8).range(0..=4)))?
         .arg(flag(alloc, "old"))
 }
 
 /// The words of `card`, of `export`, of `page` and of `lines`.
 fn book_words<'a>(alloc: Global, name: &'a str) -> Result<Command<'a>, AllocError> {
-    Command::new(alloc, name)
-        .arg(wanted(alloc, "sheet"))?
-        .arg(wanted(alloc, "from"))?
-        .arg(wanted(alloc, "kind"))?
-        .arg(Arg::new(alloc, "with").long("with"))
+    command(alloc, name, &["sheet", "from", "kind"])?.arg(free(alloc, "with"))
 }
 
 /// The words of `export`.
@@ -48,106 +86,48 @@ fn export_words<'a>(alloc: Global) -> Result<Command<'a>, AllocError> {
         .arg(flag(alloc, "penalties"))
 }
 
-/// The words of `compare`.
-fn compare_words<'a>(alloc: Global) -> Result<Command<'a>, AllocError> {
-    Command::new(alloc, "compare")
-        .arg(wanted(alloc, "sheet"))?
-        .arg(wanted(alloc, "a"))?
-        .arg(wanted(alloc, "b"))
-}
-
-/// The words of `migrate`.
-fn migrate_words<'a>(alloc: Global) -> Result<Command<'a>, AllocError> {
-    Command::new(alloc, "migrate")
-        .arg(wanted(alloc, "sheet"))?
-        .arg(wanted(alloc, "desk"))?
-        .arg(wanted(alloc, "from"))?
-        .arg(wanted(alloc, "to"))
-}
-
 /// The words of `match`.
 fn match_words<'a>(alloc: Global) -> Result<Command<'a>, AllocError> {
-    Command::new(alloc, "match")
-        .arg(wanted(alloc, "sheet"))?
-        .arg(wanted(alloc, "book"))?
-        .arg(wanted(alloc, "dir"))?
-        .arg(
-            Arg::new(alloc, "drop")
-                .long("drop")
-                .value_parser(value_parser!(u16))
-                .default_value("0"),
-        )
-}
-
-/// The words of `sheet`.
-fn sheet_words<'a>(alloc: Global) -> Result<Command<'a>, AllocError> {
-    Command::new(alloc, "sheet").arg(wanted(alloc, "sheet"))
-}
-
-/// The words of `key`.
-fn key_words<'a>(alloc: Global) -> Result<Command<'a>, AllocError> {
-    Command::new(alloc, "key").arg(wanted(alloc, "to"))
+    command(alloc, "match", &["sheet", "book", "dir"])?.arg(
+        Arg::new(alloc, "drop")
+            .long("drop")
+            .value_parser(value_parser!(u16))
+            .default_value("0"),
+    )
 }
 
 /// The words of `typing`.
 fn typing_words<'a>(alloc: Global) -> Result<Command<'a>, AllocError> {
-    Command::new(alloc, "typing")
-        .arg(wanted(alloc, "lines"))?
-        .arg(wanted(alloc, "told"))?
-        .arg(wanted(alloc, "columns").value_parser(value_parser!(u16).range(20..=1000)))
+    command(alloc, "typing", &["lines", "told"])?.arg(wanted(alloc, "columns").value_parser(
+        value_parser!(u16).range(20..=1000),
+    ))
 }
 
-/// An option that may be left out, with any value.
-fn free<'a>(alloc: Global, name: &'a str) -> Arg<'a> {
-    Arg::new(alloc, name).long(name)
+/// A station's words, by which station of the sheet's table it may be.
+fn station<'a>(alloc: Global, name: &'a str) -> Result<Command<'a>, AllocError> {
+    Command::new(alloc, name).arg(Arg::new(alloc, "which").index(1))
 }
 
-/// A station's words and one more option, which has to be given unless the sheet's table stands for it.
-fn with_option<'a>(
-    alloc: Global,
-    words: Command<'a>,
-    name: &'a str,
-) -> Result<Command<'a>, AllocError> {
-    words.arg(free(alloc, name).required_unless_present("which")?)
-}
-
-/// Which station of the sheet's table it is.
-fn which<'a>(alloc: Global) -> Arg<'a> {
-    Arg::new(alloc, "which").index(1)
-}
-
-/// How wide a scorer's rows are.
-fn columns<'a>(alloc: Global) -> Arg<'a> {
-    free(alloc, "columns").value_parser(value_parser!(u16).range(60..=200))
-}
-
-/// The words of `desk`.
+/// The words of `desk`. Columns are those of a scorer's rows.
 fn desk_words<'a>(alloc: Global) -> Result<Command<'a>, AllocError> {
-    let words = Command::new(alloc, "desk").arg(which(alloc))?;
-    let words = with_option(alloc, words, "sheet")?;
-    let words = with_option(alloc, words, "desk")?;
-    let words = with_option(alloc, words, "file")?;
-    let words = with_option(alloc, words, "at")?;
-    with_option(alloc, words, "other")?
-        .arg(free(alloc, "copy"))?
+    let words = with_options(
+        alloc,
+        station(alloc, "desk")?,
+        &["sheet", "desk", "file", "at", "other"],
+    )?;
+    with_free(alloc, words, &["copy", "serve", "key"])?
         .arg(free(alloc, "board").action(ArgAction::Append))?
-        .arg(columns(alloc))?
-        .arg(free(alloc, "serve"))?
-        .arg(free(alloc, "key"))
+        .arg(free(alloc, "columns").value_parser(value_parser!(u16).range(60..=200)))
 }
 
 /// The words of `board`.
 fn board_words<'a>(alloc: Global) -> Result<Command<'a>, AllocError> {
-    let words = Command::new(alloc, "board").arg(which(alloc))?;
-    let words = with_option(alloc, words, "sheet")?;
-    let words = with_option(alloc, words, "at")?;
-    let words = with_option(alloc, words, "desk-a")?;
-    with_option(alloc, words, "desk-b")?
-        .arg(free(alloc, "text"))?
-        .arg(free(alloc, "json"))?
-        .arg(free(alloc, "script"))?
-        .arg(free(alloc, "serve"))?
-        .arg(free(alloc, "key"))
+    let words = with_options(
+        alloc,
+        station(alloc, "board")?,
+        &["sheet", "at", "desk-a", "desk-b"],
+    )?;
+    with_free(alloc, words, &["text", "json", "script", "serve", "key"])
 }
 
 /// The program's words and one more command.
@@ -164,8 +144,19 @@ fn book_commands<'a>(alloc: Global, program: Command<'a>) -> Result<Command<'a>,
     let program = with_command(program, export_words(alloc))?;
     let program = with_command(program, book_words(alloc, "page"))?;
     let program = with_command(program, book_words(alloc, "lines"))?;
-    let program = with_command(program, compare_words(alloc))?;
-    with_command(program, sheet_words(alloc))
+    let program = with_command(program, command(alloc, "compare", &["sheet", "a", "b"]))?;
+    with_command(program, command(alloc, "sheet", &["sheet"]))
+}
+
+/// The commands of stations and their files.
+fn station_commands<'a>(alloc: Global, program: Command<'a>) -> Result<Command<'a>, AllocError> {
+    let migrate = command(alloc, "migrate", &["sheet", "desk", "from", "to"]);
+    let program = with_command(program, migrate)?;
+    let program = with_command(program, match_words(alloc))?;
+    let program = with_command(program, command(alloc, "key", &["to"]))?;
+    let program = with_command(program, typing_words(alloc))?;
+    let program = with_command(program, desk_words(alloc))?;
+    with_command(program, board_words(alloc))
 }
 
 /// All the program's words.
@@ -173,10 +164,5 @@ pub fn program_words<'a>(alloc: Global) -> Result<Command<'a>, AllocError> {
     let program = with_command(Command::new(alloc, "ground"), check_words(alloc))?;
     let program = with_command(program, replay_words(alloc))?;
     let program = book_commands(alloc, program)?;
-    let program = with_command(program, migrate_words(alloc))?;
-    let program = with_command(program, match_words(alloc))?;
-    let program = with_command(program, key_words(alloc))?;
-    let program = with_command(program, typing_words(alloc))?;
-    let program = with_command(program, desk_words(alloc))?;
-    with_command(program, board_words(alloc))
+    station_commands(alloc, program)
 }
