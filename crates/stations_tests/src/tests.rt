@@ -9,7 +9,7 @@ use entry_log::{MemDisk, Slots};
 use notation::Entry;
 use std::alloc::Global;
 use std::process::Abort;
-use tests_support::{entry_in, vote_of};
+use tests_support::{entry_in, new_disk, vote_of};
 use vote_store::Refusal;
 use wire::{What, bytes_of};
 
@@ -32,10 +32,7 @@ fn empty_book(rt: &impl Abort, alloc: Global) -> Book
 }
 
 fn empty_disk(rt: &impl Abort, alloc: Global) -> MemDisk {
-    match MemDisk::new(alloc, 9000) {
-        Ok(disk) => disk,
-        Err(_) => MemDisk::new(alloc, 9000).expect(rt, "room for a disk"),
-    }
+    new_disk(alloc, 9000).expect(rt, "room for a disk")
 }
 
 /// Desk A of match 7 on this disk.

@@ -1,0 +1,13 @@
+//! Disks and files of slots. Where one allocation fails, the call made again gives its answer.
+use entry_log::{Choice, MemDisk};
+use std::alloc::Global;
+use std::process::Abort;
+use tests_support::{CHOICES, new_disk, set_fault};
+
+mod disks;
+mod slots;
+
+/// An empty disk with room for so many bytes.
+fn empty_disk(rt: &impl Abort, alloc: Global, cap: usize) -> MemDisk {
+    new_disk(alloc, cap).expect(rt, "no memory")
+}
