@@ -1,12 +1,14 @@
 //! What a board shows: its files, which others read, with its text, its state, and that as a script; and its page.
 
-ghost use Rattle.std.specs.Prelude.{◌≡◌, Some, is_err, false, length, IfOk};
+ghost use Rattle.std.specs.Prelude.{◌≡◌, ℕ, List, Some, is_err, false, length, IfOk, IsOkAnd};
 ghost use Rattle.corrections.specs.CleanList.{history_of};
 ghost use Rattle.cards.specs.Board as texts;
 ghost use Rattle.machine_files.specs.Texts.{Takes};
 ghost use Rattle.scoreboard.specs.Value as laws;
 ghost use Rattle.board_command.specs.Files as given;
 ghost use Rattle.board_command.specs.Files.{AreKept};
+ghost use Rattle.board_command.specs.inner.Due as due;
+ghost use Rattle.board_command.specs.inner.Due.{IsMade};
 ghost use Rattle.board_command.specs.declared.files.TheConstants.{FOREVER};
 ghost use Rattle.waits.specs.declared.times.TheConstants.{LONGEST_STATE_AGE};
 
@@ -109,140 +111,123 @@ impl<'a, T: Replaces, E: Sink> Kept<'a, T, E> {
     }
 }
 
+/// Whether there is a file that is to be written.
+fn is_due<T: Replaces, E: Sink>(
+    file: &Option<Kept<'_, T, E>>,
+    entries: u32,
+    now: u64,
+    longest: u64,
+) -> bool
+    ensures { result ≡ due.is_due longest entries now file.now }
+{
+    match file {
+        Some(kept) => kept.is_due(entries, now, longest),
+        None => false,
+    }
+}
+
+/// What is made for a file: where it is due its text, or that memory was refused for it.
+type Made = Option<Result<Vec<u8>, AllocError>>;
+
 /// The six lines of a board with this book.
-fn text_of<B: BookOf>(alloc: Global, sheet: &MatchSheet, book: &B) -> Result<Vec<u8>, StopFault>
+fn lines_of<B: BookOf>(alloc: Global, sheet: &MatchSheet, book: &B) -> Result<Vec<u8>, AllocError>
     ensures { IfOk result (λ text.
         text.items ≡ texts.board sheet.now (B.innings_a_side book.now) (history_of (B.content book.now))) }
 {
     let mut out = Watched::new(Vec::new(alloc));
     match board_lines(sheet, book.score(), &mut out) {
         Ok(()) => Ok(out.into_inner()),
-        Err(_) => Err(StopFault::NoMemory),
+        Err(_) => Err(AllocError),
     }
 }
 
-/// Puts these six lines into a file.
-fn put_text<B: BookOf, T: Replaces>(
-    alloc: Global,
-    sheet: &MatchSheet,
-    book: &B,
-    file: &mut T,
-) -> Result<(), StopFault>
-    ensures { Takes result (T.given file.old) (T.given file.new)
-        (texts.board sheet.now (B.innings_a_side book.now) (history_of (B.content book.now))) }
+/// The script of a state that was made.
+fn script_of(alloc: Global, state: &Result<Vec<u8>, AllocError>) -> Result<Vec<u8>, AllocError>
+    ensures { IfOk result (λ script. IsOkAnd state.now (λ text. script.items ≡ given.script_with text.items)) }
 {
-    let text = text_of(alloc, sheet, book)?;
-    match file.replace(text.as_slice()) {
-        Ok(()) => Ok(()),
-        Err(why) => Err(StopFault::File(why)),
-    }
-}
-
-/// Puts the state of a board with this book into a file, as one JSON value.
-fn put_state<B: BookOf, T: Replaces>(
-    alloc: Global,
-    sheet: &MatchSheet,
-    book: &B,
-    file: &mut T,
-) -> Result<(), StopFault>
-    ensures { Takes result (T.given file.old) (T.given file.new)
-        (laws.board_text sheet.now (B.innings_a_side book.now) (B.content book.now)) }
-{
-    let text = board_text(alloc, sheet, book)?;
-    match file.replace(text.as_slice()) {
-        Ok(()) => Ok(()),
-        Err(why) => Err(StopFault::File(why)),
-    }
-}
-
-/// The script of a state.
-fn script_with(alloc: Global, state: &[u8]) -> Result<Vec<u8>, AllocError>
-    ensures { IfOk result (λ script. script.items ≡ given.script_with state.now) }
-{
+    let Ok(state) = state else {
+        return Err(AllocError);
+    };
     let mut script = Vec::new(alloc);
     script.extend_from_slice("window.yermudosh = ".as_bytes())?;
-    script.extend_from_slice(state)?;
+    script.extend_from_slice(state.as_slice())?;
     Ok(script)
 }
 
-/// Puts the state of a board with this book into a file, as a script.
-fn put_script<B: BookOf, T: Replaces>(
+/// The six lines, where their file is due.
+fn lines_due<B: BookOf, T: Replaces, E: Sink>(
     alloc: Global,
     sheet: &MatchSheet,
     book: &B,
-    file: &mut T,
-) -> Result<(), StopFault>
-    ensures { Takes result (T.given file.old) (T.given file.new)
-        (given.script_with (laws.board_text sheet.now (B.innings_a_side book.now) (B.content book.now))) }
+    now: u64,
+    file: &Option<Kept<'_, T, E>>,
+) -> Made
+    ensures { IsMade FOREVER (length (B.content book.now)) now
+        (texts.board sheet.now (B.innings_a_side book.now) (history_of (B.content book.now))) file.now result }
 {
-    let state = board_text(alloc, sheet, book)?;
-    let script = script_with(alloc, state.as_slice())?;
-    match file.replace(script.as_slice()) {
+    is_due(file, book.len(), now, FOREVER).then(|| lines_of(alloc, sheet, book))
+}
+
+/// A board's state for both of its files.
+#[derive(Drop)]
+struct States {
+    json: Made,
+    script: Made,
+}
+
+/// The state as JSON and as a script, each where its file is due. It is made once.
+fn states_due<B: BookOf, T: Replaces, E: Sink>(
+    alloc: Global,
+    sheet: &MatchSheet,
+    book: &B,
+    now: u64,
+    file: &Option<Kept<'_, T, E>>,
+    script: &Option<Kept<'_, T, E>>,
+) -> States
+    ensures json { IsMade LONGEST_STATE_AGE (length (B.content book.now)) now
+        (laws.board_text sheet.now (B.innings_a_side book.now) (B.content book.now)) file.now result.json }
+    ensures script { IsMade LONGEST_STATE_AGE (length (B.content book.now)) now
+        (given.script_with (laws.board_text sheet.now (B.innings_a_side book.now) (B.content book.now))) script.now result.script }
+{
+    let entries = book.len();
+    let is_json_due = is_due(file, entries, now, LONGEST_STATE_AGE);
+    let is_script_due = is_due(script, entries, now, LONGEST_STATE_AGE);
+    if !is_json_due && !is_script_due {
+        return States {
+            json: None,
+            script: None,
+        };
+    }
+    let state = board_text(alloc, sheet, book);
+    let script = is_script_due.then(|| script_of(alloc, &state));
+    States {
+        json: is_json_due.then_some(state),
+        script,
+    }
+}
+
+/// Puts a text that was made into a file.
+fn put_text<T: Replaces>(file: &mut T, made: Result<Vec<u8>, AllocError>) -> Result<(), StopFault>
+    ensures { (text : List ℕ) → IfOk made (λ bytes. bytes.items ≡ text) →
+        Takes result (T.given file.old) (T.given file.new) text }
+{
+    let text = made?;
+    match file.replace(text.as_slice()) {
         Ok(()) => Ok(()),
         Err(why) => Err(StopFault::File(why)),
     }
 }
 
-/// Puts the six lines into a file, where there is one and that is due.
-fn show_lines<B: BookOf, T: Replaces, E: Sink>(
-    alloc: Global,
-    sheet: &MatchSheet,
-    book: &B,
-    now: u64,
-    file: &mut Option<Kept<'_, T, E>>,
-)
-    ensures { AreKept T.given FOREVER (length (B.content book.now)) now
-        (texts.board sheet.now (B.innings_a_side book.now) (history_of (B.content book.now))) file.old file.new }
+/// Puts what is due into its file, where there is one, and notes whether that could be.
+fn put<T: Replaces, E: Sink>(file: &mut Option<Kept<'_, T, E>>, made: Made, entries: u32, now: u64)
+    ensures { (longest : ℕ) (text : List ℕ) → IsMade longest entries now text file.old made →
+        AreKept T.given longest entries now text file.old file.new }
 {
-    let entries = book.len();
-    let Some(kept) = file else {
-        return;
-    };
-    if kept.is_due(entries, now, FOREVER) {
-        let put = put_text(alloc, sheet, book, &mut kept.file);
-        kept.note(put, entries, now);
-    }
-}
-
-/// Puts the state into a file, where there is one and that is due.
-fn show_state<B: BookOf, T: Replaces, E: Sink>(
-    alloc: Global,
-    sheet: &MatchSheet,
-    book: &B,
-    now: u64,
-    file: &mut Option<Kept<'_, T, E>>,
-)
-    ensures { AreKept T.given LONGEST_STATE_AGE (length (B.content book.now)) now
-        (laws.board_text sheet.now (B.innings_a_side book.now) (B.content book.now)) file.old file.new }
-{
-    let entries = book.len();
-    let Some(kept) = file else {
-        return;
-    };
-    if kept.is_due(entries, now, LONGEST_STATE_AGE) {
-        let put = put_state(alloc, sheet, book, &mut kept.file);
-        kept.note(put, entries, now);
-    }
-}
-
-/// Puts the script into a file, where there is one and that is due.
-fn show_script<B: BookOf, T: Replaces, E: Sink>(
-    alloc: Global,
-    sheet: &MatchSheet,
-    book: &B,
-    now: u64,
-    file: &mut Option<Kept<'_, T, E>>,
-)
-    ensures { AreKept T.given LONGEST_STATE_AGE (length (B.content book.now)) now
-        (given.script_with (laws.board_text sheet.now (B.innings_a_side book.now) (B.content book.now))) file.old file.new }
-{
-    let entries = book.len();
-    let Some(kept) = file else {
-        return;
-    };
-    if kept.is_due(entries, now, LONGEST_STATE_AGE) {
-        let put = put_script(alloc, sheet, book, &mut kept.file);
-        kept.note(put, entries, now);
+    if let Some(kept) = file
+        && let Some(text) = made
+    {
+        let written = put_text(&mut kept.file, text);
+        kept.note(written, entries, now);
     }
 }
 
@@ -288,9 +273,12 @@ impl<T: Replaces, E: Sink, B: BookOf + Drop> Shows<B> for Files<'_, T, E, B> {
     /// Writes each at the first call, then where the book has grown, at most ten times a second, and where it couldn't be
     /// written, once a second. State and script are otherwise written anew before ten seconds are over.
     fn show(&mut self, sheet: &MatchSheet, book: &B, now: u64) -> Result<(), WriteFailed> {
-        show_lines(self.alloc, sheet, book, now, &mut self.text);
-        show_state(self.alloc, sheet, book, now, &mut self.state);
-        show_script(self.alloc, sheet, book, now, &mut self.script);
+        let entries = book.len();
+        let lines = lines_due(self.alloc, sheet, book, now, &self.text);
+        let states = states_due(self.alloc, sheet, book, now, &self.state, &self.script);
+        put(&mut self.text, lines, entries, now);
+        put(&mut self.state, states.json, entries, now);
+        put(&mut self.script, states.script, entries, now);
         self.log = self.log.handed(sheet, book);
         Ok(())
     }

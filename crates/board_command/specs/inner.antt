@@ -1,0 +1,2 @@
+-- What serves private functions and proofs only.
+pub mod Due
