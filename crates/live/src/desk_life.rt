@@ -16,8 +16,9 @@ ghost use Rattle.station_texts.specs.Texts.{greeting};
 
 use crate::begin::begin_desk;
 use crate::between::Between;
-use crate::desk_loop::{own_line, turn};
+use crate::desk_loop::turn;
 use crate::ends::{DeskEnd, told};
+use crate::hearing::own_line;
 use crate::pace::Pace;
 use crate::peer::Peer;
 use agree_core::DeskId;

@@ -27,7 +27,7 @@ use corrections::{BookOf, CheckedBook};
 use desk::{Desk, OpenRefusal};
 use entry_log::{Disk, Slots, SlotsOf};
 use links::{Link, MOST_TAKEN, ROOM, SharedLink, Taken};
-use live::desk_loop::{give, tick};
+use live::hearing::{give, tick};
 use live::{board_calls, end_at};
 use notation::{Entry, read_line};
 use setup::TURNS;

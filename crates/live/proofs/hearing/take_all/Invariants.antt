@@ -5,7 +5,7 @@ use Rattle.live.specs.Desks.{DeskGoes, process_of}
 use Rattle.live.specs.Ends.{further}
 use Rattle.live.specs.Paces.{ticking_of}
 use Rattle.links.specs.Typing.{Input}
-use Rattle.live.proofs.desk_loop.take_all.Given as goal
+use Rattle.live.proofs.hearing.take_all.Given as goal
 
 abbrev pub invariant-loop-taken : goal.invariant-loop-taken
 invariant-loop-taken g l =

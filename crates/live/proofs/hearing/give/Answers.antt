@@ -1,5 +1,5 @@
 use Rattle.live.proofs.DeskLemmas.{taken}
-use Rattle.live.proofs.desk_loop.give.Goals as goal
+use Rattle.live.proofs.hearing.give.Goals as goal
 
 pub returns-clause-calls : goal.returns-clause-calls
 returns-clause-calls g c = λ sheet.

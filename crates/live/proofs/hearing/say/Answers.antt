@@ -2,7 +2,7 @@ use Rattle.std.proofs.Common.{Bool, ◌∙◌, ap}
 use Rattle.live.specs.Paces.{Paced, ticking_of}
 use Rattle.live.specs.Ticks.{after_look}
 use Rattle.live.proofs.DeskLemmas.{looks, speaks}
-use Rattle.live.proofs.desk_loop.say.Goals as goal
+use Rattle.live.proofs.hearing.say.Goals as goal
 
 pub returns-then-is_due-clause-goes : goal.returns-then-is_due-clause-goes
 returns-then-is_due-clause-goes g c = λ sheet typed warned turns told.

@@ -1,7 +1,7 @@
 use Rattle.std.proofs.Common.{Bool, Err, Result, arith}
 use Rattle.live.specs.declared.ends.DeskEnd.{DeskEnd}
 use Rattle.live.proofs.DeskLemmas.{muted, passed_on, rests, then}
-use Rattle.live.proofs.desk_loop.take_all.Goals as goal
+use Rattle.live.proofs.hearing.take_all.Goals as goal
 
 pub loop-taken-init : goal.loop-taken-init
 loop-taken-init g c = (λ typed turns. rests, λ some. absurd (omega (arith, some)))

@@ -2,7 +2,7 @@ use Rattle.std.proofs.Common.{ap, refl, sym, take}
 use Rattle.live.specs.Paces.{ticking_of}
 use Rattle.live.proofs.DeskLemmas.{logged, passed_on, passes, reads_clock, then}
 use Rattle.live.proofs.LostLemmas.{is_message}
-use Rattle.live.proofs.desk_loop.take_next.Goals as goal
+use Rattle.live.proofs.hearing.take_next.Goals as goal
 
 pub hear-requires : goal.hear-requires
 hear-requires g c = is_message c.game.result (take c.in-Datagram.field-0 c.take_message.new.buffer) c.in-Datagram.read c.in-Datagram.ensures.1

@@ -9,7 +9,7 @@ use Rattle.live.proofs.CameLemmas.{came_so}
 use Rattle.live.proofs.DeskLemmas.{hears, hears_last, taken}
 use Rattle.live.proofs.LostLemmas.{ends_so, loses_so, replies_so}
 use Rattle.live.proofs.TellingLemmas.{goes_further, tells_same}
-use Rattle.live.proofs.desk_loop.hear.Goals as goal
+use Rattle.live.proofs.hearing.hear.Goals as goal
 
 pub returns-in-Err-clause-ticking : goal.returns-in-Err-clause-ticking
 returns-in-Err-clause-ticking g c = ap (λ (p : Paced). p.ticking) c.note.ensures
