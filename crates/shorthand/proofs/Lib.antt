@@ -5,3 +5,4 @@ pub mod Standing
 pub mod Bowlers
 pub mod Meant
 pub mod Numerals
+pub mod Marked

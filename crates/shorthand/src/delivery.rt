@@ -1,6 +1,6 @@
-//! A delivery in full: its marks, what it brought, and who bowls.
+//! A delivery in full: what it brought, and who bowls.
 
-ghost use Rattle.std.specs.Prelude.{◌≡◌, ◌∷◌, [], None, Some, Ok, MatchOption};
+ghost use Rattle.std.specs.Prelude.{◌≡◌, ◌∷◌, [], Ok};
 ghost use Rattle.cards.specs.Sheet.{team_of};
 ghost use Rattle.shorthand.specs.Lines as lines;
 ghost use Rattle.shorthand.specs.Lines.{plus, plus_all};
@@ -9,9 +9,9 @@ ghost use Rattle.shorthand.specs.Full as full;
 ghost use Rattle.shorthand.specs.Marks as marks;
 ghost use Rattle.shorthand.specs.Names as names;
 ghost use Rattle.shorthand.specs.Words as words;
-ghost use Rattle.shorthand.specs.Words.{in_row};
 
 use crate::line::Line;
+use crate::marks::{kind_word, mark};
 use crate::names::{
     Among, Found, colon_name, is_digit_first, named, named_bowler, number_word, player,
 };
@@ -30,93 +30,6 @@ pub struct Point {
     pub bowler: Option<Player>,
     /// The side whose innings began last; home, before any.
     pub batting: Side,
-}
-
-/// The kind that the letters of a mark stand for.
-fn kind_of(letters: &[u8]) -> Option<&'static str>
-    ensures { MatchOption result (in_row marks.letters letters.now ≡ None)
-        (λ kind. in_row marks.letters letters.now ≡ Some kind.now) }
-{
-    if letters == b"".as_slice() {
-        Some("bat")
-    } else if letters == b"b".as_slice() {
-        Some("bye")
-    } else if letters == b"lb".as_slice() {
-        Some("leg")
-    } else if letters == b"wd".as_slice() {
-        Some("wide")
-    } else if letters == b"nb".as_slice() {
-        Some("nb")
-    } else if letters == b"nbb".as_slice() {
-        Some("nbbye")
-    } else if letters == b"nblb".as_slice() {
-        Some("nbleg")
-    } else {
-        None
-    }
-}
-
-/// The runs that the figure of a mark stands for.
-fn runs_of(figure: u8) -> Option<&'static str>
-    ensures { MatchOption result (in_row marks.figures (figure ∷ []) ≡ None)
-        (λ runs. in_row marks.figures (figure ∷ []) ≡ Some runs.now) }
-{
-    match figure {
-        b'.' | b'0' => Some("0"),
-        b'1' => Some("1"),
-        b'2' => Some("2"),
-        b'3' => Some("3"),
-        b'4' => Some("0 four"),
-        b'5' => Some("5"),
-        b'6' => Some("0 six"),
-        _ => None,
-    }
-}
-
-/// The kind and the runs that letters and a figure stand for, where the token is these.
-#[tactic(auto, using(crate::proofs::Cuts::cut_append))]
-fn written_mark(token: &str) -> Option<(&'static str, &'static str)>
-    ensures { MatchOption result (marks.written_mark token.now ≡ None)
-        (λ m. marks.written_mark token.now ≡ Some (m.0.now, m.1.now)) }
-{
-    let (figure, letters) = token.as_bytes().split_last()?;
-    let kind = kind_of(letters)?;
-    let runs = runs_of(*figure)?;
-    Some((kind, runs))
-}
-
-/// The kind and the runs that one word says. Of a Wide and a No ball the one run is their own.
-fn said_runs(token: &str) -> Option<(&'static str, &'static str)>
-    ensures { MatchOption result (words.said_runs token.now ≡ None)
-        (λ m. words.said_runs token.now ≡ Some (m.0.now, m.1.now)) }
-{
-    match token {
-        "dot" => Some(("bat", "0")),
-        "four" => Some(("bat", "0 four")),
-        "six" => Some(("bat", "0 six")),
-        "1b" => Some(("bye", "1")),
-        "2b" => Some(("bye", "2")),
-        "3b" => Some(("bye", "3")),
-        "4b" => Some(("bye", "0 four")),
-        "1lb" => Some(("leg", "1")),
-        "2lb" => Some(("leg", "2")),
-        "3lb" => Some(("leg", "3")),
-        "4lb" => Some(("leg", "0 four")),
-        "1wd" => Some(("wide", "0")),
-        "1nb" => Some(("nb", "0")),
-        _ => None,
-    }
-}
-
-/// The kind and the runs that a mark stands for, said in a word or written, where the token is one.
-fn mark(token: &str) -> Option<(&'static str, &'static str)>
-    ensures { MatchOption result (marks.mark token.now ≡ None)
-        (λ m. marks.mark token.now ≡ Some (m.0.now, m.1.now)) }
-{
-    match said_runs(token) {
-        Some(mark) => Some(mark),
-        None => written_mark(token),
-    }
 }
 
 /// Whether a number stands next.
@@ -190,8 +103,8 @@ fn marked_from(line: &mut Line, sheet: &MatchSheet, side: Side, token: &str, res
 {
     match mark(token) {
         Some((kind, runs)) => {
-            line.word(kind);
-            line.word(runs);
+            line.word(kind_word(kind));
+            line.word(runs.word());
             behind_runs(line, sheet, side, rest);
         }
         None => by_kind(line, sheet, side, token, rest),

@@ -5,6 +5,7 @@ mod delivery;
 mod full;
 mod laws;
 mod line;
+mod marks;
 mod names;
 mod outs;
 mod rest;
@@ -17,6 +18,7 @@ pub use full::entry_in_full;
 pub use laws::{
     bowler_left_out_is_the_last, full_lines_stand, names_mean_one, taken_lines_are_read,
 };
+pub use marks::marked_alone;
 pub use names::has_beginning;
 pub use unclear::{Letter, Unaided, Unclear};
 pub use worked::table_is_worked;
