@@ -4,6 +4,7 @@ ghost use Rattle.std.specs.Prelude.{◌≡◌, ◌≢◌, ◌⊎◌, ◌++◌, L
 ghost use Rattle.notation.specs.declared.entry.Entry.{Entry};
 ghost use Rattle.notation.specs.Written.{IsEntry};
 ghost use Rattle.agree_core.specs.Ballots.{Ballot};
+ghost use Rattle.cards.specs.Sheet.{Sheet};
 ghost use Rattle.desk.specs.Desk.{last_entry};
 ghost use Rattle.screen.specs.Words as words;
 ghost use Rattle.station_texts.specs.Saying.{ComesTo, IsNoWord, IsNotAgain, IsTextOf, LineMeans};
@@ -15,7 +16,7 @@ use desk::Refusal;
 use notation::Entry;
 use plan_words::{Planned, plan_asked};
 use screen::{Word, behind_plan, is_end, word_of};
-use shorthand::{Unclear, entry_in_full};
+use shorthand::{Unclear, entry_in_full, marked_alone};
 use std::alloc::Global;
 
 /// What a scorer's line comes to.
@@ -148,6 +149,17 @@ fn once_more(last: Option<Entry>, differs: bool) -> Result<Entry, Said>
     }
 }
 
+/// The entry of a line that is one mark, in the first round of a place: the one that it means in full. No such line is one
+/// of the words.
+fn marked<B: BookOf>(line: &[u8], book: &B, differs: bool) -> Option<Entry>
+    ensures { (s : Sheet) → (votes : List Ballot) → IfSome result (LineMeans s (B.content book.now) votes differs line.now) }
+{
+    if differs {
+        return None;
+    }
+    marked_alone(line, book)
+}
+
 /// The entry that a line says, put in full by the sheet and the book, or once more what this scorer wrote last; in the
 /// first round of a place or in another one, in which the desk's vote is cast or not.
 pub fn entry_said<B: BookOf>(
@@ -165,6 +177,9 @@ pub fn entry_said<B: BookOf>(
     ensures none { (votes : List Ballot) → last ≡ last_entry votes
         → IfErr result (ComesTo sheet.now (B.content book.now) votes differs is_cast line.now) }
 {
+    if let Some(entry) = marked(line, book, differs) {
+        return Ok(entry);
+    }
     if let Some(said) = word(alloc, line, book, sheet) {
         return Err(said);
     }
