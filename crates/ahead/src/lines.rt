@@ -3,7 +3,7 @@
 ghost use Rattle.std.specs.Prelude.{◌≡◌, ◌≤◌, length, take};
 
 use arrayvec::ArrayVec;
-use links::{HeldLines, Stand};
+use links::{HeldLines, LineBuffer, Stand};
 
 /// The place of a line of which so many are held before it.
 pub fn place_behind(at: Stand, held: usize) -> u32 {
@@ -13,7 +13,7 @@ pub fn place_behind(at: Stand, held: usize) -> u32 {
 }
 
 /// Puts a line into the front of a buffer, and tells its length.
-pub fn put(text: &str, buffer: &mut [u8; 128]) -> usize
+pub fn put(text: &str, buffer: &mut LineBuffer) -> usize
     requires { length text.now ≤ 128 }
     ensures count { result ≤ 128 }
     ensures bytes { take result buffer.new ≡ text.now }

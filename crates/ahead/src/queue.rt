@@ -9,7 +9,7 @@ use crate::lines::{copied, place_behind, put};
 use crate::log::AheadLog;
 use crate::tried::{Tried, differs_since, is_not_taken};
 use arrayvec::ArrayVec;
-use links::{Aside, HeldLines, Stand, Typed};
+use links::{Aside, HeldLines, LineBuffer, Stand, Typed};
 
 /// What the desk is given once all that is dropped is told.
 #[derive(Clone, Copy)]
@@ -161,7 +161,7 @@ impl Queue {
     }
 
     /// Gives the desk the oldest line held.
-    fn hand_on(&mut self, at: Stand, buffer: &mut [u8; 128]) -> Typed
+    fn hand_on(&mut self, at: Stand, buffer: &mut LineBuffer) -> Typed
         requires { at.has_voted ≡ false }
         ensures given { IsTyped result buffer.new (given_of self.old.log) (given_of self.new.log) }
         ensures lost { lost_of self.new.log ≡ lost_of self.old.log }
@@ -186,7 +186,7 @@ impl Queue {
     }
 
     /// Drops and tells all that are held, and then gives the desk what ends it.
-    fn leave(&mut self, last: Last, buffer: &mut [u8; 128]) -> Typed
+    fn leave(&mut self, last: Last, buffer: &mut LineBuffer) -> Typed
         ensures given { IsTyped result buffer.new (given_of self.old.log) (given_of self.new.log) }
         ensures some { result ≡ Typed.Nothing → ⊥ }
         ensures typed { typed_of self.new.log ≡ typed_of self.old.log }
@@ -230,7 +230,7 @@ impl Queue {
     }
 
     /// What is due, before the keyboard is asked.
-    pub fn due(&mut self, at: Stand, buffer: &mut [u8; 128]) -> Typed
+    pub fn due(&mut self, at: Stand, buffer: &mut LineBuffer) -> Typed
         ensures differs { differs_since self.old.seen at ≡ true
             → (held_of self.new.log ≡ []) × (dropped_by result ≡ held_of self.old.log) }
         ensures not_taken { is_not_taken self.old.tried at ≡ true

@@ -11,7 +11,7 @@ ghost use Rattle.ahead.specs.Sorts.{is_entry, is_undo, may_cast};
 use crate::lines::place_behind;
 use crate::queue::{Last, Queue};
 use crate::tried::Tried;
-use links::{Aside, HeldLine, Keys, Stand, Typed};
+use links::{Aside, HeldLine, Keys, LineBuffer, Stand, Typed};
 use screen::{Word, is_end, word_of};
 use std::str;
 
@@ -99,7 +99,7 @@ pub fn text_of(line: &[u8]) -> Option<HeldLine>
 
 impl Queue {
     /// Gives the desk a line that was typed, at once.
-    fn pass(&mut self, buffer: &[u8; 128], count: usize) -> Typed
+    fn pass(&mut self, buffer: &LineBuffer, count: usize) -> Typed
         requires count { count ≤ 128 }
         requires held { may_cast (take count buffer.now) ≡ true → held_of self.old.log ≡ [] }
         ensures given { IsTyped result buffer.now (given_of self.old.log) (given_of self.new.log) }
@@ -113,7 +113,7 @@ impl Queue {
     }
 
     /// Tells something of a line that was typed, and that the desk isn't given.
-    fn put_by(&mut self, buffer: &[u8; 128], count: usize, aside: Aside) -> Typed
+    fn put_by(&mut self, buffer: &LineBuffer, count: usize, aside: Aside) -> Typed
         ensures given { IsTyped result buffer.now (given_of self.old.log) (given_of self.new.log) }
         ensures typed { typed_of self.new.log ≡ typed_of self.old.log ++ Line (take count buffer.now) ∷ [] }
         ensures row { result ≡ Typed.Aside aside }
@@ -139,7 +139,7 @@ impl Queue {
     }
 
     /// Holds a line that was typed, where there is room.
-    fn hold(&mut self, at: Stand, line: HeldLine, buffer: &[u8; 128], count: usize) -> Typed
+    fn hold(&mut self, at: Stand, line: HeldLine, buffer: &LineBuffer, count: usize) -> Typed
         requires line { line.bytes ≡ take count buffer.now }
         requires entry { is_entry line.bytes ≡ true }
         ensures given { IsTyped result buffer.now (given_of self.old.log) (given_of self.new.log) }
@@ -162,7 +162,7 @@ impl Queue {
     }
 
     /// Gives the desk a line that was typed, and sees what it comes to.
-    fn try_line(&mut self, at: Stand, line: HeldLine, buffer: &[u8; 128], count: usize) -> Typed
+    fn try_line(&mut self, at: Stand, line: HeldLine, buffer: &LineBuffer, count: usize) -> Typed
         requires count { count ≤ 128 }
         requires held { held_of self.old.log ≡ [] }
         ensures given { IsTyped result buffer.now (given_of self.old.log) (given_of self.new.log) }
@@ -182,7 +182,7 @@ impl Queue {
 
     /// Gives the desk a line that was typed, and sees what it comes to. Where it is no text the desk tells its fault, and what
     /// is typed behind it is dropped, unless it says `again`.
-    fn try_text(&mut self, at: Stand, buffer: &[u8; 128], count: usize) -> Typed
+    fn try_text(&mut self, at: Stand, buffer: &LineBuffer, count: usize) -> Typed
         requires count { count ≤ 128 }
         requires held { held_of self.old.log ≡ [] }
         ensures given { IsTyped result buffer.now (given_of self.old.log) (given_of self.new.log) }
@@ -202,7 +202,7 @@ impl Queue {
 
     /// What becomes of a line that is no text: the desk tells its fault where none is held, and what is typed behind it is
     /// dropped.
-    fn take_no_text(&mut self, buffer: &[u8; 128], count: usize) -> Typed
+    fn take_no_text(&mut self, buffer: &LineBuffer, count: usize) -> Typed
         requires count { count ≤ 128 }
         ensures given { IsTyped result buffer.now (given_of self.old.log) (given_of self.new.log) }
         ensures typed { typed_of self.new.log ≡ typed_of self.old.log ++ Line (take count buffer.now) ∷ [] }
@@ -217,7 +217,7 @@ impl Queue {
     }
 
     /// What becomes of a line that may be an entry's, and isn't given at once.
-    fn take_entry(&mut self, at: Stand, buffer: &[u8; 128], count: usize) -> Typed
+    fn take_entry(&mut self, at: Stand, buffer: &LineBuffer, count: usize) -> Typed
         requires count { count ≤ 128 }
         requires entry { is_entry (take count buffer.now) ≡ true }
         requires room { length (lost_of self.old.log) < 24 }
@@ -238,7 +238,7 @@ impl Queue {
     }
 
     /// What becomes of `undo` that isn't given at once: it takes the newest line held back.
-    fn undo(&mut self, at: Stand, buffer: &[u8; 128], count: usize) -> Typed
+    fn undo(&mut self, at: Stand, buffer: &LineBuffer, count: usize) -> Typed
         requires undo { is_undo (take count buffer.now) ≡ true }
         ensures given { IsTyped result buffer.now (given_of self.old.log) (given_of self.new.log) }
         ensures typed { typed_of self.new.log ≡ typed_of self.old.log ++ Line (take count buffer.now) ∷ [] }
@@ -256,7 +256,7 @@ impl Queue {
     }
 
     /// What becomes of `undo` that was typed before it was told that lines are dropped, and of any other.
-    fn take_undo(&mut self, at: Stand, buffer: &[u8; 128], count: usize) -> Typed
+    fn take_undo(&mut self, at: Stand, buffer: &LineBuffer, count: usize) -> Typed
         requires count { count ≤ 128 }
         requires undo { is_undo (take count buffer.now) ≡ true }
         requires room { length (lost_of self.old.log) < 24 }
@@ -274,7 +274,7 @@ impl Queue {
     }
 
     /// What becomes of `again`, alone or before a line: where one is held nothing differs that it could be for.
-    fn take_again(&mut self, at: Stand, buffer: &[u8; 128], count: usize) -> Typed
+    fn take_again(&mut self, at: Stand, buffer: &LineBuffer, count: usize) -> Typed
         requires count { count ≤ 128 }
         ensures given { IsTyped result buffer.now (given_of self.old.log) (given_of self.new.log) }
         ensures typed { typed_of self.new.log ≡ typed_of self.old.log ++ Line (take count buffer.now) ∷ [] }
@@ -289,7 +289,7 @@ impl Queue {
     }
 
     /// What becomes of `quit`: what is held is dropped and told before.
-    fn take_quit(&mut self, buffer: &[u8; 128], count: usize) -> Typed
+    fn take_quit(&mut self, buffer: &LineBuffer, count: usize) -> Typed
         ensures given { IsTyped result buffer.now (given_of self.old.log) (given_of self.new.log) }
         ensures typed { typed_of self.new.log ≡ typed_of self.old.log ++ Line (take count buffer.now) ∷ [] }
         ensures held { held_of self.new.log ++ taken_back_by result ≡ held_of self.old.log ++ held_by result }
@@ -302,7 +302,7 @@ impl Queue {
     }
 
     /// What becomes of a line that was typed. Where the desk's vote isn't cast and no line is held, it is given any at once.
-    pub fn take(&mut self, at: Stand, buffer: &[u8; 128], count: usize) -> Typed
+    pub fn take(&mut self, at: Stand, buffer: &LineBuffer, count: usize) -> Typed
         requires count { count ≤ 128 }
         requires room { length (lost_of self.old.log) < 24 }
         ensures given { IsTyped result buffer.now (given_of self.old.log) (given_of self.new.log) }
@@ -385,7 +385,7 @@ impl<K: Keys> Keys for Ahead<K> {
 
     ghost inputs = { λ ahead. given_of (ahead.queue).log };
 
-    fn line(&mut self, at: Stand, buffer: &mut [u8; 128]) -> Typed
+    fn line(&mut self, at: Stand, buffer: &mut LineBuffer) -> Typed
         ensures given { IsTyped result buffer.new (given_of (self.old.queue).log) (given_of (self.new.queue).log) }
         ensures differs { differs_since (self.old.queue).seen at ≡ true
             → (held_of (self.new.queue).log ≡ []) × (dropped_by result ≡ held_of (self.old.queue).log) }

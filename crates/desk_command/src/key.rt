@@ -11,8 +11,11 @@ use std::io::{self, ErrorKind, Write};
 use std::os::unix::fs::OpenOptionsExt;
 use std::random::RandomSource;
 
-/// The text of a new key's file: 64 hex digits and the end of a line.
-pub fn key_text(key: &[u8; 32]) -> [u8; 65]
+/// A key's file: 64 hex digits and the end of a line.
+type KeyText = [u8; 65];
+
+/// The text of a new key's file.
+pub fn key_text(key: &[u8; 32]) -> KeyText
     ensures { result ≡ keys.key_line key.now }
 {
     let mut text = [b'\n'; 65];

@@ -13,6 +13,9 @@ use json_fields::{Compact, begin_array, end_array, put_figure, put_null, put_str
 use notation::{Entry, line_of};
 use std::alloc::AllocError;
 
+/// A line that the desk holds.
+pub type HeldLine = ArrayString<128>;
+
 /// The desk's letter.
 fn letter(desk: DeskId) -> &'static str
     ensures { result.now ≡ laws.desk_text desk }
@@ -54,7 +57,7 @@ fn put_pending(out: &mut Compact, own: Option<Entry>) -> Result<(), AllocError>
 }
 
 /// Puts each line.
-fn put_lines(out: &mut Compact, lines: &[ArrayString<128>]) -> Result<(), AllocError>
+fn put_lines(out: &mut Compact, lines: &[HeldLine]) -> Result<(), AllocError>
     ensures { PutsValues result out.old out.new (laws.lines_values lines.now) }
 {
     for line in lines {
@@ -64,7 +67,7 @@ fn put_lines(out: &mut Compact, lines: &[ArrayString<128>]) -> Result<(), AllocE
 }
 
 /// Puts the lines that it holds.
-fn put_held(out: &mut Compact, held: &[ArrayString<128>]) -> Result<(), AllocError>
+fn put_held(out: &mut Compact, held: &[HeldLine]) -> Result<(), AllocError>
     ensures { PutsFields result out.old out.new (laws.held_field held.now ∷ []) }
 {
     begin_array(out, "held")?;
@@ -79,7 +82,7 @@ pub fn put_head(
     desk: DeskId,
     at: Position,
     own: Option<Entry>,
-    held: &[ArrayString<128>],
+    held: &[HeldLine],
 ) -> Result<(), AllocError>
     requires { IfSome own IsEntry }
     ensures { PutsFields result out.old out.new (laws.head_fields sheet.now desk at own held.now) }

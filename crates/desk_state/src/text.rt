@@ -4,9 +4,9 @@ ghost use Rattle.std.specs.Prelude.{◌≡◌, IfOk, IfSome};
 ghost use Rattle.notation.specs.Written.{IsEntry};
 ghost use Rattle.desk_state.specs.Value.{state_text as text_of};
 
+use crate::head::HeldLine;
 use crate::value::put_state;
 use agree_core::{DeskId, Position};
-use arrayvec::ArrayString;
 use cards::MatchSheet;
 use corrections::BookOf;
 use json_fields::Compact;
@@ -24,7 +24,7 @@ pub fn state_text<B: BookOf>(
     desk: DeskId,
     at: Position,
     own: Option<Entry>,
-    held: &[ArrayString<128>],
+    held: &[HeldLine],
 ) -> Result<Vec<u8>, AllocError>
     requires { IfSome own IsEntry }
     ensures { IfOk result (λ text. text.items ≡ text_of sheet.now

@@ -7,12 +7,11 @@ ghost use Rattle.desk_state.specs.Value as laws;
 
 use crate::board::put_board_field;
 use crate::deliveries::over_shown;
-use crate::head::put_head;
+use crate::head::{HeldLine, put_head};
 use crate::next::put_next;
 use crate::over::put_over;
 use crate::sides::put_sides;
 use agree_core::{DeskId, Position};
-use arrayvec::ArrayString;
 use cards::MatchSheet;
 use corrections::BookOf;
 use json_fields::{Compact, begin_object, end_object};
@@ -45,7 +44,7 @@ pub fn put_state<B: BookOf>(
     desk: DeskId,
     at: Position,
     own: Option<Entry>,
-    held: &[ArrayString<128>],
+    held: &[HeldLine],
 ) -> Result<(), AllocError>
     requires { IfSome own IsEntry }
     ensures { PutsValues result out.old out.new (laws.state_value sheet.now

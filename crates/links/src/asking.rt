@@ -6,6 +6,7 @@ ghost use Rattle.waits.specs.declared.times.TheConstants.{LONGEST_ASK_PAUSE};
 use agree_core::{DeskId, Position};
 use std::mem;
 use waits::{FIRST_ASK_PAUSE, LONGEST_ASK_PAUSE, SHORTEST_ASK_PAUSE};
+use wire::MessageBytes;
 
 /// How often an ask is said again, beside what the station itself says.
 const MOST_TRIES: u32 = 8;
@@ -20,7 +21,7 @@ const LONG_TRIP: u64 = 8;
 #[derive(Clone, Copy)]
 pub struct Asking {
     at: Position,
-    bytes: Option<[u8; 48]>,
+    bytes: Option<MessageBytes>,
     /// When it was said first.
     first: u64,
     /// When an ask was said last, or a vote came that was lacking.
@@ -88,7 +89,7 @@ impl Asking {
 
     /// Notes an ask of the station's, and answers whether it is said: not while the answer to the same may be on its way,
     /// or that to an earlier one, which stands for it, where it isn't the first.
-    pub fn ask(&mut self, at: Position, bytes: &[u8; 48], is_first: bool, now: u64) -> bool
+    pub fn ask(&mut self, at: Position, bytes: &MessageBytes, is_first: bool, now: u64) -> bool
         ensures asked { (self.new.bytes ≡ self.old.bytes) ⊎ (self.new.bytes ≡ Some bytes.now) }
         // it is said where for a quarter of a second no ask was said, and no vote came that was lacking
         ensures said { self.old.last + LONGEST_ASK_PAUSE ≤ now → result ≡ true }
@@ -143,7 +144,7 @@ impl Asking {
     }
 
     /// The ask, to be said for all that it stands for.
-    pub fn say_again(&mut self, now: u64) -> Option<[u8; 48]>
+    pub fn say_again(&mut self, now: u64) -> Option<MessageBytes>
         ensures stays { self.new.bytes ≡ self.old.bytes }
         ensures value { result ≡ self.new.bytes }
         ensures last { (self.new.last ≡ self.old.last) ⊎ ((self.new.last ≡ now) × IsSome result) }
@@ -154,7 +155,7 @@ impl Asking {
     }
 
     /// The ask, to be said where its answer was lost.
-    pub fn try_again(&mut self) -> Option<[u8; 48]>
+    pub fn try_again(&mut self) -> Option<MessageBytes>
         ensures stays { self.new.bytes ≡ self.old.bytes }
         ensures value { result ≡ self.new.bytes }
         ensures last { self.new.last ≡ self.old.last }

@@ -9,7 +9,7 @@ use crate::catch_up::PLACES_AHEAD;
 use agree_core::{Asker, DeskId, Message, Position, Vote};
 use std::alloc::Global;
 use std::collections::BTreeMap;
-use wire::message_of;
+use wire::{MessageBytes, message_of};
 
 /// How many votes are kept at most: both desks'.
 const MOST_KEPT: usize = 4_096;
@@ -35,7 +35,7 @@ struct Ballot {
 #[derive(Drop)]
 pub struct EarlyVotes {
     at: Position,
-    votes: BTreeMap<Ballot, [u8; 48]>,
+    votes: BTreeMap<Ballot, MessageBytes>,
 }
 
 impl EarlyVotes {
@@ -96,7 +96,7 @@ impl EarlyVotes {
 
     /// Keeps a vote that came early, unless it is here, and answers whether it is kept now and wasn't. Where there is no room
     /// for it, it is lost.
-    pub fn keep(&mut self, vote: &Vote, bytes: &[u8; 48]) -> bool
+    pub fn keep(&mut self, vote: &Vote, bytes: &MessageBytes) -> bool
         ensures kept { AreOfOr bytes.now (values self.new.votes) (values self.old.votes) }
         ensures more { result ≡ true → HasMore (values self.old.votes) (values self.new.votes) }
     {
@@ -110,7 +110,7 @@ impl EarlyVotes {
     }
 
     /// Takes a vote that was kept for the station's position.
-    pub fn take(&mut self) -> Option<[u8; 48]>
+    pub fn take(&mut self) -> Option<MessageBytes>
         ensures given { IfSome result (Has (values self.old.votes)) }
         ensures kept { AreOf (values self.new.votes) (values self.old.votes) }
         ensures none { IfNone result (values self.new.votes ≡ values self.old.votes) }

@@ -9,6 +9,9 @@ use crate::stand::Stand;
 /// How many bytes of a line are taken at most: more than an entry has, so that a longer one is seen as such.
 pub const LINE_ROOM: usize = 128;
 
+/// Room for a line that was typed.
+pub type LineBuffer = [u8; LINE_ROOM];
+
 /// What was typed: no whole line yet, a line of so many bytes, what is told of lines that the desk isn't given, or nothing
 /// any more.
 #[derive(Drop)]
@@ -25,7 +28,7 @@ pub trait Keys {
     ghost inputs: { Self → List Input };
 
     /// The next line for a desk that stands so, without its newline, if there is one. It doesn't wait for one.
-    fn line(&mut self, at: Stand, buffer: &mut [u8; 128]) -> Typed
+    fn line(&mut self, at: Stand, buffer: &mut LineBuffer) -> Typed
         ensures { IsTyped result buffer.new (inputs self.old) (inputs self.new) };
 
     /// Whether `line` has more to give at once, so that nothing else is waited for.
@@ -40,7 +43,7 @@ pub trait Keys {
 /// A scorer's lines from elsewhere than a keyboard, as from a page.
 pub trait MoreLines {
     /// The next line for a desk that stands so, if there is one: the front of the buffer.
-    fn next_line(&mut self, at: Stand, buffer: &mut [u8; 128]) -> Option<usize>
+    fn next_line(&mut self, at: Stand, buffer: &mut LineBuffer) -> Option<usize>
         ensures { IfSome result (λ count. count ≤ 128) };
 
     /// Whether there is one.

@@ -10,6 +10,7 @@ use crate::catch_up::{CatchUp, PLACES_AHEAD};
 use crate::early::EarlyVotes;
 use agree_core::{Ask, Asker, DeskId, Position};
 use std::alloc::Global;
+use wire::MessageBytes;
 
 /// Which peers sent votes of the desks last.
 #[derive(Clone, Copy)]
@@ -97,7 +98,7 @@ impl Known {
     }
 
     /// The station's ask, to be said now, or, where later votes are here, to be said for what was lost.
-    pub fn say_again(&mut self, now: u64) -> Option<[u8; 48]>
+    pub fn say_again(&mut self, now: u64) -> Option<MessageBytes>
         ensures votes { self.new.early ≡ self.old.early }
         ensures stays { self.new.asking.bytes ≡ self.old.asking.bytes }
         ensures value { result ≡ self.new.asking.bytes }
@@ -135,7 +136,7 @@ impl Known {
     }
 
     /// Notes an ask of the station's, and answers whether it is handed down.
-    pub fn note_ask(&mut self, game: u64, ask: &Ask, bytes: &[u8; 48], now: u64) -> bool
+    pub fn note_ask(&mut self, game: u64, ask: &Ask, bytes: &MessageBytes, now: u64) -> bool
         ensures votes { AreOf (values self.new.early.votes) (values self.old.early.votes) }
         ensures asked { (self.new.asking.bytes ≡ self.old.asking.bytes) ⊎ (self.new.asking.bytes ≡ Some bytes.now) }
         ensures said { self.old.asking.last + LONGEST_ASK_PAUSE ≤ now

@@ -19,10 +19,10 @@ mod window;
 
 pub use aside::{Aside, HeldLine, HeldLines};
 pub use clock::Clock;
-pub use keys::{Keys, LINE_ROOM, MoreLines, Typed};
+pub use keys::{Keys, LINE_ROOM, LineBuffer, MoreLines, Typed};
 pub use link::{
-    Arrival, Link, MOST_TAKEN, PeerLink, ROOM, Receivers, SEALED_ROOM, SealedCarrier, SharedLink,
-    Taken,
+    Arrival, DatagramBuffer, Link, MOST_TAKEN, PeerLink, ROOM, Receivers, SEALED_ROOM,
+    SealedBuffer, SealedBytes, SealedCarrier, SharedLink, Taken,
 };
 pub use log::{CarriedLog, ClockLog, InputLog, Log};
 pub use sending::send_each;

@@ -6,13 +6,22 @@ ghost use Rattle.links.specs.Passed.{Passed, Sent, IsRead, IsTaken, IsTakenUpTo,
 ghost use Rattle.links.specs.declared.link.Receivers.TheVariants.{ToAll, ToOne};
 
 use agree_core::{Asker, Message};
-use wire::{WireFault, message_of};
+use wire::{MessageBytes, WireFault, message_of};
 
 /// How many bytes of a datagram are taken at most: more than a message has, so that a longer one is seen as such.
 pub const ROOM: usize = 64;
 
+/// Room for a datagram that is taken.
+pub type DatagramBuffer = [u8; ROOM];
+
+/// A sealed datagram: a message's bytes, and the 16 of its tag.
+pub type SealedBytes = [u8; 64];
+
 /// How many bytes of a sealed datagram are taken at most: more than it has, so that a longer one is seen as such.
 pub const SEALED_ROOM: usize = 65;
+
+/// Room for a sealed datagram that is taken.
+pub type SealedBuffer = [u8; SEALED_ROOM];
 
 /// How many datagrams a station takes in a turn at most.
 pub const MOST_TAKEN: usize = 8;
@@ -66,11 +75,11 @@ pub trait Link {
     ghost log: { Self → List Passed };
 
     /// Sends bytes to every peer. What can't be sent is lost.
-    fn send(&mut self, bytes: &[u8; 48])
+    fn send(&mut self, bytes: &MessageBytes)
         ensures { log self.new ≡ log self.old ++ Sent ToAll bytes.now ∷ [] };
 
     /// Sends a message likewise: its bytes, in the match of this number.
-    fn send_message(&mut self, game: u64, message: &Message, bytes: &[u8; 48])
+    fn send_message(&mut self, game: u64, message: &Message, bytes: &MessageBytes)
         requires { Says game bytes.now message.now }
         ensures { log self.new ≡ log self.old ++ Sent ToAll bytes.now ∷ [] }
     {
@@ -78,16 +87,16 @@ pub trait Link {
     }
 
     /// Sends bytes to the peer whose datagram was taken last, if to no other. What can't be sent is lost.
-    fn reply(&mut self, bytes: &[u8; 48])
+    fn reply(&mut self, bytes: &MessageBytes)
         ensures { log self.new ≡ log self.old ++ Sent ToOne bytes.now ∷ [] };
 
     /// Takes the next datagram that came from a peer: the front of the buffer. One is waited for, so many milliseconds at
     /// most, and no longer than until a scorer may have typed. Others' datagrams, and those whose taking fails, are lost.
-    fn take(&mut self, buffer: &mut [u8; 64], wait: u64) -> Taken
+    fn take(&mut self, buffer: &mut DatagramBuffer, wait: u64) -> Taken
         ensures { IsTaken result buffer.new (log self.old) (log self.new) };
 
     /// Takes the next datagram likewise, and reads it in the match of this number.
-    fn take_message(&mut self, game: u64, buffer: &mut [u8; 64], wait: u64) -> Arrival
+    fn take_message(&mut self, game: u64, buffer: &mut DatagramBuffer, wait: u64) -> Arrival
         ensures { IsRead game result buffer.new (log self.old) (log self.new) }
     {
         match self.take(buffer, wait) {
@@ -105,7 +114,7 @@ pub trait Link {
 /// A link that knows its peers apart.
 pub trait PeerLink: Link {
     /// Sends bytes to the peer of this number, if there is one. What can't be sent is lost.
-    fn send_to(&mut self, peer: usize, bytes: &[u8; 48])
+    fn send_to(&mut self, peer: usize, bytes: &MessageBytes)
         ensures { Self.log self.new ≡ Self.log self.old ++ Sent ToOne bytes.now ∷ [] };
 
     /// Which peer's datagram was taken last, as a number of its own.
@@ -119,15 +128,15 @@ pub trait SealedCarrier {
     ghost carried: { Self → List Passed };
 
     /// Sends a sealed datagram to every peer. What can't be sent is lost.
-    fn carry(&mut self, bytes: &[u8; 64])
+    fn carry(&mut self, bytes: &SealedBytes)
         ensures { carried self.new ≡ carried self.old ++ Sent ToAll bytes.now ∷ [] };
 
     /// Sends a sealed datagram to the peer whose datagram was taken last, if to no other. What can't be sent is lost.
-    fn carry_back(&mut self, bytes: &[u8; 64])
+    fn carry_back(&mut self, bytes: &SealedBytes)
         ensures { carried self.new ≡ carried self.old ++ Sent ToOne bytes.now ∷ [] };
 
     /// Sends a sealed datagram to the peer of this number, if there is one. What can't be sent is lost.
-    fn carry_to(&mut self, peer: usize, bytes: &[u8; 64])
+    fn carry_to(&mut self, peer: usize, bytes: &SealedBytes)
         ensures { carried self.new ≡ carried self.old ++ Sent ToOne bytes.now ∷ [] };
 
     /// Which peer's datagram was taken last, as a number of its own.
@@ -135,7 +144,7 @@ pub trait SealedCarrier {
 
     /// Takes the next datagram that came from a peer: the front of the buffer. One is waited for, so many milliseconds at
     /// most, and no longer than until a scorer may have typed. Others' datagrams, and those whose taking fails, are lost.
-    fn bring(&mut self, buffer: &mut [u8; 65], wait: u64) -> Taken
+    fn bring(&mut self, buffer: &mut SealedBuffer, wait: u64) -> Taken
         ensures { IsTakenUpTo 65 result buffer.new (carried self.old) (carried self.new) };
 }
 

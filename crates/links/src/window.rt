@@ -12,28 +12,28 @@ use crate::clock::Clock;
 use crate::company::Company;
 use crate::early::hears;
 use crate::known::{Given, Known};
-use crate::link::{Arrival, Link, PeerLink, Receivers, Taken};
+use crate::link::{Arrival, DatagramBuffer, Link, PeerLink, Receivers, Taken};
 use crate::log::Log;
 use crate::silence::Silence;
 use agree_core::{Asker, Message, Position, Vote};
 use asks::ask_for;
 use std::alloc::Global;
 use std::marker::Model;
-use wire::{SIZE, WireFault, message_of};
+use wire::{MessageBytes, SIZE, WireFault, message_of};
 
 /// Puts a message into the front of a buffer.
-fn put(message: &[u8; 48], buffer: &mut [u8; 64])
+fn put(message: &MessageBytes, buffer: &mut DatagramBuffer)
     ensures { take 48 buffer.new ≡ message.now }
 {
-    buffer[..48].copy_from_slice(message.as_slice());
+    buffer[..SIZE].copy_from_slice(message.as_slice());
 }
 
 /// The front of a buffer.
-fn front(buffer: &[u8; 64]) -> [u8; 48]
+fn front(buffer: &DatagramBuffer) -> MessageBytes
     ensures { result ≡ take 48 buffer.now }
 {
-    let mut message = [0; 48];
-    message.copy_from_slice(&buffer[..48]);
+    let mut message = [0; SIZE];
+    message.copy_from_slice(&buffer[..SIZE]);
     message
 }
 
@@ -130,7 +130,7 @@ impl<L: PeerLink, C: Clock> Window<L, C> {
     }
 
     /// Notes what the station says, as it is read, and answers whether it is handed down.
-    fn note(&mut self, read: Result<Message, WireFault>, bytes: &[u8; 48], now: u64) -> bool
+    fn note(&mut self, read: Result<Message, WireFault>, bytes: &MessageBytes, now: u64) -> bool
         requires { Reads self.old.game bytes.now read }
         ensures kept { IsKept self.old self.new }
         ensures below { self.new.below ≡ self.old.below }
@@ -152,7 +152,7 @@ impl<L: PeerLink, C: Clock> Window<L, C> {
     }
 
     /// Hands a message to all.
-    fn say(&mut self, bytes: &[u8; 48], now: u64)
+    fn say(&mut self, bytes: &MessageBytes, now: u64)
         requires { IsHanded self.old.game self.old.above ToAll bytes.now }
         ensures still { IsStill self.old self.new }
         ensures said { HandsDown ToAll bytes.now self.old self.new }
@@ -162,7 +162,7 @@ impl<L: PeerLink, C: Clock> Window<L, C> {
     }
 
     /// Takes what the station says to all, as it is read. A vote is handed down at once, and an ask in time.
-    fn send_read(&mut self, read: Result<Message, WireFault>, bytes: &[u8; 48])
+    fn send_read(&mut self, read: Result<Message, WireFault>, bytes: &MessageBytes)
         requires { Reads self.old.game bytes.now read }
         ensures log { self.new.above ≡ self.old.above ++ Sent ToAll bytes.now ∷ [] }
         ensures handed { IsVote self.old.game bytes.now → HandsDown ToAll bytes.now self.old self.new }
@@ -189,7 +189,7 @@ impl<L: PeerLink, C: Clock> Window<L, C> {
 
     /// The next ask that is made up, where one is. It is as of a board, whoever the peer is, so that no desk passes for heard
     /// by it.
-    fn made_up(&mut self) -> Option<[u8; 48]>
+    fn made_up(&mut self) -> Option<MessageBytes>
         ensures still { IsStill self.old self.new }
         ensures below { self.new.below ≡ self.old.below }
         ensures ask { IfSome result (IsAsk self.new.game) }
@@ -200,7 +200,7 @@ impl<L: PeerLink, C: Clock> Window<L, C> {
     }
 
     /// What the link gives, and the message that it says, where it says one. A vote that comes early is lost for now.
-    fn brought(&mut self, buffer: &mut [u8; 64], wait: u64) -> (Taken, Option<Message>)
+    fn brought(&mut self, buffer: &mut DatagramBuffer, wait: u64) -> (Taken, Option<Message>)
         ensures kept { IsKept self.old self.new }
         ensures grown { IsGrown self.old.below self.new.below }
         ensures read { IsGrown self.old.readings self.new.readings }
@@ -218,7 +218,7 @@ impl<L: PeerLink, C: Clock> Window<L, C> {
     }
 
     /// What the link brings, once what it is time for is asked for.
-    fn fetch(&mut self, buffer: &mut [u8; 64], wait: u64) -> (Taken, Option<Message>)
+    fn fetch(&mut self, buffer: &mut DatagramBuffer, wait: u64) -> (Taken, Option<Message>)
         ensures kept { IsKept self.old self.new }
         ensures brought { (count : ℕ) → result.0 ≡ Taken.Datagram count
             → (count ≤ 64) × IsBrought self.new.game self.new.below (take count buffer.new) }
@@ -232,7 +232,7 @@ impl<L: PeerLink, C: Clock> Window<L, C> {
 
     /// The next datagram, and the message that was read of it, if one was: a vote that was kept for the station's position, an
     /// ask that is made up, or what the link brings.
-    fn next(&mut self, buffer: &mut [u8; 64], wait: u64) -> (Taken, Option<Message>)
+    fn next(&mut self, buffer: &mut DatagramBuffer, wait: u64) -> (Taken, Option<Message>)
         ensures kept { IsKept self.old self.new }
         ensures quiet { IsQuietUntilNews result.0 buffer.new self.old self.new }
         ensures brought { (count : ℕ) → result.0 ≡ Taken.Datagram count
@@ -242,17 +242,17 @@ impl<L: PeerLink, C: Clock> Window<L, C> {
         self.begin_take();
         if let Some(bytes) = self.known.early.take() {
             put(&bytes, buffer);
-            return (Taken::Datagram(48), None);
+            return (Taken::Datagram(SIZE), None);
         }
         if let Some(bytes) = self.made_up() {
             put(&bytes, buffer);
-            return (Taken::Datagram(48), None);
+            return (Taken::Datagram(SIZE), None);
         }
         self.fetch(buffer, wait)
     }
 
     /// Hands a reply to who asked.
-    fn hand_back(&mut self, bytes: &[u8; 48])
+    fn hand_back(&mut self, bytes: &MessageBytes)
         requires { IsHanded self.old.game self.old.above ToOne bytes.now }
         ensures kept { IsKept self.old self.new }
         ensures said { HandsDown ToOne bytes.now self.old self.new }
@@ -268,7 +268,7 @@ impl<L: PeerLink, C: Clock> Window<L, C> {
     }
 
     /// Notes that an ask that came was answered: the places behind it are asked for too.
-    fn note_reply(&mut self, bytes: &[u8; 48])
+    fn note_reply(&mut self, bytes: &MessageBytes)
         ensures kept { IsKept self.old self.new }
         ensures below { self.new.below ≡ self.old.below }
         ensures quiet { self.new.quiet_since ≡ self.old.quiet_since }
@@ -292,7 +292,7 @@ impl Known {
 
     /// Notes a vote that came from this peer, and answers whether it is for now: not one that is kept for later. A repeat, and
     /// the station's own, change nothing of when it asks.
-    fn is_for_now(&mut self, vote: &Vote, bytes: &[u8; 48], peer: usize, now: u64) -> bool
+    fn is_for_now(&mut self, vote: &Vote, bytes: &MessageBytes, peer: usize, now: u64) -> bool
         ensures votes { AreOfOr bytes.now (values self.new.early.votes) (values self.old.early.votes) }
         ensures asked { self.new.asking.bytes ≡ self.old.asking.bytes }
         ensures last { (self.new.asking.last ≡ self.old.asking.last) ⊎ ((self.new.asking.last ≡ now)
@@ -314,7 +314,13 @@ impl Known {
     }
 
     /// Notes a message that came from this peer in these bytes, and answers whether it is for now.
-    fn hear_message(&mut self, message: &Message, bytes: &[u8; 48], peer: usize, now: u64) -> bool
+    fn hear_message(
+        &mut self,
+        message: &Message,
+        bytes: &MessageBytes,
+        peer: usize,
+        now: u64,
+    ) -> bool
         ensures votes { AreOfOr bytes.now (values self.new.early.votes) (values self.old.early.votes) }
         ensures asked { self.new.asking.bytes ≡ self.old.asking.bytes }
         ensures last { (self.new.asking.last ≡ self.old.asking.last) ⊎ ((self.new.asking.last ≡ now)
@@ -337,7 +343,7 @@ impl Known {
         &mut self,
         game: u64,
         taken: Taken,
-        buffer: &[u8; 64],
+        buffer: &DatagramBuffer,
         peer: usize,
         now: u64,
     ) -> (Taken, Option<Message>)
@@ -373,7 +379,7 @@ impl<L: PeerLink, C: Clock> Link for Window<L, C> {
 
     ghost log = { λ window. window.above };
 
-    fn send(&mut self, bytes: &[u8; 48])
+    fn send(&mut self, bytes: &MessageBytes)
         ensures log { self.new.above ≡ self.old.above ++ Sent ToAll bytes.now ∷ [] }
         ensures handed { IsVote self.old.game bytes.now → HandsDown ToAll bytes.now self.old self.new }
         ensures asked { AsksInTime bytes.now self.old self.new }
@@ -383,7 +389,7 @@ impl<L: PeerLink, C: Clock> Link for Window<L, C> {
     }
 
     // what its bytes say isn't read
-    fn send_message(&mut self, game: u64, message: &Message, bytes: &[u8; 48])
+    fn send_message(&mut self, game: u64, message: &Message, bytes: &MessageBytes)
         requires { Says game bytes.now message.now }
         ensures log { self.new.above ≡ self.old.above ++ Sent ToAll bytes.now ∷ [] }
         ensures handed { IsVote self.old.game bytes.now → HandsDown ToAll bytes.now self.old self.new }
@@ -394,7 +400,7 @@ impl<L: PeerLink, C: Clock> Link for Window<L, C> {
     }
 
     // an answer is handed down at once, to one
-    fn reply(&mut self, bytes: &[u8; 48])
+    fn reply(&mut self, bytes: &MessageBytes)
         ensures log { self.new.above ≡ self.old.above ++ Sent ToOne bytes.now ∷ [] }
         ensures handed { HandsDown ToOne bytes.now self.old self.new }
         ensures quiet { self.new.quiet_since ≡ self.old.quiet_since }
@@ -405,7 +411,7 @@ impl<L: PeerLink, C: Clock> Link for Window<L, C> {
     }
 
     // it is quiet until something new comes
-    fn take(&mut self, buffer: &mut [u8; 64], wait: u64) -> Taken
+    fn take(&mut self, buffer: &mut DatagramBuffer, wait: u64) -> Taken
         ensures log { IsTaken result buffer.new self.old.above self.new.above }
         ensures quiet { IsQuietUntilNews result buffer.new self.old self.new }
     {
@@ -414,7 +420,7 @@ impl<L: PeerLink, C: Clock> Link for Window<L, C> {
     }
 
     // likewise; what its link brings is read once
-    fn take_message(&mut self, game: u64, buffer: &mut [u8; 64], wait: u64) -> Arrival
+    fn take_message(&mut self, game: u64, buffer: &mut DatagramBuffer, wait: u64) -> Arrival
         ensures log { IsRead game result buffer.new self.old.above self.new.above }
         ensures quiet { IsQuietUntilNews (taken_of result) buffer.new self.old self.new }
     {

@@ -9,7 +9,7 @@ use std::alloc::Global;
 use std::cell::Cell;
 use std::process::Abort;
 use tests_support::{entry_in, vote_of};
-use wire::bytes_of;
+use wire::{MessageBytes, bytes_of};
 
 mod all_is_heard;
 mod behind;
@@ -43,7 +43,7 @@ fn entry(rt: &impl Abort, line: &str) -> Entry
 }
 
 /// A desk's vote for a line, in match 7.
-fn vote(rt: &impl Abort, desk: DeskId, place: u32, round: u32, line: &str) -> [u8; 48]
+fn vote(rt: &impl Abort, desk: DeskId, place: u32, round: u32, line: &str) -> MessageBytes
     requires place { place < PLACES }
     requires round { round < ROUNDS }
 {
@@ -51,7 +51,7 @@ fn vote(rt: &impl Abort, desk: DeskId, place: u32, round: u32, line: &str) -> [u
 }
 
 /// An ask for the votes of a position, in match 7.
-fn ask_at(from: Asker, place: u32, round: u32) -> [u8; 48]
+fn ask_at(from: Asker, place: u32, round: u32) -> MessageBytes
     requires place { place < PLACES }
     requires round { round < ROUNDS }
 {

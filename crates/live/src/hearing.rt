@@ -40,7 +40,7 @@ use station_texts::both::Both;
 use station_texts::news::{print_came, print_unopened};
 use station_texts::warned::Warned;
 use streams::{Sink, Watched};
-use wire::{What, WireFault};
+use wire::{MessageBytes, What, WireFault};
 
 /// Whether a station may have an answer soon: what came is the first vote of its position, or a vote of a station that
 /// is further ahead.
@@ -232,7 +232,7 @@ pub(crate) fn own_line<S: SlotsOf, B: BookOf + Drop>(desk: &Desk<S, B>) -> Optio
 }
 
 /// Sends a reply to who asked, if there is one.
-fn hand_back<L: Link>(link: &mut L, reply: Option<[u8; 48]>)
+fn hand_back<L: Link>(link: &mut L, reply: Option<MessageBytes>)
     ensures { L.log link.new ≡ L.log link.old ++ sent_to ToOne (replied reply) }
 {
     if let Some(reply) = reply {

@@ -12,7 +12,7 @@ use std::alloc::Global;
 use std::process::Abort;
 use streams::Watched;
 use tests_support::{entry_in, vote_of};
-use wire::bytes_of;
+use wire::{MessageBytes, bytes_of};
 use world::{Bring, Hand, Key, Keyboard, Screen, Timed, World, each_second, once};
 
 mod reminders;
@@ -42,7 +42,7 @@ fn new_desk(rt: &impl Abort, alloc: Global) -> Desk<Slots<MemDisk>, Book> {
 }
 
 /// A desk's vote for a line, in match 7.
-fn vote(rt: &impl Abort, desk: DeskId, place: u32, round: u32, line: &str) -> [u8; 48]
+fn vote(rt: &impl Abort, desk: DeskId, place: u32, round: u32, line: &str) -> MessageBytes
     requires place { place < PLACES }
     requires round { round < ROUNDS }
 {
@@ -53,7 +53,7 @@ fn vote(rt: &impl Abort, desk: DeskId, place: u32, round: u32, line: &str) -> [u
 }
 
 /// Desk B's vote for `void`.
-fn void(rt: &impl Abort, place: u32, round: u32) -> [u8; 48]
+fn void(rt: &impl Abort, place: u32, round: u32) -> MessageBytes
     requires place { place < PLACES }
     requires round { round < ROUNDS }
 {
@@ -61,7 +61,7 @@ fn void(rt: &impl Abort, place: u32, round: u32) -> [u8; 48]
 }
 
 /// An ask for the votes of a position.
-fn ask(from: Asker, place: u32, round: u32) -> [u8; 48]
+fn ask(from: Asker, place: u32, round: u32) -> MessageBytes
     requires place { place < PLACES }
     requires round { round < ROUNDS }
 {

@@ -6,10 +6,13 @@ ghost use Rattle.links.specs.Logs.{inputs_of};
 use arrayvec::ArrayVec;
 use libc::net::{POLLIN, poll};
 use libc::types::pollfd;
-use links::{InputLog, Keys, LINE_ROOM, MoreLines, Stand, Typed};
+use links::{InputLog, Keys, LINE_ROOM, LineBuffer, MoreLines, Stand, Typed};
 use std::io::{self, ErrorKind, Read};
 use std::os::fd::{AsRawFd, RawFd};
 use std::rt::Stdin;
+
+/// What was read and not given yet.
+type Unread = ArrayVec<u8, LINE_ROOM>;
 
 /// A scorer's lines, from a reader that answers `WouldBlock` where nothing was typed. A line ends with its newline:
 /// what stands behind the last one is none. Of a line that is too long the front is given, and the rest passed over. Where
@@ -18,8 +21,7 @@ use std::rt::Stdin;
 pub struct Keyboard<R: Read, M> {
     reader: R,
     more: M,
-    /// What was read and not given yet.
-    held: ArrayVec<u8, 128>,
+    held: Unread,
     /// Whether the rest of a line that was too long is passed over.
     skips: bool,
     ended: bool,
@@ -71,7 +73,7 @@ impl<M> Keyboard<StandardInput, M> {
 }
 
 /// What stands behind so many bytes.
-fn behind(held: &ArrayVec<u8, 128>, count: usize) -> ArrayVec<u8, 128>
+fn behind(held: &Unread, count: usize) -> Unread
     requires { count ≤ length held.now.items }
     ensures { result.items ≡ drop count held.now.items }
 {
@@ -82,7 +84,7 @@ fn behind(held: &ArrayVec<u8, 128>, count: usize) -> ArrayVec<u8, 128>
 }
 
 /// Puts a line into the front of a buffer.
-fn put(line: &[u8], buffer: &mut [u8; 128])
+fn put(line: &[u8], buffer: &mut LineBuffer)
     requires { length line.now ≤ 128 }
     ensures { take (length line.now) buffer.new ≡ line.now }
 {
@@ -138,7 +140,7 @@ impl<R: Read, M> Keyboard<R, M> {
     }
 
     /// Takes the first line held, with its newline. It is given, unless it is the rest of one that was too long.
-    fn take_line(&mut self, count: usize, buffer: &mut [u8; 128]) -> Option<usize>
+    fn take_line(&mut self, count: usize, buffer: &mut LineBuffer) -> Option<usize>
         requires { first_newline self.old.held.items ≡ Some count }
         ensures count { IfSome result (λ count. count ≤ 128) }
         ensures lines { GivesLine result buffer.new (lines_left R.remaining self.old) (lines_left R.remaining self.new) }
@@ -152,7 +154,7 @@ impl<R: Read, M> Keyboard<R, M> {
     }
 
     /// Takes the front of a line that is too long, or more of its rest.
-    fn take_front(&mut self, buffer: &mut [u8; 128]) -> Option<usize>
+    fn take_front(&mut self, buffer: &mut LineBuffer) -> Option<usize>
         requires none { first_newline self.old.held.items ≡ None }
         requires full { length self.old.held.items ≡ 128 }
         ensures count { IfSome result (λ count. count ≤ 128) }
@@ -167,7 +169,7 @@ impl<R: Read, M> Keyboard<R, M> {
     }
 
     /// Takes what is held up to the first newline, or all of it where it is full without one.
-    fn take_held(&mut self, buffer: &mut [u8; 128]) -> Option<usize>
+    fn take_held(&mut self, buffer: &mut LineBuffer) -> Option<usize>
         ensures count { IfSome result (λ count. count ≤ 128) }
         ensures lines { GivesLine result buffer.new (lines_left R.remaining self.old) (lines_left R.remaining self.new) }
         ensures given { self.new.given ≡ self.old.given }
@@ -181,7 +183,7 @@ impl<R: Read, M> Keyboard<R, M> {
 
     /// The length of the next line that was typed, which is put into the front of the buffer, if there is one: each is the next
     /// line of what is read, and none is left out or given twice.
-    fn next(&mut self, buffer: &mut [u8; 128]) -> Option<usize>
+    fn next(&mut self, buffer: &mut LineBuffer) -> Option<usize>
         ensures count { IfSome result (λ count. count ≤ 128) }
         ensures lines { GivesLine result buffer.new (lines_left R.remaining self.old) (lines_left R.remaining self.new) }
         ensures given { self.new.given ≡ self.old.given }
@@ -222,7 +224,7 @@ impl<R: Read, M: MoreLines> Keys for Keyboard<R, M> {
 
     ghost inputs = { λ keyboard. inputs_of keyboard.given };
 
-    fn line(&mut self, at: Stand, buffer: &mut [u8; 128]) -> Typed {
+    fn line(&mut self, at: Stand, buffer: &mut LineBuffer) -> Typed {
         if let Some(count) = self.next(buffer) {
             self.given = self.given.line(buffer, count);
             return Typed::Line(count);

@@ -4,7 +4,7 @@ ghost use Rattle.std.specs.Prelude.{◌≡◌, ◌≤◌, ◌⊎◌, ℕ, [], If
 
 use crate::address::MOST_PEERS;
 use crate::waiting::{NO_DESCRIPTOR, WaitEnds, wait_at};
-use links::{CarriedLog, ROOM, Receivers, SealedCarrier, Taken};
+use links::{CarriedLog, ROOM, Receivers, SealedBuffer, SealedBytes, SealedCarrier, Taken};
 use seal::Seal;
 use std::io::{self, ErrorKind, Write};
 use std::net::{Net, SocketAddr, UdpSocket};
@@ -130,7 +130,7 @@ impl<E: Write + Drop> Mail<E> {
     }
 
     /// Sends bytes to a peer. That the machine refuses it is told once.
-    fn send_to(&mut self, bytes: &[u8; 64], address: SocketAddr, is_told: bool) -> bool {
+    fn send_to(&mut self, bytes: &SealedBytes, address: SocketAddr, is_told: bool) -> bool {
         match self.port.send(bytes.as_slice(), address) {
             Err(error) if !is_told && is_refusal(&error) => {
                 let _ = writeln!(self.errors, "cannot send to {address}");
@@ -141,7 +141,7 @@ impl<E: Write + Drop> Mail<E> {
     }
 
     /// Sends bytes to every peer, or to the one at an address.
-    fn send(&mut self, bytes: &[u8; 64], only: Option<SocketAddr>) {
+    fn send(&mut self, bytes: &SealedBytes, only: Option<SocketAddr>) {
         for index in 0..MOST_PEERS {
             if let Some(address) = self.peers[index]
                 && is_meant(only, address)
@@ -152,14 +152,14 @@ impl<E: Write + Drop> Mail<E> {
     }
 
     /// Sends bytes to the peer whose datagram was taken last.
-    fn send_back(&mut self, bytes: &[u8; 64]) {
+    fn send_back(&mut self, bytes: &SealedBytes) {
         if self.last.is_some() {
             self.send(bytes, self.last);
         }
     }
 
     /// Sends bytes to the peer at this place.
-    fn send_one(&mut self, peer: usize, bytes: &[u8; 64]) {
+    fn send_one(&mut self, peer: usize, bytes: &SealedBytes) {
         if peer < MOST_PEERS && self.peers[peer].is_some() {
             self.send(bytes, self.peers[peer]);
         }
@@ -180,7 +180,7 @@ impl<E: Write + Drop> Mail<E> {
     }
 
     /// The next datagram, if it is a peer's and comes in time. That of a stranger is passed over, one a call.
-    fn receive(&mut self, buffer: &mut [u8; 65], wait: u64) -> Taken
+    fn receive(&mut self, buffer: &mut SealedBuffer, wait: u64) -> Taken
         ensures { (count : ℕ) → result ≡ Taken.Datagram count → count ≤ 65 }
     {
         let (count, from) = match self.port.receive(buffer.as_mut_slice(), wait) {
@@ -247,17 +247,17 @@ impl<E: Write + Drop> SealedCarrier for Peers<E> {
 
     ghost carried = { λ peers. carried_of peers.log };
 
-    fn carry(&mut self, bytes: &[u8; 64]) {
+    fn carry(&mut self, bytes: &SealedBytes) {
         self.mail.send(bytes, None);
         self.log = self.log.sent(Receivers::ToAll, bytes);
     }
 
-    fn carry_back(&mut self, bytes: &[u8; 64]) {
+    fn carry_back(&mut self, bytes: &SealedBytes) {
         self.mail.send_back(bytes);
         self.log = self.log.sent(Receivers::ToOne, bytes);
     }
 
-    fn carry_to(&mut self, peer: usize, bytes: &[u8; 64]) {
+    fn carry_to(&mut self, peer: usize, bytes: &SealedBytes) {
         self.mail.send_one(peer, bytes);
         self.log = self.log.sent(Receivers::ToOne, bytes);
     }
@@ -266,7 +266,7 @@ impl<E: Write + Drop> SealedCarrier for Peers<E> {
         self.mail.last_index()
     }
 
-    fn bring(&mut self, buffer: &mut [u8; 65], wait: u64) -> Taken {
+    fn bring(&mut self, buffer: &mut SealedBuffer, wait: u64) -> Taken {
         match self.mail.receive(buffer, wait) {
             Taken::Datagram(count) => {
                 self.log = self.log.came(buffer, count);

@@ -4,9 +4,10 @@ ghost use Rattle.std.specs.Prelude.{◌≤◌, length, IfOk, IfSome};
 
 use crate::peers::{Port, is_late, missed};
 use agree_core::Asker;
-use links::{Link, Log, Receivers, SharedLink, Taken};
+use links::{DatagramBuffer, Link, Log, Receivers, SharedLink, Taken};
 use std::io;
 use std::net::{Ipv4Addr, Net, SocketAddr, SocketAddrV4};
+use wire::MessageBytes;
 
 /// How many datagrams of others than the stations are passed over before one counts as lost.
 const MOST_STRANGERS: usize = 256;
@@ -85,7 +86,7 @@ impl Ports {
         }
     }
 
-    fn carry(&mut self, from: Asker, to: Asker, bytes: &[u8; 48]) -> io::Result<()> {
+    fn carry(&mut self, from: Asker, to: Asker, bytes: &MessageBytes) -> io::Result<()> {
         let address = self.of(to).port.address()?;
         self.of(from).port.send(bytes.as_slice(), address)?;
         let inbox = self.at(to);
@@ -129,7 +130,7 @@ impl Ports {
     }
 
     /// Sends bytes to the two other stations. What can't be sent is lost.
-    fn send(&mut self, from: Asker, bytes: &[u8; 48]) {
+    fn send(&mut self, from: Asker, bytes: &MessageBytes) {
         for to in others(from) {
             if self.to_drop > 0 {
                 self.to_drop -= 1;
@@ -172,18 +173,18 @@ impl Link for Sockets {
 
     ghost log = { λ sockets. passed_of sockets.log };
 
-    fn send(&mut self, bytes: &[u8; 48]) {
+    fn send(&mut self, bytes: &MessageBytes) {
         self.ports.send(self.turn, bytes);
         self.log = self.log.sent(Receivers::ToAll, bytes);
     }
 
     /// It goes to both others, as what is sent does.
-    fn reply(&mut self, bytes: &[u8; 48]) {
+    fn reply(&mut self, bytes: &MessageBytes) {
         self.ports.send(self.turn, bytes);
         self.log = self.log.sent(Receivers::ToOne, bytes);
     }
 
-    fn take(&mut self, buffer: &mut [u8; 64], wait: u64) -> Taken {
+    fn take(&mut self, buffer: &mut DatagramBuffer, wait: u64) -> Taken {
         match self.ports.take(self.turn, buffer.as_mut_slice(), wait) {
             Ok(Some(count)) => {
                 self.log = self.log.came(buffer, count);

@@ -19,7 +19,10 @@ pub const MOST_WAITING: usize = 8;
 const MOST_BYTES: usize = 128;
 
 /// A line that a post types.
-pub type PostedLine = ArrayVec<u8, 128>;
+pub type PostedLine = ArrayVec<u8, MOST_BYTES>;
+
+/// Room for such a line.
+pub type LineBuffer = [u8; MOST_BYTES];
 
 /// A post of a page.
 #[derive(Clone, Copy)]

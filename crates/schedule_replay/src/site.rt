@@ -26,7 +26,7 @@ use headline::{Event, Fault, FileVersion};
 use notation::Entry;
 use std::alloc::{AllocError, Global};
 use vote_store::migrate;
-use wire::{Datagram, What};
+use wire::{Datagram, MessageBytes, What};
 use world_desks::{AnyDesk, WorldDesk, most_bytes};
 
 /// A desk's place in the world: the desk while it runs, otherwise its disk alone.
@@ -91,7 +91,7 @@ fn is_failing(why: vote_store::Refusal) -> bool
 }
 
 /// What is seen where a desk was given bytes and its device didn't fail.
-pub fn given(what: What, reply: Option<[u8; 48]>) -> Seen
+pub fn given(what: What, reply: Option<MessageBytes>) -> Seen
     ensures { result ≡ given_seen what reply }
 {
     match what {
@@ -103,7 +103,7 @@ pub fn given(what: What, reply: Option<[u8; 48]>) -> Seen
 }
 
 /// A reply is handed out, if there is one.
-fn hand_out(sent: &mut Vec<Datagram>, reply: Option<[u8; 48]>)
+fn hand_out(sent: &mut Vec<Datagram>, reply: Option<MessageBytes>)
     requires { vec_len sent.old + 1 ≤ vec_capacity sent.old }
     ensures { map (λ d. d.bytes) sent.new.items
         ≡ map (λ d. d.bytes) sent.old.items ++ replied reply }

@@ -10,13 +10,13 @@ use crate::unclear::Unclear;
 use crate::unknown::why_refused;
 use arrayvec::ArrayString;
 use itoa::Buffer;
-use notation::{Entry, LineFault, read_line};
+use notation::{Entry, LineFault, LineText, read_line};
 use std::marker::Model;
 
 /// A line of at most 96 bytes, or why there is none.
 #[derive(Drop)]
 pub struct Line {
-    text: ArrayString<96>,
+    text: LineText,
     unclear: Option<Unclear>,
 }
 
@@ -149,7 +149,7 @@ impl Line {
     }
 
     /// The text, or why there is none.
-    fn done(self) -> Result<ArrayString<96>, Unclear>
+    fn done(self) -> Result<LineText, Unclear>
         ensures { MatchResult result (λ text. self ≡ Ok text.bytes)
             (λ unclear. self ≡ Err (reason_of unclear)) }
     {

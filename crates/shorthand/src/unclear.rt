@@ -1,7 +1,7 @@
 //! What isn't clear in a line.
 
 use arrayvec::ArrayString;
-use notation::{LineFault, Side};
+use notation::{LineFault, LineText, Side};
 
 /// A letter that means two things to scorers.
 #[derive(Clone, Copy)]
@@ -27,17 +27,17 @@ pub enum Unclear {
     /// No bowler is named, and the open over has no delivery that tells one.
     WhoBowls,
     /// No player of the side has a name with a word that begins so.
-    NoSuchPlayer(ArrayString<96>),
+    NoSuchPlayer(LineText),
     /// Several players of the side have.
-    WhichPlayer(Side, ArrayString<96>),
+    WhichPlayer(Side, LineText),
     /// Nothing stands that `undo` could make void.
     NothingStands,
     /// A letter stands for what a delivery brought that means two things to scorers.
     TwoMeanings(Letter),
     /// This one is named as the fielder, where a batter is out in this way, in which none has a part.
-    NoFielder(Unaided, ArrayString<96>),
+    NoFielder(Unaided, LineText),
     /// A word stands where another must: in full, the line would be refused for this one.
-    UnknownWord(ArrayString<96>),
+    UnknownWord(LineText),
     /// The innings begun last has no delivery that is named so, as `9.2`.
-    NoSuchBall(ArrayString<96>),
+    NoSuchBall(LineText),
 }

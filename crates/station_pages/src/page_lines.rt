@@ -4,7 +4,7 @@ ghost use Rattle.std.specs.Prelude.{◌≤◌, IfSome};
 
 use crate::scorers_page::ScorersPage;
 use agree_core::Position;
-use links::{MoreLines, Stand};
+use links::{LineBuffer, MoreLines, Stand};
 use std::cell::RefCell;
 use std::io::Write;
 use std::str;
@@ -49,7 +49,7 @@ fn change_of(page: Option<&RefCell<ScorersPage>>) -> Option<usize> {
 }
 
 /// The next line of a page, for the desk that stands so.
-fn next_of(page: Option<&RefCell<ScorersPage>>, at: Stand, buffer: &mut [u8; 128]) -> Option<usize>
+fn next_of(page: Option<&RefCell<ScorersPage>>, at: Stand, buffer: &mut LineBuffer) -> Option<usize>
     ensures { IfSome result (λ count. count ≤ 128) }
 {
     let mut page = page?.try_borrow_mut().ok()?;
@@ -61,7 +61,7 @@ fn next_of(page: Option<&RefCell<ScorersPage>>, at: Stand, buffer: &mut [u8; 128
 }
 
 impl<E: Write> MoreLines for PageLines<'_, E> {
-    fn next_line(&mut self, at: Stand, buffer: &mut [u8; 128]) -> Option<usize> {
+    fn next_line(&mut self, at: Stand, buffer: &mut LineBuffer) -> Option<usize> {
         self.tell_change();
         let count = next_of(self.page, at, buffer)?;
         self.tell(&buffer[..count]);

@@ -5,6 +5,7 @@ ghost use Rattle.std.specs.Prelude.{◌≤◌, IfSome};
 use crate::attended::Attends;
 use crate::rows::Rows;
 use agree_core::Position;
+use links::LineBuffer;
 use std::alloc::Global;
 use std::os::fd::RawFd;
 use viewers::Viewers;
@@ -65,7 +66,7 @@ impl ScorersPage {
     }
 
     /// Takes the next line that was typed here, if there is one: it stands in front of the buffer.
-    pub fn next_line(&mut self, buffer: &mut [u8; 128]) -> Option<usize>
+    pub fn next_line(&mut self, buffer: &mut LineBuffer) -> Option<usize>
         ensures { IfSome result (λ count. count ≤ 128) }
     {
         self.viewers.next_line(buffer)

@@ -10,7 +10,7 @@ ghost use Rattle.vote_store.specs.VoteList.{last_vote};
 
 use agree_core::{DeskId, Message, PLACES, Position, ROUNDS, Vote};
 use notation::{Entry, read_line};
-use wire::bytes_of;
+use wire::{MessageBytes, bytes_of};
 
 /// The entry of a line, where it is one's.
 pub fn entry_in(line: &str) -> Option<Entry>
@@ -23,7 +23,7 @@ pub fn entry_in(line: &str) -> Option<Entry>
 }
 
 /// A desk's vote for an entry, in the bytes of a datagram of match 7.
-pub fn vote_of(desk: DeskId, place: u32, round: u32, entry: Entry) -> [u8; 48]
+pub fn vote_of(desk: DeskId, place: u32, round: u32, entry: Entry) -> MessageBytes
     requires place { place < PLACES }
     requires round { round < ROUNDS }
     requires entry { IsEntry entry }

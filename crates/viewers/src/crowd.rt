@@ -10,6 +10,7 @@ use crate::viewer::Viewer;
 use agree_core::Position;
 use mio::net::{TcpListener, TcpStream};
 use mio::{Events, Interest, Poll, Token};
+use posts::LineBuffer;
 use std::alloc::Global;
 use std::io;
 use std::net::{Net, SocketAddr};
@@ -293,7 +294,7 @@ impl Viewers {
     }
 
     /// Takes the oldest line that was posted, if there is one: it stands in front of the buffer.
-    pub fn next_line(&mut self, buffer: &mut [u8; 128]) -> Option<usize>
+    pub fn next_line(&mut self, buffer: &mut LineBuffer) -> Option<usize>
         ensures count { IfSome result (λ count. count ≤ 128) }
         ensures shown { self.new.shown ≡ self.old.shown }
     {

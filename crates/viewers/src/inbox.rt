@@ -8,7 +8,7 @@ ghost use Rattle.viewers.specs.Inboxes as inboxes;
 use crate::asks::{Ask, Heading};
 use agree_core::Position;
 use arrayvec::ArrayVec;
-use posts::{Post, PostedLine, Posts, Refusal};
+use posts::{LineBuffer, Post, PostedLine, Posts, Refusal};
 
 /// The lines that were posted to a desk and that it hasn't taken yet, and who may post.
 #[derive(Drop)]
@@ -52,7 +52,7 @@ impl Inbox {
     }
 
     /// Takes the oldest line, if there is one: it stands in front of the buffer.
-    pub fn next_line(&mut self, buffer: &mut [u8; 128]) -> Option<usize>
+    pub fn next_line(&mut self, buffer: &mut LineBuffer) -> Option<usize>
         ensures line { MatchOption result ((self.old.lines.items ≡ []) × (self.new ≡ self.old))
             (λ count. inboxes.lines_in self.old.lines ≡ take count buffer.new ∷ inboxes.lines_in self.new.lines) }
         ensures count { IfSome result (λ count. count ≤ 128) }

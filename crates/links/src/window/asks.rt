@@ -10,10 +10,10 @@ use crate::early::hears;
 use crate::link::PeerLink;
 use crate::window::Window;
 use agree_core::{Ask, Asker, DeskId, Message, Position};
-use wire::bytes_of;
+use wire::{MessageBytes, bytes_of};
 
 /// An ask for the votes of a position, in the match of this number, unless the position is full.
-pub fn ask_for(game: u64, from: Asker, at: Position) -> Option<[u8; 48]>
+pub fn ask_for(game: u64, from: Asker, at: Position) -> Option<MessageBytes>
     ensures { IfSome result (IsAsk game) }
 {
     if at.is_full() {
@@ -29,7 +29,7 @@ impl<L: PeerLink, C: Clock> Window<L, C> {
     ghost use Rattle.links.specs.declared.link.Receivers.TheVariants.{ToAll};
 
     /// Sends an ask to who sent this desk's votes last, or to all.
-    fn send_to_voter(&mut self, desk: DeskId, bytes: &[u8; 48])
+    fn send_to_voter(&mut self, desk: DeskId, bytes: &MessageBytes)
         requires { IsAsk self.old.game bytes.now }
         ensures still { IsStill self.old self.new }
         ensures grown { IsGrown self.old.below self.new.below }
@@ -67,7 +67,7 @@ impl<L: PeerLink, C: Clock> Window<L, C> {
     }
 
     /// Asks a desk for what was lost of it: the vote of the station's position, and those of the places behind it.
-    fn ask_desk(&mut self, desk: DeskId, bytes: &[u8; 48], is_silent: bool)
+    fn ask_desk(&mut self, desk: DeskId, bytes: &MessageBytes, is_silent: bool)
         requires { IsAsk self.old.game bytes.now }
         ensures still { IsStill self.old self.new }
     {
@@ -88,7 +88,7 @@ impl<L: PeerLink, C: Clock> Window<L, C> {
     }
 
     /// Hands the station's ask to all, or, where later votes are here, asks each desk for what was lost of it.
-    fn ask(&mut self, bytes: &[u8; 48], is_silent: bool)
+    fn ask(&mut self, bytes: &MessageBytes, is_silent: bool)
         requires { IsAsk self.old.game bytes.now }
         ensures still { IsStill self.old self.new }
         ensures said { self.old.kept ≡ [] → HandsDown ToAll bytes.now self.old self.new }

@@ -3,10 +3,10 @@
 ghost use Rattle.std.specs.Prelude.{◌≡◌, ◌<◌};
 
 use super::*;
-use links::{Link, Log, PeerLink, Receivers, Taken, Window};
+use links::{DatagramBuffer, Link, Log, PeerLink, Receivers, Taken, Window};
 use std::mem;
 use tests_support::{entry_in, vote_of};
-use wire::message_of;
+use wire::{MessageBytes, message_of};
 
 /// For how many places both desks have votes.
 const LENGTH: usize = 192;
@@ -84,7 +84,7 @@ impl Network {
     }
 
     /// An ask comes to a desk, or is lost.
-    fn ask(&mut self, desk: usize, bytes: &[u8; 48]) {
+    fn ask(&mut self, desk: usize, bytes: &MessageBytes) {
         if let Ok(Message::Ask(ask)) = message_of(7, bytes.as_slice())
             && desk < 2
             && !self.is_lost()
@@ -118,7 +118,7 @@ struct Line {
 
 impl Line {
     /// A vote as it comes, in the front of a buffer.
-    fn bring(&mut self, vote: usize, buffer: &mut [u8; 64]) -> bool
+    fn bring(&mut self, vote: usize, buffer: &mut DatagramBuffer) -> bool
         ensures { self.new.log ≡ self.old.log }
     {
         let (peer, desk) = if vote < LENGTH {
@@ -144,18 +144,18 @@ impl Link for Line {
 
     ghost log = { λ line. passed_of line.log };
 
-    fn send(&mut self, bytes: &[u8; 48]) {
+    fn send(&mut self, bytes: &MessageBytes) {
         self.network.ask(0, bytes);
         self.network.ask(1, bytes);
         self.log = self.log.sent(Receivers::ToAll, bytes);
     }
 
-    fn reply(&mut self, bytes: &[u8; 48]) {
+    fn reply(&mut self, bytes: &MessageBytes) {
         self.network.ask(self.peer, bytes);
         self.log = self.log.sent(Receivers::ToOne, bytes);
     }
 
-    fn take(&mut self, buffer: &mut [u8; 64], _wait: u64) -> Taken {
+    fn take(&mut self, buffer: &mut DatagramBuffer, _wait: u64) -> Taken {
         match self.network.next() {
             Some(vote) if self.bring(vote, buffer) => {
                 self.log = self.log.came(buffer, 48);
@@ -167,7 +167,7 @@ impl Link for Line {
 }
 
 impl PeerLink for Line {
-    fn send_to(&mut self, peer: usize, bytes: &[u8; 48]) {
+    fn send_to(&mut self, peer: usize, bytes: &MessageBytes) {
         self.network.ask(peer, bytes);
         self.log = self.log.sent(Receivers::ToOne, bytes);
     }
@@ -193,7 +193,7 @@ impl Board {
     }
 
     /// A datagram came. With both votes of its place the board is at the next one, for which it asks.
-    fn hear(&mut self, bytes: &[u8; 64], window: &mut Window<Line, Hand<'_>>) {
+    fn hear(&mut self, bytes: &DatagramBuffer, window: &mut Window<Line, Hand<'_>>) {
         if let Ok(Message::Vote(vote)) = message_of(7, &bytes[..48])
             && vote.place == self.place
         {

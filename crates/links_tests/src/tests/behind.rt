@@ -2,8 +2,9 @@
 ghost use Rattle.std.specs.Prelude.{◌<◌};
 
 use super::*;
-use links::{CarriedLog, Link, Receivers, SealedCarrier, Taken, Window};
+use links::{CarriedLog, Link, Receivers, SealedBuffer, SealedBytes, SealedCarrier, Taken, Window};
 use seal::{Seal, Sealed};
+use wire::MessageBytes;
 
 mod catching_up;
 
@@ -18,11 +19,11 @@ struct World {
     peer: Cell<usize>,
     /// To which peer alone a datagram was sent last.
     to: Cell<usize>,
-    brings: Cell<Option<[u8; 64]>>,
+    brings: Cell<Option<SealedBytes>>,
     /// How many datagrams were sent to all, and how many back, and the last of them.
     sent: Cell<usize>,
     back: Cell<usize>,
-    last: Cell<[u8; 64]>,
+    last: Cell<SealedBytes>,
     /// How long the last datagram was waited for.
     waited: Cell<u64>,
 }
@@ -54,19 +55,19 @@ impl SealedCarrier for Post<'_> {
 
     ghost carried = { λ post. carried_of post.log };
 
-    fn carry(&mut self, bytes: &[u8; 64]) {
+    fn carry(&mut self, bytes: &SealedBytes) {
         self.world.sent.set(self.world.sent.get().saturating_add(1));
         self.world.last.set(*bytes);
         self.log = self.log.sent(Receivers::ToAll, bytes);
     }
 
-    fn carry_back(&mut self, bytes: &[u8; 64]) {
+    fn carry_back(&mut self, bytes: &SealedBytes) {
         self.world.back.set(self.world.back.get().saturating_add(1));
         self.world.last.set(*bytes);
         self.log = self.log.sent(Receivers::ToOne, bytes);
     }
 
-    fn carry_to(&mut self, peer: usize, bytes: &[u8; 64]) {
+    fn carry_to(&mut self, peer: usize, bytes: &SealedBytes) {
         self.world.to.set(peer);
         self.carry_back(bytes);
     }
@@ -75,7 +76,7 @@ impl SealedCarrier for Post<'_> {
         self.world.peer.get()
     }
 
-    fn bring(&mut self, buffer: &mut [u8; 65], wait: u64) -> Taken {
+    fn bring(&mut self, buffer: &mut SealedBuffer, wait: u64) -> Taken {
         self.world.waited.set(wait);
         match self.world.brings.take() {
             Some(bytes) => {
@@ -108,7 +109,7 @@ fn seal() -> Seal {
 }
 
 /// A vote for a position.
-fn over(rt: &impl Abort, desk: DeskId, place: u32, round: u32) -> [u8; 48]
+fn over(rt: &impl Abort, desk: DeskId, place: u32, round: u32) -> MessageBytes
     requires place { place < PLACES }
     requires round { round < ROUNDS }
 {
@@ -116,18 +117,18 @@ fn over(rt: &impl Abort, desk: DeskId, place: u32, round: u32) -> [u8; 48]
 }
 
 /// What is given where this comes, sealed.
-fn given(window: &mut Windowed<'_>, world: &World, message: &[u8; 48]) -> Taken {
+fn given(window: &mut Windowed<'_>, world: &World, message: &MessageBytes) -> Taken {
     world.brings.set(Some(seal().sealed(message)));
     window.take(&mut [0; 64], 0)
 }
 
 /// It is given as it comes.
-fn is_given(rt: &impl Abort, window: &mut Windowed<'_>, world: &World, message: &[u8; 48]) {
+fn is_given(rt: &impl Abort, window: &mut Windowed<'_>, world: &World, message: &MessageBytes) {
     assert_eq!(rt; given(window, world, message), Taken::Datagram(48));
 }
 
 /// It isn't given as it comes.
-fn is_early(rt: &impl Abort, window: &mut Windowed<'_>, world: &World, message: &[u8; 48]) {
+fn is_early(rt: &impl Abort, window: &mut Windowed<'_>, world: &World, message: &MessageBytes) {
     assert_eq!(rt; given(window, world, message), Taken::Lost);
 }
 
@@ -139,7 +140,7 @@ fn hears(rt: &impl Abort, window: &mut Windowed<'_>, world: &World, desk: DeskId
 }
 
 /// The message that is given where nothing comes.
-fn kept(window: &mut Windowed<'_>) -> Option<[u8; 48]> {
+fn kept(window: &mut Windowed<'_>) -> Option<MessageBytes> {
     let mut buffer = [0; 64];
     match window.take(&mut buffer, 250) {
         Taken::Datagram(48) => {
@@ -157,7 +158,7 @@ fn is_silent(rt: &impl Abort, window: &mut Windowed<'_>) {
 }
 
 /// Where nothing comes, this is given.
-fn gives(rt: &impl Abort, window: &mut Windowed<'_>, message: &[u8; 48]) {
+fn gives(rt: &impl Abort, window: &mut Windowed<'_>, message: &MessageBytes) {
     assert!(rt; kept(window).as_ref() == Some(message));
 }
 
@@ -179,7 +180,7 @@ fn rests(rt: &impl Abort, window: &mut Windowed<'_>, world: &World, now: u64, wa
 }
 
 /// The last datagram was this one.
-fn has_said(rt: &impl Abort, world: &World, message: &[u8; 48]) {
+fn has_said(rt: &impl Abort, world: &World, message: &MessageBytes) {
     assert!(rt; world.last.get() == seal().sealed(message));
 }
 
@@ -365,7 +366,7 @@ fn asks(
     window: &mut Windowed<'_>,
     world: &World,
     now: u64,
-    ask: &[u8; 48],
+    ask: &MessageBytes,
     sent: usize,
 ) {
     world.now.set(now);
@@ -419,7 +420,7 @@ fn is_heard(
     world: &World,
     now: u64,
     sent: usize,
-    last: &[u8; 48],
+    last: &MessageBytes,
 ) {
     rests(rt, window, world, now, 250);
     has_sent(rt, world, sent);

@@ -1,6 +1,7 @@
 //! What a desk's scorer is told of the other desk by the clock: that it has written, that it isn't heard, and that it is again.
 
 use super::*;
+use wire::SIZE;
 
 /// What the scorer of a new desk A is told, who types these lines, and to which this comes, and by which times: a text and
 /// then the next.
@@ -89,12 +90,12 @@ fn the_other_desk_is_missed(rt: HostRuntime) {
     is_told(&rt, rt.alloc(), &[], &[], &texts);
     let (board, own) = (ask(Asker::Board, 0, 0), ask(Asker::A, 0, 0));
     let brings = [
-        once(1000, [0; 48]),
+        once(1000, [0; SIZE]),
         each_second(1, 3, board),
         each_second(3, 6, own),
         each_second(6, 15, board),
         each_second(15, 22, own),
-        each_second(22, 30, [0; 48]),
+        each_second(22, 30, [0; SIZE]),
     ];
     let texts = [
         (900, GREETING),

@@ -6,6 +6,7 @@ use corrections::BookOf;
 use live::{Shows, SightLog, run_board};
 use station_texts::{Notice, NoticeLog, Notices};
 use streams::WriteFailed;
+use wire::SIZE;
 
 /// The notices of a board.
 #[derive(Drop)]
@@ -118,7 +119,7 @@ fn what_promises_more(rt: HostRuntime) {
     for place in [0, 5] {
         asks(&rt, alloc, &[once(810, void(&rt, place, 0))], 11, &SOONER);
     }
-    for bytes in [ask(Asker::A, 0, 0), [0; 48]] {
+    for bytes in [ask(Asker::A, 0, 0), [0; SIZE]] {
         asks(&rt, alloc, &[once(810, bytes)], 11, &UNANSWERED);
     }
 }

@@ -1,10 +1,14 @@
 //! Clocks, links, keyboards and screens of one world.
 ghost use Rattle.std.specs.Prelude.{◌≡◌};
 
-use links::{Clock, ClockLog, InputLog, Keys, Link, Log, Receivers, Stand, Taken, Typed};
+use links::{
+    Clock, ClockLog, DatagramBuffer, InputLog, Keys, LineBuffer, Link, Log, Receivers, Stand,
+    Taken, Typed,
+};
 use std::alloc::Global;
 use std::cell::Cell;
 use std::io::{self, Write};
+use wire::{MessageBytes, SIZE};
 
 /// A clock, and what was written but not handed on.
 #[derive(Drop)]
@@ -100,11 +104,11 @@ impl Write for Screen<'_> {
 pub struct Bring {
     at: u64,
     times: u64,
-    bytes: [u8; 48],
+    bytes: MessageBytes,
 }
 
 /// It comes once.
-pub fn once(at: u64, bytes: [u8; 48]) -> Bring {
+pub fn once(at: u64, bytes: MessageBytes) -> Bring {
     Bring {
         at,
         times: 1,
@@ -113,7 +117,7 @@ pub fn once(at: u64, bytes: [u8; 48]) -> Bring {
 }
 
 /// It comes at each of these seconds but the last.
-pub fn each_second(from: u64, to: u64, bytes: [u8; 48]) -> Bring {
+pub fn each_second(from: u64, to: u64, bytes: MessageBytes) -> Bring {
     Bring {
         at: from.saturating_mul(1000),
         times: to.saturating_sub(from),
@@ -189,22 +193,22 @@ impl Link for Timed<'_> {
 
     ghost log = { λ timed. passed_of timed.log };
 
-    fn send(&mut self, bytes: &[u8; 48]) {
+    fn send(&mut self, bytes: &MessageBytes) {
         let _ = self.sends.push(self.world.now.get());
         self.log = self.log.sent(Receivers::ToAll, bytes);
     }
 
-    fn reply(&mut self, bytes: &[u8; 48]) {
+    fn reply(&mut self, bytes: &MessageBytes) {
         let _ = self.sends.push(self.world.now.get());
         self.log = self.log.sent(Receivers::ToOne, bytes);
     }
 
-    fn take(&mut self, buffer: &mut [u8; 64], wait: u64) -> Taken {
+    fn take(&mut self, buffer: &mut DatagramBuffer, wait: u64) -> Taken {
         match self.next(wait) {
             Some(came) => {
-                buffer[..48].copy_from_slice(&came.bytes);
-                self.log = self.log.came(buffer, 48);
-                Taken::Datagram(48)
+                buffer[..SIZE].copy_from_slice(&came.bytes);
+                self.log = self.log.came(buffer, SIZE);
+                Taken::Datagram(SIZE)
             }
             None => Taken::Nothing,
         }
@@ -253,7 +257,7 @@ impl Keys for Keyboard<'_> {
 
     ghost inputs = { λ keyboard. inputs_of keyboard.log };
 
-    fn line(&mut self, _at: Stand, buffer: &mut [u8; 128]) -> Typed {
+    fn line(&mut self, _at: Stand, buffer: &mut LineBuffer) -> Typed {
         let line = match self.next() {
             Some(line) => line.as_bytes(),
             None => return Typed::Nothing,
