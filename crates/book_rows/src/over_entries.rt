@@ -1,6 +1,6 @@
 //! The entries of an over.
 
-ghost use Rattle.std.specs.Prelude.{◌≡◌, ◌<◌, ◌≤◌, [], None, OnErr, OnOk, Some, IfSome, length, slice_get, true};
+ghost use Rattle.std.specs.Prelude.{◌≡◌, ◌<◌, ◌≤◌, [], None, OnOk, Some, IfSome, length, slice_get, true};
 ghost use Rattle.notation.specs.declared.entry.TheConstants.{PLACES};
 ghost use Rattle.notation.specs.Written.{IsPlain};
 ghost use Rattle.ball_laws.specs.Crease.{standing_of};
@@ -8,7 +8,7 @@ ghost use Rattle.ball_laws.specs.Laws.{State, after, refusal};
 ghost use Rattle.match_laws.specs.History.{begun};
 ghost use Rattle.match_laws.specs.Stands.{ForEachHistory, begun_in};
 ghost use Rattle.corrections.specs.CleanList.{history_of};
-ghost use Rattle.streams.specs.Watched.{Prints, has_failed};
+ghost use Rattle.streams.specs.Watched.{Prints, TellsFailure};
 ghost use Rattle.book_rows.specs.OverEntries as over;
 
 use crate::listing::{print_entry, print_place};
@@ -25,7 +25,7 @@ fn print_number<W: Sink>(out: &mut Watched<W>, count: Count) -> Result<(), Write
     requires overs { count.overs ≤ PLACES }
     requires balls { count.balls ≤ PLACES }
     ensures text { OnOk result (Prints W.contents out.old out.new (over.ball_number count)) }
-    ensures failed { OnErr result (has_failed out.new ≡ true) }
+    ensures failed { TellsFailure result out.old out.new }
 {
     let number = count.overs + 1;
     let ball = count.balls + 1;
@@ -51,7 +51,7 @@ fn print_players<W: Sink>(
     ball: &Ball,
 ) -> Result<(), WriteFailed>
     ensures text { OnOk result (Prints W.contents out.old out.new (over.to_batter sheet.now side striker ball.now)) }
-    ensures failed { OnErr result (has_failed out.new ≡ true) }
+    ensures failed { TellsFailure result out.old out.new }
 {
     let bowler = sheet.player(opponent(side), ball.bowler);
     let batter = batter_name(sheet, side, striker);
@@ -70,7 +70,7 @@ fn print_delivery<W: Sink>(
     requires overs { count.overs ≤ PLACES }
     requires balls { count.balls ≤ PLACES }
     ensures text { OnOk result (Prints W.contents out.old out.new (over.ball_text sheet.now side count striker ball.now)) }
-    ensures failed { OnErr result (has_failed out.new ≡ true) }
+    ensures failed { TellsFailure result out.old out.new }
 {
     print_number(out, count)?;
     print_players(out, sheet, side, striker, ball)?;
@@ -91,7 +91,7 @@ fn print_item<W: Sink>(
     requires item { IsPlain placed.item }
     ensures text { OnOk result (Prints W.contents out.old out.new
         (over.item_text sheet.now side count striker placed.place placed.item)) }
-    ensures failed { OnErr result (has_failed out.new ≡ true) }
+    ensures failed { TellsFailure result out.old out.new }
 {
     let item = placed.item;
     match item {
@@ -120,7 +120,7 @@ fn print_if<W: Sink>(
     requires item { IsPlain placed.item }
     ensures text { OnOk result (Prints W.contents out.old out.new
         (over.line_if sheet.now side innings number count striker placed)) }
-    ensures failed { OnErr result (has_failed out.new ≡ true) }
+    ensures failed { TellsFailure result out.old out.new }
 {
     if !count.is_in_over(innings, number) {
         return Ok(());
@@ -177,7 +177,7 @@ fn print_lines<W: Sink, B: BookOf>(
     requires few { innings ≤ PLACES }
     ensures text { OnOk result (Prints W.contents out.old out.new
         (over.over_lines sheet.now (B.content book.now) innings number)) }
-    ensures failed { OnErr result (has_failed out.new ≡ true) }
+    ensures failed { TellsFailure result out.old out.new }
 {
     let side = book.score().side(innings);
     let items = book.clean_items();
@@ -205,7 +205,7 @@ fn print_over<W: Sink, B: BookOf>(
     requires few { innings ≤ PLACES }
     ensures text { OnOk result (Prints W.contents out.old out.new
         (over.over_of sheet.now (B.content book.now) innings number)) }
-    ensures failed { OnErr result (has_failed out.new ≡ true) }
+    ensures failed { TellsFailure result out.old out.new }
 {
     if has_over(book.clean_items(), innings, number) {
         print_lines(out, sheet, book, innings, number)
@@ -223,7 +223,7 @@ pub fn print_over_last<W: Sink, B: BookOf>(
 ) -> Result<(), WriteFailed>
     ensures text { OnOk result (Prints W.contents out.old out.new
         (over.over_last sheet.now (B.content book.now) number)) }
-    ensures failed { OnErr result (has_failed out.new ≡ true) }
+    ensures failed { TellsFailure result out.old out.new }
 {
     let begun = book.score().begun();
     if begun == 0 {
@@ -268,7 +268,7 @@ pub fn print_over_by_side<W: Sink, B: BookOf>(
 ) -> Result<(), WriteFailed>
     ensures text { OnOk result (Prints W.contents out.old out.new
         (over.over_by_side sheet.now (B.content book.now) number side which)) }
-    ensures failed { OnErr result (has_failed out.new ≡ true) }
+    ensures failed { TellsFailure result out.old out.new }
 {
     match innings_among(book.score(), side, which, &[0, 1, 2, 3]) {
         Some(innings) => print_over(out, sheet, book, innings, number),

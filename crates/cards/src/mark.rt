@@ -1,10 +1,10 @@
 //! Deliveries as an over's row shows them.
 
-ghost use Rattle.std.specs.Prelude.{◌≡◌, ◌≤◌, ◌++◌, OnErr, OnOk, codes, true};
+ghost use Rattle.std.specs.Prelude.{◌≡◌, ◌≤◌, ◌++◌, OnOk, codes};
 ghost use Rattle.match_laws.specs.Figures.{runs_of};
 ghost use Rattle.cards.specs.Marks as laws;
 ghost use Rattle.cards.specs.Marks.{mark_text};
-ghost use Rattle.streams.specs.Watched.{Prints, has_failed};
+ghost use Rattle.streams.specs.Watched.{Prints, TellsFailure};
 
 use ball_laws::runs_of;
 use notation::{Ball, Kind};
@@ -73,7 +73,7 @@ pub fn mark_of(ball: &Ball) -> Mark
 /// Prints a mark, behind a space.
 fn print_mark<W: Sink>(out: &mut Watched<W>, mark: Mark) -> Result<(), WriteFailed>
     ensures text { OnOk result (Prints W.contents out.old out.new (codes " " ++ mark_text mark)) }
-    ensures failed { OnErr result (has_failed out.new ≡ true) }
+    ensures failed { TellsFailure result out.old out.new }
 {
     match mark {
         Mark::Dot(text) => write!(out, " {text}"),
@@ -91,7 +91,7 @@ pub fn dead_mark(is_dead: bool) -> &'static str
 /// Prints a delivery's mark, behind a space.
 pub fn print_ball<W: Sink>(out: &mut Watched<W>, ball: &Ball) -> Result<(), WriteFailed>
     ensures text { OnOk result (Prints W.contents out.old out.new (laws.spaced_mark ball.now)) }
-    ensures failed { OnErr result (has_failed out.new ≡ true) }
+    ensures failed { TellsFailure result out.old out.new }
 {
     print_mark(out, mark_of(ball))?;
     let dead = dead_mark(ball.dead);

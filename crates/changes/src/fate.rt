@@ -1,9 +1,9 @@
 //! What became of a batter, with his figures.
 
-ghost use Rattle.std.specs.Prelude.{◌≡◌, ◌-◌, ◌++◌, true, length, OnErr, OnOk, Some};
+ghost use Rattle.std.specs.Prelude.{◌≡◌, ◌-◌, ◌++◌, length, OnOk, Some};
 ghost use Rattle.match_laws.specs.declared.rows.Fate.TheVariants as Fates;
 ghost use Rattle.cards.specs.Dismissals as words;
-ghost use Rattle.streams.specs.Watched.{Prints, has_failed};
+ghost use Rattle.streams.specs.Watched.{Prints, TellsFailure};
 ghost use Rattle.changes.specs.Rows as rows;
 ghost use Rattle.changes.specs.inner.Words.{words_in};
 
@@ -104,7 +104,7 @@ fn fate_words(sheet: &MatchSheet, side: Side, fate: Fate) -> Words<'_>
 
 fn print_words<W: Sink>(out: &mut Watched<W>, words: &Words<'_>) -> Result<(), WriteFailed>
     ensures text { OnOk result (Prints W.contents out.old out.new (words_in words.now)) }
-    ensures failed { OnErr result (has_failed out.new ≡ true) }
+    ensures failed { TellsFailure result out.old out.new }
 {
     let how = words.how;
     let fielder = words.fielder;
@@ -123,7 +123,7 @@ fn print_fate<W: Sink>(
 ) -> Result<(), WriteFailed>
     ensures text { OnOk result (Prints W.contents out.old out.new
         (rows.fate_figures sheet.now side (Some fate) row.now)) }
-    ensures failed { OnErr result (has_failed out.new ≡ true) }
+    ensures failed { TellsFailure result out.old out.new }
 {
     print_words(out, &fate_words(sheet, opponent(side), fate))?;
     write!(out, " ")?;
@@ -139,7 +139,7 @@ pub fn print_batting<W: Sink>(
 ) -> Result<(), WriteFailed>
     ensures text { OnOk result (Prints W.contents out.old out.new
         (rows.batting_text sheet.now side row.now)) }
-    ensures failed { OnErr result (has_failed out.new ≡ true) }
+    ensures failed { TellsFailure result out.old out.new }
 {
     match row.fate {
         None => write!(out, "not in"),

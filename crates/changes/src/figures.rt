@@ -1,8 +1,8 @@
 //! The figures of batters and of bowlers and how an innings stands, and how many of a row's columns are left behind each.
 
-ghost use Rattle.std.specs.Prelude.{◌≡◌, ◌-◌, true, decimal, length, OnErr, OnOk};
+ghost use Rattle.std.specs.Prelude.{◌≡◌, ◌-◌, decimal, length, OnOk};
 ghost use Rattle.cards.specs.Bowling.{overs_of};
-ghost use Rattle.streams.specs.Watched.{Prints, has_failed};
+ghost use Rattle.streams.specs.Watched.{Prints, TellsFailure};
 ghost use Rattle.changes.specs.Rows as rows;
 
 use crate::stage::Total;
@@ -20,7 +20,7 @@ fn digits(number: u32) -> usize
 /// Prints a batter's runs and balls faced.
 pub fn print_figures<W: Sink>(out: &mut Watched<W>, row: &BattingRow) -> Result<(), WriteFailed>
     ensures text { OnOk result (Prints W.contents out.old out.new (rows.figures_text row.now)) }
-    ensures failed { OnErr result (has_failed out.new ≡ true) }
+    ensures failed { TellsFailure result out.old out.new }
 {
     let runs = row.runs;
     let faced = row.faced;
@@ -40,7 +40,7 @@ pub fn behind_figures(columns: usize, row: &BattingRow) -> usize
 /// Prints a bowler's overs.
 fn print_overs<W: Sink>(out: &mut Watched<W>, row: &BowlingRow) -> Result<(), WriteFailed>
     ensures text { OnOk result (Prints W.contents out.old out.new (overs_of row.now)) }
-    ensures failed { OnErr result (has_failed out.new ≡ true) }
+    ensures failed { TellsFailure result out.old out.new }
 {
     let overs = row.overs;
     let balls = row.balls;
@@ -60,7 +60,7 @@ fn behind_overs(columns: usize, row: &BowlingRow) -> usize
 /// Prints a bowler's maidens, runs and wickets.
 fn print_behind_overs<W: Sink>(out: &mut Watched<W>, row: &BowlingRow) -> Result<(), WriteFailed>
     ensures text { OnOk result (Prints W.contents out.old out.new (rows.behind_overs row.now)) }
-    ensures failed { OnErr result (has_failed out.new ≡ true) }
+    ensures failed { TellsFailure result out.old out.new }
 {
     let maidens = row.maidens;
     let runs = row.runs;
@@ -82,7 +82,7 @@ fn behind_rest(columns: usize, row: &BowlingRow) -> usize
 /// Prints a bowler's wide runs and no balls, as a card has them.
 fn print_wides<W: Sink>(out: &mut Watched<W>, row: &BowlingRow) -> Result<(), WriteFailed>
     ensures text { OnOk result (Prints W.contents out.old out.new (rows.wides_text row.now)) }
-    ensures failed { OnErr result (has_failed out.new ≡ true) }
+    ensures failed { TellsFailure result out.old out.new }
 {
     let wides = row.wides;
     let noballs = row.noballs;
@@ -106,7 +106,7 @@ pub fn print_bowling<W: Sink>(
     row: &BowlingRow,
 ) -> Result<(), WriteFailed>
     ensures text { OnOk result (Prints W.contents out.old out.new (rows.bowling_text same row.now)) }
-    ensures failed { OnErr result (has_failed out.new ≡ true) }
+    ensures failed { TellsFailure result out.old out.new }
 {
     print_overs(out, row)?;
     print_behind_overs(out, row)?;
@@ -124,7 +124,7 @@ pub fn behind_bowling(columns: usize, same: bool, row: &BowlingRow) -> usize
 /// Prints how an innings stands, if it has begun.
 pub fn print_total<W: Sink>(out: &mut Watched<W>, total: Option<Total>) -> Result<(), WriteFailed>
     ensures text { OnOk result (Prints W.contents out.old out.new (rows.total_text total)) }
-    ensures failed { OnErr result (has_failed out.new ≡ true) }
+    ensures failed { TellsFailure result out.old out.new }
 {
     match total {
         None => write!(out, "not begun"),

@@ -1,7 +1,7 @@
 //! The row of a result.
 
-ghost use Rattle.std.specs.Prelude.{◌≡◌, ◌==◌, ◌++◌, true, codes, decimal, if◌then◌else◌, OnErr, OnOk};
-ghost use Rattle.streams.specs.Watched.{Prints, has_failed};
+ghost use Rattle.std.specs.Prelude.{◌≡◌, ◌==◌, ◌++◌, codes, decimal, if◌then◌else◌, OnOk};
+ghost use Rattle.streams.specs.Watched.{Prints, TellsFailure};
 ghost use Rattle.changes.specs.Rows as rows;
 
 use cards::MatchSheet;
@@ -25,7 +25,7 @@ fn print_win<W: Sink>(
 ) -> Result<(), WriteFailed>
     ensures text { OnOk result (Prints W.contents out.old out.new
         (side.now ++ how.now ++ (decimal count ++ codes " " ++ unit.now))) }
-    ensures failed { OnErr result (has_failed out.new ≡ true) }
+    ensures failed { TellsFailure result out.old out.new }
 {
     write!(out, "{side}{how}")?;
     write!(out, "{count} {unit}")
@@ -38,7 +38,7 @@ fn print_result<W: Sink>(
     outcome: Outcome,
 ) -> Result<(), WriteFailed>
     ensures text { OnOk result (Prints W.contents out.old out.new (rows.result_words sheet.now outcome)) }
-    ensures failed { OnErr result (has_failed out.new ≡ true) }
+    ensures failed { TellsFailure result out.old out.new }
 {
     match outcome {
         Outcome::Undecided => write!(out, "no result"),
@@ -82,7 +82,7 @@ pub fn print_results<W: Sink>(
     now: Outcome,
 ) -> Result<(), WriteFailed>
     ensures text { OnOk result (Prints W.contents out.old out.new (rows.result_row sheet.now was now)) }
-    ensures failed { OnErr result (has_failed out.new ≡ true) }
+    ensures failed { TellsFailure result out.old out.new }
 {
     write!(out, "now: ")?;
     print_result(out, sheet, now)?;

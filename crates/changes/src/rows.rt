@@ -1,8 +1,8 @@
 //! The rows of what differs.
 
-ghost use Rattle.std.specs.Prelude.{◌≡◌, true, OnErr, OnOk};
+ghost use Rattle.std.specs.Prelude.{◌≡◌, OnOk};
 ghost use Rattle.match_laws.specs.Stands.{ForEachHistory};
-ghost use Rattle.streams.specs.Watched.{Prints, has_failed};
+ghost use Rattle.streams.specs.Watched.{Prints, TellsFailure};
 ghost use Rattle.changes.specs.Stage.{ForBoth};
 ghost use Rattle.changes.specs.Rows as rows;
 
@@ -54,7 +54,7 @@ fn print_fates<W: Sink>(
 ) -> Result<(), WriteFailed>
     ensures text { OnOk result (Prints W.contents out.old out.new
         (rows.fate_row sheet.now first.now side player was.now now.now)) }
-    ensures failed { OnErr result (has_failed out.new ≡ true) }
+    ensures failed { TellsFailure result out.old out.new }
 {
     let name = sheet.player(side, player);
     print_joined(
@@ -80,7 +80,7 @@ fn print_batter<W: Sink>(
 ) -> Result<(), WriteFailed>
     ensures text { OnOk result (Prints W.contents out.old out.new
         (rows.figures_row sheet.now first.now side player was.now now.now)) }
-    ensures failed { OnErr result (has_failed out.new ≡ true) }
+    ensures failed { TellsFailure result out.old out.new }
 {
     let name = sheet.player(side, player);
     print_joined(
@@ -106,7 +106,7 @@ fn print_bowler<W: Sink>(
 ) -> Result<(), WriteFailed>
     ensures text { OnOk result (Prints W.contents out.old out.new
         (rows.bowling_row sheet.now first.now side player was.now now.now)) }
-    ensures failed { OnErr result (has_failed out.new ≡ true) }
+    ensures failed { TellsFailure result out.old out.new }
 {
     let same = is_same_wides(was, now);
     let name = sheet.player(side, player);
@@ -132,7 +132,7 @@ fn print_totals<W: Sink>(
 ) -> Result<(), WriteFailed>
     ensures text { OnOk result (Prints W.contents out.old out.new
         (rows.total_row sheet.now first.now side was now)) }
-    ensures failed { OnErr result (has_failed out.new ≡ true) }
+    ensures failed { TellsFailure result out.old out.new }
 {
     print_joined(
         out,
@@ -163,7 +163,7 @@ fn print_strike<W: Sink>(
     now: Option<Batter>,
 ) -> Result<(), WriteFailed>
     ensures text { OnOk result (Prints W.contents out.old out.new (rows.strike_row sheet.now was now)) }
-    ensures failed { OnErr result (has_failed out.new ≡ true) }
+    ensures failed { TellsFailure result out.old out.new }
 {
     let name = batter_name(sheet, now);
     let other = batter_name(sheet, was);
@@ -191,7 +191,7 @@ fn print_part<W: Sink>(
 ) -> Result<(), WriteFailed>
     ensures text { ForBoth was.now now.now (λ w n. OnOk result (Prints W.contents out.old out.new
         (rows.part_row sheet.now part w n innings side player))) }
-    ensures failed { OnErr result (has_failed out.new ≡ true) }
+    ensures failed { TellsFailure result out.old out.new }
 {
     let first = lead(now, innings);
     match part {
@@ -223,7 +223,7 @@ pub fn print_change<W: Sink>(
 ) -> Result<(), WriteFailed>
     ensures text { ForBoth was.now now.now (λ w n. OnOk result (Prints W.contents out.old out.new
         (rows.row sheet.now w n change.now))) }
-    ensures failed { OnErr result (has_failed out.new ≡ true) }
+    ensures failed { TellsFailure result out.old out.new }
 {
     match *change {
         Change::Player(part, innings, side, player) => {

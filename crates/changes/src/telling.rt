@@ -1,9 +1,9 @@
 //! What is told behind a correction.
 
-ghost use Rattle.std.specs.Prelude.{◌≡◌, ◌+◌, ◌≤◌, ◌∷◌, [], true, length, map, IfOk, OnErr, OnOk};
+ghost use Rattle.std.specs.Prelude.{◌≡◌, ◌+◌, ◌≤◌, ◌∷◌, [], true, length, map, IfOk, OnOk};
 ghost use Rattle.std.specs.List.{list_all};
 ghost use Rattle.ball_laws.specs.Over.{numbers as all_numbers};
-ghost use Rattle.streams.specs.Watched.{Prints, has_failed};
+ghost use Rattle.streams.specs.Watched.{Prints, TellsFailure};
 ghost use Rattle.changes.specs.declared.change.Change.TheVariants as kinds;
 ghost use Rattle.changes.specs.Changes as changes;
 ghost use Rattle.changes.specs.Stage.{ForBoth};
@@ -37,7 +37,7 @@ fn tell<W: Sink>(
     ensures text { ForBoth was.now now.now (λ w n.
         Tells W.contents out.old out.new result sheet.now w n told (change.now ∷ [])) }
     ensures most { IfOk result (λ count. count ≤ told + 1) }
-    ensures failed { OnErr result (has_failed out.new ≡ true) }
+    ensures failed { TellsFailure result out.old out.new }
 {
     if !differs(was, now, change) {
         return Ok(told);
@@ -65,7 +65,7 @@ fn tell_players<W: Sink>(
     ensures text { ForBoth was.now now.now (λ w n. Tells W.contents out.old out.new result sheet.now w n told
         (changes.of_players part innings side numbers.now)) }
     ensures most { IfOk result (λ count. count ≤ told + length numbers.now) }
-    ensures failed { OnErr result (has_failed out.new ≡ true) }
+    ensures failed { TellsFailure result out.old out.new }
 {
     let Some((number, more)) = numbers.split_first() else {
         return Ok(told);
@@ -93,7 +93,7 @@ fn tell_side<W: Sink>(
     ensures text { ForBoth was.now now.now (λ w n. Tells W.contents out.old out.new result sheet.now w n told
         (changes.of_players part innings side all_numbers)) }
     ensures most { IfOk result (λ count. count ≤ told + 11) }
-    ensures failed { OnErr result (has_failed out.new ≡ true) }
+    ensures failed { TellsFailure result out.old out.new }
 {
     tell_players(
         out,
@@ -122,7 +122,7 @@ fn tell_sides<W: Sink>(
     ensures text { ForBoth was.now now.now (λ w n. Tells W.contents out.old out.new result sheet.now w n told
         (changes.of_sides part innings)) }
     ensures most { IfOk result (λ count. count ≤ told + 22) }
-    ensures failed { OnErr result (has_failed out.new ≡ true) }
+    ensures failed { TellsFailure result out.old out.new }
 {
     let told = tell_side(out, sheet, was, now, told, part, innings, Side::Home)?;
     tell_side(out, sheet, was, now, told, part, innings, Side::Away)
@@ -141,7 +141,7 @@ fn tell_part<W: Sink>(
     ensures text { ForBoth was.now now.now (λ w n. Tells W.contents out.old out.new result sheet.now w n told
         (changes.in_all (changes.of_sides part))) }
     ensures most { IfOk result (λ count. count ≤ told + 88) }
-    ensures failed { OnErr result (has_failed out.new ≡ true) }
+    ensures failed { TellsFailure result out.old out.new }
 {
     let told = tell_sides(out, sheet, was, now, told, part, 0)?;
     let told = tell_sides(out, sheet, was, now, told, part, 1)?;
@@ -162,7 +162,7 @@ fn tell_totals<W: Sink>(
     ensures text { ForBoth was.now now.now (λ w n. Tells W.contents out.old out.new result sheet.now w n told
         (changes.of_totals innings)) }
     ensures most { IfOk result (λ count. count ≤ told + 2) }
-    ensures failed { OnErr result (has_failed out.new ≡ true) }
+    ensures failed { TellsFailure result out.old out.new }
 {
     let told = tell(
         out,
@@ -194,7 +194,7 @@ fn tell_all_totals<W: Sink>(
     ensures text { ForBoth was.now now.now (λ w n. Tells W.contents out.old out.new result sheet.now w n told
         (changes.in_all changes.of_totals)) }
     ensures most { IfOk result (λ count. count ≤ told + 8) }
-    ensures failed { OnErr result (has_failed out.new ≡ true) }
+    ensures failed { TellsFailure result out.old out.new }
 {
     let told = tell_totals(out, sheet, was, now, told, 0)?;
     let told = tell_totals(out, sheet, was, now, told, 1)?;
@@ -214,7 +214,7 @@ fn tell_match<W: Sink>(
     ensures text { ForBoth was.now now.now (λ w n. Tells W.contents out.old out.new result sheet.now w n told
         (kinds.Result ∷ kinds.Strike ∷ [])) }
     ensures most { IfOk result (λ count. count ≤ told + 2) }
-    ensures failed { OnErr result (has_failed out.new ≡ true) }
+    ensures failed { TellsFailure result out.old out.new }
 {
     let told = tell(out, sheet, was, now, told, &Change::Result)?;
     tell(out, sheet, was, now, told, &Change::Strike)
@@ -229,7 +229,7 @@ fn tell_all<W: Sink>(
 ) -> Result<u32, WriteFailed>
     ensures text { ForBoth was.now now.now (λ w n.
         Tells W.contents out.old out.new result sheet.now w n 0 changes.all_changes) }
-    ensures failed { OnErr result (has_failed out.new ≡ true) }
+    ensures failed { TellsFailure result out.old out.new }
 {
     let told = tell_part(out, sheet, was, now, 0, Part::Fate)?;
     let told = tell_all_totals(out, sheet, was, now, told)?;
@@ -241,7 +241,7 @@ fn tell_all<W: Sink>(
 /// Prints how many more there are than the six that are told.
 fn print_more<W: Sink>(out: &mut Watched<W>, count: u32) -> Result<(), WriteFailed>
     ensures text { OnOk result (Prints W.contents out.old out.new (texts.more_text count)) }
-    ensures failed { OnErr result (has_failed out.new ≡ true) }
+    ensures failed { TellsFailure result out.old out.new }
 {
     if count <= MOST {
         return Ok(());
@@ -259,7 +259,7 @@ pub fn print_changes<W: Sink>(
 ) -> Result<(), WriteFailed>
     ensures text { ForBoth was.now now.now (λ w n.
         OnOk result (Prints W.contents out.old out.new (texts.changes_text sheet.now w n))) }
-    ensures failed { OnErr result (has_failed out.new ≡ true) }
+    ensures failed { TellsFailure result out.old out.new }
 {
     let count = tell_all(out, sheet, was, now)?;
     print_more(out, count)
@@ -273,7 +273,7 @@ pub fn print_last_changes<W: Sink, B: BookOf>(
 ) -> Result<(), WriteFailed>
     ensures text { OnOk result (Prints W.contents out.old out.new
         (texts.last_changes sheet.now (B.innings_a_side book.now) (B.content book.now))) }
-    ensures failed { OnErr result (has_failed out.new ≡ true) }
+    ensures failed { TellsFailure result out.old out.new }
 {
     match score_before(book) {
         None => Ok(()),

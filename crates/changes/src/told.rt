@@ -1,7 +1,7 @@
 //! What is, and what was: in one row, or in two.
 
-ghost use Rattle.std.specs.Prelude.{◌≡◌, ◌-◌, ◌++◌, true, length, OnErr, OnOk};
-ghost use Rattle.streams.specs.Watched.{Prints, has_failed};
+ghost use Rattle.std.specs.Prelude.{◌≡◌, ◌-◌, ◌++◌, length, OnOk};
+ghost use Rattle.streams.specs.Watched.{Prints, TellsFailure};
 ghost use Rattle.changes.specs.Rows as rows;
 ghost use Rattle.changes.specs.inner.Words.{told_text};
 
@@ -33,7 +33,7 @@ pub enum Told<'a> {
 /// Prints a text.
 fn print<W: Sink>(out: &mut Watched<W>, text: &str) -> Result<(), WriteFailed>
     ensures text { OnOk result (Prints W.contents out.old out.new text.now) }
-    ensures failed { OnErr result (has_failed out.new ≡ true) }
+    ensures failed { TellsFailure result out.old out.new }
 {
     write!(out, "{text}")
 }
@@ -45,7 +45,7 @@ fn print_told<W: Sink>(
     told: &Told<'_>,
 ) -> Result<(), WriteFailed>
     ensures text { OnOk result (Prints W.contents out.old out.new (told_text sheet.now told.now)) }
-    ensures failed { OnErr result (has_failed out.new ≡ true) }
+    ensures failed { TellsFailure result out.old out.new }
 {
     match told {
         Told::Batting(side, row) => print_batting(out, sheet, *side, row),
@@ -72,7 +72,7 @@ fn behind_told(columns: usize, sheet: &MatchSheet, told: &Told<'_>) -> usize
 /// Prints whom a row is of, behind what stands before him.
 fn print_name<W: Sink>(out: &mut Watched<W>, first: &str, name: &str) -> Result<(), WriteFailed>
     ensures text { OnOk result (Prints W.contents out.old out.new (rows.named first.now name.now)) }
-    ensures failed { OnErr result (has_failed out.new ≡ true) }
+    ensures failed { TellsFailure result out.old out.new }
 {
     write!(out, "{first}{name} ")
 }
@@ -112,7 +112,7 @@ pub fn print_joined<W: Sink>(
 ) -> Result<(), WriteFailed>
     ensures text { OnOk result (Prints W.contents out.old out.new (rows.joined sheet.now may_share
         (rows.named first.now name.now ++ told_text sheet.now now.now) (told_text sheet.now was.now))) }
-    ensures failed { OnErr result (has_failed out.new ≡ true) }
+    ensures failed { TellsFailure result out.old out.new }
 {
     print_name(out, first, name)?;
     print_told(out, sheet, now)?;

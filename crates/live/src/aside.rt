@@ -1,9 +1,9 @@
 //! What a desk's scorer is told of lines that the desk isn't given yet, or never will be.
 
-ghost use Rattle.std.specs.Prelude.{◌≡◌, ◌≤◌, ◌++◌, codes, decimal, true, Err, OnErr, OnOk};
+ghost use Rattle.std.specs.Prelude.{◌≡◌, ◌≤◌, ◌++◌, codes, decimal, true, Err, OnOk};
 ghost use Rattle.std.specs.Io.KnownBytes.{Appends};
 ghost use Rattle.cards.specs.Sheet.{most_columns};
-ghost use Rattle.streams.specs.Watched.{Prints, has_failed, stream_of};
+ghost use Rattle.streams.specs.Watched.{Prints, TellsFailure, has_failed, stream_of};
 ghost use Rattle.live.specs.Asides as asides;
 ghost use Rattle.live.specs.Ends.{course_of, further, known_at};
 
@@ -20,7 +20,7 @@ fn print_behind<W: Sink>(
     has_room: bool,
 ) -> Result<(), WriteFailed>
     ensures text { OnOk result (Prints W.contents out.old out.new (asides.comma has_room ++ line.now)) }
-    ensures failed { OnErr result (has_failed out.new ≡ true) }
+    ensures failed { TellsFailure result out.old out.new }
 {
     if has_room {
         write!(out, ", {line}")
@@ -38,7 +38,7 @@ fn print_more<W: Sink>(
 ) -> Result<(), WriteFailed>
     requires { (columns ≤ most_columns) × (at ≤ most_columns) }
     ensures text { OnOk result (Prints W.contents out.old out.new (asides.more_lines columns at lines.now)) }
-    ensures failed { OnErr result (has_failed out.new ≡ true) }
+    ensures failed { TellsFailure result out.old out.new }
 {
     let Some((line, more)) = lines.split_first() else {
         return Ok(());
@@ -58,7 +58,7 @@ fn print_lines<W: Sink>(
 ) -> Result<(), WriteFailed>
     requires { columns ≤ most_columns }
     ensures text { OnOk result (Prints W.contents out.old out.new (asides.lines_text columns lines.now)) }
-    ensures failed { OnErr result (has_failed out.new ≡ true) }
+    ensures failed { TellsFailure result out.old out.new }
 {
     let Some((line, more)) = lines.split_first() else {
         return Ok(());
@@ -76,7 +76,7 @@ fn print_rows<W: Sink>(
 ) -> Result<(), WriteFailed>
     requires { columns ≤ most_columns }
     ensures text { OnOk result (Prints W.contents out.old out.new (asides.lines_rows columns lines.now)) }
-    ensures failed { OnErr result (has_failed out.new ≡ true) }
+    ensures failed { TellsFailure result out.old out.new }
 {
     print_lines(out, columns, lines)?;
     writeln!(out)
@@ -90,7 +90,7 @@ fn print_dropped<W: Sink>(
 ) -> Result<(), WriteFailed>
     requires { columns ≤ most_columns }
     ensures text { OnOk result (Prints W.contents out.old out.new (asides.dropped_text columns lines.now)) }
-    ensures failed { OnErr result (has_failed out.new ≡ true) }
+    ensures failed { TellsFailure result out.old out.new }
 {
     if lines.is_empty() {
         return Ok(());
@@ -103,7 +103,7 @@ fn print_dropped<W: Sink>(
 /// Prints that a line is held.
 fn print_held<W: Sink>(out: &mut Watched<W>, place: u32, line: &str) -> Result<(), WriteFailed>
     ensures text { OnOk result (Prints W.contents out.old out.new (asides.line_at place (codes " held: ") line.now)) }
-    ensures failed { OnErr result (has_failed out.new ≡ true) }
+    ensures failed { TellsFailure result out.old out.new }
 {
     writeln!(out, "{place} held: {line}")
 }
@@ -118,7 +118,7 @@ fn print_holds<W: Sink>(
     requires { columns ≤ most_columns }
     ensures text { OnOk result (Prints W.contents out.old out.new
         (decimal place ++ codes " held: " ++ asides.lines_rows columns lines.now)) }
-    ensures failed { OnErr result (has_failed out.new ≡ true) }
+    ensures failed { TellsFailure result out.old out.new }
 {
     write!(out, "{place} held: ")?;
     print_rows(out, columns, lines)
@@ -131,7 +131,7 @@ fn print_taken_back<W: Sink>(
     line: &str,
 ) -> Result<(), WriteFailed>
     ensures text { OnOk result (Prints W.contents out.old out.new (asides.line_at place (codes " taken back: ") line.now)) }
-    ensures failed { OnErr result (has_failed out.new ≡ true) }
+    ensures failed { TellsFailure result out.old out.new }
 {
     writeln!(out, "{place} taken back: {line}")
 }
@@ -139,7 +139,7 @@ fn print_taken_back<W: Sink>(
 /// Prints that one wasn't taken.
 fn print_untaken<W: Sink>(out: &mut Watched<W>, place: u32, line: &str) -> Result<(), WriteFailed>
     ensures text { OnOk result (Prints W.contents out.old out.new (asides.line_at place (codes " not taken: ") line.now)) }
-    ensures failed { OnErr result (has_failed out.new ≡ true) }
+    ensures failed { TellsFailure result out.old out.new }
 {
     writeln!(out, "{place} not taken: {line}")
 }
@@ -155,7 +155,7 @@ fn print_not_taken<W: Sink>(
     requires { columns ≤ most_columns }
     ensures text { OnOk result (Prints W.contents out.old out.new
         (asides.line_at place (codes " not taken: ") line.now ++ asides.dropped_text columns behind.now)) }
-    ensures failed { OnErr result (has_failed out.new ≡ true) }
+    ensures failed { TellsFailure result out.old out.new }
 {
     print_untaken(out, place, line)?;
     print_dropped(out, columns, behind)
@@ -165,7 +165,7 @@ fn print_not_taken<W: Sink>(
 fn print_full<W: Sink>(out: &mut Watched<W>, line: &str) -> Result<(), WriteFailed>
     ensures text { OnOk result (Prints W.contents out.old out.new
         (codes "24 lines are held, and not this: " ++ line.now ++ codes "\n")) }
-    ensures failed { OnErr result (has_failed out.new ≡ true) }
+    ensures failed { TellsFailure result out.old out.new }
 {
     writeln!(out, "24 lines are held, and not this: {line}")
 }
@@ -178,7 +178,7 @@ fn print_of_lines<W: Sink>(
 ) -> Result<(), WriteFailed>
     requires { columns ≤ most_columns }
     ensures text { OnOk result (Prints W.contents out.old out.new (asides.aside_text columns aside.now)) }
-    ensures failed { OnErr result (has_failed out.new ≡ true) }
+    ensures failed { TellsFailure result out.old out.new }
 {
     match aside {
         Aside::Held(place, line) => print_held(out, *place, line.as_str()),
@@ -206,7 +206,7 @@ fn print_aside<W: Sink>(
 ) -> Result<(), WriteFailed>
     requires { columns ≤ most_columns }
     ensures text { OnOk result (Prints W.contents out.old out.new (asides.aside_text columns aside.now)) }
-    ensures failed { OnErr result (has_failed out.new ≡ true) }
+    ensures failed { TellsFailure result out.old out.new }
 {
     print_of_lines(out, columns, aside)?;
     out.flush()

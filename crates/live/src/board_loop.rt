@@ -5,7 +5,7 @@ ghost use Rattle.std.specs.Result.{ForOk};
 ghost use Rattle.corrections.specs.CleanList.{history_of};
 ghost use Rattle.cards.specs.Board.{board as board_text};
 ghost use Rattle.cards.specs.Sheet.{Sheet};
-ghost use Rattle.streams.specs.Watched.{Prints, has_failed, stream_of};
+ghost use Rattle.streams.specs.Watched.{Prints, TellsFailure, has_failed, stream_of};
 ghost use Rattle.board.specs.Board.{book_of, game_of};
 ghost use Rattle.live.specs.Boards.{BoardGoes, BoardRuns, at_turn, grown, in_turn};
 ghost use Rattle.station_texts.specs.Notices.{notices_unopened, telling_unopened, untold};
@@ -170,7 +170,7 @@ fn print_news<B: BookOf, W: Sink>(
     ensures text { OnOk result (Prints W.contents out.old out.new
         (grown (nat_eq (length (B.content (book_of board.now))) before)
         (board_text sheet.now (B.innings_a_side (book_of board.now)) (history_of (B.content (book_of board.now)))))) }
-    ensures failed { OnErr result (has_failed out.new ≡ true) }
+    ensures failed { TellsFailure result out.old out.new }
 {
     if board.book().len() != before {
         board_lines(sheet, board.shown(), out)?;

@@ -1,10 +1,10 @@
 //! A desk's process, from its beginning on a disk to its end.
 
-ghost use Rattle.std.specs.Prelude.{◌≡◌, [], true, false, Err, IfErr, OnErr, OnOk};
+ghost use Rattle.std.specs.Prelude.{◌≡◌, [], true, false, Err, IfErr, OnOk};
 ghost use Rattle.entry_log.specs.Blame.{BlamesDisk};
 ghost use Rattle.agree_core.specs.Openings.{Opening};
 ghost use Rattle.vote_store.specs.View.{file_view};
-ghost use Rattle.streams.specs.Watched.{Prints, has_failed, stream_of};
+ghost use Rattle.streams.specs.Watched.{Prints, TellsFailure, has_failed, stream_of};
 ghost use Rattle.desk.specs.Desk.{disk_of, state_of};
 ghost use Rattle.live.specs.declared.desk_life.LifeEnd.TheVariants.{Ended};
 ghost use Rattle.live.specs.DeskLife.{BeginsOn, DeskLives};
@@ -52,7 +52,7 @@ fn greet<S: SlotsOf, B: BookOf + Drop, W: Sink>(
         (greeting sheet.now (innings_of desk.now) (state_of desk.now).book
         (state_of desk.now).seat.position (desks.own_line (state_of desk.now)))) }
     ensures only { IfErr result (λ end. end ≡ DeskEnd.Write) }
-    ensures failed { OnErr result (has_failed out.new ≡ true) }
+    ensures failed { TellsFailure result out.old out.new }
 {
     told(print_greeting(out, sheet, desk.position(), own_line(desk), desk.book()))?;
     told(out.flush())

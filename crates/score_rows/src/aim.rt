@@ -1,11 +1,11 @@
 //! What a side needs, and how a match has ended.
 
-ghost use Rattle.std.specs.Prelude.{◌≡◌, ◌==◌, ◌++◌, OnErr, OnOk, Some, codes, decimal, if◌then◌else◌, true};
+ghost use Rattle.std.specs.Prelude.{◌≡◌, ◌==◌, ◌++◌, OnOk, Some, codes, decimal, if◌then◌else◌};
 ghost use Rattle.match_laws.specs.Result.{outcome};
 ghost use Rattle.match_laws.specs.declared.outcome.Outcome.TheVariants.{Undecided};
 ghost use Rattle.match_laws.specs.Stands.{ForEachHistory};
 ghost use Rattle.limits.specs.Figures as figures;
-ghost use Rattle.streams.specs.Watched.{Prints, has_failed};
+ghost use Rattle.streams.specs.Watched.{Prints, TellsFailure};
 ghost use Rattle.score_rows.specs.Row as rows;
 
 use crate::limited::print_off;
@@ -18,7 +18,7 @@ use streams::{Sink, Watched, WriteFailed};
 /// Prints that so many runs are needed off so many deliveries, on a row of its own.
 fn print_needs_off<W: Sink>(out: &mut Watched<W>, runs: u32, left: u32) -> Result<(), WriteFailed>
     ensures text { OnOk result (Prints W.contents out.old out.new (rows.needs_row Undecided (Some runs) (Some left))) }
-    ensures failed { OnErr result (has_failed out.new ≡ true) }
+    ensures failed { TellsFailure result out.old out.new }
 {
     write!(out, "  needs {runs}")?;
     print_off(out, runs, left)?;
@@ -33,7 +33,7 @@ pub fn print_needs_row<W: Sink>(
 ) -> Result<(), WriteFailed>
     ensures text { ForEachHistory score.now (λ n h. OnOk result (Prints W.contents out.old out.new
         (rows.needs_row (outcome n h) (figures.runs_needed n h) left))) }
-    ensures failed { OnErr result (has_failed out.new ≡ true) }
+    ensures failed { TellsFailure result out.old out.new }
 {
     match (score.result(), runs_needed(score), left) {
         (Outcome::Undecided, Some(runs), Some(left)) => print_needs_off(out, runs, left),
@@ -56,7 +56,7 @@ pub fn wicket_word(count: u32) -> &'static str
 /// Prints a side, and how it has won.
 fn print_winner<W: Sink>(out: &mut Watched<W>, side: &str, how: &str) -> Result<(), WriteFailed>
     ensures text { OnOk result (Prints W.contents out.old out.new (codes "  " ++ side.now ++ how.now)) }
-    ensures failed { OnErr result (has_failed out.new ≡ true) }
+    ensures failed { TellsFailure result out.old out.new }
 {
     write!(out, "  {side}{how}")
 }
@@ -64,7 +64,7 @@ fn print_winner<W: Sink>(out: &mut Watched<W>, side: &str, how: &str) -> Result<
 /// Prints by how many of this.
 fn print_margin<W: Sink>(out: &mut Watched<W>, count: u32, unit: &str) -> Result<(), WriteFailed>
     ensures text { OnOk result (Prints W.contents out.old out.new (decimal count ++ codes " " ++ unit.now)) }
-    ensures failed { OnErr result (has_failed out.new ≡ true) }
+    ensures failed { TellsFailure result out.old out.new }
 {
     write!(out, "{count} {unit}")
 }
@@ -79,7 +79,7 @@ fn print_win<W: Sink>(
 ) -> Result<(), WriteFailed>
     ensures text { OnOk result (Prints W.contents out.old out.new
         (codes "  " ++ side.now ++ how.now ++ (decimal count ++ codes " " ++ unit.now))) }
-    ensures failed { OnErr result (has_failed out.new ≡ true) }
+    ensures failed { TellsFailure result out.old out.new }
 {
     print_winner(out, side, how)?;
     print_margin(out, count, unit)
@@ -93,7 +93,7 @@ fn print_innings_win<W: Sink>(
     count: u32,
 ) -> Result<(), WriteFailed>
     ensures text { OnOk result (Prints W.contents out.old out.new (rows.innings_win sheet.now side count)) }
-    ensures failed { OnErr result (has_failed out.new ≡ true) }
+    ensures failed { TellsFailure result out.old out.new }
 {
     print_win(
         out,
@@ -112,7 +112,7 @@ pub fn print_aim<W: Sink>(
 ) -> Result<(), WriteFailed>
     ensures text { ForEachHistory score.now (λ n h. OnOk result (Prints W.contents out.old out.new
         (rows.aim (outcome n h) (figures.runs_needed n h) left))) }
-    ensures failed { OnErr result (has_failed out.new ≡ true) }
+    ensures failed { TellsFailure result out.old out.new }
 {
     match (score.result(), runs_needed(score), left) {
         (Outcome::Undecided, Some(runs), None) => write!(out, "  needs {runs}"),
@@ -127,7 +127,7 @@ fn print_ended<W: Sink>(
     outcome: Outcome,
 ) -> Result<(), WriteFailed>
     ensures text { OnOk result (Prints W.contents out.old out.new (rows.result_part sheet.now outcome)) }
-    ensures failed { OnErr result (has_failed out.new ≡ true) }
+    ensures failed { TellsFailure result out.old out.new }
 {
     match outcome {
         Outcome::Undecided => Ok(()),
@@ -155,7 +155,7 @@ pub fn print_result<W: Sink>(
 ) -> Result<(), WriteFailed>
     ensures text { ForEachHistory score.now (λ n h. OnOk result (Prints W.contents out.old out.new
         (rows.result_part sheet.now (outcome n h)))) }
-    ensures failed { OnErr result (has_failed out.new ≡ true) }
+    ensures failed { TellsFailure result out.old out.new }
 {
     print_ended(out, sheet, score.result())
 }
@@ -174,7 +174,7 @@ fn print_ended_row<W: Sink>(
     outcome: Outcome,
 ) -> Result<(), WriteFailed>
     ensures text { OnOk result (Prints W.contents out.old out.new (rows.result_row sheet.now outcome)) }
-    ensures failed { OnErr result (has_failed out.new ≡ true) }
+    ensures failed { TellsFailure result out.old out.new }
 {
     if !is_decided(outcome) {
         return Ok(());
@@ -191,7 +191,7 @@ pub fn print_result_row<W: Sink>(
 ) -> Result<(), WriteFailed>
     ensures text { ForEachHistory score.now (λ n h. OnOk result (Prints W.contents out.old out.new
         (rows.result_row sheet.now (outcome n h)))) }
-    ensures failed { OnErr result (has_failed out.new ≡ true) }
+    ensures failed { TellsFailure result out.old out.new }
 {
     print_ended_row(out, sheet, score.result())
 }

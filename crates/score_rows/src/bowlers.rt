@@ -1,11 +1,11 @@
 //! Who may bowl the next delivery.
 
-ghost use Rattle.std.specs.Prelude.{◌≡◌, ◌<◌, ◌++◌, OnErr, OnOk, codes, decimal, true};
+ghost use Rattle.std.specs.Prelude.{◌≡◌, ◌<◌, ◌++◌, OnOk, codes, decimal, true};
 ghost use Rattle.std.specs.List.{list_all};
 ghost use Rattle.ball_laws.specs.Over.{numbers as all_numbers};
 ghost use Rattle.match_laws.specs.History.{begun};
 ghost use Rattle.corrections.specs.CleanList.{history_of};
-ghost use Rattle.streams.specs.Watched.{Prints, has_failed};
+ghost use Rattle.streams.specs.Watched.{Prints, TellsFailure};
 ghost use Rattle.score_rows.specs.Limited as limited;
 ghost use Rattle.notation.specs.Written.{is_player};
 
@@ -25,7 +25,7 @@ fn print_yet<W: Sink, B: BookOf>(
 ) -> Result<(), WriteFailed>
     ensures text { OnOk result (Prints W.contents out.old out.new
         (limited.yet_text most player (history_of (B.content book.now)))) }
-    ensures failed { OnErr result (has_failed out.new ≡ true) }
+    ensures failed { TellsFailure result out.old out.new }
 {
     match most {
         None => Ok(()),
@@ -39,7 +39,7 @@ fn print_yet<W: Sink, B: BookOf>(
 /// Prints a player by number and name.
 fn print_name<W: Sink>(out: &mut Watched<W>, number: u8, name: &str) -> Result<(), WriteFailed>
     ensures text { OnOk result (Prints W.contents out.old out.new (decimal number ++ codes " " ++ name.now)) }
-    ensures failed { OnErr result (has_failed out.new ≡ true) }
+    ensures failed { TellsFailure result out.old out.new }
 {
     write!(out, "{number} {name}")
 }
@@ -55,7 +55,7 @@ fn print_bowler_row<W: Sink, B: BookOf>(
     requires { innings < begun (history_of (B.content book.now)) }
     ensures text { OnOk result (Prints W.contents out.old out.new
         (limited.bowler_row sheet.now (history_of (B.content book.now)) innings player)) }
-    ensures failed { OnErr result (has_failed out.new ≡ true) }
+    ensures failed { TellsFailure result out.old out.new }
 {
     let side = opponent(book.score().side(innings));
     print_name(out, player.number(), sheet.player(side, player))?;
@@ -74,7 +74,7 @@ fn print_if_may<W: Sink, B: BookOf>(
     requires { innings < begun (history_of (B.content book.now)) }
     ensures text { OnOk result (Prints W.contents out.old out.new
         (limited.row_if_may sheet.now (history_of (B.content book.now)) innings player)) }
-    ensures failed { OnErr result (has_failed out.new ≡ true) }
+    ensures failed { TellsFailure result out.old out.new }
 {
     if may_bowl(book, sheet.limits().overs_a_bowler(), player) {
         print_bowler_row(out, sheet, book, innings, player)
@@ -95,7 +95,7 @@ fn print_among<W: Sink, B: BookOf>(
     requires numbers { list_all is_player numbers.now ≡ true }
     ensures text { OnOk result (Prints W.contents out.old out.new
         (limited.bowlers_among sheet.now (history_of (B.content book.now)) innings numbers.now)) }
-    ensures failed { OnErr result (has_failed out.new ≡ true) }
+    ensures failed { TellsFailure result out.old out.new }
 {
     let Some((number, more)) = numbers.split_first() else {
         return Ok(());
@@ -117,7 +117,7 @@ fn print_all<W: Sink, B: BookOf>(
     requires { innings < begun (history_of (B.content book.now)) }
     ensures text { OnOk result (Prints W.contents out.old out.new
         (limited.bowlers_among sheet.now (history_of (B.content book.now)) innings all_numbers)) }
-    ensures failed { OnErr result (has_failed out.new ≡ true) }
+    ensures failed { TellsFailure result out.old out.new }
 {
     print_among(
         out,
@@ -136,7 +136,7 @@ pub fn print_bowlers<W: Sink, B: BookOf>(
 ) -> Result<(), WriteFailed>
     ensures text { OnOk result (Prints W.contents out.old out.new
         (limited.bowlers sheet.now (history_of (B.content book.now)))) }
-    ensures failed { OnErr result (has_failed out.new ≡ true) }
+    ensures failed { TellsFailure result out.old out.new }
 {
     let score = book.score();
     let begun = score.begun();

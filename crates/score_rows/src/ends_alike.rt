@@ -1,8 +1,8 @@
 //! Batters whose names look alike as a row cuts them: their numbers stand before them.
 
-ghost use Rattle.std.specs.Prelude.{◌≡◌, ◌<◌, OnErr, OnOk, true};
+ghost use Rattle.std.specs.Prelude.{◌≡◌, ◌<◌, OnOk};
 ghost use Rattle.match_laws.specs.Stands.{ForEachHistory, begun_in};
-ghost use Rattle.streams.specs.Watched.{Prints, has_failed};
+ghost use Rattle.streams.specs.Watched.{Prints, TellsFailure};
 ghost use Rattle.score_rows.specs.Row as rows;
 
 use crate::form::{Form, are_alike};
@@ -50,7 +50,7 @@ pub fn print_number<W: Sink>(
     batter: Option<Player>,
 ) -> Result<(), WriteFailed>
     ensures text { OnOk result (Prints W.contents out.old out.new (rows.number_text is_alike batter)) }
-    ensures failed { OnErr result (has_failed out.new ≡ true) }
+    ensures failed { TellsFailure result out.old out.new }
 {
     match batter {
         None => Ok(()),

@@ -1,9 +1,9 @@
 //! What of a row is shown, so that it fits the columns of a screen.
 
-ghost use Rattle.std.specs.Prelude.{◌≡◌, ◌-◌, ◌<◌, OnErr, OnOk, take, true};
+ghost use Rattle.std.specs.Prelude.{◌≡◌, ◌-◌, ◌<◌, OnOk, take, true};
 ghost use Rattle.cards.specs.Sheet as sheets;
 ghost use Rattle.std.specs.List.{list_all};
-ghost use Rattle.streams.specs.Watched.{Prints, has_failed};
+ghost use Rattle.streams.specs.Watched.{Prints, TellsFailure};
 ghost use Rattle.score_rows.specs.Fit as fit;
 
 use streams::{Sink, Watched, WriteFailed};
@@ -137,7 +137,7 @@ pub fn front_of(name: &str, most: usize) -> &str
 pub fn print_name<W: Sink>(out: &mut Watched<W>, name: &str, most: usize) -> Result<(), WriteFailed>
     requires { 0 < most }
     ensures text { OnOk result (Prints W.contents out.old out.new (fit.cut most name.now)) }
-    ensures failed { OnErr result (has_failed out.new ≡ true) }
+    ensures failed { TellsFailure result out.old out.new }
 {
     if !is_long(name, most) {
         return write!(out, "{name}");

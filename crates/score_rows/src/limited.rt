@@ -1,10 +1,10 @@
 //! What a desk tells of what the sheet limits.
 
-ghost use Rattle.std.specs.Prelude.{◌≡◌, ◌<◌, ◌++◌, OnErr, OnOk, codes, decimal, true};
+ghost use Rattle.std.specs.Prelude.{◌≡◌, ◌<◌, ◌++◌, OnOk, codes, decimal};
 ghost use Rattle.match_laws.specs.History.{begun, is_open};
 ghost use Rattle.match_laws.specs.Stands.{ForEachHistory, begun_in};
 ghost use Rattle.corrections.specs.CleanList.{history_of};
-ghost use Rattle.streams.specs.Watched.{Prints, has_failed};
+ghost use Rattle.streams.specs.Watched.{Prints, TellsFailure};
 ghost use Rattle.score_rows.specs.Limited as limited;
 
 use cards::MatchSheet;
@@ -17,7 +17,7 @@ use streams::{Sink, Watched, WriteFailed};
 /// Prints of how many overs an innings is, where the sheet says it.
 pub fn print_of<W: Sink>(out: &mut Watched<W>, overs: Option<u16>) -> Result<(), WriteFailed>
     ensures text { OnOk result (Prints W.contents out.old out.new (limited.of_overs overs)) }
-    ensures failed { OnErr result (has_failed out.new ≡ true) }
+    ensures failed { TellsFailure result out.old out.new }
 {
     match overs {
         None => Ok(()),
@@ -28,7 +28,7 @@ pub fn print_of<W: Sink>(out: &mut Watched<W>, overs: Option<u16>) -> Result<(),
 /// Prints a rate, where there is one.
 fn print_rate<W: Sink>(out: &mut Watched<W>, rate: Option<u64>) -> Result<(), WriteFailed>
     ensures text { OnOk result (Prints W.contents out.old out.new (limited.rate_text rate)) }
-    ensures failed { OnErr result (has_failed out.new ≡ true) }
+    ensures failed { TellsFailure result out.old out.new }
 {
     match rate {
         None => Ok(()),
@@ -42,7 +42,7 @@ fn print_rate<W: Sink>(out: &mut Watched<W>, rate: Option<u64>) -> Result<(), Wr
 /// Prints off how many deliveries so many runs are needed, and how many that is an over.
 pub fn print_off<W: Sink>(out: &mut Watched<W>, runs: u32, left: u32) -> Result<(), WriteFailed>
     ensures text { OnOk result (Prints W.contents out.old out.new (limited.off_text runs left)) }
-    ensures failed { OnErr result (has_failed out.new ≡ true) }
+    ensures failed { TellsFailure result out.old out.new }
 {
     write!(out, " off {left}")?;
     print_rate(out, an_over(runs, left))
@@ -75,7 +75,7 @@ pub fn print_free<W: Sink, B: BookOf>(
 ) -> Result<(), WriteFailed>
     ensures text { OnOk result (Prints W.contents out.old out.new
         (limited.free_text is_here sheet.now (history_of (B.content book.now)))) }
-    ensures failed { OnErr result (has_failed out.new ≡ true) }
+    ensures failed { TellsFailure result out.old out.new }
 {
     if is_here && is_free(sheet, book) {
         write!(out, "  free hit")
@@ -93,7 +93,7 @@ pub fn print_free_row<W: Sink, B: BookOf>(
 ) -> Result<(), WriteFailed>
     ensures text { OnOk result (Prints W.contents out.old out.new
         (limited.free_row is_here sheet.now (history_of (B.content book.now)))) }
-    ensures failed { OnErr result (has_failed out.new ≡ true) }
+    ensures failed { TellsFailure result out.old out.new }
 {
     if is_here && is_free(sheet, book) {
         writeln!(out, "  free hit")
@@ -105,7 +105,7 @@ pub fn print_free_row<W: Sink, B: BookOf>(
 /// Prints that a bowler is past his overs, where he is.
 fn print_past_of<W: Sink>(out: &mut Watched<W>, most: u16, bowled: u32) -> Result<(), WriteFailed>
     ensures text { OnOk result (Prints W.contents out.old out.new (limited.past_text most bowled)) }
-    ensures failed { OnErr result (has_failed out.new ≡ true) }
+    ensures failed { TellsFailure result out.old out.new }
 {
     if u32::from(most) < bowled {
         write!(out, " past {most}")
@@ -123,7 +123,7 @@ pub fn print_past<W: Sink, B: BookOf>(
 ) -> Result<(), WriteFailed>
     ensures text { OnOk result (Prints W.contents out.old out.new
         (limited.past most (history_of (B.content book.now)) bowler)) }
-    ensures failed { OnErr result (has_failed out.new ≡ true) }
+    ensures failed { TellsFailure result out.old out.new }
 {
     match most {
         None => Ok(()),
@@ -137,7 +137,7 @@ pub fn print_past<W: Sink, B: BookOf>(
 /// Prints what is left of an over.
 fn print_rest<W: Sink>(out: &mut Watched<W>, rest: u32) -> Result<(), WriteFailed>
     ensures text { OnOk result (Prints W.contents out.old out.new (limited.rest_text rest)) }
-    ensures failed { OnErr result (has_failed out.new ≡ true) }
+    ensures failed { TellsFailure result out.old out.new }
 {
     if rest == 0 {
         Ok(())
@@ -159,7 +159,7 @@ fn overs_word(deliveries: u32) -> &'static str
 /// Prints how many overs so many deliveries are.
 fn print_left<W: Sink>(out: &mut Watched<W>, deliveries: u32) -> Result<(), WriteFailed>
     ensures text { OnOk result (Prints W.contents out.old out.new (limited.left_text deliveries)) }
-    ensures failed { OnErr result (has_failed out.new ≡ true) }
+    ensures failed { TellsFailure result out.old out.new }
 {
     let whole = deliveries / 6;
     write!(out, "{whole}")?;
@@ -171,7 +171,7 @@ fn print_left<W: Sink>(out: &mut Watched<W>, deliveries: u32) -> Result<(), Writ
 /// Prints that all overs are bowled.
 fn print_all_bowled<W: Sink>(out: &mut Watched<W>, overs: u16) -> Result<(), WriteFailed>
     ensures text { OnOk result (Prints W.contents out.old out.new (limited.all_bowled overs)) }
-    ensures failed { OnErr result (has_failed out.new ≡ true) }
+    ensures failed { TellsFailure result out.old out.new }
 {
     if overs == 1 {
         write!(out, "{overs} over: end overs")
@@ -190,7 +190,7 @@ fn print_innings_left<W: Sink>(
     requires { innings < begun_in score.now }
     ensures text { ForEachHistory score.now (λ n h.
         OnOk result (Prints W.contents out.old out.new (limited.innings_left overs h innings))) }
-    ensures failed { OnErr result (has_failed out.new ≡ true) }
+    ensures failed { TellsFailure result out.old out.new }
 {
     if overs_left(score, innings, overs) == 0 {
         print_all_bowled(out, overs)
@@ -208,7 +208,7 @@ fn print_bowled<W: Sink>(
 ) -> Result<(), WriteFailed>
     ensures text { OnOk result (Prints W.contents out.old out.new
         (codes "  " ++ name.now ++ codes " " ++ decimal bowled ++ codes " of " ++ decimal most)) }
-    ensures failed { OnErr result (has_failed out.new ≡ true) }
+    ensures failed { TellsFailure result out.old out.new }
 {
     write!(out, "  {name} {bowled} of {most}")
 }
@@ -225,7 +225,7 @@ fn print_bowled_of<W: Sink, B: BookOf>(
     requires { innings < begun (history_of (B.content book.now)) }
     ensures text { OnOk result (Prints W.contents out.old out.new
         (limited.bowled_of sheet.now (history_of (B.content book.now)) innings most player)) }
-    ensures failed { OnErr result (has_failed out.new ≡ true) }
+    ensures failed { TellsFailure result out.old out.new }
 {
     let side = opponent(book.score().side(innings));
     print_bowled(
@@ -248,7 +248,7 @@ fn print_bowler_part<W: Sink, B: BookOf>(
     requires { innings < begun (history_of (B.content book.now)) }
     ensures text { OnOk result (Prints W.contents out.old out.new
         (limited.bowler_part sheet.now (history_of (B.content book.now)) innings most bowler)) }
-    ensures failed { OnErr result (has_failed out.new ≡ true) }
+    ensures failed { TellsFailure result out.old out.new }
 {
     match most {
         None => Ok(()),
@@ -271,7 +271,7 @@ fn print_bowled_line<W: Sink, B: BookOf>(
     requires { innings < begun (history_of (B.content book.now)) }
     ensures text { OnOk result (Prints W.contents out.old out.new
         (limited.bowled_of sheet.now (history_of (B.content book.now)) innings most player ++ codes "\n")) }
-    ensures failed { OnErr result (has_failed out.new ≡ true) }
+    ensures failed { TellsFailure result out.old out.new }
 {
     print_bowled_of(out, sheet, book, innings, most, player)?;
     writeln!(out)
@@ -289,7 +289,7 @@ fn print_past_line<W: Sink, B: BookOf>(
     requires { innings < begun (history_of (B.content book.now)) }
     ensures text { OnOk result (Prints W.contents out.old out.new
         (limited.past_line sheet.now (history_of (B.content book.now)) innings most player)) }
-    ensures failed { OnErr result (has_failed out.new ≡ true) }
+    ensures failed { TellsFailure result out.old out.new }
 {
     if u32::from(most) < overs_bowled(book, player) {
         print_bowled_line(out, sheet, book, innings, most, player)
@@ -310,7 +310,7 @@ pub fn print_past_row<W: Sink, B: BookOf>(
     requires { innings < begun (history_of (B.content book.now)) }
     ensures text { OnOk result (Prints W.contents out.old out.new
         (limited.past_row sheet.now (history_of (B.content book.now)) innings most bowler)) }
-    ensures failed { OnErr result (has_failed out.new ≡ true) }
+    ensures failed { TellsFailure result out.old out.new }
 {
     match most {
         None => Ok(()),
@@ -333,7 +333,7 @@ fn print_bowler_line<W: Sink, B: BookOf>(
     requires { innings < begun (history_of (B.content book.now)) }
     ensures text { OnOk result (Prints W.contents out.old out.new
         (limited.bowler_line sheet.now (history_of (B.content book.now)) innings most bowler)) }
-    ensures failed { OnErr result (has_failed out.new ≡ true) }
+    ensures failed { TellsFailure result out.old out.new }
 {
     match most {
         None => Ok(()),
@@ -355,7 +355,7 @@ fn print_left_line<W: Sink, B: BookOf>(
     requires { innings < begun (history_of (B.content book.now)) }
     ensures text { OnOk result (Prints W.contents out.old out.new
         (limited.left_line sheet.now (history_of (B.content book.now)) innings overs)) }
-    ensures failed { OnErr result (has_failed out.new ≡ true) }
+    ensures failed { TellsFailure result out.old out.new }
 {
     let most = sheet.limits().overs_a_bowler();
     let bowler = overs_of(book).bowler();
@@ -376,7 +376,7 @@ fn print_line_for<W: Sink, B: BookOf>(
     requires { innings < begun (history_of (B.content book.now)) }
     ensures text { OnOk result (Prints W.contents out.old out.new
         (limited.line_for sheet.now (history_of (B.content book.now)) innings overs)) }
-    ensures failed { OnErr result (has_failed out.new ≡ true) }
+    ensures failed { TellsFailure result out.old out.new }
 {
     match overs {
         None => {
@@ -399,7 +399,7 @@ pub fn print_limits<W: Sink, B: BookOf>(
     requires { innings < begun (history_of (B.content book.now)) }
     ensures text { OnOk result (Prints W.contents out.old out.new
         (limited.limits_line sheet.now (history_of (B.content book.now)) innings)) }
-    ensures failed { OnErr result (has_failed out.new ≡ true) }
+    ensures failed { TellsFailure result out.old out.new }
 {
     if book.score().is_open() {
         print_line_for(out, sheet, book, innings, sheet.limits().overs_for(innings))

@@ -1,11 +1,11 @@
 //! The marks of an over, and its runs.
 
-ghost use Rattle.std.specs.Prelude.{◌≡◌, ◌≤◌, OnErr, OnOk, length, true};
+ghost use Rattle.std.specs.Prelude.{◌≡◌, ◌≤◌, OnOk, length};
 ghost use Rattle.notation.specs.declared.entry.TheConstants.{PLACES};
 ghost use Rattle.ball_laws.specs.Sums.{tally};
 ghost use Rattle.match_laws.specs.Figures.{runs_of};
 ghost use Rattle.corrections.specs.Overs.{balls_of};
-ghost use Rattle.streams.specs.Watched.{Prints, has_failed};
+ghost use Rattle.streams.specs.Watched.{Prints, TellsFailure};
 ghost use Rattle.score_rows.specs.Row as rows;
 ghost use Rattle.score_rows.specs.inner.Items as items;
 
@@ -17,7 +17,7 @@ use streams::{Sink, Watched, WriteFailed};
 /// Prints an item, where it is a delivery.
 fn print_item<W: Sink>(out: &mut Watched<W>, item: &Plain) -> Result<(), WriteFailed>
     ensures text { OnOk result (Prints W.contents out.old out.new (items.item_mark item.now)) }
-    ensures failed { OnErr result (has_failed out.new ≡ true) }
+    ensures failed { TellsFailure result out.old out.new }
 {
     match item {
         Plain::Ball(ball) => print_ball(out, ball),
@@ -28,7 +28,7 @@ fn print_item<W: Sink>(out: &mut Watched<W>, item: &Plain) -> Result<(), WriteFa
 /// Prints the deliveries of an over.
 pub fn print_marks<W: Sink>(out: &mut Watched<W>, over: &[Placed]) -> Result<(), WriteFailed>
     ensures text { OnOk result (Prints W.contents out.old out.new (rows.marks (balls_of over.now))) }
-    ensures failed { OnErr result (has_failed out.new ≡ true) }
+    ensures failed { TellsFailure result out.old out.new }
 {
     for placed in over {
         print_item(out, &placed.item)?;

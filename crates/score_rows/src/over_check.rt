@@ -1,12 +1,12 @@
 //! What two scorers compare after an over.
 
-ghost use Rattle.std.specs.Prelude.{◌≡◌, ◌≤◌, ◌<◌, [], OnErr, OnOk, Some, codes, length, true};
+ghost use Rattle.std.specs.Prelude.{◌≡◌, ◌≤◌, ◌<◌, [], OnOk, Some, codes, length};
 ghost use Rattle.notation.specs.declared.entry.TheConstants.{PLACES};
 ghost use Rattle.match_laws.specs.History.{begun};
 ghost use Rattle.match_laws.specs.Stands.{ForEachHistory, begun_in};
 ghost use Rattle.corrections.specs.CleanList.{history_of};
 ghost use Rattle.corrections.specs.Overs.{balls_of, over_now};
-ghost use Rattle.streams.specs.Watched.{Prints, has_failed};
+ghost use Rattle.streams.specs.Watched.{Prints, TellsFailure};
 ghost use Rattle.score_rows.specs.declared.form.Form.TheVariants.{Whole};
 ghost use Rattle.score_rows.specs.OverCheck as check;
 ghost use Rattle.score_rows.specs.Row as rows;
@@ -32,7 +32,7 @@ fn between(is_one: bool, joint: &'static str, beyond: &'static str) -> &'static 
 /// Prints a text.
 fn print<W: Sink>(out: &mut Watched<W>, text: &str) -> Result<(), WriteFailed>
     ensures text { OnOk result (Prints W.contents out.old out.new text.now) }
-    ensures failed { OnErr result (has_failed out.new ≡ true) }
+    ensures failed { TellsFailure result out.old out.new }
 {
     write!(out, "{text}")
 }
@@ -40,7 +40,7 @@ fn print<W: Sink>(out: &mut Watched<W>, text: &str) -> Result<(), WriteFailed>
 /// Prints all extras, byes and leg byes.
 fn print_extras_front<W: Sink>(out: &mut Watched<W>, extras: &Extras) -> Result<(), WriteFailed>
     ensures text { OnOk result (Prints W.contents out.old out.new (check.extras_front extras.now)) }
-    ensures failed { OnErr result (has_failed out.new ≡ true) }
+    ensures failed { TellsFailure result out.old out.new }
 {
     let all = all_extras(extras);
     let byes = extras.byes;
@@ -51,7 +51,7 @@ fn print_extras_front<W: Sink>(out: &mut Watched<W>, extras: &Extras) -> Result<
 /// Prints wides, no balls and penalty runs.
 fn print_extras_back<W: Sink>(out: &mut Watched<W>, extras: &Extras) -> Result<(), WriteFailed>
     ensures text { OnOk result (Prints W.contents out.old out.new (check.extras_back extras.now)) }
-    ensures failed { OnErr result (has_failed out.new ≡ true) }
+    ensures failed { TellsFailure result out.old out.new }
 {
     let wides = extras.wides;
     let noballs = extras.noballs;
@@ -62,7 +62,7 @@ fn print_extras_back<W: Sink>(out: &mut Watched<W>, extras: &Extras) -> Result<(
 /// Prints all extras, and of which kinds they are.
 fn print_extras<W: Sink>(out: &mut Watched<W>, extras: &Extras) -> Result<(), WriteFailed>
     ensures text { OnOk result (Prints W.contents out.old out.new (check.extras_text extras.now)) }
-    ensures failed { OnErr result (has_failed out.new ≡ true) }
+    ensures failed { TellsFailure result out.old out.new }
 {
     print_extras_front(out, extras)?;
     print_extras_back(out, extras)
@@ -78,7 +78,7 @@ fn print_total_line<W: Sink>(
     requires { innings < begun_in score.now }
     ensures text { ForEachHistory score.now (λ n h.
         OnOk result (Prints W.contents out.old out.new (check.total_line sheet.now h innings))) }
-    ensures failed { OnErr result (has_failed out.new ≡ true) }
+    ensures failed { TellsFailure result out.old out.new }
 {
     let fits = total_fits(sheet, score, innings);
     print(out, "  ")?;
@@ -98,7 +98,7 @@ fn print_batters_line<W: Sink>(
     requires { innings < begun_in score.now }
     ensures text { ForEachHistory score.now (λ n h.
         OnOk result (Prints W.contents out.old out.new (check.batters_line sheet.now h innings))) }
-    ensures failed { OnErr result (has_failed out.new ≡ true) }
+    ensures failed { TellsFailure result out.old out.new }
 {
     let fits = batters_fit(sheet, score, innings);
     print(out, "  ")?;
@@ -118,7 +118,7 @@ fn print_marked<W: Sink>(
     requires { length over.now ≤ PLACES }
     ensures text { OnOk result (Prints W.contents out.old out.new
         (check.marked (balls_of over.now) is_all (balls_of shown.now))) }
-    ensures failed { OnErr result (has_failed out.new ≡ true) }
+    ensures failed { TellsFailure result out.old out.new }
 {
     print_open_marks(out, over, is_all, shown)?;
     let runs = runs_of(over);
@@ -142,7 +142,7 @@ fn print_bowled<W: Sink>(
         OnOk result (Prints W.contents out.old out.new (check.in_rows sheet.now
         (rows.bowler Whole sheet.now h innings (Some bowler)) [] (codes "\n  ")
         (check.marked (balls_of over.now) is_all (balls_of shown.now))))) }
-    ensures failed { OnErr result (has_failed out.new ≡ true) }
+    ensures failed { TellsFailure result out.old out.new }
 {
     let fits = over_fits(sheet, score, innings, bowler, over, is_all, shown);
     print_bowler(out, Form::Whole, sheet, score, innings, Some(bowler))?;
@@ -166,7 +166,7 @@ fn print_bowler_over<W: Sink>(
         OnOk result (Prints W.contents out.old out.new (check.in_rows sheet.now
         (rows.bowler Whole sheet.now h innings (Some bowler)) [] (codes "\n  ")
         (check.over_text sheet.now (balls_of over.now))))) }
-    ensures failed { OnErr result (has_failed out.new ≡ true) }
+    ensures failed { TellsFailure result out.old out.new }
 {
     if marks_fit(sheet, over) {
         return print_bowled(out, sheet, score, innings, bowler, over, true, over);
@@ -185,7 +185,7 @@ fn print_over_line<W: Sink, B: BookOf>(
     requires { innings < begun (history_of (B.content book.now)) }
     ensures text { OnOk result (Prints W.contents out.old out.new
         (check.over_line sheet.now (history_of (B.content book.now)) innings (over_now (history_of (B.content book.now))))) }
-    ensures failed { OnErr result (has_failed out.new ≡ true) }
+    ensures failed { TellsFailure result out.old out.new }
 {
     let overs = overs_of(book);
     let Some(bowler) = overs.bowler() else {
@@ -204,7 +204,7 @@ fn print_lines<W: Sink, B: BookOf>(
     requires { innings < begun (history_of (B.content book.now)) }
     ensures text { OnOk result (Prints W.contents out.old out.new
         (check.check_lines sheet.now (history_of (B.content book.now)) innings)) }
-    ensures failed { OnErr result (has_failed out.new ≡ true) }
+    ensures failed { TellsFailure result out.old out.new }
 {
     let score = book.score();
     print_total_line(out, sheet, score, innings)?;
@@ -223,7 +223,7 @@ pub fn print_check<W: Sink, B: BookOf>(
 ) -> Result<(), WriteFailed>
     ensures text { OnOk result (Prints W.contents out.old out.new
         (check.over_check sheet.now (history_of (B.content book.now)))) }
-    ensures failed { OnErr result (has_failed out.new ≡ true) }
+    ensures failed { TellsFailure result out.old out.new }
 {
     let begun = book.score().begun();
     if begun == 0 {

@@ -1,13 +1,13 @@
 //! What stands behind the row of an over that is over, and isn't called.
 
-ghost use Rattle.std.specs.Prelude.{◌≡◌, ◌≤◌, OnErr, OnOk, length, true};
+ghost use Rattle.std.specs.Prelude.{◌≡◌, ◌≤◌, OnOk, length};
 ghost use Rattle.notation.specs.declared.entry.TheConstants.{PLACES};
 ghost use Rattle.ball_laws.specs.Over.{counting};
 ghost use Rattle.corrections.specs.CleanList.{history_of};
 ghost use Rattle.corrections.specs.Overs.{balls_of};
 ghost use Rattle.ball_laws.specs.History.{last_called_over};
 ghost use Rattle.cards.specs.Page.{over_note};
-ghost use Rattle.streams.specs.Watched.{Prints, has_failed};
+ghost use Rattle.streams.specs.Watched.{Prints, TellsFailure};
 ghost use Rattle.score_rows.specs.Row as rows;
 ghost use Rattle.score_rows.specs.inner.Items as items;
 
@@ -84,7 +84,7 @@ pub fn is_uncalled(over: &[Placed]) -> bool
 fn print_uncalled<W: Sink>(out: &mut Watched<W>, over: &[Placed]) -> Result<(), WriteFailed>
     requires { length over.now ≤ PLACES }
     ensures text { OnOk result (Prints W.contents out.old out.new (rows.uncalled_text (balls_of over.now))) }
-    ensures failed { OnErr result (has_failed out.new ≡ true) }
+    ensures failed { TellsFailure result out.old out.new }
 {
     if is_uncalled(over) {
         write!(out, ", the over isn't called")
@@ -97,7 +97,7 @@ fn print_uncalled<W: Sink>(out: &mut Watched<W>, over: &[Placed]) -> Result<(), 
 pub fn print_over_end<W: Sink>(out: &mut Watched<W>, over: &[Placed]) -> Result<(), WriteFailed>
     requires { length over.now ≤ PLACES }
     ensures text { OnOk result (Prints W.contents out.old out.new (rows.over_end (balls_of over.now))) }
-    ensures failed { OnErr result (has_failed out.new ≡ true) }
+    ensures failed { TellsFailure result out.old out.new }
 {
     let count = counting_of(over);
     if count < 6 {
@@ -110,7 +110,7 @@ pub fn print_over_end<W: Sink>(out: &mut Watched<W>, over: &[Placed]) -> Result<
 /// Prints, of an over that was called with another number of deliveries that count than six, that number.
 fn print_note<W: Sink>(out: &mut Watched<W>, count: u32) -> Result<(), WriteFailed>
     ensures text { OnOk result (Prints W.contents out.old out.new (over_note count)) }
-    ensures failed { OnErr result (has_failed out.new ≡ true) }
+    ensures failed { TellsFailure result out.old out.new }
 {
     if count == 6 {
         Ok(())
@@ -126,7 +126,7 @@ pub fn print_over_note<W: Sink, B: BookOf>(
 ) -> Result<(), WriteFailed>
     ensures text { OnOk result (Prints W.contents out.old out.new
         (over_note (counting (last_called_over (history_of (B.content book.now)))))) }
-    ensures failed { OnErr result (has_failed out.new ≡ true) }
+    ensures failed { TellsFailure result out.old out.new }
 {
     print_note(out, counting_of(overs_of(book).last))
 }

@@ -1,12 +1,12 @@
 //! How a match stands: a row that is fitted to its columns, and those below it.
 
-ghost use Rattle.std.specs.Prelude.{◌≡◌, ◌<◌, OnErr, OnOk, true};
+ghost use Rattle.std.specs.Prelude.{◌<◌, OnOk};
 ghost use Rattle.match_laws.specs.History.{begun};
 ghost use Rattle.match_laws.specs.Stands.{ForEachHistory, begun_in};
 ghost use Rattle.corrections.specs.CleanList.{history_of};
 ghost use Rattle.corrections.specs.Overs.{balls_of};
 ghost use Rattle.cards.specs.Bowling.{overs_of};
-ghost use Rattle.streams.specs.Watched.{Prints, has_failed};
+ghost use Rattle.streams.specs.Watched.{Prints, TellsFailure};
 ghost use Rattle.score_rows.specs.Row as rows;
 
 use crate::aim::{print_aim, print_needs_row, print_result_row};
@@ -32,7 +32,7 @@ fn print_runs<W: Sink>(
     requires { innings < begun_in score.now }
     ensures text { ForEachHistory score.now (λ n h.
         OnOk result (Prints W.contents out.old out.new (rows.runs_text h innings))) }
-    ensures failed { OnErr result (has_failed out.new ≡ true) }
+    ensures failed { TellsFailure result out.old out.new }
 {
     let total = score.total(innings);
     let wickets = score.wickets(innings);
@@ -50,7 +50,7 @@ fn print_team<W: Sink>(
     requires { innings < begun_in score.now }
     ensures text { ForEachHistory score.now (λ n h.
         OnOk result (Prints W.contents out.old out.new (rows.team_text form sheet.now h innings))) }
-    ensures failed { OnErr result (has_failed out.new ≡ true) }
+    ensures failed { TellsFailure result out.old out.new }
 {
     if !form.has_team() {
         return Ok(());
@@ -69,7 +69,7 @@ pub fn print_total<W: Sink>(
     requires { innings < begun_in score.now }
     ensures text { ForEachHistory score.now (λ n h.
         OnOk result (Prints W.contents out.old out.new (rows.total_text sheet.now h innings))) }
-    ensures failed { OnErr result (has_failed out.new ≡ true) }
+    ensures failed { TellsFailure result out.old out.new }
 {
     let team = sheet.name(score.side(innings));
     write!(out, "{team} ")?;
@@ -84,7 +84,7 @@ fn print_overs_front<W: Sink>(
     requires { innings < begun_in score.now }
     ensures text { ForEachHistory score.now (λ n h.
         OnOk result (Prints W.contents out.old out.new (rows.overs_front h innings))) }
-    ensures failed { OnErr result (has_failed out.new ≡ true) }
+    ensures failed { TellsFailure result out.old out.new }
 {
     let (called, since) = score.overs(innings);
     write!(out, " ({called}.{since}")
@@ -101,7 +101,7 @@ fn print_overs<W: Sink>(
     requires { innings < begun_in score.now }
     ensures text { ForEachHistory score.now (λ n h.
         OnOk result (Prints W.contents out.old out.new (rows.overs_text form sheet.now h innings))) }
-    ensures failed { OnErr result (has_failed out.new ≡ true) }
+    ensures failed { TellsFailure result out.old out.new }
 {
     print_overs_front(out, score, innings)?;
     print_of(out, form.limit_in(sheet.limits().overs_for(innings)))?;
@@ -116,7 +116,7 @@ fn print_batter_figures<W: Sink>(
 ) -> Result<(), WriteFailed>
     ensures text { OnOk result (Prints W.contents out.old out.new
         (rows.batter_figures row.now.runs row.now.faced mark.now)) }
-    ensures failed { OnErr result (has_failed out.new ≡ true) }
+    ensures failed { TellsFailure result out.old out.new }
 {
     let runs = row.runs;
     let faced = row.faced;
@@ -136,7 +136,7 @@ fn print_batter<W: Sink>(
     requires { innings < begun_in score.now }
     ensures text { ForEachHistory score.now (λ n h.
         OnOk result (Prints W.contents out.old out.new (rows.batter form sheet.now h innings mark.now batter))) }
-    ensures failed { OnErr result (has_failed out.new ≡ true) }
+    ensures failed { TellsFailure result out.old out.new }
 {
     match batter {
         None => write!(out, "-"),
@@ -163,7 +163,7 @@ pub fn print_striker<W: Sink>(
     requires { innings < begun_in score.now }
     ensures text { ForEachHistory score.now (λ n h.
         OnOk result (Prints W.contents out.old out.new (rows.striker form sheet.now h innings))) }
-    ensures failed { OnErr result (has_failed out.new ≡ true) }
+    ensures failed { TellsFailure result out.old out.new }
 {
     let is_alike = are_ends_alike(form, sheet, score, innings);
     let ends = score.ends();
@@ -182,7 +182,7 @@ pub fn print_other<W: Sink>(
     requires { innings < begun_in score.now }
     ensures text { ForEachHistory score.now (λ n h.
         OnOk result (Prints W.contents out.old out.new (rows.other form sheet.now h innings))) }
-    ensures failed { OnErr result (has_failed out.new ≡ true) }
+    ensures failed { TellsFailure result out.old out.new }
 {
     let is_alike = are_ends_alike(form, sheet, score, innings);
     let ends = score.ends();
@@ -201,7 +201,7 @@ fn print_batters<W: Sink>(
     requires { innings < begun_in score.now }
     ensures text { ForEachHistory score.now (λ n h.
         OnOk result (Prints W.contents out.old out.new (rows.batters form sheet.now h innings))) }
-    ensures failed { OnErr result (has_failed out.new ≡ true) }
+    ensures failed { TellsFailure result out.old out.new }
 {
     print_striker(out, form, sheet, score, innings)?;
     write!(out, "  ")?;
@@ -211,7 +211,7 @@ fn print_batters<W: Sink>(
 /// Prints the overs that a bowler bowled, and his balls of other overs.
 fn print_overs_of<W: Sink>(out: &mut Watched<W>, row: &BowlingRow) -> Result<(), WriteFailed>
     ensures text { OnOk result (Prints W.contents out.old out.new (overs_of row.now)) }
-    ensures failed { OnErr result (has_failed out.new ≡ true) }
+    ensures failed { TellsFailure result out.old out.new }
 {
     let overs = row.overs;
     let balls = row.balls;
@@ -221,7 +221,7 @@ fn print_overs_of<W: Sink>(out: &mut Watched<W>, row: &BowlingRow) -> Result<(),
 /// Prints a bowler's maidens, runs and wickets.
 fn print_behind_overs<W: Sink>(out: &mut Watched<W>, row: &BowlingRow) -> Result<(), WriteFailed>
     ensures text { OnOk result (Prints W.contents out.old out.new (rows.behind_overs row.now)) }
-    ensures failed { OnErr result (has_failed out.new ≡ true) }
+    ensures failed { TellsFailure result out.old out.new }
 {
     let maidens = row.maidens;
     let runs = row.runs;
@@ -232,7 +232,7 @@ fn print_behind_overs<W: Sink>(out: &mut Watched<W>, row: &BowlingRow) -> Result
 /// Prints a bowler's overs, maidens, runs and wickets.
 fn print_figures<W: Sink>(out: &mut Watched<W>, row: &BowlingRow) -> Result<(), WriteFailed>
     ensures text { OnOk result (Prints W.contents out.old out.new (rows.figures row.now)) }
-    ensures failed { OnErr result (has_failed out.new ≡ true) }
+    ensures failed { TellsFailure result out.old out.new }
 {
     print_overs_of(out, row)?;
     print_behind_overs(out, row)
@@ -248,7 +248,7 @@ fn print_bowler_row<W: Sink>(
     row: &BowlingRow,
 ) -> Result<(), WriteFailed>
     ensures text { OnOk result (Prints W.contents out.old out.new (rows.bowler_text form sheet.now side player row.now)) }
-    ensures failed { OnErr result (has_failed out.new ≡ true) }
+    ensures failed { TellsFailure result out.old out.new }
 {
     print_name(out, sheet.player(side, player), form.letters())?;
     write!(out, " ")?;
@@ -267,7 +267,7 @@ pub fn print_bowler<W: Sink>(
     requires { innings < begun_in score.now }
     ensures text { ForEachHistory score.now (λ n h.
         OnOk result (Prints W.contents out.old out.new (rows.bowler form sheet.now h innings bowler))) }
-    ensures failed { OnErr result (has_failed out.new ≡ true) }
+    ensures failed { TellsFailure result out.old out.new }
 {
     let Some(player) = bowler else {
         return Ok(());
@@ -287,7 +287,7 @@ pub fn print_bowler<W: Sink>(
 /// Prints that older marks are left out, where they are.
 fn print_left_out<W: Sink>(out: &mut Watched<W>, is_all: bool) -> Result<(), WriteFailed>
     ensures text { OnOk result (Prints W.contents out.old out.new (rows.left_out is_all)) }
-    ensures failed { OnErr result (has_failed out.new ≡ true) }
+    ensures failed { TellsFailure result out.old out.new }
 {
     if is_all { Ok(()) } else { write!(out, " <") }
 }
@@ -301,7 +301,7 @@ pub fn print_open_marks<W: Sink>(
 ) -> Result<(), WriteFailed>
     ensures text { OnOk result (Prints W.contents out.old out.new
         (rows.open_marks (balls_of over.now) is_all (balls_of shown.now))) }
-    ensures failed { OnErr result (has_failed out.new ≡ true) }
+    ensures failed { TellsFailure result out.old out.new }
 {
     if bowler_of(over).is_none() {
         return Ok(());
@@ -322,7 +322,7 @@ fn print_bowling<W: Sink, B: BookOf>(
     requires { innings < begun (history_of (B.content book.now)) }
     ensures text { OnOk result (Prints W.contents out.old out.new
         (rows.bowling form sheet.now (history_of (B.content book.now)) innings)) }
-    ensures failed { OnErr result (has_failed out.new ≡ true) }
+    ensures failed { TellsFailure result out.old out.new }
 {
     let overs = overs_of(book);
     let most = sheet.limits().overs_a_bowler();
@@ -343,7 +343,7 @@ fn print_back<W: Sink, B: BookOf>(
     requires { innings < begun (history_of (B.content book.now)) }
     ensures text { OnOk result (Prints W.contents out.old out.new (rows.back form is_all (balls_of shown.now)
         sheet.now (B.innings_a_side book.now) (history_of (B.content book.now)) innings)) }
-    ensures failed { OnErr result (has_failed out.new ≡ true) }
+    ensures failed { TellsFailure result out.old out.new }
 {
     let score = book.score();
     let over = overs_of(book).this;
@@ -366,7 +366,7 @@ pub fn print_front<W: Sink>(
     requires { innings < begun_in score.now }
     ensures text { ForEachHistory score.now (λ n h.
         OnOk result (Prints W.contents out.old out.new (rows.front form sheet.now h innings))) }
-    ensures failed { OnErr result (has_failed out.new ≡ true) }
+    ensures failed { TellsFailure result out.old out.new }
 {
     print_team(out, form, sheet, score, innings)?;
     print_runs(out, score, innings)?;
@@ -388,7 +388,7 @@ fn print_line<W: Sink, B: BookOf>(
     requires { innings < begun (history_of (B.content book.now)) }
     ensures text { OnOk result (Prints W.contents out.old out.new (rows.line form is_all (balls_of shown.now)
         sheet.now (B.innings_a_side book.now) (history_of (B.content book.now)) innings)) }
-    ensures failed { OnErr result (has_failed out.new ≡ true) }
+    ensures failed { TellsFailure result out.old out.new }
 {
     print_ahead(out, form, sheet, book.score(), innings)?;
     print_back(out, form, is_all, shown, sheet, book, innings)
@@ -406,7 +406,7 @@ fn print_line_in<W: Sink, B: BookOf>(
     requires { innings < begun (history_of (B.content book.now)) }
     ensures text { OnOk result (Prints W.contents out.old out.new
         (rows.line_in form sheet.now (B.innings_a_side book.now) (history_of (B.content book.now)) innings)) }
-    ensures failed { OnErr result (has_failed out.new ≡ true) }
+    ensures failed { TellsFailure result out.old out.new }
 {
     if is_fit(form, sheet, book, innings) {
         let over = overs_of(book).this;
@@ -427,7 +427,7 @@ fn print_limits_below<W: Sink, B: BookOf>(
     requires { innings < begun (history_of (B.content book.now)) }
     ensures text { OnOk result (Prints W.contents out.old out.new
         (rows.limits_below form sheet.now (history_of (B.content book.now)) innings)) }
-    ensures failed { OnErr result (has_failed out.new ≡ true) }
+    ensures failed { TellsFailure result out.old out.new }
 {
     let most = form.below(sheet.limits().overs_a_bowler());
     let bowler = overs_of(book).bowler();
@@ -445,7 +445,7 @@ fn print_innings<W: Sink, B: BookOf>(
     requires { innings < begun (history_of (B.content book.now)) }
     ensures text { OnOk result (Prints W.contents out.old out.new
         (rows.innings_row sheet.now (B.innings_a_side book.now) (history_of (B.content book.now)) innings)) }
-    ensures failed { OnErr result (has_failed out.new ≡ true) }
+    ensures failed { TellsFailure result out.old out.new }
 {
     let form = form_of(sheet, book, innings);
     let score = book.score();
@@ -469,7 +469,7 @@ pub fn print_row<W: Sink, B: BookOf>(
 ) -> Result<(), WriteFailed>
     ensures text { OnOk result (Prints W.contents out.old out.new
         (rows.row sheet.now (B.innings_a_side book.now) (history_of (B.content book.now)))) }
-    ensures failed { OnErr result (has_failed out.new ≡ true) }
+    ensures failed { TellsFailure result out.old out.new }
 {
     let begun = book.score().begun();
     if begun == 0 {

@@ -1,8 +1,8 @@
 //! The row of the batters, where the bowler's stands below it.
 
-ghost use Rattle.std.specs.Prelude.{◌≡◌, ◌<◌, OnErr, OnOk, true};
+ghost use Rattle.std.specs.Prelude.{◌≡◌, ◌<◌, OnOk};
 ghost use Rattle.match_laws.specs.Stands.{ForEachHistory, begun_in};
-ghost use Rattle.streams.specs.Watched.{Prints, has_failed};
+ghost use Rattle.streams.specs.Watched.{Prints, TellsFailure};
 ghost use Rattle.score_rows.specs.Fit as fit;
 ghost use Rattle.score_rows.specs.Row as rows;
 
@@ -25,7 +25,7 @@ pub fn print_above<W: Sink>(
     requires { innings < begun_in score.now }
     ensures text { ForEachHistory score.now (λ n h.
         OnOk result (Prints W.contents out.old out.new (rows.above form sheet.now h innings))) }
-    ensures failed { OnErr result (has_failed out.new ≡ true) }
+    ensures failed { TellsFailure result out.old out.new }
 {
     if !form.is_two() {
         return Ok(());
@@ -45,7 +45,7 @@ pub fn print_ahead<W: Sink>(
     requires { innings < begun_in score.now }
     ensures text { ForEachHistory score.now (λ n h.
         OnOk result (Prints W.contents out.old out.new (rows.ahead form sheet.now h innings))) }
-    ensures failed { OnErr result (has_failed out.new ≡ true) }
+    ensures failed { TellsFailure result out.old out.new }
 {
     if form.is_two() {
         return Ok(());

@@ -1,9 +1,9 @@
 //! Both cards of the innings begun last.
 
-ghost use Rattle.std.specs.Prelude.{◌≡◌, ◌<◌, OnErr, OnOk, true};
+ghost use Rattle.std.specs.Prelude.{◌<◌, OnOk};
 ghost use Rattle.match_laws.specs.History.{begun};
 ghost use Rattle.corrections.specs.CleanList.{history_of};
-ghost use Rattle.streams.specs.Watched.{Prints, has_failed};
+ghost use Rattle.streams.specs.Watched.{Prints, TellsFailure};
 ghost use Rattle.screen.specs.Both.{both_cards, cards_number, cards_of, headed_cards};
 
 use cards::{MatchSheet, batting_card, bowling_card};
@@ -27,7 +27,7 @@ fn print_innings<W: Sink, B: BookOf>(
     requires { innings < begun (history_of (B.content book.now)) }
     ensures text { OnOk result (Prints W.contents out.old out.new
         (cards_of sheet.now (history_of (B.content book.now)) innings)) }
-    ensures failed { OnErr result (has_failed out.new ≡ true) }
+    ensures failed { TellsFailure result out.old out.new }
 {
     let score = book.score();
     batting_card(sheet, score, innings, out)?;
@@ -44,7 +44,7 @@ fn print_headed<W: Sink, B: BookOf>(
     requires { innings < begun (history_of (B.content book.now)) }
     ensures text { OnOk result (Prints W.contents out.old out.new
         (headed_cards sheet.now (history_of (B.content book.now)) innings)) }
-    ensures failed { OnErr result (has_failed out.new ≡ true) }
+    ensures failed { TellsFailure result out.old out.new }
 {
     let score = book.score();
     write!(out, "{BATTING_HEAD}")?;
@@ -62,7 +62,7 @@ pub fn print_cards_of<W: Sink, B: BookOf>(
 ) -> Result<(), WriteFailed>
     ensures text { OnOk result (Prints W.contents out.old out.new
         (cards_number sheet.now (history_of (B.content book.now)) number)) }
-    ensures failed { OnErr result (has_failed out.new ≡ true) }
+    ensures failed { TellsFailure result out.old out.new }
 {
     let begun = book.score().begun();
     if number < 1 || number > begun {
@@ -79,7 +79,7 @@ pub fn print_cards<W: Sink, B: BookOf>(
 ) -> Result<(), WriteFailed>
     ensures text { OnOk result (Prints W.contents out.old out.new
         (both_cards sheet.now (history_of (B.content book.now)))) }
-    ensures failed { OnErr result (has_failed out.new ≡ true) }
+    ensures failed { TellsFailure result out.old out.new }
 {
     let begun = book.score().begun();
     if begun == 0 {

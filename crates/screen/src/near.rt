@@ -1,8 +1,8 @@
 //! What a scorer is told of a word that stands where another must.
 
-ghost use Rattle.std.specs.Prelude.{◌≡◌, ◌++◌, OnErr, OnOk, true};
+ghost use Rattle.std.specs.Prelude.{◌≡◌, ◌++◌, OnOk, true};
 ghost use Rattle.notation.specs.Written.{tokens};
-ghost use Rattle.streams.specs.Watched.{Prints, has_failed};
+ghost use Rattle.streams.specs.Watched.{Prints, TellsFailure};
 ghost use Rattle.screen.specs.Near as near;
 
 use notation::Tokens;
@@ -86,7 +86,7 @@ fn is_near(token: &str, word: &str) -> bool
 /// Prints a near word.
 fn print_word<W: Sink>(out: &mut Watched<W>, is_first: bool, word: &str) -> Result<(), WriteFailed>
     ensures text { OnOk result (Prints W.contents out.old out.new (near.before_near is_first ++ word.now)) }
-    ensures failed { OnErr result (has_failed out.new ≡ true) }
+    ensures failed { TellsFailure result out.old out.new }
 {
     if is_first {
         write!(out, "; near: {word}")
@@ -105,7 +105,7 @@ fn print_nearest<W: Sink>(
 ) -> Result<(), WriteFailed>
     ensures text { OnOk result (Prints W.contents out.old out.new
         (near.near_text is_first (near.nearest most token.now words.old))) }
-    ensures failed { OnErr result (has_failed out.new ≡ true) }
+    ensures failed { TellsFailure result out.old out.new }
 {
     let Some(word) = words.next() else {
         return Ok(());
@@ -132,7 +132,7 @@ fn vocabulary() -> &'static str
 fn print_all_near<W: Sink>(out: &mut Watched<W>, token: &str) -> Result<(), WriteFailed>
     ensures text { OnOk result (Prints W.contents out.old out.new
         (near.near_text true (near.nearest 3 token.now (tokens near.vocabulary)))) }
-    ensures failed { OnErr result (has_failed out.new ≡ true) }
+    ensures failed { TellsFailure result out.old out.new }
 {
     print_nearest(out, token, &mut Tokens::new(vocabulary()), MOST_NEAR, true)
 }
@@ -140,7 +140,7 @@ fn print_all_near<W: Sink>(out: &mut Watched<W>, token: &str) -> Result<(), Writ
 /// Prints that a word stands where another must, and up to three that are near it.
 pub fn print_unknown<W: Sink>(out: &mut Watched<W>, token: &str) -> Result<(), WriteFailed>
     ensures text { OnOk result (Prints W.contents out.old out.new (near.unknown_text token.now)) }
-    ensures failed { OnErr result (has_failed out.new ≡ true) }
+    ensures failed { TellsFailure result out.old out.new }
 {
     write!(out, "fault 2 UnknownWord: no word here is {token}")?;
     print_all_near(out, token)?;

@@ -1,10 +1,10 @@
 //! Both sides.
 
-ghost use Rattle.std.specs.Prelude.{◌≡◌, ◌<◌, ◌++◌, OnErr, OnOk, true};
+ghost use Rattle.std.specs.Prelude.{◌≡◌, ◌<◌, ◌++◌, OnOk, true};
 ghost use Rattle.std.specs.List.{list_all};
 ghost use Rattle.ball_laws.specs.Over.{numbers};
 ghost use Rattle.cards.specs.Sheet.{team_of};
-ghost use Rattle.streams.specs.Watched.{Prints, has_failed};
+ghost use Rattle.streams.specs.Watched.{Prints, TellsFailure};
 ghost use Rattle.screen.specs.Sides as sides;
 ghost use Rattle.notation.specs.Written.{is_player};
 
@@ -22,7 +22,7 @@ pub fn print_player<W: Sink>(
 ) -> Result<(), WriteFailed>
     ensures text { OnOk result (Prints W.contents out.old out.new
         (sides.comma is_first ++ sides.player_text (team_of sheet.now side) player)) }
-    ensures failed { OnErr result (has_failed out.new ≡ true) }
+    ensures failed { TellsFailure result out.old out.new }
 {
     let number = player.number();
     let name = sheet.player(side, player);
@@ -58,7 +58,7 @@ pub fn print_next<W: Sink>(
 ) -> Result<(), WriteFailed>
     ensures text { OnOk result (Prints W.contents out.old out.new
         (sides.before_player column ++ sides.player_text (team_of sheet.now side) player)) }
-    ensures failed { OnErr result (has_failed out.new ≡ true) }
+    ensures failed { TellsFailure result out.old out.new }
 {
     let before = before_player(column);
     write!(out, "{before}")?;
@@ -77,7 +77,7 @@ fn print_each<W: Sink>(
     requires numbers { list_all is_player numbers.now ≡ true }
     ensures text { OnOk result (Prints W.contents out.old out.new
         (sides.in_rows (team_of sheet.now side) column numbers.now)) }
-    ensures failed { OnErr result (has_failed out.new ≡ true) }
+    ensures failed { TellsFailure result out.old out.new }
 {
     let Some((number, more)) = numbers.split_first() else {
         return Ok(());
@@ -97,7 +97,7 @@ fn print_all<W: Sink>(
 ) -> Result<(), WriteFailed>
     ensures text { OnOk result (Prints W.contents out.old out.new
         (sides.in_rows (team_of sheet.now side) 0 numbers)) }
-    ensures failed { OnErr result (has_failed out.new ≡ true) }
+    ensures failed { TellsFailure result out.old out.new }
 {
     print_each(out, sheet, side, 0, &[1, 2, 3, 4, 5, 6, 7, 8, 9, 10, 11])
 }
@@ -108,7 +108,7 @@ fn print_side<W: Sink>(
     side: Side,
 ) -> Result<(), WriteFailed>
     ensures text { OnOk result (Prints W.contents out.old out.new (sides.team_rows (team_of sheet.now side))) }
-    ensures failed { OnErr result (has_failed out.new ≡ true) }
+    ensures failed { TellsFailure result out.old out.new }
 {
     let name = sheet.name(side);
     write!(out, "{name}:")?;
@@ -119,7 +119,7 @@ fn print_side<W: Sink>(
 /// Prints both sides, with the players' numbers and names, three in a row.
 pub fn print_sides<W: Sink>(out: &mut Watched<W>, sheet: &MatchSheet) -> Result<(), WriteFailed>
     ensures text { OnOk result (Prints W.contents out.old out.new (sides.both_sides sheet.now)) }
-    ensures failed { OnErr result (has_failed out.new ≡ true) }
+    ensures failed { TellsFailure result out.old out.new }
 {
     print_side(out, sheet, Side::Home)?;
     print_side(out, sheet, Side::Away)

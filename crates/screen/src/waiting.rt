@@ -1,12 +1,12 @@
 //! Who of the side that bats isn't out and isn't in.
 
-ghost use Rattle.std.specs.Prelude.{◌≡◌, ◌<◌, ◌++◌, OnErr, OnOk, codes, true};
+ghost use Rattle.std.specs.Prelude.{◌≡◌, ◌<◌, ◌++◌, OnOk, codes, true};
 ghost use Rattle.std.specs.List.{list_all};
 ghost use Rattle.match_laws.specs.History.{begun};
 ghost use Rattle.match_laws.specs.Stands.{ForEachHistory, begun_in};
 ghost use Rattle.corrections.specs.CleanList.{history_of};
 ghost use Rattle.cards.specs.Sheet.{name_of};
-ghost use Rattle.streams.specs.Watched.{Prints, has_failed};
+ghost use Rattle.streams.specs.Watched.{Prints, TellsFailure};
 ghost use Rattle.screen.specs.Waiting as waiting;
 ghost use Rattle.notation.specs.Written.{is_player};
 
@@ -38,7 +38,7 @@ fn print_those<W: Sink>(
     requires numbers { list_all is_player numbers.now ≡ true }
     ensures text { ForEachHistory score.now (λ n h. OnOk result (Prints W.contents out.old out.new
         (waiting.waiting sheet.now h innings column numbers.now))) }
-    ensures failed { OnErr result (has_failed out.new ≡ true) }
+    ensures failed { TellsFailure result out.old out.new }
 {
     let Some((number, more)) = numbers.split_first() else {
         return Ok(());
@@ -64,7 +64,7 @@ fn print_all<W: Sink>(
     requires { innings < begun_in score.now }
     ensures text { ForEachHistory score.now (λ n h. OnOk result (Prints W.contents out.old out.new
         (waiting.all_waiting sheet.now h innings))) }
-    ensures failed { OnErr result (has_failed out.new ≡ true) }
+    ensures failed { TellsFailure result out.old out.new }
 {
     let all = [1, 2, 3, 4, 5, 6, 7, 8, 9, 10, 11];
     print_those(out, sheet, score, innings, 0, &all)
@@ -77,7 +77,7 @@ fn print_head<W: Sink>(
     side: Side,
 ) -> Result<(), WriteFailed>
     ensures text { OnOk result (Prints W.contents out.old out.new (name_of sheet.now side ++ codes ":")) }
-    ensures failed { OnErr result (has_failed out.new ≡ true) }
+    ensures failed { TellsFailure result out.old out.new }
 {
     let team = sheet.name(side);
     write!(out, "{team}:")
@@ -93,7 +93,7 @@ fn print_lines<W: Sink, B: BookOf>(
     requires { innings < begun (history_of (B.content book.now)) }
     ensures text { OnOk result (Prints W.contents out.old out.new
         (waiting.waiting_lines sheet.now (history_of (B.content book.now)) innings)) }
-    ensures failed { OnErr result (has_failed out.new ≡ true) }
+    ensures failed { TellsFailure result out.old out.new }
 {
     let score = book.score();
     print_head(out, sheet, score.side(innings))?;
@@ -109,7 +109,7 @@ pub fn print_waiting<W: Sink, B: BookOf>(
 ) -> Result<(), WriteFailed>
     ensures text { OnOk result (Prints W.contents out.old out.new
         (waiting.who_waits sheet.now (history_of (B.content book.now)))) }
-    ensures failed { OnErr result (has_failed out.new ≡ true) }
+    ensures failed { TellsFailure result out.old out.new }
 {
     let begun = book.score().begun();
     if begun == 0 {

@@ -1,7 +1,7 @@
 //! What a desk's scorer is told of what comes, and of the other desk.
 
-ghost use Rattle.std.specs.Prelude.{◌≡◌, true, IfSome, OnErr, OnOk};
-ghost use Rattle.streams.specs.Watched.{Prints, has_failed};
+ghost use Rattle.std.specs.Prelude.{IfSome, OnOk};
+ghost use Rattle.streams.specs.Watched.{Prints, TellsFailure};
 ghost use Rattle.notation.specs.Written.{IsEntry};
 ghost use Rattle.station_texts.specs.Texts as texts;
 
@@ -22,7 +22,7 @@ fn print_warning<W: Sink>(
     text: &str,
 ) -> Result<(), WriteFailed>
     ensures text { OnOk result (Prints W.contents out.old out.new (texts.warning is_told text.now)) }
-    ensures failed { OnErr result (has_failed out.new ≡ true) }
+    ensures failed { TellsFailure result out.old out.new }
 {
     if is_told {
         return Ok(());
@@ -38,7 +38,7 @@ fn print_bad<W: Sink>(
 ) -> Result<(), WriteFailed>
     ensures text { OnOk result (Prints W.contents out.old out.new
         (texts.warning is_told (texts.bad_text fault))) }
-    ensures failed { OnErr result (has_failed out.new ≡ true) }
+    ensures failed { TellsFailure result out.old out.new }
 {
     if is_told {
         return Ok(());
@@ -50,7 +50,7 @@ fn print_bad<W: Sink>(
 /// Prints that the other desk's file lacks lines, where what came shows it, unless it was told.
 fn print_loss<W: Sink>(out: &mut Watched<W>, warned: Warned, loss: bool) -> Result<(), WriteFailed>
     ensures text { OnOk result (Prints W.contents out.old out.new (texts.loss_text warned loss)) }
-    ensures failed { OnErr result (has_failed out.new ≡ true) }
+    ensures failed { TellsFailure result out.old out.new }
 {
     if loss {
         return print_warning(
@@ -77,7 +77,7 @@ fn print_heard<B: BookOf, W: Sink>(
     requires other { IfSome both.other IsEntry }
     ensures text { OnOk result (Prints W.contents out.old out.new
         (texts.heard_text sheet.now (B.innings_a_side book.now) place both.own both.other (B.content book.now) warned loss heard)) }
-    ensures failed { OnErr result (has_failed out.new ≡ true) }
+    ensures failed { TellsFailure result out.old out.new }
 {
     match heard {
         Heard::Agreed => print_agreed(out, sheet, place, book),
@@ -105,7 +105,7 @@ fn print_news<B: BookOf, W: Sink>(
     requires other { IfSome both.other IsEntry }
     ensures text { OnOk result (Prints W.contents out.old out.new
         (texts.came_text sheet.now (B.innings_a_side book.now) place both.own both.other (B.content book.now) warned loss what)) }
-    ensures failed { OnErr result (has_failed out.new ≡ true) }
+    ensures failed { TellsFailure result out.old out.new }
 {
     match what {
         What::Bad(fault) => print_bad(out, warned.of_bytes, fault),
@@ -130,7 +130,7 @@ pub fn print_came<B: BookOf, W: Sink>(
     requires other { IfSome both.other IsEntry }
     ensures text { OnOk result (Prints W.contents out.old out.new
         (texts.came_text sheet.now (B.innings_a_side book.now) place both.own both.other (B.content book.now) warned loss what)) }
-    ensures failed { OnErr result (has_failed out.new ≡ true) }
+    ensures failed { TellsFailure result out.old out.new }
 {
     print_news(out, sheet, place, warned, both, loss, what, book)?;
     out.flush()
@@ -139,7 +139,7 @@ pub fn print_came<B: BookOf, W: Sink>(
 /// Tells the scorer at once that bytes came that don't open, unless it was told.
 pub fn print_unopened<W: Sink>(out: &mut Watched<W>, warned: Warned) -> Result<(), WriteFailed>
     ensures text { OnOk result (Prints W.contents out.old out.new (texts.unopened_text warned)) }
-    ensures failed { OnErr result (has_failed out.new ≡ true) }
+    ensures failed { TellsFailure result out.old out.new }
 {
     print_warning(out, warned.of_seal, "peer: another sheet or another key\n")?;
     out.flush()
@@ -152,7 +152,7 @@ fn print_of_other<W: Sink>(
     reminder: Reminder,
 ) -> Result<(), WriteFailed>
     ensures text { OnOk result (Prints W.contents out.old out.new (texts.reminder_text place reminder)) }
-    ensures failed { OnErr result (has_failed out.new ≡ true) }
+    ensures failed { TellsFailure result out.old out.new }
 {
     match reminder {
         Reminder::HasWritten => print_at(out, place, "the other has written"),
@@ -168,7 +168,7 @@ pub fn print_reminder<W: Sink>(
     reminder: Reminder,
 ) -> Result<(), WriteFailed>
     ensures text { OnOk result (Prints W.contents out.old out.new (texts.reminder_text place reminder)) }
-    ensures failed { OnErr result (has_failed out.new ≡ true) }
+    ensures failed { TellsFailure result out.old out.new }
 {
     print_of_other(out, place, reminder)?;
     out.flush()

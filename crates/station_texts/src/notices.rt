@@ -1,7 +1,7 @@
 //! What a board tells of what it can't take.
 
-ghost use Rattle.std.specs.Prelude.{◌≡◌, ◌∷◌, ◌++◌, [], List, OnErr, OnOk, true};
-ghost use Rattle.streams.specs.Watched.{Prints, has_failed};
+ghost use Rattle.std.specs.Prelude.{◌≡◌, ◌∷◌, ◌++◌, [], List, OnOk};
+ghost use Rattle.streams.specs.Watched.{Prints, TellsFailure};
 ghost use Rattle.station_texts.specs.Notices as texts;
 
 use crate::warned::Warned;
@@ -38,7 +38,7 @@ pub trait Notices {
 /// Prints a notice, on a line of its own.
 pub fn print_notice<W: Sink>(out: &mut Watched<W>, notice: Notice) -> Result<(), WriteFailed>
     ensures text { OnOk result (Prints W.contents out.old out.new (texts.notice_text notice)) }
-    ensures failed { OnErr result (has_failed out.new ≡ true) }
+    ensures failed { TellsFailure result out.old out.new }
 {
     match notice {
         Notice::Bytes(fault) => {

@@ -1,8 +1,8 @@
 //! What is told of a plan.
 
-ghost use Rattle.std.specs.Prelude.{◌≡◌, ◌++◌, codes, true, All, OnErr, OnOk};
+ghost use Rattle.std.specs.Prelude.{◌++◌, codes, All, OnOk};
 ghost use Rattle.notation.specs.Written.{IsEntry, IsPlain, text_of};
-ghost use Rattle.streams.specs.Watched.{Prints, has_failed};
+ghost use Rattle.streams.specs.Watched.{Prints, TellsFailure};
 ghost use Rattle.plan_words.specs.Planning.{IsFinePlan, IsFinePlanned};
 ghost use Rattle.station_texts.specs.Laters.{later_words};
 ghost use Rattle.station_texts.specs.Planning as planning;
@@ -21,7 +21,7 @@ use streams::{Sink, Watched, WriteFailed};
 fn print_row<W: Sink>(out: &mut Watched<W>, entry: &Entry) -> Result<(), WriteFailed>
     requires { IsEntry entry.now }
     ensures text { OnOk result (Prints W.contents out.old out.new (text_of entry.now ++ codes "\n")) }
-    ensures failed { OnErr result (has_failed out.new ≡ true) }
+    ensures failed { TellsFailure result out.old out.new }
 {
     let line = line_of(entry);
     let words = line.as_str();
@@ -32,7 +32,7 @@ fn print_row<W: Sink>(out: &mut Watched<W>, entry: &Entry) -> Result<(), WriteFa
 fn print_rows<W: Sink>(out: &mut Watched<W>, entries: &[Entry]) -> Result<(), WriteFailed>
     requires { All IsEntry entries.now }
     ensures text { OnOk result (Prints W.contents out.old out.new (planning.rows entries.now)) }
-    ensures failed { OnErr result (has_failed out.new ≡ true) }
+    ensures failed { TellsFailure result out.old out.new }
 {
     let Some((entry, more)) = entries.split_first() else {
         return Ok(());
@@ -44,7 +44,7 @@ fn print_rows<W: Sink>(out: &mut Watched<W>, entries: &[Entry]) -> Result<(), Wr
 /// Prints how many lines they are, of more than a desk holds.
 fn print_many<W: Sink>(out: &mut Watched<W>, count: usize) -> Result<(), WriteFailed>
     ensures text { OnOk result (Prints W.contents out.old out.new (planning.many_text count)) }
-    ensures failed { OnErr result (has_failed out.new ≡ true) }
+    ensures failed { TellsFailure result out.old out.new }
 {
     if count > 24 {
         writeln!(out, "{count} lines: paste 24 at most at once")
@@ -57,7 +57,7 @@ fn print_many<W: Sink>(out: &mut Watched<W>, count: usize) -> Result<(), WriteFa
 fn print_lines<W: Sink>(out: &mut Watched<W>, lines: &[Entry]) -> Result<(), WriteFailed>
     requires { All IsEntry lines.now }
     ensures text { OnOk result (Prints W.contents out.old out.new (planning.lines_text lines.now)) }
-    ensures failed { OnErr result (has_failed out.new ≡ true) }
+    ensures failed { TellsFailure result out.old out.new }
 {
     if lines.is_empty() {
         return writeln!(out, "nothing is to be corrected");
@@ -69,7 +69,7 @@ fn print_lines<W: Sink>(out: &mut Watched<W>, lines: &[Entry]) -> Result<(), Wri
 /// Prints words.
 fn print_words<W: Sink>(out: &mut Watched<W>, words: &str) -> Result<(), WriteFailed>
     ensures text { OnOk result (Prints W.contents out.old out.new words.now) }
-    ensures failed { OnErr result (has_failed out.new ≡ true) }
+    ensures failed { TellsFailure result out.old out.new }
 {
     write!(out, "{words}")
 }
@@ -79,7 +79,7 @@ fn print_unnamed<W: Sink>(out: &mut Watched<W>, entry: &Entry) -> Result<(), Wri
     requires { IsEntry entry.now }
     ensures text { OnOk result (Prints W.contents out.old out.new
         (codes "no plan: this corrects and follows no entry of the book:\n  " ++ text_of entry.now ++ codes "\n")) }
-    ensures failed { OnErr result (has_failed out.new ≡ true) }
+    ensures failed { TellsFailure result out.old out.new }
 {
     print_words(
         out,
@@ -97,7 +97,7 @@ fn print_against<W: Sink>(
     requires { IsPlain placed.now.item }
     ensures text { OnOk result (Prints W.contents out.old out.new
         (codes "no plan" ++ later_words placed.now.place placed.now.item why)) }
-    ensures failed { OnErr result (has_failed out.new ≡ true) }
+    ensures failed { TellsFailure result out.old out.new }
 {
     print_words(out, "no plan")?;
     print_later_words(out, placed.place, placed.item, why)
@@ -107,7 +107,7 @@ fn print_against<W: Sink>(
 fn print_plan<W: Sink>(out: &mut Watched<W>, plan: &Plan) -> Result<(), WriteFailed>
     requires { IsFinePlan plan.now }
     ensures text { OnOk result (Prints W.contents out.old out.new (planning.plan_text plan.now)) }
-    ensures failed { OnErr result (has_failed out.new ≡ true) }
+    ensures failed { TellsFailure result out.old out.new }
 {
     match plan {
         Plan::Lines(lines) => print_lines(out, lines),
@@ -130,7 +130,7 @@ pub fn print_planned<B: BookOf, W: Sink>(
     requires { IsFinePlanned planned.now }
     ensures text { OnOk result (Prints W.contents out.old out.new
         (planning.planned_text sheet.now (B.content book.now) planned.now)) }
-    ensures failed { OnErr result (has_failed out.new ≡ true) }
+    ensures failed { TellsFailure result out.old out.new }
 {
     match planned {
         Planned::Plan(plan) => print_plan(out, plan),

@@ -1,10 +1,10 @@
 //! What a scorer is told of a line that isn't clear or has a fault.
 
-ghost use Rattle.std.specs.Prelude.{◌≡◌, ◌++◌, codes, true, filter, OnErr, OnOk};
+ghost use Rattle.std.specs.Prelude.{◌≡◌, ◌++◌, codes, true, filter, OnOk};
 ghost use Rattle.std.specs.List.{list_all};
 ghost use Rattle.cards.specs.Sheet.{team_of};
 ghost use Rattle.shorthand.specs.Candidates.{candidates, has_beginning};
-ghost use Rattle.streams.specs.Watched.{Prints, has_failed};
+ghost use Rattle.streams.specs.Watched.{Prints, TellsFailure};
 ghost use Rattle.notation.specs.Written.{is_player};
 ghost use Rattle.screen.specs.Sides.{listed};
 ghost use Rattle.station_texts.specs.Questions as questions;
@@ -18,7 +18,7 @@ use streams::{Sink, Watched, WriteFailed};
 /// Prints a line's fault.
 fn print_fault<W: Sink>(out: &mut Watched<W>, fault: LineFault) -> Result<(), WriteFailed>
     ensures text { OnOk result (Prints W.contents out.old out.new (questions.fault_text fault)) }
-    ensures failed { OnErr result (has_failed out.new ≡ true) }
+    ensures failed { TellsFailure result out.old out.new }
 {
     let code = fault.number();
     let sentence = fault_sentence(fault);
@@ -38,7 +38,7 @@ fn print_those<W: Sink>(
     ensures text { OnOk result (Prints W.contents out.old out.new
         (listed (team_of sheet.now side) is_first
         (filter (λ n. has_beginning (team_of sheet.now side) beginning.now n) numbers.now))) }
-    ensures failed { OnErr result (has_failed out.new ≡ true) }
+    ensures failed { TellsFailure result out.old out.new }
 {
     let Some((number, more)) = numbers.split_first() else {
         return Ok(());
@@ -62,7 +62,7 @@ fn print_all<W: Sink>(
 ) -> Result<(), WriteFailed>
     ensures text { OnOk result (Prints W.contents out.old out.new
         (listed (team_of sheet.now side) true (candidates (team_of sheet.now side) name.now))) }
-    ensures failed { OnErr result (has_failed out.new ≡ true) }
+    ensures failed { TellsFailure result out.old out.new }
 {
     let numbers = [1, 2, 3, 4, 5, 6, 7, 8, 9, 10, 11];
     print_those(out, sheet, side, name, &numbers, true)
@@ -79,7 +79,7 @@ fn print_candidates<W: Sink>(
         (codes "which one? "
         ++ listed (team_of sheet.now side) true (candidates (team_of sheet.now side) name.now)
         ++ codes "\n")) }
-    ensures failed { OnErr result (has_failed out.new ≡ true) }
+    ensures failed { TellsFailure result out.old out.new }
 {
     write!(out, "which one? ")?;
     print_all(out, sheet, side, name)?;
@@ -90,7 +90,7 @@ fn print_candidates<W: Sink>(
 fn print_no_such<W: Sink>(out: &mut Watched<W>, name: &str) -> Result<(), WriteFailed>
     ensures text { OnOk result (Prints W.contents out.old out.new
         (codes "no such player: " ++ name.now ++ codes "\n")) }
-    ensures failed { OnErr result (has_failed out.new ≡ true) }
+    ensures failed { TellsFailure result out.old out.new }
 {
     writeln!(out, "no such player: {name}")
 }
@@ -99,7 +99,7 @@ fn print_no_such<W: Sink>(out: &mut Watched<W>, name: &str) -> Result<(), WriteF
 fn print_no_such_ball<W: Sink>(out: &mut Watched<W>, name: &str) -> Result<(), WriteFailed>
     ensures text { OnOk result (Prints W.contents out.old out.new
         (codes "no such ball: " ++ name.now ++ codes "\n")) }
-    ensures failed { OnErr result (has_failed out.new ≡ true) }
+    ensures failed { TellsFailure result out.old out.new }
 {
     writeln!(out, "no such ball: {name}")
 }
@@ -107,7 +107,7 @@ fn print_no_such_ball<W: Sink>(out: &mut Watched<W>, name: &str) -> Result<(), W
 /// Prints both meanings of a letter.
 fn print_meanings<W: Sink>(out: &mut Watched<W>, letter: Letter) -> Result<(), WriteFailed>
     ensures text { OnOk result (Prints W.contents out.old out.new (questions.meanings letter)) }
-    ensures failed { OnErr result (has_failed out.new ≡ true) }
+    ensures failed { TellsFailure result out.old out.new }
 {
     match letter {
         Letter::B => writeln!(out, "b: byes are b1, b2, .., a wicket is bowled"),
@@ -123,7 +123,7 @@ fn print_no_fielder<W: Sink>(
 ) -> Result<(), WriteFailed>
     ensures text { OnOk result (Prints W.contents out.old out.new
         (questions.way_text how ++ codes " has no fielder: " ++ name.now ++ codes " bowls?\n")) }
-    ensures failed { OnErr result (has_failed out.new ≡ true) }
+    ensures failed { TellsFailure result out.old out.new }
 {
     match how {
         Unaided::Bowled => writeln!(out, "bowled has no fielder: {name} bowls?"),
@@ -138,7 +138,7 @@ pub fn print_unclear<W: Sink>(
     unclear: &Unclear,
 ) -> Result<(), WriteFailed>
     ensures text { OnOk result (Prints W.contents out.old out.new (questions.unclear_text sheet.now unclear.now)) }
-    ensures failed { OnErr result (has_failed out.new ≡ true) }
+    ensures failed { TellsFailure result out.old out.new }
 {
     match unclear {
         Unclear::Fault(fault) => print_fault(out, *fault),

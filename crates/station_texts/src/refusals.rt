@@ -1,7 +1,7 @@
 //! Why a desk refuses an entry, as its scorer is told.
 
-ghost use Rattle.std.specs.Prelude.{◌++◌, codes, OnErr, OnOk, ◌≡◌, true};
-ghost use Rattle.streams.specs.Watched.{Prints, has_failed};
+ghost use Rattle.std.specs.Prelude.{◌++◌, codes, OnOk};
+ghost use Rattle.streams.specs.Watched.{Prints, TellsFailure};
 ghost use Rattle.notation.specs.Written.{IsEntry, IsPlain};
 ghost use Rattle.changes.specs.Before.{item_with};
 ghost use Rattle.desk.specs.Refusal.{name_of, number_of};
@@ -22,7 +22,7 @@ use streams::{Sink, Watched, WriteFailed};
 fn print_explained<W: Sink>(out: &mut Watched<W>, why: Refusal) -> Result<(), WriteFailed>
     ensures text { OnOk result (Prints W.contents out.old out.new
         (explained (codes "refused") (number_of why) (name_of why) (of_desk why))) }
-    ensures failed { OnErr result (has_failed out.new ≡ true) }
+    ensures failed { TellsFailure result out.old out.new }
 {
     let code = why.number();
     let sentence = refusal_sentence(why);
@@ -32,7 +32,7 @@ fn print_explained<W: Sink>(out: &mut Watched<W>, why: Refusal) -> Result<(), Wr
 /// Prints why an entry is refused. A failed disk isn't told here.
 pub fn print_refused<W: Sink>(out: &mut Watched<W>, why: Refusal) -> Result<(), WriteFailed>
     ensures text { OnOk result (Prints W.contents out.old out.new (texts.refused_text why)) }
-    ensures failed { OnErr result (has_failed out.new ≡ true) }
+    ensures failed { TellsFailure result out.old out.new }
 {
     match why {
         Refusal::Failed | Refusal::Device => Ok(()),
@@ -51,7 +51,7 @@ fn print_later_numbers<W: Sink>(
     why: LawRefusal,
 ) -> Result<(), WriteFailed>
     ensures text { OnOk result (Prints W.contents out.old out.new (laters.later_numbers place why)) }
-    ensures failed { OnErr result (has_failed out.new ≡ true) }
+    ensures failed { TellsFailure result out.old out.new }
 {
     let cause = why.number();
     write!(out, "refused 32 Later {place} {cause}")
@@ -66,7 +66,7 @@ pub fn print_later_words<W: Sink>(
 ) -> Result<(), WriteFailed>
     requires { IsPlain item }
     ensures text { OnOk result (Prints W.contents out.old out.new (laters.later_words place item why)) }
-    ensures failed { OnErr result (has_failed out.new ≡ true) }
+    ensures failed { TellsFailure result out.old out.new }
 {
     let line = line_of(&Entry::Write(item));
     let words = line.as_str();
@@ -85,7 +85,7 @@ fn print_later<B: BookOf, W: Sink>(
     requires { IsEntry entry.now }
     ensures text { OnOk result (Prints W.contents out.old out.new (laters.later_numbers place why
         ++ laters.later_words place (item_with (B.content book.now) entry.now place) why)) }
-    ensures failed { OnErr result (has_failed out.new ≡ true) }
+    ensures failed { TellsFailure result out.old out.new }
 {
     let item = item_with(book, entry, place);
     print_later_numbers(out, place, why)?;
@@ -102,7 +102,7 @@ pub fn print_refused_entry<B: BookOf, W: Sink>(
     requires { IsEntry entry.now }
     ensures text { OnOk result (Prints W.contents out.old out.new
         (texts.refused_entry (B.content book.now) entry.now why)) }
-    ensures failed { OnErr result (has_failed out.new ≡ true) }
+    ensures failed { TellsFailure result out.old out.new }
 {
     match why {
         Refusal::Book(corrections::Refusal::Later { place, why }) => {

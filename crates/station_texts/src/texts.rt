@@ -1,7 +1,7 @@
 //! What a desk's scorer is told.
 
-ghost use Rattle.std.specs.Prelude.{◌≡◌, true, slice_get, IfSome, OnErr, OnOk};
-ghost use Rattle.streams.specs.Watched.{Prints, has_failed};
+ghost use Rattle.std.specs.Prelude.{◌≡◌, slice_get, IfSome, OnOk};
+ghost use Rattle.streams.specs.Watched.{Prints, TellsFailure};
 ghost use Rattle.notation.specs.Written.{IsEntry};
 ghost use Rattle.match_laws.specs.Stands.{ForEachHistory};
 ghost use Rattle.corrections.specs.CleanList.{history_of};
@@ -30,7 +30,7 @@ use streams::{Sink, Watched, WriteFailed};
 /// Prints a place, and what is told of it.
 pub fn print_at<W: Sink>(out: &mut Watched<W>, place: u32, words: &str) -> Result<(), WriteFailed>
     ensures text { OnOk result (Prints W.contents out.old out.new (texts.at_place place words.now)) }
-    ensures failed { OnErr result (has_failed out.new ≡ true) }
+    ensures failed { TellsFailure result out.old out.new }
 {
     writeln!(out, "{place} {words}")
 }
@@ -46,7 +46,7 @@ fn is_over(entry: &Entry) -> bool
 fn print_called<W: Sink>(out: &mut Watched<W>, score: &Match) -> Result<(), WriteFailed>
     ensures text { ForEachHistory score.now (λ n h.
         OnOk result (Prints W.contents out.old out.new (texts.over_called h))) }
-    ensures failed { OnErr result (has_failed out.new ≡ true) }
+    ensures failed { TellsFailure result out.old out.new }
 {
     let begun = score.begun();
     if begun == 0 {
@@ -61,7 +61,7 @@ fn print_line<W: Sink>(out: &mut Watched<W>, place: u32, entry: &Entry) -> Resul
     requires { IsEntry entry.now }
     ensures text { OnOk result (Prints W.contents out.old out.new
         (texts.agreed_line place entry.now)) }
-    ensures failed { OnErr result (has_failed out.new ≡ true) }
+    ensures failed { TellsFailure result out.old out.new }
 {
     let line = line_of(entry);
     let words = line.as_str();
@@ -80,7 +80,7 @@ fn print_over<B: BookOf, W: Sink>(
     requires { IsEntry entry.now }
     ensures text { OnOk result (Prints W.contents out.old out.new
         (texts.over_agreed sheet.now (B.innings_a_side book.now) place (history_of (B.content book.now)) entry.now)) }
-    ensures failed { OnErr result (has_failed out.new ≡ true) }
+    ensures failed { TellsFailure result out.old out.new }
 {
     let score = book.score();
     print_line(out, place, entry)?;
@@ -102,7 +102,7 @@ fn print_play<B: BookOf, W: Sink>(
     requires { IsEntry entry.now }
     ensures text { OnOk result (Prints W.contents out.old out.new
         (texts.play_agreed sheet.now (B.innings_a_side book.now) place (history_of (B.content book.now)) entry.now)) }
-    ensures failed { OnErr result (has_failed out.new ≡ true) }
+    ensures failed { TellsFailure result out.old out.new }
 {
     print_line(out, place, entry)?;
     writeln!(out)?;
@@ -120,7 +120,7 @@ fn print_entry<B: BookOf, W: Sink>(
     requires { IsEntry entry.now }
     ensures text { OnOk result (Prints W.contents out.old out.new
         (texts.agreed_entry sheet.now (B.innings_a_side book.now) place (history_of (B.content book.now)) entry.now)) }
-    ensures failed { OnErr result (has_failed out.new ≡ true) }
+    ensures failed { TellsFailure result out.old out.new }
 {
     if is_over(entry) {
         print_over(out, sheet, place, entry, book)
@@ -152,7 +152,7 @@ fn print_agreed_at<B: BookOf, W: Sink>(
     ensures text { OnOk result (Prints W.contents out.old out.new
         (texts.agreed_at sheet.now (B.innings_a_side book.now) place (history_of (B.content book.now))
         (slice_get (B.content book.now) place))) }
-    ensures failed { OnErr result (has_failed out.new ≡ true) }
+    ensures failed { TellsFailure result out.old out.new }
 {
     match entry_at(book, place) {
         None => Ok(()),
@@ -169,7 +169,7 @@ pub fn print_agreed<B: BookOf, W: Sink>(
 ) -> Result<(), WriteFailed>
     ensures text { OnOk result (Prints W.contents out.old out.new
         (texts.agreed sheet.now (B.innings_a_side book.now) place (B.content book.now))) }
-    ensures failed { OnErr result (has_failed out.new ≡ true) }
+    ensures failed { TellsFailure result out.old out.new }
 {
     print_agreed_at(out, sheet, place, book)?;
     print_last_changes(out, sheet, book)
@@ -183,7 +183,7 @@ fn print_pending<W: Sink>(
 ) -> Result<(), WriteFailed>
     requires { IsEntry entry.now }
     ensures text { OnOk result (Prints W.contents out.old out.new (texts.pending place entry.now)) }
-    ensures failed { OnErr result (has_failed out.new ≡ true) }
+    ensures failed { TellsFailure result out.old out.new }
 {
     let line = line_of(entry);
     let words = line.as_str();
@@ -200,7 +200,7 @@ pub fn print_differs<W: Sink>(
     requires other { IfSome both.other IsEntry }
     ensures text { OnOk result (Prints W.contents out.old out.new
         (texts.differs_text place both.own both.other)) }
-    ensures failed { OnErr result (has_failed out.new ≡ true) }
+    ensures failed { TellsFailure result out.old out.new }
 {
     match (both.own, both.other) {
         (Some(own), Some(other)) => {
@@ -229,7 +229,7 @@ fn print_settled<B: BookOf, W: Sink>(
     requires other { IfSome other IsEntry }
     ensures text { OnOk result (Prints W.contents out.old out.new
         (texts.settled_text sheet.now (B.innings_a_side book.now) place other (B.content book.now) entry.now settled)) }
-    ensures failed { OnErr result (has_failed out.new ≡ true) }
+    ensures failed { TellsFailure result out.old out.new }
 {
     match settled {
         Settled::Pending => print_pending(out, place, entry),
@@ -257,7 +257,7 @@ fn why_full(at: Position) -> Option<Refusal>
 /// Prints where a desk stands whose vote of this position isn't cast.
 fn print_open<W: Sink>(out: &mut Watched<W>, at: Position) -> Result<(), WriteFailed>
     ensures text { OnOk result (Prints W.contents out.old out.new (texts.open_text at (texts.why_full at))) }
-    ensures failed { OnErr result (has_failed out.new ≡ true) }
+    ensures failed { TellsFailure result out.old out.new }
 {
     match why_full(at) {
         Some(why) => print_at(out, at.place, refusal_sentence(why)),
@@ -279,7 +279,7 @@ fn print_place<W: Sink>(
 ) -> Result<(), WriteFailed>
     requires { IfSome own IsEntry }
     ensures text { OnOk result (Prints W.contents out.old out.new (texts.place_text at own)) }
-    ensures failed { OnErr result (has_failed out.new ≡ true) }
+    ensures failed { TellsFailure result out.old out.new }
 {
     match own {
         Some(entry) => print_pending(out, at.place, &entry),
@@ -298,7 +298,7 @@ pub fn print_greeting<B: BookOf, W: Sink>(
     requires { IfSome own IsEntry }
     ensures text { OnOk result (Prints W.contents out.old out.new
         (texts.greeting sheet.now (B.innings_a_side book.now) (B.content book.now) at own)) }
-    ensures failed { OnErr result (has_failed out.new ≡ true) }
+    ensures failed { TellsFailure result out.old out.new }
 {
     print_row(out, sheet, book)?;
     print_place(out, at, own)
@@ -311,7 +311,7 @@ fn print_other<W: Sink>(
     is_waited_for: bool,
 ) -> Result<(), WriteFailed>
     ensures text { OnOk result (Prints W.contents out.old out.new (texts.other_text place is_waited_for)) }
-    ensures failed { OnErr result (has_failed out.new ≡ true) }
+    ensures failed { TellsFailure result out.old out.new }
 {
     if is_waited_for {
         print_at(out, place, "the other has written")
@@ -323,7 +323,7 @@ fn print_other<W: Sink>(
 /// Prints that the other desk isn't heard, where that was told and it wasn't heard since.
 fn print_silence<W: Sink>(out: &mut Watched<W>, is_silent: bool) -> Result<(), WriteFailed>
     ensures text { OnOk result (Prints W.contents out.old out.new (texts.silence_text is_silent)) }
-    ensures failed { OnErr result (has_failed out.new ≡ true) }
+    ensures failed { TellsFailure result out.old out.new }
 {
     if is_silent {
         writeln!(out, "the other desk isn't heard")
@@ -345,7 +345,7 @@ fn print_standing<B: BookOf, W: Sink>(
     requires { IfSome own IsEntry }
     ensures text { OnOk result (Prints W.contents out.old out.new
         (texts.standing sheet.now (B.innings_a_side book.now) (B.content book.now) at own is_waited_for is_silent)) }
-    ensures failed { OnErr result (has_failed out.new ≡ true) }
+    ensures failed { TellsFailure result out.old out.new }
 {
     let place = at.place;
     print_greeting(out, sheet, at, own, book)?;
@@ -367,7 +367,7 @@ fn print_asked<B: BookOf, W: Sink>(
     requires { IfSome own IsEntry }
     ensures text { OnOk result (Prints W.contents out.old out.new
         (texts.word_text sheet.now (B.innings_a_side book.now) at own is_waited_for is_silent (B.content book.now) word)) }
-    ensures failed { OnErr result (has_failed out.new ≡ true) }
+    ensures failed { TellsFailure result out.old out.new }
 {
     match word {
         Word::Where => print_standing(out, sheet, at, own, is_waited_for, is_silent, book),
@@ -395,7 +395,7 @@ fn print_asked<B: BookOf, W: Sink>(
 /// Prints that a line must begin with `again`, where the scorers differed at this position, or why that would be in vain.
 fn print_again<W: Sink>(out: &mut Watched<W>, at: Position) -> Result<(), WriteFailed>
     ensures text { OnOk result (Prints W.contents out.old out.new (texts.again_text at (texts.why_full at))) }
-    ensures failed { OnErr result (has_failed out.new ≡ true) }
+    ensures failed { TellsFailure result out.old out.new }
 {
     match why_full(at) {
         Some(why) => print_refused(out, why),
@@ -419,7 +419,7 @@ fn print_answer<B: BookOf, W: Sink>(
     requires other { IfSome both.other IsEntry }
     ensures text { OnOk result (Prints W.contents out.old out.new
         (texts.said_text sheet.now (B.innings_a_side book.now) at both.own both.other is_silent (B.content book.now) said.now)) }
-    ensures failed { OnErr result (has_failed out.new ≡ true) }
+    ensures failed { TellsFailure result out.old out.new }
 {
     match said {
         Said::Quit => Ok(()),
@@ -468,7 +468,7 @@ pub fn print_said<B: BookOf, W: Sink>(
     requires other { IfSome both.other IsEntry }
     ensures text { OnOk result (Prints W.contents out.old out.new
         (texts.said_text sheet.now (B.innings_a_side book.now) at both.own both.other is_silent (B.content book.now) said.now)) }
-    ensures failed { OnErr result (has_failed out.new ≡ true) }
+    ensures failed { TellsFailure result out.old out.new }
 {
     print_answer(out, sheet, at, both, is_silent, said, book)?;
     out.flush()

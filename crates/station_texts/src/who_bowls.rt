@@ -1,8 +1,8 @@
 //! What isn't clear in a line, and who may bowl where it doesn't say who does.
 
-ghost use Rattle.std.specs.Prelude.{◌≡◌, ◌++◌, OnErr, OnOk, true};
+ghost use Rattle.std.specs.Prelude.{◌++◌, OnOk};
 ghost use Rattle.corrections.specs.CleanList.{history_of};
-ghost use Rattle.streams.specs.Watched.{Prints, has_failed};
+ghost use Rattle.streams.specs.Watched.{Prints, TellsFailure};
 ghost use Rattle.station_texts.specs.Questions as questions;
 
 use crate::questions::print_unclear;
@@ -20,7 +20,7 @@ fn print_limited_bowlers<B: BookOf, W: Sink>(
 ) -> Result<(), WriteFailed>
     ensures text { OnOk result (Prints W.contents out.old out.new
         (questions.limited_bowlers sheet.now (history_of (B.content book.now)))) }
-    ensures failed { OnErr result (has_failed out.new ≡ true) }
+    ensures failed { TellsFailure result out.old out.new }
 {
     if sheet.limits().overs_a_bowler().is_some() {
         print_bowlers(out, sheet, book)
@@ -38,7 +38,7 @@ fn print_who_may<B: BookOf, W: Sink>(
 ) -> Result<(), WriteFailed>
     ensures text { OnOk result (Prints W.contents out.old out.new
         (questions.who_may sheet.now (history_of (B.content book.now)) unclear.now)) }
-    ensures failed { OnErr result (has_failed out.new ≡ true) }
+    ensures failed { TellsFailure result out.old out.new }
 {
     match unclear {
         Unclear::WhoBowls => print_limited_bowlers(out, sheet, book),
@@ -63,7 +63,7 @@ pub fn print_question<B: BookOf, W: Sink>(
     ensures text { OnOk result (Prints W.contents out.old out.new
         (questions.unclear_text sheet.now unclear.now
         ++ questions.who_may sheet.now (history_of (B.content book.now)) unclear.now)) }
-    ensures failed { OnErr result (has_failed out.new ≡ true) }
+    ensures failed { TellsFailure result out.old out.new }
 {
     print_unclear(out, sheet, unclear)?;
     print_who_may(out, sheet, unclear, book)

@@ -1,4 +1,4 @@
-use Rattle.std.proofs.Common.{◌≡◌, ℕ, List, [], arith, ap, ◌∙◌}
+use Rattle.std.proofs.Common.{◌≡◌, ℕ, List, [], arith, ap, ◌∙◌, refl}
 use Rattle.notation.specs.declared.entry.Side.{Side}
 use Rattle.ball_laws.specs.Laws.{state_after}
 use Rattle.corrections.specs.declared.placed.Placed.{Placed}
@@ -15,6 +15,7 @@ loop-index-init g c = (
   omega (arith, ap (λ n. n.begun) c.none-count.ensures),
   omega (arith, ap (λ n. n.overs) c.none-count.ensures),
   omega (arith, ap (λ n. n.balls) c.none-count.ensures),
+  refl,
 )
 
 pub print_if-requires-clause-item : goal.print_if-requires-clause-item
@@ -36,6 +37,7 @@ loop-index-preserved g c =
       omega (arith, few.0, c.loop-index.invariant.1),
       omega (arith, few.1, c.loop-index.invariant.2),
       omega (arith, few.2, c.loop-index.invariant.3),
+      c.in_ok-print_if.ensures.failed.1 ∙ c.loop-index.invariant.4,
     )
 
 same_lines : (s : Sheet) (i n : ℕ) (a b : Side) (xs ys : List Placed) → xs ≡ ys → a ≡ b
