@@ -26,7 +26,7 @@ pub fn hears(from: Asker, desk: DeskId) -> bool
 
 /// Whose vote, and for which position.
 #[derive(Clone, Copy, PartialEq, Eq, PartialOrd, Ord)]
-struct Ballot {
+struct VoteAt {
     at: Position,
     desk: u8,
 }
@@ -35,7 +35,7 @@ struct Ballot {
 #[derive(Drop)]
 pub struct EarlyVotes {
     at: Position,
-    votes: BTreeMap<Ballot, MessageBytes>,
+    votes: BTreeMap<VoteAt, MessageBytes>,
 }
 
 impl EarlyVotes {
@@ -65,8 +65,8 @@ impl EarlyVotes {
     fn let_go(&mut self, at: Position) -> bool
         ensures { AreOf (values self.new.votes) (values self.old.votes) }
     {
-        if let Some((ballot, _)) = self.votes.first_key_value()
-            && ballot.at.is_before(at)
+        if let Some((first, _)) = self.votes.first_key_value()
+            && first.at.is_before(at)
         {
             let _ = self.votes.pop_first();
             return true;
@@ -102,11 +102,11 @@ impl EarlyVotes {
     {
         let at = vote.position();
         let desk = vote.desk.number();
-        let ballot = Ballot { at, desk };
-        if self.votes.len() >= MOST_KEPT || self.votes.contains_key(&ballot) {
+        let voted = VoteAt { at, desk };
+        if self.votes.len() >= MOST_KEPT || self.votes.contains_key(&voted) {
             return false;
         }
-        self.votes.insert(ballot, *bytes).is_ok()
+        self.votes.insert(voted, *bytes).is_ok()
     }
 
     /// Takes a vote that was kept for the station's position.
@@ -115,8 +115,8 @@ impl EarlyVotes {
         ensures kept { AreOf (values self.new.votes) (values self.old.votes) }
         ensures none { IfNone result (values self.new.votes ≡ values self.old.votes) }
     {
-        let (ballot, _) = self.votes.first_key_value()?;
-        if self.at.is_before(ballot.at) {
+        let (first, _) = self.votes.first_key_value()?;
+        if self.at.is_before(first.at) {
             return None;
         }
         let (_, bytes) = self.votes.pop_first()?;
@@ -127,7 +127,7 @@ impl EarlyVotes {
     pub fn has_at(&self, desk: DeskId, place: u32) -> bool {
         let at = Position { place, round: 0 };
         let desk = desk.number();
-        self.votes.contains_key(&Ballot { at, desk })
+        self.votes.contains_key(&VoteAt { at, desk })
     }
 
     /// Whether none of this desk is kept for many places on end, from this one on to before the other.
@@ -146,7 +146,7 @@ impl EarlyVotes {
     fn has(&self, desk: DeskId) -> bool {
         let at = self.at;
         let desk = desk.number();
-        self.votes.contains_key(&Ballot { at, desk })
+        self.votes.contains_key(&VoteAt { at, desk })
     }
 
     /// Whether a station that has heard nothing of its position yet lacks this desk's vote.
@@ -159,7 +159,7 @@ impl EarlyVotes {
         ensures { result ≡ true → HasVote game (values self.now.votes) desk at }
     {
         let number = desk.number();
-        let Some(bytes) = self.votes.get(&Ballot { at, desk: number }) else {
+        let Some(bytes) = self.votes.get(&VoteAt { at, desk: number }) else {
             return false;
         };
         match message_of(game, bytes.as_slice()) {
