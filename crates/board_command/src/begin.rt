@@ -10,7 +10,6 @@ use live::keep_board;
 use machine::{Address, MOST_PEERS, MonotonicClock, Pieces, StandardStream};
 use machine_files::{Cause, Name, TextFile, WholeText, WriteFault};
 use setup::{Sealing, StopFault, Stopped, short_sheet_at};
-use station_pages::Attended;
 use station_screens::{Errors, Shared, errors_at, output_at};
 use std::cell::RefCell;
 use std::net::SocketAddr;
@@ -142,10 +141,7 @@ pub fn start_board<'a>(
     let mut link = sealing.link_over(rt.alloc(), MonotonicClock::new(rt), sealed);
     let _ = sealing.tell_fingerprints(&mut Shared::of(&errors));
     page.tell(&mut Shared::of(&errors));
-    let mut clock = Attended {
-        clock: MonotonicClock::new(rt),
-        page: page.viewers(),
-    };
+    let mut clock = page.clock(rt);
     let mut notes = Notes::new(Shared::of(&errors));
     let mut shown = Shown {
         files,
@@ -153,7 +149,7 @@ pub fn start_board<'a>(
         errors: &errors,
         viewers: page.viewers(),
     };
-    let ended = keep_board(
+    match keep_board(
         &mut board,
         &sheet,
         &mut link,
@@ -162,8 +158,7 @@ pub fn start_board<'a>(
         &mut out,
         &mut shown,
         u64::MAX,
-    );
-    match ended {
+    ) {
         Ok(()) => Ok(false),
         Err(_) => Err(Stopped::at("-", StopFault::Write)),
     }

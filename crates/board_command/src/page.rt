@@ -4,8 +4,9 @@ use crate::begin::Told;
 use crate::files::{Files, Kept};
 use crate::pane::{Kind, Pane};
 use corrections::CheckedBook;
-use machine::{Address, WaitEnds};
+use machine::{Address, MonotonicClock, WaitEnds};
 use setup::{StopFault, Stopped};
+use station_pages::Attended;
 use station_screens::{Errors, Shared};
 use std::alloc::Global;
 use std::cell::RefCell;
@@ -65,6 +66,17 @@ impl<'a> Page<'a> {
         WaitEnds {
             keyboard: None,
             page: self.served.as_ref().map(|served| served.ends),
+        }
+    }
+
+    /// The machine's clock, at each look at which it is seen to.
+    pub fn clock<'c>(
+        &self,
+        machine: &'c HostRuntime,
+    ) -> Attended<'_, MonotonicClock<'c, HostRuntime>, Viewers> {
+        Attended {
+            clock: MonotonicClock::new(machine),
+            page: self.viewers(),
         }
     }
 
