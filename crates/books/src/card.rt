@@ -1,30 +1,25 @@
 //! The printed cards of a book.
 
-ghost use Rattle.std.specs.Prelude.{◌<◌, OnOk};
+ghost use Rattle.std.specs.Prelude.{OnOk};
 ghost use Rattle.match_laws.specs.History.{begun};
-ghost use Rattle.match_laws.specs.Stands.{ForEachHistory, begun_in};
+ghost use Rattle.match_laws.specs.Stands.{ForEachHistory};
+ghost use Rattle.cards.specs.Begun.{ForInnings};
 ghost use Rattle.streams.specs.Watched.{IsHandedOn, Prints, TellsFailure};
 ghost use Rattle.books.specs.Card.{both_cards, card_text, cards_of};
 
-use cards::{MatchSheet, batting_card, book_page, bowling_card};
+use cards::{Innings, MatchSheet, batting_card, book_page, bowling_card};
 use corrections::BookOf;
 use match_laws::Match;
 use streams::{Sink, Watched, WriteFailed};
 
 /// Prints both cards of an innings.
-fn print_both<W: Sink>(
-    sheet: &MatchSheet,
-    score: &Match,
-    innings: usize,
-    out: &mut Watched<W>,
-) -> Result<(), WriteFailed>
-    requires { innings < begun_in score.now }
-    ensures text { ForEachHistory score.now (λ n h.
-        OnOk result (Prints W.contents out.old out.new (both_cards sheet.now h innings))) }
+fn print_both<W: Sink>(innings: Innings<'_>, out: &mut Watched<W>) -> Result<(), WriteFailed>
+    ensures text { ForInnings innings.entry (λ s h i.
+        OnOk result (Prints W.contents out.old out.new (both_cards s h i))) }
     ensures failed { TellsFailure result out.old out.new }
 {
-    batting_card(sheet, score, innings, out)?;
-    bowling_card(sheet, score, innings, out)
+    batting_card(innings.sheet, innings.score, innings.index, out)?;
+    bowling_card(innings.sheet, innings.score, innings.index, out)
 }
 
 /// Prints both cards of each innings.
@@ -38,7 +33,12 @@ fn print_innings<W: Sink>(
     ensures failed { TellsFailure result out.old out.new }
 {
     for innings in 0..score.begun() {
-        print_both(sheet, score, innings, out)?;
+        let now = Innings {
+            sheet,
+            score,
+            index: innings,
+        };
+        print_both(now, out)?;
     }
     Ok(())
 }

@@ -2,11 +2,11 @@
 
 #![tactic(auto, using(crate::proofs::Rooms::behind_both, crate::proofs::Rooms::left_behind))]
 
-ghost use Rattle.std.specs.Prelude.{◌≡◌, ◌≤◌, ◌<◌, ◌++◌, [], Some, codes, false, length, true};
+ghost use Rattle.std.specs.Prelude.{◌≡◌, ◌≤◌, ◌++◌, [], Some, codes, false, length, true};
 ghost use Rattle.notation.specs.declared.entry.TheConstants.{PLACES};
 ghost use Rattle.match_laws.specs.Parts.{extras_of};
-ghost use Rattle.match_laws.specs.Stands.{ForEachHistory, begun_in};
 ghost use Rattle.corrections.specs.Overs.{balls_of};
+ghost use Rattle.cards.specs.Begun.{ForInnings};
 ghost use Rattle.cards.specs.Batting as card;
 ghost use Rattle.score_rows.specs.declared.form.Form.TheVariants.{Whole};
 ghost use Rattle.score_rows.specs.Fit as fit;
@@ -18,9 +18,9 @@ use crate::marks::runs_of;
 use crate::room::Room;
 use crate::widths::{bowler_room, other_room, runs_room, striker_room};
 use crate::widths_behind::{newest_of, open_marks_room};
-use cards::MatchSheet;
+use cards::{Innings, MatchSheet};
 use corrections::Placed;
-use match_laws::{Extras, Match};
+use match_laws::Extras;
 use notation::Player;
 
 /// All extras of an innings.
@@ -57,35 +57,32 @@ fn extras_room(room: Room, extras: &Extras) -> Room
 }
 
 /// Behind the total.
-fn total_room(sheet: &MatchSheet, score: &Match, innings: usize) -> Room
-    requires { innings < begun_in score.now }
-    ensures { ForEachHistory score.now (λ n h. result ≡ fit.behind (fit.all_columns sheet.now)
-        ((codes "  " ++ rows.total_text sheet.now h innings) ++ codes ", ")) }
+fn total_room(innings: Innings<'_>) -> Room
+    ensures { ForInnings innings.entry (λ s h i. result ≡ fit.behind (fit.all_columns s)
+        ((codes "  " ++ rows.total_text s h i) ++ codes ", ")) }
 {
-    let team = sheet.name(score.side(innings));
-    let room = Room::row(sheet).text("  ").text(team).text(" ");
-    runs_room(room, score, innings).text(", ")
+    let team = innings.sheet.name(innings.side());
+    let room = Room::row(innings.sheet).text("  ").text(team).text(" ");
+    runs_room(room, innings).text(", ")
 }
 
 /// Whether the extras have room behind the total.
-pub fn total_fits(sheet: &MatchSheet, score: &Match, innings: usize) -> bool
-    requires { innings < begun_in score.now }
-    ensures { ForEachHistory score.now (λ n h. result ≡ fit.fits sheet.now
-        ((codes "  " ++ rows.total_text sheet.now h innings) ++ codes ", " ++ check.extras_text (extras_of h innings))) }
+pub fn total_fits(innings: Innings<'_>) -> bool
+    ensures { ForInnings innings.entry (λ s h i. result ≡ fit.fits s
+        ((codes "  " ++ rows.total_text s h i) ++ codes ", " ++ check.extras_text (extras_of h i))) }
 {
-    let room = total_room(sheet, score, innings);
-    extras_room(room, &score.extras(innings)).is_left()
+    let room = total_room(innings);
+    extras_room(room, &innings.score.extras(innings.index)).is_left()
 }
 
 /// Whether the batter at the other end has room behind the striker.
-pub fn batters_fit(sheet: &MatchSheet, score: &Match, innings: usize) -> bool
-    requires { innings < begun_in score.now }
-    ensures { ForEachHistory score.now (λ n h. result ≡ fit.fits sheet.now
-        ((codes "  " ++ rows.striker Whole sheet.now h innings) ++ codes "  " ++ rows.other Whole sheet.now h innings)) }
+pub fn batters_fit(innings: Innings<'_>) -> bool
+    ensures { ForInnings innings.entry (λ s h i. result ≡ fit.fits s
+        ((codes "  " ++ rows.striker Whole s h i) ++ codes "  " ++ rows.other Whole s h i)) }
 {
-    let room = Room::row(sheet).text("  ");
-    let room = striker_room(room, Form::Whole, sheet, score, innings).text("  ");
-    other_room(room, Form::Whole, sheet, score, innings).is_left()
+    let room = Room::row(innings.sheet).text("  ");
+    let room = striker_room(room, Form::Whole, innings).text("  ");
+    other_room(room, Form::Whole, innings).is_left()
 }
 
 /// Behind the marks of an over, all or these, and all its runs.
@@ -126,27 +123,17 @@ pub fn marks_shown<'a>(sheet: &MatchSheet, over: &'a [Placed]) -> &'a [Placed]
 
 /// Whether the marks of an over, all or these, have room behind its bowler.
 pub fn over_fits(
-    sheet: &MatchSheet,
-    score: &Match,
-    innings: usize,
+    innings: Innings<'_>,
     bowler: Player,
     over: &[Placed],
     is_all: bool,
     shown: &[Placed],
 ) -> bool
-    requires innings { innings < begun_in score.now }
     requires few { length over.now ≤ PLACES }
-    ensures { ForEachHistory score.now (λ n h. result ≡ fit.fits sheet.now
-        (rows.bowler Whole sheet.now h innings (Some bowler) ++ []
+    ensures { ForInnings innings.entry (λ s h i. result ≡ fit.fits s
+        (rows.bowler Whole s h i (Some bowler) ++ []
         ++ check.marked (balls_of over.now) is_all (balls_of shown.now))) }
 {
-    let room = bowler_room(
-        Room::row(sheet),
-        Form::Whole,
-        sheet,
-        score,
-        innings,
-        Some(bowler),
-    );
+    let room = bowler_room(Room::row(innings.sheet), Form::Whole, innings, Some(bowler));
     marked_room(room, over, is_all, shown).is_left()
 }

@@ -1,13 +1,12 @@
 //! Batters whose names look alike as a row cuts them: their numbers stand before them.
 
-ghost use Rattle.std.specs.Prelude.{◌≡◌, ◌<◌, OnOk};
-ghost use Rattle.match_laws.specs.Stands.{ForEachHistory, begun_in};
+ghost use Rattle.std.specs.Prelude.{◌≡◌, OnOk};
+ghost use Rattle.cards.specs.Begun.{ForInnings};
 ghost use Rattle.streams.specs.Watched.{Prints, TellsFailure};
 ghost use Rattle.score_rows.specs.Row as rows;
 
 use crate::form::{Form, are_alike};
-use cards::MatchSheet;
-use match_laws::Match;
+use cards::{Innings, MatchSheet};
 use notation::{Player, Side};
 use streams::{Sink, Watched, WriteFailed};
 
@@ -35,12 +34,17 @@ fn are_both_alike(
 }
 
 /// Whether the names of the batters at both ends look alike in a form.
-pub fn are_ends_alike(form: Form, sheet: &MatchSheet, score: &Match, innings: usize) -> bool
-    requires { innings < begun_in score.now }
-    ensures { ForEachHistory score.now (λ n h. result ≡ rows.are_ends_alike form sheet.now h innings) }
+pub fn are_ends_alike(form: Form, innings: Innings<'_>) -> bool
+    ensures { ForInnings innings.entry (λ s h i. result ≡ rows.are_ends_alike form s h i) }
 {
-    let ends = score.ends();
-    are_both_alike(form, sheet, score.side(innings), ends.striker, ends.other)
+    let ends = innings.score.ends();
+    are_both_alike(
+        form,
+        innings.sheet,
+        innings.side(),
+        ends.striker,
+        ends.other,
+    )
 }
 
 /// Prints the number of who is at an end, where the names look alike.

@@ -14,7 +14,7 @@ use crate::room::Room;
 use crate::two_rows::ahead_room;
 use crate::widths::bowling_room;
 use crate::widths_behind::{aim_room, free_room, newest_of, open_marks_room, over_end_room};
-use cards::MatchSheet;
+use cards::{Innings, MatchSheet};
 use corrections::{BookOf, Placed, overs_of};
 
 /// Behind the row of an innings, from its batters on.
@@ -37,7 +37,12 @@ fn back_room<B: BookOf>(
     let room = bowling_room(room, form, sheet, book, innings);
     let room = open_marks_room(room, over, is_all, shown);
     let room = free_room(room, form.is_beside(), sheet, book);
-    let room = aim_room(room, score, left_now(score, sheet, innings));
+    let innings = Innings {
+        sheet,
+        score,
+        index: innings,
+    };
+    let room = aim_room(room, score, left_now(innings));
     over_end_room(room, over)
 }
 
@@ -54,7 +59,12 @@ fn line_room<B: BookOf>(
     ensures { result ≡ fit.behind (fit.all_columns sheet.now) (rows.line form is_all (balls_of shown.now)
         sheet.now (B.innings_a_side book.now) (history_of (B.content book.now)) innings) }
 {
-    let room = ahead_room(Room::row(sheet), form, sheet, book.score(), innings);
+    let ahead = Innings {
+        sheet,
+        score: book.score(),
+        index: innings,
+    };
+    let room = ahead_room(Room::row(sheet), form, ahead);
     back_room(room, form, is_all, shown, sheet, book, innings)
 }
 

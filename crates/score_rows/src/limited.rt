@@ -1,16 +1,16 @@
 //! What a desk tells of what the sheet limits.
 
 ghost use Rattle.std.specs.Prelude.{◌≡◌, ◌<◌, ◌++◌, OnOk, codes, decimal};
-ghost use Rattle.match_laws.specs.History.{begun, is_open};
-ghost use Rattle.match_laws.specs.Stands.{ForEachHistory, begun_in};
+ghost use Rattle.match_laws.specs.History.{begun};
 ghost use Rattle.corrections.specs.CleanList.{history_of};
+ghost use Rattle.cards.specs.Begun.{ForInnings};
 ghost use Rattle.streams.specs.Watched.{Prints, TellsFailure};
 ghost use Rattle.score_rows.specs.Limited as limited;
 
-use cards::MatchSheet;
+use cards::{Innings, MatchSheet};
 use corrections::{BookOf, overs_of};
 use limits::{TwoPlaces, an_over, deliveries_left, is_free_hit, overs_bowled, overs_left};
-use match_laws::{Match, opponent};
+use match_laws::opponent;
 use notation::Player;
 use streams::{Sink, Watched, WriteFailed};
 
@@ -49,13 +49,12 @@ pub fn print_off<W: Sink>(out: &mut Watched<W>, runs: u32, left: u32) -> Result<
 }
 
 /// How many deliveries are left, where the sheet limits the overs.
-pub fn left_now(score: &Match, sheet: &MatchSheet, innings: usize) -> Option<u32>
-    requires { innings < begun_in score.now }
-    ensures { ForEachHistory score.now (λ n h. result ≡ limited.left_now sheet.now h innings) }
+pub fn left_now(innings: Innings<'_>) -> Option<u32>
+    ensures { ForInnings innings.entry (λ s h i. result ≡ limited.left_now s h i) }
 {
-    match sheet.limits().overs_for(innings) {
+    match innings.sheet.limits().overs_for(innings.index) {
         None => None,
-        Some(overs) => Some(deliveries_left(score, innings, overs)),
+        Some(overs) => Some(deliveries_left(innings.score, innings.index, overs)),
     }
 }
 
@@ -183,19 +182,17 @@ fn print_all_bowled<W: Sink>(out: &mut Watched<W>, overs: u16) -> Result<(), Wri
 /// Prints what is left of an innings of so many overs.
 fn print_innings_left<W: Sink>(
     out: &mut Watched<W>,
-    score: &Match,
-    innings: usize,
+    innings: Innings<'_>,
     overs: u16,
 ) -> Result<(), WriteFailed>
-    requires { innings < begun_in score.now }
-    ensures text { ForEachHistory score.now (λ n h.
-        OnOk result (Prints W.contents out.old out.new (limited.innings_left overs h innings))) }
+    ensures text { ForInnings innings.entry (λ s h i.
+        OnOk result (Prints W.contents out.old out.new (limited.innings_left overs h i))) }
     ensures failed { TellsFailure result out.old out.new }
 {
-    if overs_left(score, innings, overs) == 0 {
+    if overs_left(innings.score, innings.index, overs) == 0 {
         print_all_bowled(out, overs)
     } else {
-        print_left(out, deliveries_left(score, innings, overs))
+        print_left(out, deliveries_left(innings.score, innings.index, overs))
     }
 }
 
@@ -360,7 +357,12 @@ fn print_left_line<W: Sink, B: BookOf>(
     let most = sheet.limits().overs_a_bowler();
     let bowler = overs_of(book).bowler();
     write!(out, "  ")?;
-    print_innings_left(out, book.score(), innings, overs)?;
+    let open = Innings {
+        sheet,
+        score: book.score(),
+        index: innings,
+    };
+    print_innings_left(out, open, overs)?;
     print_bowler_part(out, sheet, book, innings, most, bowler)?;
     writeln!(out)
 }

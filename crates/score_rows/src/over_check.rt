@@ -3,9 +3,9 @@
 ghost use Rattle.std.specs.Prelude.{◌≡◌, ◌≤◌, ◌<◌, [], OnOk, Some, codes, length};
 ghost use Rattle.notation.specs.declared.entry.TheConstants.{PLACES};
 ghost use Rattle.match_laws.specs.History.{begun};
-ghost use Rattle.match_laws.specs.Stands.{ForEachHistory, begun_in};
 ghost use Rattle.corrections.specs.CleanList.{history_of};
 ghost use Rattle.corrections.specs.Overs.{balls_of, over_now};
+ghost use Rattle.cards.specs.Begun.{ForInnings};
 ghost use Rattle.streams.specs.Watched.{Prints, TellsFailure};
 ghost use Rattle.score_rows.specs.declared.form.Form.TheVariants.{Whole};
 ghost use Rattle.score_rows.specs.OverCheck as check;
@@ -16,9 +16,9 @@ use crate::form::Form;
 use crate::limited::print_limits;
 use crate::marks::runs_of;
 use crate::row::{print_bowler, print_open_marks, print_other, print_striker, print_total};
-use cards::MatchSheet;
+use cards::{Innings, MatchSheet};
 use corrections::{BookOf, Placed, overs_of};
-use match_laws::{Extras, Match};
+use match_laws::Extras;
 use notation::Player;
 use streams::{Sink, Watched, WriteFailed};
 
@@ -69,42 +69,33 @@ fn print_extras<W: Sink>(out: &mut Watched<W>, extras: &Extras) -> Result<(), Wr
 }
 
 /// Prints the total and the extras.
-fn print_total_line<W: Sink>(
-    out: &mut Watched<W>,
-    sheet: &MatchSheet,
-    score: &Match,
-    innings: usize,
-) -> Result<(), WriteFailed>
-    requires { innings < begun_in score.now }
-    ensures text { ForEachHistory score.now (λ n h.
-        OnOk result (Prints W.contents out.old out.new (check.total_line sheet.now h innings))) }
+fn print_total_line<W: Sink>(out: &mut Watched<W>, innings: Innings<'_>) -> Result<(), WriteFailed>
+    ensures text { ForInnings innings.entry (λ s h i.
+        OnOk result (Prints W.contents out.old out.new (check.total_line s h i))) }
     ensures failed { TellsFailure result out.old out.new }
 {
-    let fits = total_fits(sheet, score, innings);
+    let fits = total_fits(innings);
     print(out, "  ")?;
-    print_total(out, sheet, score, innings)?;
+    print_total(out, innings)?;
     print(out, between(fits, ", ", ",\n    "))?;
-    print_extras(out, &score.extras(innings))?;
+    print_extras(out, &innings.score.extras(innings.index))?;
     print(out, "\n")
 }
 
 /// Prints both batters.
 fn print_batters_line<W: Sink>(
     out: &mut Watched<W>,
-    sheet: &MatchSheet,
-    score: &Match,
-    innings: usize,
+    innings: Innings<'_>,
 ) -> Result<(), WriteFailed>
-    requires { innings < begun_in score.now }
-    ensures text { ForEachHistory score.now (λ n h.
-        OnOk result (Prints W.contents out.old out.new (check.batters_line sheet.now h innings))) }
+    ensures text { ForInnings innings.entry (λ s h i.
+        OnOk result (Prints W.contents out.old out.new (check.batters_line s h i))) }
     ensures failed { TellsFailure result out.old out.new }
 {
-    let fits = batters_fit(sheet, score, innings);
+    let fits = batters_fit(innings);
     print(out, "  ")?;
-    print_striker(out, Form::Whole, sheet, score, innings)?;
+    print_striker(out, Form::Whole, innings)?;
     print(out, between(fits, "  ", "\n    "))?;
-    print_other(out, Form::Whole, sheet, score, innings)?;
+    print_other(out, Form::Whole, innings)?;
     print(out, "\n")
 }
 
@@ -128,24 +119,21 @@ fn print_marked<W: Sink>(
 /// Prints a bowler and the marks of an over, all or these, and all its runs.
 fn print_bowled<W: Sink>(
     out: &mut Watched<W>,
-    sheet: &MatchSheet,
-    score: &Match,
-    innings: usize,
+    innings: Innings<'_>,
     bowler: Player,
     over: &[Placed],
     is_all: bool,
     shown: &[Placed],
 ) -> Result<(), WriteFailed>
-    requires innings { innings < begun_in score.now }
     requires few { length over.now ≤ PLACES }
-    ensures text { ForEachHistory score.now (λ n h.
-        OnOk result (Prints W.contents out.old out.new (check.in_rows sheet.now
-        (rows.bowler Whole sheet.now h innings (Some bowler)) [] (codes "\n  ")
+    ensures text { ForInnings innings.entry (λ s h i.
+        OnOk result (Prints W.contents out.old out.new (check.in_rows s
+        (rows.bowler Whole s h i (Some bowler)) [] (codes "\n  ")
         (check.marked (balls_of over.now) is_all (balls_of shown.now))))) }
     ensures failed { TellsFailure result out.old out.new }
 {
-    let fits = over_fits(sheet, score, innings, bowler, over, is_all, shown);
-    print_bowler(out, Form::Whole, sheet, score, innings, Some(bowler))?;
+    let fits = over_fits(innings, bowler, over, is_all, shown);
+    print_bowler(out, Form::Whole, innings, Some(bowler))?;
     print(out, between(fits, "", "\n  "))?;
     print_marked(out, over, is_all, shown)?;
     print(out, "\n")
@@ -154,25 +142,22 @@ fn print_bowled<W: Sink>(
 /// Prints a bowler and an over, with all marks that have room in a row of their own, or else the newest.
 fn print_bowler_over<W: Sink>(
     out: &mut Watched<W>,
-    sheet: &MatchSheet,
-    score: &Match,
-    innings: usize,
+    innings: Innings<'_>,
     bowler: Player,
     over: &[Placed],
 ) -> Result<(), WriteFailed>
-    requires innings { innings < begun_in score.now }
     requires few { length over.now ≤ PLACES }
-    ensures text { ForEachHistory score.now (λ n h.
-        OnOk result (Prints W.contents out.old out.new (check.in_rows sheet.now
-        (rows.bowler Whole sheet.now h innings (Some bowler)) [] (codes "\n  ")
-        (check.over_text sheet.now (balls_of over.now))))) }
+    ensures text { ForInnings innings.entry (λ s h i.
+        OnOk result (Prints W.contents out.old out.new (check.in_rows s
+        (rows.bowler Whole s h i (Some bowler)) [] (codes "\n  ")
+        (check.over_text s (balls_of over.now))))) }
     ensures failed { TellsFailure result out.old out.new }
 {
-    if marks_fit(sheet, over) {
-        return print_bowled(out, sheet, score, innings, bowler, over, true, over);
+    if marks_fit(innings.sheet, over) {
+        return print_bowled(out, innings, bowler, over, true, over);
     }
-    let shown = marks_shown(sheet, over);
-    print_bowled(out, sheet, score, innings, bowler, over, false, shown)
+    let shown = marks_shown(innings.sheet, over);
+    print_bowled(out, innings, bowler, over, false, shown)
 }
 
 /// Prints the bowler of the last delivery and its over, if there is one.
@@ -191,7 +176,12 @@ fn print_over_line<W: Sink, B: BookOf>(
     let Some(bowler) = overs.bowler() else {
         return Ok(());
     };
-    print_bowler_over(out, sheet, book.score(), innings, bowler, overs.newest())
+    let innings = Innings {
+        sheet,
+        score: book.score(),
+        index: innings,
+    };
+    print_bowler_over(out, innings, bowler, overs.newest())
 }
 
 /// Prints the check of an over of an innings.
@@ -206,9 +196,13 @@ fn print_lines<W: Sink, B: BookOf>(
         (check.check_lines sheet.now (history_of (B.content book.now)) innings)) }
     ensures failed { TellsFailure result out.old out.new }
 {
-    let score = book.score();
-    print_total_line(out, sheet, score, innings)?;
-    print_batters_line(out, sheet, score, innings)?;
+    let now = Innings {
+        sheet,
+        score: book.score(),
+        index: innings,
+    };
+    print_total_line(out, now)?;
+    print_batters_line(out, now)?;
     print_over_line(out, sheet, book, innings)?;
     print_limits(out, sheet, book, innings)
 }

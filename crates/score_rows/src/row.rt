@@ -2,9 +2,9 @@
 
 ghost use Rattle.std.specs.Prelude.{◌<◌, OnOk};
 ghost use Rattle.match_laws.specs.History.{begun};
-ghost use Rattle.match_laws.specs.Stands.{ForEachHistory, begun_in};
 ghost use Rattle.corrections.specs.CleanList.{history_of};
 ghost use Rattle.corrections.specs.Overs.{balls_of};
+ghost use Rattle.cards.specs.Begun.{ForInnings};
 ghost use Rattle.cards.specs.Bowling.{overs_of};
 ghost use Rattle.streams.specs.Watched.{Prints, TellsFailure};
 ghost use Rattle.score_rows.specs.Row as rows;
@@ -17,25 +17,20 @@ use crate::limited::{left_now, print_free, print_free_row, print_of, print_past,
 use crate::marks::print_marks;
 use crate::over_end::print_over_end;
 use crate::two_rows::{print_above, print_ahead};
-use cards::MatchSheet;
+use cards::{Innings, MatchSheet};
 use corrections::{BookOf, Placed, bowler_of, overs_of};
-use match_laws::{BattingRow, BowlingRow, Match, opponent};
+use match_laws::{BattingRow, BowlingRow, opponent};
 use notation::{Player, Side};
 use streams::{Sink, Watched, WriteFailed};
 
 /// Prints a total and its wickets.
-fn print_runs<W: Sink>(
-    out: &mut Watched<W>,
-    score: &Match,
-    innings: usize,
-) -> Result<(), WriteFailed>
-    requires { innings < begun_in score.now }
-    ensures text { ForEachHistory score.now (λ n h.
-        OnOk result (Prints W.contents out.old out.new (rows.runs_text h innings))) }
+fn print_runs<W: Sink>(out: &mut Watched<W>, innings: Innings<'_>) -> Result<(), WriteFailed>
+    ensures text { ForInnings innings.entry (λ s h i.
+        OnOk result (Prints W.contents out.old out.new (rows.runs_text h i))) }
     ensures failed { TellsFailure result out.old out.new }
 {
-    let total = score.total(innings);
-    let wickets = score.wickets(innings);
+    let total = innings.score.total(innings.index);
+    let wickets = innings.score.wickets(innings.index);
     write!(out, "{total} for {wickets}")
 }
 
@@ -43,50 +38,36 @@ fn print_runs<W: Sink>(
 fn print_team<W: Sink>(
     out: &mut Watched<W>,
     form: Form,
-    sheet: &MatchSheet,
-    score: &Match,
-    innings: usize,
+    innings: Innings<'_>,
 ) -> Result<(), WriteFailed>
-    requires { innings < begun_in score.now }
-    ensures text { ForEachHistory score.now (λ n h.
-        OnOk result (Prints W.contents out.old out.new (rows.team_text form sheet.now h innings))) }
+    ensures text { ForInnings innings.entry (λ s h i.
+        OnOk result (Prints W.contents out.old out.new (rows.team_text form s h i))) }
     ensures failed { TellsFailure result out.old out.new }
 {
     if !form.has_team() {
         return Ok(());
     }
-    let team = sheet.name(score.side(innings));
+    let team = innings.sheet.name(innings.side());
     write!(out, "{team} ")
 }
 
 /// Prints the side, its total and its wickets.
-pub fn print_total<W: Sink>(
-    out: &mut Watched<W>,
-    sheet: &MatchSheet,
-    score: &Match,
-    innings: usize,
-) -> Result<(), WriteFailed>
-    requires { innings < begun_in score.now }
-    ensures text { ForEachHistory score.now (λ n h.
-        OnOk result (Prints W.contents out.old out.new (rows.total_text sheet.now h innings))) }
+pub fn print_total<W: Sink>(out: &mut Watched<W>, innings: Innings<'_>) -> Result<(), WriteFailed>
+    ensures text { ForInnings innings.entry (λ s h i.
+        OnOk result (Prints W.contents out.old out.new (rows.total_text s h i))) }
     ensures failed { TellsFailure result out.old out.new }
 {
-    let team = sheet.name(score.side(innings));
+    let team = innings.sheet.name(innings.side());
     write!(out, "{team} ")?;
-    print_runs(out, score, innings)
+    print_runs(out, innings)
 }
 
-fn print_overs_front<W: Sink>(
-    out: &mut Watched<W>,
-    score: &Match,
-    innings: usize,
-) -> Result<(), WriteFailed>
-    requires { innings < begun_in score.now }
-    ensures text { ForEachHistory score.now (λ n h.
-        OnOk result (Prints W.contents out.old out.new (rows.overs_front h innings))) }
+fn print_overs_front<W: Sink>(out: &mut Watched<W>, innings: Innings<'_>) -> Result<(), WriteFailed>
+    ensures text { ForInnings innings.entry (λ s h i.
+        OnOk result (Prints W.contents out.old out.new (rows.overs_front h i))) }
     ensures failed { TellsFailure result out.old out.new }
 {
-    let (called, since) = score.overs(innings);
+    let (called, since) = innings.score.overs(innings.index);
     write!(out, " ({called}.{since}")
 }
 
@@ -94,17 +75,17 @@ fn print_overs_front<W: Sink>(
 fn print_overs<W: Sink>(
     out: &mut Watched<W>,
     form: Form,
-    sheet: &MatchSheet,
-    score: &Match,
-    innings: usize,
+    innings: Innings<'_>,
 ) -> Result<(), WriteFailed>
-    requires { innings < begun_in score.now }
-    ensures text { ForEachHistory score.now (λ n h.
-        OnOk result (Prints W.contents out.old out.new (rows.overs_text form sheet.now h innings))) }
+    ensures text { ForInnings innings.entry (λ s h i.
+        OnOk result (Prints W.contents out.old out.new (rows.overs_text form s h i))) }
     ensures failed { TellsFailure result out.old out.new }
 {
-    print_overs_front(out, score, innings)?;
-    print_of(out, form.limit_in(sheet.limits().overs_for(innings)))?;
+    print_overs_front(out, innings)?;
+    print_of(
+        out,
+        form.limit_in(innings.sheet.limits().overs_for(innings.index)),
+    )?;
     write!(out, ")")
 }
 
@@ -127,15 +108,12 @@ fn print_batter_figures<W: Sink>(
 fn print_batter<W: Sink>(
     out: &mut Watched<W>,
     form: Form,
-    sheet: &MatchSheet,
-    score: &Match,
-    innings: usize,
+    innings: Innings<'_>,
     mark: &str,
     batter: Option<Player>,
 ) -> Result<(), WriteFailed>
-    requires { innings < begun_in score.now }
-    ensures text { ForEachHistory score.now (λ n h.
-        OnOk result (Prints W.contents out.old out.new (rows.batter form sheet.now h innings mark.now batter))) }
+    ensures text { ForInnings innings.entry (λ s h i.
+        OnOk result (Prints W.contents out.old out.new (rows.batter form s h i mark.now batter))) }
     ensures failed { TellsFailure result out.old out.new }
 {
     match batter {
@@ -143,10 +121,10 @@ fn print_batter<W: Sink>(
         Some(player) => {
             print_name(
                 out,
-                sheet.player(score.side(innings), player),
+                innings.sheet.player(innings.side(), player),
                 form.letters(),
             )?;
-            let row = score.batting_row(innings, player);
+            let row = innings.score.batting_row(innings.index, player);
             print_batter_figures(out, &row, mark)
         }
     }
@@ -156,56 +134,47 @@ fn print_batter<W: Sink>(
 pub fn print_striker<W: Sink>(
     out: &mut Watched<W>,
     form: Form,
-    sheet: &MatchSheet,
-    score: &Match,
-    innings: usize,
+    innings: Innings<'_>,
 ) -> Result<(), WriteFailed>
-    requires { innings < begun_in score.now }
-    ensures text { ForEachHistory score.now (λ n h.
-        OnOk result (Prints W.contents out.old out.new (rows.striker form sheet.now h innings))) }
+    ensures text { ForInnings innings.entry (λ s h i.
+        OnOk result (Prints W.contents out.old out.new (rows.striker form s h i))) }
     ensures failed { TellsFailure result out.old out.new }
 {
-    let is_alike = are_ends_alike(form, sheet, score, innings);
-    let ends = score.ends();
+    let is_alike = are_ends_alike(form, innings);
+    let ends = innings.score.ends();
     print_number(out, is_alike, ends.striker)?;
-    print_batter(out, form, sheet, score, innings, "*", ends.striker)
+    print_batter(out, form, innings, "*", ends.striker)
 }
 
 /// Prints the batter at the other end.
 pub fn print_other<W: Sink>(
     out: &mut Watched<W>,
     form: Form,
-    sheet: &MatchSheet,
-    score: &Match,
-    innings: usize,
+    innings: Innings<'_>,
 ) -> Result<(), WriteFailed>
-    requires { innings < begun_in score.now }
-    ensures text { ForEachHistory score.now (λ n h.
-        OnOk result (Prints W.contents out.old out.new (rows.other form sheet.now h innings))) }
+    ensures text { ForInnings innings.entry (λ s h i.
+        OnOk result (Prints W.contents out.old out.new (rows.other form s h i))) }
     ensures failed { TellsFailure result out.old out.new }
 {
-    let is_alike = are_ends_alike(form, sheet, score, innings);
-    let ends = score.ends();
+    let is_alike = are_ends_alike(form, innings);
+    let ends = innings.score.ends();
     print_number(out, is_alike, ends.other)?;
-    print_batter(out, form, sheet, score, innings, "", ends.other)
+    print_batter(out, form, innings, "", ends.other)
 }
 
 /// Prints the striker, and the batter at the other end.
 fn print_batters<W: Sink>(
     out: &mut Watched<W>,
     form: Form,
-    sheet: &MatchSheet,
-    score: &Match,
-    innings: usize,
+    innings: Innings<'_>,
 ) -> Result<(), WriteFailed>
-    requires { innings < begun_in score.now }
-    ensures text { ForEachHistory score.now (λ n h.
-        OnOk result (Prints W.contents out.old out.new (rows.batters form sheet.now h innings))) }
+    ensures text { ForInnings innings.entry (λ s h i.
+        OnOk result (Prints W.contents out.old out.new (rows.batters form s h i))) }
     ensures failed { TellsFailure result out.old out.new }
 {
-    print_striker(out, form, sheet, score, innings)?;
+    print_striker(out, form, innings)?;
     write!(out, "  ")?;
-    print_other(out, form, sheet, score, innings)
+    print_other(out, form, innings)
 }
 
 /// Prints the overs that a bowler bowled, and his balls of other overs.
@@ -259,26 +228,23 @@ fn print_bowler_row<W: Sink>(
 pub fn print_bowler<W: Sink>(
     out: &mut Watched<W>,
     form: Form,
-    sheet: &MatchSheet,
-    score: &Match,
-    innings: usize,
+    innings: Innings<'_>,
     bowler: Option<Player>,
 ) -> Result<(), WriteFailed>
-    requires { innings < begun_in score.now }
-    ensures text { ForEachHistory score.now (λ n h.
-        OnOk result (Prints W.contents out.old out.new (rows.bowler form sheet.now h innings bowler))) }
+    ensures text { ForInnings innings.entry (λ s h i.
+        OnOk result (Prints W.contents out.old out.new (rows.bowler form s h i bowler))) }
     ensures failed { TellsFailure result out.old out.new }
 {
     let Some(player) = bowler else {
         return Ok(());
     };
     write!(out, "  ")?;
-    let row = score.bowling_row(innings, player);
+    let row = innings.score.bowling_row(innings.index, player);
     print_bowler_row(
         out,
         form,
-        sheet,
-        opponent(score.side(innings)),
+        innings.sheet,
+        opponent(innings.side()),
         player,
         &row,
     )
@@ -326,7 +292,12 @@ fn print_bowling<W: Sink, B: BookOf>(
 {
     let overs = overs_of(book);
     let most = sheet.limits().overs_a_bowler();
-    print_bowler(out, form, sheet, book.score(), innings, overs.bowler())?;
+    let innings = Innings {
+        sheet,
+        score: book.score(),
+        index: innings,
+    };
+    print_bowler(out, form, innings, overs.bowler())?;
     print_past(out, book, form.beside(most), overs.bowler())
 }
 
@@ -350,7 +321,12 @@ fn print_back<W: Sink, B: BookOf>(
     print_bowling(out, form, sheet, book, innings)?;
     print_open_marks(out, over, is_all, shown)?;
     print_free(out, form.is_beside(), sheet, book)?;
-    print_aim(out, score, left_now(score, sheet, innings))?;
+    let innings = Innings {
+        sheet,
+        score,
+        index: innings,
+    };
+    print_aim(out, score, left_now(innings))?;
     print_over_end(out, over)
 }
 
@@ -359,20 +335,17 @@ fn print_back<W: Sink, B: BookOf>(
 pub fn print_front<W: Sink>(
     out: &mut Watched<W>,
     form: Form,
-    sheet: &MatchSheet,
-    score: &Match,
-    innings: usize,
+    innings: Innings<'_>,
 ) -> Result<(), WriteFailed>
-    requires { innings < begun_in score.now }
-    ensures text { ForEachHistory score.now (λ n h.
-        OnOk result (Prints W.contents out.old out.new (rows.front form sheet.now h innings))) }
+    ensures text { ForInnings innings.entry (λ s h i.
+        OnOk result (Prints W.contents out.old out.new (rows.front form s h i))) }
     ensures failed { TellsFailure result out.old out.new }
 {
-    print_team(out, form, sheet, score, innings)?;
-    print_runs(out, score, innings)?;
-    print_overs(out, form, sheet, score, innings)?;
+    print_team(out, form, innings)?;
+    print_runs(out, innings)?;
+    print_overs(out, form, innings)?;
     write!(out, "  ")?;
-    print_batters(out, form, sheet, score, innings)
+    print_batters(out, form, innings)
 }
 
 /// Prints the bowler's row of an innings, with all marks of the open over or with these.
@@ -390,7 +363,12 @@ fn print_line<W: Sink, B: BookOf>(
         sheet.now (B.innings_a_side book.now) (history_of (B.content book.now)) innings)) }
     ensures failed { TellsFailure result out.old out.new }
 {
-    print_ahead(out, form, sheet, book.score(), innings)?;
+    let ahead = Innings {
+        sheet,
+        score: book.score(),
+        index: innings,
+    };
+    print_ahead(out, form, ahead)?;
     print_back(out, form, is_all, shown, sheet, book, innings)
 }
 
@@ -449,11 +427,16 @@ fn print_innings<W: Sink, B: BookOf>(
 {
     let form = form_of(sheet, book, innings);
     let score = book.score();
-    print_above(out, form, sheet, score, innings)?;
+    let now = Innings {
+        sheet,
+        score,
+        index: innings,
+    };
+    print_above(out, form, now)?;
     print_line_in(out, form, sheet, book, innings)?;
     writeln!(out)?;
     print_limits_below(out, form, sheet, book, innings)?;
-    print_needs_row(out, score, left_now(score, sheet, innings))?;
+    print_needs_row(out, score, left_now(now))?;
     print_result_row(out, sheet, score)
 }
 

@@ -1,7 +1,7 @@
 //! The row of the batters, where the bowler's stands below it.
 
-ghost use Rattle.std.specs.Prelude.{◌≡◌, ◌<◌, OnOk};
-ghost use Rattle.match_laws.specs.Stands.{ForEachHistory, begun_in};
+ghost use Rattle.std.specs.Prelude.{◌≡◌, OnOk};
+ghost use Rattle.cards.specs.Begun.{ForInnings};
 ghost use Rattle.streams.specs.Watched.{Prints, TellsFailure};
 ghost use Rattle.score_rows.specs.Fit as fit;
 ghost use Rattle.score_rows.specs.Row as rows;
@@ -10,27 +10,23 @@ use crate::form::Form;
 use crate::room::Room;
 use crate::row::print_front;
 use crate::widths::front_room;
-use cards::MatchSheet;
-use match_laws::Match;
+use cards::Innings;
 use streams::{Sink, Watched, WriteFailed};
 
 /// Prints the row of the batters, where the bowler has his own below it.
 pub fn print_above<W: Sink>(
     out: &mut Watched<W>,
     form: Form,
-    sheet: &MatchSheet,
-    score: &Match,
-    innings: usize,
+    innings: Innings<'_>,
 ) -> Result<(), WriteFailed>
-    requires { innings < begun_in score.now }
-    ensures text { ForEachHistory score.now (λ n h.
-        OnOk result (Prints W.contents out.old out.new (rows.above form sheet.now h innings))) }
+    ensures text { ForInnings innings.entry (λ s h i.
+        OnOk result (Prints W.contents out.old out.new (rows.above form s h i))) }
     ensures failed { TellsFailure result out.old out.new }
 {
     if !form.is_two() {
         return Ok(());
     }
-    print_front(out, form, sheet, score, innings)?;
+    print_front(out, form, innings)?;
     writeln!(out)
 }
 
@@ -38,30 +34,26 @@ pub fn print_above<W: Sink>(
 pub fn print_ahead<W: Sink>(
     out: &mut Watched<W>,
     form: Form,
-    sheet: &MatchSheet,
-    score: &Match,
-    innings: usize,
+    innings: Innings<'_>,
 ) -> Result<(), WriteFailed>
-    requires { innings < begun_in score.now }
-    ensures text { ForEachHistory score.now (λ n h.
-        OnOk result (Prints W.contents out.old out.new (rows.ahead form sheet.now h innings))) }
+    ensures text { ForInnings innings.entry (λ s h i.
+        OnOk result (Prints W.contents out.old out.new (rows.ahead form s h i))) }
     ensures failed { TellsFailure result out.old out.new }
 {
     if form.is_two() {
         return Ok(());
     }
-    print_front(out, form, sheet, score, innings)
+    print_front(out, form, innings)
 }
 
 /// Behind what stands before the bowler in his row.
 #[tactic(auto, using(crate::proofs::Rooms::behind_nothing))]
-pub fn ahead_room(room: Room, form: Form, sheet: &MatchSheet, score: &Match, innings: usize) -> Room
-    requires { innings < begun_in score.now }
-    ensures { ForEachHistory score.now (λ n h.
-        result ≡ fit.behind room (rows.ahead form sheet.now h innings)) }
+pub fn ahead_room(room: Room, form: Form, innings: Innings<'_>) -> Room
+    ensures { ForInnings innings.entry (λ s h i.
+        result ≡ fit.behind room (rows.ahead form s h i)) }
 {
     if form.is_two() {
         return room;
     }
-    front_room(room, form, sheet, score, innings)
+    front_room(room, form, innings)
 }

@@ -4,8 +4,8 @@
 
 ghost use Rattle.std.specs.Prelude.{◌≡◌, ◌<◌};
 ghost use Rattle.match_laws.specs.History.{begun};
-ghost use Rattle.match_laws.specs.Stands.{ForEachHistory, begun_in};
 ghost use Rattle.corrections.specs.CleanList.{history_of};
+ghost use Rattle.cards.specs.Begun.{ForInnings};
 ghost use Rattle.score_rows.specs.Fit as fit;
 ghost use Rattle.score_rows.specs.Limited as limited;
 ghost use Rattle.score_rows.specs.Row as rows;
@@ -13,32 +13,32 @@ ghost use Rattle.score_rows.specs.Row as rows;
 use crate::ends_alike::are_ends_alike;
 use crate::form::Form;
 use crate::room::Room;
-use cards::MatchSheet;
+use cards::{Innings, MatchSheet};
 use corrections::{BookOf, overs_of};
 use limits::overs_bowled;
-use match_laws::{BowlingRow, Match, opponent};
+use match_laws::{BowlingRow, opponent};
 use notation::{Player, Side};
 
 /// Behind the side, where it is shown.
-fn team_room(room: Room, form: Form, sheet: &MatchSheet, score: &Match, innings: usize) -> Room
-    requires { innings < begun_in score.now }
-    ensures { ForEachHistory score.now (λ n h.
-        result ≡ fit.behind room (rows.team_text form sheet.now h innings)) }
+fn team_room(room: Room, form: Form, innings: Innings<'_>) -> Room
+    ensures { ForInnings innings.entry (λ s h i.
+        result ≡ fit.behind room (rows.team_text form s h i)) }
 {
     if !form.has_team() {
         return room;
     }
-    room.text(sheet.name(score.side(innings))).text(" ")
+    room.text(innings.sheet.name(innings.side())).text(" ")
 }
 
 /// Behind a total and its wickets.
-pub fn runs_room(room: Room, score: &Match, innings: usize) -> Room
-    requires { innings < begun_in score.now }
-    ensures { ForEachHistory score.now (λ n h.
-        result ≡ fit.behind room (rows.runs_text h innings)) }
+pub fn runs_room(room: Room, innings: Innings<'_>) -> Room
+    ensures { ForInnings innings.entry (λ s h i.
+        result ≡ fit.behind room (rows.runs_text h i)) }
 {
-    let room = room.number(score.total(innings)).text(" for ");
-    room.number(score.wickets(innings))
+    let room = room
+        .number(innings.score.total(innings.index))
+        .text(" for ");
+    room.number(innings.score.wickets(innings.index))
 }
 
 /// Behind of how many overs an innings is, where the sheet says it.
@@ -52,44 +52,43 @@ fn of_room(room: Room, overs: Option<u16>) -> Room
 }
 
 /// Behind the overs called, and the deliveries since.
-fn overs_front_room(room: Room, score: &Match, innings: usize) -> Room
-    requires { innings < begun_in score.now }
-    ensures { ForEachHistory score.now (λ n h.
-        result ≡ fit.behind room (rows.overs_front h innings)) }
+fn overs_front_room(room: Room, innings: Innings<'_>) -> Room
+    ensures { ForInnings innings.entry (λ s h i.
+        result ≡ fit.behind room (rows.overs_front h i)) }
 {
-    let (called, since) = score.overs(innings);
+    let (called, since) = innings.score.overs(innings.index);
     room.text(" (").number(called).text(".").number(since)
 }
 
 /// Behind the overs of an innings.
-fn overs_room(room: Room, form: Form, sheet: &MatchSheet, score: &Match, innings: usize) -> Room
-    requires { innings < begun_in score.now }
-    ensures { ForEachHistory score.now (λ n h.
-        result ≡ fit.behind room (rows.overs_text form sheet.now h innings)) }
+fn overs_room(room: Room, form: Form, innings: Innings<'_>) -> Room
+    ensures { ForInnings innings.entry (λ s h i.
+        result ≡ fit.behind room (rows.overs_text form s h i)) }
 {
-    let room = overs_front_room(room, score, innings);
-    of_room(room, form.limit_in(sheet.limits().overs_for(innings))).text(")")
+    let room = overs_front_room(room, innings);
+    of_room(
+        room,
+        form.limit_in(innings.sheet.limits().overs_for(innings.index)),
+    )
+    .text(")")
 }
 
 /// Behind who is at an end.
 fn batter_room(
     room: Room,
     form: Form,
-    sheet: &MatchSheet,
-    score: &Match,
-    innings: usize,
+    innings: Innings<'_>,
     mark: &str,
     batter: Option<Player>,
 ) -> Room
-    requires { innings < begun_in score.now }
-    ensures { ForEachHistory score.now (λ n h.
-        result ≡ fit.behind room (rows.batter form sheet.now h innings mark.now batter)) }
+    ensures { ForInnings innings.entry (λ s h i.
+        result ≡ fit.behind room (rows.batter form s h i mark.now batter)) }
 {
     let Some(player) = batter else {
         return room.text("-");
     };
-    let name = sheet.player(score.side(innings), player);
-    let row = score.batting_row(innings, player);
+    let name = innings.sheet.player(innings.side(), player);
+    let row = innings.score.batting_row(innings.index, player);
     let room = room.name(name, form.letters()).text(" ");
     room.number(row.runs)
         .text(" (")
@@ -114,56 +113,46 @@ fn number_room(room: Room, is_alike: bool, batter: Option<Player>) -> Room
 }
 
 /// Behind the striker.
-pub fn striker_room(
-    room: Room,
-    form: Form,
-    sheet: &MatchSheet,
-    score: &Match,
-    innings: usize,
-) -> Room
-    requires { innings < begun_in score.now }
-    ensures { ForEachHistory score.now (λ n h.
-        result ≡ fit.behind room (rows.striker form sheet.now h innings)) }
+pub fn striker_room(room: Room, form: Form, innings: Innings<'_>) -> Room
+    ensures { ForInnings innings.entry (λ s h i.
+        result ≡ fit.behind room (rows.striker form s h i)) }
 {
-    let is_alike = are_ends_alike(form, sheet, score, innings);
-    let ends = score.ends();
+    let is_alike = are_ends_alike(form, innings);
+    let ends = innings.score.ends();
     let room = number_room(room, is_alike, ends.striker);
-    batter_room(room, form, sheet, score, innings, "*", ends.striker)
+    batter_room(room, form, innings, "*", ends.striker)
 }
 
 /// Behind the batter at the other end.
-pub fn other_room(room: Room, form: Form, sheet: &MatchSheet, score: &Match, innings: usize) -> Room
-    requires { innings < begun_in score.now }
-    ensures { ForEachHistory score.now (λ n h.
-        result ≡ fit.behind room (rows.other form sheet.now h innings)) }
+pub fn other_room(room: Room, form: Form, innings: Innings<'_>) -> Room
+    ensures { ForInnings innings.entry (λ s h i.
+        result ≡ fit.behind room (rows.other form s h i)) }
 {
-    let is_alike = are_ends_alike(form, sheet, score, innings);
-    let ends = score.ends();
+    let is_alike = are_ends_alike(form, innings);
+    let ends = innings.score.ends();
     let room = number_room(room, is_alike, ends.other);
-    batter_room(room, form, sheet, score, innings, "", ends.other)
+    batter_room(room, form, innings, "", ends.other)
 }
 
 /// Behind the striker, and the batter at the other end.
-fn batters_room(room: Room, form: Form, sheet: &MatchSheet, score: &Match, innings: usize) -> Room
-    requires { innings < begun_in score.now }
-    ensures { ForEachHistory score.now (λ n h.
-        result ≡ fit.behind room (rows.batters form sheet.now h innings)) }
+fn batters_room(room: Room, form: Form, innings: Innings<'_>) -> Room
+    ensures { ForInnings innings.entry (λ s h i.
+        result ≡ fit.behind room (rows.batters form s h i)) }
 {
-    let room = striker_room(room, form, sheet, score, innings).text("  ");
-    other_room(room, form, sheet, score, innings)
+    let room = striker_room(room, form, innings).text("  ");
+    other_room(room, form, innings)
 }
 
 /// Behind the row of an innings, to its batters.
 #[tactic(auto, using(crate::proofs::Rooms::behind_both), unfolding(crate::specs::Row::front))]
-pub fn front_room(room: Room, form: Form, sheet: &MatchSheet, score: &Match, innings: usize) -> Room
-    requires { innings < begun_in score.now }
-    ensures { ForEachHistory score.now (λ n h.
-        result ≡ fit.behind room (rows.front form sheet.now h innings)) }
+pub fn front_room(room: Room, form: Form, innings: Innings<'_>) -> Room
+    ensures { ForInnings innings.entry (λ s h i.
+        result ≡ fit.behind room (rows.front form s h i)) }
 {
-    let room = team_room(room, form, sheet, score, innings);
-    let room = runs_room(room, score, innings);
-    let room = overs_room(room, form, sheet, score, innings).text("  ");
-    batters_room(room, form, sheet, score, innings)
+    let room = team_room(room, form, innings);
+    let room = runs_room(room, innings);
+    let room = overs_room(room, form, innings).text("  ");
+    batters_room(room, form, innings)
 }
 
 /// Behind a bowler's overs, maidens, runs and wickets.
@@ -197,24 +186,16 @@ fn bowler_row_room(
 }
 
 /// Behind who bowled the last delivery, if there is one.
-pub fn bowler_room(
-    room: Room,
-    form: Form,
-    sheet: &MatchSheet,
-    score: &Match,
-    innings: usize,
-    bowler: Option<Player>,
-) -> Room
-    requires { innings < begun_in score.now }
-    ensures { ForEachHistory score.now (λ n h.
-        result ≡ fit.behind room (rows.bowler form sheet.now h innings bowler)) }
+pub fn bowler_room(room: Room, form: Form, innings: Innings<'_>, bowler: Option<Player>) -> Room
+    ensures { ForInnings innings.entry (λ s h i.
+        result ≡ fit.behind room (rows.bowler form s h i bowler)) }
 {
     let Some(player) = bowler else {
         return room;
     };
-    let side = opponent(score.side(innings));
-    let row = score.bowling_row(innings, player);
-    bowler_row_room(room.text("  "), form, sheet, side, player, &row)
+    let side = opponent(innings.side());
+    let row = innings.score.bowling_row(innings.index, player);
+    bowler_row_room(room.text("  "), form, innings.sheet, side, player, &row)
 }
 
 /// Behind that a bowler is past his overs, where he is.
@@ -251,6 +232,11 @@ pub fn bowling_room<B: BookOf>(
 {
     let overs = overs_of(book);
     let most = sheet.limits().overs_a_bowler();
-    let room = bowler_room(room, form, sheet, book.score(), innings, overs.bowler());
+    let innings = Innings {
+        sheet,
+        score: book.score(),
+        index: innings,
+    };
+    let room = bowler_room(room, form, innings, overs.bowler());
     past_room(room, book, form.beside(most), overs.bowler())
 }

@@ -4,15 +4,15 @@ ghost use Rattle.std.specs.Prelude.{◌≡◌, ◌<◌, ◌∷◌, [], IfOk, cod
 ghost use Rattle.falls.specs.Falls.{falls_at};
 ghost use Rattle.match_laws.specs.Figures as figures;
 ghost use Rattle.match_laws.specs.History.{side_of};
-ghost use Rattle.match_laws.specs.Stands.{ForEachHistory, begun_in};
+ghost use Rattle.cards.specs.Begun.{ForInnings};
 ghost use Rattle.json_fields.specs.Values.{PutsFields, PutsValues, text_field};
 ghost use Rattle.scoreboard.specs.Innings as laws;
 
-use cards::{MatchSheet, fate_text};
+use cards::{Innings, MatchSheet, fate_text};
 use falls::{FallAt, falls_in, over_and_ball};
 use itoa::Buffer;
 use json_fields::{Compact, begin_object, end_object, put_figure, put_text};
-use match_laws::{BattingRow, BowlingRow, Fall, Match, opponent};
+use match_laws::{BattingRow, BowlingRow, Fall, opponent};
 use notation::{Player, Side};
 use std::alloc::{AllocError, Global};
 
@@ -149,80 +149,60 @@ fn put_fall(
 fn put_batter_of(
     out: &mut Compact,
     alloc: Global,
-    sheet: &MatchSheet,
-    score: &Match,
-    innings: usize,
+    innings: Innings<'_>,
     player: Player,
 ) -> Result<(), AllocError>
-    requires { innings < begun_in score.now }
-    ensures { ForEachHistory score.now (λ n h.
-        PutsValues result out.old out.new (laws.batter_of sheet.now h innings player ∷ [])) }
+    ensures { ForInnings innings.entry (λ s h i.
+        PutsValues result out.old out.new (laws.batter_of s h i player ∷ [])) }
 {
-    let row = score.batting_row(innings, player);
-    put_batter(out, alloc, sheet, score.side(innings), player, &row)
+    let row = innings.score.batting_row(innings.index, player);
+    put_batter(out, alloc, innings.sheet, innings.side(), player, &row)
 }
 
 /// Puts a bowler of an innings.
 fn put_bowler_of(
     out: &mut Compact,
     alloc: Global,
-    sheet: &MatchSheet,
-    score: &Match,
-    innings: usize,
+    innings: Innings<'_>,
     player: Player,
 ) -> Result<(), AllocError>
-    requires { innings < begun_in score.now }
-    ensures { ForEachHistory score.now (λ n h.
-        PutsValues result out.old out.new (laws.bowler_of sheet.now h innings player ∷ [])) }
+    ensures { ForInnings innings.entry (λ s h i.
+        PutsValues result out.old out.new (laws.bowler_of s h i player ∷ [])) }
 {
-    let row = score.bowling_row(innings, player);
+    let row = innings.score.bowling_row(innings.index, player);
     put_bowler(
         out,
         alloc,
-        sheet,
-        opponent(score.side(innings)),
+        innings.sheet,
+        opponent(innings.side()),
         player,
         &row,
     )
 }
 
 /// Puts who came in or was timed out, in that order.
-pub fn put_batters(
-    out: &mut Compact,
-    alloc: Global,
-    sheet: &MatchSheet,
-    score: &Match,
-    innings: usize,
-) -> Result<(), AllocError>
-    requires { innings < begun_in score.now }
-    ensures { ForEachHistory score.now (λ n h.
-        PutsValues result out.old out.new (laws.batting sheet.now h innings)) }
+pub fn put_batters(out: &mut Compact, alloc: Global, innings: Innings<'_>) -> Result<(), AllocError>
+    ensures { ForInnings innings.entry (λ s h i.
+        PutsValues result out.old out.new (laws.batting s h i)) }
 {
-    let order = score.batting_order(innings);
+    let order = innings.score.batting_order(innings.index);
     for place in order {
         if let Some(player) = place {
-            put_batter_of(out, alloc, sheet, score, innings, player)?;
+            put_batter_of(out, alloc, innings, player)?;
         }
     }
     Ok(())
 }
 
 /// Puts who bowled, in the order of the first delivery.
-pub fn put_bowlers(
-    out: &mut Compact,
-    alloc: Global,
-    sheet: &MatchSheet,
-    score: &Match,
-    innings: usize,
-) -> Result<(), AllocError>
-    requires { innings < begun_in score.now }
-    ensures { ForEachHistory score.now (λ n h.
-        PutsValues result out.old out.new (laws.bowling sheet.now h innings)) }
+pub fn put_bowlers(out: &mut Compact, alloc: Global, innings: Innings<'_>) -> Result<(), AllocError>
+    ensures { ForInnings innings.entry (λ s h i.
+        PutsValues result out.old out.new (laws.bowling s h i)) }
 {
-    let order = score.bowling_order(innings);
+    let order = innings.score.bowling_order(innings.index);
     for place in order {
         if let Some(player) = place {
-            put_bowler_of(out, alloc, sheet, score, innings, player)?;
+            put_bowler_of(out, alloc, innings, player)?;
         }
     }
     Ok(())
@@ -232,20 +212,17 @@ pub fn put_bowlers(
 fn put_each_fall(
     out: &mut Compact,
     alloc: Global,
-    sheet: &MatchSheet,
-    score: &Match,
-    innings: usize,
+    innings: Innings<'_>,
     there: &[FallAt],
 ) -> Result<(), AllocError>
-    requires { innings < begun_in score.now }
-    ensures { ForEachHistory score.now (λ n h. PutsValues result out.old out.new
-        (laws.values_from (laws.fall_value sheet.now (side_of h innings) there.now) 0 (figures.falls h innings))) }
+    ensures { ForInnings innings.entry (λ s h i. PutsValues result out.old out.new
+        (laws.values_from (laws.fall_value s (side_of h i) there.now) 0 (figures.falls h i))) }
 {
-    let side = score.side(innings);
-    let falls = score.falls(innings);
+    let side = innings.side();
+    let falls = innings.score.falls(innings.index);
     for (index, place) in falls.iter().enumerate() {
         if let Some(fall) = place {
-            put_fall(out, alloc, sheet, side, there, index, fall)?;
+            put_fall(out, alloc, innings.sheet, side, there, index, fall)?;
         }
     }
     Ok(())
@@ -255,17 +232,14 @@ fn put_each_fall(
 pub fn put_falls(
     out: &mut Compact,
     alloc: Global,
-    sheet: &MatchSheet,
-    score: &Match,
-    innings: usize,
+    innings: Innings<'_>,
     falls: &[FallAt],
 ) -> Result<(), AllocError>
-    requires { innings < begun_in score.now }
-    ensures { ForEachHistory score.now (λ n h. falls.now ≡ falls_at h →
-        PutsValues result out.old out.new (laws.falls_values sheet.now h innings)) }
+    ensures { ForInnings innings.entry (λ s h i. falls.now ≡ falls_at h →
+        PutsValues result out.old out.new (laws.falls_values s h i)) }
 {
-    let begun = score.begun();
-    prove!(innings < begun);
-    let there = falls_in(alloc, innings + 1, falls)?;
-    put_each_fall(out, alloc, sheet, score, innings, there.as_slice())
+    let begun = innings.score.begun();
+    prove!(innings.index < begun);
+    let there = falls_in(alloc, innings.index + 1, falls)?;
+    put_each_fall(out, alloc, innings, there.as_slice())
 }

@@ -3,14 +3,15 @@
 ghost use Rattle.std.specs.Prelude.{◌≡◌, ◌+◌, ◌<◌, ◌∷◌, [], codes};
 ghost use Rattle.match_laws.specs.History.{side_of};
 ghost use Rattle.match_laws.specs.Parts.{extras_of};
-ghost use Rattle.match_laws.specs.Stands.{ForEachHistory, begun_in};
+ghost use Rattle.match_laws.specs.Stands.{ForEachHistory};
+ghost use Rattle.cards.specs.Begun.{ForInnings};
 ghost use Rattle.json.specs.Json.{boolean};
 ghost use Rattle.json_fields.specs.Values.{PutsFields, PutsValues, array_of};
 ghost use Rattle.falls.specs.Falls.{falls_at};
 ghost use Rattle.scoreboard.specs.Innings as laws;
 
 use crate::cards_put::{put_batters, put_bowlers, put_falls, put_overs};
-use cards::MatchSheet;
+use cards::{Innings, MatchSheet};
 use falls::FallAt;
 use json_fields::{
     Compact, begin_array, begin_field, begin_object, end_array, end_object, put_bool, put_figure,
@@ -35,34 +36,26 @@ fn put_extras(out: &mut Compact, extras: &Extras) -> Result<(), AllocError>
 }
 
 /// Whether an innings is over.
-fn is_closed(score: &Match, innings: usize) -> bool
-    requires { innings < begun_in score.now }
-    ensures { ForEachHistory score.now (λ n h. result ≡ laws.is_closed h innings) }
+fn is_closed(innings: Innings<'_>) -> bool
+    ensures { ForInnings innings.entry (λ s h i. result ≡ laws.is_closed h i) }
 {
-    let begun = score.begun();
-    prove!(innings < begun);
-    !(score.is_open() && begun == innings + 1)
+    let begun = innings.score.begun();
+    prove!(innings.index < begun);
+    !(innings.score.is_open() && begun == innings.index + 1)
 }
 
 /// Puts the side with its score.
-fn put_score(
-    out: &mut Compact,
-    alloc: Global,
-    sheet: &MatchSheet,
-    score: &Match,
-    innings: usize,
-) -> Result<(), AllocError>
-    requires { innings < begun_in score.now }
-    ensures { ForEachHistory score.now (λ n h.
-        PutsFields result out.old out.new (laws.score_fields sheet.now h innings)) }
+fn put_score(out: &mut Compact, alloc: Global, innings: Innings<'_>) -> Result<(), AllocError>
+    ensures { ForInnings innings.entry (λ s h i.
+        PutsFields result out.old out.new (laws.score_fields s h i)) }
 {
-    let (called, since) = score.overs(innings);
-    put_text(out, "team", sheet.name(score.side(innings)))?;
-    put_figure(out, "runs", score.total(innings))?;
-    put_figure(out, "wickets", score.wickets(innings))?;
+    let (called, since) = innings.score.overs(innings.index);
+    put_text(out, "team", innings.sheet.name(innings.side()))?;
+    put_figure(out, "runs", innings.score.total(innings.index))?;
+    put_figure(out, "wickets", innings.score.wickets(innings.index))?;
     put_overs(out, alloc, called, since)?;
-    put_bool(out, "closed", is_closed(score, innings))?;
-    put_extras(out, &score.extras(innings))
+    put_bool(out, "closed", is_closed(innings))?;
+    put_extras(out, &innings.score.extras(innings.index))
 }
 
 /// The player at an index, from 0 to 10.
@@ -84,55 +77,35 @@ fn put_names(out: &mut Compact, sheet: &MatchSheet, side: Side) -> Result<(), Al
 }
 
 /// Puts the field of them, of the side that bats.
-fn put_players(
-    out: &mut Compact,
-    sheet: &MatchSheet,
-    score: &Match,
-    innings: usize,
-) -> Result<(), AllocError>
-    requires { innings < begun_in score.now }
-    ensures { ForEachHistory score.now (λ n h.
+fn put_players(out: &mut Compact, innings: Innings<'_>) -> Result<(), AllocError>
+    ensures { ForInnings innings.entry (λ s h i.
         PutsFields result out.old out.new
-        ((codes "players", array_of (laws.names_of sheet.now (side_of h innings))) ∷ [])) }
+        ((codes "players", array_of (laws.names_of s (side_of h i))) ∷ [])) }
 {
     begin_array(out, "players")?;
-    put_names(out, sheet, score.side(innings))?;
+    put_names(out, innings.sheet, innings.side())?;
     end_array(out)
 }
 
 /// Puts the batting card.
-fn put_batting(
-    out: &mut Compact,
-    alloc: Global,
-    sheet: &MatchSheet,
-    score: &Match,
-    innings: usize,
-) -> Result<(), AllocError>
-    requires { innings < begun_in score.now }
-    ensures { ForEachHistory score.now (λ n h.
+fn put_batting(out: &mut Compact, alloc: Global, innings: Innings<'_>) -> Result<(), AllocError>
+    ensures { ForInnings innings.entry (λ s h i.
         PutsFields result out.old out.new
-        ((codes "batting", array_of (laws.batting sheet.now h innings)) ∷ [])) }
+        ((codes "batting", array_of (laws.batting s h i)) ∷ [])) }
 {
     begin_array(out, "batting")?;
-    put_batters(out, alloc, sheet, score, innings)?;
+    put_batters(out, alloc, innings)?;
     end_array(out)
 }
 
 /// Puts the bowling card.
-fn put_bowling(
-    out: &mut Compact,
-    alloc: Global,
-    sheet: &MatchSheet,
-    score: &Match,
-    innings: usize,
-) -> Result<(), AllocError>
-    requires { innings < begun_in score.now }
-    ensures { ForEachHistory score.now (λ n h.
+fn put_bowling(out: &mut Compact, alloc: Global, innings: Innings<'_>) -> Result<(), AllocError>
+    ensures { ForInnings innings.entry (λ s h i.
         PutsFields result out.old out.new
-        ((codes "bowling", array_of (laws.bowling sheet.now h innings)) ∷ [])) }
+        ((codes "bowling", array_of (laws.bowling s h i)) ∷ [])) }
 {
     begin_array(out, "bowling")?;
-    put_bowlers(out, alloc, sheet, score, innings)?;
+    put_bowlers(out, alloc, innings)?;
     end_array(out)
 }
 
@@ -140,18 +113,15 @@ fn put_bowling(
 fn put_falls_of(
     out: &mut Compact,
     alloc: Global,
-    sheet: &MatchSheet,
-    score: &Match,
-    innings: usize,
+    innings: Innings<'_>,
     falls: &[FallAt],
 ) -> Result<(), AllocError>
-    requires { innings < begun_in score.now }
-    ensures { ForEachHistory score.now (λ n h. falls.now ≡ falls_at h →
+    ensures { ForInnings innings.entry (λ s h i. falls.now ≡ falls_at h →
         PutsFields result out.old out.new
-        ((codes "falls", array_of (laws.falls_values sheet.now h innings)) ∷ [])) }
+        ((codes "falls", array_of (laws.falls_values s h i)) ∷ [])) }
 {
     begin_array(out, "falls")?;
-    put_falls(out, alloc, sheet, score, innings, falls)?;
+    put_falls(out, alloc, innings, falls)?;
     end_array(out)
 }
 
@@ -159,21 +129,18 @@ fn put_falls_of(
 fn put_innings(
     out: &mut Compact,
     alloc: Global,
-    sheet: &MatchSheet,
-    score: &Match,
-    innings: usize,
+    innings: Innings<'_>,
     falls: &[FallAt],
 ) -> Result<(), AllocError>
-    requires { innings < begun_in score.now }
-    ensures { ForEachHistory score.now (λ n h. falls.now ≡ falls_at h →
-        PutsValues result out.old out.new (laws.innings_value sheet.now h innings ∷ [])) }
+    ensures { ForInnings innings.entry (λ s h i. falls.now ≡ falls_at h →
+        PutsValues result out.old out.new (laws.innings_value s h i ∷ [])) }
 {
     begin_object(out)?;
-    put_score(out, alloc, sheet, score, innings)?;
-    put_players(out, sheet, score, innings)?;
-    put_batting(out, alloc, sheet, score, innings)?;
-    put_bowling(out, alloc, sheet, score, innings)?;
-    put_falls_of(out, alloc, sheet, score, innings, falls)?;
+    put_score(out, alloc, innings)?;
+    put_players(out, innings)?;
+    put_batting(out, alloc, innings)?;
+    put_bowling(out, alloc, innings)?;
+    put_falls_of(out, alloc, innings, falls)?;
     end_object(out)
 }
 
@@ -189,7 +156,12 @@ fn put_each(
         PutsValues result out.old out.new (laws.all_innings sheet.now h)) }
 {
     for innings in 0..score.begun() {
-        put_innings(out, alloc, sheet, score, innings, falls)?;
+        let now = Innings {
+            sheet,
+            score,
+            index: innings,
+        };
+        put_innings(out, alloc, now, falls)?;
     }
     Ok(())
 }

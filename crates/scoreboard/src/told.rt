@@ -2,20 +2,19 @@
 
 ghost use Rattle.std.specs.Prelude.{◌≡◌, ◌<◌};
 ghost use Rattle.match_laws.specs.History.{begun};
-ghost use Rattle.match_laws.specs.Stands.{ForEachHistory, begun_in};
 ghost use Rattle.corrections.specs.CleanList.{history_of};
 ghost use Rattle.corrections.specs.Overs.{AreOversOf};
 ghost use Rattle.limits.specs.Rates as rates;
+ghost use Rattle.cards.specs.Begun.{ForInnings};
 ghost use Rattle.scoreboard.specs.Limited as laws;
 
 use crate::recent::last_rate;
-use cards::MatchSheet;
+use cards::{Innings, MatchSheet};
 use corrections::{BookOf, Overs};
 use limits::{
     a_ball, an_over, deliveries_left, is_free_hit, overs_bowled, overs_left, powerplay_now,
     run_rate, runs_needed,
 };
-use match_laws::Match;
 use notation::Player;
 
 /// What follows for the innings that began last: rates are in hundredths.
@@ -38,35 +37,33 @@ pub struct Told {
 }
 
 /// How many overs the innings has, while it is open.
-fn overs_open(sheet: &MatchSheet, score: &Match, innings: usize) -> Option<u16>
-    ensures { ForEachHistory score.now (λ n h. result ≡ laws.overs_open sheet.now h innings) }
+fn overs_open(innings: Innings<'_>) -> Option<u16>
+    ensures { ForInnings innings.entry (λ s h i. result ≡ laws.overs_open s h i) }
 {
-    if score.is_open() {
-        sheet.limits().overs_for(innings)
+    if innings.score.is_open() {
+        innings.sheet.limits().overs_for(innings.index)
     } else {
         None
     }
 }
 
 /// Of so many, the overs left.
-fn overs_in(score: &Match, innings: usize, overs: Option<u16>) -> Option<u32>
-    requires { innings < begun_in score.now }
-    ensures { ForEachHistory score.now (λ n h. result ≡ laws.overs_in h innings overs) }
+fn overs_in(innings: Innings<'_>, overs: Option<u16>) -> Option<u32>
+    ensures { ForInnings innings.entry (λ s h i. result ≡ laws.overs_in h i overs) }
 {
     match overs {
         None => None,
-        Some(overs) => Some(overs_left(score, innings, overs)),
+        Some(overs) => Some(overs_left(innings.score, innings.index, overs)),
     }
 }
 
 /// Of so many, the deliveries left.
-fn balls_in(score: &Match, innings: usize, overs: Option<u16>) -> Option<u32>
-    requires { innings < begun_in score.now }
-    ensures { ForEachHistory score.now (λ n h. result ≡ laws.balls_in h innings overs) }
+fn balls_in(innings: Innings<'_>, overs: Option<u16>) -> Option<u32>
+    ensures { ForInnings innings.entry (λ s h i. result ≡ laws.balls_in h i overs) }
 {
     match overs {
         None => None,
-        Some(overs) => Some(deliveries_left(score, innings, overs)),
+        Some(overs) => Some(deliveries_left(innings.score, innings.index, overs)),
     }
 }
 
@@ -120,12 +117,17 @@ fn told_in<B: BookOf>(sheet: &MatchSheet, book: &B, overs: &Overs<'_>, innings: 
         → result ≡ laws.told_in sheet.now (B.innings_a_side book.now) (history_of (B.content book.now)) innings }
 {
     let score = book.score();
-    let most = overs_open(sheet, score, innings);
-    let left = balls_in(score, innings, most);
+    let now = Innings {
+        sheet,
+        score,
+        index: innings,
+    };
+    let most = overs_open(now);
+    let left = balls_in(now, most);
     let needed = runs_needed(score);
     Told {
         overs: most,
-        overs_left: overs_in(score, innings, most),
+        overs_left: overs_in(now, most),
         balls_left: left,
         needed_an_over: needed_an_over(needed, left),
         needed_a_ball: needed_a_ball(needed, left),

@@ -3,17 +3,17 @@
 ghost use Rattle.std.specs.Prelude.{◌≡◌, ◌<◌, ◌++◌, OnOk, codes, true};
 ghost use Rattle.std.specs.List.{list_all};
 ghost use Rattle.match_laws.specs.History.{begun};
-ghost use Rattle.match_laws.specs.Stands.{ForEachHistory, begun_in};
 ghost use Rattle.corrections.specs.CleanList.{history_of};
+ghost use Rattle.cards.specs.Begun.{ForInnings};
 ghost use Rattle.cards.specs.Sheet.{name_of};
 ghost use Rattle.streams.specs.Watched.{Prints, TellsFailure};
 ghost use Rattle.screen.specs.Waiting as waiting;
 ghost use Rattle.notation.specs.Written.{is_player};
 
 use crate::sides::{next_column, print_next};
-use cards::MatchSheet;
+use cards::{Innings, MatchSheet};
 use corrections::BookOf;
-use match_laws::{Fate, Match};
+use match_laws::Fate;
 use notation::{Player, Side};
 use streams::{Sink, Watched, WriteFailed};
 
@@ -27,17 +27,14 @@ fn waits(fate: Option<Fate>) -> bool
 /// Prints those of the players of these numbers who wait.
 fn print_those<W: Sink>(
     out: &mut Watched<W>,
-    sheet: &MatchSheet,
-    score: &Match,
-    innings: usize,
+    innings: Innings<'_>,
     column: u8,
     numbers: &[u8],
 ) -> Result<(), WriteFailed>
     requires column { column < 3 }
-    requires begun { innings < begun_in score.now }
     requires numbers { list_all is_player numbers.now ≡ true }
-    ensures text { ForEachHistory score.now (λ n h. OnOk result (Prints W.contents out.old out.new
-        (waiting.waiting sheet.now h innings column numbers.now))) }
+    ensures text { ForInnings innings.entry (λ s h i. OnOk result (Prints W.contents out.old out.new
+        (waiting.waiting s h i column numbers.now))) }
     ensures failed { TellsFailure result out.old out.new }
 {
     let Some((number, more)) = numbers.split_first() else {
@@ -46,28 +43,22 @@ fn print_those<W: Sink>(
     let Some(player) = Player::new(*number) else {
         return Ok(());
     };
-    if !waits(score.batting_row(innings, player).fate) {
-        return print_those(out, sheet, score, innings, column, more);
+    if !waits(innings.score.batting_row(innings.index, player).fate) {
+        return print_those(out, innings, column, more);
     }
-    print_next(out, sheet, score.side(innings), column, player)?;
-    print_those(out, sheet, score, innings, next_column(column), more)
+    print_next(out, innings.sheet, innings.side(), column, player)?;
+    print_those(out, innings, next_column(column), more)
 }
 
 /// Prints all of a side who wait.
 #[tactic(auto, unfolding(crate::specs::Waiting::all_waiting))]
-fn print_all<W: Sink>(
-    out: &mut Watched<W>,
-    sheet: &MatchSheet,
-    score: &Match,
-    innings: usize,
-) -> Result<(), WriteFailed>
-    requires { innings < begun_in score.now }
-    ensures text { ForEachHistory score.now (λ n h. OnOk result (Prints W.contents out.old out.new
-        (waiting.all_waiting sheet.now h innings))) }
+fn print_all<W: Sink>(out: &mut Watched<W>, innings: Innings<'_>) -> Result<(), WriteFailed>
+    ensures text { ForInnings innings.entry (λ s h i. OnOk result (Prints W.contents out.old out.new
+        (waiting.all_waiting s h i))) }
     ensures failed { TellsFailure result out.old out.new }
 {
     let all = [1, 2, 3, 4, 5, 6, 7, 8, 9, 10, 11];
-    print_those(out, sheet, score, innings, 0, &all)
+    print_those(out, innings, 0, &all)
 }
 
 /// Prints the name of a side, before those who wait.
@@ -97,7 +88,12 @@ fn print_lines<W: Sink, B: BookOf>(
 {
     let score = book.score();
     print_head(out, sheet, score.side(innings))?;
-    print_all(out, sheet, score, innings)?;
+    let innings = Innings {
+        sheet,
+        score,
+        index: innings,
+    };
+    print_all(out, innings)?;
     writeln!(out)
 }
 

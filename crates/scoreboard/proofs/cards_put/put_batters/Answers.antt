@@ -22,5 +22,5 @@ loop-place-preserved c =
 pub returns : goal.returns
 returns c = λ n h s.
     let order = c.batting_order-order in
-    rw (← parts_from-map (batter_of c.args.sheet.now h c.args.innings) 0 _)
+    rw (← parts_from-map (batter_of c.args.innings.sheet.now h c.args.innings.index) 0 _)
     (ends putting 11 _ (c.loop-place.invariant n h s) c.loop-place-test.false (order.ensures.filled n h s) (order.ensures.all n h s))

@@ -22,5 +22,5 @@ loop-index-preserved c =
 pub returns : goal.returns
 returns c = λ n h s.
     let falls = c.falls-falls in
-    rw (← c.side-side.ensures n h s, ← parts_from-values (fall_value c.args.sheet.now c.side-side.result c.args.there.now) 0 _)
+    rw (← c.side-side.ensures n h s, ← parts_from-values (fall_value c.args.innings.sheet.now c.side-side.result c.args.there.now) 0 _)
     (ends putting 10 _ c.loop-index.invariant c.loop-index-test.false (falls.ensures.filled n h s) (falls.ensures.all n h s))

@@ -5,4 +5,4 @@ use Rattle.scoreboard.proofs.Rows.{PutsValues}
 use Rattle.scoreboard.proofs.cards_put.put_each_fall.Given as goal
 
 abbrev pub invariant-loop-index : goal.invariant-loop-index
-invariant-loop-index l = SoFar PutsValues (λ k x. fall_value l.sheet l.side l.there k x ∷ []) l.place-items l.index 0 l.initial.out l.out
+invariant-loop-index l = SoFar PutsValues (λ k x. fall_value l.innings.sheet.now l.side l.there k x ∷ []) l.place-items l.index 0 l.initial.out l.out
