@@ -130,24 +130,28 @@ fn keep_out_of_dumps(rt: &HostRuntime) {
     let _ = fs::write(rt, "/proc/self/coredump_filter", "0");
 }
 
-/// The scorers' key, without a byte where they have none, the digest of their sheet, and the number of its match.
+/// What a match's datagrams are sealed with, of the scorers' key, which isn't kept, and the digest of their sheet; that
+/// digest; and the number of the match.
 #[derive(Drop)]
 pub struct Sealing {
-    key: Vec<u8>,
+    seal: Seal,
+    /// Whether the scorers have a key.
+    has_key: bool,
     digest: [u8; 32],
     game: u64,
 }
 
 impl Sealing {
     /// Of this sheet and this key, without a byte where there is none.
-    fn with_key(sheet: &MatchSheet, key: Vec<u8>) -> Sealing
-        ensures key { result.key.items ≡ key.items }
-        ensures digest { result.digest ≡ sheet_digest sheet.now }
+    fn with_key(sheet: &MatchSheet, key: &[u8]) -> Sealing
+        ensures seal { result.seal ≡ seal_of key.now (sheet_digest sheet.now) }
         ensures game { result.game ≡ sheet.now.game }
     {
+        let digest = digest_of(sheet);
         Sealing {
-            key,
-            digest: digest_of(sheet),
+            seal: Seal::new(key, &digest),
+            has_key: !key.is_empty(),
+            digest,
             game: sheet.game(),
         }
     }
@@ -159,26 +163,20 @@ impl Sealing {
         sheet_path: &str,
         key: Option<&'a str>,
     ) -> Result<Sealing, Stopped<'a>>
-        ensures digest { IfOk result (λ sealing. sealing.digest ≡ sheet_digest sheet.now) }
         ensures game { IfOk result (λ sealing. sealing.game ≡ sheet.now.game) }
-        ensures none { key.entry ≡ None → IfOk result (λ sealing. sealing.key.items ≡ []) }
-        ensures key { IfSome key.entry (λ path. IfOk result (λ sealing. keys.IsSomeKey sealing.key.items)) }
+        ensures none { key.entry ≡ None
+            → IfOk result (λ sealing. sealing.seal ≡ seal_of [] (sheet_digest sheet.now)) }
+        ensures key { IfSome key.entry (λ path.
+            IfOk result (λ sealing. keys.IsOfSomeKey sealing.seal (sheet_digest sheet.now))) }
     {
-        let key = match key {
+        match key {
             Some(path) => {
                 keep_out_of_dumps(rt);
-                key_at(rt, path, sheet_path)?
+                let key = key_at(rt, path, sheet_path)?;
+                Ok(Sealing::with_key(sheet, key.as_slice()))
             }
-            None => Vec::new(rt.alloc()),
-        };
-        Ok(Sealing::with_key(sheet, key))
-    }
-
-    /// What the match's datagrams are sealed with.
-    fn seal(&self) -> Seal
-        ensures { result ≡ seal_of self.now.key.items self.now.digest }
-    {
-        Seal::new(self.key.as_slice(), &self.digest)
+            None => Ok(Sealing::with_key(sheet, b"")),
+        }
     }
 
     /// Tells what two scorers read to each other, by one write: the fingerprint of the sheet, and that of the key where
@@ -187,10 +185,10 @@ impl Sealing {
         let mut text = *b"sheet 0000-0000\nkey 0000-0000\n";
         let digest = &self.digest;
         put_digits(&mut text, 6, [digest[0], digest[1], digest[2], digest[3]]);
-        if self.key.is_empty() {
+        if !self.has_key {
             return errors.write_all(&text[..16]);
         }
-        put_digits(&mut text, 20, self.seal().fingerprint());
+        put_digits(&mut text, 20, self.seal.fingerprint());
         errors.write_all(&text[..])
     }
 
@@ -203,11 +201,11 @@ impl Sealing {
         ends: WaitEnds,
         errors: E,
     ) -> Result<Sealed<Peers<E>>, Stopped<'a>>
-        ensures seal { IfOk result (λ sealed. sealed.seal ≡ seal_of self.now.key.items self.now.digest) }
+        ensures seal { IfOk result (λ sealed. sealed.seal ≡ self.now.seal) }
         ensures log { IfOk result (λ sealed. carried_of sealed.carrier.log ≡ []) }
     {
-        let peers = peers_at(rt, at, peers, ends, self.seal(), errors)?;
-        Ok(Sealed::new(peers, self.seal()))
+        let peers = peers_at(rt, at, peers, ends, self.seal.copied(), errors)?;
+        Ok(Sealed::new(peers, self.seal.copied()))
     }
 
     /// A station's link over its sealed datagrams, of which none passed yet. It has no socket but theirs.
