@@ -5,7 +5,7 @@ ghost use Rattle.machine_files.specs.Pairs.{file_of, first_of, second_of};
 ghost use Rattle.setup.specs.Counting.{counting_bytes};
 ghost use Rattle.setup.specs.Files.{IsRenewed};
 
-use crate::counting::{Counting, place_of};
+use crate::counting::{Counting, place_of_difference};
 use crate::fault::{StopFault, Stopped, printable};
 use crate::votes_file::renewed_disk;
 use machine_files::{LastFault, NamedFile, Pair};
@@ -101,7 +101,7 @@ pub fn paired_disk<'r, 'a>(
         Counting::Neither { same } => Err(Stopped::at(
             path,
             StopFault::FilesDiffer {
-                place: place_of(bytes, copied, same),
+                place: place_of_difference(bytes, copied, same),
             },
         )),
     }

@@ -100,7 +100,7 @@ fn place_at(bytes: &[u8], slot: usize) -> u32 {
 }
 
 /// The place at which two files differ behind so many blocks: the lower one, where one of them has a further round there.
-pub fn place_of(first: &[u8], second: &[u8], same: usize) -> u32 {
+pub fn place_of_difference(first: &[u8], second: &[u8], same: usize) -> u32 {
     if same == 0 {
         return 0;
     }

@@ -16,7 +16,7 @@ mod unfit_keys;
 mod votes_file;
 
 pub use crate::copies::{CopiedDisk, Kept, paired_disk, tell_copies};
-pub use crate::counting::{Counting, compared, place_of};
+pub use crate::counting::{Counting, compared, place_of_difference};
 pub use crate::fault::{StopFault, Stopped, TURNS, print_fault, printable};
 pub use crate::gaps::{Gaps, fill_gaps};
 pub use crate::key_fault::KeyFault;
