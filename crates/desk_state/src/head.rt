@@ -6,15 +6,12 @@ ghost use Rattle.json_fields.specs.Values.{PutsFields, PutsValues};
 ghost use Rattle.desk_state.specs.Head as laws;
 
 use agree_core::{DeskId, Position};
-use arrayvec::ArrayString;
 use cards::MatchSheet;
 use itoa::Buffer;
 use json_fields::{Compact, begin_array, end_array, put_figure, put_null, put_string, put_text};
+use links::HeldLine;
 use notation::{Entry, line_of};
 use std::alloc::AllocError;
-
-/// A line that the desk holds.
-pub type HeldLine = ArrayString<128>;
 
 /// The desk's letter.
 fn letter(desk: DeskId) -> &'static str

@@ -4,12 +4,12 @@ ghost use Rattle.std.specs.Prelude.{◌≡◌, IfOk, IfSome};
 ghost use Rattle.notation.specs.Written.{IsEntry};
 ghost use Rattle.desk_state.specs.Value.{state_text as text_of};
 
-use crate::head::HeldLine;
 use crate::value::put_state;
 use agree_core::{DeskId, Position};
 use cards::MatchSheet;
 use corrections::BookOf;
 use json_fields::Compact;
+use links::HeldLine;
 use notation::Entry;
 use std::alloc::{AllocError, Global};
 

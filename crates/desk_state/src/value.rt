@@ -7,7 +7,7 @@ ghost use Rattle.desk_state.specs.Value as laws;
 
 use crate::board::put_board_field;
 use crate::deliveries::over_shown;
-use crate::head::{HeldLine, put_head};
+use crate::head::put_head;
 use crate::next::put_next;
 use crate::over::put_over;
 use crate::sides::put_sides;
@@ -15,6 +15,7 @@ use agree_core::{DeskId, Position};
 use cards::MatchSheet;
 use corrections::BookOf;
 use json_fields::{Compact, begin_object, end_object};
+use links::HeldLine;
 use notation::Entry;
 use std::alloc::{AllocError, Global};
 

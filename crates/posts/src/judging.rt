@@ -9,20 +9,15 @@ use crate::stamp::Stamp;
 use crate::tags::{is_same, tag_of};
 use agree_core::Position;
 use arrayvec::ArrayVec;
+use links::LINE_ROOM;
 use screen::is_end;
 use std::marker::Model;
 
 /// How many lines wait at most.
 pub const MOST_WAITING: usize = 8;
 
-/// How many bytes a line has at most.
-const MOST_BYTES: usize = 128;
-
 /// A line that a post types.
-pub type PostedLine = ArrayVec<u8, MOST_BYTES>;
-
-/// Room for such a line.
-pub type LineBuffer = [u8; MOST_BYTES];
+pub type PostedLine = ArrayVec<u8, LINE_ROOM>;
 
 /// A post of a page.
 #[derive(Clone, Copy)]
@@ -135,7 +130,7 @@ impl Posts {
         if !post.is_from_here {
             return Err(Refusal::Foreign);
         }
-        if post.line.len() > MOST_BYTES {
+        if post.line.len() > LINE_ROOM {
             return Err(Refusal::TooLong);
         }
         match post.stamp {

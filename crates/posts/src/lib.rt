@@ -8,7 +8,7 @@ mod refusal;
 mod stamp;
 mod tags;
 
-pub use judging::{LineBuffer, MOST_WAITING, Post, PostedLine, Posts};
+pub use judging::{MOST_WAITING, Post, PostedLine, Posts};
 pub use laws::{each_nonce_once, what_is_taken};
 pub use nonces::MOST_OUT;
 pub use refusal::Refusal;

@@ -8,7 +8,8 @@ ghost use Rattle.viewers.specs.Inboxes as inboxes;
 use crate::asks::{Ask, Heading};
 use agree_core::Position;
 use arrayvec::ArrayVec;
-use posts::{LineBuffer, Post, PostedLine, Posts, Refusal};
+use links::LineBuffer;
+use posts::{Post, PostedLine, Posts, Refusal};
 
 /// The lines that were posted to a desk and that it hasn't taken yet, and who may post.
 #[derive(Drop)]
