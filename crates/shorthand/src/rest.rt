@@ -2,9 +2,9 @@
 
 ghost use Rattle.std.specs.Prelude.{◌≡◌, ◌∷◌, [], MatchOption};
 ghost use Rattle.notation.specs.Written.{tokens};
-ghost use Rattle.notation.specs.inner.Cursor.{tokens_left};
 ghost use Rattle.shorthand.specs.Words as words;
 
+use notation::cut;
 use std::marker::Model;
 
 /// The tokens that are left of a line: its pieces between spaces.
@@ -20,20 +20,6 @@ impl<'a> Model for Rest<'a> {
     ghost Value = { List (List ℕ) };
 
     ghost view = { λ r. tokens_left r.text };
-}
-
-/// The first token of a text, and what stands behind the space after it.
-fn cut(text: &str) -> (&str, Option<&str>)
-    ensures { tokens text.now ≡ result.0.now ∷ tokens_left result.1 }
-{
-    match text.as_bytes().iter().position(|b| *b == b' ') {
-        Some(at) => {
-            let (token, behind) = text.split_at(at);
-            let (_, rest) = behind.split_at(1);
-            (token, Some(rest))
-        }
-        None => (text, None),
-    }
 }
 
 impl<'a> Rest<'a> {
