@@ -1,5 +1,5 @@
 -- Where both desks' votes aren't of one history.
-use Rattle.std.proofs.Common.{◌≡◌, ℕ, ◌+◌, ◌<◌, ◌≤◌, Bool, true, false, None, refl, sym, ap, ◌∙◌, subst, arith, inl, inr}
+use Rattle.std.proofs.Common.{◌≡◌, ℕ, ◌+◌, false, None, refl, arith, inl, inr}
 use Rattle.std.proofs.lemmas.Bool.{cases_lt}
 use Rattle.notation.specs.declared.entry.TheConstants.{PLACES}
 use Rattle.agree_core.specs.declared.position.TheConstants.{ROUNDS}
