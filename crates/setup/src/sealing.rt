@@ -1,6 +1,6 @@
 //! What a station's datagrams are sealed with: the key in a file, or none, and the match sheet.
 
-ghost use Rattle.std.specs.Prelude.{◌≡◌, ◌≤◌, [], None, IfOk, IfSome, take, vec_len};
+ghost use Rattle.std.specs.Prelude.{◌≡◌, ◌≤◌, [], None, IfOk, IfSome, is_some, length, nat_lt, take, vec_len};
 ghost use Rattle.cards.specs.Digest.{sheet_digest};
 ghost use Rattle.links.specs.Logs.{carried_of};
 ghost use Rattle.seal.specs.Sealed.{seal_of};
@@ -145,12 +145,14 @@ impl Sealing {
     /// Of this sheet and this key, without a byte where there is none.
     fn with_key(sheet: &MatchSheet, key: &[u8]) -> Sealing
         ensures seal { result.seal ≡ seal_of key.now (sheet_digest sheet.now) }
+        ensures has_key { result.has_key ≡ nat_lt 0 (length key.now) }
+        ensures digest { result.digest ≡ sheet_digest sheet.now }
         ensures game { result.game ≡ sheet.now.game }
     {
         let digest = digest_of(sheet);
         Sealing {
             seal: Seal::new(key, &digest),
-            has_key: !key.is_empty(),
+            has_key: key.len() > 0,
             digest,
             game: sheet.game(),
         }
@@ -163,7 +165,9 @@ impl Sealing {
         sheet_path: &str,
         key: Option<&'a str>,
     ) -> Result<Sealing, Stopped<'a>>
+        ensures digest { IfOk result (λ sealing. sealing.digest ≡ sheet_digest sheet.now) }
         ensures game { IfOk result (λ sealing. sealing.game ≡ sheet.now.game) }
+        ensures has_key { IfOk result (λ sealing. sealing.has_key ≡ is_some key.entry) }
         ensures none { key.entry ≡ None
             → IfOk result (λ sealing. sealing.seal ≡ seal_of [] (sheet_digest sheet.now)) }
         ensures key { IfSome key.entry (λ path.
