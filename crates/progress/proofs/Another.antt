@@ -1,5 +1,6 @@
 -- No vote of the other desk is another one than that by which a desk went on.
-use Rattle.std.proofs.Common.{◌≡◌, ◌≢◌, ◌⊎◌, ◌<◌, ℕ, Bool, true, false, List, [], ◌∷◌, refl, sym, ap, ◌∙◌, subst, inl, inr, arith}
+use Rattle.std.proofs.lemmas.Grind.{common_steps}
+use Rattle.std.proofs.Common.{◌≡◌, ◌≢◌, ◌⊎◌, ◌<◌, ℕ, Bool, true, false, List, [], ◌∷◌, refl, sym, ap, subst, inl, inr, arith}
 use Rattle.std.specs.Prelude.{if◌then◌else◌}
 use Rattle.std.specs.Str.{bytes_eq}
 use Rattle.std.proofs.lemmas.Bool.Decides.{nat_tests}
@@ -64,18 +65,11 @@ module _ (s : SeatState) (c : Ballot) (less : Before c.at s.position) where
     -- the other's vote for the position of the last vote
     same_round : c.at ≡ z.at → s.position ≡ next_round z.at → Differed theirs z → is_another s (z ∷ zs) c.at (code c.entry) ≡ false
     same_round here next d =
-        let one = one_vote (z ∷ zs) theirs jt c (record { at = z.at; entry = d.0 }) i d.1 here in
-        let differ : c.entry ≢ z.entry = λ e. d.2 (sym e ∙ ap (λ (x : Ballot). x.entry) one) in
-        let value : is_at (next_place z.at) s.position ≡ false = subst (λ (p : Position). is_at (next_place z.at) p ≡ false) (sym next) (place_is_no_round z.at) in
-        there (is_at z.at c.at) _ (is_before z.at c.at) (subst (λ (p : Position). is_at z.at p ≡ true) (sym here) (at_itself z.at))
-        (by_entry (bytes_eq (code c.entry) (code z.entry)) false (next_round z.at) (next_place z.at) s.position (two_codes c.entry z.entry is own differ) value)
+        grind (arith, one_vote, place_is_no_round, there, at_itself, by_entry, two_codes)
 
     same_place : c.at ≡ z.at → s.position ≡ next_place z.at → In z theirs → is_another s (z ∷ zs) c.at (code c.entry) ≡ false
     same_place here next k =
-        let one = one_vote (z ∷ zs) theirs jt c z i k here in
-        let value : is_at (next_round z.at) s.position ≡ false = subst (λ (p : Position). is_at (next_round z.at) p ≡ false) (sym next) (round_is_no_place z.at) in
-        there (is_at z.at c.at) _ (is_before z.at c.at) (subst (λ (p : Position). is_at z.at p ≡ true) (sym here) (at_itself z.at))
-        (by_entry (bytes_eq (code c.entry) (code z.entry)) true (next_round z.at) (next_place z.at) s.position (one_code c.entry z.entry (ap (λ (x : Ballot). x.entry) one)) value)
+        grind (arith, one_vote, round_is_no_place, there, at_itself, by_entry, one_code)
 
     -- none is for a position between that and the desk's own
     not_between : Before z.at c.at → ((s.position ≡ next_round z.at) × Differed theirs z) ⊎ ((s.position ≡ next_place z.at) × In z theirs) → ⊥
@@ -89,11 +83,7 @@ module _ (s : SeatState) (c : Ballot) (less : Before c.at s.position) where
 
     went_on : ((s.position ≡ next_round z.at) × Differed theirs z) ⊎ ((s.position ≡ next_place z.at) × In z theirs)
         → is_another s (z ∷ zs) c.at (code c.entry) ≡ false
-    went_on next = elim (ordered c.at z.at) [
-      | inl here ↦ elim next [ inl n ↦ same_round here n.0 n.1 | inr n ↦ same_place here n.0 n.1 ]
-      | inr (inl before) ↦ elsewhere (is_at z.at c.at) _ (is_before z.at c.at) (not_at z.at c.at before) (not_before z.at c.at before)
-      | inr (inr behind) ↦ absurd (not_between behind next)
-    ]
+    went_on next = grind (arith, common_steps, ordered, same_round, same_place, elsewhere, not_at, not_before, not_between)
 
   by_last : (theirs own : List Ballot) (e : Entry) → Justified theirs own → Justified own theirs → In c theirs → IsEntry c.entry
       → ((b : Ballot) → In b own → IsEntry b.entry) → Follows theirs (record { at = s.position; entry = e }) own

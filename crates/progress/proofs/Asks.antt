@@ -1,6 +1,6 @@
 -- No ask is for a position that the other desk has passed without voting there.
 use Rattle.std.proofs.Common.{◌≡◌, ℕ, Bool, true, false, Option, Some, None, List, [], ◌∷◌, ◌++◌, refl, sym, ap, ◌∙◌, subst, inl, inr, arith}
-use Rattle.std.specs.Prelude.{◌&&◌, ◌||◌, not}
+use Rattle.std.specs.Prelude.{◌&&◌, not}
 use Rattle.std.proofs.lemmas.Bool.Decides.{nat_tests}
 use Rattle.notation.specs.declared.entry.Entry.{Entry}
 use Rattle.agree_core.specs.declared.{messages.Asker.Asker, messages.DeskId.DeskId, messages.Message.Message, position.Position.Position}
@@ -8,7 +8,7 @@ use Rattle.agree_core.specs.declared.messages.DeskId.TheVariants.{A, B}
 use Rattle.agree_core.specs.Agreed.{AllBoth}
 use Rattle.agree_core.specs.Ballots.{AllVotes, Ballot, In, VotesGrow, votes_by}
 use Rattle.agree_core.specs.Boards.{BoardState}
-use Rattle.agree_core.specs.Desks.{DeskState, PenAnswer, Pens, ReceiveAnswer, Receives, Ticks, ask_other, asker, own_vote}
+use Rattle.agree_core.specs.Desks.{DeskState, PenAnswer, Pens, ReceiveAnswer, Receives, Ticks, ask_other, own_vote}
 use Rattle.agree_core.specs.FileView.{FileView}
 use Rattle.agree_core.specs.Keeping.{Each, SeatFine}
 use Rattle.agree_core.specs.LostLines.{is_at, is_before, is_voted}
@@ -21,7 +21,6 @@ use Rattle.headline.specs.Answers.{Answer}
 use Rattle.headline.specs.BoardSteps.{AtBoard}
 use Rattle.headline.specs.Configurations.{Configuration, Node, Running, all_votes, node}
 use Rattle.headline.specs.DeskSteps.{AtDesk}
-use Rattle.headline.specs.Events.{station_of}
 use Rattle.headline.specs.Runs.{Begins, Moment, Run, last_of}
 use Rattle.headline.specs.Setting.{Setting}
 use Rattle.headline.specs.Steps.{StepAt}
@@ -68,10 +67,7 @@ module _ (v : AllVotes) where
 
   ticks_ask : {Disk : Type 0} → (k : DeskState Disk) (out : List Message) → RoundsFine v k.seat.position → Ticks k out → Each (AskFine v) out
   ticks_ask k out r (inr h) = nothing out h.1
-  ticks_ask k out r (inl h) =
-      let p = k.seat.position in
-      subst (Each (AskFine v)) (sym h.2) (each_append (AskFine v) (own_vote k.seat.desk p k.seat.mine) (ask_other (asker k.seat.desk) p k.seat.theirs) (own_fine k.seat.desk p k.seat.mine)
-      (other_fine (asker k.seat.desk) p k.seat.theirs r))
+  ticks_ask k out r (inl h) = grind (arith, each_append, own_fine, other_fine)
 
   receives_ask : {Disk : Type 0} → (view : FileView Disk) (k l : DeskState Disk) (m : Message) (told : ReceiveAnswer) (out : List Message) → Receives view k m told l out
       → Each (AskFine v) out
@@ -115,12 +111,7 @@ module _ {Disk Why : Type 0} (s : Setting Disk Why) where
 
   -- what was sent, and what is handed out
   more_asks : (w new : Configuration Disk) (out : List Message) → Grows s w new → new.sent ≡ w.sent ++ out → AllAsks w → Each (AskFine (all_votes w)) out → AllAsks new
-  more_asks w new out g e h k =
-      let grow = ask_grows (all_votes w) (all_votes new) g in
-      subst (Each (AskFine (all_votes new))) (sym e)
-      (each_append (AskFine (all_votes new)) w.sent out
-      (each_other (AskFine (all_votes w)) (AskFine (all_votes new)) grow w.sent h)
-      (each_other (AskFine (all_votes w)) (AskFine (all_votes new)) grow out k))
+  more_asks w new out g e h k = grind (arith, ask_grows, each_append, each_other)
 
   step_asks : (w : Configuration Disk) (event : Event) (t : Station) (answer : Answer Why) (new : Configuration Disk) → Fine s w → AllRounds s w → AllAsks w
       → Grows s w new → StepAt s w event t answer new → AllAsks new
@@ -134,10 +125,7 @@ module _ {Disk Why : Type 0} (s : Setting Disk Why) where
 
   run_asks : (w : Configuration Disk) (ms : List (Moment Disk Why)) → Fine s w → AllRounds s w → AllAsks w → Run s w ms → AllAsks (last_of w ms)
   run_asks w [] f r a p = a
-  run_asks w (m ∷ ms) f r a p =
-      let before = run_keeps s w ms f p.0 in
-      step_asks (last_of w ms) m.event (station_of m.event) m.answer m.after before (run_rounds s w ms f r p.0) (run_asks w ms f r a p.0)
-      (step_at_keeps s (last_of w ms) m.event (station_of m.event) m.answer m.after before p.1).1 p.1
+  run_asks w (m ∷ ms) f r a p = grind (arith, run_keeps, step_asks, run_rounds, step_at_keeps, (run_asks w ms f r a p.0))
 
   before_when : (p q : Position) → is_before p q ≡ true → Before p q
   before_when p q e = grind (arith, nat_tests, e)
@@ -147,16 +135,8 @@ module _ {Disk Why : Type 0} (s : Setting Disk Why) where
 
   voted_when : (votes : List Ballot) (p : Position) (e : Entry) → In (record { at = p; entry = e }) votes → is_voted votes p ≡ true
   voted_when [] p e i = absurd i
-  voted_when (b ∷ bs) p e (inl q) =
-      let here : is_at b.at p ≡ true = subst (λ (z : Position). is_at z p ≡ true) (ap (λ (c : Ballot). c.at) q) (at_itself p) in
-      either (is_at b.at p) (is_voted bs p) here
-    where
-      either : (x y : Bool) → x ≡ true → (x || y) ≡ true
-      either x y h = grind (arith, h)
-  voted_when (b ∷ bs) p e (inr i) = either (is_at b.at p) (is_voted bs p) (voted_when bs p e i)
-    where
-      either : (x y : Bool) → y ≡ true → (x || y) ≡ true
-      either x y h = grind (arith, h)
+  voted_when (b ∷ bs) p e (inl q) = grind (arith, at_itself)
+  voted_when (b ∷ bs) p e (inr i) = grind (arith, (voted_when bs p e i))
 
   not_passed_over : (a b : Bool) → (a ≡ true → b ≡ true) → (a && not b) ≡ false
   not_passed_over false b h = refl

@@ -13,7 +13,6 @@ use Rattle.headline.specs.declared.{event.Event.Event, event.Station.Station, ve
 use Rattle.headline.specs.Answers.{Answer}
 use Rattle.headline.specs.BoardSteps.{AtBoard}
 use Rattle.headline.specs.Configurations.{Configuration, Node, all_votes, board_at, fresh_boards, with_board, with_node}
-use Rattle.headline.specs.Events.{station_of}
 use Rattle.headline.specs.Runs.{Begins, Moment, Run, last_of}
 use Rattle.headline.specs.Setting.{Setting}
 use Rattle.headline.specs.Steps.{StepAt}
@@ -111,10 +110,7 @@ module _ {Disk Why : Type 0} (s : Setting Disk Why) where
 
   pub run_rounds : (w : Configuration Disk) (ms : List (Moment Disk Why)) → Fine s w → AllRounds w → Run s w ms → AllRounds (last_of w ms)
   run_rounds w [] f r p = r
-  run_rounds w (m ∷ ms) f r p =
-      let before = run_keeps s w ms f p.0 in
-      step_rounds (last_of w ms) m.event (station_of m.event) m.answer m.after before (run_rounds w ms f r p.0)
-      (step_at_keeps s (last_of w ms) m.event (station_of m.event) m.answer m.after before p.1).1 p.1
+  run_rounds w (m ∷ ms) f r p = grind (arith, run_keeps, step_rounds, step_at_keeps, (run_rounds w ms f r p.0))
 
   pub begins_rounds : (version : FileVersion) (n : ℕ) (w : Configuration Disk) → Begins s version n w → AllRounds w
   begins_rounds version n w b = subst (Each (BoardRounds (all_votes w))) (sym b.boards_are_fresh) (fresh_all (all_votes w) n)

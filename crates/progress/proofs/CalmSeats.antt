@@ -1,11 +1,11 @@
 -- How a desk's seat goes on in calm moments.
-use Rattle.std.proofs.Common.{◌≡◌, ◌≢◌, ◌⊎◌, Some, None, List, refl, sym, ap, ◌∙◌, subst, inl, inr, arith}
+use Rattle.std.proofs.Common.{◌≡◌, ◌≢◌, ◌⊎◌, Some, None, List, refl, sym, ap, subst, inl, inr, arith}
 use Rattle.notation.specs.declared.entry.Entry.{Entry}
 use Rattle.agree_core.specs.declared.{messages.DeskId.DeskId, messages.Vote.Vote, position.Position.Position, seat.Heard.Heard}
 use Rattle.agree_core.specs.Ballots.{Ballot, In, ballot_of}
 use Rattle.agree_core.specs.Keeping.{SeatFine}
 use Rattle.agree_core.specs.Positions.{Before, next_place, next_round}
-use Rattle.agree_core.specs.Seats.{Hears, IsForNow, SeatState, noting}
+use Rattle.agree_core.specs.Seats.{Hears, SeatState, noting}
 use Rattle.progress.specs.Calm.{NotBack}
 
 -- it notes the other desk's vote, before it casts its own
@@ -33,19 +33,7 @@ round_later p = inr (refl, omega arith)
 -- a vote that it is given
 pub hears_on : (d : DeskId) (own theirs : List Ballot) (s t : SeatState) (book : List Entry) (v : Vote) (h : Heard)
     → SeatFine d own theirs s book → (v.desk ≢ d → In (ballot_of v) theirs) → Hears s v h t → GoesOn theirs s t
-hears_on d own theirs s t book v h f m c = turn h c
-  where
-    there : IsForNow s v → In (record { at = s.position; entry = v.entry }) theirs
-    there n = rw (← n.1) (m (λ e. n.0 (e ∙ sym f.desk)))
-
-    turn : (h : Heard) → Hears s v h t → GoesOn theirs s t
-    turn Heard.Mine c = inl c.1
-    turn Heard.Noted c = inr (inl (v.entry, c.2, c.1, c.3))
-    turn Heard.Agreed c =
-        inr (inr (v.entry, v.entry, c.2, there c.0, rw c.3 (place_later s.position), rw c.3 refl))
-    turn Heard.Differ c =
-        inr (inr (c.2.0, v.entry, c.2.1, there c.0, rw c.3 (round_later s.position), rw c.3 refl))
-    turn _ c = inl c.2
+hears_on d own theirs s t book v h f m c = grind (arith, place_later, round_later)
 
 pub goes_on : (theirs : List Ballot) (s t u : SeatState) → GoesOn theirs s t → GoesOn theirs t u → GoesOn theirs s u
 goes_on theirs s t u (inl e) k = subst (λ (x : SeatState). GoesOn theirs x u) e k

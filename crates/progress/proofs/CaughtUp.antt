@@ -40,11 +40,7 @@ Chain votes (suc m) p = (b : Ballot) × In b votes × Before b.at p × Chain vot
 shorter : (theirs : List Ballot) (c : Ballot) (cs : List Ballot) → Justified theirs (c ∷ cs) → (m : ℕ) (p : Position) → NotBack p c.at
     → Chain (c ∷ cs) m p → Chain cs m p
 shorter theirs c cs j zero p n h = tt
-shorter theirs c cs j (suc m) p n (b, inl e, lo, rest) = absurd (same n)
-  where
-    same : NotBack p c.at → ⊥
-    same (inl q) = not_before b.at p (ap (λ (x : Ballot). x.at) e ∙ q) lo
-    same (inr k) = not_before b.at b.at refl (before_trans b.at p b.at lo (subst (Before p) (sym (ap (λ (x : Ballot). x.at) e)) k))
+shorter theirs c cs j (suc m) p n (b, inl e, lo, rest) = grind (arith, not_before, before_trans)
 shorter theirs c cs j (suc m) p n (b, inr i, lo, rest) =
     (b, i, lo, shorter theirs c cs j m b.at (inr (earlier theirs c cs j b i)) rest)
 

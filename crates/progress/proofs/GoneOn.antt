@@ -94,11 +94,7 @@ module _ {Disk Why : Type 0} (s : Setting Disk Why) where
             (e, begins.0, q, (ia, ib), subst (λ (ys : List Entry). InStep new q ys) whole i)
 
     pub gone_on : GoneOn new p book
-    gone_on = elim (ordered p q) [
-      | inl e ↦ inl (still (sym e))
-      | inr (inl b) ↦ moved b
-      | inr (inr b) ↦ absurd (not_back b)
-    ]
+    gone_on = grind (arith, ordered, still, moved, not_back)
 
   module _ (w : Configuration Disk) (f : Fine s w) where
     pub goes_on : GoesOn s w

@@ -61,14 +61,7 @@ module _ (a b prev_a ys : List Ballot) (y : Ballot) (p q : Position) (e : Entry)
   far w before = between a b prev_a y c q ja jb has before lo next fa w
 
   same_at : a ≡ c ∷ prev_a → y.at ≡ p
-  same_at h =
-      let j : Justified b (c ∷ prev_a) = subst (Justified b) h ja in
-      let i : In (record { at = y.at; entry = voted.0 }) (c ∷ prev_a) = subst (In (record { at = y.at; entry = voted.0 })) h voted.1 in
-      let w : Within prev_a a = λ x k. subst (In x) (sym h) (inr k) in
-      elim i [
-        | inl k ↦ ap (λ (x : Ballot). x.at) k
-        | inr k ↦ absurd (far w (earlier b c prev_a j (record { at = y.at; entry = voted.0 }) k))
-      ]
+  same_at h = grind (arith, voted, far, earlier)
 
   after_it : a ≡ c ∷ prev_a → y.at ≡ p → IsAfter p e y.entry q
   after_it h s =
@@ -110,10 +103,7 @@ Stands theirs own s =
 mine_stands : (theirs own : List Ballot) (book : List Entry) (s : SeatState) (e : Entry) (mine : Option Entry) → Justified theirs own → SeatWaits s
     → s.mine ≡ mine → MineFine theirs own book s.position mine → Stands theirs own s
 mine_stands theirs own book s e None j w m h = (e, own, (h e).0, inr refl)
-mine_stands theirs own book s e (Some x) j w m h =
-    let unheard : s.theirs ≡ None = elim w [ inl k ↦ absurd (grind arith) | inr k ↦ k ] in
-    let k : Justified theirs (record { at = s.position; entry = x } ∷ h.0) = subst (Justified theirs) h.1 j in
-    (x, h.0, k.1, inl (h.1, m, unheard))
+mine_stands theirs own book s e (Some x) j w m h = grind arith
 
 pub stands : (d : DeskId) (theirs own : List Ballot) (book : List Entry) (s : SeatState) (e : Entry) → SeatFine d own theirs s book → Stands theirs own s
 stands d theirs own book s e f = mine_stands theirs own book s e s.mine f.justified f.waits refl f.mine
@@ -126,12 +116,7 @@ as_here theirs own s h = (h.2, elim h.3 [ inl k ↦ inl k.0 | inr k ↦ inr k ])
 
 is_behind : (a b : List Ballot) (s t : SeatState) → Justified b a → Justified a b → Stands b a s → Stands a b t
     → Before s.position t.position → IsBehind b s t.position
-is_behind a b s t ja jb hs ht lo =
-    let h = behind a b hs.1 ht.1 s.position t.position hs.0 ht.0 ja jb (as_here b a s hs) (as_here a b t ht) lo in
-    elim hs.3 [
-      | inl k ↦ (hs.0, h.1.0, k.1, k.2, h.1.1, h.1.2)
-      | inr k ↦ absurd (longer (record { at = s.position; entry = hs.0 }) hs.1 (sym k ∙ h.0))
-    ]
+is_behind a b s t ja jb hs ht lo = grind (arith, behind, as_here, longer)
 
 pub any : Entry
 any = Entry.Write Plain.Void
@@ -153,25 +138,8 @@ open_place : (own theirs : List Ballot) (p : Position) (g : Entry) → Justified
     → Follows theirs (record { at = p; entry = g }) own → (round : ℕ) (e : Entry)
     → In (ballot_at p.place round e) own → In (ballot_at p.place round e) theirs → ⊥
 open_place [] theirs p g jo jt f round e i k = absurd i
-open_place (z ∷ zs) theirs p g jo jt (inr n) round e i k =
-    let c : Ballot = record { at = p; entry = g } in
-    let f : Follows theirs c (z ∷ zs) = inr n in
-    let lo = before_next theirs (z ∷ zs) c (ballot_at p.place round e) jo f i in
-    grind arith
-open_place (z ∷ zs) theirs p g jo jt (inl n) round e i k =
-    let c : Ballot = record { at = p; entry = g } in
-    let f : Follows theirs c (z ∷ zs) = inl n in
-    let lo = before_next theirs (z ∷ zs) c (ballot_at p.place round e) jo f i in
-    let place : z.at.place ≡ p.place = grind arith in
-    let here : In (ballot_at p.place z.at.round z.entry) (z ∷ zs) = subst (λ (o : ℕ). In (ballot_at o z.at.round z.entry) (z ∷ zs)) place (inl refl) in
-    elim (compare round z.at.round) [
-      | inl less ↦ none_later (z ∷ zs) theirs jo jt p.place round z.at.round e z.entry (i, k) here less
-      | inr (inl same) ↦
-          let one = one_vote theirs (z ∷ zs) jo (ballot_at p.place round e) z i (inl refl) in
-          let other = one_vote (z ∷ zs) theirs jt (ballot_at p.place round e) (record { at = z.at; entry = n.1.0 }) k n.1.1 in
-          grind (arith, one, other)
-      | inr (inr more) ↦ grind arith
-    ]
+open_place (z ∷ zs) theirs p g jo jt (inr n) round e i k = grind (arith, before_next)
+open_place (z ∷ zs) theirs p g jo jt (inl n) round e i k = grind (arith, before_next, compare, none_later, one_vote)
 
 pub same_length : (xs ys : List Entry) → BeginsWith ys xs → length xs ≡ length ys → xs ≡ ys
 same_length xs ys ([], e) size = sym (append-nil xs) ∙ e
@@ -225,10 +193,7 @@ came_after : (own theirs : List Ballot) (x : Ballot) → Justified own theirs �
 came_after own [] x j i = absurd i
 came_after own (z ∷ []) x j (inl e) = inl (ap (λ (c : Ballot). c.at) e ∙ j.1)
 came_after own (z ∷ y ∷ ys) x j (inl e) = inr (y, inr (inl refl), subst (λ (c : Ballot). Next own y c.at) (sym e) j.1)
-came_after own (z ∷ zs) x j (inr i) = elim (came_after own zs x j.2 i) [
-  | inl e ↦ inl e
-  | inr h ↦ inr (h.0, inr h.1, h.2)
-]
+came_after own (z ∷ zs) x j (inr i) = grind (arith, (came_after own zs x j.2 i))
 
 pub not_from_ahead : (d : DeskId) (own theirs : List Ballot) (s : SeatState) (book : List Entry) (x : Ballot) → SeatFine d own theirs s book → Justified own theirs
     → In x theirs → NotBack x.at s.position ⊎ IsBehind theirs s x.at

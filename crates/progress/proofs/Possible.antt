@@ -31,7 +31,6 @@ use Rattle.progress.proofs.Settled.{steady}
 use Rattle.progress.proofs.Followed.{run_join}
 use Rattle.progress.proofs.Near.{ordered}
 use Rattle.progress.proofs.Rounds.{same_entry}
-use Rattle.headline.specs.Events.{station_of}
 
 same_desk : (c d : DeskId) → (c ≡ d) ⊎ (c ≢ d)
 same_desk A A = inl refl
@@ -242,11 +241,7 @@ module _ {Disk Why : Type 0} (s : Setting Disk Why) (v : AllVotes) where
 
   sent_stays : (w : Configuration Disk) (ms : List (Moment Disk Why)) → Run s w ms → length w.sent ≤ length (last_of w ms).sent
   sent_stays w [] r = omega arith
-  sent_stays w (m ∷ ms) r =
-      let a = sent_stays w ms r.0 in
-      let o = step_sent s (last_of w ms) m.event (station_of m.event) m.answer m.after r.1 in
-      let b : length m.after.sent ≡ length (last_of w ms).sent + length o.0 = ap length o.1 ∙ length-append (last_of w ms).sent o.0 in
-      omega (arith, a, b)
+  sent_stays w (m ∷ ms) r = grind (arith, step_sent, length-append, (sent_stays w ms r.0))
 
   -- the station is given so many messages, from this number on
   all_given : (w : Configuration Disk) → Steady s v w → (t : Station) → Ready t w → (from many : ℕ) → from + many ≤ length w.sent

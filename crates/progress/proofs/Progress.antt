@@ -1,6 +1,5 @@
 -- What goes on, at each configuration that a run comes to.
-use Rattle.std.proofs.Common.{◌≡◌, ◌⊎◌, ℕ, Bool, true, false, List, ap, subst, sym, inl, inr, arith}
-use Rattle.std.specs.Prelude.{◌&&◌, ◌||◌, is_some, not}
+use Rattle.std.proofs.Common.{◌≡◌, ◌⊎◌, ℕ, true, false, List, subst, sym, inl, inr, arith}
 use Rattle.std.proofs.lemmas.Bool.Decides.{nat_tests}
 use Rattle.notation.specs.Code.{code}
 use Rattle.agree_core.specs.declared.{messages.DeskId.DeskId, position.Position.Position}
@@ -46,17 +45,8 @@ module _ {Disk Why : Type 0} (s : Setting Disk Why) where
   next_or_later p q h = grind (arith, nat_tests)
 
   reached : (s : SeatState) (theirs : List Ballot) (p : Position) → NotBack p s.position ⊎ IsBehind theirs s p → is_in_reach s p ≡ true
-  reached s theirs p (inl n) = first (is_before s.position p) (is_some s.mine && is_next s.position p) (not_ahead s.position p n)
-    where
-      first : (a m : Bool) → a ≡ false → (not a || m) ≡ true
-      first a m e = grind (arith, e)
-  reached s theirs p (inr b) =
-      let mine : is_some s.mine ≡ true = ap is_some b.2 in
-      let next : is_next s.position p ≡ true = next_or_later s.position p (elim b.5 [ inl a ↦ inl a.1 | inr a ↦ inr a.1 ]) in
-      turn (is_before s.position p) (is_some s.mine) (is_next s.position p) mine next
-    where
-      turn : (a m n : Bool) → m ≡ true → n ≡ true → (not a || (m && n)) ≡ true
-      turn a m n e f = grind (arith, e, f)
+  reached s theirs p (inl n) = grind (arith, not_ahead)
+  reached s theirs p (inr b) = grind (arith, next_or_later)
 
   all_in_reach : (w : Configuration Disk) → Fine s w → AllInReach w
   all_in_reach w f d k n v runs get by = reached k.seat (votes_by (all_votes w) (other d)) _ (none_from_ahead w f d k n v runs get by)

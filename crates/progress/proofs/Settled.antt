@@ -62,9 +62,7 @@ not_behind theirs s next (inr n) b = n b.1 b.4
 
 pub has_cast : (theirs own : List Ballot) (book : List Entry) (p : Position) (mine : Option Entry) (e : Entry) → mine ≡ Some e
     → MineFine theirs own book p mine → In (record { at = p; entry = e }) own
-has_cast theirs own book p mine e q m =
-    let h : MineFine theirs own book p (Some e) = subst (MineFine theirs own book p) q m in
-    subst (In (record { at = p; entry = e })) (sym h.1) (inl refl)
+has_cast theirs own book p mine e q m = grind arith
 
 module _ (a b : List Ballot) (s t : SeatState) (xs ys : List Entry) (fs : SeatFine A a b s xs) (ft : SeatFine B b a t ys)
     (cs : Caught b s) (ct : Caught a t) where
@@ -93,9 +91,7 @@ back_back p q r (inr a) (inr b) = inr (before_trans p q r a b)
 
 -- whose vote isn't cast has none there
 pub not_voted : (d : DeskId) (own theirs : List Ballot) (s : SeatState) (book : List Entry) → SeatFine d own theirs s book → s.mine ≡ None → NoVote own s.position
-not_voted d own theirs s book f n e i =
-    not_before s.position s.position refl
-    (before_next theirs own (record { at = s.position; entry = any }) (record { at = s.position; entry = e }) f.justified (not_cast theirs own book s s.mine refl n f.mine) i)
+not_voted d own theirs s book f n e i = grind (arith, not_before, before_next, any, not_cast)
 
 pub not_cast_there : (d : DeskId) (own theirs : List Ballot) (s : SeatState) (book : List Entry) → SeatFine d own theirs s book → NoVote own s.position → s.mine ≡ None
 not_cast_there d own theirs s book f n = turn s.mine refl
