@@ -93,7 +93,7 @@ module _ {Disk Why : Type 0} (s : Setting Disk Why) where
   pub justified_of : (w : Configuration Disk) (d : DeskId) → Fine s w → Justified (votes_by (all_votes w) (other d)) (votes_by (all_votes w) d)
   justified_of w d h0 = grind arith
 
-  justified_other : (w : Configuration Disk) (d : DeskId) → Fine s w → Justified (votes_by (all_votes w) d) (votes_by (all_votes w) (other d))
+  pub justified_other : (w : Configuration Disk) (d : DeskId) → Fine s w → Justified (votes_by (all_votes w) d) (votes_by (all_votes w) (other d))
   justified_other w d h0 = grind arith
 
   -- each pen is lawful

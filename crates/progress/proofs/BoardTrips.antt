@@ -1,14 +1,13 @@
--- What exchanges bring a board: a later position, or all that is cast at its position.
-use Rattle.std.proofs.Common.{◌≡◌, ◌≢◌, ◌⊎◌, ℕ, zero, suc, Some, None, List, [], ◌∷◌, ◌++◌, refl, sym, ap, ◌∙◌, subst, inl, inr, arith}
-use Rattle.std.specs.Prelude.{slice_get, slice_set}
+-- How a board goes on in calm moments, and hears what a desk says.
+use Rattle.std.proofs.Common.{◌≡◌, ◌≢◌, ◌⊎◌, ℕ, Some, None, List, [], ◌∷◌, ◌++◌, refl, sym, ap, ◌∙◌, subst, inl, inr, arith}
 use Rattle.notation.specs.declared.entry.Entry.{Entry}
-use Rattle.agree_core.specs.declared.{messages.DeskId.DeskId, messages.Message.Message, messages.Vote.Vote, position.Position.Position, seat.Heard.Heard}
-use Rattle.agree_core.specs.declared.messages.DeskId.TheVariants.{A, B}
-use Rattle.agree_core.specs.Ballots.{Ballot}
+use Rattle.agree_core.specs.declared.{messages.Asker.Asker, messages.DeskId.DeskId, messages.Message.Message, messages.Vote.Vote, seat.Heard.Heard}
+use Rattle.agree_core.specs.Ballots.{AllVotes, Justified, votes_by}
 use Rattle.agree_core.specs.Boards.{BoardAnswer, BoardReceives, BoardState, BoardTicks}
 use Rattle.agree_core.specs.Books.{Rules}
+use Rattle.agree_core.specs.Desks.{ask_for}
 use Rattle.agree_core.specs.Positions.{Before, position_of}
-use Rattle.agree_core.specs.Readers.{Listens, ReaderState, noted_of, noting}
+use Rattle.agree_core.specs.Readers.{Listens, ReaderState, noted_of, noting, other}
 use Rattle.headline.specs.declared.{event.Event.Event, event.Station.Station}
 use Rattle.headline.specs.Answers.{Answer, board_told}
 use Rattle.headline.specs.Besides.{IsSoundAnswer}
@@ -17,40 +16,30 @@ use Rattle.headline.specs.Configurations.{Configuration, board_at, with_board}
 use Rattle.headline.specs.Events.{station_of}
 use Rattle.headline.specs.Runs.{Moment, Run, last_of}
 use Rattle.headline.specs.Setting.{Setting}
-use Rattle.headline.proofs.Given.{given_there}
 use Rattle.headline.specs.Steps.{Step, StepAt}
+use Rattle.headline.proofs.Given.{given_there}
+use Rattle.headline.proofs.Heeding.{board_other, board_put, noting_there}
+use Rattle.headline.proofs.Sound.{justified_of}
 use Rattle.progress.specs.Calm.{AllCalm, IsCalm}
-use Rattle.progress.specs.Exchange.{ComesTo}
-use Rattle.progress.proofs.CalmSeats.{before_trans, place_later, round_later}
+use Rattle.progress.specs.Exchange.{ComesTo, HandsOut}
 use Rattle.progress.proofs.Boards.{boards_set}
-use Rattle.progress.proofs.Trips.{NoVote}
+use Rattle.progress.proofs.CalmRuns.{Steady, last_out, steady_votes}
+use Rattle.progress.proofs.CalmSeats.{place_later, round_later}
+use Rattle.progress.proofs.Exchanges.{Ear, Hearer, Knows, NoVote, On, none_full, on_on}
 
--- it has gone on so: to a later position, or with all that it had noted
+-- what a reader has of a desk
+abbrev pub ear : DeskId → ReaderState → Ear
+ear d r = record { position = r.position; noted = noted_of r d }
+
+-- it has gone on, by each desk
 abbrev pub BoardOn : ReaderState → ReaderState → Type 0
-BoardOn r t =
-    Before r.position t.position
-    ⊎ ((t.position ≡ r.position) × ((d : DeskId) (f : Entry) → noted_of r d ≡ Some f → noted_of t d ≡ Some f))
+BoardOn r t = (d : DeskId) → On (ear d r) (ear d t)
 
-pub on_same : (r t : ReaderState) → t ≡ r → BoardOn r t
-on_same r t e = inr (ap (λ (z : ReaderState). z.position) e, λ d f q. ap (λ (z : ReaderState). noted_of z d) e ∙ q)
-
-pub on_on : (r t u : ReaderState) → BoardOn r t → BoardOn t u → BoardOn r u
-on_on r t u (inl a) (inl b) = inl (before_trans r.position t.position u.position a b)
-on_on r t u (inl a) (inr b) = inl (subst (Before r.position) (sym b.0) a)
-on_on r t u (inr a) (inl b) = inl (subst (λ (p : Position). Before p u.position) a.0 b)
-on_on r t u (inr a) (inr b) = inr (b.0 ∙ a.0, λ d f q. b.1 d f (a.1 d f q))
+on_same : (r t : ReaderState) → t ≡ r → BoardOn r t
+on_same r t e d = inr (ap (λ (z : ReaderState). z.position) e, λ f q. ap (λ (z : ReaderState). noted_of z d) e ∙ q)
 
 notes_on : (r : ReaderState) (c : DeskId) (e : Entry) → noted_of r c ≡ None → BoardOn r (noting r c e)
-notes_on r A e n = inr (refl, keeps)
-  where
-    keeps : (d : DeskId) (f : Entry) → noted_of r d ≡ Some f → noted_of (noting r A e) d ≡ Some f
-    keeps A f q = absurd (grind (arith, n, q))
-    keeps B f q = q
-notes_on r B e n = inr (refl, keeps)
-  where
-    keeps : (d : DeskId) (f : Entry) → noted_of r d ≡ Some f → noted_of (noting r B e) d ≡ Some f
-    keeps B f q = absurd (grind (arith, n, q))
-    keeps A f q = q
+notes_on r c e n d = grind arith
 
 listens_on : (r t : ReaderState) (v : Vote) (h : Heard) → Listens r v h t → BoardOn r t
 listens_on r t v Heard.Mine c = absurd c
@@ -59,8 +48,8 @@ listens_on r t v Heard.Ahead c = on_same r t c.1
 listens_on r t v Heard.Again c = on_same r t c.2
 listens_on r t v Heard.TwoVotes c = on_same r t c.2
 listens_on r t v Heard.Noted c = subst (BoardOn r) (sym c.3) (notes_on r v.desk v.entry c.1)
-listens_on r t v Heard.Agreed c = inl (subst (λ (z : ReaderState). Before r.position z.position) (sym c.3) (place_later r.position))
-listens_on r t v Heard.Differ c = inl (subst (λ (z : ReaderState). Before r.position z.position) (sym c.3) (round_later r.position))
+listens_on r t v Heard.Agreed c = λ d. inl (rw c.3 (place_later r.position))
+listens_on r t v Heard.Differ c = λ d. inl (rw c.3 (round_later r.position))
 
 receives_on : {Why : Type 0} → (rules : Rules Why) (k l : BoardState) (m : Message) (told : BoardAnswer) → BoardReceives rules k m told l → BoardOn k.reader l.reader
 receives_on rules k l (Message.Vote v) (BoardAnswer.Told h) p = listens_on k.reader l.reader v h p.0
@@ -68,68 +57,18 @@ receives_on rules k l (Message.Vote v) (BoardAnswer.BadVotes place) p = on_same 
 receives_on rules k l (Message.Ask q) BoardAnswer.Asked p = on_same k.reader l.reader (ap (λ (z : BoardState). z.reader) p)
 receives_on rules k l _ _ p = absurd p
 
-noted_now : (r : ReaderState) (d : DeskId) (e : Entry) → noted_of (noting r d e) d ≡ Some e
-noted_now r A e = refl
-noted_now r B e = refl
-
-abbrev pub HasNoted : ReaderState → DeskId → Type 0
-HasNoted r d = (f : Entry) × (noted_of r d ≡ Some f)
-
-listens_to : (r t : ReaderState) (v : Vote) (h : Heard) → position_of v ≡ r.position → Listens r v h t → Before r.position t.position ⊎ HasNoted t v.desk
+listens_to : (r t : ReaderState) (v : Vote) (h : Heard) → position_of v ≡ r.position → Listens r v h t → Before r.position t.position ⊎ Knows (ear v.desk t)
 listens_to r t v Heard.Mine at c = absurd c
 listens_to r t v Heard.Old at c = absurd (grind arith)
 listens_to r t v Heard.Ahead at c = absurd (grind arith)
 listens_to r t v Heard.Again at c = inr (v.entry, ap (λ (z : ReaderState). noted_of z v.desk) c.2 ∙ c.1)
 listens_to r t v Heard.TwoVotes at c = inr (c.1.0, ap (λ (z : ReaderState). noted_of z v.desk) c.2 ∙ c.1.1)
-listens_to r t v Heard.Noted at c = inr (v.entry, ap (λ (z : ReaderState). noted_of z v.desk) c.3 ∙ noted_now r v.desk v.entry)
+listens_to r t v Heard.Noted at c = inr (v.entry, ap (λ (z : ReaderState). noted_of z v.desk) c.3 ∙ noting_there r v.desk v.entry)
 listens_to r t v Heard.Agreed at c = inl (subst (λ (z : ReaderState). Before r.position z.position) (sym c.3) (place_later r.position))
 listens_to r t v Heard.Differ at c = inl (subst (λ (z : ReaderState). Before r.position z.position) (sym c.3) (round_later r.position))
 
--- from one reader to the other it has moved on, or it has all that this desk has cast there
-abbrev pub BoardDone : List Ballot → DeskId → ReaderState → ReaderState → Type 0
-BoardDone votes d r t = Before r.position t.position ⊎ (HasNoted t d ⊎ NoVote votes t.position)
-
-pub done_on : (votes : List Ballot) (d : DeskId) (r t u : ReaderState) → BoardOn r t → BoardDone votes d r t → BoardOn t u → BoardDone votes d r u
-done_on votes d r t u g (inl a) (inl b) = inl (before_trans r.position t.position u.position a b)
-done_on votes d r t u g (inl a) (inr b) = inl (subst (Before r.position) (sym b.0) a)
-done_on votes d r t u (inl g) (inr k) (inl b) = inl (before_trans r.position t.position u.position g b)
-done_on votes d r t u (inr g) (inr k) (inl b) = inl (subst (λ (p : Position). Before p u.position) g.0 b)
-done_on votes d r t u g (inr (inl k)) (inr b) = inr (inl (k.0, b.1 d k.0 k.1))
-done_on votes d r t u g (inr (inr n)) (inr b) = inr (inr (subst (NoVote votes) (sym b.0) n))
-
-pub done_from : (votes : List Ballot) (d : DeskId) (r t u : ReaderState) → BoardOn r t → BoardDone votes d t u → BoardDone votes d r u
-done_from votes d r t u (inl a) (inl b) = inl (before_trans r.position t.position u.position a b)
-done_from votes d r t u (inr a) (inl b) = inl (subst (λ (p : Position). Before p u.position) a.0 b)
-done_from votes d r t u g (inr k) = inr k
-
-pub none_there : (votes : List Ballot) (d : DeskId) (r t : ReaderState) → NoVote votes r.position → BoardOn r t → BoardDone votes d r t
-none_there votes d r t n (inl b) = inl b
-none_there votes d r t n (inr b) = inr (inr (subst (NoVote votes) (sym b.0) n))
-
--- a board in the list, once one was set there
 pub same_or_other : (n m : ℕ) → (n ≡ m) ⊎ (n ≢ m)
 same_or_other n m = grind arith
-
-set_there : {X : Type 0} → (xs : List X) (n : ℕ) (x y : X) → slice_get xs n ≡ Some y → slice_get (slice_set xs n x) n ≡ Some x
-set_there [] n x y e = absurd (cc)
-set_there (z ∷ zs) zero x y e = refl
-set_there (z ∷ zs) (suc n) x y e = set_there zs n x y e
-
-set_else : {X : Type 0} → (xs : List X) (n m : ℕ) (x : X) → n ≢ m → slice_get (slice_set xs m x) n ≡ slice_get xs n
-set_else [] n m x d = refl
-set_else (z ∷ zs) zero zero x d = absurd (d refl)
-set_else (z ∷ zs) (suc n) zero x d = refl
-set_else (z ∷ zs) zero (suc m) x d = refl
-set_else (z ∷ zs) (suc n) (suc m) x d = set_else zs n m x (λ e. d (ap suc e))
-
-board_there : (boards : List BoardState) (n : ℕ) (l k : BoardState) → board_at boards n ≡ Some k → board_at (with_board boards n l) n ≡ Some l
-board_there boards zero l k e = absurd (cc)
-board_there boards (suc n) l k e = set_there boards n l k e
-
-board_else : (boards : List BoardState) (n m : ℕ) (l : BoardState) → n ≢ m → board_at (with_board boards m l) n ≡ board_at boards n
-board_else boards n zero l d = refl
-board_else boards zero (suc m) l d = refl
-board_else boards (suc n) (suc m) l d = set_else boards n m l (λ e. d (ap suc e))
 
 pub one_board : (boards : List BoardState) (n : ℕ) (k l : BoardState) → board_at boards n ≡ Some k → board_at boards n ≡ Some l → k ≡ l
 one_board boards n k l p q = cc
@@ -154,10 +93,10 @@ module _ {Disk Why : Type 0} (s : Setting Disk Why) where
       elim (same_or_other n m) [
         | inl q ↦
             let at : board_at w.boards n ≡ Some p.0 = ap (board_at w.boards) q ∙ p.3 in
-            let there : board_at new.boards n ≡ Some p.1 = ap (board_at new.boards) q ∙ ap (λ (z : List BoardState). board_at z m) boards ∙ board_there w.boards m p.1 p.0 p.3 in
+            let there : board_at new.boards n ≡ Some p.1 = ap (board_at new.boards) q ∙ ap (λ (z : List BoardState). board_at z m) boards ∙ board_put w.boards m p.0 p.1 p.3 in
             let same : p.0 ≡ k = one_board w.boards n p.0 k at e in
             (p.1, there, subst (λ (z : BoardState). BoardOn z.reader p.1.reader) same (at_board_on w.sent event p.0 p.1 answer p.2 calm p.4))
-        | inr d ↦ (k, ap (λ (z : List BoardState). board_at z n) boards ∙ board_else w.boards n m p.1 d ∙ e, on_same k.reader k.reader refl)
+        | inr d ↦ (k, ap (λ (z : List BoardState). board_at z n) boards ∙ board_other w.boards m n p.1 (λ e. d (sym e)) ∙ e, on_same k.reader k.reader refl)
       ]
 
   pub board_goes : (w : Configuration Disk) (ms : List (Moment Disk Why)) → Run s w ms → AllCalm ms → (n : ℕ) (k : BoardState) → board_at w.boards n ≡ Some k
@@ -166,17 +105,17 @@ module _ {Disk Why : Type 0} (s : Setting Disk Why) where
   board_goes w (m ∷ ms) r c n k e =
       let h = board_goes w ms r.0 c.0 n k e in
       let g = board_step_on (last_of w ms) m.event (station_of m.event) m.answer m.after c.1 n h.0 h.1 r.1 in
-      (g.0, g.1, on_on k.reader h.0.reader g.0.reader h.2 g.2)
+      (g.0, g.1, λ d. on_on (ear d k.reader) (ear d h.0.reader) (ear d g.0.reader) (h.2 d) (g.2 d))
 
   -- a board that is given a vote for its position, and isn't answered that the votes are bad
   pub board_hears : (w : Configuration Disk) (m : Moment Disk Why) (n : ℕ) (k l : BoardState) (v : Vote) → Step s w m.event m.answer m.after
       → ComesTo w m (Station.Board n) (Message.Vote v) → board_at w.boards n ≡ Some k → board_at m.after.boards n ≡ Some l
-      → position_of v ≡ k.reader.position → IsSoundAnswer m.event m.answer → Before k.reader.position l.reader.position ⊎ HasNoted l.reader v.desk
+      → position_of v ≡ k.reader.position → IsSoundAnswer m.event m.answer → Before k.reader.position l.reader.position ⊎ Knows (ear v.desk l.reader)
   board_hears w m n k l v p (r, e, get) at there pos sound =
       let q = subst (λ (z : Event). Step s w z m.answer m.after) e p in
       let same : q.0 ≡ k = one_board w.boards n q.0 k q.3 at in
       let boards : m.after.boards ≡ with_board w.boards n q.1 = ap (λ (z : Configuration Disk). z.boards) q.5 in
-      let end : board_at m.after.boards n ≡ Some q.1 = ap (λ (z : List BoardState). board_at z n) boards ∙ board_there w.boards n q.1 q.0 q.3 in
+      let end : board_at m.after.boards n ≡ Some q.1 = ap (λ (z : List BoardState). board_at z n) boards ∙ board_put w.boards n q.0 q.1 q.3 in
       let last : q.1 ≡ l = one_board m.after.boards n q.1 l end there in
       let h = q.4 in
       let it : h.0 ≡ Message.Vote v = given_there w.sent r h.0 (Message.Vote v) get h.2 in
@@ -186,18 +125,40 @@ module _ {Disk Why : Type 0} (s : Setting Disk Why) where
       turn h.1 h.4 r2
     where
       turn : (told : BoardAnswer) → m.answer ≡ board_told told → BoardReceives s.rules k (Message.Vote v) told l
-          → Before k.reader.position l.reader.position ⊎ HasNoted l.reader v.desk
+          → Before k.reader.position l.reader.position ⊎ Knows (ear v.desk l.reader)
       turn (BoardAnswer.Told h) a x = listens_to k.reader l.reader v h pos x.0
       turn (BoardAnswer.BadVotes place) a x = absurd (subst (IsSoundAnswer m.event) a sound)
       turn BoardAnswer.Asked a x = absurd x
 
-  -- what a board's tick hands out
-  pub board_ticks : (w : Configuration Disk) (m : Moment Disk Why) (n : ℕ) (k : BoardState) → Step s w m.event m.answer m.after
-      → m.event ≡ Event.Tick (Station.Board n) → board_at w.boards n ≡ Some k
-      → (out : List Message) × BoardTicks k out × (m.after.sent ≡ w.sent ++ out) × (board_at m.after.boards n ≡ Some k)
-  board_ticks w m n k p e at =
+  -- a board asks at its tick
+  pub board_ticks : (v : AllVotes) (n : ℕ) (d : DeskId) (w : Configuration Disk) (m : Moment Disk Why) → Steady s v w → Step s w m.event m.answer m.after
+      → m.event ≡ Event.Tick (Station.Board n) → (k : BoardState) → board_at w.boards n ≡ Some k
+      → (board_at m.after.boards n ≡ Some k)
+      × (Knows (ear d k.reader) ⊎ (NoVote (votes_by v d) k.reader.position ⊎ ((from : Asker) × HandsOut w m (ask_for from k.reader.position))))
+  board_ticks v n d w m st p e k at =
       let q = subst (λ (z : Event). Step s w z m.answer m.after) e p in
       let same : q.0 ≡ k = one_board w.boards n q.0 k q.3 at in
-      let boards : m.after.boards ≡ with_board w.boards n q.1 = ap (λ (z : Configuration Disk). z.boards) q.5 in
-      let end : board_at m.after.boards n ≡ Some q.1 = ap (λ (z : List BoardState). board_at z n) boards ∙ board_there w.boards n q.1 q.0 q.3 in
-      (q.2, subst (λ (z : BoardState). BoardTicks z q.2) same q.4.0, ap (λ (z : Configuration Disk). z.sent) q.5, end ∙ ap Some (q.4.2 ∙ same))
+      let end : board_at m.after.boards n ≡ Some q.1 = ap (λ (z : Configuration Disk). board_at z.boards n) q.5 ∙ board_put w.boards n q.0 q.1 q.3 in
+      (end ∙ ap Some (q.4.2 ∙ same), inr (asks q.2 (ap (λ (z : Configuration Disk). z.sent) q.5) (subst (λ (z : BoardState). BoardTicks z q.2) same q.4.0)))
+    where
+      asks : (out : List Message) → m.after.sent ≡ w.sent ++ out → BoardTicks k out
+          → NoVote (votes_by v d) k.reader.position ⊎ ((from : Asker) × HandsOut w m (ask_for from k.reader.position))
+      asks out sent (inl t) = inr (Asker.Board, last_out w.sent [] m.after.sent (ask_for Asker.Board k.reader.position) (sent ∙ ap (λ (z : List Message). w.sent ++ z) t.1))
+      asks out sent (inr t) =
+          let justified = subst (λ (z : AllVotes). Justified (votes_by z (other d)) (votes_by z d)) (steady_votes s v w st) (justified_of s w d st.fine) in
+          inl (none_full (votes_by v (other d)) (votes_by v d) k.reader.position justified t.0)
+
+  abbrev pub board_listens : (v : AllVotes) (n : ℕ) (d : DeskId) → Hearer s v (Station.Board n) d
+  board_listens v n d = record {
+    State = BoardState;
+    ear = λ k. ear d k.reader;
+    Ok = λ m. IsSoundAnswer m.event m.answer;
+    Is = λ w k. board_at w.boards n ≡ Some k;
+    stays = λ w ms r k e. let l = board_goes w ms r.run r.calm n k e in (l.0, l.1);
+    goes = λ w ms r k l e q.
+        let h = board_goes w ms r.run r.calm n k e in
+        subst (λ (z : BoardState). On (ear d k.reader) (ear d z.reader)) (one_board (last_of w ms).boards n h.0 l h.1 q) (h.2 d);
+    hears = λ w m st ok p k l e q x given desk at.
+        subst (λ (c : DeskId). Before k.reader.position l.reader.position ⊎ Knows (ear c l.reader)) desk (board_hears w m n k l x p given e q at ok);
+    ticks = λ w m st p e k at. board_ticks v n d w m st p e k at;
+  }

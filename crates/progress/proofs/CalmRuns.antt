@@ -28,18 +28,14 @@ pub get_here : {X : Type 0} → (xs ys : List X) (x : X) → slice_get (xs ++ (x
 get_here [] ys x = refl
 get_here (z ∷ zs) ys x = get_here zs ys x
 
--- the last of what is sent has the number that comes next
-pub get_last : {X : Type 0} → (xs ys sent : List X) (x : X) → sent ≡ xs ++ (ys ++ (x ∷ []))
-    → (n : ℕ) × (slice_get sent n ≡ Some x) × (length xs ≤ n)
-get_last xs ys sent x e =
+-- the last of what is sent is handed out, by the number that comes next
+pub last_out : {X : Type 0} → (xs ys sent : List X) (x : X) → sent ≡ xs ++ (ys ++ (x ∷ []))
+    → (n : ℕ) × (length xs ≤ n) × (slice_get sent n ≡ Some x)
+last_out xs ys sent x e =
     let whole : sent ≡ (xs ++ ys) ++ (x ∷ []) = e ∙ sym (append_assoc xs ys (x ∷ [])) in
     let got = subst (λ (z : List _). slice_get z (length (xs ++ ys)) ≡ Some x) (sym whole) (get_here (xs ++ ys) [] x) in
     let more : length (xs ++ ys) ≡ length xs + length ys = length-append xs ys in
-    (length (xs ++ ys), got, omega arith)
-
-pub node_set : {Disk : Type 0} → (w : Configuration Disk) (d : DeskId) (y : Node Disk) (out : List Message) → node (with_node w d y out) d ≡ y
-node_set w A y out = refl
-node_set w B y out = refl
+    (length (xs ++ ys), omega arith, got)
 
 pub sent_set : {Disk : Type 0} → (w : Configuration Disk) (d : DeskId) (y : Node Disk) (out : List Message) → (with_node w d y out).sent ≡ w.sent ++ out
 sent_set w A y out = refl
@@ -53,6 +49,10 @@ module _ {Disk Why : Type 0} where
   pub calm_split : (xs ys : List (Moment Disk Why)) → AllCalm (xs ++ ys) → AllCalm ys × AllCalm xs
   calm_split [] ys c = (c, tt)
   calm_split (x ∷ xs) ys c = let h = calm_split xs ys c.0 in (h.0, (h.1, c.1))
+
+  pub calm_join : (xs ys : List (Moment Disk Why)) → AllCalm ys → AllCalm xs → AllCalm (xs ++ ys)
+  calm_join [] ys b a = b
+  calm_join (x ∷ xs) ys b a = (calm_join xs ys b a.0, a.1)
 
   -- where a station is given a message
   pub given_at : (w : Configuration Disk) (t : Station) (message : Message) (ms : List (Moment Disk Why)) → Reaches w t message ms
@@ -132,29 +132,17 @@ module _ {Disk Why : Type 0} (s : Setting Disk Why) where
       (subst (λ (z : AllVotes). GoesOn (votes_by z (other d)) mid.0.seat g.0.seat) (steady_votes v (last_of w ms) st) g.3) in
       goes_on (votes_by v (other d)) k.seat mid.0.seat l.seat h on
 
-  -- a moment of a calm run, with what is before it and after it
-  pub record Around (v : AllVotes) (w : Configuration Disk) (ms : List (Moment Disk Why)) (at : Amid ms) : Type 0 where
-    pub before : CalmRun v w at.earlier
-    pub calm : IsCalm at.moment.event
-    pub step : Step s (last_of w at.earlier) at.moment.event at.moment.answer at.moment.after
-    pub after : CalmRun v at.moment.after at.later
-    pub last : last_of w ms ≡ last_of at.moment.after at.later
+  pub run_join : (w : Configuration Disk) (more ms : List (Moment Disk Why)) → Run s w ms → Run s (last_of w ms) more → Run s w (more ++ ms)
+  run_join w [] ms r q = r
+  run_join w (m ∷ more) ms r q =
+      (run_join w more ms r q.0, subst (λ (c : Configuration Disk). Step s c m.event m.answer m.after) (sym (last_split w more ms)) q.1)
 
-  pub around : (v : AllVotes) (w : Configuration Disk) (ms : List (Moment Disk Why)) → CalmRun v w ms → (at : Amid ms) → Around v w ms at
-  around v w ms r at =
-      let split = run_split w at.later (at.moment ∷ at.earlier) (subst (Run s w) at.whole r.run) in
-      let calm = calm_split at.later (at.moment ∷ at.earlier) (subst (λ (z : List (Moment Disk Why)). AllCalm z) at.whole r.calm) in
-      let before : CalmRun v w at.earlier = record { begins = r.begins; run = split.0.0; calm = calm.0.0 } in
-      let st = ends v w at.earlier before in
-      record {
-        before = before;
-        calm = calm.0.1;
-        step = split.0.1;
-        after = record { begins = step_steady v (last_of w at.earlier) at.moment st calm.0.1 split.0.1; run = split.1; calm = calm.1 };
-        last = ap (last_of w) at.whole ∙ last_split w at.later (at.moment ∷ at.earlier);
-      }
+  pub join : (v : AllVotes) (w : Configuration Disk) (xs ys : List (Moment Disk Why)) → CalmRun v w ys → CalmRun v (last_of w ys) xs → CalmRun v w (xs ++ ys)
+  join v w xs ys r q = record { begins = r.begins; run = run_join w xs ys r.run q.run; calm = calm_join xs ys r.calm q.calm }
 
-  -- over one moment
-  pub step_goes : (v : AllVotes) (w : Configuration Disk) (m : Moment Disk Why) → Steady v w → IsCalm m.event → Step s w m.event m.answer m.after
-      → (d : DeskId) (k l : DeskState Disk) → IsUp (node w d) k → IsUp (node m.after d) l → GoesOn (votes_by v (other d)) k.seat l.seat
-  step_goes v w m st calm p d k l u u' = seat_goes v w (m ∷ []) (record { begins = st; run = (tt, p); calm = (tt, calm) }) d k l u u'
+  pub split : (v : AllVotes) (w : Configuration Disk) (xs ys : List (Moment Disk Why)) → CalmRun v w (xs ++ ys) → CalmRun v w ys × CalmRun v (last_of w ys) xs
+  split v w xs ys r =
+      let run = run_split w xs ys r.run in
+      let calm = calm_split xs ys r.calm in
+      let before : CalmRun v w ys = record { begins = r.begins; run = run.0; calm = calm.0 } in
+      (before, record { begins = ends v w ys before; run = run.1; calm = calm.1 })

@@ -4,7 +4,7 @@ use Rattle.notation.specs.declared.entry.Entry.{Entry}
 use Rattle.agree_core.specs.declared.{messages.DeskId.DeskId, position.Position.Position}
 use Rattle.agree_core.specs.declared.messages.DeskId.TheVariants.{A, B}
 use Rattle.agree_core.specs.Agreed.{AllBoth, IsAgreedList}
-use Rattle.agree_core.specs.Ballots.{AllJustified, AllVotes, Ballot, In, Justified, ballot_at}
+use Rattle.agree_core.specs.Ballots.{AllJustified, AllVotes, Ballot, In, Justified, ballot_at, votes_by}
 use Rattle.agree_core.specs.Boards.{BoardState}
 use Rattle.agree_core.specs.Keeping.{BoardFine}
 use Rattle.agree_core.specs.Positions.{Before, next_place, next_round}
@@ -22,14 +22,14 @@ use Rattle.progress.specs.Exchange.{Exchange, HasExchanges}
 use Rattle.progress.specs.InStep.{BothVoted, IsAfter, IsBehindBy}
 use Rattle.progress.specs.Progress.{BoardsFollow}
 use Rattle.progress.proofs.Boards.{AllRounds, begins_rounds, rounds_of, run_rounds}
-use Rattle.progress.proofs.BoardTrips.{board_goes}
-use Rattle.progress.proofs.CalmRuns.{CalmRun, Steady, calm_split, ends, last_split, run_split, steady_votes}
+use Rattle.progress.proofs.BoardTrips.{board_goes, board_listens, ear}
+use Rattle.progress.proofs.CalmRuns.{CalmRun, Steady, calm_split, ends, last_split, run_join, run_split, steady_votes}
 use Rattle.progress.proofs.CalmSeats.{before_trans, place_later, round_later}
-use Rattle.progress.proofs.Followed.{AllSound, agreed_board, all_sound, board_trip, lacks, run_join}
+use Rattle.progress.proofs.Followed.{agreed_board, all_sound, lacks}
 use Rattle.progress.proofs.Near.{ordered}
 use Rattle.progress.proofs.Rounds.{RoundsFine, both_voted, one_round_more, passed, same_entry}
 use Rattle.progress.proofs.Settled.{steady}
-use Rattle.progress.proofs.Trips.{NoVote}
+use Rattle.progress.proofs.Exchanges.{Done, NoVote, exchange_brings}
 
 -- so many of these votes, each for an earlier position than the one before it, and all for positions before this one
 abbrev pub Chain : List Ballot → ℕ → Position → Type 0
@@ -187,10 +187,10 @@ module _ {Disk Why : Type 0} (s : Setting Disk Why) where
         let fk = fine_board c k a at in
         let fl = fine_board (last_of c more) l then g.1 in
         let j = justified c a in
-        let sound : AllSound more = all_sound w0 more a.past (sound_answers s version boards w0 (more ++ a.past) begins (run_join s w0 more a.past a.comes (subst (λ (z : Configuration Disk). Run s z more) (sym a.here) p))) in
-        let d = lacks s v k.reader l.reader fl.0.waits
-        (board_trip s v c more ran sound A n k l at g.1 (x A))
-        (board_trip s v c more ran sound B n k l at g.1 (x B)) in (
+        let sound = all_sound w0 more a.past (sound_answers s version boards w0 (more ++ a.past) begins (run_join s w0 more a.past a.comes (subst (λ (z : Configuration Disk). Run s z more) (sym a.here) p))) in
+        let brings : (d : DeskId) → Done (votes_by v d) (ear d k.reader) (ear d l.reader) = λ d.
+        exchange_brings s v (Station.Board n) d (board_listens s v n d) c more k l (record { run = ran; ok = sound; from = at; to = g.1 }) (x d) in
+        let d = lacks v k.reader l.reader fl.0.waits (brings A) (brings B) in (
           l,
           g.1,
           elim d [
@@ -207,7 +207,7 @@ module _ {Disk Why : Type 0} (s : Setting Disk Why) where
         let then = next c more a p calm in
         let fk = fine_board c k a at in
         let fl = fine_board (last_of c more) g.0 then g.1 in
-        let on : NotBack k.reader.position g.0.reader.position = elim g.2 [ inl b ↦ inr b | inr e ↦ inl e.0 ] in
+        let on : NotBack k.reader.position g.0.reader.position = elim (g.2 A) [ inl b ↦ inr b | inr e ↦ inl e.0 ] in
         let less : i ≤ r - 0 = omega (arith, most) in
         (g.0, g.1, at_most_more v g.0.reader.position i (r - 0) less (moved_on v (justified c a) g.0.reader.position g.0.book fl.0.both fl.0.long fl.1 i k.reader.position fk.1 h on))
     all_spans c (suc m) r more a p calm (late, soon, whole, x, y) before =

@@ -4,6 +4,7 @@ pub mod InRuns
 pub mod CalmSeats
 pub mod CalmSteps
 pub mod CalmRuns
+pub mod Exchanges
 pub mod Trips
 pub mod Settled
 pub mod Rounds

@@ -25,10 +25,9 @@ use Rattle.headline.specs.Steps.{Step}
 use Rattle.progress.specs.Calm.{AllCalm, IsCalm}
 use Rattle.progress.specs.Exchange.{Amid, Exchange, HandsOut, HasExchanges, IsAnswered, Reaches}
 use Rattle.progress.specs.Progress.{Hear, MayHear}
-use Rattle.progress.proofs.CalmRuns.{Steady, ends, last_split, run_keeps_sent, step_sent, step_steady}
+use Rattle.progress.proofs.CalmRuns.{Steady, calm_join, ends, last_split, run_join, run_keeps_sent, step_sent, step_steady}
 use Rattle.progress.proofs.CaughtUp.{voted_or_not}
 use Rattle.progress.proofs.Settled.{steady}
-use Rattle.progress.proofs.Followed.{run_join}
 use Rattle.progress.proofs.Near.{ordered}
 use Rattle.progress.proofs.Rounds.{same_entry}
 
@@ -101,10 +100,6 @@ module _ {Disk Why : Type 0} where
   pub given_more : (w : Configuration Disk) (t : Station) (message : Message) (xs ys : List (Moment Disk Why)) → Reaches w t message ys → Reaches w t message (xs ++ ys)
   given_more w t message [] ys g = g
   given_more w t message (x ∷ xs) ys g = inr (given_more w t message xs ys g)
-
-  calm_join : (xs ys : List (Moment Disk Why)) → AllCalm ys → AllCalm xs → AllCalm (xs ++ ys)
-  calm_join [] ys b a = b
-  calm_join (x ∷ xs) ys b a = (calm_join xs ys b a.0, a.1)
 
   -- with others before it, or after it
   amid_before : (ms before : List (Moment Disk Why)) → Amid ms → Amid (ms ++ before)

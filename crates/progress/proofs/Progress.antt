@@ -14,7 +14,8 @@ use Rattle.headline.specs.Configurations.{Configuration, all_votes}
 use Rattle.headline.specs.Runs.{Begins, Moment, Run, last_of}
 use Rattle.headline.specs.Setting.{Setting}
 use Rattle.headline.proofs.BoardKeeping.{item_at}
-use Rattle.headline.proofs.Keeping.{Fine, all_justified, begins_fine, run_keeps}
+use Rattle.headline.proofs.Keeping.{Fine, begins_fine, run_keeps}
+use Rattle.headline.proofs.Sound.{justified_other}
 use Rattle.progress.specs.Calm.{NotBack}
 use Rattle.progress.specs.InStep.{IsBehind}
 use Rattle.progress.specs.Progress.{AllInReach, HoldsAt, NoneIsAnother, NoVoteFromAhead}
@@ -27,7 +28,6 @@ use Rattle.progress.proofs.InRuns.{near}
 use Rattle.progress.proofs.Near.{not_from_ahead}
 use Rattle.progress.proofs.Possible.{may_hear}
 use Rattle.progress.proofs.Settled.{fine_seat, hearing_again_tells, hearing_settles, can_pen_in_step, stays_up}
-use Rattle.progress.proofs.Trips.{justified_at}
 
 module _ {Disk Why : Type 0} (s : Setting Disk Why) where
   none_from_ahead : (w : Configuration Disk) → Fine s w → NoVoteFromAhead w
@@ -35,7 +35,7 @@ module _ {Disk Why : Type 0} (s : Setting Disk Why) where
       let all = all_votes w in
       let there : In (ballot_of v) (votes_by all (other d)) =
       subst (λ (c : DeskId). In (ballot_of v) (votes_by all c)) by (item_at (MessageFine all) w.sent n _ get f.on_sent) in
-      let theirs : Justified (votes_by all d) (votes_by all (other d)) = justified_at s all (all_justified s w f) d in
+      let theirs : Justified (votes_by all d) (votes_by all (other d)) = justified_other s w d f in
       not_from_ahead d (votes_by all d) (votes_by all (other d)) k.seat k.book (ballot_of v) (fine_seat s w f d k runs).0 theirs there
 
   not_ahead : (p q : Position) → NotBack q p → is_before p q ≡ false
@@ -56,7 +56,7 @@ module _ {Disk Why : Type 0} (s : Setting Disk Why) where
       let all = all_votes w in
       let there : In (ballot_of v) (votes_by all (other d)) =
       subst (λ (c : DeskId). In (ballot_of v) (votes_by all c)) by (item_at (MessageFine all) w.sent n _ get f.on_sent) in
-      let theirs : Justified (votes_by all d) (votes_by all (other d)) = justified_at s all (all_justified s w f) d in
+      let theirs : Justified (votes_by all d) (votes_by all (other d)) = justified_other s w d f in
       let g = fine_seat s w f d k runs in
       subst (λ (own : List Ballot). is_another k.seat own (position_of v) (code v.entry) ≡ false) (sym g.1)
       (not_another k.seat (ballot_of v) less d (votes_by all (other d)) (votes_by all d) k.book g.0 theirs there

@@ -28,7 +28,8 @@ use Rattle.progress.proofs.CalmRuns.{CalmRun, Steady, ends, seat_goes, steady_vo
 use Rattle.progress.proofs.CalmSeats.{GoesOn, before_trans, not_back}
 use Rattle.progress.proofs.CalmSteps.{one_process, step_at_on}
 use Rattle.progress.proofs.Near.{agree, any, before_next, never_far, not_cast}
-use Rattle.progress.proofs.Trips.{Done, Knows, NoVote, fine_at, others_justified, trip}
+use Rattle.progress.proofs.Exchanges.{Done, Knows, NoVote, fine_at}
+use Rattle.progress.proofs.Trips.{ear, others_justified, trip}
 
 -- it waits for its own scorer, or for a vote that isn't cast
 abbrev pub Caught : List Ballot → SeatState → Type 0
@@ -40,11 +41,11 @@ moved_waits theirs s t (inl e) b = absurd (not_before s.position t.position (sym
 moved_waits theirs s t (inr (inl n)) b = absurd (not_before s.position t.position (sym (ap (λ (x : SeatState). x.position) n.3)) b)
 moved_waits theirs s t (inr (inr h)) b = h.5
 
-knows_waits : (s : SeatState) → SeatWaits s → Knows s → s.mine ≡ None
+knows_waits : (s : SeatState) → SeatWaits s → Knows (ear s) → s.mine ≡ None
 knows_waits s (inl n) k = n
 knows_waits s (inr n) k = let e = k.1 in absurd (grind (arith, e, n))
 
-pub caught : (theirs : List Ballot) (s t : SeatState) → GoesOn theirs s t → SeatWaits t → Done theirs s t → Caught theirs t
+pub caught : (theirs : List Ballot) (s t : SeatState) → GoesOn theirs s t → SeatWaits t → Done theirs (ear s) (ear t) → Caught theirs t
 caught theirs s t g w (inl b) = inl (moved_waits theirs s t g b)
 caught theirs s t g w (inr (inl k)) = inl (knows_waits t w k)
 caught theirs s t g w (inr (inr n)) = inr n
@@ -80,7 +81,7 @@ module _ (a b : List Ballot) (s t : SeatState) (xs ys : List Entry) (fs : SeatFi
       turn n None e = e
       turn n (Some e) q = absurd (n e (subst (λ (p : Position). In (record { at = p; entry = e }) b) (sym one_position) (has_cast a b ys t.position t.mine e q ft.mine)))
 
-not_moved : (theirs : List Ballot) (s t : SeatState) → t.position ≡ s.position → Done theirs s t → Knows t ⊎ NoVote theirs t.position
+not_moved : (theirs : List Ballot) (s t : SeatState) → t.position ≡ s.position → Done theirs (ear s) (ear t) → Knows (ear t) ⊎ NoVote theirs t.position
 not_moved theirs s t e (inl b) = absurd (not_before s.position t.position (sym e) b)
 not_moved theirs s t e (inr k) = k
 
@@ -160,7 +161,7 @@ module _ {Disk Why : Type 0} (s : Setting Disk Why) where
     goes : (d : DeskId) → GoesOn (votes_by v (other d)) (st.up d).0.seat (last.up d).0.seat
     goes d = seat_goes s v w ms calm_run d (st.up d).0 (last.up d).0 (st.up d).1 (last.up d).1
 
-    done : (d : DeskId) → Done (votes_by v (other d)) (st.up d).0.seat (last.up d).0.seat
+    done : (d : DeskId) → Done (votes_by v (other d)) (ear (st.up d).0.seat) (ear (last.up d).0.seat)
     done d = trip s v w ms calm_run d (h.exchanges d) (st.up d).0 (last.up d).0 (st.up d).1 (last.up d).1
 
     pub caught_at : (d : DeskId) → Caught (votes_by v (other d)) (last.up d).0.seat
@@ -182,7 +183,7 @@ module _ {Disk Why : Type 0} (s : Setting Disk Why) where
         subst (λ (z : DeskState Disk). z.seat.theirs ≡ Some e) same (knows_it d x.0.seat x.0.book e (seat_fine v (last_of w ms) last d) (others_justified s (last_of w ms) v last d) knows there)
       where
         knows_it : (d : DeskId) (x : SeatState) (book : List Entry) (e : Entry) → SeatFine d (votes_by v d) (votes_by v (other d)) x book
-            → Justified (votes_by v d) (votes_by v (other d)) → Knows x ⊎ NoVote (votes_by v (other d)) x.position
+            → Justified (votes_by v d) (votes_by v (other d)) → Knows (ear x) ⊎ NoVote (votes_by v (other d)) x.position
             → In (record { at = x.position; entry = e }) (votes_by v (other d)) → x.theirs ≡ Some e
         knows_it d x book e f j (inr n) i = absurd (n e i)
         knows_it d x book e f j (inl h) i =
