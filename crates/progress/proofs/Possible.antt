@@ -22,10 +22,10 @@ use Rattle.headline.specs.DeskAnswers.{has_any}
 use Rattle.headline.specs.Runs.{Moment, Run, last_of}
 use Rattle.headline.specs.Setting.{Setting}
 use Rattle.headline.specs.Steps.{Step}
-use Rattle.progress.specs.Calm.{AllCalm, IsCalm}
+use Rattle.progress.specs.Calm.{IsCalm}
 use Rattle.progress.specs.Exchange.{Amid, Exchange, HandsOut, HasExchanges, IsAnswered, Reaches}
-use Rattle.progress.specs.Progress.{Hear, MayHear}
-use Rattle.progress.proofs.CalmRuns.{Steady, calm_join, ends, last_split, run_join, run_keeps_sent, step_sent, step_steady}
+use Rattle.progress.specs.Progress.{MayHear}
+use Rattle.progress.proofs.CalmRuns.{CalmRun, Steady, ends, join, last_split, run_keeps_sent, step_sent}
 use Rattle.progress.proofs.CaughtUp.{voted_or_not}
 use Rattle.progress.proofs.Settled.{steady}
 use Rattle.progress.proofs.Near.{ordered}
@@ -212,9 +212,9 @@ module _ {Disk Why : Type 0} (s : Setting Disk Why) (v : AllVotes) where
   Ready (Station.Desk d) w = Unit {0}
   Ready (Station.Board n) w = (k : BoardState) × (board_at w.boards n ≡ Some k)
 
-  ready_after : (w : Configuration Disk) (ms : List (Moment Disk Why)) (t : Station) → Run s w ms → AllCalm ms → Ready t w → Ready t (last_of w ms)
-  ready_after w ms (Station.Desk d) r c h = tt
-  ready_after w ms (Station.Board n) r c h = let g = board_goes s w ms r c n h.0 h.1 in (g.0, g.1)
+  ready_after : (w : Configuration Disk) (ms : List (Moment Disk Why)) (t : Station) → CalmRun s v w ms → Ready t w → Ready t (last_of w ms)
+  ready_after w ms (Station.Desk d) r h = tt
+  ready_after w ms (Station.Board n) r h = let g = board_goes s w ms r.run r.calm n h.0 h.1 in (g.0, g.1)
 
   given : (w : Configuration Disk) → Steady s v w → (t : Station) → Ready t w → (i : ℕ) (m : Message) → slice_get w.sent i ≡ Some m → Comes w (Event.Give i t)
   given w st (Station.Desk d) h i m get = gives w st d i m get
@@ -227,12 +227,12 @@ module _ {Disk Why : Type 0} (s : Setting Disk Why) (v : AllVotes) where
   -- calm moments that may come, of which this is so
   pub record SomeMoments (w : Configuration Disk) (P : List (Moment Disk Why) → Type 0) : Type 0 where
     pub ms : List (Moment Disk Why)
-    pub run : Run s w ms
-    pub calm : AllCalm ms
+    pub goes : CalmRun s v w ms
     pub so : P ms
 
-  calm_give : (n : ℕ) (t : Station) (m : Moment Disk Why) → m.event ≡ Event.Give n t → IsCalm m.event
-  calm_give n t m e = subst IsCalm (sym e) tt
+  -- a moment that may come, of a calm event
+  one_moment : (w : Configuration Disk) (event : Event) → Steady s v w → IsCalm event → (m : Comes w event) → CalmRun s v w (m.0 ∷ [])
+  one_moment w event st calm m = record { begins = st; run = (tt, m.2); calm = (tt, subst IsCalm (sym m.1) calm) }
 
   sent_stays : (w : Configuration Disk) (ms : List (Moment Disk Why)) → Run s w ms → length w.sent ≤ length (last_of w ms).sent
   sent_stays w [] r = omega arith
@@ -241,21 +241,20 @@ module _ {Disk Why : Type 0} (s : Setting Disk Why) (v : AllVotes) where
   -- the station is given so many messages, from this number on
   all_given : (w : Configuration Disk) → Steady s v w → (t : Station) → Ready t w → (from many : ℕ) → from + many ≤ length w.sent
       → SomeMoments w (λ ms. (message : Message) (r : ℕ) → from ≤ r → r < from + many → slice_get w.sent r ≡ Some message → Reaches w t message ms)
-  all_given w st t ready from zero less = record { ms = []; run = tt; calm = tt; so = λ message r a b get. absurd (omega (arith, a, b)) }
+  all_given w st t ready from zero less = record { ms = []; goes = record { begins = st; run = tt; calm = tt }; so = λ message r a b get. absurd (omega (arith, a, b)) }
   all_given w st t ready from (suc many) less =
       let before = all_given w st t ready from many (omega (arith, less)) in
-      let mid = ends s v w before.ms (record { begins = st; run = before.run; calm = before.calm }) in
+      let mid = ends s v w before.ms before.goes in
       let last = from + many in
-      let long = sent_stays w before.ms before.run in
+      let long = sent_stays w before.ms before.goes.run in
       let got = get_some (last_of w before.ms).sent last (omega (arith, less, long)) in
-      let m = given (last_of w before.ms) mid t (ready_after w before.ms t before.run before.calm ready) last got.0 got.1 in
+      let m = given (last_of w before.ms) mid t (ready_after w before.ms t before.goes ready) last got.0 got.1 in
       record {
         ms = m.0 ∷ before.ms;
-        run = (before.run, m.2);
-        calm = (before.calm, calm_give last t m.0 m.1);
+        goes = join s v w (m.0 ∷ []) before.ms before.goes (one_moment (last_of w before.ms) (Event.Give last t) mid tt m);
         so = λ message r a b get. elim (compare r last) [
           | inl lo ↦ inr (before.so message r a lo get)
-          | inr (inl e) ↦ inl (last, m.1, run_keeps_sent s w before.ms last message before.run (subst (λ (z : ℕ). slice_get w.sent z ≡ Some message) e get))
+          | inr (inl e) ↦ inl (last, m.1, run_keeps_sent s w before.ms last message before.goes.run (subst (λ (z : ℕ). slice_get w.sent z ≡ Some message) e get))
           | inr (inr hi) ↦ absurd {A = Reaches w t message (m.0 ∷ before.ms)} (omega (arith, b, hi))
         ];
       }
@@ -263,31 +262,30 @@ module _ {Disk Why : Type 0} (s : Setting Disk Why) (v : AllVotes) where
   -- so many messages, from this number on, are given to a desk, and what it answers to the station
   all_answered : (w : Configuration Disk) → Steady s v w → (t : Station) → Ready t w → (d : DeskId) (from many : ℕ) → from + many ≤ length w.sent
       → SomeMoments w (λ ms. (message : Message) (n : ℕ) → from ≤ n → n < from + many → slice_get w.sent n ≡ Some message → IsAnswered w t d message ms)
-  all_answered w st t ready d from zero less = record { ms = []; run = tt; calm = tt; so = λ message n a b get. absurd (omega (arith, a, b)) }
+  all_answered w st t ready d from zero less = record { ms = []; goes = record { begins = st; run = tt; calm = tt }; so = λ message n a b get. absurd (omega (arith, a, b)) }
   all_answered w st t ready d from (suc many) less =
       let before = all_answered w st t ready d from many (omega (arith, less)) in
       let last = from + many in
       let c1 = last_of w before.ms in
-      let mid = ends s v w before.ms (record { begins = st; run = before.run; calm = before.calm }) in
-      let long = sent_stays w before.ms before.run in
+      let mid = ends s v w before.ms before.goes in
+      let long = sent_stays w before.ms before.goes.run in
       let got = get_some c1.sent last (omega (arith, less, long)) in
       let m = gives c1 mid d last got.0 got.1 in
-      let calm = calm_give last (Station.Desk d) m.0 m.1 in
+      let one = one_moment c1 (Event.Give last (Station.Desk d)) mid tt m in
       let first = length c1.sent in
       let end = length m.0.after.sent in
-      let more : first ≤ end = sent_stays c1 (m.0 ∷ []) (tt, m.2) in
-      let near = ready_after w before.ms t before.run before.calm ready in
-      let replies = all_given m.0.after (step_steady s v c1 m.0 mid calm m.2) t (ready_after c1 (m.0 ∷ []) t (tt, m.2) (tt, calm) near) first (end - first) (omega (arith, more)) in
+      let more : first ≤ end = sent_stays c1 (m.0 ∷ []) one.run in
+      let near = ready_after w before.ms t before.goes ready in
+      let replies = all_given m.0.after (ends s v c1 (m.0 ∷ []) one) t (ready_after c1 (m.0 ∷ []) t one near) first (end - first) (omega (arith, more)) in
       record {
         ms = replies.ms ++ (m.0 ∷ before.ms);
-        run = run_join s w replies.ms (m.0 ∷ before.ms) (before.run, m.2) replies.run;
-        calm = calm_join replies.ms (m.0 ∷ before.ms) (before.calm, calm) replies.calm;
+        goes = join s v w replies.ms (m.0 ∷ before.ms) (join s v w (m.0 ∷ []) before.ms before.goes one) replies.goes;
         so = λ message n a b get. elim (compare n last) [
           | inl lo ↦
               answered_after w t d message replies.ms (m.0 ∷ before.ms) (answered_after w t d message (m.0 ∷ []) before.ms (before.so message n a lo get))
           | inr (inl e) ↦ record {
             at = record { later = replies.ms; moment = m.0; earlier = before.ms; whole = refl };
-            given = (last, m.1, run_keeps_sent s w before.ms last message before.run (subst (λ (z : ℕ). slice_get w.sent z ≡ Some message) e get));
+            given = (last, m.1, run_keeps_sent s w before.ms last message before.goes.run (subst (λ (z : ℕ). slice_get w.sent z ≡ Some message) e get));
             heard = λ reply h. replies.so reply h.0 h.1 (let less = get_less m.0.after.sent h.0 reply h.2 in omega (arith, less, more)) h.2;
           }
           | inr (inr hi) ↦ absurd {A = IsAnswered w t d message (replies.ms ++ (m.0 ∷ before.ms))} (omega (arith, b, hi))
@@ -299,13 +297,12 @@ module _ {Disk Why : Type 0} (s : Setting Disk Why) (v : AllVotes) where
       let m = ticked w st t ready in
       let first = length w.sent in
       let end = length m.0.after.sent in
-      let calm : IsCalm m.0.event = subst IsCalm (sym m.1) tt in
-      let more : first ≤ end = sent_stays w (m.0 ∷ []) (tt, m.2) in
-      let x = all_answered m.0.after (step_steady s v w m.0 st calm m.2) t (ready_after w (m.0 ∷ []) t (tt, m.2) (tt, calm) ready) d first (end - first) (omega (arith, more)) in
+      let one = one_moment w (Event.Tick t) st tt m in
+      let more : first ≤ end = sent_stays w (m.0 ∷ []) one.run in
+      let x = all_answered m.0.after (ends s v w (m.0 ∷ []) one) t (ready_after w (m.0 ∷ []) t one ready) d first (end - first) (omega (arith, more)) in
       record {
         ms = x.ms ++ (m.0 ∷ []);
-        run = run_join s w x.ms (m.0 ∷ []) (tt, m.2) x.run;
-        calm = calm_join x.ms (m.0 ∷ []) (tt, calm) x.calm;
+        goes = join s v w x.ms (m.0 ∷ []) one x.goes;
         so = record {
           at = record { later = x.ms; moment = m.0; earlier = []; whole = refl };
           ticks = m.1;
@@ -313,55 +310,36 @@ module _ {Disk Why : Type 0} (s : Setting Disk Why) (v : AllVotes) where
         };
       }
 
+  -- two exchanges, of one station with both desks or of both desks, one after the other
+  both : (t : DeskId → Station) (to : DeskId → DeskId) (w : Configuration Disk) → Steady s v w → Ready (t A) w → Ready (t B) w
+      → SomeMoments w (λ ms. (d : DeskId) → Exchange w (t d) (to d) ms)
+  both t to w st ra rb =
+      let x = exchange w st (t A) ra (to A) in
+      let y = exchange (last_of w x.ms) (ends s v w x.ms x.goes) (t B) (ready_after w x.ms (t B) x.goes rb) (to B) in
+      record { ms = y.ms ++ x.ms; goes = join s v w y.ms x.ms x.goes y.goes; so = each x.ms y.ms x.so y.so }
+    where
+      each : (xs ys : List (Moment Disk Why)) → Exchange w (t A) (to A) xs → Exchange (last_of w xs) (t B) (to B) ys → (d : DeskId) → Exchange w (t d) (to d) (ys ++ xs)
+      each xs ys x y A = exchange_after w (t A) (to A) ys xs x
+      each xs ys x y B = exchange_before w (t B) (to B) ys xs y
+
   -- a board's exchanges with both desks, so many times
   exchanges : (w : Configuration Disk) → Steady s v w → (n : ℕ) → Ready (Station.Board n) w → (m : ℕ) → SomeMoments w (λ ms. HasExchanges w n m ms)
-  exchanges w st n ready zero = record { ms = []; run = tt; calm = tt; so = tt }
+  exchanges w st n ready zero = record { ms = []; goes = record { begins = st; run = tt; calm = tt }; so = tt }
   exchanges w st n ready (suc m) =
       let t = Station.Board n in
       let before = exchanges w st n ready m in
-      let c1 = last_of w before.ms in
-      let st1 = ends s v w before.ms (record { begins = st; run = before.run; calm = before.calm }) in
-      let ready1 = ready_after w before.ms t before.run before.calm ready in
-      let x = exchange c1 st1 t ready1 A in
-      let st2 = ends s v c1 x.ms (record { begins = st1; run = x.run; calm = x.calm }) in
-      let y = exchange (last_of c1 x.ms) st2 t (ready_after c1 x.ms t x.run x.calm ready1) B in
+      let near = ready_after w before.ms t before.goes ready in
+      let more = both (λ d. t) (λ d. d) (last_of w before.ms) (ends s v w before.ms before.goes) near near in
       record {
-        ms = (y.ms ++ x.ms) ++ before.ms;
-        run = run_join s w (y.ms ++ x.ms) before.ms before.run (run_join s c1 y.ms x.ms x.run y.run);
-        calm = calm_join (y.ms ++ x.ms) before.ms before.calm (calm_join y.ms x.ms x.calm y.calm);
-        so = (y.ms ++ x.ms, before.ms, refl, before.so, both c1 x.ms y.ms x.so y.so);
+        ms = more.ms ++ before.ms;
+        goes = join s v w more.ms before.ms before.goes more.goes;
+        so = (more.ms, before.ms, refl, before.so, more.so);
       }
-    where
-      both : (c : Configuration Disk) (xs ys : List (Moment Disk Why)) → Exchange c (Station.Board n) A xs → Exchange (last_of c xs) (Station.Board n) B ys
-          → (d : DeskId) → Exchange c (Station.Board n) d (ys ++ xs)
-      both c xs ys x y A = exchange_after c (Station.Board n) A ys xs x
-      both c xs ys x y B = exchange_before c (Station.Board n) B ys xs y
 
 module _ {Disk Why : Type 0} (s : Setting Disk Why) where
   pub may_hear : (w : Configuration Disk) → Fine s w → MayHear s w
-  may_hear w f up = (desks, boards)
-    where
-      both : (xs ys : List (Moment Disk Why)) → Exchange w (Station.Desk A) B xs → Exchange (last_of w xs) (Station.Desk B) A ys
-          → (d : DeskId) → Exchange w (Station.Desk d) (other d) (ys ++ xs)
-      both xs ys x y A = exchange_after w (Station.Desk A) B ys xs x
-      both xs ys x y B = exchange_before w (Station.Desk B) A ys xs y
-
-      desks : (ms : List (Moment Disk Why)) × Hear s w ms
-      desks =
-          let st = steady s w f up in
-          let v = all_votes w in
-          let x = exchange s v w st (Station.Desk A) tt B in
-          let mid = ends s v w x.ms (record { begins = st; run = x.run; calm = x.calm }) in
-          let y = exchange s v (last_of w x.ms) mid (Station.Desk B) tt A in (
-            y.ms ++ x.ms,
-            record {
-              run = run_join s w y.ms x.ms x.run y.run;
-              calm = calm_join y.ms x.ms x.calm y.calm;
-              exchanges = both x.ms y.ms x.so y.so;
-            },
-          )
-
-      boards : (n m : ℕ) (k : BoardState) → board_at w.boards n ≡ Some k → (ms : List (Moment Disk Why)) × Run s w ms × AllCalm ms × HasExchanges w n m ms
-      boards n m k at =
-          let x = exchanges s (all_votes w) w (steady s w f up) n (k, at) m in
-          (x.ms, x.run, x.calm, x.so)
+  may_hear w f up =
+      let v = all_votes w in
+      let st = steady s w f up in
+      let x = both s v Station.Desk other w st tt tt in
+      ((x.ms, record { run = x.goes.run; calm = x.goes.calm; exchanges = x.so }), λ n m k at. let y = exchanges s v w st n (k, at) m in (y.ms, y.goes.run, y.goes.calm, y.so))
