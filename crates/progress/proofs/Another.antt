@@ -64,12 +64,10 @@ module _ (s : SeatState) (c : Ballot) (less : Before c.at s.position) where
       (i : In c theirs) (is : IsEntry c.entry) (own : IsEntry z.entry) where
     -- the other's vote for the position of the last vote
     same_round : c.at ≡ z.at → s.position ≡ next_round z.at → Differed theirs z → is_another s (z ∷ zs) c.at (code c.entry) ≡ false
-    same_round here next d =
-        grind (arith, one_vote, place_is_no_round, there, at_itself, by_entry, two_codes)
+    same_round here next d = grind (arith, one_vote, place_is_no_round, there, at_itself, by_entry, two_codes)
 
     same_place : c.at ≡ z.at → s.position ≡ next_place z.at → In z theirs → is_another s (z ∷ zs) c.at (code c.entry) ≡ false
-    same_place here next k =
-        grind (arith, one_vote, round_is_no_place, there, at_itself, by_entry, one_code)
+    same_place here next k = grind (arith, one_vote, round_is_no_place, there, at_itself, by_entry, one_code)
 
     -- none is for a position between that and the desk's own
     not_between : Before z.at c.at → ((s.position ≡ next_round z.at) × Differed theirs z) ⊎ ((s.position ≡ next_place z.at) × In z theirs) → ⊥

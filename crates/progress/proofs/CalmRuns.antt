@@ -1,4 +1,5 @@
 -- Calm runs: both desks stay up, and what was sent stays sent.
+use Rattle.std.proofs.lemmas.Grind.{common_steps}
 use Rattle.std.proofs.Common.{◌≡◌, ℕ, zero, suc, Some, List, [], ◌∷◌, ◌++◌, ◌+◌, ◌≤◌, length, length-append, append_assoc, refl, sym, ap, ◌∙◌, subst, inl, inr, arith}
 use Rattle.std.specs.Prelude.{slice_get}
 use Rattle.agree_core.specs.declared.messages.{DeskId.DeskId, Message.Message}
@@ -66,9 +67,7 @@ module _ {Disk Why : Type 0} where
 module _ {Disk Why : Type 0} (s : Setting Disk Why) where
   pub run_split : (w : Configuration Disk) (xs ys : List (Moment Disk Why)) → Run s w (xs ++ ys) → Run s w ys × Run s (last_of w ys) xs
   run_split w [] ys r = (r, tt)
-  run_split w (x ∷ xs) ys r =
-      let h = run_split w xs ys r.0 in
-      (h.0, (h.1, subst (λ (c : Configuration Disk). Step s c x.event x.answer x.after) (last_split w xs ys) r.1))
+  run_split w (x ∷ xs) ys r = grind (arith, last_split, (run_split w xs ys r.0))
 
   pub step_sent : (w : Configuration Disk) (event : Event) (t : Station) (answer : Answer Why) (new : Configuration Disk) → StepAt s w event t answer new
       → (out : List Message) × (new.sent ≡ w.sent ++ out)
@@ -79,10 +78,7 @@ module _ {Disk Why : Type 0} (s : Setting Disk Why) where
   pub run_keeps_sent : (w : Configuration Disk) (ms : List (Moment Disk Why)) (n : ℕ) (m : Message) → Run s w ms → slice_get w.sent n ≡ Some m
       → slice_get (last_of w ms).sent n ≡ Some m
   run_keeps_sent w [] n m r e = e
-  run_keeps_sent w (x ∷ xs) n m r e =
-      let h = run_keeps_sent w xs n m r.0 e in
-      let o = step_sent (last_of w xs) x.event (station_of x.event) x.answer x.after r.1 in
-      rw o.1 (get_append (last_of w xs).sent o.0 n m h)
+  run_keeps_sent w (x ∷ xs) n m r e = grind (arith, step_sent, get_append, (run_keeps_sent w xs n m r.0 e))
 
   -- both desks are up, with these votes
   pub record Steady (v : AllVotes) (w : Configuration Disk) : Type 0 where
@@ -134,8 +130,7 @@ module _ {Disk Why : Type 0} (s : Setting Disk Why) where
 
   pub run_join : (w : Configuration Disk) (more ms : List (Moment Disk Why)) → Run s w ms → Run s (last_of w ms) more → Run s w (more ++ ms)
   run_join w [] ms r q = r
-  run_join w (m ∷ more) ms r q =
-      (run_join w more ms r q.0, subst (λ (c : Configuration Disk). Step s c m.event m.answer m.after) (sym (last_split w more ms)) q.1)
+  run_join w (m ∷ more) ms r q = grind (arith, last_split, (run_join w more ms r q.0))
 
   pub join : (v : AllVotes) (w : Configuration Disk) (xs ys : List (Moment Disk Why)) → CalmRun v w ys → CalmRun v (last_of w ys) xs → CalmRun v w (xs ++ ys)
   join v w xs ys r q = record { begins = r.begins; run = run_join w xs ys r.run q.run; calm = calm_join xs ys r.calm q.calm }

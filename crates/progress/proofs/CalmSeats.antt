@@ -1,4 +1,5 @@
 -- How a desk's seat goes on in calm moments.
+use Rattle.std.proofs.lemmas.Grind.{common_steps}
 use Rattle.std.proofs.Common.{◌≡◌, ◌≢◌, ◌⊎◌, Some, None, List, refl, sym, ap, subst, inl, inr, arith}
 use Rattle.notation.specs.declared.entry.Entry.{Entry}
 use Rattle.agree_core.specs.declared.{messages.DeskId.DeskId, messages.Vote.Vote, position.Position.Position, seat.Heard.Heard}
@@ -40,8 +41,7 @@ goes_on theirs s t u (inl e) k = subst (λ (x : SeatState). GoesOn theirs x u) e
 goes_on theirs s t u (inr h) (inl e) = subst (λ (x : SeatState). GoesOn theirs s x) (sym e) (inr h)
 goes_on theirs s t u (inr (inl h)) (inr (inl k)) = absurd (grind arith)
 goes_on theirs s t u (inr (inl h)) (inr (inr k)) = absurd (grind arith)
-goes_on theirs s t u (inr (inr h)) (inr (inl k)) =
-    inr (inr (h.0, h.1, h.2, h.3, rw k.3 h.4, rw k.3 refl))
+goes_on theirs s t u (inr (inr h)) (inr (inl k)) = grind arith
 goes_on theirs s t u (inr (inr h)) (inr (inr k)) = absurd (grind arith)
 
 pub not_back : (theirs : List Ballot) (s t : SeatState) → GoesOn theirs s t → NotBack s.position t.position

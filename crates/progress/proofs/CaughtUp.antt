@@ -41,8 +41,7 @@ shorter : (theirs : List Ballot) (c : Ballot) (cs : List Ballot) → Justified t
     → Chain (c ∷ cs) m p → Chain cs m p
 shorter theirs c cs j zero p n h = tt
 shorter theirs c cs j (suc m) p n (b, inl e, lo, rest) = grind (arith, not_before, before_trans)
-shorter theirs c cs j (suc m) p n (b, inr i, lo, rest) =
-    (b, i, lo, shorter theirs c cs j m b.at (inr (earlier theirs c cs j b i)) rest)
+shorter theirs c cs j (suc m) p n (b, inr i, lo, rest) = search (arith, earlier, (shorter theirs c cs j m b.at (inr (earlier theirs c cs j b i)) rest))
 
 pub chain_fits : (theirs votes : List Ballot) → Justified theirs votes → (m : ℕ) (p : Position) → Chain votes m p → m ≤ length votes
 chain_fits theirs [] j zero p h = omega arith

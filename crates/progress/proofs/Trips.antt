@@ -1,4 +1,5 @@
 -- What an exchange brings a desk.
+use Rattle.std.proofs.lemmas.Grind.{common_steps}
 use Rattle.std.proofs.Common.{◌≡◌, ◌≢◌, ◌⊎◌, true≢false, Option, Some, None, List, [], ◌∷◌, ◌++◌, refl, sym, ap, ◌∙◌, subst, inl, inr, arith}
 use Rattle.notation.specs.declared.entry.Entry.{Entry}
 use Rattle.agree_core.specs.declared.{messages.Asker.Asker, messages.DeskId.DeskId, messages.Message.Message, messages.Vote.Vote, seat.Heard.Heard}
@@ -48,18 +49,7 @@ module _ {Disk Why : Type 0} (s : Setting Disk Why) where
   hears_it : (w : Configuration Disk) (m : Moment Disk Why) (d : DeskId) (k l : DeskState Disk) (v : Vote) → IsUp (node w d) k → IsUp (node m.after d) l
       → v.desk ≢ k.seat.desk → position_of v ≡ k.seat.position → IsGivenTo s w m d k (Message.Vote v)
       → Before k.seat.position l.seat.position ⊎ Knows (ear l.seat)
-  hears_it w m d k l v u u' n at g = turn g.told g.receives g.after
-    where
-      turn : (told : ReceiveAnswer) → Receives (s.view d (node w d).version) k (Message.Vote v) told g.l g.out
-          → AfterReceive (s.view d (node w d).version) (node w d) told g.l g.out m.answer (node m.after d)
-          → Before k.seat.position l.seat.position ⊎ Knows (ear l.seat)
-      turn (ReceiveAnswer.Told h) r a =
-          let runs : (node m.after d).process ≡ Running g.l = ap (λ (z : Node Disk). z.process) a.1 in
-          let same : g.l ≡ l = one_process (node m.after d) g.l l runs u'.runs in
-          subst (λ (z : DeskState Disk). Before k.seat.position z.seat.position ⊎ Knows (ear z.seat)) same (hears_vote k.seat g.l.seat v h n at r.1)
-      turn ReceiveAnswer.Failed r a = absurd (true≢false (sym r.0 ∙ u.sound))
-      turn ReceiveAnswer.Asked r a = absurd r
-      turn ReceiveAnswer.DeviceFailed r a = absurd r
+  hears_it w m d k l v u u' n at g = grind (arith, one_process, hears_vote, true≢false)
 
   pub others_justified : (w : Configuration Disk) (v : AllVotes) → Steady s v w → (d : DeskId) → Justified (votes_by v d) (votes_by v (other d))
   others_justified w v st d = subst (λ (z : AllVotes). Justified (votes_by z d) (votes_by z (other d))) (steady_votes s v w st) (justified_other s w d st.fine)

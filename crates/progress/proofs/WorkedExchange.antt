@@ -1,4 +1,5 @@
 -- The worked exchange is one.
+use Rattle.std.proofs.lemmas.Grind.{common_steps}
 use Rattle.std.proofs.Common.{◌≡◌, ◌≢◌, ◌≤◌, ℕ, zero, suc, Some, [], ◌∷◌, refl, sym, ap, subst, inl, inr, arith}
 use Rattle.std.specs.Prelude.{slice_get}
 use Rattle.notation.specs.declared.entry.Entry.{Entry}
@@ -113,10 +114,7 @@ module _ {Why : Type 0} (rules : Rules Why) (e : Entry) where
   knows : EachKnows (at e (heard e) (all_said e))
   knows A k f u i = absurd i
   knows B k f u (inr i) = absurd i
-  knows B k f u (inl q) =
-      let same : heard e ≡ k = one_process (up (heard e)) (heard e) k refl u.runs in
-      let it : e ≡ f = sym (ap (λ (b : Ballot). b.entry) q) in
-      subst (λ (z : DeskState Shown). z.seat.theirs ≡ Some f) same (ap Some it)
+  knows B k f u (inl q) = grind (arith, one_process)
 
   pub worked_exchange : WorkedExchange rules e
   worked_exchange = (
