@@ -38,8 +38,7 @@ seat_rounds v A s book f = rounds_of_seat A v.a v.b s book f
 seat_rounds v B s book f = λ round less. let h = rounds_of_seat B v.b v.a s book f round less in (h.1, h.0, h.3, h.2, λ e. h.4 (sym e))
 
 seat_both : (v : AllVotes) (d : DeskId) (s : SeatState) (book : List Entry) → SeatFine d (votes_by v d) (votes_by v (other d)) s book → AllBoth v.a v.b 0 book
-seat_both v A s book f = f.both
-seat_both v B s book f = both_turned v.b v.a 0 book f.both
+seat_both v h1 s book f = grind (arith, both_turned)
 
 -- an ask is for a position at which a station was
 abbrev AskFine : AllVotes → Message → Type 0
@@ -58,52 +57,29 @@ module _ (v : AllVotes) where
   one_vote_out out x e = subst (Each (AskFine v)) (sym e) (tt, tt)
 
   own_fine : (d : DeskId) (p : Position) (o : Option Entry) → Each (AskFine v) (own_vote d p o)
-  own_fine d p None = tt
-  own_fine d p (Some e) = (tt, tt)
+  own_fine d p h2 = grind arith
 
   other_fine : (from : Asker) (p : Position) (o : Option Entry) → RoundsFine v p → Each (AskFine v) (ask_other from p o)
-  other_fine from p None r = (r, tt)
-  other_fine from p (Some e) r = tt
+  other_fine from p h2 r = grind arith
 
   ticks_ask : {Disk : Type 0} → (k : DeskState Disk) (out : List Message) → RoundsFine v k.seat.position → Ticks k out → Each (AskFine v) out
-  ticks_ask k out r (inr h) = nothing out h.1
-  ticks_ask k out r (inl h) = grind (arith, each_append, own_fine, other_fine)
+  ticks_ask k out r h3 = grind (arith, nothing, each_append, own_fine, other_fine)
 
   receives_ask : {Disk : Type 0} → (view : FileView Disk) (k l : DeskState Disk) (m : Message) (told : ReceiveAnswer) (out : List Message) → Receives view k m told l out
       → Each (AskFine v) out
-  receives_ask view k l m ReceiveAnswer.Failed out p = nothing out p.2
-  receives_ask view k l (Message.Vote x) (ReceiveAnswer.Told h) out p = nothing out p.4
-  receives_ask view k l (Message.Ask q) ReceiveAnswer.Asked out (f, u, inl h) = one_vote_out out _ h.2
-  receives_ask view k l (Message.Ask q) ReceiveAnswer.Asked out (f, u, inr h) = nothing out h.1
-  receives_ask view k l (Message.Ask q) ReceiveAnswer.DeviceFailed out p = nothing out p.3
-  receives_ask view k l _ _ out p = absurd p
+  receives_ask view k l m h4 out p = grind (arith, nothing, one_vote_out)
 
   module _ {Disk Why : Type 0} (s : Setting Disk Why) where
     pens_ask : (view : FileView Disk) (k l : DeskState Disk) (e : Entry) (told : PenAnswer Why) (out : List Message) → Pens view s.rules k e told l out → Each (AskFine v) out
-    pens_ask view k l e (PenAnswer.Penned settled) out p = one_vote_out out _ p.2
-    pens_ask view k l e (PenAnswer.Refused why) out p = nothing out p.2
-    pens_ask view k l e PenAnswer.DeviceFailed out p = nothing out p.3
+    pens_ask view k l e h4 out p = grind (arith, one_vote_out, nothing)
 
     at_desk_ask : (sent : List Message) (d : DeskId) (event : Event) (x y : Node Disk) (answer : Answer Why) (out : List Message)
         → ((k : DeskState Disk) → x.process ≡ Running k → RoundsFine v k.seat.position) → AtDesk s sent d event x answer y out → Each (AskFine v) out
-    at_desk_ask sent d (Event.Pen c e) x y answer out r p = pens_ask (s.view d x.version) p.0 p.1 e p.2 out p.4
-    at_desk_ask sent d (Event.Give i u) x y answer out r p = receives_ask (s.view d x.version) p.0 p.1 p.2 p.3 out p.6
-    at_desk_ask sent d (Event.Tick u) x y answer out r p = ticks_ask p.0 out (r p.0 p.1) p.2
-    at_desk_ask sent d (Event.Open c) x y answer out r p = nothing out p.6
-    at_desk_ask sent d (Event.Kill c) x y answer out r p = nothing out p.4
-    at_desk_ask sent d (Event.Power c choice) x y answer out r p = nothing out p.4
-    at_desk_ask sent d (Event.FailAt c i) x y answer out r p = nothing out p.2
-    at_desk_ask sent d (Event.StopAt c i) x y answer out r p = nothing out p.2
-    at_desk_ask sent d (Event.Migrate c) x y answer out r p = nothing out p.4
-    at_desk_ask sent d (Event.Wipe i) x y answer out r p = absurd p
+    at_desk_ask sent d h2 x y answer out r p = grind (arith, pens_ask, receives_ask, ticks_ask, nothing)
 
     at_board_ask : (sent : List Message) (event : Event) (k l : BoardState) (answer : Answer Why) (out : List Message) → RoundsFine v k.reader.position
         → AtBoard s sent event k answer l out → Each (AskFine v) out
-    at_board_ask sent (Event.Give i t) k l answer out r p = nothing out p.5
-    at_board_ask sent (Event.Tick t) k l answer out r (inl h, a, z) = subst (Each (AskFine v)) (sym h.1) (r, tt)
-    at_board_ask sent (Event.Tick t) k l answer out r (inr h, a, z) = nothing out h.1
-    at_board_ask sent (Event.Wipe i) k l answer out r p = nothing out p.2
-    at_board_ask sent _ k l answer out r p = absurd p
+    at_board_ask sent h1 k l answer out r p = grind (arith, nothing)
 
 module _ {Disk Why : Type 0} (s : Setting Disk Why) where
   abbrev AllAsks : Configuration Disk → Type 0

@@ -42,20 +42,10 @@ notes_on : (r : ReaderState) (c : DeskId) (e : Entry) → noted_of r c ≡ None 
 notes_on r c e n d = grind arith
 
 listens_on : (r t : ReaderState) (v : Vote) (h : Heard) → Listens r v h t → BoardOn r t
-listens_on r t v Heard.Mine c = absurd c
-listens_on r t v Heard.Old c = on_same r t c.1
-listens_on r t v Heard.Ahead c = on_same r t c.1
-listens_on r t v Heard.Again c = on_same r t c.2
-listens_on r t v Heard.TwoVotes c = on_same r t c.2
-listens_on r t v Heard.Noted c = subst (BoardOn r) (sym c.3) (notes_on r v.desk v.entry c.1)
-listens_on r t v Heard.Agreed c = λ d. inl (rw c.3 (place_later r.position))
-listens_on r t v Heard.Differ c = λ d. inl (rw c.3 (round_later r.position))
+listens_on r t v h3 c = grind (arith, on_same, notes_on, place_later, round_later)
 
 receives_on : {Why : Type 0} → (rules : Rules Why) (k l : BoardState) (m : Message) (told : BoardAnswer) → BoardReceives rules k m told l → BoardOn k.reader l.reader
-receives_on rules k l (Message.Vote v) (BoardAnswer.Told h) p = listens_on k.reader l.reader v h p.0
-receives_on rules k l (Message.Vote v) (BoardAnswer.BadVotes place) p = on_same k.reader l.reader (ap (λ (z : BoardState). z.reader) p.3)
-receives_on rules k l (Message.Ask q) BoardAnswer.Asked p = on_same k.reader l.reader (ap (λ (z : BoardState). z.reader) p)
-receives_on rules k l _ _ p = absurd p
+receives_on rules k l h3 h4 p = grind (arith, listens_on, on_same)
 
 listens_to : (r t : ReaderState) (v : Vote) (h : Heard) → position_of v ≡ r.position → Listens r v h t → Before r.position t.position ⊎ Knows (ear v.desk t)
 listens_to r t v Heard.Mine at c = absurd c
@@ -76,9 +66,7 @@ one_board boards n k l p q = cc
 module _ {Disk Why : Type 0} (s : Setting Disk Why) where
   at_board_on : (sent : List Message) (event : Event) (k l : BoardState) (answer : Answer Why) (out : List Message) → IsCalm event
       → AtBoard s sent event k answer l out → BoardOn k.reader l.reader
-  at_board_on sent (Event.Give n t) k l answer out c p = receives_on s.rules k l p.0 p.1 p.3
-  at_board_on sent (Event.Tick t) k l answer out c p = on_same k.reader l.reader (ap (λ (z : BoardState). z.reader) p.2)
-  at_board_on sent _ k l answer out c p = absurd c
+  at_board_on sent h1 k l answer out c p = grind (arith, receives_on, on_same)
 
   abbrev pub OnFrom : ℕ → BoardState → Configuration Disk → Type 0
   OnFrom n k new = (l : BoardState) × (board_at new.boards n ≡ Some l) × BoardOn k.reader l.reader

@@ -84,8 +84,7 @@ fresh_all v zero = tt
 fresh_all v (suc n) = (fresh_rounds v, fresh_all v n)
 
 pub boards_set : {Disk : Type 0} → (w : Configuration Disk) (d : DeskId) (y : Node Disk) (out : List Message) → (with_node w d y out).boards ≡ w.boards
-boards_set w A y out = refl
-boards_set w B y out = refl
+boards_set w h1 y out = grind arith
 
 module _ {Disk Why : Type 0} (s : Setting Disk Why) where
   abbrev pub AllRounds : Configuration Disk → Type 0

@@ -39,13 +39,11 @@ last_out xs ys sent x e =
     (length (xs ++ ys), omega arith, got)
 
 pub sent_set : {Disk : Type 0} → (w : Configuration Disk) (d : DeskId) (y : Node Disk) (out : List Message) → (with_node w d y out).sent ≡ w.sent ++ out
-sent_set w A y out = refl
-sent_set w B y out = refl
+sent_set w h1 y out = grind arith
 
 module _ {Disk Why : Type 0} where
   pub last_split : (w : Configuration Disk) (xs ys : List (Moment Disk Why)) → last_of w (xs ++ ys) ≡ last_of (last_of w ys) xs
-  last_split w [] ys = refl
-  last_split w (x ∷ xs) ys = refl
+  last_split w h1 ys = grind arith
 
   pub calm_split : (xs ys : List (Moment Disk Why)) → AllCalm (xs ++ ys) → AllCalm ys × AllCalm xs
   calm_split [] ys c = (c, tt)
@@ -71,8 +69,7 @@ module _ {Disk Why : Type 0} (s : Setting Disk Why) where
 
   pub step_sent : (w : Configuration Disk) (event : Event) (t : Station) (answer : Answer Why) (new : Configuration Disk) → StepAt s w event t answer new
       → (out : List Message) × (new.sent ≡ w.sent ++ out)
-  step_sent w event (Station.Desk d) answer new p = (p.1, ap (λ (z : Configuration Disk). z.sent) p.3 ∙ sent_set w d p.0 p.1)
-  step_sent w event (Station.Board n) answer new p = (p.2, ap (λ (z : Configuration Disk). z.sent) p.5)
+  step_sent w event h2 answer new p = grind (arith, sent_set)
 
   -- a message keeps its number
   pub run_keeps_sent : (w : Configuration Disk) (ms : List (Moment Disk Why)) (n : ℕ) (m : Message) → Run s w ms → slice_get w.sent n ≡ Some m

@@ -37,14 +37,7 @@ pub hears_on : (d : DeskId) (own theirs : List Ballot) (s t : SeatState) (book :
 hears_on d own theirs s t book v h f m c = grind (arith, place_later, round_later)
 
 pub goes_on : (theirs : List Ballot) (s t u : SeatState) → GoesOn theirs s t → GoesOn theirs t u → GoesOn theirs s u
-goes_on theirs s t u (inl e) k = subst (λ (x : SeatState). GoesOn theirs x u) e k
-goes_on theirs s t u (inr h) (inl e) = subst (λ (x : SeatState). GoesOn theirs s x) (sym e) (inr h)
-goes_on theirs s t u (inr (inl h)) (inr (inl k)) = absurd (grind arith)
-goes_on theirs s t u (inr (inl h)) (inr (inr k)) = absurd (grind arith)
-goes_on theirs s t u (inr (inr h)) (inr (inl k)) = grind arith
-goes_on theirs s t u (inr (inr h)) (inr (inr k)) = absurd (grind arith)
+goes_on theirs s t u h4 k = grind arith
 
 pub not_back : (theirs : List Ballot) (s t : SeatState) → GoesOn theirs s t → NotBack s.position t.position
-not_back theirs s t (inl e) = inl (ap (λ (x : SeatState). x.position) e)
-not_back theirs s t (inr (inl h)) = inl (ap (λ (x : SeatState). x.position) h.3)
-not_back theirs s t (inr (inr h)) = inr h.4
+not_back theirs s t h3 = grind arith

@@ -48,19 +48,13 @@ abbrev pub Done : List Ballot → Ear → Ear → Type 0
 Done votes e f = Before e.position f.position ⊎ (Knows f ⊎ NoVote votes f.position)
 
 pub on_on : (e f g : Ear) → On e f → On f g → On e g
-on_on e f g (inl a) h = inl (grind arith)
-on_on e f g (inr a) (inl b) = inl (grind arith)
-on_on e f g (inr a) (inr b) = inr (b.0 ∙ a.0, λ x q. b.1 x (a.1 x q))
+on_on e f g h3 h = grind arith
 
 done_from : (votes : List Ballot) (e f g : Ear) → On e f → Done votes f g → Done votes e g
-done_from votes e f g h (inl b) = inl (grind arith)
-done_from votes e f g h (inr k) = inr k
+done_from votes e f g h h5 = grind arith
 
 done_on : (votes : List Ballot) (e f g : Ear) → On e f → Done votes e f → On f g → Done votes e g
-done_on votes e f g h k (inl b) = inl (grind arith)
-done_on votes e f g h (inl a) (inr b) = inl (grind arith)
-done_on votes e f g h (inr (inl k)) (inr b) = inr (inl (k.0, b.1 k.0 k.1))
-done_on votes e f g h (inr (inr n)) (inr b) = inr (inr (subst (NoVote votes) (sym b.0) n))
+done_on votes e f g h k h6 = grind arith
 
 none_there : (votes : List Ballot) (e f : Ear) → NoVote votes e.position → On e f → Done votes e f
 none_there votes e f n h = done_on votes e e f (inr (refl, λ x q. q)) (inr (inr n)) h

@@ -67,9 +67,4 @@ agreed_board v j k f rounds none = (both_settled v j 0 k.book f.both, unsettled)
 -- not both are noted
 pub lacks : (v : AllVotes) (r t : ReaderState) → ReaderWaits t → Done v.a (ear A r) (ear A t) → Done v.b (ear B r) (ear B t)
     → Before r.position t.position ⊎ (NoVote v.a t.position ⊎ NoVote v.b t.position)
-lacks v r t w (inl b) y = inl b
-lacks v r t w (inr (inr n)) y = inr (inl n)
-lacks v r t w (inr (inl k)) (inl b) = inl b
-lacks v r t w (inr (inl k)) (inr (inr n)) = inr (inr n)
-lacks v r t (inl n) (inr (inl k)) (inr (inl h)) = let e = k.1 in absurd (grind (arith, e, n))
-lacks v r t (inr n) (inr (inl k)) (inr (inl h)) = let e = h.1 in absurd (grind (arith, e, n))
+lacks v r t w h4 y = grind arith

@@ -41,8 +41,7 @@ follows_later theirs c z zs h = grind arith
 
 -- what a desk may vote next is behind each of its votes
 pub before_next : (theirs own : List Ballot) (c x : Ballot) → Justified theirs own → Follows theirs c own → In x own → Before x.at c.at
-before_next theirs [] c x j f i = absurd i
-before_next theirs (z ∷ zs) c x j f i = grind (arith, earlier theirs z zs j x, follows_later theirs c z zs f)
+before_next theirs h1 c x j f i = grind (arith, earlier, follows_later)
 
 -- a desk's last vote is for this position, or it may vote there next
 abbrev Here : List Ballot → List Ballot → Position → Entry → List Ballot → Type 0
@@ -137,9 +136,7 @@ never_far a b s t xs ys fs ft =
 open_place : (own theirs : List Ballot) (p : Position) (g : Entry) → Justified theirs own → Justified own theirs
     → Follows theirs (record { at = p; entry = g }) own → (round : ℕ) (e : Entry)
     → In (ballot_at p.place round e) own → In (ballot_at p.place round e) theirs → ⊥
-open_place [] theirs p g jo jt f round e i k = absurd i
-open_place (z ∷ zs) theirs p g jo jt (inr n) round e i k = grind (arith, before_next)
-open_place (z ∷ zs) theirs p g jo jt (inl n) round e i k = grind (arith, before_next, compare, none_later, one_vote)
+open_place h0 theirs p g jo jt f round e i k = grind (arith, before_next, compare, none_later, one_vote)
 
 pub same_length : (xs ys : List Entry) → BeginsWith ys xs → length xs ≡ length ys → xs ≡ ys
 same_length xs ys ([], e) size = sym (append-nil xs) ∙ e
@@ -147,8 +144,7 @@ same_length xs ys (r ∷ rs, e) size = let long = ap length e in absurd (omega (
 
 pub not_cast : (theirs own : List Ballot) (book : List Entry) (s : SeatState) (mine : Option Entry) → s.mine ≡ mine → s.mine ≡ None
     → MineFine theirs own book s.position mine → Follows theirs (record { at = s.position; entry = any }) own
-not_cast theirs own book s None m n h = (h any).0
-not_cast theirs own book s (Some x) m n h = absurd (grind arith)
+not_cast theirs own book s h4 m n h = grind (arith, any)
 
 -- where both are at one position, at which not both have cast, both books are the agreed list
 pub agree : (a b : List Ballot) (s t : SeatState) (xs ys : List Entry) → SeatFine A a b s xs → SeatFine B b a t ys

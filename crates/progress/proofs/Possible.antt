@@ -32,10 +32,7 @@ use Rattle.progress.proofs.Near.{ordered}
 use Rattle.progress.proofs.Rounds.{same_entry}
 
 same_desk : (c d : DeskId) → (c ≡ d) ⊎ (c ≢ d)
-same_desk A A = inl refl
-same_desk B B = inl refl
-same_desk A B = inr (λ e. cc)
-same_desk B A = inr (λ e. cc)
+same_desk h0 h1 = grind arith
 
 -- a seat goes on somehow with each vote
 hears : (s : SeatState) (v : Vote) → (h : Heard) × (t : SeatState) × Hears s v h t

@@ -45,8 +45,7 @@ module _ {Disk Why : Type 0} (s : Setting Disk Why) where
   next_or_later p q h = grind (arith, nat_tests)
 
   reached : (s : SeatState) (theirs : List Ballot) (p : Position) → NotBack p s.position ⊎ IsBehind theirs s p → is_in_reach s p ≡ true
-  reached s theirs p (inl n) = grind (arith, not_ahead)
-  reached s theirs p (inr b) = grind (arith, next_or_later)
+  reached s theirs p h3 = grind (arith, not_ahead, next_or_later)
 
   all_in_reach : (w : Configuration Disk) → Fine s w → AllInReach w
   all_in_reach w f d k n v runs get by = reached k.seat (votes_by (all_votes w) (other d)) _ (none_from_ahead w f d k n v runs get by)

@@ -37,29 +37,20 @@ Caught theirs s = (s.mine ≡ None) ⊎ NoVote theirs s.position
 
 -- a desk that has moved on has not cast
 moved_waits : (theirs : List Ballot) (s t : SeatState) → GoesOn theirs s t → Before s.position t.position → t.mine ≡ None
-moved_waits theirs s t (inl e) b = absurd (not_before s.position t.position (sym (ap (λ (x : SeatState). x.position) e)) b)
-moved_waits theirs s t (inr (inl n)) b = absurd (not_before s.position t.position (sym (ap (λ (x : SeatState). x.position) n.3)) b)
-moved_waits theirs s t (inr (inr h)) b = h.5
+moved_waits theirs s t h3 b = grind (arith, not_before)
 
 knows_waits : (s : SeatState) → SeatWaits s → Knows (ear s) → s.mine ≡ None
-knows_waits s (inl n) k = n
-knows_waits s (inr n) k = let e = k.1 in absurd (grind (arith, e, n))
+knows_waits s h1 k = grind arith
 
 pub caught : (theirs : List Ballot) (s t : SeatState) → GoesOn theirs s t → SeatWaits t → Done theirs (ear s) (ear t) → Caught theirs t
-caught theirs s t g w (inl b) = inl (moved_waits theirs s t g b)
-caught theirs s t g w (inr (inl k)) = inl (knows_waits t w k)
-caught theirs s t g w (inr (inr n)) = inr n
+caught theirs s t g w h5 = grind (arith, moved_waits, knows_waits)
 
 -- and it stays where it is
 caught_stays : (theirs : List Ballot) (s t : SeatState) → Caught theirs s → GoesOn theirs s t → t.position ≡ s.position
-caught_stays theirs s t c (inl e) = ap (λ (x : SeatState). x.position) e
-caught_stays theirs s t c (inr (inl n)) = ap (λ (x : SeatState). x.position) n.3
-caught_stays theirs s t (inl n) (inr (inr h)) = let e = h.2 in absurd (grind (arith, e, n))
-caught_stays theirs s t (inr n) (inr (inr h)) = absurd (n h.1 h.3)
+caught_stays theirs s t c h4 = grind arith
 
 not_behind : (theirs : List Ballot) (s : SeatState) (next : Position) → Caught theirs s → IsBehind theirs s next → ⊥
-not_behind theirs s next (inl n) b = let e = b.2 in absurd (grind (arith, e, n))
-not_behind theirs s next (inr n) b = n b.1 b.4
+not_behind theirs s next h3 b = grind arith
 
 pub has_cast : (theirs own : List Ballot) (book : List Entry) (p : Position) (mine : Option Entry) (e : Entry) → mine ≡ Some e
     → MineFine theirs own book p mine → In (record { at = p; entry = e }) own
@@ -82,13 +73,10 @@ module _ (a b : List Ballot) (s t : SeatState) (xs ys : List Entry) (fs : SeatFi
       turn n (Some e) q = absurd (n e (subst (λ (p : Position). In (record { at = p; entry = e }) b) (sym one_position) (has_cast a b ys t.position t.mine e q ft.mine)))
 
 not_moved : (theirs : List Ballot) (s t : SeatState) → t.position ≡ s.position → Done theirs (ear s) (ear t) → Knows (ear t) ⊎ NoVote theirs t.position
-not_moved theirs s t e (inl b) = absurd (not_before s.position t.position (sym e) b)
-not_moved theirs s t e (inr k) = k
+not_moved theirs s t e h4 = grind (arith, not_before)
 
 back_back : (p q r : Position) → NotBack p q → NotBack q r → NotBack p r
-back_back p q r (inl e) n = subst (λ (z : Position). NotBack z r) e n
-back_back p q r (inr a) (inl e) = inr (subst (Before p) (sym e) a)
-back_back p q r (inr a) (inr b) = inr (before_trans p q r a b)
+back_back p q r h3 n = grind (arith, before_trans)
 
 -- whose vote isn't cast has none there
 pub not_voted : (d : DeskId) (own theirs : List Ballot) (s : SeatState) (book : List Entry) → SeatFine d own theirs s book → s.mine ≡ None → NoVote own s.position
@@ -217,9 +205,7 @@ module _ {Disk Why : Type 0} (s : Setting Disk Why) where
     pens_it : (d : DeskId) (x y : Node Disk) (k l : DeskState Disk) (e : Entry) (told : PenAnswer Why) (answer : Answer Why) (out : List Message)
         → IsUp x k → MayPen s.rules k e → Pens (s.view d x.version) s.rules k e told l out → AfterPen (s.view d x.version) x told l answer y
         → (settled : Settled) × (answer ≡ Penned settled)
-    pens_it d x y k l e (PenAnswer.Penned settled) answer out u m p a = (settled, a.0)
-    pens_it d x y k l e (PenAnswer.Refused why) answer out u m p a = absurd (not_both s.rules k e why m p.0)
-    pens_it d x y k l e PenAnswer.DeviceFailed answer out u m p a = let due = a.1 in let none = u.no_fault in absurd (grind (arith, due, none))
+    pens_it d x y k l e h6 answer out u m p a = grind (arith, settled, not_both)
 
     pub can_pen : (d : DeskId) (k : DeskState Disk) (e : Entry) → IsUp (node w d) k → MayPen s.rules k e → CanPen s w d e
     can_pen d k e u m = (

@@ -104,17 +104,14 @@ module _ {Why : Type 0} (rules : Rules Why) (e : Entry) where
   }
 
   exchanges : (d : DeskId) → Exchange (at e unheard []) (Station.Desk d) (other d) (exchanged {Why = Why} e)
-  exchanges A = of_a
-  exchanges B = of_b
+  exchanges h0 = grind (arith, of_a, of_b)
 
   up_at : (d : DeskId) → (k : DeskState Shown) × IsUp (node (at e (heard e) (all_said e)) d) k × (k.seat.position ≡ first) × (k.book ≡ [])
   up_at A = (waits e, record { runs = refl; sound = refl; no_fault = refl }, refl, refl)
   up_at B = (heard e, record { runs = refl; sound = refl; no_fault = refl }, refl, refl)
 
   knows : EachKnows (at e (heard e) (all_said e))
-  knows A k f u i = absurd i
-  knows B k f u (inr i) = absurd i
-  knows B k f u (inl q) = grind (arith, one_process)
+  knows h0 k f u i = grind (arith, one_process)
 
   pub worked_exchange : WorkedExchange rules e
   worked_exchange = (
