@@ -49,12 +49,6 @@ two_codes e f i k differ = turn (bytes_eq (code e) (code f)) refl
 elsewhere : (at : Bool) (x y : Bool) → at ≡ false → y ≡ false → (if at then x else y) ≡ false
 elsewhere at x y e f = grind (arith, e, f)
 
-there : (at : Bool) (x y : Bool) → at ≡ true → x ≡ false → (if at then x else y) ≡ false
-there at x y e f = grind (arith, e, f)
-
-by_entry : (same r : Bool) (b p q : Position) → same ≡ r → is_at (if r then b else p) q ≡ false → is_at (if same then b else p) q ≡ false
-by_entry same r b p q e f = subst (λ (x : Bool). is_at (if x then b else p) q ≡ false) (sym e) f
-
 module _ (s : SeatState) (c : Ballot) (less : Before c.at s.position) where
   -- a desk that has cast at its position has its last vote there
   cast : (e : Entry) (prev : List Ballot) → is_another s (record { at = s.position; entry = e } ∷ prev) c.at (code c.entry) ≡ false
@@ -64,10 +58,10 @@ module _ (s : SeatState) (c : Ballot) (less : Before c.at s.position) where
       (i : In c theirs) (is : IsEntry c.entry) (own : IsEntry z.entry) where
     -- the other's vote for the position of the last vote
     same_round : c.at ≡ z.at → s.position ≡ next_round z.at → Differed theirs z → is_another s (z ∷ zs) c.at (code c.entry) ≡ false
-    same_round here next d = grind (arith, one_vote, place_is_no_round, there, at_itself, by_entry, two_codes)
+    same_round here next d = grind (arith, one_vote, place_is_no_round, at_itself, two_codes)
 
     same_place : c.at ≡ z.at → s.position ≡ next_place z.at → In z theirs → is_another s (z ∷ zs) c.at (code c.entry) ≡ false
-    same_place here next k = grind (arith, one_vote, round_is_no_place, there, at_itself, by_entry, one_code)
+    same_place here next k = grind (arith, one_vote, round_is_no_place, at_itself, one_code)
 
     -- none is for a position between that and the desk's own
     not_between : Before z.at c.at → ((s.position ≡ next_round z.at) × Differed theirs z) ⊎ ((s.position ≡ next_place z.at) × In z theirs) → ⊥
@@ -81,7 +75,7 @@ module _ (s : SeatState) (c : Ballot) (less : Before c.at s.position) where
 
     went_on : ((s.position ≡ next_round z.at) × Differed theirs z) ⊎ ((s.position ≡ next_place z.at) × In z theirs)
         → is_another s (z ∷ zs) c.at (code c.entry) ≡ false
-    went_on next = grind (arith, common_steps, ordered, same_round, same_place, elsewhere, not_at, not_before, not_between)
+    went_on next = grind (arith, common_steps, ordered, same_round, same_place, not_between)
 
   by_last : (theirs own : List Ballot) (e : Entry) → Justified theirs own → Justified own theirs → In c theirs → IsEntry c.entry
       → ((b : Ballot) → In b own → IsEntry b.entry) → Follows theirs (record { at = s.position; entry = e }) own

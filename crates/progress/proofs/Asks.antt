@@ -1,14 +1,14 @@
 -- No ask is for a position that the other desk has passed without voting there.
-use Rattle.std.proofs.Common.{◌≡◌, ℕ, Bool, true, false, Option, Some, None, List, [], ◌∷◌, ◌++◌, refl, sym, ap, ◌∙◌, subst, inl, inr, arith}
+use Rattle.std.proofs.Common.{◌≡◌, ℕ, Bool, true, false, List, [], ◌∷◌, ◌++◌, refl, sym, ap, ◌∙◌, subst, inl, inr, arith}
 use Rattle.std.specs.Prelude.{◌&&◌, not}
 use Rattle.std.proofs.lemmas.Bool.Decides.{nat_tests}
 use Rattle.notation.specs.declared.entry.Entry.{Entry}
-use Rattle.agree_core.specs.declared.{messages.Asker.Asker, messages.DeskId.DeskId, messages.Message.Message, position.Position.Position}
+use Rattle.agree_core.specs.declared.{messages.DeskId.DeskId, messages.Message.Message, position.Position.Position}
 use Rattle.agree_core.specs.declared.messages.DeskId.TheVariants.{A, B}
 use Rattle.agree_core.specs.Agreed.{AllBoth}
 use Rattle.agree_core.specs.Ballots.{AllVotes, Ballot, In, VotesGrow, votes_by}
 use Rattle.agree_core.specs.Boards.{BoardState}
-use Rattle.agree_core.specs.Desks.{DeskState, PenAnswer, Pens, ReceiveAnswer, Receives, Ticks, ask_other, own_vote}
+use Rattle.agree_core.specs.Desks.{DeskState, PenAnswer, Pens, ReceiveAnswer, Receives}
 use Rattle.agree_core.specs.FileView.{FileView}
 use Rattle.agree_core.specs.Keeping.{Each, SeatFine}
 use Rattle.agree_core.specs.LostLines.{is_at, is_before, is_voted}
@@ -56,15 +56,6 @@ module _ (v : AllVotes) where
   one_vote_out : (out : List Message) (x : _) → out ≡ Message.Vote x ∷ [] → Each (AskFine v) out
   one_vote_out out x e = subst (Each (AskFine v)) (sym e) (tt, tt)
 
-  own_fine : (d : DeskId) (p : Position) (o : Option Entry) → Each (AskFine v) (own_vote d p o)
-  own_fine d p h2 = grind arith
-
-  other_fine : (from : Asker) (p : Position) (o : Option Entry) → RoundsFine v p → Each (AskFine v) (ask_other from p o)
-  other_fine from p h2 r = grind arith
-
-  ticks_ask : {Disk : Type 0} → (k : DeskState Disk) (out : List Message) → RoundsFine v k.seat.position → Ticks k out → Each (AskFine v) out
-  ticks_ask k out r h3 = grind (arith, nothing, each_append, own_fine, other_fine)
-
   receives_ask : {Disk : Type 0} → (view : FileView Disk) (k l : DeskState Disk) (m : Message) (told : ReceiveAnswer) (out : List Message) → Receives view k m told l out
       → Each (AskFine v) out
   receives_ask view k l m h4 out p = grind (arith, nothing, one_vote_out)
@@ -75,7 +66,7 @@ module _ (v : AllVotes) where
 
     at_desk_ask : (sent : List Message) (d : DeskId) (event : Event) (x y : Node Disk) (answer : Answer Why) (out : List Message)
         → ((k : DeskState Disk) → x.process ≡ Running k → RoundsFine v k.seat.position) → AtDesk s sent d event x answer y out → Each (AskFine v) out
-    at_desk_ask sent d h2 x y answer out r p = grind (arith, pens_ask, receives_ask, ticks_ask, nothing)
+    at_desk_ask sent d h2 x y answer out r p = grind (arith, pens_ask, receives_ask)
 
     at_board_ask : (sent : List Message) (event : Event) (k l : BoardState) (answer : Answer Why) (out : List Message) → RoundsFine v k.reader.position
         → AtBoard s sent event k answer l out → Each (AskFine v) out

@@ -42,7 +42,7 @@ notes_on : (r : ReaderState) (c : DeskId) (e : Entry) → noted_of r c ≡ None 
 notes_on r c e n d = grind arith
 
 listens_on : (r t : ReaderState) (v : Vote) (h : Heard) → Listens r v h t → BoardOn r t
-listens_on r t v h3 c = grind (arith, on_same, notes_on, place_later, round_later)
+listens_on r t v h3 c = grind (arith, on_same, notes_on)
 
 receives_on : {Why : Type 0} → (rules : Rules Why) (k l : BoardState) (m : Message) (told : BoardAnswer) → BoardReceives rules k m told l → BoardOn k.reader l.reader
 receives_on rules k l h3 h4 p = grind (arith, listens_on, on_same)

@@ -27,7 +27,7 @@ use Rattle.progress.proofs.CalmRuns.{CalmRun, Steady, calm_split, ends, last_spl
 use Rattle.progress.proofs.CalmSeats.{before_trans, place_later, round_later}
 use Rattle.progress.proofs.Followed.{agreed_board, all_sound, lacks}
 use Rattle.progress.proofs.Near.{ordered}
-use Rattle.progress.proofs.Rounds.{RoundsFine, both_voted, one_round_more, passed, same_entry}
+use Rattle.progress.proofs.Rounds.{RoundsFine, one_round_more, passed, same_entry}
 use Rattle.progress.proofs.Settled.{steady}
 use Rattle.progress.proofs.Exchanges.{Done, NoVote, exchange_brings}
 
@@ -111,21 +111,11 @@ module _ (v : AllVotes) (j : AllJustified v) (q : Position) (book : List Entry) 
   -- what is behind a position isn't before the one that follows that
   next_not_past : (p next : Position) (e f : Entry) → In (record { at = p; entry = e }) v.a → In (record { at = p; entry = f }) v.b → IsAfter p e f next
       → Before p q → NotBack next q
-  next_not_past p next e f ia ib (inr a) b = subst (λ (z : Position). NotBack z q) (sym a.1) (later b)
-    where
-      later : Before p q → NotBack (next_round p) q
-      later b = grind arith
-  next_not_past p next e f ia ib (inl a) (inl less) = subst (λ (z : Position). NotBack z q) (sym a.1) (later less)
-    where
-      later : p.place < q.place → NotBack (next_place p) q
-      later less = grind arith
+  next_not_past p next e f ia ib (inr a) b = grind arith
+  next_not_past p next e f ia ib (inl a) (inl less) = grind arith
   next_not_past p next e f ia ib (inl a) (inr (place, less)) =
       let d = now p.round less in
-      let da : In (ballot_at p.place p.round d.0) v.a = subst (λ (o : ℕ). In (ballot_at o p.round d.0) v.a) (sym place) d.2 in
-      let db : In (ballot_at p.place p.round d.1) v.b = subst (λ (o : ℕ). In (ballot_at o p.round d.1) v.b) (sym place) d.3 in
-      let x = one_vote v.b v.a j.0 (record { at = p; entry = e }) (ballot_at p.place p.round d.0) ia da refl in
-      let y = one_vote v.a v.b j.1 (record { at = p; entry = f }) (ballot_at p.place p.round d.1) ib db refl in
-      absurd (d.4 (sym (ap (λ (b : Ballot). b.entry) x) ∙ a.0 ∙ ap (λ (b : Ballot). b.entry) y))
+      grind (arith, one_vote v.b v.a j.0 (record { at = p; entry = e }) (ballot_at q.place p.round d.0), one_vote v.a v.b j.1 (record { at = p; entry = f }) (ballot_at q.place p.round d.1))
 
   moved_on : (n : ℕ) (p : Position) → RoundsFine v p → IsBehindBy v p n → NotBack p q → AtMost v q n
   moved_on n p before h (inl e) = (n, omega arith, subst (λ (z : Position). IsBehindBy v z n) (sym e) h)
@@ -228,12 +218,8 @@ module _ {Disk Why : Type 0} (s : Setting Disk Why) where
         let fl = fine_board (last_of c more) l then end.1 in
         let none : BothVoted v l.reader.position → ⊥ =
         let zero_left : end.2.0 ≡ 0 = let less = end.2.1 in omega (arith, less) in subst (IsBehindBy v l.reader.position) zero_left end.2.2 in
-        let lacks_one : NoVote v.a l.reader.position ⊎ NoVote v.b l.reader.position = elim (voted_or_not v.a l.reader.position) [
-          | inr n ↦ inl n
-          | inl e ↦ inr (λ f i. none (both_voted v l.reader.position e (f, i)))
-        ] in
         let votes = steady_votes s v (last_of c more) then.steady_here in
-        (l, end.1, subst (λ (z : AllVotes). IsAgreedList z l.book) (sym votes) (agreed_board v (justified c a) l fl.0 fl.1 lacks_one))
+        (l, end.1, subst (λ (z : AllVotes). IsAgreedList z l.book) (sym votes) (agreed_board v (justified c a) l fl.0 fl.1 none))
 
   pub boards_follow : (version : FileVersion) (boards : ℕ) (w : Configuration Disk) (ms : List (Moment Disk Why)) → Begins s version boards w → Run s w ms
       → BoardsFollow s (last_of w ms)

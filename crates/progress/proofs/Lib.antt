@@ -1,6 +1,5 @@
 pub mod Near
 pub mod Another
-pub mod InRuns
 pub mod CalmSeats
 pub mod CalmSteps
 pub mod CalmRuns

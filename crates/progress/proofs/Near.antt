@@ -115,7 +115,7 @@ as_here theirs own s h = (h.2, elim h.3 [ inl k ↦ inl k.0 | inr k ↦ inr k ])
 
 is_behind : (a b : List Ballot) (s t : SeatState) → Justified b a → Justified a b → Stands b a s → Stands a b t
     → Before s.position t.position → IsBehind b s t.position
-is_behind a b s t ja jb hs ht lo = grind (arith, behind, as_here, longer)
+is_behind a b s t ja jb hs ht lo = grind (arith, behind, as_here)
 
 pub any : Entry
 any = Entry.Write Plain.Void

@@ -1,8 +1,9 @@
 -- What goes on, at each configuration that a run comes to.
-use Rattle.std.proofs.Common.{◌≡◌, ◌⊎◌, ℕ, true, false, List, subst, sym, inl, inr, arith}
+use Rattle.std.proofs.Common.{◌≡◌, ◌⊎◌, ℕ, true, false, List, subst, sym, arith}
 use Rattle.std.proofs.lemmas.Bool.Decides.{nat_tests}
 use Rattle.notation.specs.Code.{code}
 use Rattle.agree_core.specs.declared.{messages.DeskId.DeskId, position.Position.Position}
+use Rattle.agree_core.specs.declared.messages.DeskId.TheVariants.{A, B}
 use Rattle.agree_core.specs.Ballots.{Ballot, In, Justified, ballot_of, votes_by}
 use Rattle.agree_core.specs.LostLines.{is_another, is_before, is_in_reach, is_next}
 use Rattle.agree_core.specs.Positions.{next_place, next_round, position_of}
@@ -18,18 +19,23 @@ use Rattle.headline.proofs.Keeping.{Fine, begins_fine, run_keeps}
 use Rattle.headline.proofs.Sound.{justified_other}
 use Rattle.progress.specs.Calm.{NotBack}
 use Rattle.progress.specs.InStep.{IsBehind}
-use Rattle.progress.specs.Progress.{AllInReach, HoldsAt, NoneIsAnother, NoVoteFromAhead}
+use Rattle.progress.specs.Progress.{AllInReach, DesksAreNear, HoldsAt, NoneIsAnother, NoVoteFromAhead}
 use Rattle.progress.proofs.Another.{not_another}
 use Rattle.progress.proofs.Asks.{none_passed_over}
 use Rattle.progress.proofs.CaughtUp.{boards_follow}
 use Rattle.progress.proofs.Failed.{stays_failed}
 use Rattle.progress.proofs.GoneOn.{alike_is_taken, goes_on}
-use Rattle.progress.proofs.InRuns.{near}
-use Rattle.progress.proofs.Near.{not_from_ahead}
+use Rattle.progress.proofs.Near.{never_far, not_from_ahead}
 use Rattle.progress.proofs.Possible.{may_hear}
 use Rattle.progress.proofs.Settled.{fine_seat, hearing_again_tells, hearing_settles, can_pen_in_step, stays_up}
 
 module _ {Disk Why : Type 0} (s : Setting Disk Why) where
+  near : (w : Configuration Disk) → Fine s w → DesksAreNear w
+  near w f k l p q =
+      let a = fine_seat s w f A k p in
+      let b = fine_seat s w f B l q in
+      rw (a.1, b.1) (never_far (all_votes w).a (all_votes w).b k.seat l.seat k.book l.book a.0 b.0)
+
   none_from_ahead : (w : Configuration Disk) → Fine s w → NoVoteFromAhead w
   none_from_ahead w f d k n v runs get by =
       let all = all_votes w in
@@ -76,7 +82,7 @@ module _ {Disk Why : Type 0} (s : Setting Disk Why) where
         };
         may_hear = may_hear s now fine;
         tells = hearing_again_tells s now fine;
-        near = near s now fine;
+        near = near now fine;
         none_ahead = none_from_ahead now fine;
         in_reach = all_in_reach now fine;
         none_another = none_is_another now fine;

@@ -93,34 +93,28 @@ rounds_of_seat d own theirs s book f round less = turn hs.1 hs.2 prev_within pre
           | inr (inr q) ↦ absurd (omega (arith, less, next, q))
         ]
 
+-- where both voted alike at the place, they have voted in each round that they may have left
+pub voted_up_to : (v : AllVotes) → AllJustified v → (p : Position) → RoundsFine v p → (round : ℕ) (e : Entry) → EqualVotes v p.place round e → BothVoted v p
+voted_up_to v j p fine round e h = elim (compare round p.round) [
+  | inl lo ↦
+      let d = fine round lo in
+      let a = one_vote v.b v.a j.0 (ballot_at p.place round e) (ballot_at p.place round d.0) h.0 d.2 refl in
+      let b = one_vote v.a v.b j.1 (ballot_at p.place round e) (ballot_at p.place round d.1) h.1 d.3 refl in
+      absurd (d.4 (sym (ap (λ (x : Ballot). x.entry) a) ∙ ap (λ (x : Ballot). x.entry) b))
+  | inr (inl same) ↦ subst (λ (n : ℕ). BothVoted v (record { place = p.place; round = n })) same (both_voted v (record { place = p.place; round = round }) (e, h.0) (e, h.1))
+  | inr (inr more) ↦
+      let d = differed v.b v.a j.0 (ballot_at p.place round e) h.0 p.place p.round refl more in
+      both_voted v p (d.0, d.2) (d.1, d.3)
+]
+
 -- who is at a later position has passed both votes of an earlier one
 pub passed : (v : AllVotes) → AllJustified v → (p q : Position) (book : List Entry) → AllBoth v.a v.b 0 book → length book ≡ q.place → RoundsFine v p → RoundsFine v q
     → Before p q → BothVoted v p
 passed v j p q book both long before now (inr (place, less)) =
     let d = now p.round less in
     both_voted v p (d.0, subst (λ (n : ℕ). In (ballot_at n p.round d.0) v.a) (sym place) d.2) (d.1, subst (λ (n : ℕ). In (ballot_at n p.round d.1) v.b) (sym place) d.3)
-passed v j p q book both long before now (inl less) = turn (compare equal.0 p.round)
-  where
-    here : Entry
-    here = get_or book p.place any
-
-    within : p.place < length book
-    within = omega (arith, long, less)
-
-    equal : (round : ℕ) × EqualVotes v (0 + p.place) round here
-    equal = both_at v.a v.b 0 book p.place here both (slice_get-get_or book p.place any within)
-
-    voted : EqualVotes v p.place equal.0 here
-    voted = let same : 0 + p.place ≡ p.place = omega arith in subst (λ (n : ℕ). EqualVotes v n equal.0 here) same equal.1
-
-    turn : (equal.0 < p.round) ⊎ ((equal.0 ≡ p.round) ⊎ (p.round < equal.0)) → BothVoted v p
-    turn (inl lo) =
-        let d = before equal.0 lo in
-        let a = one_vote v.b v.a j.0 (ballot_at p.place equal.0 here) (ballot_at p.place equal.0 d.0) voted.0 d.2 refl in
-        let b = one_vote v.a v.b j.1 (ballot_at p.place equal.0 here) (ballot_at p.place equal.0 d.1) voted.1 d.3 refl in
-        absurd (d.4 (sym (ap (λ (x : Ballot). x.entry) a) ∙ ap (λ (x : Ballot). x.entry) b))
-    turn (inr (inl same)) =
-        both_voted v p (here, subst (λ (n : ℕ). In (ballot_at p.place n here) v.a) same voted.0) (here, subst (λ (n : ℕ). In (ballot_at p.place n here) v.b) same voted.1)
-    turn (inr (inr more)) =
-        let d = differed v.b v.a j.0 (ballot_at p.place equal.0 here) voted.0 p.place p.round refl more in
-        both_voted v p (d.0, d.2) (d.1, d.3)
+passed v j p q book both long before now (inl less) =
+    let here = get_or book p.place any in
+    let equal = both_at v.a v.b 0 book p.place here both (slice_get-get_or book p.place any (omega (arith, long, less))) in
+    let same : 0 + p.place ≡ p.place = omega arith in
+    voted_up_to v j p before equal.0 here (subst (λ (n : ℕ). EqualVotes v n equal.0 here) same equal.1)

@@ -27,7 +27,7 @@ use Rattle.progress.specs.Progress.{Hear, HearingAgainTells, HearingSettles, Can
 use Rattle.progress.proofs.CalmRuns.{CalmRun, Steady, ends, seat_goes, steady_votes}
 use Rattle.progress.proofs.CalmSeats.{GoesOn, before_trans, not_back}
 use Rattle.progress.proofs.CalmSteps.{one_process, step_at_on}
-use Rattle.progress.proofs.Near.{agree, any, before_next, never_far, not_cast}
+use Rattle.progress.proofs.Near.{agree, before_next, never_far, not_cast}
 use Rattle.progress.proofs.Exchanges.{Done, Knows, NoVote, fine_at}
 use Rattle.progress.proofs.Trips.{ear, others_justified, trip}
 
@@ -80,7 +80,7 @@ back_back p q r h3 n = grind (arith, before_trans)
 
 -- whose vote isn't cast has none there
 pub not_voted : (d : DeskId) (own theirs : List Ballot) (s : SeatState) (book : List Entry) → SeatFine d own theirs s book → s.mine ≡ None → NoVote own s.position
-not_voted d own theirs s book f n e i = grind (arith, not_before, before_next, any, not_cast)
+not_voted d own theirs s book f n e i = grind (arith, not_before, before_next, not_cast)
 
 pub not_cast_there : (d : DeskId) (own theirs : List Ballot) (s : SeatState) (book : List Entry) → SeatFine d own theirs s book → NoVote own s.position → s.mine ≡ None
 not_cast_there d own theirs s book f n = turn s.mine refl

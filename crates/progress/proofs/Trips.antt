@@ -1,17 +1,15 @@
 -- What an exchange brings a desk.
-use Rattle.std.proofs.lemmas.Grind.{common_steps}
 use Rattle.std.proofs.Common.{◌≡◌, ◌≢◌, ◌⊎◌, true≢false, Option, Some, None, List, [], ◌∷◌, ◌++◌, refl, sym, ap, ◌∙◌, subst, inl, inr, arith}
 use Rattle.notation.specs.declared.entry.Entry.{Entry}
 use Rattle.agree_core.specs.declared.{messages.Asker.Asker, messages.DeskId.DeskId, messages.Message.Message, messages.Vote.Vote, seat.Heard.Heard}
 use Rattle.agree_core.specs.Ballots.{AllVotes, Ballot, Justified, votes_by}
-use Rattle.agree_core.specs.Desks.{DeskState, ReceiveAnswer, Receives, Ticks, ask_for, ask_other, asker, own_vote}
+use Rattle.agree_core.specs.Desks.{DeskState, Ticks, ask_for, ask_other, asker, own_vote}
 use Rattle.agree_core.specs.Keeping.{Each}
 use Rattle.agree_core.specs.Positions.{Before, position_of}
 use Rattle.agree_core.specs.Readers.{other}
 use Rattle.agree_core.specs.Seats.{Hears, SeatState}
 use Rattle.headline.specs.declared.{event.Event.Event, event.Station.Station}
-use Rattle.headline.specs.Configurations.{Configuration, Node, Running, node}
-use Rattle.headline.specs.DeskAnswers.{AfterReceive}
+use Rattle.headline.specs.Configurations.{Configuration, Node, node}
 use Rattle.headline.specs.Runs.{Moment, last_of}
 use Rattle.headline.specs.Setting.{Setting}
 use Rattle.headline.specs.Steps.{Step}
@@ -49,7 +47,7 @@ module _ {Disk Why : Type 0} (s : Setting Disk Why) where
   hears_it : (w : Configuration Disk) (m : Moment Disk Why) (d : DeskId) (k l : DeskState Disk) (v : Vote) → IsUp (node w d) k → IsUp (node m.after d) l
       → v.desk ≢ k.seat.desk → position_of v ≡ k.seat.position → IsGivenTo s w m d k (Message.Vote v)
       → Before k.seat.position l.seat.position ⊎ Knows (ear l.seat)
-  hears_it w m d k l v u u' n at g = grind (arith, one_process, hears_vote, true≢false)
+  hears_it w m d k l v u u' n at g = grind (arith, one_process, hears_vote)
 
   pub others_justified : (w : Configuration Disk) (v : AllVotes) → Steady s v w → (d : DeskId) → Justified (votes_by v d) (votes_by v (other d))
   others_justified w v st d = subst (λ (z : AllVotes). Justified (votes_by z d) (votes_by z (other d))) (steady_votes s v w st) (justified_other s w d st.fine)
