@@ -1,4 +1,5 @@
 -- What is so of what a station is given.
+use Rattle.std.proofs.Common.{arith}
 use Rattle.std.proofs.Common.{◌≡◌, ℕ, Some, List, [], ◌∷◌, length, None, inl, inr, refl, sym, subst}
 use Rattle.std.specs.Prelude.{slice_get}
 use Rattle.agree_core.specs.declared.messages.{Message.Message, Vote.Vote}
@@ -10,18 +11,15 @@ use Rattle.headline.proofs.Heeding.{same_some}
 
 -- a vote was sent
 pub given_vote : (sent : List Message) (n : ℕ) (v : Vote) → IsGiven sent n (Message.Vote v) → slice_get sent n ≡ Some (Message.Vote v)
-given_vote sent n v (inl e) = e
-given_vote sent n v (inr h) = absurd (cc)
+given_vote sent n v h3 = grind arith
 
 -- where a message has this number it is what is given
 pub given_there : (sent : List Message) (n : ℕ) (m there : Message) → slice_get sent n ≡ Some there → IsGiven sent n m → m ≡ there
-given_there sent n m there e (inl h) = same_some (slice_get sent n) m there h e
-given_there sent n m there e (inr h) = absurd (cc)
+given_there sent n m there e h5 = grind (arith, same_some)
 
 -- it is fine where all that was sent is
 pub given_fine : (v : AllVotes) (sent : List Message) (n : ℕ) (m : Message) → Each (MessageFine v) sent → IsGiven sent n m → MessageFine v m
-given_fine v sent n m each (inl e) = item_at (MessageFine v) sent n m e each
-given_fine v sent n m each (inr h) = subst (MessageFine v) (sym h.1.1) tt
+given_fine v sent n m each h5 = grind (arith, item_at)
 
 -- no message has the number of the next one
 none_next : {X : Type 0} (xs : List X) → slice_get xs (length xs) ≡ None

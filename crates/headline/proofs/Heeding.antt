@@ -73,16 +73,7 @@ Heeds k v l =
     ⊎ ((k.position ≢ l.position) × (l.mine ≡ None) × (l.theirs ≡ None)))
 
 pub heeds : (k l : SeatState) (v : Vote) (h : Heard) → Hears k v h l → Heeds k v l
-heeds k l v Heard.Mine r = inl (r.1, λ n at t. n r.0)
-heeds k l v Heard.Old r = inl (r.2, λ n at t. not_before (position_of v) k.position at r.1)
-heeds k l v Heard.Ahead r = inl (r.2, λ n at t. not_before k.position (position_of v) (sym at) r.1)
-heeds k l v Heard.Again r = inl (r.2, λ n at t. some_none k.theirs v.entry t r.1)
-heeds k l v Heard.TwoVotes r = inl (r.2, λ n at t. some_none k.theirs r.1.0 t r.1.1)
-heeds k l v Heard.Noted r = let e = r.3 in inr (inl (r.0.0, r.0.1, r.1, ap (λ (z : SeatState). z.position) e, ap (λ (z : SeatState). z.mine) e ∙ sym r.2, ap (λ (z : SeatState). z.theirs) e))
-heeds k l v Heard.Agreed r =
-    let e = r.3 in inr (inr (next_place_differs k.position l.position (ap (λ (z : SeatState). z.position) e), ap (λ (z : SeatState). z.mine) e, ap (λ (z : SeatState). z.theirs) e))
-heeds k l v Heard.Differ r =
-    let e = r.3 in inr (inr (next_round_differs k.position l.position (ap (λ (z : SeatState). z.position) e), ap (λ (z : SeatState). z.mine) e, ap (λ (z : SeatState). z.theirs) e))
+heeds k l v h3 r = grind (arith, not_before, some_none, next_place_differs, next_round_differs)
 
 -- the same of a board
 abbrev pub Reads : ReaderState → Vote → ReaderState → Type 0
@@ -92,16 +83,7 @@ Reads k v l =
     ⊎ ((k.position ≢ l.position) × (l.a ≡ None) × (l.b ≡ None)))
 
 pub reads : (k l : ReaderState) (v : Vote) (h : Heard) → Listens k v h l → Reads k v l
-reads k l v Heard.Mine r = absurd r
-reads k l v Heard.Old r = inl (r.1, λ at t. not_before (position_of v) k.position at r.0)
-reads k l v Heard.Ahead r = inl (r.1, λ at t. not_before k.position (position_of v) (sym at) r.0)
-reads k l v Heard.Again r = inl (r.2, λ at t. some_none (noted_of k v.desk) v.entry t r.1)
-reads k l v Heard.TwoVotes r = inl (r.2, λ at t. some_none (noted_of k v.desk) r.1.0 t r.1.1)
-reads k l v Heard.Noted r = inr (inl (r.0, r.1, r.3))
-reads k l v Heard.Agreed r =
-    let e = r.3 in inr (inr (next_place_differs k.position l.position (ap (λ (z : ReaderState). z.position) e), ap (λ (z : ReaderState). z.a) e, ap (λ (z : ReaderState). z.b) e))
-reads k l v Heard.Differ r =
-    let e = r.3 in inr (inr (next_round_differs k.position l.position (ap (λ (z : ReaderState). z.position) e), ap (λ (z : ReaderState). z.a) e, ap (λ (z : ReaderState). z.b) e))
+reads k l v h3 r = grind (arith, not_before, some_none, next_place_differs, next_round_differs)
 
 pub noting_there : (k : ReaderState) (d : DeskId) (e : Entry) → noted_of (readers.noting k d e) d ≡ Some e
 noting_there k d e = grind arith

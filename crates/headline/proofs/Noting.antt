@@ -51,16 +51,7 @@ module _ {Disk Why : Type 0} (s : Setting Disk Why) where
 
   -- an event brings one vote
   pub brings_once : (w : Configuration Disk) (event : Event) (t : Station) (c d : DeskId) (a b : Ballot) → Brings w event t c a → Brings w event t d b → (c ≡ d) × (a.entry ≡ b.entry)
-  brings_once w event t c d a b (inl p) (inl q) =
-      let g = p.1 in
-      let h = q.1 in
-      let n : h.0 ≡ g.0 = let x = g.1 in let y = h.1 in cc in
-      let there : slice_get w.sent g.0 ≡ Some (Message.Vote (vote_of d b)) = subst (λ (n : ℕ). slice_get w.sent n ≡ Some (Message.Vote (vote_of d b))) n h.2 in
-      let e : vote_of c a ≡ vote_of d b = let x = g.2 in cc in
-      (ap (λ (v : Vote). v.desk) e, ap (λ (v : Vote). v.entry) e)
-  brings_once w event t c d a b (inl p) (inr q) = let x = p.1.1 in let y = q.1 in absurd (cc)
-  brings_once w event t c d a b (inr p) (inl q) = let x = q.1.1 in let y = p.1 in absurd (cc)
-  brings_once w event t c d a b (inr p) (inr q) = let x = p.1 in let y = q.1 in (cc, cc)
+  brings_once w event t c d a b h7 h8 = grind arith
 
   found_begins : (w : Configuration Disk) (m : Moment Disk Why) (t : Station) (c : DeskId) (b : Ballot) → t ≡ Station.Desk c → IsFound s w m c b → m.event ≡ beginning_of t
   found_begins w m t c b e f = f.0 ∙ sym (ap beginning_of e)

@@ -91,23 +91,8 @@ module _ {Disk Why : Type 0} (s : Setting Disk Why) where
 
   desk_holds : (Q : List Ballot → Type 0) (sent : List Message) (d : DeskId) (event : Event) (x : Node Disk) (answer : Answer Why) (y : Node Disk) (out : List Message)
       → PenKeeps Q event answer x → NodeHolds Q (s.view d) x → AtDesk s sent d event x answer y out → NodeHolds Q (s.view d) y
-  desk_holds Q sent d (Event.Pen c e) x answer y out f h p =
-      let keeps = λ (t : Stores p.2). f c p.0 e refl (stored (s.view d x.version) x p.1 p.2 answer y p.5 t) p.3 in
-      after_pen Q (s.view d) x answer y p.1 p.2 (pen_holds Q (s.view d x.version) p.0 p.1 e p.2 out keeps (subst (ProcessHolds Q (s.view d x.version)) p.3 h) p.4) p.5
-  desk_holds Q sent d (Event.Give n t) x answer y out f h p =
-      after_receive Q (s.view d) x answer y p.1 p.3 out (receive_holds Q (s.view d x.version) p.0 p.1 p.2 p.3 out (subst (ProcessHolds Q (s.view d x.version)) p.4 h) p.6) p.7
-  desk_holds Q sent d (Event.Tick t) x answer y out f h p = subst (NodeHolds Q (s.view d)) (sym p.4) h
-  desk_holds Q sent d (Event.Kill c) x answer y out f h p =
-      let g = p.2 in
-      subst (NodeHolds Q (s.view d)) (sym g.2) (stays Q (s.view d x.version) (process_votes x.process) (process_disk x.process) g.0 g.1 h)
-  desk_holds Q sent d (Event.Power c choice) x answer y out f h p =
-      subst (NodeHolds Q (s.view d)) (sym p.2) (loses_power Q (s.view d x.version) (process_votes x.process) (process_disk x.process) p.0 p.1 h)
-  desk_holds Q sent d (Event.FailAt c n) x answer y out f h p = let g = p.0 in subst (NodeHolds Q (s.view d)) (sym g.2) (on_other_disk Q (s.view d x.version) x.process g.0 g.1 h)
-  desk_holds Q sent d (Event.StopAt c n) x answer y out f h p = let g = p.0 in subst (NodeHolds Q (s.view d)) (sym g.2) (on_other_disk Q (s.view d x.version) x.process g.0 g.1 h)
-  desk_holds Q sent d (Event.Open c) x answer y out f h p = after_open Q (s.view d) x answer y d p.0 p.1 p.2 (subst (ProcessHolds Q (s.view d x.version)) p.3 h) p.4 p.5
-  desk_holds Q sent d (Event.Migrate c) x answer y out f h p =
-      migrates_at Q (s.view d) x answer y x.version p.0 p.1 refl h (subst (ProcessHolds Q (s.view d x.version)) p.2 h) p.3
-  desk_holds Q sent d (Event.Wipe n) x answer y out f h p = absurd p
+  desk_holds h0 sent d h3 x answer y out f h p =
+      grind (arith, stored, after_pen, pen_holds, after_receive, receive_holds, stays, loses_power, on_other_disk, after_open, migrates_at)
 
   abbrev pub BothHold : (DeskId → List Ballot → Type 0) → Configuration Disk → Type 0
   BothHold Q w = (d : DeskId) → NodeHolds (Q d) (s.view d) (node w d)

@@ -186,17 +186,7 @@ module _ {Disk Why : Type 0} (s : Setting Disk Why) where
 
   board_told_sound : (event : Event) (w : Configuration Disk) (k l : BoardState) (m : Message) (told : BoardAnswer) → Fine s w → BothHold s (λ d. Lawful s.rules) w → BoardFine (all_votes w) k
       → MessageFine (all_votes w) m → BoardReceives s.rules k m told l → IsSoundAnswer {Why = Why} event (board_told told)
-  board_told_sound event w k l m BoardAnswer.Asked f h b i p = tt
-  board_told_sound event w k l (Message.Ask q) (BoardAnswer.Told x) f h b i p = absurd p
-  board_told_sound event w k l (Message.Ask q) (BoardAnswer.BadVotes place) f h b i p = absurd p
-  board_told_sound event w k l (Message.Vote v) (BoardAnswer.BadVotes place) f h b i p = absurd (p.1 (board_takes w k v p.0.0 f h b i p.0.1))
-  board_told_sound event w k l (Message.Vote v) (BoardAnswer.Told x) f h b i p =
-      told_sound event x (λ e. two (subst (λ (z : Heard). Listens k.reader v z l.reader) e p.0))
-    where
-      two : Listens k.reader v Heard.TwoVotes l.reader → ⊥
-      two c =
-          two_entries (votes_by (all_votes w) (other v.desk)) (votes_by (all_votes w) v.desk) (noted_of k.reader v.desk) v c.1.0 k.reader.position (justified_of w v.desk f)
-          (b.noted v.desk) c.1.1 i c.0 c.1.2
+  board_told_sound event w k l m h5 f h b i p = grind (arith, board_takes, told_sound, two_entries, justified_of)
 
   board_sound : (w : Configuration Disk) (event : Event) (k : BoardState) (answer : Answer Why) (l : BoardState) (out : List Message) → Fine s w → BothHold s (λ d. Lawful s.rules) w
       → BoardFine (all_votes w) k → AtBoard s w.sent event k answer l out → IsSoundAnswer event answer
