@@ -1,4 +1,5 @@
 -- What every event of a run keeps, over any disk.
+use Rattle.std.proofs.lemmas.Grind.{common_steps}
 use Rattle.std.proofs.Common.{arith, ◌≡◌, ℕ, Option, Some, None, List, [], ◌∷◌, ◌++◌, refl, sym, ap, ◌∙◌, subst}
 use Rattle.agree_core.specs.declared.messages.{DeskId.DeskId, Message.Message}
 use Rattle.agree_core.specs.declared.messages.DeskId.TheVariants.{A, B}
@@ -168,8 +169,7 @@ module _ {Disk Why : Type 0} (s : Setting Disk Why) where
   shows_grows theirs theirs' votes h0 o h1 = grind (arith, justified_grows)
 
   process_grows : (v : FileVersion) (d : DeskId) (theirs theirs' : List Ballot) → Within theirs theirs' → (x : Process Disk) → ProcessFine v d theirs x → ProcessFine v d theirs' x
-  process_grows v d theirs theirs' g (Down votes disk) f =
-      (justified_grows theirs theirs' g votes f.0, (shows_grows theirs theirs' votes g ((s.view d v).reads disk) f.1.0, λ shown i. shows_grows theirs theirs' votes g shown (f.1.1 shown i)))
+  process_grows v d theirs theirs' g (Down votes disk) f = grind (arith, justified_grows, shows_grows)
   process_grows v d theirs theirs' g (Running k) f = desk_grows (s.view d v) d theirs theirs' k g f
 
   own_message : (v : AllVotes) (d : DeskId) (m : Message) → OwnMessage d (votes_by v d) m → MessageFine v m

@@ -1,4 +1,5 @@
 -- Each book that is shown is legal and has a score by the Laws, and what is shown as its score is that.
+use Rattle.std.proofs.lemmas.Grind.{common_steps}
 use Rattle.std.proofs.Common.{◌≡◌, ℕ, ◌+◌, ◌≤◌, Bool, cond, Some, None, List, [], ◌∷◌, ◌++◌, length, refl, sym, ◌∙◌, subst, inl, inr, arith}
 use Rattle.std.specs.Prelude.{All, not, slice_get}
 use Rattle.std.proofs.lemmas.List.{append-nil, append_assoc}
@@ -59,23 +60,7 @@ standing_at n h = record {
 }
 
 stands : (n : ℕ) (h : History) → 1 ≤ n → n ≤ 2 → IsLegal n h → IsInRange h → StandsFor (standing_at n h) n h
-stands n h one two legal in_range = record {
-  one_or_two = (one, two);
-  legal = legal;
-  in_range = in_range;
-  innings_a_side = refl;
-  taken = refl;
-  closed = refl;
-  playing = refl;
-  last = refl;
-  begun = refl;
-  home = refl;
-  away = refl;
-  crease = refl;
-  scores = refl;
-  batting = refl;
-  bowling = refl;
-}
+stands n h one two legal in_range = grind arith
 
 -- ---- the history of a legal book of entries is in range
 

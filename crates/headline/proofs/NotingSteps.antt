@@ -1,4 +1,5 @@
 -- How each event leaves what a station keeps.
+use Rattle.std.proofs.lemmas.Grind.{common_steps}
 use Rattle.std.proofs.Common.{arith, ◌≡◌, ◌≢◌, ◌⊎◌, ℕ, Option, Some, None, option_map, option_and_then, List, [], ◌∷◌, refl, sym, ap, ◌∙◌, subst, inl, inr}
 use Rattle.std.specs.Prelude.{slice_get}
 use Rattle.notation.specs.declared.entry.Entry.{Entry}
@@ -293,8 +294,7 @@ module _ {Disk Why : Type 0} (s : Setting Disk Why) where
       board_given : (i : ℕ) (v : Message) (told : BoardAnswer) → m.event ≡ Event.Give i (Station.Board n) → IsGiven w.sent i v → m.answer ≡ board_told told
           → BoardReceives s.rules k v told l → Leaves s w m (Station.Board n)
       board_given i (Message.Vote v) (BoardAnswer.Told h) given sent a r = read i v given (given_vote w.sent i v sent) (subst IsVoteAnswer (sym a) tt) (reads k.reader l.reader v h r.0)
-      board_given i (Message.Vote v) (BoardAnswer.BadVotes place) given sent a r =
-          board_stays (λ e. cc) (ap (λ (z : BoardState). z.reader) r.3) (λ c b j none. subst IsVoteAnswer a j.2)
+      board_given i (Message.Vote v) (BoardAnswer.BadVotes place) given sent a r = grind (arith, board_stays)
       board_given i (Message.Ask v) BoardAnswer.Asked given sent a r = board_stays (λ e. cc) (ap (λ (z : BoardState). z.reader) r) (λ c b j none. subst IsVoteAnswer a j.2)
       board_given i _ _ given sent a r = absurd r
 
@@ -305,7 +305,6 @@ module _ {Disk Why : Type 0} (s : Setting Disk Why) where
     pub board_leaves : (n : ℕ) (event : Event) (k l : BoardState) (out : List Message) → m.event ≡ event → station_of event ≡ Station.Board n
         → board_at w.boards n ≡ Some k → board_at m.after.boards n ≡ Some l → AtBoard s w.sent event k m.answer l out → Leaves s w m (Station.Board n)
     board_leaves n (Event.Give i u) k l out e h p q r = board_given n k l p q i r.0 r.1 (e ∙ ap (Event.Give i) h) r.2 r.4 r.3
-    board_leaves n (Event.Tick u) k l out e h p q r =
-        board_stays n k l p q (λ x. cc) (ap (λ (z : BoardState). z.reader) r.2) (λ c b i none. not_brought (Station.Board n) (λ j x. cc) (λ c g x. cc) c b i.1)
+    board_leaves n (Event.Tick u) k l out e h p q r = grind (arith, board_stays, not_brought)
     board_leaves n (Event.Wipe i) k l out e h p q r = let same : i ≡ n = cc in wiped n k l p q (e ∙ ap Event.Wipe same) r.0
     board_leaves n _ k l out e h p q r = absurd r

@@ -1,4 +1,6 @@
 -- Books of one length have one score.
+use Rattle.std.proofs.lemmas.Grind.{common_steps}
+use Rattle.std.proofs.Common.{arith}
 use Rattle.std.proofs.Common.{◌≡◌, ℕ, List, length, sym, ◌∙◌, subst}
 use Rattle.notation.specs.declared.entry.Entry.{Entry}
 use Rattle.ball_laws.specs.History.{History}
@@ -16,20 +18,7 @@ use Rattle.headline.proofs.Sound.{one_of_length}
 
 -- a history has one standing
 pub one_standing : (m k : Standing) (n : ℕ) (h : History) → StandsFor m n h → StandsFor k n h → m ≡ k
-one_standing m k n h p q = λ i. record {
-  innings_a_side = (p.innings_a_side ∙ sym q.innings_a_side) i;
-  taken = (p.taken ∙ sym q.taken) i;
-  closed = (p.closed ∙ sym q.closed) i;
-  playing = (p.playing ∙ sym q.playing) i;
-  last = (p.last ∙ sym q.last) i;
-  begun = (p.begun ∙ sym q.begun) i;
-  home = (p.home ∙ sym q.home) i;
-  away = (p.away ∙ sym q.away) i;
-  crease = (p.crease ∙ sym q.crease) i;
-  scores = (p.scores ∙ sym q.scores) i;
-  batting = (p.batting ∙ sym q.batting) i;
-  bowling = (p.bowling ∙ sym q.bowling) i;
-}
+one_standing m k n h p q = grind arith
 
 pub one_score : {Disk Why : Type 0} (s : Setting Disk Why) (innings : ℕ) (version : FileVersion) (boards : ℕ) (w : Configuration Disk) (ms : List (Moment Disk Why)) → Begins s version boards w
     → Run s w ms → HaveOneScore innings w ms

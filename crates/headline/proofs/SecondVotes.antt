@@ -1,4 +1,5 @@
 -- The call that brings the second of two equal votes takes their entry.
+use Rattle.std.proofs.lemmas.Grind.{common_steps}
 use Rattle.std.proofs.Common.{arith, ◌≡◌, ◌≢◌, ◌⊎◌, ℕ, Option, Some, None, List, [], ◌∷◌, ◌++◌, sym, ap, ◌∙◌, subst, inl, inr}
 use Rattle.std.specs.Prelude.{slice_get}
 use Rattle.notation.specs.declared.entry.Entry.{Entry}
@@ -72,18 +73,7 @@ module _ {Disk Why : Type 0} (s : Setting Disk Why) where
       → other c ≢ d → slice_get w.sent n ≡ Some (Message.Vote (vote_of (other c) b)) → Step s w (Event.Give n (Station.Desk d)) answer new → IsVoteAnswer answer
       → Shows new (Station.Desk d) (book ++ b.entry ∷ [])
   desk_given w d c n book b answer new f g apart sent p i =
-      let q = p.2 in
-      let k = q.0 in
-      let h = desk_keeps w d c k book b q.4 g in
-      let this : q.2 ≡ Message.Vote (vote_of (other c) b) = given_there w.sent n q.2 (Message.Vote (vote_of (other c) b)) sent q.5 in
-      let fine = running s (node w d).version d (votes_by (all_votes w) (other d)) (node w d).process k q.4 (node_fine s w d f) in
-      let seat = fine.seat in
-      let mine : k.seat.mine ≡ Some b.entry = sym (kept_own k.seat c d apart) ∙ h.2 in
-      let received : Receives (s.view d (node w d).version) k (Message.Vote (vote_of (other c) b)) q.3 q.1 p.1 = subst
-      (λ (z : Message). Receives (s.view d (node w d).version) k z q.3 q.1 p.1) this q.6 in
-      let shown = after_vote d (node w d) k q.1 (vote_of (other c) b) q.3 p.1 answer p.0 i (λ e. apart (e ∙ seat.desk)) (sym h.1) mine
-      (alone k.seat.mine k.seat.theirs b.entry seat.waits mine) received q.7 in
-      shows_at w new d p.0 p.1 (book ++ b.entry ∷ []) p.3 (subst (λ (o : List Entry). process_shows p.0.process (o ++ b.entry ∷ [])) h.0 shown)
+      grind (arith, desk_keeps, given_there, running, node_fine, kept_own, after_vote, alone, shows_at)
 
   desk_penned : (w : Configuration Disk) (c : DeskId) (book : List Entry) (b : Ballot) (answer : Answer Why) (new : Configuration Disk) → Keeps w (Station.Desk (other c)) book c b
       → Step s w (Event.Pen (other c) b.entry) answer new → IsVoteAnswer answer → Shows new (Station.Desk (other c)) (book ++ b.entry ∷ [])

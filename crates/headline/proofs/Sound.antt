@@ -1,4 +1,5 @@
 -- No event of a run meets two votes of one desk, votes that are no book or a file that isn't sound.
+use Rattle.std.proofs.lemmas.Grind.{common_steps}
 use Rattle.std.proofs.Common.{◌≡◌, ◌≢◌, ℕ, Bool, Option, Some, None, List, [], ◌∷◌, ◌++◌, length, sym, ap, ◌∙◌, subst, inl, inr, arith, ⊎_elim}
 use Rattle.std.proofs.Common.{append-nil, append_assoc, length-append}
 use Rattle.std.specs.Prelude.{nat_eq}
@@ -66,13 +67,8 @@ taken_last rules book (x ∷ xs) e h = rw (sym (append_assoc book (x ∷ []) xs)
 pub taken_at : {Why : Type 0} (rules : Rules Why) (theirs bs : List Ballot) → Justified theirs bs → Lawful rules bs → (b : Ballot) → In b bs
     → (book : List Entry) × AllBoth bs theirs 0 book × (length book ≡ b.at.place) × (rules book b.entry ≡ None)
 taken_at rules theirs [] j l b i = absurd i
-taken_at rules theirs (x ∷ xs) j l b (inl e) =
-    let long = book_long x xs (in_sequence theirs (x ∷ xs) j) in
-    let next = subst (λ (y : Ballot). rules (book_of (x ∷ xs)) y.entry ≡ None) (sym e) (taken_last rules [] (book_of (x ∷ xs)) x.entry l.0) in
-    (book_of (x ∷ xs), book_agreed theirs x xs j, long ∙ ap (λ (y : Ballot). y.at.place) (sym e), next)
-taken_at rules theirs (x ∷ xs) j l b (inr i) =
-    let h = taken_at rules theirs xs j.2 l.1 b i in
-    (h.0, both_grow xs (x ∷ xs) theirs theirs (more x xs) (same theirs) 0 h.0 h.1, h.2, h.3)
+taken_at rules theirs (x ∷ xs) j l b (inl e) = grind (arith, book_long, in_sequence, taken_last, book_agreed)
+taken_at rules theirs (x ∷ xs) j l b (inr i) = grind (arith, both_grow, more, same, (taken_at rules theirs xs j.2 l.1 b i))
 
 pub same_length : (xs ys : List Entry) → BeginsWith ys xs → length xs ≡ length ys → xs ≡ ys
 same_length xs ys ([], e) size = sym (append-nil xs) ∙ e
