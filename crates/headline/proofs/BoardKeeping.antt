@@ -2,9 +2,8 @@
 use Rattle.std.proofs.Common.{arith, ◌≡◌, ℕ, zero, suc, Some, List, [], ◌∷◌, ◌++◌, subst}
 use Rattle.std.specs.Prelude.{slice_get, slice_set}
 use Rattle.agree_core.specs.Ballots.{AllVotes}
-use Rattle.agree_core.specs.Boards.{BoardState}
+use Rattle.agree_core.specs.Boards.{BoardState, fresh_board}
 use Rattle.agree_core.specs.Keeping.{BoardFine, Each}
-use Rattle.agree_core.proofs.Boards.{fresh_fine}
 use Rattle.headline.specs.Configurations.{board_at, fresh_boards, with_board}
 
 pub each_append : {X : Type 0} (P : X → Type 0) (xs ys : List X) → Each P xs → Each P ys → Each P (xs ++ ys)
@@ -25,12 +24,15 @@ item_set P [] n k p h = tt
 item_set P (x ∷ xs) zero k p h = (p, h.1)
 item_set P (x ∷ xs) (suc n) k p h = (h.0, item_set P xs n k p h.1)
 
+pub board_in : (P : BoardState → Type 0) (boards : List BoardState) (n : ℕ) (k : BoardState) → board_at boards n ≡ Some k → Each P boards → P k
+board_in P boards n k h0 h1 = grind (arith, item_at)
+
 pub board_fine_at : (v : AllVotes) (boards : List BoardState) (n : ℕ) (k : BoardState) → board_at boards n ≡ Some k → Each (BoardFine v) boards → BoardFine v k
-board_fine_at v boards n k h0 h1 = grind (arith, item_at)
+board_fine_at v boards n k e h = board_in (BoardFine v) boards n k e h
 
-pub board_set : (v : AllVotes) (boards : List BoardState) (n : ℕ) (k : BoardState) → BoardFine v k → Each (BoardFine v) boards → Each (BoardFine v) (with_board boards n k)
-board_set v boards n k h0 h1 = grind (arith, item_set)
+pub board_set : (P : BoardState → Type 0) (boards : List BoardState) (n : ℕ) (k : BoardState) → P k → Each P boards → Each P (with_board boards n k)
+board_set P boards n k h0 h1 = grind (arith, item_set)
 
-pub fresh_boards_fine : (v : AllVotes) (n : ℕ) → Each (BoardFine v) (fresh_boards n)
-fresh_boards_fine v zero = tt
-fresh_boards_fine v (suc n) = (fresh_fine v, fresh_boards_fine v n)
+pub fresh_boards_are : (P : BoardState → Type 0) → P fresh_board → (n : ℕ) → Each P (fresh_boards n)
+fresh_boards_are P h zero = tt
+fresh_boards_are P h (suc n) = (h, fresh_boards_are P h n)

@@ -1,6 +1,6 @@
 -- What is so of what a station is given.
 use Rattle.std.proofs.Common.{arith}
-use Rattle.std.proofs.Common.{◌≡◌, ℕ, Some, List, [], ◌∷◌, length, None, inl, inr, refl, sym, subst}
+use Rattle.std.proofs.Common.{◌≡◌, ℕ, Some, List, [], ◌∷◌, length, None, inl, inr, refl}
 use Rattle.std.specs.Prelude.{slice_get}
 use Rattle.agree_core.specs.declared.messages.{Message.Message, Vote.Vote}
 use Rattle.agree_core.specs.Ballots.{AllVotes}

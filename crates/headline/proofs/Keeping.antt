@@ -1,5 +1,4 @@
 -- What every event of a run keeps, over any disk.
-use Rattle.std.proofs.lemmas.Grind.{common_steps}
 use Rattle.std.proofs.Common.{arith, ◌≡◌, ℕ, Option, Some, None, List, [], ◌∷◌, ◌++◌, refl, sym, ap, ◌∙◌, subst}
 use Rattle.agree_core.specs.declared.messages.{DeskId.DeskId, Message.Message}
 use Rattle.agree_core.specs.declared.messages.DeskId.TheVariants.{A, B}
@@ -29,7 +28,7 @@ use Rattle.agree_core.specs.Keeping.{BoardFine, DeskFine, DeskKept, DiskFine, Ea
 use Rattle.agree_core.proofs.Both.{same}
 use Rattle.agree_core.proofs.Desks.{desk_grows, not_opened_keeps, opened_keeps, pens_keep, receives_keep, stays_fine, ticks_keep}
 use Rattle.agree_core.proofs.Boards.{board_asks, board_grows, board_receives_keeps, fresh_fine, message_grows}
-use Rattle.headline.proofs.BoardKeeping.{board_fine_at, board_set, each_append, each_other, fresh_boards_fine}
+use Rattle.headline.proofs.BoardKeeping.{board_fine_at, board_set, each_append, each_other, fresh_boards_are}
 use Rattle.headline.proofs.Given.{given_fine}
 
 module _ {Disk Why : Type 0} (s : Setting Disk Why) where
@@ -234,7 +233,7 @@ module _ {Disk Why : Type 0} (s : Setting Disk Why) where
         record {
           on_a = f.on_a;
           on_b = f.on_b;
-          on_boards = board_set v w.boards n p.1 h.0 f.on_boards;
+          on_boards = board_set (BoardFine v) w.boards n p.1 h.0 f.on_boards;
           on_sent = each_append (MessageFine v) w.sent p.2 f.on_sent h.1;
         },
         (same v.a, same v.b),
@@ -257,6 +256,6 @@ module _ {Disk Why : Type 0} (s : Setting Disk Why) where
       record {
         on_a = subst (λ (o : List Ballot). ProcessFine w.a.version A o w.a.process) (sym b.1) a.0;
         on_b = subst (λ (o : List Ballot). ProcessFine w.b.version B o w.b.process) (sym a.1) b.0;
-        on_boards = subst (Each (BoardFine (all_votes w))) (sym p.boards_are_fresh) (fresh_boards_fine (all_votes w) n);
+        on_boards = subst (Each (BoardFine (all_votes w))) (sym p.boards_are_fresh) (fresh_boards_are (BoardFine (all_votes w)) (fresh_fine (all_votes w)) n);
         on_sent = subst (Each (MessageFine (all_votes w))) (sym p.nothing_sent) tt;
       }

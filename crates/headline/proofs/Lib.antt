@@ -1,5 +1,6 @@
 pub mod Noting
 pub mod Heeding
+pub mod AtStations
 pub mod NotingSteps
 pub mod NotedRuns
 pub mod BoardKeeping

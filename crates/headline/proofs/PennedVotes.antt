@@ -1,25 +1,25 @@
 -- What each pen keeps of a desk's votes holds of its votes, of what is read and of every image.
-use Rattle.std.proofs.Common.{arith, ◌≡◌, ℕ, Some, List, [], ◌∷◌, refl, sym, ap, ◌∙◌, subst, inl, inr}
+use Rattle.std.proofs.Common.{arith, ◌≡◌, ℕ, Some, List, [], ◌∷◌, sym, ap, ◌∙◌, subst, inl, inr}
 use Rattle.notation.specs.declared.entry.Entry.{Entry}
 use Rattle.agree_core.specs.declared.messages.{DeskId.DeskId, Message.Message}
-use Rattle.agree_core.specs.declared.messages.DeskId.TheVariants.{A, B}
 use Rattle.agree_core.specs.Ballots.{Ballot, In}
 use Rattle.agree_core.specs.Desks.{DeskState, MayPen, PenAnswer, Pens, ReceiveAnswer, Receives, next_ballot}
 use Rattle.agree_core.specs.FileView.{FileView, Stays}
 use Rattle.agree_core.specs.Openings.{Opening, Opens}
 use Rattle.headline.specs.declared.{event.Event.Event, event.Station.Station, fault.Fault.Fault, version.FileVersion.FileVersion}
 use Rattle.headline.specs.Setting.{Setting}
-use Rattle.headline.specs.Configurations.{Process, Running, Node, Configuration, node, process_disk, process_votes, with_disk, with_node}
+use Rattle.headline.specs.Configurations.{Process, Running, Node, Configuration, node, process_disk, process_votes, with_disk}
 use Rattle.headline.specs.Answers.{Answer}
 use Rattle.headline.specs.DeskFaults.{Breaks, LosesPower, StaysDownBy}
 use Rattle.headline.specs.Migrations.{MigratesAt}
 use Rattle.headline.specs.DeskSteps.{AtDesk}
 use Rattle.headline.specs.Events.{station_of}
-use Rattle.headline.specs.Steps.{Step, StepAt}
+use Rattle.headline.specs.Steps.{Step}
 use Rattle.headline.specs.Runs.{Begins, Moment, Run, last_of, AfterEach}
 use Rattle.headline.specs.Headline.{ArePenned}
 use Rattle.headline.specs.DeskAnswers.{AfterOpen, AfterPen, AfterReceive}
 use Rattle.headline.specs.Penned.{MayStore, WasPenned}
+use Rattle.headline.proofs.AtStations.{at_desk}
 use Rattle.headline.proofs.Keeping.{votes_at}
 
 module _ {Disk Why : Type 0} (s : Setting Disk Why) where
@@ -97,12 +97,6 @@ module _ {Disk Why : Type 0} (s : Setting Disk Why) where
   abbrev pub BothHold : (DeskId → List Ballot → Type 0) → Configuration Disk → Type 0
   BothHold Q w = (d : DeskId) → NodeHolds (Q d) (s.view d) (node w d)
 
-  put : (Q : DeskId → List Ballot → Type 0) (w : Configuration Disk) (d : DeskId) (y : Node Disk) (out : List Message) → BothHold Q w → NodeHolds (Q d) (s.view d) y → BothHold Q (with_node w d y out)
-  put Q w A y out h k A = k
-  put Q w A y out h k B = h B
-  put Q w B y out h k A = h A
-  put Q w B y out h k B = k
-
   -- each pen of this event keeps it
   abbrev pub PensKeep : (DeskId → List Ballot → Type 0) → Configuration Disk → Event → Answer Why → Type 0
   PensKeep Q w event answer =
@@ -111,15 +105,13 @@ module _ {Disk Why : Type 0} (s : Setting Disk Why) where
 
   pub step_holds : (Q : DeskId → List Ballot → Type 0) (w : Configuration Disk) (event : Event) (answer : Answer Why) (new : Configuration Disk)
       → PensKeep Q w event answer → BothHold Q w → Step s w event answer new → BothHold Q new
-  step_holds Q w event answer new f h p = at_station (station_of event) refl p
+  step_holds Q w event answer new f h p d = elim (at_desk s w event answer new (station_of event) d p) [
+    | inl e ↦ subst (NodeHolds (Q d) (s.view d)) (sym e.1) (h d)
+    | inr k ↦ desk_holds (Q d) w.sent d event (node w d) answer (node new d) k.1 (keeps k.0) (h d) k.2
+  ]
     where
-      keeps : (d : DeskId) → station_of event ≡ Station.Desk d → PenKeeps (Q d) event answer (node w d)
-      keeps d e c k g q t i m v = f d k g (q ∙ ap (λ (z : DeskId). Event.Pen z g) (let u = sym (ap station_of q) ∙ e in cc)) t i m v
-
-      at_station : (t : Station) → station_of event ≡ t → StepAt s w event t answer new → BothHold Q new
-      at_station (Station.Desk d) e p c = subst (BothHold Q) (sym p.3) (put Q w d p.0 p.1 h (desk_holds (Q d) w.sent d event (node w d) answer p.0 p.1 (keeps d e) (h d) p.2)) c
-      at_station (Station.Board n) e p A = subst (NodeHolds (Q A) (s.view A)) (sym (ap (λ (z : Configuration Disk). z.a) p.5)) (h A)
-      at_station (Station.Board n) e p B = subst (NodeHolds (Q B) (s.view B)) (sym (ap (λ (z : Configuration Disk). z.b) p.5)) (h B)
+      keeps : station_of event ≡ Station.Desk d → PenKeeps (Q d) event answer (node w d)
+      keeps e c k g q t i m v = f d k g (q ∙ ap (λ (z : DeskId). Event.Pen z g) (let u = sym (ap station_of q) ∙ e in cc)) t i m v
 
   pub begins_hold : (Q : DeskId → List Ballot → Type 0) → ((d : DeskId) → Q d []) → (version : FileVersion) (n : ℕ) (w : Configuration Disk) → Begins s version n w → BothHold Q w
   begins_hold Q h0 version n w h1 = grind arith

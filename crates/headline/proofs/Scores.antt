@@ -1,5 +1,4 @@
 -- Books of one length have one score.
-use Rattle.std.proofs.lemmas.Grind.{common_steps}
 use Rattle.std.proofs.Common.{arith}
 use Rattle.std.proofs.Common.{◌≡◌, ℕ, List, length, sym, ◌∙◌, subst}
 use Rattle.notation.specs.declared.entry.Entry.{Entry}

@@ -1,5 +1,4 @@
 -- No event of a run meets two votes of one desk, votes that are no book or a file that isn't sound.
-use Rattle.std.proofs.lemmas.Grind.{common_steps}
 use Rattle.std.proofs.Common.{◌≡◌, ◌≢◌, ℕ, Bool, Option, Some, None, List, [], ◌∷◌, ◌++◌, length, sym, ap, ◌∙◌, subst, inl, inr, arith, ⊎_elim}
 use Rattle.std.proofs.Common.{append-nil, append_assoc, length-append}
 use Rattle.std.specs.Prelude.{nat_eq}
@@ -15,7 +14,7 @@ use Rattle.agree_core.specs.Desks.{DeskState, PenAnswer, ReceiveAnswer, Receives
 use Rattle.agree_core.specs.FileView.{FileView}
 use Rattle.agree_core.specs.Openings.{Opening, Opens}
 use Rattle.agree_core.specs.Positions.{position_of}
-use Rattle.agree_core.specs.Readers.{Listens, ReaderState, noted_of, other}
+use Rattle.agree_core.specs.Readers.{Listens, ReaderState, other}
 use Rattle.agree_core.specs.Seats.{Hears, SeatState}
 use Rattle.agree_core.proofs.FileBooks.{AllBoth, book_agreed, book_long}
 use Rattle.agree_core.proofs.Order.{in_sequence, one_vote}
