@@ -17,12 +17,12 @@ use Rattle.headline.specs.Events.{station_of}
 use Rattle.headline.specs.Runs.{Moment, Run, last_of}
 use Rattle.headline.specs.Setting.{Setting}
 use Rattle.headline.specs.Steps.{Step, StepAt}
+use Rattle.headline.proofs.AtStations.{at_board}
 use Rattle.headline.proofs.Given.{given_there}
-use Rattle.headline.proofs.Heeding.{board_other, board_put, noting_there}
+use Rattle.headline.proofs.Heeding.{board_put, noting_there}
 use Rattle.headline.proofs.Sound.{justified_of}
 use Rattle.progress.specs.Calm.{AllCalm, IsCalm}
 use Rattle.progress.specs.Exchange.{ComesTo, HandsOut}
-use Rattle.progress.proofs.Boards.{boards_set}
 use Rattle.progress.proofs.CalmRuns.{Steady, last_out, steady_votes}
 use Rattle.progress.proofs.CalmSeats.{place_later, round_later}
 use Rattle.progress.proofs.Exchanges.{Ear, Hearer, Knows, NoVote, On, none_full, on_on}
@@ -73,19 +73,12 @@ module _ {Disk Why : Type 0} (s : Setting Disk Why) where
 
   pub board_step_on : (w : Configuration Disk) (event : Event) (t : Station) (answer : Answer Why) (new : Configuration Disk) → IsCalm event
       → (n : ℕ) (k : BoardState) → board_at w.boards n ≡ Some k → StepAt s w event t answer new → OnFrom n k new
-  board_step_on w event (Station.Desk d) answer new calm n k e p =
-      let same : new.boards ≡ w.boards = ap (λ (z : Configuration Disk). z.boards) p.3 ∙ boards_set w d p.0 p.1 in
-      (k, ap (λ (z : List BoardState). board_at z n) same ∙ e, on_same k.reader k.reader refl)
-  board_step_on w event (Station.Board m) answer new calm n k e p =
-      let boards : new.boards ≡ with_board w.boards m p.1 = ap (λ (z : Configuration Disk). z.boards) p.5 in
-      elim (same_or_other n m) [
-        | inl q ↦
-            let at : board_at w.boards n ≡ Some p.0 = ap (board_at w.boards) q ∙ p.3 in
-            let there : board_at new.boards n ≡ Some p.1 = ap (board_at new.boards) q ∙ ap (λ (z : List BoardState). board_at z m) boards ∙ board_put w.boards m p.0 p.1 p.3 in
-            let same : p.0 ≡ k = one_board w.boards n p.0 k at e in
-            (p.1, there, subst (λ (z : BoardState). BoardOn z.reader p.1.reader) same (at_board_on w.sent event p.0 p.1 answer p.2 calm p.4))
-        | inr d ↦ (k, ap (λ (z : List BoardState). board_at z n) boards ∙ board_other w.boards m n p.1 (λ e. d (sym e)) ∙ e, on_same k.reader k.reader refl)
-      ]
+  board_step_on w event t answer new calm n k e p = elim (at_board s w event answer new t n p) [
+    | inl q ↦ (k, q.1 ∙ e, on_same k.reader k.reader refl)
+    | inr h ↦
+        let same = one_board w.boards n h.1 k h.4 e in
+        (h.2, h.5, subst (λ (z : BoardState). BoardOn z.reader h.2.reader) same (at_board_on w.sent event h.1 h.2 answer h.3 calm h.6))
+  ]
 
   pub board_goes : (w : Configuration Disk) (ms : List (Moment Disk Why)) → Run s w ms → AllCalm ms → (n : ℕ) (k : BoardState) → board_at w.boards n ≡ Some k
       → OnFrom n k (last_of w ms)

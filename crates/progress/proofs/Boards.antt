@@ -1,6 +1,5 @@
 -- How a board goes on in calm moments, and that it has left a round only where both desks differed.
-use Rattle.std.proofs.Common.{◌≡◌, ◌≢◌, ℕ, zero, suc, Some, List, [], ◌∷◌, refl, sym, ap, ◌∙◌, subst, arith}
-use Rattle.std.specs.Prelude.{slice_set}
+use Rattle.std.proofs.Common.{◌≡◌, ◌≢◌, ℕ, Some, List, [], ◌∷◌, refl, sym, ap, ◌∙◌, subst, arith}
 use Rattle.notation.specs.declared.entry.Entry.{Entry}
 use Rattle.agree_core.specs.declared.{messages.DeskId.DeskId, messages.Message.Message, messages.Vote.Vote, position.Position.Position, seat.Heard.Heard}
 use Rattle.agree_core.specs.declared.messages.DeskId.TheVariants.{A, B}
@@ -12,12 +11,12 @@ use Rattle.agree_core.specs.Readers.{Listens, ReaderState, noted_of, noting, oth
 use Rattle.headline.specs.declared.{event.Event.Event, event.Station.Station, version.FileVersion.FileVersion}
 use Rattle.headline.specs.Answers.{Answer}
 use Rattle.headline.specs.BoardSteps.{AtBoard}
-use Rattle.headline.specs.Configurations.{Configuration, Node, all_votes, board_at, fresh_boards, with_board, with_node}
+use Rattle.headline.specs.Configurations.{Configuration, Node, all_votes, board_at, with_node}
 use Rattle.headline.specs.Runs.{Begins, Moment, Run, last_of}
 use Rattle.headline.specs.Setting.{Setting}
 use Rattle.headline.specs.Steps.{StepAt}
 use Rattle.headline.proofs.Given.{given_fine}
-use Rattle.headline.proofs.BoardKeeping.{board_fine_at, each_other, item_at}
+use Rattle.headline.proofs.BoardKeeping.{board_fine_at, board_in, board_set, each_other, fresh_boards_are}
 use Rattle.headline.proofs.Keeping.{Fine, Grows, run_keeps, step_at_keeps}
 use Rattle.progress.proofs.Rounds.{DifferedIn, RoundsFine, one_round_more, rounds_grow}
 
@@ -66,23 +65,6 @@ receives_rounds rules v k l _ _ f i b p = absurd p
 fresh_rounds : (v : AllVotes) → BoardRounds v fresh_board
 fresh_rounds v round less = absurd (omega arith)
 
-each_set : {X : Type 0} → (P : X → Type 0) (xs : List X) (n : ℕ) (x : X) → P x → Each P xs → Each P (slice_set xs n x)
-each_set P [] n k p h = tt
-each_set P (x ∷ xs) zero k p h = (p, h.1)
-each_set P (x ∷ xs) (suc n) k p h = (h.0, each_set P xs n k p h.1)
-
-rounds_set : (v : AllVotes) (boards : List BoardState) (n : ℕ) (k : BoardState) → BoardRounds v k → Each (BoardRounds v) boards → Each (BoardRounds v) (with_board boards n k)
-rounds_set v boards zero k p h = h
-rounds_set v boards (suc n) k p h = each_set (BoardRounds v) boards n k p h
-
-rounds_at : (v : AllVotes) (boards : List BoardState) (n : ℕ) (k : BoardState) → board_at boards n ≡ Some k → Each (BoardRounds v) boards → BoardRounds v k
-rounds_at v boards zero k e h = absurd (cc)
-rounds_at v boards (suc n) k e h = item_at (BoardRounds v) boards n k e h
-
-fresh_all : (v : AllVotes) (n : ℕ) → Each (BoardRounds v) (fresh_boards n)
-fresh_all v zero = tt
-fresh_all v (suc n) = (fresh_rounds v, fresh_all v n)
-
 pub boards_set : {Disk : Type 0} → (w : Configuration Disk) (d : DeskId) (y : Node Disk) (out : List Message) → (with_node w d y out).boards ≡ w.boards
 boards_set w h1 y out = grind arith
 
@@ -104,15 +86,15 @@ module _ {Disk Why : Type 0} (s : Setting Disk Why) where
       subst (Each (BoardRounds (all_votes new))) (sym same) (each_other (BoardRounds (all_votes w)) (BoardRounds (all_votes new)) (λ k. rounds_grow (all_votes w) (all_votes new) g k.reader.position) w.boards r)
   step_rounds w event (Station.Board n) answer new f r g p =
       let v = all_votes w in
-      let k = at_board_rounds v w.sent event p.0 p.1 answer p.2 f.on_sent (board_fine_at v w.boards n p.0 p.3 f.on_boards) (rounds_at v w.boards n p.0 p.3 r) p.4 in
-      subst (λ (z : Configuration Disk). AllRounds z) (sym p.5) (rounds_set v w.boards n p.1 k r)
+      let k = at_board_rounds v w.sent event p.0 p.1 answer p.2 f.on_sent (board_fine_at v w.boards n p.0 p.3 f.on_boards) (board_in (BoardRounds v) w.boards n p.0 p.3 r) p.4 in
+      subst (λ (z : Configuration Disk). AllRounds z) (sym p.5) (board_set (BoardRounds v) w.boards n p.1 k r)
 
   pub run_rounds : (w : Configuration Disk) (ms : List (Moment Disk Why)) → Fine s w → AllRounds w → Run s w ms → AllRounds (last_of w ms)
   run_rounds w [] f r p = r
   run_rounds w (m ∷ ms) f r p = grind (arith, run_keeps, step_rounds, step_at_keeps, (run_rounds w ms f r p.0))
 
   pub begins_rounds : (version : FileVersion) (n : ℕ) (w : Configuration Disk) → Begins s version n w → AllRounds w
-  begins_rounds version n w b = subst (Each (BoardRounds (all_votes w))) (sym b.boards_are_fresh) (fresh_all (all_votes w) n)
+  begins_rounds version n w b = subst (Each (BoardRounds (all_votes w))) (sym b.boards_are_fresh) (fresh_boards_are (BoardRounds (all_votes w)) (fresh_rounds (all_votes w)) n)
 
   pub rounds_of : (w : Configuration Disk) (n : ℕ) (k : BoardState) → AllRounds w → board_at w.boards n ≡ Some k → BoardRounds (all_votes w) k
-  rounds_of w n k r e = rounds_at (all_votes w) w.boards n k e r
+  rounds_of w n k r e = board_in (BoardRounds (all_votes w)) w.boards n k e r
