@@ -48,14 +48,7 @@ receives_on : {Why : Type 0} → (rules : Rules Why) (k l : BoardState) (m : Mes
 receives_on rules k l h3 h4 p = grind (arith, listens_on, on_same)
 
 listens_to : (r t : ReaderState) (v : Vote) (h : Heard) → position_of v ≡ r.position → Listens r v h t → Before r.position t.position ⊎ Knows (ear v.desk t)
-listens_to r t v Heard.Mine at c = absurd c
-listens_to r t v Heard.Old at c = absurd (grind arith)
-listens_to r t v Heard.Ahead at c = absurd (grind arith)
-listens_to r t v Heard.Again at c = inr (v.entry, ap (λ (z : ReaderState). noted_of z v.desk) c.2 ∙ c.1)
-listens_to r t v Heard.TwoVotes at c = inr (c.1.0, ap (λ (z : ReaderState). noted_of z v.desk) c.2 ∙ c.1.1)
-listens_to r t v Heard.Noted at c = inr (v.entry, ap (λ (z : ReaderState). noted_of z v.desk) c.3 ∙ noting_there r v.desk v.entry)
-listens_to r t v Heard.Agreed at c = inl (subst (λ (z : ReaderState). Before r.position z.position) (sym c.3) (place_later r.position))
-listens_to r t v Heard.Differ at c = inl (subst (λ (z : ReaderState). Before r.position z.position) (sym c.3) (round_later r.position))
+listens_to r t v h at c = grind (arith, noting_there, place_later, round_later)
 
 pub same_or_other : (n m : ℕ) → (n ≡ m) ⊎ (n ≢ m)
 same_or_other n m = grind arith

@@ -1,5 +1,5 @@
 -- What an exchange brings a station: a later position, or all that a desk has cast at its position.
-use Rattle.std.proofs.Common.{◌≡◌, ◌⊎◌, true≢false, Option, Some, List, [], ◌∷◌, ◌++◌, refl, sym, ap, ◌∙◌, subst, inl, inr, arith}
+use Rattle.std.proofs.Common.{None, ◌≡◌, ◌≢◌, ◌⊎◌, true≢false, Option, Some, List, [], ◌∷◌, ◌++◌, refl, sym, ap, ◌∙◌, subst, inl, inr, arith}
 use Rattle.notation.specs.declared.entry.Entry.{Entry}
 use Rattle.agree_core.specs.declared.{messages.Ask.Ask, messages.Asker.Asker, messages.DeskId.DeskId, messages.Message.Message, messages.Vote.Vote, position.Position.Position}
 use Rattle.agree_core.specs.Ballots.{AllVotes, Ballot, In, Justified, ballot_at, vote_of, votes_by}
@@ -37,7 +37,7 @@ pub record Ear : Type 0 where
   pub noted : Option Entry
 
 abbrev pub Knows : Ear → Type 0
-Knows e = (x : Entry) × (e.noted ≡ Some x)
+Knows e = e.noted ≢ None
 
 -- it has gone on so: to a later position, or with what it had noted
 abbrev pub On : Ear → Ear → Type 0

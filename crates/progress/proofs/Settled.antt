@@ -75,6 +75,11 @@ module _ (a b : List Ballot) (s t : SeatState) (xs ys : List Entry) (fs : SeatFi
 not_moved : (theirs : List Ballot) (s t : SeatState) → t.position ≡ s.position → Done theirs (ear s) (ear t) → Knows (ear t) ⊎ NoVote theirs t.position
 not_moved theirs s t e h4 = grind (arith, not_before)
 
+-- who knows what is cast there knows this
+knows_it : (d : DeskId) (own theirs : List Ballot) (x : SeatState) (book : List Entry) (e : Entry) → SeatFine d own theirs x book → Justified own theirs
+    → Knows (ear x) ⊎ NoVote theirs x.position → In (record { at = x.position; entry = e }) theirs → x.theirs ≡ Some e
+knows_it d own theirs x book e f j h i = grind (arith, one_vote)
+
 back_back : (p q r : Position) → NotBack p q → NotBack q r → NotBack p r
 back_back p q r h3 n = grind (arith, before_trans)
 
@@ -168,16 +173,7 @@ module _ {Disk Why : Type 0} (s : Setting Disk Why) where
         let there : In (record { at = x.0.seat.position; entry = e }) theirs =
         subst (λ (z : DeskState Disk). In (record { at = z.seat.position; entry = e }) theirs) (sym same)
         (subst (λ (z : AllVotes). In (record { at = k.seat.position; entry = e }) (votes_by z (other d))) (steady_votes s v (last_of w ms) last) i) in
-        subst (λ (z : DeskState Disk). z.seat.theirs ≡ Some e) same (knows_it d x.0.seat x.0.book e (seat_fine v (last_of w ms) last d) (others_justified s (last_of w ms) v last d) knows there)
-      where
-        knows_it : (d : DeskId) (x : SeatState) (book : List Entry) (e : Entry) → SeatFine d (votes_by v d) (votes_by v (other d)) x book
-            → Justified (votes_by v d) (votes_by v (other d)) → Knows (ear x) ⊎ NoVote (votes_by v (other d)) x.position
-            → In (record { at = x.position; entry = e }) (votes_by v (other d)) → x.theirs ≡ Some e
-        knows_it d x book e f j (inr n) i = absurd (n e i)
-        knows_it d x book e f j (inl h) i =
-            let noted : In (record { at = x.position; entry = h.0 }) (votes_by v (other d)) = subst (NotedFine (votes_by v (other d)) x.position) h.1 f.noted in
-            let one = one_vote (votes_by v d) (votes_by v (other d)) j (record { at = x.position; entry = h.0 }) (record { at = x.position; entry = e }) noted i refl in
-            h.1 ∙ ap (λ (b : Ballot). Some b.entry) one
+        subst (λ (z : DeskState Disk). z.seat.theirs ≡ Some e) same (knows_it d (votes_by v d) theirs x.0.seat x.0.book e (seat_fine v (last_of w ms) last d) (others_justified s (last_of w ms) v last d) knows there)
 
   module _ (w : Configuration Disk) (f : Fine s w) where
     pub hearing_settles : HearingSettles s w

@@ -33,14 +33,7 @@ on_of theirs s t g = grind arith
 -- a desk is given the other's vote for its position
 pub hears_vote : (s t : SeatState) (v : Vote) (h : Heard) → v.desk ≢ s.desk → position_of v ≡ s.position → Hears s v h t
     → Before s.position t.position ⊎ Knows (ear t)
-hears_vote s t v Heard.Mine n at c = absurd (n c.0)
-hears_vote s t v Heard.Old n at c = absurd (grind arith)
-hears_vote s t v Heard.Ahead n at c = absurd (grind arith)
-hears_vote s t v Heard.Again n at c = inr (v.entry, rw c.2 c.1)
-hears_vote s t v Heard.TwoVotes n at c = inr (c.1.0, rw c.2 c.1.1)
-hears_vote s t v Heard.Noted n at c = inr (v.entry, rw c.3 refl)
-hears_vote s t v Heard.Agreed n at c = inl (rw c.3 (place_later s.position))
-hears_vote s t v Heard.Differ n at c = inl (rw c.3 (round_later s.position))
+hears_vote s t v h n at c = grind (arith, place_later, round_later)
 
 module _ {Disk Why : Type 0} (s : Setting Disk Why) where
   -- a desk that is up hears a vote for its position
@@ -65,7 +58,7 @@ module _ {Disk Why : Type 0} (s : Setting Disk Why) where
     where
       asks : (out : List Message) → m.after.sent ≡ w.sent ++ out → Ticks k out → (o : Option Entry) → k.seat.theirs ≡ o
           → Knows (ear k.seat) ⊎ (NoVote (votes_by v (other d)) k.seat.position ⊎ ((from : Asker) × HandsOut w m (ask_for from k.seat.position)))
-      asks out sent t (Some f) h = inl (f, h)
+      asks out sent t (Some f) h = inl (λ e. cc)
       asks out sent (inr (inl failed, _)) None h = absurd (true≢false (sym failed ∙ u.sound))
       asks out sent (inr (inr full, _)) None h = inr (inl (none_full (votes_by v d) (votes_by v (other d)) k.seat.position (others_justified w v st d) full))
       asks out sent (inl t) None h =
