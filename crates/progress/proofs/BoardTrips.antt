@@ -1,5 +1,5 @@
 -- How a board goes on in calm moments, and hears what a desk says.
-use Rattle.std.proofs.Common.{◌≡◌, ◌≢◌, ◌⊎◌, ℕ, Some, None, List, [], ◌∷◌, ◌++◌, refl, sym, ap, ◌∙◌, subst, inl, inr, arith}
+use Rattle.std.proofs.Common.{◌≡◌, ◌≢◌, ◌⊎◌, ℕ, Some, None, List, [], ◌∷◌, ◌++◌, refl, ap, ◌∙◌, subst, inl, inr, arith}
 use Rattle.notation.specs.declared.entry.Entry.{Entry}
 use Rattle.agree_core.specs.declared.{messages.Asker.Asker, messages.DeskId.DeskId, messages.Message.Message, messages.Vote.Vote, seat.Heard.Heard}
 use Rattle.agree_core.specs.Ballots.{AllVotes, Justified, votes_by}
@@ -9,10 +9,10 @@ use Rattle.agree_core.specs.Desks.{ask_for}
 use Rattle.agree_core.specs.Positions.{Before, position_of}
 use Rattle.agree_core.specs.Readers.{Listens, ReaderState, noted_of, noting, other}
 use Rattle.headline.specs.declared.{event.Event.Event, event.Station.Station}
-use Rattle.headline.specs.Answers.{Answer, board_told}
+use Rattle.headline.specs.Answers.{Answer}
 use Rattle.headline.specs.Besides.{IsSoundAnswer}
 use Rattle.headline.specs.BoardSteps.{AtBoard}
-use Rattle.headline.specs.Configurations.{Configuration, board_at, with_board}
+use Rattle.headline.specs.Configurations.{Configuration, board_at}
 use Rattle.headline.specs.Events.{station_of}
 use Rattle.headline.specs.Runs.{Moment, Run, last_of}
 use Rattle.headline.specs.Setting.{Setting}
@@ -87,22 +87,8 @@ module _ {Disk Why : Type 0} (s : Setting Disk Why) where
       → position_of v ≡ k.reader.position → IsSoundAnswer m.event m.answer → Before k.reader.position l.reader.position ⊎ Knows (ear v.desk l.reader)
   board_hears w m n k l v p (r, e, get) at there pos sound =
       let q = subst (λ (z : Event). Step s w z m.answer m.after) e p in
-      let same : q.0 ≡ k = one_board w.boards n q.0 k q.3 at in
-      let boards : m.after.boards ≡ with_board w.boards n q.1 = ap (λ (z : Configuration Disk). z.boards) q.5 in
-      let end : board_at m.after.boards n ≡ Some q.1 = ap (λ (z : List BoardState). board_at z n) boards ∙ board_put w.boards n q.0 q.1 q.3 in
-      let last : q.1 ≡ l = one_board m.after.boards n q.1 l end there in
-      let h = q.4 in
-      let it : h.0 ≡ Message.Vote v = given_there w.sent r h.0 (Message.Vote v) get h.2 in
-      let r0 = subst (λ (z : BoardState). BoardReceives s.rules z h.0 h.1 q.1) same h.3 in
-      let r1 = subst (λ (z : BoardState). BoardReceives s.rules k h.0 h.1 z) last r0 in
-      let r2 = subst (λ (z : Message). BoardReceives s.rules k z h.1 l) it r1 in
-      turn h.1 h.4 r2
-    where
-      turn : (told : BoardAnswer) → m.answer ≡ board_told told → BoardReceives s.rules k (Message.Vote v) told l
-          → Before k.reader.position l.reader.position ⊎ Knows (ear v.desk l.reader)
-      turn (BoardAnswer.Told h) a x = listens_to k.reader l.reader v h pos x.0
-      turn (BoardAnswer.BadVotes place) a x = absurd (subst (IsSoundAnswer m.event) a sound)
-      turn BoardAnswer.Asked a x = absurd x
+      let it = given_there w.sent r q.4.0 (Message.Vote v) get q.4.2 in
+      grind (arith, board_put, listens_to)
 
   -- a board asks at its tick
   pub board_ticks : (v : AllVotes) (n : ℕ) (d : DeskId) (w : Configuration Disk) (m : Moment Disk Why) → Steady s v w → Step s w m.event m.answer m.after

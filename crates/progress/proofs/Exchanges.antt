@@ -18,7 +18,6 @@ use Rattle.headline.proofs.Keeping.{node_fine, running}
 use Rattle.headline.proofs.NotingSteps.{there}
 use Rattle.progress.specs.Calm.{IsUp}
 use Rattle.progress.specs.Exchange.{Amid, ComesTo, Exchange, HandsOut, IsAnswered, Reaches}
-use Rattle.progress.proofs.CalmSteps.{one_process}
 use Rattle.progress.proofs.CalmRuns.{CalmRun, Steady, last_out, given_at, last_split, sent_set, split, steady_votes}
 
 -- nothing is cast at this position
@@ -81,21 +80,12 @@ module _ {Disk Why : Type 0} (s : Setting Disk Why) where
 
   pub given_to : (w : Configuration Disk) (m : Moment Disk Why) (d : DeskId) (k : DeskState Disk) (message : Message) → IsUp (node w d) k
       → Step s w m.event m.answer m.after → ComesTo w m (Station.Desk d) message → IsGivenTo w m d k message
-  given_to w m d k message u p (n, e, get) =
-      let q = subst (λ (z : Event). Step s w z m.answer m.after) e p in
-      let h = q.2 in
-      let same : h.0 ≡ k = one_process (node w d) h.0 k h.4 u.runs in
-      let it : h.2 ≡ message = given_there w.sent n h.2 message get h.5 in
-      let r = subst (λ (z : Message). Receives (s.view d (node w d).version) k z h.3 h.1 q.1) it
-      (subst (λ (z : DeskState Disk). Receives (s.view d (node w d).version) z h.2 h.3 h.1 q.1) same h.6) in
-      record {
-        l = h.1;
-        told = h.3;
-        out = q.1;
-        receives = r;
-        after = subst (AfterReceive (s.view d (node w d).version) (node w d) h.3 h.1 q.1 m.answer) (sym (there s w m.after d q.0 q.1 q.3)) h.7;
-        sent = ap (λ (z : Configuration Disk). z.sent) q.3 ∙ sent_set w d q.0 q.1;
-      }
+  given_to w m d k message u p (n, e, get) = turn (subst (λ (z : Event). Step s w z m.answer m.after) e p)
+    where
+      turn : Step s w (Event.Give n (Station.Desk d)) m.answer m.after → IsGivenTo w m d k message
+      turn (y, out, (j, l, it, told, runs, given, r, a), is) =
+          let same = given_there w.sent n it message get given in
+          record { l = l; told = told; out = out; receives = grind arith; after = grind (arith, there); sent = grind (arith, sent_set) }
 
   -- a desk that is up answers an ask
   replies : (w : Configuration Disk) (m : Moment Disk Why) (d : DeskId) (k : DeskState Disk) (q : Ask) → IsUp (node w d) k

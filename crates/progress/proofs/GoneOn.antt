@@ -12,10 +12,11 @@ use Rattle.headline.specs.Configurations.{Configuration, all_votes}
 use Rattle.headline.specs.Events.{station_of}
 use Rattle.headline.specs.Runs.{Moment, Run, last_of}
 use Rattle.headline.specs.Setting.{Setting}
+use Rattle.headline.proofs.Sound.{same_length}
 use Rattle.headline.proofs.Keeping.{Fine, all_justified, run_keeps, step_at_keeps}
 use Rattle.progress.specs.InStep.{BothVoted, HasVoted, InStep}
 use Rattle.progress.specs.Progress.{AlikeIsTaken, GoesOn, GoneOn, HearAgain, CanPen}
-use Rattle.progress.proofs.Near.{ordered, same_length}
+use Rattle.progress.proofs.Near.{ordered}
 use Rattle.progress.proofs.Rounds.{RoundsFine, both_voted, passed, rounds_grow, rounds_of_seat, same_entry}
 use Rattle.progress.proofs.Settled.{fine_seat, hearing_settles, can_pen_in_step}
 

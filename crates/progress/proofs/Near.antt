@@ -1,16 +1,17 @@
 -- Two desks are never far apart.
-use Rattle.std.proofs.Common.{◌≡◌, ◌⊎◌, ℕ, Option, Some, None, List, [], ◌∷◌, length, refl, sym, ap, ◌∙◌, subst, inl, inr, arith, ⊎_elim, append-nil, length-append}
+use Rattle.std.proofs.Common.{◌≡◌, ◌⊎◌, ℕ, Option, Some, None, List, [], ◌∷◌, length, refl, sym, ap, ◌∙◌, subst, inl, inr, arith}
 use Rattle.notation.specs.declared.entry.{Entry.Entry, Plain.Plain}
 use Rattle.agree_core.specs.declared.{messages.DeskId.DeskId, position.Position.Position}
 use Rattle.agree_core.specs.declared.messages.DeskId.TheVariants.{A, B}
-use Rattle.agree_core.specs.Agreed.{AllSettled, BeginsWith, IsAgreedList, Unsettled}
+use Rattle.agree_core.specs.Agreed.{IsAgreedList, Unsettled}
 use Rattle.agree_core.specs.Ballots.{AllJustified, AllVotes, Ballot, Differed, Follows, In, Justified, VotesGrow, Within, ballot_at}
 use Rattle.agree_core.specs.Keeping.{MineFine, SeatFine}
 use Rattle.agree_core.specs.Positions.{Before, first, next_place, next_round}
 use Rattle.agree_core.specs.Seats.{SeatState, SeatWaits}
 use Rattle.agree_core.proofs.Order.{compare, earlier, one_vote}
 use Rattle.agree_core.proofs.Both.{both_settled, both_turned}
-use Rattle.agree_core.proofs.Settling.{none_later, one_book}
+use Rattle.agree_core.proofs.Settling.{none_later}
+use Rattle.headline.proofs.Sound.{one_of_length}
 use Rattle.progress.specs.Calm.{NotBack}
 use Rattle.progress.specs.InStep.{IsAfter, IsBehind}
 
@@ -138,10 +139,6 @@ open_place : (own theirs : List Ballot) (p : Position) (g : Entry) → Justified
     → In (ballot_at p.place round e) own → In (ballot_at p.place round e) theirs → ⊥
 open_place h0 theirs p g jo jt f round e i k = grind (arith, before_next, compare, none_later, one_vote)
 
-pub same_length : (xs ys : List Entry) → BeginsWith ys xs → length xs ≡ length ys → xs ≡ ys
-same_length xs ys ([], e) size = sym (append-nil xs) ∙ e
-same_length xs ys (r ∷ rs, e) size = let long = ap length e in absurd (omega (arith, length-append xs (r ∷ rs)))
-
 pub not_cast : (theirs own : List Ballot) (book : List Entry) (s : SeatState) (mine : Option Entry) → s.mine ≡ mine → s.mine ≡ None
     → MineFine theirs own book s.position mine → Follows theirs (record { at = s.position; entry = any }) own
 not_cast theirs own book s h4 m n h = grind (arith, any)
@@ -149,39 +146,23 @@ not_cast theirs own book s h4 m n h = grind (arith, any)
 -- where both are at one position, at which not both have cast, both books are the agreed list
 pub agree : (a b : List Ballot) (s t : SeatState) (xs ys : List Entry) → SeatFine A a b s xs → SeatFine B b a t ys
     → s.position ≡ t.position → (s.mine ≡ None) ⊎ (t.mine ≡ None) → (xs ≡ ys) × IsAgreedList (record { a = a; b = b }) xs
-agree a b s t xs ys fs ft at none = (same, (settled, unsettled))
+agree a b s t xs ys fs ft at none =
+    let v : AllVotes = record { a = a; b = b } in
+    let j : AllJustified v = (fs.justified, ft.justified) in
+    let settled = both_settled v j 0 xs fs.both in
+    let theirs = both_settled v j 0 ys (both_turned b a 0 ys ft.both) in
+    let size : length xs ≡ length ys = fs.long ∙ ap (λ (p : Position). p.place) at ∙ sym ft.long in
+    let grow : VotesGrow v v = ((λ c i. i), (λ c i. i)) in
+    (one_of_length v v v j xs ys grow grow settled theirs size, (settled, unsettled))
   where
-    v : AllVotes
-    v = record { a = a; b = b }
-
-    j : AllJustified v
-    j = (fs.justified, ft.justified)
-
-    settled : AllSettled v 0 xs
-    settled = both_settled v j 0 xs fs.both
-
-    theirs : AllSettled v 0 ys
-    theirs = both_settled v j 0 ys (both_turned b a 0 ys ft.both)
-
-    size : length xs ≡ length ys
-    size = fs.long ∙ ap (λ (p : Position). p.place) at ∙ sym ft.long
-
-    grow : VotesGrow v v
-    grow = ((λ c i. i), (λ c i. i))
-
-    same : xs ≡ ys
-    same =
-        ⊎_elim (λ (z : BeginsWith ys xs). same_length xs ys z size) (λ (z : BeginsWith xs ys). sym (same_length ys xs z (sym size)))
-        (one_book v j v v xs ys grow grow settled theirs)
-
-    unsettled : Unsettled v (length xs)
+    unsettled : Unsettled (record { a = a; b = b }) (length xs)
     unsettled round e h = elim none [
-      | inl n ↦ open_place a b s.position any fs.justified ft.justified (not_cast b a xs s s.mine refl n fs.mine) round e
-          (subst (λ (o : ℕ). In (ballot_at o round e) a) fs.long h.0) (subst (λ (o : ℕ). In (ballot_at o round e) b) fs.long h.1)
+      | inl n ↦
+          let p = fs.long in
+          open_place a b s.position any fs.justified ft.justified (not_cast b a xs s s.mine refl n fs.mine) round e (grind arith) (grind arith)
       | inr n ↦
-          let long : length xs ≡ t.position.place = fs.long ∙ ap (λ (p : Position). p.place) at in
-          open_place b a t.position any ft.justified fs.justified (not_cast a b ys t t.mine refl n ft.mine) round e
-          (subst (λ (o : ℕ). In (ballot_at o round e) b) long h.1) (subst (λ (o : ℕ). In (ballot_at o round e) a) long h.0)
+          let p : length xs ≡ t.position.place = fs.long ∙ ap (λ (p : Position). p.place) at in
+          open_place b a t.position any ft.justified fs.justified (not_cast a b ys t t.mine refl n ft.mine) round e (grind arith) (grind arith)
     ]
 
 -- a vote of the other desk is for the position of a seat, or an earlier one, or the seat is one position behind it

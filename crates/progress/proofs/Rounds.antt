@@ -1,5 +1,5 @@
 -- Of a position to which both desks' votes lead: both voted at each before it, and differed in the rounds before it.
-use Rattle.std.proofs.Common.{◌≡◌, ◌≢◌, ◌⊎◌, ◌<◌, ◌+◌, ℕ, Some, None, List, [], ◌∷◌, length, get_or, refl, sym, ap, ◌∙◌, subst, inl, inr, arith, false, true}
+use Rattle.std.proofs.Common.{◌≡◌, ◌≢◌, ◌⊎◌, ◌<◌, ◌+◌, ℕ, List, [], ◌∷◌, length, get_or, refl, sym, ap, ◌∙◌, subst, inl, inr, arith, false, true}
 use Rattle.std.proofs.lemmas.Bool.{false≢true}
 use Rattle.std.specs.Prelude.{Bool}
 use Rattle.std.proofs.lemmas.Option.{slice_get-get_or}
@@ -9,7 +9,7 @@ use Rattle.notation.proofs.Same.{same_when}
 use Rattle.agree_core.specs.declared.{messages.DeskId.DeskId, position.Position.Position}
 use Rattle.agree_core.specs.declared.messages.DeskId.TheVariants.{A, B}
 use Rattle.agree_core.specs.Agreed.{AllBoth, EqualVotes}
-use Rattle.agree_core.specs.Ballots.{AllJustified, AllVotes, Ballot, Follows, In, Justified, VotesGrow, ballot_at}
+use Rattle.agree_core.specs.Ballots.{AllJustified, AllVotes, Ballot, Follows, In, Justified, VotesGrow, Within, ballot_at}
 use Rattle.agree_core.specs.Keeping.{SeatFine}
 use Rattle.agree_core.specs.Positions.{Before, next_round}
 use Rattle.agree_core.specs.Seats.{SeatState}
@@ -51,47 +51,27 @@ one_round_more v p h d round less = elim (split round p.round less) [
     split : (r q : ℕ) → r < q + 1 → (r < q) ⊎ (r ≡ q)
     split r q l = grind arith
 
--- so it is of a desk's seat
+-- so it is of a position at which a desk may vote next
+rounds_followed : (own theirs prev : List Ballot) (c : Ballot) → Follows theirs c prev → Within prev own → Justified theirs prev → (round : ℕ) → round < c.at.round
+    → BothDiffered own theirs c.at.place round
+rounds_followed own theirs [] c e w j round less = absurd (grind (arith, e, less))
+rounds_followed own theirs (z ∷ zs) c (inr n) w j round less = absurd (let e = n.0 in grind (arith, e, less))
+rounds_followed own theirs (z ∷ zs) c (inl n) w j round less = elim (compare round z.at.round) [
+  | inl q ↦
+      let d = differed theirs (z ∷ zs) j z (inl refl) c.at.place round (ap (λ (p : Position). p.place) n.0) q in
+      (d.0, d.1, w (ballot_at c.at.place round d.0) d.2, d.3, d.4)
+  | inr (inl q) ↦ (z.entry, n.1.0, grind (arith, w z (inl refl)), grind arith, n.1.2)
+  | inr (inr q) ↦ absurd (grind arith)
+]
+
+-- and of a desk's seat
 pub rounds_of_seat : (d : DeskId) (own theirs : List Ballot) (s : SeatState) (book : List Entry) → SeatFine d own theirs s book → (round : ℕ) → round < s.position.round
     → BothDiffered own theirs s.position.place round
-rounds_of_seat d own theirs s book f round less = turn hs.1 hs.2 prev_within prev_justified
-  where
-    hs : (e : Entry) × (prev : List Ballot) × Follows theirs (record { at = s.position; entry = e }) prev
-        × (((own ≡ record { at = s.position; entry = e } ∷ prev) × (s.mine ≡ Some e) × (s.theirs ≡ None)) ⊎ (own ≡ prev))
-    hs = stands d theirs own book s any f
-
-    prev_within : (b : Ballot) → In b hs.1 → In b own
-    prev_within b i = elim hs.3 [
-      | inl k ↦ subst (In b) (sym k.0) (inr i)
-      | inr k ↦ subst (In b) (sym k) i
-    ]
-
-    prev_justified : Justified theirs hs.1
-    prev_justified = elim hs.3 [
-      | inl k ↦ let j : Justified theirs (record { at = s.position; entry = hs.0 } ∷ hs.1) = subst (Justified theirs) k.0 f.justified in j.2
-      | inr k ↦ subst (Justified theirs) k f.justified
-    ]
-
-    turn : (prev : List Ballot) → Follows theirs (record { at = s.position; entry = hs.0 }) prev → ((b : Ballot) → In b prev → In b own) → Justified theirs prev
-        → BothDiffered own theirs s.position.place round
-    turn [] e w j = absurd (grind (arith, e, less))
-    turn (z ∷ zs) (inr n) w j = absurd (let e = n.0 in grind (arith, e, less))
-    turn (z ∷ zs) (inl n) w j =
-        let place : s.position.place ≡ z.at.place = ap (λ (p : Position). p.place) n.0 in
-        let next : s.position.round ≡ z.at.round + 1 = ap (λ (p : Position). p.round) n.0 in
-        elim (compare round z.at.round) [
-          | inl q ↦
-              let d = differed theirs (z ∷ zs) j z (inl refl) s.position.place round place q in
-              (d.0, d.1, w (ballot_at s.position.place round d.0) d.2, d.3, d.4)
-          | inr (inl q) ↦ (
-            z.entry,
-            n.1.0,
-            subst (λ (r : ℕ). In (ballot_at s.position.place r z.entry) own) (sym q) (subst (λ (o : ℕ). In (ballot_at o z.at.round z.entry) own) (sym place) (w z (inl refl))),
-            subst (λ (r : ℕ). In (ballot_at s.position.place r n.1.0) theirs) (sym q) (subst (λ (o : ℕ). In (ballot_at o z.at.round n.1.0) theirs) (sym place) n.1.1),
-            n.1.2,
-          )
-          | inr (inr q) ↦ absurd (omega (arith, less, next, q))
-        ]
+rounds_of_seat d own theirs s book f round less =
+    let hs = stands d theirs own book s any f in
+    let within : Within hs.1 own = λ b i. elim hs.3 [ inl k ↦ rw k.0 (inr i) | inr k ↦ rw k i ] in
+    let justified : Justified theirs hs.1 = let j = f.justified in grind arith in
+    rounds_followed own theirs hs.1 (record { at = s.position; entry = hs.0 }) hs.2 within justified round less
 
 -- where both voted alike at the place, they have voted in each round that they may have left
 pub voted_up_to : (v : AllVotes) → AllJustified v → (p : Position) → RoundsFine v p → (round : ℕ) (e : Entry) → EqualVotes v p.place round e → BothVoted v p

@@ -1,13 +1,15 @@
 -- What exchanges bring about between the desks.
-use Rattle.std.proofs.Common.{◌≡◌, ◌⊎◌, ◌<◌, Option, Some, None, List, [], ◌∷◌, length, refl, sym, ap, ◌∙◌, subst, inl, inr, arith}
+use Rattle.std.specs.Prelude.{◌↔◌}
+use Rattle.std.proofs.Common.{false, ◌≡◌, ◌⊎◌, ◌<◌, Option, Some, None, List, [], ◌∷◌, length, refl, sym, ap, ◌∙◌, subst, inl, inr, arith}
 use Rattle.notation.specs.declared.entry.Entry.{Entry}
 use Rattle.agree_core.specs.declared.{messages.DeskId.DeskId, position.Position.Position}
 use Rattle.agree_core.specs.declared.messages.DeskId.TheVariants.{A, B}
 use Rattle.agree_core.specs.Agreed.{IsAgreedList}
 use Rattle.agree_core.specs.Ballots.{AllVotes, Ballot, In, Justified, votes_by}
-use Rattle.agree_core.specs.Desks.{DeskState, MayPen, PenAnswer, Pens, most_votes}
-use Rattle.agree_core.specs.Keeping.{MineFine, NotedFine, SeatFine}
-use Rattle.agree_core.specs.Positions.{Before, InRange}
+use Rattle.agree_core.specs.Books.{Rules}
+use Rattle.agree_core.specs.Desks.{DeskState, MayPen, PenAnswer, Pens}
+use Rattle.agree_core.specs.Keeping.{MineFine, SeatFine}
+use Rattle.agree_core.specs.Positions.{Before}
 use Rattle.agree_core.specs.Readers.{other}
 use Rattle.agree_core.specs.Seats.{SeatState, SeatWaits}
 use Rattle.agree_core.proofs.Order.{not_before, one_vote}
@@ -22,7 +24,7 @@ use Rattle.headline.specs.Runs.{Moment, last_of}
 use Rattle.headline.specs.Setting.{Setting}
 use Rattle.headline.proofs.Keeping.{Fine, node_fine, run_keeps, running, votes_at}
 use Rattle.progress.specs.Calm.{BothUp, IsUp, NotBack}
-use Rattle.progress.specs.InStep.{BothVoted, EachKnows, HasVoted, InStep, IsBehind}
+use Rattle.progress.specs.InStep.{BothVoted, EachKnows, InStep, IsBehind}
 use Rattle.progress.specs.Progress.{Hear, HearingAgainTells, HearingSettles, CanPen, CanPenInStep, StaysUp}
 use Rattle.progress.proofs.CalmRuns.{CalmRun, Steady, ends, seat_goes, steady_votes}
 use Rattle.progress.proofs.CalmSeats.{GoesOn, before_trans, not_back}
@@ -93,6 +95,14 @@ not_cast_there d own theirs s book f n = turn s.mine refl
     turn : (o : Option Entry) → s.mine ≡ o → s.mine ≡ None
     turn None e = e
     turn (Some x) e = absurd (n x (has_cast theirs own book s.position s.mine x e f.mine))
+
+-- what stands against a pen, by the position and the book
+may_pen : {Disk Why : Type 0} (rules : Rules Why) (d : DeskId) (own theirs : List Ballot) (k : DeskState Disk) (p : Position) (book : List Entry) (e : Entry) → SeatFine d own theirs k.seat k.book
+    → k.votes ≡ own → k.failed ≡ false → k.seat.position ≡ p → k.book ≡ book
+    → MayPen rules k e ↔ ((((f : Entry) × In (record { at = p; entry = f }) own) → ⊥) × (rules book e ≡ None) × (p.place < 8192) × (p.round < 256) × (length own < 16384))
+may_pen rules d own theirs k p book e f votes sound at is = (λ m. grind (arith, not_voted), λ h.
+    let none = not_cast_there d own theirs k.seat k.book f (λ x i. h.0 (x, subst (λ (z : Position). In (record { at = z; entry = x }) own) at i)) in
+    grind arith)
 
 module _ {Disk Why : Type 0} (s : Setting Disk Why) where
   pub steady : (w : Configuration Disk) → Fine s w → BothUp w → Steady s (all_votes w) w
@@ -214,34 +224,14 @@ module _ {Disk Why : Type 0} (s : Setting Disk Why) where
     )
 
     pub can_pen_in_step : CanPenInStep s w
-    can_pen_in_step p book d e i = (may, λ h. can_pen d (i.up d).0 e (i.up d).1 (can h))
-      where
-        may : CanPen s w d e → (HasVoted (all_votes w) d p → ⊥) × (s.rules book e ≡ None) × (p.place < 8192) × (p.round < 256) × (length (votes_by (all_votes w) d) < 16384)
-        may ((l, ul, n), taken) =
-            let v = all_votes w in
-            let k = (i.up d).0 in
-            let same : l ≡ k = one_process (node w d) l k ul.runs (i.up d).1.runs in
-            let m : MayPen s.rules k e = subst (λ (z : DeskState Disk). MayPen s.rules z e) same n in
-            let g = fine_seat d k (i.up d).1.runs in
-            let none = not_voted d (votes_by v d) (votes_by v (other d)) k.seat k.book g.0 m.0.1 in
-            let range : InRange p = subst InRange (i.up d).2 m.1.0 in (
-              λ h. none h.0 (subst (λ (z : Position). In (record { at = z; entry = h.0 }) (votes_by v d)) (sym (i.up d).2) h.1),
-              subst (λ (z : List Entry). s.rules z e ≡ None) (i.up d).3 m.2,
-              range.0,
-              range.1,
-              subst (λ (z : List Ballot). length z < most_votes) g.1 m.1.1,
-            )
-
-        can : (HasVoted (all_votes w) d p → ⊥) × (s.rules book e ≡ None) × (p.place < 8192) × (p.round < 256) × (length (votes_by (all_votes w) d) < 16384) → MayPen s.rules (i.up d).0 e
-        can h =
-            let v = all_votes w in
-            let k = (i.up d).0 in
-            let g = fine_seat d k (i.up d).1.runs in
-            let none : NoVote (votes_by v d) k.seat.position = λ f x. h.0 (f, subst (λ (z : Position). In (record { at = z; entry = f }) (votes_by v d)) (i.up d).2 x) in (
-              ((i.up d).1.sound, not_cast_there d (votes_by v d) (votes_by v (other d)) k.seat k.book g.0 none),
-              (subst InRange (sym (i.up d).2) (h.2, h.3), subst (λ (z : List Ballot). length z < most_votes) (sym g.1) h.4),
-              subst (λ (z : List Entry). s.rules z e ≡ None) (sym (i.up d).3) h.1,
-            )
+    can_pen_in_step p book d e i =
+        let v = all_votes w in
+        let k = (i.up d).0 in
+        let g = fine_seat d k (i.up d).1.runs in
+        let may = may_pen s.rules d (votes_by v d) (votes_by v (other d)) k p book e g.0 g.1 (i.up d).1.sound (i.up d).2 (i.up d).3 in (
+          λ h. may.0 (subst (λ (z : DeskState Disk). MayPen s.rules z e) (one_process (node w d) h.0.0 k h.0.1.runs (i.up d).1.runs) h.0.2),
+          λ h. can_pen d k e (i.up d).1 (may.1 h),
+        )
 
     pub stays_up : StaysUp s w
     stays_up [] d k r c u = (k, u, refl, inl refl)
