@@ -1,13 +1,13 @@
 -- How a board goes on in calm moments, and that it has left a round only where both desks differed.
-use Rattle.std.proofs.Common.{◌≡◌, ◌≢◌, ℕ, Some, List, [], ◌∷◌, refl, sym, ap, ◌∙◌, subst, arith}
+use Rattle.std.proofs.Common.{◌≡◌, ◌≢◌, ℕ, Some, List, [], ◌∷◌, sym, ap, ◌∙◌, subst, arith}
 use Rattle.notation.specs.declared.entry.Entry.{Entry}
-use Rattle.agree_core.specs.declared.{messages.DeskId.DeskId, messages.Message.Message, messages.Vote.Vote, position.Position.Position, seat.Heard.Heard}
+use Rattle.agree_core.specs.declared.{messages.DeskId.DeskId, messages.Message.Message, messages.Vote.Vote, seat.Heard.Heard}
 use Rattle.agree_core.specs.declared.messages.DeskId.TheVariants.{A, B}
 use Rattle.agree_core.specs.Ballots.{AllVotes, In, ballot_at, ballot_of, votes_by}
 use Rattle.agree_core.specs.Boards.{BoardAnswer, BoardReceives, BoardState, fresh_board}
 use Rattle.agree_core.specs.Books.{Rules}
 use Rattle.agree_core.specs.Keeping.{BoardFine, Each, MessageFine, NotedFine}
-use Rattle.agree_core.specs.Readers.{Listens, ReaderState, noted_of, noting, other}
+use Rattle.agree_core.specs.Readers.{Listens, ReaderState, noted_of, other}
 use Rattle.headline.specs.declared.{event.Event.Event, event.Station.Station, version.FileVersion.FileVersion}
 use Rattle.headline.specs.Answers.{Answer}
 use Rattle.headline.specs.BoardSteps.{AtBoard}
@@ -15,6 +15,7 @@ use Rattle.headline.specs.Configurations.{Configuration, Node, all_votes, board_
 use Rattle.headline.specs.Runs.{Begins, Moment, Run, last_of}
 use Rattle.headline.specs.Setting.{Setting}
 use Rattle.headline.specs.Steps.{StepAt}
+use Rattle.headline.proofs.Heeding.{noting_at}
 use Rattle.headline.proofs.Given.{given_fine}
 use Rattle.headline.proofs.BoardKeeping.{board_fine_at, board_in, board_set, each_other, fresh_boards_are}
 use Rattle.headline.proofs.Keeping.{Fine, Grows, run_keeps, step_at_keeps}
@@ -31,35 +32,19 @@ differed_by v B place round e f i j n = (f, e, j, i, λ q. n (sym q))
 listens_rounds : (v : AllVotes) (r t : ReaderState) (x : Vote) (h : Heard)
     → ((d : DeskId) → NotedFine (votes_by v d) r.position (noted_of r d)) → In (ballot_of x) (votes_by v x.desk)
     → RoundsFine v r.position → Listens r x h t → RoundsFine v t.position
-listens_rounds v r t x h noted i f c = turn h c
-  where
-    stays : t ≡ r → RoundsFine v t.position
-    stays e = subst (λ (z : ReaderState). RoundsFine v z.position) (sym e) f
-
-    noting_stays : (d : DeskId) (e : Entry) → (noting r d e).position ≡ r.position
-    noting_stays A e = refl
-    noting_stays B e = refl
-
-    turn : (h : Heard) → Listens r x h t → RoundsFine v t.position
-    turn Heard.Mine c = absurd c
-    turn Heard.Old c = stays c.1
-    turn Heard.Ahead c = stays c.1
-    turn Heard.Again c = stays c.2
-    turn Heard.TwoVotes c = stays c.2
-    turn Heard.Noted c =
-        subst (RoundsFine v) (sym (ap (λ (z : ReaderState). z.position) c.3 ∙ noting_stays x.desk x.entry)) f
-    turn Heard.Agreed c = λ round less. absurd (let e = ap (λ (z : ReaderState). z.position.round) c.3 in omega arith)
-    turn Heard.Differ c =
-        let here : In (record { at = r.position; entry = x.entry }) (votes_by v x.desk) = subst (λ (p : Position). In (record { at = p; entry = x.entry }) (votes_by v x.desk)) c.0 i in
-        let there : In (record { at = r.position; entry = c.2.0 }) (votes_by v (other x.desk)) = subst (NotedFine (votes_by v (other x.desk)) r.position) c.2.1 (noted (other x.desk)) in
-        subst (RoundsFine v) (sym (ap (λ (z : ReaderState). z.position) c.3))
-        (one_round_more v r.position f (differed_by v x.desk r.position.place r.position.round x.entry c.2.0 here there c.2.2))
+listens_rounds v r t x Heard.Differ noted i f c =
+    let here : In (record { at = r.position; entry = x.entry }) (votes_by v x.desk) = rw (← c.0) i in
+    let there = subst (NotedFine (votes_by v (other x.desk)) r.position) c.2.1 (noted (other x.desk)) in
+    rw c.3 (one_round_more v r.position f (differed_by v x.desk r.position.place r.position.round x.entry c.2.0 here there c.2.2))
+listens_rounds v r t x Heard.Agreed noted i f c = λ round less. absurd (grind arith)
+listens_rounds v r t x Heard.Noted noted i f c = rw (c.3, noting_at r x.desk x.entry) f
+listens_rounds v r t x h noted i f c = let same : t ≡ r = grind arith in rw same f
 
 receives_rounds : {Why : Type 0} → (rules : Rules Why) (v : AllVotes) (k l : BoardState) (m : Message) (told : BoardAnswer) → BoardFine v k → MessageFine v m
     → BoardRounds v k → BoardReceives rules k m told l → BoardRounds v l
 receives_rounds rules v k l (Message.Vote x) (BoardAnswer.Told h) f i b p = listens_rounds v k.reader l.reader x h f.noted i b p.0
-receives_rounds rules v k l (Message.Vote x) (BoardAnswer.BadVotes place) f i b p = subst (BoardRounds v) (sym p.3) b
-receives_rounds rules v k l (Message.Ask q) BoardAnswer.Asked f i b p = subst (BoardRounds v) (sym p) b
+receives_rounds rules v k l (Message.Vote x) (BoardAnswer.BadVotes place) f i b p = rw p.3 b
+receives_rounds rules v k l (Message.Ask q) BoardAnswer.Asked f i b p = rw p b
 receives_rounds rules v k l _ _ f i b p = absurd p
 
 fresh_rounds : (v : AllVotes) → BoardRounds v fresh_board
@@ -75,8 +60,8 @@ module _ {Disk Why : Type 0} (s : Setting Disk Why) where
   at_board_rounds : (v : AllVotes) (sent : List Message) (event : Event) (k l : BoardState) (answer : Answer Why) (out : List Message) → Each (MessageFine v) sent
       → BoardFine v k → BoardRounds v k → AtBoard s sent event k answer l out → BoardRounds v l
   at_board_rounds v sent (Event.Give n t) k l answer out f b r p = receives_rounds s.rules v k l p.0 p.1 b (given_fine v sent n p.0 f p.2) r p.3
-  at_board_rounds v sent (Event.Tick t) k l answer out f b r p = subst (BoardRounds v) (sym p.2) r
-  at_board_rounds v sent (Event.Wipe n) k l answer out f b r p = subst (BoardRounds v) (sym p.0) (fresh_rounds v)
+  at_board_rounds v sent (Event.Tick t) k l answer out f b r p = rw p.2 r
+  at_board_rounds v sent (Event.Wipe n) k l answer out f b r p = rw p.0 (fresh_rounds v)
   at_board_rounds v sent _ k l answer out f b r p = absurd p
 
   step_rounds : (w : Configuration Disk) (event : Event) (t : Station) (answer : Answer Why) (new : Configuration Disk) → Fine s w → AllRounds w

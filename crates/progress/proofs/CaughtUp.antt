@@ -1,15 +1,15 @@
 -- A board catches up with the desks after as many exchanges as it is positions behind.
-use Rattle.std.proofs.Common.{◌≡◌, ◌⊎◌, ◌<◌, ◌≤◌, ◌+◌, ◌-◌, ℕ, zero, suc, Some, List, [], ◌∷◌, ◌++◌, length, refl, sym, ap, ◌∙◌, subst, inl, inr, arith}
+use Rattle.std.proofs.Common.{◌*◌, ◌≡◌, ◌⊎◌, ◌≤◌, ◌+◌, ◌-◌, ℕ, zero, suc, Some, List, [], ◌∷◌, ◌++◌, length, refl, sym, ap, ◌∙◌, subst, inl, inr, arith}
 use Rattle.notation.specs.declared.entry.Entry.{Entry}
 use Rattle.agree_core.specs.declared.{messages.DeskId.DeskId, position.Position.Position}
 use Rattle.agree_core.specs.declared.messages.DeskId.TheVariants.{A, B}
 use Rattle.agree_core.specs.Agreed.{AllBoth, IsAgreedList}
-use Rattle.agree_core.specs.Ballots.{AllJustified, AllVotes, Ballot, In, Justified, ballot_at, votes_by}
+use Rattle.agree_core.specs.Ballots.{AllJustified, AllVotes, Ballot, In, ballot_at, votes_by}
 use Rattle.agree_core.specs.Boards.{BoardState}
 use Rattle.agree_core.specs.Keeping.{BoardFine}
 use Rattle.agree_core.specs.Positions.{Before, next_place, next_round}
 use Rattle.agree_core.proofs.Settling.{agreed_once}
-use Rattle.agree_core.proofs.Order.{earlier, not_before, one_vote}
+use Rattle.agree_core.proofs.Order.{one_vote}
 use Rattle.headline.specs.declared.{event.Station.Station, version.FileVersion.FileVersion}
 use Rattle.headline.specs.Configurations.{Configuration, all_votes, board_at}
 use Rattle.headline.specs.Runs.{Begins, Moment, Run, last_of}
@@ -24,37 +24,11 @@ use Rattle.progress.specs.Progress.{BoardsFollow}
 use Rattle.progress.proofs.Boards.{AllRounds, begins_rounds, rounds_of, run_rounds}
 use Rattle.progress.proofs.BoardTrips.{board_goes, board_listens, ear}
 use Rattle.progress.proofs.CalmRuns.{CalmRun, Steady, calm_split, ends, last_split, run_join, run_split, steady_votes}
-use Rattle.progress.proofs.CalmSeats.{before_trans, place_later, round_later}
 use Rattle.progress.proofs.Followed.{agreed_board, all_sound, lacks}
 use Rattle.progress.proofs.Near.{ordered}
 use Rattle.progress.proofs.Rounds.{RoundsFine, one_round_more, passed, same_entry}
 use Rattle.progress.proofs.Settled.{steady}
-use Rattle.progress.proofs.Exchanges.{Done, NoVote, exchange_brings}
-
--- so many of these votes, each for an earlier position than the one before it, and all for positions before this one
-abbrev pub Chain : List Ballot → ℕ → Position → Type 0
-Chain votes zero p = Unit {0}
-Chain votes (suc m) p = (b : Ballot) × In b votes × Before b.at p × Chain votes m b.at
-
--- those before the newest vote are among the others
-shorter : (theirs : List Ballot) (c : Ballot) (cs : List Ballot) → Justified theirs (c ∷ cs) → (m : ℕ) (p : Position) → NotBack p c.at
-    → Chain (c ∷ cs) m p → Chain cs m p
-shorter theirs c cs j zero p n h = tt
-shorter theirs c cs j (suc m) p n (b, inl e, lo, rest) = grind (arith, not_before, before_trans)
-shorter theirs c cs j (suc m) p n (b, inr i, lo, rest) = search (arith, earlier, (shorter theirs c cs j m b.at (inr (earlier theirs c cs j b i)) rest))
-
-pub chain_fits : (theirs votes : List Ballot) → Justified theirs votes → (m : ℕ) (p : Position) → Chain votes m p → m ≤ length votes
-chain_fits theirs [] j zero p h = omega arith
-chain_fits theirs [] j (suc m) p h = absurd h.1
-chain_fits theirs (c ∷ cs) j zero p h = omega arith
-chain_fits theirs (c ∷ cs) j (suc m) p (b, inl e, lo, rest) =
-    let at : NotBack b.at c.at = inl (sym (ap (λ (x : Ballot). x.at) e)) in
-    let less = chain_fits theirs cs j.2 m b.at (shorter theirs c cs j m b.at at rest) in
-    omega (arith, less)
-chain_fits theirs (c ∷ cs) j (suc m) p (b, inr i, lo, rest) =
-    let inner = shorter theirs c cs j m b.at (inr (earlier theirs c cs j b i)) rest in
-    let less = chain_fits theirs cs j.2 (suc m) p (b, i, lo, inner) in
-    omega (arith, less)
+use Rattle.progress.proofs.Exchanges.{Done, NoVote, exchange_brings, in_range_or_full, none_full}
 
 -- a vote of this position, or none
 pub voted_or_not : (votes : List Ballot) (p : Position) → ((e : Entry) × In (record { at = p; entry = e }) votes) ⊎ NoVote votes p
@@ -63,37 +37,32 @@ voted_or_not (b ∷ bs) p = elim (ordered b.at p) [
   | inl e ↦ inl (b.entry, inl (ap (λ (q : Position). record { at = q; entry = b.entry }) (sym e)))
   | inr o ↦ elim (voted_or_not bs p) [
     | inl h ↦ inl (h.0, inr h.1)
-    | inr n ↦ inr (none o n)
+    | inr n ↦ inr (λ f i. elim i [ inl e ↦ grind arith | inr k ↦ n f k ])
   ]
 ]
-  where
-    none : Before b.at p ⊎ Before p b.at → NoVote bs p → NoVote (b ∷ bs) p
-    none (inl o) n f (inl e) = not_before b.at p (sym (ap (λ (c : Ballot). c.at) e)) o
-    none (inr o) n f (inl e) = not_before p b.at (ap (λ (c : Ballot). c.at) e) o
-    none o n f (inr i) = n f i
 
--- a position is some number of positions behind
-behind_from : (v : AllVotes) → AllJustified v → (fuel m : ℕ) (p : Position) → Chain v.a m p → length v.a < m + fuel → (n : ℕ) × IsBehindBy v p n
-behind_from v j zero m p c less = absurd (let fits = chain_fits v.b v.a j.0 m p c in omega (arith, fits, less))
-behind_from v j (suc fuel) m p c less = elim (voted_or_not v.a p) [
-  | inr n ↦ (zero, λ h. n (h A).0 (h A).1)
-  | inl a ↦ elim (voted_or_not v.b p) [
-    | inr n ↦ (zero, λ h. n (h B).0 (h B).1)
-    | inl b ↦
-        let more : length v.a < suc m + fuel = omega (arith, less) in
-        elim (same_entry a.0 b.0) [
-          | inl e ↦
-              let r = behind_from v j fuel (suc m) (next_place p) (record { at = p; entry = a.0 }, a.1, place_later p, c) more in
-              (suc r.0, (a.0, b.0, next_place p, a.1, b.1, inl (e, refl), r.1))
-          | inr d ↦
-              let r = behind_from v j fuel (suc m) (next_round p) (record { at = p; entry = a.0 }, a.1, round_later p, c) more in
-              (suc r.0, (a.0, b.0, next_round p, a.1, b.1, inr (d, refl), r.1))
-        ]
+-- a position is some number of positions behind, since those at which both voted are in range
+behind_from : (v : AllVotes) → AllJustified v → (fuel : ℕ) (p : Position) → 8192 * 256 ≤ p.place * 256 + p.round + fuel → (n : ℕ) × IsBehindBy v p n
+behind_from v j zero p less = elim (in_range_or_full p) [
+  | inr full ↦ (zero, λ h. none_full v.b v.a p j.0 full (h A).0 (h A).1)
+  | inl range ↦ absurd (omega (arith, less, range))
+]
+behind_from v j (suc fuel) p less = elim (in_range_or_full p) [
+  | inr full ↦ (zero, λ h. none_full v.b v.a p j.0 full (h A).0 (h A).1)
+  | inl range ↦ elim (voted_or_not v.a p) [
+    | inr n ↦ (zero, λ h. n (h A).0 (h A).1)
+    | inl a ↦ elim (voted_or_not v.b p) [
+      | inr n ↦ (zero, λ h. n (h B).0 (h B).1)
+      | inl b ↦ elim (same_entry a.0 b.0) [
+        | inl e ↦ let r = behind_from v j fuel (next_place p) (omega (arith, less, range)) in (suc r.0, (a.0, b.0, next_place p, a.1, b.1, inl (e, refl), r.1))
+        | inr d ↦ let r = behind_from v j fuel (next_round p) (omega (arith, less, range)) in (suc r.0, (a.0, b.0, next_round p, a.1, b.1, inr (d, refl), r.1))
+      ]
+    ]
   ]
 ]
 
 pub some_behind : (v : AllVotes) → AllJustified v → (p : Position) → (n : ℕ) × IsBehindBy v p n
-some_behind v j p = behind_from v j (length v.a + 1) 0 p tt (omega arith)
+some_behind v j p = behind_from v j (8192 * 256) p (omega arith)
 
 -- it is so many positions behind, or fewer
 abbrev pub AtMost : AllVotes → Position → ℕ → Type 0

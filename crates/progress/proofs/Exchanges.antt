@@ -5,7 +5,7 @@ use Rattle.agree_core.specs.declared.{messages.Ask.Ask, messages.Asker.Asker, me
 use Rattle.agree_core.specs.Ballots.{AllVotes, Ballot, In, Justified, ballot_at, vote_of, votes_by}
 use Rattle.agree_core.specs.Desks.{DeskState, ReceiveAnswer, Receives, Replies, ask_for}
 use Rattle.agree_core.specs.Keeping.{DeskFine, Each}
-use Rattle.agree_core.specs.Positions.{Before, IsFull, position_of}
+use Rattle.agree_core.specs.Positions.{Before, InRange, IsFull, position_of}
 use Rattle.agree_core.specs.Readers.{other}
 use Rattle.headline.specs.declared.{event.Event.Event, event.Station.Station}
 use Rattle.headline.specs.Configurations.{Configuration, all_votes, node}
@@ -23,6 +23,9 @@ use Rattle.progress.proofs.CalmRuns.{CalmRun, Steady, last_out, given_at, last_s
 -- nothing is cast at this position
 abbrev pub NoVote : List Ballot → Position → Type 0
 NoVote votes p = (f : Entry) → In (record { at = p; entry = f }) votes → ⊥
+
+pub in_range_or_full : (p : Position) → InRange p ⊎ IsFull p
+in_range_or_full p = grind arith
 
 -- a full position has no votes
 pub none_full : (theirs votes : List Ballot) (p : Position) → Justified theirs votes → IsFull p → NoVote votes p

@@ -2,12 +2,12 @@
 use Rattle.std.proofs.Common.{◌≡◌, ◌≢◌, ◌⊎◌, ◌<◌, ◌≤◌, ◌+◌, ◌-◌, ℕ, zero, suc, Option, Some, None, List, [], ◌∷◌, ◌++◌, length, length-append, append_assoc, refl, sym, ap, ◌∙◌, subst, inl, inr, arith}
 use Rattle.std.specs.Prelude.{slice_get}
 use Rattle.notation.specs.declared.entry.Entry.{Entry}
-use Rattle.agree_core.specs.declared.{messages.Asker.Asker, messages.DeskId.DeskId, messages.Message.Message, messages.Vote.Vote, position.Position.Position, seat.Heard.Heard}
+use Rattle.agree_core.specs.declared.{messages.Asker.Asker, messages.DeskId.DeskId, messages.Message.Message, messages.Vote.Vote, seat.Heard.Heard}
 use Rattle.agree_core.specs.declared.messages.DeskId.TheVariants.{A, B}
 use Rattle.agree_core.specs.Ballots.{AllVotes, ballot_at, vote_of}
 use Rattle.agree_core.specs.Desks.{ReceiveAnswer, Replies, Ticks, ask_for, ask_other, asker, book_heard, own_vote}
 use Rattle.agree_core.specs.FileView.{FileView, Stays}
-use Rattle.agree_core.specs.Positions.{InRange, IsFull, next_place, next_round, position_of}
+use Rattle.agree_core.specs.Positions.{next_place, next_round, position_of}
 use Rattle.agree_core.specs.Boards.{BoardAnswer, BoardReceives, BoardState, BoardTicks}
 use Rattle.agree_core.specs.Readers as readers
 use Rattle.agree_core.specs.Readers.{Listens, ReaderState, noted_of, other, reading}
@@ -25,6 +25,7 @@ use Rattle.headline.specs.Steps.{Step}
 use Rattle.progress.specs.Calm.{IsCalm}
 use Rattle.progress.specs.Exchange.{Amid, Exchange, HandsOut, HasExchanges, IsAnswered, Reaches}
 use Rattle.progress.specs.Progress.{MayHear}
+use Rattle.progress.proofs.Exchanges.{in_range_or_full}
 use Rattle.progress.proofs.CalmRuns.{CalmRun, Steady, ends, join, last_split, run_keeps_sent, step_sent}
 use Rattle.progress.proofs.CaughtUp.{voted_or_not}
 use Rattle.progress.proofs.Settled.{steady}
@@ -75,9 +76,6 @@ listens r v = elim (ordered (position_of v) r.position) [
       | inl z ↦ inr (reading (next_place r.position), (at, q, m ∙ ap Some (sym z), refl))
       | inr d ↦ inl (Heard.Differ, reading (next_round r.position), (at, q, (e, m, d), refl), λ e. cc)
     ]
-
-in_range_or_full : (p : Position) → InRange p ⊎ IsFull p
-in_range_or_full p = grind arith
 
 stays : {Disk : Type 0} → (view : FileView Disk) (disk : Disk) → Stays view disk disk
 stays view disk = (refl, λ image. (λ i. i, λ i. i))
