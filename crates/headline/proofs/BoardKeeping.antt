@@ -1,5 +1,5 @@
 -- What is so of each item of a list, and of each board.
-use Rattle.std.proofs.Common.{arith, ◌≡◌, ℕ, zero, suc, Some, List, [], ◌∷◌, ◌++◌, subst}
+use Rattle.std.proofs.Common.{arith, ◌≡◌, ℕ, zero, suc, Some, List, [], ◌∷◌, ◌++◌}
 use Rattle.std.specs.Prelude.{slice_get, slice_set}
 use Rattle.agree_core.specs.Ballots.{AllVotes}
 use Rattle.agree_core.specs.Boards.{BoardState, fresh_board}
@@ -15,14 +15,12 @@ each_other P Q f [] h = tt
 each_other P Q f (x ∷ xs) h = (f x h.0, each_other P Q f xs h.1)
 
 pub item_at : {X : Type 0} (P : X → Type 0) (xs : List X) (n : ℕ) (x : X) → slice_get xs n ≡ Some x → Each P xs → P x
-item_at P [] n m e h = absurd (cc)
-item_at P (x ∷ xs) zero m e h = let q : x ≡ m = cc in subst P q h.0
 item_at P (x ∷ xs) (suc n) m e h = item_at P xs n m e h.1
+item_at h0 h1 n m e h = grind arith
 
 item_set : {X : Type 0} (P : X → Type 0) (xs : List X) (n : ℕ) (x : X) → P x → Each P xs → Each P (slice_set xs n x)
-item_set P [] n k p h = tt
-item_set P (x ∷ xs) zero k p h = (p, h.1)
 item_set P (x ∷ xs) (suc n) k p h = (h.0, item_set P xs n k p h.1)
+item_set h0 h1 n k p h = grind arith
 
 pub board_in : (P : BoardState → Type 0) (boards : List BoardState) (n : ℕ) (k : BoardState) → board_at boards n ≡ Some k → Each P boards → P k
 board_in P boards n k h0 h1 = grind (arith, item_at)

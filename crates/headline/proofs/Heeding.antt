@@ -1,5 +1,5 @@
 -- What a seat and a reader make of a vote; which board or station another one is.
-use Rattle.std.proofs.Common.{◌≡◌, ◌≢◌, ◌⊎◌, ◌+◌, ℕ, zero, suc, Option, Some, None, List, [], ◌∷◌, refl, ap, ◌∙◌, arith}
+use Rattle.std.proofs.Common.{◌≡◌, ◌≢◌, ◌⊎◌, ◌+◌, ℕ, suc, Option, Some, None, List, ◌∷◌, ap, ◌∙◌, arith}
 use Rattle.std.specs.Prelude.{slice_get, slice_set}
 use Rattle.notation.specs.declared.entry.Entry.{Entry}
 use Rattle.agree_core.specs.declared.{messages.DeskId.DeskId, messages.Vote.Vote, position.Position.Position, seat.Heard.Heard}
@@ -14,19 +14,15 @@ use Rattle.headline.specs.Configurations.{board_at, with_board}
 use Rattle.headline.specs.Kept.{kept_by_seat}
 
 set_other : (xs : List BoardState) (m n : ℕ) (l : BoardState) → m ≢ n → slice_get (slice_set xs m l) n ≡ slice_get xs n
-set_other [] m n l h = refl
-set_other (x ∷ xs) zero zero l h = absurd (h refl)
-set_other (x ∷ xs) zero (suc n) l h = refl
-set_other (x ∷ xs) (suc m) zero l h = refl
 set_other (x ∷ xs) (suc m) (suc n) l h = set_other xs m n l (λ e. h (ap suc e))
+set_other h0 m n l h = grind arith
 
 pub board_other : (boards : List BoardState) (m n : ℕ) (l : BoardState) → m ≢ n → board_at (with_board boards m l) n ≡ board_at boards n
 board_other boards m n l h0 = grind (arith, set_other)
 
 set_there : (xs : List BoardState) (n : ℕ) (k l : BoardState) → slice_get xs n ≡ Some k → slice_get (slice_set xs n l) n ≡ Some l
-set_there [] n k l e = absurd (cc)
-set_there (x ∷ xs) zero k l e = refl
 set_there (x ∷ xs) (suc n) k l e = set_there xs n k l e
+set_there h0 n k l e = grind arith
 
 pub board_put : (boards : List BoardState) (n : ℕ) (k l : BoardState) → board_at boards n ≡ Some k → board_at (with_board boards n l) n ≡ Some l
 board_put boards n k l h0 = grind (arith, set_there)

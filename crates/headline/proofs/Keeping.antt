@@ -18,7 +18,7 @@ use Rattle.headline.specs.Configurations.{Process, Running, Down, Node, Configur
 use Rattle.headline.specs.Events.{station_of}
 use Rattle.headline.specs.Answers.{Answer}
 use Rattle.headline.specs.DeskFaults.{Breaks, FallsDue, LosesPower, StaysDownBy}
-use Rattle.headline.specs.Migrations.{MigratesAt, ToNew, NotSound, Failed}
+use Rattle.headline.specs.Migrations.{MigratesAt, ToNew}
 use Rattle.headline.specs.DeskSteps.{AtDesk}
 use Rattle.headline.specs.BoardSteps.{AtBoard}
 use Rattle.headline.specs.Steps.{Step, StepAt}
@@ -123,10 +123,8 @@ module _ {Disk Why : Type 0} (s : Setting Disk Why) where
           let w = subst (λ (z : Process Disk). Within (process_votes z) votes) (sym e) (same votes) in
           let fine : DiskFine (s.view d New) d theirs votes new = ((found, o.1.0, more), λ shown i. (found, o.1.1 shown i, more)) in
           subst (λ (z : Node Disk). KeptAt z []) (sym p.1) (record { fine = (g.0, fine); grows = w; told = tt })
-      migrates_at Old answer y q (NotSound left, o, p) = down_from y left x.due (old_synced left q o.1) p.1
-      migrates_at Old answer y q (Failed left, o, p) =
-          stays_down y left p.0 answer (old_synced left q o) (subst (λ (version : FileVersion). StaysDownBy (s.view d version) x p.0 votes left answer y) (sym q) p.2)
       migrates_at New answer y q p = subst (λ (z : Node Disk). KeptAt z []) (sym p.1) (record { fine = f; grows = same (process_votes x.process); told = tt })
+      migrates_at h0 answer y q p = grind (arith, down_from, old_synced, stays_down)
 
   -- every event at a desk keeps it fine
   pub at_desk_keeps : (sent : List Message) (d : DeskId) (theirs : List Ballot) (event : Event) (x : Node Disk) (answer : Answer Why) (y : Node Disk) (out : List Message)

@@ -1,7 +1,6 @@
 -- In each run seats and readers keep just what is noted.
 use Rattle.std.proofs.Common.{inl, inr, arith, ◌≡◌, ℕ, zero, suc, None, option_and_then, List, [], ◌∷◌, refl, ap, ◌∙◌}
 use Rattle.agree_core.specs.declared.messages.{DeskId.DeskId}
-use Rattle.agree_core.specs.declared.messages.DeskId.TheVariants.{A, B}
 use Rattle.agree_core.specs.Boards.{BoardState}
 use Rattle.agree_core.specs.Readers.{noted_of}
 use Rattle.headline.specs.declared.{event.Station.Station, version.FileVersion.FileVersion}
@@ -38,9 +37,8 @@ module _ {Disk Why : Type 0} (s : Setting Disk Why) where
   begins_at_none version d x c h0 = grind arith
 
   begins_none : (version : FileVersion) (n : ℕ) (w : Configuration Disk) → Begins s version n w → (t : Station) (c : DeskId) → kept_at w t c ≡ None
-  begins_none version n w e (Station.Desk A) c = begins_at_none version A w.a c e.a
-  begins_none version n w e (Station.Desk B) c = begins_at_none version B w.b c e.b
   begins_none version n w e (Station.Board i) c = ap (λ (z : List BoardState). option_and_then (λ (k : BoardState). noted_of k.reader c) (board_at z i)) e.boards_are_fresh ∙ fresh_kept n i c
+  begins_none version n w e h4 c = grind (arith, begins_at_none)
 
   pub keeps_noted : (version : FileVersion) (n : ℕ) (w : Configuration Disk) (ms : List (Moment Disk Why)) → Begins s version n w → Run s w ms → KeepsNoted s w ms
   keeps_noted version n w [] e r t c b = (λ h. absurd h, λ k. absurd (some_none (kept_at w t c) b.entry (begins_none version n w e t c) k.1))

@@ -15,10 +15,9 @@ use Rattle.agree_core.specs.Seats.{Casts, SeatState}
 use Rattle.headline.specs.Given.{IsGiven}
 use Rattle.headline.proofs.Given.{given_vote}
 use Rattle.headline.specs.declared.{event.Event.Event, event.Station.Station, fault.Fault.Fault, version.FileVersion.FileVersion}
-use Rattle.headline.specs.declared.fault.Fault.TheVariants.{Fail, Stop}
 use Rattle.headline.specs.Events.{station_of}
 use Rattle.headline.specs.Setting.{Setting}
-use Rattle.headline.specs.Configurations.{Process, Running, Down, Node, Configuration, board_at, node, process_disk, process_votes, all_votes, with_node}
+use Rattle.headline.specs.Configurations.{Process, Running, Down, Node, Configuration, board_at, node, process_disk, all_votes, with_node}
 use Rattle.headline.specs.Answers.{Answer, board_told}
 use Rattle.headline.specs.DeskFaults.{Breaks, FallsDue, StaysDownBy}
 use Rattle.headline.specs.Migrations.{MigratesAt}
@@ -112,12 +111,7 @@ module _ {Disk Why : Type 0} (s : Setting Disk Why) where
         goes_more (Station.Desk d) k.position l.position (λ c. kept_by_seat k d c) (λ c. kept_by_seat l d c) d e r.on r.from r.to
         (ap (λ (z : SeatState). z.position) q) (inr (refl, p)) i (own_kept k d ∙ none) (own_kept l d ∙ ap (λ (z : SeatState). z.mine) q)
         (their_kept l d (other d) (other_not d) ∙ theirs ∙ sym (their_kept k d (other d) (other_not d)))
-    casts d k l e Settled.Agreed r p i none c =
-        let at = next_place_differs k.position l.position (ap (λ (z : SeatState). z.position) c.1) in
-        runs_far d k l r at (ap (λ (z : SeatState). z.mine) c.1) (ap (λ (z : SeatState). z.theirs) c.1)
-    casts d k l e Settled.Differ r p i none c =
-        let at = next_round_differs k.position l.position (ap (λ (z : SeatState). z.position) c.1) in
-        runs_far d k l r at (ap (λ (z : SeatState). z.mine) c.1) (ap (λ (z : SeatState). z.theirs) c.1)
+    casts d k l e h4 r p i none c = grind (arith, next_place_differs, runs_far, next_round_differs)
 
     -- the vote of the message that was given
     same_vote : (n : ℕ) (t : Station) (v : Vote) (c : DeskId) (b : Ballot) → m.event ≡ Event.Give n t → slice_get w.sent n ≡ Some (Message.Vote v)
@@ -167,21 +161,14 @@ module _ {Disk Why : Type 0} (s : Setting Disk Why) where
           → Pens (s.view d (node w d).version) s.rules k e told l out → AfterPen (s.view d (node w d).version) (node w d) told l m.answer y → Leaves s w m (Station.Desk d)
       pens k l e (PenAnswer.Penned settled) out p q r a =
           casts d k.seat l.seat e settled (runs_from k l (λ x. cc) q (ap (λ (z : Node Disk). z.process) a.1)) p (subst IsVoteAnswer (sym a.0) tt) r.0.0.1 r.1.0
-      pens k l e (PenAnswer.Refused why) out p q r a =
-          unheard k l (Answer.NotPenned why) (λ x. cc) q (ap (λ (z : Node Disk). z.process) a.1) (ap (λ (z : DeskState Disk). z.seat) r.1.1) a.0 (λ x. x)
-      pens k l e PenAnswer.DeviceFailed out p q r a = breaks k l (λ x. cc) q (ap (λ (z : DeskState Disk). z.seat) r.2) a
+      pens k l e h3 out p q r a = grind (arith, unheard, breaks)
 
       given : (n : ℕ) (k l : DeskState Disk) (v : Message) (told : ReceiveAnswer) (out : List Message) → m.event ≡ Event.Give n (Station.Desk d) → k.seat.desk ≡ d
           → (node w d).process ≡ Running k → IsGiven w.sent n v → Receives (s.view d (node w d).version) k v told l out
           → AfterReceive (s.view d (node w d).version) (node w d) told l out m.answer y → Leaves s w m (Station.Desk d)
-      given n k l v ReceiveAnswer.Failed out p desk q sent r a =
-          unheard k l Answer.HasFailed (λ x. cc) q (ap (λ (z : Node Disk). z.process) a.1) (ap (λ (z : DeskState Disk). z.seat) r.1.1) a.0 (λ x. x)
       given n k l (Message.Vote v) (ReceiveAnswer.Told h) out p desk q sent r a =
           heeded n d k.seat l.seat v p desk (runs_from k l (λ x. cc) q (ap (λ (z : Node Disk). z.process) a.1)) (given_vote w.sent n v sent) (subst IsVoteAnswer (sym a.0) tt) (heeds k.seat l.seat v h r.1)
-      given n k l (Message.Ask v) ReceiveAnswer.Asked out p desk q sent r a =
-          unheard k l (Answer.Asked _) (λ x. cc) q (ap (λ (z : Node Disk). z.process) a.1) (ap (λ (z : DeskState Disk). z.seat) r.1.1) a.0 (λ x. x)
-      given n k l (Message.Ask v) ReceiveAnswer.DeviceFailed out p desk q sent r a = breaks k l (λ x. cc) q (ap (λ (z : DeskState Disk). z.seat) r.2) a
-      given n k l _ _ out p desk q sent r a = absurd r
+      given n k l v h4 out p desk q sent r a = grind (arith, unheard, breaks)
 
       -- a desk that begins keeps its last vote alone
       opens : (k : DeskState Disk) (votes : List Ballot) (n : ℕ) → m.event ≡ Event.Open d → y.process ≡ Running k → k.seat ≡ seat_of d votes → m.answer ≡ Answer.Opened n
@@ -257,16 +244,7 @@ module _ {Disk Why : Type 0} (s : Setting Disk Why) where
         let fine = running s (node w d).version d (votes_by (all_votes w) (other d)) (node w d).process p.0 p.4 (node_fine s w d f) in
         let seat = fine.seat in
         given d y t n p.0 p.1 p.2 p.3 out (q ∙ ap (Event.Give n) h) seat.desk p.4 p.5 p.6 p.7
-    desk_leaves d (Event.Tick u) y out f q h t p =
-        idle d y t (λ e. cc) (ap (λ (z : Node Disk). process_position z.process) p.4) (λ c. ap (λ (z : Node Disk). kept_by_process z.process d c) p.4)
-        (not_brought (Station.Desk d) (λ n e. cc) (λ c e g. cc))
-    desk_leaves d (Event.Kill c) y out f q h t p = let g = p.2 in down_there d y t (process_votes (node w d).process) g.0 (ap (λ (z : Node Disk). z.process) g.2)
-    desk_leaves d (Event.Power c choice) y out f q h t p = down_there d y t (process_votes (node w d).process) p.0 (ap (λ (z : Node Disk). z.process) p.2)
-    desk_leaves d (Event.FailAt c n) y out f q h t p = falls_due d y t Fail (λ e. cc) (not_brought (Station.Desk d) (λ i e. cc) (λ b e g. cc)) p.0
-    desk_leaves d (Event.StopAt c n) y out f q h t p = falls_due d y t Stop (λ e. cc) (not_brought (Station.Desk d) (λ i e. cc) (λ b e g. cc)) p.0
-    desk_leaves d (Event.Open c) y out f q h t p = let same : c ≡ d = cc in opened d y t p.0 p.1 p.2 (q ∙ ap Event.Open same) p.3 p.4 p.5
-    desk_leaves d (Event.Migrate c) y out f q h t p = migrates d y t (node w d) (node w d).version p.0 p.1 p.2 p.3
-    desk_leaves d (Event.Wipe n) y out f q h t p = absurd p
+    desk_leaves d h1 y out f q h t p = grind (arith, idle, not_brought, down_there, falls_due, opened, migrates)
 
     -- what a step at a board leaves there
     module _ (n : ℕ) (k l : BoardState) (here : board_at w.boards n ≡ Some k) (is : board_at m.after.boards n ≡ Some l) where
@@ -293,9 +271,7 @@ module _ {Disk Why : Type 0} (s : Setting Disk Why) where
       board_given : (i : ℕ) (v : Message) (told : BoardAnswer) → m.event ≡ Event.Give i (Station.Board n) → IsGiven w.sent i v → m.answer ≡ board_told told
           → BoardReceives s.rules k v told l → Leaves s w m (Station.Board n)
       board_given i (Message.Vote v) (BoardAnswer.Told h) given sent a r = read i v given (given_vote w.sent i v sent) (subst IsVoteAnswer (sym a) tt) (reads k.reader l.reader v h r.0)
-      board_given i (Message.Vote v) (BoardAnswer.BadVotes place) given sent a r = grind (arith, board_stays)
-      board_given i (Message.Ask v) BoardAnswer.Asked given sent a r = board_stays (λ e. cc) (ap (λ (z : BoardState). z.reader) r) (λ c b j none. subst IsVoteAnswer a j.2)
-      board_given i _ _ given sent a r = absurd r
+      board_given i h1 h2 given sent a r = grind (arith, board_stays)
 
       -- a board that was wiped
       wiped : m.event ≡ Event.Wipe n → l ≡ fresh_board → Leaves s w m (Station.Board n)
@@ -304,6 +280,4 @@ module _ {Disk Why : Type 0} (s : Setting Disk Why) where
     pub board_leaves : (n : ℕ) (event : Event) (k l : BoardState) (out : List Message) → m.event ≡ event → station_of event ≡ Station.Board n
         → board_at w.boards n ≡ Some k → board_at m.after.boards n ≡ Some l → AtBoard s w.sent event k m.answer l out → Leaves s w m (Station.Board n)
     board_leaves n (Event.Give i u) k l out e h p q r = board_given n k l p q i r.0 r.1 (e ∙ ap (Event.Give i) h) r.2 r.4 r.3
-    board_leaves n (Event.Tick u) k l out e h p q r = grind (arith, board_stays, not_brought)
-    board_leaves n (Event.Wipe i) k l out e h p q r = let same : i ≡ n = cc in wiped n k l p q (e ∙ ap Event.Wipe same) r.0
-    board_leaves n _ k l out e h p q r = absurd r
+    board_leaves n h1 k l out e h p q r = grind (arith, board_stays, not_brought, wiped)

@@ -6,11 +6,11 @@ use Rattle.agree_core.specs.Ballots.{Ballot, In}
 use Rattle.agree_core.specs.Desks.{DeskState, MayPen, PenAnswer, Pens, ReceiveAnswer, Receives, next_ballot}
 use Rattle.agree_core.specs.FileView.{FileView, Stays}
 use Rattle.agree_core.specs.Openings.{Opening, Opens}
-use Rattle.headline.specs.declared.{event.Event.Event, event.Station.Station, fault.Fault.Fault, version.FileVersion.FileVersion}
+use Rattle.headline.specs.declared.{event.Event.Event, event.Station.Station, version.FileVersion.FileVersion}
 use Rattle.headline.specs.Setting.{Setting}
 use Rattle.headline.specs.Configurations.{Process, Running, Node, Configuration, node, process_disk, process_votes, with_disk}
 use Rattle.headline.specs.Answers.{Answer}
-use Rattle.headline.specs.DeskFaults.{Breaks, LosesPower, StaysDownBy}
+use Rattle.headline.specs.DeskFaults.{LosesPower}
 use Rattle.headline.specs.Migrations.{MigratesAt}
 use Rattle.headline.specs.DeskSteps.{AtDesk}
 use Rattle.headline.specs.Events.{station_of}
@@ -65,17 +65,12 @@ module _ {Disk Why : Type 0} (s : Setting Disk Why) where
   NodeHolds Q view y = ProcessHolds Q (view y.version) y.process
 
   module _ (Q : List Ballot → Type 0) (view : FileVersion → FileView Disk) (x : Node Disk) (answer : Answer Why) (y : Node Disk) where
-    broken : (l : DeskState Disk) → DeskHolds Q (view x.version) l → Breaks (view x.version) x l answer y → NodeHolds Q view y
-    broken l h0 h1 = grind arith
 
     after_pen : (l : DeskState Disk) (told : PenAnswer Why) → DeskHolds Q (view x.version) l → AfterPen (view x.version) x told l answer y → NodeHolds Q view y
     after_pen l told h0 h1 = grind arith
 
     after_receive : (l : DeskState Disk) (told : ReceiveAnswer) (out : List Message) → DeskHolds Q (view x.version) l → AfterReceive (view x.version) x told l out answer y → NodeHolds Q view y
     after_receive l told out h0 h1 = grind arith
-
-    stays_down : (fault : Fault) (votes : List Ballot) (left : Disk) → HeldBy Q (view x.version) votes left → StaysDownBy (view x.version) x fault votes left answer y → NodeHolds Q view y
-    stays_down fault votes left h0 h1 = grind arith
 
     after_open : (d : DeskId) (votes : List Ballot) (old : Disk) (opening : Opening Disk) → HeldBy Q (view x.version) votes old → Opens (view x.version) s.rules d old opening
         → AfterOpen (view x.version) x votes opening answer y → NodeHolds Q view y

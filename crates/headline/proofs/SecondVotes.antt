@@ -59,10 +59,6 @@ module _ {Disk Why : Type 0} (s : Setting Disk Why) where
       → Shows new (Station.Desk d) book
   shows_at w new d y out book h0 h1 = grind arith
 
-  -- a desk that runs on shows its book
-  runs_on : (x y : Node Disk) (l : DeskState Disk) (book : List Entry) → y ≡ record x { process = Running l } → l.book ≡ book → process_shows y.process book
-  runs_on x y l book e h = subst (λ (z : Node Disk). process_shows z.process book) (sym e) h
-
   after_vote : (d : DeskId) (x : Node Disk) (k l : DeskState Disk) (v : Vote) (told : ReceiveAnswer) (out : List Message) (answer : Answer Why) (y : Node Disk) → IsVoteAnswer answer
       → v.desk ≢ k.seat.desk → position_of v ≡ k.seat.position → k.seat.mine ≡ Some v.entry → k.seat.theirs ≡ None → Receives (s.view d x.version) k (Message.Vote v) told l out
       → AfterReceive (s.view d x.version) x told l out answer y → process_shows y.process (k.book ++ v.entry ∷ [])

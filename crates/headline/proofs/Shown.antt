@@ -29,11 +29,10 @@ module _ {Disk Why : Type 0} (s : Setting Disk Why) where
 
   -- for each entry of a book that is shown both have a vote
   pub shown_both : (w : Configuration Disk) (t : Station) (book : List Entry) → Fine s w → Shows w t book → AllBoth (all_votes w).a (all_votes w).b 0 book
-  shown_both w (Station.Desk A) book f h = process_both w.a.version A (all_votes w).b w.a.process book f.on_a h
-  shown_both w (Station.Desk B) book f h = both_turned (all_votes w).b (all_votes w).a 0 book (process_both w.b.version B (all_votes w).a w.b.process book f.on_b h)
   shown_both w (Station.Board n) book f h =
       let k = board_fine_at (all_votes w) w.boards n h.0 h.1 f.on_boards in
       subst (AllBoth (all_votes w).a (all_votes w).b 0) h.2 k.both
+  shown_both w h1 book f h = grind (arith, process_both, both_turned)
 
   pub shown_settled : (w : Configuration Disk) (t : Station) (book : List Entry) → Fine s w → Shows w t book → AllSettled (all_votes w) 0 book
   shown_settled w t book f h = both_settled (all_votes w) (all_justified s w f) 0 book (shown_both w t book f h)

@@ -22,7 +22,7 @@ use Rattle.agree_core.proofs.Settling.{one_book}
 use Rattle.agree_core.proofs.Taken.{not_both, taken_push}
 use Rattle.headline.specs.declared.{event.Event.Event, event.Station.Station, fault.Fault.Fault, version.FileVersion.FileVersion}
 use Rattle.headline.specs.Setting.{Setting}
-use Rattle.headline.specs.Configurations.{Process, Down, Node, Configuration, node, process_disk, process_votes, all_votes}
+use Rattle.headline.specs.Configurations.{Down, Node, Configuration, node, all_votes}
 use Rattle.headline.specs.Events.{station_of}
 use Rattle.headline.specs.Answers.{Answer, board_told}
 use Rattle.headline.specs.DeskFaults.{Breaks, StaysDownBy}
@@ -161,23 +161,10 @@ module _ {Disk Why : Type 0} (s : Setting Disk Why) where
   -- what an event at a desk is answered
   desk_sound : (w : Configuration Disk) (d : DeskId) (event : Event) (answer : Answer Why) (y : Node Disk) (out : List Message) → Fine s w → BothHold s (λ d. Lawful s.rules) w
       → AtDesk s w.sent d event (node w d) answer y out → IsSoundAnswer event answer
-  desk_sound w d (Event.Pen c e) answer y out f l p = pen_sound (Event.Pen c e) answer (s.view d (node w d).version) (node w d) y p.2 p.1 p.5
   desk_sound w d (Event.Give n t) answer y out f l p =
       let fine = running s (node w d).version d (votes_by (all_votes w) (other d)) (node w d).process p.0 p.4 (node_fine s w d f) in
       receive_sound (Event.Give n t) w d (node w d) p.0 p.1 p.2 p.3 out answer y f fine.seat (given_fine (all_votes w) w.sent n p.2 f.on_sent p.5) p.6 p.7
-  desk_sound w d (Event.Tick t) answer y out f l p = sound_as (Event.Tick t) answer (Answer.Ticked _) p.3 tt
-  desk_sound w d (Event.Kill c) answer y out f l p = sound_as (Event.Kill c) answer Answer.Done p.3 tt
-  desk_sound w d (Event.Power c choice) answer y out f l p = sound_as (Event.Power c choice) answer Answer.Done p.3 tt
-  desk_sound w d (Event.FailAt c n) answer y out f l p = sound_as (Event.FailAt c n) answer Answer.Done p.1 tt
-  desk_sound w d (Event.StopAt c n) answer y out f l p = sound_as (Event.StopAt c n) answer Answer.Done p.1 tt
-  desk_sound w d (Event.Open c) answer y out f l p =
-      open_sound (Event.Open c) d (votes_by (all_votes w) (other d)) (node w d) p.0 p.1 p.2 answer y
-      (subst (ProcessFine s (node w d).version d (votes_by (all_votes w) (other d))) p.3 (node_fine s w d f))
-      (subst (λ (z : Process Disk). HeldBy s (Lawful s.rules) (s.view d (node w d).version) (process_votes z) (process_disk z)) p.3 (l d)) p.4 p.5
-  desk_sound w d (Event.Migrate c) answer y out f l p =
-      migrates_sound c d (votes_by (all_votes w) (other d)) (node w d) (node w d).version p.0 p.1 answer y
-      (subst (ProcessFine s (node w d).version d (votes_by (all_votes w) (other d))) p.2 (node_fine s w d f)) p.3
-  desk_sound w d (Event.Wipe n) answer y out f l p = absurd p
+  desk_sound w d h2 answer y out f l p = grind (arith, pen_sound, sound_as, open_sound, node_fine, migrates_sound)
 
   board_told_sound : (event : Event) (w : Configuration Disk) (k l : BoardState) (m : Message) (told : BoardAnswer) → Fine s w → BothHold s (λ d. Lawful s.rules) w → BoardFine (all_votes w) k
       → MessageFine (all_votes w) m → BoardReceives s.rules k m told l → IsSoundAnswer {Why = Why} event (board_told told)
@@ -187,9 +174,7 @@ module _ {Disk Why : Type 0} (s : Setting Disk Why) where
       → BoardFine (all_votes w) k → AtBoard s w.sent event k answer l out → IsSoundAnswer event answer
   board_sound w (Event.Give n t) k answer l out f h b p =
       sound_as (Event.Give n t) answer (board_told p.1) p.4 (board_told_sound (Event.Give n t) w k l p.0 p.1 f h b (given_fine (all_votes w) w.sent n p.0 f.on_sent p.2) p.3)
-  board_sound w (Event.Tick t) k answer l out f h b p = sound_as (Event.Tick t) answer (Answer.Ticked _) p.1 tt
-  board_sound w (Event.Wipe n) k answer l out f h b p = sound_as (Event.Wipe n) answer Answer.Done p.1 tt
-  board_sound w _ k answer l out f h b p = absurd p
+  board_sound w h1 k answer l out f h b p = grind (arith, sound_as)
 
   station_sound : (w : Configuration Disk) (event : Event) (t : Station) (answer : Answer Why) (new : Configuration Disk) → Fine s w → BothHold s (λ d. Lawful s.rules) w
       → StepAt s w event t answer new → IsSoundAnswer event answer
