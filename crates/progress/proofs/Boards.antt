@@ -61,8 +61,7 @@ module _ {Disk Why : Type 0} (s : Setting Disk Why) where
       → BoardFine v k → BoardRounds v k → AtBoard s sent event k answer l out → BoardRounds v l
   at_board_rounds v sent (Event.Give n t) k l answer out f b r p = receives_rounds s.rules v k l p.0 p.1 b (given_fine v sent n p.0 f p.2) r p.3
   at_board_rounds v sent (Event.Tick t) k l answer out f b r p = rw p.2 r
-  at_board_rounds v sent (Event.Wipe n) k l answer out f b r p = rw p.0 (fresh_rounds v)
-  at_board_rounds v sent _ k l answer out f b r p = absurd p
+  at_board_rounds v sent h2 k l answer out f b r p = grind (arith, fresh_rounds)
 
   step_rounds : (w : Configuration Disk) (event : Event) (t : Station) (answer : Answer Why) (new : Configuration Disk) → Fine s w → AllRounds w
       → Grows s w new → StepAt s w event t answer new → AllRounds new

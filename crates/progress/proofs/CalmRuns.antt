@@ -1,5 +1,5 @@
 -- Calm runs: both desks stay up, and what was sent stays sent.
-use Rattle.std.proofs.Common.{◌≡◌, ℕ, zero, suc, Some, List, [], ◌∷◌, ◌++◌, ◌+◌, ◌≤◌, length, length-append, append_assoc, refl, sym, ap, ◌∙◌, subst, inl, inr, arith}
+use Rattle.std.proofs.Common.{◌≡◌, ℕ, suc, Some, List, [], ◌∷◌, ◌++◌, ◌+◌, ◌≤◌, length, length-append, append_assoc, refl, sym, ap, ◌∙◌, subst, inl, inr, arith}
 use Rattle.std.specs.Prelude.{slice_get}
 use Rattle.agree_core.specs.declared.messages.{DeskId.DeskId, Message.Message}
 use Rattle.agree_core.specs.declared.messages.DeskId.TheVariants.{A, B}
@@ -20,9 +20,8 @@ use Rattle.progress.proofs.CalmSeats.{GoesOn, goes_on}
 use Rattle.progress.proofs.CalmSteps.{one_process, step_at_on}
 
 pub get_append : {X : Type 0} → (xs ys : List X) (n : ℕ) (x : X) → slice_get xs n ≡ Some x → slice_get (xs ++ ys) n ≡ Some x
-get_append [] ys n x e = absurd (cc)
-get_append (z ∷ zs) ys zero x e = e
 get_append (z ∷ zs) ys (suc n) x e = get_append zs ys n x e
+get_append h0 ys n x e = grind arith
 
 pub get_here : {X : Type 0} → (xs ys : List X) (x : X) → slice_get (xs ++ (x ∷ ys)) (length xs) ≡ Some x
 get_here [] ys x = refl

@@ -45,14 +45,9 @@ module _ {Disk Why : Type 0} (s : Setting Disk Why) where
       let failed : p.0.failed ≡ true = ap (λ (z : DeskState Disk). z.failed) same ∙ t in
       subst (λ (z : DeskState Disk). Still z y) same (receives_still (s.view d x.version) x y p.0 p.1 p.2 p.3 answer out failed p.6 p.7)
   at_desk_still sent d (Event.Tick u) x y k answer out runs t q n m p = (k, ap (λ (z : Node Disk). z.process) p.4 ∙ runs, refl)
-  at_desk_still sent d (Event.Open c) x y k answer out runs t q n m p = let e = p.3 in absurd (cc)
-  at_desk_still sent d (Event.Kill c) x y k answer out runs t q n m p = let e : c ≡ d = cc in absurd (n (ap Event.Kill e))
-  at_desk_still sent d (Event.Power c choice) x y k answer out runs t q n m p =
-      let e : c ≡ d = cc in absurd (m choice (ap (λ (z : DeskId). Event.Power z choice) e))
   at_desk_still sent d (Event.FailAt c i) x y k answer out runs t q n m p = falls_still (s.view d x.version) x y k Fault.Fail runs p.0
   at_desk_still sent d (Event.StopAt c i) x y k answer out runs t q n m p = falls_still (s.view d x.version) x y k Fault.Stop runs p.0
-  at_desk_still sent d (Event.Migrate c) x y k answer out runs t q n m p = let e = p.2 in absurd (cc)
-  at_desk_still sent d (Event.Wipe i) x y k answer out runs t q n m p = absurd p
+  at_desk_still sent d h2 x y k answer out runs t q n m p = grind arith
 
   pub stays_failed : (w : Configuration Disk) → StaysFailed s w
   stays_failed w d k event answer new runs t p n m = elim (at_desk s w event answer new (station_of event) d p) [

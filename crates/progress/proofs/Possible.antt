@@ -86,9 +86,8 @@ get_some (x ∷ xs) zero less = (x, refl)
 get_some (x ∷ xs) (suc n) less = get_some xs n (omega (arith, less))
 
 get_less : {X : Type 0} → (xs : List X) (n : ℕ) (x : X) → slice_get xs n ≡ Some x → n < length xs
-get_less [] n x e = absurd (cc)
-get_less (z ∷ zs) zero x e = omega arith
 get_less (z ∷ zs) (suc n) x e = let less = get_less zs n x e in omega (arith, less)
+get_less h0 n x e = grind arith
 
 module _ {Disk Why : Type 0} where
   -- it reaches the station in more moments too

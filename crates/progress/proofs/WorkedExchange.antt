@@ -83,9 +83,7 @@ module _ {Why : Type 0} (rules : Rules Why) (e : Entry) where
     given = (2, refl, get);
     heard = λ reply h. answer reply h.0 h.1 h.2;
   }
-  told_a message (zero, low, get) = absurd (omega arith)
-  told_a message (suc zero, low, get) = absurd (omega arith)
-  told_a message (suc (suc (suc n)), low, get) = absurd (cc)
+  told_a message h1 = grind arith
 
   of_a : Exchange (at e unheard []) (Station.Desk A) B (exchanged {Why = Why} e)
   of_a = record {
