@@ -184,32 +184,20 @@ module _ {Disk Why : Type 0} (s : Setting Disk Why) where
   rest_grows : (v w : AllVotes) → VotesGrow v w → (sent out : List Message) → Each (MessageFine v) sent → Each (MessageFine w) out → Each (MessageFine w) (sent ++ out)
   rest_grows v w g sent out h k = each_append (MessageFine w) sent out (each_other (MessageFine v) (MessageFine w) (message_grows v w g) sent h) k
 
+  votes_grow : (w : Configuration Disk) (d : DeskId) (y : Node Disk) (out : List Message) → Within (process_votes (node w d).process) (process_votes y.process) → Grows w (with_node w d y out)
+  votes_grow w A y out h = (h, same (all_votes w).b)
+  votes_grow w B y out h = (same (all_votes w).a, h)
+
   node_changed : (w : Configuration Disk) (d : DeskId) (y : Node Disk) (out : List Message) → Fine w → KeptAt d (votes_by (all_votes w) (other d)) (node w d) y out
       → Fine (with_node w d y out) × Grows w (with_node w d y out)
-  node_changed w A y out f k =
-      let v = all_votes w in
-      let new : AllVotes = record { a = process_votes y.process; b = v.b } in
-      let g : VotesGrow v new = (k.grows, same v.b) in (
-        record {
-          on_a = k.fine;
-          on_b = process_grows w.b.version B v.a new.a k.grows w.b.process f.on_b;
-          on_boards = each_other (BoardFine v) (BoardFine new) (board_grows v new g) w.boards f.on_boards;
-          on_sent = rest_grows v new g w.sent out f.on_sent (each_other (OwnMessage A new.a) (MessageFine new) (own_message new A) out k.told);
-        },
-        g,
-      )
-  node_changed w B y out f k =
-      let v = all_votes w in
-      let new : AllVotes = record { a = v.a; b = process_votes y.process } in
-      let g : VotesGrow v new = (same v.a, k.grows) in (
-        record {
-          on_a = process_grows w.a.version A v.b new.b k.grows w.a.process f.on_a;
-          on_b = k.fine;
-          on_boards = each_other (BoardFine v) (BoardFine new) (board_grows v new g) w.boards f.on_boards;
-          on_sent = rest_grows v new g w.sent out f.on_sent (each_other (OwnMessage B new.b) (MessageFine new) (own_message new B) out k.told);
-        },
-        g,
-      )
+  node_changed w d y out f k =
+      let new = with_node w d y out in
+      let g = votes_grow w d y out k.grows in
+      let boards = each_other (BoardFine (all_votes w)) (BoardFine (all_votes new)) (board_grows (all_votes w) (all_votes new) g) w.boards f.on_boards in
+      let is : process_votes y.process ≡ votes_by (all_votes new) d = grind arith in
+      let told = each_other (OwnMessage d (process_votes y.process)) (MessageFine (all_votes new)) (λ m o. own_message (all_votes new) d m (subst (λ (z : List Ballot). OwnMessage d z m) is o)) out k.told in
+      let sent = rest_grows (all_votes w) (all_votes new) g w.sent out f.on_sent told in
+      (record { on_a = grind (arith, process_grows); on_b = grind (arith, process_grows); on_boards = grind arith; on_sent = grind arith }, g)
 
   at_board_keeps : (sent : List Message) (v : AllVotes) (event : Event) (k l : BoardState) (answer : Answer Why) (out : List Message) → Each (MessageFine v) sent → BoardFine v k
       → AtBoard s sent event k answer l out → BoardFine v l × Each (MessageFine v) out
@@ -249,11 +237,9 @@ module _ {Disk Why : Type 0} (s : Setting Disk Why) where
 
   pub begins_fine : (version : FileVersion) (n : ℕ) (w : Configuration Disk) → Begins s version n w → Fine w
   begins_fine version n w p =
-      let a = begins_at version A w.a p.a in
-      let b = begins_at version B w.b p.b in
       record {
-        on_a = subst (λ (o : List Ballot). ProcessFine w.a.version A o w.a.process) (sym b.1) a.0;
-        on_b = subst (λ (o : List Ballot). ProcessFine w.b.version B o w.b.process) (sym a.1) b.0;
+        on_a = grind (arith, begins_at);
+        on_b = grind (arith, begins_at);
         on_boards = subst (Each (BoardFine (all_votes w))) (sym p.boards_are_fresh) (fresh_boards_are (BoardFine (all_votes w)) (fresh_fine (all_votes w)) n);
         on_sent = subst (Each (MessageFine (all_votes w))) (sym p.nothing_sent) tt;
       }
