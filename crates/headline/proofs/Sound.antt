@@ -119,8 +119,7 @@ module _ {Disk Why : Type 0} (s : Setting Disk Why) where
       subst (λ (o : List Entry). s.rules o v.entry ≡ None) equal g.3
     where
       turned : (w : Configuration Disk) (d : DeskId) (book : List Entry) → AllBoth (votes_by (all_votes w) d) (votes_by (all_votes w) (other d)) 0 book → AllBoth (all_votes w).a (all_votes w).b 0 book
-      turned w A book h = h
-      turned w B book h = both_turned (all_votes w).b (all_votes w).a 0 book h
+      turned w h1 book h = grind (arith, both_turned)
 
   told_sound : (event : Event) (h : Heard) → (h ≡ Heard.TwoVotes → ⊥) → IsSoundAnswer {Why = Why} event (Answer.Told h)
   told_sound event h h0 = grind arith
