@@ -97,10 +97,7 @@ module _ {Disk Why : Type 0} (s : Setting Disk Why) where
     where
       turn : (told : ReceiveAnswer) → Receives (s.view d (node w d).version) k (Message.Ask q) told g.l g.out
           → AfterReceive (s.view d (node w d).version) (node w d) told g.l g.out m.answer (node m.after d) → Replies k q g.out
-      turn ReceiveAnswer.Asked r a = r.2
-      turn ReceiveAnswer.Failed r a = absurd (true≢false (sym r.0 ∙ u.sound))
-      turn ReceiveAnswer.DeviceFailed r a = let due = a.1 in let none = u.no_fault in absurd (grind (arith, due, none))
-      turn (ReceiveAnswer.Told h) r a = absurd r
+      turn h0 r a = grind (arith, true≢false)
 
   module _ (v : AllVotes) (t : Station) (d : DeskId) where
     -- how a station in calm moments, of which this is so, hears what a desk says
