@@ -65,7 +65,6 @@ module _ {Disk Why : Type 0} (s : Setting Disk Why) where
   NodeHolds Q view y = ProcessHolds Q (view y.version) y.process
 
   module _ (Q : List Ballot → Type 0) (view : FileVersion → FileView Disk) (x : Node Disk) (answer : Answer Why) (y : Node Disk) where
-
     after_pen : (l : DeskState Disk) (told : PenAnswer Why) → DeskHolds Q (view x.version) l → AfterPen (view x.version) x told l answer y → NodeHolds Q view y
     after_pen l told h0 h1 = grind arith
 

@@ -100,9 +100,12 @@ not_cast_there d own theirs s book f n = turn s.mine refl
 may_pen : {Disk Why : Type 0} (rules : Rules Why) (d : DeskId) (own theirs : List Ballot) (k : DeskState Disk) (p : Position) (book : List Entry) (e : Entry) → SeatFine d own theirs k.seat k.book
     → k.votes ≡ own → k.failed ≡ false → k.seat.position ≡ p → k.book ≡ book
     → MayPen rules k e ↔ ((((f : Entry) × In (record { at = p; entry = f }) own) → ⊥) × (rules book e ≡ None) × (p.place < 8192) × (p.round < 256) × (length own < 16384))
-may_pen rules d own theirs k p book e f votes sound at is = (λ m. grind (arith, not_voted), λ h.
-    let none = not_cast_there d own theirs k.seat k.book f (λ x i. h.0 (x, subst (λ (z : Position). In (record { at = z; entry = x }) own) at i)) in
-    grind arith)
+may_pen rules d own theirs k p book e f votes sound at is = (
+  λ m. grind (arith, not_voted),
+  λ h.
+      let none = not_cast_there d own theirs k.seat k.book f (λ x i. h.0 (x, subst (λ (z : Position). In (record { at = z; entry = x }) own) at i)) in
+      grind arith,
+)
 
 module _ {Disk Why : Type 0} (s : Setting Disk Why) where
   pub steady : (w : Configuration Disk) → Fine s w → BothUp w → Steady s (all_votes w) w
