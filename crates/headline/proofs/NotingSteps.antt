@@ -4,33 +4,30 @@ use Rattle.std.specs.Prelude.{slice_get}
 use Rattle.notation.specs.declared.entry.Entry.{Entry}
 use Rattle.agree_core.specs.declared.{messages.DeskId.DeskId, messages.Message.Message, messages.Vote.Vote, position.Position.Position, seat.Settled.Settled}
 use Rattle.agree_core.specs.Ballots.{Ballot, vote_of, votes_by}
-use Rattle.agree_core.specs.Boards.{BoardAnswer, BoardReceives, BoardState, fresh_board}
+use Rattle.agree_core.specs.Boards.{BoardAnswer, BoardReceives, BoardState}
 use Rattle.agree_core.specs.Books.{seat_of}
 use Rattle.agree_core.specs.Desks.{DeskState, PenAnswer, Pens, ReceiveAnswer, Receives}
-use Rattle.agree_core.specs.FileView.{FileView}
 use Rattle.agree_core.specs.Openings.{Opening, Opens}
 use Rattle.agree_core.specs.Positions.{position_of}
 use Rattle.agree_core.specs.Readers.{ReaderState, noted_of, other}
 use Rattle.agree_core.specs.Seats.{Casts, SeatState}
 use Rattle.headline.specs.Given.{IsGiven}
 use Rattle.headline.proofs.Given.{given_vote}
-use Rattle.headline.specs.declared.{event.Event.Event, event.Station.Station, fault.Fault.Fault, version.FileVersion.FileVersion}
+use Rattle.headline.specs.declared.{event.Event.Event, event.Station.Station}
 use Rattle.headline.specs.Events.{station_of}
 use Rattle.headline.specs.Setting.{Setting}
 use Rattle.headline.specs.Configurations.{Process, Running, Down, Node, Configuration, board_at, node, process_disk, all_votes, with_node}
 use Rattle.headline.specs.Answers.{Answer, board_told}
-use Rattle.headline.specs.DeskFaults.{Breaks, FallsDue, StaysDownBy}
-use Rattle.headline.specs.Migrations.{MigratesAt}
 use Rattle.headline.specs.DeskSteps.{AtDesk}
 use Rattle.headline.specs.BoardSteps.{AtBoard}
 use Rattle.headline.specs.Runs.{Moment}
 use Rattle.headline.specs.Noted.{Brings, IsBrought, IsFound, IsVoteAnswer, beginning_of, position_at, process_position}
 use Rattle.headline.specs.DeskAnswers.{AfterOpen, AfterPen, AfterReceive}
 use Rattle.headline.specs.Kept.{kept_at, kept_by_process, kept_by_seat}
-use Rattle.headline.proofs.Heeding.{Heeds, Reads, heeds, next_place_differs, next_round_differs, no_reader_kept, no_seat_kept, reads, same_some, some_none, which}
+use Rattle.headline.proofs.Heeding.{Heeds, Reads, heeds, no_reader_kept, no_seat_kept, reads, same_some, some_none, which}
 use Rattle.headline.proofs.Heeding.{noting_at, noting_other, noting_there, other_not, other_of, own_kept, their_kept}
 use Rattle.headline.proofs.Keeping.{Fine, running, node_fine}
-use Rattle.headline.proofs.Noting.{Begun, Gone, Leaves, More, Same}
+use Rattle.headline.proofs.Noting.{Begun, Leaves, More, Same}
 
 module _ {Disk Why : Type 0} (s : Setting Disk Why) where
   pub node_put : (w : Configuration Disk) (d : DeskId) (y : Node Disk) (out : List Message) → node (with_node w d y out) d ≡ y
@@ -70,10 +67,6 @@ module _ {Disk Why : Type 0} (s : Setting Disk Why) where
     pub elsewhere : (t : Station) → station_of m.event ≢ t → SameAt w m.after t → Leaves s w m t
     elsewhere t n h = Same (record { on = λ e. n (begins_here m.event t e); at = h.0; keeps = h.1; none = λ c b i k. n (brings_here w m.event t c b i.1) })
 
-    -- the three ways in which a station goes on
-    goes_same : (t : Station) → m.event ≢ beginning_of t → SameAt w m.after t → ((c : DeskId) (b : Ballot) → IsBrought w m t c b → kept_at w t c ≡ None → ⊥) → Leaves s w m t
-    goes_same t n h f = Same (record { on = n; at = h.0; keeps = h.1; none = f })
-
     goes_more : (t : Station) (at next : Position) (kept then : DeskId → Option Entry) (c : DeskId) (e : Entry) → m.event ≢ beginning_of t
         → SeenAt w t at kept → SeenAt m.after t next then → next ≡ at → Brings w m.event t c (record { at = at; entry = e })
         → IsVoteAnswer m.answer → kept c ≡ None → then c ≡ Some e → then (other c) ≡ kept (other c) → Leaves s w m t
@@ -111,7 +104,7 @@ module _ {Disk Why : Type 0} (s : Setting Disk Why) where
         goes_more (Station.Desk d) k.position l.position (λ c. kept_by_seat k d c) (λ c. kept_by_seat l d c) d e r.on r.from r.to
         (ap (λ (z : SeatState). z.position) q) (inr (refl, p)) i (own_kept k d ∙ none) (own_kept l d ∙ ap (λ (z : SeatState). z.mine) q)
         (their_kept l d (other d) (other_not d) ∙ theirs ∙ sym (their_kept k d (other d) (other_not d)))
-    casts d k l e h4 r p i none c = grind (arith, next_place_differs, runs_far, next_round_differs)
+    casts d k l e h4 r p i none c = grind arith
 
     -- the vote of the message that was given
     same_vote : (n : ℕ) (t : Station) (v : Vote) (c : DeskId) (b : Ballot) → m.event ≡ Event.Give n t → slice_get w.sent n ≡ Some (Message.Vote v)
@@ -145,30 +138,18 @@ module _ {Disk Why : Type 0} (s : Setting Disk Why) where
       runs_from : (k l : DeskState Disk) → m.event ≢ Event.Open d → (node w d).process ≡ Running k → y.process ≡ Running l → Runs d k.seat l.seat
       runs_from k l n p q = record { on = n; from = at_desk w d k p; to = at_desk m.after d l (ap (λ (z : Node Disk). z.process) is ∙ q) }
 
-      down_there : (votes : List Ballot) (disk : Disk) → y.process ≡ Down votes disk → Leaves s w m (Station.Desk d)
-      down_there votes disk q = Gone (ap (λ (z : Node Disk). process_position z.process) is ∙ ap process_position q)
-
-      -- an answer by which nothing is noted
-      unheard : (k l : DeskState Disk) (told : Answer Why) → m.event ≢ Event.Open d → (node w d).process ≡ Running k → y.process ≡ Running l → l.seat ≡ k.seat
-          → m.answer ≡ told → (IsVoteAnswer told → ⊥) → Leaves s w m (Station.Desk d)
-      unheard k l told n p q e a f = runs_same d k.seat l.seat (runs_from k l n p q) e (λ c b i none. f (subst IsVoteAnswer a i.2))
-
-      breaks : (k l : DeskState Disk) → m.event ≢ Event.Open d → (node w d).process ≡ Running k → l.seat ≡ k.seat
-          → Breaks (s.view d (node w d).version) (node w d) l m.answer y → Leaves s w m (Station.Desk d)
-      breaks k l h0 h1 h2 h3 = grind arith
-
       pens : (k l : DeskState Disk) (e : Entry) (told : PenAnswer Why) (out : List Message) → m.event ≡ Event.Pen d e → (node w d).process ≡ Running k
           → Pens (s.view d (node w d).version) s.rules k e told l out → AfterPen (s.view d (node w d).version) (node w d) told l m.answer y → Leaves s w m (Station.Desk d)
       pens k l e (PenAnswer.Penned settled) out p q r a =
           casts d k.seat l.seat e settled (runs_from k l (λ x. cc) q (ap (λ (z : Node Disk). z.process) a.1)) p (subst IsVoteAnswer (sym a.0) tt) r.0.0.1 r.1.0
-      pens k l e h3 out p q r a = grind (arith, unheard, breaks)
+      pens k l e h3 out p q r a = grind arith
 
       given : (n : ℕ) (k l : DeskState Disk) (v : Message) (told : ReceiveAnswer) (out : List Message) → m.event ≡ Event.Give n (Station.Desk d) → k.seat.desk ≡ d
           → (node w d).process ≡ Running k → IsGiven w.sent n v → Receives (s.view d (node w d).version) k v told l out
           → AfterReceive (s.view d (node w d).version) (node w d) told l out m.answer y → Leaves s w m (Station.Desk d)
       given n k l (Message.Vote v) (ReceiveAnswer.Told h) out p desk q sent r a =
           heeded n d k.seat l.seat v p desk (runs_from k l (λ x. cc) q (ap (λ (z : Node Disk). z.process) a.1)) (given_vote w.sent n v sent) (subst IsVoteAnswer (sym a.0) tt) (heeds k.seat l.seat v h r.1)
-      given n k l v h4 out p desk q sent r a = grind (arith, unheard, breaks)
+      given n k l v h4 out p desk q sent r a = grind arith
 
       -- a desk that begins keeps its last vote alone
       opens : (k : DeskState Disk) (votes : List Ballot) (n : ℕ) → m.event ≡ Event.Open d → y.process ≡ Running k → k.seat ≡ seat_of d votes → m.answer ≡ Answer.Opened n
@@ -209,32 +190,9 @@ module _ {Disk Why : Type 0} (s : Setting Disk Why) where
               let same : v ≡ b = cc in
               ap (λ (c : DeskId). kept_at m.after (Station.Desk d) c) h ∙ own ∙ ap (λ (b : Ballot). Some b.entry) same
 
-      -- a desk that was down, and stays so
-      stays_down : (view : FileView Disk) (x : Node Disk) (votes : List Ballot) (left : Disk) (fault : Fault) → StaysDownBy view x fault votes left m.answer y → Leaves s w m (Station.Desk d)
-      stays_down view x votes left fault h0 = grind arith
-
       opened : (votes : List Ballot) (disk : Disk) (opening : Opening Disk) → m.event ≡ Event.Open d → (node w d).process ≡ Down votes disk
           → Opens (s.view d (node w d).version) s.rules d disk opening → AfterOpen (s.view d (node w d).version) (node w d) votes opening m.answer y → Leaves s w m (Station.Desk d)
-      opened votes disk opening h0 h1 h2 h3 = grind (arith, down_there, opens, stays_down)
-
-      migrates : (x : Node Disk) (version : FileVersion) (votes : List Ballot) (disk : Disk) → x.process ≡ Down votes disk → MigratesAt (s.view d) x version votes disk m.answer y
-          → Leaves s w m (Station.Desk d)
-      migrates x version votes disk h0 h1 = grind arith
-
-      -- an event that neither brings a vote nor changes the desk's seat
-      idle : m.event ≢ Event.Open d → process_position y.process ≡ process_position (node w d).process
-          → ((c : DeskId) → kept_by_process y.process d c ≡ kept_by_process (node w d).process d c) → ((c : DeskId) (b : Ballot) → Brings w m.event (Station.Desk d) c b → ⊥)
-          → Leaves s w m (Station.Desk d)
-      idle n at kept f =
-          goes_same (Station.Desk d) n (ap (λ (z : Node Disk). process_position z.process) is ∙ at, λ c. ap (λ (z : Node Disk). kept_by_process z.process d c) is ∙ kept c)
-          (λ c b i none. f c b i.1)
-
-      falls_due : (fault : Fault) → m.event ≢ Event.Open d → ((c : DeskId) (b : Ballot) → Brings w m.event (Station.Desk d) c b → ⊥)
-          → FallsDue (s.view d (node w d).version) fault (node w d) y → Leaves s w m (Station.Desk d)
-      falls_due fault h0 h1 h2 = grind (arith, idle)
-
-    not_brought : (t : Station) → ((n : ℕ) → m.event ≢ Event.Give n t) → ((c : DeskId) (e : Entry) → m.event ≢ Event.Pen c e) → (c : DeskId) (b : Ballot) → Brings w m.event t c b → ⊥
-    not_brought t h0 h1 c b h2 = grind arith
+      opened votes disk opening h0 h1 h2 h3 = grind (arith, opens)
 
     -- what a step at a desk leaves there
     pub desk_leaves : (d : DeskId) (event : Event) (y : Node Disk) (out : List Message) → Fine s w → m.event ≡ event → station_of event ≡ Station.Desk d → node m.after d ≡ y
@@ -244,7 +202,7 @@ module _ {Disk Why : Type 0} (s : Setting Disk Why) where
         let fine = running s (node w d).version d (votes_by (all_votes w) (other d)) (node w d).process p.0 p.4 (node_fine s w d f) in
         let seat = fine.seat in
         given d y t n p.0 p.1 p.2 p.3 out (q ∙ ap (Event.Give n) h) seat.desk p.4 p.5 p.6 p.7
-    desk_leaves d h1 y out f q h t p = grind (arith, idle, not_brought, down_there, falls_due, opened, migrates)
+    desk_leaves d h1 y out f q h t p = grind (arith, opened)
 
     -- what a step at a board leaves there
     module _ (n : ℕ) (k l : BoardState) (here : board_at w.boards n ≡ Some k) (is : board_at m.after.boards n ≡ Some l) where
@@ -271,13 +229,9 @@ module _ {Disk Why : Type 0} (s : Setting Disk Why) where
       board_given : (i : ℕ) (v : Message) (told : BoardAnswer) → m.event ≡ Event.Give i (Station.Board n) → IsGiven w.sent i v → m.answer ≡ board_told told
           → BoardReceives s.rules k v told l → Leaves s w m (Station.Board n)
       board_given i (Message.Vote v) (BoardAnswer.Told h) given sent a r = read i v given (given_vote w.sent i v sent) (subst IsVoteAnswer (sym a) tt) (reads k.reader l.reader v h r.0)
-      board_given i h1 h2 given sent a r = grind (arith, board_stays)
-
-      -- a board that was wiped
-      wiped : m.event ≡ Event.Wipe n → l ≡ fresh_board → Leaves s w m (Station.Board n)
-      wiped h0 h1 = grind arith
+      board_given i h1 h2 given sent a r = grind arith
 
     pub board_leaves : (n : ℕ) (event : Event) (k l : BoardState) (out : List Message) → m.event ≡ event → station_of event ≡ Station.Board n
         → board_at w.boards n ≡ Some k → board_at m.after.boards n ≡ Some l → AtBoard s w.sent event k m.answer l out → Leaves s w m (Station.Board n)
     board_leaves n (Event.Give i u) k l out e h p q r = board_given n k l p q i r.0 r.1 (e ∙ ap (Event.Give i) h) r.2 r.4 r.3
-    board_leaves n h1 k l out e h p q r = grind (arith, board_stays, not_brought, wiped)
+    board_leaves n h1 k l out e h p q r = grind arith

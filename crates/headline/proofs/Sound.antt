@@ -10,8 +10,7 @@ use Rattle.agree_core.specs.Ballots.{AllJustified, AllVotes, Ballot, In, Justifi
 use Rattle.agree_core.specs.Ballots as ballots
 use Rattle.agree_core.specs.Boards.{BoardAnswer, BoardReceives, BoardState}
 use Rattle.agree_core.specs.Books.{AllTaken, Rules, book_of, closing, voted_list}
-use Rattle.agree_core.specs.Desks.{DeskState, PenAnswer, ReceiveAnswer, Receives}
-use Rattle.agree_core.specs.FileView.{FileView}
+use Rattle.agree_core.specs.Desks.{DeskState, ReceiveAnswer, Receives}
 use Rattle.agree_core.specs.Openings.{Opening, Opens}
 use Rattle.agree_core.specs.Positions.{position_of}
 use Rattle.agree_core.specs.Readers.{Listens, ReaderState, other}
@@ -20,25 +19,22 @@ use Rattle.agree_core.proofs.FileBooks.{AllBoth, book_agreed, book_long}
 use Rattle.agree_core.proofs.Order.{in_sequence, one_vote}
 use Rattle.agree_core.proofs.Settling.{one_book}
 use Rattle.agree_core.proofs.Taken.{not_both, taken_push}
-use Rattle.headline.specs.declared.{event.Event.Event, event.Station.Station, fault.Fault.Fault, version.FileVersion.FileVersion}
+use Rattle.headline.specs.declared.{event.Event.Event, event.Station.Station, version.FileVersion.FileVersion}
 use Rattle.headline.specs.Setting.{Setting}
 use Rattle.headline.specs.Configurations.{Down, Node, Configuration, node, all_votes}
 use Rattle.headline.specs.Events.{station_of}
 use Rattle.headline.specs.Answers.{Answer, board_told}
-use Rattle.headline.specs.DeskFaults.{Breaks, StaysDownBy}
-use Rattle.headline.specs.Migrations.{MigratesAt}
 use Rattle.headline.specs.DeskSteps.{AtDesk}
 use Rattle.headline.specs.BoardSteps.{AtBoard}
 use Rattle.headline.specs.Steps.{StepAt}
 use Rattle.headline.specs.Runs.{Begins, Moment, Run, last_of}
 use Rattle.headline.specs.Besides.{IsSoundAnswer, AtEachEvent}
-use Rattle.headline.specs.DeskAnswers.{AfterOpen, AfterPen, AfterReceive}
+use Rattle.headline.specs.DeskAnswers.{AfterOpen, AfterReceive}
 use Rattle.agree_core.specs.Keeping.{BoardFine, MessageFine, NotedFine, SeatFine}
-use Rattle.agree_core.proofs.Both.{both_grow, both_settled, both_turned, more, same}
-use Rattle.headline.proofs.Heeding.{some_none}
+use Rattle.agree_core.proofs.Both.{both_grow, both_settled, both_turned, same}
 use Rattle.headline.proofs.BoardKeeping.{board_fine_at}
 use Rattle.headline.proofs.Given.{given_fine}
-use Rattle.headline.proofs.Keeping.{Fine, ProcessFine, all_justified, begins_fine, run_keeps, running, node_fine, their_message}
+use Rattle.headline.proofs.Keeping.{Fine, ProcessFine, all_justified, begins_fine, run_keeps, running, node_fine}
 use Rattle.headline.proofs.PennedVotes.{BothHold, HeldBy, PensKeep, begins_hold, step_holds}
 
 -- the list after each vote was one that the rules take
@@ -67,7 +63,7 @@ pub taken_at : {Why : Type 0} (rules : Rules Why) (theirs bs : List Ballot) → 
     → (book : List Entry) × AllBoth bs theirs 0 book × (length book ≡ b.at.place) × (rules book b.entry ≡ None)
 taken_at rules theirs [] j l b i = absurd i
 taken_at rules theirs (x ∷ xs) j l b (inl e) = grind (arith, book_long, in_sequence, taken_last, book_agreed)
-taken_at rules theirs (x ∷ xs) j l b (inr i) = grind (arith, both_grow, more, same, (taken_at rules theirs xs j.2 l.1 b i))
+taken_at rules theirs (x ∷ xs) j l b (inr i) = grind (arith, both_grow, (taken_at rules theirs xs j.2 l.1 b i))
 
 pub same_length : (xs ys : List Entry) → BeginsWith ys xs → length xs ≡ length ys → xs ≡ ys
 same_length xs ys ([], e) size = sym (append-nil xs) ∙ e
@@ -93,7 +89,7 @@ module _ {Disk Why : Type 0} (s : Setting Disk Why) where
 
   -- each pen is lawful
   lawful_pens : (w : Configuration Disk) (event : Event) (answer : Answer Why) → Fine s w → PensKeep s (λ d. Lawful s.rules) w event answer
-  lawful_pens w event answer h0 = grind (arith, node_fine, running, taken_book, taken_push)
+  lawful_pens w event answer h0 = grind (arith, taken_book, taken_push)
 
   pub lawful_run : (version : FileVersion) (n : ℕ) (w : Configuration Disk) (ms : List (Moment Disk Why)) → Begins s version n w → Run s w ms → BothHold s (λ d. Lawful s.rules) (last_of w ms)
   lawful_run version n w [] e r = begins_hold s (λ d. Lawful s.rules) (λ d. tt) version n w e
@@ -121,41 +117,19 @@ module _ {Disk Why : Type 0} (s : Setting Disk Why) where
       turned : (w : Configuration Disk) (d : DeskId) (book : List Entry) → AllBoth (votes_by (all_votes w) d) (votes_by (all_votes w) (other d)) 0 book → AllBoth (all_votes w).a (all_votes w).b 0 book
       turned w h1 book h = grind (arith, both_turned)
 
-  told_sound : (event : Event) (h : Heard) → (h ≡ Heard.TwoVotes → ⊥) → IsSoundAnswer {Why = Why} event (Answer.Told h)
-  told_sound event h h0 = grind arith
-
-  module _ (event : Event) (answer : Answer Why) where
-    sound_as : (told : Answer Why) → answer ≡ told → IsSoundAnswer event told → IsSoundAnswer event answer
-    sound_as told e h = subst (IsSoundAnswer event) (sym e) h
-
-    module _ (view : FileView Disk) (x y : Node Disk) where
-      broken_sound : (l : DeskState Disk) → Breaks view x l answer y → IsSoundAnswer event answer
-      broken_sound l h0 = grind arith
-
-      pen_sound : (told : PenAnswer Why) (l : DeskState Disk) → AfterPen view x told l answer y → IsSoundAnswer event answer
-      pen_sound told l h0 = grind arith
-
-      stays_down_sound : (fault : Fault) (votes : List Ballot) (left : Disk) → StaysDownBy view x fault votes left answer y → IsSoundAnswer event answer
-      stays_down_sound fault votes left h0 = grind arith
-
   two_at_desk : (w : Configuration Disk) (d : DeskId) (k : DeskState Disk) (v : Vote) (t : SeatState) → Fine s w → SeatFine d k.votes (votes_by (all_votes w) (other d)) k.seat k.book
       → MessageFine (all_votes w) (Message.Vote v) → Hears k.seat v Heard.TwoVotes t → ⊥
-  two_at_desk w d k v t h0 h1 h2 h3 = grind (arith, justified_other, their_message, two_entries)
+  two_at_desk w d k v t h0 h1 h2 h3 = grind (arith, two_entries)
 
   receive_sound : (event : Event) (w : Configuration Disk) (d : DeskId) (x : Node Disk) (k l : DeskState Disk) (m : Message) (told : ReceiveAnswer) (out : List Message)
       (answer : Answer Why) (y : Node Disk) → Fine s w → SeatFine d k.votes (votes_by (all_votes w) (other d)) k.seat k.book → MessageFine (all_votes w) m
       → Receives (s.view d x.version) k m told l out → AfterReceive (s.view d x.version) x told l out answer y → IsSoundAnswer event answer
-  receive_sound event w d x k l m told out answer y h0 h1 h2 h3 h4 = grind (arith, broken_sound, sound_as, told_sound, two_at_desk)
+  receive_sound event w d x k l m told out answer y h0 h1 h2 h3 h4 = grind (arith, two_at_desk)
 
   open_sound : (event : Event) (d : DeskId) (theirs : List Ballot) (x : Node Disk) (votes : List Ballot) (old : Disk) (opening : Opening Disk) (answer : Answer Why) (y : Node Disk)
       → ProcessFine s x.version d theirs (Down votes old) → HeldBy s (Lawful s.rules) (s.view d x.version) votes old → Opens (s.view d x.version) s.rules d old opening
       → AfterOpen (s.view d x.version) x votes opening answer y → IsSoundAnswer event answer
-  open_sound event d theirs x votes old opening answer y h0 h1 h2 h3 = grind (arith, lawful_list, not_both, some_none, sound_as, stays_down_sound)
-
-  -- a file that is migrated is sound
-  migrates_sound : (c d : DeskId) (theirs : List Ballot) (x : Node Disk) (version : FileVersion) (votes : List Ballot) (old : Disk) (answer : Answer Why) (y : Node Disk)
-      → ProcessFine s version d theirs (Down votes old) → MigratesAt (s.view d) x version votes old answer y → IsSoundAnswer (Event.Migrate c) answer
-  migrates_sound c d theirs x version votes old answer y h0 h1 = grind arith
+  open_sound event d theirs x votes old opening answer y h0 h1 h2 h3 = grind (arith, lawful_list, not_both)
 
   -- what an event at a desk is answered
   desk_sound : (w : Configuration Disk) (d : DeskId) (event : Event) (answer : Answer Why) (y : Node Disk) (out : List Message) → Fine s w → BothHold s (λ d. Lawful s.rules) w
@@ -163,17 +137,17 @@ module _ {Disk Why : Type 0} (s : Setting Disk Why) where
   desk_sound w d (Event.Give n t) answer y out f l p =
       let fine = running s (node w d).version d (votes_by (all_votes w) (other d)) (node w d).process p.0 p.4 (node_fine s w d f) in
       receive_sound (Event.Give n t) w d (node w d) p.0 p.1 p.2 p.3 out answer y f fine.seat (given_fine (all_votes w) w.sent n p.2 f.on_sent p.5) p.6 p.7
-  desk_sound w d h2 answer y out f l p = grind (arith, pen_sound, sound_as, open_sound, node_fine, migrates_sound)
+  desk_sound w d h2 answer y out f l p = grind (arith, open_sound)
 
   board_told_sound : (event : Event) (w : Configuration Disk) (k l : BoardState) (m : Message) (told : BoardAnswer) → Fine s w → BothHold s (λ d. Lawful s.rules) w → BoardFine (all_votes w) k
       → MessageFine (all_votes w) m → BoardReceives s.rules k m told l → IsSoundAnswer {Why = Why} event (board_told told)
-  board_told_sound event w k l m h5 f h b i p = grind (arith, board_takes, told_sound, two_entries, justified_of)
+  board_told_sound event w k l m h5 f h b i p = grind (arith, board_takes, two_entries)
 
   board_sound : (w : Configuration Disk) (event : Event) (k : BoardState) (answer : Answer Why) (l : BoardState) (out : List Message) → Fine s w → BothHold s (λ d. Lawful s.rules) w
       → BoardFine (all_votes w) k → AtBoard s w.sent event k answer l out → IsSoundAnswer event answer
   board_sound w (Event.Give n t) k answer l out f h b p =
-      sound_as (Event.Give n t) answer (board_told p.1) p.4 (board_told_sound (Event.Give n t) w k l p.0 p.1 f h b (given_fine (all_votes w) w.sent n p.0 f.on_sent p.2) p.3)
-  board_sound w h1 k answer l out f h b p = grind (arith, sound_as)
+      subst (IsSoundAnswer (Event.Give n t)) (sym p.4) (board_told_sound (Event.Give n t) w k l p.0 p.1 f h b (given_fine (all_votes w) w.sent n p.0 f.on_sent p.2) p.3)
+  board_sound w h1 k answer l out f h b p = grind arith
 
   station_sound : (w : Configuration Disk) (event : Event) (t : Station) (answer : Answer Why) (new : Configuration Disk) → Fine s w → BothHold s (λ d. Lawful s.rules) w
       → StepAt s w event t answer new → IsSoundAnswer event answer
