@@ -195,7 +195,8 @@ module _ {Disk Why : Type 0} (s : Setting Disk Why) where
       let g = votes_grow w d y out k.grows in
       let boards = each_other (BoardFine (all_votes w)) (BoardFine (all_votes new)) (board_grows (all_votes w) (all_votes new) g) w.boards f.on_boards in
       let is : process_votes y.process ≡ votes_by (all_votes new) d = grind arith in
-      let told = each_other (OwnMessage d (process_votes y.process)) (MessageFine (all_votes new)) (λ m o. own_message (all_votes new) d m (subst (λ (z : List Ballot). OwnMessage d z m) is o)) out k.told in
+      let told = each_other (OwnMessage d (process_votes y.process)) (MessageFine (all_votes new))
+      (λ m o. own_message (all_votes new) d m (subst (λ (z : List Ballot). OwnMessage d z m) is o)) out k.told in
       let sent = rest_grows (all_votes w) (all_votes new) g w.sent out f.on_sent told in
       (record { on_a = grind (arith, process_grows); on_b = grind (arith, process_grows); on_boards = grind arith; on_sent = grind arith }, g)
 

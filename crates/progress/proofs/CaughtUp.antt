@@ -145,7 +145,8 @@ module _ {Disk Why : Type 0} (s : Setting Disk Why) where
         let fk = fine_board c k a at in
         let fl = fine_board (last_of c more) l then g.1 in
         let j = justified c a in
-        let sound = all_sound w0 more a.past (sound_answers s version boards w0 (more ++ a.past) begins (run_join s w0 more a.past a.comes (subst (λ (z : Configuration Disk). Run s z more) (sym a.here) p))) in
+        let sound = all_sound w0 more a.past
+        (sound_answers s version boards w0 (more ++ a.past) begins (run_join s w0 more a.past a.comes (subst (λ (z : Configuration Disk). Run s z more) (sym a.here) p))) in
         let brings : (d : DeskId) → Done (votes_by v d) (ear d k.reader) (ear d l.reader) = λ d.
         exchange_brings s v (Station.Board n) d (board_listens s v n d) c more k l (record { run = ran; ok = sound; from = at; to = g.1 }) (x d) in
         let d = lacks v k.reader l.reader fl.0.waits (brings A) (brings B) in (

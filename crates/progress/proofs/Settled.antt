@@ -186,7 +186,8 @@ module _ {Disk Why : Type 0} (s : Setting Disk Why) where
         let there : In (record { at = x.0.seat.position; entry = e }) theirs =
         subst (λ (z : DeskState Disk). In (record { at = z.seat.position; entry = e }) theirs) (sym same)
         (subst (λ (z : AllVotes). In (record { at = k.seat.position; entry = e }) (votes_by z (other d))) (steady_votes s v (last_of w ms) last) i) in
-        subst (λ (z : DeskState Disk). z.seat.theirs ≡ Some e) same (knows_it d (votes_by v d) theirs x.0.seat x.0.book e (seat_fine v (last_of w ms) last d) (others_justified s (last_of w ms) v last d) knows there)
+        subst (λ (z : DeskState Disk). z.seat.theirs ≡ Some e) same
+        (knows_it d (votes_by v d) theirs x.0.seat x.0.book e (seat_fine v (last_of w ms) last d) (others_justified s (last_of w ms) v last d) knows there)
 
   module _ (w : Configuration Disk) (f : Fine s w) where
     pub hearing_settles : HearingSettles s w
