@@ -12,20 +12,10 @@ use Rattle.match_laws.specs.Result.{share}
 use Rattle.match_laws.specs.Parts.{score_of, side_record}
 use Rattle.match_laws.specs.inner.Added.{IsSmallScore, IsSmallRecord}
 use Rattle.match_laws.specs.Stands.{StandsFor, IsKept, CanTake}
-use Rattle.match_laws.proofs.TableLemmas.{get_or-table}
+use Rattle.match_laws.proofs.TableLemmas.{at_table}
 use Rattle.match_laws.proofs.LegalLemmas.{taken, entries_few, begun_few, begun_room, latest_of-begun}
 use Rattle.match_laws.proofs.Bounds.{score-small, record-small}
 use Rattle.match_laws.proofs.BattingFalls.{wickets-ten}
-
--- the score of an innings is in its place
-pub score_at : (m : Standing) (n : ℕ) (h : History) → StandsFor m n h → (k : ℕ) (d : InningsScore) → k < 4 → get_or m.scores k d ≡ score_of h k
-score_at m n h s k d lt = rw s.scores (get_or-table (score_of h) 4 k d lt)
-
-pub small_at : (m : Standing) (n : ℕ) (h : History) → StandsFor m n h → (k : ℕ) (d : InningsScore) → k < 4 → IsSmallScore (get_or m.scores k d)
-small_at m n h s k d lt = rw (score_at m n h s k d lt) (score-small h k s.in_range (entries_few n h s.legal))
-
-pub kept_total : (m : Standing) → ∥ IsKept m ∥₁ → (k : ℕ) (d : InningsScore) → k < 4 → (get_or m.scores k d).total ≤ 245760
-kept_total m kept k d lt = ∥∥₁_elim kept le_prop (λ w. (small_at m w.innings_a_side w.history w.stands k d lt).total)
 
 begun_low : (m : Standing) → IsKept m → m.begun ≤ 4
 begun_low m w = omega (arith, begun_few w.innings_a_side w.history ((w.stands).one_or_two).1 (w.stands).legal, (w.stands).begun)
@@ -35,18 +25,22 @@ kept_begun m kept = ∥∥₁_elim kept le_prop (begun_low m)
 
 -- ten wickets at most
 pub kept_few : (m : Standing) → ∥ IsKept m ∥₁ → (k : ℕ) (d : InningsScore) → k < 4 → (get_or m.scores k d).wickets ≤ 10
-kept_few m kept k d lt = ∥∥₁_elim kept le_prop (λ w. rw (score_at m w.innings_a_side w.history w.stands k d lt)
+kept_few m kept k d lt = ∥∥₁_elim kept le_prop (λ w. rw (at_table (score_of w.history) m.scores (w.stands).scores k d lt)
     (wickets-ten w.innings_a_side w.history k (w.stands).legal))
 
 -- the share of a side in an innings
 pub share_at : (m : Standing) (n : ℕ) (h : History) → StandsFor m n h → (k : ℕ) (d : InningsScore) → k < 4 → (side : Side) →
     share (get_or m.scores k d).side side (get_or m.scores k d).total ≡ share (side_of h k) side (total h k)
-share_at m n h s k d lt side = ap (λ v. share v.side side v.total) (score_at m n h s k d lt)
+share_at m n h s k d lt side = ap (λ v. share v.side side v.total) (at_table (score_of h) m.scores s.scores k d lt)
 
 -- ---- an innings' score and a side's record have room
 
 pub kept_score : (m : Standing) → ∥ IsKept m ∥₁ → (k : ℕ) (d : InningsScore) → k < 4 → IsSmallScore (get_or m.scores k d)
-kept_score m kept k d lt = ∥∥₁_elim kept (hlevel le_prop) (λ w. small_at m w.innings_a_side w.history w.stands k d lt)
+kept_score m kept k d lt = ∥∥₁_elim kept (hlevel le_prop) (λ w. rw (at_table (score_of w.history) m.scores (w.stands).scores k d lt)
+    (score-small w.history k (w.stands).in_range (entries_few w.innings_a_side w.history (w.stands).legal)))
+
+pub kept_total : (m : Standing) → ∥ IsKept m ∥₁ → (k : ℕ) (d : InningsScore) → k < 4 → (get_or m.scores k d).total ≤ 245760
+kept_total m kept k d lt = (kept_score m kept k d lt).total
 
 -- a side's record, by what it is for each history
 pub kept_record : (m : Standing) (side : Side) (r : SideRecord) → ∥ IsKept m ∥₁ →
