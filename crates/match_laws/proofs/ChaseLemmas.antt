@@ -27,11 +27,11 @@ unfolding side_total
 own_total h side zero lt e = grind arith
 own_total h side (suc zero) lt e = grind arith
 own_total h side (suc (suc zero)) lt e = grind arith
-own_total h side (suc (suc (suc k))) lt e = search (arith)
+own_total h side (suc (suc (suc k))) lt e = search arith
 
 current_total : (n : ℕ) (h : History) (side : Side) → n ≤ 2 → IsLegal n h → is_side (last_side h) side ≡ true →
     total h (current h) ≤ side_total h side
-current_total n h side le legal e = search (arith, begun_few, own_total, current, side_current)
+current_total n h side le legal e = search (arith, begun_few, own_total, side_current)
 
 -- ---- to lead is to have reached what is needed
 
@@ -59,7 +59,7 @@ finished_last n h side b shut = grind arith
 aims_last : (n : ℕ) (h : History) (side : Side) → BatsLast n h side → is_open h ≡ true → target n h ≡ Some (needed h side)
 unfolding target
 aims_last n h Home b going = rw (chasing_last n h Home b, going) refl
-aims_last n h Away b going = search (arith, is_chasing, chasing_last, going)
+aims_last n h Away b going = search (arith, chasing_last, going)
 
 pub chase_tells : (n : ℕ) (h : History) → n ≤ 2 → IsLegal n h → (side : Side) → BatsLast n h side → ChaseTells n h side
 chase_tells n h le legal side b =

@@ -91,7 +91,7 @@ one_striker t v (Some q) is = one_where t v q is
 sum-manned : (g : ℕ → Delivery → ℕ) (k : Delivery → ℕ) → ((d : Delivery) → IsManned d → tally (λ p. g p d) numbers ≡ k d) →
     (ds : List Delivery) → AllManned ds → tally (λ p. tally (g p) ds) numbers ≡ tally k ds
 sum-manned g k one [] all = tally-zero numbers
-sum-manned g k one (d ∷ ds) all = search (arith, tally-plus, tally, numbers, (sum-manned g k one ds all.0))
+sum-manned g k one (d ∷ ds) all = search (arith, tally-plus, (sum-manned g k one ds all.0))
 
 -- ---- what each delivery's runs are
 
@@ -107,7 +107,7 @@ runs-struck i (d ∷ ds) = grind (arith, runs-struck i ds)
 runs-bowled : (i : ℕ) (ds : List Delivery) → tally (of_innings runs_of i) ds
     ≡ tally (of_innings debit_of i) ds + tally (of_innings byes_of i) ds + tally (of_innings legs_of i) ds
 runs-bowled i [] = refl
-runs-bowled i (d ∷ ds) = search (arith, by_debit, runs_scored, (runs-bowled i ds))
+runs-bowled i (d ∷ ds) = search (arith, by_debit, (runs-bowled i ds))
 
 pub adds_up : (n : ℕ) (h : History) → IsLegal n h → IsInRange h → (i : ℕ) → AddsUp h i
 unfolding total byes legs wides noballs batter_runs bowler_runs

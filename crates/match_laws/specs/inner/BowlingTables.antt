@@ -20,10 +20,8 @@ bowling_table_of h i = record {
 
 -- the bowler's row with a delivery more
 abbrev pub row_with_ball : Ball → BowlingRow → BowlingRow
-row_with_ball b row = record {
-  overs = row.overs;
+row_with_ball b row = record row {
   balls = row.balls + one_if (counts b);
-  maidens = row.maidens;
   runs = row.runs + debit_of b;
   wickets = row.wickets + credited b;
   wides = row.wides + wides_of b;
@@ -33,14 +31,10 @@ row_with_ball b row = record {
 -- the row of who bowled an over alone, once it is called: its counting deliveries are an over, and no
 -- more balls
 abbrev pub row_with_over : OverNow → BowlingRow → BowlingRow
-row_with_over over row = record {
+row_with_over over row = record row {
   overs = row.overs + 1;
   balls = row.balls - over.counting;
   maidens = row.maidens + one_if (over.debit == 0);
-  runs = row.runs;
-  wickets = row.wickets;
-  wides = row.wides;
-  noballs = row.noballs;
 }
 
 -- each number of a row has room for one entry more
