@@ -53,9 +53,6 @@ chasing_last n h side b = grind arith
 won_last : (n : ℕ) (h : History) (side : Side) → BatsLast n h side → has_won n h side ≡ leads h side
 won_last n h side b = rw (chasing_last n h side b, b.after_other) (grind arith)
 
-finished_last : (n : ℕ) (h : History) (side : Side) → BatsLast n h side → is_open h ≡ false → is_finished n h side ≡ true
-finished_last n h side b shut = grind arith
-
 aims_last : (n : ℕ) (h : History) (side : Side) → BatsLast n h side → is_open h ≡ true → target n h ≡ Some (needed h side)
 unfolding target
 aims_last n h Home b going = rw (chasing_last n h Home b, going) refl
@@ -69,7 +66,7 @@ chase_tells n h le legal side b =
       won = won;
       aims = aims_last n h side b;
       in_play = λ going there. outcome_won n h side (won ∙ there) ∙ rw going refl;
-      ended = λ shut there. outcome_won n h side (won ∙ there) ∙ grind (arith, finished_last n h side b shut, b.began_last);
+      ended = λ shut there. outcome_won n h side (won ∙ there) ∙ grind (arith, b.began_last);
     }
 
 -- ---- a win by wickets

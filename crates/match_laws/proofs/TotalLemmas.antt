@@ -27,10 +27,6 @@ tally-zero : {X : Type 0} (xs : List X) → tally (λ x. 0) xs ≡ 0
 tally-zero [] = refl
 tally-zero (x ∷ xs) = let rest = tally-zero xs in omega arith
 
-tally-plus : {X : Type 0} (f g : X → ℕ) (xs : List X) → tally (λ x. f x + g x) xs ≡ tally f xs + tally g xs
-tally-plus f g [] = refl
-tally-plus f g (x ∷ xs) = let rest = tally-plus f g xs in omega (arith, rest)
-
 -- one player of the eleven has the number
 one_of_range : (v q a n : ℕ) → tally (λ p. if q == p then v else 0) (range_with_len a n) ≡ (if nat_le a q && nat_lt q (a + n) then v else 0)
 one_of_range v q a zero = grind arith
@@ -91,12 +87,9 @@ one_striker t v (Some q) is = one_where t v q is
 sum-manned : (g : ℕ → Delivery → ℕ) (k : Delivery → ℕ) → ((d : Delivery) → IsManned d → tally (λ p. g p d) numbers ≡ k d) →
     (ds : List Delivery) → AllManned ds → tally (λ p. tally (g p) ds) numbers ≡ tally k ds
 sum-manned g k one [] all = tally-zero numbers
-sum-manned g k one (d ∷ ds) all = search (arith, tally-plus, (sum-manned g k one ds all.0))
+sum-manned g k one (d ∷ ds) all = search (arith, (sum-manned g k one ds all.0))
 
 -- ---- what each delivery's runs are
-
-by_debit : (k : Kind) (r : ℕ) → all_runs (split k r) ≡ (split k r).debit + (split k r).byes + (split k r).legs
-by_debit k r = grind arith
 
 runs-struck : (i : ℕ) (ds : List Delivery) → tally (of_innings runs_of i) ds
     ≡ tally (of_innings batted_of i) ds + tally (of_innings byes_of i) ds + tally (of_innings legs_of i) ds
@@ -107,7 +100,7 @@ runs-struck i (d ∷ ds) = grind (arith, runs-struck i ds)
 runs-bowled : (i : ℕ) (ds : List Delivery) → tally (of_innings runs_of i) ds
     ≡ tally (of_innings debit_of i) ds + tally (of_innings byes_of i) ds + tally (of_innings legs_of i) ds
 runs-bowled i [] = refl
-runs-bowled i (d ∷ ds) = search (arith, by_debit, (runs-bowled i ds))
+runs-bowled i (d ∷ ds) = search (arith, (runs-bowled i ds))
 
 pub adds_up : (n : ℕ) (h : History) → IsLegal n h → IsInRange h → (i : ℕ) → AddsUp h i
 unfolding total byes legs wides noballs batter_runs bowler_runs
