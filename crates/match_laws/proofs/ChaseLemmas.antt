@@ -10,7 +10,7 @@ use Rattle.match_laws.specs.declared.outcome.Outcome.{Outcome}
 use Rattle.match_laws.specs.declared.outcome.Outcome.TheVariants.{Undecided, Draw, Tie, Wickets}
 use Rattle.match_laws.specs.History.{side_eq, side_of, is_side, last_side, is_open, is_closed, opponent}
 use Rattle.match_laws.specs.Figures.{total, wickets}
-use Rattle.match_laws.specs.Result.{side_total, current, is_finished, is_chasing, leads, has_won, won_by, needed, outcome, target}
+use Rattle.match_laws.specs.Result.{side_total, current, is_chasing, leads, has_won, won_by, needed, outcome, target}
 use Rattle.match_laws.specs.Refusals.{IsLegal}
 use Rattle.match_laws.specs.Chases.{BatsLast, ChaseTells, HasReachedTarget, WonByWickets}
 use Rattle.match_laws.proofs.LegalLemmas.{begun_few}

@@ -2,7 +2,7 @@
 use Rattle.std.proofs.Common.{◌≡◌, ℕ, zero, suc, ◌+◌, Bool, true, false, Some, None, Option, List, [], ◌∷◌, length, refl, ◌∙◌, arith}
 use Rattle.std.specs.List.{range_with_len}
 use Rattle.std.specs.Prelude.{nat_le, nat_lt, ◌==◌, ◌&&◌, if◌then◌else◌}
-use Rattle.notation.specs.declared.entry.{Ball.Ball, Kind.Kind}
+use Rattle.notation.specs.declared.entry.{Ball.Ball}
 use Rattle.notation.specs.declared.entry.Plain.TheVariants.{Ball as Bowl, Void}
 use Rattle.notation.specs.Written.{IsPlayer}
 use Rattle.ball_laws.specs.History.{History, IsInRange}
@@ -10,7 +10,6 @@ use Rattle.ball_laws.specs.Laws.{IsPlayed, state_after}
 use Rattle.ball_laws.specs.Ends.{has_vacancy}
 use Rattle.ball_laws.specs.Sums.{tally}
 use Rattle.ball_laws.specs.Over.{numbers, bowled_in, debit_of}
-use Rattle.ball_laws.specs.Runs.{split, all_runs, runs_scored}
 use Rattle.ball_laws.specs.Batters.{HoldsBatter}
 use Rattle.ball_laws.specs.declared.players.PlayerState.{PlayerState}
 use Rattle.ball_laws.proofs.Wickets.{ball-row, in_order-played}

@@ -1,5 +1,5 @@
 use Rattle.std.proofs.Common.{arith}
-use Rattle.std.proofs.Common.{rules, ◌≡◌, true, false, ◌∙◌}
+use Rattle.std.proofs.Common.{◌∙◌}
 use Rattle.match_laws.specs.History.{side_eq}
 use Rattle.match_laws.proofs.SideLemmas.{record-innings, record-innings_other, record-award, record-award_other, record-stays}
 use Rattle.match_laws.proofs.taking.note_side.Goals as goal
