@@ -1,5 +1,4 @@
 use Rattle.std.proofs.Common.{arith}
-use Rattle.std.proofs.Common.{ap, sym, ◌∙◌}
 use Rattle.corrections.specs.Overs.{newest_bowler}
 use Rattle.corrections.proofs.OverLemmas.{balls_more}
 use Rattle.corrections.proofs.overs.bowler_of.Goals as goal
