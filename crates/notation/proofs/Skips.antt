@@ -16,8 +16,7 @@ same word = (bytes_eq-Decides word word).1 refl
 
 -- the word begins the bytes
 stripped : (word left : List ℕ) → bytes_eq (take (length word) left) word ≡ true → word ++ drop (length word) left ≡ left
-stripped word left h =
-    ap (λ w. w ++ drop (length word) left) (sym ((bytes_eq-Decides (take (length word) left) word).0 h)) ∙ take-append-drop (length word) left
+stripped word left h = search (arith, drop, length, bytes_eq-Decides, take, take-append-drop)
 
 last : (word : Token) (rest : List ℕ) → is_token word ≡ true → length rest ≡ 0 → (true, []) ≡ skip word (tokens (word ++ rest))
 unfolding skip
