@@ -16,7 +16,7 @@ same word = (bytes_eq-Decides word word).1 refl
 
 -- the word begins the bytes
 stripped : (word left : List ℕ) → bytes_eq (take (length word) left) word ≡ true → word ++ drop (length word) left ≡ left
-stripped word left h = search (arith, drop, length, bytes_eq-Decides, take, take-append-drop)
+stripped word left h = search (arith, bytes_eq-Decides, take-append-drop)
 
 last : (word : Token) (rest : List ℕ) → is_token word ≡ true → length rest ≡ 0 → (true, []) ≡ skip word (tokens (word ++ rest))
 unfolding skip
