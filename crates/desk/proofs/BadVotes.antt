@@ -1,10 +1,9 @@
 -- When `BadVotes` is answered.
-use Rattle.std.proofs.Common.{◌≡◌, ◌∙◌, Ok, Err, List, [], ap}
+use Rattle.std.proofs.Common.{arith, Ok, Err, List, []}
 use Rattle.agree_core.specs.Ballots.{Ballot}
 use Rattle.agree_core.specs.Books.{AllTaken, Rules, voted_list}
 use Rattle.agree_core.proofs.Taken.{not_both, refused_once}
 use Rattle.desk.specs.declared.refusal.OpenRefusal.{OpenRefusal}
-use Rattle.desk.specs.declared.refusal.OpenRefusal.TheVariants.{BadVotes}
 use Rattle.desk.specs.Restore.{NamesBadVotes, RefusesVotes}
 
 module _ {T Why : Type 0} (rules : Rules Why) (votes : List Ballot) where
@@ -14,7 +13,4 @@ module _ {T Why : Type 0} (rules : Rules Why) (votes : List Ballot) where
 
   -- the place that is named is the first refused one
   pub named : (why : OpenRefusal) → RefusesVotes rules votes why → NamesBadVotes {T = T} rules votes (Err why)
-  named why r place = (
-    λ h. let same : place ≡ r.0 = cc in rw same r.2,
-    λ f. ap Err (r.1 ∙ ap BadVotes (refused_once rules [] (voted_list votes) r.0 place r.2 f)),
-  )
+  named why r place = grind (arith, refused_once)

@@ -1,5 +1,6 @@
 -- What a desk keeps of its votes, as it opens, casts and hears.
-use Rattle.std.proofs.Common.{◌≡◌, ◌∙◌, ◌+◌, ℕ, true, Some, None, IfSome, List, [], ◌∷◌, ◌++◌, length, refl, sym, ap, append-nil, append_assoc, arith}
+use Rattle.std.proofs.lemmas.Grind.{common_steps}
+use Rattle.std.proofs.Common.{◌≡◌, ℕ, true, Some, None, IfSome, List, [], ◌∷◌, ◌++◌, length, sym, append-nil, append_assoc, arith}
 use Rattle.std.proofs.lemmas.Bool.{or_left, or_right}
 use Rattle.std.proofs.lemmas.List.{length-append}
 use Rattle.notation.specs.declared.entry.Entry.{Entry}
@@ -13,7 +14,7 @@ use Rattle.agree_core.specs.Desks.{book_after, book_heard}
 use Rattle.agree_core.specs.Positions.{next_place, next_round}
 use Rattle.agree_core.specs.Seats.{Casts, Hears, SeatState, waiting}
 use Rattle.agree_core.proofs.FileBooks.{book_long}
-use Rattle.vote_store.specs.Sequence.{comes_next, is_at, last_position}
+use Rattle.vote_store.specs.Sequence.{comes_next, last_position}
 use Rattle.vote_store.proofs.SequenceLemmas.{IsVotes, is_at-same}
 use Rattle.desk.specs.inner.Kept.{IsCast, IsNext, newest}
 
@@ -31,65 +32,33 @@ last_legal rules book (x ∷ xs) e t = rw (sym (append_assoc book (x ∷ []) xs)
 -- the seat and the book that a file's votes show
 pub opened_kept : (n : ℕ) (d : DeskId) (votes : List Ballot) → IsVotes votes → AllTaken (book_refusal n) [] (voted_list votes)
     → IsKept n (book_of votes) (seat_of d votes) votes
-opened_kept n d [] fine taken = record { as_long = refl; cast = λ e h. absurd (cc); next = λ h. refl; noted = tt }
-opened_kept n d (b ∷ rest) fine taken = record {
-  as_long = book_long b rest fine.sequence;
-  cast = λ e h. let is : e ≡ b.entry = cc in rw is (record { legal = last_legal (book_refusal n) [] (book_of (b ∷ rest)) b.entry taken; last = refl });
-  next = λ h. absurd (cc);
-  noted = tt;
-}
+opened_kept n d votes fine taken = grind (arith, book_long, last_legal)
 
 -- behind a vote at this position come the next round and the next place
 next_is : (p : Position) (votes : List Ballot) (e : Entry) → newest votes ≡ Some (record { at = p; entry = e })
     → (comes_next (next_place p) (last_position votes) ≡ true) × (comes_next (next_round p) (last_position votes) ≡ true)
-next_is p [] e h = absurd (cc)
-next_is p (b ∷ rest) e h = let at : b.at ≡ p = cc in rw at (
-  or_right (is_at (next_place p) (next_round p)) _ (is_at-same (next_place p) _ refl),
-  or_left _ (is_at (next_round p) (next_place p)) (is_at-same (next_round p) _ refl),
-)
+next_is p votes e h = grind (arith, or_right, is_at-same, or_left)
 
 -- both desks have voted, for this entry or not
 module _ (n : ℕ) (book : List Entry) (s t : SeatState) (votes : List Ballot) (e : Entry) (long : length book ≡ s.position.place)
     (last : newest votes ≡ Some (record { at = s.position; entry = e })) where
   settled_kept : t ≡ waiting s.desk (next_place s.position) → IsKept n (book ++ e ∷ []) t votes
-  settled_kept is = rw is (record {
-    as_long = length-append book (e ∷ []) ∙ ap (λ (k : ℕ). k + 1) long;
-    cast = λ f h. absurd (cc);
-    next = λ h. (next_is s.position votes e last).0;
-    noted = tt;
-  })
+  settled_kept is = grind (arith, length-append, next_is)
 
   differed_kept : t ≡ waiting s.desk (next_round s.position) → IsKept n book t votes
-  differed_kept is = rw is (record {
-    as_long = long;
-    cast = λ f h. absurd (cc);
-    next = λ h. (next_is s.position votes e last).1;
-    noted = tt;
-  })
+  differed_kept is = grind (arith, next_is)
 
 -- once a vote is cast and stored
 pub cast_kept : (n : ℕ) (book : List Entry) (s t : SeatState) (votes : List Ballot) (e : Entry) (settled : Settled)
     → length book ≡ s.position.place → book_refusal n book e ≡ None → Casts s e settled t
     → IsKept n (book_after settled book e) t (record { at = s.position; entry = e } ∷ votes)
-cast_kept n book s t votes e Settled.Pending long legal c = rw c.1 (record {
-  as_long = long;
-  cast = λ f h. let is : f ≡ e = cc in rw is (record { legal = legal; last = refl });
-  next = λ h. absurd (cc);
-  noted = tt;
-})
-cast_kept n book s t votes e Settled.Agreed long legal c = settled_kept n book s t _ e long refl c.1
-cast_kept n book s t votes e Settled.Differ long legal c = differed_kept n book s t _ e long refl c.1
+cast_kept n book s t votes e settled long legal c = grind (arith, common_steps, settled_kept, differed_kept)
 
 -- once a vote is heard
 pub heard_kept : (n : ℕ) (book : List Entry) (s t : SeatState) (votes : List Ballot) (v : Vote) (heard : Heard)
     → IsEntry v.entry → IsKept n book s votes → Hears s v heard t → IsKept n (book_heard heard book v.entry) t votes
 heard_kept n book s t votes v Heard.Mine entry k h = rw h.1 k
-heard_kept n book s t votes v Heard.Noted entry k h = rw h.3 (record {
-  as_long = k.as_long;
-  cast = λ f g. absurd (cc);
-  next = λ g. k.next h.2;
-  noted = entry;
-})
+heard_kept n book s t votes v Heard.Noted entry k h = grind arith
 heard_kept n book s t votes v Heard.Agreed entry k h = settled_kept n book s t votes v.entry k.as_long (k.cast v.entry h.2).last h.3
 heard_kept n book s t votes v Heard.Differ entry k h = differed_kept n book s t votes h.2.0 k.as_long (k.cast h.2.0 h.2.1).last h.3
 heard_kept n book s t votes v heard entry k h = rw h.2 k
