@@ -1,16 +1,15 @@
 -- What every call of a board keeps.
-use Rattle.std.proofs.Common.{◌≡◌, ℕ, Option, Some, None, List, [], ◌∷◌, length, refl, inl, inr, arith, length-append}
+use Rattle.std.proofs.Common.{◌≡◌, ℕ, Option, List, [], ◌∷◌, length, refl, inl, arith, length-append}
 use Rattle.notation.specs.declared.entry.Entry.{Entry}
 use Rattle.agree_core.specs.declared.{messages.DeskId.DeskId, messages.Message.Message, messages.Vote.Vote, position.Position.Position, seat.Heard.Heard}
 use Rattle.agree_core.specs.declared.messages.DeskId.TheVariants.{A, B}
-use Rattle.agree_core.specs.Agreed.{EqualVotes}
+use Rattle.agree_core.specs.Agreed.{EqualVotes, AllBoth}
 use Rattle.agree_core.specs.Ballots.{AllVotes, Ballot, In, VotesGrow, Within, ballot_at, ballot_of, votes_by}
 use Rattle.agree_core.specs.Boards.{BoardAnswer, BoardReceives, BoardState, BoardTicks, fresh_board}
 use Rattle.agree_core.specs.Books.{Rules}
 use Rattle.agree_core.specs.Desks.{book_heard}
-use Rattle.agree_core.specs.Positions.{first, next_place, next_round, position_of}
+use Rattle.agree_core.specs.Positions.{first, position_of}
 use Rattle.agree_core.specs.Readers.{Listens, ReaderState, noted_of, noting, other, reading}
-use Rattle.agree_core.specs.Agreed.{AllBoth}
 use Rattle.agree_core.specs.Keeping.{BoardFine, Each, MessageFine, NotedFine}
 use Rattle.agree_core.proofs.Both.{both_grow, both_push}
 use Rattle.agree_core.proofs.Waiting.{listens_wait}
@@ -21,8 +20,7 @@ votes_grow v w g B = g.1
 
 pub noted_grows : (votes votes' : List Ballot) → Within votes votes' → (at : Position) (x : Option Entry)
     → NotedFine votes at x → NotedFine votes' at x
-noted_grows votes votes' g at None h = tt
-noted_grows votes votes' g at (Some e) h = g (record { at = at; entry = e }) h
+noted_grows votes votes' g at x h = grind arith
 
 pub board_grows : (v w : AllVotes) → VotesGrow v w → (k : BoardState) → BoardFine v k → BoardFine w k
 board_grows v w g k f = record {
@@ -66,33 +64,21 @@ listens_keep v k l x h f i c e = record {
     there p = rw (← p) i
 
     both : (h : Heard) → Listens k.reader x h l.reader → AllBoth v.a v.b 0 (book_heard h k.book x.entry)
-    both Heard.Agreed c =
-        let j : In (record { at = at; entry = x.entry }) (votes_by v (other x.desk)) = rw c.2 at (f.noted (other x.desk)) in
-        both_push v.a v.b 0 k.book x.entry at.place at.round (omega (arith, f.long)) f.both
-        (both_voted v x.desk at.place at.round x.entry (there c.0) j)
-    both _ c = f.both
+    both h c = grind (arith, both_push, both_voted, there)
 
     long : (h : Heard) → Listens k.reader x h l.reader → length (book_heard h k.book x.entry) ≡ l.reader.position.place
     long h c = grind (arith, f.long, length-append k.book (x.entry ∷ []))
 
     noted : (h : Heard) → Listens k.reader x h l.reader → (d : DeskId) → NotedFine (votes_by v d) l.reader.position (noted_of l.reader d)
-    noted Heard.Mine c d = absurd c
-    noted Heard.Noted c d = rw c.3 (noted_there v k.reader x.desk x.entry f.noted (there c.0) d)
-    noted Heard.Differ c d = rw c.3 (nothing_noted v (next_round at) d)
-    noted Heard.Agreed c d = rw c.3 (nothing_noted v (next_place at) d)
-    noted _ c d = grind (arith, f.noted d)
+    noted h c d = grind (arith, noted_there, there, nothing_noted)
 
 pub fresh_fine : (v : AllVotes) → BoardFine v fresh_board
 fresh_fine v = record { both = tt; long = refl; noted = nothing_noted v first; waits = inl refl }
 
 pub board_receives_keeps : {Why : Type 0} (rules : Rules Why) (v : AllVotes) (k l : BoardState) (m : Message) (told : BoardAnswer)
     → BoardFine v k → MessageFine v m → BoardReceives rules k m told l → BoardFine v l
-board_receives_keeps rules v k l (Message.Vote x) (BoardAnswer.Told h) f i p = listens_keep v k l x h f i p.0 p.2
-board_receives_keeps rules v k l (Message.Vote x) (BoardAnswer.BadVotes place) f i p = rw p.3 f
-board_receives_keeps rules v k l (Message.Ask q) BoardAnswer.Asked f i p = rw p f
-board_receives_keeps rules v k l _ _ f i p = absurd p
+board_receives_keeps rules v k l m told f i p = grind (arith, listens_keep)
 
 -- what a board hands out are asks
 pub board_asks : (v : AllVotes) (k : BoardState) (out : List Message) → BoardTicks k out → Each (MessageFine v) out
-board_asks v k out (inl h) = rw h.1 (tt, tt)
-board_asks v k out (inr h) = rw h.1 tt
+board_asks v k out h = grind arith

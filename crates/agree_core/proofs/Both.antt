@@ -1,9 +1,9 @@
 -- Books whose entries both desks have voted for, place by place.
-use Rattle.std.proofs.Common.{◌≡◌, ℕ, zero, suc, ◌+◌, Some, List, [], ◌∷◌, ◌++◌, length, inr, arith}
+use Rattle.std.proofs.Common.{◌≡◌, ℕ, suc, ◌+◌, Some, List, [], ◌∷◌, ◌++◌, length, inr, arith}
 use Rattle.std.specs.Prelude.{slice_get}
 use Rattle.notation.specs.declared.entry.Entry.{Entry}
 use Rattle.agree_core.specs.Agreed.{AllBoth, AllSettled, EqualVotes}
-use Rattle.agree_core.specs.Ballots.{AllJustified, AllVotes, Ballot, Within, ballot_at}
+use Rattle.agree_core.specs.Ballots.{AllJustified, AllVotes, Ballot, Within}
 use Rattle.agree_core.proofs.Settling.{equal_votes_settle}
 
 pub same : (xs : List Ballot) → Within xs xs
@@ -15,8 +15,7 @@ more b xs c i = inr i
 pub both_grow : (own own' theirs theirs' : List Ballot) → Within own own' → Within theirs theirs'
     → (place : ℕ) (es : List Entry) → AllBoth own theirs place es → AllBoth own' theirs' place es
 both_grow own own' theirs theirs' g h place [] s = tt
-both_grow own own' theirs theirs' g h place (e ∷ es) s =
-    ((s.0.0, (g (ballot_at place s.0.0 e) s.0.1.0, h (ballot_at place s.0.0 e) s.0.1.1)), both_grow own own' theirs theirs' g h (place + 1) es s.1)
+both_grow own own' theirs theirs' g h place (e ∷ es) s = grind (arith, (both_grow own own' theirs theirs' g h (place + 1) es s.1))
 
 pub both_push : (own theirs : List Ballot) (place : ℕ) (es : List Entry) (e : Entry) (next round : ℕ) → next ≡ place + length es
     → AllBoth own theirs place es → EqualVotes (record { a = own; b = theirs }) next round e → AllBoth own theirs place (es ++ e ∷ [])
@@ -34,12 +33,8 @@ both_settled v j place (e ∷ es) s = ((s.0.0, equal_votes_settle v j place s.0.
 -- the votes for one of its entries
 pub both_at : (own theirs : List Ballot) (place : ℕ) (es : List Entry) (n : ℕ) (e : Entry) → AllBoth own theirs place es → slice_get es n ≡ Some e
     → (round : ℕ) × EqualVotes (record { a = own; b = theirs }) (place + n) round e
-both_at own theirs place [] n e h k = absurd (cc)
-both_at own theirs place (x ∷ es) zero e h k =
-    let it : x ≡ e = cc in
-    let here : place + 0 ≡ place = omega arith in
-    (h.0.0, rw (← it, here) h.0.1)
 both_at own theirs place (x ∷ es) (suc n) e h k =
     let later = both_at own theirs (place + 1) es n e h.1 k in
     let here : place + suc n ≡ place + 1 + n = omega arith in
     (later.0, rw here later.1)
+both_at own theirs place es n e h k = grind arith

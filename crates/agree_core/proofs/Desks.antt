@@ -1,8 +1,9 @@
 -- What every call of a desk keeps, over any disk.
+use Rattle.std.proofs.lemmas.Grind.{common_steps}
 use Rattle.std.proofs.Common.{◌≡◌, ◌≢◌, ◌⊎◌, true≢false, Option, Some, None, List, [], ◌∷◌, ◌++◌, refl, sym, ap, ◌∙◌, subst, inl, inr, arith, length-append}
 use Rattle.notation.specs.declared.entry.Entry.{Entry}
 use Rattle.agree_core.specs.declared.{messages.DeskId.DeskId, messages.Message.Message, messages.Vote.Vote, position.Position.Position, seat.Heard.Heard, seat.Settled.Settled}
-use Rattle.agree_core.specs.Ballots.{Ballot, Differed, Follows, In, Justified, Within, ballot_of}
+use Rattle.agree_core.specs.Ballots.{Ballot, Differed, In, Justified, Within, ballot_of}
 use Rattle.agree_core.specs.Books.{Rules, book_of}
 use Rattle.agree_core.specs.Desks.{DeskState, Fails, MayCast, PenAnswer, Pens, ReceiveAnswer, Receives, Ticks, Unchanged, ask_other, asker, book_after, book_heard, next_ballot, own_vote}
 use Rattle.agree_core.specs.FileView.{FileView, Holds, MayHold, MaySync, Stays, Synced}
@@ -20,18 +21,7 @@ module _ (d : DeskId) (theirs : List Ballot) where
   casts : (own : List Ballot) (s : SeatState) (book : List Entry) (e : Entry) → SeatFine d own theirs s book
       → s.mine ≡ None → InRange s.position
       → SeatFine d (record { at = s.position; entry = e } ∷ own) theirs (casting s e) book
-  casts own s book e f n r =
-      let b : Ballot = record { at = s.position; entry = e } in
-      let j : Follows theirs b own × (book_of (b ∷ own) ≡ book) = subst (MineFine theirs own book s.position) n f.mine e in
-      record {
-        desk = f.desk;
-        justified = (r, j.0, f.justified);
-        both = both_grow own (b ∷ own) theirs theirs (more b own) (same theirs) 0 book f.both;
-        long = f.long;
-        mine = (own, refl, j.1);
-        noted = tt;
-        waits = inr refl;
-      }
+  casts own s book e f n r = grind (arith, both_grow, more, same)
 
   -- where both votes of a round are there, the desk waits at the next position
   agrees : (own : List Ballot) (s : SeatState) (book : List Entry) (e : Entry) → SeatFine d own theirs s book
@@ -55,19 +45,7 @@ module _ (d : DeskId) (theirs : List Ballot) where
   differs : (own : List Ballot) (s : SeatState) (book : List Entry) (e : Entry) → SeatFine d own theirs s book
       → s.mine ≡ Some e → Differed theirs (record { at = s.position; entry = e })
       → SeatFine d own theirs (waiting s.desk (next_round s.position)) book
-  differs own s book e f n i =
-      let b : Ballot = record { at = s.position; entry = e } in
-      let mine : MineFine theirs own book s.position (Some e) = subst (MineFine theirs own book s.position) n f.mine in
-      let shown : book_of (b ∷ mine.0) ≡ book = rw (← mine.1) mine.2 in
-      record {
-        desk = f.desk;
-        justified = f.justified;
-        both = f.both;
-        long = f.long;
-        mine = λ g. rw mine.1 (inl (refl, i), book_kept (record { at = next_round s.position; entry = g }) b mine.0 book refl shown);
-        noted = tt;
-        waits = inl refl;
-      }
+  differs own s book e f n i = grind (arith, book_kept)
 
   cast_keeps : (own : List Ballot) (s t : SeatState) (book : List Entry) (e : Entry) (settled : Settled)
       → SeatFine d own theirs s book → s.mine ≡ None → InRange s.position → Casts s e settled t
@@ -90,14 +68,7 @@ module _ (d : DeskId) (theirs : List Ballot) where
       there n = rw (← n.1) (m (λ e. n.0 (e ∙ sym f.desk)))
 
       turn : (h : Heard) → Hears s v h t → SeatFine d own theirs t (book_heard h book v.entry)
-      turn Heard.Mine c = rw c.1 f
-      turn Heard.Noted c =
-          let mine : MineFine theirs own book s.position None = subst (MineFine theirs own book s.position) c.2 f.mine in
-          let noted = there c.0 in
-          rw c.3 (record { desk = f.desk; justified = f.justified; both = f.both; long = f.long; mine = mine; noted = noted; waits = inl refl })
-      turn Heard.Agreed c = rw c.3 (agrees own s book v.entry f c.2 (there c.0))
-      turn Heard.Differ c = rw c.3 (differs own s book c.2.0 f c.2.1 (v.entry, there c.0, λ e. c.2.2 (sym e)))
-      turn _ c = rw c.2 f
+      turn h c = grind (arith, common_steps, there, agrees, differs)
 
 -- a desk that opens its file is where the votes leave it
 opened_fine : (d : DeskId) (theirs votes : List Ballot) → Justified theirs votes → {Disk : Type 0} → (disk : Disk)
@@ -115,12 +86,10 @@ opened_fine d theirs (b ∷ bs) j disk = record {
 }
 
 more_justified : (theirs votes these : List Ballot) → Justified theirs votes → OneMore theirs votes these → Justified theirs these
-more_justified theirs votes these j (inl e) = rw e j
-more_justified theirs votes these j (inr e) = rw e.1 e.2
+more_justified theirs votes these j h = grind arith
 
 pub more_within : (theirs votes these : List Ballot) → OneMore theirs votes these → Within votes these
-more_within theirs votes these (inl e) = rw e (same votes)
-more_within theirs votes these (inr e) = rw e.1 (more e.0 votes)
+more_within theirs votes these h = grind (arith, same, more)
 
 mine_grows : (own theirs theirs' : List Ballot) (book : List Entry) → Within theirs theirs' → (at : Position) (x : Option Entry)
     → MineFine theirs own book at x → MineFine theirs' own book at x
@@ -130,20 +99,11 @@ mine_grows own theirs theirs' book g at None h =
 
 seat_grows : (d : DeskId) (own theirs theirs' : List Ballot) (s : SeatState) (book : List Entry) → Within theirs theirs'
     → SeatFine d own theirs s book → SeatFine d own theirs' s book
-seat_grows d own theirs theirs' s book g h = record {
-  desk = h.desk;
-  justified = justified_grows theirs theirs' g own h.justified;
-  both = both_grow own own theirs theirs' (same own) g 0 book h.both;
-  long = h.long;
-  mine = mine_grows own theirs theirs' book g s.position s.mine h.mine;
-  noted = noted_grows theirs theirs' g s.position s.theirs h.noted;
-  waits = h.waits;
-}
+seat_grows d own theirs theirs' s book g h = grind (arith, justified_grows, both_grow, same, mine_grows, noted_grows)
 
 shows_grows : (theirs theirs' votes : List Ballot) → Within theirs theirs' → (o : Option (List Ballot))
     → ShowsMore theirs votes o → ShowsMore theirs' votes o
-shows_grows theirs theirs' votes g o (these, e, inl h) = (these, e, inl h)
-shows_grows theirs theirs' votes g o (these, e, inr h) = (these, e, inr (h.0, h.1, justified_grows theirs theirs' g (h.0 ∷ votes) h.2))
+shows_grows theirs theirs' votes g o h = grind (arith, justified_grows)
 
 shows_votes : (theirs votes found : List Ballot) (o : Option (List Ballot)) → o ≡ Some found → ShowsMore theirs votes o
     → OneMore theirs votes found
@@ -155,13 +115,11 @@ each_append P (x ∷ xs) ys h k = (h.0, each_append P xs ys h.1 k)
 
 asks_own : (d : DeskId) (own : List Ballot) (at : Position) (theirs : Option Entry) (c : DeskId)
     → Each (OwnMessage d own) (ask_other (asker c) at theirs)
-asks_own d own at None c = (tt, tt)
-asks_own d own at (Some e) c = tt
+asks_own d own at theirs c = grind arith
 
 votes_own : (d c : DeskId) → c ≡ d → (own theirs : List Ballot) (book : List Entry) (at : Position) (mine : Option Entry)
     → MineFine theirs own book at mine → Each (OwnMessage d own) (own_vote c at mine)
-votes_own d c q own theirs book at None m = tt
-votes_own d c q own theirs book at (Some e) m = ((q, rw m.1 (inl refl)), tt)
+votes_own d c q own theirs book at mine m = grind arith
 
 module _ {Disk : Type 0} (view : FileView Disk) (d : DeskId) (theirs : List Ballot) where
   pub held : (votes : List Ballot) (disk : Disk) → Holds view disk votes → DiskFine view d theirs votes disk
@@ -172,8 +130,7 @@ module _ {Disk : Type 0} (view : FileView Disk) (d : DeskId) (theirs : List Ball
   may_held votes disk b j h = (f (view.reads disk) h.0, λ shown i. f shown (h.1 shown i))
     where
       f : (o : Option (List Ballot)) → (o ≡ Some votes) ⊎ (o ≡ Some (b ∷ votes)) → ShowsMore theirs votes o
-      f o (inl e) = (votes, e, inl refl)
-      f o (inr e) = (b ∷ votes, e, inr (b, refl, j))
+      f o h = grind arith
 
   pub stays_fine : (votes : List Ballot) (old new : Disk) → Stays view old new → DiskFine view d theirs votes old
       → DiskFine view d theirs votes new
@@ -188,17 +145,12 @@ module _ {Disk : Type 0} (view : FileView Disk) (d : DeskId) (theirs : List Ball
 
   may_sync_fine : (votes : List Ballot) (old new : Disk) → MaySync view old new → DiskFine view d theirs votes old
       → DiskFine view d theirs votes new
-  may_sync_fine votes old new (inl s) f = stays_fine votes old new s f
-  may_sync_fine votes old new (inr s) f = synced_fine votes old new s f
+  may_sync_fine votes old new h f = grind (arith, stays_fine, synced_fine)
 
   -- the same desk on a disk that shows the same
   on_disk : (k : DeskState Disk) (disk : Disk) → Stays view k.disk disk → DeskFine view d theirs k
       → DeskFine view d theirs (record k { disk = disk })
-  on_disk k disk s f = record {
-    seat = f.seat;
-    disk = stays_fine k.votes k.disk disk s f.disk;
-    safe = λ e. stays_held k.votes k.disk disk s (f.safe e);
-  }
+  on_disk k disk s f = grind (arith, stays_fine, stays_held)
 
   -- a desk that may have another seat, book or disk, and hands out nothing
   silent : (k l m : DeskState Disk) → DeskFine view d theirs m → m.votes ≡ k.votes → l ≡ m → DeskKept view d theirs k l []
@@ -253,12 +205,7 @@ module _ {Disk : Type 0} (view : FileView Disk) (d : DeskId) (theirs : List Ball
 
   pub ticks_keep : (k : DeskState Disk) (out : List Message) → DeskFine view d theirs k → Ticks k out
       → DeskKept view d theirs k k out
-  ticks_keep k out f (inl q) =
-      let s = k.seat in
-      let votes = votes_own d s.desk f.seat.desk k.votes theirs k.book s.position s.mine f.seat.mine in
-      let told = each_append (OwnMessage d k.votes) _ _ votes (asks_own d k.votes s.position s.theirs s.desk) in
-      rw q.2 (record { fine = f; grows = same k.votes; told = told })
-  ticks_keep k out f (inr q) = rw q.1 (record { fine = f; grows = same k.votes; told = tt })
+  ticks_keep k out f h = grind (arith, votes_own, each_append, asks_own, same)
 
   -- a desk that is opened from what is read there
   opens_fine : (k : DeskState Disk) → Justified theirs k.votes → Holds view k.disk k.votes → k ≡ opened d k.disk k.votes
@@ -267,8 +214,7 @@ module _ {Disk : Type 0} (view : FileView Disk) (d : DeskId) (theirs : List Ball
       (record { seat = opened_fine d theirs k.votes j k.disk; disk = held k.votes k.disk h; safe = λ _. h })
 
   pub creates_fine : (k : DeskState Disk) → Creates view d k → DeskFine view d theirs k
-  creates_fine k c = subst (DeskFine view d theirs) (sym c.0)
-      (record { seat = opened_fine d theirs [] tt k.disk; disk = held [] k.disk c.1; safe = λ _. c.1 })
+  creates_fine k c = grind (arith, opened_fine, held)
 
   -- what is read has the votes that the desk had, and the opened desk has what is read
   pub opened_keeps : {Why : Type 0} (rules : Rules Why) (votes : List Ballot) (disk : Disk) (k : DeskState Disk)
@@ -281,10 +227,7 @@ module _ {Disk : Type 0} (view : FileView Disk) (d : DeskId) (theirs : List Ball
   pub not_opened_keeps : {Why : Type 0} (rules : Rules Why) (votes : List Ballot) (disk left : Disk) (why : OpenRefusal)
       → DiskFine view d theirs votes disk → Opens view rules d disk (Opening.NotOpened why left)
       → DiskFine view d theirs votes left
-  not_opened_keeps rules votes disk left OpenRefusal.Unsound f o = synced_fine votes disk left o.1 f
-  not_opened_keeps rules votes disk left (OpenRefusal.BadVotes place) f o =
-      synced_fine votes disk left (o.3.0 ∙ sym o.1, λ shown i. o.3.1 shown i ∙ sym o.1) f
-  not_opened_keeps rules votes disk left _ f o = may_sync_fine votes disk left o f
+  not_opened_keeps rules votes disk left why f o = grind (arith, synced_fine, may_sync_fine)
 
 -- it stays so as the other desk votes on
 pub desk_grows : {Disk : Type 0} (view : FileView Disk) (d : DeskId) (theirs more : List Ballot) (k : DeskState Disk)

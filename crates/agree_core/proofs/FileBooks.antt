@@ -2,7 +2,6 @@
 use Rattle.std.proofs.Common.{◌≡◌, ℕ, ◌+◌, ◌<◌, Bool, true, false, nat_eq, List, [], ◌∷◌, ◌++◌, length, refl, sym, ap, ◌∙◌, subst, inl, inr, arith, append_assoc, append-nil, length-append}
 use Rattle.std.proofs.lemmas.Bool.Decides.{nat_tests}
 use Rattle.notation.specs.declared.entry.Entry.{Entry}
-use Rattle.agree_core.specs.declared.messages.DeskId.TheVariants.{A, B}
 pub use Rattle.agree_core.specs.Agreed.{AllBoth}
 use Rattle.agree_core.specs.Agreed.{BeginsWith, IsAgreedList}
 use Rattle.agree_core.specs.Ballots.{Ballot, AllVotes, AllJustified, Justified, In, IsSequence, ballot_at}
@@ -59,8 +58,7 @@ book_both theirs [] j = tt
 book_both theirs (b ∷ bs) j = book_agreed theirs b bs j
 
 pub files_settled : (v : AllVotes) → AllJustified v → FilesSettled v
-files_settled v j A = both_settled v j 0 (book_of v.a) (book_both v.b v.a j.0)
-files_settled v j B = both_settled v j 0 (book_of v.b) (both_turned v.b v.a 0 (book_of v.b) (book_both v.a v.b j.1))
+files_settled v j h = grind (arith, both_settled, book_both, both_turned)
 
 -- no vote is for a place past the last one
 none_ahead : (theirs : List Ballot) (b : Ballot) (bs : List Ballot) → Justified theirs (b ∷ bs) → (r : ℕ) (e : Entry)

@@ -41,8 +41,7 @@ earlier theirs b (x ∷ xs) j c i = grind (arith, earlier theirs x xs j.2 c, fol
 -- a desk has one vote at a position
 pub one_vote : (theirs bs : List Ballot) → Justified theirs bs → (b c : Ballot) → In b bs → In c bs → b.at ≡ c.at → b ≡ c
 one_vote theirs [] j b c i k e = absurd i
-one_vote theirs (x ∷ xs) j b c i k e =
-    grind (arith, earlier theirs x xs j b, earlier theirs x xs j c, one_vote theirs xs j.2 b c)
+one_vote theirs (x ∷ xs) j b c i k e = grind (arith, earlier, (one_vote theirs xs j.2 b c))
 
 -- both desks voted in this round, and differed
 abbrev pub BothDiffered : List Ballot → List Ballot → ℕ → ℕ → Type 0
@@ -76,8 +75,7 @@ pub place_closed : (theirs bs : List Ballot) → Justified theirs bs → (place 
     → In (ballot_at (place + 1) 0 g) bs
     → (round : ℕ) × (e : Entry) × In (ballot_at place round e) bs × In (ballot_at place round e) theirs
 place_closed theirs [] j place g i = absurd i
-place_closed theirs (x ∷ xs) j place g (inr i) =
-    let h = place_closed theirs xs j.2 place g i in (h.0, h.1, inr h.2, h.3)
+place_closed theirs (x ∷ xs) j place g (inr i) = grind (arith, (place_closed theirs xs j.2 place g i))
 place_closed theirs (x ∷ []) j place g (inl p) = absurd (grind arith)
 place_closed theirs (x ∷ y ∷ ys) (r, inl n, j) place g (inl p) = absurd (grind arith)
 place_closed theirs (x ∷ y ∷ ys) (r, inr n, j) place g (inl p) =
@@ -86,19 +84,15 @@ place_closed theirs (x ∷ y ∷ ys) (r, inr n, j) place g (inl p) =
 
 -- votes that follow one another go up by a round or a place
 pub in_sequence : (theirs bs : List Ballot) → Justified theirs bs → IsSequence bs
-in_sequence theirs [] j = tt
-in_sequence theirs (b ∷ []) j = (j.0, j.1, tt)
 in_sequence theirs (c ∷ b ∷ bs) j = grind (arith, in_sequence theirs (b ∷ bs) j.2)
+in_sequence theirs bs j = grind arith
 
 -- they still follow one another once the other desk has voted more
 pub follows_grows : (theirs theirs' : List Ballot) → Within theirs theirs' → (c : Ballot) (bs : List Ballot)
     → Follows theirs c bs → Follows theirs' c bs
-follows_grows theirs theirs' g c [] n = n
-follows_grows theirs theirs' g c (b ∷ bs) (inl n) = inl (n.0, (n.1.0, g (record { at = b.at; entry = n.1.0 }) n.1.1, n.1.2))
-follows_grows theirs theirs' g c (b ∷ bs) (inr n) = inr (n.0, g b n.1)
+follows_grows theirs theirs' g c bs n = grind arith
 
 pub justified_grows : (theirs theirs' : List Ballot) → Within theirs theirs' → (bs : List Ballot)
     → Justified theirs bs → Justified theirs' bs
 justified_grows theirs theirs' g [] j = tt
-justified_grows theirs theirs' g (b ∷ bs) j =
-    (j.0, follows_grows theirs theirs' g b bs j.1, justified_grows theirs theirs' g bs j.2)
+justified_grows theirs theirs' g (b ∷ bs) j = grind (arith, follows_grows, (justified_grows theirs theirs' g bs j.2))

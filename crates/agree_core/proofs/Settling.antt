@@ -23,10 +23,7 @@ none_later own theirs jo jt place r s e f h i less =
 -- a place is settled once
 pub both_once : (own theirs : List Ballot) → Justified theirs own → Justified own theirs → (place r s : ℕ) (e f : Entry)
     → Both own theirs place r e → Both own theirs place s f → (r ≡ s) × (e ≡ f)
-both_once own theirs jo jt place r s e f h k =
-    let before = none_later own theirs jo jt place r s e f h k.0 in
-    let after = none_later own theirs jo jt place s r f e k h.0 in
-    grind (arith, before, after, one_vote theirs own jo (ballot_at place r e) (ballot_at place s f) h.0 k.0)
+both_once own theirs jo jt place r s e f h k = grind (arith, none_later, one_vote)
 
 pub settled_once : (v : AllVotes) → AllJustified v → SettledOnce v
 settled_once v j place r s e f h k = both_once v.a v.b j.0 j.1 place r s e f h k
@@ -36,8 +33,7 @@ pub equal_votes_settle : (v : AllVotes) → AllJustified v → EqualVotesSettle 
 equal_votes_settle v j place round e h = (h, λ r f less k. let same = settled_once v j place r round f e k h in omega arith)
 
 pub one_vote_each : (v : AllVotes) → AllJustified v → OneVoteEach v
-one_vote_each v j A b c = one_vote v.b v.a j.0 b c
-one_vote_each v j B b c = one_vote v.a v.b j.1 b c
+one_vote_each v j desk b c = grind (arith, one_vote)
 
 pub rounds_differ : (v : AllVotes) → AllJustified v → RoundsDiffer v
 rounds_differ v j A place round g i = differed v.b v.a j.0 (ballot_at place (round + 1) g) i place round refl (omega arith)

@@ -32,5 +32,4 @@ taken_push rules book (x ∷ xs) e t n = (t.0, taken_push rules (book ++ x ∷ [
 pub refused_next : {Why : Type 0} (rules : Rules Why) (book xs : List Entry) (e : Entry) (rest : List Entry)
     → AllTaken rules book xs → rules (book ++ xs) e ≢ None → FirstRefused rules book (xs ++ e ∷ rest) (length (book ++ xs))
 refused_next rules book [] e rest t n = inl (rw append-nil at n, ap length (append-nil book))
-refused_next rules book (x ∷ xs) e rest t n =
-    inr (t.0, rw (← append_assoc book (x ∷ []) xs) (refused_next rules (book ++ x ∷ []) xs e rest t.1 (rw append_assoc n)))
+refused_next rules book (x ∷ xs) e rest t n = grind (arith, append_assoc, (refused_next rules (book ++ x ∷ []) xs e rest t.1 (rw append_assoc n)))

@@ -19,30 +19,13 @@ stays disk = (refl, λ image. (λ i. i, λ i. i))
 
 module _ {Why : Type 0} (rules : Rules Why) where
   pub differs_and_agrees : (four six : Entry) → rules [] four ≡ None → rules [] six ≡ None → six ≢ four → DiffersAndAgrees rules four six
-  differs_and_agrees four six f s unlike = (
-    (((refl, refl), omega arith, f), ((refl, refl), refl, refl, refl, holds _), refl),
-    (refl, ((other_desk, refl), refl, (four, refl, unlike), refl), stays _, refl, refl),
-    (((refl, refl), ((omega arith, omega arith), omega arith), s), ((refl, refl), refl, refl, refl, holds _), refl),
-    (refl, ((other_desk, refl), refl, refl, refl), stays _, refl, refl),
-  )
+  differs_and_agrees four six f s unlike = grind (arith, holds, other_desk, stays)
 
   pub stopped_and_opened : (e f : Entry) → rules [] e ≡ None → StoppedAndOpened rules e f
-  stopped_and_opened e f h = (
-    (((refl, refl), ((omega arith, omega arith), omega arith), h), (inr refl, λ image i. elim i [ inl q ↦ inr q | inr q ↦ inl q ]), refl, refl),
-    (refl, (h, tt), holds _, refl),
-    inl (refl, (omega arith, omega arith), refl),
-    ((refl, λ q. absurd (cc)), (stays _, refl), refl),
-    (refl, ((other_desk, refl), refl, refl, refl), stays _, refl, refl),
-  )
+  stopped_and_opened e f h = grind (arith, holds, stays, other_desk)
 
   pub failed_and_opened : (e f : Entry) (m : Message) → rules [] e ≡ None → FailedAndOpened rules e f m
-  failed_and_opened e f m h = (
-    (((refl, refl), ((omega arith, omega arith), omega arith), h), (inl refl, λ image i. elim i [ inl q ↦ inl q | inr q ↦ inl q ]), refl, refl),
-    (refl, (stays _, refl), refl),
-    (refl, (stays _, refl), refl),
-    inr (inl refl, refl),
-    (refl, tt, holds _, refl),
-  )
+  failed_and_opened e f m h = grind (arith, stays, holds)
 
   pub votes_of_no_book : (e : Entry) → rules [] e ≢ None → VotesOfNoBook rules e
   votes_of_no_book e h = (
