@@ -1,6 +1,5 @@
 -- What a map keeps.
-use Rattle.std.proofs.Common.{◌≡◌, ◌⊎◌, ◌<◌, ◌+◌, ℕ, zero, suc, true, false, List, [], ◌∷◌, length, slice_index_or, Option, Some, None, Result, Ok, Err, OnOk, IfOk}
-use Rattle.std.proofs.Common.{Ordering, Less, Equal, Greater, arith, sym, subst, ap, ◌∙◌, inl, inr, ⊎_elim}
+use Rattle.std.proofs.Common.{◌≡◌, ◌⊎◌, ◌<◌, ◌+◌, ℕ, suc, true, false, List, ◌∷◌, length, slice_index_or, Option, Result, OnOk, IfOk, Ordering, arith, inr}
 use Rattle.std.specs.Prelude.{OnErr, if◌then◌else◌, is_ok, is_some}
 use Rattle.std.specs.List.{IsAmong}
 use Rattle.std.proofs.lemmas.List.{length-map}
@@ -13,28 +12,20 @@ by_order : {K X : Type 0} (k : K) (v : X) (e : K × X) (es rest : List (K × X))
     → (Has (values_of rest) x → Has (values_of es) x ⊎ (v ≡ x))
     → (o : Ordering) → Has (values_of (match_ordering o ((k, v) ∷ e ∷ es) ((e.0, v) ∷ es) (e ∷ rest))) x
     → Has (values_of (e ∷ es)) x ⊎ (v ≡ x)
-by_order k v e es rest x ih Less (inl q) = inr q
-by_order k v e es rest x ih Less (inr h) = inl h
-by_order k v e es rest x ih Equal (inl q) = inr q
-by_order k v e es rest x ih Equal (inr h) = inl (inr h)
-by_order k v e es rest x ih Greater (inl q) = inl (inl q)
-by_order k v e es rest x ih Greater (inr h) = ⊎_elim (λ i. inl (inr i)) (λ i. inr i) (ih h)
+by_order k v e es rest x ih o h = grind arith
 
 inserted : {K X : Type 0} (cmp : K → K → Ordering) (k : K) (v : X) (es : List (K × X)) → AreOfOr v (values_of (insert_entry cmp es k v)) (values_of es)
-inserted cmp k v [] x (inl q) = inr q
-inserted cmp k v [] x (inr h) = absurd h
 inserted cmp k v (e ∷ es) x h = by_order k v e es (insert_entry cmp es k v) x (inserted cmp k v es x) (cmp k e.0) h
+inserted cmp k v es x h = grind arith
 
 pub keeps : {K X A E : Type 0} (cmp : K → K → Ordering) (k : K) (v : X) (old new : List (K × X)) (r : Result A E)
     → OnOk r (new ≡ insert_entry cmp old k v) → OnErr r (new ≡ old) → AreOfOr v (values_of new) (values_of old)
-keeps cmp k v old new (Ok a) o n = subst (λ (l : List _). AreOfOr v (values_of l) (values_of old)) (sym o) (inserted cmp k v old)
-keeps cmp k v old new (Err a) o n = subst (λ (l : List _). AreOfOr v (values_of l) (values_of old)) (sym n) (λ x h. inl h)
+keeps cmp k v old new r o n = grind (arith, inserted)
 
 -- what is among them is one of them
 at_index : {X : Type 0} (xs : List X) (x : X) (i : ℕ) → i < length xs → x ≡ slice_index_or xs i x → Has xs x
-at_index [] x i lt e = absurd (omega (arith, lt))
-at_index (y ∷ ys) x zero lt e = inl (sym e)
 at_index (y ∷ ys) x (suc i) lt e = inr (at_index ys x i (omega (arith, lt)) e)
+at_index xs x i lt e = grind arith
 
 pub is_one : {X : Type 0} (xs : List X) (x : X) → IsAmong xs x → Has xs x
 is_one xs x among = at_index xs x among.0 among.1.0 among.1.1
@@ -42,6 +33,4 @@ is_one xs x among = at_index xs x among.0 among.1.0 among.1.1
 -- a new key is one more
 pub one_more : {K X Y : Type 0} (old new : List (K × X)) (r : Result (Option X) Y) (was : Option X) → IfOk r (λ o. o ≡ was)
     → IfOk r (λ o. length new ≡ length old + (if is_some o then 0 else 1)) → is_some was ≡ false → is_ok r ≡ true → HasMore (values_of old) (values_of new)
-one_more old new (Ok (Some x)) was same len none ok = let e : is_some (Some x) ≡ false = ap is_some same ∙ none in absurd (cc)
-one_more old new (Ok None) was same len none ok = omega (arith, len, length-map old (λ e. e.1), length-map new (λ e. e.1))
-one_more old new (Err y) was same len none ok = absurd (cc)
+one_more old new r was same len none ok = grind (arith, length-map)

@@ -1,5 +1,6 @@
 -- What passes at a window.
-use Rattle.std.proofs.Common.{◌≡◌, ◌⊎◌, ℕ, Option, Some, List, [], ◌∷◌, ◌++◌, append-nil, append_assoc, refl, sym, ap, ◌∙◌, subst, inl, inr, ⊎_elim}
+use Rattle.std.proofs.lemmas.Grind.{common_steps}
+use Rattle.std.proofs.Common.{arith, ◌≡◌, ◌⊎◌, ℕ, Option, Some, List, [], ◌∷◌, ◌++◌, append-nil, append_assoc, refl, sym, ◌∙◌, subst, inl, inr, ⊎_elim}
 use Rattle.std.specs.Prelude.{IfSome, ◌≤◌, take}
 use Rattle.links.specs.Passed.{Passed, Sent, Came, IsRead, IsTaken, taken_of}
 use Rattle.links.specs.declared.link.{Arrival.Arrival, Receivers.Receivers, Taken.Taken}
@@ -22,12 +23,10 @@ has_split (x ∷ log) q p (inl e) = inl (inl e)
 has_split (x ∷ log) q p (inr h) = ⊎_elim (λ k. inl (inr k)) (λ e. inr e) (has_split log q p h)
 
 handed_more : (game : ℕ) (above more : List Passed) (to : Receivers) (m : List ℕ) → IsHanded game above to m → IsHanded game (above ++ more) to m
-handed_more game above more to m (inl h) = inl (has_more above more (Sent to m) h)
-handed_more game above more to m (inr q) = inr q
+handed_more game above more to m h = grind (arith, has_more)
 
 brought_more : (game : ℕ) (below more : List Passed) (m : List ℕ) → IsBrought game below m → IsBrought game (below ++ more) m
-brought_more game below more m (inl h) = inl (has_more below more (Came m) h)
-brought_more game below more m (inr q) = inr q
+brought_more game below more m h = grind (arith, has_more)
 
 came_isn't_sent : (m : List ℕ) (to : Receivers) (n : List ℕ) → Came m ≡ Sent to n → ⊥
 came_isn't_sent m to n e = cc
@@ -46,9 +45,7 @@ sent_to_is to one m n e = cc
 
 -- what was handed is the same, and for the same
 same_handed : (game : ℕ) (above : List Passed) (to one : Receivers) (m n : List ℕ) → Sent to m ≡ Sent one n → IsHanded game above to m → IsHanded game above one n
-same_handed game above to one m n e h =
-    subst (λ (l : List ℕ). IsHanded game above one l) (sent_is to one m n e)
-    (subst (λ (r : Receivers). IsHanded game above r m) (sent_to_is to one m n e) h)
+same_handed game above to one m n e h = grind (arith, sent_is, sent_to_is)
 
 -- one is handed to the window; one is given by it; one is handed to its link; one is given by that
 pub sent_above : (game : ℕ) (above below : List Passed) (to : Receivers) (m : List ℕ) → IsFaithful game above below → IsFaithful game (above ++ Sent to m ∷ []) below
@@ -84,20 +81,12 @@ some_of P o m h e = subst (λ (x : Option (List ℕ)). IfSome x P) e h
 pub above_sent : (game : ℕ) (above below : List Passed) (early : List (List ℕ)) (ask : Option (List ℕ)) (to : Receivers) (m : List ℕ)
     → IsWindow game above below early ask
     → IsWindow game (above ++ Sent to m ∷ []) below early ask
-above_sent game above below early ask to m w = record {
-  faithful = sent_above game above below to m w.faithful;
-  kept = w.kept;
-  ask = w.ask;
-}
+above_sent game above below early ask to m w = grind (arith, sent_above)
 
 pub above_came : (game : ℕ) (above below : List Passed) (early : List (List ℕ)) (ask : Option (List ℕ)) (m : List ℕ) → IsBrought game below m
     → IsWindow game above below early ask
     → IsWindow game (above ++ Came m ∷ []) below early ask
-above_came game above below early ask m b w = record {
-  faithful = came_above game above below m b w.faithful;
-  kept = w.kept;
-  ask = w.ask;
-}
+above_came game above below early ask m b w = grind (arith, came_above)
 
 pub below_sent : (game : ℕ) (above below : List Passed) (early : List (List ℕ)) (ask : Option (List ℕ)) (to : Receivers) (m : List ℕ) → IsHanded game above to m
     → IsWindow game above below early ask
@@ -138,8 +127,7 @@ pub stays_below : {game : ℕ} {above below new : List Passed} {votes : List (Li
     → new ≡ below
     → IsWindow game above below votes asked
     → IsWindow game above new votes asked
-stays_below {game} {above} {below} {new} {votes} {asked} e w =
-    subst (λ (l : List Passed). IsWindow game above l votes asked) (sym e) w
+stays_below {game} {above} {below} {new} {votes} {asked} e w = grind arith
 
 pub is_handed : {game : ℕ} {above new below : List Passed} {votes : List (List ℕ)} {asked : Option (List ℕ)} (to : Receivers) (m : List ℕ)
     → new ≡ above ++ Sent to m ∷ []
@@ -160,11 +148,7 @@ gives {game} {above} {new} {below} {votes} {asked} {m} e b w =
 -- what is kept changes
 pub with_asked : {game : ℕ} {above below : List Passed} {votes : List (List ℕ)} {asked new : Option (List ℕ)} {m : List ℕ}
     → (new ≡ asked) ⊎ ((new ≡ Some m) × IsAsk game m) → IsWindow game above below votes asked → IsWindow game above below votes new
-with_asked {game} (inl e) k = record {
-  faithful = k.faithful;
-  kept = k.kept;
-  ask = subst (λ (o : Option (List ℕ)). IfSome o (IsAsk game)) (sym e) k.ask;
-}
+with_asked {game} (inl e) k = grind arith
 with_asked {game} (inr q) k = record {
   faithful = k.faithful;
   kept = k.kept;
@@ -208,14 +192,11 @@ takes Taken.Unopened buffer h w = stays_below h w
 -- what is read was taken
 pub is_taken : (game : ℕ) (arrival : Arrival) (buffer : List ℕ) (before after : List Passed) → IsRead game arrival buffer before after
     → IsTaken (taken_of arrival) buffer before after
-is_taken game (Arrival.Datagram count read) buffer before after h = h.0
-is_taken game arrival buffer before after h = h
+is_taken game arrival buffer before after h = grind arith
 
 pub taken_brought : (game : ℕ) (below new : List Passed) → (taken : Taken) (buffer : List ℕ) → IsTaken taken buffer below new
     → (count : ℕ) → taken ≡ Taken.Datagram count → (count ≤ 64) × IsBrought game new (take count buffer)
-taken_brought game below new taken buffer h count e =
-    let k : IsTaken (Taken.Datagram count) buffer below new = subst (λ (t : Taken). IsTaken t buffer below new) e h in
-    (k.0, inl (subst (λ (l : List Passed). Has l (Came (take count buffer))) (sym k.1) (has_last below (Came (take count buffer)))))
+taken_brought game below new taken buffer h count e = grind (arith, has_last)
 
 pub kept_handed : (game : ℕ) {above now : List Passed} (to : Receivers) {m : List ℕ} → now ≡ above → Has above (Sent to m) → IsHanded game now to m
 kept_handed game {above} {now} to {m} e h = inl (subst (λ (l : List Passed). Has l (Sent to m)) (sym e) h)
@@ -243,37 +224,23 @@ pub grown_by : {X : Type 0} (old : List X) {new : List X} (more : List X) → ne
 grown_by old more e = record { more = more; is = e }
 
 pub grown_twice : {X : Type 0} {old mid new : List X} → IsGrown old mid → IsGrown mid new → IsGrown old new
-grown_twice {X} {old} g h = record {
-  more = g.more ++ h.more;
-  is = h.is ∙ (ap (λ (l : List X). l ++ h.more) g.is ∙ append_assoc old g.more h.more);
-}
+grown_twice {X} {old} g h = grind (arith, append_assoc)
 
 pub grown_taken : (taken : Taken) (buffer : List ℕ) (below : List Passed) {new : List Passed} → IsTaken taken buffer below new → IsGrown below new
-grown_taken (Taken.Datagram count) buffer below h = grown_by below _ h.1
-grown_taken Taken.Nothing buffer below h = grown_none h
-grown_taken Taken.Lost buffer below h = grown_none h
-grown_taken Taken.Unopened buffer below h = grown_none h
+grown_taken taken buffer below h = grind (arith, grown_by, grown_none)
 
 pub since_now : {X : Type 0} (old : List X) {new : List X} (x : X) → new ≡ old ++ x ∷ [] → HasSince old new x
 since_now old x e = record { more = x ∷ []; is = e; has = inl refl }
 
 since_more : {X : Type 0} {old mid new : List X} {x : X} → HasSince old mid x → IsGrown mid new → HasSince old new x
-since_more {X} {old} {mid} {new} {x} h g = record {
-  more = h.more ++ g.more;
-  is = g.is ∙ (ap (λ (l : List X). l ++ g.more) h.is ∙ append_assoc old h.more g.more);
-  has = has_more h.more g.more x h.has;
-}
+since_more {X} {old} {mid} {new} {x} h g = grind (arith, append_assoc, has_more)
 
 has_behind : {X : Type 0} (front log : List X) (x : X) → Has log x → Has (front ++ log) x
 has_behind [] log x h = h
 has_behind (y ∷ front) log x h = inr (has_behind front log x h)
 
 since_before : {X : Type 0} {old mid new : List X} {x : X} → IsGrown old mid → HasSince mid new x → HasSince old new x
-since_before {X} {old} {mid} {new} {x} g h = record {
-  more = g.more ++ h.more;
-  is = h.is ∙ (ap (λ (l : List X). l ++ h.more) g.is ∙ append_assoc old g.more h.more);
-  has = has_behind g.more h.more x h.has;
-}
+since_before {X} {old} {mid} {new} {x} g h = grind (arith, append_assoc, has_behind)
 
 -- what is sent through a value that is open
 pub grown_in : {w v : Windowed} {new : List Passed} → v ≡ w → IsGrown v.below new → IsGrown w.below new
@@ -286,8 +253,7 @@ same_window w v s b = λ i. record { game = s.0.0 i; above = s.0.1 i; below = b 
 -- an ask was said, and more was asked for
 pub asked_more : (now : ℕ) (w a v : Windowed) → IsQuietOrAsks now w a → v.quiet_since ≡ a.quiet_since → IsGrown a.below v.below
     → (v.quiet_since ≡ w.quiet_since) ⊎ ((v.quiet_since ≡ now) × HasAsked w v)
-asked_more now w a v (inl e) s g = inl (s ∙ e)
-asked_more now w a v (inr q) s g = inr (s ∙ q.0, (q.1.0, q.1.1, since_more (since_now w.below _ q.1.2) g))
+asked_more now w a v h s g = grind (arith, common_steps, since_more, since_now)
 
 -- a window at a time, once it has asked for what is due, and then with what its link brings
 module _ (taken : Taken) (buffer : List ℕ) (now : ℕ) (w d v : Windowed) (read : d.readings ≡ w.readings ++ now ∷ []) where
