@@ -1,6 +1,6 @@
 //! The state of a desk as one JSON value, for a page that a scorer taps at: what the match wants next, who may come in
 //! and who may bowl, this over with its places, both sides, the desk's own vote and the lines that are held.
-#![tactic(auto, unfolding(json_fields::specs::Values::fields_tokens, json_fields::specs::Values::values_tokens))]
+#![tactic(auto, using(json_fields::proofs::Putting::json_parts), unfolding(json_fields::specs::Values::fields_tokens, json_fields::specs::Values::values_tokens))]
 
 mod board;
 mod deliveries;

@@ -1,6 +1,6 @@
 -- What stands at a key of `info`.
 use Rattle.std.proofs.Common.{◌≡◌, ℕ, Bool, true, false, cond, ◌||◌, ◌&&◌, not, arith, append_assoc, bytes_eq, List}
-use Rattle.std.proofs.Common.{[], ◌∷◌, ◌++◌, Option, Some, None, option_map, Ordering, Less, Equal, Greater}
+use Rattle.std.proofs.Common.{[], ◌∷◌, ◌++◌, Option, Some, None, Ordering, Less, Equal, Greater}
 use Rattle.std.proofs.Common.{nat_cmp, is_eq, codes, refl, sym, ap, ◌∙◌, subst, if◌then◌else◌}
 use Rattle.std.specs.Prelude.{is_some}
 use Rattle.std.specs.List.{list_any}
@@ -147,7 +147,3 @@ has_each_key s h document given are key d here other =
 pub in_a_row : (event : List Field) (teams players balls : Field) (result given : List Field)
     → ((((event ++ teams ∷ []) ++ players ∷ []) ++ balls ∷ []) ++ result) ++ given ≡ event ++ (teams ∷ players ∷ balls ∷ (result ++ given))
 in_a_row event teams players balls result given = simp append_assoc
-
-pub is_some_map : {A B : Type 0} (f : A → B) (o : Option A) → is_some (option_map f o) ≡ is_some o
-is_some_map f None = refl
-is_some_map f (Some x) = refl

@@ -1,4 +1,3 @@
-pub mod Singles
 pub mod PointLemmas
 pub mod EntryLemmas
 pub mod NameLemmas

@@ -1,25 +1,21 @@
 -- What is written with a point between two numbers is a number of JSON.
-use Rattle.std.proofs.Common.{◌≡◌, ℕ, zero, suc, ◌+◌, ◌^◌, ◌<◌, ◌≤◌, ◌==◌, false, cond, List, [], ◌∷◌, ◌++◌, length, drop, get_or, Some, option_and_then, decimal, codes, refl, ap, ◌∙◌, arith, append_assoc}
+use Rattle.std.proofs.Common.{◌≡◌, ℕ, zero, suc, ◌+◌, ◌^◌, ◌<◌, ◌==◌, false, cond, List, [], ◌∷◌, ◌++◌, length, drop, get_or, Some, option_and_then, decimal, codes, ap, ◌∙◌, arith, append_assoc}
 use Rattle.std.proofs.Math.Seq.{drop-append_seam}
 use Rattle.std.proofs.lemmas.Bool.{and_from, eq-eqb, le-leb, ne_eqb}
 use Rattle.std.proofs.lemmas.Fmt.{decimal_digit, decimal_is_IsNumeral, first_decimal}
 use Rattle.std.proofs.lemmas.List.{drop_all}
 use Rattle.std.proofs.lemmas.List.Folds.{prefix_len-append}
+use Rattle.std.proofs.lemmas.List.Sums.{prefix_len_is}
 use Rattle.std.proofs.lemmas.Str.Parse.{digit_at}
 use Rattle.std.specs.Char.{is_ascii_digit}
 use Rattle.std.specs.List.{prefix_len}
 use Rattle.json.specs.Print.{IsNumber}
 use Rattle.json.specs.Word.{after_digits, after_exponent, after_fraction, after_number, after_whole, head}
 
-all_digits : (ds : List ℕ) → ((i : ℕ) → i < length ds → (48 ≤ get_or ds i 0) × (get_or ds i 0 ≤ 57)) → prefix_len is_ascii_digit ds ≡ length ds
-all_digits [] h = refl
-all_digits (d ∷ ds) h =
-    let first = h 0 (omega arith) in
-    let rest = all_digits ds (λ i l. h (suc i) (omega arith)) in
-    ap (λ b. cond b (1 + prefix_len is_ascii_digit ds) 0) (and_from _ _ (le-leb 48 d first.0) (le-leb d 57 first.1)) ∙ omega arith
-
 digits : (n : ℕ) → n < 2 ^ 64 → prefix_len is_ascii_digit (decimal n) ≡ length (decimal n)
-digits n h = all_digits (decimal n) (λ i l. digit_at _ i (decimal_is_IsNumeral n h).0.1 l)
+digits n h =
+    prefix_len_is is_ascii_digit (decimal n) (length (decimal n)) 0 (omega arith)
+    (λ i l. let d = digit_at _ i (decimal_is_IsNumeral n h).0.1 l in and_from _ _ (le-leb 48 _ d.0) (le-leb _ 57 d.1)) (λ l. absurd (omega arith))
 
 -- digits end at the point
 to_point : (ds more : List ℕ) → prefix_len is_ascii_digit ds ≡ length ds → prefix_len is_ascii_digit (ds ++ 46 ∷ more) ≡ length ds

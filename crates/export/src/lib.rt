@@ -1,6 +1,6 @@
 //! The book of a match as JSON, for archives and leagues: what happened ball by ball, with the results of the Laws,
 //! and each entry as it was penned.
-#![tactic(auto, unfolding(json_fields::specs::Values::fields_tokens, json_fields::specs::Values::values_tokens))]
+#![tactic(auto, using(json_fields::proofs::Putting::json_parts), unfolding(json_fields::specs::Values::fields_tokens, json_fields::specs::Values::values_tokens))]
 
 mod document;
 mod entries;

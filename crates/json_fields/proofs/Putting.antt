@@ -1,5 +1,6 @@
 -- What is put in a row: fields and values, behind what was put before.
-use Rattle.std.proofs.Common.{◌≡◌, ℕ, ◌+◌, ◌≤◌, List, [], ◌∷◌, ◌++◌, Result, refl, sym, ◌∙◌, arith, length, take, Some, add-one, append-nil, append_assoc}
+use Rattle.std.proofs.Common.{◌≡◌, ℕ, ◌+◌, ◌≤◌, List, [], ◌∷◌, ◌++◌, Result, refl, sym, ◌∙◌, arith, length, take, Some, add-one}
+pub use Rattle.std.proofs.Common.{append-nil, append_assoc}
 use Rattle.std.specs.Prelude.{OnOk, slice_get}
 use Rattle.std.specs.List.{flat_map}
 use Rattle.std.proofs.lemmas.List.{take_all, take_more}
@@ -12,25 +13,37 @@ use Rattle.json.specs.Token.{Token, begin_object, end_object, begin_array, end_a
 use Rattle.json.specs.Tree.{json_tokens, items_tokens, members_tokens}
 use Rattle.json_fields.specs.Values.{Field, items_of, members_of, array_of, object_of, fields_tokens, values_tokens, up_to}
 
-fields_tokens-append : (fs gs : List Field) → fields_tokens (fs ++ gs) ≡ fields_tokens fs ++ fields_tokens gs
+pub fields_tokens-append : (fs gs : List Field) → fields_tokens (fs ++ gs) ≡ fields_tokens fs ++ fields_tokens gs
 unfolding fields_tokens
 fields_tokens-append [] gs = refl
 fields_tokens-append (f ∷ fs) gs = simp (append_assoc, fields_tokens-append fs gs)
 
-values_tokens-append : (vs ws : List Json) → values_tokens (vs ++ ws) ≡ values_tokens vs ++ values_tokens ws
+pub values_tokens-append : (vs ws : List Json) → values_tokens (vs ++ ws) ≡ values_tokens vs ++ values_tokens ws
 unfolding values_tokens
 values_tokens-append [] ws = refl
 values_tokens-append (v ∷ vs) ws = simp (append_assoc, values_tokens-append vs ws)
 
-members_tokens-of : (fs : List Field) → members_tokens (members_of fs) ≡ fields_tokens fs ++ end_object ∷ []
+pub members_tokens-of : (fs : List Field) → members_tokens (members_of fs) ≡ fields_tokens fs ++ end_object ∷ []
 unfolding fields_tokens
 members_tokens-of [] = refl
 members_tokens-of (f ∷ fs) = simp (append_assoc, members_tokens-of fs)
 
-items_tokens-of : (vs : List Json) → items_tokens (items_of vs) ≡ values_tokens vs ++ end_array ∷ []
+pub items_tokens-of : (vs : List Json) → items_tokens (items_of vs) ≡ values_tokens vs ++ end_array ∷ []
 unfolding values_tokens
 items_tokens-of [] = refl
 items_tokens-of (v ∷ vs) = simp (append_assoc, items_tokens-of vs)
+
+pub up_to-none : {X : Type 0} (f : ℕ → List X) → up_to f 0 ≡ []
+unfolding up_to
+up_to-none f = refl
+
+pub up_to-more : {X : Type 0} (f : ℕ → List X) (n : ℕ) → up_to f (n + 1) ≡ up_to f n ++ f n
+unfolding up_to
+up_to-more f n = rw add-one refl
+
+-- what joins the tokens of fields and values to those of what they are put in: with these a call that puts parts needs no answer
+pub ruleset json_parts =
+    (append_assoc, append-nil, fields_tokens-append, values_tokens-append, members_tokens-of, items_tokens-of, up_to-none, up_to-more)
 
 pub one_value : (v : Json) → values_tokens (v ∷ []) ≡ json_tokens v
 unfolding values_tokens

@@ -1,5 +1,4 @@
 pub mod Rows
-pub mod Singles
 pub mod StandLemmas
 pub mod ShareLemmas
 pub mod RecentLemmas

@@ -1,6 +1,6 @@
 //! The state of a board as one JSON value, for a screen, a telephone or a stream: the score, who bats and bowls, the
 //! over, what is needed, and the cards.
-#![tactic(auto, unfolding(json_fields::specs::Values::fields_tokens, json_fields::specs::Values::values_tokens))]
+#![tactic(auto, using(json_fields::proofs::Putting::json_parts), unfolding(json_fields::specs::Values::fields_tokens, json_fields::specs::Values::values_tokens))]
 
 mod cards_put;
 mod innings;

@@ -1,9 +1,8 @@
-use Rattle.std.proofs.Common.{◌≡◌, ◌++◌, ◌∷◌, [], take}
-use Rattle.std.specs.List.{flat_map}
+use Rattle.std.proofs.Common.{◌≡◌, ◌++◌, drop, map}
 use Rattle.json_fields.specs.Values.{values_tokens}
 use Rattle.desk_state.specs.Over.{delivery_value}
 use Rattle.desk_state.proofs.over.put_each.Given as goal
 
--- those so far are put
+-- what is put so far, with what is due from here on, is all that is due
 abbrev pub invariant-loop-delivery : goal.invariant-loop-delivery
-invariant-loop-delivery l = l.out ≡ l.initial.out ++ values_tokens (flat_map (λ x. delivery_value x ∷ []) (take l.delivery-index l.over))
+invariant-loop-delivery l = l.out ++ values_tokens (map delivery_value (drop l.delivery-index l.over)) ≡ l.initial.out ++ values_tokens (map delivery_value l.over)

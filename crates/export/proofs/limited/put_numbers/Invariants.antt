@@ -1,8 +1,7 @@
-use Rattle.std.proofs.Common.{◌≡◌, ◌++◌, ◌∷◌, [], take}
-use Rattle.std.specs.List.{flat_map}
+use Rattle.std.proofs.Common.{◌≡◌, ◌++◌, drop, map}
 use Rattle.json_fields.specs.Values.{number_value, values_tokens}
 use Rattle.export.proofs.limited.put_numbers.Given as goal
 
--- those so far are put
+-- what is put so far, with what is due from here on, is all that is due
 abbrev pub invariant-loop-number : goal.invariant-loop-number
-invariant-loop-number l = l.out ≡ l.initial.out ++ values_tokens (flat_map (λ x. number_value x ∷ []) (take l.number-index l.overs))
+invariant-loop-number l = l.out ++ values_tokens (map number_value (drop l.number-index l.overs)) ≡ l.initial.out ++ values_tokens (map number_value l.overs)

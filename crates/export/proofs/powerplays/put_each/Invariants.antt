@@ -1,9 +1,8 @@
-use Rattle.std.proofs.Common.{◌≡◌, ◌++◌, ◌∷◌, [], take}
-use Rattle.std.specs.List.{flat_map}
+use Rattle.std.proofs.Common.{◌≡◌, ◌++◌, drop, map}
 use Rattle.json_fields.specs.Values.{values_tokens}
 use Rattle.export.specs.Innings.{powerplay_value}
 use Rattle.export.proofs.powerplays.put_each.Given as goal
 
--- those so far are put
+-- what is put so far, with what is due from here on, is all that is due
 abbrev pub invariant-loop-powerplay : goal.invariant-loop-powerplay
-invariant-loop-powerplay l = l.out ≡ l.initial.out ++ values_tokens (flat_map (λ x. powerplay_value x ∷ []) (take l.powerplay-index l.powerplays))
+invariant-loop-powerplay l = l.out ++ values_tokens (map powerplay_value (drop l.powerplay-index l.powerplays)) ≡ l.initial.out ++ values_tokens (map powerplay_value l.powerplays)

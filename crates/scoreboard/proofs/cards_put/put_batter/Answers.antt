@@ -1,9 +1,0 @@
-use Rattle.json_fields.proofs.Putting.{◌▸◌, begins, is_object}
-use Rattle.scoreboard.proofs.cards_put.put_batter.Goals as goal
-
-pub returns : goal.returns
-returns c =
-    is_object c.end_object.result _
-    (begins c.in_ok-begin_object.ensures ▸ c.in_ok-put_number_of.ensures ▸ (rw c.player.ensures at c.in_ok-put_text.ensures)
-    ▸ c.in_ok-put_fate.ensures ▸ c.in_ok-put_figure.ensures ▸ c.in_ok-put_figure-2.ensures ▸ c.in_ok-put_figure-3.ensures
-    ▸ c.in_ok-put_figure-4.ensures) c.end_object.ensures

@@ -1,6 +1,0 @@
-use Rattle.json_fields.proofs.Putting.{begins, is_array_field}
-use Rattle.scoreboard.proofs.innings.put_all_innings.Goals as goal
-
-pub returns : goal.returns
-returns c = λ n h s falls.
-    is_array_field c.end_array.result _ _ (begins c.in_ok-begin_array.ensures) (c.in_ok-put_each.ensures n h s falls) c.end_array.ensures

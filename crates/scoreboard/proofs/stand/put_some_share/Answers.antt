@@ -1,5 +1,0 @@
-use Rattle.json_fields.proofs.Putting.{◌▸◌, begins, is_object_field}
-use Rattle.scoreboard.proofs.stand.put_some_share.Goals as goal
-
-pub returns : goal.returns
-returns c = is_object_field c.end_object.result _ (begins c.in_ok-begin_field.ensures ▸ c.in_ok-put_figures.ensures) c.end_object.ensures
